@@ -1,0 +1,13 @@
+pub mod Added
+pub mod Changed
+pub mod Found
+pub mod PutLaws
+pub mod Putting
+pub mod ReadLaws
+pub mod Recovers
+pub mod Rows
+pub mod Started
+pub mod Stepping
+pub mod TreeWords
+pub mod Walk
+pub mod Walking

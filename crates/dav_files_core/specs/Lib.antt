@@ -1,0 +1,7 @@
+pub mod Codes
+pub mod Commands
+pub mod Finding
+pub mod Outcomes
+pub mod Represents
+pub mod Resources
+pub mod TreeCalls

@@ -1,0 +1,47 @@
+-- The answers of commands on a resource map, and the changes that they make.
+use Rattle.std.specs.Prelude.{ℕ, ◌+◌, List, [], Result, Ok, Err}
+use Rattle.std.specs.FinMap.{insert, empty}
+use Rattle.dav_path_core.specs.declared.errors.FsError.{FsError}
+use Rattle.dav_path_core.specs.declared.errors.FsError.TheVariants.{Forbidden}
+use Rattle.dav_path_core.specs.Fronts.{Path}
+use Rattle.dav_files_core.specs.declared.memfs.Kind.TheVariants.{Folder, File}
+use Rattle.dav_files_core.specs.Resources.{Node, Resource, ResourceMap}
+use Rattle.dav_files_core.specs.Finding.{find}
+
+-- an answer with the map that is left, or a refusal, which leaves the map as it was
+abbrev pub Outcome : Type 0 → Type 0
+Outcome A = Result (A × ResourceMap) FsError
+
+-- goes on with an answer, and ends at a refusal: refusals come in the written order
+infixl 10 ◌>>=◌
+abbrev pub ◌>>=◌ : {A B : Type 0} → Result A FsError → (A → Result B FsError) → Result B FsError
+(Ok x) >>= f = f x
+(Err e) >>= f = Err e
+
+abbrev pub only_folder : Resource → Result Resource FsError
+only_folder r = elim r.node.kind [ Folder ↦ Ok r | File ↦ Err Forbidden ]
+
+abbrev pub only_file : Resource → Result Resource FsError
+only_file r = elim r.node.kind [ Folder ↦ Err Forbidden | File ↦ Ok r ]
+
+-- the folder at a path; a file there is forbidden
+abbrev pub find_folder : ResourceMap → Path → Result Resource FsError
+find_folder m p = find m p >>= only_folder
+
+-- the map with an entry at a path that had none; it takes the next number
+abbrev pub added : ResourceMap → Path → Node → ResourceMap
+added m p node = record { entries = insert m.entries p (record { number = m.next; node = node }); next = m.next + 1 }
+
+-- the map with another node at a path whose entry is given; the number stays
+abbrev pub changed : ResourceMap → Path → Resource → Node → ResourceMap
+changed m p r node = record { entries = insert m.entries p (record { number = r.number; node = node }); next = m.next }
+
+abbrev pub new_file : List ℕ → ℕ → Node
+new_file bytes now = record { kind = File; bytes = bytes; props = empty; created = now; modified = now }
+
+abbrev pub new_folder : ℕ → Node
+new_folder now = record { kind = Folder; bytes = []; props = empty; created = now; modified = now }
+
+-- the map of a new store: a root folder without members
+abbrev pub start : ℕ → ResourceMap
+start now = record { entries = insert empty [] (record { number = 1; node = new_folder now }); next = 2 }

@@ -1,0 +1,45 @@
+-- A keyed tree of files, and the resource map that it stands for (own).
+use Rattle.std.specs.Prelude.{◌≡◌, ℕ, [], ◌∷◌, ◌++◌, map, Option, Some, None, option_and_then, zero, suc}
+use Rattle.std.specs.Option.{option_map_or}
+use Rattle.std.specs.Ordering.{nat_cmp}
+use Rattle.std.specs.FinMap.{FinMap, get, entries, from_entries, len}
+use Rattle.dav_path_core.specs.Fronts.{Segment, Path}
+use Rattle.dav_path_core.specs.Keyed.{Entry, Keyed}
+use Rattle.dav_files_core.specs.Resources.{Node, Resource, ResourceMap, at_path, IsResourceMap}
+
+abbrev pub FileTree : Type 0
+FileTree = Keyed Segment Node
+
+abbrev pub FileEntry : Type 0
+FileEntry = Entry Segment Node
+
+-- where a node stands: at the root, or below the path of the node that its place names
+abbrev pub PlaceFits : ResourceMap → Path → Option (ℕ × Segment) → Type 0
+PlaceFits m p None = p ≡ []
+PlaceFits m p (Some place) = (q : Path) × (r : Resource) × (p ≡ q ++ (place.1 ∷ [])) × (at_path m q ≡ Some r) × (r.number ≡ place.0)
+
+-- the node behind an entry
+pub record Shown (t : FileTree) (m : ResourceMap) (p : Path) (r : Resource) : Type 0 where
+  pub placed : FileEntry
+  pub stored : get t.nodes r.number ≡ Some placed
+  pub shown : placed.item ≡ r.node
+  pub fits : PlaceFits m p placed.place
+
+-- each entry of the map is a node of the tree, at its place, and each node is an entry
+pub record Represents (t : FileTree) (m : ResourceMap) : Type 0 where
+  pub is_map : IsResourceMap m
+  pub next : m.next ≡ t.next
+  pub shown : (p : Path) (r : Resource) → at_path m p ≡ Some r → Shown t m p r
+  pub all : (id : ℕ) (n : FileEntry) → get t.nodes id ≡ Some n → (p : Path) × (r : Resource) × (at_path m p ≡ Some r) × (r.number ≡ id)
+
+-- the path of a node, by its parents, in at most so many steps
+abbrev pub path_of : FinMap nat_cmp FileEntry → ℕ → ℕ → Path
+path_of nodes zero id = []
+path_of nodes (suc steps) id = option_map_or (λ place. path_of nodes steps place.0 ++ (place.1 ∷ [])) (option_and_then (λ n. n.place) (get nodes id)) []
+
+abbrev pub entry_of : FileTree → ℕ × FileEntry → Path × Resource
+entry_of t e = (path_of t.nodes (len t.nodes) e.0, record { number = e.0; node = e.1.item })
+
+-- the map that a tree stands for
+abbrev pub resource_map : FileTree → ResourceMap
+resource_map t = record { entries = from_entries (map (entry_of t) (entries t.nodes)); next = t.next }

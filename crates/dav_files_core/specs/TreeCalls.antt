@@ -1,0 +1,37 @@
+-- What the private calls of `memfs` find in its tree, and what they write there (own).
+use Rattle.std.specs.Prelude.{◌≡◌, ℕ, List, Some, None, Result, Ok, Err}
+use Rattle.std.specs.FinMap.{get}
+use Rattle.dav_path_core.specs.declared.errors.FsError.{FsError}
+use Rattle.dav_path_core.specs.declared.errors.FsError.TheVariants.{NotFound}
+use Rattle.dav_path_core.specs.Fronts.{Segment, Path}
+use Rattle.dav_path_core.specs.Keyed.{with_item_at}
+use Rattle.dav_files_core.specs.Resources.{Node, ResourceMap}
+use Rattle.dav_files_core.specs.Finding.{find}
+use Rattle.dav_files_core.specs.Outcomes.{◌>>=◌}
+use Rattle.dav_files_core.specs.Represents.{FileTree, FileEntry}
+
+-- the number of the entry at a path
+abbrev pub number_of : ResourceMap → Path → Result ℕ FsError
+number_of m p = find m p >>= λ r. Ok r.number
+
+-- the member of a folder with a name, by its number
+abbrev pub IsMember : FileTree → ℕ → Segment → ℕ → Type 0
+IsMember t folder name id = (item : Node) × (get t.nodes id ≡ Some (record { place = Some (folder, name); item = item }))
+
+-- a member that is there, or there is none
+abbrev pub FindsMember : FileTree → ℕ → Segment → Result ℕ FsError → Type 0
+FindsMember t folder name (Ok id) = IsMember t folder name id
+FindsMember t folder name (Err e) = (e ≡ NotFound) × ((id : ℕ) → ¬ (IsMember t folder name id))
+
+abbrev pub IsThere : FileTree → ℕ → Type 0
+IsThere t id = (n : FileEntry) × (get t.nodes id ≡ Some n)
+
+-- the node with a number, or there is none
+abbrev pub FindsNode : FileTree → ℕ → Result Node FsError → Type 0
+FindsNode t id (Ok node) = (n : FileEntry) × (get t.nodes id ≡ Some n) × (n.item ≡ node)
+FindsNode t id (Err e) = (e ≡ NotFound) × (get t.nodes id ≡ None)
+
+-- a node has other bytes and another modified time, or there is none
+abbrev pub WritesFile : FileTree → ℕ → List ℕ → ℕ → Result (Unit {0}) FsError → FileTree → Type 0
+WritesFile old id bytes now (Ok done) new = (n : FileEntry) × (get old.nodes id ≡ Some n) × (new ≡ with_item_at old id (Some n) (record n.item { bytes = bytes; modified = now }))
+WritesFile old id bytes now (Err e) new = (e ≡ NotFound) × (get old.nodes id ≡ None) × (new ≡ old)

@@ -1,0 +1,11 @@
+pub mod Every
+pub mod FinMaps
+pub mod KeptLemmas
+pub mod Laws
+pub mod Orders
+pub mod Rewriting
+pub mod Scan
+pub mod SegmentLemmas
+pub mod Snoc
+pub mod Trees
+pub mod Views

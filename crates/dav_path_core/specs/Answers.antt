@@ -1,0 +1,20 @@
+-- What a call answers, by what its definition says; want of memory may come before any other refusal.
+use Rattle.std.specs.Prelude.{◌≡◌, ◌⊎◌, Option, Some, None, Result, Ok, Err}
+use Rattle.dav_path_core.specs.declared.errors.FsError.{FsError}
+use Rattle.dav_path_core.specs.declared.errors.FsError.TheVariants.{InsufficientStorage}
+
+-- Ok with P where nothing refuses, and else that refusal or want of memory, and Q
+abbrev pub Answers : {T : Type 0} → Option FsError → Result T FsError → (T → Type 0) → Type 0 → Type 0
+Answers refusal (Ok x) P Q = (refusal ≡ None) × P x
+Answers refusal (Err e) P Q = ((e ≡ InsufficientStorage) ⊎ (refusal ≡ Some e)) × Q
+
+-- The call answers as the outcome says, its answer seen by `view`, and leaves the state that the outcome says;
+-- refused, it leaves the state as it was.
+abbrev pub AnswersAs : {A B S : Type 0} → (A → B) → Result A FsError → Result (B × S) FsError → S → S → Type 0
+AnswersAs view (Ok x) outcome old new = outcome ≡ Ok (view x, new)
+AnswersAs view (Err e) outcome old new = (new ≡ old) × ((e ≡ InsufficientStorage) ⊎ (outcome ≡ Err e))
+
+-- the same of a call that changes nothing
+abbrev pub Tells : {A B : Type 0} → (A → B) → Result A FsError → Result B FsError → Type 0
+Tells view (Ok x) outcome = outcome ≡ Ok (view x)
+Tells view (Err e) outcome = (e ≡ InsufficientStorage) ⊎ (outcome ≡ Err e)

@@ -1,0 +1,22 @@
+-- How `DavPath::new` goes on by one piece: the pieces kept after it, or why it is refused. Private contracts alone speak of it.
+use Rattle.std.specs.Prelude.{◌≡◌, ℕ, List, [], ◌∷◌, ◌++◌, All, IsTrue}
+use Rattle.dav_path_core.specs.declared.davpath.ParseError.{ParseError}
+use Rattle.dav_path_core.specs.declared.davpath.ParseError.TheVariants.{InvalidPath, ForbiddenPath}
+use Rattle.dav_path_core.specs.Reading.{is_idle, is_up, is_ordinary, IsForeign, Rewrites}
+
+-- the pieces kept after this one
+pub data Takes (old : List (List ℕ)) (piece : List ℕ) (new : List (List ℕ)) : Type 0 where
+  idle : IsTrue (is_idle piece) → new ≡ old → Takes old piece new
+  up : (last : List ℕ) → IsTrue (is_up piece) → old ≡ new ++ last ∷ [] → Takes old piece new
+  ordinary : IsTrue (is_ordinary piece) → new ≡ old ++ piece ∷ [] → Takes old piece new
+
+-- why this one is refused
+pub data Refuses (old : List (List ℕ)) (piece : List ℕ) : ParseError → Type 0 where
+  foreign : IsForeign piece → Refuses old piece InvalidPath
+  above : IsTrue (is_up piece) → old ≡ [] → Refuses old piece ForbiddenPath
+
+-- the pieces are at no fault, and come down to these ordinary ones
+pub record ComesDown (pieces kept : List (List ℕ)) : Type 0 where
+  pub clean : All (λ piece. ¬ IsForeign piece) pieces
+  pub rewrites : Rewrites pieces kept
+  pub ordinary : All (λ piece. IsTrue (is_ordinary piece)) kept

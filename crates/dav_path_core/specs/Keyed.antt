@@ -1,0 +1,127 @@
+-- The keyed tree: a finite map from numbers to parent, key and item, and the next number. Number 1 is the root (own).
+use Rattle.std.specs.Prelude.{◌≡◌, ℕ, ◌+◌, ◌<◌, ◌==◌, ◌&&◌, ◌||◌, not, zero, suc, Bool, true, false, if◌then◌else◌, List, [], ◌∷◌, Option, Some, None, IsSome, is_some, refl}
+use Rattle.std.specs.Option.{option_map}
+use Rattle.std.specs.Ordering.{nat_cmp}
+use Rattle.std.specs.Coded.{Coded, code_by, coded×, coded_ℕ, coded_option}
+use Rattle.std.specs.FinMap.{FinMap, entries, get, insert, retain_keys, code, empty}
+use Rattle.dav_path_core.specs.declared.errors.FsError.{FsError}
+use Rattle.dav_path_core.specs.declared.errors.FsError.TheVariants.{Exists, NotFound}
+
+-- a node: its place is the parent's number and its key there; the root has none
+pub record Entry (K D : Type 0) : Type 0 where
+  pub place : Option (ℕ × K)
+  pub item : D
+
+pub record Keyed (K D : Type 0) : Type 0 where
+  pub nodes : FinMap nat_cmp (Entry K D)
+  pub next : ℕ
+
+-- the codes that a model needs of its value
+abbrev pub entry_code : {K D : Type 0} → Coded K → Coded D → Coded (Entry K D)
+entry_code {K} {D} k d =
+    code_by (Option (ℕ × K) × D) (coded× (coded_option (coded× coded_ℕ k)) d) (λ e. (e.place, e.item)) (λ p. record { place = p.0; item = p.1 }) (λ _. refl)
+
+abbrev pub keyed_code : {K D : Type 0} → Coded K → Coded D → Coded (Keyed K D)
+keyed_code {K} {D} k d =
+    code_by (FinMap nat_cmp (Entry K D) × ℕ) (coded× (code coded_ℕ (entry_code k d)) coded_ℕ) (λ t. (t.nodes, t.next)) (λ p. record { nodes = p.0; next = p.1 }) (λ _. refl)
+
+-- n leads to 1 by the parents that f gives
+pub data Leads (f : ℕ → Option ℕ) : ℕ → Type 0 where
+  root : Leads f 1
+  up : {n p : ℕ} → f n ≡ Some p → Leads f p → Leads f n
+
+-- whether a place is under p at a key that passes the test
+abbrev pub is_at_place : {K : Type 0} → (K → Bool) → ℕ → Option (ℕ × K) → Bool
+is_at_place test p None = false
+is_at_place test p (Some q) = (q.0 == p) && test q.1
+
+-- whether n is met on the way from k by f, looking at no more than so many numbers
+abbrev pub meets : (ℕ → Option ℕ) → ℕ → ℕ → ℕ → Bool
+meets f zero n k = false
+meets f (suc m) n k = (k == n) || elim (f k) [ None ↦ false | Some p ↦ meets f m n p ]
+
+module _ {K D : Type 0} where
+  -- what stands at a number
+  abbrev pub entry : Keyed K D → ℕ → Option (Entry K D)
+  entry t n = get t.nodes n
+
+  -- something stands at the number
+  abbrev pub IsKnown : Keyed K D → ℕ → Type 0
+  IsKnown t n = IsSome (entry t n)
+
+  -- the item of a number
+  abbrev pub item : Keyed K D → ℕ → Option D
+  item t n = option_map (λ e. e.item) (entry t n)
+
+  -- the place of an entry, if there is one
+  abbrev pub place_of : Option (Entry K D) → Option (ℕ × K)
+  place_of None = None
+  place_of (Some e) = e.place
+
+  -- the parent and key of a number; none for the root and for an unknown one
+  abbrev pub place : Keyed K D → ℕ → Option (ℕ × K)
+  place t n = place_of (entry t n)
+
+  -- the parent of a number
+  abbrev pub parent : Keyed K D → ℕ → Option ℕ
+  parent t n = option_map (λ q. q.0) (place t n)
+
+  -- n is the child of p at the key k
+  abbrev pub IsChild : Keyed K D → ℕ → K → ℕ → Type 0
+  IsChild t p k n = place t n ≡ Some (p, k)
+
+  -- the same over a list of entries: the first that passes
+  abbrev pub child_in : (K → Bool) → ℕ → List (ℕ × Entry K D) → Option ℕ
+  child_in test p [] = None
+  child_in test p (e ∷ es) = if is_at_place test p e.1.place then Some e.0 else child_in test p es
+
+  -- the child of p whose key passes the test
+  abbrev pub child : (K → Bool) → Keyed K D → ℕ → Option ℕ
+  child test t p = child_in test p (entries t.nodes)
+
+  -- the one node, at number 1
+  abbrev pub lone : D → Keyed K D
+  lone d = record { nodes = insert empty 1 (record { place = None; item = d }); next = 2 }
+
+  -- t with a new node below p at k
+  abbrev pub add : Keyed K D → ℕ → K → D → Keyed K D
+  add t p k d = record { nodes = insert t.nodes t.next (record { place = Some (p, k); item = d }); next = t.next + 1 }
+
+  -- t with another item at n
+  abbrev pub with_item_at : Keyed K D → ℕ → Option (Entry K D) → D → Keyed K D
+  with_item_at t n None d = t
+  with_item_at t n (Some e) d = record t { nodes = insert t.nodes n (record e { item = d }) }
+
+  abbrev pub with_item : Keyed K D → ℕ → D → Keyed K D
+  with_item t n d = with_item_at t n (entry t n) d
+
+  -- what a tree keeps: the root has no parent; numbers are below the next; from each the parents lead to 1; no two
+  -- entries have equal parents and equal keys
+  pub record IsTree (eq : K → K → Bool) (t : Keyed K D) : Type 0 where
+    pub root : IsKnown t 1 × (place t 1 ≡ None)
+    pub numbered : (n : ℕ) → IsKnown t n → (0 < n) × (n < t.next)
+    pub attached : (n : ℕ) → IsKnown t n → Leads (parent t) n
+    pub distinct : (p : ℕ) (k l : K) (m n : ℕ) → IsChild t p k m → IsChild t p l n → eq k l ≡ true → m ≡ n
+
+  -- whether k is n or leads to it
+  abbrev pub is_under : Keyed K D → ℕ → ℕ → Bool
+  is_under t n k = meets (parent t) t.next n k
+
+  -- t without n and all that lead to it
+  abbrev pub cut : Keyed K D → ℕ → Keyed K D
+  cut t n = record t { nodes = retain_keys t.nodes (λ k. not (is_under t n k)) }
+
+  -- why a child can't be added
+  abbrev pub add_refusal : (K → K → Bool) → Keyed K D → ℕ → K → Bool → Option FsError
+  add_refusal eq t p k overwrite =
+      if is_some (entry t p)
+      then (if is_some (child (eq k) t p) && not overwrite then Some Exists else None)
+      else Some NotFound
+
+  abbrev pub cleared_at : Keyed K D → Option ℕ → Keyed K D
+  cleared_at t None = t
+  cleared_at t (Some c) = cut t c
+
+  -- t without what stands below p at k
+  abbrev pub cleared : (K → K → Bool) → Keyed K D → ℕ → K → Keyed K D
+  cleared eq t p k = cleared_at t (child (eq k) t p)

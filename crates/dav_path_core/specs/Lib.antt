@@ -1,0 +1,12 @@
+pub mod Answers
+pub mod Errors
+pub mod Fault
+pub mod Fronts
+pub mod Held
+pub mod Keeping
+pub mod Keyed
+pub mod Lends
+pub mod PathText
+pub mod Reading
+pub mod Segments
+pub mod View

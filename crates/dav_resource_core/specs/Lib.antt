@@ -1,0 +1,5 @@
+pub mod Requests
+pub mod Seeds
+pub mod Served
+pub mod Step
+pub mod Stores

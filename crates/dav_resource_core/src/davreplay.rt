@@ -1,0 +1,138 @@
+//! A player of scenarios: one request a line, one answer a line.
+ghost use Rattle.std.specs.Prelude.{◌≡◌, ◌⊎◌, map, string_bytes};
+ghost use Rattle.dav_resource_core.specs.Seeds.{numeral, seed};
+
+mod lines;
+mod playing;
+#[cfg(test)]
+mod tests;
+
+use crate::guarded::Guarded;
+use dav_files_core::fs::Moment;
+use lines::{Line, line_of};
+use playing::Player;
+use rand_core::SeedableRng;
+use rand_pcg::Pcg64;
+use std::alloc::{AllocError, Global};
+use std::io::{self, BufRead, BufReader, BufWriter, ErrorKind, Read, Write};
+
+/// The answer to a line for which there is no memory.
+const OUT_OF_MEMORY: &[u8] = b"out of memory\n";
+
+/// The seed that the words behind the program's name give: one word of one or more decimal digits, within u64.
+pub fn seed_of(args: &[String]) -> Option<u64>
+    ensures { result ≡ seed (map string_bytes args.now) }
+{
+    match args {
+        [word] => number(word.as_str()),
+        _ => None,
+    }
+}
+
+// A word of one or more decimal digits, within u64.
+fn number(word: &str) -> Option<u64>
+    ensures { result ≡ numeral word.now }
+{
+    if lines::is_digits(word) {
+        word.parse::<u64>().ok()
+    } else {
+        None
+    }
+}
+
+/// Plays a scenario: runs the requests of `input`, one a line, in stores that begin with a root folder at moment 0, and
+/// writes an answer a line to `output`. The generator of lock tokens begins with the seed.
+///
+/// Answers the status to end with. 0 at the end of the input. 2 after a line of a wrong form, which `faults` names by its
+/// number; later lines aren't run. 3 where the input or the output fails, or memory is wanting outside a line. A failed
+/// write to `faults` changes no status.
+pub fn replay<I: Read + Drop, O: Write + Drop, E: Write + Drop>(
+    alloc: Global,
+    seed: u64,
+    input: I,
+    output: O,
+    mut faults: E,
+) -> u8
+    ensures { (result ≡ 0) ⊎ (result ≡ 2) ⊎ (result ≡ 3) }
+{
+    let Err(stop) = play(alloc, seed, input, output) else {
+        return 0;
+    };
+    let _written = match stop {
+        Stop::Malformed(line) => writeln!(faults, "line {line}: malformed"),
+        Stop::Io => faults.write_all(b"i/o error\n"),
+        Stop::OutOfMemory => faults.write_all(OUT_OF_MEMORY),
+    };
+    match stop {
+        Stop::Malformed(_) => 2,
+        Stop::Io | Stop::OutOfMemory => 3,
+    }
+}
+
+/// Why lines are read no further.
+#[derive(Clone, Copy)]
+enum Stop {
+    /// The line of this number, from 1, has a wrong form.
+    Malformed(u64),
+    /// The input or the output failed.
+    Io,
+    /// There is no memory outside a line.
+    OutOfMemory,
+}
+
+impl From<io::Error> for Stop {
+    fn from(error: io::Error) -> Stop {
+        match error.kind() {
+            ErrorKind::OutOfMemory => Stop::OutOfMemory,
+            _ => Stop::Io,
+        }
+    }
+}
+
+// What was answered before a fault is written before the fault is told.
+fn play<I: Read + Drop, O: Write + Drop>(
+    alloc: Global,
+    seed: u64,
+    input: I,
+    output: O,
+) -> Result<(), Stop> {
+    let Ok(stores) = Guarded::new(alloc, Moment(0)) else {
+        return Err(Stop::OutOfMemory);
+    };
+    let mut player = Player {
+        alloc,
+        stores,
+        rng: Pcg64::seed_from_u64(seed),
+    };
+    let mut input = BufReader::new(alloc, input)?;
+    let mut output = BufWriter::new(alloc, output)?;
+    let played = play_lines(alloc, &mut player, &mut input, &mut output);
+    output.flush()?;
+    played
+}
+
+// One line at a time, in one buffer.
+fn play_lines<I: Read + Drop, O: Write + Drop>(
+    alloc: Global,
+    player: &mut Player,
+    input: &mut BufReader<I>,
+    output: &mut BufWriter<O>,
+) -> Result<(), Stop> {
+    let mut line = Vec::new(alloc);
+    for number in 1..u64::MAX {
+        line.clear();
+        if input.read_until(b'\n', &mut line)? == 0 {
+            return Ok(());
+        }
+        if line.ends_with(b"\n") {
+            let _ended = line.pop();
+        }
+        match line_of(alloc, &line) {
+            Ok(Line::Blank) => {}
+            Ok(Line::Malformed) => return Err(Stop::Malformed(number)),
+            Ok(Line::Asked(asked)) => player.answer(asked, output)?,
+            Err(AllocError) => output.write_all(OUT_OF_MEMORY)?,
+        }
+    }
+    Ok(())
+}

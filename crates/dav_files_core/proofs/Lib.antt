@@ -1,6 +1,8 @@
 pub mod Added
 pub mod Changed
 pub mod Found
+pub mod Members
+pub mod Places
 pub mod PutLaws
 pub mod Putting
 pub mod ReadLaws

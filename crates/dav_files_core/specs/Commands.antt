@@ -5,6 +5,7 @@ use Rattle.dav_path_core.specs.declared.errors.FsError.{FsError}
 use Rattle.dav_path_core.specs.Fronts.{Path, parent}
 use Rattle.dav_files_core.specs.Resources.{Resource, ResourceMap, at_path}
 use Rattle.dav_files_core.specs.Finding.{find}
+use Rattle.dav_files_core.specs.Meta.{Meta, meta_at}
 use Rattle.dav_files_core.specs.Outcomes.{Outcome, ◌>>=◌, only_file, find_folder, added, changed, new_file}
 
 -- by what stands at the path
@@ -15,6 +16,10 @@ put_at m p bytes now None = find_folder m (parent p) >>= λ _. Ok (tt, added m p
 -- a file's bytes become those given; a missing file is made in its folder
 abbrev pub put : ResourceMap → Path → List ℕ → ℕ → Outcome (Unit {0})
 put m p bytes now = put_at m p bytes now (at_path m p)
+
+-- what is known of what is at a path
+abbrev pub metadata : ResourceMap → Path → Result Meta FsError
+metadata m p = find m p >>= λ r. Ok (meta_at r.node)
 
 -- a file's bytes from min(at, length) to min(at + count, length)
 abbrev pub read_at : ResourceMap → Path → ℕ → ℕ → Result (List ℕ) FsError

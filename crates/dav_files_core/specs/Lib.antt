@@ -1,6 +1,7 @@
 pub mod Codes
 pub mod Commands
 pub mod Finding
+pub mod Meta
 pub mod Outcomes
 pub mod Represents
 pub mod Resources

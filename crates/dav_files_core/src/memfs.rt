@@ -3,7 +3,8 @@ ghost use Rattle.std.specs.Prelude.{◌≡◌, ◌<◌, ◌-◌, [], length, tak
 ghost use Rattle.dav_path_core.specs.Segments.{segments};
 ghost use Rattle.dav_path_core.specs.Answers.{AnswersAs, Tells};
 ghost use Rattle.dav_files_core.specs.Outcomes.{start};
-ghost use Rattle.dav_files_core.specs.Commands.{put, read_at};
+ghost use Rattle.dav_files_core.specs.Commands.{metadata, put, read_at};
+ghost use Rattle.dav_files_core.specs.Meta.{meta_of};
 ghost use Rattle.dav_files_core.specs.Resources.{IsResourceMap};
 ghost use Rattle.dav_files_core.specs.TreeCalls.{number_of};
 
@@ -25,6 +26,19 @@ pub enum Kind {
     Folder,
     /// It has bytes.
     File,
+}
+
+/// What is known of a folder or a file.
+#[derive(Clone, Copy, PartialEq, Eq, Debug)]
+pub struct MemFsMeta {
+    /// A folder or a file.
+    pub kind: Kind,
+    /// How many bytes a file has; 0 for a folder.
+    pub length: u64,
+    /// When its bytes or its members last changed.
+    pub modified: Moment,
+    /// When it was made.
+    pub created: Moment,
 }
 
 /// Files in memory: a map from paths to folders and files.
@@ -115,6 +129,20 @@ impl MemFs {
         }
     }
 
+    /// What is known of what is at a path. It takes no memory (RFC 4918 section 15).
+    ///
+    /// `NotFound` where the longest front of the path that is there is a folder, `Forbidden` where it is a file.
+    pub fn metadata(&self, path: &DavPath) -> FsResult<MemFsMeta>
+        ensures { MatchResult result
+            (λ meta. metadata self.now (segments path.now.bytes) ≡ Ok (meta_of meta))
+            (λ e. metadata self.now (segments path.now.bytes) ≡ Err e) }
+    {
+        let _ = &self.tree;
+        let id = self.number_of(path)?;
+        let node = node_of(&self.tree, id)?;
+        Ok(node.meta())
+    }
+
     /// The bytes of a file from min(`at`, length) to min(`at` + `count`, length), with the sum unbounded.
     ///
     /// `NotFound` where the longest front of the path that is there is a folder, `Forbidden` where it is a file and for a
@@ -189,6 +217,31 @@ mod tests {
         assert!(rt; files.read_at(&a, usize::MAX, usize::MAX)?.as_slice() == b"".as_slice());
         files.put(&a, b"", Moment(6))?;
         assert!(rt; files.read_at(&a, 0, 1)?.as_slice() == b"".as_slice());
+        Ok(())
+    }
+
+    #[test]
+    fn tells_what_is_known(rt: HostRuntime) -> Result<(), Fail> {
+        let mut files = MemFs::new(rt.alloc(), Moment(1))?;
+        let a = path(&rt, "/a")?;
+        files.put(&a, b"abc", Moment(5))?;
+        files.put(&a, b"abcd", Moment(7))?;
+        let file = MemFsMeta {
+            kind: Kind::File,
+            length: 4,
+            modified: Moment(7),
+            created: Moment(5),
+        };
+        assert!(rt; files.metadata(&a) == Ok(file));
+        let root = MemFsMeta {
+            kind: Kind::Folder,
+            length: 0,
+            modified: Moment(1),
+            created: Moment(1),
+        };
+        assert!(rt; files.metadata(&path(&rt, "/")?) == Ok(root));
+        assert!(rt; files.metadata(&path(&rt, "/b")?) == Err(FsError::NotFound));
+        assert!(rt; files.metadata(&path(&rt, "/a/b")?) == Err(FsError::Forbidden));
         Ok(())
     }
 

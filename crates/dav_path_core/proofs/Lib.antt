@@ -1,8 +1,10 @@
 pub mod Every
 pub mod FinMaps
+pub mod FrontLemmas
 pub mod KeptLemmas
 pub mod Laws
 pub mod Orders
+pub mod ParentLemmas
 pub mod Rewriting
 pub mod Scan
 pub mod SegmentLemmas

@@ -1,11 +1,12 @@
--- The orders of segments and of paths, and tests of equality by an order.
-use Rattle.std.proofs.Common.{◌≡◌, true, false, refl, sym, ap, ◌∙◌}
+-- The orders of segments and of paths tell apart what differs.
+use Rattle.std.proofs.Common.{◌≡◌, ◌≢◌, true, false, refl, sym, ap, ◌∙◌}
 use Rattle.std.specs.Ordering.{eq_by_cmp, is_eq}
 use Rattle.std.specs.declared.cmp.Ordering.{Ordering}
 use Rattle.std.specs.declared.cmp.Ordering.TheVariants.{Less, Equal, Greater}
 use Rattle.std.specs.Cmp.{IsTotalOrder, nat_cmp_total, tied_itself}
 use Rattle.std.specs.Cmp.Lexicographic.{lists_total}
 use Rattle.std.specs.FinMap.{IsAntisymmetric, nat_cmp-IsAntisymmetric, slice_cmp-IsAntisymmetric}
+use Rattle.std.proofs.lemmas.Bool.{true≢false}
 use Rattle.dav_path_core.specs.Fronts.{segment_cmp, path_cmp}
 
 pub segment_total : IsTotalOrder segment_cmp
@@ -32,6 +33,5 @@ eq_by_cmp_true {R = R} same x y h =
       | Greater ↦ λ e h. absurd (cc)
     ] refl h
 
-pub eq_by_cmp_false : {K : Type 0} {R : K → K → Ordering} → IsTotalOrder R → (x y : K) → eq_by_cmp R x y ≡ false → ¬ (x ≡ y)
-eq_by_cmp_false {R = R} o x y h e =
-    let both : true ≡ false = sym (eq_by_cmp_same o x) ∙ ap (eq_by_cmp R x) e ∙ h in cc
+pub eq_by_cmp_false : {K : Type 0} {R : K → K → Ordering} → IsTotalOrder R → (x y : K) → eq_by_cmp R x y ≡ false → x ≢ y
+eq_by_cmp_false {R = R} o x y h e = true≢false (sym (eq_by_cmp_same o x) ∙ ap (eq_by_cmp R x) e ∙ h)

@@ -20,7 +20,7 @@ position_or test xs r n e u =
     (λ (t : ltb (position_or_len test xs) (length xs) ≡ false). rw (u, e, t) (grind (arith, nat_tests)))
     (cases_Bool (ltb (position_or_len test xs) (length xs)))
 
-segments-slash : (b : ℕ) (bs : List ℕ) → is_slash b ≡ true → segments (b ∷ bs) ≡ segments bs
+pub segments-slash : (b : ℕ) (bs : List ℕ) → is_slash b ≡ true → segments (b ∷ bs) ≡ segments bs
 unfolding segments
 segments-slash b bs h = rw (eqb-true b 47 h) refl
 

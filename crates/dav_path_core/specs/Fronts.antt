@@ -1,5 +1,5 @@
 -- A path as the list of its segments, and what stands above it (RFC 4918 section 5.1).
-use Rattle.std.specs.Prelude.{ℕ, List, [], ◌∷◌, ◌++◌, map, Option, Some, None, if◌then◌else◌}
+use Rattle.std.specs.Prelude.{ℕ, Bool, List, [], ◌∷◌, ◌++◌, map, Option, Some, None, is_some, if◌then◌else◌}
 use Rattle.std.specs.declared.cmp.Ordering.{Ordering}
 use Rattle.std.specs.Ordering.{nat_cmp, eq_by_cmp}
 use Rattle.std.specs.Cmp.Lexicographic.{slice_cmp}
@@ -33,3 +33,16 @@ abbrev pub name_below : Path → Path → Option Segment
 name_below [] (name ∷ []) = Some name
 name_below (s ∷ p) (t ∷ q) = if eq_by_cmp segment_cmp s t then name_below p q else None
 name_below _ _ = None
+
+-- what stands in `p` behind `front`, where that is a front of it
+abbrev pub behind : Path → Path → Option Path
+behind [] p = Some p
+behind (s ∷ front) [] = None
+behind (s ∷ front) (t ∷ p) = if eq_by_cmp segment_cmp s t then behind front p else None
+
+-- whether `p` is `front` or stands below it
+abbrev pub is_front : Path → Path → Bool
+is_front front p = is_some (behind front p)
+
+abbrev pub is_same_path : Path → Path → Bool
+is_same_path p q = eq_by_cmp path_cmp p q

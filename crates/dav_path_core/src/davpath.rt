@@ -1,8 +1,10 @@
 //! Paths of resources.
-ghost use Rattle.std.specs.Prelude.{◌≡◌, ◌≤◌, ◌<◌, ◌^◌, ◌⊎◌, ℕ, List, [], length, IfOk, IfErr, MatchResult};
+ghost use Rattle.std.specs.Prelude.{◌++◌, take, ◌≡◌, ◌≤◌, ◌<◌, ◌^◌, ◌⊎◌, ℕ, List, [], length, IfOk, IfErr, MatchResult};
 ghost use Rattle.dav_path_core.specs.Reading.{Read};
 ghost use Rattle.dav_path_core.specs.Fault.{Fault};
 ghost use Rattle.dav_path_core.specs.Segments.{segments};
+ghost use Rattle.dav_path_core.specs.Fronts.{parent};
+ghost use Rattle.dav_path_core.specs.PathText.{folder_bytes};
 
 mod iter;
 mod reading;
@@ -51,7 +53,7 @@ impl<T: Drop> From<AllocFailed<T>> for ParseError {
 }
 
 /// The path of a resource: its bytes, decoded, of which the first are its prefix.
-#[derive(Drop)]
+#[derive(Clone, Drop)]
 pub struct DavPath {
     fullpath: Vec<u8>,
     prefix_length: usize,
@@ -109,6 +111,48 @@ impl DavPath {
     {
         Segments::new(self.as_bytes())
     }
+
+    // How many segments there are.
+    fn depth(&self) -> usize
+        ensures { result ≡ length (segments self.now.bytes) }
+    {
+        self.segments().count()
+    }
+
+    /// The parent, with the same prefix: a slash, and each segment but the last followed by a slash. The root behind the
+    /// prefix is its own parent (own). `OutOfMemory` alone.
+    pub fn parent(&self) -> Result<DavPath, ParseError>
+        ensures ok { IfOk result (λ path. (path.prefix ≡ self.now.prefix) × (path.bytes ≡ folder_bytes (parent (segments self.now.bytes)))) }
+        // So its segments are those of the path without the last.
+        ensures above { IfOk result (λ path. segments path.bytes ≡ parent (segments self.now.bytes)) }
+        ensures err { IfErr result (λ e. e ≡ ParseError.OutOfMemory) }
+    {
+        let above = self.depth().saturating_sub(1);
+        let prefix = &self.fullpath[..self.prefix_length];
+        let fullpath = folder_of(*self.fullpath.allocator(), prefix, self.segments(), above)?;
+        Ok(DavPath {
+            fullpath,
+            prefix_length: self.prefix_length,
+        })
+    }
+}
+
+// The bytes of a folder behind a prefix, by the first so many of its segments.
+fn folder_of(
+    alloc: Global,
+    prefix: &[u8],
+    names: Segments<'_>,
+    count: usize,
+) -> Result<Vec<u8>, AllocError>
+    ensures { IfOk result (λ path. path.items ≡ prefix.now ++ folder_bytes (take count (segments names.entry))) }
+{
+    let mut path = prefix.to_vec(alloc)?;
+    path.push(b'/')?;
+    for segment in names.take(count) {
+        path.extend_from_slice(segment)?;
+        path.push(b'/')?;
+    }
+    Ok(path)
 }
 
 #[cfg(test)]
@@ -151,6 +195,24 @@ mod tests {
                 Ok(_) => assert!(rt; false, "{text}"),
                 Err(e) => assert_eq!(rt; e, error, "{text}"),
             }
+        }
+        Ok(())
+    }
+
+    #[test]
+    fn gives_parents(rt: HostRuntime) -> Result<(), Fail> {
+        let rows: [(&str, &[u8]); 6] = [
+            ("/a/b/", b"/a/"),
+            ("/a/b", b"/a/"),
+            ("/a//b/../c", b"/a/"),
+            ("/a", b"/"),
+            ("/", b"/"),
+            ("/a/b/c", b"/a/b/"),
+        ];
+        for (text, bytes) in rows {
+            let path = DavPath::new(rt.alloc(), text)?;
+            assert!(rt; path.parent()?.as_bytes() == bytes, "{text}");
+            assert!(rt; path.clone()?.as_bytes() == path.as_bytes(), "{text}");
         }
         Ok(())
     }

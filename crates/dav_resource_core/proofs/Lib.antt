@@ -1,2 +1,4 @@
+pub mod Frame
 pub mod Numerals
-pub mod Running
+pub mod RunClauses
+pub mod Serving

@@ -1,4 +1,5 @@
-pub mod Requests
+pub mod Does
+pub mod Laws
 pub mod Seeds
 pub mod Served
 pub mod Step

@@ -2,6 +2,7 @@
 ghost use Rattle.std.specs.Prelude.{◌≡◌, ◌⊎◌, map, string_bytes};
 ghost use Rattle.dav_resource_core.specs.Seeds.{numeral, seed};
 
+mod labels;
 mod lines;
 mod playing;
 #[cfg(test)]
@@ -89,6 +90,12 @@ impl From<io::Error> for Stop {
     }
 }
 
+impl From<AllocError> for Stop {
+    fn from(_: AllocError) -> Stop {
+        Stop::OutOfMemory
+    }
+}
+
 // What was answered before a fault is written before the fault is told.
 fn play<I: Read + Drop, O: Write + Drop>(
     alloc: Global,
@@ -103,6 +110,7 @@ fn play<I: Read + Drop, O: Write + Drop>(
         alloc,
         stores,
         rng: Pcg64::seed_from_u64(seed),
+        granted: Vec::new(alloc),
     };
     let mut input = BufReader::new(alloc, input)?;
     let mut output = BufWriter::new(alloc, output)?;

@@ -1,12 +1,25 @@
 //! Requests on the stores.
-ghost use Rattle.std.specs.Prelude.{◌≡◌, ◌≤◌, ◌<◌, ◌+◌, ◌++◌, ◌∷◌, [], map, vec_len, vec_capacity, IfOk, OnErr, MatchResult};
+ghost use Rattle.std.specs.Prelude.{◌≡◌, ◌≤◌, ◌<◌, ◌+◌, ◌++◌, ◌∷◌, [], map, vec_len, vec_capacity, option_map, string_bytes, IfOk, OnOk, IfErr, OnErr, MatchResult};
+ghost use Rattle.dav_locks_core.specs.Calls.{lent_text};
+ghost use Rattle.dav_path_core.specs.Segments.{segments};
+ghost use Rattle.dav_locks_core.specs.Exclusive.{Exclusive};
+ghost use Rattle.dav_locks_core.specs.Naming.{caller_of};
+ghost use Rattle.dav_locks_core.specs.Checks.{refusing, shallow, target};
+ghost use Rattle.dav_locks_core.specs.Isolation.{EndsNamed, UnnamedStand};
+ghost use Rattle.dav_resource_core.specs.Does.{has};
 ghost use Rattle.dav_resource_core.specs.Step.{Step, Run};
+ghost use Rattle.dav_resource_core.specs.Laws.{Isolated, AnyIsolated, EachExclusive, EachEndsNamed, EachIsolated, EachAnyIsolated, UnnamedIsolated};
 ghost use Rattle.dav_resource_core.specs.Stores.{start_stores, state_of};
-ghost use Rattle.dav_resource_core.specs.Served.{request_of, answer_of};
+ghost use Rattle.dav_resource_core.specs.Served.{request_of, answer_of, RefusedBy};
+
+#[cfg(test)]
+mod tests;
 
 use bytes::Bytes;
 use dav_files_core::fs::Moment;
 use dav_files_core::memfs::MemFs;
+use dav_locks_core::ls::{DavLock, LockError};
+use dav_locks_core::memls::MemLs;
 use dav_path_core::davpath::DavPath;
 use dav_path_core::errors::{FsError, FsResult};
 use rand_core::Rng;
@@ -32,6 +45,28 @@ pub enum Command {
         /// How many bytes are read, at most.
         count: usize,
     },
+    /// Locks a path (RFC 4918 section 9.10), in the map or not. No resource is made. A shared or deep lock isn't offered
+    /// yet: it is answered `Fs(NotImplemented)`.
+    Lock {
+        /// The path.
+        path: DavPath,
+        /// The owner's text, kept as given.
+        owner: Option<String>,
+        /// In seconds; none where the lock doesn't end by time.
+        timeout: Option<u64>,
+        /// Others may hold a lock there too.
+        shared: bool,
+        /// It covers every path below, too.
+        deep: bool,
+    },
+    /// Ends a lock (RFC 4918 section 9.11): the one with that token at the path or above it, the nearest to the root, of
+    /// these the first granted. The principal isn't looked at.
+    Unlock {
+        /// The path.
+        path: DavPath,
+        /// The lock's token.
+        token: String,
+    },
 }
 
 /// One request.
@@ -54,13 +89,34 @@ pub enum Reply {
     Done,
     /// The bytes that were read.
     Bytes(Bytes),
+    /// The lock that was granted.
+    Lock(DavLock),
 }
 
 /// Why a request is refused. Nothing was changed.
 #[derive(Drop)]
 pub enum Refusal {
-    /// The files refuse it.
+    /// The files refuse it; `Fs(InsufficientStorage)` also for want of memory for their work.
     Fs(FsError),
+    /// This lock stands in the way.
+    Locked(DavLock),
+    /// There is no such lock.
+    NoLock,
+    /// There is no memory for a check or for a lock.
+    OutOfMemory,
+}
+
+impl From<LockError> for Refusal {
+    ghost use Rattle.dav_resource_core.specs.Served.{refused_by};
+
+    ghost from_gives = { λ e r. r ≡ refused_by e };
+
+    fn from(error: LockError) -> Self {
+        match error {
+            LockError::Conflict(lock) => Refusal::Locked(lock),
+            LockError::OutOfMemory => Refusal::OutOfMemory,
+        }
+    }
 }
 
 /// The stores, which requests alone reach.
@@ -68,40 +124,126 @@ pub enum Refusal {
 pub struct Guarded {
     alloc: Global,
     fs: MemFs,
+    locks: MemLs,
 }
 
 impl Model for Guarded {
+    ghost use Rattle.dav_locks_core.specs.Exclusive.{Exclusive};
     ghost use Rattle.dav_resource_core.specs.Stores.{Stores, coded_stores};
 
     ghost Value = { Stores };
 
     ghost coded = { coded_stores };
 
-    ghost view = { λ g. record { map = g.fs } };
+    ghost view = { λ g. record { map = g.fs; locks = g.locks } };
+
+    ghost invariant = { λ g. Exclusive g.locks };
 }
 
 impl Guarded {
-    /// A root folder alone, with both times `now`. `InsufficientStorage` for want of memory.
+    /// A root folder alone, with both times `now`, and no lock. `InsufficientStorage` for want of memory.
     pub fn new(alloc: Global, now: Moment) -> FsResult<Guarded>
         ensures { MatchResult result (λ g. g ≡ start_stores now.0) (λ e. e ≡ FsError.InsufficientStorage) }
     {
         let fs = MemFs::new(alloc, now)?;
-        Ok(Guarded { alloc, fs })
+        let locks = MemLs::new(alloc)?;
+        Ok(Guarded { alloc, fs, locks })
     }
 
-    /// Answers one request. The generator stays as it was.
+    /// Answers one request. Locks in the way come before any other refusal but want of memory. A granted lock alone draws
+    /// from the generator; on every other answer it stays as it was.
     pub fn apply<R: Rng>(&mut self, request: &Request, rng: &mut R) -> Result<Reply, Refusal>
         ensures step { Step (state_of self.old (R.stream rng.old)) (request_of request.entry.now) (answer_of result) (state_of self.new (R.stream rng.new)) }
+
+        // Two locks that cover one path are both shared.
+        ensures exclusive { Exclusive self.new.locks }
+        // A path under an exclusive lock changes only by a request that names its token under its principal.
+        ensures isolated { Isolated (state_of self.old (R.stream rng.old)) (request_of request.entry.now) (state_of self.new (R.stream rng.new)) }
+        // A path under any lock changes only by a request that names such a lock of a front of the path.
+        ensures any_isolated { AnyIsolated (state_of self.old (R.stream rng.old)) (request_of request.entry.now) (state_of self.new (R.stream rng.new)) }
+        // A lock ends only where its token is named.
+        ensures ends_named { EndsNamed (state_of self.old (R.stream rng.old)) (request_of request.entry.now) (state_of self.new (R.stream rng.new)) }
+    {
+        self.serve(request, rng)
+    }
+
+    // One request, by its command.
+    fn serve<R: Rng>(&mut self, request: &Request, rng: &mut R) -> Result<Reply, Refusal>
+        ensures step { Step (state_of self.old (R.stream rng.old)) (request_of request.entry.now) (answer_of result) (state_of self.new (R.stream rng.new)) }
+        ensures exclusive { Exclusive self.new.locks }
     {
         match &request.command {
-            Command::Put { path, bytes } => match self.fs.put(path, bytes.as_slice(), request.now) {
-                Ok(()) => return Ok(Reply::Done),
-                Err(error) => return Err(Refusal::Fs(error)),
-            },
+            Command::Put { path, bytes } => {
+                self.check_target(request, path)?;
+                match self.fs.put(path, bytes.as_slice(), request.now) {
+                    Ok(()) => return Ok(Reply::Done),
+                    Err(error) => return Err(Refusal::Fs(error)),
+                }
+            }
             Command::Read { path, at, count } => match self.fs.read_at(path, *at, *count) {
                 Ok(bytes) => return Ok(Reply::Bytes(bytes)),
                 Err(error) => return Err(Refusal::Fs(error)),
             },
+            Command::Lock {
+                path,
+                owner,
+                timeout,
+                shared,
+                deep,
+            } => {
+                if *shared || *deep {
+                    return Err(Refusal::Fs(FsError::NotImplemented));
+                }
+                let principal = text_of(&request.principal);
+                let owner = text_of(owner);
+                match self.locks.lock(
+                    path,
+                    principal,
+                    owner,
+                    *timeout,
+                    *shared,
+                    *deep,
+                    request.now,
+                    rng,
+                ) {
+                    Ok(lock) => return Ok(Reply::Lock(lock)),
+                    Err(error) => return Err(Refusal::from(error)),
+                }
+            }
+            Command::Unlock { path, token } => match self.locks.unlock(path, token.as_str()) {
+                Ok(()) => return Ok(Reply::Done),
+                Err(_) => return Err(Refusal::NoLock),
+            },
+        }
+    }
+
+    // Checks a target, and its parent where nothing stands at the target (RFC 4918 section 7.4).
+    fn check_target(&self, request: &Request, path: &DavPath) -> Result<(), Refusal>
+        ensures ok { OnOk result (refusing self.now.locks (caller_of (request_of request.entry.now)) (target has self.now.map (segments path.now.bytes)) ≡ []) }
+        ensures err { IfErr result (RefusedBy (refusing self.now.locks (caller_of (request_of request.entry.now)) (target has self.now.map (segments path.now.bytes)))) }
+    {
+        self.check_path(request, path)?;
+        if self.fs.metadata(path).is_ok() {
+            return Ok(());
+        }
+        match path.parent() {
+            Ok(parent) => return self.check_path(request, &parent),
+            Err(_) => return Err(Refusal::OutOfMemory),
+        }
+    }
+
+    // Checks one path, shallow, by the request's tokens and principal.
+    fn check_path(&self, request: &Request, path: &DavPath) -> Result<(), Refusal>
+        ensures ok { OnOk result (refusing self.now.locks (caller_of (request_of request.entry.now)) (shallow (segments path.now.bytes) ∷ []) ≡ []) }
+        ensures err { IfErr result (RefusedBy (refusing self.now.locks (caller_of (request_of request.entry.now)) (shallow (segments path.now.bytes) ∷ []))) }
+    {
+        let principal = text_of(&request.principal);
+        match self
+            .locks
+            .check(path, principal, false, false, &request.tokens)
+        {
+            Ok(()) => return Ok(()),
+            Err(error) => return Err(Refusal::from(error)),
         }
     }
 
@@ -115,13 +257,49 @@ impl Guarded {
         ensures run { IfOk result (λ answers. Run (state_of self.old (R.stream rng.old)) (map request_of requests.now) (map answer_of answers.items) (state_of self.new (R.stream rng.new))) }
         ensures unchanged { OnErr result (self.new ≡ self.old) }
         ensures undrawn { OnErr result (R.stream rng.new ≡ R.stream rng.old) }
+
+        // Two locks that cover one path are both shared, at the end and after each step.
+        ensures exclusive { Exclusive self.new.locks }
+        ensures each_exclusive { IfOk result (λ answers. EachExclusive (state_of self.old (R.stream rng.old)) (map request_of requests.now) (map answer_of answers.items) (state_of self.new (R.stream rng.new))) }
+        // In each step a path under a lock changes only by a request that names such a lock, and a lock ends only where its
+        // token is named.
+        ensures each_isolated { IfOk result (λ answers. EachIsolated (state_of self.old (R.stream rng.old)) (map request_of requests.now) (map answer_of answers.items) (state_of self.new (R.stream rng.new))) }
+        ensures each_any_isolated { IfOk result (λ answers. EachAnyIsolated (state_of self.old (R.stream rng.old)) (map request_of requests.now) (map answer_of answers.items) (state_of self.new (R.stream rng.new))) }
+        ensures each_ends_named { IfOk result (λ answers. EachEndsNamed (state_of self.old (R.stream rng.old)) (map request_of requests.now) (map answer_of answers.items) (state_of self.new (R.stream rng.new))) }
+        // The locks of the start that no request names stand at the end, and what an exclusive one of them covers is as it was.
+        ensures stand { OnOk result (UnnamedStand (state_of self.old (R.stream rng.old)) (map request_of requests.now) (state_of self.new (R.stream rng.new))) }
+        ensures kept { OnOk result (UnnamedIsolated (state_of self.old (R.stream rng.old)) (map request_of requests.now) (state_of self.new (R.stream rng.new))) }
+    {
+        self.run_all(requests, rng)
+    }
+
+    // The loop of `run`.
+    fn run_all<R: Rng>(
+        &mut self,
+        requests: &[Request],
+        rng: &mut R,
+    ) -> Result<Vec<Result<Reply, Refusal>>, AllocError>
+        ensures run { IfOk result (λ answers. Run (state_of self.old (R.stream rng.old)) (map request_of requests.now) (map answer_of answers.items) (state_of self.new (R.stream rng.new))) }
+        ensures unchanged { OnErr result (self.new ≡ self.old) }
+        ensures undrawn { OnErr result (R.stream rng.new ≡ R.stream rng.old) }
+        ensures exclusive { Exclusive self.old.locks × Exclusive self.new.locks }
     {
         let mut answers = Vec::with_capacity(self.alloc, requests.len())?;
         for request in requests {
-            let answer = self.apply(request, rng);
+            let answer = self.serve(request, rng);
             add_answer(&mut answers, answer);
         }
         Ok(answers)
+    }
+}
+
+// The text of an owned one, if there is one.
+fn text_of(text: &Option<String>) -> Option<&str>
+    ensures { lent_text result ≡ option_map string_bytes text.now }
+{
+    match text {
+        Some(text) => Some(text.as_str()),
+        None => None,
     }
 }
 
@@ -134,85 +312,5 @@ fn add_answer(answers: &mut Vec<Result<Reply, Refusal>>, answer: Result<Reply, R
 {
     if answers.push(answer).is_err() {
         unreachable!();
-    }
-}
-
-#[cfg(test)]
-mod tests {
-    use super::*;
-    use rand_core::SeedableRng;
-    use rand_pcg::Pcg64;
-    use std::test::Fail;
-
-    fn request(rt: &HostRuntime, now: u64, command: Command) -> Request {
-        Request {
-            principal: None,
-            tokens: Vec::new(rt.alloc()),
-            now: Moment(now),
-            command,
-        }
-    }
-
-    fn put(rt: &HostRuntime, now: u64, path: &str, bytes: &[u8]) -> Result<Request, Fail> {
-        let command = Command::Put {
-            path: DavPath::new(rt.alloc(), path)?,
-            bytes: Bytes::copy_from_slice(rt.alloc(), bytes)?,
-        };
-        Ok(request(rt, now, command))
-    }
-
-    fn read(
-        rt: &HostRuntime,
-        now: u64,
-        path: &str,
-        at: usize,
-        count: usize,
-    ) -> Result<Request, Fail> {
-        let command = Command::Read {
-            path: DavPath::new(rt.alloc(), path)?,
-            at,
-            count,
-        };
-        Ok(request(rt, now, command))
-    }
-
-    #[test]
-    fn runs_go_on_after_a_refusal(rt: HostRuntime) -> Result<(), Fail> {
-        let mut stores = Guarded::new(rt.alloc(), Moment(0))?;
-        let mut rng = Pcg64::seed_from_u64(1);
-        let mut requests = Vec::new(rt.alloc());
-        requests.push(put(&rt, 5, "/a", b"abc")?)?;
-        requests.push(put(&rt, 6, "/", b"x")?)?;
-        requests.push(read(&rt, 7, "/a", 1, 9)?)?;
-        let answers = stores.run(&requests, &mut rng)?;
-        assert_eq!(rt; answers.len(), 3);
-        assert!(rt; matches!(&answers[0], Ok(Reply::Done)));
-        assert!(rt; matches!(&answers[1], Err(Refusal::Fs(FsError::Forbidden))));
-        match &answers[2] {
-            Ok(Reply::Bytes(bytes)) => assert!(rt; bytes.as_slice() == b"bc".as_slice()),
-            _ => assert!(rt; false),
-        }
-        let none = stores.run(&[], &mut rng)?;
-        assert!(rt; none.is_empty());
-        Ok(())
-    }
-
-    #[test]
-    fn applies_one_request(rt: HostRuntime) -> Result<(), Fail> {
-        let mut stores = Guarded::new(rt.alloc(), Moment(0))?;
-        let mut rng = Pcg64::seed_from_u64(1);
-        assert!(rt;
-            matches!(
-                stores.apply(&put(&rt, 5, "/a", b"abc")?, &mut rng),
-                Ok(Reply::Done)
-            )
-        );
-        assert!(rt;
-            matches!(
-                stores.apply(&read(&rt, 6, "/x", 0, 1)?, &mut rng),
-                Err(Refusal::Fs(FsError::NotFound))
-            )
-        );
-        Ok(())
     }
 }

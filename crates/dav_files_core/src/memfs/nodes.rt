@@ -4,9 +4,10 @@ ghost use Rattle.std.specs.Option.{ok_or};
 ghost use Rattle.std.specs.Cmp.Lexicographic.{pointwise};
 ghost use Rattle.dav_path_core.specs.Keyed.{child, add};
 ghost use Rattle.dav_files_core.specs.Outcomes.{new_file, new_folder};
+ghost use Rattle.dav_files_core.specs.Meta.{meta_of, meta_at};
 ghost use Rattle.dav_files_core.specs.TreeCalls.{FindsMember, FindsNode, WritesFile, IsThere};
 
-use super::Kind;
+use super::{Kind, MemFsMeta};
 use crate::fs::Moment;
 use bytes::Bytes;
 use dav_path_core::errors::{FsError, FsResult};
@@ -55,6 +56,17 @@ impl Node {
             content,
             created: now,
             modified: now,
+        }
+    }
+
+    pub(super) fn meta(&self) -> MemFsMeta
+        ensures { meta_of result ≡ meta_at self.now }
+    {
+        MemFsMeta {
+            kind: self.kind,
+            length: self.content.len() as u64,
+            modified: self.modified,
+            created: self.created,
         }
     }
 

@@ -24,16 +24,26 @@ pub(super) enum Line<'a> {
 pub(super) struct Asked<'a> {
     pub(super) now: Moment,
     pub(super) principal: Option<String>,
-    pub(super) tokens: Vec<String>,
+    pub(super) labels: Vec<&'a str>,
     pub(super) path: &'a str,
-    pub(super) action: Action,
+    pub(super) action: Action<'a>,
 }
 
 /// A command without its path.
 #[derive(Drop)]
-pub(super) enum Action {
+pub(super) enum Action<'a> {
     Put(Bytes),
-    Read { at: usize, count: usize },
+    Read {
+        at: usize,
+        count: usize,
+    },
+    Lock {
+        timeout: Option<u64>,
+        shared: bool,
+        deep: bool,
+    },
+    /// With the label of the lock.
+    Unlock(&'a str),
 }
 
 /// What a line says. Its words are separated by spaces; it is malformed where it isn't UTF-8.
@@ -65,7 +75,7 @@ fn asked_of<'a>(alloc: Global, words: &[&'a str]) -> Result<Option<Asked<'a>>, A
     let Some(now) = number(now) else {
         return Ok(None);
     };
-    let Some(tokens) = tokens_of(alloc, labels)? else {
+    let Some(labels) = labels_of(alloc, labels)? else {
         return Ok(None);
     };
     let Some(action) = action_of(alloc, command, args)? else {
@@ -78,28 +88,63 @@ fn asked_of<'a>(alloc: Global, words: &[&'a str]) -> Result<Option<Asked<'a>>, A
     Ok(Some(Asked {
         now: Moment(now),
         principal,
-        tokens,
+        labels,
         path,
         action,
     }))
 }
 
 // The command by its word, with the words behind its path.
-fn action_of(alloc: Global, command: &str, args: &[&str]) -> Result<Option<Action>, AllocError> {
+fn action_of<'a>(
+    alloc: Global,
+    command: &str,
+    args: &[&'a str],
+) -> Result<Option<Action<'a>>, AllocError> {
     match (command, args) {
         ("put", [hex]) => match bytes_of(alloc, hex)? {
             Some(bytes) => Ok(Some(Action::Put(bytes))),
             None => Ok(None),
         },
-        ("read", [at, count]) => match (number(at), number(count)) {
-            (Some(at), Some(count)) => Ok(Some(Action::Read {
-                at: at as usize,
-                count: count as usize,
-            })),
-            _ => Ok(None),
-        },
+        ("read", [at, count]) => Ok(read_of(at, count)),
+        ("lock", [scope, depth, timeout]) => Ok(lock_of(scope, depth, timeout)),
+        ("unlock", [label]) => {
+            if is_label(label) {
+                Ok(Some(Action::Unlock(label)))
+            } else {
+                Ok(None)
+            }
+        }
         _ => Ok(None),
     }
+}
+
+fn read_of<'a>(at: &str, count: &str) -> Option<Action<'a>> {
+    let at = number(at)? as usize;
+    let count = number(count)? as usize;
+    Some(Action::Read { at, count })
+}
+
+// `exclusive` or `shared`, `shallow` or `deep`, and a timeout in seconds or `-` for none.
+fn lock_of<'a>(scope: &str, depth: &str, timeout: &str) -> Option<Action<'a>> {
+    let shared = match scope {
+        "exclusive" => false,
+        "shared" => true,
+        _ => return None,
+    };
+    let deep = match depth {
+        "shallow" => false,
+        "deep" => true,
+        _ => return None,
+    };
+    let timeout = match timeout {
+        "-" => None,
+        seconds => Some(number(seconds)?),
+    };
+    Some(Action::Lock {
+        timeout,
+        shared,
+        deep,
+    })
 }
 
 // An even number of hexadecimal digits, or `-` for no bytes.
@@ -114,19 +159,19 @@ fn bytes_of(alloc: Global, word: &str) -> Result<Option<Bytes>, AllocError> {
     }
 }
 
-// Labels joined by commas, or `-` for none. No lock is granted yet, so a label stands for its own text.
-fn tokens_of(alloc: Global, labels: &str) -> Result<Option<Vec<String>>, AllocError> {
-    let mut tokens = Vec::new(alloc);
-    if labels == "-" {
-        return Ok(Some(tokens));
+// Labels joined by commas, or `-` for none.
+fn labels_of<'a>(alloc: Global, word: &'a str) -> Result<Option<Vec<&'a str>>, AllocError> {
+    let mut labels = Vec::new(alloc);
+    if word == "-" {
+        return Ok(Some(labels));
     }
-    for label in labels.split(',') {
+    for label in word.split(',') {
         if !is_label(label) {
             return Ok(None);
         }
-        tokens.push(String::from_str(alloc, label)?)?;
+        labels.push(label)?;
     }
-    Ok(Some(tokens))
+    Ok(Some(labels))
 }
 
 // `t` and a number from 1 without leading zeros.

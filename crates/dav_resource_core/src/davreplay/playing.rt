@@ -1,19 +1,22 @@
 //! Answers to the lines of a scenario.
+use super::labels::{label_number, token_of, tokens_of};
 use super::lines::{Action, Asked};
 use super::{OUT_OF_MEMORY, Stop};
 use crate::guarded::{Command, Guarded, Refusal, Reply, Request};
 use bytes::Bytes;
+use dav_locks_core::ls::DavLock;
 use dav_path_core::davpath::{DavPath, ParseError};
 use rand_pcg::Pcg64;
-use std::alloc::Global;
+use std::alloc::{AllocError, Global};
 use std::io::{BufWriter, Write};
 
-/// The stores, and the generator of lock tokens.
+/// The stores, the generator of lock tokens, and the tokens of the locks granted so far, in that order.
 #[derive(Drop)]
 pub(super) struct Player {
     pub(super) alloc: Global,
     pub(super) stores: Guarded,
     pub(super) rng: Pcg64,
+    pub(super) granted: Vec<String>,
 }
 
 impl Player {
@@ -23,44 +26,84 @@ impl Player {
         asked: Asked<'_>,
         output: &mut BufWriter<O>,
     ) -> Result<(), Stop> {
-        let Asked {
-            now,
-            principal,
-            tokens,
-            path,
-            action,
-        } = asked;
-        let path = match DavPath::new(self.alloc, path) {
+        let path = match DavPath::new(self.alloc, asked.path) {
             Ok(path) => path,
             Err(ParseError::OutOfMemory) => return Ok(output.write_all(OUT_OF_MEMORY)?),
             Err(error) => return Ok(writeln!(output, "bad path {error}")?),
         };
-        let command = match action {
-            Action::Put(bytes) => Command::Put { path, bytes },
-            Action::Read { at, count } => Command::Read { path, at, count },
-        };
-        let request = Request {
-            principal,
-            tokens,
-            now,
-            command,
-        };
-        match self.stores.apply(&request, &mut self.rng) {
-            Ok(reply) => write_reply(self.alloc, &reply, output),
-            Err(refusal) => write_refusal(&refusal, output),
+        match request_of(self.alloc, &self.granted, asked, path) {
+            Ok(request) => self.run(&request, output),
+            Err(AllocError) => Ok(output.write_all(OUT_OF_MEMORY)?),
         }
+    }
+
+    fn run<O: Write + Drop>(
+        &mut self,
+        request: &Request,
+        output: &mut BufWriter<O>,
+    ) -> Result<(), Stop> {
+        match self.stores.apply(request, &mut self.rng) {
+            Ok(Reply::Done) => Ok(output.write_all(b"ok\n")?),
+            Ok(Reply::Bytes(bytes)) => write_bytes(self.alloc, &bytes, output),
+            Ok(Reply::Lock(lock)) => self.write_granted(lock, output),
+            Err(refusal) => write_refusal(&self.granted, &refusal, output),
+        }
+    }
+
+    // The label of a lock that was granted: its token is kept.
+    fn write_granted<O: Write + Drop>(
+        &mut self,
+        lock: DavLock,
+        output: &mut BufWriter<O>,
+    ) -> Result<(), Stop> {
+        let token = lock.token.clone()?;
+        if self.granted.push(token).is_err() {
+            return Err(Stop::OutOfMemory);
+        }
+        Ok(writeln!(output, "ok t{}", label_number(&self.granted, &lock.token))?)
     }
 }
 
-fn write_reply<O: Write + Drop>(
+// The request of a line, its labels replaced by the tokens that they stand for.
+fn request_of(
     alloc: Global,
-    reply: &Reply,
-    output: &mut BufWriter<O>,
-) -> Result<(), Stop> {
-    match reply {
-        Reply::Done => Ok(output.write_all(b"ok\n")?),
-        Reply::Bytes(bytes) => write_bytes(alloc, bytes, output),
-    }
+    granted: &[String],
+    asked: Asked<'_>,
+    path: DavPath,
+) -> Result<Request, AllocError> {
+    let Asked {
+        now,
+        principal,
+        labels,
+        path: _,
+        action,
+    } = asked;
+    let tokens = tokens_of(alloc, granted, &labels)?;
+    let command = match action {
+        Action::Put(bytes) => Command::Put { path, bytes },
+        Action::Read { at, count } => Command::Read { path, at, count },
+        Action::Lock {
+            timeout,
+            shared,
+            deep,
+        } => Command::Lock {
+            path,
+            owner: None,
+            timeout,
+            shared,
+            deep,
+        },
+        Action::Unlock(label) => Command::Unlock {
+            path,
+            token: token_of(alloc, granted, label)?,
+        },
+    };
+    Ok(Request {
+        principal,
+        tokens,
+        now,
+        command,
+    })
 }
 
 // The bytes in lower-case hexadecimal digits, `-` for none.
@@ -79,10 +122,18 @@ fn write_bytes<O: Write + Drop>(
 }
 
 fn write_refusal<O: Write + Drop>(
+    granted: &[String],
     refusal: &Refusal,
     output: &mut BufWriter<O>,
 ) -> Result<(), Stop> {
     match refusal {
         Refusal::Fs(error) => Ok(writeln!(output, "error {} {error}", error.status().as_u16())?),
+        Refusal::Locked(lock) => Ok(writeln!(
+            output,
+            "locked t{}",
+            label_number(granted, &lock.token)
+        )?),
+        Refusal::NoLock => Ok(output.write_all(b"no lock\n")?),
+        Refusal::OutOfMemory => Ok(output.write_all(OUT_OF_MEMORY)?),
     }
 }

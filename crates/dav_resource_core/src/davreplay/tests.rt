@@ -64,6 +64,30 @@ bad path ForbiddenPath\nok\nok -\n";
 }
 
 #[test]
+fn plays_locks(rt: HostRuntime) {
+    let input =
+        b"1 ann - lock / exclusive shallow -\n2 bob - put /x 61\n3 ann t1 put /x 61\n4 bob - put /x 62\n\
+5 bob - lock / exclusive shallow -\n6 bob - lock /x exclusive deep -\n7 bob t1 put /y 61\n8 - - unlock /x t1\n\
+9 bob - put /y -\n10 - - unlock / t1\n";
+    let output =
+        "ok t1\nlocked t1\nok\nok\nlocked t1\nerror 501 NotImplemented\nlocked t1\nok\nok\nno lock\n";
+    assert!(rt; plays(&rt, input, output, "", 0));
+}
+
+#[test]
+fn keeps_holders_apart(rt: HostRuntime) {
+    // A refused stranger leaves the holder as it was, and a label past those granted is no token.
+    let input =
+        b"1 ann - lock /x exclusive shallow 9\n2 bob t2,t1 put /x 61\n3 ann t2 put /x 61\n4 ann t2,t1 put /x 61\n\
+5 ann t1 put /x 62\n6 - - lock /x shared shallow -\n7 - - unlock /x t2\n8 cat - lock /y exclusive shallow 0\n\
+9 ann t1 put /y 61\n10 cat t2 put /y 61\n11 cat t3,t2 put /z 61\n12 - - unlock /y/z t2\n13 - t1 put /x 63\n14 - - read /x 0 9\n";
+    let output =
+        "ok t1\nlocked t1\nlocked t1\nok\nok\nerror 501 NotImplemented\nno lock\nok t2\nlocked t2\nok\nok\nok\n\
+locked t1\nok 62\n";
+    assert!(rt; plays(&rt, input, output, "", 0));
+}
+
+#[test]
 fn runs_a_last_line_without_its_end(rt: HostRuntime) {
     assert!(rt;
         plays(
@@ -92,7 +116,7 @@ fn skips_and_counts_blank_lines(rt: HostRuntime) {
 
 #[test]
 fn names_malformed_lines(rt: HostRuntime) {
-    let lines: [&[u8]; 22] = [
+    let lines: [&[u8]; 31] = [
         b"5 - - mkcol /d",
         b"5 - - put /a",
         b"5 - - put /a 61 62",
@@ -115,6 +139,15 @@ fn names_malformed_lines(rt: HostRuntime) {
         b"5 - t1, put /a 61",
         b"5 - - put /../a 6",
         b"5\t- - put /a 61",
+        b"5 - - lock /a exclusive shallow",
+        b"5 - - lock /a Exclusive shallow -",
+        b"5 - - lock /a exclusive infinite -",
+        b"5 - - lock /a exclusive shallow +1",
+        b"5 - - lock /a exclusive shallow 18446744073709551616",
+        b"5 - - unlock /a -",
+        b"5 - - unlock /a t0",
+        b"5 - - unlock /a t1,t2",
+        b"5 - - unlock /a",
     ];
     for line in lines {
         let mut told = Vec::new(rt.alloc());

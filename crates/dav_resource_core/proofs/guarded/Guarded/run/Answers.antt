@@ -1,11 +1,20 @@
-use Rattle.std.proofs.Common.{arith}
-use Rattle.dav_resource_core.proofs.Running.{run_on}
+use Rattle.dav_resource_core.proofs.RunClauses.{each_exclusive, each_ends_named, each_isolated, each_any_isolated, stand, kept}
 use Rattle.dav_resource_core.proofs.guarded.Guarded.run.Goals as goal
 
-pub loop-request-preserved : goal.loop-request-preserved
-loop-request-preserved g c = record {
-  ran = run_on _ _ _ c.args.requests.now c.loop-request.request-index c.loop-request.answers.items _ c.request-item.result c.apply-answer.result
-      c.loop-request-test.true c.request-item.is c.add_answer.ensures.items c.loop-request.invariant.ran c.apply-answer.ensures.step;
-  count = omega arith;
-  room = omega arith;
-}
+pub returns-clause-each_exclusive : goal.returns-clause-each_exclusive
+returns-clause-each_exclusive g c = each_exclusive _ _ _ c.run_all.result
+
+pub returns-clause-each_isolated : goal.returns-clause-each_isolated
+returns-clause-each_isolated g c = each_isolated _ _ _ c.run_all.result
+
+pub returns-clause-each_any_isolated : goal.returns-clause-each_any_isolated
+returns-clause-each_any_isolated g c = each_any_isolated _ _ _ c.run_all.result
+
+pub returns-clause-each_ends_named : goal.returns-clause-each_ends_named
+returns-clause-each_ends_named g c = each_ends_named _ _ _ c.run_all.result
+
+pub returns-clause-stand : goal.returns-clause-stand
+returns-clause-stand g c = stand _ _ _ c.run_all.result c.run_all.ensures.run
+
+pub returns-clause-kept : goal.returns-clause-kept
+returns-clause-kept g c = kept _ _ _ c.run_all.result c.run_all.ensures.run

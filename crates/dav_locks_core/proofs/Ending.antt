@@ -1,0 +1,99 @@
+-- Which locks a list loses, and what stands where a token is found.
+use Rattle.std.proofs.Common.{◌≡◌, ◌⊎◌, inl, inr, ℕ, ◌+◌, ◌<◌, zero, suc, Bool, true, false, ◌||◌, cond, List, [], ◌∷◌, ◌++◌, length, get_or, Option, Some, None, option_map, refl, sym, ◌∙◌, ap, subst, arith}
+use Rattle.std.specs.Prelude.{remove, nat_le}
+use Rattle.std.proofs.lemmas.Bool.{cases_Bool, false≢true, or_left, or_right}
+use Rattle.std.proofs.lemmas.Option.{none-some}
+use Rattle.dav_path_core.specs.Fronts.{Path}
+use Rattle.dav_locks_core.specs.Lock.{Lock}
+use Rattle.dav_locks_core.specs.Locks.{found, found_from, found_here, better, height}
+use Rattle.dav_locks_core.specs.Naming.{Loses}
+use Rattle.dav_locks_core.proofs.Members.{In}
+
+pub Loses-refl : (gone : Lock → Bool) (locks : List Lock) → Loses gone locks locks
+Loses-refl gone [] = tt
+Loses-refl gone (a ∷ locks) = inl (refl, Loses-refl gone locks)
+
+pub Loses-push : (gone : Lock → Bool) (locks : List Lock) (l : Lock) → Loses gone locks (locks ++ l ∷ [])
+Loses-push gone [] l = tt
+Loses-push gone (a ∷ locks) l = inl (refl, Loses-push gone locks l)
+
+-- what goes is gone by the test
+Loses-one : (gone : Lock → Bool) (a : Lock) (old new : List Lock) → gone a ≡ true → Loses gone old new → Loses gone (a ∷ old) new
+Loses-one gone a old [] h k = (h, k)
+Loses-one gone a old (b ∷ new) h k = inr (h, k)
+
+pub Loses-remove : (gone : Lock → Bool) (locks : List Lock) (k : ℕ) → ((d : Lock) → k < length locks → gone (get_or locks k d) ≡ true) → Loses gone locks (remove locks k)
+Loses-remove gone [] k h = tt
+Loses-remove gone (a ∷ locks) zero h = Loses-one gone a locks locks (h a (omega arith)) (Loses-refl gone locks)
+Loses-remove gone (a ∷ locks) (suc k) h = inl (refl, Loses-remove gone locks k (λ d lt. h d (omega arith)))
+
+pub Loses-trans : (g h : Lock → Bool) (a b c : List Lock) → Loses g a b → Loses h b c → Loses (λ l. g l || h l) a c
+Loses-trans g h [] b c p q = tt
+Loses-trans g h (x ∷ a) [] c p q = Loses-one (λ l. g l || h l) x a c (or_left _ _ p.0) (Loses-trans g h a [] c p.1 tt)
+Loses-trans g h (x ∷ a) (y ∷ b) [] p q = elim p [
+  | inl same ↦ (or_right _ _ (ap h (sym same.0) ∙ q.0), Loses-trans g h a b [] same.1 q.1)
+  | inr lost ↦ (or_left _ _ lost.0, Loses-trans g h a (y ∷ b) [] lost.1 q)
+]
+Loses-trans g h (x ∷ a) (y ∷ b) (z ∷ c) p q = elim p [
+  | inl same ↦ elim q [
+    | inl again ↦ inl (again.0 ∙ same.0, Loses-trans g h a b c same.1 again.1)
+    | inr lost ↦ inr (or_right _ _ (ap h (sym same.0) ∙ lost.0), Loses-trans g h a b (z ∷ c) same.1 lost.1)
+  ]
+  | inr lost ↦ inr (or_left _ _ lost.0, Loses-trans g h a (y ∷ b) (z ∷ c) lost.1 q)
+]
+
+-- what isn't gone stands
+pub In-Loses : (gone : Lock → Bool) (l : Lock) → gone l ≡ false → (old new : List Lock) → Loses gone old new → In l old → In l new
+In-Loses gone l keep [] new p i = absurd i
+In-Loses gone l keep (a ∷ old) [] p i = elim i [
+  | inl here ↦ absurd (false≢true (sym keep ∙ ap gone (sym here) ∙ p.0))
+  | inr there ↦ In-Loses gone l keep old [] p.1 there
+]
+In-Loses gone l keep (a ∷ old) (b ∷ new) p i = elim p [
+  | inl same ↦ elim i [
+    | inl here ↦ inl (same.0 ∙ here)
+    | inr there ↦ inr (In-Loses gone l keep old new same.1 there)
+  ]
+  | inr lost ↦ elim i [
+    | inl here ↦ absurd (false≢true (sym keep ∙ ap gone (sym here) ∙ lost.0))
+    | inr there ↦ In-Loses gone l keep old (b ∷ new) lost.1 there
+  ]
+]
+
+-- ---- the place that is found
+
+better_one : (a b : Option (ℕ × ℕ)) (p : ℕ × ℕ) → better a b ≡ Some p → (a ≡ Some p) ⊎ (b ≡ Some p)
+better_one None b p h = inr h
+better_one (Some a) None p h = inl h
+better_one (Some a) (Some b) p h = elim (cases_Bool (nat_le a.1 b.1)) [
+  | inl t ↦ inl (subst (λ w. cond w (Some a) (Some b) ≡ Some p) t h)
+  | inr f ↦ inr (subst (λ w. cond w (Some a) (Some b) ≡ Some p) f h)
+]
+
+pub found_from_at : (n : ℕ) (locks : List Lock) (p : Path) (token : List ℕ) (f : ℕ × ℕ) → found_from n locks p token ≡ Some f
+    → (k : ℕ) × (f.0 ≡ n + k) × (k < length locks) × ((d : Lock) → found_here p token (get_or locks k d) ≡ true)
+found_from_at n [] p token f h = cc
+found_from_at n (l ∷ locks) p token f h = elim (better_one (cond (found_here p token l) (Some (n, height l)) None) (found_from (n + 1) locks p token) f h) [
+  | inl here ↦ elim (cases_Bool (found_here p token l)) [
+    | inl t ↦
+        let e : Some (n, height l) ≡ Some f = subst (λ w. cond w (Some (n, height l)) None ≡ Some f) t here in
+        let pair : (n, height l) ≡ f = cc in
+        let place : n ≡ f.0 = ap (λ q. q.0) pair in
+        (0, omega arith, omega arith, λ d. t)
+    | inr no_place ↦ absurd (none-some f (subst (λ w. cond w (Some (n, height l)) None ≡ Some f) no_place here))
+  ]
+  | inr there ↦ let r = found_from_at (n + 1) locks p token f there in (suc r.0, omega arith, omega arith, λ d. r.3 d)
+]
+
+-- at the found place stands a lock with that token, at the path or above
+pub found_at : (locks : List Lock) (p : Path) (token : List ℕ) (k : ℕ) → found locks p token ≡ Some k → (d : Lock) → found_here p token (get_or locks k d) ≡ true
+unfolding found
+found_at locks p token k h d = by (found_from 0 locks p token) refl h
+  where
+    by : (o : Option (ℕ × ℕ)) → found_from 0 locks p token ≡ o → option_map (λ f. f.0) o ≡ Some k → found_here p token (get_or locks k d) ≡ true
+    by None e g = cc
+    by (Some f) e g =
+        let r = found_from_at 0 locks p token f e in
+        let same : f.0 ≡ k = cc in
+        let place : r.0 ≡ k = omega arith in
+        subst (λ j. found_here p token (get_or locks j d) ≡ true) place (r.3 d)

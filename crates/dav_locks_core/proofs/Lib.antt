@@ -1,0 +1,16 @@
+pub mod Checking
+pub mod Conflicts
+pub mod Ending
+pub mod Exclusivity
+pub mod FoundLemmas
+pub mod Growing
+pub mod ListLemmas
+pub mod LockLists
+pub mod Members
+pub mod Numbered
+pub mod Places
+pub mod RunLaws
+pub mod Standing
+pub mod StepAnswers
+pub mod StepLaws
+pub mod Ways

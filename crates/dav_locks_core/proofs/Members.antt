@@ -1,0 +1,39 @@
+-- The members of a list, by recursion.
+use Rattle.std.proofs.Common.{◌≡◌, ◌⊎◌, inl, inr, ℕ, ◌<◌, zero, suc, Bool, true, ◌||◌, List, [], ◌∷◌, ◌++◌, length, refl, subst, arith}
+use Rattle.std.specs.Prelude.{Contains, slice_index_or}
+use Rattle.std.specs.List.{AllByRecursion, list_any}
+use Rattle.std.proofs.lemmas.Bool.{cases_Bool, false≢true}
+
+abbrev pub In : {A : Type 0} → A → List A → Type 0
+In x [] = ⊥
+In x (y ∷ xs) = (y ≡ x) ⊎ In x xs
+
+pub In-Contains : {A : Type 0} (xs : List A) (x : A) → Contains xs x → In x xs
+In-Contains {A = A} xs x c = at xs c.0 c.1 c.2
+  where
+    at : (xs : List A) (k : ℕ) → k < length xs → slice_index_or xs k x ≡ x → In x xs
+    at [] k lt e = absurd (omega (arith, lt))
+    at (y ∷ xs) zero lt e = inl e
+    at (y ∷ xs) (suc k) lt e = inr (at xs k (omega (arith, lt)) e)
+
+pub Contains-In : {A : Type 0} (xs : List A) (x : A) → In x xs → Contains xs x
+Contains-In [] x i = absurd i
+Contains-In (y ∷ xs) x i = elim i [
+  | inl e ↦ (0, omega arith, e)
+  | inr j ↦ let c = Contains-In xs x j in (suc c.0, omega (arith, c.1), c.2)
+]
+
+pub all_in : {A : Type 0} (P : A → Type 0) (xs : List A) (x : A) → AllByRecursion P xs → In x xs → P x
+all_in P [] x h i = absurd i
+all_in P (y ∷ xs) x h i = elim i [ inl e ↦ subst P e h.0 | inr j ↦ all_in P xs x h.1 j ]
+
+pub find_any : {A : Type 0} (test : A → Bool) (xs : List A) → list_any test xs ≡ true → (x : A) × In x xs × (test x ≡ true)
+find_any test [] h = absurd (false≢true h)
+find_any test (x ∷ xs) h = elim (cases_Bool (test x)) [
+  | inl t ↦ (x, inl refl, t)
+  | inr f ↦ let r = find_any test xs (subst (λ b. (b || list_any test xs) ≡ true) f h) in (r.0, inr r.1, r.2)
+]
+
+pub append_none : {A : Type 0} (xs ys : List A) → xs ++ ys ≡ [] → (xs ≡ []) × (ys ≡ [])
+append_none [] ys h = (refl, h)
+append_none (x ∷ xs) ys h = cc

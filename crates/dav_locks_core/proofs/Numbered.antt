@@ -1,0 +1,159 @@
+-- Lists of numbered values, in the order of their numbers: look-ups, places, a push and a removal.
+use Rattle.std.proofs.Common.{◌≡◌, ◌≢◌, inl, inr, ℕ, zero, suc, ◌<◌, ◌==◌, ◌&&◌, Bool, true, false, cond, not, T, List, [], ◌∷◌, ◌++◌, length, get_or, Some, None, refl, sym, ap, ◌∙◌, subst, arith, nat_lt}
+use Rattle.std.specs.Prelude.{remove}
+use Rattle.std.specs.Ordering.{nat_cmp, is_lt, eq_by_cmp}
+use Rattle.std.specs.Cmp.{nat_cmp_total, unsigned_tied}
+use Rattle.std.specs.FinMap.{find, is_sorted, nat_cmp-IsAntisymmetric}
+use Rattle.std.specs.FinMap.Entries.{below_all, where_key, find-append, find-where_key, is_sorted-where_key}
+use Rattle.std.specs.declared.cmp.Ordering.TheVariants.{Less, Equal, Greater}
+use Rattle.std.proofs.lemmas.Bool.{cases_eq, eq-eqb, ne_eqb, eqb-true, ltb-true, lt-ltb}
+use Rattle.dav_path_core.proofs.Trees.{find-head, find-here, same_some, none≢some}
+
+first : (a b : Bool) → T (a && b) → T a
+first true b p = tt
+first false b p = p
+
+second : (a b : Bool) → T (a && b) → T b
+second true b p = p
+second false b p = absurd p
+
+both : (a b : Bool) → T a → T b → T (a && b)
+both true b p q = q
+both false b p q = p
+
+below-is_lt : (a b : ℕ) → a < b → T (is_lt (nat_cmp a b))
+below-is_lt a b h = subst (λ v. T (is_lt (cond v Less (cond (a == b) Equal Greater)))) (sym (lt-ltb a b h)) tt
+
+is_lt-below : (a b : ℕ) → T (is_lt (nat_cmp a b)) → a < b
+is_lt-below a b h =
+    elim (nat_lt a b) as (λ v. nat_lt a b ≡ v → T (is_lt (cond v Less (cond (a == b) Equal Greater))) → a < b) [
+      | true ↦ λ e p. ltb-true a b e
+      | false ↦ λ e. elim (a == b) as (λ w. T (is_lt (cond w Equal Greater)) → a < b) [ true ↦ λ p. absurd p | false ↦ λ p. absurd p ]
+    ] refl h
+
+-- a number other than g
+abbrev but : ℕ → ℕ → Bool
+but g = λ x. not (eq_by_cmp nat_cmp g x)
+
+but-apart : (g x : ℕ) → g ≢ x → but g x ≡ true
+but-apart g x ne = ap not (unsigned_tied g x ∙ ne_eqb g x ne)
+
+but-same : (g x : ℕ) → g ≡ x → but g x ≡ false
+but-same g x e = ap not (unsigned_tied g x ∙ eq-eqb g x e)
+
+module _ {X : Type 0} where
+  abbrev pub InOrder : List (ℕ × X) → Type 0
+  InOrder es = T (is_sorted nat_cmp es)
+
+  pub in_order_tail : (e : ℕ × X) (es : List (ℕ × X)) → InOrder (e ∷ es) → InOrder es
+  in_order_tail e es s = second _ _ s
+
+  -- an entry of a list whose numbers are all above
+  above_at : (x : ℕ) (es : List (ℕ × X)) (k : ℕ) (d : ℕ × X) → T (below_all nat_cmp x es) → k < length es → x < (get_or es k d).0
+  above_at x [] k d h lt = absurd (omega arith)
+  above_at x (e ∷ es) zero d h lt = is_lt-below x e.0 (first _ _ h)
+  above_at x (e ∷ es) (suc k) d h lt = above_at x es k d (second _ _ h) (omega arith)
+
+  -- ---- look-ups and places
+
+  -- an entry that is found stands at a place
+  pub place_of_found : (g : ℕ) (v : X) (es : List (ℕ × X)) → find nat_cmp g es ≡ Some v → (k : ℕ) × (k < length es) × ((d : ℕ × X) → get_or es k d ≡ (g, v))
+  place_of_found g v [] h = absurd (none≢some v h)
+  place_of_found g v (e ∷ es) h =
+      elim (g == e.0) as (λ b. (g == e.0) ≡ b → cond b (Some e.1) (find nat_cmp g es) ≡ Some v → (k : ℕ) × (k < length (e ∷ es)) × ((d : ℕ × X) → get_or (e ∷ es) k d ≡ (g, v))) [
+        | true ↦ λ t h. (0, omega arith, λ d. λ i. (sym (eqb-true g e.0 t) i, same_some e.1 v h i))
+        | false ↦ λ t h. let r = place_of_found g v es h in (suc r.0, omega arith, λ d. r.2 d)
+      ] refl (sym (find-head g e es) ∙ h)
+
+  -- an entry at a place is found
+  pub found_at_place : (es : List (ℕ × X)) (k : ℕ) (d : ℕ × X) → InOrder es → k < length es → find nat_cmp (get_or es k d).0 es ≡ Some (get_or es k d).1
+  found_at_place [] k d s lt = absurd (omega arith)
+  found_at_place (e ∷ es) zero d s lt = find-here e es
+  found_at_place (e ∷ es) (suc k) d s lt =
+      let up : e.0 < (get_or es k d).0 = above_at e.0 es k d (first _ _ s) (omega arith) in
+      find-head (get_or es k d).0 e es ∙ ap (λ b. cond b (Some e.1) (find nat_cmp (get_or es k d).0 es)) (ne_eqb (get_or es k d).0 e.0 (λ q. omega (arith, up, q)))
+      ∙ found_at_place es k d (second _ _ s) (omega arith)
+
+  -- a look-up in a longer list
+  pub find-later : (e : ℕ × X) (es : List (ℕ × X)) (q : ℕ) (v : X) → InOrder (e ∷ es) → find nat_cmp q es ≡ Some v → find nat_cmp q (e ∷ es) ≡ Some v
+  find-later e es q v s h =
+      let w = place_of_found q v es h in
+      let up : e.0 < q = subst (λ (x : ℕ × X). e.0 < x.0) (w.2 e) (above_at e.0 es w.0 e (first _ _ s) w.1) in
+      find-head q e es ∙ ap (λ b. cond b (Some e.1) (find nat_cmp q es)) (ne_eqb q e.0 (λ i. omega (arith, up, i))) ∙ h
+
+  -- an earlier place has a lower number
+  pub lower_at : (es : List (ℕ × X)) (j k : ℕ) (d : ℕ × X) → InOrder es → j < k → k < length es → (get_or es j d).0 < (get_or es k d).0
+  lower_at [] j k d s lt in' = absurd (omega arith)
+  lower_at (e ∷ es) j zero d s lt in' = absurd (omega arith)
+  lower_at (e ∷ es) zero (suc k) d s lt in' = above_at e.0 es k d (first _ _ s) (omega arith)
+  lower_at (e ∷ es) (suc j) (suc k) d s lt in' = lower_at es j k d (second _ _ s) (omega arith) (omega arith)
+
+  -- ---- a push
+
+  below_push : (x k : ℕ) (v : X) (es : List (ℕ × X)) → T (below_all nat_cmp x es) → x < k → T (below_all nat_cmp x (es ++ (k, v) ∷ []))
+  below_push x k v [] h lt = both _ _ (below-is_lt x k lt) tt
+  below_push x k v (e ∷ es) h lt = both _ _ (first _ _ h) (below_push x k v es (second _ _ h) lt)
+
+  -- every number is below k
+  abbrev pub AllBelow : ℕ → List (ℕ × X) → Type 0
+  AllBelow k es = (j : ℕ) (d : ℕ × X) → j < length es → (get_or es j d).0 < k
+
+  pub InOrder-push : (es : List (ℕ × X)) (k : ℕ) (v : X) → InOrder es → AllBelow k es → InOrder (es ++ (k, v) ∷ [])
+  InOrder-push [] k v s b = tt
+  InOrder-push (e ∷ es) k v s b = both _ _ (below_push e.0 k v es (first _ _ s) (b 0 e (omega arith))) (InOrder-push es k v (second _ _ s) (λ j d lt. b (suc j) d (omega arith)))
+
+  pub find-above : (es : List (ℕ × X)) (k : ℕ) → AllBelow k es → find nat_cmp k es ≡ None
+  find-above [] k b = refl
+  find-above (e ∷ es) k b =
+      let lt : e.0 < k = b 0 e (omega arith) in
+      find-head k e es ∙ ap (λ t. cond t (Some e.1) (find nat_cmp k es)) (ne_eqb k e.0 (λ q. omega (arith, lt, q))) ∙ find-above es k (λ j d lt. b (suc j) d (omega arith))
+
+  pub find-push : (es : List (ℕ × X)) (k : ℕ) (v : X) (q : ℕ) → AllBelow k es → find nat_cmp q (es ++ (k, v) ∷ []) ≡ cond (q == k) (Some v) (find nat_cmp q es)
+  find-push es k v q b = find-append nat_cmp nat_cmp_total es k v q (find-above es k b) ∙ ap (λ t. cond t (Some v) (find nat_cmp q es)) (unsigned_tied q k)
+
+  -- ---- a removal
+
+  -- nothing goes from numbers that are all above
+  kept_above : (g : ℕ) (es : List (ℕ × X)) → T (below_all nat_cmp g es) → where_key nat_cmp (but g) es ≡ es
+  kept_above g [] h = refl
+  kept_above g (e ∷ es) h =
+      let lt : g < e.0 = is_lt-below g e.0 (first _ _ h) in
+      ap (λ b. cond b (e ∷ where_key nat_cmp (but g) es) (where_key nat_cmp (but g) es)) (but-apart g e.0 (λ q. omega (arith, lt, q))) ∙ ap (λ r. e ∷ r) (kept_above g es (second _ _ h))
+
+  remove-where : (es : List (ℕ × X)) (k : ℕ) (d : ℕ × X) → InOrder es → k < length es → remove es k ≡ where_key nat_cmp (but (get_or es k d).0) es
+  remove-where [] k d s lt = absurd (omega arith)
+  remove-where (e ∷ es) zero d s lt =
+      sym (ap (λ b. cond b (e ∷ where_key nat_cmp (but e.0) es) (where_key nat_cmp (but e.0) es)) (but-same e.0 e.0 refl) ∙ kept_above e.0 es (first _ _ s))
+  remove-where (e ∷ es) (suc k) d s lt =
+      let g = (get_or es k d).0 in
+      let up : e.0 < g = above_at e.0 es k d (first _ _ s) (omega arith) in
+      ap (λ r. e ∷ r) (remove-where es k d (second _ _ s) (omega arith))
+      ∙ sym (ap (λ b. cond b (e ∷ where_key nat_cmp (but g) es) (where_key nat_cmp (but g) es)) (but-apart g e.0 (λ q. omega (arith, up, q))))
+
+  pub InOrder-remove : (es : List (ℕ × X)) (k : ℕ) → InOrder es → k < length es → InOrder (remove es k)
+  InOrder-remove [] k s lt = absurd (omega arith)
+  InOrder-remove (e ∷ es) k s lt =
+      subst InOrder (sym (remove-where (e ∷ es) k e s lt)) (is_sorted-where_key nat_cmp (but (get_or (e ∷ es) k e).0) (e ∷ es) s)
+
+  pub find-remove : (es : List (ℕ × X)) (k : ℕ) (d : ℕ × X) (q : ℕ) → InOrder es → k < length es → find nat_cmp q (remove es k) ≡ cond (but (get_or es k d).0 q) (find nat_cmp q es) None
+  find-remove es k d q s lt =
+      let g = (get_or es k d).0 in
+      ap (find nat_cmp q) (remove-where es k d s lt)
+      ∙ find-where_key nat_cmp (but g) q (λ x t. ap (but g) (sym (tied q x t))) es
+    where
+      tied : (q x : ℕ) → nat_cmp q x ≡ Equal → q ≡ x
+      tied q x t = nat_cmp-IsAntisymmetric q x t
+
+  -- one that is found after a removal has another number, and was found before
+  pub found-removed : (es : List (ℕ × X)) (k : ℕ) (d : ℕ × X) (q : ℕ) (v : X) → InOrder es → k < length es → find nat_cmp q (remove es k) ≡ Some v → (q ≢ (get_or es k d).0) × (find nat_cmp q es ≡ Some v)
+  found-removed es k d q v s lt h =
+      let g = (get_or es k d).0 in
+      elim (cases_eq q g) [
+        | inl e ↦ absurd (none≢some v (sym (find-remove es k d q s lt ∙ ap (λ b. cond b (find nat_cmp q es) None) (but-same g q (sym e))) ∙ h))
+        | inr ne ↦ (ne, sym (find-remove es k d q s lt ∙ ap (λ b. cond b (find nat_cmp q es) None) (but-apart g q (λ e. ne (sym e)))) ∙ h)
+      ]
+
+  pub found-kept : (es : List (ℕ × X)) (k : ℕ) (d : ℕ × X) (q : ℕ) (v : X) → InOrder es → k < length es → q ≢ (get_or es k d).0 → find nat_cmp q es ≡ Some v → find nat_cmp q (remove es k) ≡ Some v
+  found-kept es k d q v s lt ne h =
+      let g = (get_or es k d).0 in
+      find-remove es k d q s lt ∙ ap (λ b. cond b (find nat_cmp q es) None) (but-apart g q (λ e. ne (sym e))) ∙ h

@@ -1,0 +1,59 @@
+-- Places in a list: the first that passes a test, what a filter by it keeps, and whether any passes.
+use Rattle.std.proofs.Common.{◌≡◌, ℕ, zero, suc, ◌+◌, ◌<◌, ◌≤◌, List, [], ◌∷◌, Bool, true, false, cond, length, get_or, Some, None, refl, sym, ◌∙◌, inl, inr, subst, ap, arith}
+use Rattle.std.specs.Prelude.{filter, Contains, position, not, nat_lt, ◌||◌}
+use Rattle.std.specs.List.{position_or_len, prefix_len, list_any}
+use Rattle.std.proofs.lemmas.Bool.{cases_Bool, ltb-false}
+use Rattle.std.proofs.lemmas.List.Quantifiers.{position-Some}
+
+-- none passes of those before the first that passes
+none_before : {X : Type 0} (p : X → Bool) (xs : List X) → length xs ≤ prefix_len (λ x. not (p x)) xs → (k : ℕ) (d : X) → k < length xs → p (get_or xs k d) ≡ false
+none_before p [] h k d lt = absurd (omega arith)
+none_before p (x ∷ xs) h k d lt = elim (cases_Bool (p x)) [
+  | inl t ↦ (let e : length (x ∷ xs) ≤ 0 = subst (λ b. length (x ∷ xs) ≤ cond (not b) (1 + prefix_len (λ x. not (p x)) xs) 0) t h in absurd (omega arith))
+  | inr f ↦ (let e : length (x ∷ xs) ≤ 1 + prefix_len (λ x. not (p x)) xs = subst (λ b. length (x ∷ xs) ≤ cond (not b) (1 + prefix_len (λ x. not (p x)) xs) 0) f h in
+      at k lt (λ j l. none_before p xs (omega arith) j d l) f)
+]
+  where
+    at : (k : ℕ) → k < length (x ∷ xs) → ((j : ℕ) → j < length xs → p (get_or xs j d) ≡ false) → p x ≡ false → p (get_or (x ∷ xs) k d) ≡ false
+    at zero lt rest f = f
+    at (suc k) lt rest f = rest k (omega arith)
+
+pub position-none : {X : Type 0} (p : X → Bool) (xs : List X) → position p xs ≡ None → (k : ℕ) (d : X) → k < length xs → p (get_or xs k d) ≡ false
+position-none p xs h = elim (cases_Bool (nat_lt (position_or_len p xs) (length xs))) [
+  | inl t ↦ absurd (some_none (position_or_len p xs) (subst (λ b. cond b (Some (position_or_len p xs)) None ≡ None) t h))
+  | inr f ↦ none_before p xs (ltb-false (position_or_len p xs) (length xs) f)
+]
+  where
+    some_none : {X : Type 0} (x : X) → Some x ≡ None → ⊥
+    some_none x h = cc
+
+-- the first that passes: it does, and none before it
+pub position-first : {X : Type 0} (p : X → Bool) (xs : List X) (k : ℕ) → position p xs ≡ Some k → (k < length xs) × ((d : X) → p (get_or xs k d) ≡ true) × ((j : ℕ) (d : X) → j < k → p (get_or xs j d) ≡ false)
+position-first p [] k h = absurd (some_none k (sym h))
+  where
+    some_none : (x : ℕ) → Some x ≡ None → ⊥
+    some_none x h = cc
+position-first p (x ∷ xs) k h =
+    let w = position-Some p (x ∷ xs) k x h in
+    (w.0, λ d. (position-Some p (x ∷ xs) k d h).1, λ j d lt. (position-Some p (x ∷ xs) k d h).2 j lt)
+
+-- ---- a filter
+
+pub filter-none : {X : Type 0} (p : X → Bool) (xs : List X) → ((k : ℕ) (d : X) → k < length xs → p (get_or xs k d) ≡ false) → filter p xs ≡ []
+filter-none p [] h = refl
+filter-none p (x ∷ xs) h =
+    subst (λ b. cond b (x ∷ filter p xs) (filter p xs) ≡ []) (sym (h 0 x (omega arith))) (filter-none p xs (λ k d lt. h (suc k) d (omega arith)))
+
+pub filter-contains : {X : Type 0} (p : X → Bool) (xs : List X) (k : ℕ) (d x : X) → k < length xs → get_or xs k d ≡ x → p x ≡ true → Contains (filter p xs) x
+filter-contains p [] k d x h e t = absurd (omega arith)
+filter-contains p (y ∷ xs) zero d x h e t = subst (λ b. Contains (cond b (y ∷ filter p xs) (filter p xs)) x) (sym (ap p e ∙ t)) (0, (omega arith), e)
+filter-contains p (y ∷ xs) (suc k) d x h e t = elim (p y) as (λ b. Contains (cond b (y ∷ filter p xs) (filter p xs)) x) [
+  | true ↦ (let r = filter-contains p xs k d x (omega arith) e t in (suc r.0, (omega arith), r.2))
+  | false ↦ filter-contains p xs k d x (omega arith) e t
+]
+
+-- ---- whether any passes
+
+pub any-none : {X : Type 0} (p : X → Bool) (xs : List X) → ((k : ℕ) (d : X) → k < length xs → p (get_or xs k d) ≡ false) → list_any p xs ≡ false
+any-none p [] h = refl
+any-none p (x ∷ xs) h = subst (λ b. (b || list_any p xs) ≡ false) (sym (h 0 x (omega arith))) (any-none p xs (λ k d lt. h (suc k) d (omega arith)))

@@ -1,0 +1,319 @@
+-- A tree represents one list, and what each change of the tree does to it.
+use Rattle.std.proofs.Common.{◌≡◌, ◌≢◌, inl, inr, ℕ, ◌+◌, ◌<◌, ◌==◌, true, false, cond, List, [], ◌∷◌, ◌++◌, length, get_or, Option, Some, None, IsSome, is_some, refl, sym, ap, ◌∙◌, subst, arith}
+use Rattle.std.specs.Prelude.{remove, option_and_then}
+use Rattle.std.specs.Option.{option_map, unwrap_or}
+use Rattle.std.specs.Ordering.{nat_cmp, eq_by_cmp}
+use Rattle.std.specs.Cmp.{nat_cmp_total}
+use Rattle.std.specs.FinMap.{get, find, entries, entries_sorted, from_entries, get-from_entries, get-entries, get-empty, empty, nat_cmp-IsAntisymmetric}
+use Rattle.std.specs.FinMap.Entries.{same_entries}
+use Rattle.std.proofs.lemmas.Bool.{cases_eq, eq-eqb, ne_eqb, false≢true}
+use Rattle.dav_path_core.specs.Fronts.{Segment, Path}
+use Rattle.dav_path_core.specs.Keyed.{Entry, entry, place, place_of, IsKnown, IsTree, with_item, with_item_at, lone}
+use Rattle.dav_path_core.proofs.Trees.{Sets, Sets-insert, IsTree-with_item, find-here, find-head, same_some, none≢some}
+use Rattle.dav_locks_core.specs.Lock.{Lock}
+use Rattle.dav_locks_core.specs.Locks as locks
+use Rattle.dav_locks_core.specs.LockTree.{Granted, LockTree, locks_at, is_segment, child_at, node_at, all_standing, all_granted, or_else, Grown}
+use Rattle.dav_locks_core.specs.Represents.{Represents}
+use Rattle.dav_locks_core.proofs.Numbered.{InOrder, AllBelow, find-later, in_order_tail, found_at_place, find-push, InOrder-push, InOrder-remove, found-removed, found-kept}
+use Rattle.dav_locks_core.proofs.Ways.{child_at-is, child_at-from}
+
+-- ---- one list
+
+abbrev Nodes : Type 0
+Nodes = List (ℕ × Entry Segment (List Granted))
+
+find-both : (g : ℕ) (xs ys : List Granted) → find nat_cmp g (xs ++ ys) ≡ or_else (find nat_cmp g xs) (find nat_cmp g ys)
+find-both g [] ys = refl
+find-both g (x ∷ xs) ys =
+    elim (eq_by_cmp nat_cmp g x.0) as (λ b. cond b (Some x.1) (find nat_cmp g (xs ++ ys)) ≡ or_else (cond b (Some x.1) (find nat_cmp g xs)) (find nat_cmp g ys)) [
+      | true ↦ refl
+      | false ↦ find-both g xs ys
+    ]
+
+-- what is found among all stands at a node
+in_node : (g : ℕ) (l : Lock) (es : Nodes) → InOrder es → find nat_cmp g (all_standing es) ≡ Some l
+    → (n : ℕ) × (e : Entry Segment (List Granted)) × (find nat_cmp n es ≡ Some e) × (find nat_cmp g e.item ≡ Some l)
+in_node g l [] s h = absurd (none≢some l h)
+in_node g l (e ∷ es) s h = by (λ more. in_node g l es (in_order_tail e es s) more) (find nat_cmp g e.1.item) refl (sym (find-both g e.1.item (all_standing es)) ∙ h)
+  where
+    by : (find nat_cmp g (all_standing es) ≡ Some l → (n : ℕ) × (f : Entry Segment (List Granted)) × (find nat_cmp n es ≡ Some f) × (find nat_cmp g f.item ≡ Some l))
+        → (o : Option Lock) → find nat_cmp g e.1.item ≡ o → or_else o (find nat_cmp g (all_standing es)) ≡ Some l
+        → (n : ℕ) × (f : Entry Segment (List Granted)) × (find nat_cmp n (e ∷ es) ≡ Some f) × (find nat_cmp g f.item ≡ Some l)
+    by rec None i h = let w = rec h in (w.0, w.1, find-later e es w.0 w.1 s w.2, w.3)
+    by rec (Some m) i h = (e.0, e.1, find-here e es, i ∙ h)
+
+-- and what stands at a node is among all
+some_later : (o : Option Lock) (r : Option Lock) → IsSome r → IsSome (or_else o r)
+some_later None r s = s
+some_later (Some x) r s = refl
+
+some_here : (o : Option Lock) (r : Option Lock) → IsSome o → IsSome (or_else o r)
+some_here None r s = absurd (false≢true s)
+some_here (Some x) r s = refl
+
+among : (g n : ℕ) (e : Entry Segment (List Granted)) (es : Nodes) → find nat_cmp n es ≡ Some e → IsSome (find nat_cmp g e.item) → IsSome (find nat_cmp g (all_standing es))
+among g n e [] h s = absurd (none≢some e h)
+among g n e (x ∷ es) h s =
+    subst IsSome (sym (find-both g x.1.item (all_standing es)))
+    (elim (n == x.0) as (λ b. (n == x.0) ≡ b → cond b (Some x.1) (find nat_cmp n es) ≡ Some e → IsSome (or_else (find nat_cmp g x.1.item) (find nat_cmp g (all_standing es)))) [
+      | true ↦ λ t h. some_here _ _ (subst (λ (f : Entry Segment (List Granted)). IsSome (find nat_cmp g f.item)) (sym (same_some x.1 e h)) s)
+      | false ↦ λ t h. some_later _ _ (among g n e es h s)
+    ] refl (sym (find-head n x es) ∙ h))
+
+-- the locks at a node, by its entry
+locks_of_entry : (t : LockTree) (n : ℕ) (o : Option (Entry Segment (List Granted))) → entry t n ≡ o → locks_at t n ≡ unwrap_or (option_map (λ e. e.item) o) []
+locks_of_entry t n o h = ap (λ o. unwrap_or (option_map (λ e. e.item) o) []) h
+
+pub one_list : (t : LockTree) (granted : List Granted) (next : ℕ) → Represents t granted next → all_granted t ≡ granted
+unfolding all_granted
+one_list t granted next r =
+    let m = from_entries {R = nat_cmp} (all_standing (entries t.nodes)) in
+    same_entries nat_cmp nat_cmp_total nat_cmp-IsAntisymmetric (entries m) granted (entries_sorted m) r.in_order
+    (λ q. sym (get-entries m q) ∙ get-from_entries nat_cmp_total (all_standing (entries t.nodes)) q ∙ same q (find nat_cmp q (all_standing (entries t.nodes))) refl)
+  where
+    none : (q : ℕ) → find nat_cmp q (all_standing (entries t.nodes)) ≡ None → (l : Lock) (n : ℕ) → find nat_cmp q (locks_at t n) ≡ Some l → ⊥
+    none q e l n h = by (entry t n) refl
+      where
+        by : (o : Option (Entry Segment (List Granted))) → entry t n ≡ o → ⊥
+        by None i = none≢some l (sym (ap (find nat_cmp q) (locks_of_entry t n None i)) ∙ h)
+        by (Some x) i =
+            let some : IsSome (find nat_cmp q x.item) = ap is_some (sym (ap (find nat_cmp q) (locks_of_entry t n (Some x) i)) ∙ h) in
+            false≢true (ap is_some (sym e) ∙ among q n x (entries t.nodes) (sym (get-entries t.nodes n) ∙ i) some)
+
+    same : (q : ℕ) (o : Option Lock) → find nat_cmp q (all_standing (entries t.nodes)) ≡ o → o ≡ find nat_cmp q granted
+    same q None e = by (find nat_cmp q granted) refl
+      where
+        by : (o : Option Lock) → find nat_cmp q granted ≡ o → None ≡ o
+        by None i = refl
+        by (Some l) i = let w = r.stands q l i in absurd (none q e l w.0 w.1)
+    same q (Some l) e =
+        let w = in_node q l (entries t.nodes) (entries_sorted t.nodes) e in
+        sym (r.listed w.0 q l (ap (find nat_cmp q) (locks_of_entry t w.0 (Some w.1) (get-entries t.nodes w.0 ∙ w.2)) ∙ w.3)).0
+
+-- ---- more nodes
+
+-- a way stays
+way_stays : (t u : LockTree) → ((n c : ℕ) (s : Segment) → child_at t n s ≡ Some c → child_at u n s ≡ Some c) → (n m : ℕ) (p : Path) → node_at t n p ≡ Some m → node_at u n p ≡ Some m
+unfolding node_at
+way_stays t u ways n m [] h = h
+way_stays t u ways n m (s ∷ p) h = by (λ c. way_stays t u ways c m p) (child_at t n s) refl h
+  where
+    by : ((c : ℕ) → node_at t c p ≡ Some m → node_at u c p ≡ Some m) → (o : Option ℕ) → child_at t n s ≡ o → option_and_then (λ c. node_at t c p) o ≡ Some m → option_and_then (λ c. node_at u c p) (child_at u n s) ≡ Some m
+    by rec None e h = absurd (none≢some m h)
+    by rec (Some c) e h = ap (λ o. option_and_then (λ c. node_at u c p) o) (ways n c s e) ∙ rec c h
+
+pub Represents-grown : (t u : LockTree) (granted : List Granted) (next : ℕ) → Represents t granted next → Grown t u → IsTree is_segment u → Represents u granted next
+Represents-grown t u granted next r g tree = record {
+  tree = tree;
+  in_order = r.in_order;
+  nodes_in_order = λ n. subst InOrder (sym (g.locks n)) (r.nodes_in_order n);
+  listed = λ n k l h. let w = r.listed n k l (sym (ap (find nat_cmp k) (g.locks n)) ∙ h) in (w.0, way_stays t u g.ways 1 n (locks.place l) w.1);
+  stands = λ k l h. let w = r.stands k l h in (w.0, ap (find nat_cmp k) (g.locks w.0) ∙ w.1);
+  below = r.below;
+}
+
+-- ---- other locks at one node
+
+-- u is t with these locks at n
+pub record Changes (t u : LockTree) (n : ℕ) (here : List Granted) : Type 0 where
+  pub tree : IsTree is_segment u
+  pub at : locks_at u n ≡ here
+  pub other : (m : ℕ) → m ≢ n → locks_at u m ≡ locks_at t m
+  pub ways : (n c : ℕ) (s : Segment) → child_at t n s ≡ Some c → child_at u n s ≡ Some c
+
+pub Changes-with_item : (t : LockTree) (n : ℕ) (here : List Granted) → IsTree is_segment t → IsKnown t n → Changes t (with_item t n here) n here
+Changes-with_item t n here tree known = by (entry t n) refl
+  where
+    tree' : IsTree is_segment (with_item t n here)
+    tree' = IsTree-with_item is_segment t n here tree
+
+    by : (o : Option (Entry Segment (List Granted))) → entry t n ≡ o → Changes t (with_item t n here) n here
+    by None e = absurd (false≢true (sym (ap is_some e) ∙ known))
+    by (Some x) e =
+        let u = with_item t n here in
+        let s = Sets-insert t.nodes n (record x { item = here }) in
+        let same : u ≡ with_item_at t n (Some x) here = ap (λ o. with_item_at t n o here) e in
+        let places : (m : ℕ) → place u m ≡ place t m = λ m. ap (λ (v : LockTree). place v m) same ∙ elim (cases_eq m n) [
+          | inl i ↦ subst (λ k. place (with_item_at t n (Some x) here) k ≡ place t k) (sym i) (ap place_of s.here ∙ sym (ap place_of e))
+          | inr ne ↦ ap place_of (s.other m ne)
+        ] in
+        record {
+          tree = tree';
+          at = locks_of_entry u n _ (ap (λ (v : LockTree). entry v n) same ∙ s.here);
+          other = λ m ne. ap (λ o. unwrap_or (option_map (λ e. e.item) o) []) (ap (λ (v : LockTree). entry v m) same ∙ s.other m ne);
+          ways = λ k c w h. child_at-from u tree' k w c (places c ∙ child_at-is t k w c h);
+        }
+
+module _ (t u : LockTree) (granted : List Granted) (next : ℕ) (r : Represents t granted next) where
+  all_below : AllBelow next granted
+  all_below j d lt = r.below _ _ (found_at_place granted j d r.in_order lt)
+
+  all_below_at : (n : ℕ) → AllBelow next (locks_at t n)
+  all_below_at n j d lt = r.below _ _ (r.listed n _ _ (found_at_place (locks_at t n) j d (r.nodes_in_order n) lt)).0
+
+  apart_from_next : (g : ℕ) (l : Lock) → find nat_cmp g granted ≡ Some l → g ≢ next
+  apart_from_next g l h e = omega (arith, r.below g l h, e)
+
+  module _ (n : ℕ) (l : Lock) (leads : node_at t 1 (locks.place l) ≡ Some n) (c : Changes t u n (locks_at t n ++ (next, l) ∷ [])) where
+    here : List Granted
+    here = locks_at t n ++ (next, l) ∷ []
+
+    longer : List Granted
+    longer = granted ++ (next, l) ∷ []
+
+    old : (g : ℕ) → g ≢ next → find nat_cmp g longer ≡ find nat_cmp g granted
+    unfolding longer
+    old g ne = find-push granted next l g all_below ∙ ap (λ b. cond b (Some l) (find nat_cmp g granted)) (ne_eqb g next ne)
+
+    new : find nat_cmp next longer ≡ Some l
+    unfolding longer
+    new = find-push granted next l next all_below ∙ ap (λ b. cond b (Some l) (find nat_cmp next granted)) (eq-eqb next next refl)
+
+    old_here : (g : ℕ) → g ≢ next → find nat_cmp g here ≡ find nat_cmp g (locks_at t n)
+    unfolding here
+    old_here g ne = find-push (locks_at t n) next l g (all_below_at n) ∙ ap (λ b. cond b (Some l) (find nat_cmp g (locks_at t n))) (ne_eqb g next ne)
+
+    new_here : find nat_cmp next here ≡ Some l
+    unfolding here
+    new_here = find-push (locks_at t n) next l next (all_below_at n) ∙ ap (λ b. cond b (Some l) (find nat_cmp next (locks_at t n))) (eq-eqb next next refl)
+
+    -- a lock that was there is listed still
+    still : (m g : ℕ) (k : Lock) → find nat_cmp g (locks_at t m) ≡ Some k → (find nat_cmp g longer ≡ Some k) × (node_at u 1 (locks.place k) ≡ Some m)
+    still m g k h =
+        let w = r.listed m g k h in
+        (old g (apart_from_next g k w.0) ∙ w.0, way_stays t u c.ways 1 m (locks.place k) w.1)
+
+    listed : (m g : ℕ) (k : Lock) → find nat_cmp g (locks_at u m) ≡ Some k → (find nat_cmp g longer ≡ Some k) × (node_at u 1 (locks.place k) ≡ Some m)
+    unfolding here
+    listed m g k h = elim (cases_eq m n) [
+      | inl e ↦
+          let at : find nat_cmp g here ≡ Some k = sym (ap (find nat_cmp g) (ap (locks_at u) e ∙ c.at)) ∙ h in
+          elim (cases_eq g next) [
+            | inl i ↦
+                let same : l ≡ k = same_some l k (sym (ap (λ g. find nat_cmp g here) i ∙ new_here) ∙ at) in
+                (ap (λ g. find nat_cmp g longer) i ∙ new ∙ ap (λ (k : Lock). Some k) same, ap (λ (k : Lock). node_at u 1 (locks.place k)) (sym same) ∙ way_stays t u c.ways 1 n (locks.place l) leads ∙ ap (λ (m : ℕ). Some m) (sym e))
+            | inr ne ↦ still m g k (ap (λ m. find nat_cmp g (locks_at t m)) e ∙ sym (old_here g ne) ∙ at)
+          ]
+      | inr ne ↦ still m g k (sym (ap (find nat_cmp g) (c.other m ne)) ∙ h)
+    ]
+
+    stands : (g : ℕ) (k : Lock) → find nat_cmp g longer ≡ Some k → (m : ℕ) × (find nat_cmp g (locks_at u m) ≡ Some k)
+    unfolding here
+    stands g k h = elim (cases_eq g next) [
+      | inl i ↦
+          let same : l ≡ k = same_some l k (sym (ap (λ g. find nat_cmp g longer) i ∙ new) ∙ h) in
+          (n, ap (find nat_cmp g) c.at ∙ ap (λ g. find nat_cmp g here) i ∙ new_here ∙ ap (λ (k : Lock). Some k) same)
+      | inr ne ↦
+          let w = r.stands g k (sym (old g ne) ∙ h) in
+          elim (cases_eq w.0 n) [
+            | inl e ↦ (n, ap (find nat_cmp g) c.at ∙ old_here g ne ∙ ap (λ m. find nat_cmp g (locks_at t m)) (sym e) ∙ w.1)
+            | inr apart ↦ (w.0, ap (find nat_cmp g) (c.other w.0 apart) ∙ w.1)
+          ]
+    ]
+
+    in_order_at : (m : ℕ) → InOrder (locks_at u m)
+    in_order_at m = elim (cases_eq m n) [
+      | inl e ↦ subst InOrder (sym (ap (locks_at u) e ∙ c.at)) (InOrder-push (locks_at t n) next l (r.nodes_in_order n) (all_below_at n))
+      | inr ne ↦ subst InOrder (sym (c.other m ne)) (r.nodes_in_order m)
+    ]
+
+    pub Represents-push : Represents u (granted ++ (next, l) ∷ []) (next + 1)
+    unfolding longer
+    Represents-push = record {
+      tree = c.tree;
+      in_order = InOrder-push granted next l r.in_order all_below;
+      nodes_in_order = in_order_at;
+      listed = listed;
+      stands = stands;
+      below = λ g k h. elim (cases_eq g next) [
+        | inl i ↦ omega (arith, i)
+        | inr ne ↦ omega (arith, r.below g k (sym (old g ne) ∙ h))
+      ];
+    }
+
+  module _ (n k j : ℕ) (d : Granted) (within : k < length (locks_at t n)) (listed_at : j < length granted)
+      (one : get_or granted j d ≡ get_or (locks_at t n) k d) (c : Changes t u n (remove (locks_at t n) k)) where
+    gone : ℕ
+    gone = (get_or (locks_at t n) k d).0
+
+    was : find nat_cmp gone (locks_at t n) ≡ Some (get_or (locks_at t n) k d).1
+    unfolding gone
+    was = found_at_place (locks_at t n) k d (r.nodes_in_order n) within
+
+    same_number : (get_or granted j d).0 ≡ gone
+    unfolding gone
+    same_number = ap (λ (g : Granted). g.0) one
+
+    -- the lock that goes stands at no other node
+    only_here : (m g : ℕ) (l : Lock) → m ≢ n → find nat_cmp g (locks_at t m) ≡ Some l → g ≢ gone
+    only_here m g l apart h e =
+        let a = r.listed m g l h in
+        let b = r.listed n gone _ was in
+        let same : l ≡ (get_or (locks_at t n) k d).1 = same_some _ _ (sym a.0 ∙ ap (λ g. find nat_cmp g granted) e ∙ b.0) in
+        apart (same_some m n (sym a.1 ∙ ap (λ (l : Lock). node_at t 1 (locks.place l)) same ∙ b.1))
+
+    keeps : (g : ℕ) (l : Lock) → g ≢ gone → find nat_cmp g granted ≡ Some l → find nat_cmp g (remove granted j) ≡ Some l
+    keeps g l ne h = found-kept granted j d g l r.in_order listed_at (λ e. ne (e ∙ same_number)) h
+
+    loses : (g : ℕ) (l : Lock) → find nat_cmp g (remove granted j) ≡ Some l → (g ≢ gone) × (find nat_cmp g granted ≡ Some l)
+    loses g l h = let w = found-removed granted j d g l r.in_order listed_at h in (λ e. w.0 (e ∙ sym same_number), w.1)
+
+    shorter_listed : (m g : ℕ) (l : Lock) → find nat_cmp g (locks_at u m) ≡ Some l → (find nat_cmp g (remove granted j) ≡ Some l) × (node_at u 1 (locks.place l) ≡ Some m)
+    unfolding gone
+    shorter_listed m g l h = elim (cases_eq m n) [
+      | inl e ↦
+          let w = found-removed (locks_at t n) k d g l (r.nodes_in_order n) within (sym (ap (find nat_cmp g) (ap (locks_at u) e ∙ c.at)) ∙ h) in
+          let a = r.listed n g l w.1 in
+          (keeps g l w.0 a.0, way_stays t u c.ways 1 n (locks.place l) a.1 ∙ ap (λ (m : ℕ). Some m) (sym e))
+      | inr ne ↦
+          let before : find nat_cmp g (locks_at t m) ≡ Some l = sym (ap (find nat_cmp g) (c.other m ne)) ∙ h in
+          let a = r.listed m g l before in
+          (keeps g l (only_here m g l ne before) a.0, way_stays t u c.ways 1 m (locks.place l) a.1)
+    ]
+
+    shorter_stands : (g : ℕ) (l : Lock) → find nat_cmp g (remove granted j) ≡ Some l → (m : ℕ) × (find nat_cmp g (locks_at u m) ≡ Some l)
+    unfolding gone
+    shorter_stands g l h =
+        let a = loses g l h in
+        let w = r.stands g l a.1 in
+        elim (cases_eq w.0 n) [
+          | inl e ↦ (n, ap (find nat_cmp g) c.at ∙ found-kept (locks_at t n) k d g l (r.nodes_in_order n) within a.0 (ap (λ m. find nat_cmp g (locks_at t m)) (sym e) ∙ w.1))
+          | inr ne ↦ (w.0, ap (find nat_cmp g) (c.other w.0 ne) ∙ w.1)
+        ]
+
+    shorter_in_order : (m : ℕ) → InOrder (locks_at u m)
+    shorter_in_order m = elim (cases_eq m n) [
+      | inl e ↦ subst InOrder (sym (ap (locks_at u) e ∙ c.at)) (InOrder-remove (locks_at t n) k (r.nodes_in_order n) within)
+      | inr ne ↦ subst InOrder (sym (c.other m ne)) (r.nodes_in_order m)
+    ]
+
+    pub Represents-remove : Represents u (remove granted j) next
+    Represents-remove = record {
+      tree = c.tree;
+      in_order = InOrder-remove granted j r.in_order listed_at;
+      nodes_in_order = shorter_in_order;
+      listed = shorter_listed;
+      stands = shorter_stands;
+      below = λ g l h. r.below g l (loses g l h).1;
+    }
+
+-- ---- no locks
+
+pub Represents-none : (t : LockTree) (next : ℕ) → IsTree is_segment t → ((n : ℕ) → locks_at t n ≡ []) → Represents t [] next
+Represents-none t next tree none = record {
+  tree = tree;
+  in_order = tt;
+  nodes_in_order = λ n. subst InOrder (sym (none n)) tt;
+  listed = λ n g l h. absurd (none≢some l (sym (ap (find nat_cmp g) (none n)) ∙ h));
+  stands = λ g l h. absurd (none≢some l h);
+  below = λ g l h. absurd (none≢some l h);
+}
+
+pub lone-none : (n : ℕ) → locks_at (lone []) n ≡ []
+lone-none n =
+    let e : Entry Segment (List Granted) = record { place = None; item = [] } in
+    let s : Sets (get (empty {X = Entry Segment (List Granted)} {R = nat_cmp})) (entry (lone [])) 1 (Some e) = Sets-insert empty 1 e in
+    elim (cases_eq n 1) [
+      | inl i ↦ ap (locks_at (lone [])) i ∙ locks_of_entry (lone []) 1 (Some e) s.here
+      | inr ne ↦ locks_of_entry (lone []) n None (s.other n ne ∙ get-empty nat_cmp n)
+    ]

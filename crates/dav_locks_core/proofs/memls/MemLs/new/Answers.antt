@@ -1,0 +1,20 @@
+use Rattle.std.proofs.Common.{[], ap, ◌∙◌}
+use Rattle.dav_path_core.specs.Keyed.{lone}
+use Rattle.dav_locks_core.specs.LockTree.{LockTree, locks_at}
+use Rattle.dav_locks_core.proofs.Standing.{lone-none}
+use Rattle.dav_locks_core.proofs.LockLists.{IsSeenAs, seen-none}
+use Rattle.dav_locks_core.proofs.memls.MemLs.new.Goals as goal
+
+empty : (c : goal.In_ok-tree) → IsSeenAs c.in_ok-tree.tree.keyed 1 []
+empty c =
+    seen-none c.in_ok-tree.tree.keyed 1 c.in_ok-tree.ensures.shape.tree
+    (λ n. ap (λ (t : LockTree). locks_at t n) (c.in_ok-tree.ensures.answer.1 ∙ ap lone c.new.ensures.items) ∙ lone-none n)
+
+pub invariant_of-result : goal.invariant_of-result
+invariant_of-result c = (empty c).keeps
+
+pub returns-clause-empty : goal.returns-clause-empty
+returns-clause-empty c = (empty c).seen
+
+pub returns-clause-exclusive : goal.returns-clause-exclusive
+returns-clause-exclusive c = (empty c).keeps.exclusive

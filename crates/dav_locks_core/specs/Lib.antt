@@ -1,0 +1,17 @@
+pub mod Calls
+pub mod Checks
+pub mod Codes
+pub mod Exclusive
+pub mod Granted
+pub mod Isolation
+pub mod Lock
+pub mod LockTree
+pub mod Locks
+pub mod Naming
+pub mod Represents
+pub mod Requests
+pub mod Rows
+pub mod Step
+pub mod Tokens
+pub mod Wanting
+pub mod WayTests

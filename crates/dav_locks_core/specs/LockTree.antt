@@ -1,0 +1,83 @@
+-- The locks of a tree of segments: those that stand at each node, with their grant numbers, and the list that they make, in
+-- the order of granting.
+use Rattle.std.specs.Prelude.{◌≡◌, ℕ, Bool, true, false, List, [], ◌∷◌, ◌++◌, Option, Some, None, option_map, option_and_then, map, position, nat_eq, slice_index_or}
+use Rattle.std.specs.Option.{unwrap_or}
+use Rattle.std.specs.Ordering.{nat_cmp}
+use Rattle.std.specs.FinMap.{entries, from_entries}
+use Rattle.std.specs.Cmp.Lexicographic.{pointwise}
+use Rattle.dav_path_core.specs.Fronts.{Segment, Path}
+use Rattle.dav_path_core.specs.Keyed.{Keyed, Entry, item, child, IsKnown}
+use Rattle.dav_locks_core.specs.Lock.{Lock}
+use Rattle.dav_locks_core.specs.declared.ls.LockError.{LockError}
+use Rattle.dav_locks_core.specs.declared.ls.LockError.TheVariants.{Conflict, OutOfMemory}
+
+-- a lock with its grant number
+abbrev pub Granted : Type 0
+Granted = ℕ × Lock
+
+abbrev pub LockTree : Type 0
+LockTree = Keyed Segment (List Granted)
+
+-- the locks that stand at a node; none at an unknown one
+abbrev pub locks_at : LockTree → ℕ → List Granted
+locks_at t n = unwrap_or (item t n) []
+
+abbrev pub is_segment : Segment → Segment → Bool
+is_segment = pointwise nat_eq
+
+-- the child of a node, by its segment
+abbrev pub child_at : LockTree → ℕ → Segment → Option ℕ
+child_at t n s = child (λ k. is_segment k s) t n
+
+-- the node to which a path leads down from a node
+unfoldable pub node_at : LockTree → ℕ → Path → Option ℕ
+node_at t n [] = Some n
+node_at t n (s ∷ p) = option_and_then (λ c. node_at t c p) (child_at t n s)
+
+abbrev pub all_standing : List (ℕ × Entry Segment (List Granted)) → List Granted
+all_standing [] = []
+all_standing (e ∷ es) = e.1.item ++ all_standing es
+
+-- all of them, in the order of granting
+unfoldable pub all_granted : LockTree → List Granted
+all_granted t = entries (from_entries {R = nat_cmp} (all_standing (entries t.nodes)))
+
+abbrev pub locks_of : List Granted → List Lock
+locks_of granted = map (λ g. g.1) granted
+
+abbrev pub lock_list : LockTree → List Lock
+lock_list t = locks_of (all_granted t)
+
+-- ---- the way down to a path
+
+-- the first of two that is there
+abbrev pub or_else : {A : Type 0} → Option A → Option A → Option A
+or_else None o = o
+or_else (Some x) o = Some x
+
+-- a place at a node, if there is one
+abbrev pub with_node : ℕ → Option ℕ → Option (ℕ × ℕ)
+with_node n o = option_map {U = ℕ × ℕ} (λ k. (n, k)) o
+
+-- the place among the locks at a node of the first that passes
+abbrev pub first_at : (Lock → Bool) → LockTree → ℕ → Option ℕ
+first_at test t n = position (λ g. test g.1) (locks_at t n)
+
+-- the node, and the place there, of the first lock that passes on the way down from a node; the test is told whether the lock
+-- stands where the way ends
+unfoldable pub first_on_way : (Bool → Lock → Bool) → LockTree → ℕ → Path → Option (ℕ × ℕ)
+first_on_way test t n [] = with_node n (first_at (test true) t n)
+first_on_way test t n (s ∷ p) =
+    or_else (with_node n (first_at (test false) t n)) (option_and_then (λ c. first_on_way test t c p) (child_at t n s))
+
+-- a conflict that is shown is the lock at that node and place
+abbrev pub ShowsAt : LockTree → Option (ℕ × ℕ) → LockError → Type 0
+ShowsAt t o (Conflict l) =
+    (f : ℕ × ℕ) × (o ≡ Some f) × ((d : Granted) → l ≡ (slice_index_or (locks_at t f.0) f.1 d).1)
+ShowsAt t o OutOfMemory = Unit {0}
+
+-- u is t with more nodes, at which no locks stand
+pub record Grown (t u : LockTree) : Type 0 where
+  pub known : (n : ℕ) → IsKnown t n → IsKnown u n
+  pub locks : (n : ℕ) → locks_at u n ≡ locks_at t n
+  pub ways : (n c : ℕ) (s : Segment) → child_at t n s ≡ Some c → child_at u n s ≡ Some c

@@ -1,0 +1,88 @@
+-- The lock list, in the order of granting, and what its locks forbid (RFC 4918 sections 6 and 7). Each set of conflicts is
+-- a filter of the whole list.
+use Rattle.std.specs.Prelude.{ℕ, List, [], ◌∷◌, Bool, true, false, ◌&&◌, ◌||◌, not, if◌then◌else◌, nat_le, Option, Some, None, length, filter, bytes_eq, ◌+◌, ◌*◌, min, option_map}
+use Rattle.std.specs.List.{list_any}
+use Rattle.dav_path_core.specs.Segments.{segments}
+use Rattle.dav_path_core.specs.Fronts.{Path, is_front, is_same_path}
+use Rattle.dav_locks_core.specs.Lock.{Lock}
+
+-- the segments of the path that a lock stands at
+abbrev pub place : Lock → Path
+place l = segments l.path.bytes
+
+-- the lock stands at the path, or is deep and stands above it
+abbrev pub covers : Lock → Path → Bool
+covers l p = is_same_path (place l) p || (l.deep && is_front (place l) p)
+
+abbrev pub is_at_or_below : Lock → Path → Bool
+is_at_or_below l p = is_front p (place l)
+
+-- two locks may cover one path: both are shared
+abbrev pub compatible : Bool → Bool → Bool
+compatible shared other = shared && other
+
+abbrev pub same_text : Option (List ℕ) → Option (List ℕ) → Bool
+same_text None None = true
+same_text None (Some b) = false
+same_text (Some a) None = false
+same_text (Some a) (Some b) = bytes_eq a b
+
+-- who asks, whether principals are ignored, and the tokens that are submitted
+pub record Caller : Type 0 where
+  pub principal : Option (List ℕ)
+  pub ignore : Bool
+  pub tokens : List (List ℕ)
+
+-- the lock's token is submitted, under its principal unless principals are ignored
+abbrev pub held : Lock → Caller → Bool
+held l who = list_any (λ token. bytes_eq token l.token) who.tokens && (who.ignore || same_text l.principal who.principal)
+
+-- whether a lock refuses a wanted one
+abbrev pub refuses_lock : Path → Bool → Bool → Lock → Bool
+refuses_lock p shared deep l = not (compatible l.shared shared) && (covers l p || (deep && is_at_or_below l p))
+
+-- the locks that refuse a wanted one
+abbrev pub lock_conflicts : List Lock → Path → Bool → Bool → List Lock
+lock_conflicts locks p shared deep = filter (refuses_lock p shared deep) locks
+
+-- whether a lock that covers the path is held
+abbrev pub any_held : List Lock → Path → Caller → Bool
+any_held locks p who = list_any (λ l. covers l p && held l who) locks
+
+-- whether a lock of the list refuses a change: one that isn't held, and covers the path as an exclusive one or with no
+-- covering lock held, or for a deep check is at or below it
+abbrev pub refuses_change : List Lock → Path → Bool → Caller → Lock → Bool
+refuses_change locks p deep who l =
+    not (held l who) && ((covers l p && (not l.shared || not (any_held locks p who))) || (deep && is_at_or_below l p))
+
+-- the locks that refuse a change
+abbrev pub check_conflicts : List Lock → Path → Bool → Caller → List Lock
+check_conflicts locks p deep who = filter (refuses_change locks p deep who) locks
+
+abbrev pub found_here : Path → List ℕ → Lock → Bool
+found_here p token l = bytes_eq l.token token && is_front (place l) p
+
+-- how many segments the lock's path has
+abbrev pub height : Lock → ℕ
+height l = length (place l)
+
+-- of two places in the list, each with its number of segments, the one with fewer; the first of equals
+abbrev pub better : Option (ℕ × ℕ) → Option (ℕ × ℕ) → Option (ℕ × ℕ)
+better None b = b
+better (Some a) None = Some a
+better (Some a) (Some b) = if nat_le a.1 b.1 then Some a else Some b
+
+-- the best place in the rest of a list, places counted from k
+abbrev pub found_from : ℕ → List Lock → Path → List ℕ → Option (ℕ × ℕ)
+found_from k [] p token = None
+found_from k (l ∷ locks) p token =
+    better (if found_here p token l then Some (k, height l) else None) (found_from (k + 1) locks p token)
+
+-- the found lock, by its place in the list: of those with that token at the path or above, the one with the fewest
+-- segments; of these the first
+unfoldable pub found : List Lock → Path → List ℕ → Option ℕ
+found locks p token = option_map (λ f. f.0) (found_from 0 locks p token)
+
+-- the moment, in nanoseconds, at which a timeout of so many seconds ends: at most the greatest moment
+abbrev pub end_of : ℕ → Option ℕ → Option ℕ
+end_of now timeout = option_map (λ seconds. min (now + seconds * 1000000000) 18446744073709551615) timeout

@@ -1,0 +1,102 @@
+-- Worked rows of the lock list, which compute.
+use Rattle.std.specs.Prelude.{◌≡◌, ℕ, List, [], ◌∷◌, Bool, true, false, Some, None, codes, refl, remove}
+use Rattle.dav_path_core.specs.Segments.{segments}
+use Rattle.dav_path_core.specs.Fronts.{Path}
+use Rattle.dav_locks_core.specs.Lock.{Lock}
+use Rattle.dav_locks_core.specs.Locks.{Caller, lock_conflicts, check_conflicts, found, end_of}
+
+abbrev lock : List ℕ → List ℕ → List ℕ → Bool → Bool → Lock
+lock token path who shared deep = record {
+  token = token;
+  path = record { prefix = []; bytes = path };
+  principal = Some who;
+  owner = None;
+  timeout_at = None;
+  timeout = None;
+  shared = shared;
+  deep = deep;
+}
+
+abbrev ann : List (List ℕ) → Caller
+ann tokens = record { principal = Some (codes "ann"); ignore = false; tokens = tokens }
+
+-- ann's shared deep lock of /a and bob's shared shallow one of /a/b
+abbrev shared_a : Lock
+shared_a = lock (codes "t1") (codes "/a") (codes "ann") true true
+
+abbrev shared_ab : Lock
+shared_ab = lock (codes "t2") (codes "/a/b") (codes "bob") true false
+
+-- ann's exclusive shallow lock of /a and bob's of /a/b
+abbrev exclusive_a : Lock
+exclusive_a = lock (codes "t1") (codes "/a") (codes "ann") false false
+
+abbrev exclusive_ab : Lock
+exclusive_ab = lock (codes "t2") (codes "/a/b") (codes "bob") false false
+
+abbrev a : Path
+a = segments (codes "/a")
+
+abbrev ab : Path
+ab = segments (codes "/a/b")
+
+-- an exclusive lock below a shared deep one is refused, a shared one is not
+shared_then_exclusive : lock_conflicts (shared_a ∷ []) ab false false ≡ shared_a ∷ []
+unfolding segments
+shared_then_exclusive = refl
+
+shared_then_shared : lock_conflicts (shared_a ∷ []) ab true false ≡ []
+unfolding segments
+shared_then_shared = refl
+
+-- exclusive shallow locks of /a and /a/b stand beside each other, and refuse a deep one of the root
+shallow_below_shallow : lock_conflicts (exclusive_a ∷ []) ab false false ≡ []
+unfolding segments
+shallow_below_shallow = refl
+
+deep_over_shallow : lock_conflicts (exclusive_a ∷ exclusive_ab ∷ []) (segments (codes "/")) false true ≡ exclusive_a ∷ exclusive_ab ∷ []
+unfolding segments
+deep_over_shallow = refl
+
+-- one covering lock that is held lets a shallow check pass, and not a deep one
+shared_held : check_conflicts (shared_a ∷ shared_ab ∷ []) ab false (ann (codes "t1" ∷ [])) ≡ []
+unfolding segments
+shared_held = refl
+
+shared_not_held_below : check_conflicts (shared_a ∷ shared_ab ∷ []) ab true (ann (codes "t1" ∷ [])) ≡ shared_ab ∷ []
+unfolding segments
+shared_not_held_below = refl
+
+-- with the token of /a alone, a deep check of /a and a shallow one of /a/b conflict with the lock of /a/b
+deep_check_of_a : check_conflicts (exclusive_a ∷ exclusive_ab ∷ []) a true (ann (codes "t1" ∷ [])) ≡ exclusive_ab ∷ []
+unfolding segments
+deep_check_of_a = refl
+
+shallow_check_of_ab : check_conflicts (exclusive_a ∷ exclusive_ab ∷ []) ab false (ann (codes "t1" ∷ [])) ≡ exclusive_ab ∷ []
+unfolding segments
+shallow_check_of_ab = refl
+
+-- with both tokens and principals ignored both pass
+both_tokens_deep : check_conflicts (exclusive_a ∷ exclusive_ab ∷ []) a true (record { principal = Some (codes "ann"); ignore = true; tokens = codes "t1" ∷ codes "t2" ∷ [] }) ≡ []
+unfolding segments
+both_tokens_deep = refl
+
+both_tokens_shallow : check_conflicts (exclusive_a ∷ exclusive_ab ∷ []) ab false (record { principal = Some (codes "ann"); ignore = true; tokens = codes "t1" ∷ codes "t2" ∷ [] }) ≡ []
+unfolding segments
+both_tokens_shallow = refl
+
+-- the token of a shallow lock of /a is found at /a/b, and not once it has ended
+found_above : found (exclusive_a ∷ []) ab (codes "t1") ≡ Some 0
+unfolding segments found
+found_above = refl
+
+not_found_again : found (remove (exclusive_a ∷ []) 0) ab (codes "t1") ≡ None
+unfolding segments found
+not_found_again = refl
+
+-- two seconds after moment 5, and a timeout past the greatest moment
+end_in_two_seconds : end_of 5 (Some 2) ≡ Some 2000000005
+end_in_two_seconds = refl
+
+end_at_most : end_of 5 (Some 18446744073709551615) ≡ Some 18446744073709551615
+end_at_most = refl

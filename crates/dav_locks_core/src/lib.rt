@@ -1,0 +1,5 @@
+//! Locks on paths.
+#![tactic(auto)]
+
+pub mod ls;
+pub mod memls;

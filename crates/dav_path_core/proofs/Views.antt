@@ -1,100 +1,115 @@
 -- What the view of a tree answers, by the entries of its map.
-use Rattle.std.proofs.Common.{◌≡◌, ◌+◌, ℕ, Bool, is_some, true, false, cond, T, ◌&&◌, List, [], ◌∷◌, Some, None, Option, refl, ap, sym, ◌∙◌, subst}
-use Rattle.std.specs.Ordering.{nat_cmp, eq_by_cmp, is_lt}
-use Rattle.std.specs.declared.cmp.Ordering.TheVariants.{Less}
-use Rattle.std.specs.FinMap.Entries.{below_all}
-use Rattle.std.specs.Cmp.{nat_cmp_total}
+use Rattle.std.proofs.Common.{◌≡◌, ◌≢◌, ◌+◌, ◌==◌, ℕ, Bool, is_some, IsSome, true, false, cond, List, [], ◌∷◌, Some, None, Option, refl, ap, sym, ◌∙◌, subst, inl, inr}
+use Rattle.std.specs.Ordering.{nat_cmp, eq_by_cmp}
+use Rattle.std.specs.Cmp.{nat_cmp_total, unsigned_tied}
 use Rattle.std.specs.Option.{option_map}
-use Rattle.std.specs.List.{AllByRecursion}
-use Rattle.std.specs.List.Sorted.{IsStrictlySortedBy}
-use Rattle.std.specs.Map.{lookup, keys_of}
+use Rattle.std.specs.Map.{lookup}
 use Rattle.std.specs.BTreeMap.{BTreeMap, is_at, Updates, WritesThrough}
 use Rattle.std.proofs.lemmas.Cmp.{eq_by_cmp_equiv}
-use Rattle.std.specs.FinMap.{FinMap, get, find, entries, is_sorted, from_entries, from_sorted, insert, empty, get-insert, get-from_entries, get-from_sorted, entries-from_sorted, same_map, nat_cmp-IsAntisymmetric}
+use Rattle.std.proofs.lemmas.Bool.{cases_eq, eq-eqb, ne_eqb}
+use Rattle.std.specs.FinMap.{FinMap, get, find, from_entries, insert, empty, get-insert, get-from_entries, same_map, nat_cmp-IsAntisymmetric}
 use Rattle.std.proofs.lemmas.Map.Made.{lookup-map_values}
 use Rattle.dav_path_core.specs.declared.tree.Node.{Node}
 use Rattle.dav_path_core.specs.Keyed.{Entry, Keyed, entry, lone, add, with_item, with_item_at}
-use Rattle.dav_path_core.specs.View.{entry_of, seen, keyed_of}
+use Rattle.dav_path_core.specs.Held.{Held}
+use Rattle.dav_path_core.specs.View.{entry_of, links_of, seen, keyed_of, held_of, node_at, with_node, changed}
 
 pub find-lookup : {X : Type 0} (q : ℕ) (es : List (ℕ × X)) → find nat_cmp q es ≡ lookup (is_at (nat_cmp q)) es
 find-lookup q [] = refl
 find-lookup q (e ∷ es) = ap (cond (eq_by_cmp nat_cmp q e.0) (Some e.1)) (find-lookup q es)
 
-both : (a b : Bool) → T a → T b → T (a && b)
-both true b p q = q
-both false b p q = p
+turned : (k q : ℕ) → eq_by_cmp nat_cmp k q ≡ (q == k)
+turned k q = (eq_by_cmp_equiv nat_cmp_total).symm k q ∙ unsigned_tied q k
 
-below : {X : Type 0} (k : ℕ) (es : List (ℕ × X)) → AllByRecursion (λ y. nat_cmp k y ≡ Less) (keys_of es) → T (below_all nat_cmp k es)
-below k [] h = tt
-below k (e ∷ es) h = both _ _ (subst (λ r. T (is_lt r)) (sym h.0) tt) (below k es h.1)
+-- two maps with the same look-ups
+same : {Y : Type 0} (m n : FinMap nat_cmp Y) → ((q : ℕ) → get m q ≡ get n q) → m ≡ n
+same = same_map nat_cmp_total nat_cmp-IsAntisymmetric
 
-sorted : {X : Type 0} (es : List (ℕ × X)) → IsStrictlySortedBy nat_cmp (keys_of es) → T (is_sorted nat_cmp es)
-unfolding IsStrictlySortedBy
-sorted [] h = tt
-sorted (e ∷ es) h = both _ _ (below e.0 es h.0) (sorted es h.1)
+module _ {K D : Type 0} (at : ℕ → Option (Node K D)) (n : ℕ) (o : Option (Node K D)) where
+  pub with_node-here : with_node at n o n ≡ o
+  with_node-here = ap (λ b. cond b o (at n)) (eq-eqb n n refl)
 
-turned : (k q : ℕ) → eq_by_cmp nat_cmp k q ≡ eq_by_cmp nat_cmp q k
-turned k q = (eq_by_cmp_equiv nat_cmp_total).symm k q
+  pub with_node-other : (q : ℕ) → q ≢ n → with_node at n o q ≡ at q
+  with_node-other q ne = ap (λ b. cond b o (at q)) (ne_eqb q n ne)
 
 module _ {K D : Type 0} where
-  pub get-view : (es : List (ℕ × Node K D)) (q : ℕ) → get (from_entries {R = nat_cmp} (seen es)) q ≡ option_map entry_of (lookup (is_at (nat_cmp q)) es)
-  get-view es q = get-from_entries nat_cmp_total (seen es) q ∙ find-lookup q (seen es) ∙ lookup-map_values entry_of _ es
+  pub mapped-some : {Y : Type 0} (f : Node K D → Y) (o : Option (Node K D)) → is_some (option_map f o) ≡ is_some o
+  mapped-some f None = refl
+  mapped-some f (Some x) = refl
 
-  keys-seen : (es : List (ℕ × Node K D)) → keys_of (seen es) ≡ keys_of es
-  keys-seen [] = refl
-  keys-seen (e ∷ es) = ap (e.0 ∷◌) (keys-seen es)
+  pub get-seen : {Y : Type 0} (f : Node K D → Y) (es : List (ℕ × Node K D)) (q : ℕ) → get (from_entries {R = nat_cmp} (seen f es)) q ≡ option_map f (node_at es q)
+  get-seen f es q = get-from_entries nat_cmp_total (seen f es) q ∙ find-lookup q (seen f es) ∙ lookup-map_values f _ es
 
-  pub entries-view : (es : List (ℕ × Node K D)) → IsStrictlySortedBy nat_cmp (keys_of es) → entries (from_entries {R = nat_cmp} (seen es)) ≡ seen es
-  entries-view es h =
-      let s : T (is_sorted nat_cmp (seen es)) = sorted (seen es) (subst (IsStrictlySortedBy nat_cmp) (sym (keys-seen es)) h) in
-      ap entries (same_map nat_cmp_total nat_cmp-IsAntisymmetric (from_entries (seen es)) (from_sorted (seen es)) (λ q. get-from_entries nat_cmp_total (seen es) q ∙ sym (get-from_sorted nat_cmp (seen es) q s)))
-      ∙ entries-from_sorted nat_cmp (seen es) s
+  pub same_seen : {Y : Type 0} (f : Node K D → Y) (es fs : List (ℕ × Node K D)) → ((q : ℕ) → option_map f (node_at fs q) ≡ option_map f (node_at es q)) → from_entries {R = nat_cmp} (seen f fs) ≡ from_entries (seen f es)
+  same_seen f es fs h = same _ _ (λ q. get-seen f fs q ∙ h q ∙ sym (get-seen f es q))
 
-  -- two maps with the same look-ups
-  same : (m n : FinMap nat_cmp (Entry K D)) → ((q : ℕ) → get m q ≡ get n q) → m ≡ n
-  same = same_map nat_cmp_total nat_cmp-IsAntisymmetric
+  pub same_keyed : (es fs : List (ℕ × Node K D)) (next : ℕ) → ((q : ℕ) → option_map entry_of (node_at fs q) ≡ option_map entry_of (node_at es q)) → keyed_of fs next ≡ keyed_of es next
+  same_keyed es fs next h = ap (λ (f : FinMap nat_cmp (Entry K D)). let t : Keyed K D = record { nodes = f; next = next } in t) (same_seen entry_of es fs h)
 
-  pub view-empty : from_entries {R = nat_cmp} (seen {K = K} {D = D} []) ≡ empty
-  view-empty = refl
+  branch : {Y : Type 0} (f : Node K D → Y) (b : Bool) (v : Node K D) (o : Option (Node K D)) → option_map f (cond b (Some v) o) ≡ cond b (Some (f v)) (option_map f o)
+  branch f true v o = refl
+  branch f false v o = refl
 
-  branch : (b : Bool) (v : Node K D) (o : Option (Node K D)) → option_map entry_of (cond b (Some v) o) ≡ cond b (Some (entry_of v)) (option_map entry_of o)
-  branch true v o = refl
-  branch false v o = refl
+  -- the nodes after an update of the map
+  pub node_at-updated : (m n : BTreeMap ℕ (Node K D)) (k : ℕ) (o : Option (Node K D)) → Updates nat_cmp m n k o → node_at n.entries ≡ with_node (node_at m.entries) k o
+  node_at-updated m n k o h = λ i q. (h.0 q ∙ ap (λ b. cond b o (node_at m.entries q)) (turned k q)) i
 
-  pub view-insert : (m n : BTreeMap ℕ (Node K D)) (k : ℕ) (v : Node K D) → Updates nat_cmp m n k (Some v) → from_entries {R = nat_cmp} (seen n.entries) ≡ insert (from_entries (seen m.entries)) k (entry_of v)
-  view-insert m n k v h = same _ _ (λ q.
-      get-view n.entries q
-      ∙ ap (option_map entry_of) (h.0 q)
-      ∙ branch (eq_by_cmp nat_cmp k q) v (lookup (is_at (nat_cmp q)) m.entries)
-      ∙ ap (cond (eq_by_cmp nat_cmp k q) (Some (entry_of v))) (sym (get-view m.entries q))
-      ∙ ap (λ b. cond b (Some (entry_of v)) (get (from_entries {R = nat_cmp} (seen m.entries)) q)) (turned k q)
-      ∙ sym (get-insert nat_cmp_total (from_entries (seen m.entries)) k (entry_of v) q))
+  pub seen-insert : {Y : Type 0} (f : Node K D → Y) (es fs : List (ℕ × Node K D)) (k : ℕ) (v : Node K D) → ((q : ℕ) → option_map f (node_at fs q) ≡ option_map f (with_node (node_at es) k (Some v) q))
+      → from_entries {R = nat_cmp} (seen f fs) ≡ insert (from_entries (seen f es)) k (f v)
+  seen-insert f es fs k v h = same _ _ (λ q.
+      get-seen f fs q ∙ h q ∙ branch f (q == k) v (node_at es q)
+      ∙ ap (cond (q == k) (Some (f v))) (sym (get-seen f es q))
+      ∙ ap (λ b. cond b (Some (f v)) (get (from_entries {R = nat_cmp} (seen f es)) q)) (sym (unsigned_tied q k))
+      ∙ sym (get-insert nat_cmp_total (from_entries (seen f es)) k (f v) q))
 
-  pub entry-view : (es : List (ℕ × Node K D)) (next q : ℕ) (o : Option (Node K D)) → o ≡ lookup (is_at (nat_cmp q)) es → entry (keyed_of es next) q ≡ option_map entry_of o
-  entry-view es next q o h = get-view es q ∙ ap (option_map entry_of) (sym h)
+  pub entry-view : (es : List (ℕ × Node K D)) (next q : ℕ) (o : Option (Node K D)) → o ≡ node_at es q → entry (keyed_of es next) q ≡ option_map entry_of o
+  entry-view es next q o h = get-seen entry_of es q ∙ ap (option_map entry_of) (sym h)
 
-  -- a write through a reference into the map
-  pub view-write : (m n : BTreeMap ℕ (Node K D)) (next k : ℕ) (v : Node K D) (w : D) → Some v ≡ lookup (is_at (nat_cmp k)) m.entries → WritesThrough nat_cmp (nat_cmp k) m (record v { item = w }) n
-      → keyed_of n.entries next ≡ with_item (keyed_of m.entries next) k w
-  view-write m n next k v w at h =
-      ap (λ (f : FinMap nat_cmp (Entry K D)). let t : Keyed K D = record { nodes = f; next = next } in t) (view-insert m n k (record v { item = w }) (h.3 (ap is_some (sym at))))
-      ∙ ap (λ o. with_item_at (keyed_of m.entries next) k o w) (sym (entry-view m.entries next k (Some v) at))
+  pub known-view : (es : List (ℕ × Node K D)) (next q : ℕ) → is_some (entry (keyed_of es next) q) ≡ is_some (node_at es q)
+  known-view es next q = ap is_some (get-seen entry_of es q) ∙ mapped-some entry_of (node_at es q)
 
-  pub known-view : (es : List (ℕ × Node K D)) (next q : ℕ) → is_some (entry (keyed_of es next) q) ≡ is_some (lookup (is_at (nat_cmp q)) es)
-  known-view es next q = ap is_some (get-view es q) ∙ mapped (lookup (is_at (nat_cmp q)) es)
-    where
-      mapped : (o : Option (Node K D)) → is_some (option_map entry_of o) ≡ is_some o
-      mapped None = refl
-      mapped (Some x) = refl
+  pub view-add : (es fs : List (ℕ × Node K D)) (next p : ℕ) (k : K) (v : Node K D) → v.place ≡ Some (p, k) → ((q : ℕ) → option_map entry_of (node_at fs q) ≡ option_map entry_of (with_node (node_at es) next (Some v) q))
+      → keyed_of fs (next + 1) ≡ add (keyed_of es next) p k v.item
+  view-add es fs next p k v at h =
+      ap (λ (f : FinMap nat_cmp (Entry K D)). let t : Keyed K D = record { nodes = f; next = next + 1 } in t)
+      (seen-insert entry_of es fs next v h
+      ∙ ap (λ (w : Option (ℕ × K)). let e : Entry K D = record { place = w; item = v.item } in insert (from_entries {R = nat_cmp} (seen entry_of es)) next e) at)
 
   pub view-lone : (m n : BTreeMap ℕ (Node K D)) (v : Node K D) → m.entries ≡ [] → v.place ≡ None → Updates nat_cmp m n 1 (Some v) → keyed_of n.entries 2 ≡ lone v.item
   view-lone m n v nil at h =
       ap (λ (f : FinMap nat_cmp (Entry K D)). let t : Keyed K D = record { nodes = f; next = 2 } in t)
-      (view-insert m n 1 v h ∙ ap (λ (es : List (ℕ × Node K D)). insert (from_entries {R = nat_cmp} (seen es)) 1 (entry_of v)) nil
+      (seen-insert entry_of m.entries n.entries 1 v (λ q. ap (λ g. option_map entry_of (g q)) (node_at-updated m n 1 (Some v) h))
+      ∙ ap (λ (es : List (ℕ × Node K D)). insert (from_entries {R = nat_cmp} (seen entry_of es)) 1 (entry_of v)) nil
       ∙ ap (λ (w : Option (ℕ × K)). let e : Entry K D = record { place = w; item = v.item } in insert (empty {R = nat_cmp}) 1 e) at)
 
-  pub view-add : (m n : BTreeMap ℕ (Node K D)) (next p : ℕ) (k : K) (v : Node K D) → v.place ≡ Some (p, k) → Updates nat_cmp m n next (Some v) → keyed_of n.entries (next + 1) ≡ add (keyed_of m.entries next) p k v.item
-  view-add m n next p k v at h =
-      ap (λ (f : FinMap nat_cmp (Entry K D)). let t : Keyed K D = record { nodes = f; next = next + 1 } in t)
-      (view-insert m n next v h
-      ∙ ap (λ (w : Option (ℕ × K)). let e : Entry K D = record { place = w; item = v.item } in insert (from_entries {R = nat_cmp} (seen m.entries)) next e) at)
+  -- a write of an item through a reference into the map
+  module _ (m n : BTreeMap ℕ (Node K D)) (next k : ℕ) (v : Node K D) (w : D) (at : Some v ≡ node_at m.entries k) (h : WritesThrough nat_cmp (nat_cmp k) m (record v { item = w }) n) where
+    written : node_at n.entries ≡ with_node (node_at m.entries) k (Some (record v { item = w }))
+    written = node_at-updated m n k (Some (record v { item = w })) (h.3 (ap is_some (sym at)))
+
+    pub view-write : keyed_of n.entries next ≡ with_item (keyed_of m.entries next) k w
+    view-write =
+        ap (λ (f : FinMap nat_cmp (Entry K D)). let t : Keyed K D = record { nodes = f; next = next } in t) (seen-insert entry_of m.entries n.entries k (record v { item = w }) (λ q. ap (λ g. option_map entry_of (g q)) written))
+        ∙ ap (λ o. with_item_at (keyed_of m.entries next) k o w) (sym (entry-view m.entries next k (Some v) at))
+
+    -- what does not look at items stays
+    pub write-keeps : {Y : Type 0} (f : Option (Node K D) → Y) → f (Some (record v { item = w })) ≡ f (Some v) → (q : ℕ) → f (node_at n.entries q) ≡ f (node_at m.entries q)
+    write-keeps f e q = ap (λ g. f (g q)) written ∙ elim (cases_eq q k) [
+      | inl is ↦ subst (λ x. f (with_node (node_at m.entries) k (Some (record v { item = w })) x) ≡ f (node_at m.entries x)) (sym is) (ap f (with_node-here (node_at m.entries) k (Some (record v { item = w }))) ∙ e ∙ ap f at)
+      | inr ne ↦ ap f (with_node-other (node_at m.entries) k (Some (record v { item = w })) q ne)
+    ]
+
+    pub held-write : held_of n.entries next ≡ record (held_of m.entries next) { keyed = with_item (keyed_of m.entries next) k w }
+    held-write = λ i. record { keyed = view-write i; links = same_seen links_of m.entries n.entries (write-keeps (option_map links_of) refl) i }
+
+  -- ---- a change of one node
+  module _ (at : ℕ → Option (Node K D)) (n : ℕ) (f : Node K D → Node K D) where
+    pub changed-here : changed at n f n ≡ option_map f (at n)
+    changed-here = ap (λ b. cond b (option_map f (at n)) (at n)) (eq-eqb n n refl)
+
+    pub changed-other : (q : ℕ) → q ≢ n → changed at n f q ≡ at q
+    changed-other q ne = ap (λ b. cond b (option_map f (at q)) (at q)) (ne_eqb q n ne)
+
+    -- what does not look at the changed field stays
+    pub changed-keeps : {Y : Type 0} (g : Option (Node K D) → Y) → ((o : Option (Node K D)) → g (option_map f o) ≡ g o) → (q : ℕ) → g (changed at n f q) ≡ g (at q)
+    changed-keeps g e q = elim (q == n) as (λ b. g (cond b (option_map f (at q)) (at q)) ≡ g (at q)) [ true ↦ e (at q) | false ↦ refl ]

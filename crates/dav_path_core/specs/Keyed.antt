@@ -3,9 +3,9 @@ use Rattle.std.specs.Prelude.{◌≡◌, ℕ, ◌+◌, ◌<◌, ◌==◌, ◌&&�
 use Rattle.std.specs.Option.{option_map}
 use Rattle.std.specs.Ordering.{nat_cmp}
 use Rattle.std.specs.Coded.{Coded, code_by, coded×, coded_ℕ, coded_option}
-use Rattle.std.specs.FinMap.{FinMap, entries, get, insert, retain_keys, code, empty}
+use Rattle.std.specs.FinMap.{FinMap, entries, get, insert, remove, retain_keys, code, empty}
 use Rattle.dav_path_core.specs.declared.errors.FsError.{FsError}
-use Rattle.dav_path_core.specs.declared.errors.FsError.TheVariants.{Exists, NotFound}
+use Rattle.dav_path_core.specs.declared.errors.FsError.TheVariants.{Exists, NotFound, Forbidden}
 
 -- a node: its place is the parent's number and its key there; the root has none
 pub record Entry (K D : Type 0) : Type 0 where
@@ -29,6 +29,11 @@ keyed_code {K} {D} k d =
 pub data Leads (f : ℕ → Option ℕ) : ℕ → Type 0 where
   root : Leads f 1
   up : {n p : ℕ} → f n ≡ Some p → Leads f p → Leads f n
+
+-- k is n or leads to it by the parents that f gives
+pub data Under (f : ℕ → Option ℕ) (n : ℕ) : ℕ → Type 0 where
+  here : Under f n n
+  below : {k p : ℕ} → f k ≡ Some p → Under f n p → Under f n k
 
 -- whether a place is under p at a key that passes the test
 abbrev pub is_at_place : {K : Type 0} → (K → Bool) → ℕ → Option (ℕ × K) → Bool
@@ -125,3 +130,54 @@ module _ {K D : Type 0} where
   -- t without what stands below p at k
   abbrev pub cleared : (K → K → Bool) → Keyed K D → ℕ → K → Keyed K D
   cleared eq t p k = cleared_at t (child (eq k) t p)
+
+  -- whether n is the parent of some number
+  abbrev pub has_child : Keyed K D → ℕ → Bool
+  has_child t n = is_some (child (λ _. true) t n)
+
+  -- t without the one node n
+  abbrev pub without : Keyed K D → ℕ → Keyed K D
+  without t n = record t { nodes = remove t.nodes n }
+
+  abbrev pub placed_at : Keyed K D → ℕ → ℕ → K → Option (Entry K D) → Keyed K D
+  placed_at t n p k None = t
+  placed_at t n p k (Some e) = record t { nodes = insert t.nodes n (record e { place = Some (p, k) }) }
+
+  -- t with n below p at k
+  abbrev pub placed : Keyed K D → ℕ → ℕ → K → Keyed K D
+  placed t n p k = placed_at t n p k (entry t n)
+
+  -- why a node can't be deleted
+  abbrev pub delete_refusal : Keyed K D → ℕ → Option FsError
+  delete_refusal t n =
+      if is_some (entry t n)
+      then (if (n == 1) || has_child t n then Some Forbidden else None)
+      else Some NotFound
+
+  -- why a node can't be deleted with all that leads to it
+  abbrev pub cut_refusal : Keyed K D → ℕ → Option FsError
+  cut_refusal t n =
+      if is_some (entry t n)
+      then (if n == 1 then Some Forbidden else None)
+      else Some NotFound
+
+  -- whether a place is taken by a node that may not be replaced
+  abbrev pub is_kept : Keyed K D → Bool → Option ℕ → Bool
+  is_kept t overwrite None = false
+  is_kept t overwrite (Some c) = not overwrite || has_child t c
+
+  -- why n can't be moved to p at k
+  abbrev pub move_refusal : (K → K → Bool) → Keyed K D → ℕ → ℕ → K → Bool → Option FsError
+  move_refusal eq t n p k overwrite =
+      if is_some (entry t n) && is_some (entry t p)
+      then (if is_kept t overwrite (child (eq k) t p) then Some Exists
+      else (if (n == 1) || is_under t n p then Some Forbidden else None))
+      else Some NotFound
+
+  abbrev pub moved_over : Keyed K D → ℕ → ℕ → K → Option ℕ → Keyed K D
+  moved_over t n p k None = placed t n p k
+  moved_over t n p k (Some c) = if c == n then t else placed (without t c) n p k
+
+  -- t with n moved to p at k, in the place of a node there; a node in its own place stays
+  abbrev pub moved : (K → K → Bool) → Keyed K D → ℕ → ℕ → K → Keyed K D
+  moved eq t n p k = moved_over t n p k (child (eq k) t p)

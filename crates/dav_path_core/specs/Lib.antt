@@ -1,4 +1,7 @@
 pub mod Answers
+pub mod Chains
+pub mod DavErrors
+pub mod EndsAs
 pub mod Errors
 pub mod Fault
 pub mod Fronts
@@ -6,7 +9,17 @@ pub mod Held
 pub mod Keeping
 pub mod Keyed
 pub mod Lends
+pub mod MethodSets
+pub mod Methods
+pub mod Names
+pub mod Normal
+pub mod OsErrors
 pub mod PathText
+pub mod Prefix
 pub mod Reading
+pub mod Respelling
 pub mod Segments
+pub mod Shown
+pub mod Trimmed
+pub mod Url
 pub mod View

@@ -1,15 +1,31 @@
 //! Paths of resources.
-ghost use Rattle.std.specs.Prelude.{◌++◌, take, ◌≡◌, ◌≤◌, ◌<◌, ◌^◌, ◌⊎◌, ℕ, List, [], length, IfOk, IfErr, MatchResult};
-ghost use Rattle.dav_path_core.specs.Reading.{Read};
+ghost use Rattle.std.specs.Prelude.{◌++◌, take, ◌≡◌, ◌≤◌, ◌<◌, ◌^◌, ◌⊎◌, ◌↔◌, ℕ, List, [], ◌∷◌, length, string_bytes, IfOk, IfErr, OnOk, OnErr, IsSome, IfSome, MatchResult};
+ghost use Rattle.std.specs.Str.{IsUtf8};
+ghost use Rattle.http_uri.specs.Uri.{uri_path};
+ghost use Rattle.dav_path_core.specs.Reading.{Read, ends_in_slash};
 ghost use Rattle.dav_path_core.specs.Fault.{Fault};
 ghost use Rattle.dav_path_core.specs.Segments.{segments};
 ghost use Rattle.dav_path_core.specs.Fronts.{parent};
-ghost use Rattle.dav_path_core.specs.PathText.{folder_bytes};
+ghost use Rattle.dav_path_core.specs.PathText.{full, folder_bytes};
+ghost use Rattle.dav_path_core.specs.Prefix.{SetsPrefix, NeedsSlash};
+ghost use Rattle.dav_path_core.specs.Trimmed.{trimmed};
+ghost use Rattle.dav_path_core.specs.Url.{url};
+ghost use Rattle.dav_path_core.specs.Respelling.{KeepsPath};
+ghost use Rattle.dav_path_core.specs.Normal.{IsNormal};
+ghost use Rattle.dav_path_core.specs.Names.{file_name as name_of, relative};
 
 mod iter;
+mod lent;
 mod reading;
+mod shown;
+#[cfg(test)]
+mod tests;
+mod url;
 
+use http_uri::Uri;
 pub use iter::Segments;
+pub use lent::DavPathRef;
+use lent::trim_slash;
 use reading::{joined, kept_pieces, raw_path};
 use std::alloc::{AllocError, AllocFailed, Global};
 use std::marker::Model;
@@ -96,6 +112,69 @@ impl DavPath {
         })
     }
 
+    /// The path of a request target as it stands there, neither decoded nor resolved (RFC 9110 section 7.1). The prefix is
+    /// empty. `OutOfMemory` alone.
+    pub fn from_uri(alloc: Global, uri: &Uri) -> Result<DavPath, ParseError>
+        ensures ok { IfOk result (λ path. (path.prefix ≡ []) × (path.bytes ≡ uri_path uri.now)) }
+        ensures err { IfErr result (λ e. e ≡ ParseError.OutOfMemory) }
+    {
+        let fullpath = uri.path().as_bytes().to_vec(alloc)?;
+        Ok(DavPath {
+            fullpath,
+            prefix_length: 0,
+        })
+    }
+
+    /// Sets another prefix, which has to be a front of the whole path and end at a slash. A slash at its end is left out;
+    /// where the whole path is the prefix, a slash is put behind it.
+    ///
+    /// `PrefixMismatch` where the path has no such front; `OutOfMemory` where there is no room for that slash. Refused, the
+    /// path stays as it was.
+    pub fn set_prefix(&mut self, prefix: &str) -> Result<(), ParseError>
+        ensures ok { OnOk result (SetsPrefix (full self.old) prefix.now (full self.new) self.new.prefix) }
+        ensures begins { OnOk result ((rest : List ℕ) × (self.new.bytes ≡ 47 ∷ rest)) }
+        ensures err { IfErr result (λ e. ((e ≡ ParseError.OutOfMemory) × NeedsSlash (full self.old) prefix.now)
+            ⊎ ((e ≡ ParseError.PrefixMismatch) × ((after q : List ℕ) → ¬ SetsPrefix (full self.old) prefix.now after q))) }
+        ensures unchanged { OnErr result (self.new ≡ self.old) }
+    {
+        let prefix = prefix.as_bytes();
+        let Some(rest) = self.fullpath.strip_prefix(prefix) else {
+            return Err(ParseError::PrefixMismatch);
+        };
+        if prefix.ends_with(b"/") {
+            self.prefix_length = prefix.len() - 1;
+            return Ok(());
+        }
+        if rest.is_empty() {
+            self.fullpath.push(b'/')?;
+        } else if !rest.starts_with(b"/") {
+            return Err(ParseError::PrefixMismatch);
+        }
+        self.prefix_length = prefix.len();
+        Ok(())
+    }
+
+    /// The prefix, which is empty until one is set.
+    pub fn prefix(&self) -> &str
+        ensures { result.now ≡ self.now.prefix }
+    {
+        str::from_utf8(&self.fullpath[..self.prefix_length]).unwrap()
+    }
+
+    /// The whole path, prefix and all.
+    pub fn with_prefix(&self) -> DavPathRef<'_>
+        ensures { result ≡ full self.now }
+    {
+        DavPathRef::new(&self.fullpath)
+    }
+
+    // The path behind the prefix.
+    fn behind_prefix(&self) -> DavPathRef<'_>
+        ensures { result ≡ self.now.bytes }
+    {
+        DavPathRef::new(self.as_bytes())
+    }
+
     /// The bytes behind the prefix.
     pub fn as_bytes(&self) -> &[u8]
         ensures { result.now ≡ self.now.bytes }
@@ -110,6 +189,53 @@ impl DavPath {
         ensures room { length result < 2 ^ 64 }
     {
         Segments::new(self.as_bytes())
+    }
+
+    /// Whether the path behind the prefix ends in `/`, as that of a collection does (RFC 4918 section 5.2).
+    pub fn is_collection(&self) -> bool
+        ensures { result ≡ ends_in_slash self.now.bytes }
+    {
+        self.behind_prefix().is_collection()
+    }
+
+    /// The last segment behind the prefix, or nothing where there is none.
+    pub fn file_name_bytes(&self) -> &[u8]
+        ensures { result.now ≡ name_of self.now.bytes }
+    {
+        self.behind_prefix().file_name_bytes()
+    }
+
+    /// As `DavPathRef::file_name`, of the path behind the prefix.
+    pub fn file_name(&self) -> Option<&str>
+        ensures variant { IsSome result ↔ ((0 < length (name_of self.now.bytes)) × IsUtf8 (name_of self.now.bytes)) }
+        ensures value { IfSome result (λ name. name.now ≡ name_of self.now.bytes) }
+    {
+        self.behind_prefix().file_name()
+    }
+
+    /// As `DavPathRef::as_url_string`, of the path behind the prefix.
+    pub fn as_url_string(&self, alloc: Global) -> Result<String, ParseError>
+        ensures ok { IfOk result (λ text. string_bytes text ≡ url self.now.bytes) }
+        ensures law { IfOk result (λ text. KeepsPath (string_bytes text) self.now.bytes) }
+        ensures err { IfErr result (λ e. e ≡ ParseError.OutOfMemory) }
+    {
+        self.behind_prefix().as_url_string(alloc)
+    }
+
+    /// As `DavPathRef::as_pathbuf`, of the path behind the prefix.
+    pub fn as_pathbuf(&self, alloc: Global) -> Result<Option<String>, ParseError>
+        ensures ok { IfOk result (λ found. (IsSome found ↔ IsUtf8 (trimmed self.now.bytes)) × IfSome found (λ text. string_bytes text ≡ trimmed self.now.bytes)) }
+        ensures err { IfErr result (λ e. e ≡ ParseError.OutOfMemory) }
+    {
+        self.behind_prefix().as_pathbuf(alloc)
+    }
+
+    /// As `DavPathRef::as_rel_ospath`, of the path behind the prefix.
+    pub fn as_rel_ospath(&self) -> Option<&str>
+        ensures variant { IsSome result ↔ IsUtf8 (relative self.now.bytes) }
+        ensures value { IfSome result (λ text. text.now ≡ relative self.now.bytes) }
+    {
+        self.behind_prefix().as_rel_ospath()
     }
 
     // How many segments there are.
@@ -137,6 +263,12 @@ impl DavPath {
     }
 }
 
+/// A law for callers: a path that path reading gives begins with `/`, holds no `//`, and has no segment that is `.` or `..`
+/// or holds byte 0. It does nothing.
+pub fn read_paths_are_normal()
+    ensures { (text bytes : List ℕ) → Read text bytes → IsNormal bytes }
+{}
+
 // The bytes of a folder behind a prefix, by the first so many of its segments.
 fn folder_of(
     alloc: Global,
@@ -155,106 +287,22 @@ fn folder_of(
     Ok(path)
 }
 
-#[cfg(test)]
-mod tests {
-    use super::*;
-    use std::test::Fail;
+/// Two paths are equal where their whole bytes are, each without one slash at its end where there are more. Their prefixes
+/// play no part.
+impl PartialEq for DavPath {
+    ghost use Rattle.dav_path_core.specs.Trimmed.{is_equal, is_equal-partial_equiv};
 
-    #[test]
-    fn reads_paths(rt: HostRuntime) -> Result<(), Fail> {
-        let alloc = rt.alloc();
-        let rows: [(&str, &[u8]); 7] = [
-            ("/a/./b//c/../d%20e/?q=1", b"/a/b/d e/"),
-            ("/a?x#y", b"/a"),
-            ("/a/.", b"/a"),
-            ("/a/..", b"/"),
-            ("/%zz", b"/%zz"),
-            ("/?#", b"/"),
-            ("/", b"/"),
-        ];
-        for (text, bytes) in rows {
-            assert!(rt; DavPath::new(alloc, text)?.as_bytes() == bytes, "{text}");
-        }
-        Ok(())
-    }
+    ghost eq = { is_equal };
 
-    #[test]
-    fn refuses_what_is_no_path(rt: HostRuntime) -> Result<(), Fail> {
-        for (text, error) in [
-            ("/a/%2e%2e/%2e%2e", ParseError::ForbiddenPath),
-            ("/%00/../..", ParseError::InvalidPath),
-            ("/../%00", ParseError::ForbiddenPath),
-            ("", ParseError::InvalidPath),
-            ("a", ParseError::InvalidPath),
-            ("/a#b", ParseError::InvalidPath),
-            ("/a%2Fb", ParseError::InvalidPath),
-            ("/\u{e4}", ParseError::InvalidPath),
-            ("/a?\t", ParseError::InvalidPath),
-        ] {
-            match DavPath::new(rt.alloc(), text) {
-                Ok(_) => assert!(rt; false, "{text}"),
-                Err(e) => assert_eq!(rt; e, error, "{text}"),
-            }
-        }
-        Ok(())
-    }
+    ghost laws = { is_equal-partial_equiv };
 
-    #[test]
-    fn gives_parents(rt: HostRuntime) -> Result<(), Fail> {
-        let rows: [(&str, &[u8]); 6] = [
-            ("/a/b/", b"/a/"),
-            ("/a/b", b"/a/"),
-            ("/a//b/../c", b"/a/"),
-            ("/a", b"/"),
-            ("/", b"/"),
-            ("/a/b/c", b"/a/b/"),
-        ];
-        for (text, bytes) in rows {
-            let path = DavPath::new(rt.alloc(), text)?;
-            assert!(rt; path.parent()?.as_bytes() == bytes, "{text}");
-            assert!(rt; path.clone()?.as_bytes() == path.as_bytes(), "{text}");
-        }
-        Ok(())
+    fn eq(&self, other: &Self) -> bool {
+        trim_slash(&self.fullpath) == trim_slash(&other.fullpath)
     }
+}
 
-    #[test]
-    fn gives_segments(rt: HostRuntime) -> Result<(), Fail> {
-        let path = DavPath::new(rt.alloc(), "/a/./b//c/../d%20e/?q=1")?;
-        let mut segments = path.segments();
-        assert!(rt; segments.next() == Some(b"a".as_slice()));
-        assert!(rt; segments.next() == Some(b"b".as_slice()));
-        assert!(rt; segments.next() == Some(b"d e".as_slice()));
-        assert!(rt; segments.next().is_none());
-        assert!(rt; segments.next().is_none());
-        Ok(())
-    }
+impl Eq for DavPath {
+    ghost use Rattle.dav_path_core.specs.Trimmed.{is_equal-equiv};
 
-    #[test]
-    fn reads_long_paths(rt: HostRuntime) -> Result<(), Fail> {
-        let alloc = rt.alloc();
-        let mut text = String::new(alloc);
-        text.push_str("/")?;
-        for _ in 0..10000 {
-            text.push_str("a/")?;
-        }
-        for _ in 0..10000 {
-            text.push_str("../")?;
-        }
-        assert!(rt; DavPath::new(alloc, &text)?.as_bytes() == b"/".as_slice());
-        Ok(())
-    }
-
-    #[test]
-    fn displays_its_name(rt: HostRuntime) -> Result<(), Fail> {
-        for (error, name) in [
-            (ParseError::InvalidPath, "InvalidPath"),
-            (ParseError::PrefixMismatch, "PrefixMismatch"),
-            (ParseError::ForbiddenPath, "ForbiddenPath"),
-            (ParseError::OutOfMemory, "OutOfMemory"),
-        ] {
-            let text = format!(in rt.alloc(); "{error}")?;
-            assert!(rt; text.as_str() == name, "{name}");
-        }
-        Ok(())
-    }
+    ghost laws = { is_equal-equiv };
 }

@@ -4,3 +4,4 @@
 pub mod davpath;
 pub mod errors;
 pub mod tree;
+pub mod util;

@@ -6,12 +6,12 @@ use Rattle.dav_path_core.proofs.tree.Tree.get_node.Goals as goal
 
 pub returns-in-Some : goal.returns-in-Some
 returns-in-Some g c =
-    ap (λ t. item t c.args.id) (sym (ap (λ t. t.keyed) c.self.view_is))
+    ap (λ t. item t.keyed c.args.id) (sym c.self.view_is)
     ∙ ap (option_map (λ e. e.item)) (entry-view c.self.inside.nodes.entries c.self.inside.next c.args.id (Some c.in-Some.node.now) c.in-Some.ensures.value)
 
 pub returns-in-None : goal.returns-in-None
 returns-in-None g c = (
   refl,
-  ap (λ t. item t c.args.id) (sym (ap (λ t. t.keyed) c.self.view_is))
+  ap (λ t. item t.keyed c.args.id) (sym c.self.view_is)
       ∙ ap (option_map (λ e. e.item)) (entry-view c.self.inside.nodes.entries c.self.inside.next c.args.id None c.in-None.ensures.value),
 )

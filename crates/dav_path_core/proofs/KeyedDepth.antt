@@ -1,0 +1,106 @@
+-- The way up from a node has fewer numbers than the next number, so looking at that many is enough.
+use Rattle.std.proofs.Common.{◌≡◌, ◌≢◌, ℕ, zero, suc, ◌+◌, ◌<◌, ◌≤◌, ◌||◌, ◌==◌, Bool, true, false, ◌⊎◌, List, [], ◌∷◌, length, Some, None, Option, refl, ap, sym, ◌∙◌, subst, inl, inr, arith, eqb, IsSome, is_some}
+use Rattle.std.specs.Option.{option_map}
+use Rattle.std.specs.List.{list_any, IsDistinct, AllByRecursion}
+use Rattle.std.proofs.lemmas.Bool.{cases_eq, cases_Bool, eq-eqb, ne_eqb, eqb-true, or_cases, false≢true, true≢false}
+use Rattle.std.proofs.lemmas.Map.Steps.{length-le_from_distinct_below}
+use Rattle.dav_path_core.specs.Keyed.{Keyed, Leads, root, up, Under, here, below, meets, is_under, parent, IsKnown, IsTree}
+use Rattle.dav_path_core.proofs.Trees.{none≢some, same_some, known_from_parent}
+
+pub meets-here : (f : ℕ → Option ℕ) (m n k : ℕ) → k ≡ n → meets f (suc m) n k ≡ true
+meets-here f m n k e = ap (λ b. b || elim (f k) [ None ↦ false | Some p ↦ meets f m n p ]) (eq-eqb k n e)
+
+pub meets-up : (f : ℕ → Option ℕ) (m n k p : ℕ) → k ≢ n → f k ≡ Some p → meets f (suc m) n k ≡ meets f m n p
+meets-up f m n k p ne e = ap (λ b. b || elim (f k) [ None ↦ false | Some p ↦ meets f m n p ]) (ne_eqb k n ne) ∙ ap (λ o. elim o [ None ↦ false | Some p ↦ meets f m n p ]) e
+
+pub meets-top : (f : ℕ → Option ℕ) (m n k : ℕ) → k ≢ n → f k ≡ None → meets f (suc m) n k ≡ false
+meets-top f m n k ne e = ap (λ b. b || elim (f k) [ None ↦ false | Some p ↦ meets f m n p ]) (ne_eqb k n ne) ∙ ap (λ o. elim o [ None ↦ false | Some p ↦ meets f m n p ]) e
+
+abbrev pub depth : {f : ℕ → Option ℕ} {n : ℕ} → Leads f n → ℕ
+depth root = 0
+depth (up e l) = suc (depth l)
+
+abbrev pub way : {f : ℕ → Option ℕ} {n : ℕ} → Leads f n → List ℕ
+way root = 1 ∷ []
+way (up {n = n} e l) = n ∷ way l
+
+length-way : {f : ℕ → Option ℕ} {n : ℕ} (l : Leads f n) → length (way l) ≡ suc (depth l)
+length-way root = refl
+length-way (up e l) = ap suc (length-way l)
+
+not_any : (b : Bool) → (b ≡ true → ⊥) → b ≡ false
+not_any true h = absurd (h refl)
+not_any false h = refl
+
+all_apart : (n : ℕ) (ks : List ℕ) → (list_any (eqb n) ks ≡ true → ⊥) → AllByRecursion (λ y. eqb n y ≡ false) ks
+all_apart n [] h = tt
+all_apart n (k ∷ ks) h = (not_any (eqb n k) (λ e. h (ap (λ b. b || list_any (eqb n) ks) e)), all_apart n ks (λ e. h (either (eqb n k) _ e)))
+  where
+    either : (a b : Bool) → b ≡ true → (a || b) ≡ true
+    either true b h = refl
+    either false b h = h
+
+module _ (f : ℕ → Option ℕ) (top : f 1 ≡ None) where
+  -- two ways up from one number are as long
+  depth-same : {m n : ℕ} → m ≡ n → (l : Leads f m) (r : Leads f n) → depth l ≡ depth r
+  depth-same is root root = refl
+  depth-same is root (up {p = p} e r) = absurd (none≢some p (sym top ∙ ap f is ∙ e))
+  depth-same is (up {p = p} e l) root = absurd (none≢some p (sym top ∙ ap f (sym is) ∙ e))
+  depth-same is (up {p = p} e l) (up {p = q} e' r) = ap suc (depth-same (same_some p q (sym e ∙ ap f is ∙ e')) l r)
+
+  -- from each number on the way, a way that is no longer
+  on_way : {n : ℕ} (l : Leads f n) (k : ℕ) → list_any (eqb k) (way l) ≡ true → (r : Leads f k) × (depth r ≤ depth l)
+  on_way root k h = elim (or_cases (eqb k 1) false h) [ inl e ↦ (subst (Leads f) (sym (eqb-true k 1 e)) root, omega (arith, depth-same (eqb-true k 1 e) (subst (Leads f) (sym (eqb-true k 1 e)) root) root)) | inr e ↦ absurd (false≢true e) ]
+  on_way (up {n = n} e l) k h = elim (or_cases (eqb k n) (list_any (eqb k) (way l)) h) [
+    | inl is ↦ (subst (Leads f) (sym (eqb-true k n is)) (up e l), omega (arith, depth-same (eqb-true k n is) (subst (Leads f) (sym (eqb-true k n is)) (up e l)) (up e l)))
+    | inr on ↦ let r = on_way l k on in (r.0, omega (arith, r.1))
+  ]
+
+  once : {n : ℕ} (l : Leads f n) → IsDistinct eqb (way l)
+  unfolding IsDistinct
+  once root = (tt, tt)
+  once (up {n = n} e l) = (all_apart n (way l) (λ h. let r = on_way l n h in omega (arith, r.1, depth-same refl r.0 (up e l))), once l)
+
+  -- what is met by the relation is met by looking far enough
+  pub meets_from_under : {n k : ℕ} (m : ℕ) → Under f n k → (l : Leads f k) → depth l < m → meets f m n k ≡ true
+  meets_from_under zero u l h = absurd (omega arith)
+  meets_from_under {n = n} (suc m) here l h = meets-here f m n n refl
+  meets_from_under {n = n} {k = k} (suc m) (below {p = p} e u) l h =
+      elim (cases_eq k n) [
+        | inl is ↦ meets-here f m n k is
+        | inr ne ↦ let r = next l e in meets-up f m n k p ne e ∙ meets_from_under m u r.0 (omega (arith, r.1, h))
+      ]
+    where
+      next : {k p : ℕ} (l : Leads f k) → f k ≡ Some p → (r : Leads f p) × (suc (depth r) ≡ depth l)
+      next {p = p} root e = absurd (none≢some p (sym top ∙ e))
+      next {p = p} (up {p = q} e' l) e =
+          let is : q ≡ p = same_some q p (sym e' ∙ e) in (subst (Leads f) is l, ap suc (depth-same (sym is) (subst (Leads f) is l) l))
+
+  under_from_meets : {n : ℕ} (m k : ℕ) → meets f m n k ≡ true → Under f n k
+  under_from_meets zero k h = absurd (false≢true h)
+  under_from_meets {n = n} (suc m) k h =
+      elim (cases_eq k n) [
+        | inl is ↦ subst (Under f n) (sym is) here
+        | inr ne ↦ go ne (λ p. under_from_meets m p) (f k) refl
+      ]
+    where
+      go : k ≢ n → ((p : ℕ) → meets f m n p ≡ true → Under f n p) → (o : Option ℕ) → f k ≡ o → Under f n k
+      go ne more None e = absurd (false≢true (sym (meets-top f m n k ne e) ∙ h))
+      go ne more (Some p) e = below e (more p (sym (meets-up f m n k p ne e) ∙ h))
+
+module _ {K D : Type 0} (eq : K → K → Bool) (t : Keyed K D) (tree : IsTree eq t) where
+  pub top : parent t 1 ≡ None
+  top = ap (option_map (λ q. q.0)) tree.root.1
+
+  pub known_leads : (n : ℕ) → Leads (parent t) n → IsKnown t n
+  known_leads n root = tree.root.0
+  known_leads n (up {p = p} e l) = known_from_parent t n p e
+
+  short : (n : ℕ) (l : Leads (parent t) n) → depth l < t.next
+  short n l =
+      let b = length-le_from_distinct_below (way l) t.next (once (parent t) top l) (λ q h. (tree.numbered q (known_leads q (on_way (parent t) top l q h).0)).1) in
+      omega (arith, b, length-way l)
+
+  -- the test means the relation
+  pub is_under-true : (n k : ℕ) → IsKnown t k → (is_under t n k ≡ true → Under (parent t) n k) × (Under (parent t) n k → is_under t n k ≡ true)
+  is_under-true n k known = (under_from_meets (parent t) top t.next k, λ u. meets_from_under (parent t) top t.next u (tree.attached k known) (short k (tree.attached k known)))

@@ -1,0 +1,267 @@
+-- What the links of a tree's nodes tell, and what a change of the tree does to them.
+use Rattle.std.proofs.Common.{◌≡◌, ◌≢◌, ◌+◌, ◌<◌, ◌==◌, ℕ, Bool, is_some, IsSome, true, false, cond, ◌⊎◌, ◌↔◌, List, [], ◌∷◌, Some, None, Option, refl, ap, sym, ◌∙◌, subst, inl, inr, arith}
+use Rattle.std.specs.Ordering.{nat_cmp}
+use Rattle.std.specs.Cmp.{IsEquivalence}
+use Rattle.std.specs.Option.{option_map}
+use Rattle.std.specs.FinMap.{FinMap, get, from_entries, empty}
+use Rattle.std.specs.BTreeMap.{BTreeMap, Updates, WritesThrough}
+use Rattle.std.proofs.lemmas.Bool.{cases_eq, false≢true}
+use Rattle.dav_path_core.specs.declared.tree.Node.{Node}
+use Rattle.dav_path_core.specs.Keyed.{Entry, Keyed, entry, place, place_of, parent, child, has_child, add, lone, IsKnown, IsTree}
+use Rattle.dav_path_core.specs.Held.{Held, Siblings, done, more, IsChildList, IsHeld, if_known, first, after, links_first, links_after}
+use Rattle.dav_path_core.specs.Chains.{IsIn, Chain, IsChainOf, Linked}
+use Rattle.dav_path_core.specs.View.{entry_of, links_of, seen, keyed_of, held_of, node_at, parent_in, first_in, after_in, before_in, before_of, IsChained, IsLinked, with_node, changed, with_first, with_after, with_before, led_back, led_on, put_first, closed_up}
+use Rattle.dav_path_core.proofs.Trees.{none≢some, same_some, known_from_parent, IsTree-add, IsTree-lone, IsTree-with_item}
+use Rattle.dav_path_core.proofs.Chains.{no_distinct, Linked-put, first_child_of, no_child}
+use Rattle.dav_path_core.proofs.Refusals.{has_child-true, has_child-false}
+use Rattle.dav_path_core.proofs.Views.{with_node-here, with_node-other, get-seen, known-view, entry-view, changed-here, changed-other, changed-keeps, view-add, view-lone, node_at-updated, mapped-some, view-write, write-keeps}
+
+siblings : (after before : ℕ → Option ℕ) (b o : Option ℕ) (ks : List ℕ) → Chain after before b o ks → Siblings after o ks
+siblings after before b o [] c = subst (λ v. Siblings after v []) (sym c) done
+siblings after before b o (k ∷ ks) c = subst (λ v. Siblings after v (k ∷ ks)) (sym c.0) (more (siblings after before (Some k) (after k) ks c.2))
+
+pub first_of : (o : Option ℕ) → is_some o ≡ true → (m : ℕ) × (o ≡ Some m)
+first_of None h = absurd (false≢true h)
+first_of (Some m) h = (m, refl)
+
+module _ {K D : Type 0} where
+  pub parent-view : (es : List (ℕ × Node K D)) (next : ℕ) → parent (keyed_of es next) ≡ parent_in (node_at es)
+  parent-view es next = λ i q. option_map (λ w. w.0) (place_of (get-seen entry_of es q i))
+
+  pub first-view : (es : List (ℕ × Node K D)) (next : ℕ) → first (held_of es next) ≡ first_in (node_at es)
+  first-view es next = λ i q. links_first (get-seen links_of es q i)
+
+  pub after-view : (es : List (ℕ × Node K D)) (next : ℕ) → after (held_of es next) ≡ after_in (node_at es)
+  after-view es next = λ i q. links_after (get-seen links_of es q i)
+
+  -- what callers may know of a tree
+  pub held_from : (eq : K → K → Bool) (es : List (ℕ × Node K D)) (next : ℕ) → IsLinked eq es next → IsHeld eq (held_of es next)
+  held_from eq es next linked = record {
+    tree = linked.tree;
+    listed = λ p known. let l = linked.chained.listed p in (
+      l.0,
+      record {
+        linked = subst (λ f. Siblings f (first (held_of es next) p) l.0) (sym (after-view es next))
+            (subst (λ f. Siblings (after_in (node_at es)) (f p) l.0) (sym (first-view es next)) (siblings _ _ None _ l.0 l.1.linked));
+        once = l.1.once;
+        members = λ n. ((λ h. ap (λ f. f n) (parent-view es next) ∙ (l.1.members n).0 h), (λ e. (l.1.members n).1 (sym (ap (λ f. f n) (parent-view es next)) ∙ e)));
+      },
+    );
+    root_alone = ap (λ f. f 1) (after-view es next) ∙ linked.root_alone;
+  }
+
+  -- a node has a child where it has a first one
+  pub first-has_child : (eq : K → K → Bool) (es : List (ℕ × Node K D)) (next : ℕ) → IsLinked eq es next → (n : ℕ) (o : Option (Node K D)) → o ≡ node_at es n → is_some (links_first (option_map links_of o)) ≡ has_child (keyed_of es next) n
+  first-has_child eq es next linked n o at =
+      elim (links_first (option_map links_of o)) as (λ f. links_first (option_map links_of o) ≡ f → is_some f ≡ has_child (keyed_of es next) n) [
+        | None ↦ λ none. sym (has_child-false (keyed_of es next) n (λ m e. no_child linked.chained n (ap (λ o. links_first (option_map links_of o)) (sym at) ∙ none) m (ap (λ f. f m) (sym (parent-view es next)) ∙ e)))
+        | Some m ↦ λ some. sym (has_child-true (keyed_of es next) n m (ap (λ f. f m) (parent-view es next) ∙ (first_child_of linked.chained n m (ap (λ o. links_first (option_map links_of o)) (sym at) ∙ some)).0))
+      ] refl
+
+  -- ---- what is told of a number
+  module _ (es : List (ℕ × Node K D)) (next : ℕ) (t : Held K D) (view : held_of es next ≡ t) (n : ℕ) where
+    pub tells_none : None ≡ node_at es n → {X : Type 0} (y : X) → None ≡ if_known t n y
+    tells_none at y = sym (ap (λ t. if_known t n y) (sym view) ∙ ap (option_map (λ _. y)) (entry-view es next n None at))
+
+    module _ (x : Node K D) (at : Some x ≡ node_at es n) where
+      pub known : {X : Type 0} (y : X) → Some y ≡ if_known t n y
+      known y = sym (ap (λ t. if_known t n y) (sym view) ∙ ap (option_map (λ _. y)) (entry-view es next n (Some x) at))
+
+      pub first-told : first t n ≡ x.first_child
+      first-told = ap (λ t. first t n) (sym view) ∙ ap (λ f. f n) (first-view es next) ∙ ap (λ o. links_first (option_map links_of o)) (sym at)
+
+      pub after-told : after t n ≡ x.next_sibling
+      after-told = ap (λ t. after t n) (sym view) ∙ ap (λ f. f n) (after-view es next) ∙ ap (λ o. links_after (option_map links_of o)) (sym at)
+
+      pub place-told : place t.keyed n ≡ x.place
+      place-told = ap (λ t. place t.keyed n) (sym view) ∙ ap place_of (entry-view es next n (Some x) at)
+
+  pub root_known : (eq : K → K → Bool) (es : List (ℕ × Node K D)) (next : ℕ) → IsLinked eq es next → (n : ℕ) → n ≡ 1 → None ≡ node_at es n → ⊥
+  root_known eq es next linked n e none = false≢true (ap is_some none ∙ sym (known-view es next n) ∙ subst (IsKnown (keyed_of es next)) (sym e) linked.tree.root.0)
+
+  -- ---- a write of an item
+  pub same_chained : (at at' : ℕ → Option (Node K D)) → ((f : Option (Node K D) → Option ℕ) → ((n : Node K D) (w : D) → f (Some (record n { item = w })) ≡ f (Some n)) → (q : ℕ) → f (at' q) ≡ f (at q)) → IsChained at → IsChained at'
+  same_chained at at' h chained =
+      subst (λ f. Linked f (first_in at') (after_in at') (before_in at')) (λ i q. sym (h (λ o. option_map (λ w. w.0) (place_of (option_map entry_of o))) (λ n w. refl) q) i)
+      (subst (λ f. Linked (parent_in at) f (after_in at') (before_in at')) (λ i q. sym (h (λ o. links_first (option_map links_of o)) (λ n w. refl) q) i)
+      (subst (λ f. Linked (parent_in at) (first_in at) f (before_in at')) (λ i q. sym (h (λ o. links_after (option_map links_of o)) (λ n w. refl) q) i)
+      (subst (λ f. Linked (parent_in at) (first_in at) (after_in at) f) (λ i q. sym (h before_of (λ n w. refl) q) i) chained)))
+
+  pub IsLinked-write : (eq : K → K → Bool) (m n : BTreeMap ℕ (Node K D)) (next k : ℕ) (v : Node K D) (w : D) → Some v ≡ node_at m.entries k → WritesThrough nat_cmp (nat_cmp k) m (record v { item = w }) n → IsLinked eq m.entries next → IsLinked eq n.entries next
+  IsLinked-write eq m n next k v w at h linked =
+      let keeps : (f : Option (Node K D) → Option ℕ) → ((x : Node K D) (d : D) → f (Some (record x { item = d })) ≡ f (Some x)) → (q : ℕ) → f (node_at n.entries q) ≡ f (node_at m.entries q) =
+      λ f e. write-keeps m n next k v w at h f (e v w) in
+      record {
+        tree = subst (IsTree eq) (sym (view-write m n next k v w at h)) (IsTree-with_item eq (keyed_of m.entries next) k w linked.tree);
+        chained = same_chained (node_at m.entries) (node_at n.entries) keeps linked.chained;
+        root_alone = keeps (λ o. links_after (option_map links_of o)) (λ x d. refl) 1 ∙ linked.root_alone;
+      }
+
+  -- ---- a root alone
+  pub IsLinked-lone : (eq : K → K → Bool) (m n : BTreeMap ℕ (Node K D)) (v : Node K D) → m.entries ≡ [] → v.place ≡ None → v.first_child ≡ None → v.next_sibling ≡ None → Updates nat_cmp m n 1 (Some v) → IsLinked eq n.entries 2
+  IsLinked-lone eq m n v nil at first_none after_none h =
+      let is : node_at n.entries ≡ with_node (λ _. None) 1 (Some v) = node_at-updated m n 1 (Some v) h ∙ ap (λ (es : List (ℕ × Node K D)). with_node (node_at es) 1 (Some v)) nil in
+      record {
+        tree = subst (IsTree eq) (sym (view-lone m n v nil at h)) (IsTree-lone eq v.item);
+        chained = subst IsChained (sym is) (record {
+          listed = λ p. (
+            [],
+            record {
+              linked = either p (λ o. links_first (option_map links_of o)) refl first_none;
+              once = no_distinct;
+              members = λ q. ((λ h. absurd (false≢true h)), (λ e. absurd (none≢some p (sym (either q (λ o. option_map (λ w. w.0) (place_of (option_map entry_of o))) refl (ap (option_map (λ w. w.0)) at)) ∙ e))));
+            },
+          );
+        });
+        root_alone = ap (λ f. after_in f 1) is ∙ either 1 (λ o. links_after (option_map links_of o)) refl after_none;
+      }
+    where
+      either : (q : ℕ) (f : Option (Node K D) → Option ℕ) → f None ≡ None → f (Some v) ≡ None → f (with_node (λ _. None) 1 (Some v) q) ≡ None
+      either q f e g = elim (q == 1) as (λ b. f (cond b (Some v) None) ≡ None) [ true ↦ g | false ↦ e ]
+
+  -- ---- what a write of one link changes
+  module _ (at : ℕ → Option (Node K D)) where
+    pub parent_keeps : (n : ℕ) (f : Node K D → Node K D) → ((x : Node K D) → (f x).place ≡ x.place) → (q : ℕ) → parent_in (changed at n f) q ≡ parent_in at q
+    parent_keeps n f e = changed-keeps at n f (λ o. option_map (λ w. w.0) (place_of (option_map entry_of o))) (each f e)
+      where
+        each : (f : Node K D → Node K D) → ((x : Node K D) → (f x).place ≡ x.place) → (o : Option (Node K D)) → option_map (λ w. w.0) (place_of (option_map entry_of (option_map f o))) ≡ option_map (λ w. w.0) (place_of (option_map entry_of o))
+        each f e None = refl
+        each f e (Some x) = ap (option_map (λ w. w.0)) (e x)
+
+    pub first_keeps : (n : ℕ) (f : Node K D → Node K D) → ((x : Node K D) → (f x).first_child ≡ x.first_child) → (q : ℕ) → first_in (changed at n f) q ≡ first_in at q
+    first_keeps n f e = changed-keeps at n f (λ o. links_first (option_map links_of o)) (each f e)
+      where
+        each : (f : Node K D → Node K D) → ((x : Node K D) → (f x).first_child ≡ x.first_child) → (o : Option (Node K D)) → links_first (option_map links_of (option_map f o)) ≡ links_first (option_map links_of o)
+        each f e None = refl
+        each f e (Some x) = e x
+
+    pub after_keeps : (n : ℕ) (f : Node K D → Node K D) → ((x : Node K D) → (f x).next_sibling ≡ x.next_sibling) → (q : ℕ) → after_in (changed at n f) q ≡ after_in at q
+    after_keeps n f e = changed-keeps at n f (λ o. links_after (option_map links_of o)) (each f e)
+      where
+        each : (f : Node K D → Node K D) → ((x : Node K D) → (f x).next_sibling ≡ x.next_sibling) → (o : Option (Node K D)) → links_after (option_map links_of (option_map f o)) ≡ links_after (option_map links_of o)
+        each f e None = refl
+        each f e (Some x) = e x
+
+    pub before_keeps : (n : ℕ) (f : Node K D → Node K D) → ((x : Node K D) → (f x).previous_sibling ≡ x.previous_sibling) → (q : ℕ) → before_in (changed at n f) q ≡ before_in at q
+    before_keeps n f e = changed-keeps at n f before_of (each f e)
+      where
+        each : (f : Node K D → Node K D) → ((x : Node K D) → (f x).previous_sibling ≡ x.previous_sibling) → (o : Option (Node K D)) → before_of (option_map f o) ≡ before_of o
+        each f e None = refl
+        each f e (Some x) = e x
+
+    pub entry_keeps : (n : ℕ) (f : Node K D → Node K D) → ((x : Node K D) → entry_of (f x) ≡ entry_of x) → (q : ℕ) → option_map entry_of (changed at n f q) ≡ option_map entry_of (at q)
+    entry_keeps n f e = changed-keeps at n f (option_map entry_of) (each f e)
+      where
+        each : (f : Node K D → Node K D) → ((x : Node K D) → entry_of (f x) ≡ entry_of x) → (o : Option (Node K D)) → option_map entry_of (option_map f o) ≡ option_map entry_of o
+        each f e None = refl
+        each f e (Some x) = ap (λ (y : Entry K D). Some y) (e x)
+
+    pub some_node : (n : ℕ) (f : Node K D → Node K D) (q : ℕ) → is_some (changed at n f q) ≡ is_some (at q)
+    some_node n f = changed-keeps at n f is_some (mapped-some f)
+
+    pub with_first-here : (n : ℕ) (o : Option ℕ) → IsSome (at n) → first_in (with_first at n o) n ≡ o
+    with_first-here n o h = ap (λ v. links_first (option_map links_of v)) (changed-here at n (λ x. record x { first_child = o })) ∙ each (at n) h
+      where
+        each : (v : Option (Node K D)) → IsSome v → links_first (option_map links_of (option_map {T = Node K D} (λ x. record x { first_child = o }) v)) ≡ o
+        each None h = absurd (false≢true h)
+        each (Some x) h = refl
+
+    pub with_first-other : (n : ℕ) (o : Option ℕ) (q : ℕ) → q ≢ n → first_in (with_first at n o) q ≡ first_in at q
+    with_first-other n o q ne = ap (λ v. links_first (option_map links_of v)) (changed-other at n (λ x. record x { first_child = o }) q ne)
+
+    pub with_after-here : (n : ℕ) (o : Option ℕ) → IsSome (at n) → after_in (with_after at n o) n ≡ o
+    with_after-here n o h = ap (λ v. links_after (option_map links_of v)) (changed-here at n (λ x. record x { next_sibling = o })) ∙ each (at n) h
+      where
+        each : (v : Option (Node K D)) → IsSome v → links_after (option_map links_of (option_map {T = Node K D} (λ x. record x { next_sibling = o }) v)) ≡ o
+        each None h = absurd (false≢true h)
+        each (Some x) h = refl
+
+    pub with_after-other : (n : ℕ) (o : Option ℕ) (q : ℕ) → q ≢ n → after_in (with_after at n o) q ≡ after_in at q
+    with_after-other n o q ne = ap (λ v. links_after (option_map links_of v)) (changed-other at n (λ x. record x { next_sibling = o }) q ne)
+
+    pub with_before-here : (n : ℕ) (o : Option ℕ) → IsSome (at n) → before_in (with_before at n o) n ≡ o
+    with_before-here n o h = ap before_of (changed-here at n (λ x. record x { previous_sibling = o })) ∙ each (at n) h
+      where
+        each : (v : Option (Node K D)) → IsSome v → before_of (option_map {T = Node K D} (λ x. record x { previous_sibling = o }) v) ≡ o
+        each None h = absurd (false≢true h)
+        each (Some x) h = refl
+
+    pub with_before-other : (n : ℕ) (o : Option ℕ) (q : ℕ) → q ≢ n → before_in (with_before at n o) q ≡ before_in at q
+    with_before-other n o q ne = ap before_of (changed-other at n (λ x. record x { previous_sibling = o }) q ne)
+
+  -- ---- a link back
+  module _ (at : ℕ → Option (Node K D)) where
+    pub back_entry : (m o : Option ℕ) (q : ℕ) → option_map entry_of (led_back at m o q) ≡ option_map entry_of (at q)
+    back_entry None o q = refl
+    back_entry (Some m) o q = entry_keeps at m (λ x. record x { previous_sibling = o }) (λ x. refl) q
+
+    pub back_parent : (m o : Option ℕ) (q : ℕ) → parent_in (led_back at m o) q ≡ parent_in at q
+    back_parent m o q = ap (λ v. option_map (λ w. w.0) (place_of v)) (back_entry m o q)
+
+    pub back_first : (m o : Option ℕ) (q : ℕ) → first_in (led_back at m o) q ≡ first_in at q
+    back_first None o q = refl
+    back_first (Some m) o q = first_keeps at m (λ x. record x { previous_sibling = o }) (λ x. refl) q
+
+    pub back_after : (m o : Option ℕ) (q : ℕ) → after_in (led_back at m o) q ≡ after_in at q
+    back_after None o q = refl
+    back_after (Some m) o q = after_keeps at m (λ x. record x { previous_sibling = o }) (λ x. refl) q
+
+    pub back_here : (m o : Option ℕ) (q : ℕ) → m ≡ Some q → IsSome (at q) → before_in (led_back at m o) q ≡ o
+    back_here None o q e h = absurd (none≢some q e)
+    back_here (Some m) o q e h = ap (λ v. before_in (with_before at v o) q) (same_some m q e) ∙ with_before-here at q o h
+
+    pub back_other : (m o : Option ℕ) (q : ℕ) → m ≢ Some q → before_in (led_back at m o) q ≡ before_in at q
+    back_other None o q ne = refl
+    back_other (Some m) o q ne = with_before-other at m o q (λ e. ne (ap (λ (x : ℕ). Some x) (sym e)))
+
+  -- ---- a new first child
+  module _ (eq : K → K → Bool) (laws : IsEquivalence eq) (es fs : List (ℕ × Node K D)) (next p : ℕ) (k : K) (v : Node K D) (linked : IsLinked eq es next)
+      (known_p : IsSome (node_at es p)) (free : child (eq k) (keyed_of es next) p ≡ None) (place_v : v.place ≡ Some (p, k)) (first_v : v.first_child ≡ None)
+      (after_v : v.next_sibling ≡ first_in (node_at es) p) (before_v : v.previous_sibling ≡ None)
+      (is : node_at fs ≡ put_first (with_node (node_at es) next (Some v)) p next (first_in (node_at es) p)) where
+    abbrev at0 : ℕ → Option (Node K D)
+    at0 = node_at es
+
+    abbrev at1 : ℕ → Option (Node K D)
+    at1 = with_node at0 next (Some v)
+
+    kept_entry : (q : ℕ) → option_map entry_of (put_first at1 p next (first_in at0 p) q) ≡ option_map entry_of (at1 q)
+    kept_entry q = back_entry (with_first at1 p (Some next)) (first_in at0 p) (Some next) q ∙ entry_keeps at1 p (λ x. record x { first_child = Some next }) (λ x. refl) q
+
+    pub keyed-added : keyed_of fs (next + 1) ≡ add (keyed_of es next) p k v.item
+    keyed-added = view-add es fs next p k v place_v (λ q. ap (λ f. option_map entry_of (f q)) is ∙ kept_entry q)
+
+    pub IsLinked-added : IsLinked eq fs (next + 1)
+    IsLinked-added =
+        let below : (q : ℕ) → IsSome (at0 q) → q ≢ next = λ q h e. omega (arith, (linked.tree.numbered q (known-view es next q ∙ h)).1, e) in
+        let child_below : (q r : ℕ) → parent_in at0 q ≡ Some r → IsSome (at0 q) = λ q r e. sym (known-view es next q) ∙ known_from_parent (keyed_of es next) q r (ap (λ f. f q) (parent-view es next) ∙ e) in
+        let gone : at0 next ≡ None = nothing (at0 next) (λ h. below next h refl) in
+        let here1 : at1 next ≡ Some v = with_node-here at0 next (Some v) in
+        let other1 : (q : ℕ) → q ≢ next → at1 q ≡ at0 q = with_node-other at0 next (Some v) in
+        let head : (q : ℕ) → first_in at0 p ≡ Some q → IsSome (at0 q) = λ q e. child_below q p (first_child_of linked.chained p q e).0 in
+        let mid : ℕ → Option (Node K D) = with_first at1 p (Some next) in
+        let known1 : (q : ℕ) → IsSome (at0 q) → IsSome (at1 q) = λ q h. ap is_some (other1 q (below q h)) ∙ h in
+        record {
+          tree = subst (IsTree eq) (sym keyed-added) (IsTree-add eq laws (keyed_of es next) p k v.item linked.tree (known-view es next p ∙ known_p) free);
+          chained = subst IsChained (sym is) (Linked-put next p linked.chained
+              (λ q e. false≢true (sym (ap is_some gone) ∙ child_below next q e))
+              (ap (λ o. option_map (λ w. w.0) (place_of o)) (kept_entry next ∙ ap (option_map entry_of) here1) ∙ ap (option_map (λ w. w.0)) place_v)
+              (λ q ne. ap (λ o. option_map (λ w. w.0) (place_of o)) (kept_entry q ∙ ap (option_map entry_of) (other1 q ne)))
+              (back_first mid (first_in at0 p) (Some next) p ∙ with_first-here at1 p (Some next) (known1 p known_p))
+              (λ q ne. back_first mid (first_in at0 p) (Some next) q ∙ with_first-other at1 p (Some next) q ne
+              ∙ elim (cases_eq q next) [
+                | inl e ↦ subst (λ x. first_in at1 x ≡ first_in at0 x) (sym e) (ap (λ o. links_first (option_map links_of o)) here1 ∙ first_v ∙ sym (ap (λ o. links_first (option_map links_of o)) gone))
+                | inr e ↦ ap (λ o. links_first (option_map links_of o)) (other1 q e)
+              ])
+              (back_after mid (first_in at0 p) (Some next) next ∙ after_keeps at1 p (λ x. record x { first_child = Some next }) (λ x. refl) next ∙ ap (λ o. links_after (option_map links_of o)) here1 ∙ after_v)
+              (λ q ne. back_after mid (first_in at0 p) (Some next) q ∙ after_keeps at1 p (λ x. record x { first_child = Some next }) (λ x. refl) q ∙ ap (λ o. links_after (option_map links_of o)) (other1 q ne))
+              (back_other mid (first_in at0 p) (Some next) next (λ e. below next (head next e) refl) ∙ before_keeps at1 p (λ x. record x { first_child = Some next }) (λ x. refl) next ∙ ap before_of here1 ∙ before_v)
+              (λ q ne e. back_here mid (first_in at0 p) (Some next) q e (some_node at1 p (λ x. record x { first_child = Some next }) q ∙ known1 q (head q e)))
+              (λ q ne e. back_other mid (first_in at0 p) (Some next) q e ∙ before_keeps at1 p (λ x. record x { first_child = Some next }) (λ x. refl) q ∙ ap before_of (other1 q ne)));
+          root_alone = ap (λ f. after_in f 1) is ∙ back_after mid (first_in at0 p) (Some next) 1 ∙ after_keeps at1 p (λ x. record x { first_child = Some next }) (λ x. refl) 1
+              ∙ ap (λ o. links_after (option_map links_of o)) (other1 1 (below 1 (sym (known-view es next 1) ∙ linked.tree.root.0))) ∙ linked.root_alone;
+        }
+      where
+        nothing : (o : Option (Node K D)) → (IsSome o → ⊥) → o ≡ None
+        nothing None h = refl
+        nothing (Some x) h = absurd (h refl)

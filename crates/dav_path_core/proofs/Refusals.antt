@@ -1,0 +1,134 @@
+-- Which refusal the definitions of the tree's calls give.
+use Rattle.std.proofs.Common.{◌≡◌, ◌≢◌, ◌==◌, ◌||◌, ◌&&◌, ℕ, Bool, is_some, IsSome, true, false, cond, not, Some, None, Option, refl, ap, sym, ◌∙◌, ◌⊎◌, inl, inr}
+use Rattle.std.specs.Option.{option_map}
+use Rattle.std.proofs.lemmas.Bool.{cases_Bool, eq-eqb, ne_eqb, false≢true, true≢false}
+use Rattle.dav_path_core.specs.declared.errors.FsError.TheVariants.{Exists, NotFound, Forbidden}
+use Rattle.dav_path_core.specs.Keyed.{Keyed, Leads, root, up, entry, place, parent, child, has_child, delete_refusal, cut_refusal, move_refusal, is_kept, is_under, IsKnown, IsChild, IsTree}
+use Rattle.dav_path_core.proofs.Trees.{none≢some, child-none, child-some, none_from_is_some}
+use Rattle.dav_path_core.proofs.KeyedCuts.{parent_child}
+
+both_left : (a b : Bool) → (a && b) ≡ true → a ≡ true
+both_left true b h = refl
+both_left false b h = h
+
+both_right : (a b : Bool) → (a && b) ≡ true → b ≡ true
+both_right true b h = h
+both_right false b h = absurd (false≢true h)
+
+neither_left : (a b : Bool) → (a || b) ≡ false → a ≡ false
+neither_left true b h = absurd (true≢false h)
+neither_left false b h = refl
+
+pub neither_right : (a b : Bool) → (a || b) ≡ false → b ≡ false
+neither_right true b h = absurd (true≢false h)
+neither_right false b h = h
+
+module _ {K D : Type 0} (t : Keyed K D) where
+  -- a node with no parent is the root
+  top_leads : {n : ℕ} → Leads (parent t) n → place t n ≡ None → n ≡ 1
+  top_leads root e = refl
+  top_leads (up {p = p} f l) e = absurd (none≢some p (sym (ap (option_map (λ q. q.0)) e) ∙ f))
+
+  pub no_place_root : (eq : K → K → Bool) → IsTree eq t → (n : ℕ) → IsKnown t n → place t n ≡ None → n ≡ 1
+  no_place_root eq tree n known e = top_leads (tree.attached n known) e
+
+  pub has_child-true : (n m : ℕ) → parent t m ≡ Some n → has_child t n ≡ true
+  has_child-true n m e =
+      elim (child (λ _. true) t n) as (λ o. child (λ _. true) t n ≡ o → is_some o ≡ true) [
+        | None ↦ λ none. let w = parent_child (entry t m) n e in absurd (true≢false (child-none t (λ _. true) n none m w.0 w.1))
+        | Some c ↦ λ some. refl
+      ] refl
+
+  pub has_child-false : (n : ℕ) → ((m : ℕ) → parent t m ≢ Some n) → has_child t n ≡ false
+  has_child-false n alone =
+      elim (child (λ _. true) t n) as (λ o. child (λ _. true) t n ≡ o → is_some o ≡ false) [
+        | None ↦ λ none. refl
+        | Some c ↦ λ some. absurd (alone c (ap (option_map (λ q. q.0)) (child-some t (λ _. true) n c some).1))
+      ] refl
+
+  module _ (n : ℕ) where
+    pub delete-unknown : is_some (entry t n) ≡ false → delete_refusal t n ≡ Some NotFound
+    delete-unknown h = ap (λ b. cond b (cond ((n == 1) || has_child t n) (Some Forbidden) None) (Some NotFound)) h
+
+    delete-known : IsKnown t n → (b : Bool) → ((n == 1) || has_child t n) ≡ b → delete_refusal t n ≡ cond b (Some Forbidden) None
+    delete-known h b e = ap (λ b. cond b (cond ((n == 1) || has_child t n) (Some Forbidden) None) (Some NotFound)) h ∙ ap (λ b. cond b (Some Forbidden) None) e
+
+    pub delete-root : IsKnown t n → n ≡ 1 → delete_refusal t n ≡ Some Forbidden
+    delete-root h e = delete-known h true (ap (λ b. b || has_child t n) (eq-eqb n 1 e))
+
+    pub delete-parent : IsKnown t n → has_child t n ≡ true → delete_refusal t n ≡ Some Forbidden
+    delete-parent h e = delete-known h true (ap (λ b. (n == 1) || b) e ∙ either (n == 1))
+      where
+        either : (a : Bool) → (a || true) ≡ true
+        either true = refl
+        either false = refl
+
+    pub delete-leaf : IsKnown t n → n ≢ 1 → has_child t n ≡ false → delete_refusal t n ≡ None
+    delete-leaf h ne e = delete-known h false (ap (λ b. b || has_child t n) (ne_eqb n 1 ne) ∙ e)
+
+    pub cut-unknown : is_some (entry t n) ≡ false → cut_refusal t n ≡ Some NotFound
+    cut-unknown h = ap (λ b. cond b (cond (n == 1) (Some Forbidden) None) (Some NotFound)) h
+
+    pub cut-root : IsKnown t n → n ≡ 1 → cut_refusal t n ≡ Some Forbidden
+    cut-root h e = ap (λ b. cond b (cond (n == 1) (Some Forbidden) None) (Some NotFound)) h ∙ ap (λ b. cond b (Some Forbidden) None) (eq-eqb n 1 e)
+
+    pub cut-none : IsKnown t n → n ≢ 1 → cut_refusal t n ≡ None
+    cut-none h ne = ap (λ b. cond b (cond (n == 1) (Some Forbidden) None) (Some NotFound)) h ∙ ap (λ b. cond b (Some Forbidden) None) (ne_eqb n 1 ne)
+
+  -- ---- of a move
+  module _ (eq : K → K → Bool) (n p : ℕ) (k : K) (overwrite : Bool) where
+    pub move-unknown : (is_some (entry t n) && is_some (entry t p)) ≡ false → move_refusal eq t n p k overwrite ≡ Some NotFound
+    move-unknown h = ap (λ b. cond b (cond (is_kept t overwrite (child (eq k) t p)) (Some Exists) (cond ((n == 1) || is_under t n p) (Some Forbidden) None)) (Some NotFound)) h
+
+    module _ (known : (is_some (entry t n) && is_some (entry t p)) ≡ true) where
+      move-known : move_refusal eq t n p k overwrite ≡ cond (is_kept t overwrite (child (eq k) t p)) (Some Exists) (cond ((n == 1) || is_under t n p) (Some Forbidden) None)
+      move-known = ap (λ b. cond b (cond (is_kept t overwrite (child (eq k) t p)) (Some Exists) (cond ((n == 1) || is_under t n p) (Some Forbidden) None)) (Some NotFound)) known
+
+      pub move-taken : is_kept t overwrite (child (eq k) t p) ≡ true → move_refusal eq t n p k overwrite ≡ Some Exists
+      move-taken h = move-known ∙ ap (λ b. cond b (Some Exists) (cond ((n == 1) || is_under t n p) (Some Forbidden) None)) h
+
+      module _ (open_place : is_kept t overwrite (child (eq k) t p) ≡ false) where
+        pub move-open : (b : Bool) → ((n == 1) || is_under t n p) ≡ b → move_refusal eq t n p k overwrite ≡ cond b (Some Forbidden) None
+        move-open b h = move-known ∙ ap (λ b. cond b (Some Exists) (cond ((n == 1) || is_under t n p) (Some Forbidden) None)) open_place ∙ ap (λ b. cond b (Some Forbidden) None) h
+
+        pub move-root : n ≡ 1 → move_refusal eq t n p k overwrite ≡ Some Forbidden
+        move-root e = move-open true (ap (λ b. b || is_under t n p) (eq-eqb n 1 e))
+
+        pub move-below : n ≢ 1 → is_under t n p ≡ true → move_refusal eq t n p k overwrite ≡ Some Forbidden
+        move-below ne h = move-open true (ap (λ b. b || is_under t n p) (ne_eqb n 1 ne) ∙ h)
+
+        pub move-allowed : n ≢ 1 → is_under t n p ≡ false → move_refusal eq t n p k overwrite ≡ None
+        move-allowed ne h = move-open false (ap (λ b. b || is_under t n p) (ne_eqb n 1 ne) ∙ h)
+
+    -- what a move that nothing refuses has
+    pub record Allowed : Type 0 where
+      pub known : IsKnown t n
+      pub known_parent : IsKnown t p
+      pub replaceable : is_kept t overwrite (child (eq k) t p) ≡ false
+      pub not_root : n ≢ 1
+      pub outside : is_under t n p ≡ false
+
+    some_some : {X : Type 0} (x : X) → Some x ≡ None → ⊥
+    some_some x e = none≢some x (sym e)
+
+    pub allowed : move_refusal eq t n p k overwrite ≡ None → Allowed
+    allowed h =
+        let a = is_some (entry t n) && is_some (entry t p) in
+        let b = is_kept t overwrite (child (eq k) t p) in
+        let c = (n == 1) || is_under t n p in
+        elim (cases_Bool a) [
+          | inl at ↦ elim (cases_Bool b) [
+            | inl bt ↦ absurd (some_some Exists (sym (move-taken at bt) ∙ h))
+            | inr bf ↦ elim (cases_Bool c) [
+              | inl ct ↦ absurd (some_some Forbidden (sym (move-open at bf true ct) ∙ h))
+              | inr cf ↦ record {
+                known = both_left _ _ at;
+                known_parent = both_right _ _ at;
+                replaceable = bf;
+                not_root = λ e. true≢false (sym (eq-eqb n 1 e) ∙ neither_left _ _ cf);
+                outside = neither_right _ _ cf;
+              }
+            ]
+          ]
+          | inr af ↦ absurd (some_some NotFound (sym (move-unknown af) ∙ h))
+        ]

@@ -1,0 +1,112 @@
+-- A walk along the children of a node.
+use Rattle.std.proofs.Common.{◌≡◌, ℕ, zero, suc, ◌<◌, ◌≤◌, ◌||◌, Bool, true, false, ◌⊎◌, List, [], ◌∷◌, length, Some, None, Option, refl, ap, sym, ◌∙◌, subst, inl, inr, arith, eqb, Result, Ok, Err}
+use Rattle.std.specs.Option.{option_map, ok_or}
+use Rattle.std.specs.List.{list_any}
+use Rattle.std.specs.Map.{IsKeyTest}
+use Rattle.std.proofs.lemmas.Bool.{eq-eqb, eqb-true, or_cases, false≢true, true≢false}
+use Rattle.std.proofs.lemmas.Map.Steps.{length-le_from_distinct_below}
+use Rattle.dav_path_core.specs.Keyed.{Keyed, place, parent, child, IsChild, IsKnown, IsTree, Leads, root, up}
+use Rattle.dav_path_core.proofs.Trees.{none≢some, same_some, known_from_parent, child-some, child-only}
+use Rattle.dav_path_core.proofs.Chains.{in_here, in_later}
+use Rattle.dav_path_core.specs.Held.{Held, Siblings, done, more, first, after, IsHeld}
+
+-- how many are left, looking at no more than m
+abbrev pub left : (ℕ → Option ℕ) → ℕ → Option ℕ → ℕ
+left f zero o = 0
+left f (suc m) None = 0
+left f (suc m) (Some n) = suc (left f m (f n))
+
+left-length : {f : ℕ → Option ℕ} {o : Option ℕ} {ks : List ℕ} (m : ℕ) → Siblings f o ks → length ks ≤ m → left f m o ≡ length ks
+left-length zero done h = refl
+left-length (suc m) done h = refl
+left-length zero (more s) h = absurd (omega arith)
+left-length (suc m) (more s) h = ap suc (left-length m s (omega arith))
+
+split : {f : ℕ → Option ℕ} {n : ℕ} {ks : List ℕ} → Siblings f (Some n) ks → (ns : List ℕ) × (ks ≡ n ∷ ns) × Siblings f (f n) ns
+split (more {ns = ns} s) = (ns, refl, s)
+
+ended : {f : ℕ → Option ℕ} {ks : List ℕ} → Siblings f None ks → ks ≡ []
+ended done = refl
+
+place_under : {K : Type 0} (o : Option (ℕ × K)) (p : ℕ) (w : ℕ × K) → option_map (λ q. q.0) o ≡ Some p → o ≡ Some w → o ≡ Some (p, w.1)
+place_under o p w h e = e ∙ ap (λ (n : ℕ). Some (n, w.1)) (same_some w.0 p (sym (ap (option_map (λ q. q.0)) e) ∙ h))
+
+module _ {K D : Type 0} where
+  leads_known : (eq : K → K → Bool) (t : Keyed K D) → IsTree eq t → (n : ℕ) → Leads (parent t) n → IsKnown t n
+  leads_known eq t tree n root = tree.root.0
+  leads_known eq t tree n (up {p = p} e l) = known_from_parent t n p e
+
+  above_known : (eq : K → K → Bool) (t : Keyed K D) → IsTree eq t → (n p : ℕ) → parent t n ≡ Some p → Leads (parent t) n → IsKnown t p
+  above_known eq t tree n p e root = absurd (none≢some p (sym (ap (option_map (λ q. q.0)) tree.root.1) ∙ e))
+  above_known eq t tree n p e (up {p = r} f l) = subst (IsKnown t) (same_some r p (sym f ∙ e)) (leads_known eq t tree r l)
+
+  -- an unknown number has no children
+  pub parent_known : (eq : K → K → Bool) (t : Keyed K D) → IsTree eq t → (n p : ℕ) → parent t n ≡ Some p → IsKnown t p
+  parent_known eq t tree n p e = above_known eq t tree n p e (tree.attached n (known_from_parent t n p e))
+
+  pub child_here : (t : Keyed K D) (n p r : ℕ) (k : K) → parent t n ≡ Some p → place t n ≡ Some (r, k) → IsChild t p k n
+  child_here t n p r k h e = place_under (place t n) p (r, k) h e
+
+  -- a walk under p that stands at a number, after each child that it has passed was refused
+  pub record Walk (t : Held K D) (p : ℕ) (Refused : K → Type 0) (at : Option ℕ) : Type 0 where
+    pub rest : List ℕ
+    pub linked : Siblings (after t) at rest
+    pub fits : length rest ≤ t.keyed.next
+    pub inside : (n : ℕ) → list_any (eqb n) rest ≡ true → parent t.keyed n ≡ Some p
+    pub passed : (n : ℕ) (k : K) → IsChild t.keyed p k n → Refused k ⊎ (list_any (eqb n) rest ≡ true)
+
+  module _ (t : Held K D) (p : ℕ) (Refused : K → Type 0) where
+    pub walk_start : (eq : K → K → Bool) → IsHeld eq t → IsKnown t.keyed p → Walk t p Refused (first t p)
+    walk_start eq held known =
+        let w = held.listed p known in
+        record {
+          rest = w.0;
+          linked = w.1.linked;
+          fits = length-le_from_distinct_below w.0 t.keyed.next w.1.once (λ q h. (held.tree.numbered q (known_from_parent t.keyed q p ((w.1.members q).0 h))).1);
+          inside = λ n h. (w.1.members n).0 h;
+          passed = λ n k e. inr ((w.1.members n).1 (ap (option_map (λ q. q.0)) e));
+        }
+
+    module _ (id : ℕ) (walk : Walk t p Refused (Some id)) where
+      pub walk_here : parent t.keyed id ≡ Some p
+      walk_here = let s = split walk.linked in walk.inside id (ap (list_any (eqb id)) s.1 ∙ in_here id s.0)
+
+      pub walk_next : ((k : K) → IsChild t.keyed p k id → Refused k) → Walk t p Refused (after t id)
+      walk_next refuses =
+          let s = split walk.linked in
+          record {
+            rest = s.0;
+            linked = s.2;
+            fits = omega (arith, walk.fits, ap length s.1);
+            inside = λ n h. walk.inside n (ap (list_any (eqb n)) s.1 ∙ in_later n id s.0 h);
+            passed = λ n k e. elim (walk.passed n k e) [
+              | inl r ↦ inl r
+              | inr h ↦ elim (or_cases (eqb n id) (list_any (eqb n) s.0) (sym (ap (list_any (eqb n)) s.1) ∙ h)) [
+                | inl is ↦ inl (refuses k (subst (λ v. IsChild t.keyed p k v) (eqb-true n id is) e))
+                | inr later ↦ inr later
+              ]
+            ];
+          }
+
+      walk_smaller : left (after t) t.keyed.next (after t id) < left (after t) t.keyed.next (Some id)
+      walk_smaller =
+          let s = split walk.linked in
+          omega (arith, left-length t.keyed.next walk.linked walk.fits, left-length t.keyed.next s.2 (omega (arith, walk.fits, ap length s.1)), ap length s.1)
+
+      pub smaller : (o b : Option ℕ) → o ≡ Some id → after t id ≡ b → left (after t) t.keyed.next b < left (after t) t.keyed.next o
+      smaller o b e f = subst (λ v. left (after t) t.keyed.next v < left (after t) t.keyed.next o) f (subst (λ v. left (after t) t.keyed.next (after t id) < left (after t) t.keyed.next v) (sym e) walk_smaller)
+
+    pub walk_end : Walk t p Refused None → (n : ℕ) (k : K) → IsChild t.keyed p k n → Refused k
+    walk_end walk n k e = elim (walk.passed n k e) [ inl r ↦ r | inr h ↦ absurd (false≢true (ap (list_any (eqb n)) (sym (ended walk.linked)) ∙ h)) ]
+
+  -- a search that gives some child which passes, and none only where none does, is a look-up where the test is of one key
+  module _ (eq : K → K → Bool) (t : Keyed K D) (p : ℕ) (tree : IsTree eq t) (Gives : K → Bool → Type 0) {E : Type 0} (error : E) (test : K → Bool) (one : IsKeyTest eq test) (pure : (k : K) (b : Bool) → Gives k b → b ≡ test k) where
+    pub search-found : (n : ℕ) (k : K) → IsChild t p k n → Gives k true → ◌≡◌ {A = Result ℕ E} (Ok n) (ok_or (child test t p) error)
+    search-found n k e says = ap (λ o. ok_or o error) (sym (child-only t test p eq tree one n k e (sym (pure k true says))))
+
+    pub search-none : ((n : ℕ) (k : K) → IsChild t p k n → Gives k false) → ◌≡◌ {A = Result ℕ E} (Err error) (ok_or (child test t p) error)
+    search-none none =
+        elim (child test t p) as (λ o. child test t p ≡ o → ◌≡◌ {A = Result ℕ E} (Err error) (ok_or o error)) [
+          | None ↦ λ is. refl
+          | Some m ↦ λ is. let w = child-some t test p m is in absurd (true≢false (sym w.2 ∙ sym (pure w.0 false (none m w.0 w.1))))
+        ] refl

@@ -1,0 +1,34 @@
+use Rattle.std.proofs.Common.{◌≡◌, ◌<◌, ◌-◌, ◌+◌, ℕ, suc, ap, sym, ◌∙◌, arith}
+use Rattle.dav_path_core.specs.Keyed.{meets, parent}
+use Rattle.dav_path_core.proofs.KeyedDepth.{meets-here, meets-up, meets-top}
+use Rattle.dav_path_core.proofs.tree.Tree.is_below.Goals as goal
+
+one_left : (n m i : ℕ) → m ≡ n → i < m → n - i ≡ suc (n - (i + 1))
+one_left n m i e h = omega (arith, e, h)
+
+pub loop-turn-init : goal.loop-turn-init
+loop-turn-init g c =
+    let e : c.args.self.now.keyed.next ≡ c.args.self.now.keyed.next - 0 = omega arith in
+    ap (λ m. meets (parent c.args.self.now.keyed) m c.args.id c.args.from) e
+
+pub returns-then-at-id : goal.returns-then-at-id
+returns-then-at-id g c =
+    let e = one_left c.args.self.now.keyed.next c.self.inside.next c.loop-turn._turn (ap (λ t. t.keyed.next) c.self.view_is) c.loop-turn-test.true in
+    sym (c.loop-turn.invariant ∙ ap (λ m. meets (parent c.args.self.now.keyed) m c.args.id c.loop-turn.at) e ∙ meets-here (parent c.args.self.now.keyed) _ c.args.id c.loop-turn.at c.if-at-id.true)
+
+pub loop-turn-preserved : goal.loop-turn-preserved
+loop-turn-preserved g c =
+    let e = one_left c.args.self.now.keyed.next c.self.inside.next c.loop-turn._turn (ap (λ t. t.keyed.next) c.self.view_is) c.loop-turn-test.true in
+    c.loop-turn.invariant ∙ ap (λ m. meets (parent c.args.self.now.keyed) m c.args.id c.loop-turn.at) e
+    ∙ meets-up (parent c.args.self.now.keyed) _ c.args.id c.loop-turn.at c.in-Some.parent c.if-at-id.false (sym c.in-Some.ensures)
+
+pub returns-in-None : goal.returns-in-None
+returns-in-None g c =
+    let e = one_left c.args.self.now.keyed.next c.self.inside.next c.loop-turn._turn (ap (λ t. t.keyed.next) c.self.view_is) c.loop-turn-test.true in
+    sym (c.loop-turn.invariant ∙ ap (λ m. meets (parent c.args.self.now.keyed) m c.args.id c.loop-turn.at) e
+    ∙ meets-top (parent c.args.self.now.keyed) _ c.args.id c.loop-turn.at c.if-at-id.false (sym c.in-None.ensures))
+
+pub returns : goal.returns
+returns g c =
+    let e : c.args.self.now.keyed.next - c.loop-turn._turn ≡ 0 = omega (arith, ap (λ t. t.keyed.next) c.self.view_is, c.loop-turn-test.false) in
+    sym (c.loop-turn.invariant ∙ ap (λ m. meets (parent c.args.self.now.keyed) m c.args.id c.loop-turn.at) e)

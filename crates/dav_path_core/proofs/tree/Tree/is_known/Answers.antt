@@ -1,0 +1,7 @@
+use Rattle.std.proofs.Common.{ap, sym, ◌∙◌, is_some}
+use Rattle.dav_path_core.specs.Keyed.{entry}
+use Rattle.dav_path_core.proofs.Views.{known-view}
+use Rattle.dav_path_core.proofs.tree.Tree.is_known.Goals as goal
+
+pub returns : goal.returns
+returns g c = c.contains_key.ensures ∙ sym (known-view c.self.inside.nodes.entries c.self.inside.next c.args.id) ∙ ap (λ t. is_some (entry t.keyed c.args.id)) c.self.view_is

@@ -1,0 +1,21 @@
+use Rattle.std.proofs.Common.{◌≡◌, ◌&&◌, ap, sym, ◌∙◌, Some, None, Option, Bool, true, false, is_some, refl, Ok, Err}
+use Rattle.std.specs.Option.{ok_or}
+use Rattle.std.specs.Result.{result_ok}
+use Rattle.dav_path_core.specs.Keyed.{entry, is_kept}
+use Rattle.dav_path_core.proofs.Refusals.{move-allowed}
+use Rattle.dav_path_core.proofs.tree.Tree.place_for.Goals as goal
+
+ok-ok_or : {A E : Type 0} (o : Option A) (e : E) → result_ok (ok_or o e) ≡ o
+ok-ok_or None e = refl
+ok-ok_or (Some x) e = refl
+
+pub returns : goal.returns
+returns g c =
+    let taken = c.ok-taken.ensures.value ∙ ap result_ok c.get_child.ensures ∙ ok-ok_or _ _ in (
+      move-allowed c.args.self.now.keyed g.K.PartialEq.eq c.args.id c.args.new_parent c.args.new_name.now c.args.overwrite
+          (ap (λ b. b && is_some (entry c.args.self.now.keyed c.args.new_parent)) (sym c.if-not-is_known.ensures) ∙ sym c.if-not-is_known-2.ensures)
+          (ap (is_kept c.args.self.now.keyed c.args.overwrite) (sym taken) ∙ sym c.if-is_kept.ensures)
+          c.if-id-eq-ROOT_ID.false
+          (sym c.if-is_below.ensures),
+      taken,
+    )

@@ -1,0 +1,23 @@
+-- Lists of children as links in both directions between numbers (own).
+use Rattle.std.specs.Prelude.{◌≡◌, ℕ, ◌↔◌, Bool, true, List, [], ◌∷◌, Option, Some, None}
+use Rattle.std.specs.List.{list_any, IsDistinct}
+use Rattle.std.proofs.Common.{eqb}
+
+-- n is among ks
+abbrev pub IsIn : ℕ → List ℕ → Type 0
+IsIn n ks = list_any (eqb n) ks ≡ true
+
+-- the links from o on are ks, and each leads back to the one before, the first to b
+abbrev pub Chain : (ℕ → Option ℕ) → (ℕ → Option ℕ) → Option ℕ → Option ℕ → List ℕ → Type 0
+Chain after before b o [] = o ≡ None
+Chain after before b o (n ∷ ns) = (o ≡ Some n) × (before n ≡ b) × Chain after before (Some n) (after n) ns
+
+-- ks are the numbers with the parent p, each once
+pub record IsChainOf (parent first after before : ℕ → Option ℕ) (p : ℕ) (ks : List ℕ) : Type 0 where
+  pub linked : Chain after before None (first p) ks
+  pub once : IsDistinct eqb ks
+  pub members : (n : ℕ) → IsIn n ks ↔ (parent n ≡ Some p)
+
+-- each number has such a list
+pub record Linked (parent first after before : ℕ → Option ℕ) : Type 0 where
+  pub listed : (p : ℕ) → (ks : List ℕ) × IsChainOf parent first after before p ks

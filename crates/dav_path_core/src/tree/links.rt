@@ -1,0 +1,107 @@
+//! Writes of the links between nodes.
+ghost use Rattle.std.specs.Prelude.{◌≡◌, OnOk, OnErr, IfErr};
+ghost use Rattle.dav_path_core.specs.View.{node_at, first_in, with_node, with_first, with_after, with_before, put_first, put_below, closed_up};
+
+use super::Node;
+use crate::errors::{FsError, FsResult};
+use std::collections::BTreeMap;
+
+/// Puts a node at a number. `InsufficientStorage` for want of memory.
+pub(super) fn put_in<K: Drop, D: Drop>(
+    nodes: &mut BTreeMap<u64, Node<K, D>>,
+    id: u64,
+    node: Node<K, D>,
+) -> FsResult<()>
+    ensures ok { OnOk result (node_at nodes.new.entries ≡ with_node (node_at nodes.old.entries) id (Some node)) }
+    ensures err { OnErr result (nodes.new.entries ≡ nodes.old.entries) }
+    ensures error { IfErr result (λ e. e ≡ FsError.InsufficientStorage) }
+{
+    match nodes.insert(id, node) {
+        Ok(_) => Ok(()),
+        Err(_) => Err(FsError::InsufficientStorage),
+    }
+}
+
+/// The first child of a node, `None` for an unknown number too.
+pub(super) fn first_of<K, D>(nodes: &BTreeMap<u64, Node<K, D>>, id: u64) -> Option<u64>
+    ensures { result ≡ first_in (node_at nodes.now.entries) id }
+{
+    match nodes.get(&id) {
+        Some(node) => node.first_child,
+        None => None,
+    }
+}
+
+fn set_first<K, D>(nodes: &mut BTreeMap<u64, Node<K, D>>, id: u64, to: Option<u64>)
+    ensures { node_at nodes.new.entries ≡ with_first (node_at nodes.old.entries) id to }
+{
+    if let Some(node) = nodes.get_mut(&id) {
+        node.first_child = to;
+    }
+}
+
+fn set_next<K, D>(nodes: &mut BTreeMap<u64, Node<K, D>>, id: u64, to: Option<u64>)
+    ensures { node_at nodes.new.entries ≡ with_after (node_at nodes.old.entries) id to }
+{
+    if let Some(node) = nodes.get_mut(&id) {
+        node.next_sibling = to;
+    }
+}
+
+fn set_previous<K, D>(nodes: &mut BTreeMap<u64, Node<K, D>>, id: u64, to: Option<u64>)
+    ensures { node_at nodes.new.entries ≡ with_before (node_at nodes.old.entries) id to }
+{
+    if let Some(node) = nodes.get_mut(&id) {
+        node.previous_sibling = to;
+    }
+}
+
+/// Puts a node before the first child of its parent.
+pub(super) fn put_before<K, D>(
+    nodes: &mut BTreeMap<u64, Node<K, D>>,
+    parent: u64,
+    id: u64,
+    first: Option<u64>,
+)
+    ensures { node_at nodes.new.entries ≡ put_first (node_at nodes.old.entries) parent id first }
+{
+    set_first(nodes, parent, Some(id));
+    if let Some(old) = first {
+        set_previous(nodes, old, Some(id));
+    }
+}
+
+/// Leads the neighbours of a child of `parent` to each other.
+pub(super) fn close_up<K, D>(
+    nodes: &mut BTreeMap<u64, Node<K, D>>,
+    parent: u64,
+    before: Option<u64>,
+    after: Option<u64>,
+)
+    ensures { node_at nodes.new.entries ≡ closed_up (node_at nodes.old.entries) parent before after }
+{
+    match before {
+        Some(id) => set_next(nodes, id, after),
+        None => set_first(nodes, parent, after),
+    }
+    if let Some(id) = after {
+        set_previous(nodes, id, before);
+    }
+}
+
+/// Gives a node its place below `parent`, before the sibling `first`.
+pub(super) fn set_place<K: Drop, D>(
+    nodes: &mut BTreeMap<u64, Node<K, D>>,
+    id: u64,
+    parent: u64,
+    key: K,
+    first: Option<u64>,
+)
+    ensures { node_at nodes.new.entries ≡ put_below (node_at nodes.old.entries) id parent key first }
+{
+    if let Some(node) = nodes.get_mut(&id) {
+        node.place = Some((parent, key));
+        node.next_sibling = first;
+        node.previous_sibling = None;
+    }
+}

@@ -1,11 +1,11 @@
 -- What is left of a keyed tree where a node goes, or a node and all that leads to it.
-use Rattle.std.proofs.Common.{◌≡◌, ◌≢◌, ℕ, ◌<◌, ◌||◌, Bool, true, false, cond, not, ◌⊎◌, Some, None, Option, refl, ap, sym, ◌∙◌, subst, inl, inr, IsSome, is_some}
+use Rattle.std.proofs.Common.{◌≡◌, ◌≢◌, ℕ, Bool, true, false, cond, not, Some, None, Option, refl, ap, sym, ◌∙◌, subst, inl, inr, is_some}
 use Rattle.std.specs.Ordering.{nat_cmp}
 use Rattle.std.specs.Cmp.{nat_cmp_total}
 use Rattle.std.specs.Option.{option_map}
-use Rattle.std.specs.FinMap.{FinMap, get, remove, retain_keys, get-retain_keys, same_map, nat_cmp-IsAntisymmetric}
+use Rattle.std.specs.FinMap.{FinMap, get, remove, get-retain_keys, same_map, nat_cmp-IsAntisymmetric}
 use Rattle.std.proofs.lemmas.Bool.{cases_eq, false≢true, true≢false}
-use Rattle.dav_path_core.specs.Keyed.{Entry, Keyed, Leads, root, up, Under, here, below, entry, place, place_of, parent, child, is_under, has_child, without, cut, IsKnown, IsChild, IsTree}
+use Rattle.dav_path_core.specs.Keyed.{Entry, Keyed, Leads, root, up, Under, here, below, entry, place, place_of, parent, is_under, has_child, without, cut, IsKnown, IsTree}
 use Rattle.dav_path_core.proofs.FinMaps.{get_gone, get_left}
 use Rattle.dav_path_core.proofs.Trees.{none≢some, same_some, none_from_is_some, known_from_parent, known_from_child, child-none, Sets}
 use Rattle.dav_path_core.proofs.KeyedDepth.{is_under-true, known_leads, top}
@@ -14,7 +14,7 @@ use Rattle.dav_path_core.proofs.KeyedDepth.{is_under-true, known_leads, top}
 abbrev pub IsLeaf : {K D : Type 0} → Keyed K D → ℕ → Type 0
 IsLeaf t n = (q : ℕ) → parent t q ≡ Some n → ⊥
 
-same_truth : (a b : Bool) → (a ≡ true → b ≡ true) → (b ≡ true → a ≡ true) → a ≡ b
+pub same_truth : (a b : Bool) → (a ≡ true → b ≡ true) → (b ≡ true → a ≡ true) → a ≡ b
 same_truth true b there back = sym (there refl)
 same_truth false true there back = back refl
 same_truth false false there back = refl
@@ -122,7 +122,7 @@ module _ {K D : Type 0} where
           false≢true (sym h ∙ (is_under-true eq t tree n q known).1 (below e ((is_under-true eq t tree n p (known_leads eq t tree p l)).0 m)))) in
           up (ap (λ o. option_map (λ w. w.0) (place_of o)) (cut-out q h) ∙ e) (Leads-cut l above)
 
-      no_parent : {k : ℕ} → k ≡ 1 → Under (parent t) n k → k ≢ n → ⊥
+      pub no_parent : {k : ℕ} → k ≡ 1 → Under (parent t) n k → k ≢ n → ⊥
       no_parent is here ne = ne refl
       no_parent is (below {p = p} e u) ne = none≢some p (sym (ap (parent t) is ∙ top eq t tree) ∙ e)
 
@@ -167,7 +167,7 @@ module _ {K D : Type 0} where
         rest : IsTree eq (without t m)
         rest = IsTree-without eq t m tree not_first alone
 
-        kept : {k : ℕ} → k ≢ m → Under (parent t) n k → Under (parent (without t m)) n k
+        pub kept : {k : ℕ} → k ≢ m → Under (parent t) n k → Under (parent (without t m)) n k
         kept other here = here
         kept {k = k} other (below {p = p} e u) = below (parent-without t m k other ∙ e) (kept (λ is. alone k (e ∙ ap (λ (x : ℕ). Some x) is)) u)
 

@@ -1,8 +1,8 @@
 -- The way up from a node has fewer numbers than the next number, so looking at that many is enough.
-use Rattle.std.proofs.Common.{◌≡◌, ◌≢◌, ℕ, zero, suc, ◌+◌, ◌<◌, ◌≤◌, ◌||◌, ◌==◌, Bool, true, false, ◌⊎◌, List, [], ◌∷◌, length, Some, None, Option, refl, ap, sym, ◌∙◌, subst, inl, inr, arith, eqb, IsSome, is_some}
+use Rattle.std.proofs.Common.{◌≡◌, ◌≢◌, ℕ, zero, suc, ◌<◌, ◌≤◌, ◌||◌, Bool, true, false, List, [], ◌∷◌, length, Some, None, Option, refl, ap, sym, ◌∙◌, subst, inl, inr, arith, eqb}
 use Rattle.std.specs.Option.{option_map}
 use Rattle.std.specs.List.{list_any, IsDistinct, AllByRecursion}
-use Rattle.std.proofs.lemmas.Bool.{cases_eq, cases_Bool, eq-eqb, ne_eqb, eqb-true, or_cases, false≢true, true≢false}
+use Rattle.std.proofs.lemmas.Bool.{cases_eq, eq-eqb, ne_eqb, eqb-true, or_cases, false≢true}
 use Rattle.std.proofs.lemmas.Map.Steps.{length-le_from_distinct_below}
 use Rattle.dav_path_core.specs.Keyed.{Keyed, Leads, root, up, Under, here, below, meets, is_under, parent, IsKnown, IsTree}
 use Rattle.dav_path_core.proofs.Trees.{none≢some, same_some, known_from_parent}
@@ -61,6 +61,20 @@ module _ (f : ℕ → Option ℕ) (top : f 1 ≡ None) where
   once root = (tt, tt)
   once (up {n = n} e l) = (all_apart n (way l) (λ h. let r = on_way l n h in omega (arith, r.1, depth-same refl r.0 (up e l))), once l)
 
+  one_up : {k p : ℕ} (l : Leads f k) → f k ≡ Some p → (r : Leads f p) × (suc (depth r) ≡ depth l)
+  one_up {p = p} root e = absurd (none≢some p (sym top ∙ e))
+  one_up {p = p} (up {p = q} e' l) e =
+      let is : q ≡ p = same_some q p (sym e' ∙ e) in (subst (Leads f) is l, ap suc (depth-same (sym is) (subst (Leads f) is l) l))
+
+  -- the way from a number is no longer than from one below it
+  above_shorter : {n k : ℕ} → Under f n k → (l : Leads f k) → (r : Leads f n) × (depth r ≤ depth l)
+  above_shorter here l = (l, omega arith)
+  above_shorter (below e u) l = let s = one_up l e in let r = above_shorter u s.0 in (r.0, omega (arith, r.1, s.1))
+
+  -- a number does not lie below itself
+  pub no_cycle : {n p : ℕ} → f n ≡ Some p → Leads f p → Under f n p → ⊥
+  no_cycle e l u = let r = above_shorter u l in omega (arith, r.1, depth-same refl r.0 (up e l))
+
   -- what is met by the relation is met by looking far enough
   pub meets_from_under : {n k : ℕ} (m : ℕ) → Under f n k → (l : Leads f k) → depth l < m → meets f m n k ≡ true
   meets_from_under zero u l h = absurd (omega arith)
@@ -68,13 +82,8 @@ module _ (f : ℕ → Option ℕ) (top : f 1 ≡ None) where
   meets_from_under {n = n} {k = k} (suc m) (below {p = p} e u) l h =
       elim (cases_eq k n) [
         | inl is ↦ meets-here f m n k is
-        | inr ne ↦ let r = next l e in meets-up f m n k p ne e ∙ meets_from_under m u r.0 (omega (arith, r.1, h))
+        | inr ne ↦ let r = one_up l e in meets-up f m n k p ne e ∙ meets_from_under m u r.0 (omega (arith, r.1, h))
       ]
-    where
-      next : {k p : ℕ} (l : Leads f k) → f k ≡ Some p → (r : Leads f p) × (suc (depth r) ≡ depth l)
-      next {p = p} root e = absurd (none≢some p (sym top ∙ e))
-      next {p = p} (up {p = q} e' l) e =
-          let is : q ≡ p = same_some q p (sym e' ∙ e) in (subst (Leads f) is l, ap suc (depth-same (sym is) (subst (Leads f) is l) l))
 
   under_from_meets : {n : ℕ} (m k : ℕ) → meets f m n k ≡ true → Under f n k
   under_from_meets zero k h = absurd (false≢true h)
@@ -96,7 +105,7 @@ module _ {K D : Type 0} (eq : K → K → Bool) (t : Keyed K D) (tree : IsTree e
   known_leads n root = tree.root.0
   known_leads n (up {p = p} e l) = known_from_parent t n p e
 
-  short : (n : ℕ) (l : Leads (parent t) n) → depth l < t.next
+  pub short : (n : ℕ) (l : Leads (parent t) n) → depth l < t.next
   short n l =
       let b = length-le_from_distinct_below (way l) t.next (once (parent t) top l) (λ q h. (tree.numbered q (known_leads q (on_way (parent t) top l q h).0)).1) in
       omega (arith, b, length-way l)

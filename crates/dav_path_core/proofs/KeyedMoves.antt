@@ -1,12 +1,12 @@
 -- A node that is put below another, or moved there, keeps the tree.
-use Rattle.std.proofs.Common.{◌≡◌, ◌≢◌, ℕ, ◌+◌, ◌<◌, ◌==◌, Bool, true, false, cond, ◌⊎◌, Some, None, Option, refl, ap, sym, ◌∙◌, subst, inl, inr, arith, IsSome, is_some}
+use Rattle.std.proofs.Common.{◌≡◌, ◌≢◌, ℕ, ◌==◌, Bool, true, false, cond, Some, None, Option, refl, ap, sym, ◌∙◌, subst, inl, inr, is_some}
 use Rattle.std.specs.Cmp.{IsEquivalence}
 use Rattle.std.specs.Option.{option_map}
 use Rattle.std.proofs.lemmas.Bool.{cases_eq, eq-eqb, false≢true, true≢false}
-use Rattle.dav_path_core.specs.Keyed.{Entry, Keyed, Leads, root, up, Under, here, below, entry, place, place_of, parent, child, is_under, has_child, without, placed, placed_at, moved, moved_over, IsChild, IsKnown, IsTree}
+use Rattle.dav_path_core.specs.Keyed.{Entry, Keyed, Leads, root, up, Under, here, below, entry, place, place_of, parent, child, is_under, without, placed, placed_at, moved, moved_over, IsChild, IsKnown, IsTree}
 use Rattle.dav_path_core.proofs.Trees.{same_some, none≢some, child-none, child-some, child_before, Sets, Sets-insert, known_from_child, known_from_parent}
 use Rattle.dav_path_core.proofs.KeyedDepth.{is_under-true}
-use Rattle.dav_path_core.proofs.KeyedCuts.{not_true, IsLeaf, leaf, Under-mono, IsTree-without, entry-without, apart, parent-without, place-without}
+use Rattle.dav_path_core.proofs.KeyedCuts.{not_true, IsLeaf, Under-mono, IsTree-without, entry-without, apart, parent-without, place-without}
 
 module _ {f g : ℕ → Option ℕ} (n : ℕ) (other : (q : ℕ) → q ≢ n → g q ≡ f q) where
   beside : {r : ℕ} → Leads f r → (Under f n r → ⊥) → Leads g r
@@ -17,7 +17,7 @@ module _ {f g : ℕ → Option ℕ} (n : ℕ) (other : (q : ℕ) → q ≢ n →
   still p at lp root = root
   still p at lp {q = q} (up e l) = elim (cases_eq q n) [ inl is ↦ up (subst (λ v. g v ≡ Some p) (sym is) at) lp | inr ne ↦ up (other q ne ∙ e) (still p at lp l) ]
 
-module _ {K D : Type 0} (eq : K → K → Bool) (laws : IsEquivalence eq) (t : Keyed K D) (n p : ℕ) (k : K) (tree : IsTree eq t) (known : IsKnown t p) (not_root : n ≢ 1) (outside : is_under t n p ≡ false) (free : child (eq k) t p ≡ None) where
+module _ {K D : Type 0} (eq : K → K → Bool) (symm : (a b : K) → eq a b ≡ eq b a) (t : Keyed K D) (n p : ℕ) (k : K) (tree : IsTree eq t) (known : IsKnown t p) (not_root : n ≢ 1) (outside : is_under t n p ≡ false) (free : child (eq k) t p ≡ None) where
   at_entry : (o : Option (Entry K D)) → entry t n ≡ o → IsTree eq (placed_at t n p k o)
   at_entry None at = tree
   at_entry (Some e) at =
@@ -44,7 +44,7 @@ module _ {K D : Type 0} (eq : K → K → Bool) (laws : IsEquivalence eq) (t : K
           | inr first ↦ elim (child_before t u n w s r b m' y) [
             | inl second ↦
                 let v : (p, k) ≡ (r, b) = same_some _ _ second.1 in
-                absurd (true≢false (sym same ∙ laws.symm a b ∙ ap (λ z. eq z a) (sym (ap (λ (z : ℕ × K). z.1) v)) ∙ child-none t (eq k) p free m a (subst (λ z. IsChild t z a m) (sym (ap (λ (z : ℕ × K). z.0) v)) first.1)))
+                absurd (true≢false (sym same ∙ symm a b ∙ ap (λ z. eq z a) (sym (ap (λ (z : ℕ × K). z.1) v)) ∙ child-none t (eq k) p free m a (subst (λ z. IsChild t z a m) (sym (ap (λ (z : ℕ × K). z.0) v)) first.1)))
             | inr second ↦ tree.distinct r a b m m' first.1 second.1 same
           ]
         ];
@@ -90,10 +90,10 @@ module _ {K D : Type 0} (eq : K → K → Bool) (laws : IsEquivalence eq) (t : K
     ] refl
 
     IsTree-replaced : IsTree eq (placed (without t c) n p k)
-    IsTree-replaced = IsTree-placed eq laws (without t c) n p k rest known_rest not_root outside_rest free_rest
+    IsTree-replaced = IsTree-placed eq laws.symm (without t c) n p k rest known_rest not_root outside_rest free_rest
 
   at_child : ((c : ℕ) → child (eq k) t p ≡ Some c → IsLeaf t c) → (o : Option ℕ) → child (eq k) t p ≡ o → IsTree eq (moved_over t n p k o)
-  at_child leaves None at = IsTree-placed eq laws t n p k tree known not_root outside at
+  at_child leaves None at = IsTree-placed eq laws.symm t n p k tree known not_root outside at
   at_child leaves (Some c) at = elim (c == n) as (λ b. (c == n) ≡ b → IsTree eq (cond b t (placed (without t c) n p k))) [
     | true ↦ λ e. tree
     | false ↦ λ e. IsTree-replaced c at (leaves c at) (λ is. false≢true (sym e ∙ eq-eqb c n is))

@@ -1,19 +1,16 @@
 -- What the links of a tree's nodes tell, and what a change of the tree does to them.
-use Rattle.std.proofs.Common.{◌≡◌, ◌≢◌, ◌+◌, ◌<◌, ◌==◌, ℕ, Bool, is_some, IsSome, true, false, cond, ◌⊎◌, ◌↔◌, List, [], ◌∷◌, Some, None, Option, refl, ap, sym, ◌∙◌, subst, inl, inr, arith}
+use Rattle.std.proofs.Common.{◌≡◌, ◌≢◌, ◌+◌, ◌==◌, ℕ, Bool, is_some, IsSome, true, false, cond, List, [], ◌∷◌, Some, None, Option, refl, ap, sym, ◌∙◌, subst, inl, inr, arith}
 use Rattle.std.specs.Ordering.{nat_cmp}
-use Rattle.std.specs.Cmp.{IsEquivalence}
 use Rattle.std.specs.Option.{option_map}
-use Rattle.std.specs.FinMap.{FinMap, get, from_entries, empty}
 use Rattle.std.specs.BTreeMap.{BTreeMap, Updates, WritesThrough}
 use Rattle.std.proofs.lemmas.Bool.{cases_eq, false≢true}
 use Rattle.dav_path_core.specs.declared.tree.Node.{Node}
-use Rattle.dav_path_core.specs.Keyed.{Entry, Keyed, entry, place, place_of, parent, child, has_child, add, lone, IsKnown, IsTree}
-use Rattle.dav_path_core.specs.Held.{Held, Siblings, done, more, IsChildList, IsHeld, if_known, first, after, links_first, links_after}
-use Rattle.dav_path_core.specs.Chains.{IsIn, Chain, IsChainOf, Linked}
-use Rattle.dav_path_core.specs.View.{entry_of, links_of, seen, keyed_of, held_of, node_at, parent_in, first_in, after_in, before_in, before_of, IsChained, IsLinked, with_node, changed, with_first, with_after, with_before, led_back, led_on, put_first, closed_up}
+use Rattle.dav_path_core.specs.Keyed.{Entry, place, place_of, parent, child, add, IsKnown, IsTree}
+use Rattle.dav_path_core.specs.Held.{Held, Siblings, done, more, IsHeld, if_known, first, after, links_first, links_after}
+use Rattle.dav_path_core.specs.Chains.{Chain, Linked}
+use Rattle.dav_path_core.specs.View.{entry_of, links_of, keyed_of, held_of, node_at, parent_in, first_in, after_in, before_in, before_of, IsChained, IsLinked, with_node, changed, with_first, with_after, with_before, led_back, put_first}
 use Rattle.dav_path_core.proofs.Trees.{none≢some, same_some, known_from_parent, IsTree-add, IsTree-lone, IsTree-with_item}
-use Rattle.dav_path_core.proofs.Chains.{no_distinct, Linked-put, first_child_of, no_child}
-use Rattle.dav_path_core.proofs.Refusals.{has_child-true, has_child-false}
+use Rattle.dav_path_core.proofs.Chains.{no_distinct, Linked-put, first_child_of}
 use Rattle.dav_path_core.proofs.Views.{with_node-here, with_node-other, get-seen, known-view, entry-view, changed-here, changed-other, changed-keeps, view-add, view-lone, node_at-updated, mapped-some, view-write, write-keeps}
 
 siblings : (after before : ℕ → Option ℕ) (b o : Option ℕ) (ks : List ℕ) → Chain after before b o ks → Siblings after o ks
@@ -49,14 +46,6 @@ module _ {K D : Type 0} where
     );
     root_alone = ap (λ f. f 1) (after-view es next) ∙ linked.root_alone;
   }
-
-  -- a node has a child where it has a first one
-  pub first-has_child : (eq : K → K → Bool) (es : List (ℕ × Node K D)) (next : ℕ) → IsLinked eq es next → (n : ℕ) (o : Option (Node K D)) → o ≡ node_at es n → is_some (links_first (option_map links_of o)) ≡ has_child (keyed_of es next) n
-  first-has_child eq es next linked n o at =
-      elim (links_first (option_map links_of o)) as (λ f. links_first (option_map links_of o) ≡ f → is_some f ≡ has_child (keyed_of es next) n) [
-        | None ↦ λ none. sym (has_child-false (keyed_of es next) n (λ m e. no_child linked.chained n (ap (λ o. links_first (option_map links_of o)) (sym at) ∙ none) m (ap (λ f. f m) (sym (parent-view es next)) ∙ e)))
-        | Some m ↦ λ some. sym (has_child-true (keyed_of es next) n m (ap (λ f. f m) (parent-view es next) ∙ (first_child_of linked.chained n m (ap (λ o. links_first (option_map links_of o)) (sym at) ∙ some)).0))
-      ] refl
 
   -- ---- what is told of a number
   module _ (es : List (ℕ × Node K D)) (next : ℕ) (t : Held K D) (view : held_of es next ≡ t) (n : ℕ) where
@@ -215,7 +204,7 @@ module _ {K D : Type 0} where
     back_other (Some m) o q ne = with_before-other at m o q (λ e. ne (ap (λ (x : ℕ). Some x) (sym e)))
 
   -- ---- a new first child
-  module _ (eq : K → K → Bool) (laws : IsEquivalence eq) (es fs : List (ℕ × Node K D)) (next p : ℕ) (k : K) (v : Node K D) (linked : IsLinked eq es next)
+  module _ (eq : K → K → Bool) (symm : (a b : K) → eq a b ≡ eq b a) (es fs : List (ℕ × Node K D)) (next p : ℕ) (k : K) (v : Node K D) (linked : IsLinked eq es next)
       (known_p : IsSome (node_at es p)) (free : child (eq k) (keyed_of es next) p ≡ None) (place_v : v.place ≡ Some (p, k)) (first_v : v.first_child ≡ None)
       (after_v : v.next_sibling ≡ first_in (node_at es) p) (before_v : v.previous_sibling ≡ None)
       (is : node_at fs ≡ put_first (with_node (node_at es) next (Some v)) p next (first_in (node_at es) p)) where
@@ -242,7 +231,7 @@ module _ {K D : Type 0} where
         let mid : ℕ → Option (Node K D) = with_first at1 p (Some next) in
         let known1 : (q : ℕ) → IsSome (at0 q) → IsSome (at1 q) = λ q h. ap is_some (other1 q (below q h)) ∙ h in
         record {
-          tree = subst (IsTree eq) (sym keyed-added) (IsTree-add eq laws (keyed_of es next) p k v.item linked.tree (known-view es next p ∙ known_p) free);
+          tree = subst (IsTree eq) (sym keyed-added) (IsTree-add eq symm (keyed_of es next) p k v.item linked.tree (known-view es next p ∙ known_p) free);
           chained = subst IsChained (sym is) (Linked-put next p linked.chained
               (λ q e. false≢true (sym (ap is_some gone) ∙ child_below next q e))
               (ap (λ o. option_map (λ w. w.0) (place_of o)) (kept_entry next ∙ ap (option_map entry_of) here1) ∙ ap (option_map (λ w. w.0)) place_v)

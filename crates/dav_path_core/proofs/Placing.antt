@@ -1,13 +1,12 @@
 -- What becomes of the links of a tree's nodes where a node moves to a free place below another.
-use Rattle.std.proofs.Common.{◌≡◌, ◌≢◌, ◌==◌, ℕ, Bool, is_some, IsSome, true, false, cond, ◌⊎◌, List, Some, None, Option, refl, ap, sym, ◌∙◌, subst, inl, inr}
-use Rattle.std.specs.Cmp.{IsEquivalence}
+use Rattle.std.proofs.Common.{◌≡◌, ◌≢◌, ◌==◌, ℕ, Bool, is_some, IsSome, false, cond, List, Some, None, Option, refl, ap, sym, ◌∙◌, subst, inl, inr}
 use Rattle.std.specs.Option.{option_map}
 use Rattle.std.specs.Ordering.{nat_cmp}
 use Rattle.std.specs.FinMap.{FinMap}
 use Rattle.std.proofs.lemmas.Bool.{cases_eq, eq-eqb, ne_eqb, false≢true}
 use Rattle.dav_path_core.specs.declared.tree.Node.{Node}
-use Rattle.dav_path_core.specs.Keyed.{Entry, Keyed, Leads, root, up, entry, place_of, parent, child, is_under, placed, placed_at, IsKnown, IsTree}
-use Rattle.dav_path_core.specs.Held.{links_first, links_after}
+use Rattle.dav_path_core.specs.Keyed.{Entry, Keyed, Leads, root, up, place_of, parent, child, is_under, placed, placed_at, IsKnown, IsTree}
+use Rattle.dav_path_core.specs.Held.{links_after}
 use Rattle.dav_path_core.specs.Chains.{Linked}
 use Rattle.dav_path_core.specs.View.{entry_of, links_of, keyed_of, node_at, parent_in, first_in, after_in, before_in, before_of, IsChained, IsLinked, with_node, with_first, put_first, put_below, closed_up, changed}
 use Rattle.dav_path_core.proofs.Trees.{none≢some, same_some}
@@ -27,7 +26,7 @@ known_node : {X : Type 0} (o : Option X) → IsSome o → (x : X) × (o ≡ Some
 known_node None h = absurd (false≢true h)
 known_node (Some x) h = (x, refl)
 
-module _ {K D : Type 0} (eq : K → K → Bool) (laws : IsEquivalence eq) (es fs : List (ℕ × Node K D)) (next n p r : ℕ) (k l : K) (x : Node K D) (linked : IsLinked eq es next)
+module _ {K D : Type 0} (eq : K → K → Bool) (symm : (a b : K) → eq a b ≡ eq b a) (es fs : List (ℕ × Node K D)) (next n p r : ℕ) (k l : K) (x : Node K D) (linked : IsLinked eq es next)
     (known_p : IsKnown (keyed_of es next) p) (not_root : n ≢ 1) (outside : is_under (keyed_of es next) n p ≡ false) (free : child (eq k) (keyed_of es next) p ≡ None)
     (here : Some x ≡ node_at es n) (place : x.place ≡ Some (r, l))
     (is : node_at fs ≡ put_first (put_below (closed_up (node_at es) r x.previous_sibling x.next_sibling) n p k (first_in (closed_up (node_at es) r x.previous_sibling x.next_sibling) p)) p n
@@ -147,7 +146,7 @@ module _ {K D : Type 0} (eq : K → K → Bool) (laws : IsEquivalence eq) (es fs
 
   pub IsLinked-placed : IsLinked eq fs next
   IsLinked-placed = record {
-    tree = subst (IsTree eq) (sym keyed-placed) (IsTree-placed eq laws (keyed_of es next) n p k linked.tree known_p not_root outside free);
+    tree = subst (IsTree eq) (sym keyed-placed) (IsTree-placed eq symm (keyed_of es next) n p k linked.tree known_p not_root outside free);
     chained = subst IsChained (sym is0) relinked;
     root_alone = ap (λ f. after_in f 1) is0 ∙ back_after mid head (Some n) 1 ∙ after_keeps at2 p (λ y. record y { first_child = Some n }) (λ y. refl) 1
         ∙ ap (λ o. links_after (option_map links_of o)) (other2 1 (λ e. not_root (sym e)))

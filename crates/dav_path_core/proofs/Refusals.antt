@@ -1,10 +1,10 @@
 -- Which refusal the definitions of the tree's calls give.
-use Rattle.std.proofs.Common.{◌≡◌, ◌≢◌, ◌==◌, ◌||◌, ◌&&◌, ℕ, Bool, is_some, IsSome, true, false, cond, not, Some, None, Option, refl, ap, sym, ◌∙◌, ◌⊎◌, inl, inr}
+use Rattle.std.proofs.Common.{MatchOption, ◌≡◌, ◌≢◌, ◌==◌, ◌||◌, ◌&&◌, ℕ, Bool, is_some, true, false, cond, Some, None, Option, refl, ap, sym, ◌∙◌, inl, inr}
 use Rattle.std.specs.Option.{option_map}
 use Rattle.std.proofs.lemmas.Bool.{cases_Bool, eq-eqb, ne_eqb, false≢true, true≢false}
 use Rattle.dav_path_core.specs.declared.errors.FsError.TheVariants.{Exists, NotFound, Forbidden}
-use Rattle.dav_path_core.specs.Keyed.{Keyed, Leads, root, up, entry, place, parent, child, has_child, delete_refusal, cut_refusal, move_refusal, is_kept, is_under, IsKnown, IsChild, IsTree}
-use Rattle.dav_path_core.proofs.Trees.{none≢some, child-none, child-some, none_from_is_some}
+use Rattle.dav_path_core.specs.Keyed.{Keyed, Leads, root, up, entry, place, parent, child, has_child, delete_refusal, cut_refusal, move_refusal, is_kept, is_under, IsKnown, IsTree}
+use Rattle.dav_path_core.proofs.Trees.{none≢some, child-none, child-some}
 use Rattle.dav_path_core.proofs.KeyedCuts.{parent_child}
 
 both_left : (a b : Bool) → (a && b) ≡ true → a ≡ true
@@ -45,6 +45,11 @@ module _ {K D : Type 0} (t : Keyed K D) where
         | None ↦ λ none. refl
         | Some c ↦ λ some. absurd (alone c (ap (option_map (λ q. q.0)) (child-some t (λ _. true) n c some).1))
       ] refl
+
+  -- a node has a child where it has a first one
+  pub has_child-first : (n : ℕ) (o : Option ℕ) → MatchOption o (has_child t n ≡ false) (λ m. parent t m ≡ Some n) → is_some o ≡ has_child t n
+  has_child-first n None h = sym h
+  has_child-first n (Some m) h = sym (has_child-true n m h)
 
   module _ (n : ℕ) where
     pub delete-unknown : is_some (entry t n) ≡ false → delete_refusal t n ≡ Some NotFound

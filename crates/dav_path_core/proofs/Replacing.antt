@@ -1,8 +1,7 @@
 -- What a move that nothing refuses finds, once the node in its way is gone.
-use Rattle.std.proofs.Common.{◌≡◌, ◌≢◌, ◌||◌, ℕ, Bool, is_some, not, true, false, Some, None, Option, refl, ap, sym, ◌∙◌, subst}
+use Rattle.std.proofs.Common.{◌≡◌, ◌≢◌, ℕ, Bool, is_some, not, false, Some, None, ap, sym, ◌∙◌}
 use Rattle.std.specs.Cmp.{IsEquivalence}
-use Rattle.std.specs.Option.{option_map}
-use Rattle.dav_path_core.specs.Keyed.{Keyed, entry, child, has_child, is_kept, is_under, without, delete_refusal, move_refusal, IsKnown, IsTree}
+use Rattle.dav_path_core.specs.Keyed.{Keyed, child, has_child, is_kept, is_under, without, delete_refusal, move_refusal, IsKnown, IsTree}
 use Rattle.dav_path_core.proofs.Trees.{child-some, known_from_child}
 use Rattle.dav_path_core.proofs.KeyedCuts.{IsLeaf, leaf, entry-without}
 use Rattle.dav_path_core.proofs.KeyedMoves.{c_not_root, known_rest, outside_rest, free_rest}

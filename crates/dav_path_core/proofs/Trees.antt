@@ -1,6 +1,6 @@
 -- What a change does to a keyed tree, by what stands at each number.
 use Rattle.std.proofs.Common.{◌≡◌, ◌≢◌, ℕ, ◌<◌, ◌==◌, ◌&&◌, Bool, true, false, cond, T, ◌⊎◌, List, [], ◌∷◌, Some, None, Option, refl, ap, sym, ◌∙◌, subst, arith, IsSome, is_some, inl, inr, nat_lt}
-use Rattle.std.specs.Cmp.{IsEquivalence, nat_cmp_total, unsigned_tied}
+use Rattle.std.specs.Cmp.{nat_cmp_total, unsigned_tied}
 use Rattle.std.specs.Ordering.{nat_cmp, is_lt}
 use Rattle.std.specs.Option.{option_map, unwrap_or}
 use Rattle.std.specs.declared.cmp.Ordering.TheVariants.{Less, Equal, Greater}
@@ -159,7 +159,7 @@ module _ {K D : Type 0} where
         | inr ne ↦ inr (ne, ap place_of (sym (s.other m ne)) ∙ h)
       ]
 
-  module _ (eq : K → K → Bool) (laws : IsEquivalence eq) where
+  module _ (eq : K → K → Bool) (symm : (a b : K) → eq a b ≡ eq b a) where
     pub IsTree-add : (t : Keyed K D) (p : ℕ) (k : K) (d : D) → IsTree eq t → IsKnown t p → child (eq k) t p ≡ None → IsTree eq (add t p k d)
     IsTree-add t p k d tree known free =
         let u : Keyed K D = add t p k d in
@@ -192,7 +192,7 @@ module _ {K D : Type 0} where
             | inr one ↦ elim (child_before t u t.next e s r b n y) [
               | inl two ↦
                   let w : (p, k) ≡ (r, b) = same_some _ _ two.1 in
-                  absurd (true≢false (sym same ∙ laws.symm a b ∙ ap (λ v. eq v a) (sym (ap (λ (v : ℕ × K). v.1) w)) ∙ child-none t (eq k) p free m a (subst (λ v. IsChild t v a m) (sym (ap (λ (v : ℕ × K). v.0) w)) one.1)))
+                  absurd (true≢false (sym same ∙ symm a b ∙ ap (λ v. eq v a) (sym (ap (λ (v : ℕ × K). v.1) w)) ∙ child-none t (eq k) p free m a (subst (λ v. IsChild t v a m) (sym (ap (λ (v : ℕ × K). v.0) w)) one.1)))
               | inr two ↦ tree.distinct r a b m n one.1 two.1 same
             ]
           ];

@@ -1,26 +1,26 @@
 -- What becomes of the links of a tree's nodes where a child goes out of its list.
-use Rattle.std.proofs.Common.{◌≡◌, ◌≢◌, ◌==◌, ℕ, Bool, is_some, IsSome, true, false, cond, ◌⊎◌, List, Some, None, Option, refl, ap, sym, ◌∙◌, subst, inl, inr}
+use Rattle.std.proofs.Common.{◌≡◌, ◌≢◌, ℕ, Bool, is_some, IsSome, List, Some, None, Option, refl, ap, sym, ◌∙◌, subst, inl, inr}
 use Rattle.std.specs.Option.{option_map}
 use Rattle.std.specs.Ordering.{nat_cmp}
-use Rattle.std.specs.FinMap.{FinMap, get, remove, from_entries, same_map, nat_cmp-IsAntisymmetric}
+use Rattle.std.specs.FinMap.{FinMap, get, from_entries, same_map, nat_cmp-IsAntisymmetric}
 use Rattle.std.specs.Cmp.{nat_cmp_total}
-use Rattle.std.proofs.lemmas.Bool.{cases_eq, false≢true}
+use Rattle.std.proofs.lemmas.Bool.{cases_eq}
 use Rattle.dav_path_core.specs.declared.tree.Node.{Node}
-use Rattle.dav_path_core.specs.Keyed.{Entry, Keyed, entry, place_of, parent, without, IsKnown, IsTree}
+use Rattle.dav_path_core.specs.Keyed.{Entry, Keyed, entry, place_of, parent, without, IsTree}
 use Rattle.dav_path_core.specs.Held.{links_first, links_after}
 use Rattle.dav_path_core.specs.Chains.{Linked}
-use Rattle.dav_path_core.specs.View.{entry_of, links_of, seen, keyed_of, node_at, parent_in, first_in, after_in, before_in, before_of, IsChained, IsLinked, with_node, with_first, with_after, led_back, led_on, closed_up}
+use Rattle.dav_path_core.specs.View.{entry_of, links_of, seen, keyed_of, node_at, parent_in, first_in, after_in, before_in, before_of, IsChained, IsLinked, with_node, with_after, led_on, closed_up}
 use Rattle.dav_path_core.proofs.Trees.{none≢some, same_some}
 use Rattle.dav_path_core.proofs.Chains.{Linked-out, no_child, sibling_after, sibling_before}
 use Rattle.dav_path_core.proofs.KeyedCuts.{IsTree-without, entry-without}
-use Rattle.dav_path_core.proofs.Views.{get-seen, with_node-here, with_node-other, known-view, entry-view}
+use Rattle.dav_path_core.proofs.Views.{get-seen, with_node-here, with_node-other, known-view}
 use Rattle.dav_path_core.proofs.Walks.{parent_known}
 use Rattle.dav_path_core.proofs.Links.{parent-view, first_keeps, after_keeps, before_keeps, entry_keeps, some_node, with_first-here, with_first-other, with_after-here, with_after-other, back_entry, back_first, back_after, back_here, back_other}
 
 module _ {K D : Type 0} where
   -- ---- a link that leads to a child, led on
   module _ (at : ℕ → Option (Node K D)) (p : ℕ) where
-    on_entry : (b o : Option ℕ) (q : ℕ) → option_map entry_of (led_on at p b o q) ≡ option_map entry_of (at q)
+    pub on_entry : (b o : Option ℕ) (q : ℕ) → option_map entry_of (led_on at p b o q) ≡ option_map entry_of (at q)
     on_entry None o q = entry_keeps at p (λ x. record x { first_child = o }) (λ x. refl) q
     on_entry (Some b) o q = entry_keeps at b (λ x. record x { next_sibling = o }) (λ x. refl) q
 

@@ -1,9 +1,9 @@
 -- A walk along the children of a node.
-use Rattle.std.proofs.Common.{◌≡◌, ℕ, zero, suc, ◌<◌, ◌≤◌, ◌||◌, Bool, true, false, ◌⊎◌, List, [], ◌∷◌, length, Some, None, Option, refl, ap, sym, ◌∙◌, subst, inl, inr, arith, eqb, Result, Ok, Err}
+use Rattle.std.proofs.Common.{◌≡◌, ℕ, zero, suc, ◌<◌, ◌≤◌, Bool, true, false, ◌⊎◌, List, [], ◌∷◌, length, Some, None, Option, refl, ap, sym, ◌∙◌, subst, inl, inr, arith, eqb, Result, Ok, Err}
 use Rattle.std.specs.Option.{option_map, ok_or}
 use Rattle.std.specs.List.{list_any}
 use Rattle.std.specs.Map.{IsKeyTest}
-use Rattle.std.proofs.lemmas.Bool.{eq-eqb, eqb-true, or_cases, false≢true, true≢false}
+use Rattle.std.proofs.lemmas.Bool.{eqb-true, or_cases, false≢true, true≢false}
 use Rattle.std.proofs.lemmas.Map.Steps.{length-le_from_distinct_below}
 use Rattle.dav_path_core.specs.Keyed.{Keyed, place, parent, child, IsChild, IsKnown, IsTree, Leads, root, up}
 use Rattle.dav_path_core.proofs.Trees.{none≢some, same_some, known_from_parent, child-some, child-only}
@@ -16,16 +16,16 @@ left f zero o = 0
 left f (suc m) None = 0
 left f (suc m) (Some n) = suc (left f m (f n))
 
-left-length : {f : ℕ → Option ℕ} {o : Option ℕ} {ks : List ℕ} (m : ℕ) → Siblings f o ks → length ks ≤ m → left f m o ≡ length ks
+pub left-length : {f : ℕ → Option ℕ} {o : Option ℕ} {ks : List ℕ} (m : ℕ) → Siblings f o ks → length ks ≤ m → left f m o ≡ length ks
 left-length zero done h = refl
 left-length (suc m) done h = refl
 left-length zero (more s) h = absurd (omega arith)
 left-length (suc m) (more s) h = ap suc (left-length m s (omega arith))
 
-split : {f : ℕ → Option ℕ} {n : ℕ} {ks : List ℕ} → Siblings f (Some n) ks → (ns : List ℕ) × (ks ≡ n ∷ ns) × Siblings f (f n) ns
+pub split : {f : ℕ → Option ℕ} {n : ℕ} {ks : List ℕ} → Siblings f (Some n) ks → (ns : List ℕ) × (ks ≡ n ∷ ns) × Siblings f (f n) ns
 split (more {ns = ns} s) = (ns, refl, s)
 
-ended : {f : ℕ → Option ℕ} {ks : List ℕ} → Siblings f None ks → ks ≡ []
+pub ended : {f : ℕ → Option ℕ} {ks : List ℕ} → Siblings f None ks → ks ≡ []
 ended done = refl
 
 place_under : {K : Type 0} (o : Option (ℕ × K)) (p : ℕ) (w : ℕ × K) → option_map (λ q. q.0) o ≡ Some p → o ≡ Some w → o ≡ Some (p, w.1)

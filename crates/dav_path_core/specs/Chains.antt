@@ -1,5 +1,5 @@
 -- Lists of children as links in both directions between numbers (own).
-use Rattle.std.specs.Prelude.{◌≡◌, ℕ, ◌↔◌, Bool, true, List, [], ◌∷◌, Option, Some, None}
+use Rattle.std.specs.Prelude.{◌≡◌, ℕ, ◌↔◌, true, List, [], ◌∷◌, Option, Some, None}
 use Rattle.std.specs.List.{list_any, IsDistinct}
 use Rattle.std.proofs.Common.{eqb}
 

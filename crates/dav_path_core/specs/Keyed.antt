@@ -116,6 +116,12 @@ module _ {K D : Type 0} where
   abbrev pub cut : Keyed K D → ℕ → Keyed K D
   cut t n = record t { nodes = retain_keys t.nodes (λ k. not (is_under t n k)) }
 
+  -- u is t without the numbers whose parents lead to n, and those alone
+  pub record IsCut (t u : Keyed K D) (n : ℕ) : Type 0 where
+    pub gone : (q : ℕ) → Under (parent t) n q → entry u q ≡ None
+    pub kept : (q : ℕ) → (Under (parent t) n q → ⊥) → entry u q ≡ entry t q
+    pub next : u.next ≡ t.next
+
   -- why a child can't be added
   abbrev pub add_refusal : (K → K → Bool) → Keyed K D → ℕ → K → Bool → Option FsError
   add_refusal eq t p k overwrite =

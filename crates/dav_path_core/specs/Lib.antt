@@ -1,5 +1,6 @@
 pub mod Answers
 pub mod Chains
+pub mod Children
 pub mod DavErrors
 pub mod EndsAs
 pub mod Errors

@@ -98,3 +98,7 @@ module _ {K D : Type 0} where
   -- the node at n given the place below p at k, before the sibling f, if there is one
   abbrev pub put_below : (ℕ → Option (Node K D)) → ℕ → ℕ → K → Option ℕ → ℕ → Option (Node K D)
   put_below at n p k f = changed at n (λ x. record x { place = Some (p, k); next_sibling = f; previous_sibling = None })
+
+  -- the node at n hung below p under the key that it has, before the sibling f, if there is one
+  abbrev pub hung : (ℕ → Option (Node K D)) → ℕ → ℕ → Option ℕ → ℕ → Option (Node K D)
+  hung at n p f = changed at n (λ x. record x { place = option_map (λ q. (p, q.1)) x.place; next_sibling = f; previous_sibling = None })

@@ -1,16 +1,18 @@
 //! A tree of numbered nodes, each with a key among its siblings.
-ghost use Rattle.std.specs.Prelude.{◌≡◌, ◌≢◌, ℕ, is_some, IfOk, IfErr, OnErr, MatchResult, Bool, true, false};
+ghost use Rattle.std.specs.Prelude.{◌≡◌, ◌≢◌, ℕ, is_some, Some, None, MatchOption, IfOk, IfErr, OnErr, MatchResult, Bool, true, false};
 ghost use Rattle.std.specs.Fn.{FnReturnsAt};
 ghost use Rattle.std.specs.Option.{ok_or};
 ghost use Rattle.std.specs.Borrow.{sem};
 ghost use Rattle.std.specs.Map.{IsKeyTest};
 ghost use Rattle.dav_path_core.specs.Answers.{Answers};
-ghost use Rattle.dav_path_core.specs.Keyed.{item, parent as parent_number, IsChild, child, lone, add, add_refusal, cleared, delete_refusal, without, entry, has_child as has_child_of, is_kept as is_kept_in, is_under, move_refusal, placed, moved, IsKnown};
+ghost use Rattle.dav_path_core.specs.Keyed.{item, parent as parent_number, IsChild, child, lone, add, add_refusal, cleared, delete_refusal, without, entry, has_child as has_child_of, is_kept as is_kept_in, is_under, move_refusal, placed, moved, Under, cut, cut_refusal, IsCut, IsKnown};
 ghost use Rattle.dav_path_core.specs.Held.{IsHeld, first, after, if_known};
 
 mod links;
+mod listing;
 
 use crate::errors::{FsError, FsResult};
+pub use listing::Children;
 use std::alloc::Global;
 use std::collections::BTreeMap;
 use std::hash::Hash;
@@ -36,6 +38,7 @@ pub struct Node<K, D> {
 pub struct Tree<K: Eq + Hash, D> {
     nodes: BTreeMap<u64, Node<K, D>>,
     next: u64,
+    alloc: Global,
 }
 
 impl<K: Eq + Hash, D> Model for Tree<K, D> {
@@ -98,12 +101,11 @@ impl<K: Eq + Hash + Clone, D> Tree<K, D> {
         ensures root { id ≡ 1 → result ≡ Ok None }
         ensures shape { IsHeld K.eq self.now }
     {
-        match self.nodes.get(&id) {
-            Some(node) => match &node.place {
-                Some((above, _name)) => Ok(Some(*above)),
-                None => Ok(None),
-            },
-            None => Err(FsError::NotFound),
+        let _ = &self.nodes;
+        if self.is_known(id) {
+            Ok(self.above(id))
+        } else {
+            Err(FsError::NotFound)
         }
     }
 
@@ -185,10 +187,7 @@ impl<K: Eq + Hash + Clone, D> Tree<K, D> {
     fn has_child(&self, id: u64) -> bool
         ensures { result ≡ has_child_of self.now.keyed id }
     {
-        match self.nodes.get(&id) {
-            Some(node) => node.first_child.is_some(),
-            None => false,
-        }
+        self.first_below(id).is_some()
     }
 
     // Whether what stands at a place may not be replaced.
@@ -283,6 +282,33 @@ impl<K: Eq + Hash + Clone, D> Tree<K, D> {
         links::set_place(&mut self.nodes, id, new_parent, new_name, first);
         links::put_before(&mut self.nodes, new_parent, id, first);
     }
+
+    // The first child of a node, if it has a child.
+    fn first_below(&self, id: u64) -> Option<u64>
+        ensures { MatchOption result (has_child_of self.now.keyed id ≡ false) (λ n. parent_number self.now.keyed n ≡ Some id) }
+    {
+        match self.nodes.get(&id) {
+            Some(node) => node.first_child,
+            None => None,
+        }
+    }
+
+    // A node without children, at or below a node.
+    fn leaf_below(&self, id: u64) -> u64
+        requires { IsKnown self.now.keyed id }
+        ensures known { IsKnown self.now.keyed result }
+        ensures under { Under (parent_number self.now.keyed) id result }
+        ensures leaf { has_child_of self.now.keyed result ≡ false }
+    {
+        let mut at = id;
+        for _turn in 0..self.next {
+            match self.first_below(at) {
+                Some(child) => at = child,
+                None => return at,
+            }
+        }
+        at
+    }
 }
 
 impl<K: Eq + Hash + Clone, D: Drop> Tree<K, D> {
@@ -300,7 +326,11 @@ impl<K: Eq + Hash + Clone, D: Drop> Tree<K, D> {
             previous_sibling: None,
         };
         match nodes.insert(ROOT_ID, root) {
-            Ok(_) => Ok(Tree { nodes, next: 2 }),
+            Ok(_) => Ok(Tree {
+                nodes,
+                next: 2,
+                alloc,
+            }),
             Err(_) => Err(FsError::InsufficientStorage),
         }
     }
@@ -310,35 +340,108 @@ impl<K: Eq + Hash + Clone, D: Drop> Tree<K, D> {
     /// `NotFound` for an unknown parent, `Exists` where the key is there and `overwrite` is false, `InsufficientStorage`
     /// for want of memory and where all numbers to 2^64 - 2 are used up. With `overwrite` the whole old subtree goes.
     pub fn add_child(&mut self, parent: u64, key: K, item: D, overwrite: bool) -> FsResult<u64>
-        requires { overwrite ≡ false }
         ensures answer { Answers (add_refusal K.eq self.old.keyed parent key overwrite) result
             (λ n. (n ≡ self.old.keyed.next) × (self.new.keyed ≡ add (cleared K.eq self.old.keyed parent key) parent key item))
             (self.new ≡ self.old) }
         ensures shape { IsHeld K.eq self.new }
     {
-        let first = match self.nodes.get(&parent) {
-            Some(node) => node.first_child,
-            None => return Err(FsError::NotFound),
-        };
-        if self.get_child(parent, &key).is_ok() {
+        let _ = &self.nodes;
+        if !self.is_known(parent) {
+            return Err(FsError::NotFound);
+        }
+        let taken = self.get_child(parent, &key).ok();
+        if taken.is_some() && !overwrite {
             return Err(FsError::Exists);
         }
         if self.next == u64::MAX {
             return Err(FsError::InsufficientStorage);
         }
+        match taken {
+            None => return self.add_new(parent, key, item),
+            Some(old) => return self.add_over(parent, key, item, old),
+        }
+    }
+
+    // Adds a child at a free key.
+    fn add_new(&mut self, parent: u64, key: K, item: D) -> FsResult<u64>
+        requires known { IsKnown self.old.keyed parent }
+        requires free { child (K.eq key) self.old.keyed parent ≡ None }
+        requires room { self.old.keyed.next ≢ 18446744073709551615 }
+        ensures answer { Answers None result (λ n. (n ≡ self.old.keyed.next) × (self.new.keyed ≡ add self.old.keyed parent key item)) (self.new ≡ self.old) }
+        ensures shape { IsHeld K.eq self.new }
+    {
         let id = self.next;
-        let node = Node {
-            item,
-            place: Some((parent, key)),
-            first_child: None,
-            next_sibling: first,
-            previous_sibling: None,
-        };
-        links::put_in(&mut self.nodes, id, node)?;
+        links::put_new(&mut self.nodes, id, parent, key, item)?;
         self.next = id + 1;
-        links::put_before(&mut self.nodes, parent, id, first);
         Ok(id)
     }
+
+    // Adds a child in the place of another, which hangs below it until it is taken out.
+    fn add_over(&mut self, parent: u64, key: K, item: D, old: u64) -> FsResult<u64>
+        requires known { IsKnown self.old.keyed parent }
+        requires taken { child (K.eq key) self.old.keyed parent ≡ Some old }
+        requires room { self.old.keyed.next ≢ 18446744073709551615 }
+        ensures answer { Answers None result (λ n. (n ≡ self.old.keyed.next) × (self.new.keyed ≡ add (cut self.old.keyed old) parent key item)) (self.new ≡ self.old) }
+        ensures shape { IsHeld K.eq self.new }
+    {
+        let new = self.next;
+        links::put_new(&mut self.nodes, new, parent, key, item)?;
+        self.next = new + 1;
+        links::hang(&mut self.nodes, old, parent, new);
+        self.cut_out(old);
+        Ok(new)
+    }
+
+    /// Takes a node out with all below it: exactly the numbers whose parents lead to it. `NotFound` for an unknown number,
+    /// `Forbidden` for the root.
+    pub fn delete_subtree(&mut self, id: u64) -> FsResult<()>
+        ensures answer { MatchResult result
+            (λ _. (cut_refusal self.old.keyed id ≡ None) × (self.new.keyed ≡ cut self.old.keyed id))
+            (λ e. (cut_refusal self.old.keyed id ≡ Some e) × (self.new ≡ self.old)) }
+        ensures gone { IfOk result (λ _. IsCut self.old.keyed self.new.keyed id) }
+        ensures shape { IsHeld K.eq self.new }
+    {
+        let _ = &self.nodes;
+        if !self.is_known(id) {
+            return Err(FsError::NotFound);
+        }
+        if id == ROOT_ID {
+            return Err(FsError::Forbidden);
+        }
+        self.cut_out(id);
+        Ok(())
+    }
+
+    // Takes a node out with all below it, a node without children at a time.
+    fn cut_out(&mut self, id: u64)
+        requires known { IsKnown self.old.keyed id }
+        requires not_root { id ≢ 1 }
+        ensures cut { self.new.keyed ≡ cut self.old.keyed id }
+        ensures shape { IsHeld K.eq self.new }
+    {
+        let _ = &self.nodes;
+        let mut at = id;
+        while self.is_known(id) {
+            let leaf = self.leaf_below(at);
+            at = self.drop_leaf(leaf);
+        }
+    }
+
+    // Takes out a node that has no child, and gives its parent.
+    fn drop_leaf(&mut self, id: u64) -> u64
+        requires known { IsKnown self.old.keyed id }
+        requires not_root { id ≢ 1 }
+        requires leaf { has_child_of self.old.keyed id ≡ false }
+        ensures parent { parent_number self.old.keyed id ≡ Some result }
+        ensures dropped { self.new.keyed ≡ without self.old.keyed id }
+        ensures shape { IsHeld K.eq self.new }
+    {
+        let _ = &self.nodes;
+        let parent = self.above(id).unwrap_or(ROOT_ID);
+        let _taken = self.delete_node(id);
+        parent
+    }
+
     /// Moves a node, and with it all below it, to a place below another, in the place of a node without children there.
     ///
     /// `NotFound` for an unknown number, `Exists` where the place is taken and `overwrite` is false or the node there has
@@ -379,5 +482,7 @@ impl<K: Eq + Hash + Clone, D: Drop> Tree<K, D> {
     }
 }
 
+#[cfg(test)]
+mod rows;
 #[cfg(test)]
 mod tests;

@@ -1,13 +1,39 @@
 //! Writes of the links between nodes.
-ghost use Rattle.std.specs.Prelude.{◌≡◌, OnOk, OnErr, IfErr};
-ghost use Rattle.dav_path_core.specs.View.{node_at, first_in, with_node, with_first, with_after, with_before, put_first, put_below, closed_up};
+ghost use Rattle.std.specs.Prelude.{◌≡◌, ℕ, Some, OnOk, OnErr, IfErr};
+ghost use Rattle.dav_path_core.specs.View.{node_at, first_in, after_in, before_in, new_node, with_node, with_first, with_after, with_before, put_first, put_below, hung, closed_up};
 
 use super::Node;
 use crate::errors::{FsError, FsResult};
 use std::collections::BTreeMap;
 
+/// Puts a new node at a number, the first child of its parent. `InsufficientStorage` for want of memory.
+pub(super) fn put_new<K: Drop, D: Drop>(
+    nodes: &mut BTreeMap<u64, Node<K, D>>,
+    id: u64,
+    parent: u64,
+    key: K,
+    item: D,
+) -> FsResult<()>
+    ensures ok { OnOk result (node_at nodes.new.entries ≡ put_first (with_node (node_at nodes.old.entries) id (Some (new_node parent key item (first_in (node_at nodes.old.entries) parent))))
+        parent id (first_in (node_at nodes.old.entries) parent)) }
+    ensures err { OnErr result (nodes.new.entries ≡ nodes.old.entries) }
+    ensures error { IfErr result (λ e. e ≡ FsError.InsufficientStorage) }
+{
+    let first = first_of(nodes, parent);
+    let node = Node {
+        item,
+        place: Some((parent, key)),
+        first_child: None,
+        next_sibling: first,
+        previous_sibling: None,
+    };
+    put_in(nodes, id, node)?;
+    put_before(nodes, parent, id, first);
+    Ok(())
+}
+
 /// Puts a node at a number. `InsufficientStorage` for want of memory.
-pub(super) fn put_in<K: Drop, D: Drop>(
+fn put_in<K: Drop, D: Drop>(
     nodes: &mut BTreeMap<u64, Node<K, D>>,
     id: u64,
     node: Node<K, D>,
@@ -101,6 +127,41 @@ pub(super) fn set_place<K: Drop, D>(
 {
     if let Some(node) = nodes.get_mut(&id) {
         node.place = Some((parent, key));
+        node.next_sibling = first;
+        node.previous_sibling = None;
+    }
+}
+
+/// Hangs a child of `above` below another node, first there, under the key that it has.
+pub(super) fn hang<K, D>(nodes: &mut BTreeMap<u64, Node<K, D>>, id: u64, above: u64, parent: u64)
+    ensures { (x : Node K D) (r : ℕ) (k : K) → Some x ≡ node_at nodes.old.entries id → x.place ≡ Some (r, k)
+        → node_at nodes.new.entries ≡ put_first (put_below (closed_up (node_at nodes.old.entries) above x.previous_sibling x.next_sibling) id parent k
+        (first_in (closed_up (node_at nodes.old.entries) above x.previous_sibling x.next_sibling) parent)) parent id
+        (first_in (closed_up (node_at nodes.old.entries) above x.previous_sibling x.next_sibling) parent) }
+{
+    let (before, after) = neighbours(nodes, id);
+    close_up(nodes, above, before, after);
+    let first = first_of(nodes, parent);
+    set_parent(nodes, id, parent, first);
+    put_before(nodes, parent, id, first);
+}
+
+fn neighbours<K, D>(nodes: &BTreeMap<u64, Node<K, D>>, id: u64) -> (Option<u64>, Option<u64>)
+    ensures { result ≡ (before_in (node_at nodes.now.entries) id, after_in (node_at nodes.now.entries) id) }
+{
+    match nodes.get(&id) {
+        Some(node) => (node.previous_sibling, node.next_sibling),
+        None => (None, None),
+    }
+}
+
+fn set_parent<K, D>(nodes: &mut BTreeMap<u64, Node<K, D>>, id: u64, parent: u64, first: Option<u64>)
+    ensures { node_at nodes.new.entries ≡ hung (node_at nodes.old.entries) id parent first }
+{
+    if let Some(node) = nodes.get_mut(&id) {
+        if let Some(place) = &mut node.place {
+            place.0 = parent;
+        }
         node.next_sibling = first;
         node.previous_sibling = None;
     }

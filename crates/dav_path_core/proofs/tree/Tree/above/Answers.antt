@@ -1,4 +1,4 @@
-use Rattle.std.proofs.Common.{ap, sym, ◌∙◌, Some, None}
+use Rattle.std.proofs.Common.{ap, sym, ◌∙◌, None}
 use Rattle.std.specs.Option.{option_map}
 use Rattle.dav_path_core.specs.Keyed.{parent, place_of}
 use Rattle.dav_path_core.proofs.Views.{entry-view}

@@ -1,12 +1,11 @@
-use Rattle.std.proofs.Common.{◌≡◌, ℕ, Bool, is_some, IsSome, true, false, Option, Some, None, refl, ap, sym, ◌∙◌, subst}
+use Rattle.std.proofs.Common.{◌≡◌, is_some, false, Option, Some, None, refl, ap, sym, ◌∙◌, subst}
 use Rattle.std.specs.Option.{option_map}
 use Rattle.std.proofs.lemmas.Bool.{false≢true}
 use Rattle.dav_path_core.specs.declared.errors.FsError.TheVariants.{NotFound, Forbidden}
-use Rattle.dav_path_core.specs.declared.tree.Node.{Node}
-use Rattle.dav_path_core.specs.Keyed.{entry, item, place_of, without, delete_refusal, IsKnown}
+use Rattle.dav_path_core.specs.Keyed.{item, place_of, without, delete_refusal, IsKnown}
 use Rattle.dav_path_core.specs.Held.{IsHeld, links_first}
-use Rattle.dav_path_core.specs.View.{keyed_of, node_at, entry_of, links_of, first_in, closed_up, with_node}
-use Rattle.dav_path_core.proofs.Trees.{none≢some, none_from_is_some}
+use Rattle.dav_path_core.specs.View.{keyed_of, node_at, entry_of, links_of, closed_up, with_node}
+use Rattle.dav_path_core.proofs.Trees.{none_from_is_some}
 use Rattle.dav_path_core.proofs.Chains.{first_child_of}
 use Rattle.dav_path_core.proofs.Views.{entry-view, known-view, node_at-updated, mapped-some}
 use Rattle.dav_path_core.proofs.Links.{held_from, parent-view, first_of}

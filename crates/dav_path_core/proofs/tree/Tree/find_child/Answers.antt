@@ -1,11 +1,11 @@
-use Rattle.std.proofs.Common.{◌≡◌, ℕ, ap, sym, ◌∙◌, refl, subst, Some, None, is_some, true, false}
+use Rattle.std.proofs.Common.{◌≡◌, ℕ, ap, sym, ◌∙◌, refl, subst, Some, None, is_some, false}
 use Rattle.std.specs.Fn.{FnReturnsAt}
 use Rattle.std.specs.Option.{option_map}
 use Rattle.std.proofs.lemmas.Bool.{false≢true}
 use Rattle.dav_path_core.specs.declared.errors.FsError.TheVariants.{NotFound}
-use Rattle.dav_path_core.specs.Keyed.{Keyed, entry, place, IsChild, IsKnown, IsTree}
+use Rattle.dav_path_core.specs.Keyed.{entry, place, IsChild}
 use Rattle.dav_path_core.proofs.Trees.{same_some, known_from_parent}
-use Rattle.dav_path_core.specs.Held.{Held, IsHeld, first, after}
+use Rattle.dav_path_core.specs.Held.{IsHeld}
 use Rattle.dav_path_core.specs.View.{entry_of}
 use Rattle.dav_path_core.proofs.Views.{entry-view}
 use Rattle.dav_path_core.proofs.Links.{held_from, first-told, after-told, place-told}

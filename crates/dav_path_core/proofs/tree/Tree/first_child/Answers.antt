@@ -1,4 +1,4 @@
-use Rattle.std.proofs.Common.{◌≡◌, ℕ, Option, ap, sym, ◌∙◌, subst, Some, None}
+use Rattle.std.proofs.Common.{ℕ, Option, ap, sym, ◌∙◌, subst, Some}
 use Rattle.std.specs.Option.{ok_or}
 use Rattle.dav_path_core.specs.declared.errors.FsError.TheVariants.{NotFound}
 use Rattle.dav_path_core.specs.Held.{IsHeld, first}

@@ -1,4 +1,4 @@
-use Rattle.std.proofs.Common.{◌≡◌, ap, sym, ◌∙◌, subst, Some, None, false}
+use Rattle.std.proofs.Common.{◌≡◌, sym, ◌∙◌, subst, None, false}
 use Rattle.dav_path_core.specs.Keyed.{child, is_under, IsKnown}
 use Rattle.dav_path_core.specs.Held.{IsHeld}
 use Rattle.dav_path_core.proofs.Trees.{none≢some}

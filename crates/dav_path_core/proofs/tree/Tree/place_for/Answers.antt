@@ -1,4 +1,4 @@
-use Rattle.std.proofs.Common.{◌≡◌, ◌&&◌, ap, sym, ◌∙◌, Some, None, Option, Bool, true, false, is_some, refl, Ok, Err}
+use Rattle.std.proofs.Common.{◌≡◌, ◌&&◌, ap, sym, ◌∙◌, Some, None, Option, is_some, refl}
 use Rattle.std.specs.Option.{ok_or}
 use Rattle.std.specs.Result.{result_ok}
 use Rattle.dav_path_core.specs.Keyed.{entry, is_kept}

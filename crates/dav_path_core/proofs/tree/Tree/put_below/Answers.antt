@@ -1,7 +1,6 @@
 use Rattle.std.proofs.Common.{◌≡◌, ap, sym, ◌∙◌, subst, is_some, Some, None, false, Option, ℕ}
 use Rattle.std.proofs.lemmas.Bool.{false≢true}
-use Rattle.dav_path_core.specs.Keyed.{Keyed, child, entry, place_of, placed, is_under, IsKnown}
-use Rattle.dav_path_core.specs.Held.{IsHeld}
+use Rattle.dav_path_core.specs.Keyed.{child, place_of, placed, is_under, IsKnown}
 use Rattle.dav_path_core.specs.View.{node_at, keyed_of, first_in, closed_up, put_below, put_first}
 use Rattle.dav_path_core.proofs.Views.{known-view, entry-view}
 use Rattle.dav_path_core.proofs.Links.{held_from}
@@ -46,7 +45,7 @@ made g c =
 
 pub invariant_of-self : goal.invariant_of-self
 invariant_of-self g c =
-    IsLinked-placed g.K.PartialEq.eq g.met.K.Eq.laws c.self.inside.nodes.entries c.put_before.new.nodes.entries c.self.inside.next c.args.id c.args.new_parent c.in-Some-place.above c.args.new_name c.in-Some-place._name
+    IsLinked-placed g.K.PartialEq.eq g.met.K.Eq.laws.symm c.self.inside.nodes.entries c.put_before.new.nodes.entries c.self.inside.next c.args.id c.args.new_parent c.in-Some-place.above c.args.new_name c.in-Some-place._name
     c.in-Some.node.now c.self.invariant (subst (λ t. IsKnown t.keyed c.args.new_parent) (sym c.self.view_is) c.requires.known_parent) c.requires.not_root
     (subst (λ t. is_under t.keyed c.args.id c.args.new_parent ≡ false) (sym c.self.view_is) c.requires.outside)
     (subst (λ t. child (g.K.PartialEq.eq c.args.new_name) t.keyed c.args.new_parent ≡ None) (sym c.self.view_is) c.requires.free)
@@ -54,7 +53,7 @@ invariant_of-self g c =
 
 pub returns-clause-placed : goal.returns-clause-placed
 returns-clause-placed g c =
-    keyed-placed g.K.PartialEq.eq g.met.K.Eq.laws c.self.inside.nodes.entries c.put_before.new.nodes.entries c.self.inside.next c.args.id c.args.new_parent c.in-Some-place.above c.args.new_name c.in-Some-place._name
+    keyed-placed g.K.PartialEq.eq g.met.K.Eq.laws.symm c.self.inside.nodes.entries c.put_before.new.nodes.entries c.self.inside.next c.args.id c.args.new_parent c.in-Some-place.above c.args.new_name c.in-Some-place._name
     c.in-Some.node.now c.self.invariant (subst (λ t. IsKnown t.keyed c.args.new_parent) (sym c.self.view_is) c.requires.known_parent) c.requires.not_root
     (subst (λ t. is_under t.keyed c.args.id c.args.new_parent ≡ false) (sym c.self.view_is) c.requires.outside)
     (subst (λ t. child (g.K.PartialEq.eq c.args.new_name) t.keyed c.args.new_parent ≡ None) (sym c.self.view_is) c.requires.free)

@@ -1,0 +1,24 @@
+use Rattle.std.proofs.Common.{refl, sym, lit<}
+use Rattle.std.proofs.lemmas.Bool.{both_ways}
+use Rattle.std.proofs.lemmas.Str.Pattern.{NoCharPasses-char, split_parts, contains_char}
+use Rattle.dav_headers_core.proofs.DashLemmas.{no_two, just_two, too_many}
+use Rattle.dav_headers_core.proofs.davheaders.update_range.around_dash.Goals as goal
+
+pub returns-in_err-first : goal.returns-in_err-first
+returns-in_err-first c =
+    let none = no_two c.args.range.now (λ i lt. NoCharPasses-char 45 c.args.range.now i c.in_err-first.ensures.cases (lit< tt) lt) in
+    rw (c.from_residual.ensures, none) refl
+
+pub returns-then-contains : goal.returns-then-contains
+returns-then-contains c =
+    let parts = split_parts 45 c.args.range.now _ c.split_once.ensures.cases (lit< tt) in
+    let at = rw c.in_ok-first.was at parts in
+    let dash = (contains_char 45 c.in_ok-first.last.now c.contains.result c.contains.ensures.cases (lit< tt)).0 c.if-contains.true in
+    sym (too_many c.args.range.now c.in_ok-first.first.now c.in_ok-first.last.now dash.0 at.0 at.1 dash.1 dash.2)
+
+pub returns-else-contains : goal.returns-else-contains
+returns-else-contains c =
+    let parts = split_parts 45 c.args.range.now _ c.split_once.ensures.cases (lit< tt) in
+    let at = rw c.in_ok-first.was at parts in
+    let no_dash = (contains_char 45 c.in_ok-first.last.now c.contains.result c.contains.ensures.cases (lit< tt)).1 in
+    sym (just_two c.args.range.now c.in_ok-first.first.now c.in_ok-first.last.now at.0 at.1 (λ i lt e. absurd (both_ways c.contains.result c.if-contains.false (no_dash i lt e))))

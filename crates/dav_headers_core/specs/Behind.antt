@@ -1,0 +1,8 @@
+-- What stands behind the front of a text.
+use Rattle.std.specs.Prelude.{ℕ, nat_eq, List, drop, length, Option}
+use Rattle.std.specs.List.{starts_with}
+use Rattle.dav_headers_core.specs.Optional.{when}
+
+-- the rest, where the text begins so
+abbrev pub behind : List ℕ → List ℕ → Option (List ℕ)
+behind front text = when (starts_with nat_eq text front) (drop (length front) text)

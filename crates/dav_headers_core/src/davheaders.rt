@@ -1,0 +1,35 @@
+//! Headers: their names, and what their values say.
+mod depths;
+mod destinations;
+mod errors;
+mod etags;
+mod if_headers;
+mod if_ranges;
+mod languages;
+mod names;
+mod overwrites;
+mod tag_lists;
+#[cfg(test)]
+mod tests;
+mod texts;
+mod timeouts;
+mod update_range;
+mod urls;
+mod values;
+
+pub use depths::Depth;
+pub use destinations::Destination;
+pub use errors::HeaderError;
+pub use etags::{ETag, spellings_are_told};
+pub use if_headers::{If, IfCondition, IfItem, IfList, one_reading};
+pub use if_ranges::IfRange;
+pub use languages::ContentLanguage;
+pub use names::{
+    content_language, content_location, content_type, depth, destination, etag, if_, if_match,
+    if_none_match, if_range, lock_token, overwrite, timeout, x_litmus, x_update_range,
+};
+pub use overwrites::Overwrite;
+pub use tag_lists::{ETagList, IfMatch, IfNoneMatch};
+pub use texts::{ContentLocation, ContentType, LockToken, XLitmus};
+pub use timeouts::{DavTimeout, Timeout, written_timeouts_are_read};
+pub use update_range::{XUpdateRange, written_ranges_are_read};

@@ -1,0 +1,79 @@
+//! `If-Range`.
+ghost use Rattle.std.specs.Prelude.{◌≡◌, IfOk, IsAscii, MatchResult};
+ghost use Rattle.dav_headers_core.specs.Gives.{Gives};
+ghost use Rattle.dav_headers_core.specs.Values.{written};
+ghost use Rattle.dav_headers_core.specs.IfRanges.{TextSays, ValuesSay, shown, if_range_text, if_range_strong_eq};
+ghost use Rattle.dav_headers_core.specs.declared.davheaders.errors.HeaderError.TheVariants as HeaderError;
+ghost use Rattle.dav_headers_core.specs.declared.davheaders.if_ranges.IfRange.{IfRange as Range};
+
+use super::values::{copied_value, one_text, value_of};
+use super::{ETag, HeaderError};
+use http_header::HeaderValue;
+use httpdate::HttpDate;
+use std::alloc::{AllocError, Global};
+
+/// What a resource has to be unchanged by for a part of it to be sent (RFC 9110 section 13.1.5).
+#[derive(Debug, Drop)]
+pub enum IfRange {
+    /// It has this tag.
+    ETag(ETag),
+    /// It was changed last at this second.
+    Date(HttpDate),
+}
+
+fn range_of(alloc: Global, text: &str) -> Result<IfRange, HeaderError>
+    requires { IsAscii text.now }
+    ensures ok { IfOk result (λ range. TextSays text.now range) }
+    ensures only { (range : Range) → TextSays text.now range → MatchResult result (λ r. shown r ≡ shown range) (λ e. e ≡ HeaderError.OutOfMemory) }
+{
+    if let Ok(date) = text.parse::<HttpDate>() {
+        return Ok(IfRange::Date(date));
+    }
+    Ok(IfRange::ETag(ETag::from_str(alloc, text)?))
+}
+
+impl IfRange {
+    /// The date that the one text shows, white space round it aside; else the tag that it spells. Anything else is `Invalid`.
+    pub fn decode(alloc: Global, values: &[HeaderValue]) -> Result<IfRange, HeaderError>
+        ensures ok { IfOk result (λ range. ValuesSay values.now range) }
+        // What the values say is read, unless memory runs out.
+        ensures only { (range : Range) → ValuesSay values.now range
+            → MatchResult result (λ r. shown r ≡ shown range) (λ e. e ≡ HeaderError.OutOfMemory) }
+    {
+        let text = one_text(values).ok_or(HeaderError::Invalid)?;
+        range_of(alloc, text)
+    }
+
+    /// The date as IMF-fixdate, or the tag's spelling. `Invalid` exactly where it holds a byte below 32 but the tab, or 127.
+    pub fn encode(&self, alloc: Global) -> Result<HeaderValue, HeaderError>
+        ensures { Gives (λ value. value) result (written (if_range_text self.now)) }
+    {
+        match self {
+            IfRange::ETag(tag) => tag.encode(alloc),
+            IfRange::Date(date) => value_of(date.to_string(alloc)?),
+        }
+    }
+
+    /// Whether both are dates of one second, or both are tags that are `strong_eq`. It takes no memory.
+    pub fn strong_eq(&self, other: &IfRange) -> bool
+        ensures { result ≡ if_range_strong_eq self.now other.now }
+    {
+        match (self, other) {
+            (IfRange::ETag(tag), IfRange::ETag(other)) => tag.strong_eq(other),
+            (IfRange::Date(date), IfRange::Date(other)) => date == other,
+            _ => false,
+        }
+    }
+}
+
+/// An equal value, or want of memory.
+impl Clone for IfRange {
+    ghost is_clone = { λ range copy. copy ≡ range };
+
+    fn clone(&self) -> Result<IfRange, AllocError> {
+        match self {
+            IfRange::ETag(tag) => Ok(IfRange::ETag(tag.clone()?)),
+            IfRange::Date(date) => Ok(IfRange::Date(*date)),
+        }
+    }
+}

@@ -1,0 +1,160 @@
+//! `Content-Language`.
+ghost use Rattle.std.specs.Prelude.{◌≡◌, option_copied, map, string_bytes};
+ghost use Rattle.std.specs.List.{list_all};
+ghost use Rattle.http_header.specs.FieldValue.{IsVisibleAscii};
+ghost use Rattle.dav_headers_core.specs.Gives.{Gives};
+ghost use Rattle.dav_headers_core.specs.Optional.{every};
+ghost use Rattle.dav_headers_core.specs.Values.{is_text_byte, written};
+ghost use Rattle.dav_headers_core.specs.Pieces.{pieces, joined};
+ghost use Rattle.dav_headers_core.specs.Languages.{is_language, language_of, languages_of, languages_of_values, language_header};
+
+use super::HeaderError;
+use super::values::{is_text, pieces, text_of, value_of};
+use http_header::HeaderValue;
+use std::alloc::{AllocError, Global};
+use std::marker::Model;
+
+/// The languages that a body is meant for (RFC 9110 section 8.5). A contract sees it as the list of their bytes.
+#[derive(Debug, Drop)]
+pub struct ContentLanguage {
+    languages: Vec<String>,
+}
+
+impl Model for ContentLanguage {
+    ghost use Rattle.std.specs.Prelude.{ℕ, List, map, string_bytes};
+
+    ghost Value = { List (List ℕ) };
+
+    ghost view = { λ c. map string_bytes c.languages.items };
+}
+
+fn is_language(piece: &[u8]) -> bool
+    ensures { result ≡ is_language piece.now }
+{
+    piece.len() == 2 || (piece.len() > 4 && piece[2] == b'-')
+}
+
+fn language_of(piece: &str) -> Option<&str>
+    ensures { option_copied result ≡ language_of piece.now }
+{
+    if is_language(piece.as_bytes()) {
+        Some(piece)
+    } else {
+        None
+    }
+}
+
+fn languages_among(alloc: Global, pieces: &[&str]) -> Result<Vec<String>, HeaderError>
+    ensures { Gives (λ languages. map string_bytes languages.items) result (every language_of (map (λ piece. piece.now) pieces.now)) }
+{
+    let mut languages = Vec::new(alloc);
+    for piece in pieces {
+        match language_of(piece) {
+            Some(language) => languages.push(String::from_str(alloc, language)?)?,
+            None => return Err(HeaderError::Invalid),
+        }
+    }
+    Ok(languages)
+}
+
+fn languages_in(alloc: Global, text: &str) -> Result<Vec<String>, HeaderError>
+    requires { IsVisibleAscii text.now }
+    ensures { Gives (λ languages. map string_bytes languages.items) result (every language_of (pieces text.now)) }
+{
+    let pieces = pieces(alloc, text)?;
+    languages_among(alloc, &pieces)
+}
+
+fn languages_of(alloc: Global, value: &HeaderValue) -> Result<Vec<String>, HeaderError>
+    ensures { Gives (λ languages. map string_bytes languages.items) result (languages_of value.now.bytes) }
+{
+    let text = text_of(value).ok_or(HeaderError::Invalid)?;
+    languages_in(alloc, text)
+}
+
+fn languages_of_values(alloc: Global, values: &[HeaderValue]) -> Result<Vec<String>, HeaderError>
+    ensures { Gives (λ languages. map string_bytes languages.items) result (languages_of_values values.now) }
+{
+    let mut languages = Vec::new(alloc);
+    for value in values {
+        let mut more = languages_of(alloc, value)?;
+        languages.append(&mut more)?;
+    }
+    Ok(languages)
+}
+
+impl ContentLanguage {
+    /// The languages of one value of this text, read as by `decode`: `Invalid` exactly where a byte isn't 32 to 126 or a tab,
+    /// or where a piece between commas, without spaces and tabs at its ends, is neither of two bytes nor longer than four bytes
+    /// with `-` as its third.
+    pub fn from_str(alloc: Global, value: &str) -> Result<ContentLanguage, HeaderError>
+        ensures { Gives (λ languages. languages) result (languages_of value.now) }
+    {
+        if !is_text(value.as_bytes()) {
+            return Err(HeaderError::Invalid);
+        }
+        Ok(ContentLanguage {
+            languages: languages_in(alloc, value)?,
+        })
+    }
+
+    /// The languages, in order. It takes no memory.
+    pub fn iter_langs(&self) -> &[String]
+        ensures { map string_bytes result.now ≡ self.now }
+    {
+        &self.languages
+    }
+
+    /// The languages of one or more texts, one text after another: what stands between the commas, without spaces and tabs at
+    /// the ends, each of two bytes or longer than four bytes with `-` as its third (own). Anything else is `Invalid`.
+    pub fn decode(alloc: Global, values: &[HeaderValue]) -> Result<ContentLanguage, HeaderError>
+        ensures { Gives (λ languages. languages) result (language_header values.now) }
+    {
+        if values.is_empty() {
+            return Err(HeaderError::Invalid);
+        }
+        Ok(ContentLanguage {
+            languages: languages_of_values(alloc, values)?,
+        })
+    }
+
+    /// The languages joined by `, `. `Invalid` exactly where that would hold a byte below 32 but the tab, or 127; what is decoded
+    /// holds none.
+    pub fn encode(&self, alloc: Global) -> Result<HeaderValue, HeaderError>
+        ensures { Gives (λ value. value) result (written (joined self.now)) }
+    {
+        value_of(self.languages.join(alloc, ", ")?)
+    }
+}
+
+/// As many languages, each of the same bytes as the one at its place.
+impl PartialEq for ContentLanguage {
+    ghost use Rattle.std.specs.Prelude.{nat_eq};
+    ghost use Rattle.std.specs.Cmp.{partial_equiv_from_equiv};
+    ghost use Rattle.std.specs.Cmp.Lexicographic.{pointwise, lists_equiv, nat_list_eq_equiv};
+
+    ghost eq = { pointwise (pointwise nat_eq) };
+
+    ghost laws = { partial_equiv_from_equiv (lists_equiv nat_list_eq_equiv) };
+
+    fn eq(&self, other: &ContentLanguage) -> bool {
+        self.languages == other.languages
+    }
+}
+
+impl Eq for ContentLanguage {
+    ghost use Rattle.std.specs.Cmp.Lexicographic.{lists_equiv, nat_list_eq_equiv};
+
+    ghost laws = { lists_equiv nat_list_eq_equiv };
+}
+
+/// The same languages, or want of memory.
+impl Clone for ContentLanguage {
+    ghost is_clone = { λ languages copy. copy ≡ languages };
+
+    fn clone(&self) -> Result<ContentLanguage, AllocError> {
+        Ok(ContentLanguage {
+            languages: self.languages.clone()?,
+        })
+    }
+}

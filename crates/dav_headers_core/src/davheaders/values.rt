@@ -1,0 +1,118 @@
+//! Values of header fields as texts.
+ghost use Rattle.std.specs.Prelude.{◌≡◌, IfOk, IfSome, option_copied, map, string_bytes};
+ghost use Rattle.std.specs.List.{list_all, list_any};
+ghost use Rattle.std.specs.Char.{is_ascii_whitespace};
+ghost use Rattle.http_header.specs.FieldValue.{IsVisibleAscii};
+ghost use Rattle.dav_headers_core.specs.Gives.{Gives};
+ghost use Rattle.dav_headers_core.specs.Values.{one_value, one_text, text_of, is_text_byte, is_control, written};
+ghost use Rattle.dav_headers_core.specs.Pieces.{trimmed_by, pieces};
+ghost use Rattle.dav_headers_core.specs.Pieces as spelled;
+
+use super::HeaderError;
+use http_header::HeaderValue;
+use std::alloc::{AllocError, Global};
+
+fn is_text_byte(b: u8) -> bool
+    ensures { result ≡ is_text_byte b }
+{
+    b == b'\t' || (b >= 32 && b < 127)
+}
+
+/// The bytes of the one value.
+pub(super) fn one_value(values: &[HeaderValue]) -> Option<&[u8]>
+    ensures { option_copied result ≡ one_value values.now }
+{
+    match values {
+        [value] => Some(value.as_bytes()),
+        _ => None,
+    }
+}
+
+/// Whether the bytes are a text.
+pub(super) fn is_text(bytes: &[u8]) -> bool
+    ensures { result ≡ list_all is_text_byte bytes.now }
+{
+    bytes.iter().all(|b| is_text_byte(*b))
+}
+
+/// The value's text.
+#[tactic(auto, using(crate::proofs::TextLemmas::visible_test, crate::proofs::TextLemmas::visible_fails))]
+pub(super) fn text_of(value: &HeaderValue) -> Option<&str>
+    ensures value { option_copied result ≡ text_of value.now.bytes }
+    ensures visible { IfSome result (λ text. IsVisibleAscii text.now) }
+{
+    value.to_str().ok()
+}
+
+/// The text of the one value.
+pub(super) fn one_text(values: &[HeaderValue]) -> Option<&str>
+    ensures value { option_copied result ≡ one_text values.now }
+    ensures visible { IfSome result (λ text. IsVisibleAscii text.now) }
+{
+    match values {
+        [value] => text_of(value),
+        _ => None,
+    }
+}
+
+/// A copy of the text of the one value.
+pub(super) fn one_string(alloc: Global, values: &[HeaderValue]) -> Result<String, HeaderError>
+    ensures { Gives (λ text. string_bytes text) result (one_text values.now) }
+{
+    let text = one_text(values).ok_or(HeaderError::Invalid)?;
+    Ok(String::from_str(alloc, text)?)
+}
+
+fn trimmed(piece: &str) -> &str
+    ensures { result.now ≡ trimmed_by is_ascii_whitespace piece.now }
+{
+    piece.trim_ascii()
+}
+
+/// The text, trimmed.
+pub(super) fn trimmed_text(text: &str) -> &str
+    requires { IsVisibleAscii text.now }
+    ensures { result.now ≡ spelled.trimmed text.now }
+{
+    trimmed(text)
+}
+
+/// What stands between the commas of a text, trimmed.
+pub(super) fn pieces(alloc: Global, text: &str) -> Result<Vec<&str>, AllocError>
+    requires { IsVisibleAscii text.now }
+    ensures { IfOk result (λ list. map (λ piece. piece.now) list.items ≡ pieces text.now) }
+{
+    text.split(',').map(trimmed).collect(alloc)
+}
+
+fn is_control(b: u8) -> bool
+    ensures { result ≡ is_control b }
+{
+    (b < 32 && b != b'\t') || b == 127
+}
+
+fn holds_control(bytes: &[u8]) -> bool
+    ensures { result ≡ list_any is_control bytes.now }
+{
+    bytes.iter().any(|b| is_control(*b))
+}
+
+/// The value of this text. `Invalid` exactly where it holds a byte below 32 but the tab, or 127.
+pub(super) fn value_of(text: String) -> Result<HeaderValue, HeaderError>
+    ensures { Gives (λ value. value) result (written (string_bytes text)) }
+{
+    if holds_control(text.as_bytes()) {
+        return Err(HeaderError::Invalid);
+    }
+    HeaderValue::from_string(text).map_err(|_| HeaderError::OutOfMemory)
+}
+
+/// The value of a copy of this text, refused as by `value_of`.
+pub(super) fn copied_value(alloc: Global, text: &str) -> Result<HeaderValue, HeaderError>
+    ensures { Gives (λ value. value) result (written text.now) }
+{
+    if holds_control(text.as_bytes()) {
+        return Err(HeaderError::Invalid);
+    }
+    HeaderValue::from_str(alloc, text).map_err(|_| HeaderError::OutOfMemory)
+}

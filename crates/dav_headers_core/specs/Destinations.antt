@@ -4,7 +4,6 @@ use Rattle.http_header.specs.FieldValue.{FieldValue}
 use Rattle.dav_headers_core.specs.Optional.{◌>>=◌}
 use Rattle.dav_headers_core.specs.Urls.{url_of}
 use Rattle.dav_headers_core.specs.Values.{one_text}
-use Rattle.dav_headers_core.specs.Urls.{url_of}
 
 abbrev pub is_rooted : List ℕ → Bool
 is_rooted [] = false

@@ -3,20 +3,20 @@ ghost use Rattle.std.specs.Prelude.{◌≡◌, false, option_map};
 ghost use Rattle.std.specs.Str.{is_utf8};
 ghost use Rattle.dav_headers_core.specs.Gives.{Gives};
 ghost use Rattle.dav_headers_core.specs.Optional.{when};
-ghost use Rattle.dav_headers_core.specs.Pieces as spelled;
-ghost use Rattle.dav_headers_core.specs.IfBytes as bytes;
+ghost use Rattle.dav_headers_core.specs.Pieces as pieces;
+ghost use Rattle.dav_headers_core.specs.IfBytes as if_bytes;
 ghost use Rattle.dav_headers_core.specs.IfReading as reading;
 
 use crate::davheaders::HeaderError;
 
 fn is_blank(b: u8) -> bool
-    ensures { result ≡ spelled.is_blank b }
+    ensures { result ≡ pieces.is_blank b }
 {
     b == b' ' || b == b'\t'
 }
 
 fn is_special(b: u8) -> bool
-    ensures { result ≡ bytes.is_special b }
+    ensures { result ≡ if_bytes.is_special b }
 {
     b == b'(' || b == b')' || b == b'<' || b == b'>' || b == b'[' || b == b']'
 }

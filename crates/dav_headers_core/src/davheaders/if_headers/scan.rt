@@ -1,4 +1,4 @@
-//! Pieces of an `If` value. Each reads a byte once.
+//! Pieces of an `If` value. Each byte of it is read a fixed number of times.
 ghost use Rattle.std.specs.Prelude.{◌≡◌, false, option_map};
 ghost use Rattle.std.specs.Str.{is_utf8};
 ghost use Rattle.dav_headers_core.specs.Gives.{Gives};

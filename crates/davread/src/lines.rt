@@ -1,0 +1,90 @@
+//! Lines, each with its answer.
+use crate::headers::{self, Header};
+use crate::refusals::Refusal;
+use crate::words::words_of;
+use crate::{equality, methods, paths};
+use std::alloc::{AllocError, Global};
+use std::io::{self, BufRead, BufReader, BufWriter, ErrorKind, Read, Write};
+
+/// Why lines are read no further.
+#[derive(Clone, Copy)]
+pub enum Stop {
+    /// The input or the output failed.
+    Io,
+    /// There is no memory outside a line.
+    OutOfMemory,
+}
+
+impl From<io::Error> for Stop {
+    fn from(error: io::Error) -> Stop {
+        match error.kind() {
+            ErrorKind::OutOfMemory => Stop::OutOfMemory,
+            _ => Stop::Io,
+        }
+    }
+}
+
+/// Reads `input` to its end and writes to `output` an answer for each line. What was answered is written before it stops.
+pub fn answer_lines<I: Read + Drop, O: Write + Drop>(
+    alloc: Global,
+    input: I,
+    output: O,
+) -> Result<(), Stop> {
+    let mut input = BufReader::new(alloc, input)?;
+    let mut output = BufWriter::new(alloc, output)?;
+    let answered = answer_each(alloc, &mut input, &mut output);
+    output.flush()?;
+    answered
+}
+
+// One line at a time, in one buffer.
+fn answer_each<I: Read + Drop, O: Write + Drop>(
+    alloc: Global,
+    input: &mut BufReader<I>,
+    output: &mut BufWriter<O>,
+) -> Result<(), Stop> {
+    let mut line = Vec::new(alloc);
+    for _ in 0..u64::MAX {
+        line.clear();
+        if input.read_until(b'\n', &mut line)? == 0 {
+            return Ok(());
+        }
+        if line.ends_with(b"\n") {
+            let _ended = line.pop();
+        }
+        match answer_to(alloc, &line) {
+            Ok(Some(answer)) => writeln!(output, "{answer}")?,
+            Ok(None) => {}
+            Err(refusal) => writeln!(output, "{refusal}")?,
+        }
+    }
+    Ok(())
+}
+
+// None for a line without words and for a comment.
+fn answer_to(alloc: Global, line: &[u8]) -> Result<Option<String>, Refusal> {
+    let words = words_of(alloc, line)?;
+    match words.as_slice() {
+        [] => Ok(None),
+        [first, ..] if first.starts_with(b"#") => Ok(None),
+        [kind, rest @ ..] => Ok(Some(answer_of(alloc, kind, rest)?)),
+    }
+}
+
+fn answer_of(alloc: Global, kind: &[u8], words: &[&[u8]]) -> Result<String, Refusal> {
+    let Ok(kind) = str::from_utf8(kind) else {
+        return Err(Refusal::Malformed);
+    };
+    match (kind, words) {
+        ("path", [text, prefixes @ ..]) => paths::path(alloc, text, prefixes),
+        ("target", [text, prefixes @ ..]) => paths::target(alloc, text, prefixes),
+        ("same", [text, other, prefixes @ ..]) => paths::same(alloc, text, other, prefixes),
+        ("method", [word]) => methods::method(alloc, word),
+        ("methods", words) => methods::methods(alloc, words),
+        ("value", [b"etag", word]) => headers::tag_of_value(alloc, word),
+        ("equal", [kind, word, other]) => equality::equal(alloc, Header::named(kind)?, word, other),
+        ("text", [kind, word]) => headers::of_text(alloc, Header::named(kind)?, word),
+        ("write", [kind, words @ ..]) => headers::written(alloc, Header::named(kind)?, words),
+        (kind, words) => headers::read(alloc, Header::named(kind.as_bytes())?, words),
+    }
+}

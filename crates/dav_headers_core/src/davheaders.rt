@@ -9,8 +9,6 @@ mod languages;
 mod names;
 mod overwrites;
 mod tag_lists;
-#[cfg(test)]
-mod tests;
 mod texts;
 mod timeouts;
 mod update_range;

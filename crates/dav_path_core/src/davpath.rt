@@ -18,8 +18,6 @@ mod iter;
 mod lent;
 mod reading;
 mod shown;
-#[cfg(test)]
-mod tests;
 mod url;
 
 use http_uri::Uri;

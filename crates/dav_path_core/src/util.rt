@@ -182,6 +182,3 @@ fn bits_beside(table: &[(&str, u32)], word: &str) -> Option<u32>
     }
     None
 }
-
-#[cfg(test)]
-mod tests;

@@ -1,11 +1,24 @@
-//! Clones: each is equal to its source as contracts see it, and can be had.
+//! Clones of headers: each is equal to its source as contracts see it, and can be had.
 ghost use Rattle.std.specs.Prelude.{◌≡◌, IfOk, string_bytes};
 ghost use Rattle.dav_headers_core.specs.TagLists.{tag_list};
 
-use super::{given, writes};
-use crate::davheaders::*;
-use std::alloc::AllocError;
+use dav_headers_core::davheaders::*;
+use http_header::HeaderValue;
+use std::alloc::{AllocError, Global};
 use std::test::Fail;
+
+/// The one value of these bytes.
+fn given(alloc: Global, bytes: &[u8]) -> Result<[HeaderValue; 1], Fail> {
+    Ok([HeaderValue::from_bytes(alloc, bytes)?])
+}
+
+/// Whether a value of these bytes was written.
+fn writes(answer: Result<HeaderValue, HeaderError>, bytes: &[u8]) -> bool {
+    match answer {
+        Ok(value) => value.as_bytes() == bytes,
+        Err(_) => false,
+    }
+}
 
 fn of_timeout(timeout: &Timeout) -> Result<Timeout, AllocError>
     ensures { IfOk result (λ copy. copy.0.items ≡ timeout.now.0.items) }
@@ -82,7 +95,7 @@ fn of_languages(languages: &ContentLanguage) -> Result<ContentLanguage, AllocErr
 #[test]
 fn clones_texts(rt: HostRuntime) -> Result<(), Fail> {
     let alloc = rt.alloc();
-    let values = given(alloc, &[b"/a"])?;
+    let values = given(alloc, b"/a")?;
     let media = ContentType::decode(alloc, &values)?;
     assert!(rt; of_content_type(&media)?.0.as_str() == "/a");
     let location = ContentLocation::decode(alloc, &values)?;
@@ -93,7 +106,7 @@ fn clones_texts(rt: HostRuntime) -> Result<(), Fail> {
 #[test]
 fn clones_more_texts(rt: HostRuntime) -> Result<(), Fail> {
     let alloc = rt.alloc();
-    let values = given(alloc, &[b"/a"])?;
+    let values = given(alloc, b"/a")?;
     let token = LockToken::decode(alloc, &values)?;
     assert!(rt; of_lock_token(&token)?.0.as_str() == "/a");
     let litmus = XLitmus::decode(alloc, &values)?;
@@ -106,7 +119,7 @@ fn clones_more_texts(rt: HostRuntime) -> Result<(), Fail> {
 #[test]
 fn clones_lists(rt: HostRuntime) -> Result<(), Fail> {
     let alloc = rt.alloc();
-    let timeout = Timeout::decode(alloc, &given(alloc, &[b"Infinite, Second-7"])?)?;
+    let timeout = Timeout::decode(alloc, &given(alloc, b"Infinite, Second-7")?)?;
     assert!(rt; writes(of_timeout(&timeout)?.encode(alloc), b"Infinite, Second-7"));
     let languages = ContentLanguage::from_str(alloc, "en,de-DE")?;
     assert!(rt; writes(of_languages(&languages)?.encode(alloc), b"en, de-DE"));
@@ -116,10 +129,10 @@ fn clones_lists(rt: HostRuntime) -> Result<(), Fail> {
 #[test]
 fn clones_lists_of_tags(rt: HostRuntime) -> Result<(), Fail> {
     let alloc = rt.alloc();
-    let tags = IfMatch::decode(alloc, &given(alloc, &[b"\"a\",W/\"b\""])?)?;
+    let tags = IfMatch::decode(alloc, &given(alloc, b"\"a\",W/\"b\"")?)?;
     assert!(rt; writes(of_if_match(&tags)?.encode(alloc), b"\"a\", W/\"b\""));
     assert!(rt; writes(IfMatch(of_tags(&tags.0)?).encode(alloc), b"\"a\", W/\"b\""));
-    let star = IfNoneMatch::decode(alloc, &given(alloc, &[b"*"])?)?;
+    let star = IfNoneMatch::decode(alloc, &given(alloc, b"*")?)?;
     assert!(rt; writes(of_if_none_match(&star)?.encode(alloc), b"*"));
     Ok(())
 }

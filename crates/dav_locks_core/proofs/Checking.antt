@@ -5,8 +5,7 @@ use Rattle.std.proofs.lemmas.Bool.{and_parts, and_from, and_cases, or_cases, or_
 use Rattle.dav_path_core.specs.Fronts.{Path, is_front, is_same_path}
 use Rattle.dav_path_core.proofs.FrontLemmas.{is_same_path-same, is_front-refl}
 use Rattle.dav_locks_core.specs.Lock.{Lock}
-use Rattle.dav_locks_core.specs.Locks.{Caller, place, covers, held, any_held, is_at_or_below, refuses_change, check_conflicts}
-use Rattle.dav_locks_core.specs.Checks.{Check, reaches, refusing}
+use Rattle.dav_locks_core.specs.Locks.{Caller, lock_path, reaches, covers, held, any_held, is_at_or_below, refuses_change, check_conflicts}
 use Rattle.dav_locks_core.proofs.Exclusivity.{two_reach}
 use Rattle.dav_locks_core.proofs.ListLemmas.{none_passes}
 use Rattle.dav_locks_core.proofs.Members.{In, all_in, find_any, append_none}
@@ -24,47 +23,36 @@ no_conflict_at locks q deep who none l i =
     ]
 
 -- an exclusive lock over what is reached is held
-pub exclusive_held : (locks : List Lock) (k : Check) (who : Caller) → check_conflicts locks k.path k.deep who ≡ [] → (l : Lock) → In l locks
-    → l.shared ≡ false → (p : Path) → covers l p ≡ true → reaches k p ≡ true → held l who ≡ true
-exclusive_held locks k who none l i exclusive p covered reached = elim (no_conflict_at locks k.path k.deep who none l i) [
+pub exclusive_held : (locks : List Lock) (q : Path) (deep : Bool) (who : Caller) → check_conflicts locks q deep who ≡ [] → (l : Lock) → In l locks
+    → l.shared ≡ false → (p : Path) → covers l p ≡ true → reaches q deep p ≡ true → held l who ≡ true
+exclusive_held locks q deep who none l i exclusive p covered reached = elim (no_conflict_at locks q deep who none l i) [
   | inl h ↦ h
-  | inr apart ↦ elim (two_reach (place l) k.path p l.deep k.deep covered reached) [
+  | inr apart ↦ elim (two_reach (lock_path l) q p l.deep deep covered reached) [
     | inl c ↦ absurd (false≢true (sym apart.0 ∙ and_from _ _ c (or_left _ _ (ap not exclusive))))
     | inr b ↦ absurd (false≢true (sym apart.1 ∙ b))
   ]
 ]
 
 -- what is reached stands at or below the check's path
-reached_below : (k : Check) (p : Path) → reaches k p ≡ true → is_front k.path p ≡ true
-reached_below k p reached = elim (or_cases (is_same_path k.path p) (k.deep && is_front k.path p) reached) [
-  | inl here ↦ subst (λ w. is_front k.path w ≡ true) (is_same_path-same k.path p here) (is_front-refl k.path)
+reached_below : (q : Path) (deep : Bool) (p : Path) → reaches q deep p ≡ true → is_front q p ≡ true
+reached_below q deep p reached = elim (or_cases (is_same_path q p) (deep && is_front q p) reached) [
+  | inl here ↦ subst (λ w. is_front q w ≡ true) (is_same_path-same q p here) (is_front-refl q)
   | inr above ↦ (and_parts _ _ above).1
 ]
 
 -- over what is reached and any lock covers, a lock is held that covers a front of it
-pub any_lock_held : (locks : List Lock) (k : Check) (who : Caller) → check_conflicts locks k.path k.deep who ≡ [] → (l : Lock) → In l locks
-    → (p : Path) → covers l p ≡ true → reaches k p ≡ true
+pub any_lock_held : (locks : List Lock) (q : Path) (deep : Bool) (who : Caller) → check_conflicts locks q deep who ≡ [] → (l : Lock) → In l locks
+    → (p : Path) → covers l p ≡ true → reaches q deep p ≡ true
     → (m : Lock) × In m locks × (held m who ≡ true) × ((q : Path) × (is_front q p ≡ true) × (covers m q ≡ true))
-any_lock_held locks k who none l i p covered reached = elim (no_conflict_at locks k.path k.deep who none l i) [
+any_lock_held locks q deep who none l i p covered reached = elim (no_conflict_at locks q deep who none l i) [
   | inl h ↦ (l, i, h, (p, is_front-refl p, covered))
-  | inr apart ↦ elim (two_reach (place l) k.path p l.deep k.deep covered reached) [
+  | inr apart ↦ elim (two_reach (lock_path l) q p l.deep deep covered reached) [
     | inl c ↦
-        let others : (not l.shared || not (any_held locks k.path who)) ≡ false =
+        let others : (not l.shared || not (any_held locks q who)) ≡ false =
         elim (and_cases _ _ apart.0) [ inl w ↦ absurd (false≢true (sym w ∙ c)) | inr w ↦ w ] in
-        let found = find_any (λ m. covers m k.path && held m who) locks (not-false _ (or_parts _ _ others).1) in
+        let found = find_any (λ m. covers m q && held m who) locks (not-false _ (or_parts _ _ others).1) in
         let parts = and_parts _ _ found.2 in
-        (found.0, found.1, parts.1, (k.path, reached_below k p reached, parts.0))
+        (found.0, found.1, parts.1, (q, reached_below q deep p reached, parts.0))
     | inr b ↦ absurd (false≢true (sym apart.1 ∙ b))
   ]
 ]
-
--- of checks that none refuses, the one that reaches a path finds no conflict
-pub each_check : (locks : List Lock) (who : Caller) (ks : List Check) → refusing locks who ks ≡ [] → (p : Path) → list_any (λ k. reaches k p) ks ≡ true
-    → (k : Check) × (check_conflicts locks k.path k.deep who ≡ []) × (reaches k p ≡ true)
-each_check locks who [] none p h = absurd (false≢true h)
-each_check locks who (k ∷ ks) none p h =
-    let parts = append_none (check_conflicts locks k.path k.deep who) (refusing locks who ks) none in
-    elim (cases_Bool (reaches k p)) [
-      | inl t ↦ (k, parts.0, t)
-      | inr f ↦ each_check locks who ks parts.1 p (subst (λ b. (b || list_any (λ k. reaches k p) ks) ≡ true) f h)
-    ]

@@ -8,7 +8,7 @@ use Rattle.std.proofs.lemmas.List.Folds.{list_any_at}
 use Rattle.dav_path_core.specs.Fronts.{Path, is_front, is_same_path}
 use Rattle.dav_path_core.proofs.FrontLemmas.{is_same_path-same, is_front-refl}
 use Rattle.dav_locks_core.specs.Lock.{Lock}
-use Rattle.dav_locks_core.specs.Locks.{place, covers, height, held, Caller, refuses_lock, refuses_change, any_held, found_here, found}
+use Rattle.dav_locks_core.specs.Locks.{lock_path, covers, height, held, Caller, refuses_lock, refuses_change, any_held, found_here, found}
 use Rattle.dav_locks_core.specs.LockTree.{Granted, LockTree, locks_at, node_at, first_on_way, locks_of}
 use Rattle.dav_locks_core.specs.WayTests.{refuses_wanted, is_covering_held, refuses_asker, has_that_token}
 use Rattle.dav_locks_core.specs.Represents.{Represents}
@@ -19,8 +19,8 @@ use Rattle.dav_locks_core.proofs.Ways.{IsFirst, IsFirst-from, NoneOnWay-from, on
 
 -- a test of the locks on a way to p, and a test of all locks: they agree on the way, and no other lock passes
 pub record Agrees (on_way : Bool → Lock → Bool) (of_all : Lock → Bool) (p : Path) : Type 0 where
-  pub above : (l : Lock) → is_front (place l) p ≡ true → of_all l ≡ on_way (is_same_path (place l) p) l
-  pub aside : (l : Lock) → is_front (place l) p ≡ false → of_all l ≡ false
+  pub above : (l : Lock) → is_front (lock_path l) p ≡ true → of_all l ≡ on_way (is_same_path (lock_path l) p) l
+  pub aside : (l : Lock) → is_front (lock_path l) p ≡ false → of_all l ≡ false
 
 module _ (t : LockTree) (granted : List Granted) (next : ℕ) (r : Represents t granted next) (p : Path)
     (on_way : Bool → Lock → Bool) (of_all : Lock → Bool) (a : Agrees on_way of_all p) where
@@ -30,7 +30,7 @@ module _ (t : LockTree) (granted : List Granted) (next : ℕ) (r : Represents t 
     pub at : ℕ
     pub within : at < length (locks_at t node)
     pub is : get_or (locks_at t node) at d ≡ get_or granted j d
-    pub leads : node_at t 1 (place (get_or granted j d).1) ≡ Some node
+    pub leads : node_at t 1 (lock_path (get_or granted j d).1) ≡ Some node
 
   stands_at : (j : ℕ) (d : Granted) → j < length granted → StandsAt j d
   stands_at j d lt =
@@ -44,9 +44,9 @@ module _ (t : LockTree) (granted : List Granted) (next : ℕ) (r : Represents t 
   none_passes h j d lt =
       let s = stands_at j d lt in
       let l = (get_or granted j d).1 in
-      elim (cases_Bool (is_front (place l) p)) [
+      elim (cases_Bool (is_front (lock_path l) p)) [
         | inl above ↦ a.above l above
-            ∙ subst (λ (g : Granted). on_way (is_same_path (place l) p) g.1 ≡ false) s.is (NoneOnWay-from on_way t 1 p h (place l) s.node s.at d above s.leads s.within)
+            ∙ subst (λ (g : Granted). on_way (is_same_path (lock_path l) p) g.1 ≡ false) s.is (NoneOnWay-from on_way t 1 p h (lock_path l) s.node s.at d above s.leads s.within)
         | inr aside ↦ a.aside l aside
       ]
 
@@ -69,8 +69,8 @@ module _ (t : LockTree) (granted : List Granted) (next : ℕ) (r : Represents t 
           let b = r.listed m g.0 g.1 (found_at_place (locks_at t m) k d (r.nodes_in_order m) f.within) in
           let w = place_of_found g.0 g.1 granted b.0 in
           let is : get_or granted w.0 d ≡ g = w.2 d in
-          let path : place g.1 ≡ f.front = one_path t r.tree (place g.1) f.front m b.1 f.leads in
-          let above : is_front (place g.1) p ≡ true = subst (λ q. is_front q p ≡ true) (sym path) f.is_above in
+          let path : lock_path g.1 ≡ f.front = one_path t r.tree (lock_path g.1) f.front m b.1 f.leads in
+          let above : is_front (lock_path g.1) p ≡ true = subst (λ q. is_front q p ≡ true) (sym path) f.is_above in
           let passes : of_all g.1 ≡ true = a.above g.1 above ∙ ap (λ q. on_way (is_same_path q p) g.1) path ∙ f.passes d in
           let tall : height g.1 ≡ length f.front = ap (λ (q : Path). length q) path in
           record {
@@ -82,14 +82,14 @@ module _ (t : LockTree) (granted : List Granted) (next : ℕ) (r : Represents t 
             others = λ j lt pass.
                 let s = stands_at j d lt in
                 let l = (get_or granted j d).1 in
-                let front : is_front (place l) p ≡ true = elim (cases_Bool (is_front (place l) p)) [
+                let front : is_front (lock_path l) p ≡ true = elim (cases_Bool (is_front (lock_path l) p)) [
                   | inl yes' ↦ yes'
                   | inr no' ↦ absurd (true≢false (sym pass ∙ a.aside l no'))
                 ] in
-                let pass_way : on_way (is_same_path (place l) p) (get_or (locks_at t s.node) s.at d).1 ≡ true =
-                subst (λ (g : Granted). on_way (is_same_path (place l) p) g.1 ≡ true) (sym s.is) (sym (a.above l front) ∙ pass) in
+                let pass_way : on_way (is_same_path (lock_path l) p) (get_or (locks_at t s.node) s.at d).1 ≡ true =
+                subst (λ (g : Granted). on_way (is_same_path (lock_path l) p) g.1 ≡ true) (sym s.is) (sym (a.above l front) ∙ pass) in
                 subst (λ (g : Granted). (height g.1 < height l) ⊎ ((height g.1 ≡ height l) × (w.0 ≤ j))) (sym is)
-                (elim (f.others (place l) s.node s.at d front s.leads s.within pass_way) [
+                (elim (f.others (lock_path l) s.node s.at d front s.leads s.within pass_way) [
                   | inl less ↦ inl (omega (arith, tall, less))
                   | inr same ↦ inr (
                     omega (arith, tall, same.0),
@@ -160,16 +160,16 @@ and_false : (b : Bool) → (b && false) ≡ false
 and_false true = refl
 and_false false = refl
 
-covers-above : (l : Lock) (p : Path) → is_front (place l) p ≡ true → covers l p ≡ (is_same_path (place l) p || l.deep)
-covers-above l p h = ap (λ b. is_same_path (place l) p || (l.deep && b)) h ∙ ap (λ b. is_same_path (place l) p || b) (and_true l.deep)
+covers-above : (l : Lock) (p : Path) → is_front (lock_path l) p ≡ true → covers l p ≡ (is_same_path (lock_path l) p || l.deep)
+covers-above l p h = ap (λ b. is_same_path (lock_path l) p || (l.deep && b)) h ∙ ap (λ b. is_same_path (lock_path l) p || b) (and_true l.deep)
 
-covers-aside : (l : Lock) (p : Path) → is_front (place l) p ≡ false → covers l p ≡ false
+covers-aside : (l : Lock) (p : Path) → is_front (lock_path l) p ≡ false → covers l p ≡ false
 covers-aside l p h =
-    ap (λ b. is_same_path (place l) p || (l.deep && b)) h ∙ ap (λ b. is_same_path (place l) p || b) (and_false l.deep) ∙ or_false (is_same_path (place l) p) ∙ apart (is_same_path (place l) p) refl
+    ap (λ b. is_same_path (lock_path l) p || (l.deep && b)) h ∙ ap (λ b. is_same_path (lock_path l) p || b) (and_false l.deep) ∙ or_false (is_same_path (lock_path l) p) ∙ apart (is_same_path (lock_path l) p) refl
   where
-    apart : (b : Bool) → is_same_path (place l) p ≡ b → b ≡ false
+    apart : (b : Bool) → is_same_path (lock_path l) p ≡ b → b ≡ false
     apart false e = refl
-    apart true e = absurd (true≢false (sym (subst (λ q. is_front (place l) q ≡ true) (is_same_path-same (place l) p e) (is_front-refl (place l))) ∙ h))
+    apart true e = absurd (true≢false (sym (subst (λ q. is_front (lock_path l) q ≡ true) (is_same_path-same (lock_path l) p e) (is_front-refl (lock_path l))) ∙ h))
 
 pub wanted : (shared : Bool) (p : Path) → Agrees (refuses_wanted shared) (refuses_lock p shared false) p
 wanted shared p = record {
@@ -190,8 +190,8 @@ regroup false b c = refl
 pub asked : (locks : List Lock) (who : Caller) (held_one : Bool) (p : Path) → any_held locks p who ≡ held_one → Agrees (refuses_asker who held_one) (refuses_change locks p false who) p
 asked locks who held_one p same = record {
   above = λ l h.
-      ap (λ b. not (held l who) && b) (or_false _ ∙ ap (λ b. b && (not l.shared || not (any_held locks p who))) (covers-above l p h) ∙ ap (λ b. (is_same_path (place l) p || l.deep) && (not l.shared || not b)) same)
-      ∙ regroup (not (held l who)) (is_same_path (place l) p || l.deep) (not l.shared || not held_one);
+      ap (λ b. not (held l who) && b) (or_false _ ∙ ap (λ b. b && (not l.shared || not (any_held locks p who))) (covers-above l p h) ∙ ap (λ b. (is_same_path (lock_path l) p || l.deep) && (not l.shared || not b)) same)
+      ∙ regroup (not (held l who)) (is_same_path (lock_path l) p || l.deep) (not l.shared || not held_one);
   aside = λ l h.
       ap (λ b. not (held l who) && b) (or_false _ ∙ ap (λ b. b && (not l.shared || not (any_held locks p who))) (covers-aside l p h)) ∙ and_false (not (held l who));
 }

@@ -6,57 +6,57 @@ use Rattle.std.proofs.lemmas.Option.{none-some}
 use Rattle.dav_path_core.specs.Fronts.{Path}
 use Rattle.dav_locks_core.specs.Lock.{Lock}
 use Rattle.dav_locks_core.specs.Locks.{found, found_from, found_here, better, height}
-use Rattle.dav_locks_core.specs.Naming.{Loses}
+use Rattle.dav_locks_core.specs.Ended.{LocksEnded}
 use Rattle.dav_locks_core.proofs.Members.{In}
 
-pub Loses-refl : (gone : Lock → Bool) (locks : List Lock) → Loses gone locks locks
-Loses-refl gone [] = tt
-Loses-refl gone (a ∷ locks) = inl (refl, Loses-refl gone locks)
+pub LocksEnded-refl : (gone : Lock → Bool) (locks : List Lock) → LocksEnded gone locks locks
+LocksEnded-refl gone [] = tt
+LocksEnded-refl gone (a ∷ locks) = inl (refl, LocksEnded-refl gone locks)
 
-pub Loses-push : (gone : Lock → Bool) (locks : List Lock) (l : Lock) → Loses gone locks (locks ++ l ∷ [])
-Loses-push gone [] l = tt
-Loses-push gone (a ∷ locks) l = inl (refl, Loses-push gone locks l)
+pub LocksEnded-push : (gone : Lock → Bool) (locks : List Lock) (l : Lock) → LocksEnded gone locks (locks ++ l ∷ [])
+LocksEnded-push gone [] l = tt
+LocksEnded-push gone (a ∷ locks) l = inl (refl, LocksEnded-push gone locks l)
 
 -- what goes is gone by the test
-Loses-one : (gone : Lock → Bool) (a : Lock) (old new : List Lock) → gone a ≡ true → Loses gone old new → Loses gone (a ∷ old) new
-Loses-one gone a old [] h k = (h, k)
-Loses-one gone a old (b ∷ new) h k = inr (h, k)
+LocksEnded-one : (gone : Lock → Bool) (a : Lock) (old new : List Lock) → gone a ≡ true → LocksEnded gone old new → LocksEnded gone (a ∷ old) new
+LocksEnded-one gone a old [] h k = (h, k)
+LocksEnded-one gone a old (b ∷ new) h k = inr (h, k)
 
-pub Loses-remove : (gone : Lock → Bool) (locks : List Lock) (k : ℕ) → ((d : Lock) → k < length locks → gone (get_or locks k d) ≡ true) → Loses gone locks (remove locks k)
-Loses-remove gone [] k h = tt
-Loses-remove gone (a ∷ locks) zero h = Loses-one gone a locks locks (h a (omega arith)) (Loses-refl gone locks)
-Loses-remove gone (a ∷ locks) (suc k) h = inl (refl, Loses-remove gone locks k (λ d lt. h d (omega arith)))
+pub LocksEnded-remove : (gone : Lock → Bool) (locks : List Lock) (k : ℕ) → ((d : Lock) → k < length locks → gone (get_or locks k d) ≡ true) → LocksEnded gone locks (remove locks k)
+LocksEnded-remove gone [] k h = tt
+LocksEnded-remove gone (a ∷ locks) zero h = LocksEnded-one gone a locks locks (h a (omega arith)) (LocksEnded-refl gone locks)
+LocksEnded-remove gone (a ∷ locks) (suc k) h = inl (refl, LocksEnded-remove gone locks k (λ d lt. h d (omega arith)))
 
-pub Loses-trans : (g h : Lock → Bool) (a b c : List Lock) → Loses g a b → Loses h b c → Loses (λ l. g l || h l) a c
-Loses-trans g h [] b c p q = tt
-Loses-trans g h (x ∷ a) [] c p q = Loses-one (λ l. g l || h l) x a c (or_left _ _ p.0) (Loses-trans g h a [] c p.1 tt)
-Loses-trans g h (x ∷ a) (y ∷ b) [] p q = elim p [
-  | inl same ↦ (or_right _ _ (ap h (sym same.0) ∙ q.0), Loses-trans g h a b [] same.1 q.1)
-  | inr lost ↦ (or_left _ _ lost.0, Loses-trans g h a (y ∷ b) [] lost.1 q)
+pub LocksEnded-trans : (g h : Lock → Bool) (a b c : List Lock) → LocksEnded g a b → LocksEnded h b c → LocksEnded (λ l. g l || h l) a c
+LocksEnded-trans g h [] b c p q = tt
+LocksEnded-trans g h (x ∷ a) [] c p q = LocksEnded-one (λ l. g l || h l) x a c (or_left _ _ p.0) (LocksEnded-trans g h a [] c p.1 tt)
+LocksEnded-trans g h (x ∷ a) (y ∷ b) [] p q = elim p [
+  | inl same ↦ (or_right _ _ (ap h (sym same.0) ∙ q.0), LocksEnded-trans g h a b [] same.1 q.1)
+  | inr lost ↦ (or_left _ _ lost.0, LocksEnded-trans g h a (y ∷ b) [] lost.1 q)
 ]
-Loses-trans g h (x ∷ a) (y ∷ b) (z ∷ c) p q = elim p [
+LocksEnded-trans g h (x ∷ a) (y ∷ b) (z ∷ c) p q = elim p [
   | inl same ↦ elim q [
-    | inl again ↦ inl (again.0 ∙ same.0, Loses-trans g h a b c same.1 again.1)
-    | inr lost ↦ inr (or_right _ _ (ap h (sym same.0) ∙ lost.0), Loses-trans g h a b (z ∷ c) same.1 lost.1)
+    | inl again ↦ inl (again.0 ∙ same.0, LocksEnded-trans g h a b c same.1 again.1)
+    | inr lost ↦ inr (or_right _ _ (ap h (sym same.0) ∙ lost.0), LocksEnded-trans g h a b (z ∷ c) same.1 lost.1)
   ]
-  | inr lost ↦ inr (or_left _ _ lost.0, Loses-trans g h a (y ∷ b) (z ∷ c) lost.1 q)
+  | inr lost ↦ inr (or_left _ _ lost.0, LocksEnded-trans g h a (y ∷ b) (z ∷ c) lost.1 q)
 ]
 
 -- what isn't gone stands
-pub In-Loses : (gone : Lock → Bool) (l : Lock) → gone l ≡ false → (old new : List Lock) → Loses gone old new → In l old → In l new
-In-Loses gone l keep [] new p i = absurd i
-In-Loses gone l keep (a ∷ old) [] p i = elim i [
+pub In-LocksEnded : (gone : Lock → Bool) (l : Lock) → gone l ≡ false → (old new : List Lock) → LocksEnded gone old new → In l old → In l new
+In-LocksEnded gone l keep [] new p i = absurd i
+In-LocksEnded gone l keep (a ∷ old) [] p i = elim i [
   | inl here ↦ absurd (false≢true (sym keep ∙ ap gone (sym here) ∙ p.0))
-  | inr there ↦ In-Loses gone l keep old [] p.1 there
+  | inr there ↦ In-LocksEnded gone l keep old [] p.1 there
 ]
-In-Loses gone l keep (a ∷ old) (b ∷ new) p i = elim p [
+In-LocksEnded gone l keep (a ∷ old) (b ∷ new) p i = elim p [
   | inl same ↦ elim i [
     | inl here ↦ inl (same.0 ∙ here)
-    | inr there ↦ inr (In-Loses gone l keep old new same.1 there)
+    | inr there ↦ inr (In-LocksEnded gone l keep old new same.1 there)
   ]
   | inr lost ↦ elim i [
     | inl here ↦ absurd (false≢true (sym keep ∙ ap gone (sym here) ∙ lost.0))
-    | inr there ↦ In-Loses gone l keep old (b ∷ new) lost.1 there
+    | inr there ↦ In-LocksEnded gone l keep old (b ∷ new) lost.1 there
   ]
 ]
 

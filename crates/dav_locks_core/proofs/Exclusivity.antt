@@ -6,7 +6,7 @@ use Rattle.std.proofs.lemmas.Bool.{and_parts, and_from, or_cases, or_parts, or_r
 use Rattle.dav_path_core.specs.Fronts.{Path, is_front, is_same_path}
 use Rattle.dav_path_core.proofs.FrontLemmas.{is_same_path-same, fronts_of_one}
 use Rattle.dav_locks_core.specs.Lock.{Lock}
-use Rattle.dav_locks_core.specs.Locks.{place, covers, compatible, refuses_lock, lock_conflicts, is_at_or_below}
+use Rattle.dav_locks_core.specs.Locks.{lock_path, covers, compatible, refuses_lock, lock_conflicts, is_at_or_below}
 use Rattle.dav_locks_core.specs.Exclusive.{Compat, Exclusive}
 use Rattle.dav_locks_core.proofs.ListLemmas.{none_passes, all_filter, all_push, all_remove}
 
@@ -29,23 +29,23 @@ two_reach a q p da dq ha hq = elim (or_cases (is_same_path q p) (dq && is_front 
 ]
 
 -- a lock that doesn't refuse a wanted one is compatible with it wherever both cover
-Compat-wanted : (l new : Lock) → refuses_lock (place new) new.shared new.deep l ≡ false → Compat l new
+Compat-wanted : (l new : Lock) → refuses_lock (lock_path new) new.shared new.deep l ≡ false → Compat l new
 Compat-wanted l new h p cl cn = elim (cases_Bool (compatible l.shared new.shared)) [
   | inl t ↦ t
   | inr f ↦
-      let reached : Bool = covers l (place new) || (new.deep && is_at_or_below l (place new)) in
+      let reached : Bool = covers l (lock_path new) || (new.deep && is_at_or_below l (lock_path new)) in
       let free : reached ≡ false = subst (λ b. (not b && reached) ≡ false) f h in
-      let apart = or_parts (covers l (place new)) (new.deep && is_at_or_below l (place new)) free in
-      elim (two_reach (place l) (place new) p l.deep new.deep cl cn) [
+      let apart = or_parts (covers l (lock_path new)) (new.deep && is_at_or_below l (lock_path new)) free in
+      elim (two_reach (lock_path l) (lock_path new) p l.deep new.deep cl cn) [
         | inl c ↦ absurd (false≢true (sym apart.0 ∙ c))
         | inr b ↦ absurd (false≢true (sym apart.1 ∙ b))
       ]
 ]
 
-pub Exclusive-push : (locks : List Lock) (new : Lock) → Exclusive locks → lock_conflicts locks (place new) new.shared new.deep ≡ [] → Exclusive (locks ++ new ∷ [])
-Exclusive-push locks new h free = push locks h (none_passes (refuses_lock (place new) new.shared new.deep) locks free)
+pub Exclusive-push : (locks : List Lock) (new : Lock) → Exclusive locks → lock_conflicts locks (lock_path new) new.shared new.deep ≡ [] → Exclusive (locks ++ new ∷ [])
+Exclusive-push locks new h free = push locks h (none_passes (refuses_lock (lock_path new) new.shared new.deep) locks free)
   where
-    push : (locks : List Lock) → Exclusive locks → AllByRecursion (λ l. refuses_lock (place new) new.shared new.deep l ≡ false) locks → Exclusive (locks ++ new ∷ [])
+    push : (locks : List Lock) → Exclusive locks → AllByRecursion (λ l. refuses_lock (lock_path new) new.shared new.deep l ≡ false) locks → Exclusive (locks ++ new ∷ [])
     push [] h free = (tt, tt)
     push (l ∷ locks) h free = (all_push (Compat l) locks new h.0 (Compat-wanted l new free.0), push locks h.1 free.1)
 

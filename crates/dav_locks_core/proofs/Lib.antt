@@ -9,8 +9,6 @@ pub mod LockLists
 pub mod Members
 pub mod Numbered
 pub mod Places
-pub mod RunLaws
+pub mod Rows
 pub mod Standing
-pub mod StepAnswers
-pub mod StepLaws
 pub mod Ways

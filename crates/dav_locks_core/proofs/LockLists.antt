@@ -6,7 +6,7 @@ use Rattle.std.proofs.lemmas.List.{map_push}
 use Rattle.dav_path_core.specs.Fronts.{Segment, Path}
 use Rattle.dav_path_core.specs.Keyed.{Entry, entry, IsKnown, IsTree, with_item}
 use Rattle.dav_locks_core.specs.Lock.{Lock}
-use Rattle.dav_locks_core.specs.Locks.{place, lock_conflicts, check_conflicts, refuses_lock, refuses_change, any_held, found, Caller, covers, held}
+use Rattle.dav_locks_core.specs.Locks.{lock_path, lock_conflicts, check_conflicts, refuses_lock, refuses_change, any_held, found, Caller, covers, held}
 use Rattle.dav_locks_core.specs.LockTree.{Granted, LockTree, locks_at, is_segment, node_at, all_granted, locks_of, lock_list, first_on_way, ShowsAt, Grown}
 use Rattle.dav_locks_core.specs.Represents.{Represents, IsLockTree}
 use Rattle.dav_locks_core.specs.Exclusive.{Exclusive}
@@ -42,7 +42,7 @@ seen-none t next tree none = seen_from t [] next (Represents-none t next tree no
 pub seen-grown : (t u : LockTree) (next : ℕ) (locks : List Lock) → IsLockTree t next → lock_list t ≡ locks → Grown t u → IsTree is_segment u → IsSeenAs u next locks
 seen-grown t u next locks k is g tree = subst (IsSeenAs u next) is (seen_from u (all_granted t) next (Represents-grown t u (all_granted t) next k.represents g tree) k.exclusive)
 
-pub seen-push : (t u : LockTree) (next n : ℕ) (l : Lock) (locks : List Lock) → IsSeenAs t next locks → node_at t 1 (place l) ≡ Some n → IsKnown t n → lock_conflicts locks (place l) l.shared l.deep ≡ []
+pub seen-push : (t u : LockTree) (next n : ℕ) (l : Lock) (locks : List Lock) → IsSeenAs t next locks → node_at t 1 (lock_path l) ≡ Some n → IsKnown t n → lock_conflicts locks (lock_path l) l.shared l.deep ≡ []
     → u ≡ with_item t n (locks_at t n ++ (next, l) ∷ []) → IsSeenAs u (next + 1) (locks ++ l ∷ [])
 seen-push t u next n l locks k leads known free is =
     let changes : Changes t u n (locks_at t n ++ (next, l) ∷ []) =

@@ -107,7 +107,7 @@ Represents-grown t u granted next r g tree = record {
   tree = tree;
   in_order = r.in_order;
   nodes_in_order = λ n. subst InOrder (sym (g.locks n)) (r.nodes_in_order n);
-  listed = λ n k l h. let w = r.listed n k l (sym (ap (find nat_cmp k) (g.locks n)) ∙ h) in (w.0, way_stays t u g.ways 1 n (locks.place l) w.1);
+  listed = λ n k l h. let w = r.listed n k l (sym (ap (find nat_cmp k) (g.locks n)) ∙ h) in (w.0, way_stays t u g.ways 1 n (locks.lock_path l) w.1);
   stands = λ k l h. let w = r.stands k l h in (w.0, ap (find nat_cmp k) (g.locks w.0) ∙ w.1);
   below = r.below;
 }
@@ -154,7 +154,7 @@ module _ (t u : LockTree) (granted : List Granted) (next : ℕ) (r : Represents 
   apart_from_next : (g : ℕ) (l : Lock) → find nat_cmp g granted ≡ Some l → g ≢ next
   apart_from_next g l h e = omega (arith, r.below g l h, e)
 
-  module _ (n : ℕ) (l : Lock) (leads : node_at t 1 (locks.place l) ≡ Some n) (c : Changes t u n (locks_at t n ++ (next, l) ∷ [])) where
+  module _ (n : ℕ) (l : Lock) (leads : node_at t 1 (locks.lock_path l) ≡ Some n) (c : Changes t u n (locks_at t n ++ (next, l) ∷ [])) where
     here : List Granted
     here = locks_at t n ++ (next, l) ∷ []
 
@@ -178,12 +178,12 @@ module _ (t u : LockTree) (granted : List Granted) (next : ℕ) (r : Represents 
     new_here = find-push (locks_at t n) next l next (all_below_at n) ∙ ap (λ b. cond b (Some l) (find nat_cmp next (locks_at t n))) (eq-eqb next next refl)
 
     -- a lock that was there is listed still
-    still : (m g : ℕ) (k : Lock) → find nat_cmp g (locks_at t m) ≡ Some k → (find nat_cmp g longer ≡ Some k) × (node_at u 1 (locks.place k) ≡ Some m)
+    still : (m g : ℕ) (k : Lock) → find nat_cmp g (locks_at t m) ≡ Some k → (find nat_cmp g longer ≡ Some k) × (node_at u 1 (locks.lock_path k) ≡ Some m)
     still m g k h =
         let w = r.listed m g k h in
-        (old g (apart_from_next g k w.0) ∙ w.0, way_stays t u c.ways 1 m (locks.place k) w.1)
+        (old g (apart_from_next g k w.0) ∙ w.0, way_stays t u c.ways 1 m (locks.lock_path k) w.1)
 
-    listed : (m g : ℕ) (k : Lock) → find nat_cmp g (locks_at u m) ≡ Some k → (find nat_cmp g longer ≡ Some k) × (node_at u 1 (locks.place k) ≡ Some m)
+    listed : (m g : ℕ) (k : Lock) → find nat_cmp g (locks_at u m) ≡ Some k → (find nat_cmp g longer ≡ Some k) × (node_at u 1 (locks.lock_path k) ≡ Some m)
     unfolding here
     listed m g k h = elim (cases_eq m n) [
       | inl e ↦
@@ -191,7 +191,7 @@ module _ (t u : LockTree) (granted : List Granted) (next : ℕ) (r : Represents 
           elim (cases_eq g next) [
             | inl i ↦
                 let same : l ≡ k = same_some l k (sym (ap (λ g. find nat_cmp g here) i ∙ new_here) ∙ at) in
-                (ap (λ g. find nat_cmp g longer) i ∙ new ∙ ap (λ (k : Lock). Some k) same, ap (λ (k : Lock). node_at u 1 (locks.place k)) (sym same) ∙ way_stays t u c.ways 1 n (locks.place l) leads ∙ ap (λ (m : ℕ). Some m) (sym e))
+                (ap (λ g. find nat_cmp g longer) i ∙ new ∙ ap (λ (k : Lock). Some k) same, ap (λ (k : Lock). node_at u 1 (locks.lock_path k)) (sym same) ∙ way_stays t u c.ways 1 n (locks.lock_path l) leads ∙ ap (λ (m : ℕ). Some m) (sym e))
             | inr ne ↦ still m g k (ap (λ m. find nat_cmp g (locks_at t m)) e ∙ sym (old_here g ne) ∙ at)
           ]
       | inr ne ↦ still m g k (sym (ap (find nat_cmp g) (c.other m ne)) ∙ h)
@@ -250,7 +250,7 @@ module _ (t u : LockTree) (granted : List Granted) (next : ℕ) (r : Represents 
         let a = r.listed m g l h in
         let b = r.listed n gone _ was in
         let same : l ≡ (get_or (locks_at t n) k d).1 = same_some _ _ (sym a.0 ∙ ap (λ g. find nat_cmp g granted) e ∙ b.0) in
-        apart (same_some m n (sym a.1 ∙ ap (λ (l : Lock). node_at t 1 (locks.place l)) same ∙ b.1))
+        apart (same_some m n (sym a.1 ∙ ap (λ (l : Lock). node_at t 1 (locks.lock_path l)) same ∙ b.1))
 
     keeps : (g : ℕ) (l : Lock) → g ≢ gone → find nat_cmp g granted ≡ Some l → find nat_cmp g (remove granted j) ≡ Some l
     keeps g l ne h = found-kept granted j d g l r.in_order listed_at (λ e. ne (e ∙ same_number)) h
@@ -258,17 +258,17 @@ module _ (t u : LockTree) (granted : List Granted) (next : ℕ) (r : Represents 
     loses : (g : ℕ) (l : Lock) → find nat_cmp g (remove granted j) ≡ Some l → (g ≢ gone) × (find nat_cmp g granted ≡ Some l)
     loses g l h = let w = found-removed granted j d g l r.in_order listed_at h in (λ e. w.0 (e ∙ sym same_number), w.1)
 
-    shorter_listed : (m g : ℕ) (l : Lock) → find nat_cmp g (locks_at u m) ≡ Some l → (find nat_cmp g (remove granted j) ≡ Some l) × (node_at u 1 (locks.place l) ≡ Some m)
+    shorter_listed : (m g : ℕ) (l : Lock) → find nat_cmp g (locks_at u m) ≡ Some l → (find nat_cmp g (remove granted j) ≡ Some l) × (node_at u 1 (locks.lock_path l) ≡ Some m)
     unfolding gone
     shorter_listed m g l h = elim (cases_eq m n) [
       | inl e ↦
           let w = found-removed (locks_at t n) k d g l (r.nodes_in_order n) within (sym (ap (find nat_cmp g) (ap (locks_at u) e ∙ c.at)) ∙ h) in
           let a = r.listed n g l w.1 in
-          (keeps g l w.0 a.0, way_stays t u c.ways 1 n (locks.place l) a.1 ∙ ap (λ (m : ℕ). Some m) (sym e))
+          (keeps g l w.0 a.0, way_stays t u c.ways 1 n (locks.lock_path l) a.1 ∙ ap (λ (m : ℕ). Some m) (sym e))
       | inr ne ↦
           let before : find nat_cmp g (locks_at t m) ≡ Some l = sym (ap (find nat_cmp g) (c.other m ne)) ∙ h in
           let a = r.listed m g l before in
-          (keeps g l (only_here m g l ne before) a.0, way_stays t u c.ways 1 m (locks.place l) a.1)
+          (keeps g l (only_here m g l ne before) a.0, way_stays t u c.ways 1 m (locks.lock_path l) a.1)
     ]
 
     shorter_stands : (g : ℕ) (l : Lock) → find nat_cmp g (remove granted j) ≡ Some l → (m : ℕ) × (find nat_cmp g (locks_at u m) ≡ Some l)

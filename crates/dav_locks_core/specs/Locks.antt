@@ -7,15 +7,19 @@ use Rattle.dav_path_core.specs.Fronts.{Path, is_front, is_same_path}
 use Rattle.dav_locks_core.specs.Lock.{Lock}
 
 -- the segments of the path that a lock stands at
-abbrev pub place : Lock → Path
-place l = segments l.path.bytes
+abbrev pub lock_path : Lock → Path
+lock_path l = segments l.path.bytes
+
+-- what stands or changes at q, and where it is deep below q too, reaches p
+abbrev pub reaches : Path → Bool → Path → Bool
+reaches q deep p = is_same_path q p || (deep && is_front q p)
 
 -- the lock stands at the path, or is deep and stands above it
 abbrev pub covers : Lock → Path → Bool
-covers l p = is_same_path (place l) p || (l.deep && is_front (place l) p)
+covers l p = reaches (lock_path l) l.deep p
 
 abbrev pub is_at_or_below : Lock → Path → Bool
-is_at_or_below l p = is_front p (place l)
+is_at_or_below l p = is_front p (lock_path l)
 
 -- two locks may cover one path: both are shared
 abbrev pub compatible : Bool → Bool → Bool
@@ -60,11 +64,11 @@ abbrev pub check_conflicts : List Lock → Path → Bool → Caller → List Loc
 check_conflicts locks p deep who = filter (refuses_change locks p deep who) locks
 
 abbrev pub found_here : Path → List ℕ → Lock → Bool
-found_here p token l = bytes_eq l.token token && is_front (place l) p
+found_here p token l = bytes_eq l.token token && is_front (lock_path l) p
 
 -- how many segments the lock's path has
 abbrev pub height : Lock → ℕ
-height l = length (place l)
+height l = length (lock_path l)
 
 -- of two places in the list, each with its number of segments, the one with fewer; the first of equals
 abbrev pub better : Option (ℕ × ℕ) → Option (ℕ × ℕ) → Option (ℕ × ℕ)

@@ -4,7 +4,7 @@ use Rattle.std.specs.Ordering.{nat_cmp}
 use Rattle.std.specs.FinMap.{find, is_sorted}
 use Rattle.dav_path_core.specs.Keyed.{IsTree}
 use Rattle.dav_locks_core.specs.Lock.{Lock}
-use Rattle.dav_locks_core.specs.Locks.{place}
+use Rattle.dav_locks_core.specs.Locks.{lock_path}
 use Rattle.dav_locks_core.specs.LockTree.{Granted, LockTree, locks_at, node_at, is_segment, all_granted, lock_list}
 use Rattle.dav_locks_core.specs.Exclusive.{Exclusive}
 
@@ -14,7 +14,7 @@ pub record Represents (t : LockTree) (granted : List Granted) (next : ℕ) : Typ
   pub tree : IsTree is_segment t
   pub in_order : T (is_sorted nat_cmp granted)
   pub nodes_in_order : (n : ℕ) → T (is_sorted nat_cmp (locks_at t n))
-  pub listed : (n g : ℕ) (l : Lock) → find nat_cmp g (locks_at t n) ≡ Some l → (find nat_cmp g granted ≡ Some l) × (node_at t 1 (place l) ≡ Some n)
+  pub listed : (n g : ℕ) (l : Lock) → find nat_cmp g (locks_at t n) ≡ Some l → (find nat_cmp g granted ≡ Some l) × (node_at t 1 (lock_path l) ≡ Some n)
   pub stands : (g : ℕ) (l : Lock) → find nat_cmp g granted ≡ Some l → (n : ℕ) × (find nat_cmp g (locks_at t n) ≡ Some l)
   pub below : (g : ℕ) (l : Lock) → find nat_cmp g granted ≡ Some l → g < next
 

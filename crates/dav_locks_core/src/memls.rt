@@ -9,7 +9,7 @@ ghost use Rattle.dav_locks_core.specs.Locks.{Caller, same_text, held, lock_confl
 ghost use Rattle.dav_locks_core.specs.Exclusive.{Exclusive};
 ghost use Rattle.dav_locks_core.specs.Tokens.{token_from};
 ghost use Rattle.dav_locks_core.specs.Calls.{Shows, lent_text, caller};
-ghost use Rattle.dav_locks_core.specs.Granted.{new_lock};
+ghost use Rattle.dav_locks_core.specs.NewLock.{new_lock};
 ghost use Rattle.dav_locks_core.specs.LockTree.{Granted, child_at, node_at, first_at, is_segment, ShowsAt, Grown};
 ghost use Rattle.dav_locks_core.specs.LockTree as spec;
 ghost use Rattle.dav_locks_core.specs.Wanting.{lock_for};

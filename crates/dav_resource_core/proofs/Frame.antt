@@ -11,13 +11,12 @@ use Rattle.dav_files_core.specs.Finding.{place}
 use Rattle.dav_files_core.specs.Outcomes.{Outcome, ◌>>=◌}
 use Rattle.dav_files_core.specs.Commands.{put, read_at}
 use Rattle.dav_files_core.proofs.Places.{put_places}
-use Rattle.dav_locks_core.specs.Requests.{Command, Reply, Done, Bytes}
-use Rattle.dav_locks_core.specs.Checks.{reaches, shallow, target}
-use Rattle.dav_locks_core.proofs.StepLaws.{IsFramed}
-use Rattle.dav_resource_core.specs.Does.{has, Does}
+use Rattle.dav_resource_core.specs.Requests.{Command, Reply, Done, Bytes}
+use Rattle.dav_resource_core.specs.Checks.{has, is_reached, shallow, target, checks}
+use Rattle.dav_resource_core.specs.Step.{Does}
 
 -- a shallow check that doesn't reach a path is of another path
-not_reached : (q p : Path) → reaches (shallow q) p ≡ false → ¬ (p ≡ q)
+not_reached : (q p : Path) → is_reached (shallow q) p ≡ false → ¬ (p ≡ q)
 not_reached q p h same =
     false≢true (sym (or_parts (is_same_path q p) false h).0 ∙ ap (is_same_path q) same ∙ is_same_path-refl q)
 
@@ -42,16 +41,17 @@ read_left m (Ok bytes) reply m' h =
 read_left m (Err e) reply m' h = absurd (cc)
 
 -- a target that isn't reached
-target_apart : (m : ResourceMap) (q p : Path) → list_any (λ k. reaches k p) (target has m q) ≡ false → (¬ (p ≡ q)) × (has m q ≡ false → ¬ (p ≡ parent q))
+target_apart : (m : ResourceMap) (q p : Path) → list_any (λ k. is_reached k p) (target m q) ≡ false → (¬ (p ≡ q)) × (has m q ≡ false → ¬ (p ≡ parent q))
 target_apart m q p h = by (has m q) refl h
   where
-    by : (b : Bool) → has m q ≡ b → list_any (λ k. reaches k p) (cond b (shallow q ∷ []) (shallow q ∷ shallow (parent q) ∷ [])) ≡ false → (¬ (p ≡ q)) × (has m q ≡ false → ¬ (p ≡ parent q))
-    by true e h = (not_reached q p (or_parts (reaches (shallow q) p) false h).0, λ none. absurd (false≢true (sym none ∙ e)))
+    by : (b : Bool) → has m q ≡ b → list_any (λ k. is_reached k p) (cond b (shallow q ∷ []) (shallow q ∷ shallow (parent q) ∷ [])) ≡ false → (¬ (p ≡ q)) × (has m q ≡ false → ¬ (p ≡ parent q))
+    by true e h = (not_reached q p (or_parts (is_reached (shallow q) p) false h).0, λ none. absurd (false≢true (sym none ∙ e)))
     by false e h =
-        let parts = or_parts (reaches (shallow q) p) (reaches (shallow (parent q)) p || false) h in
-        (not_reached q p parts.0, λ none. not_reached (parent q) p (or_parts (reaches (shallow (parent q)) p) false parts.1).0)
+        let parts = or_parts (is_reached (shallow q) p) (is_reached (shallow (parent q)) p || false) h in
+        (not_reached q p parts.0, λ none. not_reached (parent q) p (or_parts (is_reached (shallow (parent q)) p) false parts.1).0)
 
-pub framed : IsFramed ResourceMap has Does place
+pub framed : (m m' : ResourceMap) (c : Command) (now : ℕ) (reply : Reply) (p : Path) → Does m c now (Ok reply) m'
+    → list_any (λ k. is_reached k p) (checks m c) ≡ false → place m' p ≡ place m p
 framed m m' (Command.Put path bytes) now reply p does apart =
     let parts = target_apart m path p apart in
     put_places m m' path bytes now (put_left (put m path bytes now) reply m' does) p parts.0 parts.1

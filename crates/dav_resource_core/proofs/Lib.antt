@@ -1,4 +1,5 @@
 pub mod Frame
 pub mod Numerals
-pub mod RunClauses
+pub mod RunLaws
 pub mod Serving
+pub mod StepLaws

@@ -1,5 +1,7 @@
-pub mod Does
-pub mod Laws
+pub mod Checks
+pub mod Isolation
+pub mod Naming
+pub mod Requests
 pub mod Seeds
 pub mod Served
 pub mod Step

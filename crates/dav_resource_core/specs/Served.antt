@@ -2,7 +2,6 @@
 use Rattle.std.specs.Prelude.{List, map, option_map, string_bytes, Result, Ok, Err, Contains}
 use Rattle.dav_path_core.specs.Segments.{segments}
 use Rattle.dav_locks_core.specs.Lock.{Lock as LockRecord}
-use Rattle.dav_locks_core.specs.Requests as plain
 use Rattle.dav_locks_core.specs.declared.ls.LockError.{LockError}
 use Rattle.dav_locks_core.specs.declared.ls.LockError.TheVariants.{Conflict, OutOfMemory as NoRoom}
 use Rattle.dav_resource_core.specs.declared.guarded.Command.{Command}
@@ -12,6 +11,7 @@ use Rattle.dav_resource_core.specs.declared.guarded.Reply.{Reply}
 use Rattle.dav_resource_core.specs.declared.guarded.Reply.TheVariants.{Done, Bytes, Lock as Granted}
 use Rattle.dav_resource_core.specs.declared.guarded.Refusal.{Refusal}
 use Rattle.dav_resource_core.specs.declared.guarded.Refusal.TheVariants.{Fs, Locked, NoLock, OutOfMemory}
+use Rattle.dav_resource_core.specs.Requests as plain
 
 abbrev pub command_of : Command → plain.Command
 command_of (Put path bytes) = plain.Command.Put (segments path.bytes) bytes

@@ -3,12 +3,9 @@ ghost use Rattle.std.specs.Prelude.{◌≡◌, ◌≤◌, ◌<◌, ◌+◌, ◌+
 ghost use Rattle.dav_locks_core.specs.Calls.{lent_text};
 ghost use Rattle.dav_path_core.specs.Segments.{segments};
 ghost use Rattle.dav_locks_core.specs.Exclusive.{Exclusive};
-ghost use Rattle.dav_locks_core.specs.Naming.{caller_of};
-ghost use Rattle.dav_locks_core.specs.Checks.{refusing, shallow, target};
-ghost use Rattle.dav_locks_core.specs.Isolation.{EndsNamed, UnnamedStand};
-ghost use Rattle.dav_resource_core.specs.Does.{has};
+ghost use Rattle.dav_resource_core.specs.Checks.{caller_of, refusing, shallow, target};
 ghost use Rattle.dav_resource_core.specs.Step.{Step, Run};
-ghost use Rattle.dav_resource_core.specs.Laws.{Isolated, AnyIsolated, EachExclusive, EachEndsNamed, EachIsolated, EachAnyIsolated, UnnamedIsolated};
+ghost use Rattle.dav_resource_core.specs.Isolation.{EndsNamed, UnnamedStand, Isolated, AnyIsolated, EachExclusive, EachEndsNamed, EachIsolated, EachAnyIsolated, UnnamedIsolated};
 ghost use Rattle.dav_resource_core.specs.Stores.{start_stores, state_of};
 ghost use Rattle.dav_resource_core.specs.Served.{request_of, answer_of, RefusedBy};
 
@@ -219,8 +216,8 @@ impl Guarded {
 
     // Checks a target, and its parent where nothing stands at the target (RFC 4918 section 7.4).
     fn check_target(&self, request: &Request, path: &DavPath) -> Result<(), Refusal>
-        ensures ok { OnOk result (refusing self.now.locks (caller_of (request_of request.entry.now)) (target has self.now.map (segments path.now.bytes)) ≡ []) }
-        ensures err { IfErr result (RefusedBy (refusing self.now.locks (caller_of (request_of request.entry.now)) (target has self.now.map (segments path.now.bytes)))) }
+        ensures ok { OnOk result (refusing self.now.locks (caller_of (request_of request.entry.now)) (target self.now.map (segments path.now.bytes)) ≡ []) }
+        ensures err { IfErr result (RefusedBy (refusing self.now.locks (caller_of (request_of request.entry.now)) (target self.now.map (segments path.now.bytes)))) }
     {
         self.check_path(request, path)?;
         if self.fs.metadata(path).is_ok() {
@@ -259,7 +256,7 @@ impl Guarded {
         ensures undrawn { OnErr result (R.stream rng.new ≡ R.stream rng.old) }
 
         // Two locks that cover one path are both shared, at the end and after each step.
-        ensures exclusive { Exclusive self.new.locks }
+        ensures exclusive { Exclusive self.old.locks × Exclusive self.new.locks }
         ensures each_exclusive { IfOk result (λ answers. EachExclusive (state_of self.old (R.stream rng.old)) (map request_of requests.now) (map answer_of answers.items) (state_of self.new (R.stream rng.new))) }
         // In each step a path under a lock changes only by a request that names such a lock, and a lock ends only where its
         // token is named.

@@ -2,7 +2,7 @@ use Rattle.std.proofs.Common.{◌≡◌, [], ◌∷◌, ◌++◌, ◌+◌, Some,
 use Rattle.std.proofs.lemmas.Result.{err_from_is_err_and}
 use Rattle.dav_path_core.specs.Segments.{segments}
 use Rattle.dav_locks_core.specs.Lock.{Lock}
-use Rattle.dav_locks_core.specs.Locks.{place, lock_conflicts}
+use Rattle.dav_locks_core.specs.Locks.{lock_path, lock_conflicts}
 use Rattle.dav_locks_core.specs.LockTree.{node_at}
 use Rattle.dav_locks_core.specs.Calls.{Shows}
 use Rattle.dav_locks_core.proofs.LockLists.{IsSeenAs, seen-grown, seen-push, lock_free, lock_shown, on_err}
@@ -56,10 +56,10 @@ granted : (g : Over) (c : goal.After-self-2-1 g) → IsSeenAs c.grant.new.tree.k
 granted g c =
     let l = c.in_ok-lock.lock in
     let before = seen-grown c.self.inside.tree.keyed c.make_way.new.tree.keyed c.self.inside.next c.args.self.now c.self.invariant c.self.view_is c.make_way.ensures.grown c.make_way.ensures.shape in
-    let leads : node_at c.make_way.new.tree.keyed 1 (place l) ≡ Some c.in_ok-node.node =
-    ap (λ (l : Lock). node_at c.make_way.new.tree.keyed 1 (place l)) c.in_ok-lock.ensures.granted ∙ c.in_ok-node.ensures.node.0 in
-    let no_conflict : lock_conflicts c.args.self.now (place l) l.shared l.deep ≡ [] =
-    ap (λ (l : Lock). lock_conflicts c.args.self.now (place l) l.shared l.deep) c.in_ok-lock.ensures.granted ∙ free g c in
+    let leads : node_at c.make_way.new.tree.keyed 1 (lock_path l) ≡ Some c.in_ok-node.node =
+    ap (λ (l : Lock). node_at c.make_way.new.tree.keyed 1 (lock_path l)) c.in_ok-lock.ensures.granted ∙ c.in_ok-node.ensures.node.0 in
+    let no_conflict : lock_conflicts c.args.self.now (lock_path l) l.shared l.deep ≡ [] =
+    ap (λ (l : Lock). lock_conflicts c.args.self.now (lock_path l) l.shared l.deep) c.in_ok-lock.ensures.granted ∙ free g c in
     seen-push c.make_way.new.tree.keyed c.grant.new.tree.keyed c.self.inside.next c.in_ok-node.node l c.args.self.now before leads c.in_ok-node.ensures.node.1 no_conflict c.in_ok-lock.ensures.added
 
 pub invariant_of-self-2 : goal.invariant_of-self-2

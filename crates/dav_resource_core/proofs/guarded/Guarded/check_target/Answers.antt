@@ -1,6 +1,6 @@
 use Rattle.std.proofs.lemmas.Result.{err_from_is_err_and}
 use Rattle.dav_path_core.specs.Segments.{segments}
-use Rattle.dav_locks_core.specs.Naming.{caller_of}
+use Rattle.dav_resource_core.specs.Checks.{caller_of}
 use Rattle.dav_resource_core.specs.Served.{request_of}
 use Rattle.dav_resource_core.proofs.Serving.{refused_target}
 use Rattle.dav_resource_core.proofs.guarded.Guarded.check_target.Goals as goal

@@ -1,0 +1,84 @@
+-- What a run keeps, and how it goes on.
+use Rattle.std.proofs.Common.{◌≡◌, inl, inr, ℕ, ◌+◌, ◌<◌, List, [], ◌∷◌, ◌++◌, length, get_or, take, map, sym, ◌∙◌, ap, subst}
+use Rattle.std.proofs.lemmas.Bool.{or_left, or_parts, false≢true}
+use Rattle.std.proofs.lemmas.List.{take_more, map_push}
+use Rattle.dav_files_core.specs.Finding.{place}
+use Rattle.dav_locks_core.specs.Exclusive.{Exclusive}
+use Rattle.dav_locks_core.proofs.Members.{In-Contains, Contains-In}
+use Rattle.dav_locks_core.proofs.Ending.{LocksEnded-refl, LocksEnded-trans, In-LocksEnded}
+use Rattle.dav_resource_core.specs.Requests.{Request, Answer}
+use Rattle.dav_resource_core.specs.Step.{State, Same, Step, Run}
+use Rattle.dav_resource_core.specs.Naming.{names_as, names, unlocks, named_in}
+use Rattle.dav_resource_core.specs.Isolation.{EndsNamed, Isolated, AnyIsolated, UnnamedStand, UnnamedIsolated, EachStep, EachExclusive, EachEndsNamed, EachIsolated, EachAnyIsolated}
+use Rattle.dav_resource_core.proofs.StepLaws.{Same-refl, Same-equal, serves_exclusive, serves_ends, serves_isolated, serves_any_isolated}
+
+-- ---- by each step
+
+-- what holds of every step holds of each step of a run
+pub each_step : (Law : State → Request → Answer → State → Type 0) → ((s s' : State) (r : Request) (a : Answer) → Step s r a s' → Law s r a s')
+    → (s s' : State) (rs : List Request) (answers : List Answer) → EachStep Law s rs answers s'
+each_step Law law s s' [] answers = tt
+each_step Law law s s' (r ∷ rs) [] = tt
+each_step Law law s s' (r ∷ rs) (a ∷ answers) = λ mid step rest. (law s mid r a step, each_step Law law mid s' rs answers)
+
+pub each_exclusive : (s s' : State) (rs : List Request) (answers : List Answer) → Exclusive s.locks → EachExclusive s rs answers s'
+each_exclusive s s' [] answers x = tt
+each_exclusive s s' (r ∷ rs) [] x = tt
+each_exclusive s s' (r ∷ rs) (a ∷ answers) x = λ mid step rest.
+    let y : Exclusive mid.locks = serves_exclusive s mid r a step x in
+    (y, each_exclusive mid s' rs answers y)
+
+pub each_ends_named : (s s' : State) (rs : List Request) (answers : List Answer) → EachEndsNamed s rs answers s'
+each_ends_named = each_step (λ s r a s'. EndsNamed s r s') serves_ends
+
+-- ---- from the start to the end
+
+pub run_stand : (s s' : State) (rs : List Request) (answers : List Answer) → Run s rs answers s' → UnnamedStand s rs s'
+run_stand s s' [] [] h = rw h.locks_are (LocksEnded-refl (named_in []) s.locks)
+run_stand s s' [] (a ∷ answers) h = absurd h
+run_stand s s' (r ∷ rs) [] h = absurd h
+run_stand s s' (r ∷ rs) (a ∷ answers) h =
+    LocksEnded-trans (names r) (named_in rs) s.locks h.0.locks s'.locks (serves_ends s h.0 r a h.1) (run_stand h.0 s' rs answers h.2)
+
+pub each_isolated : (s s' : State) (rs : List Request) (answers : List Answer) → EachIsolated s rs answers s'
+each_isolated = each_step (λ s r a s'. Isolated s r s') serves_isolated
+
+pub each_any_isolated : (s s' : State) (rs : List Request) (answers : List Answer) → EachAnyIsolated s rs answers s'
+each_any_isolated = each_step (λ s r a s'. AnyIsolated s r s') serves_any_isolated
+
+pub run_isolated : (s s' : State) (rs : List Request) (answers : List Answer) → Run s rs answers s' → UnnamedIsolated s rs s'
+run_isolated s s' [] [] h l i exclusive free p covered = ap (λ m. place m p) h.map_is
+run_isolated s s' [] (a ∷ answers) h l i exclusive free p covered = absurd h
+run_isolated s s' (r ∷ rs) [] h l i exclusive free p covered = absurd h
+run_isolated s s' (r ∷ rs) (a ∷ answers) h l i exclusive free p covered =
+    let parts = or_parts (names r l) (named_in rs l) free in
+    let stands = In-LocksEnded (names r) l parts.0 s.locks h.0.locks (serves_ends s h.0 r a h.1) (In-Contains s.locks l i) in
+    let rest : place s'.map p ≡ place h.0.map p = run_isolated h.0 s' rs answers h.2 l (Contains-In h.0.locks l stands) exclusive parts.1 p covered in
+    elim (serves_isolated s h.0 r a h.1 l i exclusive p covered) [
+      | inl e ↦ rest ∙ e
+      | inr named ↦ absurd (false≢true (sym parts.0 ∙ or_left (names_as r l) (unlocks r.command l.token) named))
+    ]
+
+-- ---- a run goes on
+
+pub step_from : (s mid s' : State) (r : Request) (a : Answer) → Same s mid → Step mid r a s' → Step s r a s'
+step_from s mid s' r a h k = subst (λ m. Step m r a s') (Same-equal s mid h) k
+
+-- by one step
+pub run_more : (s mid s' : State) (rs : List Request) (answers : List Answer) (r : Request) (a : Answer)
+    → Run s rs answers mid → Step mid r a s' → Run s (rs ++ (r ∷ [])) (answers ++ (a ∷ [])) s'
+run_more s mid s' [] [] r a h k = (s', step_from s mid s' r a h k, Same-refl s')
+run_more s mid s' [] (b ∷ answers) r a h k = absurd h
+run_more s mid s' (q ∷ rs) [] r a h k = absurd h
+run_more s mid s' (q ∷ rs) (b ∷ answers) r a h k = (h.0, h.1, run_more h.0 mid s' rs answers r a h.2 k)
+
+-- a loop over requests and their answers, each seen as plain data
+pub run_on : {A B : Type 0} (request_of : A → Request) (answer_of : B → Answer) (s mid s' : State) (rs : List A) (i : ℕ) (answers new : List B) (r : A) (a : B)
+    → i < length rs → r ≡ get_or rs i r → new ≡ answers ++ (a ∷ [])
+    → Run s (map request_of (take i rs)) (map answer_of answers) mid → Step mid (request_of r) (answer_of a) s'
+    → Run s (map request_of (take (i + 1) rs)) (map answer_of new) s'
+run_on request_of answer_of s mid s' rs i answers new r a lt item added h k =
+    let asked : map request_of (take (i + 1) rs) ≡ map request_of (take i rs) ++ (request_of r ∷ []) =
+    ap (map request_of) (take_more rs i r lt) ∙ map_push request_of (take i rs) (get_or rs i r) ∙ ap (λ q. map request_of (take i rs) ++ (request_of q ∷ [])) (sym item) in
+    let told : map answer_of new ≡ map answer_of answers ++ (answer_of a ∷ []) = ap (map answer_of) added ∙ map_push answer_of answers a in
+    rw (asked, told) (run_more s mid s' (map request_of (take i rs)) (map answer_of answers) (request_of r) (answer_of a) h k)

@@ -1,0 +1,43 @@
+-- What a command is checked for (RFC 4918 section 7): at which paths something may change, one clause a command.
+use Rattle.std.specs.Prelude.{List, [], ◌∷◌, ◌++◌, Bool, true, false, is_some, if◌then◌else◌}
+use Rattle.dav_path_core.specs.Fronts.{Path, parent}
+use Rattle.dav_files_core.specs.Resources.{ResourceMap, at_path}
+use Rattle.dav_locks_core.specs.Lock.{Lock}
+use Rattle.dav_locks_core.specs.Locks.{Caller, reaches, check_conflicts}
+use Rattle.dav_resource_core.specs.Requests.{Command, Request}
+
+-- a path at which something changes, and where it is deep below it too
+pub record Check : Type 0 where
+  pub path : Path
+  pub deep : Bool
+
+abbrev pub shallow : Path → Check
+shallow p = record { path = p; deep = false }
+
+-- whether something may change at the path
+abbrev pub is_reached : Check → Path → Bool
+is_reached k p = reaches k.path k.deep p
+
+-- a request's tokens count under its principal alone
+abbrev pub caller_of : Request → Caller
+caller_of r = record { principal = r.principal; ignore = false; tokens = r.tokens }
+
+-- the locks that refuse one of the checks
+abbrev pub refusing : List Lock → Caller → List Check → List Lock
+refusing locks who [] = []
+refusing locks who (k ∷ ks) = check_conflicts locks k.path k.deep who ++ refusing locks who ks
+
+-- something stands at the path
+abbrev pub has : ResourceMap → Path → Bool
+has m p = is_some (at_path m p)
+
+-- a target that isn't there changes its parent too
+abbrev pub target : ResourceMap → Path → List Check
+target m p = if has m p then shallow p ∷ [] else shallow p ∷ shallow (parent p) ∷ []
+
+-- the first column of the table of commands: what each is checked for
+abbrev pub checks : ResourceMap → Command → List Check
+checks m (Command.Put path bytes) = target m path
+checks m (Command.Read path at count) = []
+checks m (Command.Lock path owner timeout shared deep) = []
+checks m (Command.Unlock path token) = []

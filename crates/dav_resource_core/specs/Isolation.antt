@@ -1,0 +1,69 @@
+-- What locks promise of a step, and of each step of a run (RFC 4918 sections 6 and 7). The state before is the one from which
+-- the step starts.
+use Rattle.std.specs.Prelude.{◌≡◌, ◌⊎◌, List, ◌∷◌, true, false, Contains}
+use Rattle.dav_path_core.specs.Fronts.{Path, is_front}
+use Rattle.dav_files_core.specs.Finding.{place}
+use Rattle.dav_locks_core.specs.Lock.{Lock}
+use Rattle.dav_locks_core.specs.Locks.{covers}
+use Rattle.dav_locks_core.specs.Exclusive.{Exclusive}
+use Rattle.dav_locks_core.specs.Ended.{LocksEnded}
+use Rattle.dav_resource_core.specs.Requests.{Request, Answer}
+use Rattle.dav_resource_core.specs.Step.{State, Step, Run}
+use Rattle.dav_resource_core.specs.Naming.{names_as, names, named_in}
+
+-- ---- of a step
+
+-- two locks that cover one path stay both shared
+abbrev pub StaysExclusive : State → State → Type 0
+StaysExclusive s s' = Exclusive s.locks → Exclusive s'.locks
+
+-- a lock ends only where the request names it
+abbrev pub EndsNamed : State → Request → State → Type 0
+EndsNamed s r s' = LocksEnded (names r) s.locks s'.locks
+
+-- the place of a path that an exclusive lock covers is unchanged, or the request names that lock's token under its principal
+abbrev pub Isolated : State → Request → State → Type 0
+Isolated s r s' = (l : Lock) → Contains s.locks l → l.shared ≡ false → (p : Path) → covers l p ≡ true
+    → (place s'.map p ≡ place s.map p) ⊎ (names_as r l ≡ true)
+
+-- the request names a lock that covers a front of the path
+abbrev pub NamesAbove : List Lock → Request → Path → Type 0
+NamesAbove locks r p =
+    (m : Lock) × Contains locks m × (names_as r m ≡ true) × ((q : Path) × (is_front q p ≡ true) × (covers m q ≡ true))
+
+-- the place of a path that any lock covers is unchanged, or the request names a lock that covers a front of the path
+abbrev pub AnyIsolated : State → Request → State → Type 0
+AnyIsolated s r s' = (l : Lock) → Contains s.locks l → (p : Path) → covers l p ≡ true
+    → (place s'.map p ≡ place s.map p) ⊎ NamesAbove s.locks r p
+
+-- ---- of a run, by its requests alone
+
+-- a path that an exclusive lock of the start covers keeps its place where no request names that lock
+abbrev pub UnnamedIsolated : State → List Request → State → Type 0
+UnnamedIsolated s rs s' = (l : Lock) → Contains s.locks l → l.shared ≡ false → named_in rs l ≡ false → (p : Path) → covers l p ≡ true
+    → place s'.map p ≡ place s.map p
+
+-- the locks of the start that no request names stand at the end, in the same order
+abbrev pub UnnamedStand : State → List Request → State → Type 0
+UnnamedStand s rs s' = LocksEnded (named_in rs) s.locks s'.locks
+
+-- ---- of each step of a run
+
+-- the law holds of each step of every chain that the run can be
+abbrev pub EachStep : (State → Request → Answer → State → Type 0) → State → List Request → List Answer → State → Type 0
+EachStep Law s (r ∷ rs) (a ∷ answers) s' =
+    (mid : State) → Step s r a mid → Run mid rs answers s' → Law s r a mid × EachStep Law mid rs answers s'
+EachStep Law s _ _ s' = Unit {0}
+
+-- in each state two locks that cover one path are both shared
+abbrev pub EachExclusive : State → List Request → List Answer → State → Type 0
+EachExclusive = EachStep (λ s r a s'. Exclusive s'.locks)
+
+abbrev pub EachEndsNamed : State → List Request → List Answer → State → Type 0
+EachEndsNamed = EachStep (λ s r a s'. EndsNamed s r s')
+
+abbrev pub EachIsolated : State → List Request → List Answer → State → Type 0
+EachIsolated = EachStep (λ s r a s'. Isolated s r s')
+
+abbrev pub EachAnyIsolated : State → List Request → List Answer → State → Type 0
+EachAnyIsolated = EachStep (λ s r a s'. AnyIsolated s r s')

@@ -9,7 +9,7 @@ use Rattle.dav_locks_core.proofs.Ending.{LocksEnded-refl, LocksEnded-trans, In-L
 use Rattle.dav_resource_core.specs.Requests.{Request, Answer}
 use Rattle.dav_resource_core.specs.Step.{State, Same, Step, Run}
 use Rattle.dav_resource_core.specs.Naming.{names_as, names, unlocks, named_in}
-use Rattle.dav_resource_core.specs.Isolation.{EndsNamed, Isolated, AnyIsolated, UnnamedStand, UnnamedIsolated, EachStep, EachExclusive, EachEndsNamed, EachIsolated, EachAnyIsolated}
+use Rattle.dav_resource_core.specs.Isolation.{EndsNamed, Isolated, AnyIsolated, UnnamedStand, UnnamedIsolated, EachStep, EachExclusive, EachEndsNamed, EachIsolated, EachAnyIsolated, KeepsLocks}
 use Rattle.dav_resource_core.proofs.StepLaws.{Same-refl, Same-equal, serves_exclusive, serves_ends, serves_isolated, serves_any_isolated}
 
 -- ---- by each step
@@ -58,6 +58,17 @@ run_isolated s s' (r ∷ rs) (a ∷ answers) h l i exclusive free p covered =
       | inl e ↦ rest ∙ e
       | inr named ↦ absurd (false≢true (sym parts.0 ∙ or_left (names_as r l) (unlocks r.command l.token) named))
     ]
+
+-- all of it, from an exclusive start
+pub keeps_locks : (s s' : State) (rs : List Request) (answers : List Answer) → Exclusive s.locks → Run s rs answers s' → KeepsLocks s rs answers s'
+keeps_locks s s' rs answers x h = record {
+  exclusive = (x, each_exclusive s s' rs answers x);
+  isolated = each_isolated s s' rs answers;
+  any_isolated = each_any_isolated s s' rs answers;
+  ends_named = each_ends_named s s' rs answers;
+  stand = run_stand s s' rs answers h;
+  kept = run_isolated s s' rs answers h;
+}
 
 -- ---- a run goes on
 

@@ -1,5 +1,5 @@
 -- What one step keeps.
-use Rattle.std.proofs.Common.{◌≡◌, ◌⊎◌, inl, inr, ℕ, Bool, true, false, ◌||◌, List, [], ◌∷◌, get_or, Result, Ok, Err, refl, sym, ap, subst}
+use Rattle.std.proofs.Common.{◌≡◌, ◌⊎◌, inl, inr, Bool, true, false, ◌||◌, List, [], ◌∷◌, get_or, Ok, Err, refl, sym, ap, subst}
 use Rattle.std.specs.Bool.{MatchBool}
 use Rattle.std.specs.List.{list_any}
 use Rattle.std.proofs.lemmas.Bool.{and_parts, or_right, cases_Bool, false≢true}
@@ -15,7 +15,7 @@ use Rattle.dav_locks_core.proofs.Checking.{exclusive_held, any_lock_held}
 use Rattle.dav_locks_core.proofs.Ending.{LocksEnded-refl, LocksEnded-push, LocksEnded-remove, found_at}
 use Rattle.dav_files_core.specs.Resources.{ResourceMap}
 use Rattle.dav_files_core.specs.Finding.{place}
-use Rattle.dav_resource_core.specs.Requests.{Command, Request, Reply, Refusal, Fs, Locked, NoLock, OutOfMemory, Answer}
+use Rattle.dav_resource_core.specs.Requests.{Command, Request, Reply, Fs, Locked, NoLock, OutOfMemory, Answer}
 use Rattle.dav_resource_core.specs.Checks.{Check, caller_of, checks, is_reached, refusing}
 use Rattle.dav_resource_core.specs.Step.{State, IsState, Same, is_offered, Unoffered, Does, conflicts_by, Effect, ServesOffered, Serves}
 use Rattle.dav_resource_core.specs.Naming.{names_as, names, unlocks}

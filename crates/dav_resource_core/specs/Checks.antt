@@ -1,5 +1,5 @@
 -- What a command is checked for (RFC 4918 section 7): at which paths something may change, one clause a command.
-use Rattle.std.specs.Prelude.{List, [], ◌∷◌, ◌++◌, Bool, true, false, is_some, if◌then◌else◌}
+use Rattle.std.specs.Prelude.{List, [], ◌∷◌, ◌++◌, Bool, false, is_some, if◌then◌else◌}
 use Rattle.dav_path_core.specs.Fronts.{Path, parent}
 use Rattle.dav_files_core.specs.Resources.{ResourceMap, at_path}
 use Rattle.dav_locks_core.specs.Lock.{Lock}

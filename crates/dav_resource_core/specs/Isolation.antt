@@ -67,3 +67,14 @@ EachIsolated = EachStep (λ s r a s'. Isolated s r s')
 
 abbrev pub EachAnyIsolated : State → List Request → List Answer → State → Type 0
 EachAnyIsolated = EachStep (λ s r a s'. AnyIsolated s r s')
+
+-- ---- all of it, of one run
+
+-- what locks promise of a run: of each state, of each step, and from the start to the end
+pub record KeepsLocks (s : State) (rs : List Request) (answers : List Answer) (s' : State) : Type 0 where
+  pub exclusive : Exclusive s.locks × EachExclusive s rs answers s'
+  pub isolated : EachIsolated s rs answers s'
+  pub any_isolated : EachAnyIsolated s rs answers s'
+  pub ends_named : EachEndsNamed s rs answers s'
+  pub stand : UnnamedStand s rs s'
+  pub kept : UnnamedIsolated s rs s'

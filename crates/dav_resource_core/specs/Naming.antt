@@ -1,5 +1,5 @@
 -- The locks that a request names (RFC 4918 section 6.4).
-use Rattle.std.specs.Prelude.{ℕ, List, [], ◌∷◌, Bool, true, false, ◌||◌, bytes_eq}
+use Rattle.std.specs.Prelude.{ℕ, List, [], ◌∷◌, Bool, false, ◌||◌, bytes_eq}
 use Rattle.dav_locks_core.specs.Lock.{Lock}
 use Rattle.dav_locks_core.specs.Locks.{held}
 use Rattle.dav_resource_core.specs.Requests.{Command, Request}

@@ -1,13 +1,16 @@
 //! Requests on the stores.
-ghost use Rattle.std.specs.Prelude.{◌≡◌, ◌≤◌, ◌<◌, ◌+◌, ◌++◌, ◌∷◌, [], map, vec_len, vec_capacity, option_map, string_bytes, IfOk, OnOk, IfErr, OnErr, MatchResult};
+ghost use Rattle.std.specs.Prelude.{◌≡◌, ℕ, List, true, ◌≤◌, ◌<◌, ◌+◌, ◌++◌, ◌∷◌, [], map, vec_len, vec_capacity, option_map, string_bytes, IfOk, OnOk, IfErr, OnErr, MatchResult};
+ghost use Rattle.rand_core.specs.Stream.{Stream};
 ghost use Rattle.dav_locks_core.specs.Calls.{lent_text};
 ghost use Rattle.dav_path_core.specs.Segments.{segments};
+ghost use Rattle.dav_files_core.specs.Resources.{IsResourceMap};
 ghost use Rattle.dav_locks_core.specs.Exclusive.{Exclusive};
-ghost use Rattle.dav_resource_core.specs.Checks.{caller_of, refusing, shallow, target};
-ghost use Rattle.dav_resource_core.specs.Step.{Step, Run};
-ghost use Rattle.dav_resource_core.specs.Isolation.{EndsNamed, UnnamedStand, Isolated, AnyIsolated, EachExclusive, EachEndsNamed, EachIsolated, EachAnyIsolated, UnnamedIsolated};
+ghost use Rattle.dav_resource_core.specs.Checks.{caller_of, checks, refusing, shallow, target};
+ghost use Rattle.dav_resource_core.specs.Step.{State, is_on_map, Step, Run};
+ghost use Rattle.dav_resource_core.specs.Requests as plain;
+ghost use Rattle.dav_resource_core.specs.Isolation.{EndsNamed, UnnamedStand, Isolated, AnyIsolated, EachExclusive, EachEndsNamed, EachIsolated, EachAnyIsolated, UnnamedIsolated, KeepsLocks};
 ghost use Rattle.dav_resource_core.specs.Stores.{start_stores, state_of};
-ghost use Rattle.dav_resource_core.specs.Served.{request_of, answer_of, RefusedBy};
+ghost use Rattle.dav_resource_core.specs.Served.{command_of, request_of, answer_of, RefusedBy, DoesOnMap};
 
 #[cfg(test)]
 mod tests;
@@ -15,7 +18,7 @@ mod tests;
 use bytes::Bytes;
 use dav_files_core::fs::Moment;
 use dav_files_core::memfs::MemFs;
-use dav_locks_core::ls::{DavLock, LockError};
+use dav_locks_core::ls::{DavLock, LockError, NoLock};
 use dav_locks_core::memls::MemLs;
 use dav_path_core::davpath::DavPath;
 use dav_path_core::errors::{FsError, FsResult};
@@ -116,6 +119,26 @@ impl From<LockError> for Refusal {
     }
 }
 
+impl From<FsError> for Refusal {
+    ghost use Rattle.dav_resource_core.specs.declared.guarded.Refusal.TheVariants.{Fs};
+
+    ghost from_gives = { λ e r. r ≡ Fs e };
+
+    fn from(error: FsError) -> Self {
+        Refusal::Fs(error)
+    }
+}
+
+impl From<NoLock> for Refusal {
+    ghost use Rattle.dav_resource_core.specs.declared.guarded.Refusal.TheVariants as refusal;
+
+    ghost from_gives = { λ _ r. r ≡ refusal.NoLock };
+
+    fn from(_: NoLock) -> Self {
+        Refusal::NoLock
+    }
+}
+
 /// The stores, which requests alone reach.
 #[derive(Drop)]
 pub struct Guarded {
@@ -125,6 +148,7 @@ pub struct Guarded {
 }
 
 impl Model for Guarded {
+    ghost use Rattle.dav_files_core.specs.Resources.{IsResourceMap};
     ghost use Rattle.dav_locks_core.specs.Exclusive.{Exclusive};
     ghost use Rattle.dav_resource_core.specs.Stores.{Stores, coded_stores};
 
@@ -134,13 +158,14 @@ impl Model for Guarded {
 
     ghost view = { λ g. record { map = g.fs; locks = g.locks } };
 
-    ghost invariant = { λ g. Exclusive g.locks };
+    ghost invariant = { λ g. Exclusive g.locks × IsResourceMap g.fs };
 }
 
 impl Guarded {
     /// A root folder alone, with both times `now`, and no lock. `InsufficientStorage` for want of memory.
     pub fn new(alloc: Global, now: Moment) -> FsResult<Guarded>
-        ensures { MatchResult result (λ g. g ≡ start_stores now.0) (λ e. e ≡ FsError.InsufficientStorage) }
+        ensures answer { MatchResult result (λ g. g ≡ start_stores now.0) (λ e. e ≡ FsError.InsufficientStorage) }
+        ensures shape { IfOk result (λ g. IsResourceMap g.map) }
     {
         let fs = MemFs::new(alloc, now)?;
         let locks = MemLs::new(alloc)?;
@@ -151,6 +176,8 @@ impl Guarded {
     /// from the generator; on every other answer it stays as it was.
     pub fn apply<R: Rng>(&mut self, request: &Request, rng: &mut R) -> Result<Reply, Refusal>
         ensures step { Step (state_of self.old (R.stream rng.old)) (request_of request.entry.now) (answer_of result) (state_of self.new (R.stream rng.new)) }
+
+        ensures shape { IsResourceMap self.new.map }
 
         // Two locks that cover one path are both shared.
         ensures exclusive { Exclusive self.new.locks }
@@ -164,23 +191,18 @@ impl Guarded {
         self.serve(request, rng)
     }
 
-    // One request, by its command.
+    // One request: refused by its checks, else done on the files or on the locks.
     fn serve<R: Rng>(&mut self, request: &Request, rng: &mut R) -> Result<Reply, Refusal>
         ensures step { Step (state_of self.old (R.stream rng.old)) (request_of request.entry.now) (answer_of result) (state_of self.new (R.stream rng.new)) }
         ensures exclusive { Exclusive self.new.locks }
+        ensures shape { IsResourceMap self.new.map }
     {
+        self.check_command(request)?;
         match &request.command {
-            Command::Put { path, bytes } => {
-                self.check_target(request, path)?;
-                match self.fs.put(path, bytes.as_slice(), request.now) {
-                    Ok(()) => return Ok(Reply::Done),
-                    Err(error) => return Err(Refusal::Fs(error)),
-                }
+            Command::Put { .. } | Command::Read { .. } => {
+                let reply = serve_files(&mut self.fs, &request.command, request.now)?;
+                return Ok(reply);
             }
-            Command::Read { path, at, count } => match self.fs.read_at(path, *at, *count) {
-                Ok(bytes) => return Ok(Reply::Bytes(bytes)),
-                Err(error) => return Err(Refusal::Fs(error)),
-            },
             Command::Lock {
                 path,
                 owner,
@@ -193,7 +215,7 @@ impl Guarded {
                 }
                 let principal = text_of(&request.principal);
                 let owner = text_of(owner);
-                match self.locks.lock(
+                let lock = self.locks.lock(
                     path,
                     principal,
                     owner,
@@ -202,22 +224,31 @@ impl Guarded {
                     *deep,
                     request.now,
                     rng,
-                ) {
-                    Ok(lock) => return Ok(Reply::Lock(lock)),
-                    Err(error) => return Err(Refusal::from(error)),
-                }
+                )?;
+                return Ok(Reply::Lock(lock));
             }
-            Command::Unlock { path, token } => match self.locks.unlock(path, token.as_str()) {
-                Ok(()) => return Ok(Reply::Done),
-                Err(_) => return Err(Refusal::NoLock),
-            },
+            Command::Unlock { path, token } => {
+                self.locks.unlock(path, token.as_str())?;
+                return Ok(Reply::Done);
+            }
+        }
+    }
+
+    // Makes the checks of a command (RFC 4918 section 7).
+    fn check_command(&self, request: &Request) -> Result<(), Refusal>
+        ensures ok { OnOk result (refusing self.now.locks (caller_of (request_of request.entry.now)) (checks self.now.map (command_of request.entry.now.command)) ≡ []) }
+        ensures err { IfErr result (RefusedBy self.now.locks (caller_of (request_of request.entry.now)) (checks self.now.map (command_of request.entry.now.command))) }
+    {
+        match &request.command {
+            Command::Put { path, .. } => return self.check_target(request, path),
+            _ => return Ok(()),
         }
     }
 
     // Checks a target, and its parent where nothing stands at the target (RFC 4918 section 7.4).
     fn check_target(&self, request: &Request, path: &DavPath) -> Result<(), Refusal>
         ensures ok { OnOk result (refusing self.now.locks (caller_of (request_of request.entry.now)) (target self.now.map (segments path.now.bytes)) ≡ []) }
-        ensures err { IfErr result (RefusedBy (refusing self.now.locks (caller_of (request_of request.entry.now)) (target self.now.map (segments path.now.bytes)))) }
+        ensures err { IfErr result (RefusedBy self.now.locks (caller_of (request_of request.entry.now)) (target self.now.map (segments path.now.bytes))) }
     {
         self.check_path(request, path)?;
         if self.fs.metadata(path).is_ok() {
@@ -232,16 +263,12 @@ impl Guarded {
     // Checks one path, shallow, by the request's tokens and principal.
     fn check_path(&self, request: &Request, path: &DavPath) -> Result<(), Refusal>
         ensures ok { OnOk result (refusing self.now.locks (caller_of (request_of request.entry.now)) (shallow (segments path.now.bytes) ∷ []) ≡ []) }
-        ensures err { IfErr result (RefusedBy (refusing self.now.locks (caller_of (request_of request.entry.now)) (shallow (segments path.now.bytes) ∷ []))) }
+        ensures err { IfErr result (RefusedBy self.now.locks (caller_of (request_of request.entry.now)) (shallow (segments path.now.bytes) ∷ [])) }
     {
         let principal = text_of(&request.principal);
-        match self
-            .locks
-            .check(path, principal, false, false, &request.tokens)
-        {
-            Ok(()) => return Ok(()),
-            Err(error) => return Err(Refusal::from(error)),
-        }
+        self.locks
+            .check(path, principal, false, false, &request.tokens)?;
+        Ok(())
     }
 
     /// Answers requests in order, one answer each; a refusal ends nothing. `AllocError` where there is no room for the
@@ -280,6 +307,7 @@ impl Guarded {
         ensures unchanged { OnErr result (self.new ≡ self.old) }
         ensures undrawn { OnErr result (R.stream rng.new ≡ R.stream rng.old) }
         ensures exclusive { Exclusive self.old.locks × Exclusive self.new.locks }
+        ensures shape { IsResourceMap self.new.map }
     {
         let mut answers = Vec::with_capacity(self.alloc, requests.len())?;
         for request in requests {
@@ -287,6 +315,35 @@ impl Guarded {
             add_answer(&mut answers, answer);
         }
         Ok(answers)
+    }
+}
+
+/// The law of every run of requests from the stores of a new `Guarded` (RFC 4918 sections 6 and 7): two locks that cover one path
+/// are both shared; a path under an exclusive lock changes only by a request that names its token under its principal; a
+/// lock ends only where its token is named. `Guarded::run` ensures that it is such a run.
+pub fn runs_keep_locks()
+    ensures { (now : ℕ) (rng : Stream) (requests : List plain.Request) (answers : List plain.Answer) (end : State)
+        → Run (state_of (start_stores now) rng) requests answers end
+        → KeepsLocks (state_of (start_stores now) rng) requests answers end }
+{}
+
+// A command on the files, at a moment.
+fn serve_files(files: &mut MemFs, command: &Command, now: Moment) -> FsResult<Reply>
+    requires on_map { is_on_map (command_of command.now) ≡ true }
+    requires shape { IsResourceMap files.old }
+    ensures answer { DoesOnMap files.old (command_of command.now) now.0 result files.new }
+    ensures shape { IsResourceMap files.new }
+{
+    match command {
+        Command::Put { path, bytes } => {
+            files.put(path, bytes.as_slice(), now)?;
+            return Ok(Reply::Done);
+        }
+        Command::Read { path, at, count } => {
+            let bytes = files.read_at(path, *at, *count)?;
+            return Ok(Reply::Bytes(bytes));
+        }
+        _ => unreachable!(),
     }
 }
 

@@ -10,4 +10,5 @@ loop-request-preserved g c = record {
   count = omega arith;
   room = omega arith;
   exclusive = c.serve-answer.ensures.exclusive;
+  shape = c.serve-answer.ensures.shape;
 }

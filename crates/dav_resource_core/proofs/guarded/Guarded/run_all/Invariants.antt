@@ -1,4 +1,5 @@
 use Rattle.std.proofs.Common.{◌≡◌, ◌≤◌, take, map, length, vec_len, vec_capacity}
+use Rattle.dav_files_core.specs.Resources.{IsResourceMap}
 use Rattle.dav_locks_core.specs.Exclusive.{Exclusive}
 use Rattle.dav_resource_core.specs.Step.{Run}
 use Rattle.dav_resource_core.specs.Served.{request_of, answer_of}
@@ -12,4 +13,5 @@ invariant-loop-request g l = record {
   count : vec_len l.answers ≡ l.request-index;
   room : length l.requests ≤ vec_capacity l.answers;
   exclusive : Exclusive l.self.locks;
+  shape : IsResourceMap l.self.map;
 }

@@ -1,13 +1,15 @@
 use Rattle.std.proofs.Common.{refl}
+use Rattle.std.proofs.lemmas.Result.{err_from_is_err_and}
 use Rattle.dav_resource_core.proofs.Serving.{refused_lock}
 use Rattle.dav_resource_core.proofs.guarded.Guarded.serve.Goals as goal
 
-pub returns-in-Err-lock-clause-step : goal.returns-in-Err-lock-clause-step
-returns-in-Err-lock-clause-step g c =
-    refused_lock _ _ _ c.in-Err-lock.error c.from.result c.from.ensures (rw (c.in-Lock.is, c.if-shared.false, c.if-deep.false) refl) (rw c.in-Lock.is refl)
-    (rw (c.in-Lock.is, ← c.self.view_is) c.in-Err-lock.ensures.shown)
+pub returns-in_err-lock-in-Lock-clause-step : goal.returns-in_err-lock-in-Lock-clause-step
+returns-in_err-lock-in-Lock-clause-step g c =
+    let p = err_from_is_err_and c.from_residual-in_err-lock-in-Lock.result c.from_residual-in_err-lock-in-Lock.ensures.1 in
+    rw p.1 (refused_lock _ _ _ c.in_err-lock-in-Lock.field-0.0 p.0 p.2 (rw (c.in-Lock.is, c.if-shared.false, c.if-deep.false) refl) (rw c.in-Lock.is refl)
+    (rw (c.in-Lock.is, ← c.self.view_is) c.in_err-lock-in-Lock.ensures.shown)
     (record {
       map_is = rw (← c.self.view_is) refl;
-      locks_are = rw (← c.self.view_is) c.in-Err-lock.ensures.unchanged;
-      rng_is = c.in-Err-lock.ensures.undrawn;
-    })
+      locks_are = rw (← c.self.view_is) c.in_err-lock-in-Lock.ensures.unchanged;
+      rng_is = c.in_err-lock-in-Lock.ensures.undrawn;
+    }))

@@ -9,7 +9,7 @@ use Rattle.dav_path_core.specs.Fronts.{Path, is_front, is_same_path}
 use Rattle.dav_path_core.proofs.FrontLemmas.{is_same_path-same, is_front-refl}
 use Rattle.dav_locks_core.specs.Lock.{Lock}
 use Rattle.dav_locks_core.specs.Locks.{lock_path, covers, height, held, Caller, refuses_lock, refuses_change, any_held, found_here, found}
-use Rattle.dav_locks_core.specs.LockTree.{Granted, LockTree, locks_at, node_at, first_on_way, locks_of}
+use Rattle.dav_locks_core.specs.LockTree.{NumberedLock, LockTree, locks_at, node_at, lookup_lock, locks_of}
 use Rattle.dav_locks_core.specs.WayTests.{refuses_wanted, is_covering_held, refuses_asker, has_that_token}
 use Rattle.dav_locks_core.specs.Represents.{Represents}
 use Rattle.dav_locks_core.proofs.Numbered.{place_of_found, found_at_place, lower_at}
@@ -22,17 +22,17 @@ pub record Agrees (on_way : Bool → Lock → Bool) (of_all : Lock → Bool) (p 
   pub above : (l : Lock) → is_front (lock_path l) p ≡ true → of_all l ≡ on_way (is_same_path (lock_path l) p) l
   pub aside : (l : Lock) → is_front (lock_path l) p ≡ false → of_all l ≡ false
 
-module _ (t : LockTree) (granted : List Granted) (next : ℕ) (r : Represents t granted next) (p : Path)
+module _ (t : LockTree) (granted : List NumberedLock) (next : ℕ) (r : Represents t granted next) (p : Path)
     (on_way : Bool → Lock → Bool) (of_all : Lock → Bool) (a : Agrees on_way of_all p) where
   -- where the lock at a place of the list stands
-  pub record StandsAt (j : ℕ) (d : Granted) : Type 0 where
+  pub record StandsAt (j : ℕ) (d : NumberedLock) : Type 0 where
     pub node : ℕ
     pub at : ℕ
     pub within : at < length (locks_at t node)
     pub is : get_or (locks_at t node) at d ≡ get_or granted j d
     pub leads : node_at t 1 (lock_path (get_or granted j d).1) ≡ Some node
 
-  stands_at : (j : ℕ) (d : Granted) → j < length granted → StandsAt j d
+  stands_at : (j : ℕ) (d : NumberedLock) → j < length granted → StandsAt j d
   stands_at j d lt =
       let g = get_or granted j d in
       let w = r.stands g.0 g.1 (found_at_place granted j d r.in_order lt) in
@@ -40,18 +40,18 @@ module _ (t : LockTree) (granted : List Granted) (next : ℕ) (r : Represents t 
       record { node = w.0; at = k.0; within = k.1; is = k.2 d; leads = (r.listed w.0 g.0 g.1 w.1).1 }
 
   -- none passes
-  none_passes : first_on_way on_way t 1 p ≡ None → (j : ℕ) (d : Granted) → j < length granted → of_all (get_or granted j d).1 ≡ false
+  none_passes : lookup_lock on_way t 1 p ≡ None → (j : ℕ) (d : NumberedLock) → j < length granted → of_all (get_or granted j d).1 ≡ false
   none_passes h j d lt =
       let s = stands_at j d lt in
       let l = (get_or granted j d).1 in
       elim (cases_Bool (is_front (lock_path l) p)) [
         | inl above ↦ a.above l above
-            ∙ subst (λ (g : Granted). on_way (is_same_path (lock_path l) p) g.1 ≡ false) s.is (NoneOnWay-from on_way t 1 p h (lock_path l) s.node s.at d above s.leads s.within)
+            ∙ subst (λ (g : NumberedLock). on_way (is_same_path (lock_path l) p) g.1 ≡ false) s.is (NoneOnWay-from on_way t 1 p h (lock_path l) s.node s.at d above s.leads s.within)
         | inr aside ↦ a.aside l aside
       ]
 
   -- the first that passes, as one of the list: each other that passes has more segments, or as many and a later place
-  pub record FirstOf (m k : ℕ) (d : Granted) : Type 0 where
+  pub record FirstOf (m k : ℕ) (d : NumberedLock) : Type 0 where
     pub at : ℕ
     pub at_node : k < length (locks_at t m)
     pub within : at < length granted
@@ -60,7 +60,7 @@ module _ (t : LockTree) (granted : List Granted) (next : ℕ) (r : Represents t 
     pub others : (j : ℕ) → j < length granted → of_all (get_or granted j d).1 ≡ true
         → (height (get_or granted at d).1 < height (get_or granted j d).1) ⊎ ((height (get_or granted at d).1 ≡ height (get_or granted j d).1) × (at ≤ j))
 
-  pub first_of : (m k : ℕ) (d : Granted) → first_on_way on_way t 1 p ≡ Some (m, k) → FirstOf m k d
+  pub first_of : (m k : ℕ) (d : NumberedLock) → lookup_lock on_way t 1 p ≡ Some (m, k) → FirstOf m k d
   first_of m k d h = go (IsFirst-from on_way t 1 p m k h)
     where
       go : IsFirst on_way t 1 p m k → FirstOf m k d
@@ -78,7 +78,7 @@ module _ (t : LockTree) (granted : List Granted) (next : ℕ) (r : Represents t 
             at_node = f.within;
             within = w.1;
             is = is;
-            passes = subst (λ (g : Granted). of_all g.1 ≡ true) (sym is) passes;
+            passes = subst (λ (g : NumberedLock). of_all g.1 ≡ true) (sym is) passes;
             others = λ j lt pass.
                 let s = stands_at j d lt in
                 let l = (get_or granted j d).1 in
@@ -87,8 +87,8 @@ module _ (t : LockTree) (granted : List Granted) (next : ℕ) (r : Represents t 
                   | inr no' ↦ absurd (true≢false (sym pass ∙ a.aside l no'))
                 ] in
                 let pass_way : on_way (is_same_path (lock_path l) p) (get_or (locks_at t s.node) s.at d).1 ≡ true =
-                subst (λ (g : Granted). on_way (is_same_path (lock_path l) p) g.1 ≡ true) (sym s.is) (sym (a.above l front) ∙ pass) in
-                subst (λ (g : Granted). (height g.1 < height l) ⊎ ((height g.1 ≡ height l) × (w.0 ≤ j))) (sym is)
+                subst (λ (g : NumberedLock). on_way (is_same_path (lock_path l) p) g.1 ≡ true) (sym s.is) (sym (a.above l front) ∙ pass) in
+                subst (λ (g : NumberedLock). (height g.1 < height l) ⊎ ((height g.1 ≡ height l) × (w.0 ≤ j))) (sym is)
                 (elim (f.others (lock_path l) s.node s.at d front s.leads s.within pass_way) [
                   | inl less ↦ inl (omega (arith, tall, less))
                   | inr same ↦ inr (
@@ -96,8 +96,8 @@ module _ (t : LockTree) (granted : List Granted) (next : ℕ) (r : Represents t 
                     elim (cases_lt j w.0) [
                       | inl before ↦
                           let lower : (get_or granted j d).0 < (get_or granted w.0 d).0 = lower_at granted j w.0 d r.in_order before w.1 in
-                          let g_is : (get_or granted w.0 d).0 ≡ g.0 = ap (λ (g : Granted). g.0) is in
-                          let s_is : (get_or (locks_at t s.node) s.at d).0 ≡ (get_or granted j d).0 = ap (λ (g : Granted). g.0) s.is in
+                          let g_is : (get_or granted w.0 d).0 ≡ g.0 = ap (λ (g : NumberedLock). g.0) is in
+                          let s_is : (get_or (locks_at t s.node) s.at d).0 ≡ (get_or granted j d).0 = ap (λ (g : NumberedLock). g.0) s.is in
                           let at_same : (get_or (locks_at t m) s.at d).0 ≡ (get_or (locks_at t s.node) s.at d).0 = ap (λ n. (get_or (locks_at t n) s.at d).0) same.1 in
                           elim (cases_lt k s.at) [
                             | inl earlier ↦
@@ -116,32 +116,32 @@ module _ (t : LockTree) (granted : List Granted) (next : ℕ) (r : Represents t 
           }
 
   -- ---- the list of the locks alone
-  lock_is : (j : ℕ) (d : Granted) (e : Lock) → j < length granted → get_or (locks_of granted) j e ≡ (get_or granted j d).1
-  lock_is j d e lt = get_or-map (λ (g : Granted). g.1) granted j d e lt
+  lock_is : (j : ℕ) (d : NumberedLock) (e : Lock) → j < length granted → get_or (locks_of granted) j e ≡ (get_or granted j d).1
+  lock_is j d e lt = get_or-map (λ (g : NumberedLock). g.1) granted j d e lt
 
   as_long : length (locks_of granted) ≡ length granted
-  as_long = length-map granted (λ (g : Granted). g.1)
+  as_long = length-map granted (λ (g : NumberedLock). g.1)
 
-  none_of_locks : first_on_way on_way t 1 p ≡ None → (j : ℕ) (e : Lock) → j < length (locks_of granted) → of_all (get_or (locks_of granted) j e) ≡ false
+  none_of_locks : lookup_lock on_way t 1 p ≡ None → (j : ℕ) (e : Lock) → j < length (locks_of granted) → of_all (get_or (locks_of granted) j e) ≡ false
   none_of_locks h j e lt =
       let lt' : j < length granted = omega (arith, as_long, lt) in
       ap of_all (lock_is j (0, e) e lt') ∙ none_passes h j (0, e) lt'
 
   -- no conflict
-  pub no_conflict : first_on_way on_way t 1 p ≡ None → filter of_all (locks_of granted) ≡ []
+  pub no_conflict : lookup_lock on_way t 1 p ≡ None → filter of_all (locks_of granted) ≡ []
   no_conflict h = filter-none of_all (locks_of granted) (none_of_locks h)
 
-  pub none_is_any : first_on_way on_way t 1 p ≡ None → list_any of_all (locks_of granted) ≡ false
+  pub none_is_any : lookup_lock on_way t 1 p ≡ None → list_any of_all (locks_of granted) ≡ false
   none_is_any h = any-none of_all (locks_of granted) (none_of_locks h)
 
   -- the first that passes is a conflict
-  pub conflict : (m k : ℕ) (d : Granted) → first_on_way on_way t 1 p ≡ Some (m, k) → Contains (filter of_all (locks_of granted)) (get_or (locks_at t m) k d).1
+  pub conflict : (m k : ℕ) (d : NumberedLock) → lookup_lock on_way t 1 p ≡ Some (m, k) → Contains (filter of_all (locks_of granted)) (get_or (locks_at t m) k d).1
   conflict m k d h =
       let f = first_of m k d h in
       filter-contains of_all (locks_of granted) f.at d.1 (get_or (locks_at t m) k d).1 (omega (arith, as_long, f.within))
-      (lock_is f.at d d.1 f.within ∙ ap (λ (g : Granted). g.1) f.is) (subst (λ (g : Granted). of_all g.1 ≡ true) f.is f.passes)
+      (lock_is f.at d d.1 f.within ∙ ap (λ (g : NumberedLock). g.1) f.is) (subst (λ (g : NumberedLock). of_all g.1 ≡ true) f.is f.passes)
 
-  pub some_is_any : (m k : ℕ) (d : Granted) → first_on_way on_way t 1 p ≡ Some (m, k) → list_any of_all (locks_of granted) ≡ true
+  pub some_is_any : (m k : ℕ) (d : NumberedLock) → lookup_lock on_way t 1 p ≡ Some (m, k) → list_any of_all (locks_of granted) ≡ true
   some_is_any m k d h =
       let f = first_of m k d h in
       list_any_at of_all (locks_of granted) f.at d.1 (omega (arith, as_long, f.within)) (ap of_all (lock_is f.at d d.1 f.within) ∙ f.passes)
@@ -204,12 +204,12 @@ named token p = record {
 
 -- ---- the lock that is found
 
-module _ (t : LockTree) (granted : List Granted) (next : ℕ) (r : Represents t granted next) (p : Path) (token : List ℕ) where
-  pub not_found : first_on_way (has_that_token token) t 1 p ≡ None → found (locks_of granted) p token ≡ None
+module _ (t : LockTree) (granted : List NumberedLock) (next : ℕ) (r : Represents t granted next) (p : Path) (token : List ℕ) where
+  pub not_found : lookup_lock (has_that_token token) t 1 p ≡ None → found (locks_of granted) p token ≡ None
   not_found h = found-none p token (locks_of granted) (none_of_locks t granted next r p (has_that_token token) (found_here p token) (named token p) h)
 
   -- the first on the way is found, at its place in the list
-  pub found_first : (m k : ℕ) (d : Granted) → first_on_way (has_that_token token) t 1 p ≡ Some (m, k)
+  pub found_first : (m k : ℕ) (d : NumberedLock) → lookup_lock (has_that_token token) t 1 p ≡ Some (m, k)
       → (j : ℕ) × (found (locks_of granted) p token ≡ Some j) × (k < length (locks_at t m)) × (j < length granted) × (get_or granted j d ≡ get_or (locks_at t m) k d)
   found_first m k d h =
       let f = first_of t granted next r p (has_that_token token) (found_here p token) (named token p) m k d h in
@@ -217,8 +217,8 @@ module _ (t : LockTree) (granted : List Granted) (next : ℕ) (r : Represents t 
     where
       best : (f : FirstOf t granted next r p (has_that_token token) (found_here p token) (named token p) m k d) → IsBest p token (locks_of granted) f.at
       best f =
-          let long : length (locks_of granted) ≡ length granted = length-map granted (λ (g : Granted). g.1) in
-          let lock_is : (j : ℕ) (e : Lock) → j < length granted → get_or (locks_of granted) j e ≡ (get_or granted j d).1 = λ j e lt. get_or-map (λ (g : Granted). g.1) granted j d e lt in
+          let long : length (locks_of granted) ≡ length granted = length-map granted (λ (g : NumberedLock). g.1) in
+          let lock_is : (j : ℕ) (e : Lock) → j < length granted → get_or (locks_of granted) j e ≡ (get_or granted j d).1 = λ j e lt. get_or-map (λ (g : NumberedLock). g.1) granted j d e lt in
           record {
             within = omega (arith, long, f.within);
             is_here = λ e. ap (found_here p token) (lock_is f.at e f.within) ∙ f.passes;

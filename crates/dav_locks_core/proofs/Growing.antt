@@ -10,26 +10,26 @@ use Rattle.std.proofs.lemmas.Bool.{cases_eq, true≢false}
 use Rattle.dav_path_core.specs.Fronts.{Segment, Path}
 use Rattle.dav_path_core.specs.Keyed.{Entry, entry, item, place_of, child, IsKnown, IsTree, add, cleared, with_item, with_item_at}
 use Rattle.dav_path_core.proofs.Trees.{Sets, Sets-insert, child-some, child-none, known_from_child, cleared-free, same_some}
-use Rattle.dav_locks_core.specs.LockTree.{Granted, LockTree, is_segment, child_at, node_at, Grown}
+use Rattle.dav_locks_core.specs.LockTree.{NumberedLock, LockTree, is_segment, child_at, node_at, Grown}
 use Rattle.dav_locks_core.proofs.Ways.{child_at-is, child_at-from, is_segment-refl}
 
 -- ---- the same locks once more
 
-with_same_at : (t : LockTree) (n : ℕ) (d : List Granted) (o : Option (Entry Segment (List Granted))) → entry t n ≡ o → option_map (λ e. e.item) o ≡ Some d → with_item_at t n o d ≡ t
+with_same_at : (t : LockTree) (n : ℕ) (d : List NumberedLock) (o : Option (Entry Segment (List NumberedLock))) → entry t n ≡ o → option_map (λ e. e.item) o ≡ Some d → with_item_at t n o d ≡ t
 with_same_at t n d None e h = refl
 with_same_at t n d (Some x) e h =
     let same : d ≡ x.item = sym (same_some x.item d h) in
     let s = Sets-insert t.nodes n (record x { item = d }) in
     let nodes : insert t.nodes n (record x { item = d }) ≡ t.nodes = same_map nat_cmp_total nat_cmp-IsAntisymmetric _ _ (λ q. elim (cases_eq q n) [
-      | inl i ↦ ap (get (insert t.nodes n (record x { item = d }))) i ∙ s.here ∙ ap (λ (d : List Granted). Some (record x { item = d })) same ∙ sym e ∙ ap (get t.nodes) (sym i)
+      | inl i ↦ ap (get (insert t.nodes n (record x { item = d }))) i ∙ s.here ∙ ap (λ (d : List NumberedLock). Some (record x { item = d })) same ∙ sym e ∙ ap (get t.nodes) (sym i)
       | inr ne ↦ s.other q ne
     ]) in
-    ap (λ (m : FinMap nat_cmp (Entry Segment (List Granted))). let u : LockTree = record { nodes = m; next = t.next } in u) nodes
+    ap (λ (m : FinMap nat_cmp (Entry Segment (List NumberedLock))). let u : LockTree = record { nodes = m; next = t.next } in u) nodes
 
-with_same : (t : LockTree) (n : ℕ) (d : List Granted) → item t n ≡ Some d → with_item t n d ≡ t
+with_same : (t : LockTree) (n : ℕ) (d : List NumberedLock) → item t n ≡ Some d → with_item t n d ≡ t
 with_same t n d h = with_same_at t n d (entry t n) refl h
 
-pub same_after : {A E : Type 0} (t : LockTree) (n : ℕ) (d inside after : List Granted) (r : Result A E) → item t n ≡ Some d → inside ≡ d → OnErr r (after ≡ inside) → OnErr r (with_item t n after ≡ t)
+pub same_after : {A E : Type 0} (t : LockTree) (n : ℕ) (d inside after : List NumberedLock) (r : Result A E) → item t n ≡ Some d → inside ≡ d → OnErr r (after ≡ inside) → OnErr r (with_item t n after ≡ t)
 same_after t n d inside after (Ok x) at is h = tt
 same_after t n d inside after (Err e) at is h = ap (with_item t n) (h ∙ is) ∙ with_same t n d at
 
@@ -58,7 +58,7 @@ pub record Grows (t u : LockTree) (n : ℕ) (s : Segment) : Type 0 where
 Grows-add : (t : LockTree) (n : ℕ) (s : Segment) → IsTree is_segment t → IsTree is_segment (add t n s []) → Grows t (add t n s []) n s
 Grows-add t n s tree tree' =
     let u : LockTree = add t n s [] in
-    let e : Entry Segment (List Granted) = record { place = Some (n, s); item = [] } in
+    let e : Entry Segment (List NumberedLock) = record { place = Some (n, s); item = [] } in
     let sets : Sets (entry t) (entry u) t.next (Some e) = Sets-insert t.nodes t.next e in
     let old : (m : ℕ) → IsKnown t m → m ≢ t.next = λ m h i. omega (arith, (tree.numbered m h).1, i) in
     let kept : (m : ℕ) → IsKnown t m → entry u m ≡ entry t m = λ m h. sets.other m (old m h) in
@@ -77,11 +77,11 @@ Grows-add t n s tree tree' =
       known = ap is_some sets.here;
     }
   where
-    none : (o : Option (Entry Segment (List Granted))) → entry t t.next ≡ o → entry t t.next ≡ None
+    none : (o : Option (Entry Segment (List NumberedLock))) → entry t t.next ≡ o → entry t t.next ≡ None
     none None i = i
     none (Some x) i = absurd (omega (arith, (tree.numbered t.next (ap is_some i)).1))
 
-pub Grows-by : (t u : LockTree) (n : ℕ) (s key : Segment) (standing : List Granted) → IsTree is_segment t → IsTree is_segment u → None ≡ child_at t n s → key ≡ s → standing ≡ []
+pub Grows-by : (t u : LockTree) (n : ℕ) (s key : Segment) (standing : List NumberedLock) → IsTree is_segment t → IsTree is_segment u → None ≡ child_at t n s → key ≡ s → standing ≡ []
     → u ≡ add (cleared is_segment t n key) n key standing → Grows t u n s
 Grows-by t u n s key standing tree tree' free key_is standing_is is =
     let same : u ≡ add t n s [] = is ∙ ap (λ (k : Segment). add (cleared is_segment t n k) n k standing) key_is

@@ -7,7 +7,7 @@ use Rattle.dav_path_core.specs.Fronts.{Segment, Path}
 use Rattle.dav_path_core.specs.Keyed.{Entry, entry, IsKnown, IsTree, with_item}
 use Rattle.dav_locks_core.specs.Lock.{Lock}
 use Rattle.dav_locks_core.specs.Locks.{lock_path, lock_conflicts, check_conflicts, refuses_lock, refuses_change, any_held, found, Caller, covers, held}
-use Rattle.dav_locks_core.specs.LockTree.{Granted, LockTree, locks_at, is_segment, node_at, all_granted, locks_of, lock_list, first_on_way, ShowsAt, Grown}
+use Rattle.dav_locks_core.specs.LockTree.{NumberedLock, LockTree, locks_at, is_segment, node_at, all_granted, locks_of, lock_list, lookup_lock, ShowsAt, Grown}
 use Rattle.dav_locks_core.specs.Represents.{Represents, IsLockTree}
 use Rattle.dav_locks_core.specs.Exclusive.{Exclusive}
 use Rattle.dav_locks_core.specs.Calls.{Shows}
@@ -25,7 +25,7 @@ pub record IsSeenAs (t : LockTree) (next : ℕ) (locks : List Lock) : Type 0 whe
   pub keeps : IsLockTree t next
   pub seen : lock_list t ≡ locks
 
-seen_from : (t : LockTree) (granted : List Granted) (next : ℕ) → Represents t granted next → Exclusive (locks_of granted) → IsSeenAs t next (locks_of granted)
+seen_from : (t : LockTree) (granted : List NumberedLock) (next : ℕ) → Represents t granted next → Exclusive (locks_of granted) → IsSeenAs t next (locks_of granted)
 seen_from t granted next r x =
     let one : all_granted t ≡ granted = one_list t granted next r in
     record {
@@ -47,7 +47,7 @@ pub seen-push : (t u : LockTree) (next n : ℕ) (l : Lock) (locks : List Lock) �
 seen-push t u next n l locks k leads known free is =
     let changes : Changes t u n (locks_at t n ++ (next, l) ∷ []) =
     subst (λ u. Changes t u n (locks_at t n ++ (next, l) ∷ [])) (sym is) (Changes-with_item t n (locks_at t n ++ (next, l) ∷ []) k.keeps.represents.tree known) in
-    let longer : locks_of (all_granted t ++ (next, l) ∷ []) ≡ locks ++ l ∷ [] = map_push (λ (g : Granted). g.1) (all_granted t) (next, l) ∙ ap (λ ls. ls ++ l ∷ []) k.seen in
+    let longer : locks_of (all_granted t ++ (next, l) ∷ []) ≡ locks ++ l ∷ [] = map_push (λ (g : NumberedLock). g.1) (all_granted t) (next, l) ∙ ap (λ ls. ls ++ l ∷ []) k.seen in
     let exclusive : Exclusive (locks ++ l ∷ []) = Exclusive-push locks l (subst Exclusive k.seen k.keeps.exclusive) free in
     subst (IsSeenAs u (next + 1)) longer
     (seen_from u (all_granted t ++ (next, l) ∷ []) (next + 1) (Represents-push t u (all_granted t) next k.keeps.represents n l leads changes) (subst Exclusive (sym longer) exclusive))
@@ -57,7 +57,7 @@ seen-push t u next n l locks k leads known free is =
 known_from_lock : (t : LockTree) (n k : ℕ) → k < length (locks_at t n) → IsKnown t n
 known_from_lock t n k lt = by (entry t n) refl
   where
-    by : (o : Option (Entry Segment (List Granted))) → entry t n ≡ o → IsKnown t n
+    by : (o : Option (Entry Segment (List NumberedLock))) → entry t n ≡ o → IsKnown t n
     by None e = let nothing : length (locks_at t n) ≡ 0 = ap (λ o. length (unwrap_or (option_map (λ e. e.item) o) [])) e in absurd (omega arith)
     by (Some x) e = ap is_some e
 
@@ -67,7 +67,7 @@ map-remove f [] (suc k) = refl
 map-remove f (x ∷ xs) zero = refl
 map-remove f (x ∷ xs) (suc k) = ap (λ r. f x ∷ r) (map-remove f xs k)
 
-some_granted : Granted
+some_granted : NumberedLock
 some_granted = (0, record { token = []; path = record { prefix = []; bytes = [] }; principal = None; owner = None; timeout_at = None; timeout = None; shared = false; deep = false })
 
 -- the first with the token on the way is ended, which is the found one
@@ -76,16 +76,16 @@ pub record Ends (t u : LockTree) (next : ℕ) (p : Path) (token : List ℕ) : Ty
   pub is_found : found (lock_list t) p token ≡ Some at
   pub after : IsSeenAs u next (remove (lock_list t) at)
 
-pub place_within : (t : LockTree) (next m k : ℕ) (p : Path) (token : List ℕ) → IsLockTree t next → first_on_way (has_that_token token) t 1 p ≡ Some (m, k) → k < length (locks_at t m)
+pub place_within : (t : LockTree) (next m k : ℕ) (p : Path) (token : List ℕ) → IsLockTree t next → lookup_lock (has_that_token token) t 1 p ≡ Some (m, k) → k < length (locks_at t m)
 place_within t next m k p token keeps h = let f = found_first t (all_granted t) next keeps.represents p token m k some_granted h in f.2
 
-pub seen-end : (t u : LockTree) (next m k : ℕ) (p : Path) (token : List ℕ) → IsLockTree t next → first_on_way (has_that_token token) t 1 p ≡ Some (m, k)
+pub seen-end : (t u : LockTree) (next m k : ℕ) (p : Path) (token : List ℕ) → IsLockTree t next → lookup_lock (has_that_token token) t 1 p ≡ Some (m, k)
     → u ≡ with_item t m (remove (locks_at t m) k) → Ends t u next p token
 seen-end t u next m k p token keeps h is =
     let f = found_first t (all_granted t) next keeps.represents p token m k some_granted h in
     let changes : Changes t u m (remove (locks_at t m) k) =
     subst (λ u. Changes t u m (remove (locks_at t m) k)) (sym is) (Changes-with_item t m (remove (locks_at t m) k) keeps.represents.tree (known_from_lock t m k f.2)) in
-    let shorter : locks_of (remove (all_granted t) f.0) ≡ remove (lock_list t) f.0 = map-remove (λ (g : Granted). g.1) (all_granted t) f.0 in
+    let shorter : locks_of (remove (all_granted t) f.0) ≡ remove (lock_list t) f.0 = map-remove (λ (g : NumberedLock). g.1) (all_granted t) f.0 in
     record {
       at = f.0;
       is_found = f.1;
@@ -94,49 +94,49 @@ seen-end t u next m k p token keeps h is =
           (subst Exclusive (sym shorter) (Exclusive-remove (lock_list t) f.0 keeps.exclusive)));
     }
 
-pub none_found : (t : LockTree) (next : ℕ) (p : Path) (token : List ℕ) → IsLockTree t next → first_on_way (has_that_token token) t 1 p ≡ None → found (lock_list t) p token ≡ None
+pub none_found : (t : LockTree) (next : ℕ) (p : Path) (token : List ℕ) → IsLockTree t next → lookup_lock (has_that_token token) t 1 p ≡ None → found (lock_list t) p token ≡ None
 none_found t next p token keeps h = not_found t (all_granted t) next keeps.represents p token h
 
 -- ---- refusals
 
 module _ (t : LockTree) (next : ℕ) (keeps : IsLockTree t next) (p : Path) where
-  shows : (on_way : Bool → Lock → Bool) (of_all : Lock → Bool) → Agrees on_way of_all p → (e : LockError) → ShowsAt t (first_on_way on_way t 1 p) e → Shows (filter of_all (lock_list t)) e
+  shows : (on_way : Bool → Lock → Bool) (of_all : Lock → Bool) → Agrees on_way of_all p → (e : LockError) → ShowsAt t (lookup_lock on_way t 1 p) e → Shows (filter of_all (lock_list t)) e
   shows on_way of_all a (Conflict l) h =
       subst (Contains (filter of_all (lock_list t))) (sym (h.2 some_granted))
       (conflict t (all_granted t) next keeps.represents p on_way of_all a h.0.0 h.0.1 some_granted h.1)
   shows on_way of_all a OutOfMemory h = tt
 
-  pub lock_free : (shared deep : Bool) → deep ≡ false → first_on_way (refuses_wanted shared) t 1 p ≡ None → lock_conflicts (lock_list t) p shared deep ≡ []
+  pub lock_free : (shared deep : Bool) → deep ≡ false → lookup_lock (refuses_wanted shared) t 1 p ≡ None → lock_conflicts (lock_list t) p shared deep ≡ []
   lock_free shared deep shallow h =
       ap (λ deep. lock_conflicts (lock_list t) p shared deep) shallow
       ∙ no_conflict t (all_granted t) next keeps.represents p (refuses_wanted shared) (refuses_lock p shared false) (wanted shared p) h
 
-  pub lock_shown : (shared deep : Bool) (e : LockError) → deep ≡ false → ShowsAt t (first_on_way (refuses_wanted shared) t 1 p) e → Shows (lock_conflicts (lock_list t) p shared deep) e
+  pub lock_shown : (shared deep : Bool) (e : LockError) → deep ≡ false → ShowsAt t (lookup_lock (refuses_wanted shared) t 1 p) e → Shows (lock_conflicts (lock_list t) p shared deep) e
   lock_shown shared deep e shallow h =
       subst (λ deep. Shows (lock_conflicts (lock_list t) p shared deep) e) (sym shallow) (shows (refuses_wanted shared) (refuses_lock p shared false) (wanted shared p) e h)
 
-  module _ (who : Caller) (held_one : Bool) (is_held : held_one ≡ is_some (first_on_way (is_covering_held who) t 1 p)) where
+  module _ (who : Caller) (held_one : Bool) (is_held : held_one ≡ is_some (lookup_lock (is_covering_held who) t 1 p)) where
     any_is : any_held (lock_list t) p who ≡ held_one
-    any_is = by (first_on_way (is_covering_held who) t 1 p) refl ∙ sym is_held
+    any_is = by (lookup_lock (is_covering_held who) t 1 p) refl ∙ sym is_held
       where
-        by : (o : Option (ℕ × ℕ)) → first_on_way (is_covering_held who) t 1 p ≡ o → any_held (lock_list t) p who ≡ is_some (first_on_way (is_covering_held who) t 1 p)
+        by : (o : Option (ℕ × ℕ)) → lookup_lock (is_covering_held who) t 1 p ≡ o → any_held (lock_list t) p who ≡ is_some (lookup_lock (is_covering_held who) t 1 p)
         by None e = none_is_any t (all_granted t) next keeps.represents p (is_covering_held who) (λ l. covers l p && held l who) (covering who p) e ∙ sym (ap is_some e)
         by (Some f) e = some_is_any t (all_granted t) next keeps.represents p (is_covering_held who) (λ l. covers l p && held l who) (covering who p) f.0 f.1 some_granted e ∙ sym (ap is_some e)
 
-    pub change_free : (deep : Bool) → deep ≡ false → first_on_way (refuses_asker who held_one) t 1 p ≡ None → check_conflicts (lock_list t) p deep who ≡ []
+    pub change_free : (deep : Bool) → deep ≡ false → lookup_lock (refuses_asker who held_one) t 1 p ≡ None → check_conflicts (lock_list t) p deep who ≡ []
     change_free deep shallow h =
         ap (λ deep. check_conflicts (lock_list t) p deep who) shallow
         ∙ no_conflict t (all_granted t) next keeps.represents p (refuses_asker who held_one) (refuses_change (lock_list t) p false who) (asked (lock_list t) who held_one p any_is) h
 
-    pub change_shown : (deep : Bool) (e : LockError) → deep ≡ false → ShowsAt t (first_on_way (refuses_asker who held_one) t 1 p) e → Shows (check_conflicts (lock_list t) p deep who) e
+    pub change_shown : (deep : Bool) (e : LockError) → deep ≡ false → ShowsAt t (lookup_lock (refuses_asker who held_one) t 1 p) e → Shows (check_conflicts (lock_list t) p deep who) e
     change_shown deep e shallow h =
         subst (λ deep. Shows (check_conflicts (lock_list t) p deep who) e) (sym shallow)
         (shows (refuses_asker who held_one) (refuses_change (lock_list t) p false who) (asked (lock_list t) who held_one p any_is) e h)
 
 -- what a check answers
 pub check_answers : {T : Type 0} (t : LockTree) (next : ℕ) (keeps : IsLockTree t next) (locks : List Lock) (p : Path) (who : Caller) (held_one deep : Bool) (r : Result T LockError)
-    → lock_list t ≡ locks → deep ≡ false → held_one ≡ is_some (first_on_way (is_covering_held who) t 1 p)
-    → OnOk r (first_on_way (refuses_asker who held_one) t 1 p ≡ None) → IfErr r (λ e. ShowsAt t (first_on_way (refuses_asker who held_one) t 1 p) e)
+    → lock_list t ≡ locks → deep ≡ false → held_one ≡ is_some (lookup_lock (is_covering_held who) t 1 p)
+    → OnOk r (lookup_lock (refuses_asker who held_one) t 1 p ≡ None) → IfErr r (λ e. ShowsAt t (lookup_lock (refuses_asker who held_one) t 1 p) e)
     → OnOk r (check_conflicts locks p deep who ≡ []) × IfErr r (λ e. Shows (check_conflicts locks p deep who) e)
 check_answers t next keeps locks p who held_one deep (Ok x) seen shallow is_held free shown =
     (subst (λ locks. check_conflicts locks p deep who ≡ []) seen (change_free t next keeps p who held_one is_held deep shallow free), tt)

@@ -12,7 +12,7 @@ use Rattle.dav_path_core.specs.Keyed.{Entry, entry, place, place_of, IsKnown, Is
 use Rattle.dav_path_core.proofs.Trees.{Sets, Sets-insert, IsTree-with_item, find-here, find-head, same_some, none≢some}
 use Rattle.dav_locks_core.specs.Lock.{Lock}
 use Rattle.dav_locks_core.specs.Locks as locks
-use Rattle.dav_locks_core.specs.LockTree.{Granted, LockTree, locks_at, is_segment, child_at, node_at, all_standing, all_granted, or_else, Grown}
+use Rattle.dav_locks_core.specs.LockTree.{NumberedLock, LockTree, locks_at, is_segment, child_at, node_at, all_standing, all_granted, or_else, Grown}
 use Rattle.dav_locks_core.specs.Represents.{Represents}
 use Rattle.dav_locks_core.proofs.Numbered.{InOrder, AllBelow, find-later, in_order_tail, found_at_place, find-push, InOrder-push, InOrder-remove, found-removed, found-kept}
 use Rattle.dav_locks_core.proofs.Ways.{child_at-is, child_at-from}
@@ -20,9 +20,9 @@ use Rattle.dav_locks_core.proofs.Ways.{child_at-is, child_at-from}
 -- ---- one list
 
 abbrev Nodes : Type 0
-Nodes = List (ℕ × Entry Segment (List Granted))
+Nodes = List (ℕ × Entry Segment (List NumberedLock))
 
-find-both : (g : ℕ) (xs ys : List Granted) → find nat_cmp g (xs ++ ys) ≡ or_else (find nat_cmp g xs) (find nat_cmp g ys)
+find-both : (g : ℕ) (xs ys : List NumberedLock) → find nat_cmp g (xs ++ ys) ≡ or_else (find nat_cmp g xs) (find nat_cmp g ys)
 find-both g [] ys = refl
 find-both g (x ∷ xs) ys =
     elim (eq_by_cmp nat_cmp g x.0) as (λ b. cond b (Some x.1) (find nat_cmp g (xs ++ ys)) ≡ or_else (cond b (Some x.1) (find nat_cmp g xs)) (find nat_cmp g ys)) [
@@ -32,13 +32,13 @@ find-both g (x ∷ xs) ys =
 
 -- what is found among all stands at a node
 in_node : (g : ℕ) (l : Lock) (es : Nodes) → InOrder es → find nat_cmp g (all_standing es) ≡ Some l
-    → (n : ℕ) × (e : Entry Segment (List Granted)) × (find nat_cmp n es ≡ Some e) × (find nat_cmp g e.item ≡ Some l)
+    → (n : ℕ) × (e : Entry Segment (List NumberedLock)) × (find nat_cmp n es ≡ Some e) × (find nat_cmp g e.item ≡ Some l)
 in_node g l [] s h = absurd (none≢some l h)
 in_node g l (e ∷ es) s h = by (λ more. in_node g l es (in_order_tail e es s) more) (find nat_cmp g e.1.item) refl (sym (find-both g e.1.item (all_standing es)) ∙ h)
   where
-    by : (find nat_cmp g (all_standing es) ≡ Some l → (n : ℕ) × (f : Entry Segment (List Granted)) × (find nat_cmp n es ≡ Some f) × (find nat_cmp g f.item ≡ Some l))
+    by : (find nat_cmp g (all_standing es) ≡ Some l → (n : ℕ) × (f : Entry Segment (List NumberedLock)) × (find nat_cmp n es ≡ Some f) × (find nat_cmp g f.item ≡ Some l))
         → (o : Option Lock) → find nat_cmp g e.1.item ≡ o → or_else o (find nat_cmp g (all_standing es)) ≡ Some l
-        → (n : ℕ) × (f : Entry Segment (List Granted)) × (find nat_cmp n (e ∷ es) ≡ Some f) × (find nat_cmp g f.item ≡ Some l)
+        → (n : ℕ) × (f : Entry Segment (List NumberedLock)) × (find nat_cmp n (e ∷ es) ≡ Some f) × (find nat_cmp g f.item ≡ Some l)
     by rec None i h = let w = rec h in (w.0, w.1, find-later e es w.0 w.1 s w.2, w.3)
     by rec (Some m) i h = (e.0, e.1, find-here e es, i ∙ h)
 
@@ -51,20 +51,20 @@ some_here : (o : Option Lock) (r : Option Lock) → IsSome o → IsSome (or_else
 some_here None r s = absurd (false≢true s)
 some_here (Some x) r s = refl
 
-among : (g n : ℕ) (e : Entry Segment (List Granted)) (es : Nodes) → find nat_cmp n es ≡ Some e → IsSome (find nat_cmp g e.item) → IsSome (find nat_cmp g (all_standing es))
+among : (g n : ℕ) (e : Entry Segment (List NumberedLock)) (es : Nodes) → find nat_cmp n es ≡ Some e → IsSome (find nat_cmp g e.item) → IsSome (find nat_cmp g (all_standing es))
 among g n e [] h s = absurd (none≢some e h)
 among g n e (x ∷ es) h s =
     subst IsSome (sym (find-both g x.1.item (all_standing es)))
     (elim (n == x.0) as (λ b. (n == x.0) ≡ b → cond b (Some x.1) (find nat_cmp n es) ≡ Some e → IsSome (or_else (find nat_cmp g x.1.item) (find nat_cmp g (all_standing es)))) [
-      | true ↦ λ t h. some_here _ _ (subst (λ (f : Entry Segment (List Granted)). IsSome (find nat_cmp g f.item)) (sym (same_some x.1 e h)) s)
+      | true ↦ λ t h. some_here _ _ (subst (λ (f : Entry Segment (List NumberedLock)). IsSome (find nat_cmp g f.item)) (sym (same_some x.1 e h)) s)
       | false ↦ λ t h. some_later _ _ (among g n e es h s)
     ] refl (sym (find-head n x es) ∙ h))
 
 -- the locks at a node, by its entry
-locks_of_entry : (t : LockTree) (n : ℕ) (o : Option (Entry Segment (List Granted))) → entry t n ≡ o → locks_at t n ≡ unwrap_or (option_map (λ e. e.item) o) []
+locks_of_entry : (t : LockTree) (n : ℕ) (o : Option (Entry Segment (List NumberedLock))) → entry t n ≡ o → locks_at t n ≡ unwrap_or (option_map (λ e. e.item) o) []
 locks_of_entry t n o h = ap (λ o. unwrap_or (option_map (λ e. e.item) o) []) h
 
-pub one_list : (t : LockTree) (granted : List Granted) (next : ℕ) → Represents t granted next → all_granted t ≡ granted
+pub one_list : (t : LockTree) (granted : List NumberedLock) (next : ℕ) → Represents t granted next → all_granted t ≡ granted
 unfolding all_granted
 one_list t granted next r =
     let m = from_entries {R = nat_cmp} (all_standing (entries t.nodes)) in
@@ -74,7 +74,7 @@ one_list t granted next r =
     none : (q : ℕ) → find nat_cmp q (all_standing (entries t.nodes)) ≡ None → (l : Lock) (n : ℕ) → find nat_cmp q (locks_at t n) ≡ Some l → ⊥
     none q e l n h = by (entry t n) refl
       where
-        by : (o : Option (Entry Segment (List Granted))) → entry t n ≡ o → ⊥
+        by : (o : Option (Entry Segment (List NumberedLock))) → entry t n ≡ o → ⊥
         by None i = none≢some l (sym (ap (find nat_cmp q) (locks_of_entry t n None i)) ∙ h)
         by (Some x) i =
             let some : IsSome (find nat_cmp q x.item) = ap is_some (sym (ap (find nat_cmp q) (locks_of_entry t n (Some x) i)) ∙ h) in
@@ -102,7 +102,7 @@ way_stays t u ways n m (s ∷ p) h = by (λ c. way_stays t u ways c m p) (child_
     by rec None e h = absurd (none≢some m h)
     by rec (Some c) e h = ap (λ o. option_and_then (λ c. node_at u c p) o) (ways n c s e) ∙ rec c h
 
-pub Represents-grown : (t u : LockTree) (granted : List Granted) (next : ℕ) → Represents t granted next → Grown t u → IsTree is_segment u → Represents u granted next
+pub Represents-grown : (t u : LockTree) (granted : List NumberedLock) (next : ℕ) → Represents t granted next → Grown t u → IsTree is_segment u → Represents u granted next
 Represents-grown t u granted next r g tree = record {
   tree = tree;
   in_order = r.in_order;
@@ -115,19 +115,19 @@ Represents-grown t u granted next r g tree = record {
 -- ---- other locks at one node
 
 -- u is t with these locks at n
-pub record Changes (t u : LockTree) (n : ℕ) (here : List Granted) : Type 0 where
+pub record Changes (t u : LockTree) (n : ℕ) (here : List NumberedLock) : Type 0 where
   pub tree : IsTree is_segment u
   pub at : locks_at u n ≡ here
   pub other : (m : ℕ) → m ≢ n → locks_at u m ≡ locks_at t m
   pub ways : (n c : ℕ) (s : Segment) → child_at t n s ≡ Some c → child_at u n s ≡ Some c
 
-pub Changes-with_item : (t : LockTree) (n : ℕ) (here : List Granted) → IsTree is_segment t → IsKnown t n → Changes t (with_item t n here) n here
+pub Changes-with_item : (t : LockTree) (n : ℕ) (here : List NumberedLock) → IsTree is_segment t → IsKnown t n → Changes t (with_item t n here) n here
 Changes-with_item t n here tree known = by (entry t n) refl
   where
     tree' : IsTree is_segment (with_item t n here)
     tree' = IsTree-with_item is_segment t n here tree
 
-    by : (o : Option (Entry Segment (List Granted))) → entry t n ≡ o → Changes t (with_item t n here) n here
+    by : (o : Option (Entry Segment (List NumberedLock))) → entry t n ≡ o → Changes t (with_item t n here) n here
     by None e = absurd (false≢true (sym (ap is_some e) ∙ known))
     by (Some x) e =
         let u = with_item t n here in
@@ -144,7 +144,7 @@ Changes-with_item t n here tree known = by (entry t n) refl
           ways = λ k c w h. child_at-from u tree' k w c (places c ∙ child_at-is t k w c h);
         }
 
-module _ (t u : LockTree) (granted : List Granted) (next : ℕ) (r : Represents t granted next) where
+module _ (t u : LockTree) (granted : List NumberedLock) (next : ℕ) (r : Represents t granted next) where
   all_below : AllBelow next granted
   all_below j d lt = r.below _ _ (found_at_place granted j d r.in_order lt)
 
@@ -155,10 +155,10 @@ module _ (t u : LockTree) (granted : List Granted) (next : ℕ) (r : Represents 
   apart_from_next g l h e = omega (arith, r.below g l h, e)
 
   module _ (n : ℕ) (l : Lock) (leads : node_at t 1 (locks.lock_path l) ≡ Some n) (c : Changes t u n (locks_at t n ++ (next, l) ∷ [])) where
-    here : List Granted
+    here : List NumberedLock
     here = locks_at t n ++ (next, l) ∷ []
 
-    longer : List Granted
+    longer : List NumberedLock
     longer = granted ++ (next, l) ∷ []
 
     old : (g : ℕ) → g ≢ next → find nat_cmp g longer ≡ find nat_cmp g granted
@@ -231,7 +231,7 @@ module _ (t u : LockTree) (granted : List Granted) (next : ℕ) (r : Represents 
       ];
     }
 
-  module _ (n k j : ℕ) (d : Granted) (within : k < length (locks_at t n)) (listed_at : j < length granted)
+  module _ (n k j : ℕ) (d : NumberedLock) (within : k < length (locks_at t n)) (listed_at : j < length granted)
       (one : get_or granted j d ≡ get_or (locks_at t n) k d) (c : Changes t u n (remove (locks_at t n) k)) where
     gone : ℕ
     gone = (get_or (locks_at t n) k d).0
@@ -242,7 +242,7 @@ module _ (t u : LockTree) (granted : List Granted) (next : ℕ) (r : Represents 
 
     same_number : (get_or granted j d).0 ≡ gone
     unfolding gone
-    same_number = ap (λ (g : Granted). g.0) one
+    same_number = ap (λ (g : NumberedLock). g.0) one
 
     -- the lock that goes stands at no other node
     only_here : (m g : ℕ) (l : Lock) → m ≢ n → find nat_cmp g (locks_at t m) ≡ Some l → g ≢ gone
@@ -311,8 +311,8 @@ Represents-none t next tree none = record {
 
 pub lone-none : (n : ℕ) → locks_at (lone []) n ≡ []
 lone-none n =
-    let e : Entry Segment (List Granted) = record { place = None; item = [] } in
-    let s : Sets (get (empty {X = Entry Segment (List Granted)} {R = nat_cmp})) (entry (lone [])) 1 (Some e) = Sets-insert empty 1 e in
+    let e : Entry Segment (List NumberedLock) = record { place = None; item = [] } in
+    let s : Sets (get (empty {X = Entry Segment (List NumberedLock)} {R = nat_cmp})) (entry (lone [])) 1 (Some e) = Sets-insert empty 1 e in
     elim (cases_eq n 1) [
       | inl i ↦ ap (locks_at (lone [])) i ∙ locks_of_entry (lone []) 1 (Some e) s.here
       | inr ne ↦ locks_of_entry (lone []) n None (s.other n ne ∙ get-empty nat_cmp n)

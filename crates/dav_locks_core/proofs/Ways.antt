@@ -14,7 +14,7 @@ use Rattle.dav_path_core.proofs.Trees.{child-some, child-only, same_some, none�
 use Rattle.dav_path_core.proofs.Orders.{segment_total}
 use Rattle.dav_path_core.proofs.FrontLemmas.{is_front-parts, is_front-cons}
 use Rattle.dav_locks_core.specs.Lock.{Lock}
-use Rattle.dav_locks_core.specs.LockTree.{Granted, LockTree, locks_at, is_segment, child_at, node_at, first_at, or_else, with_node, first_on_way}
+use Rattle.dav_locks_core.specs.LockTree.{NumberedLock, LockTree, locks_at, is_segment, child_at, node_at, first_at, or_else, with_node, lookup_lock}
 use Rattle.dav_locks_core.proofs.Places.{position-none, position-first}
 
 -- ---- children by their segments
@@ -43,13 +43,13 @@ same_path-cons s q p = ap (λ r. is_eq (ordering_then r (slice_cmp segment_cmp q
 -- ---- the first on the way
 
 -- the lock at a node and place
-abbrev pub lock_at : LockTree → ℕ → ℕ → Granted → Lock
+abbrev pub lock_at : LockTree → ℕ → ℕ → NumberedLock → Lock
 lock_at t n k d = (get_or (locks_at t n) k d).1
 
 module _ (test : Bool → Lock → Bool) (t : LockTree) where
   -- no lock on the way passes
   abbrev pub NoneOnWay : ℕ → Path → Type 0
-  NoneOnWay n p = (q : Path) (m k : ℕ) (d : Granted) → is_front q p ≡ true → node_at t n q ≡ Some m → k < length (locks_at t m) → test (is_same_path q p) (lock_at t m k d) ≡ false
+  NoneOnWay n p = (q : Path) (m k : ℕ) (d : NumberedLock) → is_front q p ≡ true → node_at t n q ≡ Some m → k < length (locks_at t m) → test (is_same_path q p) (lock_at t m k d) ≡ false
 
   -- the lock at node m and place k passes, and stands at the end of the front q; each other that passes stands further down
   -- or at a later place
@@ -58,12 +58,12 @@ module _ (test : Bool → Lock → Bool) (t : LockTree) where
     pub is_above : is_front front p ≡ true
     pub leads : node_at t n front ≡ Some m
     pub within : k < length (locks_at t m)
-    pub passes : (d : Granted) → test (is_same_path front p) (lock_at t m k d) ≡ true
-    pub others : (q : Path) (m' j : ℕ) (d : Granted) → is_front q p ≡ true → node_at t n q ≡ Some m' → j < length (locks_at t m')
+    pub passes : (d : NumberedLock) → test (is_same_path front p) (lock_at t m k d) ≡ true
+    pub others : (q : Path) (m' j : ℕ) (d : NumberedLock) → is_front q p ≡ true → node_at t n q ≡ Some m' → j < length (locks_at t m')
         → test (is_same_path q p) (lock_at t m' j d) ≡ true → (length front < length q) ⊎ ((length front ≡ length q) × (m ≡ m') × (k ≤ j))
 
   -- what a node answers
-  none_here : (b : Bool) (n : ℕ) → first_at (test b) t n ≡ None → (k : ℕ) (d : Granted) → k < length (locks_at t n) → test b (lock_at t n k d) ≡ false
+  none_here : (b : Bool) (n : ℕ) → first_at (test b) t n ≡ None → (k : ℕ) (d : NumberedLock) → k < length (locks_at t n) → test b (lock_at t n k d) ≡ false
   none_here b n h k d lt = position-none (λ g. test b g.1) (locks_at t n) h k d lt
 
   down : (n : ℕ) (s : Segment) (q : Path) (c m : ℕ) → child_at t n s ≡ Some c → node_at t n (s ∷ q) ≡ Some m → node_at t c q ≡ Some m
@@ -78,8 +78,8 @@ module _ (test : Bool → Lock → Bool) (t : LockTree) where
   unfolding node_at
   at_start n m h = same_some n m h
 
-  pub NoneOnWay-from : (n : ℕ) (p : Path) → first_on_way test t n p ≡ None → NoneOnWay n p
-  unfolding first_on_way
+  pub NoneOnWay-from : (n : ℕ) (p : Path) → lookup_lock test t n p ≡ None → NoneOnWay n p
+  unfolding lookup_lock
   NoneOnWay-from n [] h = end
     where
       mapped : (o : Option ℕ) → with_node n o ≡ None → o ≡ None
@@ -91,8 +91,8 @@ module _ (test : Bool → Lock → Bool) (t : LockTree) where
       end (s ∷ q) m k d f e lt = absurd (false≢true f)
   NoneOnWay-from n (s ∷ p) h = by (λ c. NoneOnWay-from c p) (first_at (test false) t n) refl (child_at t n s) refl h
     where
-      by : ((c : ℕ) → first_on_way test t c p ≡ None → NoneOnWay c p) → (o : Option ℕ) → first_at (test false) t n ≡ o → (c : Option ℕ) → child_at t n s ≡ c
-          → or_else (with_node n o) (option_and_then (λ c. first_on_way test t c p) c) ≡ None → NoneOnWay n (s ∷ p)
+      by : ((c : ℕ) → lookup_lock test t c p ≡ None → NoneOnWay c p) → (o : Option ℕ) → first_at (test false) t n ≡ o → (c : Option ℕ) → child_at t n s ≡ c
+          → or_else (with_node n o) (option_and_then (λ c. lookup_lock test t c p) c) ≡ None → NoneOnWay n (s ∷ p)
       by rec (Some j) e c ce h q m k d f ne lt = absurd (none≢some (n, j) (sym h))
       by rec None e c ce h [] m k d f ne lt = subst (λ m. k < length (locks_at t m) → test false (lock_at t m k d) ≡ false) (at_start n m ne) (none_here false n e k d) lt
       by rec None e None ce h (r ∷ q) m k d f ne lt =
@@ -116,7 +116,7 @@ module _ (test : Bool → Lock → Bool) (t : LockTree) where
     others = others;
   }
     where
-      others : (q : Path) (m' j : ℕ) (d : Granted) → is_front q (s ∷ p) ≡ true → node_at t n q ≡ Some m' → j < length (locks_at t m')
+      others : (q : Path) (m' j : ℕ) (d : NumberedLock) → is_front q (s ∷ p) ≡ true → node_at t n q ≡ Some m' → j < length (locks_at t m')
           → test (is_same_path q (s ∷ p)) (lock_at t m' j d) ≡ true → (length (s ∷ f.front) < length q) ⊎ ((length (s ∷ f.front) ≡ length q) × (m ≡ m') × (k ≤ j))
       others [] m' j d a ne lt h =
           absurd (true≢false (sym h ∙ subst (λ m. j < length (locks_at t m) → test false (lock_at t m j d) ≡ false) (at_start n m' ne) (none_here false n none j d) lt))
@@ -143,10 +143,10 @@ module _ (test : Bool → Lock → Bool) (t : LockTree) where
         others = others;
       }
     where
-      before : (j : ℕ) (d : Granted) → j < k → test (is_same_path [] p) (lock_at t n j d) ≡ false
+      before : (j : ℕ) (d : NumberedLock) → j < k → test (is_same_path [] p) (lock_at t n j d) ≡ false
       before = (position-first (λ g. test (is_same_path [] p) g.1) (locks_at t n) k h).2
 
-      others : (q : Path) (m' j : ℕ) (d : Granted) → is_front q p ≡ true → node_at t n q ≡ Some m' → j < length (locks_at t m')
+      others : (q : Path) (m' j : ℕ) (d : NumberedLock) → is_front q p ≡ true → node_at t n q ≡ Some m' → j < length (locks_at t m')
           → test (is_same_path q p) (lock_at t m' j d) ≡ true → (0 < length q) ⊎ ((0 ≡ length q) × (n ≡ m') × (k ≤ j))
       others (r ∷ q) m' j d a ne lt h = inl (omega arith)
       others [] m' j d a ne lt h = elim (cases_lt j k) [
@@ -154,8 +154,8 @@ module _ (test : Bool → Lock → Bool) (t : LockTree) where
         | inr at ↦ inr (refl, at_start n m' ne, at)
       ]
 
-  pub IsFirst-from : (n : ℕ) (p : Path) (m k : ℕ) → first_on_way test t n p ≡ Some (m, k) → IsFirst n p m k
-  unfolding first_on_way
+  pub IsFirst-from : (n : ℕ) (p : Path) (m k : ℕ) → lookup_lock test t n p ≡ Some (m, k) → IsFirst n p m k
+  unfolding lookup_lock
   IsFirst-from n [] m k h = by (first_at (test true) t n) refl h
     where
       by : (o : Option ℕ) → first_at (test true) t n ≡ o → with_node n o ≡ Some (m, k) → IsFirst n [] m k
@@ -165,8 +165,8 @@ module _ (test : Bool → Lock → Bool) (t : LockTree) where
           subst (λ (f : ℕ × ℕ). IsFirst n [] f.0 f.1) w (IsFirst-here n [] j e)
   IsFirst-from n (s ∷ p) m k h = by (λ c. IsFirst-from c p m k) (first_at (test false) t n) refl (child_at t n s) refl h
     where
-      by : ((c : ℕ) → first_on_way test t c p ≡ Some (m, k) → IsFirst c p m k) → (o : Option ℕ) → first_at (test false) t n ≡ o → (c : Option ℕ) → child_at t n s ≡ c
-          → or_else (with_node n o) (option_and_then (λ c. first_on_way test t c p) c) ≡ Some (m, k) → IsFirst n (s ∷ p) m k
+      by : ((c : ℕ) → lookup_lock test t c p ≡ Some (m, k) → IsFirst c p m k) → (o : Option ℕ) → first_at (test false) t n ≡ o → (c : Option ℕ) → child_at t n s ≡ c
+          → or_else (with_node n o) (option_and_then (λ c. lookup_lock test t c p) c) ≡ Some (m, k) → IsFirst n (s ∷ p) m k
       by rec (Some j) e c ce h =
           let w : (n, j) ≡ (m, k) = same_some _ _ h in
           subst (λ (f : ℕ × ℕ). IsFirst n (s ∷ p) f.0 f.1) w (IsFirst-here n (s ∷ p) j e)
@@ -211,23 +211,23 @@ module _ (t : LockTree) (tree : IsTree is_segment t) where
 -- ---- the steps of the walk
 
 module _ (test : Bool → Lock → Bool) (t : LockTree) (n : ℕ) where
-  pub way-end : (o : Option ℕ) → o ≡ first_at (test true) t n → first_on_way test t n [] ≡ with_node n o
-  unfolding first_on_way
+  pub way-end : (o : Option ℕ) → o ≡ first_at (test true) t n → lookup_lock test t n [] ≡ with_node n o
+  unfolding lookup_lock
   way-end o e = ap (with_node n) (sym e)
 
   module _ (s : Segment) (p : Path) where
-    pub way-found : (k : ℕ) → Some k ≡ first_at (test false) t n → first_on_way test t n (s ∷ p) ≡ Some (n, k)
-    unfolding first_on_way
-    way-found k e = ap (λ o. or_else (with_node n o) (option_and_then (λ c. first_on_way test t c p) (child_at t n s))) (sym e)
+    pub way-found : (k : ℕ) → Some k ≡ first_at (test false) t n → lookup_lock test t n (s ∷ p) ≡ Some (n, k)
+    unfolding lookup_lock
+    way-found k e = ap (λ o. or_else (with_node n o) (option_and_then (λ c. lookup_lock test t c p) (child_at t n s))) (sym e)
 
-    pub way-down : (c : ℕ) → None ≡ first_at (test false) t n → Some c ≡ child_at t n s → first_on_way test t n (s ∷ p) ≡ first_on_way test t c p
-    unfolding first_on_way
+    pub way-down : (c : ℕ) → None ≡ first_at (test false) t n → Some c ≡ child_at t n s → lookup_lock test t n (s ∷ p) ≡ lookup_lock test t c p
+    unfolding lookup_lock
     way-down c e ce =
-        ap (λ o. or_else (with_node n o) (option_and_then (λ c. first_on_way test t c p) (child_at t n s))) (sym e)
-        ∙ ap (λ o. option_and_then (λ c. first_on_way test t c p) o) (sym ce)
+        ap (λ o. or_else (with_node n o) (option_and_then (λ c. lookup_lock test t c p) (child_at t n s))) (sym e)
+        ∙ ap (λ o. option_and_then (λ c. lookup_lock test t c p) o) (sym ce)
 
-    pub way-stuck : None ≡ first_at (test false) t n → None ≡ child_at t n s → first_on_way test t n (s ∷ p) ≡ None
-    unfolding first_on_way
+    pub way-stuck : None ≡ first_at (test false) t n → None ≡ child_at t n s → lookup_lock test t n (s ∷ p) ≡ None
+    unfolding lookup_lock
     way-stuck e ce =
-        ap (λ o. or_else (with_node n o) (option_and_then (λ c. first_on_way test t c p) (child_at t n s))) (sym e)
-        ∙ ap (λ o. option_and_then (λ c. first_on_way test t c p) o) (sym ce)
+        ap (λ o. or_else (with_node n o) (option_and_then (λ c. lookup_lock test t c p) (child_at t n s))) (sym e)
+        ∙ ap (λ o. option_and_then (λ c. lookup_lock test t c p) o) (sym ce)

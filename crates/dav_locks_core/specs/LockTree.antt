@@ -12,14 +12,14 @@ use Rattle.dav_locks_core.specs.declared.ls.LockError.{LockError}
 use Rattle.dav_locks_core.specs.declared.ls.LockError.TheVariants.{Conflict, OutOfMemory}
 
 -- a lock with its grant number
-abbrev pub Granted : Type 0
-Granted = ℕ × Lock
+abbrev pub NumberedLock : Type 0
+NumberedLock = ℕ × Lock
 
 abbrev pub LockTree : Type 0
-LockTree = Keyed Segment (List Granted)
+LockTree = Keyed Segment (List NumberedLock)
 
 -- the locks that stand at a node; none at an unknown one
-abbrev pub locks_at : LockTree → ℕ → List Granted
+abbrev pub locks_at : LockTree → ℕ → List NumberedLock
 locks_at t n = unwrap_or (item t n) []
 
 abbrev pub is_segment : Segment → Segment → Bool
@@ -34,15 +34,15 @@ unfoldable pub node_at : LockTree → ℕ → Path → Option ℕ
 node_at t n [] = Some n
 node_at t n (s ∷ p) = option_and_then (λ c. node_at t c p) (child_at t n s)
 
-abbrev pub all_standing : List (ℕ × Entry Segment (List Granted)) → List Granted
+abbrev pub all_standing : List (ℕ × Entry Segment (List NumberedLock)) → List NumberedLock
 all_standing [] = []
 all_standing (e ∷ es) = e.1.item ++ all_standing es
 
 -- all of them, in the order of granting
-unfoldable pub all_granted : LockTree → List Granted
+unfoldable pub all_granted : LockTree → List NumberedLock
 all_granted t = entries (from_entries {R = nat_cmp} (all_standing (entries t.nodes)))
 
-abbrev pub locks_of : List Granted → List Lock
+abbrev pub locks_of : List NumberedLock → List Lock
 locks_of granted = map (λ g. g.1) granted
 
 abbrev pub lock_list : LockTree → List Lock
@@ -65,15 +65,15 @@ first_at test t n = position (λ g. test g.1) (locks_at t n)
 
 -- the node, and the place there, of the first lock that passes on the way down from a node; the test is told whether the lock
 -- stands where the way ends
-unfoldable pub first_on_way : (Bool → Lock → Bool) → LockTree → ℕ → Path → Option (ℕ × ℕ)
-first_on_way test t n [] = with_node n (first_at (test true) t n)
-first_on_way test t n (s ∷ p) =
-    or_else (with_node n (first_at (test false) t n)) (option_and_then (λ c. first_on_way test t c p) (child_at t n s))
+unfoldable pub lookup_lock : (Bool → Lock → Bool) → LockTree → ℕ → Path → Option (ℕ × ℕ)
+lookup_lock test t n [] = with_node n (first_at (test true) t n)
+lookup_lock test t n (s ∷ p) =
+    or_else (with_node n (first_at (test false) t n)) (option_and_then (λ c. lookup_lock test t c p) (child_at t n s))
 
 -- a conflict that is shown is the lock at that node and place
 abbrev pub ShowsAt : LockTree → Option (ℕ × ℕ) → LockError → Type 0
 ShowsAt t o (Conflict l) =
-    (f : ℕ × ℕ) × (o ≡ Some f) × ((d : Granted) → l ≡ (slice_index_or (locks_at t f.0) f.1 d).1)
+    (f : ℕ × ℕ) × (o ≡ Some f) × ((d : NumberedLock) → l ≡ (slice_index_or (locks_at t f.0) f.1 d).1)
 ShowsAt t o OutOfMemory = Unit {0}
 
 -- u is t with more nodes, at which no locks stand

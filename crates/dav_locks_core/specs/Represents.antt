@@ -5,12 +5,12 @@ use Rattle.std.specs.FinMap.{find, is_sorted}
 use Rattle.dav_path_core.specs.Keyed.{IsTree}
 use Rattle.dav_locks_core.specs.Lock.{Lock}
 use Rattle.dav_locks_core.specs.Locks.{lock_path}
-use Rattle.dav_locks_core.specs.LockTree.{Granted, LockTree, locks_at, node_at, is_segment, all_granted, lock_list}
+use Rattle.dav_locks_core.specs.LockTree.{NumberedLock, LockTree, locks_at, node_at, is_segment, all_granted, lock_list}
 use Rattle.dav_locks_core.specs.Exclusive.{Exclusive}
 
 -- the list and the locks at each node are in the order of their numbers, which are below the next; each lock at a node is of
 -- the list, and its path leads to the node; each of the list stands at a node
-pub record Represents (t : LockTree) (granted : List Granted) (next : ℕ) : Type 0 where
+pub record Represents (t : LockTree) (granted : List NumberedLock) (next : ℕ) : Type 0 where
   pub tree : IsTree is_segment t
   pub in_order : T (is_sorted nat_cmp granted)
   pub nodes_in_order : (n : ℕ) → T (is_sorted nat_cmp (locks_at t n))

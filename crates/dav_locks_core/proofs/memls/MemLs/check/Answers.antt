@@ -8,11 +8,11 @@ use Rattle.dav_locks_core.proofs.memls.MemLs.check.Goals as goal
 pub returns-clause-passes : goal.returns-clause-passes
 returns-clause-passes c =
     let answers = check_answers c.self.inside.tree.keyed c.self.inside.next c.self.invariant c.args.self.now (segments c.args.path.now.bytes) (caller c.args.principal c.args.ignore_principal c.args.tokens.now)
-    c.is_some-any_held.result c.args.deep c.allow.result c.self.view_is c.requires (c.is_some-any_held.ensures ∙ ap is_some c.first_on_way.ensures) c.allow.ensures.free c.allow.ensures.shown in
+    c.is_some-any_held.result c.args.deep c.check_locks_to_path.result c.self.view_is c.requires (c.is_some-any_held.ensures ∙ ap is_some c.lookup_lock.ensures) c.check_locks_to_path.ensures.free c.check_locks_to_path.ensures.shown in
     answers.0
 
 pub returns-clause-shown : goal.returns-clause-shown
 returns-clause-shown c =
     let answers = check_answers c.self.inside.tree.keyed c.self.inside.next c.self.invariant c.args.self.now (segments c.args.path.now.bytes) (caller c.args.principal c.args.ignore_principal c.args.tokens.now)
-    c.is_some-any_held.result c.args.deep c.allow.result c.self.view_is c.requires (c.is_some-any_held.ensures ∙ ap is_some c.first_on_way.ensures) c.allow.ensures.free c.allow.ensures.shown in
+    c.is_some-any_held.result c.args.deep c.check_locks_to_path.result c.self.view_is c.requires (c.is_some-any_held.ensures ∙ ap is_some c.lookup_lock.ensures) c.check_locks_to_path.ensures.free c.check_locks_to_path.ensures.shown in
     answers.1

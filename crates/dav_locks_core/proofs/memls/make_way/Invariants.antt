@@ -1,6 +1,0 @@
-use Rattle.dav_path_core.specs.Segments.{segments}
-use Rattle.dav_locks_core.proofs.Growing.{IsMade}
-use Rattle.dav_locks_core.proofs.memls.make_way.Given as goal
-
-abbrev pub invariant-loop-segment : goal.invariant-loop-segment
-invariant-loop-segment l = IsMade l.fn.tree.keyed l.tree.keyed (segments l.path.bytes) (segments l.segment-iterator) l.node

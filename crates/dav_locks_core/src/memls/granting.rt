@@ -1,0 +1,179 @@
+//! Granting locks, and ending them.
+ghost use Rattle.std.specs.Prelude.{◌≡◌, ◌≤◌, ◌<◌, ◌+◌, ◌++◌, ◌∷◌, [], option_map, length, remove, IfOk, IfErr, OnOk, OnErr, string_bytes, string_len, string_capacity};
+ghost use Rattle.dav_path_core.specs.Keyed.{IsKnown, with_item};
+ghost use Rattle.dav_locks_core.specs.Locks.{end_of};
+ghost use Rattle.dav_locks_core.specs.Tokens.{token_from};
+ghost use Rattle.dav_locks_core.specs.Calls.{lent_text};
+ghost use Rattle.dav_locks_core.specs.LockTree as spec;
+ghost use Rattle.dav_locks_core.specs.LockRequests.{lock_for};
+
+use super::NodeLocks;
+use crate::ls::{DavLock, LockError};
+use bytes::Bytes;
+use dav_files_core::fs::Moment;
+use dav_path_core::davpath::DavPath;
+use dav_path_core::tree::Tree;
+use rand_core::Rng;
+use std::alloc::{AllocError, Global};
+use uuid::Uuid;
+use uuid::fmt::Urn;
+
+/// A lock that is asked for.
+#[derive(Clone, Copy)]
+pub(super) struct LockRequest<'a> {
+    pub(super) path: &'a DavPath,
+    pub(super) principal: Option<&'a str>,
+    pub(super) owner: Option<&'a str>,
+    pub(super) timeout_at: Option<Moment>,
+    pub(super) timeout: Option<u64>,
+    pub(super) shared: bool,
+    pub(super) deep: bool,
+}
+
+// Adds a lock to those at a node, and gives one that is equal.
+pub(super) fn grant<R: Rng>(
+    tree: &mut Tree<Bytes, NodeLocks>,
+    alloc: Global,
+    node: u64,
+    number: u64,
+    request: &LockRequest,
+    rng: &mut R,
+) -> Result<DavLock, LockError>
+    requires { IsKnown tree.old.keyed node }
+    ensures granted { IfOk result (λ lock. lock ≡ lock_for request.now (token_from (R.stream rng.old)).0) }
+    ensures added { IfOk result (λ lock. tree.new.keyed ≡ with_item tree.old.keyed node (spec.locks_at tree.old.keyed node ++ (number, lock) ∷ [])) }
+    ensures drawn { OnOk result (R.stream rng.new ≡ (token_from (R.stream rng.old)).1) }
+    ensures error { IfErr result (λ e. e ≡ LockError.OutOfMemory) }
+    ensures unchanged { OnErr result (tree.new.keyed ≡ tree.old.keyed) }
+    ensures undrawn { OnErr result (R.stream rng.new ≡ R.stream rng.old) }
+{
+    match tree.get_node_mut(node) {
+        Ok(node_locks) => grant_in(&mut node_locks.locks, alloc, number, request, rng),
+        Err(_) => unreachable!(),
+    }
+}
+
+// Ends the lock at a place among those at a node.
+pub(super) fn end_lock(tree: &mut Tree<Bytes, NodeLocks>, node: u64, place: usize)
+    requires { place < length (spec.locks_at tree.old.keyed node) }
+    ensures { tree.new.keyed ≡ with_item tree.old.keyed node (remove (spec.locks_at tree.old.keyed node) place) }
+{
+    match tree.get_node_mut(node) {
+        Ok(node_locks) => {
+            node_locks.locks.remove(place);
+        }
+        Err(_) => unreachable!(),
+    }
+}
+
+// Adds a lock to a list, and gives one that is equal. All memory is taken before the token is drawn.
+fn grant_in<R: Rng>(
+    locks: &mut Vec<(u64, DavLock)>,
+    alloc: Global,
+    number: u64,
+    request: &LockRequest,
+    rng: &mut R,
+) -> Result<DavLock, LockError>
+    ensures granted { IfOk result (λ lock. lock ≡ lock_for request.now (token_from (R.stream rng.old)).0) }
+    ensures added { IfOk result (λ lock. locks.new.items ≡ locks.old.items ++ (number, lock) ∷ []) }
+    ensures drawn { OnOk result (R.stream rng.new ≡ (token_from (R.stream rng.old)).1) }
+    ensures error { IfErr result (λ e. e ≡ LockError.OutOfMemory) }
+    ensures unchanged { OnErr result (locks.new.items ≡ locks.old.items) }
+    ensures undrawn { OnErr result (R.stream rng.new ≡ R.stream rng.old) }
+{
+    locks.reserve(1)?;
+    let mut answer = lock_parts(alloc, request)?;
+    let mut kept = lock_parts(alloc, request)?;
+    draw_token(rng, &mut answer.token, &mut kept.token);
+    if locks.push((number, lock_of(kept, request))).is_err() {
+        unreachable!();
+    }
+    Ok(lock_of(answer, request))
+}
+
+/// What a lock owns, with room for its token.
+#[derive(Drop)]
+struct LockParts {
+    token: String,
+    path: DavPath,
+    principal: Option<String>,
+    owner: Option<String>,
+}
+
+fn lock_parts(alloc: Global, request: &LockRequest) -> Result<LockParts, AllocError>
+    ensures empty { IfOk result (λ parts. string_bytes parts.token ≡ []) }
+    ensures room { IfOk result (λ parts. string_len parts.token + Urn.LENGTH ≤ string_capacity parts.token) }
+    ensures path { IfOk result (λ parts. parts.path ≡ request.now.path.now) }
+    ensures principal { IfOk result (λ parts. option_map string_bytes parts.principal ≡ lent_text request.now.principal) }
+    ensures owner { IfOk result (λ parts. option_map string_bytes parts.owner ≡ lent_text request.now.owner) }
+{
+    Ok(LockParts {
+        token: String::with_capacity(alloc, Urn::LENGTH)?,
+        path: request.path.clone()?,
+        principal: copy_text(alloc, request.principal)?,
+        owner: copy_text(alloc, request.owner)?,
+    })
+}
+
+// A copy of a text that may be missing.
+fn copy_text(alloc: Global, text: Option<&str>) -> Result<Option<String>, AllocError>
+    ensures { IfOk result (λ copy. option_map string_bytes copy ≡ lent_text text.entry) }
+{
+    match text {
+        None => Ok(None),
+        Some(text) => Ok(Some(text.to_string(alloc)?)),
+    }
+}
+
+fn lock_of(parts: LockParts, request: &LockRequest) -> DavLock
+    requires path { parts.path ≡ request.now.path.now }
+    requires principal { option_map string_bytes parts.principal ≡ lent_text request.now.principal }
+    requires owner { option_map string_bytes parts.owner ≡ lent_text request.now.owner }
+    ensures { result ≡ lock_for request.now (string_bytes parts.token) }
+{
+    let LockParts {
+        token,
+        path,
+        principal,
+        owner,
+    } = parts;
+    DavLock {
+        token,
+        path,
+        principal,
+        owner,
+        timeout_at: request.timeout_at,
+        timeout: request.timeout,
+        shared: request.shared,
+        deep: request.deep,
+    }
+}
+
+// Draws a token, and writes it to two texts that have room for it.
+fn draw_token<R: Rng>(rng: &mut R, first: &mut String, second: &mut String)
+    requires first_room { string_len first.old + Urn.LENGTH ≤ string_capacity first.old }
+    requires second_room { string_len second.old + Urn.LENGTH ≤ string_capacity second.old }
+    ensures first { string_bytes first.new ≡ string_bytes first.old ++ (token_from (R.stream rng.old)).0 }
+    ensures second { string_bytes second.new ≡ string_bytes second.old ++ (token_from (R.stream rng.old)).0 }
+    ensures rest { R.stream rng.new ≡ (token_from (R.stream rng.old)).1 }
+{
+    let id = Uuid::new_v4(rng);
+    let mut buffer = Uuid::encode_buffer();
+    let text = id.urn().encode_lower(&mut buffer);
+    if first.push_str(text).is_err() {
+        unreachable!();
+    }
+    if second.push_str(text).is_err() {
+        unreachable!();
+    }
+}
+
+// The moment at which a timeout ends, at most the greatest moment.
+pub(super) fn end_of_timeout(now: Moment, timeout: Option<u64>) -> Option<Moment>
+    ensures { option_map (λ m. m.0) result ≡ end_of now.0 timeout }
+{
+    match timeout {
+        None => None,
+        Some(seconds) => Some(Moment(now.0.saturating_add(seconds.saturating_mul(1_000_000_000)))),
+    }
+}

@@ -1,0 +1,117 @@
+//! Who holds what, and the tests of the locks on the way down to a path.
+ghost use Rattle.std.specs.Prelude.{◌≡◌, Bool, map, string_bytes, bytes_eq};
+ghost use Rattle.std.specs.List.{list_any};
+ghost use Rattle.dav_locks_core.specs.Lock.{Lock};
+ghost use Rattle.dav_locks_core.specs.Locks.{same_text, held};
+ghost use Rattle.dav_locks_core.specs.Calls.{lent_text, caller};
+
+use super::granting::LockRequest;
+use crate::ls::DavLock;
+
+/// Who asks for a change.
+#[derive(Clone, Copy)]
+pub(super) struct Caller<'a> {
+    pub(super) principal: Option<&'a str>,
+    pub(super) ignore_principal: bool,
+    pub(super) tokens: &'a [String],
+}
+
+/// A change, and whether the one who asks holds a lock that covers the path.
+#[derive(Clone, Copy)]
+pub(super) struct Change<'a> {
+    pub(super) caller: Caller<'a>,
+    pub(super) any_held: bool,
+}
+
+/// A token.
+#[derive(Clone, Copy)]
+pub(super) struct WithToken<'a> {
+    pub(super) token: &'a str,
+}
+
+/// A test of the locks on the way to a path.
+pub(super) trait LockTest {
+    ghost test: { Self → Bool → Lock → Bool };
+
+    /// Whether a lock passes, which stands at the path itself or above it.
+    fn passes(&self, at_path: bool, lock: &DavLock) -> bool
+        ensures { result ≡ test self.now at_path lock.now };
+}
+
+/// The locks that refuse the one that is asked for.
+impl LockTest for LockRequest<'_> {
+    ghost use Rattle.dav_locks_core.specs.WayTests.{refuses_wanted};
+
+    ghost test = { λ w. refuses_wanted w.shared };
+
+    fn passes(&self, at_path: bool, lock: &DavLock) -> bool {
+        !(lock.shared && self.shared) && (at_path || lock.deep)
+    }
+}
+
+/// The locks that cover the path and are held.
+impl LockTest for Caller<'_> {
+    ghost use Rattle.dav_locks_core.specs.Calls.{caller};
+    ghost use Rattle.dav_locks_core.specs.WayTests.{is_covering_held};
+
+    ghost test = { λ a. is_covering_held (caller a.principal a.ignore_principal a.tokens.now) };
+
+    fn passes(&self, at_path: bool, lock: &DavLock) -> bool {
+        (at_path || lock.deep) && is_held(lock, self)
+    }
+}
+
+/// The locks that refuse a change.
+impl LockTest for Change<'_> {
+    ghost use Rattle.dav_locks_core.specs.Calls.{caller};
+    ghost use Rattle.dav_locks_core.specs.WayTests.{refuses_asker};
+
+    ghost test = { λ c. refuses_asker (caller c.caller.principal c.caller.ignore_principal c.caller.tokens.now) c.any_held };
+
+    fn passes(&self, at_path: bool, lock: &DavLock) -> bool {
+        !is_held(lock, &self.caller) && (at_path || lock.deep) && (!lock.shared || !self.any_held)
+    }
+}
+
+/// The locks with a token.
+impl LockTest for WithToken<'_> {
+    ghost use Rattle.dav_locks_core.specs.WayTests.{has_that_token};
+
+    ghost test = { λ n. has_that_token n.token.now };
+
+    fn passes(&self, _at_path: bool, lock: &DavLock) -> bool {
+        lock.token.as_str() == self.token
+    }
+}
+
+// Whether the lock's token is submitted, under its principal unless principals are ignored.
+fn is_held(lock: &DavLock, who: &Caller) -> bool
+    ensures { result ≡ held lock.now (caller who.now.principal who.now.ignore_principal who.now.tokens.now) }
+{
+    has_token(who.tokens, &lock.token)
+        && (who.ignore_principal || is_principal(lock, who.principal))
+}
+
+fn is_principal(lock: &DavLock, principal: Option<&str>) -> bool
+    ensures { result ≡ same_text lock.now.principal (lent_text principal.entry) }
+{
+    match (&lock.principal, principal) {
+        (None, None) => true,
+        (None, Some(_)) => false,
+        (Some(_), None) => false,
+        (Some(a), Some(b)) => a.as_str() == b,
+    }
+}
+
+#[tactic(auto, using(crate::proofs::ListLemmas::any_map))]
+fn has_token(tokens: &[String], token: &String) -> bool
+    ensures { result ≡ list_any (λ t. bytes_eq t (string_bytes token.now)) (map string_bytes tokens.now) }
+{
+    any_token(tokens, token)
+}
+
+fn any_token(tokens: &[String], token: &str) -> bool
+    ensures { result ≡ list_any (λ t. bytes_eq (string_bytes t) token.now) tokens.now }
+{
+    tokens.iter().any(|other| other.as_str() == token)
+}

@@ -1,0 +1,148 @@
+//! The way down a path in the tree of locks.
+ghost use Rattle.std.specs.Prelude.{◌≡◌, ◌<◌, Some, None, length, IfOk, IfErr, OnOk, slice_index_or};
+ghost use Rattle.dav_path_core.specs.Segments.{segments};
+ghost use Rattle.dav_path_core.specs.Keyed.{IsKnown, IsTree};
+ghost use Rattle.dav_locks_core.specs.LockTree.{NumberedLock, child_at, node_at, is_segment, ShowsAt, Grown};
+ghost use Rattle.dav_locks_core.specs.LockTree as spec;
+
+use super::NodeLocks;
+use super::holding::LockTest;
+use crate::ls::{DavLock, LockError};
+use bytes::Bytes;
+use dav_path_core::davpath::DavPath;
+use dav_path_core::tree::{ROOT_ID, Tree};
+use std::alloc::{AllocError, Global};
+
+// The child of a node, by its segment.
+pub(super) fn child_of(tree: &Tree<Bytes, NodeLocks>, node: u64, segment: &[u8]) -> Option<u64>
+    ensures { result ≡ child_at tree.now.keyed node segment.now }
+{
+    match tree.find_child(node, |key| key.as_slice() == segment) {
+        Ok(child) => Some(child),
+        Err(_) => None,
+    }
+}
+
+// The locks that stand at a node.
+pub(super) fn locks_at(tree: &Tree<Bytes, NodeLocks>, node: u64) -> &[(u64, DavLock)]
+    ensures { result.now ≡ spec.locks_at tree.now.keyed node }
+{
+    match tree.get_node(node) {
+        Ok(node_locks) => &node_locks.locks,
+        Err(_) => &[],
+    }
+}
+
+// The place among the locks at a node of the first that passes.
+fn first_at<T: LockTest>(
+    tree: &Tree<Bytes, NodeLocks>,
+    node: u64,
+    test: &T,
+    at_path: bool,
+) -> Option<usize>
+    ensures { result ≡ spec.first_at (T.test test.now at_path) tree.now.keyed node }
+{
+    locks_at(tree, node)
+        .iter()
+        .position(|(_, lock)| test.passes(at_path, lock))
+}
+
+// The node, and the place there, of the first lock that passes on the way down to a path.
+pub(super) fn lookup_lock<T: LockTest>(
+    tree: &Tree<Bytes, NodeLocks>,
+    path: &DavPath,
+    test: &T,
+) -> Option<(u64, usize)>
+    ensures { result ≡ spec.lookup_lock (T.test test.now) tree.now.keyed 1 (segments path.now.bytes) }
+{
+    let mut node = ROOT_ID;
+    for segment in path.segments() {
+        if let Some(place) = first_at(tree, node, test, false) {
+            return Some((node, place));
+        }
+        match child_of(tree, node, segment) {
+            Some(child) => node = child,
+            None => return None,
+        }
+    }
+    match first_at(tree, node, test, true) {
+        Some(place) => Some((node, place)),
+        None => None,
+    }
+}
+
+// A copy of a lock, to show it.
+fn copy_at(tree: &Tree<Bytes, NodeLocks>, node: u64, place: usize) -> Result<DavLock, AllocError>
+    requires { place < length (spec.locks_at tree.now.keyed node) }
+    ensures { IfOk result (λ copy. (d : NumberedLock) → copy ≡ (slice_index_or (spec.locks_at tree.now.keyed node) place d).1) }
+{
+    let granted = &locks_at(tree, node)[place];
+    copy_of(&granted.1)
+}
+
+fn copy_of(lock: &DavLock) -> Result<DavLock, AllocError>
+    ensures { IfOk result (λ copy. copy ≡ lock.now) }
+{
+    lock.clone()
+}
+
+// Refused where a lock on the way down to a path passes the test. The first is shown.
+pub(super) fn check_locks_to_path<T: LockTest>(
+    tree: &Tree<Bytes, NodeLocks>,
+    path: &DavPath,
+    test: &T,
+) -> Result<(), LockError>
+    ensures free { OnOk result (spec.lookup_lock (T.test test.now) tree.now.keyed 1 (segments path.now.bytes) ≡ None) }
+    ensures shown { IfErr result (λ e. ShowsAt tree.now.keyed (spec.lookup_lock (T.test test.now) tree.now.keyed 1 (segments path.now.bytes)) e) }
+{
+    match lookup_lock(tree, path, test) {
+        None => Ok(()),
+        Some((node, place)) => Err(LockError::Conflict(copy_at(tree, node, place)?)),
+    }
+}
+
+// The child of a node under a segment, which is added where it isn't there.
+fn get_or_create_child(
+    tree: &mut Tree<Bytes, NodeLocks>,
+    alloc: Global,
+    node: u64,
+    segment: &[u8],
+) -> Result<u64, LockError>
+    requires shape { IsTree is_segment tree.old.keyed }
+    requires known { IsKnown tree.old.keyed node }
+    ensures grown { Grown tree.old.keyed tree.new.keyed }
+    ensures shape { IsTree is_segment tree.new.keyed }
+    ensures child { IfOk result (λ n. (child_at tree.new.keyed node segment.now ≡ Some n) × IsKnown tree.new.keyed n) }
+    ensures error { IfErr result (λ e. e ≡ LockError.OutOfMemory) }
+{
+    if let Some(child) = child_of(tree, node, segment) {
+        return Ok(child);
+    }
+    let key = Bytes::copy_from_slice(alloc, segment)?;
+    let node_locks = NodeLocks {
+        locks: Vec::new(alloc),
+    };
+    match tree.add_child(node, key, node_locks, false) {
+        Ok(child) => Ok(child),
+        Err(_) => Err(LockError::OutOfMemory),
+    }
+}
+
+// The node at a path. The nodes on the way that aren't there are added.
+pub(super) fn get_or_create_path_node(
+    tree: &mut Tree<Bytes, NodeLocks>,
+    alloc: Global,
+    path: &DavPath,
+) -> Result<u64, LockError>
+    requires { IsTree is_segment tree.old.keyed }
+    ensures grown { Grown tree.old.keyed tree.new.keyed }
+    ensures shape { IsTree is_segment tree.new.keyed }
+    ensures node { IfOk result (λ n. (node_at tree.new.keyed 1 (segments path.now.bytes) ≡ Some n) × IsKnown tree.new.keyed n) }
+    ensures error { IfErr result (λ e. e ≡ LockError.OutOfMemory) }
+{
+    let mut node = ROOT_ID;
+    for segment in path.segments() {
+        node = get_or_create_child(tree, alloc, node, segment)?;
+    }
+    Ok(node)
+}

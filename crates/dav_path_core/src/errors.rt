@@ -288,6 +288,3 @@ impl<A: Allocator> From<FromUtf8Error<A>> for DavError {
         DavError::Utf8Error
     }
 }
-
-#[cfg(test)]
-mod tests;

@@ -481,8 +481,3 @@ impl<K: Eq + Hash + Clone, D: Drop> Tree<K, D> {
         }
     }
 }
-
-#[cfg(test)]
-mod rows;
-#[cfg(test)]
-mod tests;

@@ -69,6 +69,3 @@ impl<K: Eq + Hash + Clone, D> Tree<K, D> {
         })
     }
 }
-
-#[cfg(test)]
-mod tests;

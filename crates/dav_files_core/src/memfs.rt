@@ -202,77 +202,15 @@ mod tests {
     use super::*;
     use std::test::Fail;
 
-    fn path(rt: &HostRuntime, text: &str) -> Result<DavPath, Fail> {
-        Ok(DavPath::new(rt.alloc(), text)?)
-    }
-
     #[test]
-    fn puts_and_reads(rt: HostRuntime) -> Result<(), Fail> {
+    fn keeps_its_files_in_a_tree(rt: HostRuntime) -> Result<(), Fail> {
         let mut files = MemFs::new(rt.alloc(), Moment(1))?;
-        let a = path(&rt, "/a%20b")?;
-        files.put(&a, b"abc", Moment(5))?;
-        assert!(rt; files.read_at(&a, 1, 9)?.as_slice() == b"bc".as_slice());
-        assert!(rt; files.read_at(&a, 1, 1)?.as_slice() == b"b".as_slice());
-        assert!(rt; files.read_at(&a, 5, 9)?.as_slice() == b"".as_slice());
-        assert!(rt; files.read_at(&a, usize::MAX, usize::MAX)?.as_slice() == b"".as_slice());
-        files.put(&a, b"", Moment(6))?;
-        assert!(rt; files.read_at(&a, 0, 1)?.as_slice() == b"".as_slice());
-        Ok(())
-    }
-
-    #[test]
-    fn tells_what_is_known(rt: HostRuntime) -> Result<(), Fail> {
-        let mut files = MemFs::new(rt.alloc(), Moment(1))?;
-        let a = path(&rt, "/a")?;
-        files.put(&a, b"abc", Moment(5))?;
-        files.put(&a, b"abcd", Moment(7))?;
-        let file = MemFsMeta {
-            kind: Kind::File,
-            length: 4,
-            modified: Moment(7),
-            created: Moment(5),
-        };
-        assert!(rt; files.metadata(&a) == Ok(file));
-        let root = MemFsMeta {
-            kind: Kind::Folder,
-            length: 0,
-            modified: Moment(1),
-            created: Moment(1),
-        };
-        assert!(rt; files.metadata(&path(&rt, "/")?) == Ok(root));
-        assert!(rt; files.metadata(&path(&rt, "/b")?) == Err(FsError::NotFound));
-        assert!(rt; files.metadata(&path(&rt, "/a/b")?) == Err(FsError::Forbidden));
-        Ok(())
-    }
-
-    #[test]
-    fn refuses_in_order(rt: HostRuntime) -> Result<(), Fail> {
-        let mut files = MemFs::new(rt.alloc(), Moment(1))?;
-        files.put(&path(&rt, "/a")?, b"abc", Moment(5))?;
-        for (text, error) in [
-            ("/", FsError::Forbidden),
-            ("/a/c", FsError::Forbidden),
-            ("/a/c/d", FsError::Forbidden),
-            ("/d/x", FsError::NotFound),
-        ] {
-            assert_eq!(rt;
-                files.put(&path(&rt, text)?, b"x", Moment(7)),
-                Err(error),
-                "{text}"
-            );
-        }
-        for (text, error) in [
-            ("/", FsError::Forbidden),
-            ("/a/c", FsError::Forbidden),
-            ("/x", FsError::NotFound),
-            ("/x/y", FsError::NotFound),
-        ] {
-            match files.read_at(&path(&rt, text)?, 0, 1) {
-                Ok(_) => assert!(rt; false, "{text}"),
-                Err(e) => assert_eq!(rt; e, error, "{text}"),
-            }
-        }
-        assert!(rt; files.read_at(&path(&rt, "/a")?, 0, 9)?.as_slice() == b"abc".as_slice());
+        files.put(&DavPath::new(rt.alloc(), "/a")?, b"abc", Moment(5))?;
+        let id = member_of(&files.tree, ROOT_ID, b"a")?;
+        let node = node_of(&files.tree, id)?;
+        assert!(rt; files.tree.parent_of(id)? == Some(ROOT_ID));
+        assert!(rt; node.is_file());
+        assert!(rt; node.content.as_slice() == b"abc".as_slice());
         Ok(())
     }
 }

@@ -1,5 +1,4 @@
 use super::*;
-use crate::ls::LockError;
 use dav_path_core::tree::ROOT_ID;
 use rand_core::utils;
 use rand_core::utils::NextWord;
@@ -49,50 +48,6 @@ impl Rng for Counter {
     }
 }
 
-// An exclusive shallow lock for ann.
-fn lock_of_ann(
-    locks: &mut MemLs,
-    path: &DavPath,
-    timeout: Option<u64>,
-    rng: &mut Counter,
-) -> Result<DavLock, LockError> {
-    locks.lock(
-        path,
-        Some("ann"),
-        Some("<ann/>"),
-        timeout,
-        false,
-        false,
-        Moment(5),
-        rng,
-    )
-}
-
-fn granted(rt: &impl Abort, answer: Result<DavLock, LockError>) -> DavLock {
-    match answer {
-        Ok(lock) => lock,
-        Err(_) => {
-            assert!(rt; false, "refused");
-            unreachable!()
-        }
-    }
-}
-
-// The lock that a refusal shows.
-fn shown<T: Drop>(rt: &impl Abort, answer: Result<T, LockError>) -> DavLock {
-    match answer {
-        Err(LockError::Conflict(lock)) => lock,
-        Err(LockError::OutOfMemory) => {
-            assert!(rt; false, "no memory");
-            unreachable!()
-        }
-        Ok(_answer) => {
-            assert!(rt; false, "not refused");
-            unreachable!()
-        }
-    }
-}
-
 // One lock alone stands at the node.
 fn stands_alone(
     rt: &impl Abort,
@@ -121,54 +76,6 @@ fn stand_at_their_nodes(rt: &impl Abort, locks: &MemLs) -> Result<(), Fail> {
     Ok(())
 }
 
-// The lock is ann's of the path, with that token and end.
-fn is_for_ann(rt: &impl Abort, lock: &DavLock, path: &[u8], token: &str, timeout_at: u64) {
-    assert_eq!(rt; lock.token.len(), 45);
-    assert!(rt; lock.token.as_str() == token);
-    assert!(rt; lock.path.as_bytes() == path);
-    assert_eq!(rt; lock.timeout_at, Some(Moment(timeout_at)));
-    assert!(rt; !lock.shared && !lock.deep);
-    assert!(rt; is_principal(lock, Some("ann")));
-    match &lock.owner {
-        Some(owner) => assert!(rt; owner.as_str() == "<ann/>"),
-        None => assert!(rt; false, "no owner"),
-    }
-}
-
-#[test]
-fn grants_and_ends(rt: HostRuntime) -> Result<(), Fail> {
-    let alloc = rt.alloc();
-    let mut rng = Counter(1);
-    let mut locks = MemLs::new(alloc)?;
-    let a = DavPath::new(alloc, "/a")?;
-    let b = DavPath::new(alloc, "/a/b")?;
-    let first = granted(&rt, lock_of_ann(&mut locks, &a, Some(2), &mut rng));
-    let second = granted(&rt, lock_of_ann(&mut locks, &b, Some(u64::MAX), &mut rng));
-    is_for_ann(
-        &rt,
-        &first,
-        b"/a",
-        "urn:uuid:02000000-0300-4000-8400-000005000000",
-        2_000_000_005,
-    );
-    is_for_ann(
-        &rt,
-        &second,
-        b"/a/b",
-        "urn:uuid:06000000-0700-4000-8800-000009000000",
-        u64::MAX,
-    );
-    assert_eq!(rt; first.timeout, Some(2));
-    let conflict = shown(&rt, lock_of_ann(&mut locks, &a, None, &mut rng));
-    assert!(rt; conflict.token.as_str() == first.token.as_str());
-    assert_eq!(rt; rng.0, 9);
-    assert_eq!(rt; locks.unlock(&b, &first.token), Ok(()));
-    assert_eq!(rt; locks.unlock(&b, &first.token), Err(NoLock));
-    assert_eq!(rt; locks.unlock(&a, &second.token), Err(NoLock));
-    granted(&rt, lock_of_ann(&mut locks, &a, None, &mut rng));
-    Ok(())
-}
-
 #[test]
 fn keeps_locks_at_their_nodes(rt: HostRuntime) -> Result<(), Fail> {
     let alloc = rt.alloc();
@@ -176,53 +83,8 @@ fn keeps_locks_at_their_nodes(rt: HostRuntime) -> Result<(), Fail> {
     let mut locks = MemLs::new(alloc)?;
     for text in ["/a", "/a/b"] {
         let path = DavPath::new(alloc, text)?;
-        granted(&rt, lock_of_ann(&mut locks, &path, None, &mut rng));
+        let answer = locks.lock(&path, None, None, None, false, false, Moment(5), &mut rng);
+        assert!(rt; answer.is_ok(), "{text}");
     }
     stand_at_their_nodes(&rt, &locks)
-}
-
-#[test]
-fn checks_who_asks(rt: HostRuntime) -> Result<(), Fail> {
-    let alloc = rt.alloc();
-    let mut rng = Counter(1);
-    let mut locks = MemLs::new(alloc)?;
-    let a = DavPath::new(alloc, "/a")?;
-    let below = DavPath::new(alloc, "/a/b")?;
-    let lock = granted(&rt, lock_of_ann(&mut locks, &a, None, &mut rng));
-    let token = lock.token.clone()?;
-    let tokens = vec![in alloc; token]?;
-    let nothing: Vec<String> = Vec::new(alloc);
-    assert!(rt; locks.check(&a, Some("ann"), false, false, &tokens).is_ok());
-    assert!(rt; locks.check(&a, Some("bob"), true, false, &tokens).is_ok());
-    assert!(rt; locks.check(&below, None, false, false, &nothing).is_ok());
-    for who in [Some("bob"), None] {
-        let conflict = shown(&rt, locks.check(&a, who, false, false, &tokens));
-        assert!(rt; conflict.token.as_str() == lock.token.as_str());
-    }
-    assert!(rt;
-        locks
-            .check(&a, Some("ann"), false, false, &nothing)
-            .is_err()
-    );
-    Ok(())
-}
-
-#[test]
-fn shares(rt: HostRuntime) -> Result<(), Fail> {
-    let alloc = rt.alloc();
-    let mut rng = Counter(1);
-    let mut locks = MemLs::new(alloc)?;
-    let a = DavPath::new(alloc, "/a")?;
-    for (shared, free) in [(true, true), (true, true), (false, false)] {
-        let answer = locks.lock(&a, None, None, None, shared, false, Moment(5), &mut rng);
-        assert_eq!(rt; answer.is_ok(), free);
-    }
-    Ok(())
-}
-
-#[test]
-fn displays_its_name(rt: HostRuntime) -> Result<(), Fail> {
-    let text = format!(in rt.alloc(); "{NoLock}")?;
-    assert!(rt; text.as_str() == "NoLock");
-    Ok(())
 }

@@ -5,8 +5,6 @@ ghost use Rattle.dav_resource_core.specs.Seeds.{numeral, seed};
 mod labels;
 mod lines;
 mod playing;
-#[cfg(test)]
-mod tests;
 
 use crate::guarded::Guarded;
 use dav_files_core::fs::Moment;

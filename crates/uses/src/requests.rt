@@ -1,5 +1,5 @@
-//! Rows of requests: MOMENT COMMAND ARGS, and behind ` = ` the answer. `TOKEN` is the token of the lock granted last, where
-//! it is a URN of 45 bytes.
+//! Rows of requests: MOMENT COMMAND ARGS, and behind ` = ` the answer. `TOKEN` is the token of the lock granted last, a URN
+//! of 45 bytes.
 use bytes::Bytes;
 use dav_files_core::fs::Moment;
 use dav_locks_core::ls::DavLock;

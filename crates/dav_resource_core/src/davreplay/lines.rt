@@ -19,31 +19,37 @@ pub(super) enum Line<'a> {
     Asked(Asked<'a>),
 }
 
-/// A request whose path isn't read yet.
+/// A request whose paths and labels aren't read yet.
 #[derive(Drop)]
 pub(super) struct Asked<'a> {
     pub(super) now: Moment,
     pub(super) principal: Option<String>,
     pub(super) labels: Vec<&'a str>,
-    pub(super) path: &'a str,
     pub(super) action: Action<'a>,
 }
 
-/// A command without its path.
+/// A command, its paths and labels as words.
 #[derive(Drop)]
 pub(super) enum Action<'a> {
-    Put(Bytes),
+    Put {
+        path: &'a str,
+        bytes: Bytes,
+    },
     Read {
+        path: &'a str,
         at: usize,
         count: usize,
     },
     Lock {
+        path: &'a str,
         timeout: Option<u64>,
         shared: bool,
         deep: bool,
     },
-    /// With the label of the lock.
-    Unlock(&'a str),
+    Unlock {
+        path: &'a str,
+        label: &'a str,
+    },
 }
 
 /// What a line says. Its words are separated by spaces; it is malformed where it isn't UTF-8.
@@ -66,10 +72,9 @@ pub(super) fn line_of(alloc: Global, line: &[u8]) -> Result<Line<'_>, AllocError
     }
 }
 
-// `MOMENT PRINCIPAL LABELS COMMAND PATH ARGS`.
+// `MOMENT PRINCIPAL LABELS COMMAND ARGS`.
 fn asked_of<'a>(alloc: Global, words: &[&'a str]) -> Result<Option<Asked<'a>>, AllocError> {
-    let Some((&[now, principal, labels, command, path], args)) = words.split_first_chunk::<5>()
-    else {
+    let Some((&[now, principal, labels, command], args)) = words.split_first_chunk::<4>() else {
         return Ok(None);
     };
     let Some(now) = number(now) else {
@@ -89,27 +94,26 @@ fn asked_of<'a>(alloc: Global, words: &[&'a str]) -> Result<Option<Asked<'a>>, A
         now: Moment(now),
         principal,
         labels,
-        path,
         action,
     }))
 }
 
-// The command by its word, with the words behind its path.
+// The command by its word and those behind it.
 fn action_of<'a>(
     alloc: Global,
     command: &str,
     args: &[&'a str],
 ) -> Result<Option<Action<'a>>, AllocError> {
     match (command, args) {
-        ("put", [hex]) => match bytes_of(alloc, hex)? {
-            Some(bytes) => Ok(Some(Action::Put(bytes))),
+        ("put", [path, hex]) => match bytes_of(alloc, hex)? {
+            Some(bytes) => Ok(Some(Action::Put { path, bytes })),
             None => Ok(None),
         },
-        ("read", [at, count]) => Ok(read_of(at, count)),
-        ("lock", [scope, depth, timeout]) => Ok(lock_of(scope, depth, timeout)),
-        ("unlock", [label]) => {
+        ("read", [path, at, count]) => Ok(read_of(path, at, count)),
+        ("lock", [path, scope, depth, timeout]) => Ok(lock_of(path, scope, depth, timeout)),
+        ("unlock", [path, label]) => {
             if is_label(label) {
-                Ok(Some(Action::Unlock(label)))
+                Ok(Some(Action::Unlock { path, label }))
             } else {
                 Ok(None)
             }
@@ -118,14 +122,14 @@ fn action_of<'a>(
     }
 }
 
-fn read_of<'a>(at: &str, count: &str) -> Option<Action<'a>> {
+fn read_of<'a>(path: &'a str, at: &str, count: &str) -> Option<Action<'a>> {
     let at = number(at)? as usize;
     let count = number(count)? as usize;
-    Some(Action::Read { at, count })
+    Some(Action::Read { path, at, count })
 }
 
 // `exclusive` or `shared`, `shallow` or `deep`, and a timeout in seconds or `-` for none.
-fn lock_of<'a>(scope: &str, depth: &str, timeout: &str) -> Option<Action<'a>> {
+fn lock_of<'a>(path: &'a str, scope: &str, depth: &str, timeout: &str) -> Option<Action<'a>> {
     let shared = match scope {
         "exclusive" => false,
         "shared" => true,
@@ -141,6 +145,7 @@ fn lock_of<'a>(scope: &str, depth: &str, timeout: &str) -> Option<Action<'a>> {
         seconds => Some(number(seconds)?),
     };
     Some(Action::Lock {
+        path,
         timeout,
         shared,
         deep,

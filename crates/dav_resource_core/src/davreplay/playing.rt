@@ -20,20 +20,16 @@ pub(super) struct Player {
 }
 
 impl Player {
-    /// Reads the path, runs the request, and writes its answer.
+    /// Reads the paths, runs the request, and writes its answer.
     pub(super) fn answer<O: Write + Drop>(
         &mut self,
         asked: Asked<'_>,
         output: &mut BufWriter<O>,
     ) -> Result<(), Stop> {
-        let path = match DavPath::new(self.alloc, asked.path) {
-            Ok(path) => path,
-            Err(ParseError::OutOfMemory) => return Ok(output.write_all(OUT_OF_MEMORY)?),
-            Err(error) => return Ok(writeln!(output, "bad path {error}")?),
-        };
-        match request_of(self.alloc, &self.granted, asked, path) {
+        match request_of(self.alloc, &self.granted, asked) {
             Ok(request) => self.run(&request, output),
-            Err(AllocError) => Ok(output.write_all(OUT_OF_MEMORY)?),
+            Err(Unread::BadPath(error)) => Ok(writeln!(output, "bad path {error}")?),
+            Err(Unread::OutOfMemory) => Ok(output.write_all(OUT_OF_MEMORY)?),
         }
     }
 
@@ -64,46 +60,79 @@ impl Player {
     }
 }
 
-// The request of a line, its labels replaced by the tokens that they stand for.
-fn request_of(
-    alloc: Global,
-    granted: &[String],
-    asked: Asked<'_>,
-    path: DavPath,
-) -> Result<Request, AllocError> {
+/// Why a line's words give no request.
+#[derive(Drop)]
+enum Unread {
+    /// A path isn't read.
+    BadPath(ParseError),
+    /// There is no memory for them.
+    OutOfMemory,
+}
+
+impl From<ParseError> for Unread {
+    fn from(error: ParseError) -> Unread {
+        match error {
+            ParseError::OutOfMemory => Unread::OutOfMemory,
+            error => Unread::BadPath(error),
+        }
+    }
+}
+
+impl From<AllocError> for Unread {
+    fn from(_: AllocError) -> Unread {
+        Unread::OutOfMemory
+    }
+}
+
+// The request of a line, its paths read and its labels replaced by the tokens that they stand for.
+fn request_of(alloc: Global, granted: &[String], asked: Asked<'_>) -> Result<Request, Unread> {
     let Asked {
         now,
         principal,
         labels,
-        path: _,
         action,
     } = asked;
+    let command = command_of(alloc, granted, action)?;
     let tokens = tokens_of(alloc, granted, &labels)?;
-    let command = match action {
-        Action::Put(bytes) => Command::Put { path, bytes },
-        Action::Read { at, count } => Command::Read { path, at, count },
-        Action::Lock {
-            timeout,
-            shared,
-            deep,
-        } => Command::Lock {
-            path,
-            owner: None,
-            timeout,
-            shared,
-            deep,
-        },
-        Action::Unlock(label) => Command::Unlock {
-            path,
-            token: token_of(alloc, granted, label)?,
-        },
-    };
     Ok(Request {
         principal,
         tokens,
         now,
         command,
     })
+}
+
+fn command_of(alloc: Global, granted: &[String], action: Action<'_>) -> Result<Command, Unread> {
+    match action {
+        Action::Put { path, bytes } => {
+            let path = DavPath::new(alloc, path)?;
+            Ok(Command::Put { path, bytes })
+        }
+        Action::Read { path, at, count } => {
+            let path = DavPath::new(alloc, path)?;
+            Ok(Command::Read { path, at, count })
+        }
+        Action::Lock {
+            path,
+            timeout,
+            shared,
+            deep,
+        } => {
+            let path = DavPath::new(alloc, path)?;
+            Ok(Command::Lock {
+                path,
+                owner: None,
+                timeout,
+                shared,
+                deep,
+            })
+        }
+        Action::Unlock { path, label } => {
+            let path = DavPath::new(alloc, path)?;
+            let token = token_of(alloc, granted, label)?;
+            Ok(Command::Unlock { path, token })
+        }
+    }
 }
 
 // The bytes in lower-case hexadecimal digits, `-` for none.

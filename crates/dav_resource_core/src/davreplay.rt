@@ -1,14 +1,16 @@
 //! A player of scenarios: one request a line, one answer a line.
 ghost use Rattle.std.specs.Prelude.{◌≡◌, ◌⊎◌, map, string_bytes};
-ghost use Rattle.dav_resource_core.specs.Seeds.{numeral, seed};
+ghost use Rattle.dav_resource_core.specs.Seeds.{seed};
 
 mod labels;
 mod lines;
+mod numbers;
 mod playing;
 
 use crate::guarded::Guarded;
 use dav_files_core::fs::Moment;
 use lines::{Line, line_of};
+use numbers::number;
 use playing::Player;
 use rand_core::SeedableRng;
 use rand_pcg::Pcg64;
@@ -25,17 +27,6 @@ pub fn seed_of(args: &[String]) -> Option<u64>
     match args {
         [word] => number(word.as_str()),
         _ => None,
-    }
-}
-
-// A word of one or more decimal digits, within u64.
-fn number(word: &str) -> Option<u64>
-    ensures { result ≡ numeral word.now }
-{
-    if lines::is_digits(word) {
-        word.parse::<u64>().ok()
-    } else {
-        None
     }
 }
 

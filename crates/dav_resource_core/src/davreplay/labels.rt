@@ -1,5 +1,5 @@
 //! Labels of locks: `tN` stands for the token of the lock that was granted as the N-th.
-use super::number;
+use super::numbers::number;
 use std::alloc::{AllocError, Global};
 
 /// The tokens that labels stand for.

@@ -1,9 +1,5 @@
 //! The form of a line, before its path is read.
-ghost use Rattle.std.specs.Prelude.{◌≡◌};
-ghost use Rattle.std.specs.Char.{is_ascii_digit};
-ghost use Rattle.std.specs.List.{list_all};
-
-use super::number;
+use super::numbers::{is_digits, number};
 use bytes::Bytes;
 use dav_files_core::fs::Moment;
 use std::alloc::{AllocError, Global};
@@ -185,11 +181,4 @@ fn is_label(word: &str) -> bool {
         Some(digits) => !digits.is_empty() && !digits.starts_with("0") && is_digits(digits),
         None => false,
     }
-}
-
-/// Whether a word has decimal digits alone.
-pub(super) fn is_digits(word: &str) -> bool
-    ensures { result ≡ list_all is_ascii_digit word.now }
-{
-    word.bytes().all(|b| b.is_ascii_digit())
 }

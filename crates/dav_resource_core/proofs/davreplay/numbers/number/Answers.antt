@@ -1,6 +1,6 @@
 use Rattle.std.proofs.Common.{◌∙◌, sym}
 use Rattle.dav_resource_core.proofs.Numerals.{parsed, no_digits}
-use Rattle.dav_resource_core.proofs.davreplay.number.Goals as goal
+use Rattle.dav_resource_core.proofs.davreplay.numbers.number.Goals as goal
 
 pub returns-then-is_digits : goal.returns-then-is_digits
 returns-then-is_digits c =

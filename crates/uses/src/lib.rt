@@ -13,3 +13,15 @@ mod requests;
 mod scenarios;
 #[cfg(test)]
 mod trees;
+#[cfg(test)]
+mod error_names;
+#[cfg(test)]
+mod header_clones;
+#[cfg(test)]
+mod if_clones;
+#[cfg(test)]
+mod long_paths;
+#[cfg(test)]
+mod method_sets;
+#[cfg(test)]
+mod path_clones;

@@ -1,3 +1,4 @@
+use super::way::{child_of, locks_at};
 use super::*;
 use dav_path_core::tree::ROOT_ID;
 use rand_core::utils;
@@ -51,7 +52,7 @@ impl Rng for Counter {
 // One lock alone stands at the node.
 fn stands_alone(
     rt: &impl Abort,
-    tree: &Tree<Bytes, Standing>,
+    tree: &Tree<Bytes, NodeLocks>,
     node: u64,
     number: u64,
     path: &[u8],

@@ -6,3 +6,11 @@ pub mod Seeds
 pub mod Served
 pub mod Step
 pub mod Stores
+pub use Rattle.dav_path_core.specs.Fronts
+pub use Rattle.dav_path_core.specs.PathText
+pub use Rattle.dav_path_core.specs.Segments
+pub use Rattle.dav_files_core.specs.Finding
+pub use Rattle.dav_files_core.specs.Resources
+pub use Rattle.dav_locks_core.specs.Exclusive
+pub use Rattle.dav_locks_core.specs.Lock
+pub use Rattle.dav_locks_core.specs.Locks

@@ -1,0 +1,83 @@
+//! A manager of locks: who holds what, without files.
+ghost use Rattle.std.specs.Prelude.{◌≡◌, ◌++◌, ◌∷◌, [], true, false, Some, map, Contains, IfOk, OnErr, string_bytes};
+ghost use Rattle.dav_resource_core.specs.Segments.{segments};
+ghost use Rattle.dav_resource_core.specs.Lock.{Lock};
+ghost use Rattle.dav_resource_core.specs.Locks.{check_conflicts};
+ghost use Rattle.dav_resource_core.specs.Exclusive.{Exclusive};
+
+use dav_resource_core::davpath::DavPath;
+use dav_resource_core::fs::Moment;
+use dav_resource_core::ls::LockError;
+use dav_resource_core::memls::MemLs;
+use rand_core::Rng;
+use std::alloc::AllocError;
+
+/// Locks a path for its holder alone, and answers the token. A lock in the way is shown, and nothing is changed.
+pub fn take<R: Rng>(
+    locks: &mut MemLs,
+    path: &DavPath,
+    holder: &str,
+    seconds: u64,
+    now: Moment,
+    rng: &mut R,
+) -> Result<String, LockError>
+    ensures exclusive { Exclusive locks.new }
+    ensures taken { IfOk result (λ token. (lock : Lock) × (locks.new ≡ locks.old ++ lock ∷ []) × (lock.token ≡ string_bytes token)) }
+    ensures refused { OnErr result (locks.new ≡ locks.old) }
+{
+    let lock = locks.lock(
+        path,
+        Some(holder),
+        None,
+        Some(seconds),
+        false,
+        false,
+        now,
+        rng,
+    )?;
+    Ok(lock.token)
+}
+
+/// Whether a holder who submits those tokens may change a path.
+pub fn may_change(
+    locks: &MemLs,
+    path: &DavPath,
+    holder: &str,
+    tokens: &[String],
+) -> Result<bool, AllocError>
+    ensures may { IfOk result (λ may. may ≡ true → check_conflicts locks.now (segments path.now.bytes) false
+        (record { principal = Some holder.now; ignore = false; tokens = map string_bytes tokens.now }) ≡ []) }
+    ensures may_not { IfOk result (λ may. may ≡ false → (lock : Lock) × Contains (check_conflicts locks.now (segments path.now.bytes) false
+        (record { principal = Some holder.now; ignore = false; tokens = map string_bytes tokens.now })) lock) }
+{
+    match locks.check(path, Some(holder), false, false, tokens) {
+        Ok(()) => Ok(true),
+        Err(LockError::Conflict(_lock)) => Ok(false),
+        Err(LockError::OutOfMemory) => Err(AllocError),
+    }
+}
+
+#[cfg(test)]
+mod tests {
+    use super::*;
+    use rand_core::SeedableRng;
+    use rand_pcg::Pcg64;
+    use std::test::Fail;
+
+    #[test]
+    fn takes_and_asks(rt: HostRuntime) -> Result<(), Fail> {
+        let alloc = rt.alloc();
+        let mut locks = MemLs::new(alloc)?;
+        let mut rng = Pcg64::seed_from_u64(1);
+        let path = DavPath::new(alloc, "/a")?;
+        let Ok(token) = take(&mut locks, &path, "ann", 60, Moment(5), &mut rng) else {
+            return Err("refused")?;
+        };
+        assert!(rt; take(&mut locks, &path, "bob", 60, Moment(6), &mut rng).is_err());
+        assert!(rt; !may_change(&locks, &path, "ann", &[])?);
+        let tokens = vec![in alloc; token]?;
+        assert!(rt; may_change(&locks, &path, "ann", &tokens)?);
+        assert!(rt; !may_change(&locks, &path, "bob", &tokens)?);
+        Ok(())
+    }
+}

@@ -35,12 +35,10 @@ pub fn answer_put<R: Rng>(
         command: Command::Put { path, bytes },
     };
     match stores.apply(&request, rng) {
-        Ok(_reply) => Ok(StatusCode::NO_CONTENT), // the bytes are there
-        Err(Refusal::Locked(_lock)) => Ok(StatusCode::LOCKED), // this lock stands in the way
+        Ok(_reply) => Ok(StatusCode::NO_CONTENT),
+        Err(Refusal::Locked(_lock)) => Ok(StatusCode::LOCKED),
         Err(Refusal::Fs(error)) => Err(DavError::from(error)),
-        Err(Refusal::NoLock) | Err(Refusal::OutOfMemory) => {
-            Err(DavError::from(FsError::InsufficientStorage))
-        }
+        Err(_refusal) => Err(DavError::from(FsError::InsufficientStorage)),
     }
 }
 

@@ -4,7 +4,7 @@ use Rattle.std.specs.Cmp.{nat_cmp_total}
 use Rattle.std.specs.FinMap.{get, nat_cmp-IsAntisymmetric}
 use Rattle.dav_files_core.specs.declared.memfs.Kind.TheVariants.{Folder}
 use Rattle.dav_files_core.specs.Outcomes.{changed}
-use Rattle.dav_files_core.specs.Represents.{FileEntry, FileTree, PlaceFits, Shown, Represents}
+use Rattle.dav_files_core.specs.Private.Represents.{FileEntry, FileTree, PlaceFits, Shown, Represents}
 use Rattle.dav_files_core.specs.Resources.{Node, Resource, ResourceMap, at_path, IsResourceMap}
 use Rattle.dav_path_core.specs.Fronts.{Path}
 use Rattle.dav_path_core.specs.Keyed.{with_item_at}

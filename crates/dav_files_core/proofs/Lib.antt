@@ -3,9 +3,9 @@ pub mod Changed
 pub mod Found
 pub mod Members
 pub mod Places
-pub mod PutLaws
+pub mod PutAnswers
 pub mod Putting
-pub mod ReadLaws
+pub mod ReadAnswers
 pub mod Recovers
 pub mod Rows
 pub mod Started

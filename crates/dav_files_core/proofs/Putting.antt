@@ -7,9 +7,9 @@ use Rattle.dav_files_core.specs.declared.memfs.Kind.{Kind}
 use Rattle.dav_files_core.specs.declared.memfs.Kind.TheVariants.{Folder, File}
 use Rattle.dav_files_core.specs.Commands.{put, put_at}
 use Rattle.dav_files_core.specs.Finding.{refusal_at}
-use Rattle.dav_files_core.specs.Outcomes.{◌>>=◌, find_folder, only_folder, only_file, added, changed, new_file}
+use Rattle.dav_files_core.specs.Outcomes.{◌>>=◌, find_folder, only_folder, added, new_file}
 use Rattle.dav_files_core.specs.Resources.{Resource, ResourceMap, at_path, IsResourceMap}
-use Rattle.dav_files_core.specs.TreeCalls.{number_of}
+use Rattle.dav_files_core.specs.Private.TreeCalls.{number_of}
 use Rattle.dav_path_core.specs.Fronts.{Segment, Path, parent}
 use Rattle.dav_path_core.proofs.FinMaps.{none_some, one_some}
 
@@ -57,23 +57,6 @@ module _ (m : ResourceMap) (is_map : IsResourceMap m) (p : Path) (s : Segment) (
       by : (u : Option Resource) → at_path m path ≡ u → put m path bytes now ≡ Err Forbidden
       by (Some x) g = let above = is_map.parents p s x g in let same = one_some (at_path m p) above.0 r above.1 h in let both : Folder ≡ File = sym above.2 ∙ ap (λ (r : Resource). r.node.kind) same ∙ file in absurd (cc)
       by None g = put_none g ∙ ap (λ f. f >>= λ _. Ok (tt, added m path (new_file bytes now))) (in_folder r h ∙ as_file r.node.kind file)
-
-  pub put_on : (c : Resource) → at_path m path ≡ Some c → put m path bytes now ≡ (only_file c >>= λ r. Ok (tt, changed m path r (record r.node { bytes = bytes; modified = now })))
-  put_on c h = ap (put_at m path bytes now) h
-
-  pub put_on_folder : (c : Resource) → at_path m path ≡ Some c → c.node.kind ≡ Folder → put m path bytes now ≡ Err Forbidden
-  put_on_folder c h folder = put_on c h ∙ ap (λ f. f >>= λ r. Ok (tt, changed m path r (record r.node { bytes = bytes; modified = now }))) (as_folder c.node.kind folder)
-    where
-      as_folder : (k : Kind) → k ≡ Folder → ◌≡◌ {A = Result Resource FsError} (elim k [ Folder ↦ Err Forbidden | File ↦ Ok c ]) (Err Forbidden)
-      as_folder Folder e = refl
-      as_folder File e = absurd (cc)
-
-  pub put_on_file : (c : Resource) → at_path m path ≡ Some c → c.node.kind ≡ File → put m path bytes now ≡ Ok (tt, changed m path c (record c.node { bytes = bytes; modified = now }))
-  put_on_file c h file = put_on c h ∙ ap (λ f. f >>= λ r. Ok (tt, changed m path r (record r.node { bytes = bytes; modified = now }))) (as_file c.node.kind file)
-    where
-      as_file : (k : Kind) → k ≡ File → ◌≡◌ {A = Result Resource FsError} (elim k [ Folder ↦ Err Forbidden | File ↦ Ok c ]) (Ok c)
-      as_file File e = refl
-      as_file Folder e = absurd (cc)
 
   pub put_new : (r : Resource) → at_path m p ≡ Some r → r.node.kind ≡ Folder → at_path m path ≡ None → put m path bytes now ≡ Ok (tt, added m path (new_file bytes now))
   put_new r h folder g = put_none g ∙ ap (λ f. f >>= λ _. Ok (tt, added m path (new_file bytes now))) (in_folder r h ∙ as_folder r.node.kind folder)

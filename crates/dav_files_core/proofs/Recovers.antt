@@ -5,7 +5,7 @@ use Rattle.std.specs.Option.{option_map_or}
 use Rattle.std.specs.Ordering.{nat_cmp, eq_by_cmp}
 use Rattle.std.specs.Cmp.{nat_cmp_total}
 use Rattle.std.specs.FinMap.{FinMap, nat_cmp-IsAntisymmetric, entries, get, remove, find, get-entries, get-from_entries, from_entries, len, same_map}
-use Rattle.dav_files_core.specs.Represents.{FileEntry, FileTree, PlaceFits, Shown, Represents, path_of, entry_of, resource_map}
+use Rattle.dav_files_core.specs.Private.Represents.{FileEntry, FileTree, PlaceFits, Shown, Represents, path_of, entry_of, resource_map}
 use Rattle.dav_files_core.specs.Resources.{Resource, ResourceMap, at_path}
 use Rattle.dav_path_core.specs.Fronts.{Segment, Path, path_cmp}
 use Rattle.dav_path_core.proofs.Orders.{path_total, path_exact, eq_by_cmp_same}

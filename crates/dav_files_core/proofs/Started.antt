@@ -4,7 +4,7 @@ use Rattle.std.specs.Ordering.{nat_cmp}
 use Rattle.std.specs.Cmp.{nat_cmp_total}
 use Rattle.std.specs.FinMap.{get, empty, nat_cmp-IsAntisymmetric, get-empty}
 use Rattle.dav_files_core.specs.Outcomes.{start, new_folder}
-use Rattle.dav_files_core.specs.Represents.{FileEntry, FileTree, Shown, Represents}
+use Rattle.dav_files_core.specs.Private.Represents.{FileEntry, FileTree, Shown, Represents}
 use Rattle.dav_files_core.specs.Resources.{Node, Resource, at_path, IsResourceMap}
 use Rattle.dav_path_core.specs.Fronts.{Path, path_cmp}
 use Rattle.dav_path_core.specs.Keyed.{lone}

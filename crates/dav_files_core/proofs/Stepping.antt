@@ -1,21 +1,22 @@
 -- What a call of the tree leaves, as a map.
-use Rattle.std.proofs.Common.{◌≡◌, ℕ, List, [], ◌∷◌, ◌++◌, Option, Some, None, Ok, refl, sym, ap, ◌∙◌, subst}
+use Rattle.std.proofs.Common.{◌≡◌, ℕ, List, [], ◌∷◌, ◌++◌, Some, None, Ok, refl, sym, ap, ◌∙◌, subst}
 use Rattle.std.specs.FinMap.{get}
 use Rattle.dav_files_core.specs.declared.memfs.Kind.TheVariants.{Folder, File}
 use Rattle.dav_files_core.specs.Outcomes.{added, changed, new_file}
-use Rattle.dav_files_core.specs.Represents.{FileEntry, FileTree, Represents, resource_map}
+use Rattle.dav_files_core.specs.Private.Represents.{FileEntry, FileTree, Represents, resource_map}
 use Rattle.dav_files_core.specs.Resources.{Node, Resource, ResourceMap, at_path}
-use Rattle.dav_files_core.specs.TreeCalls.{IsMember, WritesFile}
+use Rattle.dav_files_core.specs.Private.TreeCalls.{IsMember, WritesFile}
 use Rattle.dav_path_core.specs.Fronts.{Segment, Path}
 use Rattle.dav_path_core.specs.Keyed.{add, with_item_at}
 use Rattle.dav_path_core.proofs.FinMaps.{none_some, one_some}
-use Rattle.dav_files_core.proofs.Walk.{child_at, node_below}
+use Rattle.dav_files_core.proofs.Walk.{child_at}
 use Rattle.dav_files_core.proofs.Added.{Represents-added}
 use Rattle.dav_files_core.proofs.Changed.{Represents-changed}
 use Rattle.dav_files_core.proofs.Recovers.{recovers}
 
-pub map_of : FileTree → ResourceMap
-map_of t = resource_map t
+-- what a tree is seen as, it stands for
+pub stands_for : (t : FileTree) (m : ResourceMap) → resource_map t ≡ m → Represents t (resource_map t) → Represents t m
+stands_for t m seen rep = subst (λ m. Represents t m) seen rep
 
 -- what a tree stands for is what is computed from it
 pub stands_itself : (t : FileTree) (m : ResourceMap) → Represents t m → Represents t (resource_map t)
@@ -41,16 +42,6 @@ child_entry t m rep p r here id number name c child = (
   child_at t m rep p r here c name child.0 (child.1 ∙ ap Some (λ j. record { place = Some (sym number j, name); item = child.0 })),
   refl,
 )
-
-pub no_child_entry : (t : FileTree) (m : ResourceMap) → Represents t m → (p : Path) (r : Resource) → at_path m p ≡ Some r → (id : ℕ) → r.number ≡ id → (name : Segment) → ((c : ℕ) → ¬ (IsMember t id name c))
-    → at_path m (p ++ (name ∷ [])) ≡ None
-no_child_entry t m rep p r here id number name none = by (at_path m (p ++ (name ∷ []))) refl
-  where
-    by : (o : Option Resource) → at_path m (p ++ (name ∷ [])) ≡ o → o ≡ None
-    by None e = refl
-    by (Some c) e =
-        let (k, item, stored, same, _) = node_below t m rep p r name c here e in
-        absurd (none c.number (item, stored ∙ ap Some (λ j. record { place = Some (number j, same j); item = item })))
 
 -- a file's bytes written
 pub written : (t : FileTree) (m : ResourceMap) → Represents t m → (p : Path) (r : Resource) → at_path m p ≡ Some r → r.node.kind ≡ File → (id : ℕ) → r.number ≡ id → (bytes : List ℕ) (now : ℕ) (t' : FileTree)

@@ -8,8 +8,8 @@ use Rattle.std.proofs.lemmas.Bool.{true≢false}
 use Rattle.dav_path_core.specs.declared.errors.FsError.{FsError}
 use Rattle.dav_path_core.specs.declared.errors.FsError.TheVariants.{NotFound, InsufficientStorage}
 use Rattle.dav_files_core.specs.Resources.{Node}
-use Rattle.dav_files_core.specs.Represents.{FileTree, FileEntry}
-use Rattle.dav_files_core.specs.TreeCalls.{IsMember, FindsMember, FindsNode, WritesFile, IsThere}
+use Rattle.dav_files_core.specs.Private.Represents.{FileTree, FileEntry}
+use Rattle.dav_files_core.specs.Private.TreeCalls.{IsMember, FindsMember, FindsNode, WritesFile, IsThere}
 use Rattle.dav_path_core.specs.Answers.{Answers}
 use Rattle.dav_path_core.specs.Keyed.{entry, item, place, place_of, child, add, add_refusal, cleared, with_item, with_item_at}
 use Rattle.dav_path_core.specs.Held.{Held}

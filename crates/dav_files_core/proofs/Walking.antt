@@ -9,9 +9,9 @@ use Rattle.dav_files_core.specs.declared.memfs.Kind.{Kind}
 use Rattle.dav_files_core.specs.declared.memfs.Kind.TheVariants.{Folder, File}
 use Rattle.dav_files_core.specs.Finding.{refusal_below}
 use Rattle.dav_files_core.specs.Outcomes.{◌>>=◌}
-use Rattle.dav_files_core.specs.Represents.{FileEntry, FileTree, Shown, Represents}
+use Rattle.dav_files_core.specs.Private.Represents.{FileEntry, FileTree, Shown, Represents}
 use Rattle.dav_files_core.specs.Resources.{Node, Resource, ResourceMap, at_path}
-use Rattle.dav_files_core.specs.TreeCalls.{number_of, IsMember}
+use Rattle.dav_files_core.specs.Private.TreeCalls.{number_of, IsMember}
 use Rattle.dav_path_core.specs.Fronts.{Path}
 use Rattle.dav_path_core.proofs.FinMaps.{none_some, one_some}
 use Rattle.dav_files_core.proofs.Walk.{child_at, node_below}

@@ -3,6 +3,5 @@ pub mod Commands
 pub mod Finding
 pub mod Meta
 pub mod Outcomes
-pub mod Represents
+pub mod Private
 pub mod Resources
-pub mod TreeCalls

@@ -1,5 +1,5 @@
 -- The resource map: from paths to resources, and the next number (RFC 4918 section 5).
-use Rattle.std.specs.Prelude.{◌≡◌, ℕ, ◌<◌, List, [], ◌∷◌, ◌++◌, Option, Some, unwrap_or}
+use Rattle.std.specs.Prelude.{◌≡◌, ℕ, ◌<◌, List, [], ◌∷◌, ◌++◌, Option, Some}
 use Rattle.std.specs.declared.cmp.Ordering.{Ordering}
 use Rattle.std.specs.Ordering.{ordering_then}
 use Rattle.std.specs.FinMap.{FinMap, get}
@@ -14,10 +14,7 @@ pub record Property : Type 0 where
   pub namespace : Option (List ℕ)
   pub xml : Option (List ℕ)
 
--- namespace and name; no namespace and an empty one are one key
-abbrev pub key_of : Property → List ℕ × List ℕ
-key_of p = (unwrap_or p.namespace [], p.name)
-
+-- by namespace, then name; no namespace and an empty one are one key
 abbrev pub key_cmp : List ℕ × List ℕ → List ℕ × List ℕ → Ordering
 key_cmp a b = ordering_then (segment_cmp a.0 b.0) (segment_cmp a.1 b.1)
 

@@ -6,7 +6,7 @@ ghost use Rattle.dav_files_core.specs.Outcomes.{start};
 ghost use Rattle.dav_files_core.specs.Commands.{metadata, put, read_at};
 ghost use Rattle.dav_files_core.specs.Meta.{meta_of};
 ghost use Rattle.dav_files_core.specs.Resources.{IsResourceMap};
-ghost use Rattle.dav_files_core.specs.TreeCalls.{number_of};
+ghost use Rattle.dav_files_core.specs.Private.TreeCalls.{number_of};
 
 mod nodes;
 
@@ -35,7 +35,7 @@ pub struct MemFsMeta {
     pub kind: Kind,
     /// How many bytes a file has; 0 for a folder.
     pub length: u64,
-    /// When its bytes or its members last changed.
+    /// When its bytes last changed, or it was made.
     pub modified: Moment,
     /// When it was made.
     pub created: Moment,
@@ -51,7 +51,7 @@ pub struct MemFs {
 impl Model for MemFs {
     ghost use Rattle.dav_files_core.specs.Resources.{ResourceMap};
     ghost use Rattle.dav_files_core.specs.Codes.{coded_resources};
-    ghost use Rattle.dav_files_core.specs.Represents.{resource_map, Represents};
+    ghost use Rattle.dav_files_core.specs.Private.Represents.{resource_map, Represents};
 
     ghost Value = { ResourceMap };
 
@@ -103,7 +103,6 @@ impl MemFs {
         ensures answer { AnswersAs (λ _. tt) result (put self.old (segments path.now.bytes) bytes.now now.0) self.old self.new }
         ensures shape { IsResourceMap self.new }
     {
-        let _ = &self.tree;
         let content = copy_of(self.alloc, bytes)?;
         match self.number_of(path) {
             Ok(id) => {
@@ -137,7 +136,6 @@ impl MemFs {
             (λ meta. metadata self.now (segments path.now.bytes) ≡ Ok (meta_of meta))
             (λ e. metadata self.now (segments path.now.bytes) ≡ Err e) }
     {
-        let _ = &self.tree;
         let id = self.number_of(path)?;
         let node = node_of(&self.tree, id)?;
         Ok(node.meta())
@@ -150,7 +148,6 @@ impl MemFs {
     pub fn read_at(&self, path: &DavPath, at: usize, count: usize) -> FsResult<Bytes>
         ensures { Tells (λ b. b) result (read_at self.now (segments path.now.bytes) at count) }
     {
-        let _ = &self.tree;
         let id = self.number_of(path)?;
         let node = node_of(&self.tree, id)?;
         if !node.is_file() {

@@ -1,6 +1,5 @@
 -- What a check that finds no conflict says of the locks.
-use Rattle.std.proofs.Common.{◌≡◌, ◌⊎◌, inl, inr, Bool, true, false, not, ◌&&◌, ◌||◌, List, [], ◌∷◌, sym, ◌∙◌, ap, subst}
-use Rattle.std.specs.List.{list_any}
+use Rattle.std.proofs.Common.{◌≡◌, ◌⊎◌, inl, inr, Bool, true, false, not, ◌&&◌, ◌||◌, List, [], sym, ◌∙◌, ap, subst}
 use Rattle.std.proofs.lemmas.Bool.{and_parts, and_from, and_cases, or_cases, or_parts, or_left, cases_Bool, false≢true, not-false}
 use Rattle.dav_path_core.specs.Fronts.{Path, is_front, is_same_path}
 use Rattle.dav_path_core.proofs.FrontLemmas.{is_same_path-same, is_front-refl}
@@ -8,7 +7,7 @@ use Rattle.dav_locks_core.specs.Lock.{Lock}
 use Rattle.dav_locks_core.specs.Locks.{Caller, lock_path, reaches, covers, held, any_held, is_at_or_below, refuses_change, check_conflicts}
 use Rattle.dav_locks_core.proofs.Exclusivity.{two_reach}
 use Rattle.dav_locks_core.proofs.ListLemmas.{none_passes}
-use Rattle.dav_locks_core.proofs.Members.{In, all_in, find_any, append_none}
+use Rattle.dav_locks_core.proofs.ListMembers.{In, all_in, find_any}
 
 -- one lock is held, or neither covers the path alone nor stands below
 no_conflict_at : (locks : List Lock) (q : Path) (deep : Bool) (who : Caller) → check_conflicts locks q deep who ≡ [] → (l : Lock) → In l locks

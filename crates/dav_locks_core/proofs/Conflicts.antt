@@ -9,11 +9,11 @@ use Rattle.dav_path_core.specs.Fronts.{Path, is_front, is_same_path}
 use Rattle.dav_path_core.proofs.FrontLemmas.{is_same_path-same, is_front-refl}
 use Rattle.dav_locks_core.specs.Lock.{Lock}
 use Rattle.dav_locks_core.specs.Locks.{lock_path, covers, height, held, Caller, refuses_lock, refuses_change, any_held, found_here, found}
-use Rattle.dav_locks_core.specs.LockTree.{NumberedLock, LockTree, locks_at, node_at, lookup_lock, locks_of}
-use Rattle.dav_locks_core.specs.WayTests.{refuses_wanted, is_covering_held, refuses_asker, has_that_token}
-use Rattle.dav_locks_core.specs.Represents.{Represents}
+use Rattle.dav_locks_core.specs.Private.LockTree.{NumberedLock, LockTree, locks_at, node_at, lookup_lock, locks_of}
+use Rattle.dav_locks_core.specs.Private.WayTests.{refuses_wanted, is_covering_held, refuses_asker, has_that_token}
+use Rattle.dav_locks_core.specs.Private.Represents.{Represents}
 use Rattle.dav_locks_core.proofs.Numbered.{place_of_found, found_at_place, lower_at}
-use Rattle.dav_locks_core.proofs.Places.{filter-none, filter-contains, any-none}
+use Rattle.dav_locks_core.proofs.ListPlaces.{filter-none, filter-contains, any-none}
 use Rattle.dav_locks_core.proofs.FoundLemmas.{IsBest, found-none, found-best}
 use Rattle.dav_locks_core.proofs.Ways.{IsFirst, IsFirst-from, NoneOnWay-from, one_path}
 

@@ -5,10 +5,10 @@ pub mod Exclusivity
 pub mod FoundLemmas
 pub mod Growing
 pub mod ListLemmas
+pub mod ListMembers
+pub mod ListPlaces
 pub mod LockLists
-pub mod Members
 pub mod Numbered
-pub mod Places
 pub mod Rows
 pub mod Standing
 pub mod Ways

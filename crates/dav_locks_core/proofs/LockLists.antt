@@ -7,11 +7,11 @@ use Rattle.dav_path_core.specs.Fronts.{Segment, Path}
 use Rattle.dav_path_core.specs.Keyed.{Entry, entry, IsKnown, IsTree, with_item}
 use Rattle.dav_locks_core.specs.Lock.{Lock}
 use Rattle.dav_locks_core.specs.Locks.{lock_path, lock_conflicts, check_conflicts, refuses_lock, refuses_change, any_held, found, Caller, covers, held}
-use Rattle.dav_locks_core.specs.LockTree.{NumberedLock, LockTree, locks_at, is_segment, node_at, all_granted, locks_of, lock_list, lookup_lock, ShowsAt, Grown}
-use Rattle.dav_locks_core.specs.Represents.{Represents, IsLockTree}
+use Rattle.dav_locks_core.specs.Private.LockTree.{NumberedLock, LockTree, locks_at, is_segment, node_at, all_granted, locks_of, lock_list, lookup_lock, ShowsAt, Grown}
+use Rattle.dav_locks_core.specs.Private.Represents.{Represents, IsLockTree}
 use Rattle.dav_locks_core.specs.Exclusive.{Exclusive}
 use Rattle.dav_locks_core.specs.Calls.{Shows}
-use Rattle.dav_locks_core.specs.WayTests.{refuses_wanted, is_covering_held, refuses_asker, has_that_token}
+use Rattle.dav_locks_core.specs.Private.WayTests.{refuses_wanted, is_covering_held, refuses_asker, has_that_token}
 use Rattle.dav_locks_core.specs.declared.ls.LockError.{LockError}
 use Rattle.dav_locks_core.specs.declared.ls.LockError.TheVariants.{Conflict, OutOfMemory}
 use Rattle.dav_locks_core.proofs.Exclusivity.{Exclusive-push, Exclusive-remove}

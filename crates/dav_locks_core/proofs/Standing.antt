@@ -12,8 +12,8 @@ use Rattle.dav_path_core.specs.Keyed.{Entry, entry, place, place_of, IsKnown, Is
 use Rattle.dav_path_core.proofs.Trees.{Sets, Sets-insert, IsTree-with_item, find-here, find-head, same_some, none≢some}
 use Rattle.dav_locks_core.specs.Lock.{Lock}
 use Rattle.dav_locks_core.specs.Locks as locks
-use Rattle.dav_locks_core.specs.LockTree.{NumberedLock, LockTree, locks_at, is_segment, child_at, node_at, all_standing, all_granted, or_else, Grown}
-use Rattle.dav_locks_core.specs.Represents.{Represents}
+use Rattle.dav_locks_core.specs.Private.LockTree.{NumberedLock, LockTree, locks_at, is_segment, child_at, node_at, all_standing, all_granted, or_else, Grown}
+use Rattle.dav_locks_core.specs.Private.Represents.{Represents}
 use Rattle.dav_locks_core.proofs.Numbered.{InOrder, AllBelow, find-later, in_order_tail, found_at_place, find-push, InOrder-push, InOrder-remove, found-removed, found-kept}
 use Rattle.dav_locks_core.proofs.Ways.{child_at-is, child_at-from}
 

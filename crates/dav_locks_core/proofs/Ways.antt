@@ -14,8 +14,8 @@ use Rattle.dav_path_core.proofs.Trees.{child-some, child-only, same_some, noneâ‰
 use Rattle.dav_path_core.proofs.Orders.{segment_total}
 use Rattle.dav_path_core.proofs.FrontLemmas.{is_front-parts, is_front-cons}
 use Rattle.dav_locks_core.specs.Lock.{Lock}
-use Rattle.dav_locks_core.specs.LockTree.{NumberedLock, LockTree, locks_at, is_segment, child_at, node_at, first_at, or_else, with_node, lookup_lock}
-use Rattle.dav_locks_core.proofs.Places.{position-none, position-first}
+use Rattle.dav_locks_core.specs.Private.LockTree.{NumberedLock, LockTree, locks_at, is_segment, child_at, node_at, first_at, or_else, with_node, lookup_lock}
+use Rattle.dav_locks_core.proofs.ListPlaces.{position-none, position-first}
 
 -- ---- children by their segments
 

@@ -3,10 +3,7 @@ pub mod Codes
 pub mod Ended
 pub mod Exclusive
 pub mod Lock
-pub mod LockRequests
-pub mod LockTree
 pub mod Locks
 pub mod NewLock
-pub mod Represents
+pub mod Private
 pub mod Tokens
-pub mod WayTests

@@ -16,7 +16,7 @@ pub struct DavLock {
     pub principal: Option<String>,
     /// The owner's text, kept as given.
     pub owner: Option<String>,
-    /// The moment at which it ends, at most the greatest moment; none without a timeout.
+    /// Its moment and its timeout together, at most the greatest moment; none without a timeout. Locks don't end by it yet.
     pub timeout_at: Option<Moment>,
     /// The timeout that was asked for, in seconds.
     pub timeout: Option<u64>,
@@ -75,7 +75,7 @@ impl<T: Drop> From<AllocFailed<T>> for LockError {
     }
 }
 
-/// No lock with that token covers the path. It displays as its name.
+/// No lock with that token stands at the path or above it. It displays as its name.
 #[derive(Debug, Drop, Error, Clone, Copy, PartialEq, Eq)]
 #[error("NoLock")]
 pub struct NoLock;

@@ -55,8 +55,8 @@ impl Model for MemLs {
 
     ghost Value = { List Lock };
 
-    ghost use Rattle.dav_locks_core.specs.LockTree.{lock_list};
-    ghost use Rattle.dav_locks_core.specs.Represents.{IsLockTree};
+    ghost use Rattle.dav_locks_core.specs.Private.LockTree.{lock_list};
+    ghost use Rattle.dav_locks_core.specs.Private.Represents.{IsLockTree};
 
     ghost view = { λ m. lock_list m.tree.keyed };
 
@@ -106,7 +106,6 @@ impl MemLs {
         ensures undrawn { OnErr result (R.stream rng.new ≡ R.stream rng.old) }
         ensures exclusive { Exclusive self.new }
     {
-        let _ = &self.tree;
         let request = LockRequest {
             path,
             principal,
@@ -133,7 +132,6 @@ impl MemLs {
         ensures none { OnErr result ((found self.old (segments path.now.bytes) token.now ≡ None) × (self.new ≡ self.old)) }
         ensures exclusive { Exclusive self.new }
     {
-        let _ = &self.tree;
         match lookup_lock(&self.tree, path, &WithToken { token }) {
             None => Err(NoLock),
             Some((node, place)) => {
@@ -157,8 +155,6 @@ impl MemLs {
         ensures passes { OnOk result (check_conflicts self.now (segments path.now.bytes) deep (caller principal.entry ignore_principal tokens.now) ≡ []) }
         ensures shown { IfErr result (λ e. Shows (check_conflicts self.now (segments path.now.bytes) deep (caller principal.entry ignore_principal tokens.now)) e) }
     {
-        let _ = &self.tree;
-        let _ = deep;
         let caller = Caller {
             principal,
             ignore_principal,

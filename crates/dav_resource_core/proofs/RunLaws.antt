@@ -4,7 +4,7 @@ use Rattle.std.proofs.lemmas.Bool.{or_left, or_parts, false≢true}
 use Rattle.std.proofs.lemmas.List.{take_more, map_push}
 use Rattle.dav_files_core.specs.Finding.{place}
 use Rattle.dav_locks_core.specs.Exclusive.{Exclusive}
-use Rattle.dav_locks_core.proofs.Members.{In-Contains, Contains-In}
+use Rattle.dav_locks_core.proofs.ListMembers.{In-Contains, Contains-In}
 use Rattle.dav_locks_core.proofs.Ending.{LocksEnded-refl, LocksEnded-trans, In-LocksEnded}
 use Rattle.dav_resource_core.specs.Requests.{Request, Answer}
 use Rattle.dav_resource_core.specs.Step.{State, Same, Step, Run}

@@ -10,7 +10,7 @@ use Rattle.dav_locks_core.specs.Locks.{Caller, check_conflicts}
 use Rattle.dav_locks_core.specs.Exclusive.{Exclusive}
 use Rattle.dav_locks_core.specs.Ended.{LocksEnded}
 use Rattle.dav_locks_core.proofs.Exclusivity.{Exclusive-push, Exclusive-remove}
-use Rattle.dav_locks_core.proofs.Members.{In-Contains, Contains-In, append_none}
+use Rattle.dav_locks_core.proofs.ListMembers.{In-Contains, Contains-In, append_none}
 use Rattle.dav_locks_core.proofs.Checking.{exclusive_held, any_lock_held}
 use Rattle.dav_locks_core.proofs.Ending.{LocksEnded-refl, LocksEnded-push, LocksEnded-remove, found_at}
 use Rattle.dav_files_core.specs.Resources.{ResourceMap}

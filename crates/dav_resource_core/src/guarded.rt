@@ -52,7 +52,7 @@ pub enum Command {
         path: DavPath,
         /// The owner's text, kept as given.
         owner: Option<String>,
-        /// In seconds; none where the lock doesn't end by time.
+        /// In seconds, kept as asked; none where there is no timeout. Locks don't end by it yet.
         timeout: Option<u64>,
         /// Others may hold a lock there too.
         shared: bool,
@@ -96,7 +96,7 @@ pub enum Reply {
 /// Why a request is refused. Nothing was changed.
 #[derive(Drop)]
 pub enum Refusal {
-    /// The files refuse it; `Fs(InsufficientStorage)` also for want of memory for their work.
+    /// The files refuse it; `Fs(InsufficientStorage)` also where they are out of memory.
     Fs(FsError),
     /// This lock stands in the way.
     Locked(DavLock),
@@ -175,25 +175,30 @@ impl Guarded {
     /// Answers one request. Locks in the way come before any other refusal but want of memory. A granted lock alone draws
     /// from the generator; on every other answer it stays as it was.
     pub fn apply<R: Rng>(&mut self, request: &Request, rng: &mut R) -> Result<Reply, Refusal>
-        ensures step { Step (state_of self.old (R.stream rng.old)) (request_of request.entry.now) (answer_of result) (state_of self.new (R.stream rng.new)) }
+        ensures step { Step (state_of self.old (R.stream rng.old)) (request_of request.entry.now) (answer_of result)
+            (state_of self.new (R.stream rng.new)) }
 
         ensures shape { IsResourceMap self.new.map }
 
         // Two locks that cover one path are both shared.
         ensures exclusive { Exclusive self.new.locks }
         // A path under an exclusive lock changes only by a request that names its token under its principal.
-        ensures isolated { Isolated (state_of self.old (R.stream rng.old)) (request_of request.entry.now) (state_of self.new (R.stream rng.new)) }
-        // A path under any lock changes only by a request that names such a lock of a front of the path.
-        ensures any_isolated { AnyIsolated (state_of self.old (R.stream rng.old)) (request_of request.entry.now) (state_of self.new (R.stream rng.new)) }
+        ensures isolated { Isolated (state_of self.old (R.stream rng.old)) (request_of request.entry.now)
+            (state_of self.new (R.stream rng.new)) }
+        // A path under any lock changes only by a request that names, as its holder, a lock that covers it or a front of it.
+        ensures any_isolated { AnyIsolated (state_of self.old (R.stream rng.old)) (request_of request.entry.now)
+            (state_of self.new (R.stream rng.new)) }
         // A lock ends only where its token is named.
-        ensures ends_named { EndsNamed (state_of self.old (R.stream rng.old)) (request_of request.entry.now) (state_of self.new (R.stream rng.new)) }
+        ensures ends_named { EndsNamed (state_of self.old (R.stream rng.old)) (request_of request.entry.now)
+            (state_of self.new (R.stream rng.new)) }
     {
         self.serve(request, rng)
     }
 
     // One request: refused by its checks, else done on the files or on the locks.
     fn serve<R: Rng>(&mut self, request: &Request, rng: &mut R) -> Result<Reply, Refusal>
-        ensures step { Step (state_of self.old (R.stream rng.old)) (request_of request.entry.now) (answer_of result) (state_of self.new (R.stream rng.new)) }
+        ensures step { Step (state_of self.old (R.stream rng.old)) (request_of request.entry.now) (answer_of result)
+            (state_of self.new (R.stream rng.new)) }
         ensures exclusive { Exclusive self.new.locks }
         ensures shape { IsResourceMap self.new.map }
     {
@@ -236,8 +241,10 @@ impl Guarded {
 
     // Makes the checks of a command (RFC 4918 section 7).
     fn check_command(&self, request: &Request) -> Result<(), Refusal>
-        ensures ok { OnOk result (refusing self.now.locks (caller_of (request_of request.entry.now)) (checks self.now.map (command_of request.entry.now.command)) ≡ []) }
-        ensures err { IfErr result (RefusedBy self.now.locks (caller_of (request_of request.entry.now)) (checks self.now.map (command_of request.entry.now.command))) }
+        ensures ok { OnOk result (refusing self.now.locks (caller_of (request_of request.entry.now))
+            (checks self.now.map (command_of request.entry.now.command)) ≡ []) }
+        ensures err { IfErr result (RefusedBy self.now.locks (caller_of (request_of request.entry.now))
+            (checks self.now.map (command_of request.entry.now.command))) }
     {
         match &request.command {
             Command::Put { path, .. } => return self.check_target(request, path),
@@ -247,8 +254,10 @@ impl Guarded {
 
     // Checks a target, and its parent where nothing stands at the target (RFC 4918 section 7.4).
     fn check_target(&self, request: &Request, path: &DavPath) -> Result<(), Refusal>
-        ensures ok { OnOk result (refusing self.now.locks (caller_of (request_of request.entry.now)) (target self.now.map (segments path.now.bytes)) ≡ []) }
-        ensures err { IfErr result (RefusedBy self.now.locks (caller_of (request_of request.entry.now)) (target self.now.map (segments path.now.bytes))) }
+        ensures ok { OnOk result (refusing self.now.locks (caller_of (request_of request.entry.now))
+            (target self.now.map (segments path.now.bytes)) ≡ []) }
+        ensures err { IfErr result (RefusedBy self.now.locks (caller_of (request_of request.entry.now))
+            (target self.now.map (segments path.now.bytes))) }
     {
         self.check_path(request, path)?;
         if self.fs.metadata(path).is_ok() {
@@ -262,8 +271,10 @@ impl Guarded {
 
     // Checks one path, shallow, by the request's tokens and principal.
     fn check_path(&self, request: &Request, path: &DavPath) -> Result<(), Refusal>
-        ensures ok { OnOk result (refusing self.now.locks (caller_of (request_of request.entry.now)) (shallow (segments path.now.bytes) ∷ []) ≡ []) }
-        ensures err { IfErr result (RefusedBy self.now.locks (caller_of (request_of request.entry.now)) (shallow (segments path.now.bytes) ∷ [])) }
+        ensures ok { OnOk result (refusing self.now.locks (caller_of (request_of request.entry.now))
+            (shallow (segments path.now.bytes) ∷ []) ≡ []) }
+        ensures err { IfErr result (RefusedBy self.now.locks (caller_of (request_of request.entry.now))
+            (shallow (segments path.now.bytes) ∷ [])) }
     {
         let principal = text_of(&request.principal);
         self.locks
@@ -273,26 +284,38 @@ impl Guarded {
 
     /// Answers requests in order, one answer each; a refusal ends nothing. `AllocError` where there is no room for the
     /// answers: nothing was done.
+    ///
+    /// Through every run of requests from empty stores, each answer is that of a finite map of paths and a list of locks; two
+    /// locks that cover one path are both shared; a path under an exclusive lock changes only by a request that names its token
+    /// under its principal; a lock ends only where its token is named. (Accepted paths and `If` values are exactly the written
+    /// grammars': `DavPath::new` and `If::decode`.)
     pub fn run<R: Rng>(
         &mut self,
         requests: &[Request],
         rng: &mut R,
     ) -> Result<Vec<Result<Reply, Refusal>>, AllocError>
-        ensures run { IfOk result (λ answers. Run (state_of self.old (R.stream rng.old)) (map request_of requests.now) (map answer_of answers.items) (state_of self.new (R.stream rng.new))) }
+        ensures run { IfOk result (λ answers. Run (state_of self.old (R.stream rng.old)) (map request_of requests.now)
+            (map answer_of answers.items) (state_of self.new (R.stream rng.new))) }
         ensures unchanged { OnErr result (self.new ≡ self.old) }
         ensures undrawn { OnErr result (R.stream rng.new ≡ R.stream rng.old) }
 
         // Two locks that cover one path are both shared, at the end and after each step.
         ensures exclusive { Exclusive self.old.locks × Exclusive self.new.locks }
-        ensures each_exclusive { IfOk result (λ answers. EachExclusive (state_of self.old (R.stream rng.old)) (map request_of requests.now) (map answer_of answers.items) (state_of self.new (R.stream rng.new))) }
+        ensures each_exclusive { IfOk result (λ answers. EachExclusive (state_of self.old (R.stream rng.old))
+            (map request_of requests.now) (map answer_of answers.items) (state_of self.new (R.stream rng.new))) }
         // In each step a path under a lock changes only by a request that names such a lock, and a lock ends only where its
         // token is named.
-        ensures each_isolated { IfOk result (λ answers. EachIsolated (state_of self.old (R.stream rng.old)) (map request_of requests.now) (map answer_of answers.items) (state_of self.new (R.stream rng.new))) }
-        ensures each_any_isolated { IfOk result (λ answers. EachAnyIsolated (state_of self.old (R.stream rng.old)) (map request_of requests.now) (map answer_of answers.items) (state_of self.new (R.stream rng.new))) }
-        ensures each_ends_named { IfOk result (λ answers. EachEndsNamed (state_of self.old (R.stream rng.old)) (map request_of requests.now) (map answer_of answers.items) (state_of self.new (R.stream rng.new))) }
+        ensures each_isolated { IfOk result (λ answers. EachIsolated (state_of self.old (R.stream rng.old))
+            (map request_of requests.now) (map answer_of answers.items) (state_of self.new (R.stream rng.new))) }
+        ensures each_any_isolated { IfOk result (λ answers. EachAnyIsolated (state_of self.old (R.stream rng.old))
+            (map request_of requests.now) (map answer_of answers.items) (state_of self.new (R.stream rng.new))) }
+        ensures each_ends_named { IfOk result (λ answers. EachEndsNamed (state_of self.old (R.stream rng.old))
+            (map request_of requests.now) (map answer_of answers.items) (state_of self.new (R.stream rng.new))) }
         // The locks of the start that no request names stand at the end, and what an exclusive one of them covers is as it was.
-        ensures stand { OnOk result (UnnamedStand (state_of self.old (R.stream rng.old)) (map request_of requests.now) (state_of self.new (R.stream rng.new))) }
-        ensures kept { OnOk result (UnnamedIsolated (state_of self.old (R.stream rng.old)) (map request_of requests.now) (state_of self.new (R.stream rng.new))) }
+        ensures stand { OnOk result (UnnamedStand (state_of self.old (R.stream rng.old)) (map request_of requests.now)
+            (state_of self.new (R.stream rng.new))) }
+        ensures kept { OnOk result (UnnamedIsolated (state_of self.old (R.stream rng.old))
+            (map request_of requests.now) (state_of self.new (R.stream rng.new))) }
     {
         self.run_all(requests, rng)
     }
@@ -303,7 +326,8 @@ impl Guarded {
         requests: &[Request],
         rng: &mut R,
     ) -> Result<Vec<Result<Reply, Refusal>>, AllocError>
-        ensures run { IfOk result (λ answers. Run (state_of self.old (R.stream rng.old)) (map request_of requests.now) (map answer_of answers.items) (state_of self.new (R.stream rng.new))) }
+        ensures run { IfOk result (λ answers. Run (state_of self.old (R.stream rng.old)) (map request_of requests.now)
+            (map answer_of answers.items) (state_of self.new (R.stream rng.new))) }
         ensures unchanged { OnErr result (self.new ≡ self.old) }
         ensures undrawn { OnErr result (R.stream rng.new ≡ R.stream rng.old) }
         ensures exclusive { Exclusive self.old.locks × Exclusive self.new.locks }

@@ -5,7 +5,7 @@ ghost use Rattle.std.specs.Cmp.Lexicographic.{pointwise};
 ghost use Rattle.dav_path_core.specs.Keyed.{child, add};
 ghost use Rattle.dav_files_core.specs.Outcomes.{new_file, new_folder};
 ghost use Rattle.dav_files_core.specs.Meta.{meta_of, meta_at};
-ghost use Rattle.dav_files_core.specs.TreeCalls.{FindsMember, FindsNode, WritesFile, IsThere};
+ghost use Rattle.dav_files_core.specs.Private.TreeCalls.{FindsMember, FindsNode, WritesFile, IsThere};
 
 use super::{Kind, MemFsMeta};
 use crate::fs::Moment;

@@ -4,8 +4,8 @@ ghost use Rattle.dav_path_core.specs.Keyed.{IsKnown, with_item};
 ghost use Rattle.dav_locks_core.specs.Locks.{end_of};
 ghost use Rattle.dav_locks_core.specs.Tokens.{token_from};
 ghost use Rattle.dav_locks_core.specs.Calls.{lent_text};
-ghost use Rattle.dav_locks_core.specs.LockTree as spec;
-ghost use Rattle.dav_locks_core.specs.LockRequests.{lock_for};
+ghost use Rattle.dav_locks_core.specs.Private.LockTree as spec;
+ghost use Rattle.dav_locks_core.specs.Private.LockRequests.{lock_for};
 
 use super::NodeLocks;
 use crate::ls::{DavLock, LockError};

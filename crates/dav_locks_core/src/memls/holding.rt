@@ -40,7 +40,7 @@ pub(super) trait LockTest {
 
 /// The locks that refuse the one that is asked for.
 impl LockTest for LockRequest<'_> {
-    ghost use Rattle.dav_locks_core.specs.WayTests.{refuses_wanted};
+    ghost use Rattle.dav_locks_core.specs.Private.WayTests.{refuses_wanted};
 
     ghost test = { λ w. refuses_wanted w.shared };
 
@@ -52,7 +52,7 @@ impl LockTest for LockRequest<'_> {
 /// The locks that cover the path and are held.
 impl LockTest for Caller<'_> {
     ghost use Rattle.dav_locks_core.specs.Calls.{caller};
-    ghost use Rattle.dav_locks_core.specs.WayTests.{is_covering_held};
+    ghost use Rattle.dav_locks_core.specs.Private.WayTests.{is_covering_held};
 
     ghost test = { λ a. is_covering_held (caller a.principal a.ignore_principal a.tokens.now) };
 
@@ -64,7 +64,7 @@ impl LockTest for Caller<'_> {
 /// The locks that refuse a change.
 impl LockTest for Change<'_> {
     ghost use Rattle.dav_locks_core.specs.Calls.{caller};
-    ghost use Rattle.dav_locks_core.specs.WayTests.{refuses_asker};
+    ghost use Rattle.dav_locks_core.specs.Private.WayTests.{refuses_asker};
 
     ghost test = { λ c. refuses_asker (caller c.caller.principal c.caller.ignore_principal c.caller.tokens.now) c.any_held };
 
@@ -75,7 +75,7 @@ impl LockTest for Change<'_> {
 
 /// The locks with a token.
 impl LockTest for WithToken<'_> {
-    ghost use Rattle.dav_locks_core.specs.WayTests.{has_that_token};
+    ghost use Rattle.dav_locks_core.specs.Private.WayTests.{has_that_token};
 
     ghost test = { λ n. has_that_token n.token.now };
 

@@ -89,3 +89,30 @@ fn keeps_locks_at_their_nodes(rt: HostRuntime) -> Result<(), Fail> {
     }
     stand_at_their_nodes(&rt, &locks)
 }
+
+// No locks, and one grant number left.
+fn near_the_end(alloc: Global) -> FsResult<MemLs> {
+    let root = NodeLocks {
+        locks: Vec::new(alloc),
+    };
+    let tree = Tree::new(alloc, root)?;
+    Ok(MemLs {
+        alloc,
+        tree,
+        next: u64::MAX - 1,
+    })
+}
+
+#[test]
+fn grants_to_the_last_number(rt: HostRuntime) -> Result<(), Fail> {
+    let alloc = rt.alloc();
+    let mut rng = Counter(1);
+    let mut locks = near_the_end(alloc)?;
+    let path = DavPath::new(alloc, "/a")?;
+    let first = locks.lock(&path, None, None, None, true, false, Moment(5), &mut rng);
+    assert!(rt; first.is_ok() && locks.next == u64::MAX && rng.0 == 5);
+    let second = locks.lock(&path, None, None, None, true, false, Moment(5), &mut rng);
+    assert!(rt; matches!(second, Err(LockError::OutOfMemory)));
+    assert!(rt; locks.next == u64::MAX && rng.0 == 5);
+    Ok(())
+}

@@ -2,8 +2,8 @@
 ghost use Rattle.std.specs.Prelude.{◌≡◌, ◌<◌, Some, None, length, IfOk, IfErr, OnOk, slice_index_or};
 ghost use Rattle.dav_path_core.specs.Segments.{segments};
 ghost use Rattle.dav_path_core.specs.Keyed.{IsKnown, IsTree};
-ghost use Rattle.dav_locks_core.specs.LockTree.{NumberedLock, child_at, node_at, is_segment, ShowsAt, Grown};
-ghost use Rattle.dav_locks_core.specs.LockTree as spec;
+ghost use Rattle.dav_locks_core.specs.Private.LockTree.{NumberedLock, child_at, node_at, is_segment, ShowsAt, Grown};
+ghost use Rattle.dav_locks_core.specs.Private.LockTree as spec;
 
 use super::NodeLocks;
 use super::holding::LockTest;

@@ -182,3 +182,18 @@ fn is_label(word: &str) -> bool {
         None => false,
     }
 }
+
+#[cfg(test)]
+mod tests {
+    use super::*;
+    use std::test::Fail;
+
+    #[test]
+    fn reads_the_moment(rt: HostRuntime) -> Result<(), Fail> {
+        match line_of(rt.alloc(), b"57 - - read /a 0 1")? {
+            Line::Asked(asked) => assert!(rt; asked.now == Moment(57)),
+            Line::Blank | Line::Malformed => assert!(rt; false),
+        }
+        Ok(())
+    }
+}

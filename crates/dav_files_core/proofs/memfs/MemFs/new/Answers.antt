@@ -1,6 +1,6 @@
 use Rattle.std.proofs.Common.{◌≡◌, ℕ, sym, subst}
 use Rattle.dav_path_core.specs.Keyed.{lone}
-use Rattle.dav_files_core.specs.Represents.{Represents, FileTree}
+use Rattle.dav_files_core.specs.Private.Represents.{Represents, FileTree}
 use Rattle.dav_files_core.specs.Outcomes.{start, new_folder}
 use Rattle.dav_files_core.specs.Resources.{Node}
 use Rattle.dav_files_core.proofs.Started.{Represents-single}

@@ -4,15 +4,15 @@ use Rattle.std.proofs.lemmas.List.{take_all, length_push}
 use Rattle.std.proofs.lemmas.Iterator.{YieldsList-from_take}
 use Rattle.std.proofs.lemmas.Iterator.Consumers.{YieldsList-from_first, YieldsList-turn, YieldsList-end}
 use Rattle.dav_path_core.specs.Segments.{segments}
-use Rattle.dav_files_core.specs.Represents.{Represents}
 use Rattle.dav_files_core.proofs.Walking.{IsAt}
 use Rattle.dav_files_core.specs.Finding.{refusal_at}
 use Rattle.dav_files_core.specs.Outcomes.{◌>>=◌}
 use Rattle.dav_files_core.specs.Resources.{Node, Resource, ResourceMap, at_path}
-use Rattle.dav_files_core.specs.TreeCalls.{number_of, IsMember}
+use Rattle.dav_files_core.specs.Private.TreeCalls.{number_of, IsMember}
 use Rattle.dav_path_core.specs.Fronts.{Path}
 use Rattle.dav_files_core.proofs.Walking.{not_lost, at_file, at_nothing, one_on, at_root}
 use Rattle.std.specs.Option.{ok_or}
+use Rattle.dav_files_core.proofs.Stepping.{stands_for}
 use Rattle.dav_files_core.proofs.memfs.MemFs.number_at.Goals as goal
 
 not_true : ¬ (false ≡ true)
@@ -32,17 +32,17 @@ at_end m p i id here e =
 
 pub loop-segment-init : goal.loop-segment-init
 loop-segment-init c =
-    let rep = subst (λ m. Represents c.self.inside.tree.keyed m) c.self.view_is c.self.invariant in
+    let rep = stands_for _ _ c.self.view_is c.self.invariant in
     at_root c.self.inside.tree.keyed c.args.self.now rep (take c.args.count (segments c.args.path.now.bytes))
 
 pub returns-in_err-node_of : goal.returns-in_err-node_of
 returns-in_err-node_of c =
-    let rep = subst (λ m. Represents c.self.inside.tree.keyed m) c.self.view_is c.self.invariant in
+    let rep = stands_for _ _ c.self.view_is c.self.invariant in
     absurd (not_lost c.self.inside.tree.keyed c.args.self.now rep (take c.args.count (segments c.args.path.now.bytes)) (length c.loop-segment.yielded) c.loop-segment.id c.loop-segment.invariant c.in_err-node_of.ensures.err.1)
 
 pub returns-then-is_file : goal.returns-then-is_file
 returns-then-is_file c =
-    let rep = subst (λ m. Represents c.self.inside.tree.keyed m) c.self.view_is c.self.invariant in
+    let rep = stands_for _ _ c.self.view_is c.self.invariant in
     let names = take c.args.count (segments c.args.path.now.bytes) in
     let all = YieldsList-from_take c.args.count (YieldsList-from_first (λ x. x.now) segments (segments c.args.path.now.bytes) (cc)) (cc) in
     let t = YieldsList-turn all c.loop-segment.yielded _ c.loop-segment.yielded_by _ _ c.in-Some.segment c.in-Some.is c.next.ensures.steps in
@@ -52,7 +52,7 @@ returns-then-is_file c =
 
 pub returns-in_err-id : goal.returns-in_err-id
 returns-in_err-id c =
-    let rep = subst (λ m. Represents c.self.inside.tree.keyed m) c.self.view_is c.self.invariant in
+    let rep = stands_for _ _ c.self.view_is c.self.invariant in
     let names = take c.args.count (segments c.args.path.now.bytes) in
     let all = YieldsList-from_take c.args.count (YieldsList-from_first (λ x. x.now) segments (segments c.args.path.now.bytes) (cc)) (cc) in
     let t = YieldsList-turn all c.loop-segment.yielded _ c.loop-segment.yielded_by _ _ c.in-Some.segment c.in-Some.is c.next.ensures.steps in
@@ -65,7 +65,7 @@ returns-in_err-id c =
 
 pub loop-segment-preserved : goal.loop-segment-preserved
 loop-segment-preserved c =
-    let rep = subst (λ m. Represents c.self.inside.tree.keyed m) c.self.view_is c.self.invariant in
+    let rep = stands_for _ _ c.self.view_is c.self.invariant in
     let names = take c.args.count (segments c.args.path.now.bytes) in
     let all = YieldsList-from_take c.args.count (YieldsList-from_first (λ x. x.now) segments (segments c.args.path.now.bytes) (cc)) (cc) in
     let t = YieldsList-turn all c.loop-segment.yielded _ c.loop-segment.yielded_by _ _ c.in-Some.segment c.in-Some.is c.next.ensures.steps in

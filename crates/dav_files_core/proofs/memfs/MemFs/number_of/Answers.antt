@@ -1,7 +1,7 @@
 use Rattle.std.proofs.Common.{◌≡◌, ◌∙◌, ap, sym, length, arith}
 use Rattle.std.proofs.lemmas.List.{take_all}
 use Rattle.dav_path_core.specs.Segments.{segments}
-use Rattle.dav_files_core.specs.TreeCalls.{number_of}
+use Rattle.dav_files_core.specs.Private.TreeCalls.{number_of}
 use Rattle.dav_files_core.proofs.memfs.MemFs.number_of.Goals as goal
 
 pub returns : goal.returns

@@ -1,18 +1,18 @@
 use Rattle.std.proofs.Common.{◌≡◌, ◌-◌, ◌∷◌, [], ◌++◌, take, get_or, Result, Ok, Err, None, inr, sym, ap, ◌∙◌, subst, refl, true, false}
 use Rattle.std.proofs.lemmas.Result.{err_from_is_err_and}
 use Rattle.dav_path_core.specs.Segments.{segments}
-use Rattle.dav_files_core.specs.Represents.{Represents}
+use Rattle.dav_files_core.specs.Private.Represents.{Represents}
 use Rattle.dav_files_core.specs.Commands.{put}
 use Rattle.dav_files_core.specs.Outcomes.{changed, added, new_file}
 use Rattle.dav_files_core.specs.Resources.{Node, ResourceMap, at_path}
-use Rattle.dav_files_core.specs.TreeCalls.{IsMember, WritesFile}
+use Rattle.dav_files_core.specs.Private.TreeCalls.{IsMember, WritesFile}
 use Rattle.dav_path_core.specs.Answers.{AnswersAs}
 use Rattle.dav_path_core.specs.declared.errors.FsError.{FsError}
 use Rattle.dav_files_core.specs.declared.memfs.Kind.TheVariants.{Folder, File}
 use Rattle.dav_files_core.proofs.Walking.{not_file}
 use Rattle.dav_files_core.proofs.Putting.{found_number, put_lost, put_in_file, put_new}
-use Rattle.dav_files_core.proofs.PutLaws.{not_there, whole, put_folder, put_file}
-use Rattle.dav_files_core.proofs.Stepping.{stands_itself, is_view, item_is, lost, child_entry, written, with_file}
+use Rattle.dav_files_core.proofs.PutAnswers.{not_there, whole, put_folder, put_file}
+use Rattle.dav_files_core.proofs.Stepping.{stands_for, stands_itself, is_view, item_is, lost, child_entry, written, with_file}
 use Rattle.dav_path_core.proofs.FinMaps.{none_some}
 use Rattle.dav_files_core.proofs.memfs.MemFs.put.Goals as goal
 
@@ -24,13 +24,13 @@ not_true e = cc
 
 pub returns-in_err-node_of-in-Ok : goal.returns-in_err-node_of-in-Ok
 returns-in_err-node_of-in-Ok c =
-    let rep = subst (λ m. Represents c.self.inside.tree.keyed m) c.self.view_is c.self.invariant in
+    let rep = stands_for _ _ c.self.view_is c.self.invariant in
     let here = found_number c.args.self.now (segments c.args.path.now.bytes) c.in-Ok.id c.in-Ok.ensures in
     absurd (lost c.self.inside.tree.keyed c.args.self.now rep (segments c.args.path.now.bytes) here.0 here.1 c.in-Ok.id here.2 c.in_err-node_of-in-Ok.ensures.err.1)
 
 pub returns-then-not-is_file-clause-answer : goal.returns-then-not-is_file-clause-answer
 returns-then-not-is_file-clause-answer c =
-    let rep = subst (λ m. Represents c.self.inside.tree.keyed m) c.self.view_is c.self.invariant in
+    let rep = stands_for _ _ c.self.view_is c.self.invariant in
     let names = segments c.args.path.now.bytes in
     let here = found_number c.args.self.now names c.in-Ok.id c.in-Ok.ensures in
     let n = c.in_ok-node_of-in-Ok.ensures.ok in
@@ -42,7 +42,7 @@ returns-then-not-is_file-clause-answer c =
 
 pub invariant_of-self-in-Ok : goal.invariant_of-self-in-Ok
 invariant_of-self-in-Ok c =
-    let rep = subst (λ m. Represents c.self.inside.tree.keyed m) c.self.view_is c.self.invariant in
+    let rep = stands_for _ _ c.self.view_is c.self.invariant in
     let names = segments c.args.path.now.bytes in
     let here = found_number c.args.self.now names c.in-Ok.id c.in-Ok.ensures in
     let n = c.in_ok-node_of-in-Ok.ensures.ok in
@@ -55,7 +55,7 @@ invariant_of-self-in-Ok c =
 
 pub returns-in-Ok-clause-answer : goal.returns-in-Ok-clause-answer
 returns-in-Ok-clause-answer c =
-    let rep = subst (λ m. Represents c.self.inside.tree.keyed m) c.self.view_is c.self.invariant in
+    let rep = stands_for _ _ c.self.view_is c.self.invariant in
     let names = segments c.args.path.now.bytes in
     let here = found_number c.args.self.now names c.in-Ok.id c.in-Ok.ensures in
     let n = c.in_ok-node_of-in-Ok.ensures.ok in
@@ -68,7 +68,7 @@ returns-in-Ok-clause-answer c =
 
 pub returns-in_err-folder-in-Err-clause-answer : goal.returns-in_err-folder-in-Err-clause-answer
 returns-in_err-folder-in-Err-clause-answer c =
-    let rep = subst (λ m. Represents c.self.inside.tree.keyed m) c.self.view_is c.self.invariant in
+    let rep = stands_for _ _ c.self.view_is c.self.invariant in
     let names = segments c.args.path.now.bytes in
     let n = c.depth-count.result in
     let e = whole names n c.depth-count.ensures c.if-count-eq0.false in
@@ -79,7 +79,7 @@ returns-in_err-folder-in-Err-clause-answer c =
 
 pub returns-in_err-node_of-in-Err : goal.returns-in_err-node_of-in-Err
 returns-in_err-node_of-in-Err c =
-    let rep = subst (λ m. Represents c.self.inside.tree.keyed m) c.self.view_is c.self.invariant in
+    let rep = stands_for _ _ c.self.view_is c.self.invariant in
     let names = segments c.args.path.now.bytes in
     let n = c.depth-count.result in
     let here = found_number c.args.self.now (take (n - 1) names) c.in_ok-folder-in-Err.folder c.in_ok-folder-in-Err.ensures in
@@ -87,7 +87,7 @@ returns-in_err-node_of-in-Err c =
 
 pub returns-then-is_file-clause-answer : goal.returns-then-is_file-clause-answer
 returns-then-is_file-clause-answer c =
-    let rep = subst (λ m. Represents c.self.inside.tree.keyed m) c.self.view_is c.self.invariant in
+    let rep = stands_for _ _ c.self.view_is c.self.invariant in
     let names = segments c.args.path.now.bytes in
     let n = c.depth-count.result in
     let e = whole names n c.depth-count.ensures c.if-count-eq0.false in
@@ -105,7 +105,7 @@ add_node-requires-clause-known c = (c.in_ok-node_of-in-Err.ensures.ok.0, c.in_ok
 
 pub add_node-requires-clause-free : goal.add_node-requires-clause-free
 add_node-requires-clause-free c =
-    let rep = subst (λ m. Represents c.self.inside.tree.keyed m) c.self.view_is c.self.invariant in
+    let rep = stands_for _ _ c.self.view_is c.self.invariant in
     let names = segments c.args.path.now.bytes in
     let n = c.depth-count.result in
     let e = whole names n c.depth-count.ensures c.if-count-eq0.false in
@@ -121,7 +121,7 @@ add_node-requires-clause-free c =
 
 pub invariant_of-self-in-Err : goal.invariant_of-self-in-Err
 invariant_of-self-in-Err c =
-    let rep = subst (λ m. Represents c.self.inside.tree.keyed m) c.self.view_is c.self.invariant in
+    let rep = stands_for _ _ c.self.view_is c.self.invariant in
     let names = segments c.args.path.now.bytes in
     let n = c.depth-count.result in
     let front = take (n - 1) names in
@@ -140,7 +140,7 @@ invariant_of-self-in-Err c =
 
 pub returns-in-Err-clause-answer : goal.returns-in-Err-clause-answer
 returns-in-Err-clause-answer c =
-    let rep = subst (λ m. Represents c.self.inside.tree.keyed m) c.self.view_is c.self.invariant in
+    let rep = stands_for _ _ c.self.view_is c.self.invariant in
     let names = segments c.args.path.now.bytes in
     let n = c.depth-count.result in
     let front = take (n - 1) names in
@@ -160,13 +160,13 @@ returns-in-Err-clause-answer c =
 
 -- the map that is left is one
 pub returns-then-not-is_file-clause-shape : goal.returns-then-not-is_file-clause-shape
-returns-then-not-is_file-clause-shape c = (subst (λ m. Represents c.self.inside.tree.keyed m) c.self.view_is c.self.invariant).is_map
+returns-then-not-is_file-clause-shape c = (stands_for _ _ c.self.view_is c.self.invariant).is_map
 
 pub returns-in_err-folder-in-Err-clause-shape : goal.returns-in_err-folder-in-Err-clause-shape
-returns-in_err-folder-in-Err-clause-shape c = (subst (λ m. Represents c.self.inside.tree.keyed m) c.self.view_is c.self.invariant).is_map
+returns-in_err-folder-in-Err-clause-shape c = (stands_for _ _ c.self.view_is c.self.invariant).is_map
 
 pub returns-then-is_file-clause-shape : goal.returns-then-is_file-clause-shape
-returns-then-is_file-clause-shape c = (subst (λ m. Represents c.self.inside.tree.keyed m) c.self.view_is c.self.invariant).is_map
+returns-then-is_file-clause-shape c = (stands_for _ _ c.self.view_is c.self.invariant).is_map
 
 pub returns-in-Ok-clause-shape : goal.returns-in-Ok-clause-shape
 returns-in-Ok-clause-shape c = (invariant_of-self-in-Ok c).is_map

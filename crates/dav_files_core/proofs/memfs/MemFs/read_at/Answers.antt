@@ -3,13 +3,12 @@ use Rattle.std.proofs.lemmas.Result.{err_from_is_err_and}
 use Rattle.dav_path_core.specs.Segments.{segments}
 use Rattle.dav_path_core.specs.declared.errors.FsError.{FsError}
 use Rattle.dav_path_core.specs.declared.errors.FsError.TheVariants.{InsufficientStorage}
-use Rattle.dav_files_core.specs.Represents.{Represents}
 use Rattle.dav_files_core.specs.Resources.{Node}
 use Rattle.dav_path_core.specs.Answers.{Tells}
 use Rattle.dav_files_core.proofs.Walking.{not_file}
 use Rattle.dav_files_core.proofs.Putting.{found_number}
-use Rattle.dav_files_core.proofs.Stepping.{lost, item_is}
-use Rattle.dav_files_core.proofs.ReadLaws.{read_lost, read_folder, read_file}
+use Rattle.dav_files_core.proofs.Stepping.{stands_for, lost, item_is}
+use Rattle.dav_files_core.proofs.ReadAnswers.{read_lost, read_folder, read_file}
 use Rattle.dav_files_core.proofs.memfs.MemFs.read_at.Goals as goal
 
 not_true : ¬ (false ≡ true)
@@ -30,13 +29,13 @@ returns-in_err-id c =
 
 pub returns-in_err-node : goal.returns-in_err-node
 returns-in_err-node c =
-    let rep = subst (λ m. Represents c.self.inside.tree.keyed m) c.self.view_is c.self.invariant in
+    let rep = stands_for _ _ c.self.view_is c.self.invariant in
     let here = found_number c.args.self.now (segments c.args.path.now.bytes) c.in_ok-id.id c.in_ok-id.ensures in
     absurd (lost c.self.inside.tree.keyed c.args.self.now rep (segments c.args.path.now.bytes) here.0 here.1 c.in_ok-id.id here.2 c.in_err-node.ensures.err.1)
 
 pub returns-then-not-is_file : goal.returns-then-not-is_file
 returns-then-not-is_file c =
-    let rep = subst (λ m. Represents c.self.inside.tree.keyed m) c.self.view_is c.self.invariant in
+    let rep = stands_for _ _ c.self.view_is c.self.invariant in
     let here = found_number c.args.self.now (segments c.args.path.now.bytes) c.in_ok-id.id c.in_ok-id.ensures in
     let n = c.in_ok-node.ensures.ok in
     let item = item_is c.self.inside.tree.keyed c.args.self.now rep (segments c.args.path.now.bytes) here.0 here.1 c.in_ok-id.id here.2 n.0 n.1 in
@@ -45,7 +44,7 @@ returns-then-not-is_file c =
 
 pub returns : goal.returns
 returns c =
-    let rep = subst (λ m. Represents c.self.inside.tree.keyed m) c.self.view_is c.self.invariant in
+    let rep = stands_for _ _ c.self.view_is c.self.invariant in
     let here = found_number c.args.self.now (segments c.args.path.now.bytes) c.in_ok-id.id c.in_ok-id.ensures in
     let n = c.in_ok-node.ensures.ok in
     let item = item_is c.self.inside.tree.keyed c.args.self.now rep (segments c.args.path.now.bytes) here.0 here.1 c.in_ok-id.id here.2 n.0 n.1 in

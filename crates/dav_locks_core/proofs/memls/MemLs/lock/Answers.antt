@@ -3,7 +3,7 @@ use Rattle.std.proofs.lemmas.Result.{err_from_is_err_and}
 use Rattle.dav_path_core.specs.Segments.{segments}
 use Rattle.dav_locks_core.specs.Lock.{Lock}
 use Rattle.dav_locks_core.specs.Locks.{lock_path, lock_conflicts}
-use Rattle.dav_locks_core.specs.LockTree.{node_at}
+use Rattle.dav_locks_core.specs.Private.LockTree.{node_at}
 use Rattle.dav_locks_core.specs.Calls.{Shows}
 use Rattle.dav_locks_core.proofs.LockLists.{IsSeenAs, seen-grown, seen-push, lock_free, lock_shown, on_err}
 use Rattle.dav_locks_core.proofs.memls.MemLs.lock.Given.{Over}
@@ -47,12 +47,12 @@ returns-in_err-lock-clause-unchanged g c = on_err c.from_residual-in_err-lock.re
 pub returns-in_err-lock-clause-exclusive : goal.returns-in_err-lock-clause-exclusive
 returns-in_err-lock-clause-exclusive g c = (ungranted g c).keeps.exclusive
 
-free : (g : Over) (c : goal.After-self-2-1 g) → lock_conflicts c.args.self.now (segments c.args.path.now.bytes) c.args.shared c.args.deep ≡ []
+free : (g : Over) (c : goal.After-self-1 g) → lock_conflicts c.args.self.now (segments c.args.path.now.bytes) c.args.shared c.args.deep ≡ []
 free g c =
     subst (λ locks. lock_conflicts locks (segments c.args.path.now.bytes) c.args.shared c.args.deep ≡ []) c.self.view_is
     (lock_free c.self.inside.tree.keyed c.self.inside.next c.self.invariant (segments c.args.path.now.bytes) c.args.shared c.args.deep c.requires c.in_ok-check_locks_to_path.ensures.free)
 
-granted : (g : Over) (c : goal.After-self-2-1 g) → IsSeenAs c.grant.new.tree.keyed (c.self.inside.next + 1) (c.args.self.now ++ c.in_ok-lock.lock ∷ [])
+granted : (g : Over) (c : goal.After-self-1 g) → IsSeenAs c.grant.new.tree.keyed (c.self.inside.next + 1) (c.args.self.now ++ c.in_ok-lock.lock ∷ [])
 granted g c =
     let l = c.in_ok-lock.lock in
     let before = seen-grown c.self.inside.tree.keyed c.get_or_create_path_node.new.tree.keyed c.self.inside.next c.args.self.now c.self.invariant c.self.view_is c.get_or_create_path_node.ensures.grown c.get_or_create_path_node.ensures.shape in

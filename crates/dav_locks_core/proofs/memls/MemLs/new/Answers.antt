@@ -1,6 +1,6 @@
 use Rattle.std.proofs.Common.{[], ap, ◌∙◌}
 use Rattle.dav_path_core.specs.Keyed.{lone}
-use Rattle.dav_locks_core.specs.LockTree.{LockTree, locks_at}
+use Rattle.dav_locks_core.specs.Private.LockTree.{LockTree, locks_at}
 use Rattle.dav_locks_core.proofs.Standing.{lone-none}
 use Rattle.dav_locks_core.proofs.LockLists.{IsSeenAs, seen-none}
 use Rattle.dav_locks_core.proofs.memls.MemLs.new.Goals as goal

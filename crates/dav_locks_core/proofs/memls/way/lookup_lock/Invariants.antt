@@ -1,6 +1,6 @@
 use Rattle.std.proofs.Common.{◌≡◌}
 use Rattle.dav_path_core.specs.Segments.{segments}
-use Rattle.dav_locks_core.specs.LockTree.{lookup_lock}
+use Rattle.dav_locks_core.specs.Private.LockTree.{lookup_lock}
 use Rattle.dav_locks_core.proofs.memls.way.lookup_lock.Given as goal
 
 -- nothing has passed so far

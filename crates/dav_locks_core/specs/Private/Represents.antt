@@ -5,7 +5,7 @@ use Rattle.std.specs.FinMap.{find, is_sorted}
 use Rattle.dav_path_core.specs.Keyed.{IsTree}
 use Rattle.dav_locks_core.specs.Lock.{Lock}
 use Rattle.dav_locks_core.specs.Locks.{lock_path}
-use Rattle.dav_locks_core.specs.LockTree.{NumberedLock, LockTree, locks_at, node_at, is_segment, all_granted, lock_list}
+use Rattle.dav_locks_core.specs.Private.LockTree.{NumberedLock, LockTree, locks_at, node_at, is_segment, all_granted, lock_list}
 use Rattle.dav_locks_core.specs.Exclusive.{Exclusive}
 
 -- the list and the locks at each node are in the order of their numbers, which are below the next; each lock at a node is of

@@ -1,14 +1,14 @@
 -- What a read at a path answers, by the number found there.
-use Rattle.std.proofs.Common.{is_some, true, false, ◌≡◌, ℕ, take, drop, Option, Some, None, Result, Ok, Err, refl, sym, ap, ◌∙◌}
+use Rattle.std.proofs.Common.{◌≡◌, ℕ, take, drop, Option, Some, Result, Ok, Err, refl, sym, ap, ◌∙◌}
 use Rattle.std.specs.Option.{ok_or}
 use Rattle.dav_path_core.specs.declared.errors.FsError.{FsError}
 use Rattle.dav_path_core.specs.declared.errors.FsError.TheVariants.{Forbidden}
 use Rattle.dav_files_core.specs.Commands.{metadata, read_at}
-use Rattle.dav_files_core.specs.Meta.{Meta, meta_at}
+use Rattle.dav_files_core.specs.Meta.{meta_at}
 use Rattle.dav_files_core.specs.Finding.{find, refusal_at}
 use Rattle.dav_files_core.specs.Outcomes.{◌>>=◌, only_file}
 use Rattle.dav_files_core.specs.Resources.{Resource, ResourceMap, at_path}
-use Rattle.dav_files_core.specs.TreeCalls.{number_of}
+use Rattle.dav_files_core.specs.Private.TreeCalls.{number_of}
 use Rattle.dav_path_core.specs.Fronts.{Path}
 use Rattle.dav_files_core.specs.declared.memfs.Kind.TheVariants.{Folder, File}
 
@@ -39,19 +39,3 @@ meta_lost m p e h = by (find m p) refl h
 
 pub meta_there : (m : ResourceMap) (p : Path) (r : Resource) → at_path m p ≡ Some r → metadata m p ≡ Ok (meta_at r.node)
 meta_there m p r here = ap (λ (o : Option Resource). ok_or o (refusal_at m p) >>= (λ (r : Resource). Ok (meta_at r.node))) here
-
--- it is Ok exactly where something is there
-pub meta_some : (m : ResourceMap) (p : Path) (x : Meta) → metadata m p ≡ Ok x → is_some (at_path m p) ≡ true
-meta_some m p x h = by (at_path m p) refl
-  where
-    by : (o : Option Resource) → at_path m p ≡ o → is_some o ≡ true
-    by (Some r) e = refl
-    by None e =
-        let both : ◌≡◌ {A = Result Meta FsError} (Ok x) (Err (refusal_at m p)) = sym h ∙ ap (λ (o : Option Resource). ok_or o (refusal_at m p) >>= (λ (r : Resource). Ok (meta_at r.node))) e in absurd (cc)
-
-pub meta_none : (m : ResourceMap) (p : Path) (e : FsError) → metadata m p ≡ Err e → is_some (at_path m p) ≡ false
-meta_none m p e h = by (at_path m p) refl
-  where
-    by : (o : Option Resource) → at_path m p ≡ o → is_some o ≡ false
-    by None is = refl
-    by (Some r) is = let both : ◌≡◌ {A = Result Meta FsError} (Err e) (Ok (meta_at r.node)) = sym h ∙ meta_there m p r is in absurd (cc)

@@ -8,7 +8,7 @@ use Rattle.dav_path_core.specs.Keyed.{with_item_at}
 use Rattle.dav_files_core.specs.Resources.{Node, ResourceMap}
 use Rattle.dav_files_core.specs.Finding.{find}
 use Rattle.dav_files_core.specs.Outcomes.{◌>>=◌}
-use Rattle.dav_files_core.specs.Represents.{FileTree, FileEntry}
+use Rattle.dav_files_core.specs.Private.Represents.{FileTree, FileEntry}
 
 -- the number of the entry at a path
 abbrev pub number_of : ResourceMap → Path → Result ℕ FsError

@@ -8,7 +8,7 @@ use Rattle.dav_files_core.specs.Commands.{put, put_at}
 use Rattle.dav_files_core.specs.Finding.{refusal_at}
 use Rattle.dav_files_core.specs.Outcomes.{◌>>=◌, changed}
 use Rattle.dav_files_core.specs.Resources.{Resource, ResourceMap, at_path}
-use Rattle.dav_files_core.specs.TreeCalls.{number_of}
+use Rattle.dav_files_core.specs.Private.TreeCalls.{number_of}
 use Rattle.dav_path_core.specs.Fronts.{Path}
 use Rattle.dav_files_core.specs.declared.memfs.Kind.TheVariants.{Folder, File}
 

@@ -1,0 +1,3 @@
+-- Words that private contracts alone name.
+pub mod Represents
+pub mod TreeCalls

@@ -63,7 +63,7 @@ impl Model for MemFs {
 }
 
 impl MemFs {
-    /// A root folder alone, with both times `now`. `InsufficientStorage` for want of memory.
+    /// A root folder alone, with both times `now`. `InsufficientStorage` where it is out of memory.
     pub fn new(alloc: Global, now: Moment) -> FsResult<MemFs>
         ensures answer { MatchResult result (λ m. m ≡ start now.0) (λ e. e ≡ FsError.InsufficientStorage) }
         ensures shape { IfOk result IsResourceMap }
@@ -97,7 +97,7 @@ impl MemFs {
     /// with both times `now` (RFC 4918 section 9.7).
     ///
     /// For a missing file its folder is found: `NotFound` where the longest front of the folder's path that is there is a
-    /// folder, `Forbidden` where it is a file. `Forbidden` for a folder at the path. `InsufficientStorage` for want of
+    /// folder, `Forbidden` where it is a file. `Forbidden` for a folder at the path. `InsufficientStorage` where it is out of
     /// memory or numbers, before any other refusal.
     pub fn put(&mut self, path: &DavPath, bytes: &[u8], now: Moment) -> FsResult<()>
         ensures answer { AnswersAs (λ _. tt) result (put self.old (segments path.now.bytes) bytes.now now.0) self.old self.new }
@@ -144,7 +144,7 @@ impl MemFs {
     /// The bytes of a file from min(`at`, length) to min(`at` + `count`, length), with the sum unbounded.
     ///
     /// `NotFound` where the longest front of the path that is there is a folder, `Forbidden` where it is a file and for a
-    /// folder at the path, `InsufficientStorage` for want of memory.
+    /// folder at the path, `InsufficientStorage` where it is out of memory.
     pub fn read_at(&self, path: &DavPath, at: usize, count: usize) -> FsResult<Bytes>
         ensures { Tells (λ b. b) result (read_at self.now (segments path.now.bytes) at count) }
     {

@@ -64,7 +64,7 @@ impl Model for MemLs {
 }
 
 impl MemLs {
-    /// No locks. `InsufficientStorage` for want of memory.
+    /// No locks. `InsufficientStorage` where it is out of memory.
     pub fn new(alloc: Global) -> FsResult<MemLs>
         ensures empty { IfOk result (λ locks. locks ≡ []) }
         ensures exclusive { IfOk result Exclusive }

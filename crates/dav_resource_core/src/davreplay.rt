@@ -9,6 +9,7 @@ mod playing;
 
 use crate::guarded::Guarded;
 use dav_files_core::fs::Moment;
+use labels::Labels;
 use lines::{Line, line_of};
 use numbers::number;
 use playing::Player;
@@ -99,7 +100,7 @@ fn play<I: Read + Drop, O: Write + Drop>(
         alloc,
         stores,
         rng: Pcg64::seed_from_u64(seed),
-        granted: Vec::new(alloc),
+        labels: Labels::new(alloc),
     };
     let mut input = BufReader::new(alloc, input)?;
     let mut output = BufWriter::new(alloc, output)?;

@@ -162,7 +162,7 @@ impl Model for Guarded {
 }
 
 impl Guarded {
-    /// A root folder alone, with both times `now`, and no lock. `InsufficientStorage` for want of memory.
+    /// A root folder alone, with both times `now`, and no lock. `InsufficientStorage` where it is out of memory.
     pub fn new(alloc: Global, now: Moment) -> FsResult<Guarded>
         ensures answer { MatchResult result (λ g. g ≡ start_stores now.0) (λ e. e ≡ FsError.InsufficientStorage) }
         ensures shape { IfOk result (λ g. IsResourceMap g.map) }
@@ -172,7 +172,7 @@ impl Guarded {
         Ok(Guarded { alloc, fs, locks })
     }
 
-    /// Answers one request. Locks in the way come before any other refusal but want of memory. A granted lock alone draws
+    /// Answers one request. Locks in the way come before any other refusal but out of memory. A granted lock alone draws
     /// from the generator; on every other answer it stays as it was.
     pub fn apply<R: Rng>(&mut self, request: &Request, rng: &mut R) -> Result<Reply, Refusal>
         ensures step { Step (state_of self.old (R.stream rng.old)) (request_of request.entry.now) (answer_of result)

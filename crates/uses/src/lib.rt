@@ -22,6 +22,8 @@ mod long_paths;
 mod method_sets;
 #[cfg(test)]
 mod path_clones;
+#[cfg(test)]
+mod plenty;
 pub mod putting;
 pub mod reading_headers;
 #[cfg(test)]

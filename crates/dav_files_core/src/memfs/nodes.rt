@@ -113,7 +113,7 @@ pub(super) fn write_file(
     Ok(())
 }
 
-/// Adds a member to a folder that has none of that name. `InsufficientStorage` for want of memory or numbers.
+/// Adds a member to a folder that has none of that name. `InsufficientStorage` where it is out of memory or numbers.
 pub(super) fn add_node(
     tree: &mut Tree<Bytes, Node>,
     folder: u64,

@@ -1,45 +1,66 @@
 //! Labels of locks: `tN` stands for the token of the lock that was granted as the N-th.
 use super::numbers::number;
 use std::alloc::{AllocError, Global};
+use std::collections::HashMap;
 
-/// The tokens that labels stand for.
-pub(super) fn tokens_of(
+/// The locks granted so far, by their tokens.
+#[derive(Drop)]
+pub(super) struct Labels {
     alloc: Global,
-    granted: &[String],
-    labels: &[&str],
-) -> Result<Vec<String>, AllocError> {
-    let mut tokens = Vec::new(alloc);
-    for label in labels {
-        tokens.push(token_of(alloc, granted, label)?)?;
+    /// In the order of granting.
+    tokens: Vec<String>,
+    /// Of each token, the smallest number of a lock that has it.
+    numbers: HashMap<String, usize>,
+}
+
+impl Labels {
+    pub(super) fn new(alloc: Global) -> Labels {
+        Labels {
+            alloc,
+            tokens: Vec::new(alloc),
+            numbers: HashMap::new(alloc),
+        }
     }
-    Ok(tokens)
-}
 
-/// The token that a label stands for; where no such lock was granted its own text, which is no token.
-pub(super) fn token_of(
-    alloc: Global,
-    granted: &[String],
-    label: &str,
-) -> Result<String, AllocError> {
-    match granted_at(granted, label) {
-        Some(token) => String::from_str(alloc, token),
-        None => String::from_str(alloc, label),
+    /// Keeps the token of a lock that was granted, and gives the number of its label.
+    pub(super) fn add(&mut self, token: &str) -> Result<usize, AllocError> {
+        self.tokens.push(String::from_str(self.alloc, token)?)?;
+        if let Some(number) = self.numbers.get(token) {
+            return Ok(*number);
+        }
+        let number = self.tokens.len();
+        let token = String::from_str(self.alloc, token)?;
+        self.numbers.insert(token, number)?;
+        Ok(number)
     }
-}
 
-// The token of the lock that a label names, if it was granted.
-fn granted_at<'a>(granted: &'a [String], label: &str) -> Option<&'a str> {
-    let place = usize::try_from(number(label.strip_prefix("t")?)?)
-        .ok()?
-        .checked_sub(1)?;
-    Some(granted.get(place)?.as_str())
-}
+    /// The number of a token's label. Every lock of the stores was granted here; one that wasn't would be 0.
+    pub(super) fn number_of(&self, token: &str) -> usize {
+        self.numbers.get(token).copied().unwrap_or(0)
+    }
 
-/// The label of a token, without its `t`: the smallest number of a granted lock whose token is equal. Every lock of the
-/// stores was granted here; one that wasn't would be 0.
-pub(super) fn label_number(granted: &[String], token: &str) -> usize {
-    match granted.iter().position(|other| other.as_str() == token) {
-        Some(place) => place + 1,
-        None => 0,
+    /// The tokens that labels stand for.
+    pub(super) fn tokens_of(&self, labels: &[&str]) -> Result<Vec<String>, AllocError> {
+        let mut tokens = Vec::new(self.alloc);
+        for label in labels {
+            tokens.push(self.token_of(label)?)?;
+        }
+        Ok(tokens)
+    }
+
+    /// The token that a label stands for; where no such lock was granted its own text, which is no token.
+    pub(super) fn token_of(&self, label: &str) -> Result<String, AllocError> {
+        match self.granted_at(label) {
+            Some(token) => String::from_str(self.alloc, token),
+            None => String::from_str(self.alloc, label),
+        }
+    }
+
+    // The token of the lock that a label names, if it was granted.
+    fn granted_at(&self, label: &str) -> Option<&str> {
+        let place = usize::try_from(number(label.strip_prefix("t")?)?)
+            .ok()?
+            .checked_sub(1)?;
+        Some(self.tokens.get(place)?.as_str())
     }
 }

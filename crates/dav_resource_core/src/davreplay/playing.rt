@@ -1,5 +1,5 @@
 //! Answers to the lines of a scenario.
-use super::labels::{label_number, token_of, tokens_of};
+use super::labels::Labels;
 use super::lines::{Action, Asked};
 use super::{OUT_OF_MEMORY, Stop};
 use crate::guarded::{Command, Guarded, Refusal, Reply, Request};
@@ -10,13 +10,13 @@ use rand_pcg::Pcg64;
 use std::alloc::{AllocError, Global};
 use std::io::{BufWriter, Write};
 
-/// The stores, the generator of lock tokens, and the tokens of the locks granted so far, in that order.
+/// The stores, the generator of lock tokens, and the labels of the locks granted so far.
 #[derive(Drop)]
 pub(super) struct Player {
     pub(super) alloc: Global,
     pub(super) stores: Guarded,
     pub(super) rng: Pcg64,
-    pub(super) granted: Vec<String>,
+    pub(super) labels: Labels,
 }
 
 impl Player {
@@ -26,7 +26,7 @@ impl Player {
         asked: Asked<'_>,
         output: &mut BufWriter<O>,
     ) -> Result<(), Stop> {
-        match request_of(self.alloc, &self.granted, asked) {
+        match request_of(self.alloc, &self.labels, asked) {
             Ok(request) => self.run(&request, output),
             Err(Unread::BadPath(error)) => Ok(writeln!(output, "bad path {error}")?),
             Err(Unread::OutOfMemory) => Ok(output.write_all(OUT_OF_MEMORY)?),
@@ -42,7 +42,7 @@ impl Player {
             Ok(Reply::Done) => Ok(output.write_all(b"ok\n")?),
             Ok(Reply::Bytes(bytes)) => write_bytes(self.alloc, &bytes, output),
             Ok(Reply::Lock(lock)) => self.write_granted(lock, output),
-            Err(refusal) => write_refusal(&self.granted, &refusal, output),
+            Err(refusal) => write_refusal(&self.labels, &refusal, output),
         }
     }
 
@@ -52,11 +52,8 @@ impl Player {
         lock: DavLock,
         output: &mut BufWriter<O>,
     ) -> Result<(), Stop> {
-        let token = lock.token.clone()?;
-        if self.granted.push(token).is_err() {
-            return Err(Stop::OutOfMemory);
-        }
-        Ok(writeln!(output, "ok t{}", label_number(&self.granted, &lock.token))?)
+        let number = self.labels.add(&lock.token)?;
+        Ok(writeln!(output, "ok t{number}")?)
     }
 }
 
@@ -85,7 +82,7 @@ impl From<AllocError> for Unread {
 }
 
 // The request of a line, its paths read and its labels replaced by the tokens that they stand for.
-fn request_of(alloc: Global, granted: &[String], asked: Asked<'_>) -> Result<Request, Unread> {
+fn request_of(alloc: Global, granted: &Labels, asked: Asked<'_>) -> Result<Request, Unread> {
     let Asked {
         now,
         principal,
@@ -93,7 +90,7 @@ fn request_of(alloc: Global, granted: &[String], asked: Asked<'_>) -> Result<Req
         action,
     } = asked;
     let command = command_of(alloc, granted, action)?;
-    let tokens = tokens_of(alloc, granted, &labels)?;
+    let tokens = granted.tokens_of(&labels)?;
     Ok(Request {
         principal,
         tokens,
@@ -102,7 +99,7 @@ fn request_of(alloc: Global, granted: &[String], asked: Asked<'_>) -> Result<Req
     })
 }
 
-fn command_of(alloc: Global, granted: &[String], action: Action<'_>) -> Result<Command, Unread> {
+fn command_of(alloc: Global, granted: &Labels, action: Action<'_>) -> Result<Command, Unread> {
     match action {
         Action::Put { path, bytes } => {
             let path = DavPath::new(alloc, path)?;
@@ -129,7 +126,7 @@ fn command_of(alloc: Global, granted: &[String], action: Action<'_>) -> Result<C
         }
         Action::Unlock { path, label } => {
             let path = DavPath::new(alloc, path)?;
-            let token = token_of(alloc, granted, label)?;
+            let token = granted.token_of(label)?;
             Ok(Command::Unlock { path, token })
         }
     }
@@ -151,17 +148,13 @@ fn write_bytes<O: Write + Drop>(
 }
 
 fn write_refusal<O: Write + Drop>(
-    granted: &[String],
+    labels: &Labels,
     refusal: &Refusal,
     output: &mut BufWriter<O>,
 ) -> Result<(), Stop> {
     match refusal {
         Refusal::Fs(error) => Ok(writeln!(output, "error {} {error}", error.status().as_u16())?),
-        Refusal::Locked(lock) => Ok(writeln!(
-            output,
-            "locked t{}",
-            label_number(granted, &lock.token)
-        )?),
+        Refusal::Locked(lock) => Ok(writeln!(output, "locked t{}", labels.number_of(&lock.token))?),
         Refusal::NoLock => Ok(output.write_all(b"no lock\n")?),
         Refusal::OutOfMemory => Ok(output.write_all(OUT_OF_MEMORY)?),
     }

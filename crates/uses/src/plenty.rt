@@ -1,0 +1,135 @@
+//! Long, wide and deep inputs, where there is memory: no call has a limit of its own.
+use dav_headers_core::davheaders::{ContentLanguage, ETagList, If, IfMatch, Timeout};
+use dav_resource_core::davpath::DavPath;
+use dav_resource_core::fs::Moment;
+use dav_resource_core::memfs::MemFs;
+use dav_resource_core::memls::MemLs;
+use dav_resource_core::tree::{ROOT_ID, Tree};
+use http_header::HeaderValue;
+use rand_core::SeedableRng;
+use rand_pcg::Pcg64;
+use std::alloc::Global;
+use std::test::Fail;
+
+const MANY: usize = 10_000;
+
+/// So many copies of a text, one after another, between two others.
+fn repeated(alloc: Global, before: &str, text: &str, after: &str) -> Result<String, Fail> {
+    let mut whole = String::from_str(alloc, before)?;
+    for _ in 0..MANY {
+        whole.push_str(text)?;
+    }
+    whole.push_str(after)?;
+    Ok(whole)
+}
+
+fn one_value(alloc: Global, text: &str) -> Result<Vec<HeaderValue>, Fail> {
+    Ok(vec![in alloc; HeaderValue::from_str(alloc, text)?]?)
+}
+
+#[test]
+fn reads_paths_of_many_segments(rt: HostRuntime) -> Result<(), Fail> {
+    let alloc = rt.alloc();
+    let mut path = DavPath::new(alloc, &repeated(alloc, "", "/ab", "")?)?;
+    assert_eq!(rt; path.segments().count(), MANY);
+    assert_eq!(rt; path.clone()?.segments().count(), MANY);
+    assert_eq!(rt; path.parent()?.segments().count(), MANY - 1);
+    assert_eq!(rt; path.as_url_string(alloc)?.len(), 3 * MANY);
+    assert!(rt; path.as_pathbuf(alloc)?.is_some());
+    assert!(rt; path.set_prefix("/ab").is_ok());
+    assert_eq!(rt; path.segments().count(), MANY - 1);
+    Ok(())
+}
+
+#[test]
+fn keeps_many_children(rt: HostRuntime) -> Result<(), Fail> {
+    let mut tree: Tree<u64, u64> = Tree::new(rt.alloc(), 0)?;
+    for key in 0..MANY as u64 {
+        tree.add_child(ROOT_ID, key, key, false)?;
+    }
+    assert_eq!(rt; tree.get_children(ROOT_ID)?.count(), MANY);
+    assert_eq!(rt; tree.get_child(ROOT_ID, &0)?, 2);
+    assert!(rt; tree.move_node(2, 3, 0, false).is_ok());
+    assert!(rt; tree.delete_node(2).is_ok());
+    assert_eq!(rt; tree.add_child(ROOT_ID, 1, 7, true)?, 10_002);
+    assert_eq!(rt; tree.get_children(ROOT_ID)?.count(), MANY - 1);
+    Ok(())
+}
+
+#[test]
+fn keeps_a_deep_chain(rt: HostRuntime) -> Result<(), Fail> {
+    let mut tree: Tree<u64, u64> = Tree::new(rt.alloc(), 0)?;
+    let mut at = ROOT_ID;
+    for turn in 0..MANY as u64 {
+        at = tree.add_child(at, 0, turn, false)?;
+    }
+    assert_eq!(rt; at, 10_001);
+    assert_eq!(rt; *tree.get_node(at)?, 9_999);
+    assert!(rt; tree.move_node(5_000, ROOT_ID, 1, false).is_ok());
+    assert_eq!(rt; tree.parent_of(5_000)?, Some(ROOT_ID));
+    assert!(rt; tree.delete_subtree(2).is_ok() && tree.get_node(4_999).is_err());
+    assert!(rt; tree.delete_subtree(5_000).is_ok() && tree.get_node(at).is_err());
+    assert_eq!(rt; tree.first_child(ROOT_ID)?, None);
+    Ok(())
+}
+
+#[test]
+fn reads_many_conditions(rt: HostRuntime) -> Result<(), Fail> {
+    let alloc = rt.alloc();
+    let header = If::decode(
+        alloc,
+        &one_value(alloc, &repeated(alloc, "(", "<a:b>", ")")?)?,
+    )?;
+    assert_eq!(rt; header.0.len(), 1);
+    assert_eq!(rt; header.0[0].conditions.len(), MANY);
+    assert!(rt; header.clone()?.strong_eq(&header));
+    Ok(())
+}
+
+#[test]
+fn reads_long_lists(rt: HostRuntime) -> Result<(), Fail> {
+    let alloc = rt.alloc();
+    let tags = IfMatch::decode(
+        alloc,
+        &one_value(alloc, &repeated(alloc, "", "\"a\",", "\"b\"")?)?,
+    )?;
+    match &tags.0 {
+        ETagList::Tags(tags) => assert_eq!(rt; tags.len(), MANY + 1),
+        ETagList::Star => assert!(rt; false),
+    }
+    assert_eq!(rt; tags.encode(alloc)?.len(), 5 * MANY + 3);
+    let text = repeated(alloc, "", "en,", "de")?;
+    let languages = ContentLanguage::decode(alloc, &one_value(alloc, &text)?)?;
+    assert_eq!(rt; languages.iter_langs().len(), MANY + 1);
+    let text = repeated(alloc, "", "Second-7,", "Infinite")?;
+    let timeout = Timeout::decode(alloc, &one_value(alloc, &text)?)?;
+    assert_eq!(rt; timeout.0.len(), MANY + 1);
+    Ok(())
+}
+
+#[test]
+fn keeps_large_files(rt: HostRuntime) -> Result<(), Fail> {
+    let alloc = rt.alloc();
+    let mut files = MemFs::new(alloc, Moment(1))?;
+    let path = DavPath::new(alloc, "/a")?;
+    let bytes = vec![in alloc; 7u8; 10_000_000]?;
+    files.put(&path, &bytes, Moment(2))?;
+    assert_eq!(rt; files.metadata(&path)?.length, 10_000_000);
+    assert!(rt; files.read_at(&path, 0, 20_000_000)?.as_slice() == bytes.as_slice());
+    Ok(())
+}
+
+#[test]
+fn grants_many_locks(rt: HostRuntime) -> Result<(), Fail> {
+    let alloc = rt.alloc();
+    let mut locks = MemLs::new(alloc)?;
+    let mut rng = Pcg64::seed_from_u64(1);
+    let path = DavPath::new(alloc, "/a")?;
+    for _ in 0..MANY {
+        let answer = locks.lock(&path, None, None, None, true, false, Moment(5), &mut rng);
+        assert!(rt; answer.is_ok());
+    }
+    let answer = locks.lock(&path, None, None, None, false, false, Moment(5), &mut rng);
+    assert!(rt; answer.is_err());
+    Ok(())
+}

@@ -14,14 +14,14 @@ abbrev pub language_of : List ℕ → Option (List ℕ)
 language_of piece = when (is_language piece) piece
 
 -- the languages of a text, one a piece
-abbrev pub languages_of : List ℕ → Option (List (List ℕ))
-languages_of bytes = text_of bytes >>= λ text. every language_of (pieces text)
+abbrev pub languages_of_bytes : List ℕ → Option (List (List ℕ))
+languages_of_bytes bytes = text_of bytes >>= λ text. every language_of (pieces text)
 
 -- the languages of the values, one value after another
-abbrev pub languages_of_values : List FieldValue → Option (List (List ℕ))
-languages_of_values values = every (λ value. languages_of value.bytes) values >>= λ lists. Some (flat_map (λ list. list) lists)
+abbrev pub languages_of_all_values : List FieldValue → Option (List (List ℕ))
+languages_of_all_values values = every (λ value. languages_of_bytes value.bytes) values >>= λ lists. Some (flat_map (λ list. list) lists)
 
 -- the languages of one or more values
 abbrev pub language_header : List FieldValue → Option (List (List ℕ))
 language_header [] = None
-language_header (value ∷ values) = languages_of_values (value ∷ values)
+language_header (value ∷ values) = languages_of_all_values (value ∷ values)

@@ -4,9 +4,7 @@ pub mod Destinations
 pub mod Gives
 pub mod IfBytes
 pub mod IfGrammar
-pub mod IfLocating
 pub mod IfRanges
-pub mod IfReading
 pub mod IfStrongEq
 pub mod IfValues
 pub mod Languages
@@ -15,6 +13,7 @@ pub mod Optional
 pub mod Overwrites
 pub mod Pairwise
 pub mod Pieces
+pub mod Private
 pub mod TagLists
 pub mod Tags
 pub mod Timeouts

@@ -29,5 +29,5 @@ pub use names::{
 pub use overwrites::Overwrite;
 pub use tag_lists::{ETagList, IfMatch, IfNoneMatch};
 pub use texts::{ContentLocation, ContentType, LockToken, XLitmus};
-pub use timeouts::{DavTimeout, Timeout, written_timeouts_are_read};
-pub use update_range::{XUpdateRange, written_ranges_are_read};
+pub use timeouts::{DavTimeout, Timeout, timeouts_round_trip};
+pub use update_range::{XUpdateRange, ranges_round_trip};

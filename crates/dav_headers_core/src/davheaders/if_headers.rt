@@ -4,7 +4,7 @@ ghost use Rattle.dav_headers_core.specs.Gives.{Gives};
 ghost use Rattle.dav_headers_core.specs.Pairwise.{pairwise};
 ghost use Rattle.dav_headers_core.specs.IfBytes.{Group};
 ghost use Rattle.dav_headers_core.specs.IfGrammar.{IfText};
-ghost use Rattle.dav_headers_core.specs.IfLocating as locating;
+ghost use Rattle.dav_headers_core.specs.Private.IfLocating as locating;
 ghost use Rattle.dav_headers_core.specs.IfValues.{located, Located, ReadsAs};
 ghost use Rattle.dav_headers_core.specs.IfStrongEq.{list_strong_eq};
 ghost use Rattle.dav_headers_core.specs.declared.davheaders.errors.HeaderError.TheVariants.{OutOfMemory};

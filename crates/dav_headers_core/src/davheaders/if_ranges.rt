@@ -12,19 +12,21 @@ use http_header::HeaderValue;
 use httpdate::HttpDate;
 use std::alloc::{AllocError, Global};
 
-/// What a resource has to be unchanged by for a part of it to be sent (RFC 9110 section 13.1.5).
+/// How a client knows the resource of which it wants a part: the part alone is sent where the resource is still the same, and
+/// else the whole (RFC 9110 section 13.1.5).
 #[derive(Debug, Drop)]
 pub enum IfRange {
-    /// It has this tag.
+    /// By its tag.
     ETag(ETag),
-    /// It was changed last at this second.
+    /// By the second of its last change.
     Date(HttpDate),
 }
 
 fn range_of(alloc: Global, text: &str) -> Result<IfRange, HeaderError>
     requires { IsAscii text.now }
     ensures ok { IfOk result (λ range. TextSays text.now range) }
-    ensures only { (range : Range) → TextSays text.now range → MatchResult result (λ r. shown r ≡ shown range) (λ e. e ≡ HeaderError.OutOfMemory) }
+    ensures only { (range : Range) → TextSays text.now range
+        → MatchResult result (λ r. shown r ≡ shown range) (λ e. e ≡ HeaderError.OutOfMemory) }
 {
     if let Ok(date) = text.parse::<HttpDate>() {
         return Ok(IfRange::Date(date));

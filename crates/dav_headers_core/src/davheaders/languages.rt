@@ -6,7 +6,7 @@ ghost use Rattle.dav_headers_core.specs.Gives.{Gives};
 ghost use Rattle.dav_headers_core.specs.Optional.{every};
 ghost use Rattle.dav_headers_core.specs.Values.{is_text_byte, written};
 ghost use Rattle.dav_headers_core.specs.Pieces.{pieces, joined};
-ghost use Rattle.dav_headers_core.specs.Languages.{is_language, language_of, languages_of, languages_of_values, language_header};
+ghost use Rattle.dav_headers_core.specs.Languages.{is_language, language_of, languages_of_bytes, languages_of_all_values, language_header};
 
 use super::HeaderError;
 use super::values::{is_text, pieces, text_of, value_of};
@@ -44,7 +44,7 @@ fn language_of(piece: &str) -> Option<&str>
     }
 }
 
-fn languages_among(alloc: Global, pieces: &[&str]) -> Result<Vec<String>, HeaderError>
+fn languages_of_pieces(alloc: Global, pieces: &[&str]) -> Result<Vec<String>, HeaderError>
     ensures { Gives (λ languages. map string_bytes languages.items) result (every language_of (map (λ piece. piece.now) pieces.now)) }
 {
     let mut languages = Vec::new(alloc);
@@ -57,27 +57,30 @@ fn languages_among(alloc: Global, pieces: &[&str]) -> Result<Vec<String>, Header
     Ok(languages)
 }
 
-fn languages_in(alloc: Global, text: &str) -> Result<Vec<String>, HeaderError>
+fn languages_of_text(alloc: Global, text: &str) -> Result<Vec<String>, HeaderError>
     requires { IsVisibleAscii text.now }
     ensures { Gives (λ languages. map string_bytes languages.items) result (every language_of (pieces text.now)) }
 {
     let pieces = pieces(alloc, text)?;
-    languages_among(alloc, &pieces)
+    languages_of_pieces(alloc, &pieces)
 }
 
-fn languages_of(alloc: Global, value: &HeaderValue) -> Result<Vec<String>, HeaderError>
-    ensures { Gives (λ languages. map string_bytes languages.items) result (languages_of value.now.bytes) }
+fn languages_of_value(alloc: Global, value: &HeaderValue) -> Result<Vec<String>, HeaderError>
+    ensures { Gives (λ languages. map string_bytes languages.items) result (languages_of_bytes value.now.bytes) }
 {
     let text = text_of(value).ok_or(HeaderError::Invalid)?;
-    languages_in(alloc, text)
+    languages_of_text(alloc, text)
 }
 
-fn languages_of_values(alloc: Global, values: &[HeaderValue]) -> Result<Vec<String>, HeaderError>
-    ensures { Gives (λ languages. map string_bytes languages.items) result (languages_of_values values.now) }
+fn languages_of_all_values(
+    alloc: Global,
+    values: &[HeaderValue],
+) -> Result<Vec<String>, HeaderError>
+    ensures { Gives (λ languages. map string_bytes languages.items) result (languages_of_all_values values.now) }
 {
     let mut languages = Vec::new(alloc);
     for value in values {
-        let mut more = languages_of(alloc, value)?;
+        let mut more = languages_of_value(alloc, value)?;
         languages.append(&mut more)?;
     }
     Ok(languages)
@@ -88,13 +91,13 @@ impl ContentLanguage {
     /// or where a piece between commas, without spaces and tabs at its ends, is neither of two bytes nor longer than four bytes
     /// with `-` as its third.
     pub fn from_str(alloc: Global, value: &str) -> Result<ContentLanguage, HeaderError>
-        ensures { Gives (λ languages. languages) result (languages_of value.now) }
+        ensures { Gives (λ languages. languages) result (languages_of_bytes value.now) }
     {
         if !is_text(value.as_bytes()) {
             return Err(HeaderError::Invalid);
         }
         Ok(ContentLanguage {
-            languages: languages_in(alloc, value)?,
+            languages: languages_of_text(alloc, value)?,
         })
     }
 
@@ -114,7 +117,7 @@ impl ContentLanguage {
             return Err(HeaderError::Invalid);
         }
         Ok(ContentLanguage {
-            languages: languages_of_values(alloc, values)?,
+            languages: languages_of_all_values(alloc, values)?,
         })
     }
 

@@ -1,5 +1,5 @@
-//! The names of the headers, in lower case, as header maps keep them. No name takes memory; the allocator stands here as in
-//! every call of these modules that answers a `Result`.
+//! The names of the headers, in lower case, as header maps keep them. Each is always Ok, and takes no memory; it takes the
+//! allocator and answers a `Result` as most calls on headers do.
 ghost use Rattle.std.specs.Prelude.{◌≡◌, codes};
 
 use super::HeaderError;

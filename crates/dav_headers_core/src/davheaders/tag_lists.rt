@@ -11,20 +11,20 @@ use super::{ETag, HeaderError};
 use http_header::HeaderValue;
 use std::alloc::{AllocError, Global};
 
-/// Any tag, or tags in order.
+/// The tags that a condition names: each of these, or any that there is.
 #[derive(Debug, Drop)]
 pub enum ETagList {
-    /// These tags.
+    /// These tags, in the order of the values.
     Tags(Vec<ETag>),
     /// Any tag: `*`.
     Star,
 }
 
-/// Which tags a resource has to have one of (RFC 9110 section 13.1.1).
+/// The request is to be done only where the resource has one of these tags (RFC 9110 section 13.1.1).
 #[derive(Debug, Drop)]
 pub struct IfMatch(pub ETagList);
 
-/// Which tags a resource may not have one of (RFC 9110 section 13.1.2).
+/// The request is to be done only where the resource has none of these tags (RFC 9110 section 13.1.2).
 #[derive(Debug, Drop)]
 pub struct IfNoneMatch(pub ETagList);
 

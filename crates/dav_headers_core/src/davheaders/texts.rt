@@ -1,4 +1,4 @@
-//! Headers whose value is any text.
+//! Headers that are kept as the text of their one value, with no form asked of it.
 ghost use Rattle.std.specs.Prelude.{string_bytes};
 ghost use Rattle.dav_headers_core.specs.Gives.{Gives};
 ghost use Rattle.dav_headers_core.specs.Values.{one_text, written};
@@ -29,7 +29,7 @@ impl ContentType {
     }
 }
 
-/// Where what a body shows stands, as a text (RFC 9110 section 8.7).
+/// The address of the resource that a body shows, as its text (RFC 9110 section 8.7).
 #[derive(Debug, Clone, Drop, PartialEq, Eq)]
 pub struct ContentLocation(pub String);
 
@@ -50,7 +50,7 @@ impl ContentLocation {
     }
 }
 
-/// The token of a lock, as the text that the header has, angle brackets and all (RFC 4918 section 10.5).
+/// The token of a lock, as the header spells it: with its angle brackets (RFC 4918 section 10.5).
 #[derive(Debug, Clone, Drop, PartialEq, Eq)]
 pub struct LockToken(pub String);
 
@@ -71,7 +71,7 @@ impl LockToken {
     }
 }
 
-/// The name of a test of the suite litmus.
+/// The name of the test that sends the request, in the test suite litmus.
 #[derive(Debug, Clone, Drop, PartialEq, Eq)]
 pub struct XLitmus(pub String);
 

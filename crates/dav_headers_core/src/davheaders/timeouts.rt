@@ -111,7 +111,7 @@ impl Clone for Timeout {
 }
 
 /// The law that timeouts whose numbers are within u32 are read as they are written, where there is at least one.
-pub fn written_timeouts_are_read()
+pub fn timeouts_round_trip()
     ensures { (timeouts : List Wanted) → timeouts ≢ [] → All IsWithin timeouts
         → timeout_header (plain_value (timeouts_text timeouts) ∷ []) ≡ Some timeouts }
 {}

@@ -14,16 +14,16 @@ use super::values::{one_text, value_of};
 use http_header::HeaderValue;
 use std::alloc::{AllocError, Global};
 
-/// Which bytes of a file a request writes (of SabreDAV's partial updates, in no RFC).
+/// Which bytes of a file a request writes over (of SabreDAV's partial updates, in no RFC).
 #[derive(Debug, Clone, Copy, PartialEq, Eq)]
 pub enum XUpdateRange {
-    /// The bytes from the first number to the second.
+    /// The bytes from the first place to the second.
     FromTo(u64, u64),
-    /// The bytes from the number on.
+    /// The bytes from this place on.
     AllFrom(u64),
-    /// So many bytes at the end.
+    /// The last bytes, this many.
     Last(u64),
-    /// Behind the end.
+    /// No bytes that are there: what is sent is appended.
     Append,
 }
 
@@ -102,6 +102,6 @@ impl XUpdateRange {
 }
 
 /// The law that every range whose numbers are within u64 is read as it is written.
-pub fn written_ranges_are_read()
+pub fn ranges_round_trip()
     ensures { (range : Range) → IsWithin range → range_header (plain_value (range_text range) ∷ []) ≡ Some range }
 {}

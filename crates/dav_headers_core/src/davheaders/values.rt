@@ -36,7 +36,7 @@ pub(super) fn is_text(bytes: &[u8]) -> bool
 }
 
 /// The value's text.
-#[tactic(auto, using(crate::proofs::TextLemmas::visible_test, crate::proofs::TextLemmas::visible_fails))]
+#[tactic(auto, using(crate::proofs::texts::TextLemmas::visible_test, crate::proofs::texts::TextLemmas::visible_fails))]
 pub(super) fn text_of(value: &HeaderValue) -> Option<&str>
     ensures value { option_copied result ≡ text_of value.now.bytes }
     ensures visible { IfSome result (λ text. IsVisibleAscii text.now) }

@@ -2,7 +2,7 @@
 ghost use Rattle.std.specs.Prelude.{◌≡◌, length};
 ghost use Rattle.dav_headers_core.specs.Gives.{Gives};
 ghost use Rattle.dav_headers_core.specs.Pairwise.{pairwise};
-ghost use Rattle.dav_headers_core.specs.IfReading as reading;
+ghost use Rattle.dav_headers_core.specs.Private.IfReading as reading;
 ghost use Rattle.dav_headers_core.specs.IfValues.{condition_of, conditions_of};
 ghost use Rattle.dav_headers_core.specs.IfStrongEq.{condition_strong_eq};
 

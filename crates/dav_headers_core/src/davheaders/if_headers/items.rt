@@ -1,7 +1,7 @@
 //! State tokens and entity tags in an `If` value.
 ghost use Rattle.std.specs.Prelude.{◌≡◌};
 ghost use Rattle.dav_headers_core.specs.Gives.{Gives};
-ghost use Rattle.dav_headers_core.specs.IfReading as reading;
+ghost use Rattle.dav_headers_core.specs.Private.IfReading as reading;
 ghost use Rattle.dav_headers_core.specs.IfValues.{item_of};
 ghost use Rattle.dav_headers_core.specs.IfStrongEq.{item_strong_eq};
 
@@ -18,7 +18,7 @@ pub enum IfItem {
     ETag(ETag),
 }
 
-#[tactic(auto, unfolding(crate::specs::IfReading::pointed_at))]
+#[tactic(auto, unfolding(crate::specs::Private::IfReading::pointed_at))]
 fn pointed_at(alloc: Global, bytes: &[u8]) -> Result<(IfItem, &[u8]), HeaderError>
     ensures { Gives (λ x. (item_of x.0, x.1.now)) result (reading.pointed_at bytes.now) }
 {
@@ -29,7 +29,7 @@ fn pointed_at(alloc: Global, bytes: &[u8]) -> Result<(IfItem, &[u8]), HeaderErro
     Ok((IfItem::StateToken(String::from_str(alloc, text)?), rest))
 }
 
-#[tactic(auto, unfolding(crate::specs::IfReading::bracketed_at))]
+#[tactic(auto, unfolding(crate::specs::Private::IfReading::bracketed_at))]
 fn bracketed_at(alloc: Global, bytes: &[u8]) -> Result<(IfItem, &[u8]), HeaderError>
     ensures { Gives (λ x. (item_of x.0, x.1.now)) result (reading.bracketed_at bytes.now) }
 {
@@ -38,7 +38,7 @@ fn bracketed_at(alloc: Global, bytes: &[u8]) -> Result<(IfItem, &[u8]), HeaderEr
     Ok((IfItem::ETag(tag), rest))
 }
 
-#[tactic(auto, unfolding(crate::specs::IfReading::worded_at))]
+#[tactic(auto, unfolding(crate::specs::Private::IfReading::worded_at))]
 fn worded_at(alloc: Global, bytes: &[u8]) -> Result<(IfItem, &[u8]), HeaderError>
     ensures { Gives (λ x. (item_of x.0, x.1.now)) result (reading.worded_at bytes.now) }
 {

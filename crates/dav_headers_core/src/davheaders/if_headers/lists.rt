@@ -2,7 +2,7 @@
 ghost use Rattle.std.specs.Prelude.{◌≡◌, length, map, suc};
 ghost use Rattle.dav_headers_core.specs.Gives.{Gives};
 ghost use Rattle.dav_headers_core.specs.Pairwise.{pairwise};
-ghost use Rattle.dav_headers_core.specs.IfLocating as locating;
+ghost use Rattle.dav_headers_core.specs.Private.IfLocating as locating;
 ghost use Rattle.dav_headers_core.specs.IfValues.{located};
 ghost use Rattle.dav_headers_core.specs.IfStrongEq.{list_strong_eq};
 
@@ -22,7 +22,7 @@ pub struct IfList {
     pub conditions: Vec<IfCondition>,
 }
 
-#[tactic(auto, unfolding(crate::specs::IfLocating::located_at))]
+#[tactic(auto, unfolding(crate::specs::Private::IfLocating::located_at))]
 fn located_at(alloc: Global, bytes: &[u8]) -> Result<(IfList, &[u8]), HeaderError>
     ensures { Gives (λ x. (located x.0, x.1.now)) result (locating.located_at bytes.now) }
 {

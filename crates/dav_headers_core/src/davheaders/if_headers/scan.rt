@@ -5,7 +5,7 @@ ghost use Rattle.dav_headers_core.specs.Gives.{Gives};
 ghost use Rattle.dav_headers_core.specs.Optional.{when};
 ghost use Rattle.dav_headers_core.specs.Pieces as pieces;
 ghost use Rattle.dav_headers_core.specs.IfBytes as if_bytes;
-ghost use Rattle.dav_headers_core.specs.IfReading as reading;
+ghost use Rattle.dav_headers_core.specs.Private.IfReading as reading;
 
 use crate::davheaders::HeaderError;
 
@@ -93,7 +93,7 @@ pub(super) fn holds_colon(bytes: &[u8]) -> bool
     bytes.iter().any(|b| *b == b':')
 }
 
-#[tactic(auto, using(crate::proofs::Utf8Lemmas::utf8_test, crate::proofs::Utf8Lemmas::utf8_fails))]
+#[tactic(auto, using(crate::proofs::ifs::Utf8Lemmas::utf8_test, crate::proofs::ifs::Utf8Lemmas::utf8_fails))]
 fn as_text(bytes: &[u8]) -> Option<&str>
     ensures { option_map (λ text. text.now) result ≡ when (is_utf8 bytes.now) bytes.now }
 {
@@ -126,7 +126,7 @@ fn ends_word(bytes: &[u8]) -> bool
 }
 
 /// The word at the front, and what follows it.
-#[tactic(auto, using(crate::proofs::ScanLemmas::word_fits))]
+#[tactic(auto, using(crate::proofs::ifs::ScanLemmas::word_fits))]
 pub(super) fn word_at(bytes: &[u8]) -> Result<(&str, &[u8]), HeaderError>
     ensures { Gives (λ x. (x.0.now, x.1.now)) result (reading.word_at bytes.now) }
 {

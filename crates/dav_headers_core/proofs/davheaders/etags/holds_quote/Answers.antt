@@ -1,6 +1,6 @@
 use Rattle.std.proofs.Common.{lit<}
 use Rattle.std.proofs.lemmas.Str.Pattern.{contains_char}
-use Rattle.dav_headers_core.proofs.TagLemmas.{quote_found}
+use Rattle.dav_headers_core.proofs.tags.TagLemmas.{quote_found}
 use Rattle.dav_headers_core.proofs.davheaders.etags.holds_quote.Goals as goal
 
 pub returns : goal.returns

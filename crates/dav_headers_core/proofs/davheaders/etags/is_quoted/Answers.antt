@@ -1,7 +1,7 @@
 use Rattle.std.proofs.Common.{sym, ap, ◌∙◌, not, lit<}
 use Rattle.std.proofs.lemmas.Str.Pattern.{strip_prefix_char, strip_suffix_char}
 use Rattle.dav_headers_core.specs.Tags.{is_quoted}
-use Rattle.dav_headers_core.proofs.TagLemmas.{unquoted, unclosed, closed}
+use Rattle.dav_headers_core.proofs.tags.TagLemmas.{unquoted, unclosed, closed}
 use Rattle.dav_headers_core.proofs.davheaders.etags.is_quoted.Goals as goal
 
 pub returns-in_default : goal.returns-in_default

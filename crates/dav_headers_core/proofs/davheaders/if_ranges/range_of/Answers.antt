@@ -1,4 +1,4 @@
-use Rattle.dav_headers_core.proofs.IfRangeLemmas.{one_date}
+use Rattle.dav_headers_core.proofs.tags.IfRangeLemmas.{one_date}
 use Rattle.dav_headers_core.proofs.davheaders.if_ranges.range_of.Goals as goal
 
 pub returns-in-Ok-clause-only : goal.returns-in-Ok-clause-only

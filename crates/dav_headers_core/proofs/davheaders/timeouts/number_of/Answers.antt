@@ -1,5 +1,5 @@
 use Rattle.std.proofs.Common.{◌∙◌}
-use Rattle.dav_headers_core.proofs.NumberLemmas.{number_is}
+use Rattle.dav_headers_core.proofs.numbers.NumberLemmas.{number_is}
 use Rattle.dav_headers_core.proofs.davheaders.timeouts.number_of.Goals as goal
 
 pub returns : goal.returns

@@ -1,5 +1,5 @@
 use Rattle.std.proofs.Common.{string_bytes}
-use Rattle.dav_headers_core.proofs.EveryLemmas.{shown_more}
+use Rattle.dav_headers_core.proofs.lists.EveryLemmas.{shown_more}
 use Rattle.std.proofs.lemmas.List.Elements.{All-more}
 use Rattle.dav_headers_core.specs.Timeouts.{timeout_text, IsWithin}
 use Rattle.dav_headers_core.proofs.davheaders.timeouts.texts_of.Goals as goal

@@ -1,5 +1,5 @@
 use Rattle.dav_headers_core.specs.Timeouts.{timeout_of}
-use Rattle.dav_headers_core.proofs.EveryLemmas.{every_more, every_refused}
+use Rattle.dav_headers_core.proofs.lists.EveryLemmas.{every_more, every_refused}
 use Rattle.dav_headers_core.proofs.davheaders.timeouts.timeouts_of.Goals as goal
 
 pub returns-in-None : goal.returns-in-None

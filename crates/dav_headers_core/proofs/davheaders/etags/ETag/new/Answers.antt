@@ -1,5 +1,5 @@
 use Rattle.std.proofs.Common.{sym, ◌∙◌}
-use Rattle.dav_headers_core.proofs.TagLemmas.{spelled_is_tag, spelled_is_weak}
+use Rattle.dav_headers_core.proofs.tags.TagLemmas.{spelled_is_tag, spelled_is_weak}
 use Rattle.dav_headers_core.proofs.davheaders.etags.ETag.new.Goals as goal
 
 pub invariant_of-result : goal.invariant_of-result

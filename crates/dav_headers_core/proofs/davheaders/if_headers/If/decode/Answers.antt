@@ -1,9 +1,9 @@
 use Rattle.std.proofs.Common.{◌≡◌, [], ◌∷◌, arith, sym, ap, ◌∙◌, length}
 use Rattle.std.proofs.lemmas.Result.{err_from_is_err_and}
 use Rattle.dav_headers_core.specs.Gives.{Refuses}
-use Rattle.dav_headers_core.specs.IfLocating.{decoded}
-use Rattle.dav_headers_core.proofs.ResolvingLemmas.{one_value, memory_alone, decodes, reads}
-use Rattle.dav_headers_core.proofs.OptionalLemmas.{some_is}
+use Rattle.dav_headers_core.specs.Private.IfLocating.{decoded}
+use Rattle.dav_headers_core.proofs.ifs.ResolvingLemmas.{one_value, refused_for_memory, decodes, reads}
+use Rattle.dav_headers_core.proofs.lists.OptionalLemmas.{some_is}
 use Rattle.dav_headers_core.proofs.davheaders.if_headers.If.decode.Goals as goal
 
 pub returns-in_err-lists_of-in-len1-clause-only : goal.returns-in_err-lists_of-in-len1-clause-only
@@ -13,7 +13,7 @@ returns-in_err-lists_of-in-len1-clause-only c lists h =
     let one : length c.args.values.now ≡ 1 = omega arith in
     let only : c.args.values.now ≡ value ∷ [] = one_value c.args.values.now value one c.value-item.is in
     let refused : Refuses c.in_err-lists_of-in-len1.field-0.0 (decoded value.bytes) = rw (← c.as_bytes.ensures.value) c.in_err-lists_of-in-len1.ensures in
-    rw (p.1, p.2) (memory_alone c.in_err-lists_of-in-len1.field-0.0 (decoded value.bytes) lists refused (decodes c.args.values.now value lists only h))
+    rw (p.1, p.2) (refused_for_memory c.in_err-lists_of-in-len1.field-0.0 (decoded value.bytes) lists refused (decodes c.args.values.now value lists only h))
 
 pub returns-in_ok-lists_of-in-len1-clause-ok : goal.returns-in_ok-lists_of-in-len1-clause-ok
 returns-in_ok-lists_of-in-len1-clause-ok c =

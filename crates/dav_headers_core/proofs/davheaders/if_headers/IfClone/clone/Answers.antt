@@ -1,5 +1,5 @@
 use Rattle.dav_headers_core.specs.IfValues.{located}
-use Rattle.dav_headers_core.proofs.EveryLemmas.{copies_shown}
+use Rattle.dav_headers_core.proofs.lists.EveryLemmas.{copies_shown}
 use Rattle.dav_headers_core.proofs.davheaders.if_headers.IfClone.clone.Goals as goal
 
 pub returns : goal.returns

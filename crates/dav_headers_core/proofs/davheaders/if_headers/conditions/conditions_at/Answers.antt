@@ -1,10 +1,10 @@
 use Rattle.std.proofs.Common.{◌≡◌, ◌++◌, ◌∷◌, [], sym, ap, ◌∙◌, length, Some, None}
 use Rattle.std.proofs.lemmas.Result.{err_from_is_err_and}
 use Rattle.std.proofs.lemmas.List.{map_push}
-use Rattle.dav_headers_core.specs.IfReading.{after_byte, skip_blanks, condition_at, conditions_at}
+use Rattle.dav_headers_core.specs.Private.IfReading.{after_byte, skip_blanks, condition_at, conditions_at}
 use Rattle.dav_headers_core.specs.Gives.{Refuses}
 use Rattle.dav_headers_core.specs.IfValues.{condition_of, conditions_of}
-use Rattle.dav_headers_core.proofs.IfLoopLemmas.{closes, goes_on, fails}
+use Rattle.dav_headers_core.proofs.ifs.IfLoopLemmas.{closes, goes_on, fails}
 use Rattle.dav_headers_core.proofs.davheaders.if_headers.conditions.conditions_at.Goals as goal
 
 pub returns-in-Some : goal.returns-in-Some

@@ -2,11 +2,11 @@ use Rattle.std.proofs.Common.{◌≡◌, ◌++◌, ◌∷◌, [], ◌<◌, suc, 
 use Rattle.std.proofs.lemmas.Result.{err_from_is_err_and}
 use Rattle.std.proofs.lemmas.List.{map_push}
 use Rattle.std.proofs.lemmas.Bool.{eqb-true, eqb-false}
-use Rattle.dav_headers_core.specs.IfReading.{skip_blanks}
+use Rattle.dav_headers_core.specs.Private.IfReading.{skip_blanks}
 use Rattle.dav_headers_core.specs.Gives.{Refuses}
-use Rattle.dav_headers_core.specs.IfLocating.{located_at, lists_at}
+use Rattle.dav_headers_core.specs.Private.IfLocating.{located_at, lists_at}
 use Rattle.dav_headers_core.specs.IfValues.{located}
-use Rattle.dav_headers_core.proofs.IfLoopLemmas.{lists_end, lists_on, lists_fail}
+use Rattle.dav_headers_core.proofs.ifs.IfLoopLemmas.{lists_end, lists_on, lists_fail}
 use Rattle.dav_headers_core.proofs.davheaders.if_headers.lists.lists_at.Goals as goal
 
 pub returns-then-is_empty : goal.returns-then-is_empty

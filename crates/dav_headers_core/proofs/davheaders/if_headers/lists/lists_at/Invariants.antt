@@ -1,7 +1,7 @@
 use Rattle.std.proofs.Common.{◌≡◌, ◌-◌, suc, length, map}
-use Rattle.dav_headers_core.specs.IfLocating.{lists_at}
+use Rattle.dav_headers_core.specs.Private.IfLocating.{lists_at}
 use Rattle.dav_headers_core.specs.IfValues.{located}
-use Rattle.dav_headers_core.proofs.IfLoopLemmas.{lists_front}
+use Rattle.dav_headers_core.proofs.ifs.IfLoopLemmas.{lists_front}
 use Rattle.dav_headers_core.proofs.davheaders.if_headers.lists.lists_at.Given as goal
 
 abbrev pub invariant-loop : goal.invariant-loop

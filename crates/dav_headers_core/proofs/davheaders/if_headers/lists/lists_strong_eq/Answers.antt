@@ -3,7 +3,7 @@ use Rattle.std.proofs.lemmas.Iterator.{YieldsList-from_slice, YieldsList-from_zi
 use Rattle.std.proofs.lemmas.Iterator.Search.{all_from_yields_List}
 use Rattle.dav_headers_core.specs.IfValues.{located}
 use Rattle.dav_headers_core.specs.IfStrongEq.{list_strong_eq}
-use Rattle.dav_headers_core.proofs.PairwiseLemmas.{pairwise_shown}
+use Rattle.dav_headers_core.proofs.lists.PairwiseLemmas.{pairwise_shown}
 use Rattle.dav_headers_core.proofs.davheaders.if_headers.lists.lists_strong_eq.Goals as goal
 
 pub returns-then-lists-others : goal.returns-then-lists-others

@@ -1,6 +1,6 @@
 use Rattle.std.proofs.Common.{◌≡◌, false, take, drop}
-use Rattle.dav_headers_core.specs.IfReading.{enclosed_at}
-use Rattle.dav_headers_core.proofs.ScanLemmas.{behind_front}
+use Rattle.dav_headers_core.specs.Private.IfReading.{enclosed_at}
+use Rattle.dav_headers_core.proofs.ifs.ScanLemmas.{behind_front}
 use Rattle.dav_headers_core.proofs.davheaders.if_headers.scan.enclosed.Given as goal
 
 abbrev pub invariant-loop-i : goal.invariant-loop-i

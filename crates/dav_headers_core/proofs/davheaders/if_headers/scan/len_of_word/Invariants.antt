@@ -1,5 +1,5 @@
 use Rattle.std.proofs.Common.{◌≡◌, ◌+◌, drop}
-use Rattle.dav_headers_core.specs.IfReading.{word_len}
+use Rattle.dav_headers_core.specs.Private.IfReading.{word_len}
 use Rattle.dav_headers_core.proofs.davheaders.if_headers.scan.len_of_word.Given as goal
 
 abbrev pub invariant-loop-i : goal.invariant-loop-i

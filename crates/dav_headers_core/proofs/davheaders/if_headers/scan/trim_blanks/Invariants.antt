@@ -1,5 +1,5 @@
 use Rattle.std.proofs.Common.{◌≡◌, drop}
-use Rattle.dav_headers_core.specs.IfReading.{skip_blanks}
+use Rattle.dav_headers_core.specs.Private.IfReading.{skip_blanks}
 use Rattle.dav_headers_core.proofs.davheaders.if_headers.scan.trim_blanks.Given as goal
 
 abbrev pub invariant-loop-i : goal.invariant-loop-i

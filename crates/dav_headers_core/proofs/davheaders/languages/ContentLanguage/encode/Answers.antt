@@ -1,6 +1,6 @@
 use Rattle.std.proofs.Common.{ap, ◌∙◌, string_bytes}
 use Rattle.dav_headers_core.specs.Pieces.{joined}
-use Rattle.dav_headers_core.proofs.PieceLemmas.{joined_by}
+use Rattle.dav_headers_core.proofs.texts.PieceLemmas.{joined_by}
 use Rattle.dav_headers_core.proofs.davheaders.languages.ContentLanguage.encode.Goals as goal
 
 pub returns : goal.returns

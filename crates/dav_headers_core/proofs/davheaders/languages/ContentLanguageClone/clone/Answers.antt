@@ -1,5 +1,5 @@
 use Rattle.std.proofs.Common.{◌∙◌, string_bytes}
-use Rattle.dav_headers_core.proofs.EveryLemmas.{copies_shown}
+use Rattle.dav_headers_core.proofs.lists.EveryLemmas.{copies_shown}
 use Rattle.dav_headers_core.proofs.davheaders.languages.ContentLanguageClone.clone.Goals as goal
 
 pub returns : goal.returns

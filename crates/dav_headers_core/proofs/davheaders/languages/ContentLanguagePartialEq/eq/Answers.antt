@@ -1,7 +1,7 @@
 use Rattle.std.proofs.Common.{◌∙◌, string_bytes}
 use Rattle.std.specs.Prelude.{nat_eq}
 use Rattle.std.specs.Cmp.Lexicographic.{pointwise}
-use Rattle.dav_headers_core.proofs.EveryLemmas.{pointwise_shown}
+use Rattle.dav_headers_core.proofs.lists.EveryLemmas.{pointwise_shown}
 use Rattle.dav_headers_core.proofs.davheaders.languages.ContentLanguagePartialEq.eq.Goals as goal
 
 pub returns : goal.returns

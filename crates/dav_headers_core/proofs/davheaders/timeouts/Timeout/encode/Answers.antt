@@ -1,9 +1,9 @@
 use Rattle.std.proofs.Common.{◌≡◌, ◌≢◌, ap, ◌∙◌, [], ◌∷◌, Some, string_bytes}
 use Rattle.dav_headers_core.specs.Pieces.{joined}
 use Rattle.dav_headers_core.specs.Timeouts.{timeout_header, timeouts_text}
-use Rattle.dav_headers_core.proofs.PieceLemmas.{joined_by}
-use Rattle.dav_headers_core.proofs.TimeoutLaws.{timeouts_read, timeouts_are_text}
-use Rattle.dav_headers_core.proofs.WrittenLemmas.{of_written, memory_alone}
+use Rattle.dav_headers_core.proofs.texts.PieceLemmas.{joined_by}
+use Rattle.dav_headers_core.proofs.numbers.TimeoutLaws.{timeouts_round_trip, timeouts_are_text}
+use Rattle.dav_headers_core.proofs.texts.WrittenLemmas.{of_written, memory_alone}
 use Rattle.dav_headers_core.proofs.davheaders.timeouts.Timeout.encode.Goals as goal
 
 text_is : (c : goal.After-drop-texts-2) → string_bytes c.in_ok-join.field-0 ≡ timeouts_text c.args.self.now.0.items
@@ -20,7 +20,7 @@ pub returns-clause-reads_back : goal.returns-clause-reads_back
 returns-clause-reads_back c =
     let timeouts = c.args.self.now.0.items in
     let gives = rw (text_is c) at c.value_of.ensures in
-    of_written (λ value. timeouts ≢ [] → timeout_header (value ∷ []) ≡ Some timeouts) c.value_of.result (timeouts_text timeouts) gives (λ some. timeouts_read timeouts some (rw c.deref.ensures.value at c.in_ok-texts.ensures.within))
+    of_written (λ value. timeouts ≢ [] → timeout_header (value ∷ []) ≡ Some timeouts) c.value_of.result (timeouts_text timeouts) gives (λ some. timeouts_round_trip timeouts some (rw c.deref.ensures.value at c.in_ok-texts.ensures.within))
 
 pub returns-clause-err : goal.returns-clause-err
 returns-clause-err c =

@@ -1,14 +1,14 @@
 use Rattle.std.proofs.Common.{◌≡◌, [], ◌∷◌, Some}
 use Rattle.dav_headers_core.specs.UpdateRanges.{range_header, range_text}
-use Rattle.dav_headers_core.proofs.RangeLaws.{range_read, range_is_text}
-use Rattle.dav_headers_core.proofs.WrittenLemmas.{of_written, memory_alone}
+use Rattle.dav_headers_core.proofs.numbers.RangeLaws.{range_round_trips, range_is_text}
+use Rattle.dav_headers_core.proofs.texts.WrittenLemmas.{of_written, memory_alone}
 use Rattle.dav_headers_core.proofs.davheaders.update_range.XUpdateRange.encode.Goals as goal
 
 pub returns-clause-reads_back : goal.returns-clause-reads_back
 returns-clause-reads_back c =
     let range = c.args.self.now in
     let gives = rw c.in_ok-text_of.ensures.text at c.value_of.ensures in
-    of_written (λ value. range_header (value ∷ []) ≡ Some range) c.value_of.result (range_text range) gives (range_read range c.text_of.ensures.within)
+    of_written (λ value. range_header (value ∷ []) ≡ Some range) c.value_of.result (range_text range) gives (range_round_trips range c.text_of.ensures.within)
 
 pub returns-clause-err : goal.returns-clause-err
 returns-clause-err c =

@@ -1,7 +1,7 @@
 use Rattle.std.proofs.Common.{◌≡◌, refl, Option, None, Some}
 use Rattle.url.specs.Parts.{Parts}
 use Rattle.dav_headers_core.specs.IfValues.{condition_of}
-use Rattle.dav_headers_core.proofs.EveryLemmas.{copies_shown}
+use Rattle.dav_headers_core.proofs.lists.EveryLemmas.{copies_shown}
 use Rattle.dav_headers_core.proofs.davheaders.if_headers.lists.IfListClone.clone.Goals as goal
 
 -- what `Option` says of a copy

@@ -4,11 +4,11 @@ use Rattle.std.proofs.lemmas.List.{length-append}
 use Rattle.dav_headers_core.specs.IfBytes.{Condition, Group}
 use Rattle.dav_headers_core.specs.IfGrammar.{SkipsTo, ListAt, ConditionsAt, ResourceTagAt, GroupAt, Groups, IfText}
 use Rattle.dav_headers_core.specs.Optional.{◌>>=◌, when}
-use Rattle.dav_headers_core.specs.IfReading.{is_empty, skip_blanks, text_at, choose, after_byte, list_at, group_of, group_at, groups_at, if_reading}
-use Rattle.dav_headers_core.proofs.OptionalLemmas.{bind_some, when_some, some_is}
-use Rattle.dav_headers_core.proofs.BlankLemmas.{skipped, skip_same}
-use Rattle.dav_headers_core.proofs.ItemLemmas.{text_sound, text_complete}
-use Rattle.dav_headers_core.proofs.ConditionLemmas.{after_byte_sound, skips_len, not_empty, begins_condition, list_sound, list_complete}
+use Rattle.dav_headers_core.specs.Private.IfReading.{is_empty, skip_blanks, text_at, choose, after_byte, list_at, group_of, group_at, groups_at, if_reading}
+use Rattle.dav_headers_core.proofs.lists.OptionalLemmas.{bind_some, when_some, some_is}
+use Rattle.dav_headers_core.proofs.ifs.BlankLemmas.{skipped, skip_same}
+use Rattle.dav_headers_core.proofs.ifs.ItemLemmas.{text_sound, text_complete}
+use Rattle.dav_headers_core.proofs.ifs.ConditionLemmas.{after_byte_sound, skips_len, not_empty, begins_condition, list_sound, list_complete}
 
 abbrev Pair : Type 0
 Pair = List ℕ × List ℕ

@@ -13,9 +13,9 @@ use Rattle.dav_headers_core.specs.Numbers.{number}
 use Rattle.dav_headers_core.specs.UpdateRanges.{range_between, range_header, range_text, IsWithin}
 use Rattle.dav_headers_core.specs.declared.davheaders.update_range.XUpdateRange.{XUpdateRange}
 use Rattle.dav_headers_core.specs.declared.davheaders.update_range.XUpdateRange.TheVariants.{FromTo, AllFrom, Last, Append}
-use Rattle.dav_headers_core.proofs.DashLemmas.{NoDash, just_two}
-use Rattle.dav_headers_core.proofs.NumberLemmas.{decimal_in, number-decimal}
-use Rattle.dav_headers_core.proofs.TextLemmas.{text-append, each_of}
+use Rattle.dav_headers_core.proofs.numbers.DashLemmas.{NoDash, just_two}
+use Rattle.dav_headers_core.proofs.numbers.NumberLemmas.{decimal_in, number-decimal}
+use Rattle.dav_headers_core.proofs.texts.TextLemmas.{text-append, each_of}
 
 digit_is_text : (b : ℕ) → IsInRange 48 57 b → is_text_byte b ≡ true
 digit_is_text b h = grind (arith, nat_tests)
@@ -52,15 +52,15 @@ reads first last range h k no_dash none_after e =
     let text = text-append is_text_byte first (45 ∷ last) h k in
     rw (text, just_two (first ++ 45 ∷ last) first last refl no_dash none_after) e
 
-pub range_read : (range : XUpdateRange) → IsWithin range → range_header (plain_value (range_text range) ∷ []) ≡ Some range
-range_read Append within = refl
-range_read (FromTo m n) within =
+pub range_round_trips : (range : XUpdateRange) → IsWithin range → range_header (plain_value (range_text range) ∷ []) ≡ Some range
+range_round_trips Append within = refl
+range_round_trips (FromTo m n) within =
     reads (decimal m) (decimal n) (FromTo m n) (decimal_is_text m within.0) (decimal_is_text n within.1) (decimal_no_dash m within.0) (decimal_no_dash n within.1)
     (rw (between_both (decimal m) (decimal n) (decimal_nonempty m within.0) (decimal_nonempty n within.1), number-decimal 64 m within.0 within.0, number-decimal 64 n within.1 within.1) refl)
-range_read (AllFrom m) within =
+range_round_trips (AllFrom m) within =
     reads (decimal m) [] (AllFrom m) (decimal_is_text m within) refl (decimal_no_dash m within) nil_no_dash
     (rw (between_first (decimal m) (decimal_nonempty m within), number-decimal 64 m within within) refl)
-range_read (Last n) within =
+range_round_trips (Last n) within =
     reads [] (decimal n) (Last n) refl (decimal_is_text n within) nil_no_dash (decimal_no_dash n within)
     (rw (between_last (decimal n) (decimal_nonempty n within), number-decimal 64 n within within) refl)
 

@@ -9,8 +9,8 @@ use Rattle.std.proofs.lemmas.Str.{IsUtf8-from_is_utf8, is_utf8-from_IsUtf8}
 use Rattle.dav_headers_core.specs.IfBytes.{is_special, is_word_byte, ends_word}
 use Rattle.dav_headers_core.specs.Pieces.{is_blank}
 use Rattle.dav_headers_core.specs.IfGrammar.{WordAt, EndsWord}
-use Rattle.dav_headers_core.specs.IfReading.{after_not, holds_colon, word_len, begins_ending, is_word, word_at}
-use Rattle.dav_headers_core.proofs.OptionalLemmas.{when_some}
+use Rattle.dav_headers_core.specs.Private.IfReading.{after_not, holds_colon, word_len, begins_ending, is_word, word_at}
+use Rattle.dav_headers_core.proofs.lists.OptionalLemmas.{when_some}
 
 -- ---- `Not`
 

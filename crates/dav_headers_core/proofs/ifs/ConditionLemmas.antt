@@ -7,11 +7,11 @@ use Rattle.dav_headers_core.specs.Pieces.{is_blank}
 use Rattle.dav_headers_core.specs.IfBytes.{Item, Token, Tag, Condition}
 use Rattle.dav_headers_core.specs.IfGrammar.{SkipsTo, Between, HoldsColon, WordAt, ItemAt, NotAt, ConditionAt, ConditionsAt, ListAt}
 use Rattle.dav_headers_core.specs.Optional.{◌>>=◌, when}
-use Rattle.dav_headers_core.specs.IfReading.{is_empty, skip_blanks, after_not, item_at, choose, condition_as, condition_at, after_byte, conditions_at, list_at}
-use Rattle.dav_headers_core.proofs.OptionalLemmas.{bind_some, when_some, some_is}
-use Rattle.dav_headers_core.proofs.BlankLemmas.{skipped, skip_same, skip_stops}
-use Rattle.dav_headers_core.proofs.WordLemmas.{not_sound, not_complete, none_after}
-use Rattle.dav_headers_core.proofs.ItemLemmas.{item_sound, item_complete, word_first, apart, blank_apart}
+use Rattle.dav_headers_core.specs.Private.IfReading.{is_empty, skip_blanks, after_not, item_at, choose, condition_as, condition_at, after_byte, conditions_at, list_at}
+use Rattle.dav_headers_core.proofs.lists.OptionalLemmas.{bind_some, when_some, some_is}
+use Rattle.dav_headers_core.proofs.ifs.BlankLemmas.{skipped, skip_same, skip_stops}
+use Rattle.dav_headers_core.proofs.ifs.WordLemmas.{not_sound, not_complete, none_after}
+use Rattle.dav_headers_core.proofs.ifs.ItemLemmas.{item_sound, item_complete, word_first, apart, blank_apart}
 
 -- ---- what stands first in an item
 

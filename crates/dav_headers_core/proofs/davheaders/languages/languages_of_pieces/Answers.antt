@@ -1,8 +1,8 @@
 use Rattle.std.proofs.Common.{ap, ◌∙◌, ◌++◌, ◌∷◌, [], List, ℕ, map, string_bytes}
 use Rattle.std.proofs.lemmas.List.{map_push}
 use Rattle.dav_headers_core.specs.Languages.{language_of}
-use Rattle.dav_headers_core.proofs.EveryLemmas.{every_more, every_refused}
-use Rattle.dav_headers_core.proofs.davheaders.languages.languages_among.Goals as goal
+use Rattle.dav_headers_core.proofs.lists.EveryLemmas.{every_more, every_refused}
+use Rattle.dav_headers_core.proofs.davheaders.languages.languages_of_pieces.Goals as goal
 
 pub returns-in-None : goal.returns-in-None
 returns-in-None c = every_refused language_of (λ piece. piece.now) c.args.pieces.now c.loop-piece.piece-index _ c.loop-piece-test.true c.in-None.ensures

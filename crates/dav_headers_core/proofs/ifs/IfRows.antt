@@ -4,9 +4,9 @@ use Rattle.std.proofs.Common.{◌≡◌, refl, List, [], ◌∷◌, ℕ, true, f
 use Rattle.std.specs.Prelude.{codes}
 use Rattle.std.specs.Str.{is_utf8, chars}
 use Rattle.dav_headers_core.specs.IfBytes.{Item, Token, Tag, Condition, Group}
-use Rattle.dav_headers_core.specs.IfReading.{if_reading, pointed_at, bracketed_at, worded_at}
+use Rattle.dav_headers_core.specs.Private.IfReading.{if_reading, pointed_at, bracketed_at, worded_at}
 use Rattle.dav_headers_core.specs.IfGrammar.{IfText}
-use Rattle.dav_headers_core.proofs.GroupLemmas.{reading_sound, reading_complete}
+use Rattle.dav_headers_core.proofs.ifs.GroupLemmas.{reading_sound, reading_complete}
 
 abbrev asked : Item → Condition
 asked item = record { negated = false; item = item }

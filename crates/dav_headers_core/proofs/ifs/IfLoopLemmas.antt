@@ -2,11 +2,11 @@
 use Rattle.std.proofs.Common.{◌≡◌, refl, sym, ap, ◌∙◌, ℕ, suc, ◌+◌, ◌-◌, ◌<◌, ◌≤◌, arith, Bool, true, false, cond, List, [], ◌∷◌, ◌++◌, length, Option, None, Some}
 use Rattle.std.proofs.lemmas.List.{append_assoc, append-nil}
 use Rattle.dav_headers_core.specs.IfBytes.{Condition}
-use Rattle.dav_headers_core.specs.IfReading.{Found, choose, is_empty, skip_blanks, after_byte, condition_at, conditions_at}
+use Rattle.dav_headers_core.specs.Private.IfReading.{Found, choose, is_empty, skip_blanks, after_byte, condition_at, conditions_at}
 use Rattle.dav_headers_core.specs.Optional.{◌>>=◌}
 use Rattle.dav_headers_core.specs.Gives.{Refuses}
 use Rattle.dav_headers_core.specs.IfValues.{Located}
-use Rattle.dav_headers_core.specs.IfLocating.{located_at, lists_at}
+use Rattle.dav_headers_core.specs.Private.IfLocating.{located_at, lists_at}
 use Rattle.dav_headers_core.specs.declared.davheaders.errors.HeaderError.{HeaderError}
 use Rattle.dav_headers_core.specs.declared.davheaders.errors.HeaderError.TheVariants.{Invalid, OutOfMemory}
 

@@ -6,7 +6,7 @@ use Rattle.std.proofs.lemmas.Bool.{eq-eqb}
 use Rattle.dav_headers_core.specs.Tags.{quote}
 use Rattle.dav_headers_core.specs.Pieces.{is_blank}
 use Rattle.dav_headers_core.specs.IfBytes.{is_word_byte}
-use Rattle.dav_headers_core.specs.IfReading.{Found, in_front, skip_blanks, enclosed_at, word_len}
+use Rattle.dav_headers_core.specs.Private.IfReading.{Found, with_byte, skip_blanks, enclosed_at, word_len}
 
 pub drop_at : (bytes : List ℕ) (i : ℕ) → i < length bytes → drop i bytes ≡ get_or bytes i 0 ∷ drop (i + 1) bytes
 drop_at bytes i lt = rw (add-one, drop-cons bytes i 0) refl
@@ -37,7 +37,7 @@ abbrev pub behind_front : List ℕ → Found (List ℕ) → Found (List ℕ)
 behind_front front (Some found) = Some (front ++ found.0, found.1)
 behind_front front None = None
 
-behind_push : (front : List ℕ) (b : ℕ) (found : Found (List ℕ)) → behind_front front (in_front b found) ≡ behind_front (front ++ b ∷ []) found
+behind_push : (front : List ℕ) (b : ℕ) (found : Found (List ℕ)) → behind_front front (with_byte b found) ≡ behind_front (front ++ b ∷ []) found
 behind_push front b (Some found) = ap (λ (t : List ℕ). some (t, found.1)) (sym (append_assoc front (b ∷ []) found.0))
   where
     some : List ℕ × List ℕ → Found (List ℕ)

@@ -8,11 +8,11 @@ use Rattle.dav_headers_core.specs.IfBytes.{is_word_byte, Item, Token, Tag}
 use Rattle.dav_headers_core.specs.IfGrammar.{Between, HoldsColon, WordAt, ItemAt}
 use Rattle.dav_headers_core.specs.Tags.{IsTag, is_tag, tag_of}
 use Rattle.dav_headers_core.specs.Optional.{◌>>=◌, when}
-use Rattle.dav_headers_core.specs.IfReading.{enclosed_at, text_at, holds_colon, word_at, pointed_at, bracketed_at, worded_at, item_at}
-use Rattle.dav_headers_core.proofs.OptionalLemmas.{bind_some, when_some, some_is}
-use Rattle.dav_headers_core.proofs.EnclosedLemmas.{enclosed_sound, enclosed_complete}
-use Rattle.dav_headers_core.proofs.TagLemmas.{tag_sound, tag_complete}
-use Rattle.dav_headers_core.proofs.WordLemmas.{word_sound, word_complete}
+use Rattle.dav_headers_core.specs.Private.IfReading.{enclosed_at, text_at, holds_colon, word_at, pointed_at, bracketed_at, worded_at, item_at}
+use Rattle.dav_headers_core.proofs.lists.OptionalLemmas.{bind_some, when_some, some_is}
+use Rattle.dav_headers_core.proofs.ifs.EnclosedLemmas.{enclosed_sound, enclosed_complete}
+use Rattle.dav_headers_core.proofs.tags.TagLemmas.{tag_sound, tag_complete}
+use Rattle.dav_headers_core.proofs.ifs.WordLemmas.{word_sound, word_complete}
 
 abbrev Pair : Type 0
 Pair = List ℕ × List ℕ

@@ -3,7 +3,7 @@ use Rattle.std.proofs.Common.{◌≡◌, refl, ap, ◌∙◌, ℕ, Bool, true, f
 use Rattle.std.specs.List.{AllByRecursion}
 use Rattle.dav_headers_core.specs.Pieces.{is_blank}
 use Rattle.dav_headers_core.specs.IfGrammar.{SkipsTo}
-use Rattle.dav_headers_core.specs.IfReading.{skip_blanks}
+use Rattle.dav_headers_core.specs.Private.IfReading.{skip_blanks}
 
 pub skipped : (bytes : List ℕ) → SkipsTo bytes (skip_blanks bytes)
 skipped [] = record { blanks = []; each = tt; parts = refl }

@@ -6,13 +6,13 @@ use Rattle.dav_headers_core.specs.declared.davheaders.errors.HeaderError.TheVari
 use Rattle.dav_headers_core.specs.Gives.{Refuses}
 use Rattle.dav_headers_core.specs.IfBytes.{Condition, Group}
 use Rattle.dav_headers_core.specs.IfGrammar.{IfText}
-use Rattle.dav_headers_core.specs.IfReading.{Found, is_empty, choose, skip_blanks, after_byte, text_at, list_at, group_of, group_at, groups_at}
+use Rattle.dav_headers_core.specs.Private.IfReading.{Found, is_empty, choose, skip_blanks, after_byte, text_at, list_at, group_of, group_at, groups_at}
 use Rattle.dav_headers_core.specs.Optional.{◌>>=◌, when}
-use Rattle.dav_headers_core.proofs.OptionalLemmas.{bind_some, when_some, some_is}
-use Rattle.dav_headers_core.proofs.GroupLemmas.{reading_sound, reading_complete}
+use Rattle.dav_headers_core.proofs.lists.OptionalLemmas.{bind_some, when_some, some_is}
+use Rattle.dav_headers_core.proofs.ifs.GroupLemmas.{reading_sound, reading_complete}
 use Rattle.dav_headers_core.specs.IfValues.{Located, TagIs, Resolves, ReadsAs}
 use Rattle.dav_headers_core.specs.Urls.{url_of}
-use Rattle.dav_headers_core.specs.IfLocating.{resolve_tag, resolve, resolve_all, located_with, located_at, lists_at, decoded}
+use Rattle.dav_headers_core.specs.Private.IfLocating.{resolve_tag, resolve, resolve_all, located_with, located_at, lists_at, decoded}
 use Rattle.url.specs.Parts.{Parts}
 
 abbrev Pair : Type 0
@@ -167,9 +167,9 @@ one_value [] x one e = absurd (omega arith)
 one_value {A = A} (y ∷ []) x one e = ap (λ (z : A). z ∷ []) (sym e)
 one_value (y ∷ z ∷ xs) x one e = absurd (omega arith)
 
-pub memory_alone : {A : Type 0} (e : HeaderError) (o : Option A) (x : A) → Refuses e o → o ≡ Some x → e ≡ OutOfMemory
-memory_alone OutOfMemory o x r h = refl
-memory_alone Invalid o x r h = absurd cc
+pub refused_for_memory : {A : Type 0} (e : HeaderError) (o : Option A) (x : A) → Refuses e o → o ≡ Some x → e ≡ OutOfMemory
+refused_for_memory OutOfMemory o x r h = refl
+refused_for_memory Invalid o x r h = absurd cc
 
 pub decodes : (values : List FieldValue) (value : FieldValue) (lists : List Located) → values ≡ value ∷ [] → ReadsAs values lists → decoded value.bytes ≡ Some lists
 decodes values value lists e h =

@@ -20,9 +20,9 @@ abbrev pub skip_blanks : List ℕ → List ℕ
 skip_blanks [] = []
 skip_blanks (b ∷ bytes) = if is_blank b then skip_blanks bytes else b ∷ bytes
 
-abbrev pub in_front : ℕ → Found (List ℕ) → Found (List ℕ)
-in_front b (Some found) = Some (b ∷ found.0, found.1)
-in_front b None = None
+abbrev pub with_byte : ℕ → Found (List ℕ) → Found (List ℕ)
+with_byte b (Some found) = Some (b ∷ found.0, found.1)
+with_byte b None = None
 
 -- the text up to the first closing byte that is not quoted
 abbrev pub enclosed_at : ℕ → Bool → List ℕ → Found (List ℕ)
@@ -30,7 +30,7 @@ enclosed_at closing quoted [] = None
 enclosed_at closing quoted (b ∷ bytes) =
     if not quoted && b == closing then Some ([], bytes)
     else (if is_blank b then None
-    else in_front b (enclosed_at closing (if b == quote then not quoted else quoted) bytes))
+    else with_byte b (enclosed_at closing (if b == quote then not quoted else quoted) bytes))
 
 -- an enclosed text that is UTF-8
 abbrev pub text_at : ℕ → List ℕ → Found (List ℕ)

@@ -5,8 +5,8 @@ use Rattle.std.proofs.lemmas.Bool.{eqb-true, eq-eqb}
 use Rattle.dav_headers_core.specs.Tags.{quote}
 use Rattle.dav_headers_core.specs.Pieces.{is_blank}
 use Rattle.dav_headers_core.specs.IfBytes.{odd_quotes}
-use Rattle.dav_headers_core.specs.IfReading.{Found, in_front, enclosed_at}
-use Rattle.dav_headers_core.proofs.OptionalLemmas.{some_is}
+use Rattle.dav_headers_core.specs.Private.IfReading.{Found, with_byte, enclosed_at}
+use Rattle.dav_headers_core.proofs.lists.OptionalLemmas.{some_is}
 
 -- the parity behind a byte that is a quote or not
 abbrev pub flips : Bool → Bool → Bool
@@ -30,9 +30,9 @@ pub record EnclosedFrom (quoted : Bool) (closing : ℕ) (text : List ℕ) : Type
 abbrev pub Encloses : Bool → ℕ → List ℕ → List ℕ × List ℕ → Type 0
 Encloses quoted closing bytes found = (bytes ≡ found.0 ++ closing ∷ found.1) × EnclosedFrom quoted closing found.0
 
-in_front_some : (b : ℕ) (r : Found (List ℕ)) (y : List ℕ × List ℕ) → in_front b r ≡ Some y → (x : List ℕ × List ℕ) × (r ≡ Some x) × (y ≡ (b ∷ x.0, x.1))
-in_front_some b (Some x) y e = (x, refl, cc)
-in_front_some b None y e = absurd cc
+with_byte_some : (b : ℕ) (r : Found (List ℕ)) (y : List ℕ × List ℕ) → with_byte b r ≡ Some y → (x : List ℕ × List ℕ) × (r ≡ Some x) × (y ≡ (b ∷ x.0, x.1))
+with_byte_some b (Some x) y e = (x, refl, cc)
+with_byte_some b None y e = absurd cc
 
 none_here : (quoted : Bool) (closing : ℕ) (bytes : List ℕ) → quoted ≡ false → (before after : List ℕ) → [] ≡ before ++ closing ∷ after → odd_quotes before ≡ not quoted
 none_here quoted closing bytes q [] after e = absurd cc
@@ -72,13 +72,13 @@ enclosed_sound closing [] quoted found e = absurd cc
 enclosed_sound closing (b ∷ bytes) quoted found e = go (not quoted && eqb b closing) refl (is_blank b) refl e (enclosed_sound closing bytes (flips (eqb b quote) quoted))
   where
     go : (t : Bool) → (not quoted && eqb b closing) ≡ t → (u : Bool) → is_blank b ≡ u
-        → cond t (Some ([], bytes)) (cond u None (in_front b (enclosed_at closing (flips (eqb b quote) quoted) bytes))) ≡ Some found
+        → cond t (Some ([], bytes)) (cond u None (with_byte b (enclosed_at closing (flips (eqb b quote) quoted) bytes))) ≡ Some found
         → ((x : List ℕ × List ℕ) → enclosed_at closing (flips (eqb b quote) quoted) bytes ≡ Some x → Encloses (flips (eqb b quote) quoted) closing bytes x)
         → Encloses quoted closing (b ∷ bytes) found
     go true t u blank h hyp = rw (sym (some_is _ _ h)) (enclosed_empty closing b bytes quoted t)
     go false t true blank h hyp = absurd cc
     go false t false blank h hyp =
-        let x = in_front_some b (enclosed_at closing (flips (eqb b quote) quoted) bytes) found h in
+        let x = with_byte_some b (enclosed_at closing (flips (eqb b quote) quoted) bytes) found h in
         rw x.2 (enclosed_more closing b bytes quoted x.0 t blank (hyp x.0 x.1))
 
 pub enclosed_complete : (closing : ℕ) (text rest : List ℕ) (quoted : Bool) → EnclosedFrom quoted closing text → enclosed_at closing quoted (text ++ closing ∷ rest) ≡ Some (text, rest)

@@ -8,8 +8,8 @@ use Rattle.dav_headers_core.specs.declared.davheaders.errors.HeaderError.{Header
 use Rattle.dav_headers_core.specs.declared.davheaders.errors.HeaderError.TheVariants.{Invalid, OutOfMemory}
 use Rattle.dav_headers_core.specs.Gives.{Refuses}
 use Rattle.dav_headers_core.specs.Optional.{◌>>=◌, every}
-use Rattle.dav_headers_core.specs.Languages.{languages_of, languages_of_values}
-use Rattle.dav_headers_core.proofs.EveryLemmas.{every_push, none_within}
+use Rattle.dav_headers_core.specs.Languages.{languages_of_bytes, languages_of_all_values}
+use Rattle.dav_headers_core.proofs.lists.EveryLemmas.{every_push, none_within}
 
 abbrev flat : List (List (List ℕ)) → List (List ℕ)
 flat lists = flat_map (λ list. list) lists
@@ -26,15 +26,15 @@ join (Some lists) (Some list) ls ms e one =
     let right : list ≡ ms = cc in
     rw (flat_push lists list, left, right) refl
 
-pub values_more : (values : List FieldValue) (i : ℕ) (d : FieldValue) (ls ms ns : List (List ℕ)) → i < length values → languages_of_values (take i values) ≡ Some ls → languages_of (get_or values i d).bytes ≡ Some ms → ns ≡ ls ++ ms → languages_of_values (take (i + 1) values) ≡ Some ns
+pub values_more : (values : List FieldValue) (i : ℕ) (d : FieldValue) (ls ms ns : List (List ℕ)) → i < length values → languages_of_all_values (take i values) ≡ Some ls → languages_of_bytes (get_or values i d).bytes ≡ Some ms → ns ≡ ls ++ ms → languages_of_all_values (take (i + 1) values) ≡ Some ns
 values_more values i d ls ms ns lt e one more =
-    rw (take_more values i d lt, every_push (λ (value : FieldValue). languages_of value.bytes) (take i values) (get_or values i d), more)
-    (join (every (λ (value : FieldValue). languages_of value.bytes) (take i values)) (languages_of (get_or values i d).bytes) ls ms e one)
+    rw (take_more values i d lt, every_push (λ (value : FieldValue). languages_of_bytes value.bytes) (take i values) (get_or values i d), more)
+    (join (every (λ (value : FieldValue). languages_of_bytes value.bytes) (take i values)) (languages_of_bytes (get_or values i d).bytes) ls ms e one)
 
-pub values_refused : (values : List FieldValue) (i : ℕ) (d : FieldValue) → i < length values → languages_of (get_or values i d).bytes ≡ None → languages_of_values values ≡ None
-values_refused values i d lt e = rw (none_within (λ (value : FieldValue). languages_of value.bytes) values i d lt e) refl
+pub values_refused : (values : List FieldValue) (i : ℕ) (d : FieldValue) → i < length values → languages_of_bytes (get_or values i d).bytes ≡ None → languages_of_all_values values ≡ None
+values_refused values i d lt e = rw (none_within (λ (value : FieldValue). languages_of_bytes value.bytes) values i d lt e) refl
 
 -- what refuses a value refuses the values
-pub refused_all : (values : List FieldValue) (i : ℕ) (d : FieldValue) (e : HeaderError) → i < length values → Refuses e (languages_of (get_or values i d).bytes) → Refuses e (languages_of_values values)
+pub refused_all : (values : List FieldValue) (i : ℕ) (d : FieldValue) (e : HeaderError) → i < length values → Refuses e (languages_of_bytes (get_or values i d).bytes) → Refuses e (languages_of_all_values values)
 refused_all values i d Invalid lt refused = values_refused values i d lt refused
 refused_all values i d OutOfMemory lt refused = tt

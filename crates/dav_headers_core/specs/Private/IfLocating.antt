@@ -3,7 +3,7 @@ use Rattle.std.specs.Prelude.{ℕ, zero, suc, not, if◌then◌else◌, List, []
 use Rattle.url.specs.Parts.{Parts}
 use Rattle.dav_headers_core.specs.Urls.{url_of}
 use Rattle.dav_headers_core.specs.IfBytes.{Group}
-use Rattle.dav_headers_core.specs.IfReading.{Found, is_empty, choose, skip_blanks, after_byte, text_at, list_at}
+use Rattle.dav_headers_core.specs.Private.IfReading.{Found, is_empty, choose, skip_blanks, after_byte, text_at, list_at}
 use Rattle.dav_headers_core.specs.Optional.{◌>>=◌, when}
 use Rattle.dav_headers_core.specs.IfValues.{Located}
 

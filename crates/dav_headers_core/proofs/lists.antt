@@ -1,0 +1,4 @@
+-- Plain lists, and values that may be missing.
+pub mod EveryLemmas
+pub mod OptionalLemmas
+pub mod PairwiseLemmas

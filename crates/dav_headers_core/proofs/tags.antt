@@ -1,0 +1,3 @@
+-- Entity tags, and what an `If-Range` says.
+pub mod IfRangeLemmas
+pub mod TagLemmas

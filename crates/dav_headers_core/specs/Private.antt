@@ -1,0 +1,3 @@
+-- Words that contracts of private functions alone name.
+pub mod IfLocating
+pub mod IfReading

@@ -34,7 +34,11 @@ pub record Condition : Type 0 where
   pub negated : Bool
   pub item : Item
 
--- a list of conditions, and the text of the resource tag before it
-pub record Group : Type 0 where
-  pub tag : Option (List ℕ)
+-- a list of conditions, and what its resource tag is, where it has one
+pub record Tagged (T : Type 0) : Type 0 where
+  pub tag : Option T
   pub conditions : List Condition
+
+-- such a list with the text of its tag
+abbrev pub Group : Type 0
+Group = Tagged (List ℕ)

@@ -22,4 +22,4 @@ abbrev pub same_url : Parts → Parts → Bool
 same_url a b = bytes_eq (serialize a) (serialize b)
 
 abbrev pub list_strong_eq : Located → Located → Bool
-list_strong_eq a b = option_eq same_url a.url b.url && pairwise condition_strong_eq a.conditions b.conditions
+list_strong_eq a b = option_eq same_url a.tag b.tag && pairwise condition_strong_eq a.conditions b.conditions

@@ -3,7 +3,7 @@ use Rattle.std.specs.Prelude.{◌≡◌, ℕ, List, [], ◌∷◌, map, Option, 
 use Rattle.http_header.specs.FieldValue.{FieldValue}
 use Rattle.url.specs.Parts.{Parts}
 use Rattle.dav_headers_core.specs.Urls.{url_of}
-use Rattle.dav_headers_core.specs.IfBytes.{Item, Token, Tag, Condition, Group}
+use Rattle.dav_headers_core.specs.IfBytes.{Item, Token, Tag, Condition, Tagged, Group}
 use Rattle.dav_headers_core.specs.IfGrammar.{IfText}
 use Rattle.dav_headers_core.specs.declared.davheaders.if_headers.items.IfItem.{IfItem}
 use Rattle.dav_headers_core.specs.declared.davheaders.if_headers.items.IfItem.TheVariants as item
@@ -20,13 +20,12 @@ condition_of condition = record { negated = condition.not; item = item_of condit
 abbrev pub conditions_of : List IfCondition → List Condition
 conditions_of conditions = map condition_of conditions
 
--- a list of conditions, and the URL before it
-pub record Located : Type 0 where
-  pub url : Option Parts
-  pub conditions : List Condition
+-- a list of conditions with the URL of its resource tag
+abbrev pub Located : Type 0
+Located = Tagged Parts
 
 abbrev pub located : IfList → Located
-located list = record { url = list.resource_tag; conditions = conditions_of list.conditions.items }
+located list = record { tag = list.resource_tag; conditions = conditions_of list.conditions.items }
 
 -- the URL of a resource tag is the one that its text spells
 abbrev pub TagIs : Option (List ℕ) → Option Parts → Type 0
@@ -39,7 +38,7 @@ TagIs (Some text) None = ⊥
 abbrev pub Resolves : List Group → List Located → Type 0
 Resolves [] [] = Unit {0}
 Resolves (group ∷ groups) (list ∷ lists) =
-    TagIs group.tag list.url × (group.conditions ≡ list.conditions) × Resolves groups lists
+    TagIs group.tag list.tag × (group.conditions ≡ list.conditions) × Resolves groups lists
 Resolves [] (list ∷ lists) = ⊥
 Resolves (group ∷ groups) [] = ⊥
 

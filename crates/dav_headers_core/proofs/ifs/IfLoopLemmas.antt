@@ -2,11 +2,11 @@
 use Rattle.std.proofs.Common.{◌≡◌, refl, sym, ap, ◌∙◌, ℕ, suc, ◌+◌, ◌-◌, ◌<◌, ◌≤◌, arith, Bool, true, false, cond, List, [], ◌∷◌, ◌++◌, length, Option, None, Some}
 use Rattle.std.proofs.lemmas.List.{append_assoc, append-nil}
 use Rattle.dav_headers_core.specs.IfBytes.{Condition}
-use Rattle.dav_headers_core.specs.Private.IfReading.{Found, choose, is_empty, skip_blanks, after_byte, condition_at, conditions_at}
+use Rattle.dav_headers_core.specs.Private.IfReading.{Found, choose, is_empty, skip_blanks, after_byte, condition_at, conditions_at, group_at, groups_at}
 use Rattle.dav_headers_core.specs.Optional.{◌>>=◌}
 use Rattle.dav_headers_core.specs.Gives.{Refuses}
 use Rattle.dav_headers_core.specs.IfValues.{Located}
-use Rattle.dav_headers_core.specs.Private.IfLocating.{located_at, lists_at}
+use Rattle.dav_headers_core.specs.Urls.{url_of}
 use Rattle.dav_headers_core.specs.declared.davheaders.errors.HeaderError.{HeaderError}
 use Rattle.dav_headers_core.specs.declared.davheaders.errors.HeaderError.TheVariants.{Invalid, OutOfMemory}
 
@@ -71,13 +71,13 @@ abbrev pub lists_front : List Located → Option (List Located) → Option (List
 lists_front front found = found >>= λ x. Some (front ++ x)
 
 abbrev list_turn : ℕ → List ℕ → Bool → Option (List Located)
-list_turn n at over = cond over (Some []) (located_at at >>= λ first. lists_at n first.1 >>= λ others. Some (first.0 ∷ others))
+list_turn n at over = cond over (Some []) (group_at url_of at >>= λ first. groups_at url_of n first.1 >>= λ others. Some (first.0 ∷ others))
 
 abbrev more_lists : ℕ → Option (Located × List ℕ) → Option (List Located)
-more_lists n found = found >>= λ first. lists_at n first.1 >>= λ others. Some (first.0 ∷ others)
+more_lists n found = found >>= λ first. groups_at url_of n first.1 >>= λ others. Some (first.0 ∷ others)
 
-open_list : (n k : ℕ) (rest : List ℕ) (over : Bool) → k < n → is_empty (skip_blanks rest) ≡ over → lists_at (n - k) rest ≡ list_turn (n - (k + 1)) (skip_blanks rest) over
-open_list n k rest over lt e = ap (λ (m : ℕ). lists_at m rest) (left n k lt) ∙ ap (list_turn (n - (k + 1)) (skip_blanks rest)) e
+open_list : (n k : ℕ) (rest : List ℕ) (over : Bool) → k < n → is_empty (skip_blanks rest) ≡ over → groups_at url_of (n - k) rest ≡ list_turn (n - (k + 1)) (skip_blanks rest) over
+open_list n k rest over lt e = ap (λ (m : ℕ). groups_at url_of m rest) (left n k lt) ∙ ap (list_turn (n - (k + 1)) (skip_blanks rest)) e
 
 empty_test : (bytes : List ℕ) → length bytes ≡ 0 → is_empty bytes ≡ true
 empty_test [] e = refl
@@ -88,7 +88,7 @@ full_test [] e = absurd (e refl)
 full_test (b ∷ bytes) e = refl
 
 pub lists_end : (front : List Located) (n k : ℕ) (rest : List ℕ) (whole : Option (List Located)) → k < n → length (skip_blanks rest) ≡ 0
-    → lists_front front (lists_at (n - k) rest) ≡ whole → whole ≡ Some front
+    → lists_front front (groups_at url_of (n - k) rest) ≡ whole → whole ≡ Some front
 lists_end front n k rest whole lt e inv =
     sym inv ∙ ap (lists_front front) (open_list n k rest true lt (empty_test (skip_blanks rest) e)) ∙ ap (λ (f : List Located). some f) (append-nil front)
   where
@@ -103,14 +103,14 @@ lists_more front l (Some found) = ap (λ (f : List Located). some f) (sym (appen
 lists_more front l None = refl
 
 pub lists_on : (front : List Located) (n k : ℕ) (rest : List ℕ) (l : Located) (after : List ℕ) (whole : Option (List Located)) → k < n → (length (skip_blanks rest) ≡ 0 → ⊥)
-    → located_at (skip_blanks rest) ≡ Some (l, after) → lists_front front (lists_at (n - k) rest) ≡ whole
-    → lists_front (front ++ l ∷ []) (lists_at (n - (k + 1)) after) ≡ whole
+    → group_at url_of (skip_blanks rest) ≡ Some (l, after) → lists_front front (groups_at url_of (n - k) rest) ≡ whole
+    → lists_front (front ++ l ∷ []) (groups_at url_of (n - (k + 1)) after) ≡ whole
 lists_on front n k rest l after whole lt e found inv =
-    sym (lists_more front l (lists_at (n - (k + 1)) after))
+    sym (lists_more front l (groups_at url_of (n - (k + 1)) after))
     ∙ sym (ap (lists_front front) (open_list n k rest false lt (full_test (skip_blanks rest) e) ∙ ap (more_lists (n - (k + 1))) found)) ∙ inv
 
 pub lists_fail : (front : List Located) (n k : ℕ) (rest : List ℕ) (e : HeaderError) (whole : Option (List Located)) → k < n → (length (skip_blanks rest) ≡ 0 → ⊥)
-    → Refuses e (located_at (skip_blanks rest)) → lists_front front (lists_at (n - k) rest) ≡ whole → Refuses e whole
+    → Refuses e (group_at url_of (skip_blanks rest)) → lists_front front (groups_at url_of (n - k) rest) ≡ whole → Refuses e whole
 lists_fail front n k rest OutOfMemory whole lt e found inv = tt
 lists_fail front n k rest Invalid whole lt e found inv =
     sym inv ∙ ap (lists_front front) (open_list n k rest false lt (full_test (skip_blanks rest) e) ∙ ap (more_lists (n - (k + 1))) found)

@@ -6,50 +6,59 @@ use Rattle.dav_headers_core.specs.declared.davheaders.errors.HeaderError.TheVari
 use Rattle.dav_headers_core.specs.Gives.{Refuses}
 use Rattle.dav_headers_core.specs.IfBytes.{Condition, Group}
 use Rattle.dav_headers_core.specs.IfGrammar.{IfText}
-use Rattle.dav_headers_core.specs.Private.IfReading.{Found, is_empty, choose, skip_blanks, after_byte, text_at, list_at, group_of, group_at, groups_at}
+use Rattle.dav_headers_core.specs.Private.IfReading.{Found, is_empty, choose, skip_blanks, after_byte, text_at, list_at, as_it_is, behind_tag, group_at, groups_at, decoded}
 use Rattle.dav_headers_core.specs.Optional.{◌>>=◌, when}
 use Rattle.dav_headers_core.proofs.lists.OptionalLemmas.{bind_some, when_some, some_is}
 use Rattle.dav_headers_core.proofs.ifs.GroupLemmas.{reading_sound, reading_complete}
 use Rattle.dav_headers_core.specs.IfValues.{Located, TagIs, Resolves, ReadsAs}
 use Rattle.dav_headers_core.specs.Urls.{url_of}
-use Rattle.dav_headers_core.specs.Private.IfLocating.{resolve_tag, resolve, resolve_all, located_with, located_at, lists_at, decoded}
 use Rattle.url.specs.Parts.{Parts}
 
-abbrev Pair : Type 0
-Pair = List ℕ × List ℕ
+-- the URL of a tag's text, where it has one
+abbrev resolve_tag : Option (List ℕ) → Option (Option Parts)
+resolve_tag None = Some None
+resolve_tag (Some text) = url_of text >>= λ url. Some (Some url)
+
+abbrev resolve : Group → Option Located
+resolve group = resolve_tag group.tag >>= λ url. Some (record { tag = url; conditions = group.conditions })
+
+abbrev resolve_all : List Group → Option (List Located)
+resolve_all [] = Some []
+resolve_all (group ∷ groups) =
+    resolve group >>= λ first. resolve_all groups >>= λ others. Some (first ∷ others)
 
 -- a group found, with its URL
 abbrev resolved : Found Group → Found Located
 resolved found = found >>= λ g. resolve g.0 >>= λ l. Some (l, g.1)
 
-resolved_group : (tag : Option (List ℕ)) (url : Option Parts) (bytes : List ℕ) → resolve_tag tag ≡ Some url → resolved (group_of tag bytes) ≡ located_with url bytes
+resolved_group : (tag : Option (List ℕ)) (url : Option Parts) (bytes : List ℕ) → resolve_tag tag ≡ Some url → resolved (behind_tag tag bytes) ≡ behind_tag url bytes
 resolved_group tag url bytes e = go (list_at (skip_blanks bytes))
   where
-    go : (found : Found (List Condition)) → resolved (found >>= λ f. Some (record { tag = tag; conditions = f.0 }, f.1)) ≡ (found >>= λ f. Some (record { url = url; conditions = f.0 }, f.1))
+    go : (found : Found (List Condition)) → resolved (found >>= λ f. Some (record { tag = tag; conditions = f.0 }, f.1)) ≡ (found >>= λ f. Some (record { tag = url; conditions = f.0 }, f.1))
     go None = refl
     go (Some f) = rw e refl
 
-unresolved_group : (tag : Option (List ℕ)) (bytes : List ℕ) → resolve_tag tag ≡ None → resolved (group_of tag bytes) ≡ None
+unresolved_group : (tag : Option (List ℕ)) (bytes : List ℕ) → resolve_tag tag ≡ None → resolved (behind_tag tag bytes) ≡ None
 unresolved_group tag bytes e = go (list_at (skip_blanks bytes))
   where
     go : (found : Found (List Condition)) → resolved (found >>= λ f. Some (record { tag = tag; conditions = f.0 }, f.1)) ≡ None
     go None = refl
     go (Some f) = rw e refl
 
-located_is : (bytes : List ℕ) → located_at bytes ≡ resolved (group_at bytes)
-unfolding located_at
+located_is : (bytes : List ℕ) → group_at url_of bytes ≡ resolved (group_at as_it_is bytes)
+unfolding group_at
 located_is bytes = go (after_byte 60 bytes)
   where
-    text : (found : Found (List ℕ)) → (found >>= λ text. url_of text.0 >>= λ url. located_with (Some url) text.1) ≡ resolved (found >>= λ text. group_of (Some text.0) text.1)
+    text : (found : Found (List ℕ)) → (found >>= λ text. url_of text.0 >>= λ url. behind_tag (Some url) text.1) ≡ resolved (found >>= λ text. behind_tag (Some text.0) text.1)
     text None = refl
     text (Some t) = url (url_of t.0) refl
       where
-        url : (u : Option Parts) → url_of t.0 ≡ u → (url_of t.0 >>= λ url. located_with (Some url) t.1) ≡ resolved (group_of (Some t.0) t.1)
+        url : (u : Option Parts) → url_of t.0 ≡ u → (url_of t.0 >>= λ url. behind_tag (Some url) t.1) ≡ resolved (behind_tag (Some t.0) t.1)
         url (Some u) e = rw e (sym (resolved_group (Some t.0) (Some u) t.1 (rw e refl)))
         url None e = rw e (sym (unresolved_group (Some t.0) t.1 (rw e refl)))
 
-    go : (o : Option (List ℕ)) → choose o (λ after. text_at 62 after >>= λ text. url_of text.0 >>= λ url. located_with (Some url) text.1) (located_with None bytes)
-        ≡ resolved (choose o (λ after. text_at 62 after >>= λ text. group_of (Some text.0) text.1) (group_of None bytes))
+    go : (o : Option (List ℕ)) → choose o (λ after. text_at 62 after >>= λ text. url_of text.0 >>= λ url. behind_tag (Some url) text.1) (behind_tag None bytes)
+        ≡ resolved (choose o (λ after. text_at 62 after >>= λ text. behind_tag (Some text.0) text.1) (behind_tag None bytes))
     go None = sym (resolved_group None None bytes refl)
     go (Some after) = text (text_at 62 after)
 
@@ -72,17 +81,17 @@ step (Some g) others others' h = go (resolve g.0) refl
     go None e = rw e (gone (others g) e)
     go (Some l) e = rw (e, h g l) (kept (others g) l e)
 
-lists_are : (n : ℕ) (bytes : List ℕ) → lists_at n bytes ≡ (groups_at n bytes >>= resolve_all)
+lists_are : (n : ℕ) (bytes : List ℕ) → groups_at url_of n bytes ≡ (groups_at as_it_is n bytes >>= resolve_all)
 lists_are zero bytes = refl
 lists_are (suc n) bytes = go (is_empty (skip_blanks bytes)) (lists_are n)
   where
-    go : (t : Bool) → ((b : List ℕ) → lists_at n b ≡ (groups_at n b >>= resolve_all))
-        → cond t (Some []) (located_at (skip_blanks bytes) >>= λ first. lists_at n first.1 >>= λ others. Some (first.0 ∷ others))
-        ≡ (cond t (Some []) (group_at (skip_blanks bytes) >>= λ first. groups_at n first.1 >>= λ others. Some (first.0 ∷ others)) >>= resolve_all)
+    go : (t : Bool) → ((b : List ℕ) → groups_at url_of n b ≡ (groups_at as_it_is n b >>= resolve_all))
+        → cond t (Some []) (group_at url_of (skip_blanks bytes) >>= λ first. groups_at url_of n first.1 >>= λ others. Some (first.0 ∷ others))
+        ≡ (cond t (Some []) (group_at as_it_is (skip_blanks bytes) >>= λ first. groups_at as_it_is n first.1 >>= λ others. Some (first.0 ∷ others)) >>= resolve_all)
     go true hyp = refl
     go false hyp =
-        ap (λ (f : Found Located). f >>= λ first. lists_at n first.1 >>= λ others. Some (first.0 ∷ others)) (located_is (skip_blanks bytes))
-        ∙ step (group_at (skip_blanks bytes)) (λ g. groups_at n g.1) (λ l. lists_at n l.1) (λ g l. hyp g.1)
+        ap (λ (f : Found Located). f >>= λ first. groups_at url_of n first.1 >>= λ others. Some (first.0 ∷ others)) (located_is (skip_blanks bytes))
+        ∙ step (group_at as_it_is (skip_blanks bytes)) (λ g. groups_at as_it_is n g.1) (λ l. groups_at url_of n l.1) (λ g l. hyp g.1)
 
 -- ---- resolving is a relation
 
@@ -99,15 +108,15 @@ tag_complete (Some text) (Some url) h = rw h refl
 tag_complete None (Some url) h = absurd h
 tag_complete (Some text) None h = absurd h
 
-resolve_one : (g : Group) (l : Located) → resolve g ≡ Some l → TagIs g.tag l.url × (g.conditions ≡ l.conditions)
+resolve_one : (g : Group) (l : Located) → resolve g ≡ Some l → TagIs g.tag l.tag × (g.conditions ≡ l.conditions)
 resolve_one g l e =
-    let m : Option Parts → Option Located = λ url. Some (record { url = url; conditions = g.conditions }) in
+    let m : Option Parts → Option Located = λ url. Some (record { tag = url; conditions = g.conditions }) in
     let t = bind_some (resolve_tag g.tag) m l e in
-    let made : record { url = t.0; conditions = g.conditions } ≡ l = some_is _ _ t.2 in
+    let made : record { tag = t.0; conditions = g.conditions } ≡ l = some_is _ _ t.2 in
     let tag : TagIs g.tag t.0 = tag_sound g.tag t.0 t.1 in
-    (subst (λ (u : Option Parts). TagIs g.tag u) (ap (λ (x : Located). x.url) made) tag, ap (λ (x : Located). x.conditions) made)
+    (subst (λ (u : Option Parts). TagIs g.tag u) (ap (λ (x : Located). x.tag) made) tag, ap (λ (x : Located). x.conditions) made)
 
-pub resolve_sound : (groups : List Group) (lists : List Located) → resolve_all groups ≡ Some lists → Resolves groups lists
+resolve_sound : (groups : List Group) (lists : List Located) → resolve_all groups ≡ Some lists → Resolves groups lists
 resolve_sound [] lists e = rw (← some_is _ _ e) tt
 resolve_sound (g ∷ groups) lists e =
     let f : Located → Option (List Located) = λ first. resolve_all groups >>= λ others. Some (first ∷ others) in
@@ -117,9 +126,9 @@ resolve_sound (g ∷ groups) lists e =
     let one = resolve_one g r.0 r.1 in
     rw (← some_is _ _ q.2) (one.0, one.1, resolve_sound groups q.0 q.1)
 
-pub resolve_complete : (groups : List Group) (lists : List Located) → Resolves groups lists → resolve_all groups ≡ Some lists
+resolve_complete : (groups : List Group) (lists : List Located) → Resolves groups lists → resolve_all groups ≡ Some lists
 resolve_complete [] [] h = refl
-resolve_complete (g ∷ groups) (l ∷ lists) h = rw (tag_complete g.tag l.url h.0, h.1, resolve_complete groups lists h.2) refl
+resolve_complete (g ∷ groups) (l ∷ lists) h = rw (tag_complete g.tag l.tag h.0, h.1, resolve_complete groups lists h.2) refl
 resolve_complete [] (l ∷ lists) h = absurd h
 resolve_complete (g ∷ groups) [] h = absurd h
 
@@ -140,9 +149,9 @@ pub record Reads (bytes : List ℕ) (lists : List Located) : Type 0 where
 pub decoded_sound : (bytes : List ℕ) (lists : List Located) → decoded bytes ≡ Some lists → Reads bytes lists
 decoded_sound bytes lists e =
     let f : List Located → Option (List Located) = λ lists. when (not (is_empty lists)) lists in
-    let r = bind_some (lists_at (suc (length bytes)) bytes) f lists e in
+    let r = bind_some (groups_at url_of (suc (length bytes)) bytes) f lists e in
     let w = when_some (not (is_empty r.0)) r.0 lists r.2 in
-    let g = bind_some (groups_at (suc (length bytes)) bytes) resolve_all r.0 (sym (lists_are (suc (length bytes)) bytes) ∙ r.1) in
+    let g = bind_some (groups_at as_it_is (suc (length bytes)) bytes) resolve_all r.0 (sym (lists_are (suc (length bytes)) bytes) ∙ r.1) in
     let res = resolve_sound g.0 r.0 g.2 in
     let some : not (is_empty g.0) ≡ true = ap not (sym (empty_same g.0 r.0 res)) ∙ w.0 in
     rw (← w.1) record { groups = g.0; text = reading_sound bytes g.0 (ap (λ (o : Option (List Group)). o >>= λ groups. when (not (is_empty groups)) groups) g.1 ∙ rw some refl); resolves = res }
@@ -150,10 +159,10 @@ decoded_sound bytes lists e =
 pub decoded_complete : (bytes : List ℕ) (lists : List Located) → Reads bytes lists → decoded bytes ≡ Some lists
 decoded_complete bytes lists h =
     let f : List Group → Option (List Group) = λ groups. when (not (is_empty groups)) groups in
-    let r = bind_some (groups_at (suc (length bytes)) bytes) f h.groups (reading_complete bytes h.groups h.text) in
+    let r = bind_some (groups_at as_it_is (suc (length bytes)) bytes) f h.groups (reading_complete bytes h.groups h.text) in
     let w = when_some (not (is_empty r.0)) r.0 h.groups r.2 in
-    let found : groups_at (suc (length bytes)) bytes ≡ Some h.groups = r.1 ∙ ap (λ (g : List Group). some g) w.1 in
-    let there : lists_at (suc (length bytes)) bytes ≡ Some lists = lists_are (suc (length bytes)) bytes ∙ ap (λ (o : Option (List Group)). o >>= resolve_all) found ∙ resolve_complete h.groups lists h.resolves in
+    let found : groups_at as_it_is (suc (length bytes)) bytes ≡ Some h.groups = r.1 ∙ ap (λ (g : List Group). some g) w.1 in
+    let there : groups_at url_of (suc (length bytes)) bytes ≡ Some lists = lists_are (suc (length bytes)) bytes ∙ ap (λ (o : Option (List Group)). o >>= resolve_all) found ∙ resolve_complete h.groups lists h.resolves in
     let nonempty : not (is_empty lists) ≡ true = ap not (empty_same h.groups lists h.resolves ∙ ap is_empty (sym w.1)) ∙ w.0 in
     rw (there, nonempty) refl
   where

@@ -5,8 +5,10 @@ use Rattle.std.specs.List.{list_any}
 use Rattle.std.specs.Str.{is_utf8}
 use Rattle.dav_headers_core.specs.Optional.{◌>>=◌, when}
 use Rattle.dav_headers_core.specs.Tags.{quote, tag_of}
-use Rattle.dav_headers_core.specs.IfBytes.{colon, is_word_byte, ends_word, Item, Token, Tag, Condition, Group}
+use Rattle.dav_headers_core.specs.IfBytes.{colon, is_word_byte, ends_word, Item, Token, Tag, Condition, Tagged, Group}
 use Rattle.dav_headers_core.specs.Pieces.{is_blank}
+use Rattle.dav_headers_core.specs.IfValues.{Located}
+use Rattle.dav_headers_core.specs.Urls.{url_of}
 
 -- what a reader found, and what it left
 abbrev pub Found : Type 0 → Type 0
@@ -107,22 +109,39 @@ list_at bytes =
     after_byte 40 bytes >>= λ inner.
     conditions_at (length inner) inner >>= λ found. when (not (is_empty found.0)) found
 
-abbrev pub group_of : Option (List ℕ) → List ℕ → Found Group
-group_of tag bytes =
+-- the list that follows a tag
+abbrev pub behind_tag : {T : Type 0} → Option T → List ℕ → Found (Tagged T)
+behind_tag tag bytes =
     list_at (skip_blanks bytes) >>= λ found. Some (record { tag = tag; conditions = found.0 }, found.1)
 
-abbrev pub group_at : List ℕ → Found Group
-group_at bytes =
-    choose (after_byte 60 bytes) (λ after. text_at 62 after >>= λ text. group_of (Some text.0) text.1)
-    (group_of None bytes)
+-- a list with its tag, where it has one; `read` reads the tag's text
+unfoldable pub group_at : {T : Type 0} → (List ℕ → Option T) → List ℕ → Found (Tagged T)
+group_at read bytes =
+    choose (after_byte 60 bytes)
+    (λ after. text_at 62 after >>= λ text. read text.0 >>= λ tag. behind_tag (Some tag) text.1)
+    (behind_tag None bytes)
 
-abbrev pub groups_at : ℕ → List ℕ → Option (List Group)
-groups_at zero bytes = None
-groups_at (suc n) bytes =
+-- at most so many lists, and nothing else
+abbrev pub groups_at : {T : Type 0} → (List ℕ → Option T) → ℕ → List ℕ → Option (List (Tagged T))
+groups_at read zero bytes = None
+groups_at read (suc n) bytes =
     if is_empty (skip_blanks bytes) then Some [] else (
-    group_at (skip_blanks bytes) >>= λ first.
-    groups_at n first.1 >>= λ others. Some (first.0 ∷ others))
+    group_at read (skip_blanks bytes) >>= λ first.
+    groups_at read n first.1 >>= λ others. Some (first.0 ∷ others))
 
 -- the one reading of the bytes
+abbrev pub reading : {T : Type 0} → (List ℕ → Option T) → List ℕ → Option (List (Tagged T))
+reading read bytes =
+    groups_at read (suc (length bytes)) bytes >>= λ groups. when (not (is_empty groups)) groups
+
+-- a tag's text as it is
+abbrev pub as_it_is : List ℕ → Option (List ℕ)
+as_it_is text = Some text
+
+-- with the texts of the tags
 abbrev pub if_reading : List ℕ → Option (List Group)
-if_reading bytes = groups_at (suc (length bytes)) bytes >>= λ groups. when (not (is_empty groups)) groups
+if_reading bytes = reading as_it_is bytes
+
+-- with the URLs that they spell
+abbrev pub decoded : List ℕ → Option (List Located)
+decoded bytes = reading url_of bytes

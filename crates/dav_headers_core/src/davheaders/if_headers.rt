@@ -4,7 +4,7 @@ ghost use Rattle.dav_headers_core.specs.Gives.{Gives};
 ghost use Rattle.dav_headers_core.specs.Pairwise.{pairwise};
 ghost use Rattle.dav_headers_core.specs.IfBytes.{Group};
 ghost use Rattle.dav_headers_core.specs.IfGrammar.{IfText};
-ghost use Rattle.dav_headers_core.specs.Private.IfLocating as locating;
+ghost use Rattle.dav_headers_core.specs.Private.IfReading as reading;
 ghost use Rattle.dav_headers_core.specs.IfValues.{located, Located, ReadsAs};
 ghost use Rattle.dav_headers_core.specs.IfStrongEq.{list_strong_eq};
 ghost use Rattle.dav_headers_core.specs.declared.davheaders.errors.HeaderError.TheVariants.{OutOfMemory};
@@ -27,7 +27,7 @@ use std::alloc::{AllocError, Global};
 pub struct If(pub Vec<IfList>);
 
 fn lists_of(alloc: Global, bytes: &[u8]) -> Result<Vec<IfList>, HeaderError>
-    ensures { Gives (λ lists. map located lists.items) result (locating.decoded bytes.now) }
+    ensures { Gives (λ lists. map located lists.items) result (reading.decoded bytes.now) }
 {
     let lists = lists_at(alloc, bytes)?;
     if lists.is_empty() {

@@ -2,9 +2,10 @@
 ghost use Rattle.std.specs.Prelude.{◌≡◌, length, map, suc};
 ghost use Rattle.dav_headers_core.specs.Gives.{Gives};
 ghost use Rattle.dav_headers_core.specs.Pairwise.{pairwise};
-ghost use Rattle.dav_headers_core.specs.Private.IfLocating as locating;
+ghost use Rattle.dav_headers_core.specs.Private.IfReading as reading;
 ghost use Rattle.dav_headers_core.specs.IfValues.{located};
 ghost use Rattle.dav_headers_core.specs.IfStrongEq.{list_strong_eq};
+ghost use Rattle.dav_headers_core.specs.Urls.{url_of};
 
 use super::conditions::{IfCondition, conditions_strong_eq, list_at};
 use super::scan::{behind, text_at, trim_blanks};
@@ -22,9 +23,9 @@ pub struct IfList {
     pub conditions: Vec<IfCondition>,
 }
 
-#[tactic(auto, unfolding(crate::specs::Private::IfLocating::located_at))]
+#[tactic(auto, unfolding(crate::specs::Private::IfReading::group_at))]
 fn located_at(alloc: Global, bytes: &[u8]) -> Result<(IfList, &[u8]), HeaderError>
-    ensures { Gives (λ x. (located x.0, x.1.now)) result (locating.located_at bytes.now) }
+    ensures { Gives (λ x. (located x.0, x.1.now)) result (reading.group_at url_of bytes.now) }
 {
     let (resource_tag, rest) = match behind(bytes, b'<') {
         Some(after) => {
@@ -45,7 +46,7 @@ fn located_at(alloc: Global, bytes: &[u8]) -> Result<(IfList, &[u8]), HeaderErro
 
 /// All lists of the bytes. Each takes a byte, so there are no more than bytes.
 pub(super) fn lists_at(alloc: Global, bytes: &[u8]) -> Result<Vec<IfList>, HeaderError>
-    ensures { Gives (λ lists. map located lists.items) result (locating.lists_at (suc (length bytes.now)) bytes.now) }
+    ensures { Gives (λ lists. map located lists.items) result (reading.groups_at url_of (suc (length bytes.now)) bytes.now) }
 {
     let mut lists = Vec::new(alloc);
     let mut rest = bytes;

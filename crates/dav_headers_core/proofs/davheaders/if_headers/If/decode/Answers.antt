@@ -1,7 +1,7 @@
 use Rattle.std.proofs.Common.{◌≡◌, [], ◌∷◌, arith, sym, ap, ◌∙◌, length}
 use Rattle.std.proofs.lemmas.Result.{err_from_is_err_and}
 use Rattle.dav_headers_core.specs.Gives.{Refuses}
-use Rattle.dav_headers_core.specs.Private.IfLocating.{decoded}
+use Rattle.dav_headers_core.specs.Private.IfReading.{decoded}
 use Rattle.dav_headers_core.proofs.ifs.ResolvingLemmas.{one_value, refused_for_memory, decodes, reads}
 use Rattle.dav_headers_core.proofs.lists.OptionalLemmas.{some_is}
 use Rattle.dav_headers_core.proofs.davheaders.if_headers.If.decode.Goals as goal

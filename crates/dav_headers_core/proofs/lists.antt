@@ -1,4 +1,5 @@
 -- Plain lists, and values that may be missing.
 pub mod EveryLemmas
+pub mod GivesLemmas
 pub mod OptionalLemmas
 pub mod PairwiseLemmas

@@ -1,13 +1,13 @@
 -- Values that were written.
 use Rattle.std.proofs.Common.{◌≡◌, refl, ℕ, arith, Bool, true, false, not, List, [], ◌∷◌, None, Some, Result, Ok, Err}
-use Rattle.std.specs.Prelude.{IfOk, IfErr}
+use Rattle.std.specs.Prelude.{IfOk, IfErr, IsSome}
 use Rattle.std.specs.List.{list_any, list_all}
 use Rattle.std.proofs.lemmas.Bool.{and_parts, or_from}
 use Rattle.std.proofs.lemmas.Bool.Decides.{nat_tests}
 use Rattle.http_header.specs.FieldValue.{FieldValue, plain_value}
 use Rattle.dav_headers_core.specs.declared.davheaders.errors.HeaderError.{HeaderError}
 use Rattle.dav_headers_core.specs.declared.davheaders.errors.HeaderError.TheVariants.{Invalid, OutOfMemory}
-use Rattle.dav_headers_core.specs.Gives.{Gives}
+use Rattle.dav_headers_core.specs.Gives.{GivesFirst}
 use Rattle.dav_headers_core.specs.Optional.{when}
 use Rattle.dav_headers_core.specs.Values.{is_text_byte, is_control, written}
 
@@ -16,11 +16,11 @@ when_is true x y e = cc
 when_is false x y e = absurd cc
 
 -- what holds of a text's value holds of the value that was written
-pub of_written : (P : FieldValue → Type 0) (r : Result FieldValue HeaderError) (text : List ℕ) → Gives (λ value. value) r (written text) → P (plain_value text) → IfOk r P
+pub of_written : (P : FieldValue → Type 0) (r : Result FieldValue HeaderError) (text : List ℕ) → GivesFirst (λ value. value) r (written text) → P (plain_value text) → IfOk r P
 of_written P (Ok value) text gives holds = rw (when_is (not (list_any is_control text)) (plain_value text) value gives) holds
 of_written P (Err e) text gives holds = tt
 
--- ---- a text that is read is written, but for want of memory
+-- ---- a text that is read is written, unless memory runs out
 
 control_no_text : (b : ℕ) → is_text_byte b ≡ true → is_control b ≡ false
 control_no_text b h = grind (arith, nat_tests)
@@ -31,7 +31,10 @@ no_control (b ∷ text) h =
     let parts = and_parts (is_text_byte b) (list_all is_text_byte text) h in
     or_from (is_control b) (list_any is_control text) (control_no_text b parts.0) (no_control text parts.1)
 
-pub memory_alone : (r : Result FieldValue HeaderError) (text : List ℕ) → Gives (λ value. value) r (written text) → list_all is_text_byte text ≡ true → IfErr r (λ e. e ≡ OutOfMemory)
+pub is_written : (text : List ℕ) → list_all is_text_byte text ≡ true → IsSome (written text)
+is_written text visible = rw (no_control text visible) refl
+
+pub memory_alone : (r : Result FieldValue HeaderError) (text : List ℕ) → GivesFirst (λ value. value) r (written text) → list_all is_text_byte text ≡ true → IfErr r (λ e. e ≡ OutOfMemory)
 memory_alone (Ok value) text gives visible = tt
 memory_alone (Err OutOfMemory) text gives visible = refl
 memory_alone (Err Invalid) text gives visible = absurd (some_not_none (rw (no_control text visible) at gives))

@@ -50,7 +50,8 @@ impl Depth {
     /// takes no memory.
     pub fn encode(&self, _alloc: Global) -> Result<HeaderValue, HeaderError>
         ensures value { result ≡ Ok (plain_value (depth_text self.now)) }
-        ensures reads_back { self.now ≢ Depth.Default → depth_header (plain_value (depth_text self.now) ∷ []) ≡ Some self.now }
+        ensures reads_back { self.now ≢ Depth.Default
+            → depth_header (plain_value (depth_text self.now) ∷ []) ≡ Some self.now }
     {
         Ok(HeaderValue::from_static(match self {
             Depth::Default => "",

@@ -1,8 +1,9 @@
 //! `Destination`.
-ghost use Rattle.std.specs.Prelude.{string_bytes};
-ghost use Rattle.dav_headers_core.specs.Gives.{Gives};
-ghost use Rattle.dav_headers_core.specs.Values.{written};
+ghost use Rattle.std.specs.Prelude.{◌≡◌, None, Err, string_bytes};
+ghost use Rattle.dav_headers_core.specs.Gives.{Gives, GivesFirst};
+ghost use Rattle.dav_headers_core.specs.Values.{one_text, written};
 ghost use Rattle.dav_headers_core.specs.Destinations.{destination_header};
+ghost use Rattle.dav_headers_core.specs.declared.davheaders.errors.HeaderError.TheVariants as HeaderError;
 
 use super::HeaderError;
 use super::urls::url_of;
@@ -18,7 +19,9 @@ impl Destination {
     /// The one text where it begins with `/`, kept as it is; else the path of the URL that it spells. Anything else is
     /// `Invalid`; a URL past the size limit of `url` is `OutOfMemory`.
     pub fn decode(alloc: Global, values: &[HeaderValue]) -> Result<Destination, HeaderError>
-        ensures { Gives (λ destination. string_bytes destination.0) result (destination_header values.now) }
+        ensures value { Gives (λ destination. string_bytes destination.0) result (destination_header values.now) }
+        // Whether there is one text is looked at before memory is taken.
+        ensures one_text { one_text values.now ≡ None → result ≡ Err HeaderError.Invalid }
     {
         let text = one_text(values).ok_or(HeaderError::Invalid)?;
         if text.as_bytes().first() == Some(&b'/') {
@@ -30,7 +33,7 @@ impl Destination {
 
     /// The text as a value. `Invalid` exactly where it holds a byte below 32 but the tab, or 127.
     pub fn encode(&self, alloc: Global) -> Result<HeaderValue, HeaderError>
-        ensures { Gives (λ value. value) result (written (string_bytes self.now.0)) }
+        ensures { GivesFirst (λ value. value) result (written (string_bytes self.now.0)) }
     {
         copied_value(alloc, &self.0)
     }

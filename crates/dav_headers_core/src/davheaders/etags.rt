@@ -1,7 +1,7 @@
 //! Entity tags.
 ghost use Rattle.std.specs.Prelude.{◌≡◌, ◌↔◌, ◌==◌, ℕ, List, IfOk, IsTrue, string_bytes};
 ghost use Rattle.std.specs.List.{list_any};
-ghost use Rattle.dav_headers_core.specs.Gives.{Gives};
+ghost use Rattle.dav_headers_core.specs.Gives.{GivesFirst};
 ghost use Rattle.dav_headers_core.specs.Optional.{when};
 ghost use Rattle.dav_headers_core.specs.Values.{written};
 ghost use Rattle.dav_headers_core.specs.Tags.{IsTag, quote, spelled, is_quoted, is_tag, is_weak, tag_of, tag_of_value, tag_header, new_tag, strong_eq};
@@ -72,7 +72,7 @@ fn spelled(alloc: Global, weak: bool, t: &str) -> Result<String, AllocError>
 impl ETag {
     /// The tag with this text between its quotes. `Invalid` exactly where the text holds a quote.
     pub fn new(alloc: Global, weak: bool, t: &str) -> Result<ETag, HeaderError>
-        ensures { Gives (λ tag. tag) result (new_tag weak t.now) }
+        ensures { GivesFirst (λ tag. tag) result (new_tag weak t.now) }
     {
         if holds_quote(t) {
             return Err(HeaderError::Invalid);
@@ -86,7 +86,7 @@ impl ETag {
     /// The tag that the text spells: `W/` or nothing, a quote, any characters but a quote, a quote, and nothing round it.
     /// Anything else is `Invalid`.
     pub fn from_str(alloc: Global, t: &str) -> Result<ETag, HeaderError>
-        ensures { Gives (λ tag. tag) result (tag_of t.now) }
+        ensures { GivesFirst (λ tag. tag) result (tag_of t.now) }
     {
         if !is_tag(t) {
             return Err(HeaderError::Invalid);
@@ -99,7 +99,7 @@ impl ETag {
 
     /// The tag that the value spells. `Invalid` exactly where it is no text or spells none.
     pub fn from_value(alloc: Global, value: &HeaderValue) -> Result<ETag, HeaderError>
-        ensures { Gives (λ tag. tag) result (tag_of_value value.now) }
+        ensures { GivesFirst (λ tag. tag) result (tag_of_value value.now) }
     {
         let text = text_of(value).ok_or(HeaderError::Invalid)?;
         ETag::from_str(alloc, text)
@@ -107,7 +107,9 @@ impl ETag {
 
     /// Whether it is spelled with `W/`. It takes no memory.
     pub fn is_weak(&self) -> bool
-        ensures { result ≡ is_weak self.now }
+        ensures weak { result ≡ is_weak self.now }
+        // Of every tag a caller may know that it is spelled as one.
+        ensures spelling { IsTag self.now }
     {
         self.weak
     }
@@ -122,7 +124,7 @@ impl ETag {
 
     /// The tag that the one text spells. Anything else is `Invalid`.
     pub fn decode(alloc: Global, values: &[HeaderValue]) -> Result<ETag, HeaderError>
-        ensures { Gives (λ tag. tag) result (tag_header values.now) }
+        ensures { GivesFirst (λ tag. tag) result (tag_header values.now) }
     {
         let text = one_text(values).ok_or(HeaderError::Invalid)?;
         ETag::from_str(alloc, text)
@@ -130,7 +132,7 @@ impl ETag {
 
     /// The spelling as a value. `Invalid` exactly where it holds a byte below 32 but the tab, or 127.
     pub fn encode(&self, alloc: Global) -> Result<HeaderValue, HeaderError>
-        ensures { Gives (λ value. value) result (written self.now) }
+        ensures { GivesFirst (λ value. value) result (written self.now) }
     {
         copied_value(alloc, self.as_str())
     }

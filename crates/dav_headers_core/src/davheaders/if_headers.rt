@@ -1,13 +1,14 @@
 //! `If`.
-ghost use Rattle.std.specs.Prelude.{◌≡◌, ℕ, map, List, IfOk, MatchResult};
+ghost use Rattle.std.specs.Prelude.{◌≡◌, ℕ, map, List, None, Err, IfOk, MatchResult};
 ghost use Rattle.dav_headers_core.specs.Gives.{Gives};
+ghost use Rattle.dav_headers_core.specs.Values.{one_value};
 ghost use Rattle.dav_headers_core.specs.Pairwise.{pairwise};
 ghost use Rattle.dav_headers_core.specs.IfBytes.{Group};
 ghost use Rattle.dav_headers_core.specs.IfGrammar.{IfText};
 ghost use Rattle.dav_headers_core.specs.Private.IfReading as reading;
 ghost use Rattle.dav_headers_core.specs.IfValues.{located, Located, ReadsAs};
 ghost use Rattle.dav_headers_core.specs.IfStrongEq.{list_strong_eq};
-ghost use Rattle.dav_headers_core.specs.declared.davheaders.errors.HeaderError.TheVariants.{OutOfMemory};
+ghost use Rattle.dav_headers_core.specs.declared.davheaders.errors.HeaderError.TheVariants as HeaderError;
 
 mod conditions;
 mod items;
@@ -44,7 +45,9 @@ impl If {
         ensures ok { IfOk result (λ header. ReadsAs values.now (map located header.0.items)) }
         // A reading is answered, unless memory runs out; so `Invalid` comes only where there is none.
         ensures only { (lists : List Located) → ReadsAs values.now lists
-            → MatchResult result (λ header. map located header.0.items ≡ lists) (λ e. e ≡ OutOfMemory) }
+            → MatchResult result (λ header. map located header.0.items ≡ lists) (λ e. e ≡ HeaderError.OutOfMemory) }
+        // Whether there is one value is looked at before memory is taken.
+        ensures one_value { one_value values.now ≡ None → result ≡ Err HeaderError.Invalid }
     {
         match values {
             [value] => Ok(If(lists_of(alloc, value.as_bytes())?)),

@@ -1,12 +1,12 @@
 //! `If-Range`.
-ghost use Rattle.std.specs.Prelude.{◌≡◌, IfOk, IsAscii, MatchResult};
-ghost use Rattle.dav_headers_core.specs.Gives.{Gives};
+ghost use Rattle.std.specs.Prelude.{◌≡◌, Err, IfOk, IsAscii, MatchResult};
+ghost use Rattle.dav_headers_core.specs.Gives.{GivesFirst};
 ghost use Rattle.dav_headers_core.specs.Values.{written};
 ghost use Rattle.dav_headers_core.specs.IfRanges.{TextSays, ValuesSay, shown, if_range_text, if_range_strong_eq};
 ghost use Rattle.dav_headers_core.specs.declared.davheaders.errors.HeaderError.TheVariants as HeaderError;
 ghost use Rattle.dav_headers_core.specs.declared.davheaders.if_ranges.IfRange.{IfRange as Range};
 
-use super::values::{copied_value, one_text, value_of};
+use super::values::{one_text, value_of_bytes};
 use super::{ETag, HeaderError};
 use http_header::HeaderValue;
 use httpdate::HttpDate;
@@ -27,6 +27,7 @@ fn range_of(alloc: Global, text: &str) -> Result<IfRange, HeaderError>
     ensures ok { IfOk result (λ range. TextSays text.now range) }
     ensures only { (range : Range) → TextSays text.now range
         → MatchResult result (λ r. shown r ≡ shown range) (λ e. e ≡ HeaderError.OutOfMemory) }
+    ensures memory { result ≡ Err HeaderError.OutOfMemory → (range : Range) × TextSays text.now range }
 {
     if let Ok(date) = text.parse::<HttpDate>() {
         return Ok(IfRange::Date(date));
@@ -41,6 +42,8 @@ impl IfRange {
         // What the values say is read, unless memory runs out.
         ensures only { (range : Range) → ValuesSay values.now range
             → MatchResult result (λ r. shown r ≡ shown range) (λ e. e ≡ HeaderError.OutOfMemory) }
+        // It may run out of memory only where the values say something; so `Invalid` comes exactly where they say nothing.
+        ensures memory { result ≡ Err HeaderError.OutOfMemory → (range : Range) × ValuesSay values.now range }
     {
         let text = one_text(values).ok_or(HeaderError::Invalid)?;
         range_of(alloc, text)
@@ -48,11 +51,11 @@ impl IfRange {
 
     /// The date as IMF-fixdate, or the tag's spelling. `Invalid` exactly where it holds a byte below 32 but the tab, or 127.
     pub fn encode(&self, alloc: Global) -> Result<HeaderValue, HeaderError>
-        ensures { Gives (λ value. value) result (written (if_range_text self.now)) }
+        ensures { GivesFirst (λ value. value) result (written (if_range_text self.now)) }
     {
         match self {
             IfRange::ETag(tag) => tag.encode(alloc),
-            IfRange::Date(date) => value_of(date.to_string(alloc)?),
+            IfRange::Date(date) => value_of_bytes(alloc, &date.to_bytes()),
         }
     }
 

@@ -45,7 +45,8 @@ fn language_of(piece: &str) -> Option<&str>
 }
 
 fn languages_of_pieces(alloc: Global, pieces: &[&str]) -> Result<Vec<String>, HeaderError>
-    ensures { Gives (λ languages. map string_bytes languages.items) result (every language_of (map (λ piece. piece.now) pieces.now)) }
+    ensures { Gives (λ languages. map string_bytes languages.items) result
+        (every language_of (map (λ piece. piece.now) pieces.now)) }
 {
     let mut languages = Vec::new(alloc);
     for piece in pieces {

@@ -1,6 +1,6 @@
 //! Headers that are kept as the text of their one value, with no form asked of it.
 ghost use Rattle.std.specs.Prelude.{string_bytes};
-ghost use Rattle.dav_headers_core.specs.Gives.{Gives};
+ghost use Rattle.dav_headers_core.specs.Gives.{GivesFirst};
 ghost use Rattle.dav_headers_core.specs.Values.{one_text, written};
 
 use super::HeaderError;
@@ -15,14 +15,14 @@ pub struct ContentType(pub String);
 impl ContentType {
     /// The one text. Anything else is `Invalid`.
     pub fn decode(alloc: Global, values: &[HeaderValue]) -> Result<ContentType, HeaderError>
-        ensures { Gives (λ header. string_bytes header.0) result (one_text values.now) }
+        ensures { GivesFirst (λ header. string_bytes header.0) result (one_text values.now) }
     {
         Ok(ContentType(one_string(alloc, values)?))
     }
 
     /// The text as a value. `Invalid` exactly where it holds a byte below 32 but the tab, or 127.
     pub fn encode(&self, alloc: Global) -> Result<HeaderValue, HeaderError>
-        ensures { Gives (λ value. value) result (written (string_bytes self.now.0)) }
+        ensures { GivesFirst (λ value. value) result (written (string_bytes self.now.0)) }
     {
         let ContentType(text) = self;
         copied_value(alloc, text)
@@ -36,14 +36,14 @@ pub struct ContentLocation(pub String);
 impl ContentLocation {
     /// The one text. Anything else is `Invalid`.
     pub fn decode(alloc: Global, values: &[HeaderValue]) -> Result<ContentLocation, HeaderError>
-        ensures { Gives (λ header. string_bytes header.0) result (one_text values.now) }
+        ensures { GivesFirst (λ header. string_bytes header.0) result (one_text values.now) }
     {
         Ok(ContentLocation(one_string(alloc, values)?))
     }
 
     /// The text as a value. `Invalid` exactly where it holds a byte below 32 but the tab, or 127.
     pub fn encode(&self, alloc: Global) -> Result<HeaderValue, HeaderError>
-        ensures { Gives (λ value. value) result (written (string_bytes self.now.0)) }
+        ensures { GivesFirst (λ value. value) result (written (string_bytes self.now.0)) }
     {
         let ContentLocation(text) = self;
         copied_value(alloc, text)
@@ -57,14 +57,14 @@ pub struct LockToken(pub String);
 impl LockToken {
     /// The one text. Anything else is `Invalid`.
     pub fn decode(alloc: Global, values: &[HeaderValue]) -> Result<LockToken, HeaderError>
-        ensures { Gives (λ header. string_bytes header.0) result (one_text values.now) }
+        ensures { GivesFirst (λ header. string_bytes header.0) result (one_text values.now) }
     {
         Ok(LockToken(one_string(alloc, values)?))
     }
 
     /// The text as a value. `Invalid` exactly where it holds a byte below 32 but the tab, or 127.
     pub fn encode(&self, alloc: Global) -> Result<HeaderValue, HeaderError>
-        ensures { Gives (λ value. value) result (written (string_bytes self.now.0)) }
+        ensures { GivesFirst (λ value. value) result (written (string_bytes self.now.0)) }
     {
         let LockToken(text) = self;
         copied_value(alloc, text)
@@ -78,14 +78,14 @@ pub struct XLitmus(pub String);
 impl XLitmus {
     /// The one text. Anything else is `Invalid`.
     pub fn decode(alloc: Global, values: &[HeaderValue]) -> Result<XLitmus, HeaderError>
-        ensures { Gives (λ header. string_bytes header.0) result (one_text values.now) }
+        ensures { GivesFirst (λ header. string_bytes header.0) result (one_text values.now) }
     {
         Ok(XLitmus(one_string(alloc, values)?))
     }
 
     /// The text as a value. `Invalid` exactly where it holds a byte below 32 but the tab, or 127.
     pub fn encode(&self, alloc: Global) -> Result<HeaderValue, HeaderError>
-        ensures { Gives (λ value. value) result (written (string_bytes self.now.0)) }
+        ensures { GivesFirst (λ value. value) result (written (string_bytes self.now.0)) }
     {
         let XLitmus(text) = self;
         copied_value(alloc, text)

@@ -1,9 +1,9 @@
 //! `Timeout`.
-ghost use Rattle.std.specs.Prelude.{◌≡◌, ◌≢◌, List, ◌∷◌, [], Some, IfOk, IfErr, All, map, string_bytes};
+ghost use Rattle.std.specs.Prelude.{◌≡◌, ◌≢◌, List, ◌∷◌, [], Some, None, Err, IfOk, IfErr, All, map, string_bytes};
 ghost use Rattle.http_header.specs.FieldValue.{plain_value};
 ghost use Rattle.dav_headers_core.specs.Gives.{Gives};
 ghost use Rattle.dav_headers_core.specs.Optional.{every};
-ghost use Rattle.dav_headers_core.specs.Values.{written};
+ghost use Rattle.dav_headers_core.specs.Values.{one_text, written};
 ghost use Rattle.dav_headers_core.specs.Numbers.{number};
 ghost use Rattle.dav_headers_core.specs.Timeouts.{timeout_of, timeout_header, timeout_text, timeouts_text, IsWithin};
 ghost use Rattle.dav_headers_core.specs.declared.davheaders.errors.HeaderError.TheVariants as HeaderError;
@@ -82,7 +82,9 @@ impl Timeout {
     /// The timeouts of the one text: what stands between its commas, without spaces and tabs at the ends, is `Infinite`, or
     /// `Second-` and a number within u32. Anything else is `Invalid`.
     pub fn decode(alloc: Global, values: &[HeaderValue]) -> Result<Timeout, HeaderError>
-        ensures { Gives (λ timeout. timeout.0.items) result (timeout_header values.now) }
+        ensures value { Gives (λ timeout. timeout.0.items) result (timeout_header values.now) }
+        // Whether there is one text is looked at before memory is taken.
+        ensures one_text { one_text values.now ≡ None → result ≡ Err HeaderError.Invalid }
     {
         let text = one_text(values).ok_or(HeaderError::Invalid)?;
         let pieces = pieces(alloc, text)?;

@@ -2,7 +2,7 @@
 ghost use Rattle.std.specs.Prelude.{◌≡◌, ◌∷◌, [], Some, IfOk, IfErr, option_map, string_bytes};
 ghost use Rattle.std.specs.List.{slice_split};
 ghost use Rattle.http_header.specs.FieldValue.{plain_value};
-ghost use Rattle.dav_headers_core.specs.Gives.{Gives, exactly};
+ghost use Rattle.dav_headers_core.specs.Gives.{GivesFirst, exactly};
 ghost use Rattle.dav_headers_core.specs.Values.{written};
 ghost use Rattle.dav_headers_core.specs.Numbers.{number};
 ghost use Rattle.dav_headers_core.specs.UpdateRanges.{is_dash, two, range_between, range_of, range_header, range_text, IsWithin};
@@ -93,7 +93,7 @@ impl XUpdateRange {
 
     /// The value `append`, `bytes=A-B`, `bytes=A-` or `bytes=-B`, which is read as the same. `OutOfMemory` alone.
     pub fn encode(&self, alloc: Global) -> Result<HeaderValue, HeaderError>
-        ensures value { Gives (λ value. value) result (written (range_text self.now)) }
+        ensures value { GivesFirst (λ value. value) result (written (range_text self.now)) }
         ensures reads_back { IfOk result (λ value. range_header (value ∷ []) ≡ Some self.now) }
         ensures err { IfErr result (λ e. e ≡ HeaderError.OutOfMemory) }
     {

@@ -3,7 +3,7 @@ ghost use Rattle.std.specs.Prelude.{◌≡◌, IfOk, IfSome, option_copied, map,
 ghost use Rattle.std.specs.List.{list_all, list_any};
 ghost use Rattle.std.specs.Char.{is_ascii_whitespace};
 ghost use Rattle.http_header.specs.FieldValue.{IsVisibleAscii};
-ghost use Rattle.dav_headers_core.specs.Gives.{Gives};
+ghost use Rattle.dav_headers_core.specs.Gives.{GivesFirst};
 ghost use Rattle.dav_headers_core.specs.Values.{one_value, one_text, text_of, is_text_byte, is_control, written};
 ghost use Rattle.dav_headers_core.specs.Pieces.{trimmed_by, pieces};
 ghost use Rattle.dav_headers_core.specs.Pieces as spelled;
@@ -57,7 +57,7 @@ pub(super) fn one_text(values: &[HeaderValue]) -> Option<&str>
 
 /// A copy of the text of the one value.
 pub(super) fn one_string(alloc: Global, values: &[HeaderValue]) -> Result<String, HeaderError>
-    ensures { Gives (λ text. string_bytes text) result (one_text values.now) }
+    ensures { GivesFirst (λ text. string_bytes text) result (one_text values.now) }
 {
     let text = one_text(values).ok_or(HeaderError::Invalid)?;
     Ok(String::from_str(alloc, text)?)
@@ -99,7 +99,7 @@ fn holds_control(bytes: &[u8]) -> bool
 
 /// The value of this text. `Invalid` exactly where it holds a byte below 32 but the tab, or 127.
 pub(super) fn value_of(text: String) -> Result<HeaderValue, HeaderError>
-    ensures { Gives (λ value. value) result (written (string_bytes text)) }
+    ensures { GivesFirst (λ value. value) result (written (string_bytes text)) }
 {
     if holds_control(text.as_bytes()) {
         return Err(HeaderError::Invalid);
@@ -107,12 +107,19 @@ pub(super) fn value_of(text: String) -> Result<HeaderValue, HeaderError>
     HeaderValue::from_string(text).map_err(|_| HeaderError::OutOfMemory)
 }
 
-/// The value of a copy of this text, refused as by `value_of`.
-pub(super) fn copied_value(alloc: Global, text: &str) -> Result<HeaderValue, HeaderError>
-    ensures { Gives (λ value. value) result (written text.now) }
+/// The value of a copy of these bytes, refused as by `value_of`.
+pub(super) fn value_of_bytes(alloc: Global, bytes: &[u8]) -> Result<HeaderValue, HeaderError>
+    ensures { GivesFirst (λ value. value) result (written bytes.now) }
 {
-    if holds_control(text.as_bytes()) {
+    if holds_control(bytes) {
         return Err(HeaderError::Invalid);
     }
-    HeaderValue::from_str(alloc, text).map_err(|_| HeaderError::OutOfMemory)
+    HeaderValue::from_bytes(alloc, bytes).map_err(|_| HeaderError::OutOfMemory)
+}
+
+/// The value of a copy of this text, refused as by `value_of`.
+pub(super) fn copied_value(alloc: Global, text: &str) -> Result<HeaderValue, HeaderError>
+    ensures { GivesFirst (λ value. value) result (written text.now) }
+{
+    value_of_bytes(alloc, text.as_bytes())
 }

@@ -1,6 +1,6 @@
 //! Conditions of an `If` value, and lists of them.
 ghost use Rattle.std.specs.Prelude.{◌≡◌, length};
-ghost use Rattle.dav_headers_core.specs.Gives.{Gives};
+ghost use Rattle.dav_headers_core.specs.Gives.{Gives, GivesFirst};
 ghost use Rattle.dav_headers_core.specs.Pairwise.{pairwise};
 ghost use Rattle.dav_headers_core.specs.Private.IfReading as reading;
 ghost use Rattle.dav_headers_core.specs.IfValues.{condition_of, conditions_of};
@@ -21,7 +21,7 @@ pub struct IfCondition {
 }
 
 fn condition_at(alloc: Global, bytes: &[u8]) -> Result<(IfCondition, &[u8]), HeaderError>
-    ensures { Gives (λ x. (condition_of x.0, x.1.now)) result (reading.condition_at bytes.now) }
+    ensures { GivesFirst (λ x. (condition_of x.0, x.1.now)) result (reading.condition_at bytes.now) }
 {
     let (not, bytes) = match behind_not(bytes) {
         Some(after) => (true, trim_blanks(after)),
@@ -33,7 +33,8 @@ fn condition_at(alloc: Global, bytes: &[u8]) -> Result<(IfCondition, &[u8]), Hea
 
 /// The conditions up to `)`, and what follows it. Each takes a byte, so there are fewer than bytes.
 fn conditions_at(alloc: Global, bytes: &[u8]) -> Result<(Vec<IfCondition>, &[u8]), HeaderError>
-    ensures { Gives (λ x. (conditions_of x.0.items, x.1.now)) result (reading.conditions_at (length bytes.now) bytes.now) }
+    ensures { Gives (λ x. (conditions_of x.0.items, x.1.now)) result
+        (reading.conditions_at (length bytes.now) bytes.now) }
 {
     let mut conditions = Vec::new(alloc);
     let mut rest = bytes;

@@ -1,6 +1,6 @@
 //! State tokens and entity tags in an `If` value.
 ghost use Rattle.std.specs.Prelude.{◌≡◌};
-ghost use Rattle.dav_headers_core.specs.Gives.{Gives};
+ghost use Rattle.dav_headers_core.specs.Gives.{GivesFirst};
 ghost use Rattle.dav_headers_core.specs.Private.IfReading as reading;
 ghost use Rattle.dav_headers_core.specs.IfValues.{item_of};
 ghost use Rattle.dav_headers_core.specs.IfStrongEq.{item_strong_eq};
@@ -20,9 +20,9 @@ pub enum IfItem {
 
 #[tactic(auto, unfolding(crate::specs::Private::IfReading::pointed_at))]
 fn pointed_at(alloc: Global, bytes: &[u8]) -> Result<(IfItem, &[u8]), HeaderError>
-    ensures { Gives (λ x. (item_of x.0, x.1.now)) result (reading.pointed_at bytes.now) }
+    ensures { GivesFirst (λ x. (item_of x.0, x.1.now)) result (reading.pointed_at bytes.now) }
 {
-    let (text, rest) = text_at(bytes, b'>')?;
+    let (text, rest) = text_at(bytes, b'>').ok_or(HeaderError::Invalid)?;
     if !holds_colon(text.as_bytes()) {
         return Err(HeaderError::Invalid);
     }
@@ -31,24 +31,24 @@ fn pointed_at(alloc: Global, bytes: &[u8]) -> Result<(IfItem, &[u8]), HeaderErro
 
 #[tactic(auto, unfolding(crate::specs::Private::IfReading::bracketed_at))]
 fn bracketed_at(alloc: Global, bytes: &[u8]) -> Result<(IfItem, &[u8]), HeaderError>
-    ensures { Gives (λ x. (item_of x.0, x.1.now)) result (reading.bracketed_at bytes.now) }
+    ensures { GivesFirst (λ x. (item_of x.0, x.1.now)) result (reading.bracketed_at bytes.now) }
 {
-    let (text, rest) = text_at(bytes, b']')?;
+    let (text, rest) = text_at(bytes, b']').ok_or(HeaderError::Invalid)?;
     let tag = ETag::from_str(alloc, text)?;
     Ok((IfItem::ETag(tag), rest))
 }
 
 #[tactic(auto, unfolding(crate::specs::Private::IfReading::worded_at))]
 fn worded_at(alloc: Global, bytes: &[u8]) -> Result<(IfItem, &[u8]), HeaderError>
-    ensures { Gives (λ x. (item_of x.0, x.1.now)) result (reading.worded_at bytes.now) }
+    ensures { GivesFirst (λ x. (item_of x.0, x.1.now)) result (reading.worded_at bytes.now) }
 {
-    let (text, rest) = word_at(bytes)?;
+    let (text, rest) = word_at(bytes).ok_or(HeaderError::Invalid)?;
     Ok((IfItem::StateToken(String::from_str(alloc, text)?), rest))
 }
 
 /// The item at the front, and what follows it.
 pub(super) fn item_at(alloc: Global, bytes: &[u8]) -> Result<(IfItem, &[u8]), HeaderError>
-    ensures { Gives (λ x. (item_of x.0, x.1.now)) result (reading.item_at bytes.now) }
+    ensures { GivesFirst (λ x. (item_of x.0, x.1.now)) result (reading.item_at bytes.now) }
 {
     match bytes {
         [] => Err(HeaderError::Invalid),

@@ -29,7 +29,7 @@ fn located_at(alloc: Global, bytes: &[u8]) -> Result<(IfList, &[u8]), HeaderErro
 {
     let (resource_tag, rest) = match behind(bytes, b'<') {
         Some(after) => {
-            let (text, rest) = text_at(after, b'>')?;
+            let (text, rest) = text_at(after, b'>').ok_or(HeaderError::Invalid)?;
             (Some(url_of(alloc, text)?), rest)
         }
         None => (None, bytes),

@@ -1,13 +1,10 @@
 //! Pieces of an `If` value. Each byte of it is read a fixed number of times.
 ghost use Rattle.std.specs.Prelude.{◌≡◌, false, option_map};
 ghost use Rattle.std.specs.Str.{is_utf8};
-ghost use Rattle.dav_headers_core.specs.Gives.{Gives};
 ghost use Rattle.dav_headers_core.specs.Optional.{when};
 ghost use Rattle.dav_headers_core.specs.Pieces as pieces;
 ghost use Rattle.dav_headers_core.specs.IfBytes as if_bytes;
 ghost use Rattle.dav_headers_core.specs.Private.IfReading as reading;
-
-use crate::davheaders::HeaderError;
 
 fn is_blank(b: u8) -> bool
     ensures { result ≡ pieces.is_blank b }
@@ -104,16 +101,11 @@ fn as_text(bytes: &[u8]) -> Option<&str>
 }
 
 /// An enclosed text that is UTF-8, and what follows its closing byte.
-pub(super) fn text_at(bytes: &[u8], closing: u8) -> Result<(&str, &[u8]), HeaderError>
-    ensures { Gives (λ x. (x.0.now, x.1.now)) result (reading.text_at closing bytes.now) }
+pub(super) fn text_at(bytes: &[u8], closing: u8) -> Option<(&str, &[u8])>
+    ensures { option_map (λ x. (x.0.now, x.1.now)) result ≡ reading.text_at closing bytes.now }
 {
-    let Some((text, rest)) = enclosed(bytes, closing) else {
-        return Err(HeaderError::Invalid);
-    };
-    match as_text(text) {
-        Some(text) => Ok((text, rest)),
-        None => Err(HeaderError::Invalid),
-    }
+    let (text, rest) = enclosed(bytes, closing)?;
+    Some((as_text(text)?, rest))
 }
 
 fn ends_word(bytes: &[u8]) -> bool
@@ -127,16 +119,14 @@ fn ends_word(bytes: &[u8]) -> bool
 
 /// The word at the front, and what follows it.
 #[tactic(auto, using(crate::proofs::ifs::ScanLemmas::word_fits))]
-pub(super) fn word_at(bytes: &[u8]) -> Result<(&str, &[u8]), HeaderError>
-    ensures { Gives (λ x. (x.0.now, x.1.now)) result (reading.word_at bytes.now) }
+pub(super) fn word_at(bytes: &[u8]) -> Option<(&str, &[u8])>
+    ensures { option_map (λ x. (x.0.now, x.1.now)) result ≡ reading.word_at bytes.now }
 {
     let len = len_of_word(bytes);
     let (word, rest) = bytes.split_at(len);
-    let Some(text) = as_text(word) else {
-        return Err(HeaderError::Invalid);
-    };
+    let text = as_text(word)?;
     if !holds_colon(word) || behind_not(word).is_some() || !ends_word(rest) {
-        return Err(HeaderError::Invalid);
+        return None;
     }
-    Ok((text, rest))
+    Some((text, rest))
 }

@@ -2,7 +2,8 @@ use Rattle.std.proofs.Common.{◌≡◌, ◌++◌, ◌∷◌, [], sym, ap, ◌�
 use Rattle.std.proofs.lemmas.Result.{err_from_is_err_and}
 use Rattle.std.proofs.lemmas.List.{map_push}
 use Rattle.dav_headers_core.specs.Private.IfReading.{after_byte, skip_blanks, condition_at, conditions_at}
-use Rattle.dav_headers_core.specs.Gives.{Refuses}
+use Rattle.dav_headers_core.specs.Gives.{Refuses, RefusesFirst}
+use Rattle.dav_headers_core.proofs.lists.GivesLemmas.{refused_anyhow}
 use Rattle.dav_headers_core.specs.IfValues.{condition_of, conditions_of}
 use Rattle.dav_headers_core.proofs.ifs.IfLoopLemmas.{closes, goes_on, fails}
 use Rattle.dav_headers_core.proofs.davheaders.if_headers.conditions.conditions_at.Goals as goal
@@ -18,7 +19,8 @@ returns-in_err-condition c =
     let p = err_from_is_err_and c.from_residual.result c.from_residual.ensures.1 in
     let bytes = c.args.bytes.now in
     let there : after_byte 41 (skip_blanks c.loop.rest.now) ≡ None = ap (after_byte 41) (sym c.trim_blanks-at.ensures) ∙ sym c.in_default.ensures in
-    let refused : Refuses c.in_err-condition.field-0.0 (condition_at (skip_blanks c.loop.rest.now)) = rw (← c.trim_blanks-at.ensures) c.in_err-condition.ensures in
+    let first : RefusesFirst c.in_err-condition.field-0.0 (condition_at (skip_blanks c.loop.rest.now)) = rw (← c.trim_blanks-at.ensures) c.in_err-condition.ensures in
+    let refused : Refuses c.in_err-condition.field-0.0 (condition_at (skip_blanks c.loop.rest.now)) = refused_anyhow c.in_err-condition.field-0.0 (condition_at (skip_blanks c.loop.rest.now)) first in
     rw (p.1, p.2) (fails (conditions_of c.loop.conditions.items) (length bytes) c.loop.counter c.loop.rest.now c.in_err-condition.field-0.0 (conditions_at (length bytes) bytes) c.loop-test.true there refused c.loop.invariant)
 
 pub loop-preserved : goal.loop-preserved

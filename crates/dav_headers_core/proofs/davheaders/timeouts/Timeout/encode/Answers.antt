@@ -1,5 +1,7 @@
 use Rattle.std.proofs.Common.{◌≡◌, ◌≢◌, ap, ◌∙◌, [], ◌∷◌, Some, string_bytes}
 use Rattle.dav_headers_core.specs.Pieces.{joined}
+use Rattle.dav_headers_core.specs.Values.{written}
+use Rattle.dav_headers_core.proofs.lists.GivesLemmas.{given_anyhow}
 use Rattle.dav_headers_core.specs.Timeouts.{timeout_header, timeouts_text}
 use Rattle.dav_headers_core.proofs.texts.PieceLemmas.{joined_by}
 use Rattle.dav_headers_core.proofs.numbers.TimeoutLaws.{timeouts_round_trip, timeouts_are_text}
@@ -14,7 +16,9 @@ text_is c =
     ok ∙ joined_by string_bytes texts ∙ ap joined shown
 
 pub returns-clause-value : goal.returns-clause-value
-returns-clause-value c = let gives = rw (text_is c) at c.value_of.ensures in gives
+returns-clause-value c =
+    let gives = rw (text_is c) at c.value_of.ensures in
+    given_anyhow (λ value. value) c.value_of.result (written (timeouts_text c.args.self.now.0.items)) gives
 
 pub returns-clause-reads_back : goal.returns-clause-reads_back
 returns-clause-reads_back c =

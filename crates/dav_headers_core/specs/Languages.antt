@@ -19,7 +19,8 @@ languages_of_bytes bytes = text_of bytes >>= λ text. every language_of (pieces 
 
 -- the languages of the values, one value after another
 abbrev pub languages_of_all_values : List FieldValue → Option (List (List ℕ))
-languages_of_all_values values = every (λ value. languages_of_bytes value.bytes) values >>= λ lists. Some (flat_map (λ list. list) lists)
+languages_of_all_values values =
+    every (λ value. languages_of_bytes value.bytes) values >>= λ lists. Some (flat_map (λ list. list) lists)
 
 -- the languages of one or more values
 abbrev pub language_header : List FieldValue → Option (List (List ℕ))

@@ -2,7 +2,7 @@
 use Rattle.std.specs.Prelude.{ℕ, Bool, ◌==◌, ◌&&◌, ◌||◌, not, nat_lt, nat_le, List, [], ◌∷◌, Option, None, Some}
 use Rattle.std.specs.List.{list_all, list_any}
 use Rattle.http_header.specs.FieldValue.{FieldValue, plain_value}
-use Rattle.dav_headers_core.specs.Optional.{◌>>=◌, when}
+use Rattle.dav_headers_core.specs.Optional.{◌>>=◌, when, every}
 
 -- the bytes of the one value
 abbrev pub one_value : List FieldValue → Option (List ℕ)
@@ -21,6 +21,15 @@ text_of bytes = when (list_all is_text_byte bytes) bytes
 -- the text of the one value
 abbrev pub one_text : List FieldValue → Option (List ℕ)
 one_text values = one_value values >>= text_of
+
+-- whether each of them is a text
+abbrev pub are_texts : List (List ℕ) → Bool
+are_texts list = list_all (λ bytes. list_all is_text_byte bytes) list
+
+-- the texts of one or more values
+abbrev pub texts_of : List FieldValue → Option (List (List ℕ))
+texts_of [] = None
+texts_of (value ∷ values) = every (λ v. text_of v.bytes) (value ∷ values)
 
 -- a byte that no value may hold: below 32 but the tab, or 127
 abbrev pub is_control : ℕ → Bool

@@ -15,7 +15,7 @@ use Rattle.dav_headers_core.proofs.ifs.ItemLemmas.{item_sound, item_complete, wo
 
 -- ---- what stands first in an item
 
-pub record StandsFirst (whole rest : List ℕ) : Type 0 where
+record StandsFirst (whole rest : List ℕ) : Type 0 where
   pub no_blank : skip_blanks whole ≡ whole
   pub no_not : after_not whole ≡ None
   pub no_close : after_byte 41 whole ≡ None
@@ -50,7 +50,7 @@ word_stands whole text rest h =
       shorter = omega (arith, length-append more rest, ap length f.3);
     }
 
-pub item_stands : (whole : List ℕ) (item : Item) (rest : List ℕ) → ItemAt whole item rest → StandsFirst whole rest
+item_stands : (whole : List ℕ) (item : Item) (rest : List ℕ) → ItemAt whole item rest → StandsFirst whole rest
 item_stands whole (Token text) rest (inl h) = between_first 60 62 whole text rest refl refl refl h.0
 item_stands whole (Token text) rest (inr h) = word_stands whole text rest h
 item_stands whole (Tag text) rest h = between_first 91 93 whole text rest refl refl refl h.0
@@ -63,7 +63,7 @@ condition_as_sound negated bytes found e =
     let r = bind_some (item_at bytes) f found e in
     rw (← some_is _ _ r.2) (refl, item_sound bytes r.0 r.1)
 
-pub condition_sound : (bytes : List ℕ) (found : Condition × List ℕ) → condition_at bytes ≡ Some found → ConditionAt bytes found.0 found.1
+condition_sound : (bytes : List ℕ) (found : Condition × List ℕ) → condition_at bytes ≡ Some found → ConditionAt bytes found.0 found.1
 condition_sound bytes found e = go (after_not bytes) refl e
   where
     go : (o : Option (List ℕ)) → after_not bytes ≡ o → choose o (λ after. condition_as true (skip_blanks after)) (condition_as false bytes) ≡ Some found → ConditionAt bytes found.0 found.1
@@ -86,7 +86,7 @@ condition_with false item whole at rest n h =
     ap (λ (o : Option (List ℕ)). choose o (λ after. condition_as true (skip_blanks after)) (condition_as false whole)) (ap after_not n ∙ (item_stands at item rest h).no_not)
     ∙ ap (condition_as false) n ∙ condition_as_complete false at item rest h
 
-pub condition_complete : (whole : List ℕ) (c : Condition) (rest : List ℕ) → ConditionAt whole c rest → condition_at whole ≡ Some (c, rest)
+condition_complete : (whole : List ℕ) (c : Condition) (rest : List ℕ) → ConditionAt whole c rest → condition_at whole ≡ Some (c, rest)
 condition_complete whole c rest h = condition_with c.negated c.item whole h.0 rest h.1 h.2
 
 -- where blanks stop, `)` or a condition stands
@@ -117,7 +117,7 @@ after_byte_sound byte [] rest e = absurd cc
 after_byte_sound byte (b ∷ bytes) rest e =
     let w = when_some (eqb b byte) bytes rest e in ap (λ (x : ℕ). x ∷ bytes) (eqb-true b byte w.0) ∙ ap (λ (x : List ℕ). byte ∷ x) w.1
 
-pub conditions_sound : (n : ℕ) (bytes : List ℕ) (found : List Condition × List ℕ) → conditions_at n bytes ≡ Some found → ConditionsAt bytes found.0 found.1
+conditions_sound : (n : ℕ) (bytes : List ℕ) (found : List Condition × List ℕ) → conditions_at n bytes ≡ Some found → ConditionsAt bytes found.0 found.1
 conditions_sound zero bytes found e = absurd cc
 conditions_sound (suc n) bytes found e = go (after_byte 41 (skip_blanks bytes)) refl e (conditions_sound n)
   where
@@ -133,7 +133,7 @@ conditions_sound (suc n) bytes found e = go (after_byte 41 (skip_blanks bytes)) 
         let q = bind_some (conditions_at n r.0.1) g found r.2 in
         rw (← some_is _ _ q.2) (skip_blanks bytes, r.0.1, skipped bytes, condition_sound (skip_blanks bytes) r.0 r.1, hyp r.0.1 q.0 q.1)
 
-pub conditions_complete : (cs : List Condition) (n : ℕ) (whole rest : List ℕ) → ConditionsAt whole cs rest → length whole ≤ n → conditions_at n whole ≡ Some (cs, rest)
+conditions_complete : (cs : List Condition) (n : ℕ) (whole rest : List ℕ) → ConditionsAt whole cs rest → length whole ≤ n → conditions_at n whole ≡ Some (cs, rest)
 conditions_complete [] zero whole rest h le = absurd (omega (arith, skips_len whole (41 ∷ rest) h))
 conditions_complete [] (suc n) whole rest h le =
     let there : skip_blanks whole ≡ 41 ∷ rest = skip_same whole (41 ∷ rest) h in rw there refl

@@ -12,12 +12,12 @@ use Rattle.dav_headers_core.proofs.lists.OptionalLemmas.{some_is}
 abbrev pub flips : Bool → Bool → Bool
 flips t q = cond t (not q) q
 
-pub flips_twice : (t q : Bool) → flips t (flips t q) ≡ q
+flips_twice : (t q : Bool) → flips t (flips t q) ≡ q
 flips_twice true true = refl
 flips_twice true false = refl
 flips_twice false q = refl
 
-pub flips_not : (t q : Bool) → flips t (not q) ≡ not (flips t q)
+flips_not : (t q : Bool) → flips t (not q) ≡ not (flips t q)
 flips_not true q = refl
 flips_not false q = refl
 

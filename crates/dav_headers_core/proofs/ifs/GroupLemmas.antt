@@ -21,7 +21,7 @@ behind_tag_sound tag bytes found e =
     let r = bind_some (list_at (skip_blanks bytes)) f found e in
     rw (← some_is _ _ r.2) (refl, list_sound (skip_blanks bytes) r.0 r.1)
 
-pub group_sound : (bytes : List ℕ) (found : Group × List ℕ) → group_at as_it_is bytes ≡ Some found → GroupAt bytes found.0 found.1
+group_sound : (bytes : List ℕ) (found : Group × List ℕ) → group_at as_it_is bytes ≡ Some found → GroupAt bytes found.0 found.1
 unfolding group_at
 group_sound bytes found e = go (after_byte 60 bytes) refl e
   where
@@ -73,7 +73,7 @@ group_with (Some text) cs whole after at rest t s h =
 
 -- ---- the value
 
-pub groups_sound : (n : ℕ) (bytes : List ℕ) (found : List Group) → groups_at as_it_is n bytes ≡ Some found → Groups bytes found
+groups_sound : (n : ℕ) (bytes : List ℕ) (found : List Group) → groups_at as_it_is n bytes ≡ Some found → Groups bytes found
 groups_sound zero bytes found e = absurd cc
 groups_sound (suc n) bytes found e = go (skip_blanks bytes) refl (is_empty (skip_blanks bytes)) refl e (groups_sound n)
   where
@@ -94,7 +94,7 @@ groups_sound (suc n) bytes found e = go (skip_blanks bytes) refl (is_empty (skip
         let q = bind_some (groups_at as_it_is n r.0.1) g found r.2 in
         rw (← some_is _ _ q.2) (at, r.0.1, rw s at (skipped bytes), group_sound at r.0 r.1, hyp r.0.1 q.0 q.1)
 
-pub groups_complete : (gs : List Group) (n : ℕ) (whole : List ℕ) → Groups whole gs → length whole < n → groups_at as_it_is n whole ≡ Some gs
+groups_complete : (gs : List Group) (n : ℕ) (whole : List ℕ) → Groups whole gs → length whole < n → groups_at as_it_is n whole ≡ Some gs
 groups_complete gs zero whole h lt = absurd (omega arith)
 groups_complete [] (suc n) whole h lt =
     let there : skip_blanks whole ≡ [] = skip_same whole [] h in rw there refl

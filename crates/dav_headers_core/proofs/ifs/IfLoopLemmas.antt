@@ -61,10 +61,6 @@ fails front n k rest OutOfMemory whole lt e found inv = tt
 fails front n k rest Invalid whole lt e found inv =
     sym inv ∙ ap (with_front front) (open_at n k rest None lt e ∙ ap (more (n - (k + 1))) found)
 
-pub runs_out : (front : List Condition) (n k : ℕ) (rest : List ℕ) (whole : Found (List Condition)) → n ≤ k → with_front front (conditions_at (n - k) rest) ≡ whole → whole ≡ None
-runs_out front n k rest whole le inv =
-    sym inv ∙ ap (λ (m : ℕ). with_front front (conditions_at m rest)) (none_left n k le)
-
 -- ---- lists
 
 abbrev pub lists_front : List Located → Option (List Located) → Option (List Located)

@@ -141,12 +141,12 @@ empty_same [] (l ∷ lists) h = absurd h
 empty_same (g ∷ groups) [] h = absurd h
 
 -- bytes that read as groups, which resolve to lists
-pub record Reads (bytes : List ℕ) (lists : List Located) : Type 0 where
+record Reads (bytes : List ℕ) (lists : List Located) : Type 0 where
   pub groups : List Group
   pub text : IfText bytes groups
   pub resolves : Resolves groups lists
 
-pub decoded_sound : (bytes : List ℕ) (lists : List Located) → decoded bytes ≡ Some lists → Reads bytes lists
+decoded_sound : (bytes : List ℕ) (lists : List Located) → decoded bytes ≡ Some lists → Reads bytes lists
 decoded_sound bytes lists e =
     let f : List Located → Option (List Located) = λ lists. when (not (is_empty lists)) lists in
     let r = bind_some (groups_at url_of (suc (length bytes)) bytes) f lists e in
@@ -156,7 +156,7 @@ decoded_sound bytes lists e =
     let some : not (is_empty g.0) ≡ true = ap not (sym (empty_same g.0 r.0 res)) ∙ w.0 in
     rw (← w.1) record { groups = g.0; text = reading_sound bytes g.0 (ap (λ (o : Option (List Group)). o >>= λ groups. when (not (is_empty groups)) groups) g.1 ∙ rw some refl); resolves = res }
 
-pub decoded_complete : (bytes : List ℕ) (lists : List Located) → Reads bytes lists → decoded bytes ≡ Some lists
+decoded_complete : (bytes : List ℕ) (lists : List Located) → Reads bytes lists → decoded bytes ≡ Some lists
 decoded_complete bytes lists h =
     let f : List Group → Option (List Group) = λ groups. when (not (is_empty groups)) groups in
     let r = bind_some (groups_at as_it_is (suc (length bytes)) bytes) f h.groups (reading_complete bytes h.groups h.text) in

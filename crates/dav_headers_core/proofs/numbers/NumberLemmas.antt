@@ -44,7 +44,7 @@ number-decimal bits n fits small =
 
 -- ---- the bytes of a number in decimal
 
-pub digits_in : (digits : List ℕ) → all_ascii_digits digits ≡ true → All (IsInRange 48 57) digits
+digits_in : (digits : List ℕ) → all_ascii_digits digits ≡ true → All (IsInRange 48 57) digits
 digits_in [] h = All-nil (IsInRange 48 57)
 digits_in (d ∷ digits) h =
     let parts = and_parts (is_ascii_digit d) (all_ascii_digits digits) h in

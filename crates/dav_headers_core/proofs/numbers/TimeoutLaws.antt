@@ -1,21 +1,22 @@
 -- Timeouts are read as they are written.
-use Rattle.std.proofs.Common.{◌≡◌, ◌≢◌, refl, ℕ, arith, Bool, true, ◌&&◌, leb, List, [], ◌∷◌, ◌++◌, map, Some}
+use Rattle.std.proofs.Common.{◌≡◌, ◌≢◌, refl, ℕ, arith, Bool, true, ◌&&◌, leb, List, [], ◌∷◌, map, Some}
 use Rattle.std.specs.Prelude.{decimal, codes}
 use Rattle.std.specs.Int.{IsInRange}
-use Rattle.std.specs.List.{All, list_all, flat_map}
+use Rattle.std.specs.List.{All, list_all}
 use Rattle.std.proofs.lemmas.Bool.Decides.{nat_tests}
 use Rattle.std.proofs.lemmas.List.Sums.{AllPass-from_list_all}
 use Rattle.std.proofs.lemmas.List.Elements.{All-nil, All-cons, All-head, All-tail, All-append, All-weaker}
 use Rattle.http_header.specs.FieldValue.{plain_value}
 use Rattle.dav_headers_core.specs.Optional.{every}
-use Rattle.dav_headers_core.specs.Values.{is_text_byte}
+use Rattle.dav_headers_core.specs.Values.{is_text_byte, are_texts}
 use Rattle.dav_headers_core.specs.Pieces.{joined}
 use Rattle.dav_headers_core.specs.Timeouts.{timeout_of, timeout_header, timeout_text, timeouts_text, IsWithin}
 use Rattle.dav_headers_core.specs.declared.davheaders.timeouts.DavTimeout.{DavTimeout}
 use Rattle.dav_headers_core.specs.declared.davheaders.timeouts.DavTimeout.TheVariants.{Seconds, Infinite}
 use Rattle.dav_headers_core.proofs.numbers.NumberLemmas.{decimal_in, number-decimal}
 use Rattle.dav_headers_core.proofs.texts.PieceLemmas.{IsPlain, pieces_joined}
-use Rattle.dav_headers_core.proofs.texts.TextLemmas.{text-append, each_of}
+use Rattle.dav_headers_core.proofs.texts.TextLemmas.{each_of}
+use Rattle.dav_headers_core.proofs.texts.JoinedLemmas.{joined_is_text}
 
 -- a byte above the comma
 abbrev is_timeout_byte : ℕ → Bool
@@ -58,16 +59,13 @@ all_words [] within = All-nil (All IsTimeoutByte)
 all_words (t ∷ ts) within =
     All-cons (All IsTimeoutByte) (timeout_text t) (map timeout_text ts) (timeout_is_word t (All-head IsWithin t ts within)) (all_words ts (All-tail IsWithin t ts within))
 
--- joined, they are a text
-rest_is_text : (texts : List (List ℕ)) → All (All IsTimeoutByte) texts → list_all is_text_byte (flat_map (λ text. codes ", " ++ text) texts) ≡ true
-rest_is_text [] words = refl
-rest_is_text (text ∷ texts) words =
-    text-append is_text_byte text (flat_map (λ text. codes ", " ++ text) texts) (each_of is_text_byte IsTimeoutByte word_is_text text (All-head (All IsTimeoutByte) text texts words)) (rest_is_text texts (All-tail (All IsTimeoutByte) text texts words))
+words_are_texts : (texts : List (List ℕ)) → All (All IsTimeoutByte) texts → are_texts texts ≡ true
+words_are_texts texts words =
+    each_of (λ text. list_all is_text_byte text) (All IsTimeoutByte) (λ text word. each_of is_text_byte IsTimeoutByte word_is_text text word) texts words
 
-joined_is_text : (texts : List (List ℕ)) → All (All IsTimeoutByte) texts → list_all is_text_byte (joined texts) ≡ true
-joined_is_text [] words = refl
-joined_is_text (text ∷ texts) words =
-    text-append is_text_byte text (flat_map (λ text. codes ", " ++ text) texts) (each_of is_text_byte IsTimeoutByte word_is_text text (All-head (All IsTimeoutByte) text texts words)) (rest_is_text texts (All-tail (All IsTimeoutByte) text texts words))
+-- joined, they are a text
+joined_words : (texts : List (List ℕ)) → All (All IsTimeoutByte) texts → list_all is_text_byte (joined texts) ≡ true
+joined_words texts words = joined_is_text texts (words_are_texts texts words)
 
 none_mapped : (ts : List DavTimeout) → ts ≢ [] → map timeout_text ts ≢ []
 none_mapped [] some e = some refl
@@ -77,7 +75,7 @@ pub timeouts_round_trip : (ts : List DavTimeout) → ts ≢ [] → All IsWithin 
 timeouts_round_trip ts some within =
     let words = all_words ts within in
     let plain = All-weaker (All IsTimeoutByte) (All IsPlain) (λ text all. All-weaker IsTimeoutByte IsPlain word_is_plain text all) (map timeout_text ts) words in
-    rw (joined_is_text (map timeout_text ts) words, pieces_joined (map timeout_text ts) (none_mapped ts some) plain) (all_read ts within)
+    rw (joined_words (map timeout_text ts) words, pieces_joined (map timeout_text ts) (none_mapped ts some) plain) (all_read ts within)
 
 pub timeouts_are_text : (ts : List DavTimeout) → All IsWithin ts → list_all is_text_byte (timeouts_text ts) ≡ true
-timeouts_are_text ts within = joined_is_text (map timeout_text ts) (all_words ts within)
+timeouts_are_text ts within = joined_words (map timeout_text ts) (all_words ts within)

@@ -83,7 +83,7 @@ quote_found bytes true found none = let at = found refl in sym (any_at bytes at.
 quote_found bytes false found none =
     sym (false_from_ne_true (holds_quote bytes) (λ e. let at = any_finds bytes e in both_ways false refl (none at.0 at.1 at.2)))
 
-pub no_quotes : (bytes : List ℕ) → holds_quote bytes ≡ false → AllByRecursion (λ b. b ≢ quote) bytes
+no_quotes : (bytes : List ℕ) → holds_quote bytes ≡ false → AllByRecursion (λ b. b ≢ quote) bytes
 no_quotes [] e = tt
 no_quotes (b ∷ bytes) e = let parts = or_parts (eqb b quote) (holds_quote bytes) e in (eqb-false b quote parts.0, no_quotes bytes parts.1)
 

@@ -27,7 +27,7 @@ parts_all {X = X} P at (x ∷ xs) all = go (at x) (parts_all P at xs (All-tail P
     go true rest = All-cons (All P) [] (slice_split at xs) (All-nil P) rest
     go false rest = onto_all P x (slice_split at xs) (All-head P x xs all) rest
 
-pub map_agree : {X Y : Type 0} (f g : X → Y) (xs : List X) → All (λ x. f x ≡ g x) xs → map f xs ≡ map g xs
+map_agree : {X Y : Type 0} (f g : X → Y) (xs : List X) → All (λ x. f x ≡ g x) xs → map f xs ≡ map g xs
 map_agree f g [] all = refl
 map_agree f g (x ∷ xs) all = rw (All-head (λ x. f x ≡ g x) x xs all, map_agree f g xs (All-tail (λ x. f x ≡ g x) x xs all)) refl
 
@@ -40,7 +40,7 @@ prefix_agree : (p q : ℕ → Bool) (xs : List ℕ) → Agree p q xs → prefix_
 prefix_agree p q [] all = refl
 prefix_agree p q (x ∷ xs) all = rw (All-head (λ b. p b ≡ q b) x xs all, prefix_agree p q xs (All-tail (λ b. p b ≡ q b) x xs all)) refl
 
-pub all_reverse : {X : Type 0} (P : X → Type 0) (xs : List X) → All P xs → All P (reverse xs)
+all_reverse : {X : Type 0} (P : X → Type 0) (xs : List X) → All P xs → All P (reverse xs)
 all_reverse P [] all = all
 all_reverse P (x ∷ xs) all =
     rw (reverse-append (x ∷ []) xs)

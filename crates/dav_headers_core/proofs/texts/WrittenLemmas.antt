@@ -1,7 +1,10 @@
 -- Values that were written.
-use Rattle.std.proofs.Common.{◌≡◌, refl, ℕ, arith, Bool, true, false, not, List, [], ◌∷◌, None, Some, Result, Ok, Err}
+use Rattle.std.proofs.Common.{◌≡◌, refl, ap, ◌∙◌, ℕ, arith, Bool, true, false, not, ◌||◌, List, [], ◌∷◌, ◌++◌, None, Some, Result, Ok, Err}
 use Rattle.std.specs.Prelude.{IfOk, IfErr, IsSome}
-use Rattle.std.specs.List.{list_any, list_all}
+use Rattle.std.specs.Prelude.{codes}
+use Rattle.std.specs.List.{list_any, list_all, flat_map}
+use Rattle.std.proofs.lemmas.List.Folds.{list_any-append}
+use Rattle.dav_headers_core.specs.Pieces.{joined}
 use Rattle.std.proofs.lemmas.Bool.{and_parts, or_from}
 use Rattle.std.proofs.lemmas.Bool.Decides.{nat_tests}
 use Rattle.http_header.specs.FieldValue.{FieldValue, plain_value}
@@ -41,3 +44,15 @@ memory_alone (Err Invalid) text gives visible = absurd (some_not_none (rw (no_co
   where
     some_not_none : Some (plain_value text) ≡ None → ⊥
     some_not_none e = absurd cc
+
+-- ---- texts that are joined
+
+rest_controls : (texts : List (List ℕ)) → list_any is_control (flat_map (λ text. codes ", " ++ text) texts) ≡ list_any (λ text. list_any is_control text) texts
+rest_controls [] = refl
+rest_controls (text ∷ texts) =
+    list_any-append is_control text (flat_map (λ text. codes ", " ++ text) texts) ∙ ap (λ (b : Bool). list_any is_control text || b) (rest_controls texts)
+
+pub joined_controls : (texts : List (List ℕ)) → list_any is_control (joined texts) ≡ list_any (λ text. list_any is_control text) texts
+joined_controls [] = refl
+joined_controls (text ∷ texts) =
+    list_any-append is_control text (flat_map (λ text. codes ", " ++ text) texts) ∙ ap (λ (b : Bool). list_any is_control text || b) (rest_controls texts)

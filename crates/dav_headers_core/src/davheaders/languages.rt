@@ -1,12 +1,13 @@
 //! `Content-Language`.
-ghost use Rattle.std.specs.Prelude.{◌≡◌, option_copied, map, string_bytes};
+ghost use Rattle.std.specs.Prelude.{◌≡◌, None, Err, IfErr, is_some, option_copied, map, string_bytes};
 ghost use Rattle.std.specs.List.{list_all};
 ghost use Rattle.http_header.specs.FieldValue.{IsVisibleAscii};
-ghost use Rattle.dav_headers_core.specs.Gives.{Gives};
+ghost use Rattle.dav_headers_core.specs.Gives.{Gives, GivesFirst};
 ghost use Rattle.dav_headers_core.specs.Optional.{every};
-ghost use Rattle.dav_headers_core.specs.Values.{is_text_byte, written};
+ghost use Rattle.dav_headers_core.specs.Values.{is_text_byte, text_of, texts_of, written};
 ghost use Rattle.dav_headers_core.specs.Pieces.{pieces, joined};
 ghost use Rattle.dav_headers_core.specs.Languages.{is_language, language_of, languages_of_bytes, languages_of_all_values, language_header};
+ghost use Rattle.dav_headers_core.specs.declared.davheaders.errors.HeaderError.TheVariants as HeaderError;
 
 use super::HeaderError;
 use super::values::{is_text, pieces, text_of, value_of};
@@ -14,18 +15,21 @@ use http_header::HeaderValue;
 use std::alloc::{AllocError, Global};
 use std::marker::Model;
 
-/// The languages that a body is meant for (RFC 9110 section 8.5). A contract sees it as the list of their bytes.
+/// The languages that a body is meant for (RFC 9110 section 8.5), each a text. A contract sees it as the list of their bytes.
 #[derive(Debug, Drop)]
 pub struct ContentLanguage {
     languages: Vec<String>,
 }
 
 impl Model for ContentLanguage {
-    ghost use Rattle.std.specs.Prelude.{ℕ, List, map, string_bytes};
+    ghost use Rattle.std.specs.Prelude.{◌≡◌, ℕ, true, List, map, string_bytes};
+    ghost use Rattle.dav_headers_core.specs.Values.{are_texts};
 
     ghost Value = { List (List ℕ) };
 
     ghost view = { λ c. map string_bytes c.languages.items };
+
+    ghost invariant = { λ c. are_texts (map string_bytes c.languages.items) ≡ true };
 }
 
 fn is_language(piece: &[u8]) -> bool
@@ -87,12 +91,24 @@ fn languages_of_all_values(
     Ok(languages)
 }
 
+/// Whether there are values, and each is a text.
+fn have_texts(values: &[HeaderValue]) -> bool
+    ensures { result ≡ is_some (texts_of values.now) }
+{
+    if values.is_empty() {
+        return false;
+    }
+    values.iter().all(|value| is_text(value.as_bytes()))
+}
+
 impl ContentLanguage {
     /// The languages of one value of this text, read as by `decode`: `Invalid` exactly where a byte isn't 32 to 126 or a tab,
     /// or where a piece between commas, without spaces and tabs at its ends, is neither of two bytes nor longer than four bytes
     /// with `-` as its third.
     pub fn from_str(alloc: Global, value: &str) -> Result<ContentLanguage, HeaderError>
-        ensures { Gives (λ languages. languages) result (languages_of_bytes value.now) }
+        ensures value { Gives (λ languages. languages) result (languages_of_bytes value.now) }
+        // Whether it is a text is looked at before memory is taken.
+        ensures text { text_of value.now ≡ None → result ≡ Err HeaderError.Invalid }
     {
         if !is_text(value.as_bytes()) {
             return Err(HeaderError::Invalid);
@@ -112,9 +128,11 @@ impl ContentLanguage {
     /// The languages of one or more texts, one text after another: what stands between the commas, without spaces and tabs at
     /// the ends, each of two bytes or longer than four bytes with `-` as its third (own). Anything else is `Invalid`.
     pub fn decode(alloc: Global, values: &[HeaderValue]) -> Result<ContentLanguage, HeaderError>
-        ensures { Gives (λ languages. languages) result (language_header values.now) }
+        ensures value { Gives (λ languages. languages) result (language_header values.now) }
+        // Whether there are texts, and nothing else, is looked at before memory is taken.
+        ensures texts { texts_of values.now ≡ None → result ≡ Err HeaderError.Invalid }
     {
-        if values.is_empty() {
+        if !have_texts(values) {
             return Err(HeaderError::Invalid);
         }
         Ok(ContentLanguage {
@@ -122,10 +140,10 @@ impl ContentLanguage {
         })
     }
 
-    /// The languages joined by `, `. `Invalid` exactly where that would hold a byte below 32 but the tab, or 127; what is decoded
-    /// holds none.
+    /// The languages joined by `, `. `OutOfMemory` alone.
     pub fn encode(&self, alloc: Global) -> Result<HeaderValue, HeaderError>
-        ensures { Gives (λ value. value) result (written (joined self.now)) }
+        ensures value { GivesFirst (λ value. value) result (written (joined self.now)) }
+        ensures err { IfErr result (λ e. e ≡ HeaderError.OutOfMemory) }
     {
         value_of(self.languages.join(alloc, ", ")?)
     }

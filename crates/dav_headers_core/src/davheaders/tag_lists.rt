@@ -1,15 +1,19 @@
 //! `If-Match` and `If-None-Match`.
 ghost use Rattle.std.specs.Prelude.{◌≡◌, ◌++◌, filter, map, IfOk};
 ghost use Rattle.http_header.specs.FieldValue.{IsVisibleAscii};
-ghost use Rattle.dav_headers_core.specs.Gives.{Gives};
-ghost use Rattle.dav_headers_core.specs.Values.{written};
+ghost use Rattle.dav_headers_core.specs.Gives.{GivesFirst};
+ghost use Rattle.dav_headers_core.specs.Values.{is_control, written};
+ghost use Rattle.dav_headers_core.specs.Pieces.{joined};
+ghost use Rattle.dav_headers_core.specs.Private.TagReading as reading;
+ghost use Rattle.std.specs.List.{flat_map, list_any};
 ghost use Rattle.dav_headers_core.specs.Tags.{is_tag};
 ghost use Rattle.dav_headers_core.specs.TagLists.{tag_list, tags_in, tag_list_header, tag_list_text, tags_strong_eq, tag_list_strong_eq};
 
-use super::values::{copied_value, pieces, text_of, trimmed_text, value_of};
+use super::values::{copied_value, holds_control, pieces, text_of, trimmed_text, value_of};
 use super::{ETag, HeaderError};
 use http_header::HeaderValue;
 use std::alloc::{AllocError, Global};
+use std::convert::AsStr;
 
 /// The tags that a condition names: each of these, or any that there is.
 #[derive(Debug, Drop)]
@@ -50,29 +54,68 @@ fn tags_in(alloc: Global, text: &str) -> Result<Vec<ETag>, AllocError>
     tags_among(alloc, &pieces(alloc, text)?)
 }
 
+/// Whether a value is `*`; none where one before it is no text.
+fn star_among(values: &[HeaderValue]) -> Option<bool>
+    ensures { result ≡ reading.star_among values.now }
+{
+    for value in values {
+        if trimmed_text(text_of(value)?) == "*" {
+            return Some(true);
+        }
+    }
+    Some(false)
+}
+
+/// The tags of the values that are texts, in order.
+fn tags_of(alloc: Global, values: &[HeaderValue]) -> Result<Vec<ETag>, AllocError>
+    ensures { IfOk result (λ tags. tags.items ≡ flat_map reading.tags_of values.now) }
+{
+    let mut tags = Vec::new(alloc);
+    for value in values {
+        if let Some(text) = text_of(value) {
+            let mut more = tags_in(alloc, text)?;
+            tags.append(&mut more)?;
+        }
+    }
+    Ok(tags)
+}
+
+/// What the values say. Whether they say anything is looked at before memory is taken.
 fn list_of(alloc: Global, values: &[HeaderValue]) -> Result<ETagList, HeaderError>
-    ensures { Gives tag_list result (tag_list_header values.now) }
+    ensures { GivesFirst tag_list result (tag_list_header values.now) }
 {
     if values.is_empty() {
         return Err(HeaderError::Invalid);
     }
-    let mut tags = Vec::new(alloc);
-    for value in values {
-        let text = text_of(value).ok_or(HeaderError::Invalid)?;
-        if trimmed_text(text) == "*" {
-            return Ok(ETagList::Star);
-        }
-        let mut more = tags_in(alloc, text)?;
-        tags.append(&mut more)?;
+    match star_among(values) {
+        Some(true) => Ok(ETagList::Star),
+        Some(false) => Ok(ETagList::Tags(tags_of(alloc, values)?)),
+        None => Err(HeaderError::Invalid),
     }
-    Ok(ETagList::Tags(tags))
+}
+
+/// Whether a spelling holds a byte that no value may hold.
+fn hold_control(tags: &[ETag]) -> bool
+    ensures { result ≡ list_any is_control (joined tags.now) }
+{
+    tags.iter()
+        .any(|tag| holds_control(tag.as_str().as_bytes()))
+}
+
+fn joined_tags(alloc: Global, tags: &[ETag]) -> Result<HeaderValue, HeaderError>
+    ensures { GivesFirst (λ value. value) result (written (joined tags.now)) }
+{
+    if hold_control(tags) {
+        return Err(HeaderError::Invalid);
+    }
+    value_of(tags.join(alloc, ", ")?)
 }
 
 fn value_of_list(alloc: Global, list: &ETagList) -> Result<HeaderValue, HeaderError>
-    ensures { Gives (λ value. value) result (written (tag_list_text (tag_list list.now))) }
+    ensures { GivesFirst (λ value. value) result (written (tag_list_text (tag_list list.now))) }
 {
     match list {
-        ETagList::Tags(tags) => value_of(tags.join(alloc, ", ")?),
+        ETagList::Tags(tags) => joined_tags(alloc, tags),
         ETagList::Star => copied_value(alloc, "*"),
     }
 }
@@ -105,14 +148,14 @@ impl IfMatch {
     /// `Star` at once, whatever follows; of another, what stands between its commas, without spaces and tabs at the ends, is
     /// kept where it spells a tag. No values are `Invalid`.
     pub fn decode(alloc: Global, values: &[HeaderValue]) -> Result<IfMatch, HeaderError>
-        ensures { Gives (λ header. tag_list header.0) result (tag_list_header values.now) }
+        ensures { GivesFirst (λ header. tag_list header.0) result (tag_list_header values.now) }
     {
         Ok(IfMatch(list_of(alloc, values)?))
     }
 
     /// The value `*`, or the spellings joined by `, `. `Invalid` exactly where it would hold a byte below 32 but the tab, or 127.
     pub fn encode(&self, alloc: Global) -> Result<HeaderValue, HeaderError>
-        ensures { Gives (λ value. value) result (written (tag_list_text (tag_list self.now.0))) }
+        ensures { GivesFirst (λ value. value) result (written (tag_list_text (tag_list self.now.0))) }
     {
         let IfMatch(list) = self;
         value_of_list(alloc, list)
@@ -130,14 +173,14 @@ impl IfMatch {
 impl IfNoneMatch {
     /// What one or more values say, read as `IfMatch` reads them.
     pub fn decode(alloc: Global, values: &[HeaderValue]) -> Result<IfNoneMatch, HeaderError>
-        ensures { Gives (λ header. tag_list header.0) result (tag_list_header values.now) }
+        ensures { GivesFirst (λ header. tag_list header.0) result (tag_list_header values.now) }
     {
         Ok(IfNoneMatch(list_of(alloc, values)?))
     }
 
     /// The value `*`, or the spellings joined by `, `. `Invalid` exactly where it would hold a byte below 32 but the tab, or 127.
     pub fn encode(&self, alloc: Global) -> Result<HeaderValue, HeaderError>
-        ensures { Gives (λ value. value) result (written (tag_list_text (tag_list self.now.0))) }
+        ensures { GivesFirst (λ value. value) result (written (tag_list_text (tag_list self.now.0))) }
     {
         let IfNoneMatch(list) = self;
         value_of_list(alloc, list)

@@ -91,7 +91,8 @@ fn is_control(b: u8) -> bool
     (b < 32 && b != b'\t') || b == 127
 }
 
-fn holds_control(bytes: &[u8]) -> bool
+/// Whether there is a byte that no value may hold: below 32 but the tab, or 127.
+pub(super) fn holds_control(bytes: &[u8]) -> bool
     ensures { result ≡ list_any is_control bytes.now }
 {
     bytes.iter().any(|b| is_control(*b))

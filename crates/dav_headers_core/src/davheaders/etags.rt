@@ -147,7 +147,7 @@ impl AsStr for ETag {
     }
 }
 
-/// An equal tag, or want of memory.
+/// An equal tag, or out of memory.
 impl Clone for ETag {
     ghost is_clone = { λ tag copy. copy ≡ tag };
 

@@ -65,7 +65,7 @@ impl If {
     }
 }
 
-/// The same lists, or want of memory.
+/// The same lists, or out of memory.
 impl Clone for If {
     ghost use Rattle.std.specs.Prelude.{map};
     ghost use Rattle.dav_headers_core.specs.IfValues.{located};

@@ -71,7 +71,7 @@ impl IfRange {
     }
 }
 
-/// An equal value, or want of memory.
+/// An equal value, or out of memory.
 impl Clone for IfRange {
     ghost is_clone = { λ range copy. copy ≡ range };
 

@@ -170,7 +170,7 @@ impl Eq for ContentLanguage {
     ghost laws = { lists_equiv nat_list_eq_equiv };
 }
 
-/// The same languages, or want of memory.
+/// The same languages, or out of memory.
 impl Clone for ContentLanguage {
     ghost is_clone = { λ languages copy. copy ≡ languages };
 

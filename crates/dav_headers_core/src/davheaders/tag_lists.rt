@@ -1,13 +1,13 @@
 //! `If-Match` and `If-None-Match`.
 ghost use Rattle.std.specs.Prelude.{◌≡◌, ◌++◌, filter, map, IfOk};
+ghost use Rattle.std.specs.List.{flat_map, list_any};
 ghost use Rattle.http_header.specs.FieldValue.{IsVisibleAscii};
 ghost use Rattle.dav_headers_core.specs.Gives.{GivesFirst};
 ghost use Rattle.dav_headers_core.specs.Values.{is_control, written};
 ghost use Rattle.dav_headers_core.specs.Pieces.{joined};
-ghost use Rattle.dav_headers_core.specs.Private.TagReading as reading;
-ghost use Rattle.std.specs.List.{flat_map, list_any};
 ghost use Rattle.dav_headers_core.specs.Tags.{is_tag};
 ghost use Rattle.dav_headers_core.specs.TagLists.{tag_list, tags_in, tag_list_header, tag_list_text, tags_strong_eq, tag_list_strong_eq};
+ghost use Rattle.dav_headers_core.specs.Private.TagReading as reading;
 
 use super::values::{copied_value, holds_control, pieces, text_of, trimmed_text, value_of};
 use super::{ETag, HeaderError};
@@ -195,7 +195,7 @@ impl IfNoneMatch {
     }
 }
 
-/// The same list, or want of memory.
+/// The same list, or out of memory.
 impl Clone for ETagList {
     ghost use Rattle.std.specs.Prelude.{◌≡◌};
     ghost use Rattle.dav_headers_core.specs.TagLists.{tag_list};
@@ -210,7 +210,7 @@ impl Clone for ETagList {
     }
 }
 
-/// The same list, or want of memory.
+/// The same list, or out of memory.
 impl Clone for IfMatch {
     ghost use Rattle.std.specs.Prelude.{◌≡◌};
     ghost use Rattle.dav_headers_core.specs.TagLists.{tag_list};
@@ -222,7 +222,7 @@ impl Clone for IfMatch {
     }
 }
 
-/// The same list, or want of memory.
+/// The same list, or out of memory.
 impl Clone for IfNoneMatch {
     ghost use Rattle.std.specs.Prelude.{◌≡◌};
     ghost use Rattle.dav_headers_core.specs.TagLists.{tag_list};

@@ -103,7 +103,7 @@ impl Timeout {
     }
 }
 
-/// The same timeouts, or want of memory.
+/// The same timeouts, or out of memory.
 impl Clone for Timeout {
     ghost is_clone = { λ timeout copy. copy.0.items ≡ timeout.0.items };
 

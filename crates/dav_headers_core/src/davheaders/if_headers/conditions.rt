@@ -84,7 +84,7 @@ impl IfCondition {
     }
 }
 
-/// The same condition, or want of memory.
+/// The same condition, or out of memory.
 impl Clone for IfCondition {
     ghost use Rattle.dav_headers_core.specs.IfValues.{condition_of};
 

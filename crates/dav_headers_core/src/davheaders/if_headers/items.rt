@@ -72,7 +72,7 @@ impl IfItem {
     }
 }
 
-/// The same item, or want of memory.
+/// The same item, or out of memory.
 impl Clone for IfItem {
     ghost use Rattle.dav_headers_core.specs.IfValues.{item_of};
 

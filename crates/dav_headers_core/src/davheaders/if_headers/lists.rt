@@ -46,7 +46,8 @@ fn located_at(alloc: Global, bytes: &[u8]) -> Result<(IfList, &[u8]), HeaderErro
 
 /// All lists of the bytes. Each takes a byte, so there are no more than bytes.
 pub(super) fn lists_at(alloc: Global, bytes: &[u8]) -> Result<Vec<IfList>, HeaderError>
-    ensures { Gives (λ lists. map located lists.items) result (reading.groups_at url_of (suc (length bytes.now)) bytes.now) }
+    ensures { Gives (λ lists. map located lists.items) result
+        (reading.groups_at url_of (suc (length bytes.now)) bytes.now) }
 {
     let mut lists = Vec::new(alloc);
     let mut rest = bytes;
@@ -84,7 +85,7 @@ impl IfList {
     }
 }
 
-/// The same list, or want of memory.
+/// The same list, or out of memory.
 impl Clone for IfList {
     ghost use Rattle.dav_headers_core.specs.IfValues.{located};
 

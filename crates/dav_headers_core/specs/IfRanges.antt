@@ -9,7 +9,8 @@ use Rattle.dav_headers_core.specs.Tags.{is_tag, strong_eq}
 use Rattle.dav_headers_core.specs.declared.davheaders.if_ranges.IfRange.{IfRange}
 use Rattle.dav_headers_core.specs.declared.davheaders.if_ranges.IfRange.TheVariants.{ETag, Date}
 
--- the text shows a date in one of HTTP's three formats, white space round it aside; else it spells a tag
+-- The text shows a date in one of HTTP's three formats, as `httpdate` reads them (of the years 1970 to 9999), white space round
+-- it aside; else it spells a tag.
 abbrev pub TextSays : List ℕ → IfRange → Type 0
 TextSays text (Date date) = IsDateText (trim text) date
 TextSays text (ETag tag) = ((date : HttpDate) → ¬ (IsDateText (trim text) date)) × (is_tag text ≡ true) × (tag ≡ text)

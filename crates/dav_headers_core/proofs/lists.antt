@@ -1,4 +1,4 @@
--- Plain lists, and values that may be missing.
+-- Plain lists, values that may be missing, and what calls answer by them.
 pub mod EveryLemmas
 pub mod GivesLemmas
 pub mod OptionalLemmas

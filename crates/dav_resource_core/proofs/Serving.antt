@@ -14,7 +14,8 @@ use Rattle.dav_resource_core.specs.declared.guarded.Refusal.TheVariants.{Fs, Loc
 use Rattle.dav_resource_core.specs.Requests as plain
 use Rattle.dav_resource_core.specs.Checks.{Check, has, refusing, shallow, target}
 use Rattle.dav_resource_core.specs.Step.{State, Same, is_offered, takes_lock_memory, conflicts, Step}
-use Rattle.dav_resource_core.specs.Served.{refusal_of, refused_by, RefusedBy}
+use Rattle.dav_resource_core.specs.Served.{refusal_of}
+use Rattle.dav_resource_core.specs.Private.Serving.{refused_by, RefusedBy}
 use Rattle.dav_resource_core.proofs.StepLaws.{serves_offered}
 
 -- ---- checks

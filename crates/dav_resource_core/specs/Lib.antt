@@ -1,6 +1,7 @@
 pub mod Checks
 pub mod Isolation
 pub mod Naming
+pub mod Private
 pub mod Requests
 pub mod Seeds
 pub mod Served

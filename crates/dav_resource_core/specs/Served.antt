@@ -1,13 +1,6 @@
 -- Requests and answers of the code as plain data, without where they lie in memory.
-use Rattle.std.specs.Prelude.{◌≡◌, ◌≢◌, ◌⊎◌, ℕ, true, List, [], map, option_map, string_bytes, Result, Ok, Err, Contains}
-use Rattle.dav_path_core.specs.declared.errors.FsError.{FsError}
-use Rattle.dav_path_core.specs.declared.errors.FsError.TheVariants.{InsufficientStorage}
+use Rattle.std.specs.Prelude.{map, option_map, string_bytes, Result, Ok, Err}
 use Rattle.dav_path_core.specs.Segments.{segments}
-use Rattle.dav_files_core.specs.Resources.{ResourceMap}
-use Rattle.dav_locks_core.specs.Lock.{Lock as LockRecord}
-use Rattle.dav_locks_core.specs.Locks.{Caller}
-use Rattle.dav_locks_core.specs.declared.ls.LockError.{LockError}
-use Rattle.dav_locks_core.specs.declared.ls.LockError.TheVariants.{Conflict, OutOfMemory as NoRoom}
 use Rattle.dav_resource_core.specs.declared.guarded.Command.{Command}
 use Rattle.dav_resource_core.specs.declared.guarded.Command.TheVariants.{Put, Read, Lock, Unlock}
 use Rattle.dav_resource_core.specs.declared.guarded.Request.{Request}
@@ -16,8 +9,6 @@ use Rattle.dav_resource_core.specs.declared.guarded.Reply.TheVariants.{Done, Byt
 use Rattle.dav_resource_core.specs.declared.guarded.Refusal.{Refusal}
 use Rattle.dav_resource_core.specs.declared.guarded.Refusal.TheVariants.{Fs, Locked, NoLock, OutOfMemory}
 use Rattle.dav_resource_core.specs.Requests as plain
-use Rattle.dav_resource_core.specs.Checks.{Check, refusing}
-use Rattle.dav_resource_core.specs.Step.{Does, takes_map_memory}
 
 abbrev pub command_of : Command → plain.Command
 command_of (Put path bytes) = plain.Command.Put (segments path.bytes) bytes
@@ -47,20 +38,3 @@ refusal_of OutOfMemory = plain.OutOfMemory
 abbrev pub answer_of : Result Reply Refusal → plain.Answer
 answer_of (Ok reply) = Ok (reply_of reply)
 answer_of (Err refusal) = Err (refusal_of refusal)
-
--- a refusal of some checks: it shows a lock that refuses one of them, or there is no memory to make them
-abbrev pub RefusedBy : List LockRecord → Caller → List Check → Refusal → Type 0
-RefusedBy locks who ks (Locked lock) = Contains (refusing locks who ks) lock
-RefusedBy locks who ks OutOfMemory = ks ≢ []
-RefusedBy locks who ks _ = ⊥
-
--- what a command on the map does at a moment; refused, it leaves the map as it was, and out of memory comes at any time
-abbrev pub DoesOnMap : ResourceMap → plain.Command → ℕ → Result Reply FsError → ResourceMap → Type 0
-DoesOnMap m command now (Ok reply) m' = Does m command now (Ok (reply_of reply)) m'
-DoesOnMap m command now (Err e) m' =
-    (m' ≡ m) × (((e ≡ InsufficientStorage) × (takes_map_memory command ≡ true)) ⊎ Does m command now (Err e) m)
-
--- what a refused call on locks is as a refusal
-abbrev pub refused_by : LockError → Refusal
-refused_by (Conflict lock) = Locked lock
-refused_by NoRoom = OutOfMemory

@@ -10,7 +10,8 @@ ghost use Rattle.dav_resource_core.specs.Step.{State, is_on_map, Step, Run};
 ghost use Rattle.dav_resource_core.specs.Requests as plain;
 ghost use Rattle.dav_resource_core.specs.Isolation.{EndsNamed, UnnamedStand, Isolated, AnyIsolated, EachExclusive, EachEndsNamed, EachIsolated, EachAnyIsolated, UnnamedIsolated, KeepsLocks};
 ghost use Rattle.dav_resource_core.specs.Stores.{start_stores, state_of};
-ghost use Rattle.dav_resource_core.specs.Served.{command_of, request_of, answer_of, RefusedBy, DoesOnMap};
+ghost use Rattle.dav_resource_core.specs.Served.{command_of, request_of, answer_of};
+ghost use Rattle.dav_resource_core.specs.Private.Serving.{RefusedBy, DoesOnMap};
 
 #[cfg(test)]
 mod tests;
@@ -107,7 +108,7 @@ pub enum Refusal {
 }
 
 impl From<LockError> for Refusal {
-    ghost use Rattle.dav_resource_core.specs.Served.{refused_by};
+    ghost use Rattle.dav_resource_core.specs.Private.Serving.{refused_by};
 
     ghost from_gives = { λ e r. r ≡ refused_by e };
 

@@ -97,8 +97,8 @@ impl MemLs {
     ) -> Result<DavLock, LockError>
         requires { deep ≡ false }
         ensures free { OnOk result (lock_conflicts self.old (segments path.now.bytes) shared deep ≡ []) }
-        ensures granted { IfOk result (λ lock. lock ≡ new_lock (token_from (R.stream rng.old)).0 path.now (lent_text principal.entry)
-            (lent_text owner.entry) timeout shared deep now.0) }
+        ensures granted { IfOk result (λ lock. lock ≡ new_lock (token_from (R.stream rng.old)).0 path.now
+            (lent_text principal.entry) (lent_text owner.entry) timeout shared deep now.0) }
         ensures added { IfOk result (λ lock. self.new ≡ self.old ++ lock ∷ []) }
         ensures drawn { OnOk result (R.stream rng.new ≡ (token_from (R.stream rng.old)).1) }
         ensures shown { IfErr result (λ e. Shows (lock_conflicts self.old (segments path.now.bytes) shared deep) e) }
@@ -128,8 +128,10 @@ impl MemLs {
     /// Ends the lock with that token at the path or above it: the one nearest to the root, of these the first granted
     /// (RFC 4918 section 9.11). Takes no memory.
     pub fn unlock(&mut self, path: &DavPath, token: &str) -> Result<(), NoLock>
-        ensures done { OnOk result ((k : ℕ) × (found self.old (segments path.now.bytes) token.now ≡ Some k) × (self.new ≡ remove self.old k)) }
-        ensures none { OnErr result ((found self.old (segments path.now.bytes) token.now ≡ None) × (self.new ≡ self.old)) }
+        ensures done { OnOk result ((k : ℕ) × (found self.old (segments path.now.bytes) token.now ≡ Some k)
+            × (self.new ≡ remove self.old k)) }
+        ensures none { OnErr result ((found self.old (segments path.now.bytes) token.now ≡ None)
+            × (self.new ≡ self.old)) }
         ensures exclusive { Exclusive self.new }
     {
         match lookup_lock(&self.tree, path, &WithToken { token }) {
@@ -152,8 +154,10 @@ impl MemLs {
         tokens: &[String],
     ) -> Result<(), LockError>
         requires { deep ≡ false }
-        ensures passes { OnOk result (check_conflicts self.now (segments path.now.bytes) deep (caller principal.entry ignore_principal tokens.now) ≡ []) }
-        ensures shown { IfErr result (λ e. Shows (check_conflicts self.now (segments path.now.bytes) deep (caller principal.entry ignore_principal tokens.now)) e) }
+        ensures passes { OnOk result (check_conflicts self.now (segments path.now.bytes) deep
+            (caller principal.entry ignore_principal tokens.now) ≡ []) }
+        ensures shown { IfErr result (λ e. Shows (check_conflicts self.now (segments path.now.bytes) deep
+            (caller principal.entry ignore_principal tokens.now)) e) }
     {
         let caller = Caller {
             principal,

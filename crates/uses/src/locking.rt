@@ -22,7 +22,8 @@ pub fn take<R: Rng>(
     rng: &mut R,
 ) -> Result<String, LockError>
     ensures exclusive { Exclusive locks.new }
-    ensures taken { IfOk result (λ token. (lock : Lock) × (locks.new ≡ locks.old ++ lock ∷ []) × (lock.token ≡ string_bytes token)) }
+    ensures taken { IfOk result (λ token. (lock : Lock) × (locks.new ≡ locks.old ++ lock ∷ [])
+        × (lock.token ≡ string_bytes token)) }
     ensures refused { OnErr result (locks.new ≡ locks.old) }
 {
     let lock = locks.lock(
@@ -47,7 +48,8 @@ pub fn may_change(
 ) -> Result<bool, AllocError>
     ensures may { IfOk result (λ may. may ≡ true → check_conflicts locks.now (segments path.now.bytes) false
         (record { principal = Some holder.now; ignore = false; tokens = map string_bytes tokens.now }) ≡ []) }
-    ensures may_not { IfOk result (λ may. may ≡ false → (lock : Lock) × Contains (check_conflicts locks.now (segments path.now.bytes) false
+    ensures may_not { IfOk result (λ may. may ≡ false → (lock : Lock) × Contains
+        (check_conflicts locks.now (segments path.now.bytes) false
         (record { principal = Some holder.now; ignore = false; tokens = map string_bytes tokens.now })) lock) }
 {
     match locks.check(path, Some(holder), false, false, tokens) {

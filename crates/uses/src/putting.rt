@@ -23,8 +23,8 @@ pub fn answer_put<R: Rng>(
     now: Moment,
     rng: &mut R,
 ) -> Result<StatusCode, DavError>
-    ensures { (lock : Lock) → Contains stores.old.locks lock → lock.shared ≡ false → (path : Path) → covers lock path ≡ true
-        → place stores.new.map path ≡ place stores.old.map path }
+    ensures { (lock : Lock) → Contains stores.old.locks lock → lock.shared ≡ false
+        → (path : Path) → covers lock path ≡ true → place stores.new.map path ≡ place stores.old.map path }
 {
     let path = DavPath::new(alloc, target)?;
     let bytes = Bytes::copy_from_slice(alloc, body).map_err(FsError::from)?;

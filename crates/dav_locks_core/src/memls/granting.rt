@@ -41,7 +41,8 @@ pub(super) fn grant<R: Rng>(
 ) -> Result<DavLock, LockError>
     requires { IsKnown tree.old.keyed node }
     ensures granted { IfOk result (λ lock. lock ≡ lock_for request.now (token_from (R.stream rng.old)).0) }
-    ensures added { IfOk result (λ lock. tree.new.keyed ≡ with_item tree.old.keyed node (spec.locks_at tree.old.keyed node ++ (number, lock) ∷ [])) }
+    ensures added { IfOk result (λ lock. tree.new.keyed ≡ with_item tree.old.keyed node
+        (spec.locks_at tree.old.keyed node ++ (number, lock) ∷ [])) }
     ensures drawn { OnOk result (R.stream rng.new ≡ (token_from (R.stream rng.old)).1) }
     ensures error { IfErr result (λ e. e ≡ LockError.OutOfMemory) }
     ensures unchanged { OnErr result (tree.new.keyed ≡ tree.old.keyed) }
@@ -104,7 +105,8 @@ fn lock_parts(alloc: Global, request: &LockRequest) -> Result<LockParts, AllocEr
     ensures empty { IfOk result (λ parts. string_bytes parts.token ≡ []) }
     ensures room { IfOk result (λ parts. string_len parts.token + Urn.LENGTH ≤ string_capacity parts.token) }
     ensures path { IfOk result (λ parts. parts.path ≡ request.now.path.now) }
-    ensures principal { IfOk result (λ parts. option_map string_bytes parts.principal ≡ lent_text request.now.principal) }
+    ensures principal { IfOk result (λ parts. option_map string_bytes parts.principal
+        ≡ lent_text request.now.principal) }
     ensures owner { IfOk result (λ parts. option_map string_bytes parts.owner ≡ lent_text request.now.owner) }
 {
     Ok(LockParts {

@@ -66,7 +66,8 @@ impl LockTest for Change<'_> {
     ghost use Rattle.dav_locks_core.specs.Calls.{caller};
     ghost use Rattle.dav_locks_core.specs.Private.WayTests.{refuses_asker};
 
-    ghost test = { λ c. refuses_asker (caller c.caller.principal c.caller.ignore_principal c.caller.tokens.now) c.any_held };
+    ghost test = { λ c. refuses_asker (caller c.caller.principal c.caller.ignore_principal c.caller.tokens.now)
+        c.any_held };
 
     fn passes(&self, at_path: bool, lock: &DavLock) -> bool {
         !is_held(lock, &self.caller) && (at_path || lock.deep) && (!lock.shared || !self.any_held)

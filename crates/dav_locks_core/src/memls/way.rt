@@ -74,7 +74,8 @@ pub(super) fn lookup_lock<T: LockTest>(
 // A copy of a lock, to show it.
 fn copy_at(tree: &Tree<Bytes, NodeLocks>, node: u64, place: usize) -> Result<DavLock, AllocError>
     requires { place < length (spec.locks_at tree.now.keyed node) }
-    ensures { IfOk result (λ copy. (d : NumberedLock) → copy ≡ (slice_index_or (spec.locks_at tree.now.keyed node) place d).1) }
+    ensures { IfOk result (λ copy. (d : NumberedLock) → copy ≡
+        (slice_index_or (spec.locks_at tree.now.keyed node) place d).1) }
 {
     let granted = &locks_at(tree, node)[place];
     copy_of(&granted.1)
@@ -93,7 +94,8 @@ pub(super) fn check_locks_to_path<T: LockTest>(
     test: &T,
 ) -> Result<(), LockError>
     ensures free { OnOk result (spec.lookup_lock (T.test test.now) tree.now.keyed 1 (segments path.now.bytes) ≡ None) }
-    ensures shown { IfErr result (λ e. ShowsAt tree.now.keyed (spec.lookup_lock (T.test test.now) tree.now.keyed 1 (segments path.now.bytes)) e) }
+    ensures shown { IfErr result (λ e. ShowsAt tree.now.keyed
+        (spec.lookup_lock (T.test test.now) tree.now.keyed 1 (segments path.now.bytes)) e) }
 {
     match lookup_lock(tree, path, test) {
         None => Ok(()),
@@ -137,7 +139,8 @@ pub(super) fn get_or_create_path_node(
     requires { IsTree is_segment tree.old.keyed }
     ensures grown { Grown tree.old.keyed tree.new.keyed }
     ensures shape { IsTree is_segment tree.new.keyed }
-    ensures node { IfOk result (λ n. (node_at tree.new.keyed 1 (segments path.now.bytes) ≡ Some n) × IsKnown tree.new.keyed n) }
+    ensures node { IfOk result (λ n. (node_at tree.new.keyed 1 (segments path.now.bytes) ≡ Some n)
+        × IsKnown tree.new.keyed n) }
     ensures error { IfErr result (λ e. e ≡ LockError.OutOfMemory) }
 {
     let mut node = ROOT_ID;

@@ -47,6 +47,10 @@ module _ {K D : Type 0} where
     root_alone = ap (λ f. f 1) (after-view es next) ∙ linked.root_alone;
   }
 
+  -- the same of the value that the fields stand for
+  pub shape_of : {eq : K → K → Bool} {es : List (ℕ × Node K D)} {next : ℕ} {t : Held K D} → IsLinked eq es next → held_of es next ≡ t → IsHeld eq t
+  shape_of {eq} {es} {next} linked is = subst (IsHeld eq) is (held_from eq es next linked)
+
   -- ---- what is told of a number
   module _ (es : List (ℕ × Node K D)) (next : ℕ) (t : Held K D) (view : held_of es next ≡ t) (n : ℕ) where
     pub tells_none : None ≡ node_at es n → {X : Type 0} (y : X) → None ≡ if_known t n y

@@ -1,10 +1,12 @@
 -- Which refusal the definitions of the tree's calls give.
-use Rattle.std.proofs.Common.{MatchOption, ◌≡◌, ◌≢◌, ◌==◌, ◌||◌, ◌&&◌, ℕ, Bool, is_some, true, false, cond, Some, None, Option, refl, ap, sym, ◌∙◌, inl, inr}
+use Rattle.std.proofs.Common.{MatchOption, ◌≡◌, ◌≢◌, ◌==◌, ◌||◌, ◌&&◌, ℕ, Bool, is_some, true, false, cond, Some, None, Option, refl, ap, sym, ◌∙◌, subst, inl, inr}
 use Rattle.std.specs.Option.{option_map}
-use Rattle.std.proofs.lemmas.Bool.{cases_Bool, eq-eqb, ne_eqb, false≢true, true≢false}
+use Rattle.std.proofs.lemmas.Bool.{cases_Bool, cases_eq, eq-eqb, ne_eqb, false≢true, true≢false}
+use Rattle.dav_path_core.specs.declared.errors.FsError.{FsError}
 use Rattle.dav_path_core.specs.declared.errors.FsError.TheVariants.{Exists, NotFound, Forbidden}
-use Rattle.dav_path_core.specs.Keyed.{Keyed, Leads, root, up, entry, place, parent, child, has_child, delete_refusal, cut_refusal, move_refusal, is_kept, is_under, IsKnown, IsTree}
+use Rattle.dav_path_core.specs.Keyed.{Keyed, Leads, root, up, Under, here, below, entry, place, parent, child, has_child, delete_refusal, cut_refusal, move_refusal, is_kept, is_under, IsKnown, IsTree}
 use Rattle.dav_path_core.proofs.Trees.{none≢some, child-none, child-some}
+use Rattle.dav_path_core.proofs.KeyedDepth.{is_under-true}
 use Rattle.dav_path_core.proofs.KeyedCuts.{parent_child}
 
 both_left : (a b : Bool) → (a && b) ≡ true → a ≡ true
@@ -22,6 +24,17 @@ neither_left false b h = refl
 pub neither_right : (a b : Bool) → (a || b) ≡ false → b ≡ false
 neither_right true b h = absurd (true≢false h)
 neither_right false b h = h
+
+apart_refusals : ◌≡◌ {A = Option FsError} (Some Exists) (Some Forbidden) → ⊥
+apart_refusals e = cc
+
+apart_refusals-2 : ◌≡◌ {A = Option FsError} (Some NotFound) (Some Forbidden) → ⊥
+apart_refusals-2 e = cc
+
+-- what leads to the root lies below it
+under_root : {f : ℕ → Option ℕ} {n : ℕ} → Leads f n → Under f 1 n
+under_root root = here
+under_root (up e l) = below e (under_root l)
 
 module _ {K D : Type 0} (t : Keyed K D) where
   -- a node with no parent is the root
@@ -136,4 +149,27 @@ module _ {K D : Type 0} (t : Keyed K D) where
             ]
           ]
           | inr af ↦ absurd (some_some NotFound (sym (move-unknown af) ∙ h))
+        ]
+
+    -- a move that is allowed leads out of the node's own subtree, and one that is forbidden leads into it
+    pub allowed-outside : IsTree eq t → move_refusal eq t n p k overwrite ≡ None → Under (parent t) n p → ⊥
+    allowed-outside tree h u = let a = allowed h in true≢false (sym ((is_under-true eq t tree n p a.known_parent).1 u) ∙ a.outside)
+
+    pub forbidden-below : IsTree eq t → move_refusal eq t n p k overwrite ≡ Some Forbidden → Under (parent t) n p
+    forbidden-below tree h =
+        let a = is_some (entry t n) && is_some (entry t p) in
+        let b = is_kept t overwrite (child (eq k) t p) in
+        let c = (n == 1) || is_under t n p in
+        elim (cases_Bool a) [
+          | inl at ↦ elim (cases_Bool b) [
+            | inl bt ↦ absurd (apart_refusals (sym (move-taken at bt) ∙ h))
+            | inr bf ↦ elim (cases_eq n 1) [
+              | inl one ↦ subst (λ v. Under (parent t) v p) (sym one) (under_root (tree.attached p (both_right _ _ at)))
+              | inr ne ↦ elim (cases_Bool (is_under t n p)) [
+                | inl ut ↦ (is_under-true eq t tree n p (both_right _ _ at)).0 ut
+                | inr uf ↦ absurd (none≢some Forbidden (sym (move-allowed at bf ne uf) ∙ h))
+              ]
+            ]
+          ]
+          | inr af ↦ absurd (apart_refusals-2 (sym (move-unknown af) ∙ h))
         ]

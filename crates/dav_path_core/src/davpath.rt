@@ -267,6 +267,11 @@ pub fn read_paths_are_normal()
     ensures { (text bytes : List ℕ) → Read text bytes → IsNormal bytes }
 {}
 
+/// A law for callers: a text is read as one path at most. It does nothing.
+pub fn one_path_is_read()
+    ensures { (text p q : List ℕ) → Read text p → Read text q → p ≡ q }
+{}
+
 // The bytes of a folder behind a prefix, by the first so many of its segments.
 fn folder_of(
     alloc: Global,

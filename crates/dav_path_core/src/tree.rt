@@ -1,11 +1,11 @@
 //! A tree of numbered nodes, each with a key among its siblings.
-ghost use Rattle.std.specs.Prelude.{◌≡◌, ◌≢◌, ℕ, is_some, Some, None, MatchOption, IfOk, IfErr, OnErr, MatchResult, Bool, true, false};
+ghost use Rattle.std.specs.Prelude.{◌≡◌, ◌≢◌, ◌<◌, ◌≤◌, ℕ, is_some, Some, None, MatchOption, IfOk, IfErr, OnErr, MatchResult, Bool, true, false};
 ghost use Rattle.std.specs.Fn.{FnReturnsAt};
 ghost use Rattle.std.specs.Option.{ok_or};
 ghost use Rattle.std.specs.Borrow.{sem};
 ghost use Rattle.std.specs.Map.{IsKeyTest};
 ghost use Rattle.dav_path_core.specs.Answers.{Answers};
-ghost use Rattle.dav_path_core.specs.Keyed.{item, parent as parent_number, IsChild, child, lone, add, add_refusal, cleared, delete_refusal, without, entry, has_child as has_child_of, is_kept as is_kept_in, is_under, move_refusal, placed, moved, Under, cut, cut_refusal, IsCut, IsKnown};
+ghost use Rattle.dav_path_core.specs.Keyed.{item, parent as parent_number, IsChild, child, lone, add, add_refusal, cleared, with_item, delete_refusal, without, entry, has_child as has_child_of, is_kept as is_kept_in, is_under, move_refusal, placed, moved, Under, cut, cut_refusal, IsCut, IsKnown};
 ghost use Rattle.dav_path_core.specs.Held.{IsHeld, first, after, if_known};
 
 mod links;
@@ -60,7 +60,8 @@ impl<K: Eq + Hash + Clone, D> Tree<K, D> {
 
     /// The number of a node's child under a key. `NotFound` where there is none.
     pub fn get_child(&self, parent: u64, key: &K) -> FsResult<u64>
-        ensures { result ≡ ok_or (child (K.eq key.now) self.now.keyed parent) FsError.NotFound }
+        ensures answer { result ≡ ok_or (child (K.eq key.now) self.now.keyed parent) FsError.NotFound }
+        ensures shape { IsHeld K.eq self.now }
     {
         self.find_child(parent, |name| key == name)
     }
@@ -134,7 +135,9 @@ impl<K: Eq + Hash + Clone, D> Tree<K, D> {
 
     /// The data of a node. `NotFound` for an unknown number.
     pub fn get_node(&self, id: u64) -> FsResult<&D>
-        ensures { MatchResult result (λ d. item self.now.keyed id ≡ Some d.now) (λ e. (e ≡ FsError.NotFound) × (item self.now.keyed id ≡ None)) }
+        ensures answer { MatchResult result (λ d. item self.now.keyed id ≡ Some d.now)
+            (λ e. (e ≡ FsError.NotFound) × (item self.now.keyed id ≡ None)) }
+        ensures shape { IsHeld K.eq self.now }
     {
         match self.nodes.get(&id) {
             Some(node) => Ok(&node.item),
@@ -145,7 +148,11 @@ impl<K: Eq + Hash + Clone, D> Tree<K, D> {
     /// The data of a node, to be written. `NotFound` for an unknown number.
     pub fn get_node_mut(&mut self, id: u64) -> FsResult<&mut D>
         ensures* writes_back { sem 𝓛 (lends_item K.row D.row K.Hash self.entry id result) }
-        ensures value { MatchResult result (λ d. item self.old.keyed id ≡ Some d.now) (λ e. (e ≡ FsError.NotFound) × (item self.old.keyed id ≡ None)) }
+        ensures value { MatchResult result (λ d. item self.old.keyed id ≡ Some d.now)
+            (λ e. (e ≡ FsError.NotFound) × (item self.old.keyed id ≡ None)) }
+        // Before the call, and whatever is written through the answer.
+        ensures shape { IsHeld K.eq self.old }
+        ensures shape_after { (d : D) → IsHeld K.eq (record self.old { keyed = with_item self.old.keyed id d }) }
     {
         match self.nodes.get_mut(&id) {
             Some(node) => Ok(&mut node.item),
@@ -343,6 +350,12 @@ impl<K: Eq + Hash + Clone, D: Drop> Tree<K, D> {
         ensures answer { Answers (add_refusal K.eq self.old.keyed parent key overwrite) result
             (λ n. (n ≡ self.old.keyed.next) × (self.new.keyed ≡ add (cleared K.eq self.old.keyed parent key) parent key item))
             (self.new ≡ self.old) }
+        // With `overwrite`, what goes is exactly the old child and the numbers whose parents lead to it.
+        ensures replaced { IfOk result (λ _. (old : ℕ) → child (K.eq key) self.old.keyed parent ≡ Some old
+            → IsCut self.old.keyed (cleared K.eq self.old.keyed parent key) old) }
+        // No number above 2^64 - 2 is given, so a next number of 2^64 - 1 is always refused.
+        ensures number { IfOk result (λ n. n < 18446744073709551615) }
+        ensures next { self.new.keyed.next ≤ 18446744073709551615 }
         ensures shape { IsHeld K.eq self.new }
     {
         let _ = &self.nodes;
@@ -456,6 +469,9 @@ impl<K: Eq + Hash + Clone, D: Drop> Tree<K, D> {
         ensures answer { MatchResult result
             (λ _. (move_refusal K.eq self.old.keyed id new_parent new_name overwrite ≡ None) × (self.new.keyed ≡ moved K.eq self.old.keyed id new_parent new_name))
             (λ e. (move_refusal K.eq self.old.keyed id new_parent new_name overwrite ≡ Some e) × (self.new ≡ self.old)) }
+        // So a move is allowed only to a parent outside the node's own subtree, and forbidden only to one within it.
+        ensures outside { IfOk result (λ _. ¬ Under (parent_number self.old.keyed) id new_parent) }
+        ensures below { IfErr result (λ e. e ≡ FsError.Forbidden → Under (parent_number self.old.keyed) id new_parent) }
         ensures own_place { child (K.eq new_name) self.old.keyed new_parent ≡ Some id → self.new ≡ self.old }
         ensures shape { IsHeld K.eq self.new }
     {
@@ -479,5 +495,22 @@ impl<K: Eq + Hash + Clone, D: Drop> Tree<K, D> {
                 }
             }
         }
+    }
+}
+
+#[cfg(test)]
+mod tests {
+    use super::*;
+    use std::test::Fail;
+
+    #[test]
+    fn gives_each_number_and_no_more(rt: HostRuntime) -> Result<(), Fail> {
+        let mut tree: Tree<u8, u8> = Tree::new(rt.alloc(), 0)?;
+        tree.next = u64::MAX - 1;
+        assert!(rt; tree.add_child(ROOT_ID, 1, 10, false)? == u64::MAX - 1);
+        assert!(rt; tree.add_child(ROOT_ID, 2, 20, false) == Err(FsError::InsufficientStorage));
+        assert!(rt; tree.next == u64::MAX);
+        assert!(rt; tree.get_child(ROOT_ID, &2) == Err(FsError::NotFound));
+        Ok(())
     }
 }

@@ -84,6 +84,14 @@ impl DavMethodSet {
     /// Every method.
     pub const WEBDAV_RW: DavMethodSet = DavMethodSet(0xffffffff);
 
+    /// A law for callers: the bits of the constants. It does nothing.
+    pub fn constants_have_these_bits()
+        ensures http_ro { bits Self.HTTP_RO ≡ 0x13 }
+        ensures http_rw { bits Self.HTTP_RW ≡ 0x17 }
+        ensures webdav_ro { bits Self.WEBDAV_RO ≡ 0x33 }
+        ensures webdav_rw { bits Self.WEBDAV_RW ≡ 0xffffffff }
+    {}
+
     /// Every method.
     pub fn all() -> DavMethodSet
         ensures { bits result ≡ 0xffffffff }

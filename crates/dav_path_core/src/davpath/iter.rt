@@ -7,7 +7,7 @@ use std::marker::Model;
 
 /// The segments of a path, in order: the non-empty pieces between slashes (RFC 3986 section 3.3). Each is a slice of
 /// the path's own bytes.
-#[derive(Drop)]
+#[derive(Drop, Clone)]
 pub struct Segments<'a> {
     rest: &'a [u8],
 }

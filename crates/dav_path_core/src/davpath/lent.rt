@@ -15,7 +15,7 @@ use std::alloc::Global;
 use std::marker::Model;
 
 /// A path, lent: its bytes, of which none are a prefix.
-#[derive(Drop)]
+#[derive(Drop, Clone)]
 pub struct DavPathRef<'a> {
     bytes: &'a [u8],
 }

@@ -1,15 +1,12 @@
-use Rattle.std.proofs.Common.{◌≡◌, ◌+◌, refl, subst, sym, ap, ◌∙◌, None}
+use Rattle.std.proofs.Common.{◌≡◌, refl, subst, sym, ap, ◌∙◌, None}
 use Rattle.dav_path_core.specs.Keyed.{child, add, IsKnown}
-use Rattle.dav_path_core.specs.Held.{IsHeld}
 use Rattle.dav_path_core.specs.View.{held_of, node_at, first_in, new_node}
 use Rattle.dav_path_core.proofs.Views.{known-view}
-use Rattle.dav_path_core.proofs.Links.{held_from, keyed-added, IsLinked-added}
+use Rattle.dav_path_core.proofs.Links.{shape_of, keyed-added, IsLinked-added}
 use Rattle.dav_path_core.proofs.tree.Tree.add_new.Goals as goal
 
 pub returns-in_err-put_new-clause-shape : goal.returns-in_err-put_new-clause-shape
-returns-in_err-put_new-clause-shape g c =
-    subst (IsHeld g.K.PartialEq.eq) (ap (λ es. held_of es c.self.inside.next) (sym c.in_err-put_new.ensures.err))
-    (held_from g.K.PartialEq.eq c.self.inside.nodes.entries c.self.inside.next c.self.invariant)
+returns-in_err-put_new-clause-shape g c = shape_of c.self.invariant (ap (λ es. held_of es c.self.inside.next) (sym c.in_err-put_new.ensures.err))
 
 pub invariant_of-self-2 : goal.invariant_of-self-2
 invariant_of-self-2 g c =
@@ -32,4 +29,4 @@ returns-clause-answer g c = (
 )
 
 pub returns-clause-shape : goal.returns-clause-shape
-returns-clause-shape g c = held_from g.K.PartialEq.eq c.put_new.new.nodes.entries (c.self.inside.next + 1) (invariant_of-self-2 g c)
+returns-clause-shape g c = shape_of (invariant_of-self-2 g c) refl

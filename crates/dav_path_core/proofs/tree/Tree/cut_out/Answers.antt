@@ -1,13 +1,12 @@
 use Rattle.std.proofs.Common.{◌<◌, refl, sym, subst}
 use Rattle.dav_path_core.specs.Keyed.{Keyed, here}
-use Rattle.dav_path_core.specs.Held.{IsHeld}
-use Rattle.dav_path_core.proofs.Links.{held_from}
+use Rattle.dav_path_core.proofs.Links.{shape_of}
 use Rattle.dav_path_core.proofs.Cutting.{Cutting, going, cutting_known, cutting_next, cutting_ends, leaf_not_root, known_below, fewer}
 use Rattle.dav_path_core.proofs.tree.Tree.cut_out.Goals as goal
 
 pub loop-self-init : goal.loop-self-init
 loop-self-init g c =
-    (subst (IsHeld g.K.PartialEq.eq) c.self.view_is (held_from g.K.PartialEq.eq c.self.inside.nodes.entries c.self.inside.next c.self.invariant), going c.requires.known c.requires.known here refl)
+    (shape_of c.self.invariant c.self.view_is, going c.requires.known c.requires.known here refl)
 
 pub leaf_below-leaf-requires : goal.leaf_below-leaf-requires
 leaf_below-leaf-requires g c = cutting_known c.loop-self.invariant.1 (sym c.loop-self-test.ensures)

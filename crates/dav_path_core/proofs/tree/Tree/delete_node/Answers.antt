@@ -3,12 +3,12 @@ use Rattle.std.specs.Option.{option_map}
 use Rattle.std.proofs.lemmas.Bool.{false≢true}
 use Rattle.dav_path_core.specs.declared.errors.FsError.TheVariants.{NotFound, Forbidden}
 use Rattle.dav_path_core.specs.Keyed.{item, place_of, without, delete_refusal, IsKnown}
-use Rattle.dav_path_core.specs.Held.{IsHeld, links_first}
+use Rattle.dav_path_core.specs.Held.{links_first}
 use Rattle.dav_path_core.specs.View.{keyed_of, node_at, entry_of, links_of, closed_up, with_node}
 use Rattle.dav_path_core.proofs.Trees.{none_from_is_some}
 use Rattle.dav_path_core.proofs.Chains.{first_child_of}
 use Rattle.dav_path_core.proofs.Views.{entry-view, known-view, node_at-updated, mapped-some}
-use Rattle.dav_path_core.proofs.Links.{held_from, parent-view, first_of}
+use Rattle.dav_path_core.proofs.Links.{parent-view, first_of, shape_of}
 use Rattle.dav_path_core.proofs.Unlinking.{closed-node, not_root, leaf_n, keyed-removed, IsLinked-removed}
 use Rattle.dav_path_core.proofs.Refusals.{no_place_root, has_child-true, has_child-false, delete-unknown, delete-root, delete-parent, delete-leaf}
 use Rattle.dav_path_core.proofs.tree.Tree.delete_node.Given.{Over}
@@ -23,7 +23,7 @@ returns-in_default-clause-answer g c =
     (subst (λ t. delete_refusal t.keyed c.args.id ≡ Some NotFound) c.self.view_is (delete-unknown (keyed_of c.self.inside.nodes.entries c.self.inside.next) c.args.id (known-view c.self.inside.nodes.entries c.self.inside.next c.args.id ∙ sym (ap is_some c.in_default.ensures.value))), refl)
 
 pub returns-in_default-clause-shape : goal.returns-in_default-clause-shape
-returns-in_default-clause-shape g c = subst (IsHeld g.K.PartialEq.eq) c.self.view_is (held_from g.K.PartialEq.eq c.self.inside.nodes.entries c.self.inside.next c.self.invariant)
+returns-in_default-clause-shape g c = shape_of c.self.invariant c.self.view_is
 
 pub returns-in_default-place-clause-answer : goal.returns-in_default-place-clause-answer
 returns-in_default-place-clause-answer g c =
@@ -35,7 +35,7 @@ returns-in_default-place-clause-answer g c =
     )
 
 pub returns-in_default-place-clause-shape : goal.returns-in_default-place-clause-shape
-returns-in_default-place-clause-shape g c = subst (IsHeld g.K.PartialEq.eq) c.self.view_is (held_from g.K.PartialEq.eq c.self.inside.nodes.entries c.self.inside.next c.self.invariant)
+returns-in_default-place-clause-shape g c = shape_of c.self.invariant c.self.view_is
 
 pub returns-then-is_some-clause-answer : goal.returns-then-is_some-clause-answer
 returns-then-is_some-clause-answer g c =
@@ -48,7 +48,7 @@ returns-then-is_some-clause-answer g c =
     )
 
 pub returns-then-is_some-clause-shape : goal.returns-then-is_some-clause-shape
-returns-then-is_some-clause-shape g c = subst (IsHeld g.K.PartialEq.eq) c.self.view_is (held_from g.K.PartialEq.eq c.self.inside.nodes.entries c.self.inside.next c.self.invariant)
+returns-then-is_some-clause-shape g c = shape_of c.self.invariant c.self.view_is
 
 -- the node is there until it is taken
 there : (g : Over) (c : In_default-remove g) → ⊥
@@ -87,4 +87,4 @@ returns-clause-answer g c =
     )
 
 pub returns-clause-shape : goal.returns-clause-shape
-returns-clause-shape g c = held_from g.K.PartialEq.eq c.remove.new.self.entries c.self.inside.next (invariant_of-self-2 g c)
+returns-clause-shape g c = shape_of (invariant_of-self-2 g c) refl

@@ -1,15 +1,14 @@
 use Rattle.std.proofs.Common.{sym, subst}
 use Rattle.dav_path_core.specs.Keyed.{IsCut, IsTree}
-use Rattle.dav_path_core.specs.Held.{IsHeld}
-use Rattle.dav_path_core.proofs.Links.{held_from}
+use Rattle.dav_path_core.proofs.Links.{shape_of}
 use Rattle.dav_path_core.proofs.Cutting.{IsCut-cut}
 use Rattle.dav_path_core.proofs.tree.Tree.delete_subtree.Goals as goal
 
 pub returns-then-not-is_known-clause-shape : goal.returns-then-not-is_known-clause-shape
-returns-then-not-is_known-clause-shape g c = subst (IsHeld g.K.PartialEq.eq) c.self.view_is (held_from g.K.PartialEq.eq c.self.inside.nodes.entries c.self.inside.next c.self.invariant)
+returns-then-not-is_known-clause-shape g c = shape_of c.self.invariant c.self.view_is
 
 pub returns-then-id-eq-ROOT_ID-clause-shape : goal.returns-then-id-eq-ROOT_ID-clause-shape
-returns-then-id-eq-ROOT_ID-clause-shape g c = subst (IsHeld g.K.PartialEq.eq) c.self.view_is (held_from g.K.PartialEq.eq c.self.inside.nodes.entries c.self.inside.next c.self.invariant)
+returns-then-id-eq-ROOT_ID-clause-shape g c = shape_of c.self.invariant c.self.view_is
 
 pub returns-clause-gone : goal.returns-clause-gone
 returns-clause-gone g c =

@@ -8,7 +8,7 @@ use Rattle.dav_path_core.proofs.Trees.{same_some, known_from_parent}
 use Rattle.dav_path_core.specs.Held.{IsHeld}
 use Rattle.dav_path_core.specs.View.{entry_of}
 use Rattle.dav_path_core.proofs.Views.{entry-view}
-use Rattle.dav_path_core.proofs.Links.{held_from, first-told, after-told, place-told}
+use Rattle.dav_path_core.proofs.Links.{first-told, after-told, place-told, shape_of}
 use Rattle.dav_path_core.proofs.Walks.{Walk, parent_known, child_here, walk_start, walk_here, walk_next, smaller, walk_end, search-found, search-none}
 use Rattle.dav_path_core.proofs.tree.Tree.find_child.Given.{Over}
 use Rattle.dav_path_core.proofs.tree.Tree.find_child.Goals as goal
@@ -16,21 +16,21 @@ use Rattle.dav_path_core.proofs.tree.Tree.find_child.Goals.{in-Some-place+else-s
 
 pub returns-in_default-clause-none : goal.returns-in_default-clause-none
 returns-in_default-clause-none g c =
-    let held : IsHeld g.K.PartialEq.eq c.args.self.now = subst (IsHeld g.K.PartialEq.eq) c.self.view_is (held_from g.K.PartialEq.eq c.self.inside.nodes.entries c.self.inside.next c.self.invariant) in
+    let held : IsHeld g.K.PartialEq.eq c.args.self.now = shape_of c.self.invariant c.self.view_is in
     let gone : entry c.args.self.now.keyed c.args.parent ≡ None = ap (λ t. entry t.keyed c.args.parent) (sym c.self.view_is) ∙ entry-view c.self.inside.nodes.entries c.self.inside.next c.args.parent None c.in_default.ensures.value in
     λ n k e. absurd (false≢true (ap is_some (sym gone) ∙ parent_known g.K.PartialEq.eq c.args.self.now.keyed held.tree n c.args.parent (ap (option_map (λ q. q.0)) e)))
 
 pub returns-in_default-clause-by_test : goal.returns-in_default-clause-by_test
 returns-in_default-clause-by_test g c =
-    let held : IsHeld g.K.PartialEq.eq c.args.self.now = subst (IsHeld g.K.PartialEq.eq) c.self.view_is (held_from g.K.PartialEq.eq c.self.inside.nodes.entries c.self.inside.next c.self.invariant) in
+    let held : IsHeld g.K.PartialEq.eq c.args.self.now = shape_of c.self.invariant c.self.view_is in
     λ test one pure. search-none g.K.PartialEq.eq c.args.self.now.keyed c.args.parent held.tree (λ k b. FnReturnsAt g.F.Fn c.args.same k b) NotFound test one pure (returns-in_default-clause-none g c)
 
 pub returns-in_default-clause-shape : goal.returns-in_default-clause-shape
-returns-in_default-clause-shape g c = subst (IsHeld g.K.PartialEq.eq) c.self.view_is (held_from g.K.PartialEq.eq c.self.inside.nodes.entries c.self.inside.next c.self.invariant)
+returns-in_default-clause-shape g c = shape_of c.self.invariant c.self.view_is
 
 pub loop-at-init : goal.loop-at-init
 loop-at-init g c =
-    let held : IsHeld g.K.PartialEq.eq c.args.self.now = subst (IsHeld g.K.PartialEq.eq) c.self.view_is (held_from g.K.PartialEq.eq c.self.inside.nodes.entries c.self.inside.next c.self.invariant) in
+    let held : IsHeld g.K.PartialEq.eq c.args.self.now = shape_of c.self.invariant c.self.view_is in
     let known : entry c.args.self.now.keyed c.args.parent ≡ Some (entry_of c.in-Some.top.now) = ap (λ t. entry t.keyed c.args.parent) (sym c.self.view_is) ∙ entry-view c.self.inside.nodes.entries c.self.inside.next c.args.parent (Some c.in-Some.top.now) c.in-Some.ensures.value in
     subst (Walk c.args.self.now c.args.parent (λ k. FnReturnsAt g.F.Fn c.args.same k false))
     (first-told c.self.inside.nodes.entries c.self.inside.next c.args.self.now c.self.view_is c.args.parent c.in-Some.top.now c.in-Some.ensures.value)
@@ -44,11 +44,11 @@ returns-in_default-get-clause-none g c =
 
 pub returns-in_default-get-clause-by_test : goal.returns-in_default-get-clause-by_test
 returns-in_default-get-clause-by_test g c =
-    let held : IsHeld g.K.PartialEq.eq c.args.self.now = subst (IsHeld g.K.PartialEq.eq) c.self.view_is (held_from g.K.PartialEq.eq c.self.inside.nodes.entries c.self.inside.next c.self.invariant) in
+    let held : IsHeld g.K.PartialEq.eq c.args.self.now = shape_of c.self.invariant c.self.view_is in
     λ test one pure. search-none g.K.PartialEq.eq c.args.self.now.keyed c.args.parent held.tree (λ k b. FnReturnsAt g.F.Fn c.args.same k b) NotFound test one pure (returns-in_default-get-clause-none g c)
 
 pub returns-in_default-get-clause-shape : goal.returns-in_default-get-clause-shape
-returns-in_default-get-clause-shape g c = subst (IsHeld g.K.PartialEq.eq) c.self.view_is (held_from g.K.PartialEq.eq c.self.inside.nodes.entries c.self.inside.next c.self.invariant)
+returns-in_default-get-clause-shape g c = shape_of c.self.invariant c.self.view_is
 
 here : (g : Over) (c : After-drop-same-then-same g) → IsChild c.args.self.now.keyed c.args.parent c.in-Some-place.name c.in-Some-at.id
 here g c =
@@ -61,12 +61,12 @@ returns-then-same-clause-found g c = (c.in-Some-place.name, here g c, record { s
 
 pub returns-then-same-clause-by_test : goal.returns-then-same-clause-by_test
 returns-then-same-clause-by_test g c =
-    let held : IsHeld g.K.PartialEq.eq c.args.self.now = subst (IsHeld g.K.PartialEq.eq) c.self.view_is (held_from g.K.PartialEq.eq c.self.inside.nodes.entries c.self.inside.next c.self.invariant) in
+    let held : IsHeld g.K.PartialEq.eq c.args.self.now = shape_of c.self.invariant c.self.view_is in
     λ test one pure. search-found g.K.PartialEq.eq c.args.self.now.keyed c.args.parent held.tree (λ k b. FnReturnsAt g.F.Fn c.args.same k b) NotFound test one pure c.in-Some-at.id c.in-Some-place.name
     (here g c) (record { shown = _; shows = refl; says = record { met = c.if-same.ensures } })
 
 pub returns-then-same-clause-shape : goal.returns-then-same-clause-shape
-returns-then-same-clause-shape g c = subst (IsHeld g.K.PartialEq.eq) c.self.view_is (held_from g.K.PartialEq.eq c.self.inside.nodes.entries c.self.inside.next c.self.invariant)
+returns-then-same-clause-shape g c = shape_of c.self.invariant c.self.view_is
 
 pub loop-at-smaller : goal.loop-at-smaller
 loop-at-smaller g c =
@@ -93,8 +93,8 @@ returns-clause-none g c =
 
 pub returns-clause-by_test : goal.returns-clause-by_test
 returns-clause-by_test g c =
-    let held : IsHeld g.K.PartialEq.eq c.args.self.now = subst (IsHeld g.K.PartialEq.eq) c.self.view_is (held_from g.K.PartialEq.eq c.self.inside.nodes.entries c.self.inside.next c.self.invariant) in
+    let held : IsHeld g.K.PartialEq.eq c.args.self.now = shape_of c.self.invariant c.self.view_is in
     λ test one pure. search-none g.K.PartialEq.eq c.args.self.now.keyed c.args.parent held.tree (λ k b. FnReturnsAt g.F.Fn c.args.same k b) NotFound test one pure (returns-clause-none g c)
 
 pub returns-clause-shape : goal.returns-clause-shape
-returns-clause-shape g c = subst (IsHeld g.K.PartialEq.eq) c.self.view_is (held_from g.K.PartialEq.eq c.self.inside.nodes.entries c.self.inside.next c.self.invariant)
+returns-clause-shape g c = shape_of c.self.invariant c.self.view_is

@@ -2,7 +2,7 @@ use Rattle.std.proofs.Common.{[], ◌∷◌, ◌++◌, sym, ◌∙◌, subst, So
 use Rattle.dav_path_core.specs.Held.{IsHeld}
 use Rattle.dav_path_core.specs.Children.{ListsChildren}
 use Rattle.dav_path_core.proofs.Trees.{known_from_parent}
-use Rattle.dav_path_core.proofs.Links.{held_from, first-told, after-told, place-told}
+use Rattle.dav_path_core.proofs.Links.{first-told, after-told, place-told, shape_of}
 use Rattle.dav_path_core.proofs.Walks.{child_here}
 use Rattle.dav_path_core.proofs.Listings.{Gathered, gather_start, gather_here, gather_next, fewer, gather_end, placed, known_there, not_known, not_unknown}
 use Rattle.dav_path_core.proofs.tree.Tree.get_children.Goals as goal
@@ -11,11 +11,11 @@ pub returns-in_default-clause-known : goal.returns-in_default-clause-known
 returns-in_default-clause-known g c = λ known. absurd (not_known c.self.inside.nodes.entries c.self.inside.next c.args.self.now c.self.view_is c.args.parent c.in_default.ensures.value known)
 
 pub returns-in_default-clause-shape : goal.returns-in_default-clause-shape
-returns-in_default-clause-shape g c = subst (IsHeld g.K.PartialEq.eq) c.self.view_is (held_from g.K.PartialEq.eq c.self.inside.nodes.entries c.self.inside.next c.self.invariant)
+returns-in_default-clause-shape g c = shape_of c.self.invariant c.self.view_is
 
 pub loop-at-init : goal.loop-at-init
 loop-at-init g c =
-    let held : IsHeld g.K.PartialEq.eq c.args.self.now = subst (IsHeld g.K.PartialEq.eq) c.self.view_is (held_from g.K.PartialEq.eq c.self.inside.nodes.entries c.self.inside.next c.self.invariant) in
+    let held : IsHeld g.K.PartialEq.eq c.args.self.now = shape_of c.self.invariant c.self.view_is in
     subst (Gathered g.K.PartialEq.eq c.args.self.now c.args.parent c.in-Some.top.now.first_child) (sym c.new-pairs.ensures.items)
     (subst (λ o. Gathered g.K.PartialEq.eq c.args.self.now c.args.parent o _)
     (first-told c.self.inside.nodes.entries c.self.inside.next c.args.self.now c.self.view_is c.args.parent c.in-Some.top.now c.in-Some.ensures.value)

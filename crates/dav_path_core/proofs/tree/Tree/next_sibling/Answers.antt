@@ -1,8 +1,8 @@
-use Rattle.std.proofs.Common.{ℕ, Option, ap, sym, ◌∙◌, subst, Some}
+use Rattle.std.proofs.Common.{ℕ, Option, ap, sym, ◌∙◌, Some}
 use Rattle.std.specs.Option.{ok_or}
 use Rattle.dav_path_core.specs.declared.errors.FsError.TheVariants.{NotFound}
 use Rattle.dav_path_core.specs.Held.{IsHeld, after}
-use Rattle.dav_path_core.proofs.Links.{held_from, known, tells_none, root_known, after-told}
+use Rattle.dav_path_core.proofs.Links.{known, tells_none, root_known, after-told, shape_of}
 use Rattle.dav_path_core.proofs.tree.Tree.next_sibling.Goals as goal
 
 pub returns-in-Some-clause-answer : goal.returns-in-Some-clause-answer
@@ -16,14 +16,14 @@ returns-in-None-clause-answer g c =
     ap (λ o. ok_or o NotFound) (tells_none c.self.inside.nodes.entries c.self.inside.next c.args.self.now c.self.view_is c.args.id c.in-None.ensures.value (after c.args.self.now c.args.id))
 
 pub returns-in-Some-clause-shape : goal.returns-in-Some-clause-shape
-returns-in-Some-clause-shape g c = subst (IsHeld g.K.PartialEq.eq) c.self.view_is (held_from g.K.PartialEq.eq c.self.inside.nodes.entries c.self.inside.next c.self.invariant)
+returns-in-Some-clause-shape g c = shape_of c.self.invariant c.self.view_is
 
 pub returns-in-None-clause-shape : goal.returns-in-None-clause-shape
-returns-in-None-clause-shape g c = subst (IsHeld g.K.PartialEq.eq) c.self.view_is (held_from g.K.PartialEq.eq c.self.inside.nodes.entries c.self.inside.next c.self.invariant)
+returns-in-None-clause-shape g c = shape_of c.self.invariant c.self.view_is
 
 pub returns-in-Some-clause-root : goal.returns-in-Some-clause-root
 returns-in-Some-clause-root g c =
-    let held : IsHeld g.K.PartialEq.eq c.args.self.now = subst (IsHeld g.K.PartialEq.eq) c.self.view_is (held_from g.K.PartialEq.eq c.self.inside.nodes.entries c.self.inside.next c.self.invariant) in
+    let held : IsHeld g.K.PartialEq.eq c.args.self.now = shape_of c.self.invariant c.self.view_is in
     λ e. ap (λ o. ok_or (Some o) NotFound) (sym (after-told c.self.inside.nodes.entries c.self.inside.next c.args.self.now c.self.view_is c.args.id c.in-Some.node.now c.in-Some.ensures.value) ∙ ap (after c.args.self.now) e ∙ held.root_alone)
 
 pub returns-in-None-clause-root : goal.returns-in-None-clause-root

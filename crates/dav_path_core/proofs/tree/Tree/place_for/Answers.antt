@@ -11,7 +11,7 @@ ok-ok_or (Some x) e = refl
 
 pub returns : goal.returns
 returns g c =
-    let taken = c.ok-taken.ensures.value ∙ ap result_ok c.get_child.ensures ∙ ok-ok_or _ _ in (
+    let taken = c.ok-taken.ensures.value ∙ ap result_ok c.get_child.ensures.answer ∙ ok-ok_or _ _ in (
       move-allowed c.args.self.now.keyed g.K.PartialEq.eq c.args.id c.args.new_parent c.args.new_name.now c.args.overwrite
           (ap (λ b. b && is_some (entry c.args.self.now.keyed c.args.new_parent)) (sym c.if-not-is_known.ensures) ∙ sym c.if-not-is_known-2.ensures)
           (ap (is_kept c.args.self.now.keyed c.args.overwrite) (sym taken) ∙ sym c.if-is_kept.ensures)

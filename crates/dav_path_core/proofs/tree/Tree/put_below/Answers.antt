@@ -1,9 +1,9 @@
-use Rattle.std.proofs.Common.{◌≡◌, ap, sym, ◌∙◌, subst, is_some, Some, None, false, Option, ℕ}
+use Rattle.std.proofs.Common.{◌≡◌, refl, ap, sym, ◌∙◌, subst, is_some, Some, None, false, Option, ℕ}
 use Rattle.std.proofs.lemmas.Bool.{false≢true}
 use Rattle.dav_path_core.specs.Keyed.{child, place_of, placed, is_under, IsKnown}
 use Rattle.dav_path_core.specs.View.{node_at, keyed_of, first_in, closed_up, put_below, put_first}
 use Rattle.dav_path_core.proofs.Views.{known-view, entry-view}
-use Rattle.dav_path_core.proofs.Links.{held_from}
+use Rattle.dav_path_core.proofs.Links.{shape_of}
 use Rattle.dav_path_core.proofs.Refusals.{no_place_root}
 use Rattle.dav_path_core.proofs.Placing.{keyed-placed, IsLinked-placed}
 use Rattle.dav_path_core.proofs.tree.Tree.put_below.Given.{Over}
@@ -61,4 +61,4 @@ returns-clause-placed g c =
     ∙ ap (λ t. placed t.keyed c.args.id c.args.new_parent c.args.new_name) c.self.view_is
 
 pub returns-clause-shape : goal.returns-clause-shape
-returns-clause-shape g c = held_from g.K.PartialEq.eq c.put_before.new.nodes.entries c.self.inside.next (invariant_of-self g c)
+returns-clause-shape g c = shape_of (invariant_of-self g c) refl

@@ -1,5 +1,5 @@
 -- The way up from a node has fewer numbers than the next number, so looking at that many is enough.
-use Rattle.std.proofs.Common.{◌≡◌, ◌≢◌, ℕ, zero, suc, ◌<◌, ◌≤◌, ◌||◌, Bool, true, false, List, [], ◌∷◌, length, Some, None, Option, refl, ap, sym, ◌∙◌, subst, inl, inr, arith, eqb}
+use Rattle.std.proofs.Common.{◌≡◌, ◌≢◌, ℕ, zero, suc, ◌+◌, ◌<◌, ◌≤◌, ◌||◌, Bool, true, false, List, [], ◌∷◌, length, Some, None, Option, refl, ap, sym, ◌∙◌, subst, inl, inr, arith, eqb}
 use Rattle.std.specs.Option.{option_map}
 use Rattle.std.specs.List.{list_any, IsDistinct, AllByRecursion}
 use Rattle.std.proofs.lemmas.Bool.{cases_eq, eq-eqb, ne_eqb, eqb-true, or_cases, false≢true}
@@ -97,6 +97,11 @@ module _ (f : ℕ → Option ℕ) (top : f 1 ≡ None) where
       go ne more None e = absurd (false≢true (sym (meets-top f m n k ne e) ∙ h))
       go ne more (Some p) e = below e (more p (sym (meets-up f m n k p ne e) ∙ h))
 
+-- a number met after i steps up, from which the way on is short enough
+pub record Climb {K D : Type 0} (t : Keyed K D) (at i : ℕ) : Type 0 where
+  pub leads : Leads (parent t) at
+  pub short_yet : depth leads + i < t.next
+
 module _ {K D : Type 0} (eq : K → K → Bool) (t : Keyed K D) (tree : IsTree eq t) where
   pub top : parent t 1 ≡ None
   top = ap (option_map (λ q. q.0)) tree.root.1
@@ -113,3 +118,12 @@ module _ {K D : Type 0} (eq : K → K → Bool) (t : Keyed K D) (tree : IsTree e
   -- the test means the relation
   pub is_under-true : (n k : ℕ) → IsKnown t k → (is_under t n k ≡ true → Under (parent t) n k) × (Under (parent t) n k → is_under t n k ≡ true)
   is_under-true n k known = (under_from_meets (parent t) top t.next k, λ u. meets_from_under (parent t) top t.next u (tree.attached k known) (short k (tree.attached k known)))
+
+  pub climb_start : (n : ℕ) → IsKnown t n → Climb t n 0
+  climb_start n known = let l = tree.attached n known in record { leads = l; short_yet = omega (arith, short n l) }
+
+  pub climb_next : (at i p : ℕ) → Climb t at i → parent t at ≡ Some p → Climb t p (i + 1)
+  climb_next at i p c e = let r = one_up (parent t) top c.leads e in record { leads = r.0; short_yet = omega (arith, r.1, c.short_yet) }
+
+  pub climb_ends : (at i : ℕ) → Climb t at i → i < t.next
+  climb_ends at i c = omega (arith, c.short_yet)

@@ -1,14 +1,16 @@
 -- A walk along the children of a node.
-use Rattle.std.proofs.Common.{◌≡◌, ℕ, zero, suc, ◌<◌, ◌≤◌, Bool, true, false, ◌⊎◌, List, [], ◌∷◌, length, Some, None, Option, refl, ap, sym, ◌∙◌, subst, inl, inr, arith, eqb, Result, Ok, Err}
+use Rattle.std.proofs.Common.{◌≡◌, ℕ, zero, suc, ◌<◌, ◌≤◌, Bool, true, false, List, [], ◌∷◌, ◌++◌, length, Some, None, Option, refl, ap, sym, ◌∙◌, subst, inl, inr, arith, eqb, Result, Ok, Err}
 use Rattle.std.specs.Option.{option_map, ok_or}
 use Rattle.std.specs.List.{list_any}
 use Rattle.std.specs.Map.{IsKeyTest}
-use Rattle.std.proofs.lemmas.Bool.{eqb-true, or_cases, false≢true, true≢false}
+use Rattle.std.proofs.lemmas.Bool.{eqb-true, or_cases, or_right, false≢true, true≢false}
+use Rattle.std.proofs.lemmas.List.{append-nil, append_assoc, length-append}
+use Rattle.std.proofs.lemmas.List.Folds.{list_any-append}
 use Rattle.std.proofs.lemmas.Map.Steps.{length-le_from_distinct_below}
 use Rattle.dav_path_core.specs.Keyed.{Keyed, place, parent, child, IsChild, IsKnown, IsTree, Leads, root, up}
 use Rattle.dav_path_core.proofs.Trees.{none≢some, same_some, known_from_parent, child-some, child-only}
-use Rattle.dav_path_core.proofs.Chains.{in_here, in_later}
-use Rattle.dav_path_core.specs.Held.{Held, Siblings, done, more, first, after, IsHeld}
+use Rattle.dav_path_core.proofs.Chains.{in_here}
+use Rattle.dav_path_core.specs.Held.{Held, Siblings, done, more, first, after, IsChildList, IsHeld}
 
 -- how many are left, looking at no more than m
 abbrev pub left : (ℕ → Option ℕ) → ℕ → Option ℕ → ℕ
@@ -47,57 +49,72 @@ module _ {K D : Type 0} where
   pub child_here : (t : Keyed K D) (n p r : ℕ) (k : K) → parent t n ≡ Some p → place t n ≡ Some (r, k) → IsChild t p k n
   child_here t n p r k h e = place_under (place t n) p (r, k) h e
 
-  -- a walk under p that stands at a number, after each child that it has passed was refused
-  pub record Walk (t : Held K D) (p : ℕ) (Refused : K → Type 0) (at : Option ℕ) : Type 0 where
+  -- a walk along the children of p that stands at a number and has passed ks
+  pub record Walk (t : Held K D) (p : ℕ) (at : Option ℕ) (ks : List ℕ) : Type 0 where
     pub rest : List ℕ
     pub linked : Siblings (after t) at rest
-    pub fits : length rest ≤ t.keyed.next
-    pub inside : (n : ℕ) → list_any (eqb n) rest ≡ true → parent t.keyed n ≡ Some p
-    pub passed : (n : ℕ) (k : K) → IsChild t.keyed p k n → Refused k ⊎ (list_any (eqb n) rest ≡ true)
+    pub listed : IsChildList t p (ks ++ rest)
+
+  module _ (t : Held K D) (p : ℕ) where
+    pub walk_start : {eq : K → K → Bool} → IsHeld eq t → IsKnown t.keyed p → Walk t p (first t p) []
+    walk_start held known = let w = held.listed p known in record { rest = w.0; linked = w.1.linked; listed = w.1 }
+
+    pub walk_end : (ks : List ℕ) → Walk t p None ks → IsChildList t p ks
+    walk_end ks walk = subst (IsChildList t p) (ap (λ ns. ks ++ ns) (ended walk.linked) ∙ append-nil ks) walk.listed
+
+    module _ (id : ℕ) (ks : List ℕ) (walk : Walk t p (Some id) ks) where
+      pub walk_here : parent t.keyed id ≡ Some p
+      walk_here =
+          let s = split walk.linked in
+          (walk.listed.members id).0 (list_any-append (eqb id) ks walk.rest ∙ or_right (list_any (eqb id) ks) (list_any (eqb id) walk.rest) (ap (list_any (eqb id)) s.1 ∙ in_here id s.0))
+
+      pub walk_next : Walk t p (after t id) (ks ++ id ∷ [])
+      walk_next =
+          let s = split walk.linked in
+          record { rest = s.0; linked = s.2; listed = subst (IsChildList t p) (ap (λ ns. ks ++ ns) s.1 ∙ sym (append_assoc ks (id ∷ []) s.0)) walk.listed }
+
+      module _ {eq : K → K → Bool} (tree : IsTree eq t.keyed) where
+        fits : length walk.rest ≤ t.keyed.next
+        fits =
+            omega (
+              arith,
+              length-le_from_distinct_below (ks ++ walk.rest) t.keyed.next walk.listed.once (λ q h. (tree.numbered q (known_from_parent t.keyed q p ((walk.listed.members q).0 h))).1),
+              length-append ks walk.rest,
+            )
+
+        one_less : left (after t) t.keyed.next (after t id) < left (after t) t.keyed.next (Some id)
+        one_less =
+            let s = split walk.linked in
+            omega (arith, left-length t.keyed.next walk.linked fits, left-length t.keyed.next s.2 (omega (arith, fits, ap length s.1)), ap length s.1)
+
+        pub smaller : (o b : Option ℕ) → o ≡ Some id → after t id ≡ b → left (after t) t.keyed.next b < left (after t) t.keyed.next o
+        smaller o b e f = subst (λ v. left (after t) t.keyed.next v < left (after t) t.keyed.next o) f (subst (λ v. left (after t) t.keyed.next (after t id) < left (after t) t.keyed.next v) (sym e) one_less)
+
+  -- ---- a search: each child that was passed is refused
+  pub record Searched (t : Held K D) (p : ℕ) (Refused : K → Type 0) (at : Option ℕ) : Type 0 where
+    pub passed : List ℕ
+    pub walk : Walk t p at passed
+    pub refused : (n : ℕ) (k : K) → list_any (eqb n) passed ≡ true → IsChild t.keyed p k n → Refused k
 
   module _ (t : Held K D) (p : ℕ) (Refused : K → Type 0) where
-    pub walk_start : (eq : K → K → Bool) → IsHeld eq t → IsKnown t.keyed p → Walk t p Refused (first t p)
-    walk_start eq held known =
-        let w = held.listed p known in
-        record {
-          rest = w.0;
-          linked = w.1.linked;
-          fits = length-le_from_distinct_below w.0 t.keyed.next w.1.once (λ q h. (held.tree.numbered q (known_from_parent t.keyed q p ((w.1.members q).0 h))).1);
-          inside = λ n h. (w.1.members n).0 h;
-          passed = λ n k e. inr ((w.1.members n).1 (ap (option_map (λ q. q.0)) e));
-        }
+    pub search_start : {eq : K → K → Bool} → IsHeld eq t → IsKnown t.keyed p → Searched t p Refused (first t p)
+    search_start held known = record { passed = []; walk = walk_start t p held known; refused = λ n k h. absurd (false≢true h) }
 
-    module _ (id : ℕ) (walk : Walk t p Refused (Some id)) where
-      pub walk_here : parent t.keyed id ≡ Some p
-      walk_here = let s = split walk.linked in walk.inside id (ap (list_any (eqb id)) s.1 ∙ in_here id s.0)
+    pub search_next : (id : ℕ) → Searched t p Refused (Some id) → ((k : K) → IsChild t.keyed p k id → Refused k) → Searched t p Refused (after t id)
+    search_next id s refuses = record {
+      passed = s.passed ++ id ∷ [];
+      walk = walk_next t p id s.passed s.walk;
+      refused = λ n k h e. elim (or_cases (list_any (eqb n) s.passed) (list_any (eqb n) (id ∷ [])) (sym (list_any-append (eqb n) s.passed (id ∷ [])) ∙ h)) [
+        | inl before ↦ s.refused n k before e
+        | inr last ↦ elim (or_cases (eqb n id) false last) [
+          | inl is ↦ refuses k (subst (λ v. IsChild t.keyed p k v) (eqb-true n id is) e)
+          | inr none ↦ absurd (false≢true none)
+        ]
+      ];
+    }
 
-      pub walk_next : ((k : K) → IsChild t.keyed p k id → Refused k) → Walk t p Refused (after t id)
-      walk_next refuses =
-          let s = split walk.linked in
-          record {
-            rest = s.0;
-            linked = s.2;
-            fits = omega (arith, walk.fits, ap length s.1);
-            inside = λ n h. walk.inside n (ap (list_any (eqb n)) s.1 ∙ in_later n id s.0 h);
-            passed = λ n k e. elim (walk.passed n k e) [
-              | inl r ↦ inl r
-              | inr h ↦ elim (or_cases (eqb n id) (list_any (eqb n) s.0) (sym (ap (list_any (eqb n)) s.1) ∙ h)) [
-                | inl is ↦ inl (refuses k (subst (λ v. IsChild t.keyed p k v) (eqb-true n id is) e))
-                | inr later ↦ inr later
-              ]
-            ];
-          }
-
-      walk_smaller : left (after t) t.keyed.next (after t id) < left (after t) t.keyed.next (Some id)
-      walk_smaller =
-          let s = split walk.linked in
-          omega (arith, left-length t.keyed.next walk.linked walk.fits, left-length t.keyed.next s.2 (omega (arith, walk.fits, ap length s.1)), ap length s.1)
-
-      pub smaller : (o b : Option ℕ) → o ≡ Some id → after t id ≡ b → left (after t) t.keyed.next b < left (after t) t.keyed.next o
-      smaller o b e f = subst (λ v. left (after t) t.keyed.next v < left (after t) t.keyed.next o) f (subst (λ v. left (after t) t.keyed.next (after t id) < left (after t) t.keyed.next v) (sym e) walk_smaller)
-
-    pub walk_end : Walk t p Refused None → (n : ℕ) (k : K) → IsChild t.keyed p k n → Refused k
-    walk_end walk n k e = elim (walk.passed n k e) [ inl r ↦ r | inr h ↦ absurd (false≢true (ap (list_any (eqb n)) (sym (ended walk.linked)) ∙ h)) ]
+    pub search_end : Searched t p Refused None → (n : ℕ) (k : K) → IsChild t.keyed p k n → Refused k
+    search_end s n k e = s.refused n k (((walk_end t p s.passed s.walk).members n).1 (ap (option_map (λ q. q.0)) e)) e
 
   -- a search that gives some child which passes, and none only where none does, is a look-up where the test is of one key
   module _ (eq : K → K → Bool) (t : Keyed K D) (p : ℕ) (tree : IsTree eq t) (Gives : K → Bool → Type 0) {E : Type 0} (error : E) (test : K → Bool) (one : IsKeyTest eq test) (pure : (k : K) (b : Bool) → Gives k b → b ≡ test k) where

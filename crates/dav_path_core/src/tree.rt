@@ -1,5 +1,5 @@
 //! A tree of numbered nodes, each with a key among its siblings.
-ghost use Rattle.std.specs.Prelude.{◌≡◌, ◌≢◌, ◌<◌, ◌≤◌, ℕ, is_some, Some, None, MatchOption, IfOk, IfErr, OnErr, MatchResult, Bool, true, false};
+ghost use Rattle.std.specs.Prelude.{◌≡◌, ◌≢◌, ◌<◌, ◌≤◌, ℕ, IsSome, is_some, Some, None, MatchOption, IfOk, IfErr, OnErr, MatchResult, Bool, true, false};
 ghost use Rattle.std.specs.Fn.{FnReturnsAt};
 ghost use Rattle.std.specs.Option.{ok_or};
 ghost use Rattle.std.specs.Borrow.{sem};
@@ -83,17 +83,28 @@ impl<K: Eq + Hash + Clone, D> Tree<K, D> {
         };
         let mut at = top.first_child;
         while let Some(id) = at {
-            let Some(node) = self.nodes.get(&id) else {
-                return Err(FsError::NotFound);
-            };
-            if let Some((_above, name)) = &node.place {
-                if same(name) {
-                    return Ok(id);
-                }
+            let (name, after) = self.child_at(id);
+            if same(name) {
+                return Ok(id);
             }
-            at = node.next_sibling;
+            at = after;
         }
         Err(FsError::NotFound)
+    }
+
+    // The key of a child, and the sibling after it.
+    fn child_at(&self, id: u64) -> (&K, Option<u64>)
+        requires { IsSome (parent_number self.now.keyed id) }
+        ensures key { (p : ℕ) → parent_number self.now.keyed id ≡ Some p → IsChild self.now.keyed p result.0.now id }
+        ensures after { result.1 ≡ after self.now id }
+    {
+        let Some(node) = self.nodes.get(&id) else {
+            unreachable!()
+        };
+        let Some((_above, name)) = &node.place else {
+            unreachable!()
+        };
+        (name, node.next_sibling)
     }
 
     /// The number of a node's parent, `None` for the root. `NotFound` for an unknown number.
@@ -102,7 +113,6 @@ impl<K: Eq + Hash + Clone, D> Tree<K, D> {
         ensures root { id ≡ 1 → result ≡ Ok None }
         ensures shape { IsHeld K.eq self.now }
     {
-        let _ = &self.nodes;
         if self.is_known(id) {
             Ok(self.above(id))
         } else {
@@ -180,13 +190,14 @@ impl<K: Eq + Hash + Clone, D> Tree<K, D> {
         let (parent, before, after) = (*above, node.previous_sibling, node.next_sibling);
         links::close_up(&mut self.nodes, parent, before, after);
         let Some(taken) = self.nodes.remove(&id) else {
-            return Err(FsError::NotFound);
+            unreachable!()
         };
         Ok(taken)
     }
 
     fn is_known(&self, id: u64) -> bool
-        ensures { result ≡ is_some (entry self.now.keyed id) }
+        ensures known { result ≡ is_some (entry self.now.keyed id) }
+        ensures shape { IsHeld K.eq self.now }
     {
         self.nodes.contains_key(&id)
     }
@@ -209,9 +220,11 @@ impl<K: Eq + Hash + Clone, D> Tree<K, D> {
 
     // Whether `from` is `id` or lies below it.
     fn is_below(&self, id: u64, from: u64) -> bool
+        requires { IsKnown self.now.keyed from }
         ensures { result ≡ is_under self.now.keyed id from }
     {
         let mut at = from;
+        // No way is longer.
         for _turn in 0..self.next {
             if at == id {
                 return true;
@@ -221,11 +234,12 @@ impl<K: Eq + Hash + Clone, D> Tree<K, D> {
                 None => return false,
             }
         }
-        false
+        unreachable!()
     }
 
     fn above(&self, id: u64) -> Option<u64>
-        ensures { result ≡ parent_number self.now.keyed id }
+        ensures parent { result ≡ parent_number self.now.keyed id }
+        ensures shape { IsHeld K.eq self.now }
     {
         match self.nodes.get(&id) {
             Some(node) => match &node.place {
@@ -244,9 +258,11 @@ impl<K: Eq + Hash + Clone, D> Tree<K, D> {
         new_name: &K,
         overwrite: bool,
     ) -> FsResult<Option<u64>>
-        ensures { MatchResult result
-            (λ o. (move_refusal K.eq self.now.keyed id new_parent new_name.now overwrite ≡ None) × (o ≡ child (K.eq new_name.now) self.now.keyed new_parent))
+        ensures answer { MatchResult result
+            (λ o. (move_refusal K.eq self.now.keyed id new_parent new_name.now overwrite ≡ None)
+            × (o ≡ child (K.eq new_name.now) self.now.keyed new_parent))
             (λ e. move_refusal K.eq self.now.keyed id new_parent new_name.now overwrite ≡ Some e) }
+        ensures shape { IsHeld K.eq self.now }
     {
         if !self.is_known(id) {
             return Err(FsError::NotFound);
@@ -278,10 +294,10 @@ impl<K: Eq + Hash + Clone, D> Tree<K, D> {
         ensures shape { IsHeld K.eq self.new }
     {
         let Some(node) = self.nodes.get(&id) else {
-            return;
+            unreachable!()
         };
         let Some((above, _name)) = &node.place else {
-            return;
+            unreachable!()
         };
         let (parent, before, after) = (*above, node.previous_sibling, node.next_sibling);
         links::close_up(&mut self.nodes, parent, before, after);
@@ -308,13 +324,14 @@ impl<K: Eq + Hash + Clone, D> Tree<K, D> {
         ensures leaf { has_child_of self.now.keyed result ≡ false }
     {
         let mut at = id;
+        // No way is longer.
         for _turn in 0..self.next {
             match self.first_below(at) {
                 Some(child) => at = child,
                 None => return at,
             }
         }
-        at
+        unreachable!()
     }
 }
 
@@ -358,7 +375,6 @@ impl<K: Eq + Hash + Clone, D: Drop> Tree<K, D> {
         ensures next { self.new.keyed.next ≤ 18446744073709551615 }
         ensures shape { IsHeld K.eq self.new }
     {
-        let _ = &self.nodes;
         if !self.is_known(parent) {
             return Err(FsError::NotFound);
         }
@@ -414,7 +430,6 @@ impl<K: Eq + Hash + Clone, D: Drop> Tree<K, D> {
         ensures gone { IfOk result (λ _. IsCut self.old.keyed self.new.keyed id) }
         ensures shape { IsHeld K.eq self.new }
     {
-        let _ = &self.nodes;
         if !self.is_known(id) {
             return Err(FsError::NotFound);
         }
@@ -432,6 +447,7 @@ impl<K: Eq + Hash + Clone, D: Drop> Tree<K, D> {
         ensures cut { self.new.keyed ≡ cut self.old.keyed id }
         ensures shape { IsHeld K.eq self.new }
     {
+        // Shows the tree's shape.
         let _ = &self.nodes;
         let mut at = id;
         while self.is_known(id) {
@@ -449,9 +465,12 @@ impl<K: Eq + Hash + Clone, D: Drop> Tree<K, D> {
         ensures dropped { self.new.keyed ≡ without self.old.keyed id }
         ensures shape { IsHeld K.eq self.new }
     {
-        let _ = &self.nodes;
-        let parent = self.above(id).unwrap_or(ROOT_ID);
-        let _taken = self.delete_node(id);
+        let Some(parent) = self.above(id) else {
+            unreachable!()
+        };
+        let Ok(_taken) = self.delete_node(id) else {
+            unreachable!()
+        };
         parent
     }
 
@@ -475,7 +494,6 @@ impl<K: Eq + Hash + Clone, D: Drop> Tree<K, D> {
         ensures own_place { child (K.eq new_name) self.old.keyed new_parent ≡ Some id → self.new ≡ self.old }
         ensures shape { IsHeld K.eq self.new }
     {
-        let _ = &self.nodes;
         match self.place_for(id, new_parent, &new_name, overwrite) {
             Err(error) => return Err(error),
             Ok(None) => {
@@ -491,7 +509,7 @@ impl<K: Eq + Hash + Clone, D: Drop> Tree<K, D> {
                         self.put_below(id, new_parent, new_name);
                         return Ok(());
                     }
-                    Err(error) => return Err(error),
+                    Err(_) => unreachable!(),
                 }
             }
         }

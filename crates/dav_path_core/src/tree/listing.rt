@@ -55,14 +55,9 @@ impl<K: Eq + Hash + Clone, D> Tree<K, D> {
         let mut pairs = Vec::new(self.alloc);
         let mut at = top.first_child;
         while let Some(id) = at {
-            let Some(node) = self.nodes.get(&id) else {
-                return Err(FsError::NotFound);
-            };
-            let Some((_above, name)) = &node.place else {
-                return Err(FsError::NotFound);
-            };
+            let (name, after) = self.child_at(id);
             pairs.push((name.clone()?, id))?;
-            at = node.next_sibling;
+            at = after;
         }
         Ok(Children {
             pairs: pairs.into_iter(),

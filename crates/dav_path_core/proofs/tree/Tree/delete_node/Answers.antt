@@ -13,7 +13,7 @@ use Rattle.dav_path_core.proofs.Unlinking.{closed-node, not_root, leaf_n, keyed-
 use Rattle.dav_path_core.proofs.Refusals.{no_place_root, has_child-true, has_child-false, delete-unknown, delete-root, delete-parent, delete-leaf}
 use Rattle.dav_path_core.proofs.tree.Tree.delete_node.Given.{Over}
 use Rattle.dav_path_core.proofs.tree.Tree.delete_node.Goals as goal
-use Rattle.dav_path_core.proofs.tree.Tree.delete_node.Goals.{In_default-remove, In-Some-remove}
+use Rattle.dav_path_core.proofs.tree.Tree.delete_node.Goals.{In-Some-remove}
 
 not_some : {X : Type 0} (o : Option X) → false ≡ is_some o → o ≡ None
 not_some o e = none_from_is_some o (sym e)
@@ -51,27 +51,18 @@ pub returns-then-is_some-clause-shape : goal.returns-then-is_some-clause-shape
 returns-then-is_some-clause-shape g c = shape_of c.self.invariant c.self.view_is
 
 -- the node is there until it is taken
-there : (g : Over) (c : In_default-remove g) → ⊥
-there g c =
+pub unreachable-requires : goal.unreachable-requires
+unreachable-requires g c =
     false≢true (ap is_some c.in_default-remove.ensures.value ∙ sym (mapped-some entry_of _) ∙ ap (λ f. is_some (option_map entry_of (f c.args.id))) c.close_up.ensures
     ∙ ap is_some (closed-node g.K.PartialEq.eq c.self.inside.nodes.entries c.self.inside.next c.args.id c.in-Some-place.above c.in-Some-place._name c.in-Some.node.now c.self.invariant c.in-Some.ensures.value c.in-Some-place.is (not_some _ c.if-is_some.ensures)) ∙ mapped-some entry_of _ ∙ sym (ap is_some c.in-Some.ensures.value))
-
-pub invariant_of-self : goal.invariant_of-self
-invariant_of-self g c = absurd (there g c)
-
-pub returns-in_default-remove-clause-answer : goal.returns-in_default-remove-clause-answer
-returns-in_default-remove-clause-answer g c = absurd (there g c)
-
-pub returns-in_default-remove-clause-shape : goal.returns-in_default-remove-clause-shape
-returns-in_default-remove-clause-shape g c = absurd (there g c)
 
 -- what the writes make of the nodes
 made : (g : Over) (c : In-Some-remove g) → node_at c.remove.new.self.entries
     ≡ with_node (closed_up (node_at c.self.inside.nodes.entries) c.in-Some-place.above c.in-Some.node.now.previous_sibling c.in-Some.node.now.next_sibling) c.args.id None
 made g c = node_at-updated c.close_up.new.nodes c.remove.new.self c.args.id None c.in-Some-remove.ensures.updates ∙ ap (λ at. with_node at c.args.id None) c.close_up.ensures
 
-pub invariant_of-self-2 : goal.invariant_of-self-2
-invariant_of-self-2 g c =
+pub invariant_of-self : goal.invariant_of-self
+invariant_of-self g c =
     IsLinked-removed g.K.PartialEq.eq c.self.inside.nodes.entries c.self.inside.next c.args.id c.in-Some-place.above c.in-Some-place._name c.in-Some.node.now c.self.invariant c.in-Some.ensures.value c.in-Some-place.is (not_some _ c.if-is_some.ensures) c.remove.new.self.entries (made g c)
 
 pub returns-clause-answer : goal.returns-clause-answer
@@ -87,4 +78,4 @@ returns-clause-answer g c =
     )
 
 pub returns-clause-shape : goal.returns-clause-shape
-returns-clause-shape g c = shape_of (invariant_of-self-2 g c) refl
+returns-clause-shape g c = shape_of (invariant_of-self g c) refl

@@ -1,10 +1,9 @@
-use Rattle.std.proofs.Common.{[], ◌∷◌, ◌++◌, sym, ◌∙◌, subst, Some}
+use Rattle.std.proofs.Common.{ap, is_some, map, [], ◌∷◌, ◌++◌, sym, subst, Some}
 use Rattle.dav_path_core.specs.Held.{IsHeld}
 use Rattle.dav_path_core.specs.Children.{ListsChildren}
-use Rattle.dav_path_core.proofs.Trees.{known_from_parent}
-use Rattle.dav_path_core.proofs.Links.{first-told, after-told, place-told, shape_of}
-use Rattle.dav_path_core.proofs.Walks.{child_here}
-use Rattle.dav_path_core.proofs.Listings.{Gathered, gather_start, gather_here, gather_next, fewer, gather_end, placed, known_there, not_known, not_unknown}
+use Rattle.dav_path_core.proofs.Links.{first-told, shape_of}
+use Rattle.dav_path_core.proofs.Walks.{walk_here, smaller}
+use Rattle.dav_path_core.proofs.Listings.{Gathered, gather_start, gather_next, gather_end, known_there, not_known, not_unknown}
 use Rattle.dav_path_core.proofs.tree.Tree.get_children.Goals as goal
 
 pub returns-in_default-clause-known : goal.returns-in_default-clause-known
@@ -22,41 +21,11 @@ loop-at-init g c =
     (gather_start g.K.PartialEq.eq c.args.self.now c.args.parent held
     (known_there c.self.inside.nodes.entries c.self.inside.next c.args.self.now c.self.view_is c.args.parent c.in-Some.top.now c.in-Some.ensures.value)))
 
-pub returns-in_default-get-clause-known : goal.returns-in_default-get-clause-known
-returns-in_default-get-clause-known g c =
-    let w : Gathered g.K.PartialEq.eq c.args.self.now c.args.parent (Some c.in-Some-at.id) c.loop-at.pairs.items = subst (λ o. Gathered g.K.PartialEq.eq c.args.self.now c.args.parent o c.loop-at.pairs.items) c.in-Some-at.is c.loop-at.invariant in
-    absurd (not_known c.self.inside.nodes.entries c.self.inside.next c.args.self.now c.self.view_is c.in-Some-at.id c.in_default-get.ensures.value
-    (known_from_parent c.args.self.now.keyed c.in-Some-at.id c.args.parent (gather_here g.K.PartialEq.eq c.args.self.now c.args.parent c.in-Some-at.id c.loop-at.pairs.items w)))
-
-pub returns-in_default-place-clause-known : goal.returns-in_default-place-clause-known
-returns-in_default-place-clause-known g c =
-    let w : Gathered g.K.PartialEq.eq c.args.self.now c.args.parent (Some c.in-Some-at.id) c.loop-at.pairs.items = subst (λ o. Gathered g.K.PartialEq.eq c.args.self.now c.args.parent o c.loop-at.pairs.items) c.in-Some-at.is c.loop-at.invariant in
-    let q = placed c.args.self.now.keyed c.in-Some-at.id c.args.parent (gather_here g.K.PartialEq.eq c.args.self.now c.args.parent c.in-Some-at.id c.loop-at.pairs.items w) in
-    absurd (c.in_default-place.not-Some q.0 (sym (place-told c.self.inside.nodes.entries c.self.inside.next c.args.self.now c.self.view_is c.in-Some-at.id c.in-Some-get.node.now c.in-Some-get.ensures.value) ∙ q.1))
-
 pub returns-in_err-clone-clause-unknown : goal.returns-in_err-clone-clause-unknown
 returns-in_err-clone-clause-unknown g c = λ none. absurd (not_unknown c.self.inside.nodes.entries c.self.inside.next c.args.self.now c.self.view_is c.args.parent c.in-Some.top.now c.in-Some.ensures.value none)
 
 pub returns-in_err-push-clause-unknown : goal.returns-in_err-push-clause-unknown
 returns-in_err-push-clause-unknown g c = λ none. absurd (not_unknown c.self.inside.nodes.entries c.self.inside.next c.args.self.now c.self.view_is c.args.parent c.in-Some.top.now c.in-Some.ensures.value none)
-
-pub loop-at-smaller : goal.loop-at-smaller
-loop-at-smaller g c =
-    let w : Gathered g.K.PartialEq.eq c.args.self.now c.args.parent (Some c.in-Some-at.id) c.loop-at.pairs.items = subst (λ o. Gathered g.K.PartialEq.eq c.args.self.now c.args.parent o c.loop-at.pairs.items) c.in-Some-at.is c.loop-at.invariant in
-    fewer g.K.PartialEq.eq c.args.self.now c.args.parent c.in-Some-at.id c.loop-at.pairs.items w _ _ c.in-Some-at.is
-    (after-told c.self.inside.nodes.entries c.self.inside.next c.args.self.now c.self.view_is c.in-Some-at.id c.in-Some-get.node.now c.in-Some-get.ensures.value)
-
-pub loop-at-preserved : goal.loop-at-preserved
-loop-at-preserved g c =
-    let w : Gathered g.K.PartialEq.eq c.args.self.now c.args.parent (Some c.in-Some-at.id) c.loop-at.pairs.items = subst (λ o. Gathered g.K.PartialEq.eq c.args.self.now c.args.parent o c.loop-at.pairs.items) c.in-Some-at.is c.loop-at.invariant in
-    let is = child_here c.args.self.now.keyed c.in-Some-at.id c.args.parent c.in-Some-place._above c.in-Some-place.name
-    (gather_here g.K.PartialEq.eq c.args.self.now c.args.parent c.in-Some-at.id c.loop-at.pairs.items w)
-    (place-told c.self.inside.nodes.entries c.self.inside.next c.args.self.now c.self.view_is c.in-Some-at.id c.in-Some-get.node.now c.in-Some-get.ensures.value ∙ c.in-Some-place.is) in
-    subst (Gathered g.K.PartialEq.eq c.args.self.now c.args.parent c.in-Some-get.node.now.next_sibling) {x = c.loop-at.pairs.items ++ (c.in_ok-clone.field-0, c.in-Some-at.id) ∷ []} (sym c.in_ok-push.ensures.items)
-    (subst (λ o. Gathered g.K.PartialEq.eq c.args.self.now c.args.parent o (c.loop-at.pairs.items ++ (c.in_ok-clone.field-0, c.in-Some-at.id) ∷ []))
-    (after-told c.self.inside.nodes.entries c.self.inside.next c.args.self.now c.self.view_is c.in-Some-at.id c.in-Some-get.node.now c.in-Some-get.ensures.value)
-    (gather_next g.K.PartialEq.eq c.args.self.now c.args.parent c.in-Some-at.id c.loop-at.pairs.items w c.in-Some-place.name c.in_ok-clone.field-0 is
-    (c.requires.clones_equal _ _ c.in_ok-clone.ensures.cases)))
 
 pub returns-clause-children : goal.returns-clause-children
 returns-clause-children g c =
@@ -66,3 +35,30 @@ returns-clause-children g c =
 
 pub returns-clause-unknown : goal.returns-clause-unknown
 returns-clause-unknown g c = λ none. absurd (not_unknown c.self.inside.nodes.entries c.self.inside.next c.args.self.now c.self.view_is c.args.parent c.in-Some.top.now c.in-Some.ensures.value none)
+
+pub child_at-after-requires : goal.child_at-after-requires
+child_at-after-requires g c =
+    let w : Gathered g.K.PartialEq.eq c.args.self.now c.args.parent (Some c.in-Some-at.id) c.loop-at.pairs.items = subst (λ o. Gathered g.K.PartialEq.eq c.args.self.now c.args.parent o c.loop-at.pairs.items) c.in-Some-at.is c.loop-at.invariant in
+    ap is_some (walk_here c.args.self.now c.args.parent c.in-Some-at.id (map (λ q. q.1) c.loop-at.pairs.items) w.walk)
+
+pub returns-in_err-clone-clause-shape : goal.returns-in_err-clone-clause-shape
+returns-in_err-clone-clause-shape g c = shape_of c.self.invariant c.self.view_is
+
+pub returns-in_err-push-clause-shape : goal.returns-in_err-push-clause-shape
+returns-in_err-push-clause-shape g c = shape_of c.self.invariant c.self.view_is
+
+pub loop-at-smaller : goal.loop-at-smaller
+loop-at-smaller g c =
+    let w : Gathered g.K.PartialEq.eq c.args.self.now c.args.parent (Some c.in-Some-at.id) c.loop-at.pairs.items = subst (λ o. Gathered g.K.PartialEq.eq c.args.self.now c.args.parent o c.loop-at.pairs.items) c.in-Some-at.is c.loop-at.invariant in
+    smaller c.args.self.now c.args.parent c.in-Some-at.id (map (λ q. q.1) c.loop-at.pairs.items) w.walk (shape_of c.self.invariant c.self.view_is).tree _ _ c.in-Some-at.is (sym c.child_at-after.ensures.after)
+
+pub loop-at-preserved : goal.loop-at-preserved
+loop-at-preserved g c =
+    let w : Gathered g.K.PartialEq.eq c.args.self.now c.args.parent (Some c.in-Some-at.id) c.loop-at.pairs.items = subst (λ o. Gathered g.K.PartialEq.eq c.args.self.now c.args.parent o c.loop-at.pairs.items) c.in-Some-at.is c.loop-at.invariant in
+    subst (Gathered g.K.PartialEq.eq c.args.self.now c.args.parent c.child_at-after.result.1) {x = c.loop-at.pairs.items ++ (c.in_ok-clone.field-0, c.in-Some-at.id) ∷ []} (sym c.in_ok-push.ensures.items)
+    (subst (λ o. Gathered g.K.PartialEq.eq c.args.self.now c.args.parent o (c.loop-at.pairs.items ++ (c.in_ok-clone.field-0, c.in-Some-at.id) ∷ [])) (sym c.child_at-after.ensures.after)
+    (gather_next g.K.PartialEq.eq c.args.self.now c.args.parent c.in-Some-at.id c.loop-at.pairs.items w _ c.in_ok-clone.field-0 (c.child_at-after.ensures.key c.args.parent (walk_here c.args.self.now c.args.parent c.in-Some-at.id (map (λ q. q.1) c.loop-at.pairs.items) w.walk))
+    (c.requires.clones_equal _ _ c.in_ok-clone.ensures.cases)))
+
+pub returns-clause-shape : goal.returns-clause-shape
+returns-clause-shape g c = shape_of c.self.invariant c.self.view_is

@@ -1,9 +1,7 @@
 use Rattle.std.proofs.Common.{ap, subst, arith}
 use Rattle.dav_path_core.specs.Keyed.{IsTree}
 use Rattle.dav_path_core.proofs.Cutting.{descent_start, descent_next, descent_ends}
-use Rattle.dav_path_core.proofs.tree.Tree.leaf_below.Given.{Over}
 use Rattle.dav_path_core.proofs.tree.Tree.leaf_below.Goals as goal
-use Rattle.dav_path_core.proofs.tree.Tree.leaf_below.Goals.{After-loop-turn}
 
 pub loop-turn-init : goal.loop-turn-init
 loop-turn-init g c = descent_start g.K.PartialEq.eq c.args.self.now.keyed (subst (λ t. IsTree g.K.PartialEq.eq t.keyed) c.self.view_is c.self.invariant.tree) c.args.id c.requires
@@ -18,16 +16,7 @@ pub loop-turn-preserved : goal.loop-turn-preserved
 loop-turn-preserved g c = descent_next c.args.self.now.keyed c.args.id c.loop-turn.at c.loop-turn._turn c.in-Some.child c.loop-turn.invariant c.in-Some.ensures
 
 -- the way from the root to a node is shorter than the next number
-ended : (g : Over) (c : After-loop-turn g) → ⊥
-ended g c =
+pub unreachable-requires : goal.unreachable-requires
+unreachable-requires g c =
     let short = descent_ends g.K.PartialEq.eq c.args.self.now.keyed (subst (λ t. IsTree g.K.PartialEq.eq t.keyed) c.self.view_is c.self.invariant.tree) c.args.id c.loop-turn.at c.loop-turn._turn c.loop-turn.invariant in
     absurd (omega (arith, short, c.loop-turn-test.false, ap (λ t. t.keyed.next) c.self.view_is))
-
-pub returns-clause-known : goal.returns-clause-known
-returns-clause-known g c = absurd (ended g c)
-
-pub returns-clause-under : goal.returns-clause-under
-returns-clause-under g c = absurd (ended g c)
-
-pub returns-clause-leaf : goal.returns-clause-leaf
-returns-clause-leaf g c = absurd (ended g c)

@@ -9,11 +9,11 @@ ok-ok_or : {A E : Type 0} (o : Option A) (e : E) → result_ok (ok_or o e) ≡ o
 ok-ok_or None e = refl
 ok-ok_or (Some x) e = refl
 
-pub returns : goal.returns
-returns g c =
+pub returns-clause-answer : goal.returns-clause-answer
+returns-clause-answer g c =
     let taken = c.ok-taken.ensures.value ∙ ap result_ok c.get_child.ensures.answer ∙ ok-ok_or _ _ in (
       move-allowed c.args.self.now.keyed g.K.PartialEq.eq c.args.id c.args.new_parent c.args.new_name.now c.args.overwrite
-          (ap (λ b. b && is_some (entry c.args.self.now.keyed c.args.new_parent)) (sym c.if-not-is_known.ensures) ∙ sym c.if-not-is_known-2.ensures)
+          (ap (λ b. b && is_some (entry c.args.self.now.keyed c.args.new_parent)) (sym c.if-not-is_known.ensures.known) ∙ sym c.if-not-is_known-2.ensures.known)
           (ap (is_kept c.args.self.now.keyed c.args.overwrite) (sym taken) ∙ sym c.if-is_kept.ensures)
           c.if-id-eq-ROOT_ID.false
           (sym c.if-is_below.ensures),

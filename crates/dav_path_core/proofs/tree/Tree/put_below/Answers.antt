@@ -8,29 +8,17 @@ use Rattle.dav_path_core.proofs.Refusals.{no_place_root}
 use Rattle.dav_path_core.proofs.Placing.{keyed-placed, IsLinked-placed}
 use Rattle.dav_path_core.proofs.tree.Tree.put_below.Given.{Over}
 use Rattle.dav_path_core.proofs.tree.Tree.put_below.Goals as goal
-use Rattle.dav_path_core.proofs.tree.Tree.put_below.Goals.{After-drop-new_name, After-drop-new_name-in_default-place, After-put_before}
+use Rattle.dav_path_core.proofs.tree.Tree.put_below.Goals.{After-put_before}
 
-unknown : (g : Over) (c : After-drop-new_name g) → ⊥
-unknown g c =
+pub unreachable-requires : goal.unreachable-requires
+unreachable-requires g c =
     false≢true (ap is_some c.in_default.ensures.value ∙ sym (known-view c.self.inside.nodes.entries c.self.inside.next c.args.id) ∙ subst (λ t. IsKnown t.keyed c.args.id) (sym c.self.view_is) c.requires.known)
 
-pub returns-in_default-clause-placed : goal.returns-in_default-clause-placed
-returns-in_default-clause-placed g c = absurd (unknown g c)
-
-pub returns-in_default-clause-shape : goal.returns-in_default-clause-shape
-returns-in_default-clause-shape g c = absurd (unknown g c)
-
-placeless : (g : Over) (c : After-drop-new_name-in_default-place g) → ⊥
-placeless g c =
+pub unreachable-requires-in_default-place : goal.unreachable-requires-in_default-place
+unreachable-requires-in_default-place g c =
     let known : IsKnown (keyed_of c.self.inside.nodes.entries c.self.inside.next) c.args.id = known-view c.self.inside.nodes.entries c.self.inside.next c.args.id ∙ sym (ap is_some c.in-Some.ensures.value) in
     c.requires.not_root (no_place_root (keyed_of c.self.inside.nodes.entries c.self.inside.next) g.K.PartialEq.eq c.self.invariant.tree c.args.id known
     (ap place_of (entry-view c.self.inside.nodes.entries c.self.inside.next c.args.id (Some c.in-Some.node.now) c.in-Some.ensures.value) ∙ c.in_default-place.is))
-
-pub returns-in_default-place-clause-placed : goal.returns-in_default-place-clause-placed
-returns-in_default-place-clause-placed g c = absurd (placeless g c)
-
-pub returns-in_default-place-clause-shape : goal.returns-in_default-place-clause-shape
-returns-in_default-place-clause-shape g c = absurd (placeless g c)
 
 -- what the writes make of the nodes
 made : (g : Over) (c : After-put_before g) → node_at c.put_before.new.nodes.entries

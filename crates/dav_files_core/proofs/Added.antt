@@ -83,7 +83,7 @@ module _ (t : FileTree) (m : ResourceMap) (rep : Represents t m)
   tree = add t r.number k item
 
   abbrev placed : FileEntry
-  placed = record { place = Some (r.number, k); item = item }
+  placed = record { parent_and_key = Some (r.number, k); item = item }
 
   kept : (q : Path) (x : Resource) → at_path m q ≡ Some x → at_path map q ≡ Some x
   kept = added_kept m rep.is_map p k r item here folder free new_bare
@@ -96,7 +96,7 @@ module _ (t : FileTree) (m : ResourceMap) (rep : Represents t m)
     placed = shown.placed;
     stored = get_other nat_cmp_total nat_cmp-IsAntisymmetric t.nodes t.next placed x.number (λ e. let lt = rep.is_map.below q x h in let same = rep.next in absurd (omega arith)) ∙ shown.stored;
     shown = shown.shown;
-    fits = fits_kept m map keeps q shown.placed.place shown.fits;
+    fits = fits_kept m map keeps q shown.placed.parent_and_key shown.fits;
   }
 
   new_shown : Shown tree map path (record { number = m.next; node = item })

@@ -61,7 +61,7 @@ module _ (t : FileTree) (m : ResourceMap) (rep : Represents t m)
   tree = with_item_at t r.number (Some n) item
 
   abbrev placed : FileEntry
-  placed = record { place = n.place; item = item }
+  placed = record { parent_and_key = n.parent_and_key; item = item }
 
   keeps : KeepsNumbers m map
   keeps q x h = let k = changed_keeps m rep.is_map p r item here still_folder new_bare q x h in (k.0, k.1, k.2)
@@ -71,7 +71,7 @@ module _ (t : FileTree) (m : ResourceMap) (rep : Represents t m)
     placed = placed;
     stored = get_same nat_cmp_total nat_cmp-IsAntisymmetric t.nodes r.number placed;
     shown = refl;
-    fits = fits_kept m map keeps p n.place (subst (λ (n : FileEntry). PlaceFits m p n.place) (one_some (get t.nodes r.number) s.placed n s.stored stored) s.fits);
+    fits = fits_kept m map keeps p n.parent_and_key (subst (λ (n : FileEntry). PlaceFits m p n.parent_and_key) (one_some (get t.nodes r.number) s.placed n s.stored stored) s.fits);
   }
 
   old_shown : (q : Path) (x : Resource) → ¬ (q ≡ p) → at_path m q ≡ Some x → Shown t m q x → Shown tree map q x
@@ -79,7 +79,7 @@ module _ (t : FileTree) (m : ResourceMap) (rep : Represents t m)
     placed = s.placed;
     stored = get_other nat_cmp_total nat_cmp-IsAntisymmetric t.nodes r.number placed x.number (λ e. other (rep.is_map.apart q p x r h here e)) ∙ s.stored;
     shown = s.shown;
-    fits = fits_kept m map keeps q s.placed.place s.fits;
+    fits = fits_kept m map keeps q s.placed.parent_and_key s.fits;
   }
 
   pub Represents-changed : Represents tree map

@@ -21,17 +21,17 @@ no_segments (s ∷ p) h = absurd (omega arith)
 module _ (t : FileTree) (m : ResourceMap) (rep : Represents t m) where
   path_at : (steps : ℕ) (p : Path) (r : Resource) → at_path m p ≡ Some r → length p ≤ steps → path_of t.nodes steps r.number ≡ p
   path_at zero p r h short = sym (no_segments p short)
-  path_at (suc steps) p r h short = by shown.placed.place refl shown.fits (path_at steps)
+  path_at (suc steps) p r h short = by shown.placed.parent_and_key refl shown.fits (path_at steps)
     where
       shown : Shown t m p r
       shown = rep.shown p r h
 
-      look : (o : Option (ℕ × Segment)) → shown.placed.place ≡ o
+      look : (o : Option (ℕ × Segment)) → shown.placed.parent_and_key ≡ o
           → path_of t.nodes (suc steps) r.number ≡ option_map_or (λ (place : ℕ × Segment). path_of t.nodes steps place.0 ++ (place.1 ∷ [])) o []
-      look o e = ap (λ (n : Option (FileEntry)). option_map_or (λ (place : ℕ × Segment). path_of t.nodes steps place.0 ++ (place.1 ∷ [])) (option_and_then (λ (n : FileEntry). n.place) n) []) shown.stored
+      look o e = ap (λ (n : Option (FileEntry)). option_map_or (λ (place : ℕ × Segment). path_of t.nodes steps place.0 ++ (place.1 ∷ [])) (option_and_then (λ (n : FileEntry). n.parent_and_key) n) []) shown.stored
           ∙ ap (λ (o : Option (ℕ × Segment)). option_map_or (λ (place : ℕ × Segment). path_of t.nodes steps place.0 ++ (place.1 ∷ [])) o []) e
 
-      by : (o : Option (ℕ × Segment)) → shown.placed.place ≡ o → PlaceFits m p o
+      by : (o : Option (ℕ × Segment)) → shown.placed.parent_and_key ≡ o → PlaceFits m p o
           → ((q : Path) (x : Resource) → at_path m q ≡ Some x → length q ≤ steps → path_of t.nodes steps x.number ≡ q)
           → path_of t.nodes (suc steps) r.number ≡ p
       by None e fits ih = look None e ∙ sym fits

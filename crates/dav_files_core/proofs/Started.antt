@@ -39,7 +39,7 @@ module _ (now : ℕ) (item : Node) (is : item ≡ new_folder now) where
   tree = lone item
 
   abbrev placed : FileEntry
-  placed = record { place = None; item = item }
+  placed = record { parent_and_key = None; item = item }
 
   root_shown : (p : Path) (r : Resource) → p ≡ [] → r ≡ root_entry now → Shown tree (start now) p r
   root_shown p r e h = record {

@@ -39,7 +39,7 @@ pub child_entry : (t : FileTree) (m : ResourceMap) → Represents t m → (p : P
     → (x : Resource) × (at_path m (p ++ (name ∷ [])) ≡ Some x) × (x.number ≡ c)
 child_entry t m rep p r here id number name c child = (
   record { number = c; node = child.0 },
-  child_at t m rep p r here c name child.0 (child.1 ∙ ap Some (λ j. record { place = Some (sym number j, name); item = child.0 })),
+  child_at t m rep p r here c name child.0 (child.1 ∙ ap Some (λ j. record { parent_and_key = Some (sym number j, name); item = child.0 })),
   refl,
 )
 

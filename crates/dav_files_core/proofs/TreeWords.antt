@@ -2,8 +2,7 @@
 use Rattle.std.proofs.Common.{◌≡◌, inl, inr, ℕ, true, false, is_some, List, Option, Some, None, Result, Ok, Err, IfOk, IfErr, MatchResult, refl, sym, ap, ◌∙◌, subst, Bor, nat_eq}
 use Rattle.std.specs.Option.{option_map, ok_or}
 use Rattle.std.specs.FinMap.{get}
-use Rattle.std.specs.Map.{IsKeyTest}
-use Rattle.std.specs.Cmp.Lexicographic.{pointwise, bytes_decides, nat_list_eq_equiv}
+use Rattle.std.specs.Cmp.Lexicographic.{pointwise, bytes_decides}
 use Rattle.std.proofs.lemmas.Bool.{true≢false}
 use Rattle.dav_path_core.specs.declared.errors.FsError.{FsError}
 use Rattle.dav_path_core.specs.declared.errors.FsError.TheVariants.{NotFound, InsufficientStorage}
@@ -11,28 +10,25 @@ use Rattle.dav_files_core.specs.Resources.{Node}
 use Rattle.dav_files_core.specs.Private.Represents.{FileTree, FileEntry}
 use Rattle.dav_files_core.specs.Private.TreeCalls.{IsMember, FindsMember, FindsNode, WritesFile, IsThere}
 use Rattle.dav_path_core.specs.Answers.{Answers}
-use Rattle.dav_path_core.specs.Keyed.{entry, item, place, place_of, child, add, add_refusal, cleared, with_item, with_item_at}
-use Rattle.dav_path_core.specs.Held.{Held}
+use Rattle.dav_path_core.specs.Keyed.{entry, item, parent_and_key, parent_and_key_of, child, add, add_refusal, cleared, with_item, with_item_at}
+use Rattle.dav_path_core.specs.TreeValue.{TreeValue}
 use Rattle.dav_path_core.specs.Fronts.{Segment}
 use Rattle.dav_path_core.proofs.Trees.{child-some, child-none, same_some, none≢some, refusal-none, cleared-free}
 
-pub name_test : (s : List ℕ) → IsKeyTest (pointwise nat_eq) (λ (k : List ℕ). pointwise nat_eq k s)
-name_test s x y h = ap (pointwise nat_eq y) (sym ((bytes_decides x s).0 h)) ∙ nat_list_eq_equiv.symm y x
-
 module _ (t : FileTree) where
   -- a place, as an entry
-  stands : (n p : ℕ) (k : List ℕ) → place t n ≡ Some (p, k) → IsMember t p k n
+  stands : (n p : ℕ) (k : List ℕ) → parent_and_key t n ≡ Some (p, k) → IsMember t p k n
   stands n p k h = by (get t.nodes n) refl h
     where
-      by : (o : Option FileEntry) → get t.nodes n ≡ o → place_of o ≡ Some (p, k) → IsMember t p k n
+      by : (o : Option FileEntry) → get t.nodes n ≡ o → parent_and_key_of o ≡ Some (p, k) → IsMember t p k n
       by None e h = absurd (none≢some (p, k) h)
-      by (Some x) e h = (x.item, e ∙ ap (λ (q : Option (ℕ × List ℕ)). Some (record { place = q; item = x.item })) h)
+      by (Some x) e h = (x.item, e ∙ ap (λ (q : Option (ℕ × List ℕ)). Some (record { parent_and_key = q; item = x.item })) h)
 
   pub finds : (p : ℕ) (name : List ℕ) (r : Result ℕ FsError) → r ≡ ok_or (child (λ k. pointwise nat_eq k name) t p) NotFound → FindsMember t p name r
   finds p name r h = subst (FindsMember t p name) (sym h) (by (child (λ k. pointwise nat_eq k name) t p) refl)
     where
       by : (o : Option ℕ) → child (λ k. pointwise nat_eq k name) t p ≡ o → FindsMember t p name (ok_or o NotFound)
-      by None e = (refl, λ c there. true≢false (sym ((bytes_decides name name).1 refl) ∙ child-none t (λ k. pointwise nat_eq k name) p e c name (ap place_of there.1)))
+      by None e = (refl, λ c there. true≢false (sym ((bytes_decides name name).1 refl) ∙ child-none t (λ k. pointwise nat_eq k name) p e c name (ap parent_and_key_of there.1)))
       by (Some c) e =
           let w = child-some t (λ k. pointwise nat_eq k name) p c e in
           subst (λ k. IsMember t p k c) ((bytes_decides w.0 name).0 w.2) (stands c p w.0 w.1)
@@ -49,7 +45,7 @@ module _ (t : FileTree) where
   items n (Err e) h = tt
 
 -- a member added to a folder that is there and has none of that name
-module _ (old new : Held Segment Node) (folder : ℕ) (name : Segment) (node : Node) (there : IsThere old.keyed folder) (free : FindsMember old.keyed folder name (Err NotFound)) where
+module _ (old new : TreeValue Segment Node) (folder : ℕ) (name : Segment) (node : Node) (there : IsThere old.keyed folder) (free : FindsMember old.keyed folder name (Err NotFound)) where
   known : is_some (entry old.keyed folder) ≡ true
   known = ap is_some there.1
 
@@ -73,7 +69,7 @@ module _ (old new : Held Segment Node) (folder : ℕ) (name : Segment) (node : N
   pub added_err : (r : Result ℕ FsError) → Added r → IfErr r (λ e. (e ≡ InsufficientStorage) × (new.keyed ≡ old.keyed))
   added_err (Ok n) a = tt
   added_err (Err e) a = elim a.0 [
-    | inl is ↦ (is, ap (λ (t : Held Segment Node). t.keyed) a.1)
+    | inl is ↦ (is, ap (λ (t : TreeValue Segment Node). t.keyed) a.1)
     | inr is ↦ absurd (none≢some e (sym (refusal-none (pointwise nat_eq) old.keyed folder name false known (ap is_some no_child)) ∙ is))
   ]
 

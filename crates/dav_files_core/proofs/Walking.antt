@@ -57,11 +57,11 @@ module _ (t : FileTree) (m : ResourceMap) (rep : Represents t m) (path : Path) (
         by None e = refl
         by (Some c) e =
             let (k, item, stored, name, same) = node_below t m rep (take i path) here.0 (get_or path i []) c here.1 e in
-            absurd (none c.number (item, stored ∙ ap Some (λ j. record { place = Some (here.2 j, name j); item = item })))
+            absurd (none c.number (item, stored ∙ ap Some (λ j. record { parent_and_key = Some (here.2 j, name j); item = item })))
 
     pub one_on : (c : ℕ) → IsMember t id (get_or path i []) c → IsAt m path (i + 1) c
     one_on c child =
-        let below = child_at t m rep (take i path) here.0 here.1 c (get_or path i []) child.0 (child.1 ∙ ap Some (λ j. record { place = Some (sym here.2 j, get_or path i []); item = child.0 })) in
+        let below = child_at t m rep (take i path) here.0 here.1 c (get_or path i []) child.0 (child.1 ∙ ap Some (λ j. record { parent_and_key = Some (sym here.2 j, get_or path i []); item = child.0 })) in
         (record { number = c; node = child.0 }, ap (at_path m) (take_more path i [] inside) ∙ below, refl)
 
 pub at_root : (t : FileTree) (m : ResourceMap) → Represents t m → (path : Path) → IsAt m path 0 1

@@ -8,7 +8,7 @@ use Rattle.std.specs.FinMap.{FinMap, get, insert, same_map, nat_cmp-IsAntisymmet
 use Rattle.std.specs.Cmp.Lexicographic.{bytes_decides}
 use Rattle.std.proofs.lemmas.Bool.{cases_eq, true≢false}
 use Rattle.dav_path_core.specs.Fronts.{Segment, Path}
-use Rattle.dav_path_core.specs.Keyed.{Entry, entry, item, place_of, child, IsKnown, IsTree, add, cleared, with_item, with_item_at}
+use Rattle.dav_path_core.specs.Keyed.{Entry, entry, item, parent_and_key_of, child, IsKnown, IsTree, add, cleared, with_item, with_item_at}
 use Rattle.dav_path_core.proofs.Trees.{Sets, Sets-insert, child-some, child-none, known_from_child, cleared-free, same_some}
 use Rattle.dav_locks_core.specs.Private.LockTree.{NumberedLock, LockTree, is_segment, child_at, node_at, Grown}
 use Rattle.dav_locks_core.proofs.Ways.{child_at-is, child_at-from, is_segment-refl}
@@ -58,7 +58,7 @@ pub record Grows (t u : LockTree) (n : ℕ) (s : Segment) : Type 0 where
 Grows-add : (t : LockTree) (n : ℕ) (s : Segment) → IsTree is_segment t → IsTree is_segment (add t n s []) → Grows t (add t n s []) n s
 Grows-add t n s tree tree' =
     let u : LockTree = add t n s [] in
-    let e : Entry Segment (List NumberedLock) = record { place = Some (n, s); item = [] } in
+    let e : Entry Segment (List NumberedLock) = record { parent_and_key = Some (n, s); item = [] } in
     let sets : Sets (entry t) (entry u) t.next (Some e) = Sets-insert t.nodes t.next e in
     let old : (m : ℕ) → IsKnown t m → m ≢ t.next = λ m h i. omega (arith, (tree.numbered m h).1, i) in
     let kept : (m : ℕ) → IsKnown t m → entry u m ≡ entry t m = λ m h. sets.other m (old m h) in
@@ -71,9 +71,9 @@ Grows-add t n s tree tree' =
         ];
         ways = λ k c w h.
             let is = child_at-is t k w c h in
-            child_at-from u tree' k w c (ap place_of (kept c (known_from_child t k w c is)) ∙ is);
+            child_at-from u tree' k w c (ap parent_and_key_of (kept c (known_from_child t k w c is)) ∙ is);
       };
-      child = child_at-from u tree' n s t.next (ap place_of sets.here);
+      child = child_at-from u tree' n s t.next (ap parent_and_key_of sets.here);
       known = ap is_some sets.here;
     }
   where

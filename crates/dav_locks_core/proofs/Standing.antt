@@ -8,7 +8,7 @@ use Rattle.std.specs.FinMap.{get, find, entries, entries_sorted, from_entries, g
 use Rattle.std.specs.FinMap.Entries.{same_entries}
 use Rattle.std.proofs.lemmas.Bool.{cases_eq, eq-eqb, ne_eqb, false≢true}
 use Rattle.dav_path_core.specs.Fronts.{Segment, Path}
-use Rattle.dav_path_core.specs.Keyed.{Entry, entry, place, place_of, IsKnown, IsTree, with_item, with_item_at, lone}
+use Rattle.dav_path_core.specs.Keyed.{Entry, entry, parent_and_key, parent_and_key_of, IsKnown, IsTree, with_item, with_item_at, lone}
 use Rattle.dav_path_core.proofs.Trees.{Sets, Sets-insert, IsTree-with_item, find-here, find-head, same_some, none≢some}
 use Rattle.dav_locks_core.specs.Lock.{Lock}
 use Rattle.dav_locks_core.specs.Locks as locks
@@ -133,15 +133,15 @@ Changes-with_item t n here tree known = by (entry t n) refl
         let u = with_item t n here in
         let s = Sets-insert t.nodes n (record x { item = here }) in
         let same : u ≡ with_item_at t n (Some x) here = ap (λ o. with_item_at t n o here) e in
-        let places : (m : ℕ) → place u m ≡ place t m = λ m. ap (λ (v : LockTree). place v m) same ∙ elim (cases_eq m n) [
-          | inl i ↦ subst (λ k. place (with_item_at t n (Some x) here) k ≡ place t k) (sym i) (ap place_of s.here ∙ sym (ap place_of e))
-          | inr ne ↦ ap place_of (s.other m ne)
+        let parents_and_keys : (m : ℕ) → parent_and_key u m ≡ parent_and_key t m = λ m. ap (λ (v : LockTree). parent_and_key v m) same ∙ elim (cases_eq m n) [
+          | inl i ↦ subst (λ k. parent_and_key (with_item_at t n (Some x) here) k ≡ parent_and_key t k) (sym i) (ap parent_and_key_of s.here ∙ sym (ap parent_and_key_of e))
+          | inr ne ↦ ap parent_and_key_of (s.other m ne)
         ] in
         record {
           tree = tree';
           at = locks_of_entry u n _ (ap (λ (v : LockTree). entry v n) same ∙ s.here);
           other = λ m ne. ap (λ o. unwrap_or (option_map (λ e. e.item) o) []) (ap (λ (v : LockTree). entry v m) same ∙ s.other m ne);
-          ways = λ k c w h. child_at-from u tree' k w c (places c ∙ child_at-is t k w c h);
+          ways = λ k c w h. child_at-from u tree' k w c (parents_and_keys c ∙ child_at-is t k w c h);
         }
 
 module _ (t u : LockTree) (granted : List NumberedLock) (next : ℕ) (r : Represents t granted next) where
@@ -311,7 +311,7 @@ Represents-none t next tree none = record {
 
 pub lone-none : (n : ℕ) → locks_at (lone []) n ≡ []
 lone-none n =
-    let e : Entry Segment (List NumberedLock) = record { place = None; item = [] } in
+    let e : Entry Segment (List NumberedLock) = record { parent_and_key = None; item = [] } in
     let s : Sets (get (empty {X = Entry Segment (List NumberedLock)} {R = nat_cmp})) (entry (lone [])) 1 (Some e) = Sets-insert empty 1 e in
     elim (cases_eq n 1) [
       | inl i ↦ ap (locks_at (lone [])) i ∙ locks_of_entry (lone []) 1 (Some e) s.here

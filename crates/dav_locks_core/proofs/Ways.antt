@@ -3,24 +3,20 @@ use Rattle.std.proofs.Common.{◌≡◌, ◌⊎◌, inl, inr, ℕ, suc, ◌<◌,
 use mathlib.Core.List.{reverse_aux}
 use Rattle.std.specs.Prelude.{option_and_then}
 use Rattle.std.specs.Ordering.{ordering_then, is_eq}
-use Rattle.std.specs.Map.{IsKeyTest}
 use Rattle.std.specs.Cmp.{tied_itself}
-use Rattle.std.specs.Cmp.Lexicographic.{slice_cmp, bytes_decides, nat_list_eq_equiv}
+use Rattle.std.specs.Cmp.Lexicographic.{slice_cmp, bytes_decides}
 use Rattle.std.proofs.lemmas.Bool.{true≢false, false≢true, cases_lt}
 use Rattle.std.proofs.lemmas.List.{reverse-reverse}
 use Rattle.dav_path_core.specs.Fronts.{Segment, Path, segment_cmp, is_front, is_same_path}
 use Rattle.dav_path_core.specs.Keyed.{IsChild, IsTree}
 use Rattle.dav_path_core.proofs.Trees.{child-some, child-only, same_some, none≢some}
 use Rattle.dav_path_core.proofs.Orders.{segment_total}
-use Rattle.dav_path_core.proofs.FrontLemmas.{is_front-parts, is_front-cons}
+use Rattle.dav_path_core.proofs.FrontLemmas.{name_test, is_front-parts, is_front-cons}
 use Rattle.dav_locks_core.specs.Lock.{Lock}
 use Rattle.dav_locks_core.specs.Private.LockTree.{NumberedLock, LockTree, locks_at, is_segment, child_at, node_at, first_at, or_else, with_node, lookup_lock}
 use Rattle.dav_locks_core.proofs.ListPlaces.{position-none, position-first}
 
 -- ---- children by their segments
-
-pub segment_test : (s : Segment) → IsKeyTest is_segment (λ k. is_segment k s)
-segment_test s x y h = ap (is_segment y) (sym ((bytes_decides x s).0 h)) ∙ nat_list_eq_equiv.symm y x
 
 pub is_segment-refl : (s : Segment) → is_segment s s ≡ true
 is_segment-refl s = (bytes_decides s s).1 refl
@@ -33,7 +29,7 @@ module _ (t : LockTree) where
       subst (λ k. IsChild t n k c) ((bytes_decides w.0 s).0 w.2) w.1
 
   pub child_at-from : IsTree is_segment t → (n : ℕ) (s : Segment) (c : ℕ) → IsChild t n s c → child_at t n s ≡ Some c
-  child_at-from tree n s c h = child-only t (λ k. is_segment k s) n is_segment tree (segment_test s) c s h (is_segment-refl s)
+  child_at-from tree n s c h = child-only t (λ k. is_segment k s) n is_segment tree (name_test s) c s h (is_segment-refl s)
 
 -- ---- the flag that says whether the way ends
 

@@ -1,7 +1,7 @@
 -- Lists of children as links between numbers: a new first child, and one taken out.
 use Rattle.std.proofs.Common.{◌≡◌, ◌≢◌, ℕ, ◌==◌, ◌||◌, Bool, true, false, cond, ◌⊎◌, List, [], ◌∷◌, Some, None, Option, refl, ap, sym, ◌∙◌, subst, inl, inr, eqb}
 use Rattle.std.specs.List.{list_any, IsDistinct, AllByRecursion}
-use Rattle.std.proofs.lemmas.Bool.{cases_eq, eq-eqb, ne_eqb, eqb-true, or_cases, false≢true, true≢false}
+use Rattle.std.proofs.lemmas.Bool.{cases_eq, eq-eqb, ne_eqb, eqb-true, or_cases, false≢true, true≢false, false_from_ne_true}
 use Rattle.dav_path_core.specs.Chains.{IsIn, Chain, IsChainOf, Linked}
 use Rattle.dav_path_core.proofs.Trees.{none≢some, same_some}
 
@@ -36,17 +36,13 @@ pub no_distinct : IsDistinct eqb []
 unfolding IsDistinct
 no_distinct = tt
 
-not_any : (b : Bool) → (b ≡ true → ⊥) → b ≡ false
-not_any true h = absurd (h refl)
-not_any false h = refl
-
 pub more_distinct : (k : ℕ) (ks : List ℕ) → (IsIn k ks → ⊥) → IsDistinct eqb ks → IsDistinct eqb (k ∷ ks)
 unfolding IsDistinct
 more_distinct k ks h d = (apart k ks h, d)
   where
     apart : (k : ℕ) (ks : List ℕ) → (IsIn k ks → ⊥) → AllByRecursion (λ y. eqb k y ≡ false) ks
     apart k [] h = tt
-    apart k (y ∷ ys) h = (not_any (eqb k y) (λ e. h (ap (λ b. b || list_any (eqb k) ys) e)), apart k ys (λ e. h (in_later k y ys e)))
+    apart k (y ∷ ys) h = (false_from_ne_true (eqb k y) (λ e. h (ap (λ b. b || list_any (eqb k) ys) e)), apart k ys (λ e. h (in_later k y ys e)))
 
 -- ---- a list without one of its numbers
 drop_one : ℕ → List ℕ → List ℕ

@@ -6,19 +6,19 @@ use Rattle.std.specs.FinMap.{FinMap, get, insert, empty, get-empty, get-insert}
 use Rattle.std.specs.List.{list_any, IsDistinct}
 use Rattle.std.proofs.lemmas.Bool.{false≢true, ne_eqb}
 use Rattle.std.proofs.lemmas.List.Elements.{All-nil, All-cons, All-head}
-use Rattle.dav_path_core.specs.Keyed.{Entry, place, parent}
-use Rattle.dav_path_core.specs.Held.{Held, Links, Siblings, done, more, first, after, IsChildList}
+use Rattle.dav_path_core.specs.Keyed.{Entry, parent_and_key, parent}
+use Rattle.dav_path_core.specs.TreeValue.{TreeValue, Links, Siblings, done, more, first, after, IsChildList}
 use Rattle.dav_path_core.specs.Children.{IsNamed, ListsChildren}
 use Rattle.dav_path_core.proofs.Trees.{same_some, none≢some}
 
 abbrev node : Option (ℕ × ℕ) → Entry ℕ ℕ
-node at = record { place = at; item = 0 }
+node at = record { parent_and_key = at; item = 0 }
 
 abbrev leading : Option ℕ → Option ℕ → Links
 leading f a = record { first = f; after = a }
 
 -- 2 and 3 are the children of 1, at 7 and 8, and 4 is the child of 2, at 7
-abbrev tree : Held ℕ ℕ
+abbrev tree : TreeValue ℕ ℕ
 tree = record {
   keyed = record {
     nodes = insert (insert (insert (insert empty 1 (node None)) 2 (node (Some (1, 7)))) 3 (node (Some (1, 8)))) 4 (node (Some (2, 7)));
@@ -53,11 +53,11 @@ after_three = simp literals
 after_two : after tree 2 ≡ None
 after_two = simp literals
 
-place_of_two : place tree.keyed 2 ≡ Some (1, 7)
-place_of_two = simp literals
+parent_and_key_of_two : parent_and_key tree.keyed 2 ≡ Some (1, 7)
+parent_and_key_of_two = simp literals
 
-place_of_three : place tree.keyed 3 ≡ Some (1, 8)
-place_of_three = simp literals
+parent_and_key_of_three : parent_and_key tree.keyed 3 ≡ Some (1, 8)
+parent_and_key_of_three = simp literals
 
 parent_of_zero : parent tree.keyed 0 ≡ None
 parent_of_zero = simp literals
@@ -114,8 +114,8 @@ children = record {
 listed : ListsChildren eqb tree 1 ((8, 3) ∷ (7, 2) ∷ [])
 listed = record {
   listed = children;
-  named = All-cons (IsNamed eqb tree 1) (8, 3) ((7, 2) ∷ []) (8, place_of_three, refl)
-      (All-cons (IsNamed eqb tree 1) (7, 2) [] (7, place_of_two, refl) (All-nil (IsNamed eqb tree 1)));
+  named = All-cons (IsNamed eqb tree 1) (8, 3) ((7, 2) ∷ []) (8, parent_and_key_of_three, refl)
+      (All-cons (IsNamed eqb tree 1) (7, 2) [] (7, parent_and_key_of_two, refl) (All-nil (IsNamed eqb tree 1)));
 }
 
 -- a child left out
@@ -135,4 +135,4 @@ not_twice l = false≢true (sym l.listed.once.1.0.0)
 not_misnamed : ¬ ListsChildren eqb tree 1 ((7, 3) ∷ (7, 2) ∷ [])
 not_misnamed l =
     let n = All-head (IsNamed eqb tree 1) (7, 3) ((7, 2) ∷ []) l.named in
-    false≢true (subst (λ k. eqb k 7 ≡ true) (sym (ap (λ (q : ℕ × ℕ). q.1) (same_some (1, 8) (1, n.0) (sym place_of_three ∙ n.1)))) n.2)
+    false≢true (subst (λ k. eqb k 7 ≡ true) (sym (ap (λ (q : ℕ × ℕ). q.1) (same_some (1, 8) (1, n.0) (sym parent_and_key_of_three ∙ n.1)))) n.2)

@@ -1,10 +1,10 @@
 -- A cut made a leaf at a time: the way down to a leaf, and what is left after one goes.
 use Rattle.std.proofs.Common.{◌≡◌, ◌≢◌, ℕ, zero, suc, ◌+◌, ◌<◌, ◌≤◌, Bool, true, false, List, Some, None, Option, refl, ap, sym, ◌∙◌, subst, inl, inr, arith, is_some, MatchOption}
-use Rattle.std.specs.Option.{option_map, unwrap_or}
+use Rattle.std.specs.Option.{option_map}
 use Rattle.std.proofs.lemmas.Bool.{cases_eq, cases_Bool, false≢true}
 use Rattle.dav_path_core.specs.declared.tree.Node.{Node}
-use Rattle.dav_path_core.specs.Keyed.{Keyed, Leads, Under, here, below, root, up, entry, parent, has_child, without, cut, IsCut, IsKnown, IsTree}
-use Rattle.dav_path_core.specs.Held.{links_first}
+use Rattle.dav_path_core.specs.Keyed.{Keyed, Leads, Under, here, below, up, entry, parent, has_child, without, cut, IsCut, IsKnown, IsTree}
+use Rattle.dav_path_core.specs.TreeValue.{links_first}
 use Rattle.dav_path_core.specs.View.{keyed_of, node_at, links_of, IsLinked}
 use Rattle.dav_path_core.proofs.Trees.{same_some, none_from_is_some, known_from_parent}
 use Rattle.dav_path_core.proofs.Chains.{first_child_of, no_child}
@@ -37,11 +37,6 @@ module _ {K D : Type 0} where
         | None ↦ λ none. has_child-false (keyed_of es next) n (λ m e. no_child linked.chained n (same ∙ none) m (ap (λ f. f m) (sym (parent-view es next)) ∙ e))
         | Some m ↦ λ some. ap (λ f. f m) (parent-view es next) ∙ (first_child_of linked.chained n m (same ∙ some)).0
       ] refl
-
-  -- a node that is not the root has a parent
-  pub has_parent : (t : Keyed K D) {n : ℕ} → Leads (parent t) n → n ≢ 1 → parent t n ≡ Some (unwrap_or (parent t n) 1)
-  has_parent t root ne = absurd (ne refl)
-  has_parent t (up e l) ne = e ∙ ap (λ o. Some (unwrap_or o 1)) (sym e)
 
   -- ---- down to a leaf
   pub record Descent (t : Keyed K D) (id at turn : ℕ) : Type 0 where

@@ -18,11 +18,11 @@ pub Every-map : {E : Type 0} {P Q : E → Type 0} → ((e : E) → P e → Q e) 
 Every-map f [] h = tt
 Every-map f (e ∷ es) h = (f e h.0, Every-map f es h.1)
 
-first_so : (a b : Bool) → T (a && b) → T a
+pub first_so : (a b : Bool) → T (a && b) → T a
 first_so true b h = tt
 first_so false b h = absurd h
 
-second_so : (a b : Bool) → T (a && b) → T b
+pub second_so : (a b : Bool) → T (a && b) → T b
 second_so true b h = h
 second_so false b h = absurd h
 

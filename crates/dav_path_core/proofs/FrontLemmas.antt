@@ -1,6 +1,9 @@
 -- Fronts of paths, and equal paths.
-use Rattle.std.proofs.Common.{◌≡◌, ◌⊎◌, inl, inr, true, false, cond, [], ◌∷◌, ◌++◌, Some, None, is_some, refl, sym, ap, ◌∙◌, subst}
+use Rattle.std.proofs.Common.{◌≡◌, ◌⊎◌, inl, inr, true, false, cond, [], ◌∷◌, None, is_some, refl, sym, ap, ◌∙◌, subst}
+use Rattle.std.specs.Prelude.{nat_eq}
 use Rattle.std.specs.Ordering.{eq_by_cmp}
+use Rattle.std.specs.Map.{IsKeyTest}
+use Rattle.std.specs.Cmp.Lexicographic.{pointwise, bytes_decides, nat_list_eq_equiv}
 use Rattle.std.proofs.lemmas.Bool.{false≢true}
 use Rattle.dav_path_core.specs.Fronts.{Segment, Path, segment_cmp, parent, behind, is_front, is_same_path}
 use Rattle.dav_path_core.proofs.Orders.{segment_total, segment_exact, path_total, path_exact, eq_by_cmp_same, eq_by_cmp_true}
@@ -13,28 +16,18 @@ is_same_path-same = eq_by_cmp_true path_exact
 pub is_same_path-refl : (a : Path) → is_same_path a a ≡ true
 is_same_path-refl = eq_by_cmp_same path_total
 
+-- ---- equal segments
+
+-- whether a segment is s is a test of one key
+pub name_test : (s : Segment) → IsKeyTest (pointwise nat_eq) (λ (k : Segment). pointwise nat_eq k s)
+name_test s x y h = ap (pointwise nat_eq y) (sym ((bytes_decides x s).0 h)) ∙ nat_list_eq_equiv.symm y x
+
 -- ---- what stands behind a front
 
 behind_same : (x : Segment) (a p : Path) → behind (x ∷ a) (x ∷ p) ≡ behind a p
 behind_same x a p = ap (λ b. cond b (behind a p) None) (eq_by_cmp_same segment_total x)
 
-pub behind_append : (a s : Path) → behind a (a ++ s) ≡ Some s
-behind_append [] s = refl
-behind_append (x ∷ a) s = behind_same x a (a ++ s) ∙ behind_append a s
-
-pub behind_is : (a p s : Path) → behind a p ≡ Some s → p ≡ a ++ s
-behind_is [] p s h = cc
-behind_is (x ∷ a) [] s h = absurd (cc)
-behind_is (x ∷ a) (y ∷ p) s h =
-    elim (eq_by_cmp segment_cmp x y) as (λ b. eq_by_cmp segment_cmp x y ≡ b → cond b (behind a p) None ≡ Some s → y ∷ p ≡ x ∷ (a ++ s)) [
-      | true ↦ λ e h. let same = eq_by_cmp_true segment_exact x y e in let rest = behind_is a p s h in cc
-      | false ↦ λ e h. absurd (cc)
-    ] refl h
-
 -- ---- fronts
-
-pub is_front-append : (a s : Path) → is_front a (a ++ s) ≡ true
-is_front-append a s = ap is_some (behind_append a s)
 
 pub is_front-parts : (x y : Segment) (a b : Path) → is_front (x ∷ a) (y ∷ b) ≡ true → (x ≡ y) × (is_front a b ≡ true)
 is_front-parts x y a b h =
@@ -72,19 +65,6 @@ fronts_of_one (x ∷ a) (y ∷ b) (z ∷ c) h k =
       | inr r ↦ inr (is_front-cons y x b a (q.0 ∙ sym p.0) r)
     ]
 
-front_equal : (a b : Path) → is_front a b ≡ true → is_front b a ≡ true → a ≡ b
-front_equal [] [] h k = refl
-front_equal [] (y ∷ b) h k = absurd (false≢true k)
-front_equal (x ∷ a) [] h k = absurd (false≢true h)
-front_equal (x ∷ a) (y ∷ b) h k =
-    let p = is_front-parts x y a b h in
-    let head : x ≡ y = p.0 in
-    let tail : a ≡ b = front_equal a b p.1 (is_front-parts y x b a k).1 in
-    cc
-
-pub front_antisym : (a b : Path) → is_front a b ≡ true → is_front b a ≡ true → is_same_path a b ≡ true
-front_antisym a b h k = subst (λ w. is_same_path a w ≡ true) (front_equal a b h k) (is_same_path-refl a)
-
 above : (f q : Path) → is_front f q ≡ true → (f ≡ q) ⊎ (is_front f (parent q) ≡ true)
 above [] q h = inr refl
 above (x ∷ f) [] h = absurd (false≢true h)
@@ -97,10 +77,3 @@ above (x ∷ f) (y ∷ w ∷ q) h =
       | inl e ↦ inl (cc)
       | inr r ↦ inr (is_front-cons x y f (parent (w ∷ q)) p.0 r)
     ]
-
--- a front of a path that isn't the path is a front of its parent
-pub front_parent : (f q : Path) → is_front f q ≡ true → is_same_path f q ≡ false → is_front f (parent q) ≡ true
-front_parent f q h k = elim (above f q h) [
-  | inl e ↦ absurd (false≢true (sym k ∙ subst (λ w. is_same_path f w ≡ true) e (is_same_path-refl f)))
-  | inr r ↦ r
-]

@@ -4,52 +4,52 @@ use Rattle.std.specs.Cmp.{IsEquivalence}
 use Rattle.std.specs.Option.{option_map}
 use Rattle.std.proofs.lemmas.Bool.{cases_eq}
 use Rattle.dav_path_core.specs.declared.tree.Node.{Node}
-use Rattle.dav_path_core.specs.Keyed.{Keyed, place, place_of, child, add, cut, is_under, placed, IsKnown, IsTree}
-use Rattle.dav_path_core.specs.Held.{Held}
-use Rattle.dav_path_core.specs.View.{entry_of, keyed_of, held_of, node_at, first_in, IsLinked, new_node, with_node, put_first, put_below, hung, closed_up, led_on}
+use Rattle.dav_path_core.specs.Keyed.{Keyed, parent_and_key, parent_and_key_of, child, add, cut, is_under, placed, IsKnown, IsTree}
+use Rattle.dav_path_core.specs.TreeValue.{TreeValue}
+use Rattle.dav_path_core.specs.View.{entry_of, keyed_of, tree_value_of, node_at, first_in, IsLinked, new_node, with_node, put_before, with_parent_and_key, with_parent, closed_up, led_on}
 use Rattle.dav_path_core.proofs.Trees.{none≢some}
 use Rattle.dav_path_core.proofs.Views.{get-seen, known-view, changed-here, changed-other}
 use Rattle.dav_path_core.proofs.Links.{keyed-added, IsLinked-added, back_entry}
 use Rattle.dav_path_core.proofs.Unlinking.{on_entry}
 use Rattle.dav_path_core.proofs.Placing.{keyed-placed, IsLinked-placed}
-use Rattle.dav_path_core.proofs.Overwriting.{never, never-symm, child-never, IsTree-never, IsTree-over, over, cut-over, new_known, new_outside, old_not_root, old_known_over, old_place_added, found}
+use Rattle.dav_path_core.proofs.Overwriting.{never, never-symm, child-never, IsTree-never, IsTree-over, over, cut-over, new_known, new_outside, old_not_root, old_known_over, old_parent_and_key_added, found}
 
 module _ {K D : Type 0} where
   -- the node that has a place
-  node_placed : (o : Option (Node K D)) (w : ℕ × K) → place_of (option_map entry_of o) ≡ Some w → (x : Node K D) × (Some x ≡ o) × (x.place ≡ Some w)
+  node_placed : (o : Option (Node K D)) (w : ℕ × K) → parent_and_key_of (option_map entry_of o) ≡ Some w → (x : Node K D) × (Some x ≡ o) × (x.parent_and_key ≡ Some w)
   node_placed None w e = absurd (none≢some w e)
   node_placed (Some x) w e = (x, refl, e)
 
   -- a node under a known key is put below another under it
-  module _ (at : ℕ → Option (Node K D)) (n p r : ℕ) (k : K) (f : Option ℕ) (placed_n : place_of (option_map entry_of (at n)) ≡ Some (r, k)) where
+  module _ (at : ℕ → Option (Node K D)) (n p r : ℕ) (k : K) (f : Option ℕ) (placed_n : parent_and_key_of (option_map entry_of (at n)) ≡ Some (r, k)) where
     abbrev kept_key : Node K D → Node K D
-    kept_key x = record x { place = option_map (λ q. (p, q.1)) x.place; next_sibling = f; previous_sibling = None }
+    kept_key x = record x { parent_and_key = option_map (λ q. (p, q.1)) x.parent_and_key; next_sibling = f; previous_sibling = None }
 
     abbrev given_key : Node K D → Node K D
-    given_key x = record x { place = Some (p, k); next_sibling = f; previous_sibling = None }
+    given_key x = record x { parent_and_key = Some (p, k); next_sibling = f; previous_sibling = None }
 
-    one : (o : Option (Node K D)) → place_of (option_map entry_of o) ≡ Some (r, k) → option_map kept_key o ≡ option_map given_key o
+    one : (o : Option (Node K D)) → parent_and_key_of (option_map entry_of o) ≡ Some (r, k) → option_map kept_key o ≡ option_map given_key o
     one None h = refl
-    one (Some x) h = ap (λ (w : Option (ℕ × K)). let y : Node K D = record x { place = option_map (λ q. (p, q.1)) w; next_sibling = f; previous_sibling = None } in Some y) h
+    one (Some x) h = ap (λ (w : Option (ℕ × K)). let y : Node K D = record x { parent_and_key = option_map (λ q. (p, q.1)) w; next_sibling = f; previous_sibling = None } in Some y) h
 
-    each : (q : ℕ) → hung at n p f q ≡ put_below at n p k f q
+    each : (q : ℕ) → with_parent at n p f q ≡ with_parent_and_key at n p k f q
     each q = elim (cases_eq q n) [
-      | inl is ↦ subst (λ v. hung at n p f v ≡ put_below at n p k f v) (sym is) (changed-here at n kept_key ∙ one (at n) placed_n ∙ sym (changed-here at n given_key))
+      | inl is ↦ subst (λ v. with_parent at n p f v ≡ with_parent_and_key at n p k f v) (sym is) (changed-here at n kept_key ∙ one (at n) placed_n ∙ sym (changed-here at n given_key))
       | inr ne ↦ changed-other at n kept_key q ne ∙ sym (changed-other at n given_key q ne)
     ]
 
-    pub hung-placed : hung at n p f ≡ put_below at n p k f
-    hung-placed = λ i q. each q i
+    pub with_parent-same_key : with_parent at n p f ≡ with_parent_and_key at n p k f
+    with_parent-same_key = λ i q. each q i
 
   -- leading neighbours to each other changes no entry
   pub closed_up-entry : (at : ℕ → Option (Node K D)) (p : ℕ) (b a : Option ℕ) (q : ℕ) → option_map entry_of (closed_up at p b a q) ≡ option_map entry_of (at q)
   closed_up-entry at p b a q = back_entry (led_on at p b a) a b q ∙ on_entry at p b a q
 
   module _ (eq : K → K → Bool) (laws : IsEquivalence eq) (es fs gs : List (ℕ × Node K D)) (next p : ℕ) (k : K) (d : D) (c : ℕ) (linked : IsLinked eq es next)
-      (s : Held K D) (view : held_of es next ≡ s) (known_s : IsKnown s.keyed p) (taken_s : child (eq k) s.keyed p ≡ Some c)
-      (is_put : node_at fs ≡ put_first (with_node (node_at es) next (Some (new_node p k d (first_in (node_at es) p)))) p next (first_in (node_at es) p))
-      (is_hung : (x : Node K D) (r : ℕ) (l : K) → Some x ≡ node_at fs c → x.place ≡ Some (r, l)
-      → node_at gs ≡ put_first (put_below (closed_up (node_at fs) p x.previous_sibling x.next_sibling) c next l (first_in (closed_up (node_at fs) p x.previous_sibling x.next_sibling) next)) next c
+      (s : TreeValue K D) (view : tree_value_of es next ≡ s) (known_s : IsKnown s.keyed p) (taken_s : child (eq k) s.keyed p ≡ Some c)
+      (is_put : node_at fs ≡ put_before (with_node (node_at es) next (Some (new_node p k d (first_in (node_at es) p)))) p next (first_in (node_at es) p))
+      (is_hung : (x : Node K D) (r : ℕ) (l : K) → Some x ≡ node_at fs c → x.parent_and_key ≡ Some (r, l)
+      → node_at gs ≡ put_before (with_parent_and_key (closed_up (node_at fs) p x.previous_sibling x.next_sibling) c next l (first_in (closed_up (node_at fs) p x.previous_sibling x.next_sibling) next)) next c
       (first_in (closed_up (node_at fs) p x.previous_sibling x.next_sibling) next)) where
     abbrev t : Keyed K D
     t = keyed_of es next
@@ -79,8 +79,8 @@ module _ {K D : Type 0} where
     abbrev l : K
     l = (found eq laws t p k d linked.tree known c taken).0
 
-    node_old : (x : Node K D) × (Some x ≡ node_at fs c) × (x.place ≡ Some (p, l))
-    node_old = node_placed (node_at fs c) (p, l) (ap place_of (sym (get-seen entry_of fs c)) ∙ ap (λ u. place u c) keyed1 ∙ old_place_added eq laws t p k d linked.tree known c taken)
+    node_old : (x : Node K D) × (Some x ≡ node_at fs c) × (x.parent_and_key ≡ Some (p, l))
+    node_old = node_placed (node_at fs c) (p, l) (ap parent_and_key_of (sym (get-seen entry_of fs c)) ∙ ap (λ u. parent_and_key u c) keyed1 ∙ old_parent_and_key_added eq laws t p k d linked.tree known c taken)
 
     tree1 : IsTree never (add t p k d)
     tree1 = subst (IsTree never) keyed1 linked1.tree

@@ -4,11 +4,11 @@ use Rattle.std.specs.Ordering.{nat_cmp}
 use Rattle.std.specs.Cmp.{nat_cmp_total}
 use Rattle.std.specs.Option.{option_map}
 use Rattle.std.specs.FinMap.{FinMap, get, remove, get-retain_keys, same_map, nat_cmp-IsAntisymmetric}
-use Rattle.std.proofs.lemmas.Bool.{cases_eq, false≢true, true≢false}
-use Rattle.dav_path_core.specs.Keyed.{Entry, Keyed, Leads, root, up, Under, here, below, entry, place, place_of, parent, is_under, has_child, without, cut, IsKnown, IsTree}
+use Rattle.std.proofs.lemmas.Bool.{cases_eq, false≢true, true≢false, false_from_ne_true}
+use Rattle.dav_path_core.specs.Keyed.{Entry, Keyed, Leads, root, up, Under, here, below, entry, parent_and_key, parent_and_key_of, parent, is_under, has_child, without, cut, IsKnown, IsTree}
 use Rattle.dav_path_core.proofs.FinMaps.{get_gone, get_left}
 use Rattle.dav_path_core.proofs.Trees.{none≢some, same_some, none_from_is_some, known_from_parent, known_from_child, child-none, Sets}
-use Rattle.dav_path_core.proofs.KeyedDepth.{is_under-true, known_leads, top}
+use Rattle.dav_path_core.proofs.KeyedDepth.{is_under-true, top}
 
 -- no number has the parent n
 abbrev pub IsLeaf : {K D : Type 0} → Keyed K D → ℕ → Type 0
@@ -18,10 +18,6 @@ pub same_truth : (a b : Bool) → (a ≡ true → b ≡ true) → (b ≡ true �
 same_truth true b there back = sym (there refl)
 same_truth false true there back = back refl
 same_truth false false there back = refl
-
-pub not_true : (b : Bool) → (b ≡ true → ⊥) → b ≡ false
-not_true true h = absurd (h refl)
-not_true false h = refl
 
 pub Under-mono : {f g : ℕ → Option ℕ} {n k : ℕ} → ((q p : ℕ) → f q ≡ Some p → g q ≡ Some p) → Under f n k → Under g n k
 Under-mono h here = here
@@ -40,9 +36,9 @@ module _ {K D : Type 0} where
   }
 
   -- a number with a parent is a child under some key
-  pub parent_child : (o : Option (Entry K D)) (p : ℕ) → option_map (λ q. q.0) (place_of o) ≡ Some p → (k : K) × (place_of o ≡ Some (p, k))
+  pub parent_child : (o : Option (Entry K D)) (p : ℕ) → option_map (λ q. q.0) (parent_and_key_of o) ≡ Some p → (k : K) × (parent_and_key_of o ≡ Some (p, k))
   parent_child None p e = absurd (none≢some p e)
-  parent_child (Some x) p e = go x.place e
+  parent_child (Some x) p e = go x.parent_and_key e
     where
       go : (w : Option (ℕ × K)) → option_map (λ q. q.0) w ≡ Some p → (k : K) × (w ≡ Some (p, k))
       go None e = absurd (none≢some p e)
@@ -64,13 +60,13 @@ module _ {K D : Type 0} where
     apart q h e = false≢true (sym (ap is_some entry-without.here) ∙ subst (λ v. IsKnown (without t n) v) e h)
 
     pub parent-without : (q : ℕ) → q ≢ n → parent (without t n) q ≡ parent t q
-    parent-without q ne = ap (λ o. option_map (λ w. w.0) (place_of o)) (entry-without.other q ne)
+    parent-without q ne = ap (λ o. option_map (λ w. w.0) (parent_and_key_of o)) (entry-without.other q ne)
 
     pub known-without : (q : ℕ) → IsKnown (without t n) q → IsKnown t q
     known-without q h = ap is_some (sym (entry-without.other q (apart q h))) ∙ h
 
-    pub place-without : (q : ℕ) (w : ℕ × K) → place (without t n) q ≡ Some w → place t q ≡ Some w
-    place-without q w e = ap place_of (sym (entry-without.other q (apart q (known_from_child (without t n) w.0 w.1 q e)))) ∙ e
+    pub parent_and_key-without : (q : ℕ) (w : ℕ × K) → parent_and_key (without t n) q ≡ Some w → parent_and_key t q ≡ Some w
+    parent_and_key-without q w e = ap parent_and_key_of (sym (entry-without.other q (apart q (known_from_child (without t n) w.0 w.1 q e)))) ∙ e
 
   pub IsTree-without : (eq : K → K → Bool) (t : Keyed K D) (n : ℕ) → IsTree eq t → n ≢ 1 → IsLeaf t n → IsTree eq (without t n)
   IsTree-without eq t n tree not_root alone =
@@ -78,10 +74,10 @@ module _ {K D : Type 0} where
       let s = entry-without t n in
       let one : 1 ≢ n = λ e. not_root (sym e) in
       record {
-        root = (ap is_some (s.other 1 one) ∙ tree.root.0, ap place_of (s.other 1 one) ∙ tree.root.1);
+        root = (ap is_some (s.other 1 one) ∙ tree.root.0, ap parent_and_key_of (s.other 1 one) ∙ tree.root.1);
         numbered = λ q h. tree.numbered q (known-without t n q h);
         attached = λ q h. Leads-without t u n (parent-without t n) alone q (apart t n q h) (tree.attached q (known-without t n q h));
-        distinct = λ p k l a b x y same. tree.distinct p k l a b (place-without t n a (p, k) x) (place-without t n b (p, l) y) same;
+        distinct = λ p k l a b x y same. tree.distinct p k l a b (parent_and_key-without t n a (p, k) x) (parent_and_key-without t n b (p, l) y) same;
       }
 
   -- ---- a node goes, and all that leads to it
@@ -103,54 +99,23 @@ module _ {K D : Type 0} where
     pub cut-in : (q : ℕ) → is_under t n q ≡ true → entry (cut t n) q ≡ None
     cut-in q h = entry-cut t n q ∙ ap (λ b. cond (not b) (entry t q) None) h
 
-    pub out_of_cut : (q : ℕ) → IsKnown (cut t n) q → is_under t n q ≡ false
-    out_of_cut q h = not_true _ (λ e. false≢true (sym (ap is_some (cut-in q e)) ∙ h))
-
-    pub known-cut : (q : ℕ) → IsKnown (cut t n) q → IsKnown t q
-    known-cut q h = ap is_some (sym (cut-out q (out_of_cut q h))) ∙ h
-
-    place-cut : (q : ℕ) (w : ℕ × K) → place (cut t n) q ≡ Some w → place t q ≡ Some w
-    place-cut q w e = ap place_of (sym (cut-out q (out_of_cut q (known_from_child (cut t n) w.0 w.1 q e)))) ∙ e
-
     module _ (tree : IsTree eq t) where
-      -- what stands out of the cut leads to 1 still
-      Leads-cut : {q : ℕ} → Leads (parent t) q → is_under t n q ≡ false → Leads (parent (cut t n)) q
-      Leads-cut root h = root
-      Leads-cut {q = q} (up {p = p} e l) h =
-          let known : IsKnown t q = known_from_parent t q p e in
-          let above : is_under t n p ≡ false = not_true _ (λ m.
-          false≢true (sym h ∙ (is_under-true eq t tree n q known).1 (below e ((is_under-true eq t tree n p (known_leads eq t tree p l)).0 m)))) in
-          up (ap (λ o. option_map (λ w. w.0) (place_of o)) (cut-out q h) ∙ e) (Leads-cut l above)
-
       pub no_parent : {k : ℕ} → k ≡ 1 → Under (parent t) n k → k ≢ n → ⊥
       no_parent is here ne = ne refl
       no_parent is (below {p = p} e u) ne = none≢some p (sym (ap (parent t) is ∙ top eq t tree) ∙ e)
-
-      root-out : n ≢ 1 → is_under t n 1 ≡ false
-      root-out not_root = not_true _ (λ e. no_parent refl ((is_under-true eq t tree n 1 tree.root.0).0 e) (λ is. not_root (sym is)))
-
-      pub IsTree-cut : n ≢ 1 → IsTree eq (cut t n)
-      IsTree-cut not_root =
-          let same = cut-out 1 (root-out not_root) in
-          record {
-            root = (ap is_some same ∙ tree.root.0, ap place_of same ∙ tree.root.1);
-            numbered = λ q h. tree.numbered q (known-cut q h);
-            attached = λ q h. Leads-cut (tree.attached q (known-cut q h)) (out_of_cut q h);
-            distinct = λ p k l a b x y same. tree.distinct p k l a b (place-cut a (p, k) x) (place-cut b (p, l) y) same;
-          }
 
       -- a cut drops exactly the numbers whose parents lead to n
       pub cut-law : (q : ℕ) → IsKnown t q → ((Under (parent t) n q → entry (cut t n) q ≡ None) × ((Under (parent t) n q → ⊥) → entry (cut t n) q ≡ entry t q))
       cut-law q known =
           let law = is_under-true eq t tree n q known in
-          (λ u. cut-in q (law.1 u), λ none. cut-out q (not_true _ (λ e. none (law.0 e))))
+          (λ u. cut-in q (law.1 u), λ none. cut-out q (false_from_ne_true _ (λ e. none (law.0 e))))
 
       module _ (known : IsKnown t n) (alone : IsLeaf t n) where
         leaf_same : (q : ℕ) → entry (cut t n) q ≡ entry (without t n) q
         leaf_same q = elim (cases_eq q n) [
           | inl is ↦ subst (λ v. entry (cut t n) v ≡ entry (without t n) v) (sym is) (cut-in n ((is_under-true eq t tree n n known).1 here) ∙ sym (entry-without t n).here)
           | inr ne ↦ (elim (is_some (entry t q)) as (λ b. is_some (entry t q) ≡ b → entry (cut t n) q ≡ entry t q) [
-            | true ↦ λ k. cut-out q (not_true _ (λ e. let c = Under-last ((is_under-true eq t tree n q k).0 e) ne in alone c.0 c.1))
+            | true ↦ λ k. cut-out q (false_from_ne_true _ (λ e. let c = Under-last ((is_under-true eq t tree n q k).0 e) ne in alone c.0 c.1))
             | false ↦ λ k. none-cut t n q (none_from_is_some _ k) ∙ sym (none_from_is_some _ k)
           ] refl) ∙ sym ((entry-without t n).other q ne)
         ]

@@ -2,7 +2,7 @@
 use Rattle.std.proofs.Common.{◌≡◌, ◌≢◌, ℕ, zero, suc, ◌+◌, ◌<◌, ◌≤◌, ◌||◌, Bool, true, false, List, [], ◌∷◌, length, Some, None, Option, refl, ap, sym, ◌∙◌, subst, inl, inr, arith, eqb}
 use Rattle.std.specs.Option.{option_map}
 use Rattle.std.specs.List.{list_any, IsDistinct, AllByRecursion}
-use Rattle.std.proofs.lemmas.Bool.{cases_eq, eq-eqb, ne_eqb, eqb-true, or_cases, false≢true}
+use Rattle.std.proofs.lemmas.Bool.{cases_eq, eq-eqb, ne_eqb, eqb-true, or_cases, false≢true, false_from_ne_true}
 use Rattle.std.proofs.lemmas.Map.Steps.{length-le_from_distinct_below}
 use Rattle.dav_path_core.specs.Keyed.{Keyed, Leads, root, up, Under, here, below, meets, is_under, parent, IsKnown, IsTree}
 use Rattle.dav_path_core.proofs.Trees.{none≢some, same_some, known_from_parent}
@@ -28,13 +28,9 @@ length-way : {f : ℕ → Option ℕ} {n : ℕ} (l : Leads f n) → length (way 
 length-way root = refl
 length-way (up e l) = ap suc (length-way l)
 
-not_any : (b : Bool) → (b ≡ true → ⊥) → b ≡ false
-not_any true h = absurd (h refl)
-not_any false h = refl
-
 all_apart : (n : ℕ) (ks : List ℕ) → (list_any (eqb n) ks ≡ true → ⊥) → AllByRecursion (λ y. eqb n y ≡ false) ks
 all_apart n [] h = tt
-all_apart n (k ∷ ks) h = (not_any (eqb n k) (λ e. h (ap (λ b. b || list_any (eqb n) ks) e)), all_apart n ks (λ e. h (either (eqb n k) _ e)))
+all_apart n (k ∷ ks) h = (false_from_ne_true (eqb n k) (λ e. h (ap (λ b. b || list_any (eqb n) ks) e)), all_apart n ks (λ e. h (either (eqb n k) _ e)))
   where
     either : (a b : Bool) → b ≡ true → (a || b) ≡ true
     either true b h = refl

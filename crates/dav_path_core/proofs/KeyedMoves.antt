@@ -1,12 +1,12 @@
 -- A node that is put below another, or moved there, keeps the tree.
-use Rattle.std.proofs.Common.{◌≡◌, ◌≢◌, ℕ, ◌==◌, Bool, true, false, cond, Some, None, Option, refl, ap, sym, ◌∙◌, subst, inl, inr, is_some}
+use Rattle.std.proofs.Common.{◌≡◌, ◌≢◌, ℕ, Bool, true, false, Some, None, Option, refl, ap, sym, ◌∙◌, subst, inl, inr, is_some}
 use Rattle.std.specs.Cmp.{IsEquivalence}
 use Rattle.std.specs.Option.{option_map}
-use Rattle.std.proofs.lemmas.Bool.{cases_eq, eq-eqb, false≢true, true≢false}
-use Rattle.dav_path_core.specs.Keyed.{Entry, Keyed, Leads, root, up, Under, here, below, entry, place, place_of, parent, child, is_under, without, placed, placed_at, moved, moved_over, IsChild, IsKnown, IsTree}
+use Rattle.std.proofs.lemmas.Bool.{cases_eq, false≢true, true≢false, false_from_ne_true}
+use Rattle.dav_path_core.specs.Keyed.{Entry, Keyed, Leads, root, up, Under, here, below, entry, parent_and_key, parent_and_key_of, parent, child, is_under, without, placed, placed_at, IsChild, IsKnown, IsTree}
 use Rattle.dav_path_core.proofs.Trees.{same_some, none≢some, child-none, child-some, child_before, Sets, Sets-insert, known_from_child, known_from_parent}
 use Rattle.dav_path_core.proofs.KeyedDepth.{is_under-true}
-use Rattle.dav_path_core.proofs.KeyedCuts.{not_true, IsLeaf, Under-mono, IsTree-without, entry-without, apart, parent-without, place-without}
+use Rattle.dav_path_core.proofs.KeyedCuts.{IsLeaf, Under-mono, IsTree-without, entry-without, apart, parent-without, parent_and_key-without}
 
 module _ {f g : ℕ → Option ℕ} (n : ℕ) (other : (q : ℕ) → q ≢ n → g q ≡ f q) where
   beside : {r : ℕ} → Leads f r → (Under f n r → ⊥) → Leads g r
@@ -21,17 +21,17 @@ module _ {K D : Type 0} (eq : K → K → Bool) (symm : (a b : K) → eq a b ≡
   at_entry : (o : Option (Entry K D)) → entry t n ≡ o → IsTree eq (placed_at t n p k o)
   at_entry None at = tree
   at_entry (Some e) at =
-      let w : Entry K D = record e { place = Some (p, k) } in
+      let w : Entry K D = record e { parent_and_key = Some (p, k) } in
       let u : Keyed K D = placed_at t n p k (Some e) in
       let s : Sets (entry t) (entry u) n (Some w) = Sets-insert t.nodes n w in
       let same_known : (q : ℕ) → IsKnown u q → IsKnown t q =
       λ q h. elim (cases_eq q n) [ inl is ↦ subst (IsKnown t) (sym is) (ap is_some at) | inr ne ↦ ap is_some (sym (s.other q ne)) ∙ h ] in
       let one : 1 ≢ n = λ e. not_root (sym e) in
-      let other : (q : ℕ) → q ≢ n → parent u q ≡ parent t q = λ q ne. ap (λ o. option_map (λ x. x.0) (place_of o)) (s.other q ne) in
-      let here_p : parent u n ≡ Some p = ap (λ o. option_map (λ x. x.0) (place_of o)) s.here in
+      let other : (q : ℕ) → q ≢ n → parent u q ≡ parent t q = λ q ne. ap (λ o. option_map (λ x. x.0) (parent_and_key_of o)) (s.other q ne) in
+      let here_p : parent u n ≡ Some p = ap (λ o. option_map (λ x. x.0) (parent_and_key_of o)) s.here in
       let lp : Leads (parent u) p = beside n other (tree.attached p known) (λ v. false≢true (sym outside ∙ (is_under-true eq t tree n p known).1 v)) in
       record {
-        root = (ap is_some (s.other 1 one) ∙ tree.root.0, ap place_of (s.other 1 one) ∙ tree.root.1);
+        root = (ap is_some (s.other 1 one) ∙ tree.root.0, ap parent_and_key_of (s.other 1 one) ∙ tree.root.1);
         numbered = λ q h. tree.numbered q (same_known q h);
         attached = λ q h. still n other p here_p lp (tree.attached q (same_known q h));
         distinct = λ r a b m m' x y same. elim (child_before t u n w s r a m x) [
@@ -63,7 +63,7 @@ module _ {K D : Type 0} (eq : K → K → Bool) (laws : IsEquivalence eq) (t : K
     below_p = ap (option_map (λ q. q.0)) found.1
 
     pub c_not_root : c ≢ 1
-    c_not_root is = none≢some (p, found.0) (sym tree.root.1 ∙ subst (λ v. place t v ≡ Some (p, found.0)) is found.1)
+    c_not_root is = none≢some (p, found.0) (sym tree.root.1 ∙ subst (λ v. parent_and_key t v ≡ Some (p, found.0)) is found.1)
 
     pub p_apart : p ≢ c
     p_apart is = alone c (below_p ∙ ap (λ (x : ℕ). Some x) is)
@@ -78,27 +78,13 @@ module _ {K D : Type 0} (eq : K → K → Bool) (laws : IsEquivalence eq) (t : K
     up_before q r e = sym (parent-without t c q (apart t c q (known_from_parent (without t c) q r e))) ∙ e
 
     pub outside_rest : is_under (without t c) n p ≡ false
-    outside_rest = not_true _ (λ e. false≢true (sym outside ∙ (is_under-true eq t tree n p known).1 (Under-mono up_before ((is_under-true eq (without t c) rest n p known_rest).0 e))))
+    outside_rest = false_from_ne_true _ (λ e. false≢true (sym outside ∙ (is_under-true eq t tree n p known).1 (Under-mono up_before ((is_under-true eq (without t c) rest n p known_rest).0 e))))
 
     pub free_rest : child (eq k) (without t c) p ≡ None
     free_rest = elim (child (eq k) (without t c) p) as (λ o. child (eq k) (without t c) p ≡ o → o ≡ None) [
       | None ↦ λ e. refl
       | Some m ↦ λ e.
           let w = child-some (without t c) (eq k) p m e in
-          let same : c ≡ m = tree.distinct p found.0 w.0 c m found.1 (place-without t c m (p, w.0) w.1) (sym (laws.congr k found.0 w.0 found.2) ∙ w.2) in
+          let same : c ≡ m = tree.distinct p found.0 w.0 c m found.1 (parent_and_key-without t c m (p, w.0) w.1) (sym (laws.congr k found.0 w.0 found.2) ∙ w.2) in
           absurd (apart t c m (known_from_child (without t c) p w.0 m w.1) (sym same))
     ] refl
-
-    IsTree-replaced : IsTree eq (placed (without t c) n p k)
-    IsTree-replaced = IsTree-placed eq laws.symm (without t c) n p k rest known_rest not_root outside_rest free_rest
-
-  at_child : ((c : ℕ) → child (eq k) t p ≡ Some c → IsLeaf t c) → (o : Option ℕ) → child (eq k) t p ≡ o → IsTree eq (moved_over t n p k o)
-  at_child leaves None at = IsTree-placed eq laws.symm t n p k tree known not_root outside at
-  at_child leaves (Some c) at = elim (c == n) as (λ b. (c == n) ≡ b → IsTree eq (cond b t (placed (without t c) n p k))) [
-    | true ↦ λ e. tree
-    | false ↦ λ e. IsTree-replaced c at (leaves c at) (λ is. false≢true (sym e ∙ eq-eqb c n is))
-  ] refl
-
-  -- a move keeps the tree
-  pub IsTree-moved : ((c : ℕ) → child (eq k) t p ≡ Some c → IsLeaf t c) → IsTree eq (moved eq t n p k)
-  IsTree-moved leaves = at_child leaves (child (eq k) t p) refl

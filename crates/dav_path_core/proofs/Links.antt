@@ -5,10 +5,10 @@ use Rattle.std.specs.Option.{option_map}
 use Rattle.std.specs.BTreeMap.{BTreeMap, Updates, WritesThrough}
 use Rattle.std.proofs.lemmas.Bool.{cases_eq, false≢true}
 use Rattle.dav_path_core.specs.declared.tree.Node.{Node}
-use Rattle.dav_path_core.specs.Keyed.{Entry, place, place_of, parent, child, add, IsKnown, IsTree}
-use Rattle.dav_path_core.specs.Held.{Held, Siblings, done, more, IsHeld, if_known, first, after, links_first, links_after}
+use Rattle.dav_path_core.specs.Keyed.{Entry, parent_and_key, parent_and_key_of, parent, child, add, IsKnown, IsTree}
+use Rattle.dav_path_core.specs.TreeValue.{TreeValue, Siblings, done, more, IsTreeValue, if_known, first, after, links_first, links_after}
 use Rattle.dav_path_core.specs.Chains.{Chain, Linked}
-use Rattle.dav_path_core.specs.View.{entry_of, links_of, keyed_of, held_of, node_at, parent_in, first_in, after_in, before_in, before_of, IsChained, IsLinked, with_node, changed, with_first, with_after, with_before, led_back, put_first}
+use Rattle.dav_path_core.specs.View.{entry_of, links_of, keyed_of, tree_value_of, node_at, parent_in, first_in, next_in, previous_in, previous_of, IsChained, IsLinked, with_node, changed, with_first, with_next, with_previous, led_back, put_before}
 use Rattle.dav_path_core.proofs.Trees.{none≢some, same_some, known_from_parent, IsTree-add, IsTree-lone, IsTree-with_item}
 use Rattle.dav_path_core.proofs.Chains.{no_distinct, Linked-put, first_child_of}
 use Rattle.dav_path_core.proofs.Views.{with_node-here, with_node-other, get-seen, known-view, entry-view, changed-here, changed-other, changed-keeps, view-add, view-lone, node_at-updated, mapped-some, view-write, write-keeps}
@@ -23,23 +23,23 @@ first_of (Some m) h = (m, refl)
 
 module _ {K D : Type 0} where
   pub parent-view : (es : List (ℕ × Node K D)) (next : ℕ) → parent (keyed_of es next) ≡ parent_in (node_at es)
-  parent-view es next = λ i q. option_map (λ w. w.0) (place_of (get-seen entry_of es q i))
+  parent-view es next = λ i q. option_map (λ w. w.0) (parent_and_key_of (get-seen entry_of es q i))
 
-  pub first-view : (es : List (ℕ × Node K D)) (next : ℕ) → first (held_of es next) ≡ first_in (node_at es)
+  pub first-view : (es : List (ℕ × Node K D)) (next : ℕ) → first (tree_value_of es next) ≡ first_in (node_at es)
   first-view es next = λ i q. links_first (get-seen links_of es q i)
 
-  pub after-view : (es : List (ℕ × Node K D)) (next : ℕ) → after (held_of es next) ≡ after_in (node_at es)
+  pub after-view : (es : List (ℕ × Node K D)) (next : ℕ) → after (tree_value_of es next) ≡ next_in (node_at es)
   after-view es next = λ i q. links_after (get-seen links_of es q i)
 
   -- what callers may know of a tree
-  pub held_from : (eq : K → K → Bool) (es : List (ℕ × Node K D)) (next : ℕ) → IsLinked eq es next → IsHeld eq (held_of es next)
-  held_from eq es next linked = record {
+  pub tree_value_from : (eq : K → K → Bool) (es : List (ℕ × Node K D)) (next : ℕ) → IsLinked eq es next → IsTreeValue eq (tree_value_of es next)
+  tree_value_from eq es next linked = record {
     tree = linked.tree;
     listed = λ p known. let l = linked.chained.listed p in (
       l.0,
       record {
-        linked = subst (λ f. Siblings f (first (held_of es next) p) l.0) (sym (after-view es next))
-            (subst (λ f. Siblings (after_in (node_at es)) (f p) l.0) (sym (first-view es next)) (siblings _ _ None _ l.0 l.1.linked));
+        linked = subst (λ f. Siblings f (first (tree_value_of es next) p) l.0) (sym (after-view es next))
+            (subst (λ f. Siblings (next_in (node_at es)) (f p) l.0) (sym (first-view es next)) (siblings _ _ None _ l.0 l.1.linked));
         once = l.1.once;
         members = λ n. ((λ h. ap (λ f. f n) (parent-view es next) ∙ (l.1.members n).0 h), (λ e. (l.1.members n).1 (sym (ap (λ f. f n) (parent-view es next)) ∙ e)));
       },
@@ -48,11 +48,11 @@ module _ {K D : Type 0} where
   }
 
   -- the same of the value that the fields stand for
-  pub shape_of : {eq : K → K → Bool} {es : List (ℕ × Node K D)} {next : ℕ} {t : Held K D} → IsLinked eq es next → held_of es next ≡ t → IsHeld eq t
-  shape_of {eq} {es} {next} linked is = subst (IsHeld eq) is (held_from eq es next linked)
+  pub shape_of : {eq : K → K → Bool} {es : List (ℕ × Node K D)} {next : ℕ} {t : TreeValue K D} → IsLinked eq es next → tree_value_of es next ≡ t → IsTreeValue eq t
+  shape_of {eq} {es} {next} linked is = subst (IsTreeValue eq) is (tree_value_from eq es next linked)
 
   -- ---- what is told of a number
-  module _ (es : List (ℕ × Node K D)) (next : ℕ) (t : Held K D) (view : held_of es next ≡ t) (n : ℕ) where
+  module _ (es : List (ℕ × Node K D)) (next : ℕ) (t : TreeValue K D) (view : tree_value_of es next ≡ t) (n : ℕ) where
     pub tells_none : None ≡ node_at es n → {X : Type 0} (y : X) → None ≡ if_known t n y
     tells_none at y = sym (ap (λ t. if_known t n y) (sym view) ∙ ap (option_map (λ _. y)) (entry-view es next n None at))
 
@@ -66,8 +66,8 @@ module _ {K D : Type 0} where
       pub after-told : after t n ≡ x.next_sibling
       after-told = ap (λ t. after t n) (sym view) ∙ ap (λ f. f n) (after-view es next) ∙ ap (λ o. links_after (option_map links_of o)) (sym at)
 
-      pub place-told : place t.keyed n ≡ x.place
-      place-told = ap (λ t. place t.keyed n) (sym view) ∙ ap place_of (entry-view es next n (Some x) at)
+      pub parent_and_key-told : parent_and_key t.keyed n ≡ x.parent_and_key
+      parent_and_key-told = ap (λ t. parent_and_key t.keyed n) (sym view) ∙ ap parent_and_key_of (entry-view es next n (Some x) at)
 
   pub root_known : (eq : K → K → Bool) (es : List (ℕ × Node K D)) (next : ℕ) → IsLinked eq es next → (n : ℕ) → n ≡ 1 → None ≡ node_at es n → ⊥
   root_known eq es next linked n e none = false≢true (ap is_some none ∙ sym (known-view es next n) ∙ subst (IsKnown (keyed_of es next)) (sym e) linked.tree.root.0)
@@ -75,10 +75,10 @@ module _ {K D : Type 0} where
   -- ---- a write of an item
   pub same_chained : (at at' : ℕ → Option (Node K D)) → ((f : Option (Node K D) → Option ℕ) → ((n : Node K D) (w : D) → f (Some (record n { item = w })) ≡ f (Some n)) → (q : ℕ) → f (at' q) ≡ f (at q)) → IsChained at → IsChained at'
   same_chained at at' h chained =
-      subst (λ f. Linked f (first_in at') (after_in at') (before_in at')) (λ i q. sym (h (λ o. option_map (λ w. w.0) (place_of (option_map entry_of o))) (λ n w. refl) q) i)
-      (subst (λ f. Linked (parent_in at) f (after_in at') (before_in at')) (λ i q. sym (h (λ o. links_first (option_map links_of o)) (λ n w. refl) q) i)
-      (subst (λ f. Linked (parent_in at) (first_in at) f (before_in at')) (λ i q. sym (h (λ o. links_after (option_map links_of o)) (λ n w. refl) q) i)
-      (subst (λ f. Linked (parent_in at) (first_in at) (after_in at) f) (λ i q. sym (h before_of (λ n w. refl) q) i) chained)))
+      subst (λ f. Linked f (first_in at') (next_in at') (previous_in at')) (λ i q. sym (h (λ o. option_map (λ w. w.0) (parent_and_key_of (option_map entry_of o))) (λ n w. refl) q) i)
+      (subst (λ f. Linked (parent_in at) f (next_in at') (previous_in at')) (λ i q. sym (h (λ o. links_first (option_map links_of o)) (λ n w. refl) q) i)
+      (subst (λ f. Linked (parent_in at) (first_in at) f (previous_in at')) (λ i q. sym (h (λ o. links_after (option_map links_of o)) (λ n w. refl) q) i)
+      (subst (λ f. Linked (parent_in at) (first_in at) (next_in at) f) (λ i q. sym (h previous_of (λ n w. refl) q) i) chained)))
 
   pub IsLinked-write : (eq : K → K → Bool) (m n : BTreeMap ℕ (Node K D)) (next k : ℕ) (v : Node K D) (w : D) → Some v ≡ node_at m.entries k → WritesThrough nat_cmp (nat_cmp k) m (record v { item = w }) n → IsLinked eq m.entries next → IsLinked eq n.entries next
   IsLinked-write eq m n next k v w at h linked =
@@ -91,7 +91,7 @@ module _ {K D : Type 0} where
       }
 
   -- ---- a root alone
-  pub IsLinked-lone : (eq : K → K → Bool) (m n : BTreeMap ℕ (Node K D)) (v : Node K D) → m.entries ≡ [] → v.place ≡ None → v.first_child ≡ None → v.next_sibling ≡ None → Updates nat_cmp m n 1 (Some v) → IsLinked eq n.entries 2
+  pub IsLinked-lone : (eq : K → K → Bool) (m n : BTreeMap ℕ (Node K D)) (v : Node K D) → m.entries ≡ [] → v.parent_and_key ≡ None → v.first_child ≡ None → v.next_sibling ≡ None → Updates nat_cmp m n 1 (Some v) → IsLinked eq n.entries 2
   IsLinked-lone eq m n v nil at first_none after_none h =
       let is : node_at n.entries ≡ with_node (λ _. None) 1 (Some v) = node_at-updated m n 1 (Some v) h ∙ ap (λ (es : List (ℕ × Node K D)). with_node (node_at es) 1 (Some v)) nil in
       record {
@@ -102,11 +102,11 @@ module _ {K D : Type 0} where
             record {
               linked = either p (λ o. links_first (option_map links_of o)) refl first_none;
               once = no_distinct;
-              members = λ q. ((λ h. absurd (false≢true h)), (λ e. absurd (none≢some p (sym (either q (λ o. option_map (λ w. w.0) (place_of (option_map entry_of o))) refl (ap (option_map (λ w. w.0)) at)) ∙ e))));
+              members = λ q. ((λ h. absurd (false≢true h)), (λ e. absurd (none≢some p (sym (either q (λ o. option_map (λ w. w.0) (parent_and_key_of (option_map entry_of o))) refl (ap (option_map (λ w. w.0)) at)) ∙ e))));
             },
           );
         });
-        root_alone = ap (λ f. after_in f 1) is ∙ either 1 (λ o. links_after (option_map links_of o)) refl after_none;
+        root_alone = ap (λ f. next_in f 1) is ∙ either 1 (λ o. links_after (option_map links_of o)) refl after_none;
       }
     where
       either : (q : ℕ) (f : Option (Node K D) → Option ℕ) → f None ≡ None → f (Some v) ≡ None → f (with_node (λ _. None) 1 (Some v) q) ≡ None
@@ -114,13 +114,6 @@ module _ {K D : Type 0} where
 
   -- ---- what a write of one link changes
   module _ (at : ℕ → Option (Node K D)) where
-    pub parent_keeps : (n : ℕ) (f : Node K D → Node K D) → ((x : Node K D) → (f x).place ≡ x.place) → (q : ℕ) → parent_in (changed at n f) q ≡ parent_in at q
-    parent_keeps n f e = changed-keeps at n f (λ o. option_map (λ w. w.0) (place_of (option_map entry_of o))) (each f e)
-      where
-        each : (f : Node K D → Node K D) → ((x : Node K D) → (f x).place ≡ x.place) → (o : Option (Node K D)) → option_map (λ w. w.0) (place_of (option_map entry_of (option_map f o))) ≡ option_map (λ w. w.0) (place_of (option_map entry_of o))
-        each f e None = refl
-        each f e (Some x) = ap (option_map (λ w. w.0)) (e x)
-
     pub first_keeps : (n : ℕ) (f : Node K D → Node K D) → ((x : Node K D) → (f x).first_child ≡ x.first_child) → (q : ℕ) → first_in (changed at n f) q ≡ first_in at q
     first_keeps n f e = changed-keeps at n f (λ o. links_first (option_map links_of o)) (each f e)
       where
@@ -128,17 +121,17 @@ module _ {K D : Type 0} where
         each f e None = refl
         each f e (Some x) = e x
 
-    pub after_keeps : (n : ℕ) (f : Node K D → Node K D) → ((x : Node K D) → (f x).next_sibling ≡ x.next_sibling) → (q : ℕ) → after_in (changed at n f) q ≡ after_in at q
+    pub after_keeps : (n : ℕ) (f : Node K D → Node K D) → ((x : Node K D) → (f x).next_sibling ≡ x.next_sibling) → (q : ℕ) → next_in (changed at n f) q ≡ next_in at q
     after_keeps n f e = changed-keeps at n f (λ o. links_after (option_map links_of o)) (each f e)
       where
         each : (f : Node K D → Node K D) → ((x : Node K D) → (f x).next_sibling ≡ x.next_sibling) → (o : Option (Node K D)) → links_after (option_map links_of (option_map f o)) ≡ links_after (option_map links_of o)
         each f e None = refl
         each f e (Some x) = e x
 
-    pub before_keeps : (n : ℕ) (f : Node K D → Node K D) → ((x : Node K D) → (f x).previous_sibling ≡ x.previous_sibling) → (q : ℕ) → before_in (changed at n f) q ≡ before_in at q
-    before_keeps n f e = changed-keeps at n f before_of (each f e)
+    pub before_keeps : (n : ℕ) (f : Node K D → Node K D) → ((x : Node K D) → (f x).previous_sibling ≡ x.previous_sibling) → (q : ℕ) → previous_in (changed at n f) q ≡ previous_in at q
+    before_keeps n f e = changed-keeps at n f previous_of (each f e)
       where
-        each : (f : Node K D → Node K D) → ((x : Node K D) → (f x).previous_sibling ≡ x.previous_sibling) → (o : Option (Node K D)) → before_of (option_map f o) ≡ before_of o
+        each : (f : Node K D → Node K D) → ((x : Node K D) → (f x).previous_sibling ≡ x.previous_sibling) → (o : Option (Node K D)) → previous_of (option_map f o) ≡ previous_of o
         each f e None = refl
         each f e (Some x) = e x
 
@@ -162,25 +155,25 @@ module _ {K D : Type 0} where
     pub with_first-other : (n : ℕ) (o : Option ℕ) (q : ℕ) → q ≢ n → first_in (with_first at n o) q ≡ first_in at q
     with_first-other n o q ne = ap (λ v. links_first (option_map links_of v)) (changed-other at n (λ x. record x { first_child = o }) q ne)
 
-    pub with_after-here : (n : ℕ) (o : Option ℕ) → IsSome (at n) → after_in (with_after at n o) n ≡ o
-    with_after-here n o h = ap (λ v. links_after (option_map links_of v)) (changed-here at n (λ x. record x { next_sibling = o })) ∙ each (at n) h
+    pub with_next-here : (n : ℕ) (o : Option ℕ) → IsSome (at n) → next_in (with_next at n o) n ≡ o
+    with_next-here n o h = ap (λ v. links_after (option_map links_of v)) (changed-here at n (λ x. record x { next_sibling = o })) ∙ each (at n) h
       where
         each : (v : Option (Node K D)) → IsSome v → links_after (option_map links_of (option_map {T = Node K D} (λ x. record x { next_sibling = o }) v)) ≡ o
         each None h = absurd (false≢true h)
         each (Some x) h = refl
 
-    pub with_after-other : (n : ℕ) (o : Option ℕ) (q : ℕ) → q ≢ n → after_in (with_after at n o) q ≡ after_in at q
-    with_after-other n o q ne = ap (λ v. links_after (option_map links_of v)) (changed-other at n (λ x. record x { next_sibling = o }) q ne)
+    pub with_next-other : (n : ℕ) (o : Option ℕ) (q : ℕ) → q ≢ n → next_in (with_next at n o) q ≡ next_in at q
+    with_next-other n o q ne = ap (λ v. links_after (option_map links_of v)) (changed-other at n (λ x. record x { next_sibling = o }) q ne)
 
-    pub with_before-here : (n : ℕ) (o : Option ℕ) → IsSome (at n) → before_in (with_before at n o) n ≡ o
-    with_before-here n o h = ap before_of (changed-here at n (λ x. record x { previous_sibling = o })) ∙ each (at n) h
+    pub with_previous-here : (n : ℕ) (o : Option ℕ) → IsSome (at n) → previous_in (with_previous at n o) n ≡ o
+    with_previous-here n o h = ap previous_of (changed-here at n (λ x. record x { previous_sibling = o })) ∙ each (at n) h
       where
-        each : (v : Option (Node K D)) → IsSome v → before_of (option_map {T = Node K D} (λ x. record x { previous_sibling = o }) v) ≡ o
+        each : (v : Option (Node K D)) → IsSome v → previous_of (option_map {T = Node K D} (λ x. record x { previous_sibling = o }) v) ≡ o
         each None h = absurd (false≢true h)
         each (Some x) h = refl
 
-    pub with_before-other : (n : ℕ) (o : Option ℕ) (q : ℕ) → q ≢ n → before_in (with_before at n o) q ≡ before_in at q
-    with_before-other n o q ne = ap before_of (changed-other at n (λ x. record x { previous_sibling = o }) q ne)
+    pub with_previous-other : (n : ℕ) (o : Option ℕ) (q : ℕ) → q ≢ n → previous_in (with_previous at n o) q ≡ previous_in at q
+    with_previous-other n o q ne = ap previous_of (changed-other at n (λ x. record x { previous_sibling = o }) q ne)
 
   -- ---- a link back
   module _ (at : ℕ → Option (Node K D)) where
@@ -188,41 +181,38 @@ module _ {K D : Type 0} where
     back_entry None o q = refl
     back_entry (Some m) o q = entry_keeps at m (λ x. record x { previous_sibling = o }) (λ x. refl) q
 
-    pub back_parent : (m o : Option ℕ) (q : ℕ) → parent_in (led_back at m o) q ≡ parent_in at q
-    back_parent m o q = ap (λ v. option_map (λ w. w.0) (place_of v)) (back_entry m o q)
-
     pub back_first : (m o : Option ℕ) (q : ℕ) → first_in (led_back at m o) q ≡ first_in at q
     back_first None o q = refl
     back_first (Some m) o q = first_keeps at m (λ x. record x { previous_sibling = o }) (λ x. refl) q
 
-    pub back_after : (m o : Option ℕ) (q : ℕ) → after_in (led_back at m o) q ≡ after_in at q
+    pub back_after : (m o : Option ℕ) (q : ℕ) → next_in (led_back at m o) q ≡ next_in at q
     back_after None o q = refl
     back_after (Some m) o q = after_keeps at m (λ x. record x { previous_sibling = o }) (λ x. refl) q
 
-    pub back_here : (m o : Option ℕ) (q : ℕ) → m ≡ Some q → IsSome (at q) → before_in (led_back at m o) q ≡ o
+    pub back_here : (m o : Option ℕ) (q : ℕ) → m ≡ Some q → IsSome (at q) → previous_in (led_back at m o) q ≡ o
     back_here None o q e h = absurd (none≢some q e)
-    back_here (Some m) o q e h = ap (λ v. before_in (with_before at v o) q) (same_some m q e) ∙ with_before-here at q o h
+    back_here (Some m) o q e h = ap (λ v. previous_in (with_previous at v o) q) (same_some m q e) ∙ with_previous-here at q o h
 
-    pub back_other : (m o : Option ℕ) (q : ℕ) → m ≢ Some q → before_in (led_back at m o) q ≡ before_in at q
+    pub back_other : (m o : Option ℕ) (q : ℕ) → m ≢ Some q → previous_in (led_back at m o) q ≡ previous_in at q
     back_other None o q ne = refl
-    back_other (Some m) o q ne = with_before-other at m o q (λ e. ne (ap (λ (x : ℕ). Some x) (sym e)))
+    back_other (Some m) o q ne = with_previous-other at m o q (λ e. ne (ap (λ (x : ℕ). Some x) (sym e)))
 
   -- ---- a new first child
   module _ (eq : K → K → Bool) (symm : (a b : K) → eq a b ≡ eq b a) (es fs : List (ℕ × Node K D)) (next p : ℕ) (k : K) (v : Node K D) (linked : IsLinked eq es next)
-      (known_p : IsSome (node_at es p)) (free : child (eq k) (keyed_of es next) p ≡ None) (place_v : v.place ≡ Some (p, k)) (first_v : v.first_child ≡ None)
+      (known_p : IsSome (node_at es p)) (free : child (eq k) (keyed_of es next) p ≡ None) (parent_and_key_v : v.parent_and_key ≡ Some (p, k)) (first_v : v.first_child ≡ None)
       (after_v : v.next_sibling ≡ first_in (node_at es) p) (before_v : v.previous_sibling ≡ None)
-      (is : node_at fs ≡ put_first (with_node (node_at es) next (Some v)) p next (first_in (node_at es) p)) where
+      (is : node_at fs ≡ put_before (with_node (node_at es) next (Some v)) p next (first_in (node_at es) p)) where
     abbrev at0 : ℕ → Option (Node K D)
     at0 = node_at es
 
     abbrev at1 : ℕ → Option (Node K D)
     at1 = with_node at0 next (Some v)
 
-    kept_entry : (q : ℕ) → option_map entry_of (put_first at1 p next (first_in at0 p) q) ≡ option_map entry_of (at1 q)
+    kept_entry : (q : ℕ) → option_map entry_of (put_before at1 p next (first_in at0 p) q) ≡ option_map entry_of (at1 q)
     kept_entry q = back_entry (with_first at1 p (Some next)) (first_in at0 p) (Some next) q ∙ entry_keeps at1 p (λ x. record x { first_child = Some next }) (λ x. refl) q
 
     pub keyed-added : keyed_of fs (next + 1) ≡ add (keyed_of es next) p k v.item
-    keyed-added = view-add es fs next p k v place_v (λ q. ap (λ f. option_map entry_of (f q)) is ∙ kept_entry q)
+    keyed-added = view-add es fs next p k v parent_and_key_v (λ q. ap (λ f. option_map entry_of (f q)) is ∙ kept_entry q)
 
     pub IsLinked-added : IsLinked eq fs (next + 1)
     IsLinked-added =
@@ -238,8 +228,8 @@ module _ {K D : Type 0} where
           tree = subst (IsTree eq) (sym keyed-added) (IsTree-add eq symm (keyed_of es next) p k v.item linked.tree (known-view es next p ∙ known_p) free);
           chained = subst IsChained (sym is) (Linked-put next p linked.chained
               (λ q e. false≢true (sym (ap is_some gone) ∙ child_below next q e))
-              (ap (λ o. option_map (λ w. w.0) (place_of o)) (kept_entry next ∙ ap (option_map entry_of) here1) ∙ ap (option_map (λ w. w.0)) place_v)
-              (λ q ne. ap (λ o. option_map (λ w. w.0) (place_of o)) (kept_entry q ∙ ap (option_map entry_of) (other1 q ne)))
+              (ap (λ o. option_map (λ w. w.0) (parent_and_key_of o)) (kept_entry next ∙ ap (option_map entry_of) here1) ∙ ap (option_map (λ w. w.0)) parent_and_key_v)
+              (λ q ne. ap (λ o. option_map (λ w. w.0) (parent_and_key_of o)) (kept_entry q ∙ ap (option_map entry_of) (other1 q ne)))
               (back_first mid (first_in at0 p) (Some next) p ∙ with_first-here at1 p (Some next) (known1 p known_p))
               (λ q ne. back_first mid (first_in at0 p) (Some next) q ∙ with_first-other at1 p (Some next) q ne
               ∙ elim (cases_eq q next) [
@@ -248,10 +238,10 @@ module _ {K D : Type 0} where
               ])
               (back_after mid (first_in at0 p) (Some next) next ∙ after_keeps at1 p (λ x. record x { first_child = Some next }) (λ x. refl) next ∙ ap (λ o. links_after (option_map links_of o)) here1 ∙ after_v)
               (λ q ne. back_after mid (first_in at0 p) (Some next) q ∙ after_keeps at1 p (λ x. record x { first_child = Some next }) (λ x. refl) q ∙ ap (λ o. links_after (option_map links_of o)) (other1 q ne))
-              (back_other mid (first_in at0 p) (Some next) next (λ e. below next (head next e) refl) ∙ before_keeps at1 p (λ x. record x { first_child = Some next }) (λ x. refl) next ∙ ap before_of here1 ∙ before_v)
+              (back_other mid (first_in at0 p) (Some next) next (λ e. below next (head next e) refl) ∙ before_keeps at1 p (λ x. record x { first_child = Some next }) (λ x. refl) next ∙ ap previous_of here1 ∙ before_v)
               (λ q ne e. back_here mid (first_in at0 p) (Some next) q e (some_node at1 p (λ x. record x { first_child = Some next }) q ∙ known1 q (head q e)))
-              (λ q ne e. back_other mid (first_in at0 p) (Some next) q e ∙ before_keeps at1 p (λ x. record x { first_child = Some next }) (λ x. refl) q ∙ ap before_of (other1 q ne)));
-          root_alone = ap (λ f. after_in f 1) is ∙ back_after mid (first_in at0 p) (Some next) 1 ∙ after_keeps at1 p (λ x. record x { first_child = Some next }) (λ x. refl) 1
+              (λ q ne e. back_other mid (first_in at0 p) (Some next) q e ∙ before_keeps at1 p (λ x. record x { first_child = Some next }) (λ x. refl) q ∙ ap previous_of (other1 q ne)));
+          root_alone = ap (λ f. next_in f 1) is ∙ back_after mid (first_in at0 p) (Some next) 1 ∙ after_keeps at1 p (λ x. record x { first_child = Some next }) (λ x. refl) 1
               ∙ ap (λ o. links_after (option_map links_of o)) (other1 1 (below 1 (sym (known-view es next 1) ∙ linked.tree.root.0))) ∙ linked.root_alone;
         }
       where

@@ -6,9 +6,9 @@ use Rattle.std.proofs.lemmas.Bool.{false≢true}
 use Rattle.std.proofs.lemmas.List.{map_push}
 use Rattle.std.proofs.lemmas.List.Elements.{All-nil, All-push}
 use Rattle.dav_path_core.specs.declared.tree.Node.{Node}
-use Rattle.dav_path_core.specs.Keyed.{Keyed, entry, place, parent, IsChild, IsKnown}
-use Rattle.dav_path_core.specs.Held.{Held, first, after, IsHeld}
-use Rattle.dav_path_core.specs.View.{held_of, node_at}
+use Rattle.dav_path_core.specs.Keyed.{Keyed, entry, parent_and_key, parent, IsChild, IsKnown}
+use Rattle.dav_path_core.specs.TreeValue.{TreeValue, first, after, IsTreeValue}
+use Rattle.dav_path_core.specs.View.{tree_value_of, node_at}
 use Rattle.dav_path_core.specs.Children.{IsNamed, ListsChildren}
 use Rattle.dav_path_core.proofs.Trees.{none≢some}
 use Rattle.dav_path_core.proofs.Views.{entry-view}
@@ -20,17 +20,17 @@ placed_at (Some q) p e = (q, refl)
 
 module _ {K D : Type 0} where
   -- a node with a parent has a place
-  pub placed : (t : Keyed K D) (n p : ℕ) → parent t n ≡ Some p → (q : ℕ × K) × (place t n ≡ Some q)
-  placed t n p e = placed_at (place t n) p e
+  pub placed : (t : Keyed K D) (n p : ℕ) → parent t n ≡ Some p → (q : ℕ × K) × (parent_and_key t n ≡ Some q)
+  placed t n p e = placed_at (parent_and_key t n) p e
 
   -- a walk along the children of p that stands at a number, with the pairs of those that it has passed
-  pub record Gathered (eq : K → K → Bool) (t : Held K D) (p : ℕ) (at : Option ℕ) (pairs : List (K × ℕ)) : Type 0 where
+  pub record Gathered (eq : K → K → Bool) (t : TreeValue K D) (p : ℕ) (at : Option ℕ) (pairs : List (K × ℕ)) : Type 0 where
     pub walk : Walk t p at (map (λ q. q.1) pairs)
     pub named : All (IsNamed eq t p) pairs
 
-  module _ (eq : K → K → Bool) (t : Held K D) (p : ℕ) where
-    pub gather_start : IsHeld eq t → IsKnown t.keyed p → Gathered eq t p (first t p) []
-    gather_start held known = record { walk = walk_start t p held known; named = All-nil (IsNamed eq t p) }
+  module _ (eq : K → K → Bool) (t : TreeValue K D) (p : ℕ) where
+    pub gather_start : IsTreeValue eq t → IsKnown t.keyed p → Gathered eq t p (first t p) []
+    gather_start shape known = record { walk = walk_start t p shape known; named = All-nil (IsNamed eq t p) }
 
     pub gather_next : (id : ℕ) (pairs : List (K × ℕ)) → Gathered eq t p (Some id) pairs → (name copy : K) → IsChild t.keyed p name id → eq name copy ≡ true → Gathered eq t p (after t id) (pairs ++ (copy, id) ∷ [])
     gather_next id pairs g name copy is same = record {
@@ -41,7 +41,7 @@ module _ {K D : Type 0} where
     pub gather_end : (pairs : List (K × ℕ)) → Gathered eq t p None pairs → ListsChildren eq t p pairs
     gather_end pairs g = record { listed = walk_end t p (map (λ q. q.1) pairs) g.walk; named = g.named }
 
-  module _ (es : List (ℕ × Node K D)) (next : ℕ) (t : Held K D) (view : held_of es next ≡ t) (n : ℕ) where
+  module _ (es : List (ℕ × Node K D)) (next : ℕ) (t : TreeValue K D) (view : tree_value_of es next ≡ t) (n : ℕ) where
     -- where a node stands, the number is known
     pub known_there : (x : Node K D) → Some x ≡ node_at es n → IsKnown t.keyed n
     known_there x at = ap (λ t. is_some (entry t.keyed n)) (sym view) ∙ ap is_some (entry-view es next n (Some x) at)

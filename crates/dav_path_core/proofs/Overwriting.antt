@@ -3,11 +3,11 @@ use Rattle.std.proofs.Common.{◌≡◌, ◌≢◌, ℕ, ◌+◌, Bool, true, fa
 use Rattle.std.specs.Cmp.{nat_cmp_total, IsEquivalence}
 use Rattle.std.specs.Option.{option_map}
 use Rattle.std.specs.FinMap.{same_map, nat_cmp-IsAntisymmetric}
-use Rattle.std.proofs.lemmas.Bool.{cases_eq, cases_Bool, false≢true}
-use Rattle.dav_path_core.specs.Keyed.{Entry, Keyed, Under, here, below, entry, place, place_of, parent, child, add, cut, is_under, placed, placed_at, IsChild, IsKnown, IsTree}
+use Rattle.std.proofs.lemmas.Bool.{cases_eq, cases_Bool, false≢true, false_from_ne_true}
+use Rattle.dav_path_core.specs.Keyed.{Entry, Keyed, Under, here, below, entry, parent_and_key, parent_and_key_of, parent, child, add, cut, is_under, placed, placed_at, IsChild, IsKnown, IsTree}
 use Rattle.dav_path_core.proofs.Trees.{none≢some, same_some, none_from_is_some, known_from_child, known_from_parent, child-some, child_before, Sets, Sets-insert}
 use Rattle.dav_path_core.proofs.KeyedDepth.{is_under-true, no_cycle, top}
-use Rattle.dav_path_core.proofs.KeyedCuts.{not_true, same_truth, entry-cut, none-cut, cut-in, cut-out}
+use Rattle.dav_path_core.proofs.KeyedCuts.{same_truth, entry-cut, none-cut, cut-in, cut-out}
 use Rattle.dav_path_core.proofs.Walks.{parent_known}
 
 -- the test that tells all keys apart
@@ -37,9 +37,6 @@ module _ {K D : Type 0} where
     pub found : (l : K) × IsChild t p l c × (eq k l ≡ true)
     found = child-some t (eq k) p c taken
 
-    pub old_place : place t c ≡ Some (p, found.0)
-    old_place = found.1
-
     pub old_known : IsKnown t c
     old_known = known_from_child t p found.0 c found.1
 
@@ -47,7 +44,7 @@ module _ {K D : Type 0} where
     old_parent = ap (option_map (λ q. q.0)) found.1
 
     pub old_not_root : c ≢ 1
-    old_not_root is = none≢some (p, found.0) (sym tree.root.1 ∙ subst (λ v. place t v ≡ Some (p, found.0)) is found.1)
+    old_not_root is = none≢some (p, found.0) (sym tree.root.1 ∙ subst (λ v. parent_and_key t v ≡ Some (p, found.0)) is found.1)
 
     new_apart : (q : ℕ) → IsKnown t q → q ≢ t.next
     new_apart q h e = omega (arith, (tree.numbered q h).1, e)
@@ -82,22 +79,22 @@ module _ {K D : Type 0} where
     added = add t p k d
 
     abbrev new_entry : Entry K D
-    new_entry = record { place = Some (p, k); item = d }
+    new_entry = record { parent_and_key = Some (p, k); item = d }
 
     s1 : Sets (entry t) (entry added) t.next (Some new_entry)
     s1 = Sets-insert t.nodes t.next new_entry
 
     parent1 : (q : ℕ) → q ≢ t.next → parent added q ≡ parent t q
-    parent1 q ne = ap (λ o. option_map (λ w. w.0) (place_of o)) (s1.other q ne)
+    parent1 q ne = ap (λ o. option_map (λ w. w.0) (parent_and_key_of o)) (s1.other q ne)
 
     pub new_known : IsKnown added t.next
     new_known = ap is_some s1.here
 
-    pub old_place_added : place added c ≡ Some (p, found.0)
-    old_place_added = ap place_of (s1.other c old_apart) ∙ found.1
+    pub old_parent_and_key_added : parent_and_key added c ≡ Some (p, found.0)
+    old_parent_and_key_added = ap parent_and_key_of (s1.other c old_apart) ∙ found.1
 
     pub new_outside : IsTree never added → is_under added c t.next ≡ false
-    new_outside tree1 = not_true _ (λ e. not_below added (λ q ne _. parent1 q ne) (ap (λ o. option_map (λ w. w.0) (place_of o)) s1.here) refl ((is_under-true never added tree1 c t.next new_known).0 e))
+    new_outside tree1 = false_from_ne_true _ (λ e. not_below added (λ q ne _. parent1 q ne) (ap (λ o. option_map (λ w. w.0) (parent_and_key_of o)) s1.here) refl ((is_under-true never added tree1 c t.next new_known).0 e))
 
     -- ---- with the old child below it
     abbrev pub over : Keyed K D
@@ -111,7 +108,7 @@ module _ {K D : Type 0} where
     old_entry = known_entry (entry added c) (ap is_some (s1.other c old_apart) ∙ old_known)
 
     abbrev hung_entry : Entry K D
-    hung_entry = record old_entry.0 { place = Some (t.next, found.0) }
+    hung_entry = record old_entry.0 { parent_and_key = Some (t.next, found.0) }
 
     over-is : over ≡ record added { nodes = over.nodes }
     over-is = ap (placed_at added c t.next found.0) old_entry.1 ∙ sym (ap (λ (m : Keyed K D). record added { nodes = m.nodes }) (ap (placed_at added c t.next found.0) old_entry.1))
@@ -129,7 +126,7 @@ module _ {K D : Type 0} where
     new2 = s2.other t.next (λ e. old_apart (sym e)) ∙ s1.here
 
     parent2 : (q : ℕ) → q ≢ t.next → q ≢ c → parent over q ≡ parent t q
-    parent2 q new old = ap (λ o. option_map (λ w. w.0) (place_of o)) (entry2 q new old)
+    parent2 q new old = ap (λ o. option_map (λ w. w.0) (parent_and_key_of o)) (entry2 q new old)
 
     -- which child of r a number is under the key a
     data Kind (r : ℕ) (a : K) (m : ℕ) : Type 0 where
@@ -175,7 +172,7 @@ module _ {K D : Type 0} where
 
       -- ---- and then without it
       new_not_under : is_under over c t.next ≡ false
-      new_not_under = not_true _ (λ e. not_below over parent2 (ap (λ o. option_map (λ w. w.0) (place_of o)) new2) refl ((is_under-true never over loose c t.next (ap is_some new2)).0 e))
+      new_not_under = false_from_ne_true _ (λ e. not_below over parent2 (ap (λ o. option_map (λ w. w.0) (parent_and_key_of o)) new2) refl ((is_under-true never over loose c t.next (ap is_some new2)).0 e))
 
       s3 : Sets (entry (cut t c)) (entry (add (cut t c) p k d)) t.next (Some new_entry)
       s3 = Sets-insert (cut t c).nodes t.next new_entry

@@ -5,10 +5,10 @@ use Rattle.std.specs.Ordering.{nat_cmp}
 use Rattle.std.specs.FinMap.{FinMap}
 use Rattle.std.proofs.lemmas.Bool.{cases_eq, eq-eqb, ne_eqb, false≢true}
 use Rattle.dav_path_core.specs.declared.tree.Node.{Node}
-use Rattle.dav_path_core.specs.Keyed.{Entry, Keyed, Leads, root, up, place_of, parent, child, is_under, placed, placed_at, IsKnown, IsTree}
-use Rattle.dav_path_core.specs.Held.{links_after}
+use Rattle.dav_path_core.specs.Keyed.{Entry, Keyed, Leads, root, up, parent_and_key_of, parent, child, is_under, placed, placed_at, IsKnown, IsTree}
+use Rattle.dav_path_core.specs.TreeValue.{links_after}
 use Rattle.dav_path_core.specs.Chains.{Linked}
-use Rattle.dav_path_core.specs.View.{entry_of, links_of, keyed_of, node_at, parent_in, first_in, after_in, before_in, before_of, IsChained, IsLinked, with_node, with_first, put_first, put_below, closed_up, changed}
+use Rattle.dav_path_core.specs.View.{entry_of, links_of, keyed_of, node_at, parent_in, first_in, next_in, previous_in, previous_of, IsChained, IsLinked, with_node, with_first, put_before, with_parent_and_key, closed_up, changed}
 use Rattle.dav_path_core.proofs.Trees.{none≢some, same_some}
 use Rattle.dav_path_core.proofs.Chains.{Linked-put, first_child_of}
 use Rattle.dav_path_core.proofs.KeyedMoves.{IsTree-placed}
@@ -28,20 +28,20 @@ known_node (Some x) h = (x, refl)
 
 module _ {K D : Type 0} (eq : K → K → Bool) (symm : (a b : K) → eq a b ≡ eq b a) (es fs : List (ℕ × Node K D)) (next n p r : ℕ) (k l : K) (x : Node K D) (linked : IsLinked eq es next)
     (known_p : IsKnown (keyed_of es next) p) (not_root : n ≢ 1) (outside : is_under (keyed_of es next) n p ≡ false) (free : child (eq k) (keyed_of es next) p ≡ None)
-    (here : Some x ≡ node_at es n) (place : x.place ≡ Some (r, l))
-    (is : node_at fs ≡ put_first (put_below (closed_up (node_at es) r x.previous_sibling x.next_sibling) n p k (first_in (closed_up (node_at es) r x.previous_sibling x.next_sibling) p)) p n
+    (here : Some x ≡ node_at es n) (parent_and_key : x.parent_and_key ≡ Some (r, l))
+    (is : node_at fs ≡ put_before (with_parent_and_key (closed_up (node_at es) r x.previous_sibling x.next_sibling) n p k (first_in (closed_up (node_at es) r x.previous_sibling x.next_sibling) p)) p n
     (first_in (closed_up (node_at es) r x.previous_sibling x.next_sibling) p)) where
   abbrev at0 : ℕ → Option (Node K D)
   at0 = node_at es
 
   abbrev at1 : ℕ → Option (Node K D)
-  at1 = closed_up at0 r (before_in at0 n) (after_in at0 n)
+  at1 = closed_up at0 r (previous_in at0 n) (next_in at0 n)
 
   abbrev head : Option ℕ
   head = first_in at1 p
 
   abbrev set : Node K D → Node K D
-  set y = record y { place = Some (p, k); next_sibling = head; previous_sibling = None }
+  set y = record y { parent_and_key = Some (p, k); next_sibling = head; previous_sibling = None }
 
   abbrev at2 : ℕ → Option (Node K D)
   at2 = changed at1 n set
@@ -49,11 +49,11 @@ module _ {K D : Type 0} (eq : K → K → Bool) (symm : (a b : K) → eq a b ≡
   abbrev mid : ℕ → Option (Node K D)
   mid = with_first at2 p (Some n)
 
-  is0 : node_at fs ≡ put_first at2 p n head
-  is0 = is ∙ ap (λ o. let at = closed_up at0 r (before_of o) (links_after (option_map links_of o)) in put_first (put_below at n p k (first_in at p)) p n (first_in at p)) here
+  is0 : node_at fs ≡ put_before at2 p n head
+  is0 = is ∙ ap (λ o. let at = closed_up at0 r (previous_of o) (links_after (option_map links_of o)) in put_before (with_parent_and_key at n p k (first_in at p)) p n (first_in at p)) here
 
   child_n : parent_in at0 n ≡ Some r
-  child_n = ap (λ o. option_map (λ w. w.0) (place_of (option_map entry_of o))) (sym here) ∙ ap (option_map (λ w. w.0)) place
+  child_n = ap (λ o. option_map (λ w. w.0) (parent_and_key_of (option_map entry_of o))) (sym here) ∙ ap (option_map (λ w. w.0)) parent_and_key
 
   child_view : parent (keyed_of es next) n ≡ Some r
   child_view = ap (λ f. f n) (parent-view es next) ∙ child_n
@@ -88,7 +88,7 @@ module _ {K D : Type 0} (eq : K → K → Bool) (symm : (a b : K) → eq a b ≡
   other2 : (q : ℕ) → q ≢ n → at2 q ≡ at1 q
   other2 = changed-other at1 n set
 
-  entry3 : (q : ℕ) → option_map entry_of (put_first at2 p n head q) ≡ option_map entry_of (at2 q)
+  entry3 : (q : ℕ) → option_map entry_of (put_before at2 p n head q) ≡ option_map entry_of (at2 q)
   entry3 q = back_entry mid head (Some n) q ∙ entry_keeps at2 p (λ y. record y { first_child = Some n }) (λ y. refl) q
 
   -- the parents while n is in no list
@@ -101,7 +101,7 @@ module _ {K D : Type 0} (eq : K → K → Bool) (symm : (a b : K) → eq a b ≡
   other_n : (q : ℕ) → q ≢ n → without_n q ≡ parent_in at0 q
   other_n q ne = ap (λ b. cond b None (parent_in at0 q)) (ne_eqb q n ne)
 
-  loose : Linked without_n (first_in at1) (after_in at1) (before_in at1)
+  loose : Linked without_n (first_in at1) (next_in at1) (previous_in at1)
   loose = Linked-closed at0 linked.chained n r child_n apart known_r (λ q e. none≢some q (sym none_n ∙ e)) other_n
       (closed-first-here at0 linked.chained n r child_n apart known_r) (λ q ne. refl) (λ q ne. refl) (λ q ne. refl)
 
@@ -111,23 +111,23 @@ module _ {K D : Type 0} (eq : K → K → Bool) (symm : (a b : K) → eq a b ≡
       let ne : q ≢ n = λ i. none≢some p (sym none_n ∙ ap without_n (sym i) ∙ up_p) in
       (ne, some_from_parent (at0 q) p (sym (other_n q ne) ∙ up_p))
 
-  relinked : IsChained (put_first at2 p n head)
+  relinked : IsChained (put_before at2 p n head)
   relinked = Linked-put n p loose (λ q e. none≢some q (sym none_n ∙ e))
-      (ap (λ o. option_map (λ w. w.0) (place_of o)) (entry3 n ∙ ap (option_map entry_of) here2))
-      (λ q ne. ap (λ o. option_map (λ w. w.0) (place_of o)) (entry3 q ∙ ap (option_map entry_of) (other2 q ne) ∙ entry1 q) ∙ sym (other_n q ne))
+      (ap (λ o. option_map (λ w. w.0) (parent_and_key_of o)) (entry3 n ∙ ap (option_map entry_of) here2))
+      (λ q ne. ap (λ o. option_map (λ w. w.0) (parent_and_key_of o)) (entry3 q ∙ ap (option_map entry_of) (other2 q ne) ∙ entry1 q) ∙ sym (other_n q ne))
       (back_first mid head (Some n) p ∙ with_first-here at2 p (Some n) (some2 p (sym (known-view es next p) ∙ known_p)))
       (λ q ne. back_first mid head (Some n) q ∙ with_first-other at2 p (Some n) q ne ∙ first_keeps at1 n set (λ y. refl) q)
       (back_after mid head (Some n) n ∙ after_keeps at2 p (λ y. record y { first_child = Some n }) (λ y. refl) n ∙ ap (λ o. links_after (option_map links_of o)) here2)
       (λ q ne. back_after mid head (Some n) q ∙ after_keeps at2 p (λ y. record y { first_child = Some n }) (λ y. refl) q ∙ ap (λ o. links_after (option_map links_of o)) (other2 q ne))
-      (back_other mid head (Some n) n (λ e. (head_child n e).0 refl) ∙ before_keeps at2 p (λ y. record y { first_child = Some n }) (λ y. refl) n ∙ ap before_of here2)
+      (back_other mid head (Some n) n (λ e. (head_child n e).0 refl) ∙ before_keeps at2 p (λ y. record y { first_child = Some n }) (λ y. refl) n ∙ ap previous_of here2)
       (λ q ne e. back_here mid head (Some n) q e (some_node at2 p (λ y. record y { first_child = Some n }) q ∙ some2 q (head_child q e).1))
-      (λ q ne e. back_other mid head (Some n) q e ∙ before_keeps at2 p (λ y. record y { first_child = Some n }) (λ y. refl) q ∙ ap before_of (other2 q ne))
+      (λ q ne e. back_other mid head (Some n) q e ∙ before_keeps at2 p (λ y. record y { first_child = Some n }) (λ y. refl) q ∙ ap previous_of (other2 q ne))
 
   abbrev moved_node : Node K D
-  moved_node = record x { place = Some (p, k) }
+  moved_node = record x { parent_and_key = Some (p, k) }
 
   abbrev replace : Option (Entry K D) → Option (Entry K D)
-  replace o = option_map {T = Entry K D} (λ e. record e { place = Some (p, k) }) o
+  replace o = option_map {T = Entry K D} (λ e. record e { parent_and_key = Some (p, k) }) o
 
   entry_moved : (q : ℕ) → option_map entry_of (node_at fs q) ≡ option_map entry_of (with_node at0 n (Some moved_node) q)
   entry_moved q = ap (λ f. option_map entry_of (f q)) is0 ∙ entry3 q ∙ elim (cases_eq q n) [
@@ -148,7 +148,7 @@ module _ {K D : Type 0} (eq : K → K → Bool) (symm : (a b : K) → eq a b ≡
   IsLinked-placed = record {
     tree = subst (IsTree eq) (sym keyed-placed) (IsTree-placed eq symm (keyed_of es next) n p k linked.tree known_p not_root outside free);
     chained = subst IsChained (sym is0) relinked;
-    root_alone = ap (λ f. after_in f 1) is0 ∙ back_after mid head (Some n) 1 ∙ after_keeps at2 p (λ y. record y { first_child = Some n }) (λ y. refl) 1
+    root_alone = ap (λ f. next_in f 1) is0 ∙ back_after mid head (Some n) 1 ∙ after_keeps at2 p (λ y. record y { first_child = Some n }) (λ y. refl) 1
         ∙ ap (λ o. links_after (option_map links_of o)) (other2 1 (λ e. not_root (sym e)))
         ∙ closed-after at0 linked.chained n r child_n apart known_r 1 (not_before at0 linked.chained n r child_n apart known_r 1 (ap (λ f. f 1) (sym (parent-view es next)) ∙ top))
         ∙ linked.root_alone;

@@ -163,8 +163,8 @@ read_is_normal text path r = record {
 raw_url : (bs : List ℕ) → raw (url bs) ≡ url bs
 raw_url bs =
     let safe = safe_url bs in
-    let place = position_or_len_is (λ b. b == 63) (url bs) (length (url bs)) 0 (omega arith) (λ k lt. let s = safe k 0 lt in grind (arith, nat_tests)) (λ lt. absurd (omega arith)) in
-    ap (λ n. take n (url bs)) place ∙ take_all (length (url bs)) (url bs) (omega arith)
+    let parent_and_key = position_or_len_is (λ b. b == 63) (url bs) (length (url bs)) 0 (omega arith) (λ k lt. let s = safe k 0 lt in grind (arith, nat_tests)) (λ lt. absurd (omega arith)) in
+    ap (λ n. take n (url bs)) parent_and_key ∙ take_all (length (url bs)) (url bs) (omega arith)
 
 url_rooted : (rest : List ℕ) → url (47 ∷ rest) ≡ 47 ∷ url rest
 unfolding url

@@ -1,29 +1,13 @@
 -- Which refusal the definitions of the tree's calls give.
 use Rattle.std.proofs.Common.{MatchOption, ◌≡◌, ◌≢◌, ◌==◌, ◌||◌, ◌&&◌, ℕ, Bool, is_some, true, false, cond, Some, None, Option, refl, ap, sym, ◌∙◌, subst, inl, inr}
 use Rattle.std.specs.Option.{option_map}
-use Rattle.std.proofs.lemmas.Bool.{cases_Bool, cases_eq, eq-eqb, ne_eqb, false≢true, true≢false}
+use Rattle.std.proofs.lemmas.Bool.{cases_Bool, cases_eq, eq-eqb, ne_eqb, true≢false, and_parts, or_parts}
 use Rattle.dav_path_core.specs.declared.errors.FsError.{FsError}
 use Rattle.dav_path_core.specs.declared.errors.FsError.TheVariants.{Exists, NotFound, Forbidden}
-use Rattle.dav_path_core.specs.Keyed.{Keyed, Leads, root, up, Under, here, below, entry, place, parent, child, has_child, delete_refusal, cut_refusal, move_refusal, is_kept, is_under, IsKnown, IsTree}
+use Rattle.dav_path_core.specs.Keyed.{Keyed, Leads, root, up, Under, here, below, entry, parent_and_key, parent, child, has_child, delete_refusal, move_refusal, is_kept, is_under, IsKnown, IsTree}
 use Rattle.dav_path_core.proofs.Trees.{none≢some, child-none, child-some}
 use Rattle.dav_path_core.proofs.KeyedDepth.{is_under-true}
 use Rattle.dav_path_core.proofs.KeyedCuts.{parent_child}
-
-both_left : (a b : Bool) → (a && b) ≡ true → a ≡ true
-both_left true b h = refl
-both_left false b h = h
-
-both_right : (a b : Bool) → (a && b) ≡ true → b ≡ true
-both_right true b h = h
-both_right false b h = absurd (false≢true h)
-
-neither_left : (a b : Bool) → (a || b) ≡ false → a ≡ false
-neither_left true b h = absurd (true≢false h)
-neither_left false b h = refl
-
-pub neither_right : (a b : Bool) → (a || b) ≡ false → b ≡ false
-neither_right true b h = absurd (true≢false h)
-neither_right false b h = h
 
 apart_refusals : ◌≡◌ {A = Option FsError} (Some Exists) (Some Forbidden) → ⊥
 apart_refusals e = cc
@@ -38,12 +22,12 @@ under_root (up e l) = below e (under_root l)
 
 module _ {K D : Type 0} (t : Keyed K D) where
   -- a node with no parent is the root
-  top_leads : {n : ℕ} → Leads (parent t) n → place t n ≡ None → n ≡ 1
+  top_leads : {n : ℕ} → Leads (parent t) n → parent_and_key t n ≡ None → n ≡ 1
   top_leads root e = refl
   top_leads (up {p = p} f l) e = absurd (none≢some p (sym (ap (option_map (λ q. q.0)) e) ∙ f))
 
-  pub no_place_root : (eq : K → K → Bool) → IsTree eq t → (n : ℕ) → IsKnown t n → place t n ≡ None → n ≡ 1
-  no_place_root eq tree n known e = top_leads (tree.attached n known) e
+  pub no_parent_root : (eq : K → K → Bool) → IsTree eq t → (n : ℕ) → IsKnown t n → parent_and_key t n ≡ None → n ≡ 1
+  no_parent_root eq tree n known e = top_leads (tree.attached n known) e
 
   pub has_child-true : (n m : ℕ) → parent t m ≡ Some n → has_child t n ≡ true
   has_child-true n m e =
@@ -84,15 +68,6 @@ module _ {K D : Type 0} (t : Keyed K D) where
     pub delete-leaf : IsKnown t n → n ≢ 1 → has_child t n ≡ false → delete_refusal t n ≡ None
     delete-leaf h ne e = delete-known h false (ap (λ b. b || has_child t n) (ne_eqb n 1 ne) ∙ e)
 
-    pub cut-unknown : is_some (entry t n) ≡ false → cut_refusal t n ≡ Some NotFound
-    cut-unknown h = ap (λ b. cond b (cond (n == 1) (Some Forbidden) None) (Some NotFound)) h
-
-    pub cut-root : IsKnown t n → n ≡ 1 → cut_refusal t n ≡ Some Forbidden
-    cut-root h e = ap (λ b. cond b (cond (n == 1) (Some Forbidden) None) (Some NotFound)) h ∙ ap (λ b. cond b (Some Forbidden) None) (eq-eqb n 1 e)
-
-    pub cut-none : IsKnown t n → n ≢ 1 → cut_refusal t n ≡ None
-    cut-none h ne = ap (λ b. cond b (cond (n == 1) (Some Forbidden) None) (Some NotFound)) h ∙ ap (λ b. cond b (Some Forbidden) None) (ne_eqb n 1 ne)
-
   -- ---- of a move
   module _ (eq : K → K → Bool) (n p : ℕ) (k : K) (overwrite : Bool) where
     pub move-unknown : (is_some (entry t n) && is_some (entry t p)) ≡ false → move_refusal eq t n p k overwrite ≡ Some NotFound
@@ -105,15 +80,9 @@ module _ {K D : Type 0} (t : Keyed K D) where
       pub move-taken : is_kept t overwrite (child (eq k) t p) ≡ true → move_refusal eq t n p k overwrite ≡ Some Exists
       move-taken h = move-known ∙ ap (λ b. cond b (Some Exists) (cond ((n == 1) || is_under t n p) (Some Forbidden) None)) h
 
-      module _ (open_place : is_kept t overwrite (child (eq k) t p) ≡ false) where
+      module _ (open_key : is_kept t overwrite (child (eq k) t p) ≡ false) where
         pub move-open : (b : Bool) → ((n == 1) || is_under t n p) ≡ b → move_refusal eq t n p k overwrite ≡ cond b (Some Forbidden) None
-        move-open b h = move-known ∙ ap (λ b. cond b (Some Exists) (cond ((n == 1) || is_under t n p) (Some Forbidden) None)) open_place ∙ ap (λ b. cond b (Some Forbidden) None) h
-
-        pub move-root : n ≡ 1 → move_refusal eq t n p k overwrite ≡ Some Forbidden
-        move-root e = move-open true (ap (λ b. b || is_under t n p) (eq-eqb n 1 e))
-
-        pub move-below : n ≢ 1 → is_under t n p ≡ true → move_refusal eq t n p k overwrite ≡ Some Forbidden
-        move-below ne h = move-open true (ap (λ b. b || is_under t n p) (ne_eqb n 1 ne) ∙ h)
+        move-open b h = move-known ∙ ap (λ b. cond b (Some Exists) (cond ((n == 1) || is_under t n p) (Some Forbidden) None)) open_key ∙ ap (λ b. cond b (Some Forbidden) None) h
 
         pub move-allowed : n ≢ 1 → is_under t n p ≡ false → move_refusal eq t n p k overwrite ≡ None
         move-allowed ne h = move-open false (ap (λ b. b || is_under t n p) (ne_eqb n 1 ne) ∙ h)
@@ -140,11 +109,11 @@ module _ {K D : Type 0} (t : Keyed K D) where
             | inr bf ↦ elim (cases_Bool c) [
               | inl ct ↦ absurd (some_some Forbidden (sym (move-open at bf true ct) ∙ h))
               | inr cf ↦ record {
-                known = both_left _ _ at;
-                known_parent = both_right _ _ at;
+                known = (and_parts _ _ at).0;
+                known_parent = (and_parts _ _ at).1;
                 replaceable = bf;
-                not_root = λ e. true≢false (sym (eq-eqb n 1 e) ∙ neither_left _ _ cf);
-                outside = neither_right _ _ cf;
+                not_root = λ e. true≢false (sym (eq-eqb n 1 e) ∙ (or_parts _ _ cf).0);
+                outside = (or_parts _ _ cf).1;
               }
             ]
           ]
@@ -164,9 +133,9 @@ module _ {K D : Type 0} (t : Keyed K D) where
           | inl at ↦ elim (cases_Bool b) [
             | inl bt ↦ absurd (apart_refusals (sym (move-taken at bt) ∙ h))
             | inr bf ↦ elim (cases_eq n 1) [
-              | inl one ↦ subst (λ v. Under (parent t) v p) (sym one) (under_root (tree.attached p (both_right _ _ at)))
+              | inl one ↦ subst (λ v. Under (parent t) v p) (sym one) (under_root (tree.attached p (and_parts _ _ at).1))
               | inr ne ↦ elim (cases_Bool (is_under t n p)) [
-                | inl ut ↦ (is_under-true eq t tree n p (both_right _ _ at)).0 ut
+                | inl ut ↦ (is_under-true eq t tree n p (and_parts _ _ at).1).0 ut
                 | inr uf ↦ absurd (none≢some Forbidden (sym (move-allowed at bf ne uf) ∙ h))
               ]
             ]

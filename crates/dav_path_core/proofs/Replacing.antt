@@ -1,11 +1,12 @@
 -- What a move that nothing refuses finds, once the node in its way is gone.
 use Rattle.std.proofs.Common.{◌≡◌, ◌≢◌, ℕ, Bool, is_some, not, false, Some, None, ap, sym, ◌∙◌}
+use Rattle.std.proofs.lemmas.Bool.{or_parts}
 use Rattle.std.specs.Cmp.{IsEquivalence}
 use Rattle.dav_path_core.specs.Keyed.{Keyed, child, has_child, is_kept, is_under, without, delete_refusal, move_refusal, IsKnown, IsTree}
 use Rattle.dav_path_core.proofs.Trees.{child-some, known_from_child}
 use Rattle.dav_path_core.proofs.KeyedCuts.{IsLeaf, leaf, entry-without}
 use Rattle.dav_path_core.proofs.KeyedMoves.{c_not_root, known_rest, outside_rest, free_rest}
-use Rattle.dav_path_core.proofs.Refusals.{neither_right, delete-leaf, Allowed, allowed}
+use Rattle.dav_path_core.proofs.Refusals.{delete-leaf, Allowed, allowed}
 
 module _ {K D : Type 0} (eq : K → K → Bool) (laws : IsEquivalence eq) (t : Keyed K D) (n p : ℕ) (k : K) (overwrite : Bool) (tree : IsTree eq t)
     (none : move_refusal eq t n p k overwrite ≡ None) (c : ℕ) (at : child (eq k) t p ≡ Some c) (ne : c ≢ n) where
@@ -13,7 +14,7 @@ module _ {K D : Type 0} (eq : K → K → Bool) (laws : IsEquivalence eq) (t : K
   is_allowed = allowed t eq n p k overwrite none
 
   no_child_c : has_child t c ≡ false
-  no_child_c = neither_right (not overwrite) (has_child t c) (sym (ap (is_kept t overwrite) at) ∙ is_allowed.replaceable)
+  no_child_c = (or_parts (not overwrite) (has_child t c) (sym (ap (is_kept t overwrite) at) ∙ is_allowed.replaceable)).1
 
   leaf_c : IsLeaf t c
   leaf_c = leaf t c no_child_c

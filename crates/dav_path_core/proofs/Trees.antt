@@ -7,11 +7,10 @@ use Rattle.std.specs.declared.cmp.Ordering.TheVariants.{Less, Equal, Greater}
 use Rattle.std.specs.Map.{IsKeyTest}
 use Rattle.std.specs.FinMap.{FinMap, get, find, entries, entries_sorted, is_sorted, insert, empty, get-insert, get-empty, get-entries}
 use Rattle.std.specs.FinMap.Entries.{below_all}
-use Rattle.std.proofs.lemmas.Bool.{cases_eq, eq-eqb, ne_eqb, eqb-true, true≢false, false≢true, ltb-true}
-use Rattle.dav_path_core.specs.Keyed.{Entry, Keyed, Leads, root, up, entry, place, place_of, parent, IsKnown, IsChild, IsTree, is_at_place, child_in, child, lone, add, with_item, with_item_at, add_refusal, cleared, cleared_at}
+use Rattle.std.proofs.lemmas.Bool.{cases_eq, eq-eqb, ne_eqb, eqb-true, true≢false, false≢true, ltb-true, and_parts}
+use Rattle.dav_path_core.proofs.Every.{first_so, second_so}
+use Rattle.dav_path_core.specs.Keyed.{Entry, Keyed, Leads, root, up, entry, parent_and_key, parent_and_key_of, parent, IsKnown, IsChild, IsTree, matches_parent_and_key, child_in, child, lone, add, with_item, with_item_at, add_refusal, cleared, cleared_at}
 use Rattle.std.proofs.Common.{not}
-use Rattle.std.specs.Option.{ok_or}
-use Rattle.std.specs.Result.{is_ok}
 use Rattle.dav_path_core.specs.declared.errors.FsError.TheVariants.{Exists, NotFound}
 
 pub Leads-mono : {f g : ℕ → Option ℕ} {n : ℕ} → ((q p : ℕ) → f q ≡ Some p → g q ≡ Some p) → Leads f n → Leads g n
@@ -24,32 +23,12 @@ same_some x y e = ap (λ o. unwrap_or o x) e
 pub none≢some : {A : Type 0} (x : A) → None ≡ Some x → ⊥
 none≢some x e = false≢true (ap is_some e)
 
-left_true : (a b : Bool) → (a && b) ≡ true → a ≡ true
-left_true true b e = refl
-left_true false b e = e
-
-right_true : (a b : Bool) → (a && b) ≡ true → b ≡ true
-right_true true b e = e
-right_true false b e = absurd (false≢true e)
-
-first : (a b : Bool) → T (a && b) → T a
-first true b p = tt
-first false b p = p
-
-second : (a b : Bool) → T (a && b) → T b
-second true b p = p
-second false b p = absurd p
-
 is_lt-below : (a b : ℕ) → T (is_lt (nat_cmp a b)) → a < b
 is_lt-below a b h =
     elim (nat_lt a b) as (λ v. nat_lt a b ≡ v → T (is_lt (cond v Less (cond (a == b) Equal Greater))) → a < b) [
       | true ↦ λ e p. ltb-true a b e
       | false ↦ λ e. elim (a == b) as (λ w. T (is_lt (cond w Equal Greater)) → a < b) [ true ↦ λ p. absurd p | false ↦ λ p. absurd p ]
     ] refl h
-
-pub is_ok-ok_or : {A E : Type 0} (o : Option A) (e : E) → is_ok (ok_or o e) ≡ is_some o
-is_ok-ok_or None e = refl
-is_ok-ok_or (Some x) e = refl
 
 pub none_from_is_some : {A : Type 0} (o : Option A) → is_some o ≡ false → o ≡ None
 none_from_is_some None h = refl
@@ -61,8 +40,8 @@ module _ {X : Type 0} where
   above k q [] h s = absurd (false≢true s)
   above k q (e ∷ es) h s =
       elim (q == e.0) as (λ v. (q == e.0) ≡ v → IsSome (cond v (Some e.1) (find nat_cmp q es)) → k < q) [
-        | true ↦ λ t _. subst (λ n. k < n) (sym (eqb-true q e.0 t)) (is_lt-below k e.0 (first _ _ h))
-        | false ↦ λ t s'. above k q es (second _ _ h) s'
+        | true ↦ λ t _. subst (λ n. k < n) (sym (eqb-true q e.0 t)) (is_lt-below k e.0 (first_so _ _ h))
+        | false ↦ λ t s'. above k q es (second_so _ _ h) s'
       ] refl (subst (λ b. IsSome (cond b (Some e.1) (find nat_cmp q es))) (unsigned_tied q e.0) s)
 
   -- a look-up in a longer list
@@ -74,25 +53,25 @@ module _ {X : Type 0} where
 
   find-later : (q : ℕ) (e : ℕ × X) (es : List (ℕ × X)) → T (is_sorted nat_cmp (e ∷ es)) → IsSome (find nat_cmp q es) → find nat_cmp q (e ∷ es) ≡ find nat_cmp q es
   find-later q e es h s =
-      let lt : e.0 < q = above e.0 q es (first _ _ h) s in
+      let lt : e.0 < q = above e.0 q es (first_so _ _ h) s in
       find-head q e es ∙ ap (λ b. cond b (Some e.1) (find nat_cmp q es)) (ne_eqb q e.0 (λ e. omega (arith, lt, e)))
 
-at_place : {K : Type 0} (test : K → Bool) (p : ℕ) (w : Option (ℕ × K)) → is_at_place test p w ≡ true → (k : K) × (w ≡ Some (p, k)) × (test k ≡ true)
-at_place test p None h = absurd (false≢true h)
-at_place test p (Some q) h = (q.1, ap (λ (n : ℕ). Some (n, q.1)) (eqb-true q.0 p (left_true _ _ h)), right_true (q.0 == p) (test q.1) h)
+at_parent_and_key : {K : Type 0} (test : K → Bool) (p : ℕ) (w : Option (ℕ × K)) → matches_parent_and_key test p w ≡ true → (k : K) × (w ≡ Some (p, k)) × (test k ≡ true)
+at_parent_and_key test p None h = absurd (false≢true h)
+at_parent_and_key test p (Some q) h = (q.1, ap (λ (n : ℕ). Some (n, q.1)) (eqb-true q.0 p (and_parts _ _ h).0), (and_parts (q.0 == p) (test q.1) h).1)
 
-at_place_not : {K : Type 0} (test : K → Bool) (p : ℕ) (k : K) → is_at_place test p (Some (p, k)) ≡ false → test k ≡ false
-at_place_not test p k h = sym (ap (λ b. b && test k) (eq-eqb p p refl)) ∙ h
+at_parent_and_key_not : {K : Type 0} (test : K → Bool) (p : ℕ) (k : K) → matches_parent_and_key test p (Some (p, k)) ≡ false → test k ≡ false
+at_parent_and_key_not test p k h = sym (ap (λ b. b && test k) (eq-eqb p p refl)) ∙ h
 
 module _ {K D : Type 0} where
-  known_from_place : (o : Option (Entry K D)) (w : ℕ × K) → place_of o ≡ Some w → IsSome o
-  known_from_place None w e = absurd (none≢some w e)
-  known_from_place (Some x) w e = refl
+  known_from_parent_and_key : (o : Option (Entry K D)) (w : ℕ × K) → parent_and_key_of o ≡ Some w → IsSome o
+  known_from_parent_and_key None w e = absurd (none≢some w e)
+  known_from_parent_and_key (Some x) w e = refl
 
   pub known_from_child : (t : Keyed K D) (p : ℕ) (k : K) (n : ℕ) → IsChild t p k n → IsKnown t n
-  known_from_child t p k n e = known_from_place (entry t n) (p, k) e
+  known_from_child t p k n e = known_from_parent_and_key (entry t n) (p, k) e
 
-  known_from_parent_of : (o : Option (Entry K D)) (p : ℕ) → option_map (λ q. q.0) (place_of o) ≡ Some p → IsSome o
+  known_from_parent_of : (o : Option (Entry K D)) (p : ℕ) → option_map (λ q. q.0) (parent_and_key_of o) ≡ Some p → IsSome o
   known_from_parent_of None p e = absurd (none≢some p e)
   known_from_parent_of (Some x) p e = refl
 
@@ -101,34 +80,34 @@ module _ {K D : Type 0} where
 
   -- ---- a child by a test of its key
   child_in-some : (test : K → Bool) (p : ℕ) (es : List (ℕ × Entry K D)) (n : ℕ) → T (is_sorted nat_cmp es) → child_in test p es ≡ Some n
-      → (k : K) × (place_of (find nat_cmp n es) ≡ Some (p, k)) × (test k ≡ true)
+      → (k : K) × (parent_and_key_of (find nat_cmp n es) ≡ Some (p, k)) × (test k ≡ true)
   child_in-some test p [] n s h = absurd (none≢some n h)
   child_in-some test p (e ∷ es) n s h =
-      elim (is_at_place test p e.1.place) as (λ b. is_at_place test p e.1.place ≡ b → cond b (Some e.0) (child_in test p es) ≡ Some n → (k : K) × (place_of (find nat_cmp n (e ∷ es)) ≡ Some (p, k)) × (test k ≡ true)) [
-        | true ↦ λ a h. let w = at_place test p e.1.place a in
-            (w.0, subst (λ m. place_of (find nat_cmp m (e ∷ es)) ≡ Some (p, w.0)) (same_some e.0 n h) (ap place_of (find-here e es) ∙ w.1), w.2)
-        | false ↦ λ a h. let w = child_in-some test p es n (second _ _ s) h in
-            (w.0, ap place_of (find-later n e es s (known_from_place _ _ w.1)) ∙ w.1, w.2)
+      elim (matches_parent_and_key test p e.1.parent_and_key) as (λ b. matches_parent_and_key test p e.1.parent_and_key ≡ b → cond b (Some e.0) (child_in test p es) ≡ Some n → (k : K) × (parent_and_key_of (find nat_cmp n (e ∷ es)) ≡ Some (p, k)) × (test k ≡ true)) [
+        | true ↦ λ a h. let w = at_parent_and_key test p e.1.parent_and_key a in
+            (w.0, subst (λ m. parent_and_key_of (find nat_cmp m (e ∷ es)) ≡ Some (p, w.0)) (same_some e.0 n h) (ap parent_and_key_of (find-here e es) ∙ w.1), w.2)
+        | false ↦ λ a h. let w = child_in-some test p es n (second_so _ _ s) h in
+            (w.0, ap parent_and_key_of (find-later n e es s (known_from_parent_and_key _ _ w.1)) ∙ w.1, w.2)
       ] refl h
 
-  child_in-none : (test : K → Bool) (p : ℕ) (es : List (ℕ × Entry K D)) → child_in test p es ≡ None → (n : ℕ) (k : K) → place_of (find nat_cmp n es) ≡ Some (p, k) → test k ≡ false
+  child_in-none : (test : K → Bool) (p : ℕ) (es : List (ℕ × Entry K D)) → child_in test p es ≡ None → (n : ℕ) (k : K) → parent_and_key_of (find nat_cmp n es) ≡ Some (p, k) → test k ≡ false
   child_in-none test p [] h n k e = absurd (none≢some _ e)
   child_in-none test p (e ∷ es) h n k w =
-      elim (is_at_place test p e.1.place) as (λ b. is_at_place test p e.1.place ≡ b → cond b (Some e.0) (child_in test p es) ≡ None → test k ≡ false) [
+      elim (matches_parent_and_key test p e.1.parent_and_key) as (λ b. matches_parent_and_key test p e.1.parent_and_key ≡ b → cond b (Some e.0) (child_in test p es) ≡ None → test k ≡ false) [
         | true ↦ λ a h. absurd (none≢some _ (sym h))
         | false ↦ λ a h.
-            elim (n == e.0) as (λ v. place_of (cond v (Some e.1) (find nat_cmp n es)) ≡ Some (p, k) → test k ≡ false) [
-              | true ↦ λ w. at_place_not test p k (ap (is_at_place test p) (sym w) ∙ a)
+            elim (n == e.0) as (λ v. parent_and_key_of (cond v (Some e.1) (find nat_cmp n es)) ≡ Some (p, k) → test k ≡ false) [
+              | true ↦ λ w. at_parent_and_key_not test p k (ap (matches_parent_and_key test p) (sym w) ∙ a)
               | false ↦ λ w. child_in-none test p es h n k w
-            ] (ap place_of (sym (find-head n e es)) ∙ w)
+            ] (ap parent_and_key_of (sym (find-head n e es)) ∙ w)
       ] refl h
 
   module _ (t : Keyed K D) (test : K → Bool) (p : ℕ) where
     pub child-some : (n : ℕ) → child test t p ≡ Some n → (k : K) × IsChild t p k n × (test k ≡ true)
-    child-some n h = let w = child_in-some test p (entries t.nodes) n (entries_sorted t.nodes) h in (w.0, ap place_of (get-entries t.nodes n) ∙ w.1, w.2)
+    child-some n h = let w = child_in-some test p (entries t.nodes) n (entries_sorted t.nodes) h in (w.0, ap parent_and_key_of (get-entries t.nodes n) ∙ w.1, w.2)
 
     pub child-none : child test t p ≡ None → (n : ℕ) (k : K) → IsChild t p k n → test k ≡ false
-    child-none h n k e = child_in-none test p (entries t.nodes) h n k (ap place_of (sym (get-entries t.nodes n)) ∙ e)
+    child-none h n k e = child_in-none test p (entries t.nodes) h n k (ap parent_and_key_of (sym (get-entries t.nodes n)) ∙ e)
 
     -- the child that a test of one key finds is the only one
     pub child-only : (eq : K → K → Bool) → IsTree eq t → IsKeyTest eq test → (n : ℕ) (k : K) → IsChild t p k n → test k ≡ true → child test t p ≡ Some n
@@ -152,34 +131,34 @@ module _ {K D : Type 0} where
 
   -- a child after a change is the new one, or was one before
   pub child_before : (t u : Keyed K D) (n : ℕ) (e : Entry K D) → Sets (entry t) (entry u) n (Some e) → (p : ℕ) (k : K) (m : ℕ) → IsChild u p k m
-      → ((m ≡ n) × (e.place ≡ Some (p, k))) ⊎ ((m ≢ n) × IsChild t p k m)
+      → ((m ≡ n) × (e.parent_and_key ≡ Some (p, k))) ⊎ ((m ≢ n) × IsChild t p k m)
   child_before t u n e s p k m h =
       elim (cases_eq m n) [
-        | inl is ↦ inl (is, ap place_of (sym s.here) ∙ subst (λ v. place u v ≡ Some (p, k)) is h)
-        | inr ne ↦ inr (ne, ap place_of (sym (s.other m ne)) ∙ h)
+        | inl is ↦ inl (is, ap parent_and_key_of (sym s.here) ∙ subst (λ v. parent_and_key u v ≡ Some (p, k)) is h)
+        | inr ne ↦ inr (ne, ap parent_and_key_of (sym (s.other m ne)) ∙ h)
       ]
 
   module _ (eq : K → K → Bool) (symm : (a b : K) → eq a b ≡ eq b a) where
     pub IsTree-add : (t : Keyed K D) (p : ℕ) (k : K) (d : D) → IsTree eq t → IsKnown t p → child (eq k) t p ≡ None → IsTree eq (add t p k d)
     IsTree-add t p k d tree known free =
         let u : Keyed K D = add t p k d in
-        let e : Entry K D = record { place = Some (p, k); item = d } in
+        let e : Entry K D = record { parent_and_key = Some (p, k); item = d } in
         let s : Sets (entry t) (entry u) t.next (Some e) = Sets-insert t.nodes t.next e in
         let new : (q : ℕ) → IsKnown t q → q ≢ t.next = λ q h e. omega (arith, (tree.numbered q h).1, e) in
         let keeps : (q : ℕ) → IsKnown t q → entry u q ≡ entry t q = λ q h. s.other q (new q h) in
         let leads : (n : ℕ) → Leads (parent t) n → Leads (parent u) n =
-        λ n. Leads-mono (λ q r e. ap (λ o. option_map (λ w. w.0) (place_of o)) (keeps q (known_from_parent t q r e)) ∙ e) in
+        λ n. Leads-mono (λ q r e. ap (λ o. option_map (λ w. w.0) (parent_and_key_of o)) (keeps q (known_from_parent t q r e)) ∙ e) in
         let was : (n : ℕ) → IsKnown u n → (n ≡ t.next) ⊎ IsKnown t n =
         λ n h. elim (cases_eq n t.next) [ inl e ↦ inl e | inr ne ↦ inr (subst IsSome (s.other n ne) h) ] in
         let known1 : IsKnown t 1 = tree.root.0 in
         record {
-          root = (subst IsSome (sym (keeps 1 known1)) known1, ap place_of (keeps 1 known1) ∙ tree.root.1);
+          root = (subst IsSome (sym (keeps 1 known1)) known1, ap parent_and_key_of (keeps 1 known1) ∙ tree.root.1);
           numbered = λ n h. elim (was n h) [
             | inl is ↦ (omega (arith, is, (tree.numbered 1 known1).1), omega (arith, is))
             | inr before ↦ let b = tree.numbered n before in (b.0, omega (arith, b.1))
           ];
           attached = λ n h. elim (was n h) [
-            | inl is ↦ up (subst (λ v. parent u v ≡ Some p) (sym is) (ap (λ o. option_map (λ w. w.0) (place_of o)) s.here)) (leads p (tree.attached p known))
+            | inl is ↦ up (subst (λ v. parent u v ≡ Some p) (sym is) (ap (λ o. option_map (λ w. w.0) (parent_and_key_of o)) s.here)) (leads p (tree.attached p known))
             | inr before ↦ leads n (tree.attached n before)
           ];
           distinct = λ r a b m n x y same. elim (child_before t u t.next e s r a m x) [
@@ -200,26 +179,26 @@ module _ {K D : Type 0} where
 
   pub IsTree-lone : (eq : K → K → Bool) (d : D) → IsTree eq (lone d)
   IsTree-lone eq d =
-      let e : Entry K D = record { place = None; item = d } in
+      let e : Entry K D = record { parent_and_key = None; item = d } in
       let s : Sets (get (empty {X = Entry K D} {R = nat_cmp})) (entry (lone d)) 1 (Some e) = Sets-insert empty 1 e in
       let one : (n : ℕ) → IsKnown (lone d) n → n ≡ 1 =
       λ n h. elim (cases_eq n 1) [ inl is ↦ is | inr ne ↦ absurd (false≢true (sym (ap is_some (s.other n ne ∙ get-empty nat_cmp n)) ∙ h)) ] in
       let no : (p : ℕ) (k : K) (n : ℕ) → IsChild (lone d) p k n → ⊥ =
-      λ p k n h. none≢some (p, k) (sym (ap place_of s.here) ∙ subst (λ v. place (lone d) v ≡ Some (p, k)) (one n (known_from_child (lone d) p k n h)) h) in
+      λ p k n h. none≢some (p, k) (sym (ap parent_and_key_of s.here) ∙ subst (λ v. parent_and_key (lone d) v ≡ Some (p, k)) (one n (known_from_child (lone d) p k n h)) h) in
       record {
-        root = (ap is_some s.here, ap place_of s.here);
+        root = (ap is_some s.here, ap parent_and_key_of s.here);
         numbered = λ n h. let is = one n h in (omega (arith, is), omega (arith, is));
         attached = λ n h. subst (Leads (parent (lone d))) (sym (one n h)) root;
         distinct = λ p k l m n x y same. absurd (no p k m x);
       }
 
   -- a tree by its places alone
-  pub IsTree-same : (eq : K → K → Bool) (t u : Keyed K D) → u.next ≡ t.next → ((q : ℕ) → is_some (entry u q) ≡ is_some (entry t q)) → ((q : ℕ) → place u q ≡ place t q) → IsTree eq t → IsTree eq u
-  IsTree-same eq t u next known places tree = record {
-    root = (known 1 ∙ tree.root.0, places 1 ∙ tree.root.1);
+  pub IsTree-same : (eq : K → K → Bool) (t u : Keyed K D) → u.next ≡ t.next → ((q : ℕ) → is_some (entry u q) ≡ is_some (entry t q)) → ((q : ℕ) → parent_and_key u q ≡ parent_and_key t q) → IsTree eq t → IsTree eq u
+  IsTree-same eq t u next known parents_and_keys tree = record {
+    root = (known 1 ∙ tree.root.0, parents_and_keys 1 ∙ tree.root.1);
     numbered = λ n h. let b = tree.numbered n (sym (known n) ∙ h) in (b.0, omega (arith, b.1, next));
-    attached = λ n h. Leads-mono (λ q p e. ap (option_map (λ w. w.0)) (places q) ∙ e) (tree.attached n (sym (known n) ∙ h));
-    distinct = λ p k l m n x y same. tree.distinct p k l m n (sym (places m) ∙ x) (sym (places n) ∙ y) same;
+    attached = λ n h. Leads-mono (λ q p e. ap (option_map (λ w. w.0)) (parents_and_keys q) ∙ e) (tree.attached n (sym (known n) ∙ h));
+    distinct = λ p k l m n x y same. tree.distinct p k l m n (sym (parents_and_keys m) ∙ x) (sym (parents_and_keys n) ∙ y) same;
   }
 
   IsTree-with_item_at : (eq : K → K → Bool) (t : Keyed K D) (n : ℕ) (d : D) (o : Option (Entry K D)) → entry t n ≡ o → IsTree eq t → IsTree eq (with_item_at t n o d)
@@ -229,7 +208,7 @@ module _ {K D : Type 0} where
       let u : Keyed K D = with_item_at t n (Some e) d in
       IsTree-same eq t u refl
       (λ q. elim (cases_eq q n) [ inl is ↦ subst (λ v. is_some (entry u v) ≡ is_some (entry t v)) (sym is) (ap is_some s.here ∙ sym (ap is_some at)) | inr ne ↦ ap is_some (s.other q ne) ])
-      (λ q. elim (cases_eq q n) [ inl is ↦ subst (λ v. place u v ≡ place t v) (sym is) (ap place_of s.here ∙ sym (ap place_of at)) | inr ne ↦ ap place_of (s.other q ne) ])
+      (λ q. elim (cases_eq q n) [ inl is ↦ subst (λ v. parent_and_key u v ≡ parent_and_key t v) (sym is) (ap parent_and_key_of s.here ∙ sym (ap parent_and_key_of at)) | inr ne ↦ ap parent_and_key_of (s.other q ne) ])
       tree
 
   pub IsTree-with_item : (eq : K → K → Bool) (t : Keyed K D) (n : ℕ) (d : D) → IsTree eq t → IsTree eq (with_item t n d)
@@ -237,14 +216,6 @@ module _ {K D : Type 0} where
 
   -- ---- refusals of `add_child`
   module _ (eq : K → K → Bool) (t : Keyed K D) (p : ℕ) (k : K) where
-    pub refusal-unknown : (overwrite : Bool) → is_some (entry t p) ≡ false → add_refusal eq t p k overwrite ≡ Some NotFound
-    refusal-unknown overwrite h = ap (λ b. cond b (cond (is_some (child (eq k) t p) && not overwrite) (Some Exists) None) (Some NotFound)) h
-
-    pub refusal-taken : (overwrite : Bool) → overwrite ≡ false → is_some (entry t p) ≡ true → is_some (child (eq k) t p) ≡ true → add_refusal eq t p k overwrite ≡ Some Exists
-    refusal-taken overwrite o h c =
-        ap (λ b. cond b (cond (is_some (child (eq k) t p) && not overwrite) (Some Exists) None) (Some NotFound)) h
-        ∙ ap (λ b. cond (b && not overwrite) (Some Exists) None) c ∙ ap (λ b. cond (not b) (Some Exists) None) o
-
     pub refusal-none : (overwrite : Bool) → is_some (entry t p) ≡ true → is_some (child (eq k) t p) ≡ false → add_refusal eq t p k overwrite ≡ None
     refusal-none overwrite h c =
         ap (λ b. cond b (cond (is_some (child (eq k) t p) && not overwrite) (Some Exists) None) (Some NotFound)) h
@@ -253,8 +224,3 @@ module _ {K D : Type 0} where
     -- nothing is cleared where the place is free
     pub cleared-free : child (eq k) t p ≡ None → cleared eq t p k ≡ t
     cleared-free c = ap (cleared_at t) c
-
-  -- ---- a child after `add_child`
-  module _ (eq : K → K → Bool) (t : Keyed K D) (p : ℕ) (k : K) (d : D) (tree : IsTree eq (add t p k d)) (test : K → Bool) (one : IsKeyTest eq test) where
-    pub child_new : test k ≡ true → child test (add t p k d) p ≡ Some t.next
-    child_new h = child-only (add t p k d) test p eq tree one t.next k (ap place_of (Sets-insert t.nodes t.next (record { place = Some (p, k); item = d })).here) h

@@ -11,7 +11,7 @@ use Rattle.std.specs.FinMap.{FinMap, get, find, from_entries, insert, empty, get
 use Rattle.std.proofs.lemmas.Map.Made.{lookup-map_values}
 use Rattle.dav_path_core.specs.declared.tree.Node.{Node}
 use Rattle.dav_path_core.specs.Keyed.{Entry, Keyed, entry, lone, add, with_item, with_item_at}
-use Rattle.dav_path_core.specs.View.{entry_of, links_of, seen, keyed_of, held_of, node_at, with_node, changed}
+use Rattle.dav_path_core.specs.View.{entry_of, links_of, seen, keyed_of, tree_value_of, node_at, with_node, changed}
 
 pub find-lookup : {X : Type 0} (q : ℕ) (es : List (ℕ × X)) → find nat_cmp q es ≡ lookup (is_at (nat_cmp q)) es
 find-lookup q [] = refl
@@ -42,9 +42,6 @@ module _ {K D : Type 0} where
   pub same_seen : {Y : Type 0} (f : Node K D → Y) (es fs : List (ℕ × Node K D)) → ((q : ℕ) → option_map f (node_at fs q) ≡ option_map f (node_at es q)) → from_entries {R = nat_cmp} (seen f fs) ≡ from_entries (seen f es)
   same_seen f es fs h = same _ _ (λ q. get-seen f fs q ∙ h q ∙ sym (get-seen f es q))
 
-  pub same_keyed : (es fs : List (ℕ × Node K D)) (next : ℕ) → ((q : ℕ) → option_map entry_of (node_at fs q) ≡ option_map entry_of (node_at es q)) → keyed_of fs next ≡ keyed_of es next
-  same_keyed es fs next h = ap (λ (f : FinMap nat_cmp (Entry K D)). let t : Keyed K D = record { nodes = f; next = next } in t) (same_seen entry_of es fs h)
-
   branch : {Y : Type 0} (f : Node K D → Y) (b : Bool) (v : Node K D) (o : Option (Node K D)) → option_map f (cond b (Some v) o) ≡ cond b (Some (f v)) (option_map f o)
   branch f true v o = refl
   branch f false v o = refl
@@ -67,19 +64,19 @@ module _ {K D : Type 0} where
   pub known-view : (es : List (ℕ × Node K D)) (next q : ℕ) → is_some (entry (keyed_of es next) q) ≡ is_some (node_at es q)
   known-view es next q = ap is_some (get-seen entry_of es q) ∙ mapped-some entry_of (node_at es q)
 
-  pub view-add : (es fs : List (ℕ × Node K D)) (next p : ℕ) (k : K) (v : Node K D) → v.place ≡ Some (p, k) → ((q : ℕ) → option_map entry_of (node_at fs q) ≡ option_map entry_of (with_node (node_at es) next (Some v) q))
+  pub view-add : (es fs : List (ℕ × Node K D)) (next p : ℕ) (k : K) (v : Node K D) → v.parent_and_key ≡ Some (p, k) → ((q : ℕ) → option_map entry_of (node_at fs q) ≡ option_map entry_of (with_node (node_at es) next (Some v) q))
       → keyed_of fs (next + 1) ≡ add (keyed_of es next) p k v.item
   view-add es fs next p k v at h =
       ap (λ (f : FinMap nat_cmp (Entry K D)). let t : Keyed K D = record { nodes = f; next = next + 1 } in t)
       (seen-insert entry_of es fs next v h
-      ∙ ap (λ (w : Option (ℕ × K)). let e : Entry K D = record { place = w; item = v.item } in insert (from_entries {R = nat_cmp} (seen entry_of es)) next e) at)
+      ∙ ap (λ (w : Option (ℕ × K)). let e : Entry K D = record { parent_and_key = w; item = v.item } in insert (from_entries {R = nat_cmp} (seen entry_of es)) next e) at)
 
-  pub view-lone : (m n : BTreeMap ℕ (Node K D)) (v : Node K D) → m.entries ≡ [] → v.place ≡ None → Updates nat_cmp m n 1 (Some v) → keyed_of n.entries 2 ≡ lone v.item
+  pub view-lone : (m n : BTreeMap ℕ (Node K D)) (v : Node K D) → m.entries ≡ [] → v.parent_and_key ≡ None → Updates nat_cmp m n 1 (Some v) → keyed_of n.entries 2 ≡ lone v.item
   view-lone m n v nil at h =
       ap (λ (f : FinMap nat_cmp (Entry K D)). let t : Keyed K D = record { nodes = f; next = 2 } in t)
       (seen-insert entry_of m.entries n.entries 1 v (λ q. ap (λ g. option_map entry_of (g q)) (node_at-updated m n 1 (Some v) h))
       ∙ ap (λ (es : List (ℕ × Node K D)). insert (from_entries {R = nat_cmp} (seen entry_of es)) 1 (entry_of v)) nil
-      ∙ ap (λ (w : Option (ℕ × K)). let e : Entry K D = record { place = w; item = v.item } in insert (empty {R = nat_cmp}) 1 e) at)
+      ∙ ap (λ (w : Option (ℕ × K)). let e : Entry K D = record { parent_and_key = w; item = v.item } in insert (empty {R = nat_cmp}) 1 e) at)
 
   -- a write of an item through a reference into the map
   module _ (m n : BTreeMap ℕ (Node K D)) (next k : ℕ) (v : Node K D) (w : D) (at : Some v ≡ node_at m.entries k) (h : WritesThrough nat_cmp (nat_cmp k) m (record v { item = w }) n) where
@@ -98,8 +95,8 @@ module _ {K D : Type 0} where
       | inr ne ↦ ap f (with_node-other (node_at m.entries) k (Some (record v { item = w })) q ne)
     ]
 
-    pub held-write : held_of n.entries next ≡ record (held_of m.entries next) { keyed = with_item (keyed_of m.entries next) k w }
-    held-write = λ i. record { keyed = view-write i; links = same_seen links_of m.entries n.entries (write-keeps (option_map links_of) refl) i }
+    pub tree_value-write : tree_value_of n.entries next ≡ record (tree_value_of m.entries next) { keyed = with_item (keyed_of m.entries next) k w }
+    tree_value-write = λ i. record { keyed = view-write i; links = same_seen links_of m.entries n.entries (write-keeps (option_map links_of) refl) i }
 
   -- ---- a change of one node
   module _ (at : ℕ → Option (Node K D)) (n : ℕ) (f : Node K D → Node K D) where

@@ -7,10 +7,10 @@ use Rattle.std.proofs.lemmas.Bool.{eqb-true, or_cases, or_right, false≢true, t
 use Rattle.std.proofs.lemmas.List.{append-nil, append_assoc, length-append}
 use Rattle.std.proofs.lemmas.List.Folds.{list_any-append}
 use Rattle.std.proofs.lemmas.Map.Steps.{length-le_from_distinct_below}
-use Rattle.dav_path_core.specs.Keyed.{Keyed, place, parent, child, IsChild, IsKnown, IsTree, Leads, root, up}
+use Rattle.dav_path_core.specs.Keyed.{Keyed, parent_and_key, parent, child, IsChild, IsKnown, IsTree, Leads, root, up}
 use Rattle.dav_path_core.proofs.Trees.{none≢some, same_some, known_from_parent, child-some, child-only}
 use Rattle.dav_path_core.proofs.Chains.{in_here}
-use Rattle.dav_path_core.specs.Held.{Held, Siblings, done, more, first, after, IsChildList, IsHeld}
+use Rattle.dav_path_core.specs.TreeValue.{TreeValue, Siblings, done, more, first, after, IsChildList, IsTreeValue}
 
 -- how many are left, looking at no more than m
 abbrev pub left : (ℕ → Option ℕ) → ℕ → Option ℕ → ℕ
@@ -30,8 +30,8 @@ split (more {ns = ns} s) = (ns, refl, s)
 pub ended : {f : ℕ → Option ℕ} {ks : List ℕ} → Siblings f None ks → ks ≡ []
 ended done = refl
 
-place_under : {K : Type 0} (o : Option (ℕ × K)) (p : ℕ) (w : ℕ × K) → option_map (λ q. q.0) o ≡ Some p → o ≡ Some w → o ≡ Some (p, w.1)
-place_under o p w h e = e ∙ ap (λ (n : ℕ). Some (n, w.1)) (same_some w.0 p (sym (ap (option_map (λ q. q.0)) e) ∙ h))
+parent_and_key_under : {K : Type 0} (o : Option (ℕ × K)) (p : ℕ) (w : ℕ × K) → option_map (λ q. q.0) o ≡ Some p → o ≡ Some w → o ≡ Some (p, w.1)
+parent_and_key_under o p w h e = e ∙ ap (λ (n : ℕ). Some (n, w.1)) (same_some w.0 p (sym (ap (option_map (λ q. q.0)) e) ∙ h))
 
 module _ {K D : Type 0} where
   leads_known : (eq : K → K → Bool) (t : Keyed K D) → IsTree eq t → (n : ℕ) → Leads (parent t) n → IsKnown t n
@@ -46,18 +46,18 @@ module _ {K D : Type 0} where
   pub parent_known : (eq : K → K → Bool) (t : Keyed K D) → IsTree eq t → (n p : ℕ) → parent t n ≡ Some p → IsKnown t p
   parent_known eq t tree n p e = above_known eq t tree n p e (tree.attached n (known_from_parent t n p e))
 
-  pub child_here : (t : Keyed K D) (n p r : ℕ) (k : K) → parent t n ≡ Some p → place t n ≡ Some (r, k) → IsChild t p k n
-  child_here t n p r k h e = place_under (place t n) p (r, k) h e
+  pub child_here : (t : Keyed K D) (n p r : ℕ) (k : K) → parent t n ≡ Some p → parent_and_key t n ≡ Some (r, k) → IsChild t p k n
+  child_here t n p r k h e = parent_and_key_under (parent_and_key t n) p (r, k) h e
 
   -- a walk along the children of p that stands at a number and has passed ks
-  pub record Walk (t : Held K D) (p : ℕ) (at : Option ℕ) (ks : List ℕ) : Type 0 where
+  pub record Walk (t : TreeValue K D) (p : ℕ) (at : Option ℕ) (ks : List ℕ) : Type 0 where
     pub rest : List ℕ
     pub linked : Siblings (after t) at rest
     pub listed : IsChildList t p (ks ++ rest)
 
-  module _ (t : Held K D) (p : ℕ) where
-    pub walk_start : {eq : K → K → Bool} → IsHeld eq t → IsKnown t.keyed p → Walk t p (first t p) []
-    walk_start held known = let w = held.listed p known in record { rest = w.0; linked = w.1.linked; listed = w.1 }
+  module _ (t : TreeValue K D) (p : ℕ) where
+    pub walk_start : {eq : K → K → Bool} → IsTreeValue eq t → IsKnown t.keyed p → Walk t p (first t p) []
+    walk_start shape known = let w = shape.listed p known in record { rest = w.0; linked = w.1.linked; listed = w.1 }
 
     pub walk_end : (ks : List ℕ) → Walk t p None ks → IsChildList t p ks
     walk_end ks walk = subst (IsChildList t p) (ap (λ ns. ks ++ ns) (ended walk.linked) ∙ append-nil ks) walk.listed
@@ -91,14 +91,14 @@ module _ {K D : Type 0} where
         smaller o b e f = subst (λ v. left (after t) t.keyed.next v < left (after t) t.keyed.next o) f (subst (λ v. left (after t) t.keyed.next (after t id) < left (after t) t.keyed.next v) (sym e) one_less)
 
   -- ---- a search: each child that was passed is refused
-  pub record Searched (t : Held K D) (p : ℕ) (Refused : K → Type 0) (at : Option ℕ) : Type 0 where
+  pub record Searched (t : TreeValue K D) (p : ℕ) (Refused : K → Type 0) (at : Option ℕ) : Type 0 where
     pub passed : List ℕ
     pub walk : Walk t p at passed
     pub refused : (n : ℕ) (k : K) → list_any (eqb n) passed ≡ true → IsChild t.keyed p k n → Refused k
 
-  module _ (t : Held K D) (p : ℕ) (Refused : K → Type 0) where
-    pub search_start : {eq : K → K → Bool} → IsHeld eq t → IsKnown t.keyed p → Searched t p Refused (first t p)
-    search_start held known = record { passed = []; walk = walk_start t p held known; refused = λ n k h. absurd (false≢true h) }
+  module _ (t : TreeValue K D) (p : ℕ) (Refused : K → Type 0) where
+    pub search_start : {eq : K → K → Bool} → IsTreeValue eq t → IsKnown t.keyed p → Searched t p Refused (first t p)
+    search_start shape known = record { passed = []; walk = walk_start t p shape known; refused = λ n k h. absurd (false≢true h) }
 
     pub search_next : (id : ℕ) → Searched t p Refused (Some id) → ((k : K) → IsChild t.keyed p k id → Refused k) → Searched t p Refused (after t id)
     search_next id s refuses = record {

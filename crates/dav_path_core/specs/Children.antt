@@ -2,14 +2,14 @@
 use Rattle.std.specs.Prelude.{◌≡◌, ℕ, Bool, true, List, map}
 use Rattle.std.specs.List.{All}
 use Rattle.dav_path_core.specs.Keyed.{IsChild}
-use Rattle.dav_path_core.specs.Held.{Held, IsChildList}
+use Rattle.dav_path_core.specs.TreeValue.{TreeValue, IsChildList}
 
 module _ {K D : Type 0} where
   -- the number is a child of p, and the key equals its own
-  abbrev pub IsNamed : (K → K → Bool) → Held K D → ℕ → K × ℕ → Type 0
+  abbrev pub IsNamed : (K → K → Bool) → TreeValue K D → ℕ → K × ℕ → Type 0
   IsNamed eq t p q = (k : K) × IsChild t.keyed p k q.1 × (eq k q.0 ≡ true)
 
   -- the pairs are of the children of p, each once, in the order of p's list
-  pub record ListsChildren (eq : K → K → Bool) (t : Held K D) (p : ℕ) (pairs : List (K × ℕ)) : Type 0 where
+  pub record ListsChildren (eq : K → K → Bool) (t : TreeValue K D) (p : ℕ) (pairs : List (K × ℕ)) : Type 0 where
     pub listed : IsChildList t p (map (λ q. q.1) pairs)
     pub named : All (IsNamed eq t p) pairs

@@ -7,9 +7,9 @@ use Rattle.std.specs.FinMap.{FinMap, entries, get, insert, remove, retain_keys, 
 use Rattle.dav_path_core.specs.declared.errors.FsError.{FsError}
 use Rattle.dav_path_core.specs.declared.errors.FsError.TheVariants.{Exists, NotFound, Forbidden}
 
--- a node: its place is the parent's number and its key there; the root has none
+-- a node: the number of its parent and its key there, which the root has not, and its item
 pub record Entry (K D : Type 0) : Type 0 where
-  pub place : Option (ℕ × K)
+  pub parent_and_key : Option (ℕ × K)
   pub item : D
 
 pub record Keyed (K D : Type 0) : Type 0 where
@@ -19,7 +19,7 @@ pub record Keyed (K D : Type 0) : Type 0 where
 -- the codes that a model needs of its value
 abbrev pub entry_code : {K D : Type 0} → Coded K → Coded D → Coded (Entry K D)
 entry_code {K} {D} k d =
-    code_by (Option (ℕ × K) × D) (coded× (coded_option (coded× coded_ℕ k)) d) (λ e. (e.place, e.item)) (λ p. record { place = p.0; item = p.1 }) (λ _. refl)
+    code_by (Option (ℕ × K) × D) (coded× (coded_option (coded× coded_ℕ k)) d) (λ e. (e.parent_and_key, e.item)) (λ p. record { parent_and_key = p.0; item = p.1 }) (λ _. refl)
 
 abbrev pub keyed_code : {K D : Type 0} → Coded K → Coded D → Coded (Keyed K D)
 keyed_code {K} {D} k d =
@@ -35,10 +35,10 @@ pub data Under (f : ℕ → Option ℕ) (n : ℕ) : ℕ → Type 0 where
   here : Under f n n
   below : {k p : ℕ} → f k ≡ Some p → Under f n p → Under f n k
 
--- whether a place is under p at a key that passes the test
-abbrev pub is_at_place : {K : Type 0} → (K → Bool) → ℕ → Option (ℕ × K) → Bool
-is_at_place test p None = false
-is_at_place test p (Some q) = (q.0 == p) && test q.1
+-- whether the parent is p and the key passes the test
+abbrev pub matches_parent_and_key : {K : Type 0} → (K → Bool) → ℕ → Option (ℕ × K) → Bool
+matches_parent_and_key test p None = false
+matches_parent_and_key test p (Some q) = (q.0 == p) && test q.1
 
 -- whether n is met on the way from k by f, looking at no more than so many numbers
 abbrev pub meets : (ℕ → Option ℕ) → ℕ → ℕ → ℕ → Bool
@@ -58,27 +58,27 @@ module _ {K D : Type 0} where
   abbrev pub item : Keyed K D → ℕ → Option D
   item t n = option_map (λ e. e.item) (entry t n)
 
-  -- the place of an entry, if there is one
-  abbrev pub place_of : Option (Entry K D) → Option (ℕ × K)
-  place_of None = None
-  place_of (Some e) = e.place
+  -- the parent and key of an entry, if it has them
+  abbrev pub parent_and_key_of : Option (Entry K D) → Option (ℕ × K)
+  parent_and_key_of None = None
+  parent_and_key_of (Some e) = e.parent_and_key
 
   -- the parent and key of a number; none for the root and for an unknown one
-  abbrev pub place : Keyed K D → ℕ → Option (ℕ × K)
-  place t n = place_of (entry t n)
+  abbrev pub parent_and_key : Keyed K D → ℕ → Option (ℕ × K)
+  parent_and_key t n = parent_and_key_of (entry t n)
 
   -- the parent of a number
   abbrev pub parent : Keyed K D → ℕ → Option ℕ
-  parent t n = option_map (λ q. q.0) (place t n)
+  parent t n = option_map (λ q. q.0) (parent_and_key t n)
 
   -- n is the child of p at the key k
   abbrev pub IsChild : Keyed K D → ℕ → K → ℕ → Type 0
-  IsChild t p k n = place t n ≡ Some (p, k)
+  IsChild t p k n = parent_and_key t n ≡ Some (p, k)
 
   -- the same over a list of entries: the first that passes
   abbrev pub child_in : (K → Bool) → ℕ → List (ℕ × Entry K D) → Option ℕ
   child_in test p [] = None
-  child_in test p (e ∷ es) = if is_at_place test p e.1.place then Some e.0 else child_in test p es
+  child_in test p (e ∷ es) = if matches_parent_and_key test p e.1.parent_and_key then Some e.0 else child_in test p es
 
   -- the child of p whose key passes the test
   abbrev pub child : (K → Bool) → Keyed K D → ℕ → Option ℕ
@@ -86,11 +86,11 @@ module _ {K D : Type 0} where
 
   -- the one node, at number 1
   abbrev pub lone : D → Keyed K D
-  lone d = record { nodes = insert empty 1 (record { place = None; item = d }); next = 2 }
+  lone d = record { nodes = insert empty 1 (record { parent_and_key = None; item = d }); next = 2 }
 
   -- t with a new node below p at k
   abbrev pub add : Keyed K D → ℕ → K → D → Keyed K D
-  add t p k d = record { nodes = insert t.nodes t.next (record { place = Some (p, k); item = d }); next = t.next + 1 }
+  add t p k d = record { nodes = insert t.nodes t.next (record { parent_and_key = Some (p, k); item = d }); next = t.next + 1 }
 
   -- t with another item at n
   abbrev pub with_item_at : Keyed K D → ℕ → Option (Entry K D) → D → Keyed K D
@@ -103,7 +103,7 @@ module _ {K D : Type 0} where
   -- what a tree keeps: the root has no parent; numbers are below the next; from each the parents lead to 1; no two
   -- entries have equal parents and equal keys
   pub record IsTree (eq : K → K → Bool) (t : Keyed K D) : Type 0 where
-    pub root : IsKnown t 1 × (place t 1 ≡ None)
+    pub root : IsKnown t 1 × (parent_and_key t 1 ≡ None)
     pub numbered : (n : ℕ) → IsKnown t n → (0 < n) × (n < t.next)
     pub attached : (n : ℕ) → IsKnown t n → Leads (parent t) n
     pub distinct : (p : ℕ) (k l : K) (m n : ℕ) → IsChild t p k m → IsChild t p l n → eq k l ≡ true → m ≡ n
@@ -147,7 +147,7 @@ module _ {K D : Type 0} where
 
   abbrev pub placed_at : Keyed K D → ℕ → ℕ → K → Option (Entry K D) → Keyed K D
   placed_at t n p k None = t
-  placed_at t n p k (Some e) = record t { nodes = insert t.nodes n (record e { place = Some (p, k) }) }
+  placed_at t n p k (Some e) = record t { nodes = insert t.nodes n (record e { parent_and_key = Some (p, k) }) }
 
   -- t with n below p at k
   abbrev pub placed : Keyed K D → ℕ → ℕ → K → Keyed K D
@@ -184,6 +184,6 @@ module _ {K D : Type 0} where
   moved_over t n p k None = placed t n p k
   moved_over t n p k (Some c) = if c == n then t else placed (without t c) n p k
 
-  -- t with n moved to p at k, in the place of a node there; a node in its own place stays
+  -- t with n moved to p at k, where a node may stand that goes; if n is there already, t stays
   abbrev pub moved : (K → K → Bool) → Keyed K D → ℕ → ℕ → K → Keyed K D
   moved eq t n p k = moved_over t n p k (child (eq k) t p)

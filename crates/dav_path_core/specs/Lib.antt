@@ -6,7 +6,6 @@ pub mod EndsAs
 pub mod Errors
 pub mod Fault
 pub mod Fronts
-pub mod Held
 pub mod Keeping
 pub mod Keyed
 pub mod Lends
@@ -21,6 +20,7 @@ pub mod Reading
 pub mod Respelling
 pub mod Segments
 pub mod Shown
+pub mod TreeValue
 pub mod Trimmed
 pub mod Url
 pub mod View

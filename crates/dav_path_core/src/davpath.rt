@@ -272,6 +272,11 @@ pub fn one_path_is_read()
     ensures { (text p q : List ℕ) → Read text p → Read text q → p ≡ q }
 {}
 
+/// A law for callers: a text has one first fault at most. It does nothing.
+pub fn one_fault_is_first()
+    ensures { (text : List ℕ) (d e : ParseError) → Fault text d → Fault text e → d ≡ e }
+{}
+
 // The bytes of a folder behind a prefix, by the first so many of its segments.
 fn folder_of(
     alloc: Global,

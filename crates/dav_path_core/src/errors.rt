@@ -21,7 +21,7 @@ pub enum FsError {
     /// Something failed that has no case of its own.
     #[error("GeneralFailure")]
     GeneralFailure,
-    /// The place is taken.
+    /// Something stands there already.
     #[error("Exists")]
     Exists,
     /// Nothing stands there.

@@ -6,7 +6,7 @@ ghost use Rattle.std.specs.Borrow.{sem};
 ghost use Rattle.std.specs.Map.{IsKeyTest};
 ghost use Rattle.dav_path_core.specs.Answers.{Answers};
 ghost use Rattle.dav_path_core.specs.Keyed.{item, parent as parent_number, IsChild, child, lone, add, add_refusal, cleared, with_item, delete_refusal, without, entry, has_child as has_child_of, is_kept as is_kept_in, is_under, move_refusal, placed, moved, Under, cut, cut_refusal, IsCut, IsKnown};
-ghost use Rattle.dav_path_core.specs.Held.{IsHeld, first, after, if_known};
+ghost use Rattle.dav_path_core.specs.TreeValue.{IsTreeValue, first, after, if_known};
 
 mod links;
 mod listing;
@@ -26,7 +26,7 @@ pub const ROOT_ID: u64 = 1;
 pub struct Node<K, D> {
     /// The data.
     pub item: D,
-    place: Option<(u64, K)>,
+    parent_and_key: Option<(u64, K)>,
     first_child: Option<u64>,
     next_sibling: Option<u64>,
     previous_sibling: Option<u64>,
@@ -42,15 +42,15 @@ pub struct Tree<K: Eq + Hash, D> {
 }
 
 impl<K: Eq + Hash, D> Model for Tree<K, D> {
-    ghost use Rattle.dav_path_core.specs.Held.{Held, held_code};
+    ghost use Rattle.dav_path_core.specs.TreeValue.{TreeValue, tree_value_code};
 
-    ghost Value = { Held K D };
+    ghost Value = { TreeValue K D };
 
-    ghost coded = { held_code K.code D.code };
+    ghost coded = { tree_value_code K.code D.code };
 
-    ghost use Rattle.dav_path_core.specs.View.{held_of, IsLinked};
+    ghost use Rattle.dav_path_core.specs.View.{tree_value_of, IsLinked};
 
-    ghost view = { λ a. held_of a.nodes.entries a.next };
+    ghost view = { λ a. tree_value_of a.nodes.entries a.next };
 
     ghost invariant = { λ a. IsLinked K.eq a.nodes.entries a.next };
 }
@@ -61,7 +61,7 @@ impl<K: Eq + Hash + Clone, D> Tree<K, D> {
     /// The number of a node's child under a key. `NotFound` where there is none.
     pub fn get_child(&self, parent: u64, key: &K) -> FsResult<u64>
         ensures answer { result ≡ ok_or (child (K.eq key.now) self.now.keyed parent) FsError.NotFound }
-        ensures shape { IsHeld K.eq self.now }
+        ensures shape { IsTreeValue K.eq self.now }
     {
         self.find_child(parent, |name| key == name)
     }
@@ -73,7 +73,7 @@ impl<K: Eq + Hash + Clone, D> Tree<K, D> {
         ensures found { IfOk result (λ n. (k : K) × IsChild self.now.keyed parent k n × FnReturnsAt F.Fn same k true) }
         ensures none { OnErr result ((n : ℕ) (k : K) → IsChild self.now.keyed parent k n → FnReturnsAt F.Fn same k false) }
         ensures error { IfErr result (λ e. e ≡ FsError.NotFound) }
-        ensures shape { IsHeld K.eq self.now }
+        ensures shape { IsTreeValue K.eq self.now }
         // Where the test tells one key from all others, it is a look-up.
         ensures by_test { (test : K → Bool) → IsKeyTest K.eq test → ((k : K) (b : Bool) → FnReturnsAt F.Fn same k b → b ≡ test k)
             → result ≡ ok_or (child test self.now.keyed parent) FsError.NotFound }
@@ -101,7 +101,7 @@ impl<K: Eq + Hash + Clone, D> Tree<K, D> {
         let Some(node) = self.nodes.get(&id) else {
             unreachable!()
         };
-        let Some((_above, name)) = &node.place else {
+        let Some((_above, name)) = &node.parent_and_key else {
             unreachable!()
         };
         (name, node.next_sibling)
@@ -111,7 +111,7 @@ impl<K: Eq + Hash + Clone, D> Tree<K, D> {
     pub fn parent_of(&self, id: u64) -> FsResult<Option<u64>>
         ensures answer { result ≡ ok_or (if_known self.now id (parent_number self.now.keyed id)) FsError.NotFound }
         ensures root { id ≡ 1 → result ≡ Ok None }
-        ensures shape { IsHeld K.eq self.now }
+        ensures shape { IsTreeValue K.eq self.now }
     {
         if self.is_known(id) {
             Ok(self.above(id))
@@ -123,7 +123,7 @@ impl<K: Eq + Hash + Clone, D> Tree<K, D> {
     /// The number of a node's first child, `None` where it has no child. `NotFound` for an unknown number.
     pub fn first_child(&self, id: u64) -> FsResult<Option<u64>>
         ensures answer { result ≡ ok_or (if_known self.now id (first self.now id)) FsError.NotFound }
-        ensures shape { IsHeld K.eq self.now }
+        ensures shape { IsTreeValue K.eq self.now }
     {
         match self.nodes.get(&id) {
             Some(node) => Ok(node.first_child),
@@ -135,7 +135,7 @@ impl<K: Eq + Hash + Clone, D> Tree<K, D> {
     pub fn next_sibling(&self, id: u64) -> FsResult<Option<u64>>
         ensures answer { result ≡ ok_or (if_known self.now id (after self.now id)) FsError.NotFound }
         ensures root { id ≡ 1 → result ≡ Ok None }
-        ensures shape { IsHeld K.eq self.now }
+        ensures shape { IsTreeValue K.eq self.now }
     {
         match self.nodes.get(&id) {
             Some(node) => Ok(node.next_sibling),
@@ -147,7 +147,7 @@ impl<K: Eq + Hash + Clone, D> Tree<K, D> {
     pub fn get_node(&self, id: u64) -> FsResult<&D>
         ensures answer { MatchResult result (λ d. item self.now.keyed id ≡ Some d.now)
             (λ e. (e ≡ FsError.NotFound) × (item self.now.keyed id ≡ None)) }
-        ensures shape { IsHeld K.eq self.now }
+        ensures shape { IsTreeValue K.eq self.now }
     {
         match self.nodes.get(&id) {
             Some(node) => Ok(&node.item),
@@ -161,8 +161,8 @@ impl<K: Eq + Hash + Clone, D> Tree<K, D> {
         ensures value { MatchResult result (λ d. item self.old.keyed id ≡ Some d.now)
             (λ e. (e ≡ FsError.NotFound) × (item self.old.keyed id ≡ None)) }
         // Before the call, and whatever is written through the answer.
-        ensures shape { IsHeld K.eq self.old }
-        ensures shape_after { (d : D) → IsHeld K.eq (record self.old { keyed = with_item self.old.keyed id d }) }
+        ensures shape { IsTreeValue K.eq self.old }
+        ensures shape_after { (d : D) → IsTreeValue K.eq (record self.old { keyed = with_item self.old.keyed id d }) }
     {
         match self.nodes.get_mut(&id) {
             Some(node) => Ok(&mut node.item),
@@ -176,12 +176,12 @@ impl<K: Eq + Hash + Clone, D> Tree<K, D> {
         ensures answer { MatchResult result
             (λ x. (delete_refusal self.old.keyed id ≡ None) × (item self.old.keyed id ≡ Some x.item) × (self.new.keyed ≡ without self.old.keyed id))
             (λ e. (delete_refusal self.old.keyed id ≡ Some e) × (self.new ≡ self.old)) }
-        ensures shape { IsHeld K.eq self.new }
+        ensures shape { IsTreeValue K.eq self.new }
     {
         let Some(node) = self.nodes.get(&id) else {
             return Err(FsError::NotFound);
         };
-        let Some((above, _name)) = &node.place else {
+        let Some((above, _name)) = &node.parent_and_key else {
             return Err(FsError::Forbidden);
         };
         if node.first_child.is_some() {
@@ -197,7 +197,7 @@ impl<K: Eq + Hash + Clone, D> Tree<K, D> {
 
     fn is_known(&self, id: u64) -> bool
         ensures known { result ≡ is_some (entry self.now.keyed id) }
-        ensures shape { IsHeld K.eq self.now }
+        ensures shape { IsTreeValue K.eq self.now }
     {
         self.nodes.contains_key(&id)
     }
@@ -239,10 +239,10 @@ impl<K: Eq + Hash + Clone, D> Tree<K, D> {
 
     fn above(&self, id: u64) -> Option<u64>
         ensures parent { result ≡ parent_number self.now.keyed id }
-        ensures shape { IsHeld K.eq self.now }
+        ensures shape { IsTreeValue K.eq self.now }
     {
         match self.nodes.get(&id) {
-            Some(node) => match &node.place {
+            Some(node) => match &node.parent_and_key {
                 Some((parent, _name)) => Some(*parent),
                 None => None,
             },
@@ -250,8 +250,8 @@ impl<K: Eq + Hash + Clone, D> Tree<K, D> {
         }
     }
 
-    // The number at the place that a node is to be moved to, or why it can't be moved there.
-    fn place_for(
+    // The number that stands where a node is to be moved, or why it can't be moved there.
+    fn check_move(
         &self,
         id: u64,
         new_parent: u64,
@@ -262,7 +262,7 @@ impl<K: Eq + Hash + Clone, D> Tree<K, D> {
             (λ o. (move_refusal K.eq self.now.keyed id new_parent new_name.now overwrite ≡ None)
             × (o ≡ child (K.eq new_name.now) self.now.keyed new_parent))
             (λ e. move_refusal K.eq self.now.keyed id new_parent new_name.now overwrite ≡ Some e) }
-        ensures shape { IsHeld K.eq self.now }
+        ensures shape { IsTreeValue K.eq self.now }
     {
         if !self.is_known(id) {
             return Err(FsError::NotFound);
@@ -283,7 +283,7 @@ impl<K: Eq + Hash + Clone, D> Tree<K, D> {
         Ok(taken)
     }
 
-    // Puts a node below another, where its place there is free.
+    // Puts a node below another, under a key that is free there.
     fn put_below(&mut self, id: u64, new_parent: u64, new_name: K)
         requires known { IsKnown self.old.keyed id }
         requires known_parent { IsKnown self.old.keyed new_parent }
@@ -291,18 +291,18 @@ impl<K: Eq + Hash + Clone, D> Tree<K, D> {
         requires outside { is_under self.old.keyed id new_parent ≡ false }
         requires free { child (K.eq new_name) self.old.keyed new_parent ≡ None }
         ensures placed { self.new.keyed ≡ placed self.old.keyed id new_parent new_name }
-        ensures shape { IsHeld K.eq self.new }
+        ensures shape { IsTreeValue K.eq self.new }
     {
         let Some(node) = self.nodes.get(&id) else {
             unreachable!()
         };
-        let Some((above, _name)) = &node.place else {
+        let Some((above, _name)) = &node.parent_and_key else {
             unreachable!()
         };
         let (parent, before, after) = (*above, node.previous_sibling, node.next_sibling);
         links::close_up(&mut self.nodes, parent, before, after);
         let first = links::first_of(&self.nodes, new_parent);
-        links::set_place(&mut self.nodes, id, new_parent, new_name, first);
+        links::set_parent_and_key(&mut self.nodes, id, new_parent, new_name, first);
         links::put_before(&mut self.nodes, new_parent, id, first);
     }
 
@@ -339,12 +339,12 @@ impl<K: Eq + Hash + Clone, D: Drop> Tree<K, D> {
     /// A root alone, with number 1. `InsufficientStorage` for want of memory.
     pub fn new(alloc: Global, item: D) -> FsResult<Tree<K, D>>
         ensures answer { Answers None result (λ t. t.keyed ≡ lone item) (Unit {0}) }
-        ensures shape { IfOk result (IsHeld K.eq) }
+        ensures shape { IfOk result (IsTreeValue K.eq) }
     {
         let mut nodes = BTreeMap::new(alloc);
         let root = Node {
             item,
-            place: None,
+            parent_and_key: None,
             first_child: None,
             next_sibling: None,
             previous_sibling: None,
@@ -373,7 +373,7 @@ impl<K: Eq + Hash + Clone, D: Drop> Tree<K, D> {
         // No number above 2^64 - 2 is given, so a next number of 2^64 - 1 is always refused.
         ensures number { IfOk result (λ n. n < 18446744073709551615) }
         ensures next { self.new.keyed.next ≤ 18446744073709551615 }
-        ensures shape { IsHeld K.eq self.new }
+        ensures shape { IsTreeValue K.eq self.new }
     {
         if !self.is_known(parent) {
             return Err(FsError::NotFound);
@@ -397,7 +397,7 @@ impl<K: Eq + Hash + Clone, D: Drop> Tree<K, D> {
         requires free { child (K.eq key) self.old.keyed parent ≡ None }
         requires room { self.old.keyed.next ≢ 18446744073709551615 }
         ensures answer { Answers None result (λ n. (n ≡ self.old.keyed.next) × (self.new.keyed ≡ add self.old.keyed parent key item)) (self.new ≡ self.old) }
-        ensures shape { IsHeld K.eq self.new }
+        ensures shape { IsTreeValue K.eq self.new }
     {
         let id = self.next;
         links::put_new(&mut self.nodes, id, parent, key, item)?;
@@ -405,13 +405,13 @@ impl<K: Eq + Hash + Clone, D: Drop> Tree<K, D> {
         Ok(id)
     }
 
-    // Adds a child in the place of another, which hangs below it until it is taken out.
+    // Adds a child instead of another, which hangs below it until it is taken out.
     fn add_over(&mut self, parent: u64, key: K, item: D, old: u64) -> FsResult<u64>
         requires known { IsKnown self.old.keyed parent }
         requires taken { child (K.eq key) self.old.keyed parent ≡ Some old }
         requires room { self.old.keyed.next ≢ 18446744073709551615 }
         ensures answer { Answers None result (λ n. (n ≡ self.old.keyed.next) × (self.new.keyed ≡ add (cut self.old.keyed old) parent key item)) (self.new ≡ self.old) }
-        ensures shape { IsHeld K.eq self.new }
+        ensures shape { IsTreeValue K.eq self.new }
     {
         let new = self.next;
         links::put_new(&mut self.nodes, new, parent, key, item)?;
@@ -428,7 +428,7 @@ impl<K: Eq + Hash + Clone, D: Drop> Tree<K, D> {
             (λ _. (cut_refusal self.old.keyed id ≡ None) × (self.new.keyed ≡ cut self.old.keyed id))
             (λ e. (cut_refusal self.old.keyed id ≡ Some e) × (self.new ≡ self.old)) }
         ensures gone { IfOk result (λ _. IsCut self.old.keyed self.new.keyed id) }
-        ensures shape { IsHeld K.eq self.new }
+        ensures shape { IsTreeValue K.eq self.new }
     {
         if !self.is_known(id) {
             return Err(FsError::NotFound);
@@ -445,7 +445,7 @@ impl<K: Eq + Hash + Clone, D: Drop> Tree<K, D> {
         requires known { IsKnown self.old.keyed id }
         requires not_root { id ≢ 1 }
         ensures cut { self.new.keyed ≡ cut self.old.keyed id }
-        ensures shape { IsHeld K.eq self.new }
+        ensures shape { IsTreeValue K.eq self.new }
     {
         // Shows the tree's shape.
         let _ = &self.nodes;
@@ -463,7 +463,7 @@ impl<K: Eq + Hash + Clone, D: Drop> Tree<K, D> {
         requires leaf { has_child_of self.old.keyed id ≡ false }
         ensures parent { parent_number self.old.keyed id ≡ Some result }
         ensures dropped { self.new.keyed ≡ without self.old.keyed id }
-        ensures shape { IsHeld K.eq self.new }
+        ensures shape { IsTreeValue K.eq self.new }
     {
         let Some(parent) = self.above(id) else {
             unreachable!()
@@ -474,10 +474,11 @@ impl<K: Eq + Hash + Clone, D: Drop> Tree<K, D> {
         parent
     }
 
-    /// Moves a node, and with it all below it, to a place below another, in the place of a node without children there.
+    /// Moves a node, and with it all below it, below another under a key. With `overwrite` a node without children that
+    /// stands there goes. Where the node stands there itself, nothing changes.
     ///
-    /// `NotFound` for an unknown number, `Exists` where the place is taken and `overwrite` is false or the node there has
-    /// children, `Forbidden` for the root and for a new parent in the node's own subtree. In its own place nothing changes.
+    /// `NotFound` for an unknown number, `Exists` where a node stands there and `overwrite` is false or that node has
+    /// children, `Forbidden` for the root and for a new parent in the node's own subtree.
     pub fn move_node(
         &mut self,
         id: u64,
@@ -491,10 +492,10 @@ impl<K: Eq + Hash + Clone, D: Drop> Tree<K, D> {
         // So a move is allowed only to a parent outside the node's own subtree, and forbidden only to one within it.
         ensures outside { IfOk result (λ _. ¬ Under (parent_number self.old.keyed) id new_parent) }
         ensures below { IfErr result (λ e. e ≡ FsError.Forbidden → Under (parent_number self.old.keyed) id new_parent) }
-        ensures own_place { child (K.eq new_name) self.old.keyed new_parent ≡ Some id → self.new ≡ self.old }
-        ensures shape { IsHeld K.eq self.new }
+        ensures stays { child (K.eq new_name) self.old.keyed new_parent ≡ Some id → self.new ≡ self.old }
+        ensures shape { IsTreeValue K.eq self.new }
     {
-        match self.place_for(id, new_parent, &new_name, overwrite) {
+        match self.check_move(id, new_parent, &new_name, overwrite) {
             Err(error) => return Err(error),
             Ok(None) => {
                 self.put_below(id, new_parent, new_name);

@@ -23,7 +23,7 @@ pub record Shown (t : FileTree) (m : ResourceMap) (p : Path) (r : Resource) : Ty
   pub placed : FileEntry
   pub stored : get t.nodes r.number ≡ Some placed
   pub shown : placed.item ≡ r.node
-  pub fits : PlaceFits m p placed.place
+  pub fits : PlaceFits m p placed.parent_and_key
 
 -- each entry of the map is a node of the tree, at its place, and each node is an entry
 pub record Represents (t : FileTree) (m : ResourceMap) : Type 0 where
@@ -35,7 +35,7 @@ pub record Represents (t : FileTree) (m : ResourceMap) : Type 0 where
 -- the path of a node, by its parents, in at most so many steps
 abbrev pub path_of : FinMap nat_cmp FileEntry → ℕ → ℕ → Path
 path_of nodes zero id = []
-path_of nodes (suc steps) id = option_map_or (λ place. path_of nodes steps place.0 ++ (place.1 ∷ [])) (option_and_then (λ n. n.place) (get nodes id)) []
+path_of nodes (suc steps) id = option_map_or (λ place. path_of nodes steps place.0 ++ (place.1 ∷ [])) (option_and_then (λ n. n.parent_and_key) (get nodes id)) []
 
 abbrev pub entry_of : FileTree → ℕ × FileEntry → Path × Resource
 entry_of t e = (path_of t.nodes (len t.nodes) e.0, record { number = e.0; node = e.1.item })

@@ -16,7 +16,7 @@ number_of m p = find m p >>= λ r. Ok r.number
 
 -- the member of a folder with a name, by its number
 abbrev pub IsMember : FileTree → ℕ → Segment → ℕ → Type 0
-IsMember t folder name id = (item : Node) × (get t.nodes id ≡ Some (record { place = Some (folder, name); item = item }))
+IsMember t folder name id = (item : Node) × (get t.nodes id ≡ Some (record { parent_and_key = Some (folder, name); item = item }))
 
 -- a member that is there, or there is none
 abbrev pub FindsMember : FileTree → ℕ → Segment → Result ℕ FsError → Type 0

@@ -1,6 +1,6 @@
 //! Writes of the links between nodes.
 ghost use Rattle.std.specs.Prelude.{◌≡◌, ℕ, Some, OnOk, OnErr, IfErr};
-ghost use Rattle.dav_path_core.specs.View.{node_at, first_in, after_in, before_in, new_node, with_node, with_first, with_after, with_before, put_first, put_below, hung, closed_up};
+ghost use Rattle.dav_path_core.specs.View.{node_at, first_in, next_in, previous_in, new_node, with_node, with_first, with_next, with_previous, put_before, with_parent_and_key, with_parent, closed_up};
 
 use super::Node;
 use crate::errors::{FsError, FsResult};
@@ -14,7 +14,7 @@ pub(super) fn put_new<K: Drop, D: Drop>(
     key: K,
     item: D,
 ) -> FsResult<()>
-    ensures ok { OnOk result (node_at nodes.new.entries ≡ put_first (with_node (node_at nodes.old.entries) id (Some (new_node parent key item (first_in (node_at nodes.old.entries) parent))))
+    ensures ok { OnOk result (node_at nodes.new.entries ≡ put_before (with_node (node_at nodes.old.entries) id (Some (new_node parent key item (first_in (node_at nodes.old.entries) parent))))
         parent id (first_in (node_at nodes.old.entries) parent)) }
     ensures err { OnErr result (nodes.new.entries ≡ nodes.old.entries) }
     ensures error { IfErr result (λ e. e ≡ FsError.InsufficientStorage) }
@@ -22,7 +22,7 @@ pub(super) fn put_new<K: Drop, D: Drop>(
     let first = first_of(nodes, parent);
     let node = Node {
         item,
-        place: Some((parent, key)),
+        parent_and_key: Some((parent, key)),
         first_child: None,
         next_sibling: first,
         previous_sibling: None,
@@ -67,7 +67,7 @@ fn set_first<K, D>(nodes: &mut BTreeMap<u64, Node<K, D>>, id: u64, to: Option<u6
 }
 
 fn set_next<K, D>(nodes: &mut BTreeMap<u64, Node<K, D>>, id: u64, to: Option<u64>)
-    ensures { node_at nodes.new.entries ≡ with_after (node_at nodes.old.entries) id to }
+    ensures { node_at nodes.new.entries ≡ with_next (node_at nodes.old.entries) id to }
 {
     if let Some(node) = nodes.get_mut(&id) {
         node.next_sibling = to;
@@ -75,7 +75,7 @@ fn set_next<K, D>(nodes: &mut BTreeMap<u64, Node<K, D>>, id: u64, to: Option<u64
 }
 
 fn set_previous<K, D>(nodes: &mut BTreeMap<u64, Node<K, D>>, id: u64, to: Option<u64>)
-    ensures { node_at nodes.new.entries ≡ with_before (node_at nodes.old.entries) id to }
+    ensures { node_at nodes.new.entries ≡ with_previous (node_at nodes.old.entries) id to }
 {
     if let Some(node) = nodes.get_mut(&id) {
         node.previous_sibling = to;
@@ -89,7 +89,7 @@ pub(super) fn put_before<K, D>(
     id: u64,
     first: Option<u64>,
 )
-    ensures { node_at nodes.new.entries ≡ put_first (node_at nodes.old.entries) parent id first }
+    ensures { node_at nodes.new.entries ≡ put_before (node_at nodes.old.entries) parent id first }
 {
     set_first(nodes, parent, Some(id));
     if let Some(old) = first {
@@ -115,18 +115,18 @@ pub(super) fn close_up<K, D>(
     }
 }
 
-/// Gives a node its place below `parent`, before the sibling `first`.
-pub(super) fn set_place<K: Drop, D>(
+/// Gives a node a parent and a key there, before the sibling `first`.
+pub(super) fn set_parent_and_key<K: Drop, D>(
     nodes: &mut BTreeMap<u64, Node<K, D>>,
     id: u64,
     parent: u64,
     key: K,
     first: Option<u64>,
 )
-    ensures { node_at nodes.new.entries ≡ put_below (node_at nodes.old.entries) id parent key first }
+    ensures { node_at nodes.new.entries ≡ with_parent_and_key (node_at nodes.old.entries) id parent key first }
 {
     if let Some(node) = nodes.get_mut(&id) {
-        node.place = Some((parent, key));
+        node.parent_and_key = Some((parent, key));
         node.next_sibling = first;
         node.previous_sibling = None;
     }
@@ -134,8 +134,8 @@ pub(super) fn set_place<K: Drop, D>(
 
 /// Hangs a child of `above` below another node, first there, under the key that it has.
 pub(super) fn hang<K, D>(nodes: &mut BTreeMap<u64, Node<K, D>>, id: u64, above: u64, parent: u64)
-    ensures { (x : Node K D) (r : ℕ) (k : K) → Some x ≡ node_at nodes.old.entries id → x.place ≡ Some (r, k)
-        → node_at nodes.new.entries ≡ put_first (put_below (closed_up (node_at nodes.old.entries) above x.previous_sibling x.next_sibling) id parent k
+    ensures { (x : Node K D) (r : ℕ) (k : K) → Some x ≡ node_at nodes.old.entries id → x.parent_and_key ≡ Some (r, k)
+        → node_at nodes.new.entries ≡ put_before (with_parent_and_key (closed_up (node_at nodes.old.entries) above x.previous_sibling x.next_sibling) id parent k
         (first_in (closed_up (node_at nodes.old.entries) above x.previous_sibling x.next_sibling) parent)) parent id
         (first_in (closed_up (node_at nodes.old.entries) above x.previous_sibling x.next_sibling) parent) }
 {
@@ -147,7 +147,7 @@ pub(super) fn hang<K, D>(nodes: &mut BTreeMap<u64, Node<K, D>>, id: u64, above: 
 }
 
 fn neighbours<K, D>(nodes: &BTreeMap<u64, Node<K, D>>, id: u64) -> (Option<u64>, Option<u64>)
-    ensures { result ≡ (before_in (node_at nodes.now.entries) id, after_in (node_at nodes.now.entries) id) }
+    ensures { result ≡ (previous_in (node_at nodes.now.entries) id, next_in (node_at nodes.now.entries) id) }
 {
     match nodes.get(&id) {
         Some(node) => (node.previous_sibling, node.next_sibling),
@@ -156,11 +156,11 @@ fn neighbours<K, D>(nodes: &BTreeMap<u64, Node<K, D>>, id: u64) -> (Option<u64>,
 }
 
 fn set_parent<K, D>(nodes: &mut BTreeMap<u64, Node<K, D>>, id: u64, parent: u64, first: Option<u64>)
-    ensures { node_at nodes.new.entries ≡ hung (node_at nodes.old.entries) id parent first }
+    ensures { node_at nodes.new.entries ≡ with_parent (node_at nodes.old.entries) id parent first }
 {
     if let Some(node) = nodes.get_mut(&id) {
-        if let Some(place) = &mut node.place {
-            place.0 = parent;
+        if let Some(above) = &mut node.parent_and_key {
+            above.0 = parent;
         }
         node.next_sibling = first;
         node.previous_sibling = None;

@@ -1,7 +1,7 @@
 //! The children of a node, with their keys.
 ghost use Rattle.std.specs.Prelude.{◌≡◌, None, true, IfOk, IfErr};
 ghost use Rattle.dav_path_core.specs.Keyed.{entry, IsKnown};
-ghost use Rattle.dav_path_core.specs.Held.{IsHeld};
+ghost use Rattle.dav_path_core.specs.TreeValue.{IsTreeValue};
 ghost use Rattle.dav_path_core.specs.Children.{ListsChildren};
 
 use super::Tree;
@@ -47,7 +47,7 @@ impl<K: Eq + Hash + Clone, D> Tree<K, D> {
         ensures children { IfOk result (ListsChildren K.eq self.now parent) }
         ensures unknown { entry self.now.keyed parent ≡ None → result ≡ Err FsError.NotFound }
         ensures known { IsKnown self.now.keyed parent → IfErr result (λ e. e ≡ FsError.InsufficientStorage) }
-        ensures shape { IsHeld K.eq self.now }
+        ensures shape { IsTreeValue K.eq self.now }
     {
         let Some(top) = self.nodes.get(&parent) else {
             return Err(FsError::NotFound);

@@ -1,12 +1,12 @@
 use Rattle.std.proofs.Common.{◌≡◌, refl, subst, sym, ap, ◌∙◌, None}
 use Rattle.dav_path_core.specs.Keyed.{child, add, IsKnown}
-use Rattle.dav_path_core.specs.View.{held_of, node_at, first_in, new_node}
+use Rattle.dav_path_core.specs.View.{tree_value_of, node_at, first_in, new_node}
 use Rattle.dav_path_core.proofs.Views.{known-view}
 use Rattle.dav_path_core.proofs.Links.{shape_of, keyed-added, IsLinked-added}
 use Rattle.dav_path_core.proofs.tree.Tree.add_new.Goals as goal
 
 pub returns-in_err-put_new-clause-shape : goal.returns-in_err-put_new-clause-shape
-returns-in_err-put_new-clause-shape g c = shape_of c.self.invariant (ap (λ es. held_of es c.self.inside.next) (sym c.in_err-put_new.ensures.err))
+returns-in_err-put_new-clause-shape g c = shape_of c.self.invariant (ap (λ es. tree_value_of es c.self.inside.next) (sym c.in_err-put_new.ensures.err))
 
 pub invariant_of-self-2 : goal.invariant_of-self-2
 invariant_of-self-2 g c =

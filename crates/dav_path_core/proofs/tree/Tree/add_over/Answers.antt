@@ -1,11 +1,11 @@
 use Rattle.std.proofs.Common.{refl, sym, ap, ◌∙◌}
-use Rattle.dav_path_core.specs.View.{held_of}
+use Rattle.dav_path_core.specs.View.{tree_value_of}
 use Rattle.dav_path_core.proofs.Links.{shape_of}
 use Rattle.dav_path_core.proofs.Hanging.{IsLinked-over, known-over, over_not_root, keyed-over}
 use Rattle.dav_path_core.proofs.tree.Tree.add_over.Goals as goal
 
 pub returns-in_err-put_new-clause-shape : goal.returns-in_err-put_new-clause-shape
-returns-in_err-put_new-clause-shape g c = shape_of c.self.invariant (ap (λ es. held_of es c.self.inside.next) (sym c.in_err-put_new.ensures.err))
+returns-in_err-put_new-clause-shape g c = shape_of c.self.invariant (ap (λ es. tree_value_of es c.self.inside.next) (sym c.in_err-put_new.ensures.err))
 
 pub invariant_of-self-2 : goal.invariant_of-self-2
 invariant_of-self-2 g c =

@@ -5,7 +5,7 @@ use Rattle.std.proofs.lemmas.Bool.{false≢true}
 use Rattle.dav_path_core.specs.declared.errors.FsError.TheVariants.{NotFound}
 use Rattle.dav_path_core.specs.Keyed.{entry}
 use Rattle.dav_path_core.proofs.Trees.{same_some}
-use Rattle.dav_path_core.specs.Held.{IsHeld}
+use Rattle.dav_path_core.specs.TreeValue.{IsTreeValue}
 use Rattle.dav_path_core.specs.View.{entry_of}
 use Rattle.dav_path_core.proofs.Views.{entry-view}
 use Rattle.dav_path_core.proofs.Links.{first-told, shape_of}
@@ -14,14 +14,14 @@ use Rattle.dav_path_core.proofs.tree.Tree.find_child.Goals as goal
 
 pub returns-in_default-clause-none : goal.returns-in_default-clause-none
 returns-in_default-clause-none g c =
-    let held : IsHeld g.K.PartialEq.eq c.args.self.now = shape_of c.self.invariant c.self.view_is in
+    let shape : IsTreeValue g.K.PartialEq.eq c.args.self.now = shape_of c.self.invariant c.self.view_is in
     let gone : entry c.args.self.now.keyed c.args.parent ≡ None = ap (λ t. entry t.keyed c.args.parent) (sym c.self.view_is) ∙ entry-view c.self.inside.nodes.entries c.self.inside.next c.args.parent None c.in_default.ensures.value in
-    λ n k e. absurd (false≢true (ap is_some (sym gone) ∙ parent_known g.K.PartialEq.eq c.args.self.now.keyed held.tree n c.args.parent (ap (option_map (λ q. q.0)) e)))
+    λ n k e. absurd (false≢true (ap is_some (sym gone) ∙ parent_known g.K.PartialEq.eq c.args.self.now.keyed shape.tree n c.args.parent (ap (option_map (λ q. q.0)) e)))
 
 pub returns-in_default-clause-by_test : goal.returns-in_default-clause-by_test
 returns-in_default-clause-by_test g c =
-    let held : IsHeld g.K.PartialEq.eq c.args.self.now = shape_of c.self.invariant c.self.view_is in
-    λ test one pure. search-none g.K.PartialEq.eq c.args.self.now.keyed c.args.parent held.tree (λ k b. FnReturnsAt g.F.Fn c.args.same k b) NotFound test one pure (returns-in_default-clause-none g c)
+    let shape : IsTreeValue g.K.PartialEq.eq c.args.self.now = shape_of c.self.invariant c.self.view_is in
+    λ test one pure. search-none g.K.PartialEq.eq c.args.self.now.keyed c.args.parent shape.tree (λ k b. FnReturnsAt g.F.Fn c.args.same k b) NotFound test one pure (returns-in_default-clause-none g c)
 
 pub returns-in_default-clause-shape : goal.returns-in_default-clause-shape
 returns-in_default-clause-shape g c = shape_of c.self.invariant c.self.view_is

@@ -1,5 +1,5 @@
 use Rattle.std.proofs.Common.{ap, is_some, map, [], ◌∷◌, ◌++◌, sym, subst, Some}
-use Rattle.dav_path_core.specs.Held.{IsHeld}
+use Rattle.dav_path_core.specs.TreeValue.{IsTreeValue}
 use Rattle.dav_path_core.specs.Children.{ListsChildren}
 use Rattle.dav_path_core.proofs.Links.{first-told, shape_of}
 use Rattle.dav_path_core.proofs.Walks.{walk_here, smaller}
@@ -14,11 +14,11 @@ returns-in_default-clause-shape g c = shape_of c.self.invariant c.self.view_is
 
 pub loop-at-init : goal.loop-at-init
 loop-at-init g c =
-    let held : IsHeld g.K.PartialEq.eq c.args.self.now = shape_of c.self.invariant c.self.view_is in
+    let shape : IsTreeValue g.K.PartialEq.eq c.args.self.now = shape_of c.self.invariant c.self.view_is in
     subst (Gathered g.K.PartialEq.eq c.args.self.now c.args.parent c.in-Some.top.now.first_child) (sym c.new-pairs.ensures.items)
     (subst (λ o. Gathered g.K.PartialEq.eq c.args.self.now c.args.parent o _)
     (first-told c.self.inside.nodes.entries c.self.inside.next c.args.self.now c.self.view_is c.args.parent c.in-Some.top.now c.in-Some.ensures.value)
-    (gather_start g.K.PartialEq.eq c.args.self.now c.args.parent held
+    (gather_start g.K.PartialEq.eq c.args.self.now c.args.parent shape
     (known_there c.self.inside.nodes.entries c.self.inside.next c.args.self.now c.self.view_is c.args.parent c.in-Some.top.now c.in-Some.ensures.value)))
 
 pub returns-in_err-clone-clause-unknown : goal.returns-in_err-clone-clause-unknown

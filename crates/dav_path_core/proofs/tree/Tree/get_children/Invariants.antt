@@ -1,4 +1,4 @@
-use Rattle.dav_path_core.specs.Held.{after}
+use Rattle.dav_path_core.specs.TreeValue.{after}
 use Rattle.dav_path_core.proofs.Walks.{left}
 use Rattle.dav_path_core.proofs.Listings.{Gathered}
 use Rattle.dav_path_core.proofs.tree.Tree.get_children.Given as goal

@@ -1,9 +1,9 @@
 use Rattle.std.proofs.Common.{◌≡◌, subst, sym, ap, ◌∙◌, refl, Some, None, inl, inr, ◌⊎◌}
 use Rattle.std.specs.Option.{option_map}
 use Rattle.dav_path_core.specs.Keyed.{item, entry, with_item, with_item_at}
-use Rattle.dav_path_core.specs.Held.{Held, IsHeld}
-use Rattle.dav_path_core.specs.View.{held_of}
-use Rattle.dav_path_core.proofs.Views.{held-write, entry-view}
+use Rattle.dav_path_core.specs.TreeValue.{TreeValue, IsTreeValue}
+use Rattle.dav_path_core.specs.View.{tree_value_of}
+use Rattle.dav_path_core.proofs.Views.{tree_value-write, entry-view}
 use Rattle.dav_path_core.proofs.Links.{IsLinked-write, shape_of}
 use Rattle.dav_path_core.proofs.tree.Tree.get_node_mut.Goals as goal
 
@@ -17,9 +17,9 @@ invariant_of-self-lent g c =
 
 pub returns-in-Some : goal.returns-in-Some
 returns-in-Some g c =
-    let set : Held g.row.K.Denot g.row.D.Denot → g.row.D.Denot → Held g.row.K.Denot g.row.D.Denot = λ t w. record t { keyed = with_item t.keyed c.args.id w } in
-    let written : (w : g.row.D.Denot) → held_of (c.get_mut.follows.lender (record c.in-Some.node.now { item = w })).entries c.self.inside.next ≡ set c.args.self.now w =
-    λ w. held-write c.self.inside.nodes (c.get_mut.follows.lender (record c.in-Some.node.now { item = w })) c.self.inside.next c.args.id c.in-Some.node.now w c.in-Some.ensures.value
+    let set : TreeValue g.row.K.Denot g.row.D.Denot → g.row.D.Denot → TreeValue g.row.K.Denot g.row.D.Denot = λ t w. record t { keyed = with_item t.keyed c.args.id w } in
+    let written : (w : g.row.D.Denot) → tree_value_of (c.get_mut.follows.lender (record c.in-Some.node.now { item = w })).entries c.self.inside.next ≡ set c.args.self.now w =
+    λ w. tree_value-write c.self.inside.nodes (c.get_mut.follows.lender (record c.in-Some.node.now { item = w })) c.self.inside.next c.args.id c.in-Some.node.now w c.in-Some.ensures.value
     (c.get_mut.follows.holds (record c.in-Some.node.now { item = w })) ∙ ap (λ t. set t w) c.self.view_is in (
       lent written,
       record {
@@ -34,7 +34,7 @@ returns-in-Some g c =
 
 pub returns-in-None : goal.returns-in-None
 returns-in-None g c = (
-  ap inr (ap (λ m. held_of m.entries c.self.inside.next) c.get_mut.follows.holds-at-none ∙ c.self.view_is),
+  ap inr (ap (λ m. tree_value_of m.entries c.self.inside.next) c.get_mut.follows.holds-at-none ∙ c.self.view_is),
   record {
     writes_back = tt;
     value = (
@@ -45,6 +45,6 @@ returns-in-None g c = (
     shape = shape_of c.self.invariant c.self.view_is;
     shape_after = λ w.
         let gone : entry c.args.self.now.keyed c.args.id ≡ None = ap (λ t. entry t.keyed c.args.id) (sym c.self.view_is) ∙ entry-view c.self.inside.nodes.entries c.self.inside.next c.args.id None c.in-None.ensures.value in
-        subst (λ o. IsHeld g.K.PartialEq.eq (record c.args.self.now { keyed = with_item_at c.args.self.now.keyed c.args.id o w })) (sym gone) (shape_of c.self.invariant c.self.view_is);
+        subst (λ o. IsTreeValue g.K.PartialEq.eq (record c.args.self.now { keyed = with_item_at c.args.self.now.keyed c.args.id o w })) (sym gone) (shape_of c.self.invariant c.self.view_is);
   },
 )

@@ -1,7 +1,7 @@
 use Rattle.std.proofs.Common.{ℕ, Option, ap, sym, ◌∙◌, Some}
 use Rattle.std.specs.Option.{ok_or}
 use Rattle.dav_path_core.specs.declared.errors.FsError.TheVariants.{NotFound}
-use Rattle.dav_path_core.specs.Held.{IsHeld, after}
+use Rattle.dav_path_core.specs.TreeValue.{IsTreeValue, after}
 use Rattle.dav_path_core.proofs.Links.{known, tells_none, root_known, after-told, shape_of}
 use Rattle.dav_path_core.proofs.tree.Tree.next_sibling.Goals as goal
 
@@ -23,8 +23,8 @@ returns-in-None-clause-shape g c = shape_of c.self.invariant c.self.view_is
 
 pub returns-in-Some-clause-root : goal.returns-in-Some-clause-root
 returns-in-Some-clause-root g c =
-    let held : IsHeld g.K.PartialEq.eq c.args.self.now = shape_of c.self.invariant c.self.view_is in
-    λ e. ap (λ o. ok_or (Some o) NotFound) (sym (after-told c.self.inside.nodes.entries c.self.inside.next c.args.self.now c.self.view_is c.args.id c.in-Some.node.now c.in-Some.ensures.value) ∙ ap (after c.args.self.now) e ∙ held.root_alone)
+    let shape : IsTreeValue g.K.PartialEq.eq c.args.self.now = shape_of c.self.invariant c.self.view_is in
+    λ e. ap (λ o. ok_or (Some o) NotFound) (sym (after-told c.self.inside.nodes.entries c.self.inside.next c.args.self.now c.self.view_is c.args.id c.in-Some.node.now c.in-Some.ensures.value) ∙ ap (after c.args.self.now) e ∙ shape.root_alone)
 
 pub returns-in-None-clause-root : goal.returns-in-None-clause-root
 returns-in-None-clause-root g c =

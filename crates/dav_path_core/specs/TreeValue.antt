@@ -14,15 +14,15 @@ pub record Links : Type 0 where
   pub first : Option ℕ
   pub after : Option ℕ
 
-pub record Held (K D : Type 0) : Type 0 where
+pub record TreeValue (K D : Type 0) : Type 0 where
   pub keyed : Keyed K D
   pub links : FinMap nat_cmp Links
 
 abbrev pub links_code : Coded Links
 links_code = code_by (Option ℕ × Option ℕ) (coded× (coded_option coded_ℕ) (coded_option coded_ℕ)) (λ l. (l.first, l.after)) (λ p. record { first = p.0; after = p.1 }) (λ _. refl)
 
-abbrev pub held_code : {K D : Type 0} → Coded K → Coded D → Coded (Held K D)
-held_code {K} {D} k d =
+abbrev pub tree_value_code : {K D : Type 0} → Coded K → Coded D → Coded (TreeValue K D)
+tree_value_code {K} {D} k d =
     code_by (Keyed K D × FinMap nat_cmp Links) (coded× (keyed_code k d) (code coded_ℕ links_code)) (λ t. (t.keyed, t.links)) (λ p. record { keyed = p.0; links = p.1 }) (λ _. refl)
 
 abbrev pub links_first : Option Links → Option ℕ
@@ -40,25 +40,25 @@ pub data Siblings (after : ℕ → Option ℕ) : Option ℕ → List ℕ → Typ
 
 module _ {K D : Type 0} where
   -- the first child of a number
-  abbrev pub first : Held K D → ℕ → Option ℕ
+  abbrev pub first : TreeValue K D → ℕ → Option ℕ
   first t p = links_first (get t.links p)
 
   -- the sibling after a number
-  abbrev pub after : Held K D → ℕ → Option ℕ
+  abbrev pub after : TreeValue K D → ℕ → Option ℕ
   after t n = links_after (get t.links n)
 
   -- a fact of a number, for a known one only
-  abbrev pub if_known : {X : Type 0} → Held K D → ℕ → X → Option X
+  abbrev pub if_known : {X : Type 0} → TreeValue K D → ℕ → X → Option X
   if_known t n x = option_map (λ _. x) (entry t.keyed n)
 
   -- ks are the children of p, each once
-  pub record IsChildList (t : Held K D) (p : ℕ) (ks : List ℕ) : Type 0 where
+  pub record IsChildList (t : TreeValue K D) (p : ℕ) (ks : List ℕ) : Type 0 where
     pub linked : Siblings (after t) (first t p) ks
     pub once : IsDistinct eqb ks
     pub members : (n : ℕ) → (list_any (eqb n) ks ≡ true) ↔ (parent t.keyed n ≡ Some p)
 
   -- what every tree keeps
-  pub record IsHeld (eq : K → K → Bool) (t : Held K D) : Type 0 where
+  pub record IsTreeValue (eq : K → K → Bool) (t : TreeValue K D) : Type 0 where
     pub tree : IsTree eq t.keyed
     pub listed : (p : ℕ) → IsKnown t.keyed p → (ks : List ℕ) × IsChildList t p ks
     pub root_alone : after t 1 ≡ None

@@ -8,9 +8,9 @@ use Rattle.dav_files_core.specs.Private.Represents.{FileEntry, FileTree, PlaceFi
 use Rattle.dav_files_core.specs.Resources.{Node, Resource, ResourceMap, at_path, IsResourceMap}
 use Rattle.dav_path_core.specs.Fronts.{Segment, Path}
 use Rattle.dav_path_core.specs.Keyed.{add}
-use Rattle.dav_path_core.proofs.Orders.{path_total, path_exact}
-use Rattle.dav_path_core.proofs.FinMaps.{none_some, get_same, get_other, inserted}
-use Rattle.dav_path_core.proofs.Snoc.{snoc_front}
+use Rattle.dav_path_core.proofs.lists.Orders.{path_total, path_exact}
+use Rattle.dav_path_core.proofs.lists.FinMaps.{none_some, get_same, get_other, inserted}
+use Rattle.dav_path_core.proofs.lists.Snoc.{snoc_front}
 
 -- each entry of the first map has its number at the same path of the second
 abbrev pub KeepsNumbers : ResourceMap → ResourceMap → Type 0

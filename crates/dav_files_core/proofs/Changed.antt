@@ -8,8 +8,8 @@ use Rattle.dav_files_core.specs.Private.Represents.{FileEntry, FileTree, PlaceFi
 use Rattle.dav_files_core.specs.Resources.{Node, Resource, ResourceMap, at_path, IsResourceMap}
 use Rattle.dav_path_core.specs.Fronts.{Path}
 use Rattle.dav_path_core.specs.Keyed.{with_item_at}
-use Rattle.dav_path_core.proofs.Orders.{path_total, path_exact}
-use Rattle.dav_path_core.proofs.FinMaps.{one_some, get_same, get_other, inserted, dec}
+use Rattle.dav_path_core.proofs.lists.Orders.{path_total, path_exact}
+use Rattle.dav_path_core.proofs.lists.FinMaps.{one_some, get_same, get_other, inserted, dec}
 use Rattle.dav_files_core.proofs.Added.{KeepsNumbers, fits_kept}
 
 module _ (m : ResourceMap) (is_map : IsResourceMap m) (p : Path) (r : Resource) (new : Node)

@@ -7,8 +7,8 @@ use Rattle.dav_files_core.specs.declared.memfs.Kind.TheVariants.{Folder, File}
 use Rattle.dav_files_core.specs.Finding.{find, first_found, refusal_at, refusal_below}
 use Rattle.dav_files_core.specs.Resources.{Resource, ResourceMap, at_path, IsResourceMap}
 use Rattle.dav_path_core.specs.Fronts.{Segment, Path, shorter_fronts}
-use Rattle.dav_path_core.proofs.FinMaps.{none_some, one_some}
-use Rattle.dav_path_core.proofs.Snoc.{by_last}
+use Rattle.dav_path_core.proofs.lists.FinMaps.{none_some, one_some}
+use Rattle.dav_path_core.proofs.lists.Snoc.{by_last}
 
 -- what stands above an entry is there
 front_there : (m : ResourceMap) → IsResourceMap m → (p s : Path) (r : Resource) → at_path m (p ++ s) ≡ Some r → (q : Resource) × (at_path m p ≡ Some q)

@@ -8,8 +8,8 @@ use Rattle.std.specs.FinMap.Entries.{same_entries, below_all}
 use Rattle.dav_path_core.specs.Fronts.{Segment, Path, path_cmp, segment_cmp, name_below}
 use Rattle.dav_files_core.specs.Resources.{Resource, ResourceMap, at_path}
 use Rattle.dav_files_core.specs.Finding.{members, member_of, place}
-use Rattle.dav_path_core.proofs.Orders.{path_total, path_exact, segment_total, segment_exact, eq_by_cmp_same, eq_by_cmp_true}
-use Rattle.dav_path_core.proofs.FinMaps.{none_some, one_some, dec, test_false}
+use Rattle.dav_path_core.proofs.lists.Orders.{path_total, path_exact, segment_total, segment_exact, eq_by_cmp_same, eq_by_cmp_true}
+use Rattle.dav_path_core.proofs.lists.FinMaps.{none_some, one_some, dec, test_false}
 
 pub name_is : (p q : Path) (s : Segment) → name_below p q ≡ Some s → q ≡ p ++ (s ∷ [])
 name_is [] [] s h = absurd (cc)

@@ -3,8 +3,8 @@ use Rattle.std.proofs.Common.{◌≡◌, ◌⊎◌, inl, inr, ℕ, false, is_som
 use Rattle.dav_path_core.specs.declared.errors.FsError.{FsError}
 use Rattle.dav_path_core.specs.declared.errors.FsError.TheVariants.{Forbidden}
 use Rattle.dav_path_core.specs.Fronts.{Segment, Path, parent}
-use Rattle.dav_path_core.proofs.Orders.{path_total, path_exact}
-use Rattle.dav_path_core.proofs.FinMaps.{get_same, get_other, dec}
+use Rattle.dav_path_core.proofs.lists.Orders.{path_total, path_exact}
+use Rattle.dav_path_core.proofs.lists.FinMaps.{get_same, get_other, dec}
 use Rattle.dav_files_core.specs.declared.memfs.Kind.{Kind}
 use Rattle.dav_files_core.specs.declared.memfs.Kind.TheVariants.{Folder, File}
 use Rattle.dav_files_core.specs.Resources.{Node, Resource, ResourceMap, at_path}

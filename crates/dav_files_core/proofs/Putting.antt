@@ -11,7 +11,7 @@ use Rattle.dav_files_core.specs.Outcomes.{◌>>=◌, find_folder, only_folder, a
 use Rattle.dav_files_core.specs.Resources.{Resource, ResourceMap, at_path, IsResourceMap}
 use Rattle.dav_files_core.specs.Private.TreeCalls.{number_of}
 use Rattle.dav_path_core.specs.Fronts.{Segment, Path, parent}
-use Rattle.dav_path_core.proofs.FinMaps.{none_some, one_some}
+use Rattle.dav_path_core.proofs.lists.FinMaps.{none_some, one_some}
 
 pub parent-snoc : (p : Path) (s : Segment) → parent (p ++ (s ∷ [])) ≡ p
 parent-snoc [] s = refl

@@ -8,11 +8,11 @@ use Rattle.std.specs.FinMap.{FinMap, nat_cmp-IsAntisymmetric, entries, get, remo
 use Rattle.dav_files_core.specs.Private.Represents.{FileEntry, FileTree, PlaceFits, Shown, Represents, path_of, entry_of, resource_map}
 use Rattle.dav_files_core.specs.Resources.{Resource, ResourceMap, at_path}
 use Rattle.dav_path_core.specs.Fronts.{Segment, Path, path_cmp}
-use Rattle.dav_path_core.proofs.Orders.{path_total, path_exact, eq_by_cmp_same}
-use Rattle.dav_path_core.proofs.FinMaps.{none_some, dec, test_false, get_left}
-use Rattle.dav_path_core.proofs.Snoc.{by_last}
+use Rattle.dav_path_core.proofs.lists.Orders.{path_total, path_exact, eq_by_cmp_same}
+use Rattle.dav_path_core.proofs.lists.FinMaps.{none_some, dec, test_false, get_left}
+use Rattle.dav_path_core.proofs.lists.Snoc.{by_last}
 use Rattle.dav_files_core.proofs.Walk.{entry_of_node}
-use Rattle.dav_path_core.proofs.Every.{Every, Every-map, get_each, not_empty, one_fewer}
+use Rattle.dav_path_core.proofs.lists.Every.{Every, Every-map, get_each, not_empty, one_fewer}
 
 no_segments : (p : Path) → length p ≤ 0 → p ≡ []
 no_segments [] h = refl

@@ -6,7 +6,7 @@ use Rattle.std.specs.declared.cmp.Ordering.{Ordering}
 use Rattle.std.specs.FinMap.{FinMap, entries, get, insert, empty, get-empty, get-insert, entries-insert, put as put_in, len-empty, len-entries, keys}
 use Rattle.dav_path_core.specs.declared.errors.FsError.TheVariants.{NotFound, Forbidden}
 use Rattle.dav_path_core.specs.Fronts.{Segment, Path, segment_cmp, path_cmp, parent}
-use Rattle.dav_path_core.proofs.Orders.{segment_total, path_total}
+use Rattle.dav_path_core.proofs.lists.Orders.{segment_total, path_total}
 use Rattle.dav_files_core.specs.Resources.{Resource}
 use Rattle.dav_files_core.specs.Finding.{find, members, place}
 use Rattle.dav_files_core.specs.Outcomes.{Outcome, ◌>>=◌, start, new_file, new_folder}

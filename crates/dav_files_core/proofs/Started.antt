@@ -8,9 +8,9 @@ use Rattle.dav_files_core.specs.Private.Represents.{FileEntry, FileTree, Shown, 
 use Rattle.dav_files_core.specs.Resources.{Node, Resource, at_path, IsResourceMap}
 use Rattle.dav_path_core.specs.Fronts.{Path, path_cmp}
 use Rattle.dav_path_core.specs.Keyed.{lone}
-use Rattle.dav_path_core.proofs.Orders.{path_total, path_exact}
-use Rattle.dav_path_core.proofs.FinMaps.{none_some, get_same, inserted}
-use Rattle.dav_path_core.proofs.Snoc.{snoc_not_empty}
+use Rattle.dav_path_core.proofs.lists.Orders.{path_total, path_exact}
+use Rattle.dav_path_core.proofs.lists.FinMaps.{none_some, get_same, inserted}
+use Rattle.dav_path_core.proofs.lists.Snoc.{snoc_not_empty}
 
 module _ (now : ℕ) where
   abbrev root_entry : Resource

@@ -8,7 +8,7 @@ use Rattle.dav_files_core.specs.Resources.{Node, Resource, ResourceMap, at_path}
 use Rattle.dav_files_core.specs.Private.TreeCalls.{IsMember, WritesFile}
 use Rattle.dav_path_core.specs.Fronts.{Segment, Path}
 use Rattle.dav_path_core.specs.Keyed.{add, with_item_at}
-use Rattle.dav_path_core.proofs.FinMaps.{none_some, one_some}
+use Rattle.dav_path_core.proofs.lists.FinMaps.{none_some, one_some}
 use Rattle.dav_files_core.proofs.Walk.{child_at}
 use Rattle.dav_files_core.proofs.Added.{Represents-added}
 use Rattle.dav_files_core.proofs.Changed.{Represents-changed}

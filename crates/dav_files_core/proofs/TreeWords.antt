@@ -13,7 +13,7 @@ use Rattle.dav_path_core.specs.Answers.{Answers}
 use Rattle.dav_path_core.specs.Keyed.{entry, item, parent_and_key, parent_and_key_of, child, add, add_refusal, cleared, with_item, with_item_at}
 use Rattle.dav_path_core.specs.TreeValue.{TreeValue}
 use Rattle.dav_path_core.specs.Fronts.{Segment}
-use Rattle.dav_path_core.proofs.Trees.{child-some, child-none, same_some, none≢some, refusal-none, cleared-free}
+use Rattle.dav_path_core.proofs.trees.Trees.{child-some, child-none, same_some, none≢some, refusal-none, cleared-free}
 
 module _ (t : FileTree) where
   -- a place, as an entry

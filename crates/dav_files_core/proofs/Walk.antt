@@ -4,8 +4,8 @@ use Rattle.std.specs.FinMap.{get}
 use Rattle.dav_files_core.specs.Private.Represents.{FileEntry, FileTree, PlaceFits, Shown, Represents}
 use Rattle.dav_files_core.specs.Resources.{Node, Resource, ResourceMap, at_path}
 use Rattle.dav_path_core.specs.Fronts.{Segment, Path}
-use Rattle.dav_path_core.proofs.FinMaps.{one_some}
-use Rattle.dav_path_core.proofs.Snoc.{snoc_not_empty, snoc_front, snoc_last}
+use Rattle.dav_path_core.proofs.lists.FinMaps.{one_some}
+use Rattle.dav_path_core.proofs.lists.Snoc.{snoc_not_empty, snoc_front, snoc_last}
 
 module _ (t : FileTree) (m : ResourceMap) where
   same_node : (id : ℕ) (n : FileEntry) (p : Path) (r : Resource) (placed : FileEntry) → get t.nodes id ≡ Some n → at_path m p ≡ Some r → r.number ≡ id

@@ -13,7 +13,7 @@ use Rattle.dav_files_core.specs.Private.Represents.{FileEntry, FileTree, Shown, 
 use Rattle.dav_files_core.specs.Resources.{Node, Resource, ResourceMap, at_path}
 use Rattle.dav_files_core.specs.Private.TreeCalls.{number_of, IsMember}
 use Rattle.dav_path_core.specs.Fronts.{Path}
-use Rattle.dav_path_core.proofs.FinMaps.{none_some, one_some}
+use Rattle.dav_path_core.proofs.lists.FinMaps.{none_some, one_some}
 use Rattle.dav_files_core.proofs.Walk.{child_at, node_below}
 use Rattle.dav_files_core.proofs.Found.{find_stuck, file_stuck}
 

@@ -2,7 +2,7 @@
 use Rattle.std.proofs.Common.{◌≡◌, ◌⊎◌, inl, inr, Bool, true, false, not, ◌&&◌, ◌||◌, List, [], sym, ◌∙◌, ap, subst}
 use Rattle.std.proofs.lemmas.Bool.{and_parts, and_from, and_cases, or_cases, or_parts, or_left, cases_Bool, false≢true, not-false}
 use Rattle.dav_path_core.specs.Fronts.{Path, is_front, is_same_path}
-use Rattle.dav_path_core.proofs.FrontLemmas.{is_same_path-same, is_front-refl}
+use Rattle.dav_path_core.proofs.paths.FrontLemmas.{is_same_path-same, is_front-refl}
 use Rattle.dav_locks_core.specs.Lock.{Lock}
 use Rattle.dav_locks_core.specs.Locks.{Caller, lock_path, reaches, covers, held, any_held, is_at_or_below, refuses_change, check_conflicts}
 use Rattle.dav_locks_core.proofs.Exclusivity.{two_reach}

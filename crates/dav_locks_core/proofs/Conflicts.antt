@@ -6,7 +6,7 @@ use Rattle.std.proofs.lemmas.Bool.{cases_Bool, cases_lt, true≢false}
 use Rattle.std.proofs.lemmas.List.{get_or-map, length-map}
 use Rattle.std.proofs.lemmas.List.Folds.{list_any_at}
 use Rattle.dav_path_core.specs.Fronts.{Path, is_front, is_same_path}
-use Rattle.dav_path_core.proofs.FrontLemmas.{is_same_path-same, is_front-refl}
+use Rattle.dav_path_core.proofs.paths.FrontLemmas.{is_same_path-same, is_front-refl}
 use Rattle.dav_locks_core.specs.Lock.{Lock}
 use Rattle.dav_locks_core.specs.Locks.{lock_path, covers, height, held, Caller, refuses_lock, refuses_change, any_held, found_here, found}
 use Rattle.dav_locks_core.specs.Private.LockTree.{NumberedLock, LockTree, locks_at, node_at, lookup_lock, locks_of}

@@ -4,7 +4,7 @@ use Rattle.std.specs.Prelude.{filter, remove}
 use Rattle.std.specs.List.{AllByRecursion}
 use Rattle.std.proofs.lemmas.Bool.{and_parts, and_from, or_cases, or_parts, or_right, cases_Bool, false≢true}
 use Rattle.dav_path_core.specs.Fronts.{Path, is_front, is_same_path}
-use Rattle.dav_path_core.proofs.FrontLemmas.{is_same_path-same, fronts_of_one}
+use Rattle.dav_path_core.proofs.paths.FrontLemmas.{is_same_path-same, fronts_of_one}
 use Rattle.dav_locks_core.specs.Lock.{Lock}
 use Rattle.dav_locks_core.specs.Locks.{lock_path, covers, compatible, refuses_lock, lock_conflicts, is_at_or_below}
 use Rattle.dav_locks_core.specs.Exclusive.{Compat, Exclusive}

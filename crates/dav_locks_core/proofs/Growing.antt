@@ -9,7 +9,7 @@ use Rattle.std.specs.Cmp.Lexicographic.{bytes_decides}
 use Rattle.std.proofs.lemmas.Bool.{cases_eq, true≢false}
 use Rattle.dav_path_core.specs.Fronts.{Segment, Path}
 use Rattle.dav_path_core.specs.Keyed.{Entry, entry, item, parent_and_key_of, child, IsKnown, IsTree, add, cleared, with_item, with_item_at}
-use Rattle.dav_path_core.proofs.Trees.{Sets, Sets-insert, child-some, child-none, known_from_child, cleared-free, same_some}
+use Rattle.dav_path_core.proofs.trees.Trees.{Sets, Sets-insert, child-some, child-none, known_from_child, cleared-free, same_some}
 use Rattle.dav_locks_core.specs.Private.LockTree.{NumberedLock, LockTree, is_segment, child_at, node_at, Grown}
 use Rattle.dav_locks_core.proofs.Ways.{child_at-is, child_at-from, is_segment-refl}
 

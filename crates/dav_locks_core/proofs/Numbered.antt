@@ -7,7 +7,7 @@ use Rattle.std.specs.FinMap.{find, is_sorted, nat_cmp-IsAntisymmetric}
 use Rattle.std.specs.FinMap.Entries.{below_all, where_key, find-append, find-where_key, is_sorted-where_key}
 use Rattle.std.specs.declared.cmp.Ordering.TheVariants.{Less, Equal, Greater}
 use Rattle.std.proofs.lemmas.Bool.{cases_eq, eq-eqb, ne_eqb, eqb-true, ltb-true, lt-ltb}
-use Rattle.dav_path_core.proofs.Trees.{find-head, find-here, same_some, none≢some}
+use Rattle.dav_path_core.proofs.trees.Trees.{find-head, find-here, same_some, none≢some}
 
 first : (a b : Bool) → T (a && b) → T a
 first true b p = tt

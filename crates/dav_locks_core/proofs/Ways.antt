@@ -9,9 +9,9 @@ use Rattle.std.proofs.lemmas.Bool.{true≢false, false≢true, cases_lt}
 use Rattle.std.proofs.lemmas.List.{reverse-reverse}
 use Rattle.dav_path_core.specs.Fronts.{Segment, Path, segment_cmp, is_front, is_same_path}
 use Rattle.dav_path_core.specs.Keyed.{IsChild, IsTree}
-use Rattle.dav_path_core.proofs.Trees.{child-some, child-only, same_some, none≢some}
-use Rattle.dav_path_core.proofs.Orders.{segment_total}
-use Rattle.dav_path_core.proofs.FrontLemmas.{name_test, is_front-parts, is_front-cons}
+use Rattle.dav_path_core.proofs.trees.Trees.{child-some, child-only, same_some, none≢some}
+use Rattle.dav_path_core.proofs.lists.Orders.{segment_total}
+use Rattle.dav_path_core.proofs.paths.FrontLemmas.{name_test, is_front-parts, is_front-cons}
 use Rattle.dav_locks_core.specs.Lock.{Lock}
 use Rattle.dav_locks_core.specs.Private.LockTree.{NumberedLock, LockTree, locks_at, is_segment, child_at, node_at, first_at, or_else, with_node, lookup_lock}
 use Rattle.dav_locks_core.proofs.ListPlaces.{position-none, position-first}

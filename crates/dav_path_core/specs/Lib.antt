@@ -1,12 +1,10 @@
 pub mod Answers
-pub mod Chains
 pub mod Children
 pub mod DavErrors
 pub mod EndsAs
 pub mod Errors
 pub mod Fault
 pub mod Fronts
-pub mod Keeping
 pub mod Keyed
 pub mod Lends
 pub mod MethodSets
@@ -16,6 +14,7 @@ pub mod Normal
 pub mod OsErrors
 pub mod PathText
 pub mod Prefix
+pub mod Private
 pub mod Reading
 pub mod Respelling
 pub mod Segments

@@ -1,12 +1,11 @@
 -- What a contract sees of a `Tree`: the keyed tree that it holds, and each node's list of its children, as links between
 -- numbers (own).
-use Rattle.std.specs.Prelude.{◌≡◌, ℕ, ◌↔◌, Bool, true, List, [], ◌∷◌, Option, Some, None, refl}
+use Rattle.std.specs.Prelude.{◌≡◌, ℕ, ◌↔◌, Bool, true, eqb, List, [], ◌∷◌, Option, Some, None, refl}
 use Rattle.std.specs.Ordering.{nat_cmp}
 use Rattle.std.specs.List.{list_any, IsDistinct}
 use Rattle.std.specs.Option.{option_map}
 use Rattle.std.specs.Coded.{Coded, code_by, coded×, coded_ℕ, coded_option}
 use Rattle.std.specs.FinMap.{FinMap, get, code}
-use Rattle.std.proofs.Common.{eqb}
 use Rattle.dav_path_core.specs.Keyed.{Keyed, keyed_code, IsKnown, IsTree, entry, parent}
 
 -- the first child of a node, and the sibling after it

@@ -2,9 +2,7 @@
 use Rattle.std.specs.Prelude.{ℕ, ◌-◌, Bool, ◌&&◌, nat_lt, nat_eq, if◌then◌else◌, List, length, take}
 use Rattle.std.specs.Ordering.{on}
 use Rattle.std.specs.Cmp.{IsEquivalence, IsPartialEquivalence, partial_equiv_from_equiv}
-use Rattle.std.specs.Cmp.Rules.{comparing}
-use Rattle.std.specs.Cmp.Lexicographic.{pointwise}
-use Rattle.std.proofs.Common.{rules}
+use Rattle.std.specs.Cmp.Lexicographic.{pointwise, on_texts_equal}
 use Rattle.dav_path_core.specs.Reading.{ends_in_slash}
 use Rattle.dav_path_core.specs.PathText.{PathText, full}
 
@@ -17,7 +15,7 @@ abbrev pub is_equal : PathText → PathText → Bool
 is_equal = on (λ path. trimmed (full path)) (pointwise nat_eq)
 
 pub is_equal-equiv : IsEquivalence is_equal
-is_equal-equiv = search (comparing, rules) depth 9
+is_equal-equiv = on_texts_equal (λ path. trimmed (full path))
 
 pub is_equal-partial_equiv : IsPartialEquivalence is_equal
 is_equal-partial_equiv = partial_equiv_from_equiv is_equal-equiv

@@ -48,7 +48,8 @@ impl<K: Eq + Hash, D> Model for Tree<K, D> {
 
     ghost coded = { tree_value_code K.code D.code };
 
-    ghost use Rattle.dav_path_core.specs.View.{tree_value_of, IsLinked};
+    ghost use Rattle.dav_path_core.specs.View.{tree_value_of};
+    ghost use Rattle.dav_path_core.specs.Private.Nodes.{IsLinked};
 
     ghost view = { λ a. tree_value_of a.nodes.entries a.next };
 

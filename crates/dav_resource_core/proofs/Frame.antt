@@ -5,7 +5,7 @@ use Rattle.std.specs.List.{list_any}
 use Rattle.std.proofs.lemmas.Bool.{false≢true, or_parts}
 use Rattle.dav_path_core.specs.declared.errors.FsError.{FsError}
 use Rattle.dav_path_core.specs.Fronts.{Path, parent, is_same_path}
-use Rattle.dav_path_core.proofs.FrontLemmas.{is_same_path-refl}
+use Rattle.dav_path_core.proofs.paths.FrontLemmas.{is_same_path-refl}
 use Rattle.dav_files_core.specs.Resources.{ResourceMap}
 use Rattle.dav_files_core.specs.Finding.{place}
 use Rattle.dav_files_core.specs.Outcomes.{Outcome, ◌>>=◌}

@@ -3,7 +3,7 @@ ghost use Rattle.std.specs.Prelude.{◌≡◌, ◌⊎◌, ◌↔◌, map, IsTrue
 ghost use Rattle.percent_encoding.specs.Percent.{percent_decode as decoded_bytes_of};
 ghost use Rattle.dav_path_core.specs.Reading.{is_idle, is_up, IsForeign, IsTarget, raw, path_of, decoded_pieces};
 ghost use Rattle.dav_path_core.specs.Fault.{FirstFault};
-ghost use Rattle.dav_path_core.specs.Keeping.{Takes, Refuses, ComesDown};
+ghost use Rattle.dav_path_core.specs.Private.Keeping.{Takes, Refuses, ComesDown};
 
 use super::ParseError;
 use percent_encoding::percent_decode;

@@ -1,6 +1,6 @@
 //! Writes of the links between nodes.
 ghost use Rattle.std.specs.Prelude.{◌≡◌, ℕ, Some, OnOk, OnErr, IfErr};
-ghost use Rattle.dav_path_core.specs.View.{node_at, first_in, next_in, previous_in, new_node, with_node, with_first, with_next, with_previous, put_before, with_parent_and_key, with_parent, closed_up};
+ghost use Rattle.dav_path_core.specs.Private.Nodes.{node_at, first_in, next_in, previous_in, new_node, with_node, with_first, with_next, with_previous, put_before, with_parent_and_key, with_parent, closed_up};
 
 use super::Node;
 use crate::errors::{FsError, FsResult};

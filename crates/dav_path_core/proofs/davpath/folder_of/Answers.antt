@@ -4,7 +4,7 @@ use Rattle.std.proofs.lemmas.Iterator.{YieldsList-from_take}
 use Rattle.std.proofs.lemmas.Iterator.Consumers.{YieldsList-from_first, YieldsList-turn, YieldsList-end}
 use Rattle.dav_path_core.specs.Segments.{segments}
 use Rattle.dav_path_core.specs.PathText.{folder_bytes}
-use Rattle.dav_path_core.proofs.ParentLemmas.{folder_more}
+use Rattle.dav_path_core.proofs.paths.ParentLemmas.{folder_more}
 use Rattle.dav_path_core.proofs.davpath.folder_of.Goals as goal
 
 pub loop-segment-preserved : goal.loop-segment-preserved

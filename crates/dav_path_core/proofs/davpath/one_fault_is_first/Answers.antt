@@ -1,4 +1,4 @@
-use Rattle.dav_path_core.proofs.Laws.{one_fault}
+use Rattle.dav_path_core.proofs.paths.Laws.{one_fault}
 use Rattle.dav_path_core.proofs.davpath.one_fault_is_first.Goals as goal
 
 pub returns : goal.returns

@@ -13,7 +13,7 @@ use Rattle.dav_files_core.proofs.Walking.{not_file}
 use Rattle.dav_files_core.proofs.Putting.{found_number, put_lost, put_in_file, put_new}
 use Rattle.dav_files_core.proofs.PutAnswers.{not_there, whole, put_folder, put_file}
 use Rattle.dav_files_core.proofs.Stepping.{stands_for, stands_itself, is_view, item_is, lost, child_entry, written, with_file}
-use Rattle.dav_path_core.proofs.FinMaps.{none_some}
+use Rattle.dav_path_core.proofs.lists.FinMaps.{none_some}
 use Rattle.dav_files_core.proofs.memfs.MemFs.put.Goals as goal
 
 refused : (m : ResourceMap) (e : FsError) (r : Result (Unit {0}) FsError) (outcome : Result (Unit {0} × ResourceMap) FsError) → r ≡ Err e → outcome ≡ Err e → AnswersAs (λ (_ : Unit {0}). tt {0}) r outcome m m

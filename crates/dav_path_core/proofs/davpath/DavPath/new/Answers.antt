@@ -3,7 +3,7 @@ use Rattle.std.proofs.lemmas.Result.{err_from_is_err_and}
 use Rattle.dav_path_core.specs.Reading.{decoded_pieces}
 use Rattle.dav_path_core.specs.Fault.{FirstFault}
 use Rattle.dav_path_core.specs.Fault.Fault.{no_target, first}
-use Rattle.dav_path_core.proofs.Laws.{no_path, one_path, read_from}
+use Rattle.dav_path_core.proofs.paths.Laws.{no_path, one_path, read_from}
 use Rattle.dav_path_core.proofs.davpath.DavPath.new.Goals as goal
 
 pub returns-in_err-raw-clause-err : goal.returns-in_err-raw-clause-err

@@ -2,7 +2,7 @@ use Rattle.std.proofs.Common.{◌++◌, take, ap, ◌∙◌, sym, subst, arith}
 use Rattle.std.specs.Str.{IsUtf8}
 use Rattle.dav_path_core.specs.Segments.{segments}
 use Rattle.dav_path_core.specs.PathText.{folder_bytes}
-use Rattle.dav_path_core.proofs.ParentLemmas.{parent_parts, segments-parent}
+use Rattle.dav_path_core.proofs.paths.ParentLemmas.{parent_parts, segments-parent}
 use Rattle.dav_path_core.proofs.davpath.DavPath.parent.Goals as goal
 
 pub invariant_of-result : goal.invariant_of-result

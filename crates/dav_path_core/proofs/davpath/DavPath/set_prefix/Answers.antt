@@ -3,7 +3,7 @@ use Rattle.std.proofs.lemmas.Bool.Decides.{nat_tests}
 use Rattle.std.proofs.lemmas.Bool.Decides.{Decides-eqb}
 use Rattle.std.proofs.lemmas.Result.{err_from_is_err_and}
 use Rattle.std.proofs.lemmas.Slice.Eq.{strip_prefix_is, starts_is}
-use Rattle.dav_path_core.proofs.PrefixLemmas.{mismatch, whole_is, set_cut, begins_cut, utf8_cut, set_whole, set_front, utf8_whole, utf8_front}
+use Rattle.dav_path_core.proofs.paths.PrefixLemmas.{mismatch, whole_is, set_cut, begins_cut, utf8_cut, set_whole, set_front, utf8_whole, utf8_front}
 use Rattle.dav_path_core.proofs.davpath.DavPath.set_prefix.Goals as goal
 use Rattle.dav_path_core.proofs.davpath.DavPath.set_prefix.Goals.{then-is_empty+in_ok-push, else-is_empty+else-not-starts_with}
 

@@ -2,7 +2,7 @@ use Rattle.std.proofs.Common.{rules, tests, not, drop, take_all, length-drop, ar
 use Rattle.std.proofs.lemmas.Iterator.{YieldsList-from_slice}
 use Rattle.std.proofs.lemmas.Iterator.Search.{position_from_yields_List}
 use Rattle.dav_path_core.specs.Segments.{is_slash}
-use Rattle.dav_path_core.proofs.SegmentLemmas.{position_or}
+use Rattle.dav_path_core.proofs.paths.SegmentLemmas.{position_or}
 use Rattle.dav_path_core.proofs.davpath.iter.skip_slashes.Goals as goal
 
 pub returns : goal.returns

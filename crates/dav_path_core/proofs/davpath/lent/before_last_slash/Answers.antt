@@ -2,7 +2,7 @@ use Rattle.std.proofs.Common.{◌≡◌, ◌+◌, ◌-◌, ◌<◌, length, true
 use Rattle.std.proofs.lemmas.Bool.Decides.{nat_tests}
 use Rattle.std.proofs.lemmas.List.Folds.{list_any_at}
 use Rattle.dav_path_core.specs.Segments.{is_slash}
-use Rattle.dav_path_core.proofs.NameLemmas.{NoSlashFrom, before_last_at, no_slash}
+use Rattle.dav_path_core.proofs.paths.NameLemmas.{NoSlashFrom, before_last_at, no_slash}
 use Rattle.dav_path_core.proofs.davpath.lent.before_last_slash.Goals as goal
 
 pub returns-then-bytes-end-eq47 : goal.returns-then-bytes-end-eq47

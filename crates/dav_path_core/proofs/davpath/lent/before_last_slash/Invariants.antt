@@ -1,5 +1,5 @@
 use Rattle.std.proofs.Common.{◌≤◌, length}
-use Rattle.dav_path_core.proofs.NameLemmas.{NoSlashFrom}
+use Rattle.dav_path_core.proofs.paths.NameLemmas.{NoSlashFrom}
 use Rattle.dav_path_core.proofs.davpath.lent.before_last_slash.Given as goal
 
 abbrev pub invariant-loop-end : goal.invariant-loop-end

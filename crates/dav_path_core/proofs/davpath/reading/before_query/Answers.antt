@@ -1,7 +1,7 @@
 use Rattle.std.proofs.Common.{rules, tests, ◌==◌, ap, take}
 use Rattle.std.proofs.lemmas.Iterator.{YieldsList-from_slice}
 use Rattle.std.proofs.lemmas.Iterator.Search.{position_from_yields_List}
-use Rattle.dav_path_core.proofs.SegmentLemmas.{position_or}
+use Rattle.dav_path_core.proofs.paths.SegmentLemmas.{position_or}
 use Rattle.dav_path_core.proofs.davpath.reading.before_query.Goals as goal
 
 pub returns : goal.returns

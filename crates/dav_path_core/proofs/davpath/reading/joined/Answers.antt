@@ -2,7 +2,7 @@ use Rattle.std.proofs.Common.{arith, map, take_all, ◌++◌, ◌∷◌, [], ap,
 use Rattle.std.specs.List.{flat_map}
 use Rattle.std.proofs.lemmas.List.{length-map}
 use Rattle.std.proofs.lemmas.Bool.Decides.{nat_tests}
-use Rattle.dav_path_core.proofs.KeptLemmas.{path_with_slash, path_with_none}
+use Rattle.dav_path_core.proofs.paths.KeptLemmas.{path_with_slash, path_with_none}
 use Rattle.dav_path_core.proofs.davpath.reading.joined.Goals as goal
 use Rattle.dav_path_core.proofs.davpath.reading.joined.Goals.{then-slash+in_ok-push-2, then-slash-via-then-slash, then-slash-via-else-slash+then-is_empty, else-slash+else-is_empty}
 

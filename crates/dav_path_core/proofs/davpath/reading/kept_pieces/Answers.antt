@@ -4,7 +4,7 @@ use Rattle.std.proofs.lemmas.Result.{err_from_is_err_and}
 use Rattle.std.proofs.lemmas.Iterator.Splits.{YieldsList-from_slice_split}
 use Rattle.std.proofs.lemmas.Iterator.Consumers.{YieldsList-turn, YieldsList-end}
 use Rattle.dav_path_core.specs.Segments.{is_slash}
-use Rattle.dav_path_core.proofs.KeptLemmas.{Along-start, Along-turn, Along-refused, Along-done}
+use Rattle.dav_path_core.proofs.paths.KeptLemmas.{Along-start, Along-turn, Along-refused, Along-done}
 use Rattle.dav_path_core.proofs.davpath.reading.kept_pieces.Goals as goal
 
 pub loop-piece-init : goal.loop-piece-init

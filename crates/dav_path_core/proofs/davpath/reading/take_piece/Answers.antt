@@ -1,7 +1,7 @@
 use Rattle.std.proofs.Common.{arith, inr, map, ◌∷◌, [], ap, ◌∙◌, sym}
 use Rattle.std.proofs.lemmas.List.{map-append, drop_all}
-use Rattle.dav_path_core.specs.Keeping.Takes.{up}
-use Rattle.dav_path_core.specs.Keeping.Refuses.{foreign, above}
+use Rattle.dav_path_core.specs.Private.Keeping.Takes.{up}
+use Rattle.dav_path_core.specs.Private.Keeping.Refuses.{foreign, above}
 use Rattle.dav_path_core.proofs.davpath.reading.take_piece.Goals as goal
 
 pub returns-then-is_foreign_piece-clause-err : goal.returns-then-is_foreign_piece-clause-err

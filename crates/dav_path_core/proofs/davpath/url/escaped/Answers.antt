@@ -1,5 +1,5 @@
 use Rattle.std.proofs.Common.{◌∙◌}
-use Rattle.dav_path_core.proofs.UrlLemmas.{url_is}
+use Rattle.dav_path_core.proofs.paths.UrlLemmas.{url_is}
 use Rattle.dav_path_core.proofs.davpath.url.escaped.Goals as goal
 
 pub returns : goal.returns

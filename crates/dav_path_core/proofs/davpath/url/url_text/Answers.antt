@@ -3,8 +3,8 @@ use Rattle.std.proofs.lemmas.List.Elements.{All-from_get_or}
 use Rattle.percent_encoding.proofs.PercentLemmas.{IsByte}
 use Rattle.dav_path_core.specs.Reading.{Read}
 use Rattle.dav_path_core.specs.Url.{url}
-use Rattle.dav_path_core.proofs.ReadLaws.{read_again}
-use Rattle.dav_path_core.proofs.UrlLemmas.{url_once}
+use Rattle.dav_path_core.proofs.paths.ReadLaws.{read_again}
+use Rattle.dav_path_core.proofs.paths.UrlLemmas.{url_once}
 use Rattle.dav_path_core.proofs.davpath.url.url_text.Goals as goal
 
 pub returns-clause-law : goal.returns-clause-law

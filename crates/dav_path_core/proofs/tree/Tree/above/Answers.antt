@@ -1,8 +1,8 @@
 use Rattle.std.proofs.Common.{ap, sym, ◌∙◌, None}
 use Rattle.std.specs.Option.{option_map}
 use Rattle.dav_path_core.specs.Keyed.{parent, parent_and_key_of}
-use Rattle.dav_path_core.proofs.Views.{entry-view}
-use Rattle.dav_path_core.proofs.Links.{parent_and_key-told, shape_of}
+use Rattle.dav_path_core.proofs.children.Views.{entry-view}
+use Rattle.dav_path_core.proofs.children.Links.{parent_and_key-told, shape_of}
 use Rattle.dav_path_core.proofs.tree.Tree.above.Goals as goal
 
 pub returns-in-Some-parent_and_key-clause-parent : goal.returns-in-Some-parent_and_key-clause-parent

@@ -1,6 +1,6 @@
 use Rattle.std.proofs.Common.{◌≡◌, ℕ, Some, IfOk, Result, Ok, Err, sym, subst}
 use Rattle.dav_path_core.specs.Keyed.{IsCut, IsTree, cleared, cleared_at, child}
-use Rattle.dav_path_core.proofs.Cutting.{IsCut-cut}
+use Rattle.dav_path_core.proofs.trees.Cutting.{IsCut-cut}
 use Rattle.dav_path_core.proofs.tree.Tree.add_child.Goals as goal
 
 whenever : {T E P : Type 0} (r : Result T E) → P → IfOk r (λ _. P)

@@ -1,8 +1,9 @@
 use Rattle.std.proofs.Common.{◌≡◌, refl, subst, sym, ap, ◌∙◌, None}
 use Rattle.dav_path_core.specs.Keyed.{child, add, IsKnown}
-use Rattle.dav_path_core.specs.View.{tree_value_of, node_at, first_in, new_node}
-use Rattle.dav_path_core.proofs.Views.{known-view}
-use Rattle.dav_path_core.proofs.Links.{shape_of, keyed-added, IsLinked-added}
+use Rattle.dav_path_core.specs.View.{tree_value_of}
+use Rattle.dav_path_core.specs.Private.Nodes.{node_at, first_in, new_node}
+use Rattle.dav_path_core.proofs.children.Views.{known-view}
+use Rattle.dav_path_core.proofs.children.Links.{shape_of, keyed-added, IsLinked-added}
 use Rattle.dav_path_core.proofs.tree.Tree.add_new.Goals as goal
 
 pub returns-in_err-put_new-clause-shape : goal.returns-in_err-put_new-clause-shape

@@ -1,7 +1,7 @@
 use Rattle.std.proofs.Common.{refl, sym, ap, ◌∙◌}
 use Rattle.dav_path_core.specs.View.{tree_value_of}
-use Rattle.dav_path_core.proofs.Links.{shape_of}
-use Rattle.dav_path_core.proofs.Hanging.{IsLinked-over, known-over, over_not_root, keyed-over}
+use Rattle.dav_path_core.proofs.children.Links.{shape_of}
+use Rattle.dav_path_core.proofs.children.Hanging.{IsLinked-over, known-over, over_not_root, keyed-over}
 use Rattle.dav_path_core.proofs.tree.Tree.add_over.Goals as goal
 
 pub returns-in_err-put_new-clause-shape : goal.returns-in_err-put_new-clause-shape

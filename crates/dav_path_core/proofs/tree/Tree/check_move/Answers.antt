@@ -2,7 +2,7 @@ use Rattle.std.proofs.Common.{◌≡◌, ◌&&◌, ap, sym, ◌∙◌, Some, Non
 use Rattle.std.specs.Option.{ok_or}
 use Rattle.std.specs.Result.{result_ok}
 use Rattle.dav_path_core.specs.Keyed.{entry, is_kept}
-use Rattle.dav_path_core.proofs.Refusals.{move-allowed}
+use Rattle.dav_path_core.proofs.trees.Refusals.{move-allowed}
 use Rattle.dav_path_core.proofs.tree.Tree.check_move.Goals as goal
 
 ok-ok_or : {A E : Type 0} (o : Option A) (e : E) → result_ok (ok_or o e) ≡ o

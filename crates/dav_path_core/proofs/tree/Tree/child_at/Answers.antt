@@ -2,9 +2,9 @@ use Rattle.std.proofs.Common.{◌≡◌, is_some, None, ap, sym, ◌∙◌}
 use Rattle.std.specs.Option.{option_map}
 use Rattle.std.proofs.lemmas.Bool.{false≢true}
 use Rattle.dav_path_core.specs.Keyed.{entry, parent_and_key_of}
-use Rattle.dav_path_core.proofs.Views.{entry-view}
-use Rattle.dav_path_core.proofs.Links.{after-told, parent_and_key-told}
-use Rattle.dav_path_core.proofs.Walks.{child_here}
+use Rattle.dav_path_core.proofs.children.Views.{entry-view}
+use Rattle.dav_path_core.proofs.children.Links.{after-told, parent_and_key-told}
+use Rattle.dav_path_core.proofs.children.Walks.{child_here}
 use Rattle.dav_path_core.proofs.tree.Tree.child_at.Goals as goal
 
 pub unreachable-requires : goal.unreachable-requires

@@ -1,7 +1,7 @@
 use Rattle.std.proofs.Common.{◌<◌, refl, sym, subst}
 use Rattle.dav_path_core.specs.Keyed.{Keyed, here}
-use Rattle.dav_path_core.proofs.Links.{shape_of}
-use Rattle.dav_path_core.proofs.Cutting.{Cutting, going, cutting_known, cutting_next, cutting_ends, leaf_not_root, known_below, fewer}
+use Rattle.dav_path_core.proofs.children.Links.{shape_of}
+use Rattle.dav_path_core.proofs.trees.Cutting.{Cutting, going, cutting_known, cutting_next, cutting_ends, leaf_not_root, known_below, fewer}
 use Rattle.dav_path_core.proofs.tree.Tree.cut_out.Goals as goal
 
 pub loop-self-init : goal.loop-self-init

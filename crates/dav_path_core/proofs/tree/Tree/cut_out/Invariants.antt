@@ -1,5 +1,5 @@
 use Rattle.dav_path_core.specs.TreeValue.{IsTreeValue}
-use Rattle.dav_path_core.proofs.Cutting.{Cutting, known_below}
+use Rattle.dav_path_core.proofs.trees.Cutting.{Cutting, known_below}
 use Rattle.dav_path_core.proofs.tree.Tree.cut_out.Given as goal
 
 abbrev pub invariant-loop-self : goal.invariant-loop-self

@@ -4,13 +4,14 @@ use Rattle.std.proofs.lemmas.Bool.{false≢true}
 use Rattle.dav_path_core.specs.declared.errors.FsError.TheVariants.{NotFound, Forbidden}
 use Rattle.dav_path_core.specs.Keyed.{item, parent_and_key_of, without, delete_refusal, IsKnown}
 use Rattle.dav_path_core.specs.TreeValue.{links_first}
-use Rattle.dav_path_core.specs.View.{keyed_of, node_at, entry_of, links_of, closed_up, with_node}
-use Rattle.dav_path_core.proofs.Trees.{none_from_is_some}
-use Rattle.dav_path_core.proofs.Chains.{first_child_of}
-use Rattle.dav_path_core.proofs.Views.{entry-view, known-view, node_at-updated, mapped-some}
-use Rattle.dav_path_core.proofs.Links.{parent-view, first_of, shape_of}
-use Rattle.dav_path_core.proofs.Unlinking.{closed-node, not_root, leaf_n, keyed-removed, IsLinked-removed}
-use Rattle.dav_path_core.proofs.Refusals.{no_parent_root, has_child-true, has_child-false, delete-unknown, delete-root, delete-parent, delete-leaf}
+use Rattle.dav_path_core.specs.View.{keyed_of, entry_of, links_of}
+use Rattle.dav_path_core.specs.Private.Nodes.{node_at, closed_up, with_node}
+use Rattle.dav_path_core.proofs.trees.Trees.{none_from_is_some}
+use Rattle.dav_path_core.proofs.children.Chains.{first_child_of}
+use Rattle.dav_path_core.proofs.children.Views.{entry-view, known-view, node_at-updated, mapped-some}
+use Rattle.dav_path_core.proofs.children.Links.{parent-view, first_of, shape_of}
+use Rattle.dav_path_core.proofs.children.Unlinking.{closed-node, not_root, leaf_n, keyed-removed, IsLinked-removed}
+use Rattle.dav_path_core.proofs.trees.Refusals.{no_parent_root, has_child-true, has_child-false, delete-unknown, delete-root, delete-parent, delete-leaf}
 use Rattle.dav_path_core.proofs.tree.Tree.delete_node.Given.{Over}
 use Rattle.dav_path_core.proofs.tree.Tree.delete_node.Goals as goal
 use Rattle.dav_path_core.proofs.tree.Tree.delete_node.Goals.{In-Some-remove}

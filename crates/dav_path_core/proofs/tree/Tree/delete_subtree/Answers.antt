@@ -1,6 +1,6 @@
 use Rattle.std.proofs.Common.{sym, subst}
 use Rattle.dav_path_core.specs.Keyed.{IsCut}
-use Rattle.dav_path_core.proofs.Cutting.{IsCut-cut}
+use Rattle.dav_path_core.proofs.trees.Cutting.{IsCut-cut}
 use Rattle.dav_path_core.proofs.tree.Tree.delete_subtree.Goals as goal
 
 pub returns-clause-gone : goal.returns-clause-gone

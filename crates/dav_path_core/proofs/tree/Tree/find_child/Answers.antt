@@ -4,12 +4,12 @@ use Rattle.std.specs.Option.{option_map}
 use Rattle.std.proofs.lemmas.Bool.{false≢true}
 use Rattle.dav_path_core.specs.declared.errors.FsError.TheVariants.{NotFound}
 use Rattle.dav_path_core.specs.Keyed.{entry}
-use Rattle.dav_path_core.proofs.Trees.{same_some}
+use Rattle.dav_path_core.proofs.trees.Trees.{same_some}
 use Rattle.dav_path_core.specs.TreeValue.{IsTreeValue}
 use Rattle.dav_path_core.specs.View.{entry_of}
-use Rattle.dav_path_core.proofs.Views.{entry-view}
-use Rattle.dav_path_core.proofs.Links.{first-told, shape_of}
-use Rattle.dav_path_core.proofs.Walks.{Searched, parent_known, walk_here, smaller, search_start, search_next, search_end, search-found, search-none}
+use Rattle.dav_path_core.proofs.children.Views.{entry-view}
+use Rattle.dav_path_core.proofs.children.Links.{first-told, shape_of}
+use Rattle.dav_path_core.proofs.children.Walks.{Searched, parent_known, walk_here, smaller, search_start, search_next, search_end, search-found, search-none}
 use Rattle.dav_path_core.proofs.tree.Tree.find_child.Goals as goal
 
 pub returns-in_default-clause-none : goal.returns-in_default-clause-none

@@ -1,7 +1,7 @@
 use Rattle.std.proofs.Common.{false}
 use Rattle.std.specs.Fn.{FnReturnsAt}
 use Rattle.dav_path_core.specs.TreeValue.{after}
-use Rattle.dav_path_core.proofs.Walks.{Searched, left}
+use Rattle.dav_path_core.proofs.children.Walks.{Searched, left}
 use Rattle.dav_path_core.proofs.tree.Tree.find_child.Given as goal
 
 abbrev pub invariant-loop-at : goal.invariant-loop-at

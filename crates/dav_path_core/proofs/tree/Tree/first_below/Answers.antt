@@ -1,6 +1,6 @@
 use Rattle.std.proofs.Common.{◌≡◌, Some, None, MatchOption, false, subst}
 use Rattle.dav_path_core.specs.Keyed.{has_child, parent}
-use Rattle.dav_path_core.proofs.Cutting.{first_kind}
+use Rattle.dav_path_core.proofs.trees.Cutting.{first_kind}
 use Rattle.dav_path_core.proofs.tree.Tree.first_below.Goals as goal
 
 pub returns-in-Some : goal.returns-in-Some

@@ -1,9 +1,9 @@
 use Rattle.std.proofs.Common.{ap, is_some, map, [], ◌∷◌, ◌++◌, sym, subst, Some}
 use Rattle.dav_path_core.specs.TreeValue.{IsTreeValue}
 use Rattle.dav_path_core.specs.Children.{ListsChildren}
-use Rattle.dav_path_core.proofs.Links.{first-told, shape_of}
-use Rattle.dav_path_core.proofs.Walks.{walk_here, smaller}
-use Rattle.dav_path_core.proofs.Listings.{Gathered, gather_start, gather_next, gather_end, known_there, not_known, not_unknown}
+use Rattle.dav_path_core.proofs.children.Links.{first-told, shape_of}
+use Rattle.dav_path_core.proofs.children.Walks.{walk_here, smaller}
+use Rattle.dav_path_core.proofs.children.Listings.{Gathered, gather_start, gather_next, gather_end, known_there, not_known, not_unknown}
 use Rattle.dav_path_core.proofs.tree.Tree.get_children.Goals as goal
 
 pub returns-in_default-clause-known : goal.returns-in_default-clause-known

@@ -1,6 +1,6 @@
 use Rattle.dav_path_core.specs.TreeValue.{after}
-use Rattle.dav_path_core.proofs.Walks.{left}
-use Rattle.dav_path_core.proofs.Listings.{Gathered}
+use Rattle.dav_path_core.proofs.children.Walks.{left}
+use Rattle.dav_path_core.proofs.children.Listings.{Gathered}
 use Rattle.dav_path_core.proofs.tree.Tree.get_children.Given as goal
 
 abbrev pub invariant-loop-at : goal.invariant-loop-at

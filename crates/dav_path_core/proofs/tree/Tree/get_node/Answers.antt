@@ -1,8 +1,8 @@
 use Rattle.std.proofs.Common.{ap, sym, ◌∙◌, refl, Some, None}
 use Rattle.std.specs.Option.{option_map}
 use Rattle.dav_path_core.specs.Keyed.{item}
-use Rattle.dav_path_core.proofs.Views.{entry-view}
-use Rattle.dav_path_core.proofs.Links.{shape_of}
+use Rattle.dav_path_core.proofs.children.Views.{entry-view}
+use Rattle.dav_path_core.proofs.children.Links.{shape_of}
 use Rattle.dav_path_core.proofs.tree.Tree.get_node.Goals as goal
 
 pub returns-in-Some-clause-answer : goal.returns-in-Some-clause-answer

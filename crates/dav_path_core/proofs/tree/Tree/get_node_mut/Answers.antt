@@ -3,8 +3,8 @@ use Rattle.std.specs.Option.{option_map}
 use Rattle.dav_path_core.specs.Keyed.{item, entry, with_item, with_item_at}
 use Rattle.dav_path_core.specs.TreeValue.{TreeValue, IsTreeValue}
 use Rattle.dav_path_core.specs.View.{tree_value_of}
-use Rattle.dav_path_core.proofs.Views.{tree_value-write, entry-view}
-use Rattle.dav_path_core.proofs.Links.{IsLinked-write, shape_of}
+use Rattle.dav_path_core.proofs.children.Views.{tree_value-write, entry-view}
+use Rattle.dav_path_core.proofs.children.Links.{IsLinked-write, shape_of}
 use Rattle.dav_path_core.proofs.tree.Tree.get_node_mut.Goals as goal
 
 lent : {N A B C : Type 0} {n : N} {f h : A → B} → ((w : A) → f w ≡ h w) → ◌≡◌ {A = (N × (A → B)) ⊎ C} (inl (n, f)) (inl (n, h))

@@ -1,5 +1,5 @@
 use Rattle.std.proofs.Common.{◌∙◌}
-use Rattle.dav_path_core.proofs.Refusals.{has_child-first}
+use Rattle.dav_path_core.proofs.trees.Refusals.{has_child-first}
 use Rattle.dav_path_core.proofs.tree.Tree.has_child.Goals as goal
 
 pub returns : goal.returns

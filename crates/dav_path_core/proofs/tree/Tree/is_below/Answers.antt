@@ -1,7 +1,7 @@
 use Rattle.std.proofs.Common.{◌≡◌, ◌<◌, ◌-◌, ◌+◌, ℕ, suc, ap, sym, ◌∙◌, arith}
 use Rattle.dav_path_core.specs.Keyed.{meets, parent}
-use Rattle.dav_path_core.proofs.KeyedDepth.{meets-here, meets-up, meets-top, climb_start, climb_next, climb_ends}
-use Rattle.dav_path_core.proofs.Links.{shape_of}
+use Rattle.dav_path_core.proofs.trees.KeyedDepth.{meets-here, meets-up, meets-top, climb_start, climb_next, climb_ends}
+use Rattle.dav_path_core.proofs.children.Links.{shape_of}
 use Rattle.dav_path_core.proofs.tree.Tree.is_below.Goals as goal
 
 one_left : (n m i : ℕ) → m ≡ n → i < m → n - i ≡ suc (n - (i + 1))

@@ -1,6 +1,6 @@
 use Rattle.std.proofs.Common.{◌≡◌, ◌-◌}
 use Rattle.dav_path_core.specs.Keyed.{is_under, meets, parent}
-use Rattle.dav_path_core.proofs.KeyedDepth.{Climb}
+use Rattle.dav_path_core.proofs.trees.KeyedDepth.{Climb}
 use Rattle.dav_path_core.proofs.tree.Tree.is_below.Given as goal
 
 abbrev pub invariant-loop-turn : goal.invariant-loop-turn

@@ -1,7 +1,7 @@
 use Rattle.std.proofs.Common.{ap, sym, ◌∙◌, is_some}
 use Rattle.dav_path_core.specs.Keyed.{entry}
-use Rattle.dav_path_core.proofs.Views.{known-view}
-use Rattle.dav_path_core.proofs.Links.{shape_of}
+use Rattle.dav_path_core.proofs.children.Views.{known-view}
+use Rattle.dav_path_core.proofs.children.Links.{shape_of}
 use Rattle.dav_path_core.proofs.tree.Tree.is_known.Goals as goal
 
 pub returns-clause-known : goal.returns-clause-known

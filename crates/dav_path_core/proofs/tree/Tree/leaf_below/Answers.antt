@@ -1,6 +1,6 @@
 use Rattle.std.proofs.Common.{ap, subst, arith}
 use Rattle.dav_path_core.specs.Keyed.{IsTree}
-use Rattle.dav_path_core.proofs.Cutting.{descent_start, descent_next, descent_ends}
+use Rattle.dav_path_core.proofs.trees.Cutting.{descent_start, descent_next, descent_ends}
 use Rattle.dav_path_core.proofs.tree.Tree.leaf_below.Goals as goal
 
 pub loop-turn-init : goal.loop-turn-init

@@ -1,4 +1,4 @@
-use Rattle.dav_path_core.proofs.Cutting.{Descent}
+use Rattle.dav_path_core.proofs.trees.Cutting.{Descent}
 use Rattle.dav_path_core.proofs.tree.Tree.leaf_below.Given as goal
 
 abbrev pub invariant-loop-turn : goal.invariant-loop-turn

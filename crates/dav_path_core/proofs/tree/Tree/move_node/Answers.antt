@@ -1,9 +1,9 @@
 use Rattle.std.proofs.Common.{◌≡◌, Some, ap, sym, ◌∙◌, subst, None, false}
 use Rattle.dav_path_core.specs.Keyed.{child, is_under, IsKnown}
 use Rattle.dav_path_core.specs.TreeValue.{IsTreeValue}
-use Rattle.dav_path_core.proofs.Trees.{none≢some}
-use Rattle.dav_path_core.proofs.Refusals.{Allowed, allowed, allowed-outside, forbidden-below}
-use Rattle.dav_path_core.proofs.Replacing.{replaced-leaf, replaced-known, replaced-known_parent, replaced-outside, replaced-free}
+use Rattle.dav_path_core.proofs.trees.Trees.{none≢some}
+use Rattle.dav_path_core.proofs.trees.Refusals.{Allowed, allowed, allowed-outside, forbidden-below}
+use Rattle.dav_path_core.proofs.trees.Replacing.{replaced-leaf, replaced-known, replaced-known_parent, replaced-outside, replaced-free}
 use Rattle.dav_path_core.proofs.tree.Tree.move_node.Goals as goal
 
 pub put_below-requires : goal.put_below-requires

@@ -1,6 +1,6 @@
 use Rattle.std.proofs.Common.{refl}
-use Rattle.dav_path_core.proofs.Views.{view-lone}
-use Rattle.dav_path_core.proofs.Links.{IsLinked-lone, shape_of}
+use Rattle.dav_path_core.proofs.children.Views.{view-lone}
+use Rattle.dav_path_core.proofs.children.Links.{IsLinked-lone, shape_of}
 use Rattle.dav_path_core.proofs.tree.Tree.new.Goals as goal
 
 pub invariant_of-result : goal.invariant_of-result

@@ -2,7 +2,7 @@ use Rattle.std.proofs.Common.{ℕ, Option, ap, sym, ◌∙◌, Some}
 use Rattle.std.specs.Option.{ok_or}
 use Rattle.dav_path_core.specs.declared.errors.FsError.TheVariants.{NotFound}
 use Rattle.dav_path_core.specs.TreeValue.{IsTreeValue, after}
-use Rattle.dav_path_core.proofs.Links.{known, tells_none, root_known, after-told, shape_of}
+use Rattle.dav_path_core.proofs.children.Links.{known, tells_none, root_known, after-told, shape_of}
 use Rattle.dav_path_core.proofs.tree.Tree.next_sibling.Goals as goal
 
 pub returns-in-Some-clause-answer : goal.returns-in-Some-clause-answer

@@ -1,11 +1,12 @@
 use Rattle.std.proofs.Common.{◌≡◌, refl, ap, sym, ◌∙◌, subst, is_some, Some, None, false, Option, ℕ}
 use Rattle.std.proofs.lemmas.Bool.{false≢true}
 use Rattle.dav_path_core.specs.Keyed.{child, parent_and_key_of, placed, is_under, IsKnown}
-use Rattle.dav_path_core.specs.View.{node_at, keyed_of, first_in, closed_up, with_parent_and_key, put_before}
-use Rattle.dav_path_core.proofs.Views.{known-view, entry-view}
-use Rattle.dav_path_core.proofs.Links.{shape_of}
-use Rattle.dav_path_core.proofs.Refusals.{no_parent_root}
-use Rattle.dav_path_core.proofs.Placing.{keyed-placed, IsLinked-placed}
+use Rattle.dav_path_core.specs.View.{keyed_of}
+use Rattle.dav_path_core.specs.Private.Nodes.{node_at, first_in, closed_up, with_parent_and_key, put_before}
+use Rattle.dav_path_core.proofs.children.Views.{known-view, entry-view}
+use Rattle.dav_path_core.proofs.children.Links.{shape_of}
+use Rattle.dav_path_core.proofs.trees.Refusals.{no_parent_root}
+use Rattle.dav_path_core.proofs.children.Placing.{keyed-placed, IsLinked-placed}
 use Rattle.dav_path_core.proofs.tree.Tree.put_below.Given.{Over}
 use Rattle.dav_path_core.proofs.tree.Tree.put_below.Goals as goal
 use Rattle.dav_path_core.proofs.tree.Tree.put_below.Goals.{After-put_before}

@@ -2,8 +2,9 @@ use Rattle.std.proofs.Common.{◌≡◌, ◌∙◌, ap, sym, Some}
 use Rattle.std.specs.Option.{option_map}
 use Rattle.dav_path_core.specs.Keyed.{parent_and_key_of}
 use Rattle.dav_path_core.specs.TreeValue.{links_after}
-use Rattle.dav_path_core.specs.View.{node_at, entry_of, links_of, previous_of, first_in, closed_up, with_parent_and_key, put_before}
-use Rattle.dav_path_core.proofs.Hanging.{with_parent-same_key, closed_up-entry}
+use Rattle.dav_path_core.specs.View.{entry_of, links_of}
+use Rattle.dav_path_core.specs.Private.Nodes.{node_at, previous_of, first_in, closed_up, with_parent_and_key, put_before}
+use Rattle.dav_path_core.proofs.children.Hanging.{with_parent-same_key, closed_up-entry}
 use Rattle.dav_path_core.proofs.tree.links.hang.Goals as goal
 
 pub returns : goal.returns

@@ -1,5 +1,5 @@
 use Rattle.std.proofs.Common.{◌∙◌, ap, Some}
-use Rattle.dav_path_core.specs.View.{node_at, with_node, put_before, new_node}
+use Rattle.dav_path_core.specs.Private.Nodes.{node_at, with_node, put_before, new_node}
 use Rattle.dav_path_core.proofs.tree.links.put_new.Goals as goal
 
 pub returns-clause-ok : goal.returns-clause-ok

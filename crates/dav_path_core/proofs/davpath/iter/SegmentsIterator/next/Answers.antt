@@ -2,7 +2,7 @@ use Rattle.std.proofs.Common.{rules, arith, not}
 use Rattle.std.proofs.lemmas.Bool.Decides.{nat_tests}
 use Rattle.std.proofs.lemmas.List.Sums.{prefix_len-le-length}
 use Rattle.dav_path_core.specs.Segments.{is_slash}
-use Rattle.dav_path_core.proofs.SegmentLemmas.{none_left, first_left, fewer_left}
+use Rattle.dav_path_core.proofs.paths.SegmentLemmas.{none_left, first_left, fewer_left}
 use Rattle.dav_path_core.proofs.davpath.iter.SegmentsIterator.next.Goals as goal
 use Rattle.dav_path_core.proofs.davpath.iter.SegmentsIterator.next.Goals.{then-is_empty, else-is_empty}
 

@@ -2,7 +2,7 @@ use Rattle.std.proofs.Common.{◌≡◌, map, refl}
 use Rattle.std.proofs.lemmas.Iterator.{items_from_drains}
 use Rattle.std.proofs.lemmas.Iterator.Consumers.{YieldsList-from_first}
 use Rattle.dav_path_core.specs.Segments.{segments}
-use Rattle.dav_path_core.proofs.NameLemmas.{name_from}
+use Rattle.dav_path_core.proofs.paths.NameLemmas.{name_from}
 use Rattle.dav_path_core.proofs.davpath.lent.DavPathRef.file_name_bytes.Goals as goal
 
 pub returns : goal.returns

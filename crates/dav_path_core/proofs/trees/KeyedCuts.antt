@@ -6,9 +6,9 @@ use Rattle.std.specs.Option.{option_map}
 use Rattle.std.specs.FinMap.{FinMap, get, remove, get-retain_keys, same_map, nat_cmp-IsAntisymmetric}
 use Rattle.std.proofs.lemmas.Bool.{cases_eq, false≢true, true≢false, false_from_ne_true}
 use Rattle.dav_path_core.specs.Keyed.{Entry, Keyed, Leads, root, up, Under, here, below, entry, parent_and_key, parent_and_key_of, parent, is_under, has_child, without, cut, IsKnown, IsTree}
-use Rattle.dav_path_core.proofs.FinMaps.{get_gone, get_left}
-use Rattle.dav_path_core.proofs.Trees.{none≢some, same_some, none_from_is_some, known_from_parent, known_from_child, child-none, Sets}
-use Rattle.dav_path_core.proofs.KeyedDepth.{is_under-true, top}
+use Rattle.dav_path_core.proofs.lists.FinMaps.{get_gone, get_left}
+use Rattle.dav_path_core.proofs.trees.Trees.{none≢some, same_some, none_from_is_some, known_from_parent, known_from_child, child-none, Sets}
+use Rattle.dav_path_core.proofs.trees.KeyedDepth.{is_under-true, top}
 
 -- no number has the parent n
 abbrev pub IsLeaf : {K D : Type 0} → Keyed K D → ℕ → Type 0

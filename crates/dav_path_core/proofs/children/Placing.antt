@@ -7,15 +7,16 @@ use Rattle.std.proofs.lemmas.Bool.{cases_eq, eq-eqb, ne_eqb, false≢true}
 use Rattle.dav_path_core.specs.declared.tree.Node.{Node}
 use Rattle.dav_path_core.specs.Keyed.{Entry, Keyed, Leads, root, up, parent_and_key_of, parent, child, is_under, placed, placed_at, IsKnown, IsTree}
 use Rattle.dav_path_core.specs.TreeValue.{links_after}
-use Rattle.dav_path_core.specs.Chains.{Linked}
-use Rattle.dav_path_core.specs.View.{entry_of, links_of, keyed_of, node_at, parent_in, first_in, next_in, previous_in, previous_of, IsChained, IsLinked, with_node, with_first, put_before, with_parent_and_key, closed_up, changed}
-use Rattle.dav_path_core.proofs.Trees.{none≢some, same_some}
-use Rattle.dav_path_core.proofs.Chains.{Linked-put, first_child_of}
-use Rattle.dav_path_core.proofs.KeyedMoves.{IsTree-placed}
-use Rattle.dav_path_core.proofs.Views.{seen-insert, with_node-here, with_node-other, known-view, entry-view, changed-here, changed-other, mapped-some}
-use Rattle.dav_path_core.proofs.Walks.{parent_known}
-use Rattle.dav_path_core.proofs.Links.{parent-view, first_keeps, after_keeps, before_keeps, entry_keeps, some_node, with_first-here, with_first-other, back_entry, back_first, back_after, back_here, back_other}
-use Rattle.dav_path_core.proofs.Unlinking.{some_from_parent, closed-entry, closed-first-here, closed-after, not_before, Linked-closed}
+use Rattle.dav_path_core.specs.Private.Chains.{Linked}
+use Rattle.dav_path_core.specs.View.{entry_of, links_of, keyed_of}
+use Rattle.dav_path_core.specs.Private.Nodes.{node_at, parent_in, first_in, next_in, previous_in, previous_of, IsChained, IsLinked, with_node, with_first, put_before, with_parent_and_key, closed_up, changed}
+use Rattle.dav_path_core.proofs.trees.Trees.{none≢some, same_some}
+use Rattle.dav_path_core.proofs.children.Chains.{Linked-put, first_child_of}
+use Rattle.dav_path_core.proofs.trees.KeyedMoves.{IsTree-placed}
+use Rattle.dav_path_core.proofs.children.Views.{seen-insert, with_node-here, with_node-other, known-view, entry-view, changed-here, changed-other, mapped-some}
+use Rattle.dav_path_core.proofs.children.Walks.{parent_known}
+use Rattle.dav_path_core.proofs.children.Links.{parent-view, first_keeps, after_keeps, before_keeps, entry_keeps, some_node, with_first-here, with_first-other, back_entry, back_first, back_after, back_here, back_other}
+use Rattle.dav_path_core.proofs.children.Unlinking.{some_from_parent, closed-entry, closed-first-here, closed-after, not_before, Linked-closed}
 
 -- no number is its own parent
 own_parent : {f : ℕ → Option ℕ} {m : ℕ} (n : ℕ) → f 1 ≡ None → Leads f m → m ≡ n → f n ≡ Some n → ⊥

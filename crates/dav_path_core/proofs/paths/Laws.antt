@@ -3,14 +3,14 @@ use Rattle.std.proofs.Common.{◌≡◌, ℕ, zero, suc, ◌<◌, ◌≤◌, ⊎
 use Rattle.std.proofs.Math.Seq.{split_at}
 use Rattle.std.specs.Prelude.{IsTrue, Contains}
 use Rattle.std.proofs.lemmas.List.Elements.{recursion_from_All}
-use Rattle.dav_path_core.specs.Keeping.{ComesDown}
+use Rattle.dav_path_core.specs.Private.Keeping.{ComesDown}
 use Rattle.dav_path_core.specs.Reading.{IsTarget, Read, raw, decoded_pieces, path_of, ends_in_slash, is_ordinary, is_up, IsForeign}
 use Rattle.std.proofs.lemmas.Bool.{cases_lt}
 use Rattle.dav_path_core.specs.Fault.{Fault, FirstFault, IsFaultAt, piece_at}
 use Rattle.dav_path_core.specs.Fault.Fault.{no_target, first}
 use Rattle.dav_path_core.specs.Fault.IsFaultAt.{foreign, above}
 use Rattle.dav_path_core.specs.declared.davpath.ParseError.{ParseError}
-use Rattle.dav_path_core.proofs.Rewriting.{AllOrdinary-from_reduced, one_result, no_result, run, run_runs_empty, up_is, IsReduced-from_ordinary, no_up_from_ordinary}
+use Rattle.dav_path_core.proofs.paths.Rewriting.{AllOrdinary-from_reduced, one_result, no_result, run, run_runs_empty, up_is, IsReduced-from_ordinary, no_up_from_ordinary}
 
 pub one_path : (text p q : List ℕ) → Read text p → Read text q → p ≡ q
 one_path text p q r s =

@@ -2,8 +2,8 @@
 use Rattle.std.proofs.Common.{◌≡◌, ◌≢◌, ℕ, ◌==◌, ◌||◌, Bool, true, false, cond, ◌⊎◌, List, [], ◌∷◌, Some, None, Option, refl, ap, sym, ◌∙◌, subst, inl, inr, eqb}
 use Rattle.std.specs.List.{list_any, IsDistinct, AllByRecursion}
 use Rattle.std.proofs.lemmas.Bool.{cases_eq, eq-eqb, ne_eqb, eqb-true, or_cases, false≢true, true≢false, false_from_ne_true}
-use Rattle.dav_path_core.specs.Chains.{IsIn, Chain, IsChainOf, Linked}
-use Rattle.dav_path_core.proofs.Trees.{none≢some, same_some}
+use Rattle.dav_path_core.specs.Private.Chains.{IsIn, Chain, IsChainOf, Linked}
+use Rattle.dav_path_core.proofs.trees.Trees.{none≢some, same_some}
 
 right_or : (a b : Bool) → b ≡ true → (a || b) ≡ true
 right_or true b h = refl

@@ -6,7 +6,7 @@ use Rattle.std.specs.Map.{IsKeyTest}
 use Rattle.std.specs.Cmp.Lexicographic.{pointwise, bytes_decides, nat_list_eq_equiv}
 use Rattle.std.proofs.lemmas.Bool.{false≢true}
 use Rattle.dav_path_core.specs.Fronts.{Segment, Path, segment_cmp, parent, behind, is_front, is_same_path}
-use Rattle.dav_path_core.proofs.Orders.{segment_total, segment_exact, path_total, path_exact, eq_by_cmp_same, eq_by_cmp_true}
+use Rattle.dav_path_core.proofs.lists.Orders.{segment_total, segment_exact, path_total, path_exact, eq_by_cmp_same, eq_by_cmp_true}
 
 -- ---- equal paths
 

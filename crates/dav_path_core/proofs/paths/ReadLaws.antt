@@ -17,14 +17,14 @@ use Rattle.dav_path_core.specs.Normal.{IsNormal}
 use Rattle.dav_path_core.specs.Reading.{Read, IsTarget, raw, decoded_pieces, path_of, ends_in_slash, is_idle, is_up, is_ordinary, IsForeign, Drops, Rewrites}
 use Rattle.dav_path_core.specs.Reading.IsDroppable.{idle}
 use Rattle.dav_path_core.specs.Reading.Rewrites.{none, more}
-use Rattle.dav_path_core.proofs.Rewriting.{AllOrdinary, AllOrdinary-from_reduced, not_idle, not_up}
-use Rattle.dav_path_core.proofs.KeptLemmas.{path_with_slash}
-use Rattle.dav_path_core.proofs.Laws.{read_from}
-use Rattle.dav_path_core.proofs.Snoc.{by_last, snoc_last}
-use Rattle.dav_path_core.proofs.ParentLemmas.{HasNoSlash}
-use Rattle.dav_path_core.proofs.UrlLemmas.{IsSafe, safe_url}
-use Rattle.dav_path_core.proofs.PieceLemmas.{first_piece, pieces-at_slash, pieces-All, HasNoSlash-from_lack, decoded_pieces-url, pieces-closed, IsTail, Cuts, cuts_of}
-use Rattle.dav_path_core.proofs.PieceLemmas.IsTail.{closed, slashed}
+use Rattle.dav_path_core.proofs.paths.Rewriting.{AllOrdinary, AllOrdinary-from_reduced, not_idle, not_up}
+use Rattle.dav_path_core.proofs.paths.KeptLemmas.{path_with_slash}
+use Rattle.dav_path_core.proofs.paths.Laws.{read_from}
+use Rattle.dav_path_core.proofs.lists.Snoc.{by_last, snoc_last}
+use Rattle.dav_path_core.proofs.paths.ParentLemmas.{HasNoSlash}
+use Rattle.dav_path_core.proofs.paths.UrlLemmas.{IsSafe, safe_url}
+use Rattle.dav_path_core.proofs.paths.PieceLemmas.{first_piece, pieces-at_slash, pieces-All, HasNoSlash-from_lack, decoded_pieces-url, pieces-closed, IsTail, Cuts, cuts_of}
+use Rattle.dav_path_core.proofs.paths.PieceLemmas.IsTail.{closed, slashed}
 
 -- ---- rewriting drops pieces alone
 

@@ -4,7 +4,7 @@ use Rattle.std.specs.Ordering.{eq_by_cmp}
 use Rattle.std.specs.declared.cmp.Ordering.{Ordering}
 use Rattle.std.specs.Cmp.{IsTotalOrder}
 use Rattle.std.specs.FinMap.{FinMap, IsAntisymmetric, get, insert, remove, get-insert, get-remove}
-use Rattle.dav_path_core.proofs.Orders.{eq_by_cmp_same, eq_by_cmp_true, eq_by_cmp_false}
+use Rattle.dav_path_core.proofs.lists.Orders.{eq_by_cmp_same, eq_by_cmp_true, eq_by_cmp_false}
 
 pub none_some : {A B : Type 0} (o : Option A) (x : A) → o ≡ None → o ≡ Some x → B
 none_some o x e h = let both : ◌≡◌ {A = Option _} None (Some x) = sym e ∙ h in absurd (cc)

@@ -5,10 +5,10 @@ use Rattle.std.specs.Option.{option_map}
 use Rattle.std.specs.FinMap.{same_map, nat_cmp-IsAntisymmetric}
 use Rattle.std.proofs.lemmas.Bool.{cases_eq, cases_Bool, false≢true, false_from_ne_true}
 use Rattle.dav_path_core.specs.Keyed.{Entry, Keyed, Under, here, below, entry, parent_and_key, parent_and_key_of, parent, child, add, cut, is_under, placed, placed_at, IsChild, IsKnown, IsTree}
-use Rattle.dav_path_core.proofs.Trees.{none≢some, same_some, none_from_is_some, known_from_child, known_from_parent, child-some, child_before, Sets, Sets-insert}
-use Rattle.dav_path_core.proofs.KeyedDepth.{is_under-true, no_cycle, top}
-use Rattle.dav_path_core.proofs.KeyedCuts.{same_truth, entry-cut, none-cut, cut-in, cut-out}
-use Rattle.dav_path_core.proofs.Walks.{parent_known}
+use Rattle.dav_path_core.proofs.trees.Trees.{none≢some, same_some, none_from_is_some, known_from_child, known_from_parent, child-some, child_before, Sets, Sets-insert}
+use Rattle.dav_path_core.proofs.trees.KeyedDepth.{is_under-true, no_cycle, top}
+use Rattle.dav_path_core.proofs.trees.KeyedCuts.{same_truth, entry-cut, none-cut, cut-in, cut-out}
+use Rattle.dav_path_core.proofs.children.Walks.{parent_known}
 
 -- the test that tells all keys apart
 abbrev pub never : {K : Type 0} → K → K → Bool

@@ -9,7 +9,7 @@ use Rattle.std.proofs.lemmas.List.Elements.{All-nil, All-cons, All-head}
 use Rattle.dav_path_core.specs.Keyed.{Entry, parent_and_key, parent}
 use Rattle.dav_path_core.specs.TreeValue.{TreeValue, Links, Siblings, done, more, first, after, IsChildList}
 use Rattle.dav_path_core.specs.Children.{IsNamed, ListsChildren}
-use Rattle.dav_path_core.proofs.Trees.{same_some, none≢some}
+use Rattle.dav_path_core.proofs.trees.Trees.{same_some, none≢some}
 
 abbrev node : Option (ℕ × ℕ) → Entry ℕ ℕ
 node at = record { parent_and_key = at; item = 0 }

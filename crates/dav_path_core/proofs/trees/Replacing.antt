@@ -3,10 +3,10 @@ use Rattle.std.proofs.Common.{◌≡◌, ◌≢◌, ℕ, Bool, is_some, not, fal
 use Rattle.std.proofs.lemmas.Bool.{or_parts}
 use Rattle.std.specs.Cmp.{IsEquivalence}
 use Rattle.dav_path_core.specs.Keyed.{Keyed, child, has_child, is_kept, is_under, without, delete_refusal, move_refusal, IsKnown, IsTree}
-use Rattle.dav_path_core.proofs.Trees.{child-some, known_from_child}
-use Rattle.dav_path_core.proofs.KeyedCuts.{IsLeaf, leaf, entry-without}
-use Rattle.dav_path_core.proofs.KeyedMoves.{c_not_root, known_rest, outside_rest, free_rest}
-use Rattle.dav_path_core.proofs.Refusals.{delete-leaf, Allowed, allowed}
+use Rattle.dav_path_core.proofs.trees.Trees.{child-some, known_from_child}
+use Rattle.dav_path_core.proofs.trees.KeyedCuts.{IsLeaf, leaf, entry-without}
+use Rattle.dav_path_core.proofs.trees.KeyedMoves.{c_not_root, known_rest, outside_rest, free_rest}
+use Rattle.dav_path_core.proofs.trees.Refusals.{delete-leaf, Allowed, allowed}
 
 module _ {K D : Type 0} (eq : K → K → Bool) (laws : IsEquivalence eq) (t : Keyed K D) (n p : ℕ) (k : K) (overwrite : Bool) (tree : IsTree eq t)
     (none : move_refusal eq t n p k overwrite ≡ None) (c : ℕ) (at : child (eq k) t p ≡ Some c) (ne : c ≢ n) where

@@ -11,9 +11,9 @@ use Rattle.percent_encoding.proofs.PercentLemmas.{IsByte, IsEscapeByte, All-perc
 use Rattle.dav_path_core.specs.Segments.{pieces, is_slash}
 use Rattle.dav_path_core.specs.Url.{is_plain, url, url_byte}
 use Rattle.dav_path_core.specs.Reading.{path_of}
-use Rattle.dav_path_core.proofs.KeptLemmas.{path_with_slash, path_with_none}
-use Rattle.dav_path_core.proofs.ParentLemmas.{HasNoSlash}
-use Rattle.dav_path_core.proofs.UrlLemmas.{decoded_url}
+use Rattle.dav_path_core.proofs.paths.KeptLemmas.{path_with_slash, path_with_none}
+use Rattle.dav_path_core.proofs.paths.ParentLemmas.{HasNoSlash}
+use Rattle.dav_path_core.proofs.paths.UrlLemmas.{decoded_url}
 
 -- ---- bytes put together
 

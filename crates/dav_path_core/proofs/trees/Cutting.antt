@@ -5,14 +5,15 @@ use Rattle.std.proofs.lemmas.Bool.{cases_eq, cases_Bool, false≢true}
 use Rattle.dav_path_core.specs.declared.tree.Node.{Node}
 use Rattle.dav_path_core.specs.Keyed.{Keyed, Leads, Under, here, below, up, entry, parent, has_child, without, cut, IsCut, IsKnown, IsTree}
 use Rattle.dav_path_core.specs.TreeValue.{links_first}
-use Rattle.dav_path_core.specs.View.{keyed_of, node_at, links_of, IsLinked}
-use Rattle.dav_path_core.proofs.Trees.{same_some, none_from_is_some, known_from_parent}
-use Rattle.dav_path_core.proofs.Chains.{first_child_of, no_child}
-use Rattle.dav_path_core.proofs.KeyedDepth.{depth, short}
-use Rattle.dav_path_core.proofs.KeyedCuts.{IsLeaf, leaf, entry-without, kept, no_parent, none-cut, cut-leaf, cut-law, cut-without}
-use Rattle.dav_path_core.proofs.Links.{parent-view}
-use Rattle.dav_path_core.proofs.Refusals.{has_child-false}
-use Rattle.dav_path_core.proofs.Walks.{parent_known}
+use Rattle.dav_path_core.specs.View.{keyed_of, links_of}
+use Rattle.dav_path_core.specs.Private.Nodes.{node_at, IsLinked}
+use Rattle.dav_path_core.proofs.trees.Trees.{same_some, none_from_is_some, known_from_parent}
+use Rattle.dav_path_core.proofs.children.Chains.{first_child_of, no_child}
+use Rattle.dav_path_core.proofs.trees.KeyedDepth.{depth, short}
+use Rattle.dav_path_core.proofs.trees.KeyedCuts.{IsLeaf, leaf, entry-without, kept, no_parent, none-cut, cut-leaf, cut-law, cut-without}
+use Rattle.dav_path_core.proofs.children.Links.{parent-view}
+use Rattle.dav_path_core.proofs.trees.Refusals.{has_child-false}
+use Rattle.dav_path_core.proofs.children.Walks.{parent_known}
 
 pub Under-trans : {f : ℕ → Option ℕ} {n m k : ℕ} → Under f n m → Under f m k → Under f n k
 Under-trans u here = u

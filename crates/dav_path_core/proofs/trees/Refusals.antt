@@ -5,9 +5,9 @@ use Rattle.std.proofs.lemmas.Bool.{cases_Bool, cases_eq, eq-eqb, ne_eqb, true≢
 use Rattle.dav_path_core.specs.declared.errors.FsError.{FsError}
 use Rattle.dav_path_core.specs.declared.errors.FsError.TheVariants.{Exists, NotFound, Forbidden}
 use Rattle.dav_path_core.specs.Keyed.{Keyed, Leads, root, up, Under, here, below, entry, parent_and_key, parent, child, has_child, delete_refusal, move_refusal, is_kept, is_under, IsKnown, IsTree}
-use Rattle.dav_path_core.proofs.Trees.{none≢some, child-none, child-some}
-use Rattle.dav_path_core.proofs.KeyedDepth.{is_under-true}
-use Rattle.dav_path_core.proofs.KeyedCuts.{parent_child}
+use Rattle.dav_path_core.proofs.trees.Trees.{none≢some, child-none, child-some}
+use Rattle.dav_path_core.proofs.trees.KeyedDepth.{is_under-true}
+use Rattle.dav_path_core.proofs.trees.KeyedCuts.{parent_child}
 
 apart_refusals : ◌≡◌ {A = Option FsError} (Some Exists) (Some Forbidden) → ⊥
 apart_refusals e = cc

@@ -8,7 +8,7 @@ use Rattle.std.specs.Map.{IsKeyTest}
 use Rattle.std.specs.FinMap.{FinMap, get, find, entries, entries_sorted, is_sorted, insert, empty, get-insert, get-empty, get-entries}
 use Rattle.std.specs.FinMap.Entries.{below_all}
 use Rattle.std.proofs.lemmas.Bool.{cases_eq, eq-eqb, ne_eqb, eqb-true, true≢false, false≢true, ltb-true, and_parts}
-use Rattle.dav_path_core.proofs.Every.{first_so, second_so}
+use Rattle.dav_path_core.proofs.lists.Every.{first_so, second_so}
 use Rattle.dav_path_core.specs.Keyed.{Entry, Keyed, Leads, root, up, entry, parent_and_key, parent_and_key_of, parent, IsKnown, IsChild, IsTree, matches_parent_and_key, child_in, child, lone, add, with_item, with_item_at, add_refusal, cleared, cleared_at}
 use Rattle.std.proofs.Common.{not}
 use Rattle.dav_path_core.specs.declared.errors.FsError.TheVariants.{Exists, NotFound}

@@ -8,11 +8,12 @@ use Rattle.std.proofs.lemmas.List.Elements.{All-nil, All-push}
 use Rattle.dav_path_core.specs.declared.tree.Node.{Node}
 use Rattle.dav_path_core.specs.Keyed.{Keyed, entry, parent_and_key, parent, IsChild, IsKnown}
 use Rattle.dav_path_core.specs.TreeValue.{TreeValue, first, after, IsTreeValue}
-use Rattle.dav_path_core.specs.View.{tree_value_of, node_at}
+use Rattle.dav_path_core.specs.View.{tree_value_of}
+use Rattle.dav_path_core.specs.Private.Nodes.{node_at}
 use Rattle.dav_path_core.specs.Children.{IsNamed, ListsChildren}
-use Rattle.dav_path_core.proofs.Trees.{none≢some}
-use Rattle.dav_path_core.proofs.Views.{entry-view}
-use Rattle.dav_path_core.proofs.Walks.{Walk, walk_start, walk_next, walk_end}
+use Rattle.dav_path_core.proofs.trees.Trees.{none≢some}
+use Rattle.dav_path_core.proofs.children.Views.{entry-view}
+use Rattle.dav_path_core.proofs.children.Walks.{Walk, walk_start, walk_next, walk_end}
 
 placed_at : {K : Type 0} (o : Option (ℕ × K)) (p : ℕ) → option_map (λ q. q.0) o ≡ Some p → (q : ℕ × K) × (o ≡ Some q)
 placed_at None p e = absurd (none≢some p e)

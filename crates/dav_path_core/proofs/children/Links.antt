@@ -7,11 +7,12 @@ use Rattle.std.proofs.lemmas.Bool.{cases_eq, false≢true}
 use Rattle.dav_path_core.specs.declared.tree.Node.{Node}
 use Rattle.dav_path_core.specs.Keyed.{Entry, parent_and_key, parent_and_key_of, parent, child, add, IsKnown, IsTree}
 use Rattle.dav_path_core.specs.TreeValue.{TreeValue, Siblings, done, more, IsTreeValue, if_known, first, after, links_first, links_after}
-use Rattle.dav_path_core.specs.Chains.{Chain, Linked}
-use Rattle.dav_path_core.specs.View.{entry_of, links_of, keyed_of, tree_value_of, node_at, parent_in, first_in, next_in, previous_in, previous_of, IsChained, IsLinked, with_node, changed, with_first, with_next, with_previous, led_back, put_before}
-use Rattle.dav_path_core.proofs.Trees.{none≢some, same_some, known_from_parent, IsTree-add, IsTree-lone, IsTree-with_item}
-use Rattle.dav_path_core.proofs.Chains.{no_distinct, Linked-put, first_child_of}
-use Rattle.dav_path_core.proofs.Views.{with_node-here, with_node-other, get-seen, known-view, entry-view, changed-here, changed-other, changed-keeps, view-add, view-lone, node_at-updated, mapped-some, view-write, write-keeps}
+use Rattle.dav_path_core.specs.Private.Chains.{Chain, Linked}
+use Rattle.dav_path_core.specs.View.{entry_of, links_of, keyed_of, tree_value_of}
+use Rattle.dav_path_core.specs.Private.Nodes.{node_at, parent_in, first_in, next_in, previous_in, previous_of, IsChained, IsLinked, with_node, changed, with_first, with_next, with_previous, led_back, put_before}
+use Rattle.dav_path_core.proofs.trees.Trees.{none≢some, same_some, known_from_parent, IsTree-add, IsTree-lone, IsTree-with_item}
+use Rattle.dav_path_core.proofs.children.Chains.{no_distinct, Linked-put, first_child_of}
+use Rattle.dav_path_core.proofs.children.Views.{with_node-here, with_node-other, get-seen, known-view, entry-view, changed-here, changed-other, changed-keeps, view-add, view-lone, node_at-updated, mapped-some, view-write, write-keeps}
 
 siblings : (after before : ℕ → Option ℕ) (b o : Option ℕ) (ks : List ℕ) → Chain after before b o ks → Siblings after o ks
 siblings after before b o [] c = subst (λ v. Siblings after v []) (sym c) done

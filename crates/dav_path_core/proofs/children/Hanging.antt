@@ -6,13 +6,14 @@ use Rattle.std.proofs.lemmas.Bool.{cases_eq}
 use Rattle.dav_path_core.specs.declared.tree.Node.{Node}
 use Rattle.dav_path_core.specs.Keyed.{Keyed, parent_and_key, parent_and_key_of, child, add, cut, is_under, placed, IsKnown, IsTree}
 use Rattle.dav_path_core.specs.TreeValue.{TreeValue}
-use Rattle.dav_path_core.specs.View.{entry_of, keyed_of, tree_value_of, node_at, first_in, IsLinked, new_node, with_node, put_before, with_parent_and_key, with_parent, closed_up, led_on}
-use Rattle.dav_path_core.proofs.Trees.{none≢some}
-use Rattle.dav_path_core.proofs.Views.{get-seen, known-view, changed-here, changed-other}
-use Rattle.dav_path_core.proofs.Links.{keyed-added, IsLinked-added, back_entry}
-use Rattle.dav_path_core.proofs.Unlinking.{on_entry}
-use Rattle.dav_path_core.proofs.Placing.{keyed-placed, IsLinked-placed}
-use Rattle.dav_path_core.proofs.Overwriting.{never, never-symm, child-never, IsTree-never, IsTree-over, over, cut-over, new_known, new_outside, old_not_root, old_known_over, old_parent_and_key_added, found}
+use Rattle.dav_path_core.specs.View.{entry_of, keyed_of, tree_value_of}
+use Rattle.dav_path_core.specs.Private.Nodes.{node_at, first_in, IsLinked, new_node, with_node, put_before, with_parent_and_key, with_parent, closed_up, led_on}
+use Rattle.dav_path_core.proofs.trees.Trees.{none≢some}
+use Rattle.dav_path_core.proofs.children.Views.{get-seen, known-view, changed-here, changed-other}
+use Rattle.dav_path_core.proofs.children.Links.{keyed-added, IsLinked-added, back_entry}
+use Rattle.dav_path_core.proofs.children.Unlinking.{on_entry}
+use Rattle.dav_path_core.proofs.children.Placing.{keyed-placed, IsLinked-placed}
+use Rattle.dav_path_core.proofs.trees.Overwriting.{never, never-symm, child-never, IsTree-never, IsTree-over, over, cut-over, new_known, new_outside, old_not_root, old_known_over, old_parent_and_key_added, found}
 
 module _ {K D : Type 0} where
   -- the node that has a place

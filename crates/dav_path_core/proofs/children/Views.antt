@@ -11,7 +11,8 @@ use Rattle.std.specs.FinMap.{FinMap, get, find, from_entries, insert, empty, get
 use Rattle.std.proofs.lemmas.Map.Made.{lookup-map_values}
 use Rattle.dav_path_core.specs.declared.tree.Node.{Node}
 use Rattle.dav_path_core.specs.Keyed.{Entry, Keyed, entry, lone, add, with_item, with_item_at}
-use Rattle.dav_path_core.specs.View.{entry_of, links_of, seen, keyed_of, tree_value_of, node_at, with_node, changed}
+use Rattle.dav_path_core.specs.View.{entry_of, links_of, seen, keyed_of, tree_value_of}
+use Rattle.dav_path_core.specs.Private.Nodes.{node_at, with_node, changed}
 
 pub find-lookup : {X : Type 0} (q : ℕ) (es : List (ℕ × X)) → find nat_cmp q es ≡ lookup (is_at (nat_cmp q)) es
 find-lookup q [] = refl

@@ -4,9 +4,9 @@ use Rattle.std.specs.Cmp.{IsEquivalence}
 use Rattle.std.specs.Option.{option_map}
 use Rattle.std.proofs.lemmas.Bool.{cases_eq, false≢true, true≢false, false_from_ne_true}
 use Rattle.dav_path_core.specs.Keyed.{Entry, Keyed, Leads, root, up, Under, here, below, entry, parent_and_key, parent_and_key_of, parent, child, is_under, without, placed, placed_at, IsChild, IsKnown, IsTree}
-use Rattle.dav_path_core.proofs.Trees.{same_some, none≢some, child-none, child-some, child_before, Sets, Sets-insert, known_from_child, known_from_parent}
-use Rattle.dav_path_core.proofs.KeyedDepth.{is_under-true}
-use Rattle.dav_path_core.proofs.KeyedCuts.{IsLeaf, Under-mono, IsTree-without, entry-without, apart, parent-without, parent_and_key-without}
+use Rattle.dav_path_core.proofs.trees.Trees.{same_some, none≢some, child-none, child-some, child_before, Sets, Sets-insert, known_from_child, known_from_parent}
+use Rattle.dav_path_core.proofs.trees.KeyedDepth.{is_under-true}
+use Rattle.dav_path_core.proofs.trees.KeyedCuts.{IsLeaf, Under-mono, IsTree-without, entry-without, apart, parent-without, parent_and_key-without}
 
 module _ {f g : ℕ → Option ℕ} (n : ℕ) (other : (q : ℕ) → q ≢ n → g q ≡ f q) where
   beside : {r : ℕ} → Leads f r → (Under f n r → ⊥) → Leads g r

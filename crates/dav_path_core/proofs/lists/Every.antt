@@ -7,8 +7,8 @@ use Rattle.std.specs.declared.cmp.Ordering.TheVariants.{Less, Equal, Greater}
 use Rattle.std.specs.Cmp.{IsTotalOrder, eq_by_cmp_equiv}
 use Rattle.std.specs.FinMap.{FinMap, entries, entries_sorted, get, remove, find, get-entries, is_sorted, len, len-remove, empty_of_len, get-empty}
 use Rattle.std.specs.FinMap.Entries.{below_all}
-use Rattle.dav_path_core.proofs.FinMaps.{none_some}
-use Rattle.dav_path_core.proofs.Orders.{eq_by_cmp_same}
+use Rattle.dav_path_core.proofs.lists.FinMaps.{none_some}
+use Rattle.dav_path_core.proofs.lists.Orders.{eq_by_cmp_same}
 
 abbrev pub Every : {E : Type 0} → (E → Type 0) → List E → Type 0
 Every P [] = Unit {0}

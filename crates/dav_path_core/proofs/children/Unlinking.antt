@@ -8,14 +8,15 @@ use Rattle.std.proofs.lemmas.Bool.{cases_eq}
 use Rattle.dav_path_core.specs.declared.tree.Node.{Node}
 use Rattle.dav_path_core.specs.Keyed.{Entry, Keyed, entry, parent_and_key_of, parent, without, IsTree}
 use Rattle.dav_path_core.specs.TreeValue.{links_first, links_after}
-use Rattle.dav_path_core.specs.Chains.{Linked}
-use Rattle.dav_path_core.specs.View.{entry_of, links_of, seen, keyed_of, node_at, parent_in, first_in, next_in, previous_in, previous_of, IsChained, IsLinked, with_node, with_next, led_on, closed_up}
-use Rattle.dav_path_core.proofs.Trees.{none≢some, same_some}
-use Rattle.dav_path_core.proofs.Chains.{Linked-out, no_child, sibling_after, sibling_before}
-use Rattle.dav_path_core.proofs.KeyedCuts.{IsTree-without, entry-without}
-use Rattle.dav_path_core.proofs.Views.{get-seen, with_node-here, with_node-other, known-view}
-use Rattle.dav_path_core.proofs.Walks.{parent_known}
-use Rattle.dav_path_core.proofs.Links.{parent-view, first_keeps, after_keeps, before_keeps, entry_keeps, some_node, with_first-here, with_first-other, with_next-here, with_next-other, back_entry, back_first, back_after, back_here, back_other}
+use Rattle.dav_path_core.specs.Private.Chains.{Linked}
+use Rattle.dav_path_core.specs.View.{entry_of, links_of, seen, keyed_of}
+use Rattle.dav_path_core.specs.Private.Nodes.{node_at, parent_in, first_in, next_in, previous_in, previous_of, IsChained, IsLinked, with_node, with_next, led_on, closed_up}
+use Rattle.dav_path_core.proofs.trees.Trees.{none≢some, same_some}
+use Rattle.dav_path_core.proofs.children.Chains.{Linked-out, no_child, sibling_after, sibling_before}
+use Rattle.dav_path_core.proofs.trees.KeyedCuts.{IsTree-without, entry-without}
+use Rattle.dav_path_core.proofs.children.Views.{get-seen, with_node-here, with_node-other, known-view}
+use Rattle.dav_path_core.proofs.children.Walks.{parent_known}
+use Rattle.dav_path_core.proofs.children.Links.{parent-view, first_keeps, after_keeps, before_keeps, entry_keeps, some_node, with_first-here, with_first-other, with_next-here, with_next-other, back_entry, back_first, back_after, back_here, back_other}
 
 module _ {K D : Type 0} where
   -- ---- a link that leads to a child, led on

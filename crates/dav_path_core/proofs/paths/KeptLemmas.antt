@@ -16,10 +16,10 @@ use Rattle.dav_path_core.specs.Reading.{path_of, decoded_pieces, is_idle, is_up,
 use Rattle.dav_path_core.specs.Reading.Rewrites.{none}
 use Rattle.dav_path_core.specs.Fault.{IsFaultAt, NoFaultBelow, FirstFault, LeavesRoot, piece_at}
 use Rattle.dav_path_core.specs.Fault.IsFaultAt.{foreign as foreign_at, above as above_at}
-use Rattle.dav_path_core.specs.Keeping.{Takes, Refuses, ComesDown}
-use Rattle.dav_path_core.specs.Keeping.Takes.{idle, up, ordinary}
-use Rattle.dav_path_core.specs.Keeping.Refuses.{foreign, above}
-use Rattle.dav_path_core.proofs.Rewriting.{Rewrites-push, Rewrites-idle, Rewrites-up, not_idle, not_up, idle_not_up}
+use Rattle.dav_path_core.specs.Private.Keeping.{Takes, Refuses, ComesDown}
+use Rattle.dav_path_core.specs.Private.Keeping.Takes.{idle, up, ordinary}
+use Rattle.dav_path_core.specs.Private.Keeping.Refuses.{foreign, above}
+use Rattle.dav_path_core.proofs.paths.Rewriting.{Rewrites-push, Rewrites-idle, Rewrites-up, not_idle, not_up, idle_not_up}
 
 -- after the first n pieces
 pub record Along (pieces kept : List (List ℕ)) (n : ℕ) : Type 0 where

@@ -8,8 +8,8 @@ use Rattle.std.proofs.lemmas.List.{append-nil, append_assoc, length-append}
 use Rattle.std.proofs.lemmas.List.Folds.{list_any-append}
 use Rattle.std.proofs.lemmas.Map.Steps.{length-le_from_distinct_below}
 use Rattle.dav_path_core.specs.Keyed.{Keyed, parent_and_key, parent, child, IsChild, IsKnown, IsTree, Leads, root, up}
-use Rattle.dav_path_core.proofs.Trees.{none≢some, same_some, known_from_parent, child-some, child-only}
-use Rattle.dav_path_core.proofs.Chains.{in_here}
+use Rattle.dav_path_core.proofs.trees.Trees.{none≢some, same_some, known_from_parent, child-some, child-only}
+use Rattle.dav_path_core.proofs.children.Chains.{in_here}
 use Rattle.dav_path_core.specs.TreeValue.{TreeValue, Siblings, done, more, first, after, IsChildList, IsTreeValue}
 
 -- how many are left, looking at no more than m

@@ -1,7 +1,6 @@
 -- Lists of children as links in both directions between numbers (own).
-use Rattle.std.specs.Prelude.{◌≡◌, ℕ, ◌↔◌, true, List, [], ◌∷◌, Option, Some, None}
+use Rattle.std.specs.Prelude.{◌≡◌, ℕ, ◌↔◌, true, eqb, List, [], ◌∷◌, Option, Some, None}
 use Rattle.std.specs.List.{list_any, IsDistinct}
-use Rattle.std.proofs.Common.{eqb}
 
 -- n is among ks
 abbrev pub IsIn : ℕ → List ℕ → Type 0

@@ -5,7 +5,7 @@ use Rattle.std.specs.List.{list_any, IsDistinct, AllByRecursion}
 use Rattle.std.proofs.lemmas.Bool.{cases_eq, eq-eqb, ne_eqb, eqb-true, or_cases, false≢true, false_from_ne_true}
 use Rattle.std.proofs.lemmas.Map.Steps.{length-le_from_distinct_below}
 use Rattle.dav_path_core.specs.Keyed.{Keyed, Leads, root, up, Under, here, below, meets, is_under, parent, IsKnown, IsTree}
-use Rattle.dav_path_core.proofs.Trees.{none≢some, same_some, known_from_parent}
+use Rattle.dav_path_core.proofs.trees.Trees.{none≢some, same_some, known_from_parent}
 
 pub meets-here : (f : ℕ → Option ℕ) (m n k : ℕ) → k ≡ n → meets f (suc m) n k ≡ true
 meets-here f m n k e = ap (λ b. b || elim (f k) [ None ↦ false | Some p ↦ meets f m n p ]) (eq-eqb k n e)

@@ -1,0 +1,9 @@
+pub mod Chains
+pub mod ChildRows
+pub mod Hanging
+pub mod Links
+pub mod Listings
+pub mod Placing
+pub mod Unlinking
+pub mod Views
+pub mod Walks

@@ -1,0 +1,4 @@
+pub mod Every
+pub mod FinMaps
+pub mod Orders
+pub mod Snoc

@@ -1,0 +1,11 @@
+pub mod FrontLemmas
+pub mod KeptLemmas
+pub mod Laws
+pub mod NameLemmas
+pub mod ParentLemmas
+pub mod PieceLemmas
+pub mod PrefixLemmas
+pub mod ReadLaws
+pub mod Rewriting
+pub mod SegmentLemmas
+pub mod UrlLemmas

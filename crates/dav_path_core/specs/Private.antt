@@ -1,0 +1,4 @@
+-- Words of private contracts: no contract of a public call speaks of them.
+pub mod Chains
+pub mod Keeping
+pub mod Nodes

@@ -66,7 +66,8 @@ impl<T: Drop> From<AllocFailed<T>> for ParseError {
     }
 }
 
-/// The path of a resource: its bytes, decoded, of which the first are its prefix.
+/// The path of a resource: its bytes, of which the first may be a prefix that `set_prefix` has set. `new` decodes and
+/// resolves them, `from_uri` takes them as they stand.
 #[derive(Clone, Drop)]
 pub struct DavPath {
     fullpath: Vec<u8>,
@@ -85,15 +86,16 @@ impl Model for DavPath {
       bytes = drop p.prefix_length p.fullpath.items;
     } };
 
-    ghost invariant = { λ p. (p.prefix_length ≤ length p.fullpath.items) × IsUtf8 (take p.prefix_length p.fullpath.items) };
+    ghost invariant = { λ p. (p.prefix_length ≤ length p.fullpath.items)
+        × IsUtf8 (take p.prefix_length p.fullpath.items) };
 }
 
 impl DavPath {
     /// Reads a URL path (RFC 3986 sections 2.1, 3.3 and 5.2.4): what stands before the query, its pieces decoded and
     /// its dot segments resolved. The prefix is empty.
     ///
-    /// `InvalidPath` for a byte outside 32 to 126, a `#` before the first `?`, no `/` at the front, and a piece that holds
-    /// byte 0 or `/`; `ForbiddenPath` for a `..` that leads out of the root; the first faulty piece decides.
+    /// `InvalidPath` for a byte outside 32 to 126, a `#` before the first `?`, no `/` at the front, and a piece that
+    /// holds byte 0 or `/`; `ForbiddenPath` for a `..` that leads out of the root; the first faulty piece decides.
     pub fn new(alloc: Global, src: &str) -> Result<DavPath, ParseError>
         ensures ok { IfOk result (λ path. (path.prefix ≡ []) × Read src.now path.bytes) }
         // What can be read is read, unless memory runs out.
@@ -110,8 +112,8 @@ impl DavPath {
         })
     }
 
-    /// The path of a request target as it stands there, neither decoded nor resolved (RFC 9110 section 7.1). The prefix is
-    /// empty. `OutOfMemory` alone.
+    /// The path of a request target as it stands there, neither decoded nor resolved (RFC 9110 section 7.1). The prefix
+    /// is empty. `OutOfMemory` alone.
     pub fn from_uri(alloc: Global, uri: &Uri) -> Result<DavPath, ParseError>
         ensures ok { IfOk result (λ path. (path.prefix ≡ []) × (path.bytes ≡ uri_path uri.now)) }
         ensures err { IfErr result (λ e. e ≡ ParseError.OutOfMemory) }
@@ -123,16 +125,17 @@ impl DavPath {
         })
     }
 
-    /// Sets another prefix, which has to be a front of the whole path and end at a slash. A slash at its end is left out;
-    /// where the whole path is the prefix, a slash is put behind it.
+    /// Sets another prefix, which has to be a front of the whole path and end at a slash. A slash at its end is left
+    /// out; where the whole path is the prefix, a slash is put behind it.
     ///
-    /// `PrefixMismatch` where the path has no such front; `OutOfMemory` where there is no room for that slash. Refused, the
-    /// path stays as it was.
+    /// `PrefixMismatch` where the path has no such front; `OutOfMemory` where there is no room for that slash. Refused,
+    /// the path stays as it was.
     pub fn set_prefix(&mut self, prefix: &str) -> Result<(), ParseError>
         ensures ok { OnOk result (SetsPrefix (full self.old) prefix.now (full self.new) self.new.prefix) }
         ensures begins { OnOk result ((rest : List ℕ) × (self.new.bytes ≡ 47 ∷ rest)) }
         ensures err { IfErr result (λ e. ((e ≡ ParseError.OutOfMemory) × NeedsSlash (full self.old) prefix.now)
-            ⊎ ((e ≡ ParseError.PrefixMismatch) × ((after q : List ℕ) → ¬ SetsPrefix (full self.old) prefix.now after q))) }
+            ⊎ ((e ≡ ParseError.PrefixMismatch)
+            × ((after q : List ℕ) → ¬ SetsPrefix (full self.old) prefix.now after q))) }
         ensures unchanged { OnErr result (self.new ≡ self.old) }
     {
         let prefix = prefix.as_bytes();
@@ -222,7 +225,8 @@ impl DavPath {
 
     /// As `DavPathRef::as_pathbuf`, of the path behind the prefix.
     pub fn as_pathbuf(&self, alloc: Global) -> Result<Option<String>, ParseError>
-        ensures ok { IfOk result (λ found. (IsSome found ↔ IsUtf8 (trimmed self.now.bytes)) × IfSome found (λ text. string_bytes text ≡ trimmed self.now.bytes)) }
+        ensures ok { IfOk result (λ found. (IsSome found ↔ IsUtf8 (trimmed self.now.bytes))
+            × IfSome found (λ text. string_bytes text ≡ trimmed self.now.bytes)) }
         ensures err { IfErr result (λ e. e ≡ ParseError.OutOfMemory) }
     {
         self.behind_prefix().as_pathbuf(alloc)
@@ -243,10 +247,11 @@ impl DavPath {
         self.segments().count()
     }
 
-    /// The parent, with the same prefix: a slash, and each segment but the last followed by a slash. The root behind the
-    /// prefix is its own parent (own). `OutOfMemory` alone.
+    /// The parent, with the same prefix: a slash, and each segment but the last followed by a slash. The root behind
+    /// the prefix is its own parent (own). `OutOfMemory` alone.
     pub fn parent(&self) -> Result<DavPath, ParseError>
-        ensures ok { IfOk result (λ path. (path.prefix ≡ self.now.prefix) × (path.bytes ≡ folder_bytes (parent (segments self.now.bytes)))) }
+        ensures ok { IfOk result (λ path. (path.prefix ≡ self.now.prefix)
+            × (path.bytes ≡ folder_bytes (parent (segments self.now.bytes)))) }
         // So its segments are those of the path without the last.
         ensures above { IfOk result (λ path. segments path.bytes ≡ parent (segments self.now.bytes)) }
         ensures err { IfErr result (λ e. e ≡ ParseError.OutOfMemory) }
@@ -261,8 +266,8 @@ impl DavPath {
     }
 }
 
-/// A law for callers: a path that path reading gives begins with `/`, holds no `//`, and has no segment that is `.` or `..`
-/// or holds byte 0. It does nothing.
+/// A law for callers: a path that path reading gives begins with `/`, holds no `//`, and has no segment that is `.` or
+/// `..` or holds byte 0. It does nothing.
 pub fn read_paths_are_normal()
     ensures { (text bytes : List ℕ) → Read text bytes → IsNormal bytes }
 {}
@@ -295,8 +300,8 @@ fn folder_of(
     Ok(path)
 }
 
-/// Two paths are equal where their whole bytes are, each without one slash at its end where there are more. Their prefixes
-/// play no part.
+/// Two paths are equal where their whole bytes are, each without one slash at its end where there are more bytes. Their
+/// prefixes play no part.
 impl PartialEq for DavPath {
     ghost use Rattle.dav_path_core.specs.Trimmed.{is_equal, is_equal-partial_equiv};
 

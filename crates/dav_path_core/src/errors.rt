@@ -30,7 +30,7 @@ pub enum FsError {
     /// What stands there doesn't allow it.
     #[error("Forbidden")]
     Forbidden,
-    /// There is no room: for want of memory, too.
+    /// There is no room, also where it is out of memory.
     #[error("InsufficientStorage")]
     InsufficientStorage,
     /// Links lead in a circle.

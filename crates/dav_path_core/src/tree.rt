@@ -67,16 +67,20 @@ impl<K: Eq + Hash + Clone, D> Tree<K, D> {
         self.find_child(parent, |name| key == name)
     }
 
-    /// The number of a child whose key the test accepts, so that a key can be looked up without one of its type at hand.
-    /// `NotFound` where it accepts none.
+    /// The number of a child whose key passes the test; where several do, any of them. So a caller can look a key up by
+    /// what it compares with, a `Vec<u8>` by a `&[u8]`, without making a key. `NotFound` where no key passes, and for
+    /// an unknown number.
     pub fn find_child<F: Fn(&K) -> bool>(&self, parent: u64, same: F) -> FsResult<u64>
         requires { F.IsAlwaysCallable same }
-        ensures found { IfOk result (λ n. (k : K) × IsChild self.now.keyed parent k n × FnReturnsAt F.Fn same k true) }
-        ensures none { OnErr result ((n : ℕ) (k : K) → IsChild self.now.keyed parent k n → FnReturnsAt F.Fn same k false) }
+        ensures found { IfOk result (λ n. (k : K)
+            × IsChild self.now.keyed parent k n × FnReturnsAt F.Fn same k true) }
+        ensures none { OnErr result ((n : ℕ) (k : K)
+            → IsChild self.now.keyed parent k n → FnReturnsAt F.Fn same k false) }
         ensures error { IfErr result (λ e. e ≡ FsError.NotFound) }
         ensures shape { IsTreeValue K.eq self.now }
         // Where the test tells one key from all others, it is a look-up.
-        ensures by_test { (test : K → Bool) → IsKeyTest K.eq test → ((k : K) (b : Bool) → FnReturnsAt F.Fn same k b → b ≡ test k)
+        ensures by_test { (test : K → Bool) → IsKeyTest K.eq test
+            → ((k : K) (b : Bool) → FnReturnsAt F.Fn same k b → b ≡ test k)
             → result ≡ ok_or (child test self.now.keyed parent) FsError.NotFound }
     {
         let Some(top) = self.nodes.get(&parent) else {
@@ -132,7 +136,8 @@ impl<K: Eq + Hash + Clone, D> Tree<K, D> {
         }
     }
 
-    /// The number of the sibling after a node, `None` for the last one and for the root. `NotFound` for an unknown number.
+    /// The number of the sibling after a node, `None` for the last one and for the root. `NotFound` for an unknown
+    /// number.
     pub fn next_sibling(&self, id: u64) -> FsResult<Option<u64>>
         ensures answer { result ≡ ok_or (if_known self.now id (after self.now id)) FsError.NotFound }
         ensures root { id ≡ 1 → result ≡ Ok None }
@@ -175,7 +180,8 @@ impl<K: Eq + Hash + Clone, D> Tree<K, D> {
     /// for a node with children.
     pub fn delete_node(&mut self, id: u64) -> FsResult<Node<K, D>>
         ensures answer { MatchResult result
-            (λ x. (delete_refusal self.old.keyed id ≡ None) × (item self.old.keyed id ≡ Some x.item) × (self.new.keyed ≡ without self.old.keyed id))
+            (λ x. (delete_refusal self.old.keyed id ≡ None) × (item self.old.keyed id ≡ Some x.item)
+            × (self.new.keyed ≡ without self.old.keyed id))
             (λ e. (delete_refusal self.old.keyed id ≡ Some e) × (self.new ≡ self.old)) }
         ensures shape { IsTreeValue K.eq self.new }
     {
@@ -309,7 +315,8 @@ impl<K: Eq + Hash + Clone, D> Tree<K, D> {
 
     // The first child of a node, if it has a child.
     fn first_below(&self, id: u64) -> Option<u64>
-        ensures { MatchOption result (has_child_of self.now.keyed id ≡ false) (λ n. parent_number self.now.keyed n ≡ Some id) }
+        ensures { MatchOption result (has_child_of self.now.keyed id ≡ false)
+            (λ n. parent_number self.now.keyed n ≡ Some id) }
     {
         match self.nodes.get(&id) {
             Some(node) => node.first_child,
@@ -337,7 +344,7 @@ impl<K: Eq + Hash + Clone, D> Tree<K, D> {
 }
 
 impl<K: Eq + Hash + Clone, D: Drop> Tree<K, D> {
-    /// A root alone, with number 1. `InsufficientStorage` for want of memory.
+    /// A root alone, with number 1. `InsufficientStorage` where it is out of memory.
     pub fn new(alloc: Global, item: D) -> FsResult<Tree<K, D>>
         ensures answer { Answers None result (λ t. t.keyed ≡ lone item) (Unit {0}) }
         ensures shape { IfOk result (IsTreeValue K.eq) }
@@ -362,11 +369,13 @@ impl<K: Eq + Hash + Clone, D: Drop> Tree<K, D> {
 
     /// Adds a child to a node, under a key, and gives its number, which is the next one.
     ///
-    /// `NotFound` for an unknown parent, `Exists` where the key is there and `overwrite` is false, `InsufficientStorage`
-    /// for want of memory and where all numbers to 2^64 - 2 are used up. With `overwrite` the whole old subtree goes.
+    /// `NotFound` for an unknown parent, `Exists` where the key is there and `overwrite` is false,
+    /// `InsufficientStorage` where all numbers to 2^64 - 2 are used up and where it is out of memory. With `overwrite`
+    /// the whole old subtree goes.
     pub fn add_child(&mut self, parent: u64, key: K, item: D, overwrite: bool) -> FsResult<u64>
         ensures answer { Answers (add_refusal K.eq self.old.keyed parent key overwrite) result
-            (λ n. (n ≡ self.old.keyed.next) × (self.new.keyed ≡ add (cleared K.eq self.old.keyed parent key) parent key item))
+            (λ n. (n ≡ self.old.keyed.next)
+            × (self.new.keyed ≡ add (cleared K.eq self.old.keyed parent key) parent key item))
             (self.new ≡ self.old) }
         // With `overwrite`, what goes is exactly the old child and the numbers whose parents lead to it.
         ensures replaced { IfOk result (λ _. (old : ℕ) → child (K.eq key) self.old.keyed parent ≡ Some old
@@ -397,7 +406,9 @@ impl<K: Eq + Hash + Clone, D: Drop> Tree<K, D> {
         requires known { IsKnown self.old.keyed parent }
         requires free { child (K.eq key) self.old.keyed parent ≡ None }
         requires room { self.old.keyed.next ≢ 18446744073709551615 }
-        ensures answer { Answers None result (λ n. (n ≡ self.old.keyed.next) × (self.new.keyed ≡ add self.old.keyed parent key item)) (self.new ≡ self.old) }
+        ensures answer { Answers None result
+            (λ n. (n ≡ self.old.keyed.next) × (self.new.keyed ≡ add self.old.keyed parent key item))
+            (self.new ≡ self.old) }
         ensures shape { IsTreeValue K.eq self.new }
     {
         let id = self.next;
@@ -411,7 +422,9 @@ impl<K: Eq + Hash + Clone, D: Drop> Tree<K, D> {
         requires known { IsKnown self.old.keyed parent }
         requires taken { child (K.eq key) self.old.keyed parent ≡ Some old }
         requires room { self.old.keyed.next ≢ 18446744073709551615 }
-        ensures answer { Answers None result (λ n. (n ≡ self.old.keyed.next) × (self.new.keyed ≡ add (cut self.old.keyed old) parent key item)) (self.new ≡ self.old) }
+        ensures answer { Answers None result
+            (λ n. (n ≡ self.old.keyed.next) × (self.new.keyed ≡ add (cut self.old.keyed old) parent key item))
+            (self.new ≡ self.old) }
         ensures shape { IsTreeValue K.eq self.new }
     {
         let new = self.next;
@@ -422,8 +435,8 @@ impl<K: Eq + Hash + Clone, D: Drop> Tree<K, D> {
         Ok(new)
     }
 
-    /// Takes a node out with all below it: exactly the numbers whose parents lead to it. `NotFound` for an unknown number,
-    /// `Forbidden` for the root.
+    /// Takes a node out with all below it: exactly the numbers whose parents lead to it. `NotFound` for an unknown
+    /// number, `Forbidden` for the root.
     pub fn delete_subtree(&mut self, id: u64) -> FsResult<()>
         ensures answer { MatchResult result
             (λ _. (cut_refusal self.old.keyed id ≡ None) × (self.new.keyed ≡ cut self.old.keyed id))
@@ -488,8 +501,10 @@ impl<K: Eq + Hash + Clone, D: Drop> Tree<K, D> {
         overwrite: bool,
     ) -> FsResult<()>
         ensures answer { MatchResult result
-            (λ _. (move_refusal K.eq self.old.keyed id new_parent new_name overwrite ≡ None) × (self.new.keyed ≡ moved K.eq self.old.keyed id new_parent new_name))
-            (λ e. (move_refusal K.eq self.old.keyed id new_parent new_name overwrite ≡ Some e) × (self.new ≡ self.old)) }
+            (λ _. (move_refusal K.eq self.old.keyed id new_parent new_name overwrite ≡ None)
+            × (self.new.keyed ≡ moved K.eq self.old.keyed id new_parent new_name))
+            (λ e. (move_refusal K.eq self.old.keyed id new_parent new_name overwrite ≡ Some e)
+            × (self.new ≡ self.old)) }
         // So a move is allowed only to a parent outside the node's own subtree, and forbidden only to one within it.
         ensures outside { IfOk result (λ _. ¬ Under (parent_number self.old.keyed) id new_parent) }
         ensures below { IfErr result (λ e. e ≡ FsError.Forbidden → Under (parent_number self.old.keyed) id new_parent) }

@@ -1,4 +1,4 @@
-//! Methods of requests, and sets of them.
+//! The methods of HTTP and WebDAV requests, and sets of methods.
 ghost use Rattle.std.specs.Prelude.{◌≡◌, map, MatchResult};
 ghost use Rattle.std.specs.Borrow.{sem};
 ghost use Rattle.dav_path_core.specs.MethodSets.{bits, with_method, without_method, has_method, words, entry_of, bits_in, bits_of_words};
@@ -6,7 +6,7 @@ ghost use Rattle.dav_path_core.specs.MethodSets.{bits, with_method, without_meth
 use http::Method;
 use thiserror::Error;
 
-/// A method, with its bit in a set.
+/// A method of a request. Its number is the bit that stands for it in a `DavMethodSet`.
 #[derive(Debug, Clone, Copy, PartialEq, Eq, Hash)]
 pub enum DavMethod {
     Head = 0x1,
@@ -27,12 +27,12 @@ pub enum DavMethod {
     MkAddressbook = 0x8000,
 }
 
-/// A word stands for no method.
+/// The error where a word names no method.
 #[derive(Debug, Drop, Clone, Copy, PartialEq, Eq, Error)]
 #[error("InvalidMethod")]
 pub struct InvalidMethod;
 
-/// The method with exactly this word, in upper case.
+/// The method whose name, in upper case, is exactly that of the `http` crate's method.
 impl TryFrom<&Method> for DavMethod {
     ghost use Rattle.std.specs.Prelude.{◌≡◌, ◌≢◌, MatchResult};
     ghost use Rattle.dav_path_core.specs.declared.util.DavMethod.{DavMethod};
@@ -40,7 +40,8 @@ impl TryFrom<&Method> for DavMethod {
 
     type Error = InvalidMethod;
 
-    ghost try_from_gives = { λ method r. MatchResult r (λ m. word m ≡ method.now) (λ _. (m : DavMethod) → word m ≢ method.now) };
+    ghost try_from_gives = { λ method r. MatchResult r (λ m. word m ≡ method.now)
+        (λ _. (m : DavMethod) → word m ≢ method.now) };
 
     fn try_from(method: &Method) -> Result<DavMethod, InvalidMethod> {
         match method.as_str() {
@@ -65,7 +66,7 @@ impl TryFrom<&Method> for DavMethod {
     }
 }
 
-/// A set of methods, as their bits.
+/// A set of methods: a number that has the bit of each of them.
 #[derive(Debug, Clone, Copy)]
 pub struct DavMethodSet(u32);
 
@@ -106,7 +107,7 @@ impl DavMethodSet {
         DavMethodSet(0)
     }
 
-    /// Puts a method in, and shows the set.
+    /// Puts a method in, and answers a reference to the set.
     pub fn add(&mut self, method: DavMethod) -> &Self
         ensures* after { sem 𝓛 (EndsAs self.entry (with_method (bits self.old) method)) }
         ensures shown { bits result.now ≡ with_method (bits self.old) method }
@@ -115,7 +116,7 @@ impl DavMethodSet {
         self
     }
 
-    /// Takes a method out, and shows the set.
+    /// Takes a method out, and answers a reference to the set.
     pub fn remove(&mut self, method: DavMethod) -> &Self
         ensures* after { sem 𝓛 (EndsAs self.entry (without_method (bits self.old) method)) }
         ensures shown { bits result.now ≡ without_method (bits self.old) method }
@@ -131,8 +132,9 @@ impl DavMethodSet {
         self.0 & (method as u32) != 0
     }
 
-    /// The set that words stand for: the methods' words, and `http-ro`, `http-rw`, `webdav-ro` and `webdav-rw` for the
-    /// constants. The case of ASCII letters plays no part. `InvalidMethod` where one of them is another word.
+    /// The set of all methods that the words name: `get`, `put` and so on for one method, and `http-ro`, `http-rw`,
+    /// `webdav-ro` and `webdav-rw` for the constants of these names. Upper and lower case are the same.
+    /// `InvalidMethod` where a word is none of these.
     pub fn from_vec(words: &[&str]) -> Result<DavMethodSet, InvalidMethod>
         ensures { MatchResult result (λ set. bits_of_words (map (λ w. w.now) words.now) ≡ Some (bits set))
             (λ _. bits_of_words (map (λ w. w.now) words.now) ≡ None) }

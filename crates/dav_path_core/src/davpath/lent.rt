@@ -1,4 +1,4 @@
-//! A path that is lent: its bytes, without a prefix.
+//! A borrowed path: it reads the bytes of another value, as a `&str` reads those of a `String`.
 ghost use Rattle.std.specs.Prelude.{◌≡◌, ◌≤◌, ◌<◌, ◌^◌, ◌↔◌, length, string_bytes, true, false, IsSome, IfSome, MatchOption, IfOk, IfErr};
 ghost use Rattle.std.specs.List.{before_last, list_any};
 ghost use Rattle.std.specs.Str.{IsUtf8};
@@ -14,7 +14,7 @@ use super::{ParseError, Segments};
 use std::alloc::Global;
 use std::marker::Model;
 
-/// A path, lent: its bytes, of which none are a prefix.
+/// A borrowed path. All its bytes are path: it has no prefix.
 #[derive(Drop, Clone)]
 pub struct DavPathRef<'a> {
     bytes: &'a [u8],
@@ -88,8 +88,8 @@ impl<'a> DavPathRef<'a> {
         }
     }
 
-    /// The URL text (RFC 3986 section 2.1): ASCII letters and digits, `-`, `_`, `.`, `~` and `/` as they are, any other byte
-    /// as `%` and two upper-case hexadecimal digits. `OutOfMemory` alone.
+    /// The URL text (RFC 3986 section 2.1): ASCII letters and digits, `-`, `_`, `.`, `~` and `/` as they are, any other
+    /// byte as `%` and two upper-case hexadecimal digits. `OutOfMemory` alone.
     pub fn as_url_string(&self, alloc: Global) -> Result<String, ParseError>
         ensures ok { IfOk result (λ text. string_bytes text ≡ url self.now) }
         ensures law { IfOk result (λ text. KeepsPath (string_bytes text) self.now) }
@@ -98,10 +98,11 @@ impl<'a> DavPathRef<'a> {
         Ok(url_text(alloc, self.bytes)?)
     }
 
-    /// The bytes as a text, without one slash at the end where there are more. None where that is no UTF-8. `OutOfMemory`
-    /// alone.
+    /// The bytes as a text, without one slash at the end where there are more bytes. None where that is no UTF-8.
+    /// `OutOfMemory` alone.
     pub fn as_pathbuf(&self, alloc: Global) -> Result<Option<String>, ParseError>
-        ensures ok { IfOk result (λ found. (IsSome found ↔ IsUtf8 (trimmed self.now)) × IfSome found (λ text. string_bytes text ≡ trimmed self.now)) }
+        ensures ok { IfOk result (λ found. (IsSome found ↔ IsUtf8 (trimmed self.now))
+            × IfSome found (λ text. string_bytes text ≡ trimmed self.now)) }
         ensures err { IfErr result (λ e. e ≡ ParseError.OutOfMemory) }
     {
         match str::from_utf8(trim_slash(self.bytes)) {
@@ -136,7 +137,7 @@ fn before_last_slash(bytes: &[u8]) -> Option<&[u8]>
     None
 }
 
-/// The bytes without one slash at the end, where there are more.
+/// The bytes without one slash at the end, where there are more bytes.
 pub(super) fn trim_slash(bytes: &[u8]) -> &[u8]
     ensures { result.now ≡ trimmed bytes.now }
 {

@@ -64,9 +64,11 @@ fn is_foreign_piece(piece: &[u8]) -> bool
 
 // Takes one piece more: drops it, drops the last one kept, or keeps it.
 fn take_piece(kept: &mut Vec<Vec<u8>>, piece: Vec<u8>) -> Result<(), ParseError>
-    ensures ok { OnOk result (Takes (map (λ w. w.items) kept.old.items) piece.items (map (λ w. w.items) kept.new.items)) }
+    ensures ok { OnOk result
+        (Takes (map (λ w. w.items) kept.old.items) piece.items (map (λ w. w.items) kept.new.items)) }
     ensures clean { OnOk result (¬ IsForeign piece.items) }
-    ensures err { IfErr result (λ e. (e ≡ ParseError.OutOfMemory) ⊎ Refuses (map (λ w. w.items) kept.old.items) piece.items e) }
+    ensures err { IfErr result (λ e. (e ≡ ParseError.OutOfMemory)
+        ⊎ Refuses (map (λ w. w.items) kept.old.items) piece.items e) }
 {
     if is_foreign_piece(&piece) {
         return Err(ParseError::InvalidPath);

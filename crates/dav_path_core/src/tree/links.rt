@@ -6,7 +6,7 @@ use super::Node;
 use crate::errors::{FsError, FsResult};
 use std::collections::BTreeMap;
 
-/// Puts a new node at a number, the first child of its parent. `InsufficientStorage` for want of memory.
+/// Puts a new node at a number, the first child of its parent. `InsufficientStorage` where it is out of memory.
 pub(super) fn put_new<K: Drop, D: Drop>(
     nodes: &mut BTreeMap<u64, Node<K, D>>,
     id: u64,
@@ -14,7 +14,9 @@ pub(super) fn put_new<K: Drop, D: Drop>(
     key: K,
     item: D,
 ) -> FsResult<()>
-    ensures ok { OnOk result (node_at nodes.new.entries ≡ put_before (with_node (node_at nodes.old.entries) id (Some (new_node parent key item (first_in (node_at nodes.old.entries) parent))))
+    ensures ok { OnOk result (node_at nodes.new.entries ≡ put_before
+        (with_node (node_at nodes.old.entries) id
+        (Some (new_node parent key item (first_in (node_at nodes.old.entries) parent))))
         parent id (first_in (node_at nodes.old.entries) parent)) }
     ensures err { OnErr result (nodes.new.entries ≡ nodes.old.entries) }
     ensures error { IfErr result (λ e. e ≡ FsError.InsufficientStorage) }
@@ -32,7 +34,7 @@ pub(super) fn put_new<K: Drop, D: Drop>(
     Ok(())
 }
 
-/// Puts a node at a number. `InsufficientStorage` for want of memory.
+/// Puts a node at a number. `InsufficientStorage` where it is out of memory.
 fn put_in<K: Drop, D: Drop>(
     nodes: &mut BTreeMap<u64, Node<K, D>>,
     id: u64,
@@ -135,7 +137,8 @@ pub(super) fn set_parent_and_key<K: Drop, D>(
 /// Hangs a child of `above` below another node, first there, under the key that it has.
 pub(super) fn hang<K, D>(nodes: &mut BTreeMap<u64, Node<K, D>>, id: u64, above: u64, parent: u64)
     ensures { (x : Node K D) (r : ℕ) (k : K) → Some x ≡ node_at nodes.old.entries id → x.parent_and_key ≡ Some (r, k)
-        → node_at nodes.new.entries ≡ put_before (with_parent_and_key (closed_up (node_at nodes.old.entries) above x.previous_sibling x.next_sibling) id parent k
+        → node_at nodes.new.entries ≡ put_before
+        (with_parent_and_key (closed_up (node_at nodes.old.entries) above x.previous_sibling x.next_sibling) id parent k
         (first_in (closed_up (node_at nodes.old.entries) above x.previous_sibling x.next_sibling) parent)) parent id
         (first_in (closed_up (node_at nodes.old.entries) above x.previous_sibling x.next_sibling) parent) }
 {

@@ -41,7 +41,7 @@ impl<K: Drop> Iterator for Children<K> {
 impl<K: Eq + Hash + Clone, D> Tree<K, D> {
     /// The children of a node, each once, in an open order, with clones of their keys. A clone has to equal its key.
     ///
-    /// `NotFound` for an unknown number, and else `InsufficientStorage` for want of memory.
+    /// `NotFound` for an unknown number, and else `InsufficientStorage` where it is out of memory.
     pub fn get_children(&self, parent: u64) -> FsResult<Children<K>>
         requires clones_equal { (k l : K) → K.is_clone k l → K.eq k l ≡ true }
         ensures children { IfOk result (ListsChildren K.eq self.now parent) }

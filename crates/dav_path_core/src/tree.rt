@@ -14,7 +14,7 @@ mod listing;
 use crate::errors::{FsError, FsResult};
 pub use listing::Children;
 use std::alloc::Global;
-use std::collections::BTreeMap;
+use std::collections::HashMap;
 use std::hash::Hash;
 use std::marker::Model;
 
@@ -36,7 +36,7 @@ pub struct Node<K, D> {
 /// node under one key.
 #[derive(Drop)]
 pub struct Tree<K: Eq + Hash, D> {
-    nodes: BTreeMap<u64, Node<K, D>>,
+    nodes: HashMap<u64, Node<K, D>>,
     next: u64,
     alloc: Global,
 }
@@ -349,7 +349,7 @@ impl<K: Eq + Hash + Clone, D: Drop> Tree<K, D> {
         ensures answer { Answers None result (λ t. t.keyed ≡ lone item) (Unit {0}) }
         ensures shape { IfOk result (IsTreeValue K.eq) }
     {
-        let mut nodes = BTreeMap::new(alloc);
+        let mut nodes = HashMap::new(alloc);
         let root = Node {
             item,
             parent_and_key: None,

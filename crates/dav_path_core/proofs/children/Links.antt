@@ -1,8 +1,7 @@
 -- What the links of a tree's nodes tell, and what a change of the tree does to them.
-use Rattle.std.proofs.Common.{◌≡◌, ◌≢◌, ◌+◌, ◌==◌, ℕ, Bool, is_some, IsSome, true, false, cond, List, [], ◌∷◌, Some, None, Option, refl, ap, sym, ◌∙◌, subst, inl, inr, arith}
-use Rattle.std.specs.Ordering.{nat_cmp}
+use Rattle.std.proofs.Common.{nat_eq, ◌≡◌, ◌≢◌, ◌+◌, ◌==◌, ℕ, Bool, is_some, IsSome, true, false, cond, List, [], ◌∷◌, Some, None, Option, refl, ap, sym, ◌∙◌, subst, inl, inr, arith}
 use Rattle.std.specs.Option.{option_map}
-use Rattle.std.specs.BTreeMap.{BTreeMap, Updates, WritesThrough}
+use Rattle.std.specs.HashMap.{HashMap, Updates, WritesThrough}
 use Rattle.std.proofs.lemmas.Bool.{cases_eq, false≢true}
 use Rattle.dav_path_core.specs.declared.tree.Node.{Node}
 use Rattle.dav_path_core.specs.Keyed.{Entry, parent_and_key, parent_and_key_of, parent, child, add, IsKnown, IsTree}
@@ -12,7 +11,7 @@ use Rattle.dav_path_core.specs.View.{entry_of, links_of, keyed_of, tree_value_of
 use Rattle.dav_path_core.specs.Private.Nodes.{node_at, parent_in, first_in, next_in, previous_in, previous_of, IsChained, IsLinked, with_node, changed, with_first, with_next, with_previous, led_back, put_before}
 use Rattle.dav_path_core.proofs.trees.Trees.{none≢some, same_some, known_from_parent, IsTree-add, IsTree-lone, IsTree-with_item}
 use Rattle.dav_path_core.proofs.children.Chains.{no_distinct, Linked-put, first_child_of}
-use Rattle.dav_path_core.proofs.children.Views.{with_node-here, with_node-other, get-seen, known-view, entry-view, changed-here, changed-other, changed-keeps, view-add, view-lone, node_at-updated, mapped-some, view-write, write-keeps}
+use Rattle.dav_path_core.proofs.children.Views.{Hasher, with_node-here, with_node-other, get-seen, known-view, entry-view, changed-here, changed-other, changed-keeps, view-add, view-lone, node_at-updated, mapped-some, view-write, write-keeps}
 
 siblings : (after before : ℕ → Option ℕ) (b o : Option ℕ) (ks : List ℕ) → Chain after before b o ks → Siblings after o ks
 siblings after before b o [] c = subst (λ v. Siblings after v []) (sym c) done
@@ -81,7 +80,7 @@ module _ {K D : Type 0} where
       (subst (λ f. Linked (parent_in at) (first_in at) f (previous_in at')) (λ i q. sym (h (λ o. links_after (option_map links_of o)) (λ n w. refl) q) i)
       (subst (λ f. Linked (parent_in at) (first_in at) (next_in at) f) (λ i q. sym (h previous_of (λ n w. refl) q) i) chained)))
 
-  pub IsLinked-write : (eq : K → K → Bool) (m n : BTreeMap ℕ (Node K D)) (next k : ℕ) (v : Node K D) (w : D) → Some v ≡ node_at m.entries k → WritesThrough nat_cmp (nat_cmp k) m (record v { item = w }) n → IsLinked eq m.entries next → IsLinked eq n.entries next
+  pub IsLinked-write : (eq : K → K → Bool) (m n : HashMap ℕ (Node K D) Hasher) (next k : ℕ) (v : Node K D) (w : D) → Some v ≡ node_at m.entries k → WritesThrough nat_eq (nat_eq k) m (record v { item = w }) n → IsLinked eq m.entries next → IsLinked eq n.entries next
   IsLinked-write eq m n next k v w at h linked =
       let keeps : (f : Option (Node K D) → Option ℕ) → ((x : Node K D) (d : D) → f (Some (record x { item = d })) ≡ f (Some x)) → (q : ℕ) → f (node_at n.entries q) ≡ f (node_at m.entries q) =
       λ f e. write-keeps m n next k v w at h f (e v w) in
@@ -92,7 +91,7 @@ module _ {K D : Type 0} where
       }
 
   -- ---- a root alone
-  pub IsLinked-lone : (eq : K → K → Bool) (m n : BTreeMap ℕ (Node K D)) (v : Node K D) → m.entries ≡ [] → v.parent_and_key ≡ None → v.first_child ≡ None → v.next_sibling ≡ None → Updates nat_cmp m n 1 (Some v) → IsLinked eq n.entries 2
+  pub IsLinked-lone : (eq : K → K → Bool) (m n : HashMap ℕ (Node K D) Hasher) (v : Node K D) → m.entries ≡ [] → v.parent_and_key ≡ None → v.first_child ≡ None → v.next_sibling ≡ None → Updates nat_eq m n 1 (Some v) → IsLinked eq n.entries 2
   IsLinked-lone eq m n v nil at first_none after_none h =
       let is : node_at n.entries ≡ with_node (λ _. None) 1 (Some v) = node_at-updated m n 1 (Some v) h ∙ ap (λ (es : List (ℕ × Node K D)). with_node (node_at es) 1 (Some v)) nil in
       record {

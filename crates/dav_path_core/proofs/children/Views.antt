@@ -1,11 +1,13 @@
 -- What the view of a tree answers, by the entries of its map.
-use Rattle.std.proofs.Common.{◌≡◌, ◌≢◌, ◌+◌, ◌==◌, ℕ, Bool, is_some, true, false, cond, List, [], ◌∷◌, Some, None, Option, refl, ap, sym, ◌∙◌, subst, inl, inr}
+use Rattle.std.proofs.Common.{◌≡◌, nat_eq, ◌≢◌, ◌+◌, ◌==◌, ℕ, Bool, is_some, true, false, cond, List, [], ◌∷◌, Some, None, Option, refl, ap, sym, ◌∙◌, subst, inl, inr}
 use Rattle.std.specs.Ordering.{nat_cmp, eq_by_cmp}
 use Rattle.std.specs.Cmp.{nat_cmp_total, unsigned_tied}
 use Rattle.std.specs.Option.{option_map}
 use Rattle.std.specs.Map.{lookup}
-use Rattle.std.specs.BTreeMap.{BTreeMap, is_at, Updates, WritesThrough}
-use Rattle.std.proofs.lemmas.Cmp.{eq_by_cmp_equiv}
+use Rattle.std.specs.HashMap.{HashMap, Updates, WritesThrough}
+use Rattle.std.specs.declared.hash.FoldHasher.{FoldHasher}
+use Rattle.std.specs.declared.hash.BuildHasherDefault.{BuildHasherDefault}
+use Rattle.std.proofs.lemmas.Cmp.{nat_eq_equiv}
 use Rattle.std.proofs.lemmas.Bool.{cases_eq, eq-eqb, ne_eqb}
 use Rattle.std.specs.FinMap.{FinMap, get, find, from_entries, insert, empty, get-insert, get-from_entries, same_map, nat_cmp-IsAntisymmetric}
 use Rattle.std.proofs.lemmas.Map.Made.{lookup-map_values}
@@ -14,12 +16,16 @@ use Rattle.dav_path_core.specs.Keyed.{Entry, Keyed, entry, lone, add, with_item,
 use Rattle.dav_path_core.specs.View.{entry_of, links_of, seen, keyed_of, tree_value_of}
 use Rattle.dav_path_core.specs.Private.Nodes.{node_at, with_node, changed}
 
-pub find-lookup : {X : Type 0} (q : ℕ) (es : List (ℕ × X)) → find nat_cmp q es ≡ lookup (is_at (nat_cmp q)) es
-find-lookup q [] = refl
-find-lookup q (e ∷ es) = ap (cond (eq_by_cmp nat_cmp q e.0) (Some e.1)) (find-lookup q es)
+-- how the map of nodes hashes its numbers
+abbrev pub Hasher : Type 0
+Hasher = BuildHasherDefault FoldHasher
 
-turned : (k q : ℕ) → eq_by_cmp nat_cmp k q ≡ (q == k)
-turned k q = (eq_by_cmp_equiv nat_cmp_total).symm k q ∙ unsigned_tied q k
+pub find-lookup : {X : Type 0} (q : ℕ) (es : List (ℕ × X)) → find nat_cmp q es ≡ lookup (nat_eq q) es
+find-lookup q [] = refl
+find-lookup q (e ∷ es) = ap (cond (eq_by_cmp nat_cmp q e.0) (Some e.1)) (find-lookup q es) ∙ ap (λ b. cond b (Some e.1) (lookup (nat_eq q) es)) (unsigned_tied q e.0)
+
+turned : (k q : ℕ) → nat_eq k q ≡ (q == k)
+turned k q = nat_eq_equiv.symm k q
 
 -- two maps with the same look-ups
 same : {Y : Type 0} (m n : FinMap nat_cmp Y) → ((q : ℕ) → get m q ≡ get n q) → m ≡ n
@@ -48,7 +54,7 @@ module _ {K D : Type 0} where
   branch f false v o = refl
 
   -- the nodes after an update of the map
-  pub node_at-updated : (m n : BTreeMap ℕ (Node K D)) (k : ℕ) (o : Option (Node K D)) → Updates nat_cmp m n k o → node_at n.entries ≡ with_node (node_at m.entries) k o
+  pub node_at-updated : (m n : HashMap ℕ (Node K D) Hasher) (k : ℕ) (o : Option (Node K D)) → Updates nat_eq m n k o → node_at n.entries ≡ with_node (node_at m.entries) k o
   node_at-updated m n k o h = λ i q. (h.0 q ∙ ap (λ b. cond b o (node_at m.entries q)) (turned k q)) i
 
   pub seen-insert : {Y : Type 0} (f : Node K D → Y) (es fs : List (ℕ × Node K D)) (k : ℕ) (v : Node K D) → ((q : ℕ) → option_map f (node_at fs q) ≡ option_map f (with_node (node_at es) k (Some v) q))
@@ -72,7 +78,7 @@ module _ {K D : Type 0} where
       (seen-insert entry_of es fs next v h
       ∙ ap (λ (w : Option (ℕ × K)). let e : Entry K D = record { parent_and_key = w; item = v.item } in insert (from_entries {R = nat_cmp} (seen entry_of es)) next e) at)
 
-  pub view-lone : (m n : BTreeMap ℕ (Node K D)) (v : Node K D) → m.entries ≡ [] → v.parent_and_key ≡ None → Updates nat_cmp m n 1 (Some v) → keyed_of n.entries 2 ≡ lone v.item
+  pub view-lone : (m n : HashMap ℕ (Node K D) Hasher) (v : Node K D) → m.entries ≡ [] → v.parent_and_key ≡ None → Updates nat_eq m n 1 (Some v) → keyed_of n.entries 2 ≡ lone v.item
   view-lone m n v nil at h =
       ap (λ (f : FinMap nat_cmp (Entry K D)). let t : Keyed K D = record { nodes = f; next = 2 } in t)
       (seen-insert entry_of m.entries n.entries 1 v (λ q. ap (λ g. option_map entry_of (g q)) (node_at-updated m n 1 (Some v) h))
@@ -80,7 +86,7 @@ module _ {K D : Type 0} where
       ∙ ap (λ (w : Option (ℕ × K)). let e : Entry K D = record { parent_and_key = w; item = v.item } in insert (empty {R = nat_cmp}) 1 e) at)
 
   -- a write of an item through a reference into the map
-  module _ (m n : BTreeMap ℕ (Node K D)) (next k : ℕ) (v : Node K D) (w : D) (at : Some v ≡ node_at m.entries k) (h : WritesThrough nat_cmp (nat_cmp k) m (record v { item = w }) n) where
+  module _ (m n : HashMap ℕ (Node K D) Hasher) (next k : ℕ) (v : Node K D) (w : D) (at : Some v ≡ node_at m.entries k) (h : WritesThrough nat_eq (nat_eq k) m (record v { item = w }) n) where
     written : node_at n.entries ≡ with_node (node_at m.entries) k (Some (record v { item = w }))
     written = node_at-updated m n k (Some (record v { item = w })) (h.3 (ap is_some (sym at)))
 

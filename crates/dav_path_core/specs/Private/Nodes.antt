@@ -1,9 +1,7 @@
 -- What the fields of a `Tree` keep, and what each write of a link makes of its nodes (own).
-use Rattle.std.specs.Prelude.{◌≡◌, ℕ, ◌==◌, Bool, if◌then◌else◌, List, Option, Some, None}
-use Rattle.std.specs.Ordering.{nat_cmp}
+use Rattle.std.specs.Prelude.{◌≡◌, ℕ, ◌==◌, nat_eq, Bool, if◌then◌else◌, List, Option, Some, None}
 use Rattle.std.specs.Option.{option_map}
 use Rattle.std.specs.Map.{lookup}
-use Rattle.std.specs.BTreeMap.{is_at}
 use Rattle.dav_path_core.specs.declared.tree.Node.{Node}
 use Rattle.dav_path_core.specs.Keyed.{IsTree, parent_and_key_of}
 use Rattle.dav_path_core.specs.TreeValue.{links_first, links_after}
@@ -17,7 +15,7 @@ module _ {K D : Type 0} where
 
   -- what stands at a number
   abbrev pub node_at : List (ℕ × Node K D) → ℕ → Option (Node K D)
-  node_at es n = lookup (is_at (nat_cmp n)) es
+  node_at es n = lookup (nat_eq n) es
 
   abbrev pub parent_in : (ℕ → Option (Node K D)) → ℕ → Option ℕ
   parent_in at n = option_map (λ q. q.0) (parent_and_key_of (option_map entry_of (at n)))

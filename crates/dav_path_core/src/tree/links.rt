@@ -4,11 +4,11 @@ ghost use Rattle.dav_path_core.specs.Private.Nodes.{node_at, first_in, next_in, 
 
 use super::Node;
 use crate::errors::{FsError, FsResult};
-use std::collections::BTreeMap;
+use std::collections::HashMap;
 
 /// Puts a new node at a number, the first child of its parent. `InsufficientStorage` where it is out of memory.
 pub(super) fn put_new<K: Drop, D: Drop>(
-    nodes: &mut BTreeMap<u64, Node<K, D>>,
+    nodes: &mut HashMap<u64, Node<K, D>>,
     id: u64,
     parent: u64,
     key: K,
@@ -36,7 +36,7 @@ pub(super) fn put_new<K: Drop, D: Drop>(
 
 /// Puts a node at a number. `InsufficientStorage` where it is out of memory.
 fn put_in<K: Drop, D: Drop>(
-    nodes: &mut BTreeMap<u64, Node<K, D>>,
+    nodes: &mut HashMap<u64, Node<K, D>>,
     id: u64,
     node: Node<K, D>,
 ) -> FsResult<()>
@@ -51,7 +51,7 @@ fn put_in<K: Drop, D: Drop>(
 }
 
 /// The first child of a node, `None` for an unknown number too.
-pub(super) fn first_of<K, D>(nodes: &BTreeMap<u64, Node<K, D>>, id: u64) -> Option<u64>
+pub(super) fn first_of<K, D>(nodes: &HashMap<u64, Node<K, D>>, id: u64) -> Option<u64>
     ensures { result ≡ first_in (node_at nodes.now.entries) id }
 {
     match nodes.get(&id) {
@@ -60,7 +60,7 @@ pub(super) fn first_of<K, D>(nodes: &BTreeMap<u64, Node<K, D>>, id: u64) -> Opti
     }
 }
 
-fn set_first<K, D>(nodes: &mut BTreeMap<u64, Node<K, D>>, id: u64, to: Option<u64>)
+fn set_first<K, D>(nodes: &mut HashMap<u64, Node<K, D>>, id: u64, to: Option<u64>)
     ensures { node_at nodes.new.entries ≡ with_first (node_at nodes.old.entries) id to }
 {
     if let Some(node) = nodes.get_mut(&id) {
@@ -68,7 +68,7 @@ fn set_first<K, D>(nodes: &mut BTreeMap<u64, Node<K, D>>, id: u64, to: Option<u6
     }
 }
 
-fn set_next<K, D>(nodes: &mut BTreeMap<u64, Node<K, D>>, id: u64, to: Option<u64>)
+fn set_next<K, D>(nodes: &mut HashMap<u64, Node<K, D>>, id: u64, to: Option<u64>)
     ensures { node_at nodes.new.entries ≡ with_next (node_at nodes.old.entries) id to }
 {
     if let Some(node) = nodes.get_mut(&id) {
@@ -76,7 +76,7 @@ fn set_next<K, D>(nodes: &mut BTreeMap<u64, Node<K, D>>, id: u64, to: Option<u64
     }
 }
 
-fn set_previous<K, D>(nodes: &mut BTreeMap<u64, Node<K, D>>, id: u64, to: Option<u64>)
+fn set_previous<K, D>(nodes: &mut HashMap<u64, Node<K, D>>, id: u64, to: Option<u64>)
     ensures { node_at nodes.new.entries ≡ with_previous (node_at nodes.old.entries) id to }
 {
     if let Some(node) = nodes.get_mut(&id) {
@@ -86,7 +86,7 @@ fn set_previous<K, D>(nodes: &mut BTreeMap<u64, Node<K, D>>, id: u64, to: Option
 
 /// Puts a node before the first child of its parent.
 pub(super) fn put_before<K, D>(
-    nodes: &mut BTreeMap<u64, Node<K, D>>,
+    nodes: &mut HashMap<u64, Node<K, D>>,
     parent: u64,
     id: u64,
     first: Option<u64>,
@@ -101,7 +101,7 @@ pub(super) fn put_before<K, D>(
 
 /// Leads the neighbours of a child of `parent` to each other.
 pub(super) fn close_up<K, D>(
-    nodes: &mut BTreeMap<u64, Node<K, D>>,
+    nodes: &mut HashMap<u64, Node<K, D>>,
     parent: u64,
     before: Option<u64>,
     after: Option<u64>,
@@ -119,7 +119,7 @@ pub(super) fn close_up<K, D>(
 
 /// Gives a node a parent and a key there, before the sibling `first`.
 pub(super) fn set_parent_and_key<K: Drop, D>(
-    nodes: &mut BTreeMap<u64, Node<K, D>>,
+    nodes: &mut HashMap<u64, Node<K, D>>,
     id: u64,
     parent: u64,
     key: K,
@@ -135,7 +135,7 @@ pub(super) fn set_parent_and_key<K: Drop, D>(
 }
 
 /// Hangs a child of `above` below another node, first there, under the key that it has.
-pub(super) fn hang<K, D>(nodes: &mut BTreeMap<u64, Node<K, D>>, id: u64, above: u64, parent: u64)
+pub(super) fn hang<K, D>(nodes: &mut HashMap<u64, Node<K, D>>, id: u64, above: u64, parent: u64)
     ensures { (x : Node K D) (r : ℕ) (k : K) → Some x ≡ node_at nodes.old.entries id → x.parent_and_key ≡ Some (r, k)
         → node_at nodes.new.entries ≡ put_before
         (with_parent_and_key (closed_up (node_at nodes.old.entries) above x.previous_sibling x.next_sibling) id parent k
@@ -149,7 +149,7 @@ pub(super) fn hang<K, D>(nodes: &mut BTreeMap<u64, Node<K, D>>, id: u64, above: 
     put_before(nodes, parent, id, first);
 }
 
-fn neighbours<K, D>(nodes: &BTreeMap<u64, Node<K, D>>, id: u64) -> (Option<u64>, Option<u64>)
+fn neighbours<K, D>(nodes: &HashMap<u64, Node<K, D>>, id: u64) -> (Option<u64>, Option<u64>)
     ensures { result ≡ (previous_in (node_at nodes.now.entries) id, next_in (node_at nodes.now.entries) id) }
 {
     match nodes.get(&id) {
@@ -158,7 +158,7 @@ fn neighbours<K, D>(nodes: &BTreeMap<u64, Node<K, D>>, id: u64) -> (Option<u64>,
     }
 }
 
-fn set_parent<K, D>(nodes: &mut BTreeMap<u64, Node<K, D>>, id: u64, parent: u64, first: Option<u64>)
+fn set_parent<K, D>(nodes: &mut HashMap<u64, Node<K, D>>, id: u64, parent: u64, first: Option<u64>)
     ensures { node_at nodes.new.entries ≡ with_parent (node_at nodes.old.entries) id parent first }
 {
     if let Some(node) = nodes.get_mut(&id) {

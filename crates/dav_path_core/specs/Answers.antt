@@ -1,9 +1,9 @@
--- What a call answers, by what its definition says; out of memory may come before any other refusal.
+-- What a call answers, by what its definition says; that it is out of memory may come before any other refusal.
 use Rattle.std.specs.Prelude.{◌≡◌, ◌⊎◌, Option, Some, None, Result, Ok, Err}
 use Rattle.dav_path_core.specs.declared.errors.FsError.{FsError}
 use Rattle.dav_path_core.specs.declared.errors.FsError.TheVariants.{InsufficientStorage}
 
--- Ok with P where nothing refuses, and else that refusal or out of memory, and Q
+-- Ok with P where nothing refuses; else that refusal, or the one for out of memory, and Q
 abbrev pub Answers : {T : Type 0} → Option FsError → Result T FsError → (T → Type 0) → Type 0 → Type 0
 Answers refusal (Ok x) P Q = (refusal ≡ None) × P x
 Answers refusal (Err e) P Q = ((e ≡ InsufficientStorage) ⊎ (refusal ≡ Some e)) × Q

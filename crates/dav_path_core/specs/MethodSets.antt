@@ -1,6 +1,5 @@
 -- Sets of methods, as their bits, and the words that stand for them (own).
 use Rattle.std.specs.Prelude.{ℕ, Bool, ◌==◌, not, if◌then◌else◌, List, [], ◌∷◌, map, Option, Some, None, codes, bit_and, bit_or}
-use Rattle.std.specs.Borrow.{Bor}
 use Rattle.std.specs.Char.{to_ascii_lowercase}
 use Rattle.std.specs.Int.{bit_not, w32}
 use Rattle.std.specs.List.{fold}
@@ -41,10 +40,6 @@ is_same_word a b = bytes_eq (map to_ascii_lowercase a) (map to_ascii_lowercase b
 abbrev pub bits_in : List (List ℕ × ℕ) → List ℕ → Option ℕ
 bits_in [] word = None
 bits_in (entry ∷ entries) word = if is_same_word word entry.0 then Some entry.1 else bits_in entries word
-
--- an entry of a table of texts
-abbrev pub entry_of : Bor (List ℕ) × ℕ → List ℕ × ℕ
-entry_of entry = (entry.0.now, entry.1)
 
 -- the bits so far with those of one word more; none where it is no word
 abbrev pub with_word : Option ℕ → List ℕ → Option ℕ

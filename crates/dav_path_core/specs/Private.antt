@@ -1,4 +1,5 @@
--- Words of private contracts: no contract of a public call speaks of them.
+-- Words of private fields and of private contracts: no contract of a public call speaks of them.
 pub mod Chains
 pub mod Keeping
 pub mod Nodes
+pub mod Tables

@@ -1,7 +1,8 @@
 //! The methods of HTTP and WebDAV requests, and sets of methods.
 ghost use Rattle.std.specs.Prelude.{◌≡◌, map, MatchResult};
 ghost use Rattle.std.specs.Borrow.{sem};
-ghost use Rattle.dav_path_core.specs.MethodSets.{bits, with_method, without_method, has_method, words, entry_of, bits_in, bits_of_words};
+ghost use Rattle.dav_path_core.specs.MethodSets.{bits, with_method, without_method, has_method, words, bits_in, bits_of_words};
+ghost use Rattle.dav_path_core.specs.Private.Tables.{entry_of};
 
 use http::Method;
 use thiserror::Error;

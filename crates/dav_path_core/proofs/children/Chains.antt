@@ -1,20 +1,16 @@
 -- Lists of children as links between numbers: a new first child, and one taken out.
-use Rattle.std.proofs.Common.{◌≡◌, ◌≢◌, ℕ, ◌==◌, ◌||◌, Bool, true, false, cond, ◌⊎◌, List, [], ◌∷◌, Some, None, Option, refl, ap, sym, ◌∙◌, subst, inl, inr, eqb}
+use Rattle.std.proofs.Common.{◌≡◌, ◌≢◌, ℕ, ◌==◌, ◌||◌, false, cond, ◌⊎◌, List, [], ◌∷◌, Some, None, Option, refl, ap, sym, ◌∙◌, subst, inl, inr, eqb}
 use Rattle.std.specs.List.{list_any, IsDistinct, AllByRecursion}
-use Rattle.std.proofs.lemmas.Bool.{cases_eq, eq-eqb, ne_eqb, eqb-true, or_cases, false≢true, true≢false, false_from_ne_true}
+use Rattle.std.proofs.lemmas.Bool.{cases_eq, eq-eqb, ne_eqb, eqb-true, or_cases, false≢true, true≢false, false_from_ne_true, or_right}
 use Rattle.dav_path_core.specs.Private.Chains.{IsIn, Chain, IsChainOf, Linked}
 use Rattle.dav_path_core.proofs.trees.Trees.{none≢some, same_some}
-
-right_or : (a b : Bool) → b ≡ true → (a || b) ≡ true
-right_or true b h = refl
-right_or false b h = h
 
 -- ---- members
 pub in_here : (k : ℕ) (ks : List ℕ) → IsIn k (k ∷ ks)
 in_here k ks = ap (λ b. b || list_any (eqb k) ks) (eq-eqb k k refl)
 
 pub in_later : (q k : ℕ) (ks : List ℕ) → IsIn q ks → IsIn q (k ∷ ks)
-in_later q k ks h = right_or (eqb q k) _ h
+in_later q k ks h = or_right (eqb q k) _ h
 
 pub in_cases : (q k : ℕ) (ks : List ℕ) → IsIn q (k ∷ ks) → (q ≡ k) ⊎ IsIn q ks
 in_cases q k ks h = elim (or_cases (eqb q k) (list_any (eqb q) ks) h) [ inl e ↦ inl (eqb-true q k e) | inr e ↦ inr e ]

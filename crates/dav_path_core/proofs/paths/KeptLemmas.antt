@@ -2,7 +2,7 @@
 use Rattle.std.proofs.Common.{◌≡◌, ℕ, ◌+◌, ◌<◌, ◌≤◌, Bool, true, false, Some, ◌⊎◌, ⊎_elim, List, [], ◌∷◌, ◌++◌, length, take, get_or, All, sym, refl, ap, ◌∙◌, arith, length-append}
 use borrow.Author.Count.{below_more}
 use Rattle.std.specs.Prelude.{IsTrue, count_by}
-use Rattle.std.proofs.lemmas.Bool.{false≢true}
+use Rattle.std.proofs.lemmas.Bool.{false≢true, false_from_ne_true}
 use Rattle.std.proofs.lemmas.List.{take_more, take_all}
 use Rattle.std.proofs.lemmas.List.Elements.{All-nil, All-push, All-pop}
 use Rattle.std.proofs.lemmas.List.Sums.{count_by_more_yes, count_by_more_no}
@@ -38,19 +38,15 @@ no_fault_at : (pieces : List (List ℕ)) (n : ℕ) → ¬ IsForeign (piece_at pi
 no_fault_at pieces n clean stays _ (foreign_at h) = clean h
 no_fault_at pieces n clean stays _ (above_at h) = stays h
 
-false_from : (b : Bool) → (b ≡ true → ⊥) → b ≡ false
-false_from true n = absurd (n refl)
-false_from false n = refl
-
 ordinary_is : (piece : List ℕ) → IsTrue (is_ordinary piece) → (is_idle piece ≡ false) × (is_up piece ≡ false)
 ordinary_is piece h =
-    (false_from _ (λ e. not_idle (is_idle piece) (is_up piece) e h), false_from _ (λ e. not_up (is_idle piece) (is_up piece) e h))
+    (false_from_ne_true _ (λ e. not_idle (is_idle piece) (is_up piece) e h), false_from_ne_true _ (λ e. not_up (is_idle piece) (is_up piece) e h))
 
 up_not_ordinary : (piece : List ℕ) → IsTrue (is_up piece) → is_ordinary piece ≡ false
-up_not_ordinary piece h = false_from _ (λ e. not_up (is_idle piece) (is_up piece) h e)
+up_not_ordinary piece h = false_from_ne_true _ (λ e. not_up (is_idle piece) (is_up piece) h e)
 
 idle_not_ordinary : (piece : List ℕ) → IsTrue (is_idle piece) → is_ordinary piece ≡ false
-idle_not_ordinary piece h = false_from _ (λ e. not_idle (is_idle piece) (is_up piece) h e)
+idle_not_ordinary piece h = false_from_ne_true _ (λ e. not_idle (is_idle piece) (is_up piece) h e)
 
 -- one piece more, from its three facts
 more : (pieces old new : List (List ℕ)) (n : ℕ) → Along pieces old n → n < length pieces → ¬ IsForeign (piece_at pieces n)

@@ -6,7 +6,7 @@ use Rattle.std.specs.List.{AllByRecursion}
 use Rattle.std.proofs.lemmas.Slice.Eq.{bytes_eq-Decides}
 use Rattle.std.proofs.lemmas.List.{reverse-append, reverse-reverse}
 use Rattle.std.proofs.lemmas.List.Elements.{recursion_from_All, All-from_recursion}
-use Rattle.std.proofs.lemmas.Bool.{false≢true}
+use Rattle.std.proofs.lemmas.Bool.{false≢true, false_from_ne_true}
 use Rattle.std.proofs.lemmas.List.Sums.{sum_by-cons}
 use Rattle.dav_path_core.specs.Reading.{is_idle, is_up, is_ordinary, IsDroppable, Drops, Rewrites, IsReduced}
 use Rattle.dav_path_core.specs.Reading.IsDroppable.{idle, pair}
@@ -191,11 +191,7 @@ counted_step false true piece (top ∷ below) out h k = let e = some_inj below o
 counted_step false false piece stack out h k = let e = some_inj (piece ∷ stack) out h in rw (← e) (omega arith)
 
 pub idle_not_up : (piece : List ℕ) → is_idle piece ≡ true → is_up piece ≡ false
-idle_not_up piece h = false_from (is_up piece) (λ u. let e : is_idle (codes "..") ≡ true = subst (λ p. is_idle p ≡ true) (up_is piece u) h in cc)
-  where
-    false_from : (b : Bool) → (b ≡ true → ⊥) → b ≡ false
-    false_from true n = absurd (n refl)
-    false_from false n = refl
+idle_not_up piece h = false_from_ne_true (is_up piece) (λ u. let e : is_idle (codes "..") ≡ true = subst (λ p. is_idle p ≡ true) (up_is piece u) h in cc)
 
 pub count_by-cons : (p : List ℕ → Bool) (x : List ℕ) (xs : List (List ℕ)) → count_by p (x ∷ xs) ≡ cond (p x) 1 0 + count_by p xs
 count_by-cons p x xs = sum_by-cons (λ y. cond (p y) 1 0) x xs

@@ -1,10 +1,11 @@
 -- The way up from a node has fewer numbers than the next number, so looking at that many is enough.
 use Rattle.std.proofs.Common.{◌≡◌, ◌≢◌, ℕ, zero, suc, ◌+◌, ◌<◌, ◌≤◌, ◌||◌, Bool, true, false, List, [], ◌∷◌, length, Some, None, Option, refl, ap, sym, ◌∙◌, subst, inl, inr, arith, eqb}
 use Rattle.std.specs.Option.{option_map}
-use Rattle.std.specs.List.{list_any, IsDistinct, AllByRecursion}
-use Rattle.std.proofs.lemmas.Bool.{cases_eq, eq-eqb, ne_eqb, eqb-true, or_cases, false≢true, false_from_ne_true}
+use Rattle.std.specs.List.{list_any, IsDistinct}
+use Rattle.std.proofs.lemmas.Bool.{cases_eq, eq-eqb, ne_eqb, eqb-true, or_cases, false≢true}
 use Rattle.std.proofs.lemmas.Map.Steps.{length-le_from_distinct_below}
 use Rattle.dav_path_core.specs.Keyed.{Keyed, Leads, root, up, Under, here, below, meets, is_under, parent, IsKnown, IsTree}
+use Rattle.dav_path_core.proofs.children.Chains.{more_distinct, no_distinct}
 use Rattle.dav_path_core.proofs.trees.Trees.{none≢some, same_some, known_from_parent}
 
 pub meets-here : (f : ℕ → Option ℕ) (m n k : ℕ) → k ≡ n → meets f (suc m) n k ≡ true
@@ -28,14 +29,6 @@ length-way : {f : ℕ → Option ℕ} {n : ℕ} (l : Leads f n) → length (way 
 length-way root = refl
 length-way (up e l) = ap suc (length-way l)
 
-all_apart : (n : ℕ) (ks : List ℕ) → (list_any (eqb n) ks ≡ true → ⊥) → AllByRecursion (λ y. eqb n y ≡ false) ks
-all_apart n [] h = tt
-all_apart n (k ∷ ks) h = (false_from_ne_true (eqb n k) (λ e. h (ap (λ b. b || list_any (eqb n) ks) e)), all_apart n ks (λ e. h (either (eqb n k) _ e)))
-  where
-    either : (a b : Bool) → b ≡ true → (a || b) ≡ true
-    either true b h = refl
-    either false b h = h
-
 module _ (f : ℕ → Option ℕ) (top : f 1 ≡ None) where
   -- two ways up from one number are as long
   depth-same : {m n : ℕ} → m ≡ n → (l : Leads f m) (r : Leads f n) → depth l ≡ depth r
@@ -53,9 +46,8 @@ module _ (f : ℕ → Option ℕ) (top : f 1 ≡ None) where
   ]
 
   once : {n : ℕ} (l : Leads f n) → IsDistinct eqb (way l)
-  unfolding IsDistinct
-  once root = (tt, tt)
-  once (up {n = n} e l) = (all_apart n (way l) (λ h. let r = on_way l n h in omega (arith, r.1, depth-same refl r.0 (up e l))), once l)
+  once root = more_distinct 1 [] (λ h. false≢true h) no_distinct
+  once (up {n = n} e l) = more_distinct n (way l) (λ h. let r = on_way l n h in omega (arith, r.1, depth-same refl r.0 (up e l))) (once l)
 
   one_up : {k p : ℕ} (l : Leads f k) → f k ≡ Some p → (r : Leads f p) × (suc (depth r) ≡ depth l)
   one_up {p = p} root e = absurd (none≢some p (sym top ∙ e))

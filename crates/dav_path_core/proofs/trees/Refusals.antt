@@ -1,7 +1,7 @@
 -- Which refusal the definitions of the tree's calls give.
 use Rattle.std.proofs.Common.{MatchOption, ◌≡◌, ◌≢◌, ◌==◌, ◌||◌, ◌&&◌, ℕ, Bool, is_some, true, false, cond, Some, None, Option, refl, ap, sym, ◌∙◌, subst, inl, inr}
 use Rattle.std.specs.Option.{option_map}
-use Rattle.std.proofs.lemmas.Bool.{cases_Bool, cases_eq, eq-eqb, ne_eqb, true≢false, and_parts, or_parts}
+use Rattle.std.proofs.lemmas.Bool.{cases_Bool, cases_eq, eq-eqb, ne_eqb, true≢false, and_parts, or_parts, or_right}
 use Rattle.dav_path_core.specs.declared.errors.FsError.{FsError}
 use Rattle.dav_path_core.specs.declared.errors.FsError.TheVariants.{Exists, NotFound, Forbidden}
 use Rattle.dav_path_core.specs.Keyed.{Keyed, Leads, root, up, Under, here, below, entry, parent_and_key, parent, child, has_child, delete_refusal, move_refusal, is_kept, is_under, IsKnown, IsTree}
@@ -59,11 +59,7 @@ module _ {K D : Type 0} (t : Keyed K D) where
     delete-root h e = delete-known h true (ap (λ b. b || has_child t n) (eq-eqb n 1 e))
 
     pub delete-parent : IsKnown t n → has_child t n ≡ true → delete_refusal t n ≡ Some Forbidden
-    delete-parent h e = delete-known h true (ap (λ b. (n == 1) || b) e ∙ either (n == 1))
-      where
-        either : (a : Bool) → (a || true) ≡ true
-        either true = refl
-        either false = refl
+    delete-parent h e = delete-known h true (ap (λ b. (n == 1) || b) e ∙ or_right (n == 1) true refl)
 
     pub delete-leaf : IsKnown t n → n ≢ 1 → has_child t n ≡ false → delete_refusal t n ≡ None
     delete-leaf h ne e = delete-known h false (ap (λ b. b || has_child t n) (ne_eqb n 1 ne) ∙ e)

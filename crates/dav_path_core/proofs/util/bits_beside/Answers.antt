@@ -1,6 +1,7 @@
 use Rattle.std.proofs.Common.{[], refl, sym, ap, ◌∙◌, map, arith}
 use Rattle.std.proofs.lemmas.List.{drop_all}
-use Rattle.dav_path_core.specs.MethodSets.{entry_of, bits_in}
+use Rattle.dav_path_core.specs.MethodSets.{bits_in}
+use Rattle.dav_path_core.specs.Private.Tables.{entry_of}
 use Rattle.dav_path_core.proofs.WordLemmas.{same_word_by, entry_at}
 use Rattle.dav_path_core.proofs.util.bits_beside.Goals as goal
 

@@ -1,5 +1,6 @@
 use Rattle.std.proofs.Common.{◌≡◌, map, drop}
-use Rattle.dav_path_core.specs.MethodSets.{entry_of, bits_in}
+use Rattle.dav_path_core.specs.MethodSets.{bits_in}
+use Rattle.dav_path_core.specs.Private.Tables.{entry_of}
 use Rattle.dav_path_core.proofs.util.bits_beside.Given as goal
 
 -- what stands before the index is another word

@@ -377,6 +377,9 @@ impl<K: Eq + Hash + Clone, D: Drop> Tree<K, D> {
             (λ n. (n ≡ self.old.keyed.next)
             × (self.new.keyed ≡ add (cleared K.eq self.old.keyed parent key) parent key item))
             (self.new ≡ self.old) }
+        // It is refused for memory or numbers only where nothing else refuses.
+        ensures room { IfErr result (λ e. e ≡ FsError.InsufficientStorage
+            → add_refusal K.eq self.old.keyed parent key overwrite ≡ None) }
         // With `overwrite`, what goes is exactly the old child and the numbers whose parents lead to it.
         ensures replaced { IfOk result (λ _. (old : ℕ) → child (K.eq key) self.old.keyed parent ≡ Some old
             → IsCut self.old.keyed (cleared K.eq self.old.keyed parent key) old) }

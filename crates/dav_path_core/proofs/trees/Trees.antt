@@ -2,12 +2,13 @@
 use Rattle.std.proofs.Common.{◌≡◌, ◌≢◌, ℕ, ◌<◌, ◌==◌, ◌&&◌, Bool, true, false, cond, T, ◌⊎◌, List, [], ◌∷◌, Some, None, Option, refl, ap, sym, ◌∙◌, subst, arith, IsSome, is_some, inl, inr, nat_lt}
 use Rattle.std.specs.Cmp.{nat_cmp_total, unsigned_tied}
 use Rattle.std.specs.Ordering.{nat_cmp, is_lt}
-use Rattle.std.specs.Option.{option_map, unwrap_or}
+use Rattle.std.specs.Option.{option_map, unwrap_or, ok_or}
 use Rattle.std.specs.declared.cmp.Ordering.TheVariants.{Less, Equal, Greater}
 use Rattle.std.specs.Map.{IsKeyTest}
 use Rattle.std.specs.FinMap.{FinMap, get, find, entries, entries_sorted, is_sorted, insert, empty, get-insert, get-empty, get-entries}
 use Rattle.std.specs.FinMap.Entries.{below_all}
-use Rattle.std.proofs.lemmas.Bool.{cases_eq, eq-eqb, ne_eqb, eqb-true, true≢false, false≢true, ltb-true, and_parts}
+use Rattle.std.proofs.lemmas.Bool.{cases_eq, eq-eqb, ne_eqb, eqb-true, true≢false, false≢true, ltb-true, and_parts, and_right}
+use Rattle.std.specs.Result.{result_ok}
 use Rattle.dav_path_core.proofs.lists.Every.{first_so, second_so}
 use Rattle.dav_path_core.specs.Keyed.{Entry, Keyed, Leads, root, up, entry, parent_and_key, parent_and_key_of, parent, IsKnown, IsChild, IsTree, matches_parent_and_key, child_in, child, lone, add, with_item, with_item_at, add_refusal, cleared, cleared_at}
 use Rattle.std.proofs.Common.{not}
@@ -29,6 +30,10 @@ is_lt-below a b h =
       | true ↦ λ e p. ltb-true a b e
       | false ↦ λ e. elim (a == b) as (λ w. T (is_lt (cond w Equal Greater)) → a < b) [ true ↦ λ p. absurd p | false ↦ λ p. absurd p ]
     ] refl h
+
+pub ok-ok_or : {A E : Type 0} (o : Option A) (e : E) → result_ok (ok_or o e) ≡ o
+ok-ok_or None e = refl
+ok-ok_or (Some x) e = refl
 
 pub none_from_is_some : {A : Type 0} (o : Option A) → is_some o ≡ false → o ≡ None
 none_from_is_some None h = refl
@@ -221,6 +226,12 @@ module _ {K D : Type 0} where
         ap (λ b. cond b (cond (is_some (child (eq k) t p) && not overwrite) (Some Exists) None) (Some NotFound)) h
         ∙ ap (λ b. cond (b && not overwrite) (Some Exists) None) c
 
-    -- nothing is cleared where the place is free
+    pub refusal-over : (overwrite : Bool) → overwrite ≡ true → is_some (entry t p) ≡ true → add_refusal eq t p k overwrite ≡ None
+    refusal-over overwrite o h =
+        ap (λ b. cond b (cond (is_some (child (eq k) t p) && not overwrite) (Some Exists) None) (Some NotFound)) h
+        ∙ ap (λ b. cond (is_some (child (eq k) t p) && not b) (Some Exists) None) o
+        ∙ ap (λ b. cond b (Some Exists) None) (and_right (is_some (child (eq k) t p)) (not true) refl)
+
+    -- nothing is cleared where the key is free
     pub cleared-free : child (eq k) t p ≡ None → cleared eq t p k ≡ t
     cleared-free c = ap (cleared_at t) c

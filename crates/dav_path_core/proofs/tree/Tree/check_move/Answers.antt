@@ -1,13 +1,9 @@
-use Rattle.std.proofs.Common.{◌≡◌, ◌&&◌, ap, sym, ◌∙◌, Some, None, Option, is_some, refl}
-use Rattle.std.specs.Option.{ok_or}
+use Rattle.std.proofs.Common.{◌&&◌, ap, sym, ◌∙◌, is_some}
 use Rattle.std.specs.Result.{result_ok}
 use Rattle.dav_path_core.specs.Keyed.{entry, is_kept}
 use Rattle.dav_path_core.proofs.trees.Refusals.{move-allowed}
+use Rattle.dav_path_core.proofs.trees.Trees.{ok-ok_or}
 use Rattle.dav_path_core.proofs.tree.Tree.check_move.Goals as goal
-
-ok-ok_or : {A E : Type 0} (o : Option A) (e : E) → result_ok (ok_or o e) ≡ o
-ok-ok_or None e = refl
-ok-ok_or (Some x) e = refl
 
 pub returns-clause-answer : goal.returns-clause-answer
 returns-clause-answer g c =

@@ -3,7 +3,6 @@ pub mod Changed
 pub mod Found
 pub mod Members
 pub mod Places
-pub mod PutAnswers
 pub mod Putting
 pub mod ReadAnswers
 pub mod Recovers

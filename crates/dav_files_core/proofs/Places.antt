@@ -12,7 +12,7 @@ use Rattle.dav_files_core.specs.Finding.{place}
 use Rattle.dav_files_core.specs.Outcomes.{Outcome, ◌>>=◌, only_file, find_folder, added, changed, new_file}
 use Rattle.dav_files_core.specs.Commands.{put, put_at}
 use Rattle.dav_files_core.proofs.Members.{same_place}
-use Rattle.dav_files_core.proofs.Putting.{parent-snoc}
+use Rattle.dav_files_core.proofs.Found.{parent-snoc}
 
 module _ (m : ResourceMap) (q : Path) (p : Path) (apart : ¬ (p ≡ q)) where
   -- another node of an entry changes no other place

@@ -1,14 +1,16 @@
 -- What a call of the tree leaves, as a map.
-use Rattle.std.proofs.Common.{◌≡◌, ℕ, List, [], ◌∷◌, ◌++◌, Some, None, Ok, refl, sym, ap, ◌∙◌, subst}
+use Rattle.std.proofs.Common.{◌≡◌, ℕ, List, [], ◌∷◌, ◌++◌, Some, None, Ok, Err, refl, sym, ap, ◌∙◌, subst}
 use Rattle.std.specs.FinMap.{get}
 use Rattle.dav_files_core.specs.declared.memfs.Kind.TheVariants.{Folder, File}
 use Rattle.dav_files_core.specs.Outcomes.{added, changed, new_file}
 use Rattle.dav_files_core.specs.Private.Represents.{FileEntry, FileTree, Represents, resource_map}
 use Rattle.dav_files_core.specs.Resources.{Node, Resource, ResourceMap, at_path}
-use Rattle.dav_files_core.specs.Private.TreeCalls.{IsMember, WritesFile}
-use Rattle.dav_path_core.specs.Fronts.{Segment, Path}
+use Rattle.dav_files_core.specs.Private.TreeCalls.{IsMember, IsMissing, IsThere, FindsMember, WritesFile}
+use Rattle.dav_path_core.specs.declared.errors.FsError.TheVariants.{NotFound}
+use Rattle.dav_path_core.specs.Fronts.{Segment, Path, parent}
 use Rattle.dav_path_core.specs.Keyed.{add, with_item_at}
 use Rattle.dav_path_core.proofs.lists.FinMaps.{none_some, one_some}
+use Rattle.dav_files_core.proofs.Found.{folder_there, not_there}
 use Rattle.dav_files_core.proofs.Walk.{child_at}
 use Rattle.dav_files_core.proofs.Added.{Represents-added}
 use Rattle.dav_files_core.proofs.Changed.{Represents-changed}
@@ -54,9 +56,28 @@ written t m rep p r here file id number bytes now t' h =
     (λ f. let both : Folder ≡ File = sym f ∙ file in absurd (cc)) (λ f. let both : Folder ≡ File = sym f ∙ kind in absurd (cc)) in
     subst (λ (node : Node). Represents t' (changed m p r node)) new (subst (λ t'. Represents t' (changed m p r (record h.0.item { bytes = bytes; modified = now }))) (ap (λ id. with_item_at t id (Some h.0) (record h.0.item { bytes = bytes; modified = now })) number ∙ sym h.2) rep')
 
--- a file added to a folder
-pub with_file : (t : FileTree) (m : ResourceMap) → Represents t m → (p : Path) (r : Resource) → at_path m p ≡ Some r → r.node.kind ≡ Folder → (id : ℕ) → r.number ≡ id → (name key : Segment) → key ≡ name → at_path m (p ++ (name ∷ [])) ≡ None
-    → (bytes : List ℕ) (now : ℕ) (node : Node) → node ≡ new_file bytes now → (t' : FileTree) → t' ≡ add t id key node → Represents t' (added m (p ++ (name ∷ [])) (new_file bytes now))
-with_file t m rep p r here folder id number name key is free bytes now node node_is t' h =
-    let rep' = Represents-added t m rep p r name (new_file bytes now) here folder free (λ f. absurd (cc)) in
-    subst (λ t'. Represents t' (added m (p ++ (name ∷ [])) (new_file bytes now))) (sym (h ∙ (λ j. add t (sym number j) (is j) (node_is j)))) rep'
+-- where nothing stands yet, in a folder
+module _ (t : FileTree) (m : ResourceMap) (rep : Represents t m) (path : Path) (id : ℕ) (name : Segment) (h : IsMissing m path id name) where
+  folder : (at_path m (parent path) ≡ Some h.2.0) × (h.2.0.node.kind ≡ Folder)
+  folder = folder_there m (parent path) h.2.0 h.2.1
+
+  free : at_path m (parent path ++ (name ∷ [])) ≡ None
+  free = ap (at_path m) (sym h.1) ∙ not_there m path NotFound h.0
+
+  pub folder_known : IsThere t id
+  folder_known = let s = rep.shown (parent path) h.2.0 folder.0 in (s.placed, ap (λ id. get t.nodes id) (sym h.2.2) ∙ s.stored)
+
+  pub no_member : (key : Segment) → key ≡ name → FindsMember t id key (Err NotFound)
+  no_member key is = (
+    refl,
+    λ c there.
+        let x = child_entry t m rep (parent path) h.2.0 folder.0 id h.2.2 name c (subst (λ key. IsMember t id key c) is there) in
+        none_some _ x.0 free x.1,
+  )
+
+  -- a file added there
+  pub with_file : (key : Segment) → key ≡ name → (bytes : List ℕ) (now : ℕ) (node : Node) → node ≡ new_file bytes now → (t' : FileTree) → t' ≡ add t id key node → Represents t' (added m path (new_file bytes now))
+  with_file key is bytes now node node_is t' e =
+      let rep' = Represents-added t m rep (parent path) h.2.0 name (new_file bytes now) folder.0 folder.1 free (λ f. absurd (cc)) in
+      subst (λ p. Represents t' (added m p (new_file bytes now))) (sym h.1)
+      (subst (λ t'. Represents t' (added m (parent path ++ (name ∷ [])) (new_file bytes now))) (sym (e ∙ (λ j. add t (sym h.2.2 j) (is j) (node_is j)))) rep')

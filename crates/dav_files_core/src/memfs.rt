@@ -1,12 +1,13 @@
 //! Files in memory.
-ghost use Rattle.std.specs.Prelude.{◌≡◌, ◌<◌, ◌-◌, [], length, take, drop, slice_index_or, IfOk, MatchResult};
+ghost use Rattle.std.specs.Prelude.{◌≡◌, ◌∷◌, ◌++◌, [], take, drop, Some, IfOk, MatchResult};
 ghost use Rattle.dav_path_core.specs.Segments.{segments};
 ghost use Rattle.dav_path_core.specs.Answers.{AnswersAs, Tells};
 ghost use Rattle.dav_files_core.specs.Outcomes.{start};
 ghost use Rattle.dav_files_core.specs.Commands.{metadata, put, read_at};
 ghost use Rattle.dav_files_core.specs.Meta.{meta_of};
-ghost use Rattle.dav_files_core.specs.Resources.{IsResourceMap};
-ghost use Rattle.dav_files_core.specs.Private.TreeCalls.{number_of};
+ghost use Rattle.dav_files_core.specs.Resources.{Resource, IsResourceMap, at_path};
+ghost use Rattle.dav_files_core.specs.Private.TreeCalls.{number_of, LeadsTo};
+ghost use Rattle.dav_path_core.specs.Fronts.{Path};
 
 mod nodes;
 
@@ -39,6 +40,15 @@ pub struct MemFsMeta {
     pub modified: Moment,
     /// When it was made.
     pub created: Moment,
+}
+
+/// Where a path leads.
+#[derive(Clone, Copy)]
+enum Target<'a> {
+    /// To the entry with this number.
+    Entry(u64),
+    /// To no entry yet, but to the folder with this number; the name is the path's last segment.
+    Missing { folder: u64, name: &'a [u8] },
 }
 
 /// Files in memory: a map from paths to folders and files.
@@ -76,21 +86,39 @@ impl MemFs {
     fn number_of(&self, path: &DavPath) -> FsResult<u64>
         ensures { result ≡ number_of self.now (segments path.now.bytes) }
     {
-        self.number_at(path, depth(path))
+        match self.target_of(path)? {
+            Target::Entry(id) => Ok(id),
+            Target::Missing { .. } => Err(FsError::NotFound),
+        }
     }
 
-    // The number of what is at the first so many segments of a path.
-    fn number_at(&self, path: &DavPath, count: usize) -> FsResult<u64>
-        ensures { result ≡ number_of self.now (take count (segments path.now.bytes)) }
+    // Where a path leads.
+    fn target_of<'a>(&self, path: &'a DavPath) -> FsResult<Target<'a>>
+        ensures { LeadsTo self.now (segments path.now.bytes) result }
     {
-        let mut id = ROOT_ID;
-        for segment in path.segments().take(count) {
-            if node_of(&self.tree, id)?.is_file() {
-                return Err(FsError::Forbidden);
+        let _ = &self.tree;
+        let mut target = Target::Entry(ROOT_ID);
+        for name in path.segments() {
+            match target {
+                Target::Entry(id) => target = self.target_below(id, name)?,
+                Target::Missing { .. } => return Err(FsError::NotFound),
             }
-            id = member_of(&self.tree, id, segment)?;
         }
-        Ok(id)
+        Ok(target)
+    }
+
+    // Where a name leads from the entry with a number.
+    fn target_below<'a>(&self, id: u64, name: &'a [u8]) -> FsResult<Target<'a>>
+        ensures { (path : Path) (r : Resource) → at_path self.now path ≡ Some r → r.number ≡ id
+            → LeadsTo self.now (path ++ name.now ∷ []) result }
+    {
+        if node_of(&self.tree, id)?.is_file() {
+            return Err(FsError::Forbidden);
+        }
+        match member_of(&self.tree, id, name) {
+            Ok(member) => Ok(Target::Entry(member)),
+            Err(_) => Ok(Target::Missing { folder: id, name }),
+        }
     }
 
     /// Makes the bytes of a file those given, whole or not at all, and its modified time `now`. A missing file is made,
@@ -104,24 +132,16 @@ impl MemFs {
         ensures shape { IsResourceMap self.new }
     {
         let content = copy_of(self.alloc, bytes)?;
-        match self.number_of(path) {
-            Ok(id) => {
+        match self.target_of(path)? {
+            Target::Entry(id) => {
                 if !node_of(&self.tree, id)?.is_file() {
                     return Err(FsError::Forbidden);
                 }
                 write_file(&mut self.tree, id, content, now)?;
                 return Ok(());
             }
-            Err(_) => {
-                let count = depth(path);
-                if count == 0 {
-                    unreachable!();
-                }
-                let folder = self.number_at(path, count - 1)?;
-                if node_of(&self.tree, folder)?.is_file() {
-                    return Err(FsError::Forbidden);
-                }
-                let name = name_of(self.alloc, path)?;
+            Target::Missing { folder, name } => {
+                let name = Bytes::copy_from_slice(self.alloc, name)?;
                 add_node(&mut self.tree, folder, name, Node::new_file(content, now))?;
                 return Ok(());
             }
@@ -154,24 +174,6 @@ impl MemFs {
             return Err(FsError::Forbidden);
         }
         part_of(self.alloc, &node.content, at, count)
-    }
-}
-
-// How many segments a path has.
-fn depth(path: &DavPath) -> usize
-    ensures { result ≡ length (segments path.now.bytes) }
-{
-    path.segments().count()
-}
-
-// A copy of the last segment of a path that has one.
-fn name_of(alloc: Global, path: &DavPath) -> FsResult<Bytes>
-    requires { 0 < length (segments path.now.bytes) }
-    ensures { MatchResult result (λ name. name ≡ slice_index_or (segments path.now.bytes) (length (segments path.now.bytes) - 1) []) (λ e. e ≡ FsError.InsufficientStorage) }
-{
-    match path.segments().nth(depth(path) - 1) {
-        Some(name) => Ok(Bytes::copy_from_slice(alloc, name)?),
-        None => unreachable!(),
     }
 }
 

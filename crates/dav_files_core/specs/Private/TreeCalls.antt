@@ -1,18 +1,38 @@
 -- What the private calls of `memfs` find in its tree, and what they write there (own).
-use Rattle.std.specs.Prelude.{◌≡◌, ℕ, List, Some, None, Result, Ok, Err}
+use Rattle.std.specs.Prelude.{◌≡◌, ℕ, List, [], ◌∷◌, ◌++◌, Some, None, Result, Ok, Err}
 use Rattle.std.specs.FinMap.{get}
 use Rattle.dav_path_core.specs.declared.errors.FsError.{FsError}
 use Rattle.dav_path_core.specs.declared.errors.FsError.TheVariants.{NotFound}
-use Rattle.dav_path_core.specs.Fronts.{Segment, Path}
+use Rattle.dav_path_core.specs.Fronts.{Segment, Path, parent}
 use Rattle.dav_path_core.specs.Keyed.{with_item_at}
-use Rattle.dav_files_core.specs.Resources.{Node, ResourceMap}
+use Rattle.dav_files_core.specs.declared.memfs.Target.{Target}
+use Rattle.dav_files_core.specs.declared.memfs.Target.TheVariants.{Entry, Missing}
+use Rattle.dav_files_core.specs.Resources.{Node, Resource, ResourceMap}
 use Rattle.dav_files_core.specs.Finding.{find}
-use Rattle.dav_files_core.specs.Outcomes.{◌>>=◌}
+use Rattle.dav_files_core.specs.Outcomes.{◌>>=◌, find_folder}
 use Rattle.dav_files_core.specs.Private.Represents.{FileTree, FileEntry}
 
 -- the number of the entry at a path
 abbrev pub number_of : ResourceMap → Path → Result ℕ FsError
 number_of m p = find m p >>= λ r. Ok r.number
+
+-- an entry with a number
+abbrev pub IsEntry : ResourceMap → Path → ℕ → Type 0
+IsEntry m p id = (r : Resource) × (find m p ≡ Ok r) × (r.number ≡ id)
+
+-- no entry, but its folder with a number; the name is the last segment
+abbrev pub IsMissing : ResourceMap → Path → ℕ → Segment → Type 0
+IsMissing m p folder name = (find m p ≡ Err NotFound) × (p ≡ parent p ++ (name ∷ [])) × ((r : Resource) × (find_folder m (parent p) ≡ Ok r) × (r.number ≡ folder))
+
+-- neither the entry nor its folder
+abbrev pub IsRefused : ResourceMap → Path → FsError → Type 0
+IsRefused m p e = (find m p ≡ Err e) × (find_folder m (parent p) ≡ Err e)
+
+-- where a path leads
+abbrev pub LeadsTo : ResourceMap → Path → Result Target FsError → Type 0
+LeadsTo m p (Ok (Entry id)) = IsEntry m p id
+LeadsTo m p (Ok (Missing folder name)) = IsMissing m p folder name.now
+LeadsTo m p (Err e) = IsRefused m p e
 
 -- the member of a folder with a name, by its number
 abbrev pub IsMember : FileTree → ℕ → Segment → ℕ → Type 0

@@ -17,7 +17,7 @@ use dav_path_core::davpath::DavPath;
 use dav_path_core::errors::{FsError, FsResult};
 use dav_path_core::tree::{ROOT_ID, Tree};
 use nodes::{Node, add_node, member_of, node_of, write_file};
-use std::alloc::{AllocError, Global};
+use std::alloc::Global;
 use std::marker::Model;
 
 /// What stands at a path (RFC 4918 section 5).
@@ -187,13 +187,9 @@ fn copy_of(alloc: Global, bytes: &[u8]) -> FsResult<Vec<u8>>
 fn part_of(alloc: Global, content: &[u8], at: usize, count: usize) -> FsResult<Bytes>
     ensures { MatchResult result (λ b. b ≡ take count (drop at content.now)) (λ e. e ≡ FsError.InsufficientStorage) }
 {
-    Ok(Bytes::from_vec(copied(alloc, content, at, count)?)?)
-}
-
-fn copied(alloc: Global, content: &[u8], at: usize, count: usize) -> Result<Vec<u8>, AllocError>
-    ensures { IfOk result (λ v. v.items ≡ take count (drop at content.now)) }
-{
-    content.iter().skip(at).take(count).copied().collect(alloc)
+    let rest = &content[at.min(content.len())..];
+    let part = &rest[..count.min(rest.len())];
+    Ok(Bytes::copy_from_slice(alloc, part)?)
 }
 
 #[cfg(test)]

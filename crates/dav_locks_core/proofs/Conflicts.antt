@@ -8,9 +8,9 @@ use Rattle.std.proofs.lemmas.List.Folds.{list_any_at}
 use Rattle.dav_path_core.specs.Fronts.{Path, is_front, is_same_path}
 use Rattle.dav_path_core.proofs.paths.FrontLemmas.{is_same_path-same, is_front-refl}
 use Rattle.dav_locks_core.specs.Lock.{Lock}
-use Rattle.dav_locks_core.specs.Locks.{lock_path, covers, height, held, Caller, refuses_lock, refuses_change, any_held, found_here, found}
+use Rattle.dav_locks_core.specs.Locks.{lock_path, covers, height, held, Caller, refuses_lock, refuses_change, is_at_or_below, any_held, found_here, found}
 use Rattle.dav_locks_core.specs.Private.LockTree.{NumberedLock, LockTree, locks_at, node_at, lookup_lock, locks_of}
-use Rattle.dav_locks_core.specs.Private.WayTests.{refuses_wanted, is_covering_held, refuses_asker, has_that_token}
+use Rattle.dav_locks_core.specs.Private.WayTests.{refuses_wanted, is_covering_held, is_covering_unheld, has_that_token}
 use Rattle.dav_locks_core.specs.Private.Represents.{Represents}
 use Rattle.dav_locks_core.proofs.Numbered.{place_of_found, found_at_place, lower_at}
 use Rattle.dav_locks_core.proofs.ListPlaces.{filter-none, filter-contains, any-none}
@@ -183,18 +183,30 @@ covering who p = record {
   aside = λ l h. ap (λ b. b && held l who) (covers-aside l p h);
 }
 
-regroup : (a b c : Bool) → (a && (b && c)) ≡ ((a && b) && c)
-regroup true b c = refl
-regroup false b c = refl
-
-pub asked : (locks : List Lock) (who : Caller) (held_one : Bool) (p : Path) → any_held locks p who ≡ held_one → Agrees (refuses_asker who held_one) (refuses_change locks p false who) p
-asked locks who held_one p same = record {
-  above = λ l h.
-      ap (λ b. not (held l who) && b) (or_false _ ∙ ap (λ b. b && (not l.shared || not (any_held locks p who))) (covers-above l p h) ∙ ap (λ b. (is_same_path (lock_path l) p || l.deep) && (not l.shared || not b)) same)
-      ∙ regroup (not (held l who)) (is_same_path (lock_path l) p || l.deep) (not l.shared || not held_one);
-  aside = λ l h.
-      ap (λ b. not (held l who) && b) (or_false _ ∙ ap (λ b. b && (not l.shared || not (any_held locks p who))) (covers-aside l p h)) ∙ and_false (not (held l who));
+pub uncovered : (who : Caller) (p : Path) → Agrees (is_covering_unheld who) (λ l. covers l p && not (held l who)) p
+uncovered who p = record {
+  above = λ l h. ap (λ b. b && not (held l who)) (covers-above l p h);
+  aside = λ l h. ap (λ b. b && not (held l who)) (covers-aside l p h);
 }
+
+-- where no lock is held, those refuse that cover the path
+none_held : (h c s z : Bool) → (not h && ((c && (not s || not false)) || (false && z))) ≡ (c && not h)
+none_held true true s z = refl
+none_held true false s z = refl
+none_held false true true z = refl
+none_held false true false z = refl
+none_held false false s z = refl
+
+pub asked : (locks : List Lock) (who : Caller) (p : Path) → any_held locks p who ≡ false → Agrees (is_covering_unheld who) (refuses_change locks p false who) p
+asked locks who p none = record {
+  above = λ l h. same l ∙ ap (λ b. b && not (held l who)) (covers-above l p h);
+  aside = λ l h. same l ∙ ap (λ b. b && not (held l who)) (covers-aside l p h);
+}
+  where
+    same : (l : Lock) → refuses_change locks p false who l ≡ (covers l p && not (held l who))
+    same l =
+        ap (λ a. not (held l who) && ((covers l p && (not l.shared || not a)) || (false && is_at_or_below l p))) none
+        ∙ none_held (held l who) (covers l p) l.shared (is_at_or_below l p)
 
 pub named : (token : List ℕ) (p : Path) → Agrees (has_that_token token) (found_here p token) p
 named token p = record {

@@ -1,14 +1,15 @@
 -- What keeps a list of locks exclusive.
-use Rattle.std.proofs.Common.{◌≡◌, ◌⊎◌, inl, inr, ℕ, zero, suc, Bool, true, false, not, ◌&&◌, ◌||◌, cond, List, [], ◌∷◌, ◌++◌, sym, ◌∙◌, subst}
+use Rattle.std.proofs.Common.{◌≡◌, ◌⊎◌, inl, inr, ℕ, zero, suc, Bool, true, false, not, ◌&&◌, ◌||◌, cond, List, [], ◌∷◌, ◌++◌, sym, ◌∙◌, refl, ap, subst}
 use Rattle.std.specs.Prelude.{filter, remove}
 use Rattle.std.specs.List.{AllByRecursion}
 use Rattle.std.proofs.lemmas.Bool.{and_parts, and_from, or_cases, or_parts, or_right, cases_Bool, false≢true}
 use Rattle.dav_path_core.specs.Fronts.{Path, is_front, is_same_path}
 use Rattle.dav_path_core.proofs.paths.FrontLemmas.{is_same_path-same, fronts_of_one}
 use Rattle.dav_locks_core.specs.Lock.{Lock}
-use Rattle.dav_locks_core.specs.Locks.{lock_path, covers, compatible, refuses_lock, lock_conflicts, is_at_or_below}
+use Rattle.dav_locks_core.specs.Locks.{Caller, lock_path, covers, held, any_held, compatible, refuses_lock, lock_conflicts, refuses_change, check_conflicts, is_at_or_below}
 use Rattle.dav_locks_core.specs.Exclusive.{Compat, Exclusive}
-use Rattle.dav_locks_core.proofs.ListLemmas.{none_passes, all_filter, all_push, all_remove}
+use Rattle.dav_locks_core.proofs.ListMembers.{In, all_in, find_any}
+use Rattle.dav_locks_core.proofs.ListLemmas.{none_passes, filter_none, weaker, all_filter, all_push, all_remove}
 
 -- two that reach one path, each at its path or, where it is deep, below: the first reaches the second's path, or stands below a deep second
 pub two_reach : (a q p : Path) (da dq : Bool) → (is_same_path a p || (da && is_front a p)) ≡ true → (is_same_path q p || (dq && is_front q p)) ≡ true
@@ -61,3 +62,50 @@ Exclusive-remove [] zero h = tt
 Exclusive-remove [] (suc k) h = tt
 Exclusive-remove (l ∷ locks) zero h = h.1
 Exclusive-remove (l ∷ locks) (suc k) h = (all_remove (Compat l) locks k h.0, Exclusive-remove locks k h.1)
+
+-- ---- locks that cover one path, one of which is held
+
+two_in : (locks : List Lock) → Exclusive locks → (l m : Lock) → In l locks → In m locks → (l ≡ m) ⊎ ((p : Path) → covers l p ≡ true → covers m p ≡ true → l.shared ≡ true)
+two_in [] h l m i j = absurd i
+two_in (k ∷ locks) h l m (inl e) (inl f) = inl (sym e ∙ f)
+two_in (k ∷ locks) h l m (inl e) (inr j) =
+    inr (λ p cl cm. ap (λ (l : Lock). l.shared) (sym e) ∙ (and_parts _ _ (all_in (Compat k) locks m h.0 j p (ap (λ l. covers l p) e ∙ cl) cm)).0)
+two_in (k ∷ locks) h l m (inr i) (inl f) =
+    inr (λ p cl cm. (and_parts _ _ (all_in (Compat k) locks l h.0 i p (ap (λ m. covers m p) f ∙ cm) cl)).1)
+two_in (k ∷ locks) h l m (inr i) (inr j) = two_in locks h.1 l m i j
+
+held_or_shared : (h c s a z : Bool) → ((h ≡ true) ⊎ (c ≡ true → s ≡ true)) → a ≡ true → (not h && ((c && (not s || not a)) || (false && z))) ≡ false
+held_or_shared true c s a z one any = refl
+held_or_shared false false s a z one any = refl
+held_or_shared false true true true z one any = refl
+held_or_shared false true true false z one any = absurd (false≢true any)
+held_or_shared false true false a z (inl e) any = absurd (false≢true e)
+held_or_shared false true false a z (inr e) any = absurd (false≢true (e refl))
+
+pub held_is_enough : (locks : List Lock) (p : Path) (who : Caller) → Exclusive locks → any_held locks p who ≡ true → check_conflicts locks p false who ≡ []
+held_is_enough locks p who exclusive any =
+    let m = find_any (λ l. covers l p && held l who) locks any in
+    let parts = and_parts (covers m.0 p) (held m.0 who) m.2 in
+    let one : (l : Lock) → In l locks → (held l who ≡ true) ⊎ (covers l p ≡ true → l.shared ≡ true) = λ l i.
+    elim (two_in locks exclusive l m.0 i m.1) [
+      | inl same ↦ inl (ap (λ l. held l who) same ∙ parts.1)
+      | inr both ↦ inr (λ c. both p c parts.0)
+    ] in
+    filter_none (refuses_change locks p false who) locks
+    (all_of locks (λ l i. held_or_shared (held l who) (covers l p) l.shared (any_held locks p who) (is_at_or_below l p) (one l i) any))
+  where
+    all_of : {P : Lock → Type 0} (xs : List Lock) → ((l : Lock) → In l xs → P l) → AllByRecursion P xs
+    all_of [] h = tt
+    all_of (l ∷ xs) h = (h l (inl refl), all_of xs (λ x i. h x (inr i)))
+
+-- where every lock that covers the path is held
+covered_held : (h c s a z : Bool) → (c && not h) ≡ false → (not h && ((c && (not s || not a)) || (false && z))) ≡ false
+covered_held true c s a z e = refl
+covered_held false false s a z e = refl
+covered_held false true s a z e = absurd (false≢true (sym e))
+
+pub all_held : (locks : List Lock) (p : Path) (who : Caller) → filter (λ l. covers l p && not (held l who)) locks ≡ [] → check_conflicts locks p false who ≡ []
+all_held locks p who none =
+    filter_none (refuses_change locks p false who) locks
+    (weaker (λ l. (covers l p && not (held l who)) ≡ false) (λ l. refuses_change locks p false who l ≡ false)
+    (λ l e. covered_held (held l who) (covers l p) l.shared (any_held locks p who) (is_at_or_below l p) e) locks (none_passes (λ l. covers l p && not (held l who)) locks none))

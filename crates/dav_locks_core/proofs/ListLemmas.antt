@@ -1,5 +1,5 @@
 -- Facts on each element of a list, and filters that keep nothing.
-use Rattle.std.proofs.Common.{◌≡◌, inl, inr, ℕ, zero, suc, Bool, true, false, cond, ◌||◌, List, [], ◌∷◌, ◌++◌, map, subst, refl, ap}
+use Rattle.std.proofs.Common.{◌≡◌, inl, inr, ℕ, zero, suc, Bool, true, false, cond, ◌||◌, List, [], ◌∷◌, ◌++◌, map, subst, refl, ap, ◌∙◌}
 use Rattle.std.specs.Prelude.{filter, remove}
 use Rattle.std.specs.List.{AllByRecursion, list_any}
 use Rattle.std.proofs.lemmas.Bool.{cases_Bool}
@@ -11,6 +11,10 @@ none_passes test (x ∷ xs) h = elim (cases_Bool (test x)) [
   | inl t ↦ absurd (let e : (x ∷ filter test xs) ≡ [] = subst (λ b. cond b (x ∷ filter test xs) (filter test xs) ≡ []) t h in cc)
   | inr f ↦ (f, none_passes test xs (subst (λ b. cond b (x ∷ filter test xs) (filter test xs) ≡ []) f h))
 ]
+
+pub filter_none : {A : Type 0} (test : A → Bool) (xs : List A) → AllByRecursion (λ x. test x ≡ false) xs → filter test xs ≡ []
+filter_none test [] h = refl
+filter_none test (x ∷ xs) h = ap (λ b. cond b (x ∷ filter test xs) (filter test xs)) h.0 ∙ filter_none test xs h.1
 
 pub weaker : {A : Type 0} (P Q : A → Type 0) → ((x : A) → P x → Q x) → (xs : List A) → AllByRecursion P xs → AllByRecursion Q xs
 weaker P Q f [] h = tt

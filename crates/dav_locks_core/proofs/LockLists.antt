@@ -1,5 +1,5 @@
 -- What the calls of a lock list leave and answer, by what they do to its tree.
-use Rattle.std.proofs.Common.{◌≡◌, ℕ, zero, suc, ◌+◌, ◌<◌, ◌&&◌, false, Bool, is_some, List, [], ◌∷◌, ◌++◌, length, map, Option, Some, None, Result, Ok, Err, OnOk, OnErr, IfErr, refl, sym, ap, ◌∙◌, subst, arith}
+use Rattle.std.proofs.Common.{◌≡◌, ℕ, zero, suc, ◌+◌, ◌<◌, ◌&&◌, not, false, Bool, is_some, List, [], ◌∷◌, ◌++◌, length, map, Option, Some, None, Result, Ok, Err, OnErr, refl, sym, ap, ◌∙◌, subst, arith}
 use Rattle.std.specs.Prelude.{remove, filter, Contains}
 use Rattle.std.specs.Option.{option_map, unwrap_or}
 use Rattle.std.proofs.lemmas.List.{map_push}
@@ -11,12 +11,12 @@ use Rattle.dav_locks_core.specs.Private.LockTree.{NumberedLock, LockTree, locks_
 use Rattle.dav_locks_core.specs.Private.Represents.{Represents, IsLockTree}
 use Rattle.dav_locks_core.specs.Exclusive.{Exclusive}
 use Rattle.dav_locks_core.specs.Calls.{Shows}
-use Rattle.dav_locks_core.specs.Private.WayTests.{refuses_wanted, is_covering_held, refuses_asker, has_that_token}
+use Rattle.dav_locks_core.specs.Private.WayTests.{refuses_wanted, is_covering_held, is_covering_unheld, has_that_token}
 use Rattle.dav_locks_core.specs.declared.ls.LockError.{LockError}
 use Rattle.dav_locks_core.specs.declared.ls.LockError.TheVariants.{Conflict, OutOfMemory}
-use Rattle.dav_locks_core.proofs.Exclusivity.{Exclusive-push, Exclusive-remove}
+use Rattle.dav_locks_core.proofs.Exclusivity.{Exclusive-push, Exclusive-remove, held_is_enough, all_held}
 use Rattle.dav_locks_core.proofs.Standing.{one_list, Represents-grown, Represents-none, Changes, Changes-with_item, Represents-push, Represents-remove}
-use Rattle.dav_locks_core.proofs.Conflicts.{Agrees, wanted, covering, asked, no_conflict, conflict, none_is_any, some_is_any, not_found, found_first}
+use Rattle.dav_locks_core.proofs.Conflicts.{Agrees, wanted, covering, uncovered, asked, no_conflict, conflict, none_is_any, some_is_any, not_found, found_first}
 
 -- ---- what a tree keeps, by a list that it represents
 
@@ -115,33 +115,26 @@ module _ (t : LockTree) (next : ℕ) (keeps : IsLockTree t next) (p : Path) wher
   lock_shown shared deep e shallow h =
       subst (λ deep. Shows (lock_conflicts (lock_list t) p shared deep) e) (sym shallow) (shows (refuses_wanted shared) (refuses_lock p shared false) (wanted shared p) e h)
 
-  module _ (who : Caller) (held_one : Bool) (is_held : held_one ≡ is_some (lookup_lock (is_covering_held who) t 1 p)) where
-    any_is : any_held (lock_list t) p who ≡ held_one
-    any_is = by (lookup_lock (is_covering_held who) t 1 p) refl ∙ sym is_held
-      where
-        by : (o : Option (ℕ × ℕ)) → lookup_lock (is_covering_held who) t 1 p ≡ o → any_held (lock_list t) p who ≡ is_some (lookup_lock (is_covering_held who) t 1 p)
-        by None e = none_is_any t (all_granted t) next keeps.represents p (is_covering_held who) (λ l. covers l p && held l who) (covering who p) e ∙ sym (ap is_some e)
-        by (Some f) e = some_is_any t (all_granted t) next keeps.represents p (is_covering_held who) (λ l. covers l p && held l who) (covering who p) f.0 f.1 some_granted e ∙ sym (ap is_some e)
+  -- what a check answers, by the locks on the way that are held and those that aren't
+  module _ (locks : List Lock) (seen : lock_list t ≡ locks) (who : Caller) (deep : Bool) (shallow : deep ≡ false) where
+    by_shallow : check_conflicts (lock_list t) p false who ≡ check_conflicts locks p deep who
+    by_shallow = λ i. check_conflicts (seen i) p (sym shallow i) who
 
-    pub change_free : (deep : Bool) → deep ≡ false → lookup_lock (refuses_asker who held_one) t 1 p ≡ None → check_conflicts (lock_list t) p deep who ≡ []
-    change_free deep shallow h =
-        ap (λ deep. check_conflicts (lock_list t) p deep who) shallow
-        ∙ no_conflict t (all_granted t) next keeps.represents p (refuses_asker who held_one) (refuses_change (lock_list t) p false who) (asked (lock_list t) who held_one p any_is) h
+    pub check_free : lookup_lock (is_covering_unheld who) t 1 p ≡ None → check_conflicts locks p deep who ≡ []
+    check_free h =
+        sym by_shallow
+        ∙ all_held (lock_list t) p who (no_conflict t (all_granted t) next keeps.represents p (is_covering_unheld who) (λ l. covers l p && not (held l who)) (uncovered who p) h)
 
-    pub change_shown : (deep : Bool) (e : LockError) → deep ≡ false → ShowsAt t (lookup_lock (refuses_asker who held_one) t 1 p) e → Shows (check_conflicts (lock_list t) p deep who) e
-    change_shown deep e shallow h =
-        subst (λ deep. Shows (check_conflicts (lock_list t) p deep who) e) (sym shallow)
-        (shows (refuses_asker who held_one) (refuses_change (lock_list t) p false who) (asked (lock_list t) who held_one p any_is) e h)
+    pub check_held : (m k : ℕ) → lookup_lock (is_covering_held who) t 1 p ≡ Some (m, k) → check_conflicts locks p deep who ≡ []
+    check_held m k h =
+        sym by_shallow
+        ∙ held_is_enough (lock_list t) p who keeps.exclusive
+        (some_is_any t (all_granted t) next keeps.represents p (is_covering_held who) (λ l. covers l p && held l who) (covering who p) m k some_granted h)
 
--- what a check answers
-pub check_answers : {T : Type 0} (t : LockTree) (next : ℕ) (keeps : IsLockTree t next) (locks : List Lock) (p : Path) (who : Caller) (held_one deep : Bool) (r : Result T LockError)
-    → lock_list t ≡ locks → deep ≡ false → held_one ≡ is_some (lookup_lock (is_covering_held who) t 1 p)
-    → OnOk r (lookup_lock (refuses_asker who held_one) t 1 p ≡ None) → IfErr r (λ e. ShowsAt t (lookup_lock (refuses_asker who held_one) t 1 p) e)
-    → OnOk r (check_conflicts locks p deep who ≡ []) × IfErr r (λ e. Shows (check_conflicts locks p deep who) e)
-check_answers t next keeps locks p who held_one deep (Ok x) seen shallow is_held free shown =
-    (subst (λ locks. check_conflicts locks p deep who ≡ []) seen (change_free t next keeps p who held_one is_held deep shallow free), tt)
-check_answers t next keeps locks p who held_one deep (Err e) seen shallow is_held free shown =
-    (tt, subst (λ locks. Shows (check_conflicts locks p deep who) e) seen (change_shown t next keeps p who held_one is_held deep e shallow shown))
+    pub check_shown : lookup_lock (is_covering_held who) t 1 p ≡ None → (e : LockError) → ShowsAt t (lookup_lock (is_covering_unheld who) t 1 p) e → Shows (check_conflicts locks p deep who) e
+    check_shown none e h =
+        let nobody : any_held (lock_list t) p who ≡ false = none_is_any t (all_granted t) next keeps.represents p (is_covering_held who) (λ l. covers l p && held l who) (covering who p) none in
+        subst (λ conflicts. Shows conflicts e) by_shallow (shows (is_covering_unheld who) (refuses_change (lock_list t) p false who) (asked (lock_list t) who p nobody) e h)
 
 pub on_err : {T E : Type 0} {P : Type 0} (r : Result T E) → P → OnErr r P
 on_err (Ok x) h = tt

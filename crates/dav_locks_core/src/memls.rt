@@ -20,11 +20,11 @@ use dav_path_core::davpath::DavPath;
 use dav_path_core::errors::{FsError, FsResult};
 use dav_path_core::tree::Tree;
 use granting::{LockRequest, end_lock, end_of_timeout, grant};
-use holding::{Caller, Change, WithToken};
+use holding::{Caller, Unheld, WithToken};
 use rand_core::Rng;
 use std::alloc::Global;
 use std::marker::Model;
-use way::{check_locks_to_path, get_or_create_path_node, lookup_lock};
+use way::{check_locks_to_path, copy_at, get_or_create_path_node, lookup_lock};
 
 /// The locks that stand at one path, each with its grant number, in the order of granting.
 #[derive(Drop)]
@@ -164,7 +164,13 @@ impl MemLs {
             ignore_principal,
             tokens,
         };
-        let any_held = lookup_lock(&self.tree, path, &caller).is_some();
-        check_locks_to_path(&self.tree, path, &Change { caller, any_held })
+        let Some((node, place)) = lookup_lock(&self.tree, path, &Unheld { caller }) else {
+            return Ok(());
+        };
+        // Two locks that cover one path are both shared, and beside a shared one it is enough to hold another.
+        match lookup_lock(&self.tree, path, &caller) {
+            Some(_) => Ok(()),
+            None => Err(LockError::Conflict(copy_at(&self.tree, node, place)?)),
+        }
     }
 }

@@ -11,9 +11,9 @@ refuses_wanted shared at_path l = not (compatible l.shared shared) && (at_path |
 abbrev pub is_covering_held : Caller → Bool → Lock → Bool
 is_covering_held who at_path l = (at_path || l.deep) && held l who
 
--- it refuses a change
-abbrev pub refuses_asker : Caller → Bool → Bool → Lock → Bool
-refuses_asker who any_held at_path l = (not (held l who) && (at_path || l.deep)) && (not l.shared || not any_held)
+-- it covers the path and isn't held
+abbrev pub is_covering_unheld : Caller → Bool → Lock → Bool
+is_covering_unheld who at_path l = (at_path || l.deep) && not (held l who)
 
 -- it has the token
 abbrev pub has_that_token : List ℕ → Bool → Lock → Bool

@@ -16,11 +16,10 @@ pub(super) struct Caller<'a> {
     pub(super) tokens: &'a [String],
 }
 
-/// A change, and whether the one who asks holds a lock that covers the path.
+/// What is not held by the one who asks.
 #[derive(Clone, Copy)]
-pub(super) struct Change<'a> {
+pub(super) struct Unheld<'a> {
     pub(super) caller: Caller<'a>,
-    pub(super) any_held: bool,
 }
 
 /// A token.
@@ -61,16 +60,15 @@ impl LockTest for Caller<'_> {
     }
 }
 
-/// The locks that refuse a change.
-impl LockTest for Change<'_> {
+/// The locks that cover the path and aren't held.
+impl LockTest for Unheld<'_> {
     ghost use Rattle.dav_locks_core.specs.Calls.{caller};
-    ghost use Rattle.dav_locks_core.specs.Private.WayTests.{refuses_asker};
+    ghost use Rattle.dav_locks_core.specs.Private.WayTests.{is_covering_unheld};
 
-    ghost test = { λ c. refuses_asker (caller c.caller.principal c.caller.ignore_principal c.caller.tokens.now)
-        c.any_held };
+    ghost test = { λ c. is_covering_unheld (caller c.caller.principal c.caller.ignore_principal c.caller.tokens.now) };
 
     fn passes(&self, at_path: bool, lock: &DavLock) -> bool {
-        !is_held(lock, &self.caller) && (at_path || lock.deep) && (!lock.shared || !self.any_held)
+        (at_path || lock.deep) && !is_held(lock, &self.caller)
     }
 }
 

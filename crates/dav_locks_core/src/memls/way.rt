@@ -72,7 +72,11 @@ pub(super) fn lookup_lock<T: LockTest>(
 }
 
 // A copy of a lock, to show it.
-fn copy_at(tree: &Tree<Bytes, NodeLocks>, node: u64, place: usize) -> Result<DavLock, AllocError>
+pub(super) fn copy_at(
+    tree: &Tree<Bytes, NodeLocks>,
+    node: u64,
+    place: usize,
+) -> Result<DavLock, AllocError>
     requires { place < length (spec.locks_at tree.now.keyed node) }
     ensures { IfOk result (λ copy. (d : NumberedLock) → copy ≡
         (slice_index_or (spec.locks_at tree.now.keyed node) place d).1) }

@@ -23,14 +23,16 @@ impl Labels {
     }
 
     /// Keeps the token of a lock that was granted, and gives the number of its label.
-    pub(super) fn add(&mut self, token: &str) -> Result<usize, AllocError> {
-        self.tokens.push(String::from_str(self.alloc, token)?)?;
-        if let Some(number) = self.numbers.get(token) {
-            return Ok(*number);
-        }
-        let number = self.tokens.len();
-        let token = String::from_str(self.alloc, token)?;
-        self.numbers.insert(token, number)?;
+    pub(super) fn add(&mut self, token: String) -> Result<usize, AllocError> {
+        let number = match self.numbers.get(token.as_str()) {
+            Some(number) => *number,
+            None => {
+                let number = self.tokens.len() + 1;
+                self.numbers.insert(token.clone()?, number)?;
+                number
+            }
+        };
+        self.tokens.push(token)?;
         Ok(number)
     }
 

@@ -52,7 +52,7 @@ impl Player {
         lock: DavLock,
         output: &mut BufWriter<O>,
     ) -> Result<(), Stop> {
-        let number = self.labels.add(&lock.token)?;
+        let number = self.labels.add(lock.token)?;
         Ok(writeln!(output, "ok t{number}")?)
     }
 }

@@ -24,11 +24,11 @@ IsEntry m p id = (r : Resource) × (find m p ≡ Ok r) × (r.number ≡ id)
 abbrev pub IsMissing : ResourceMap → Path → ℕ → Segment → Type 0
 IsMissing m p folder name = (find m p ≡ Err NotFound) × (p ≡ parent p ++ (name ∷ [])) × ((r : Resource) × (find_folder m (parent p) ≡ Ok r) × (r.number ≡ folder))
 
--- neither the entry nor its folder
+-- neither an entry nor its folder is found, and both for one reason
 abbrev pub IsRefused : ResourceMap → Path → FsError → Type 0
 IsRefused m p e = (find m p ≡ Err e) × (find_folder m (parent p) ≡ Err e)
 
--- where a path leads
+-- where a path is found to lead
 abbrev pub LeadsTo : ResourceMap → Path → Result Target FsError → Type 0
 LeadsTo m p (Ok (Entry id)) = IsEntry m p id
 LeadsTo m p (Ok (Missing folder name)) = IsMissing m p folder name.now

@@ -1,4 +1,4 @@
-use Rattle.std.proofs.Common.{◌≡◌, ℕ, Ok, Some, inr, sym, ap, ◌∙◌, subst, refl, true, false}
+use Rattle.std.proofs.Common.{◌≡◌, ℕ, List, Ok, Some, inr, sym, ap, ◌∙◌, subst, refl, true, false}
 use Rattle.dav_path_core.specs.Segments.{segments}
 use Rattle.dav_path_core.specs.Fronts.{Path}
 use Rattle.dav_files_core.specs.Private.Represents.{Represents}
@@ -9,7 +9,6 @@ use Rattle.dav_files_core.specs.declared.memfs.Target.{Target}
 use Rattle.dav_files_core.specs.declared.memfs.Target.TheVariants.{Entry, Missing}
 use Rattle.dav_files_core.specs.declared.memfs.Kind.TheVariants.{File}
 use Rattle.std.specs.Borrow.{Bor}
-use Rattle.std.proofs.Common.{List}
 use Rattle.dav_files_core.proofs.Walking.{not_file}
 use Rattle.dav_files_core.proofs.Found.{found_there}
 use Rattle.dav_files_core.proofs.Putting.{put_folder, put_file, put_missing}
@@ -19,6 +18,7 @@ use Rattle.dav_files_core.proofs.memfs.MemFs.put.Goals as goal
 not_true : ¬ (false ≡ true)
 not_true e = cc
 
+-- where the path leads
 entry : (m : ResourceMap) (p : Path) (target : Target) (id : ℕ) → target ≡ Entry id → LeadsTo m p (Ok target) → (r : Resource) × (at_path m p ≡ Some r) × (r.number ≡ id)
 entry m p target id is h =
     let here = subst (λ (target : Target). LeadsTo m p (Ok target)) is h in (here.0, found_there m p here.0 here.1, here.2)

@@ -35,7 +35,7 @@ pub fn seed_of(args: &[String]) -> Option<u64>
 /// writes an answer a line to `output`. The generator of lock tokens begins with the seed.
 ///
 /// Answers the status to end with. 0 at the end of the input. 2 after a line of a wrong form, which `faults` names by its
-/// number; later lines aren't run. 3 where the input or the output fails, or memory is wanting outside a line. A failed
+/// number; later lines aren't run. 3 where the input or the output fails, or there is no memory outside a line. A failed
 /// write to `faults` changes no status.
 pub fn replay<I: Read + Drop, O: Write + Drop, E: Write + Drop>(
     alloc: Global,

@@ -1,6 +1,7 @@
 //! Long, wide and deep inputs, where there is memory: no call has a limit of its own.
 use dav_headers_core::davheaders::{ContentLanguage, ETagList, If, IfMatch, Timeout};
 use dav_resource_core::davpath::DavPath;
+use dav_resource_core::errors::FsResult;
 use dav_resource_core::fs::Moment;
 use dav_resource_core::memfs::MemFs;
 use dav_resource_core::memls::MemLs;
@@ -12,6 +13,8 @@ use std::alloc::Global;
 use std::test::Fail;
 
 const MANY: usize = 10_000;
+/// Fewer, since a step is taken for each pair of children.
+const WIDE: usize = 2_000;
 
 /// So many copies of a text, one after another, between two others.
 fn repeated(alloc: Global, before: &str, text: &str, after: &str) -> Result<String, Fail> {
@@ -41,30 +44,41 @@ fn reads_paths_of_many_segments(rt: HostRuntime) -> Result<(), Fail> {
     Ok(())
 }
 
+fn children(alloc: Global, tree: &Tree<u64, u64>, id: u64) -> FsResult<usize> {
+    let pairs: Vec<(u64, u64)> = tree.get_children(id)?.collect(alloc)?;
+    Ok(pairs.len())
+}
+
 #[test]
 fn keeps_many_children(rt: HostRuntime) -> Result<(), Fail> {
-    let mut tree: Tree<u64, u64> = Tree::new(rt.alloc(), 0)?;
-    for key in 0..MANY as u64 {
+    let alloc = rt.alloc();
+    let mut tree: Tree<u64, u64> = Tree::new(alloc, 0)?;
+    for key in 0..WIDE as u64 {
         tree.add_child(ROOT_ID, key, key, false)?;
     }
-    assert_eq!(rt; tree.get_children(ROOT_ID)?.count(), MANY);
+    assert_eq!(rt; children(alloc, &tree, ROOT_ID)?, WIDE);
     assert_eq!(rt; tree.get_child(ROOT_ID, &0)?, 2);
+    assert_eq!(rt; tree.find_child(ROOT_ID, |key| *key == 1)?, 3);
+    assert!(rt; tree.first_child(ROOT_ID)?.is_some() && tree.next_sibling(3)?.is_some());
     assert!(rt; tree.move_node(2, 3, 0, false).is_ok());
     assert!(rt; tree.delete_node(2).is_ok());
-    assert_eq!(rt; tree.add_child(ROOT_ID, 1, 7, true)?, 10_002);
-    assert_eq!(rt; tree.get_children(ROOT_ID)?.count(), MANY - 1);
+    assert_eq!(rt; tree.add_child(ROOT_ID, 1, 7, true)?, 2_002);
+    assert_eq!(rt; children(alloc, &tree, ROOT_ID)?, WIDE - 1);
     Ok(())
 }
 
 #[test]
 fn keeps_a_deep_chain(rt: HostRuntime) -> Result<(), Fail> {
-    let mut tree: Tree<u64, u64> = Tree::new(rt.alloc(), 0)?;
+    let alloc = rt.alloc();
+    let mut tree: Tree<u64, u64> = Tree::new(alloc, 0)?;
     let mut at = ROOT_ID;
     for turn in 0..MANY as u64 {
         at = tree.add_child(at, 0, turn, false)?;
     }
     assert_eq!(rt; at, 10_001);
     assert_eq!(rt; *tree.get_node(at)?, 9_999);
+    *tree.get_node_mut(at)? = 7;
+    assert!(rt; tree.next_sibling(at)?.is_none() && children(alloc, &tree, at)? == 0);
     assert!(rt; tree.move_node(5_000, ROOT_ID, 1, false).is_ok());
     assert_eq!(rt; tree.parent_of(5_000)?, Some(ROOT_ID));
     assert!(rt; tree.delete_subtree(2).is_ok() && tree.get_node(4_999).is_err());

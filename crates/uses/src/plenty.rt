@@ -13,8 +13,6 @@ use std::alloc::Global;
 use std::test::Fail;
 
 const MANY: usize = 10_000;
-/// Fewer, since a step is taken for each pair of children.
-const WIDE: usize = 2_000;
 
 /// So many copies of a text, one after another, between two others.
 fn repeated(alloc: Global, before: &str, text: &str, after: &str) -> Result<String, Fail> {
@@ -53,17 +51,20 @@ fn children(alloc: Global, tree: &Tree<u64, u64>, id: u64) -> FsResult<usize> {
 fn keeps_many_children(rt: HostRuntime) -> Result<(), Fail> {
     let alloc = rt.alloc();
     let mut tree: Tree<u64, u64> = Tree::new(alloc, 0)?;
-    for key in 0..WIDE as u64 {
+    for key in 0..MANY as u64 {
         tree.add_child(ROOT_ID, key, key, false)?;
     }
-    assert_eq!(rt; children(alloc, &tree, ROOT_ID)?, WIDE);
-    assert_eq!(rt; tree.get_child(ROOT_ID, &0)?, 2);
-    assert_eq!(rt; tree.find_child(ROOT_ID, |key| *key == 1)?, 3);
+    assert_eq!(rt; children(alloc, &tree, ROOT_ID)?, MANY);
+    assert!(rt;
+        tree.get_child(ROOT_ID, &0)? == 2 && tree.find_child(ROOT_ID, |key| *key == 1)? == 3
+    );
     assert!(rt; tree.first_child(ROOT_ID)?.is_some() && tree.next_sibling(3)?.is_some());
+    *tree.get_node_mut(10_001)? = 7;
+    assert!(rt; *tree.get_node(10_001)? == 7 && tree.parent_of(10_001)? == Some(ROOT_ID));
     assert!(rt; tree.move_node(2, 3, 0, false).is_ok());
-    assert!(rt; tree.delete_node(2).is_ok());
-    assert_eq!(rt; tree.add_child(ROOT_ID, 1, 7, true)?, 2_002);
-    assert_eq!(rt; children(alloc, &tree, ROOT_ID)?, WIDE - 1);
+    assert!(rt; tree.delete_node(2).is_ok() && tree.delete_subtree(3).is_ok());
+    assert_eq!(rt; tree.add_child(ROOT_ID, 2, 7, true)?, 10_002);
+    assert_eq!(rt; children(alloc, &tree, ROOT_ID)?, MANY - 2);
     Ok(())
 }
 
@@ -75,14 +76,19 @@ fn keeps_a_deep_chain(rt: HostRuntime) -> Result<(), Fail> {
     for turn in 0..MANY as u64 {
         at = tree.add_child(at, 0, turn, false)?;
     }
-    assert_eq!(rt; at, 10_001);
-    assert_eq!(rt; *tree.get_node(at)?, 9_999);
+    assert!(rt; at == 10_001 && *tree.get_node(at)? == 9_999);
+    assert!(rt;
+        tree.get_child(10_000, &0)? == at && tree.find_child(10_000, |key| *key == 0)? == at
+    );
+    assert!(rt; tree.first_child(10_000)? == Some(at) && tree.next_sibling(at)?.is_none());
+    assert_eq!(rt; children(alloc, &tree, 10_000)?, 1);
     *tree.get_node_mut(at)? = 7;
-    assert!(rt; tree.next_sibling(at)?.is_none() && children(alloc, &tree, at)? == 0);
+    assert!(rt; tree.delete_node(at).is_ok() && tree.get_node(at).is_err());
+    assert_eq!(rt; tree.add_child(9_999, 0, 7, true)?, 10_002);
     assert!(rt; tree.move_node(5_000, ROOT_ID, 1, false).is_ok());
     assert_eq!(rt; tree.parent_of(5_000)?, Some(ROOT_ID));
     assert!(rt; tree.delete_subtree(2).is_ok() && tree.get_node(4_999).is_err());
-    assert!(rt; tree.delete_subtree(5_000).is_ok() && tree.get_node(at).is_err());
+    assert!(rt; tree.delete_subtree(5_000).is_ok() && tree.get_node(10_002).is_err());
     assert_eq!(rt; tree.first_child(ROOT_ID)?, None);
     Ok(())
 }

@@ -1,3 +1,4 @@
+pub mod ChildChanges
 pub mod Cutting
 pub mod KeyedCuts
 pub mod KeyedDepth

@@ -10,6 +10,7 @@ ghost use Rattle.dav_path_core.specs.TreeValue.{IsTreeValue, first, after, if_kn
 
 mod links;
 mod listing;
+mod tables;
 
 use crate::errors::{FsError, FsResult};
 pub use listing::Children;
@@ -17,6 +18,7 @@ use std::alloc::Global;
 use std::collections::HashMap;
 use std::hash::Hash;
 use std::marker::Model;
+use tables::{Tables, drop_table, forget, hash_of, note};
 
 /// The number of the root.
 pub const ROOT_ID: u64 = 1;
@@ -37,6 +39,7 @@ pub struct Node<K, D> {
 #[derive(Drop)]
 pub struct Tree<K: Eq + Hash, D> {
     nodes: HashMap<u64, Node<K, D>>,
+    tables: Tables,
     next: u64,
     alloc: Global,
 }
@@ -49,11 +52,11 @@ impl<K: Eq + Hash, D> Model for Tree<K, D> {
     ghost coded = { tree_value_code K.code D.code };
 
     ghost use Rattle.dav_path_core.specs.View.{tree_value_of};
-    ghost use Rattle.dav_path_core.specs.Private.Nodes.{IsLinked};
+    ghost use Rattle.dav_path_core.specs.Private.Holding.{IsHeld};
 
     ghost view = { λ a. tree_value_of a.nodes.entries a.next };
 
-    ghost invariant = { λ a. IsLinked K.eq a.nodes.entries a.next };
+    ghost invariant = { λ a. IsHeld K.eq K.hash_input a.nodes.entries a.next a.tables.entries };
 }
 
 impl<K: Eq + Hash + Clone, D> Tree<K, D> {
@@ -64,7 +67,7 @@ impl<K: Eq + Hash + Clone, D> Tree<K, D> {
         ensures answer { result ≡ ok_or (child (K.eq key.now) self.now.keyed parent) FsError.NotFound }
         ensures shape { IsTreeValue K.eq self.now }
     {
-        self.find_child(parent, |name| key == name)
+        self.find_child_like(parent, key, |name| key == name)
     }
 
     /// The number of a child whose key passes the test; where several do, any of them. So a caller can look a key up by
@@ -188,13 +191,15 @@ impl<K: Eq + Hash + Clone, D> Tree<K, D> {
         let Some(node) = self.nodes.get(&id) else {
             return Err(FsError::NotFound);
         };
-        let Some((above, _name)) = &node.parent_and_key else {
+        let Some((above, name)) = &node.parent_and_key else {
             return Err(FsError::Forbidden);
         };
         if node.first_child.is_some() {
             return Err(FsError::Forbidden);
         }
         let (parent, before, after) = (*above, node.previous_sibling, node.next_sibling);
+        forget(&mut self.tables, parent, hash_of(name));
+        drop_table(&mut self.tables, id);
         links::close_up(&mut self.nodes, parent, before, after);
         let Some(taken) = self.nodes.remove(&id) else {
             unreachable!()
@@ -303,10 +308,12 @@ impl<K: Eq + Hash + Clone, D> Tree<K, D> {
         let Some(node) = self.nodes.get(&id) else {
             unreachable!()
         };
-        let Some((above, _name)) = &node.parent_and_key else {
+        let Some((above, name)) = &node.parent_and_key else {
             unreachable!()
         };
         let (parent, before, after) = (*above, node.previous_sibling, node.next_sibling);
+        forget(&mut self.tables, parent, hash_of(name));
+        note(&mut self.tables, new_parent, hash_of(&new_name), id);
         links::close_up(&mut self.nodes, parent, before, after);
         let first = links::first_of(&self.nodes, new_parent);
         links::set_parent_and_key(&mut self.nodes, id, new_parent, new_name, first);
@@ -360,6 +367,7 @@ impl<K: Eq + Hash + Clone, D: Drop> Tree<K, D> {
         match nodes.insert(ROOT_ID, root) {
             Ok(_) => Ok(Tree {
                 nodes,
+                tables: HashMap::new(alloc),
                 next: 2,
                 alloc,
             }),
@@ -399,7 +407,11 @@ impl<K: Eq + Hash + Clone, D: Drop> Tree<K, D> {
             return Err(FsError::InsufficientStorage);
         }
         match taken {
-            None => return self.add_new(parent, key, item),
+            None => {
+                let id = self.add_new(parent, key, item)?;
+                self.keep_table(parent);
+                return Ok(id);
+            }
             Some(old) => return self.add_over(parent, key, item, old),
         }
     }
@@ -415,7 +427,9 @@ impl<K: Eq + Hash + Clone, D: Drop> Tree<K, D> {
         ensures shape { IsTreeValue K.eq self.new }
     {
         let id = self.next;
+        let hash = hash_of(&key);
         links::put_new(&mut self.nodes, id, parent, key, item)?;
+        note(&mut self.tables, parent, hash, id);
         self.next = id + 1;
         Ok(id)
     }
@@ -431,9 +445,13 @@ impl<K: Eq + Hash + Clone, D: Drop> Tree<K, D> {
         ensures shape { IsTreeValue K.eq self.new }
     {
         let new = self.next;
+        let hash = hash_of(&key);
         links::put_new(&mut self.nodes, new, parent, key, item)?;
         self.next = new + 1;
         links::hang(&mut self.nodes, old, parent, new);
+        forget(&mut self.tables, parent, hash);
+        note(&mut self.tables, parent, hash, new);
+        note(&mut self.tables, new, hash, old);
         self.cut_out(old);
         Ok(new)
     }
@@ -518,6 +536,7 @@ impl<K: Eq + Hash + Clone, D: Drop> Tree<K, D> {
             Err(error) => return Err(error),
             Ok(None) => {
                 self.put_below(id, new_parent, new_name);
+                self.keep_table(new_parent);
                 return Ok(());
             }
             Ok(Some(other)) => {

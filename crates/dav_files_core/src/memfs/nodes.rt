@@ -87,7 +87,7 @@ pub(super) fn member_of(tree: &Tree<Bytes, Node>, folder: u64, name: &[u8]) -> F
 fn look_up(tree: &Tree<Bytes, Node>, folder: u64, name: &[u8]) -> FsResult<u64>
     ensures { result ≡ ok_or (child (λ k. pointwise nat_eq k name.now) tree.now.keyed folder) FsError.NotFound }
 {
-    tree.find_child(folder, |key| key.as_slice() == name)
+    tree.find_child_like(folder, &name, |key| key.as_slice() == name)
 }
 
 /// The node with a number. `NotFound` where there is none.

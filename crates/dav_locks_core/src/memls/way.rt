@@ -17,7 +17,7 @@ use std::alloc::{AllocError, Global};
 pub(super) fn child_of(tree: &Tree<Bytes, NodeLocks>, node: u64, segment: &[u8]) -> Option<u64>
     ensures { result ≡ child_at tree.now.keyed node segment.now }
 {
-    match tree.find_child(node, |key| key.as_slice() == segment) {
+    match tree.find_child_like(node, &segment, |key| key.as_slice() == segment) {
         Ok(child) => Some(child),
         Err(_) => None,
     }

@@ -26,12 +26,12 @@ pub(super) fn hash_of<Q: Hash>(key: &Q) -> u64
     state.finish()
 }
 
-/// The child that the table of a node has for a hash; `None` where the node has no table.
-pub(super) fn look_up(tables: &Tables, node: u64, hash: u64) -> Option<Option<u64>>
-    ensures { result ≡ told tables.now.entries node hash }
+/// The child that the table of a node has for the hash of a key; `None` where the node has no table.
+fn look_up<Q: Hash>(tables: &Tables, node: u64, key: &Q) -> Option<Option<u64>>
+    ensures { result ≡ told tables.now.entries node (hash (Q.hash_input key.now)) }
 {
     match tables.get(&node) {
-        Some(table) => Some(table.get(&hash).copied()),
+        Some(table) => Some(table.get(&hash_of(key)).copied()),
         None => None,
     }
 }
@@ -90,7 +90,7 @@ impl<K: Eq + Hash + Clone, D> Tree<K, D> {
             → ((k : K) → test k ≡ true → K.hash_input k ≡ Q.hash_input like.now)
             → result ≡ ok_or (child test self.now.keyed parent) FsError.NotFound }
     {
-        let found = match look_up(&self.tables, parent, hash_of(like)) {
+        let found = match look_up(&self.tables, parent, like) {
             Some(found) => found,
             None => return self.find_child(parent, same),
         };

@@ -22,15 +22,15 @@ pub returns-in-Some-found-clause-shape : goal.returns-in-Some-found-clause-shape
 returns-in-Some-found-clause-shape g c = shape_of c.self.invariant.linked c.self.view_is
 
 pub returns-in-None-found-clause-none : goal.returns-in-None-found-clause-none
-returns-in-None-found-clause-none g c = λ n k child like. absurd (none≢some n (sym c.in-None-found.is ∙ tabled-tells (λ x. hash (g.K.Hash.hash_input x)) c.args.self.now c.self.inside.tables.entries c.args.parent c.hash_of.result c.in-Some.found
-    (tree_value_of c.self.inside.nodes.entries c.self.inside.next) c.self.view_is c.self.invariant.tabled (sym c.look_up.ensures ∙ c.in-Some.is) n k child (ap hash like ∙ sym c.hash_of.ensures)))
+returns-in-None-found-clause-none g c = λ n k child like. absurd (none≢some n (sym c.in-None-found.is ∙ tabled-tells (λ x. hash (g.K.Hash.hash_input x)) c.args.self.now c.self.inside.tables.entries c.args.parent (hash (g.Q.Hash.hash_input c.args.like.now)) c.in-Some.found
+    (tree_value_of c.self.inside.nodes.entries c.self.inside.next) c.self.view_is c.self.invariant.tabled (sym c.look_up.ensures ∙ c.in-Some.is) n k child (ap hash like)))
 
 pub returns-in-Some-found-clause-none : goal.returns-in-Some-found-clause-none
 returns-in-Some-found-clause-none g c =
     on_err {A = (k : g.row.K.Denot) → IsChild c.args.self.now.keyed c.args.parent k c.in-Some-found.id → FnReturnsAt g.F.Fn c.args.same k false}
     {B = (n : ℕ) (k : g.row.K.Denot) → IsChild c.args.self.now.keyed c.args.parent k n → g.K.Hash.hash_input k ≡ g.Q.Hash.hash_input c.args.like.now → FnReturnsAt g.F.Fn c.args.same k false} c.test_child.result
-    (λ fails n k child like. fails k (subst (λ m. IsChild c.args.self.now.keyed c.args.parent k m) (same_some n c.in-Some-found.id (sym (tabled-tells (λ x. hash (g.K.Hash.hash_input x)) c.args.self.now c.self.inside.tables.entries c.args.parent c.hash_of.result c.in-Some.found
-    (tree_value_of c.self.inside.nodes.entries c.self.inside.next) c.self.view_is c.self.invariant.tabled (sym c.look_up.ensures ∙ c.in-Some.is) n k child (ap hash like ∙ sym c.hash_of.ensures)) ∙ c.in-Some-found.is)) child)) c.test_child.ensures.fails
+    (λ fails n k child like. fails k (subst (λ m. IsChild c.args.self.now.keyed c.args.parent k m) (same_some n c.in-Some-found.id (sym (tabled-tells (λ x. hash (g.K.Hash.hash_input x)) c.args.self.now c.self.inside.tables.entries c.args.parent (hash (g.Q.Hash.hash_input c.args.like.now)) c.in-Some.found
+    (tree_value_of c.self.inside.nodes.entries c.self.inside.next) c.self.view_is c.self.invariant.tabled (sym c.look_up.ensures ∙ c.in-Some.is) n k child (ap hash like)) ∙ c.in-Some-found.is)) child)) c.test_child.ensures.fails
 
 pub returns-in-None-found-clause-by_test : goal.returns-in-None-found-clause-by_test
 returns-in-None-found-clause-by_test g c =

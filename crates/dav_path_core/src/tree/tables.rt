@@ -30,6 +30,10 @@ pub(super) fn hash_of<Q: Hash>(key: &Q) -> u64
 fn look_up<Q: Hash>(tables: &Tables, node: u64, key: &Q) -> Option<Option<u64>>
     ensures { result ≡ told tables.now.entries node (hash (Q.hash_input key.now)) }
 {
+    // So in most trees, which have no wide node.
+    if tables.is_empty() {
+        return None;
+    }
     match tables.get(&node) {
         Some(table) => Some(table.get(&hash_of(key)).copied()),
         None => None,

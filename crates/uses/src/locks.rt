@@ -3,7 +3,7 @@ mod counter;
 
 use counter::Counter;
 use dav_files_core::fs::Moment;
-use dav_locks_core::ls::{DavLock, LockError};
+use dav_locks_core::ls::{DavLock, LockError, NoLock};
 use dav_locks_core::memls::MemLs;
 use dav_path_core::davpath::DavPath;
 use std::alloc::{AllocError, Global};
@@ -37,6 +37,8 @@ fn plays_on_locks(rt: HostRuntime) -> Result<(), Fail> {
         let answer = player.answer_to(call)?;
         assert!(rt; answer.as_str() == wanted, "{row}, not {answer}");
     }
+    let text = format!(in rt.alloc(); "{NoLock}")?;
+    assert!(rt; text.as_str() == "NoLock");
     Ok(())
 }
 

@@ -52,8 +52,7 @@ fn displays<E: Display>(rt: &impl Abort, alloc: Global, rows: &[(E, &str)]) -> R
 #[test]
 fn displays_every_case(rt: HostRuntime) -> Result<(), Fail> {
     displays(&rt, rt.alloc(), &FS_NAMES)?;
-    displays(&rt, rt.alloc(), &DAV_NAMES)?;
-    displays(&rt, rt.alloc(), &[(dav_locks_core::ls::NoLock, "NoLock")])
+    displays(&rt, rt.alloc(), &DAV_NAMES)
 }
 
 const SYSTEM_ERRORS: [(Option<i32>, ErrorKind, FsError); 7] = [

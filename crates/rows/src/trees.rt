@@ -165,9 +165,118 @@ children 2 = b:3 a:5
 children 4 = none
 children 9 = NotFound";
 
+// The same where a node has many children: with a table of them, and without one where all keys hash alike.
+const WIDE: &str = "new = ok
+add 1 a 1 = 2
+add 1 b 1 = 3
+add 1 c 1 = 4
+add 1 d 1 = 5
+add 1 e 1 = 6
+add 1 f 1 = 7
+add 1 g 1 = 8
+add 1 h 1 = 9
+add 1 i 1 = 10
+add 1 j 1 = 11
+add 1 k 1 = 12
+add 1 l 1 = 13
+add 1 m 1 = 14
+add 1 n 1 = 15
+add 1 o 1 = 16
+add 1 p 1 = 17
+add 1 q 1 = 18
+add 1 r 1 = 19
+add 1 s 1 = 20
+add 1 t 1 = 21
+get 1 a = 2
+get 1 p = 17
+like 1 q = 18
+get 1 t = 21
+like 1 z = NotFound
+get 2 a = NotFound
+get 9999 a = NotFound
+add 1 k 2 = Exists
+delete 12 = 1
+get 1 k = NotFound
+add 1 k 5 = 22
+get 1 k = 22
+like 1 j = 11
+move 22 1 z = ok
+get 1 k = NotFound
+get 1 z = 22
+add 2 k 6 = 23
+move 23 1 k = ok
+get 1 k = 23
+get 2 k = NotFound
+move! 23 1 z = ok
+get 1 z = 23
+get 1 k = NotFound
+item 22 = NotFound
+add! 1 z 9 = 24
+get 1 z = 24
+item 23 = NotFound
+add 24 a 1 = 25
+add! 1 z 9 = 26
+lost 26 = 5
+get 1 z = 26
+get 26 a = NotFound
+add 26 z 1 = 27
+move! 27 1 k = ok
+get 26 z = NotFound
+like 1 k = 27
+delete-subtree 26 = ok
+like 1 z = NotFound
+get 1 s = 20
+parent 20 = 1
+set 20 7 = ok
+get 1 s = 20
+new = ok
+add 1 a 1 = 2
+add 2 a 1 = 3
+add 2 b 1 = 4
+add 2 c 1 = 5
+add 2 d 1 = 6
+add 2 e 1 = 7
+add 2 f 1 = 8
+add 2 g 1 = 9
+add 2 h 1 = 10
+add 2 i 1 = 11
+add 2 j 1 = 12
+add 2 k 1 = 13
+add 2 l 1 = 14
+add 2 m 1 = 15
+add 2 n 1 = 16
+add 2 o 1 = 17
+add 1 p 1 = 18
+move 18 2 p = ok
+get 2 p = 18
+like 2 a = 3
+get 2 q = NotFound
+add 2 q 1 = 19
+get 2 q = 19
+delete 18 = 1
+get 2 p = NotFound
+move 3 1 b = ok
+get 2 a = NotFound
+get 1 b = 3
+delete-subtree 2 = ok
+get 1 a = NotFound
+get 2 c = NotFound
+add 1 a 1 = 20
+get 20 c = NotFound";
+
 #[test]
 fn plays_on_bytes(rt: HostRuntime) -> Result<(), Fail> {
     play::<Vec<u8>>(&rt, rt.alloc(), ROWS)
+}
+
+#[test]
+fn plays_wide_on_bytes(rt: HostRuntime) -> Result<(), Fail> {
+    play::<Vec<u8>>(&rt, rt.alloc(), WIDE)
+}
+
+#[test]
+fn plays_wide_on_dull_keys(rt: HostRuntime) -> Result<(), Fail> {
+    play::<Dull>(&rt, rt.alloc(), WIDE)
 }
 
 #[test]

@@ -75,6 +75,13 @@ module _ (t : FileTree) (m : ResourceMap) (rep : Represents t m) (path : Path) (
         none_some _ x.0 free x.1,
   )
 
+  -- a node added there
+  pub with_node : (key : Segment) → key ≡ name → (node : Node) → (node.kind ≡ Folder → node.bytes ≡ []) → (t' : FileTree) → t' ≡ add t id key node → Represents t' (added m path node)
+  with_node key is node bare t' e =
+      let rep' = Represents-added t m rep (parent path) h.2.0 name node folder.0 folder.1 free bare in
+      subst (λ p. Represents t' (added m p node)) (sym h.1)
+      (subst (λ t'. Represents t' (added m (parent path ++ (name ∷ [])) node)) (sym (e ∙ (λ j. add t (sym h.2.2 j) (is j) node))) rep')
+
   -- a file added there
   pub with_file : (key : Segment) → key ≡ name → (bytes : List ℕ) (now : ℕ) (node : Node) → node ≡ new_file bytes now → (t' : FileTree) → t' ≡ add t id key node → Represents t' (added m path (new_file bytes now))
   with_file key is bytes now node node_is t' e =

@@ -8,7 +8,7 @@ use Rattle.dav_path_core.specs.declared.errors.FsError.{FsError}
 use Rattle.dav_path_core.specs.declared.errors.FsError.TheVariants.{NotFound, InsufficientStorage}
 use Rattle.dav_files_core.specs.Resources.{Node}
 use Rattle.dav_files_core.specs.Private.Represents.{FileTree, FileEntry}
-use Rattle.dav_files_core.specs.Private.TreeCalls.{IsMember, FindsMember, FindsNode, WritesFile, IsThere}
+use Rattle.dav_files_core.specs.Private.TreeCalls.{IsMember, FindsMember, FindsNode, WritesFile, SetsNode, IsThere}
 use Rattle.dav_path_core.specs.Answers.{Answers}
 use Rattle.dav_path_core.specs.Keyed.{entry, item, parent_and_key, parent_and_key_of, child, add, add_refusal, cleared, with_item, with_item_at}
 use Rattle.dav_path_core.specs.TreeValue.{TreeValue}
@@ -17,7 +17,7 @@ use Rattle.dav_path_core.proofs.trees.Trees.{child-some, child-none, same_some, 
 
 module _ (t : FileTree) where
   -- a place, as an entry
-  stands : (n p : ℕ) (k : List ℕ) → parent_and_key t n ≡ Some (p, k) → IsMember t p k n
+  pub stands : (n p : ℕ) (k : List ℕ) → parent_and_key t n ≡ Some (p, k) → IsMember t p k n
   stands n p k h = by (get t.nodes n) refl h
     where
       by : (o : Option FileEntry) → get t.nodes n ≡ o → parent_and_key_of o ≡ Some (p, k) → IsMember t p k n
@@ -81,3 +81,10 @@ module _ (t : FileTree) where
       by None e h = absurd (none≢some old h)
       by (Some x) e h =
           (x, e, ap (λ o. with_item_at t id o new) e ∙ ap (λ (n : Node). with_item_at t id (Some x) n) (is ∙ ap (λ (n : Node). record n { bytes = bytes; modified = now }) (sym (same_some _ _ h))))
+
+  pub set : (id : ℕ) (old new : Node) (f : Node → Node) → item t id ≡ Some old → new ≡ f old → SetsNode t id f (Ok tt) (with_item t id new)
+  set id old new f h is = by (get t.nodes id) refl h
+    where
+      by : (o : Option FileEntry) → get t.nodes id ≡ o → option_map (λ e. e.item) o ≡ Some old → SetsNode t id f (Ok tt) (with_item t id new)
+      by None e h = absurd (none≢some old h)
+      by (Some x) e h = (x, e, ap (λ o. with_item_at t id o new) e ∙ ap (λ (n : Node). with_item_at t id (Some x) n) (is ∙ ap f (sym (same_some _ _ h))))

@@ -42,7 +42,7 @@ module _ (t : FileTree) (m : ResourceMap) (rep : Represents t m) (p : Path) (r :
         ap (find_folder m) (parent-snoc p name) ∙ above,
       )
 
-  no_member : ((c : ℕ) → ¬ (IsMember t id name c)) → at_path m (p ++ (name ∷ [])) ≡ None
+  pub no_member : ((c : ℕ) → ¬ (IsMember t id name c)) → at_path m (p ++ (name ∷ [])) ≡ None
   no_member none = by (at_path m (p ++ (name ∷ []))) refl
     where
       by : (o : Option Resource) → at_path m (p ++ (name ∷ [])) ≡ o → o ≡ None

@@ -5,6 +5,7 @@ use Rattle.std.specs.FinMap.{FinMap, code}
 use Rattle.dav_files_core.specs.declared.memfs.Kind.{Kind}
 use Rattle.dav_files_core.specs.declared.memfs.Kind.TheVariants.{Folder, File}
 use Rattle.dav_path_core.specs.Fronts.{path_cmp}
+use Rattle.dav_files_core.specs.Opening.{OpenFile}
 use Rattle.dav_files_core.specs.Resources.{Property, Properties, Node, Resource, ResourceMap}
 
 abbrev pub coded_bytes : Coded (List ℕ)
@@ -48,3 +49,6 @@ abbrev pub coded_resources : Coded ResourceMap
 coded_resources =
     code_by (FinMap path_cmp Resource × ℕ) (coded× (code (coded_list coded_bytes) coded_resource) coded_ℕ)
     (λ m. (m.entries, m.next)) (λ t. record { entries = t.0; next = t.1 }) (λ _. refl)
+
+abbrev pub coded_file : Coded OpenFile
+coded_file = code_by (ℕ × (ℕ × Bool)) (coded× coded_ℕ (coded× coded_ℕ coded_bool)) (λ f. (f.number, (f.position, f.append))) (λ t. record { number = t.0; position = t.1.0; append = t.1.1 }) (λ _. refl)

@@ -1,5 +1,5 @@
 -- Finding a path in a resource map, the members of a folder, and what stands at a path (RFC 4918 section 5.2).
-use Rattle.std.specs.Prelude.{List, [], ◌∷◌, Option, None, Result, option_map, ok_or, filter_map}
+use Rattle.std.specs.Prelude.{Bool, true, false, List, [], ◌∷◌, Option, None, Result, option_map, ok_or, filter_map}
 use Rattle.std.specs.Option.{option_or, option_map_or}
 use Rattle.std.specs.FinMap.{FinMap, entries, from_entries, keys}
 use Rattle.dav_path_core.specs.declared.errors.FsError.{FsError}
@@ -34,6 +34,13 @@ member_of p e = option_map (λ name. (name, e.1)) (name_below p e.0)
 -- the members of a folder, by their names
 abbrev pub members : ResourceMap → Path → FinMap segment_cmp Resource
 members m p = from_entries (filter_map (member_of p) (entries m.entries))
+
+abbrev pub has_any : {A : Type 0} → List A → Bool
+has_any [] = false
+has_any (x ∷ xs) = true
+
+abbrev pub has_members : ResourceMap → Path → Bool
+has_members m p = has_any (entries (members m p))
 
 -- the place at a path: the entry there, nothing included, and the names of its members
 abbrev pub place : ResourceMap → Path → Option Resource × List Segment

@@ -1,7 +1,15 @@
 pub mod Codes
 pub mod Commands
+pub mod Copying
+pub mod Exactly
 pub mod Finding
+pub mod Folders
+pub mod Listing
 pub mod Meta
+pub mod Moved
+pub mod Opening
 pub mod Outcomes
 pub mod Private
+pub mod PropertyXml
+pub mod Renaming
 pub mod Resources

@@ -1,11 +1,11 @@
 -- The answers of commands on a resource map, and the changes that they make.
-use Rattle.std.specs.Prelude.{ℕ, ◌+◌, List, [], Result, Ok, Err}
-use Rattle.std.specs.FinMap.{insert, empty}
+use Rattle.std.specs.Prelude.{ℕ, ◌+◌, List, [], Option, Some, None, Result, Ok, Err}
+use Rattle.std.specs.FinMap.{insert, remove, empty}
 use Rattle.dav_path_core.specs.declared.errors.FsError.{FsError}
 use Rattle.dav_path_core.specs.declared.errors.FsError.TheVariants.{Forbidden}
 use Rattle.dav_path_core.specs.Fronts.{Path}
 use Rattle.dav_files_core.specs.declared.memfs.Kind.TheVariants.{Folder, File}
-use Rattle.dav_files_core.specs.Resources.{Node, Resource, ResourceMap}
+use Rattle.dav_files_core.specs.Resources.{Node, Resource, ResourceMap, at_path}
 use Rattle.dav_files_core.specs.Finding.{find}
 
 -- an answer with the map that is left, or a refusal, which leaves the map as it was
@@ -35,6 +35,18 @@ added m p node = record { entries = insert m.entries p (record { number = m.next
 -- the map with another node at a path whose entry is given; the number stays
 abbrev pub changed : ResourceMap → Path → Resource → Node → ResourceMap
 changed m p r node = record { entries = insert m.entries p (record { number = r.number; node = node }); next = m.next }
+
+-- the map without the entry at a path
+abbrev pub without : ResourceMap → Path → ResourceMap
+without m p = record { entries = remove m.entries p; next = m.next }
+
+abbrev pub touched_at : ResourceMap → Path → ℕ → Option Resource → ResourceMap
+touched_at m p now None = m
+touched_at m p now (Some r) = changed m p r (record r.node { modified = now })
+
+-- the map with the modified time of the entry at a path set
+abbrev pub touched : ResourceMap → Path → ℕ → ResourceMap
+touched m p now = touched_at m p now (at_path m p)
 
 abbrev pub new_file : List ℕ → ℕ → Node
 new_file bytes now = record { kind = File; bytes = bytes; props = empty; created = now; modified = now }

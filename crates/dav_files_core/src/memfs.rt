@@ -9,7 +9,15 @@ ghost use Rattle.dav_files_core.specs.Resources.{Resource, IsResourceMap, at_pat
 ghost use Rattle.dav_files_core.specs.Private.TreeCalls.{number_of, LeadsTo};
 ghost use Rattle.dav_path_core.specs.Fronts.{Path};
 
+mod entries;
+mod files;
+mod listing;
+mod meta;
 mod nodes;
+mod opening;
+
+pub use listing::MemFsEntry;
+pub use opening::MemFsFile;
 
 use crate::fs::Moment;
 use bytes::Bytes;
@@ -84,7 +92,8 @@ impl MemFs {
 
     // The number of what is at a path.
     fn number_of(&self, path: &DavPath) -> FsResult<u64>
-        ensures { result ≡ number_of self.now (segments path.now.bytes) }
+        ensures found { result ≡ number_of self.now (segments path.now.bytes) }
+        ensures shape { IsResourceMap self.now }
     {
         match self.target_of(path)? {
             Target::Entry(id) => Ok(id),
@@ -94,7 +103,8 @@ impl MemFs {
 
     // Where a path leads.
     fn target_of<'a>(&self, path: &'a DavPath) -> FsResult<Target<'a>>
-        ensures { LeadsTo self.now (segments path.now.bytes) result }
+        ensures found { LeadsTo self.now (segments path.now.bytes) result }
+        ensures shape { IsResourceMap self.now }
     {
         let _ = &self.tree;
         let mut target = Target::Entry(ROOT_ID);

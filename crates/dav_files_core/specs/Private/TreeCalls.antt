@@ -55,3 +55,8 @@ FindsNode t id (Err e) = (e ≡ NotFound) × (get t.nodes id ≡ None)
 abbrev pub WritesFile : FileTree → ℕ → List ℕ → ℕ → Result (Unit {0}) FsError → FileTree → Type 0
 WritesFile old id bytes now (Ok done) new = (n : FileEntry) × (get old.nodes id ≡ Some n) × (new ≡ with_item_at old id (Some n) (record n.item { bytes = bytes; modified = now }))
 WritesFile old id bytes now (Err e) new = (e ≡ NotFound) × (get old.nodes id ≡ None) × (new ≡ old)
+
+-- a node becomes another, or there is none
+abbrev pub SetsNode : FileTree → ℕ → (Node → Node) → Result (Unit {0}) FsError → FileTree → Type 0
+SetsNode old id set (Ok done) new = (n : FileEntry) × (get old.nodes id ≡ Some n) × (new ≡ with_item_at old id (Some n) (set n.item))
+SetsNode old id set (Err e) new = (e ≡ NotFound) × (get old.nodes id ≡ None) × (new ≡ old)

@@ -1,11 +1,11 @@
 //! The nodes of the tree of files, and the calls by which files meet the tree.
-ghost use Rattle.std.specs.Prelude.{◌≡◌, ◌↔◌, IsTrue, IfOk, IfErr, nat_eq};
+ghost use Rattle.std.specs.Prelude.{◌≡◌, ◌↔◌, IsTrue, true, Some, None, IfOk, IfErr, MatchResult, nat_eq};
 ghost use Rattle.std.specs.Option.{ok_or};
 ghost use Rattle.std.specs.Cmp.Lexicographic.{pointwise};
-ghost use Rattle.dav_path_core.specs.Keyed.{child, add};
+ghost use Rattle.dav_path_core.specs.Keyed.{child, add, delete_refusal, without, move_refusal, moved, parent, Under};
 ghost use Rattle.dav_files_core.specs.Outcomes.{new_file, new_folder};
 ghost use Rattle.dav_files_core.specs.Meta.{meta_of, meta_at};
-ghost use Rattle.dav_files_core.specs.Private.TreeCalls.{FindsMember, FindsNode, WritesFile, IsThere};
+ghost use Rattle.dav_files_core.specs.Private.TreeCalls.{FindsMember, FindsNode, WritesFile, SetsNode, IsThere};
 
 use super::{Kind, MemFsMeta};
 use crate::fs::Moment;
@@ -75,6 +75,18 @@ impl Node {
     {
         matches!(self.kind, Kind::File)
     }
+
+    // The same, made at another moment.
+    pub(super) fn made_at(&self, alloc: Global, now: Moment) -> FsResult<Node>
+        ensures { MatchResult result (λ n. n ≡ record self.now { created = now.0 }) (λ e. e ≡ FsError.InsufficientStorage) }
+    {
+        Ok(Node {
+            kind: self.kind,
+            content: self.content.as_slice().to_vec(alloc)?,
+            created: now,
+            modified: self.modified,
+        })
+    }
 }
 
 /// The number of a folder's member with a name. `NotFound` where there is none.
@@ -126,4 +138,45 @@ pub(super) fn add_node(
     ensures err { IfErr result (λ e. (e ≡ FsError.InsufficientStorage) × (tree.new.keyed ≡ tree.old.keyed)) }
 {
     tree.add_child(folder, name, node, false)
+}
+
+/// Makes the modified time of a node that given. `NotFound` where there is no such node.
+pub(super) fn set_modified(tree: &mut Tree<Bytes, Node>, id: u64, now: Moment) -> FsResult<()>
+    ensures { SetsNode tree.old.keyed id (λ n. record n { modified = now.0 }) result tree.new.keyed }
+{
+    let node = tree.get_node_mut(id)?;
+    node.modified = now;
+    Ok(())
+}
+
+/// Puts another node in place of one. `NotFound` where there is no such node.
+pub(super) fn set_node(tree: &mut Tree<Bytes, Node>, id: u64, node: Node) -> FsResult<()>
+    ensures { SetsNode tree.old.keyed id (λ _. node) result tree.new.keyed }
+{
+    let old = tree.get_node_mut(id)?;
+    *old = node;
+    Ok(())
+}
+
+/// Takes a node out that has no child. `NotFound` where there is no such node, `Forbidden` for the root and for a node
+/// with children.
+pub(super) fn delete_node(tree: &mut Tree<Bytes, Node>, id: u64) -> FsResult<()>
+    ensures { MatchResult result
+        (λ _. (delete_refusal tree.old.keyed id ≡ None) × (tree.new.keyed ≡ without tree.old.keyed id))
+        (λ e. (delete_refusal tree.old.keyed id ≡ Some e) × (tree.new.keyed ≡ tree.old.keyed)) }
+{
+    tree.delete_node(id)?;
+    Ok(())
+}
+
+/// Puts a node, with all below it, below another under a name, in place of a node without children that stands there.
+pub(super) fn move_node(tree: &mut Tree<Bytes, Node>, id: u64, folder: u64, name: Bytes) -> FsResult<()>
+    ensures answer { MatchResult result
+        (λ _. (move_refusal (pointwise nat_eq) tree.old.keyed id folder name true ≡ None)
+        × (tree.new.keyed ≡ moved (pointwise nat_eq) tree.old.keyed id folder name))
+        (λ e. (move_refusal (pointwise nat_eq) tree.old.keyed id folder name true ≡ Some e) × (tree.new.keyed ≡ tree.old.keyed)) }
+    ensures outside { IfOk result (λ _. ¬ Under (parent tree.old.keyed) id folder) }
+    ensures below { IfErr result (λ e. e ≡ FsError.Forbidden → Under (parent tree.old.keyed) id folder) }
+{
+    tree.move_node(id, folder, name, true)
 }

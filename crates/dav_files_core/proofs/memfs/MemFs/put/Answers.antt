@@ -30,14 +30,14 @@ pub returns-in_err-node_of-in-Entry-clause-answer : goal.returns-in_err-node_of-
 returns-in_err-node_of-in-Entry-clause-answer c =
     let rep = stands_for _ _ c.self.view_is c.self.invariant in
     let names = segments c.args.path.now.bytes in
-    let here = entry c.args.self.now names c.in_ok-id.field-0 c.in-Entry.id c.in-Entry.is c.in_ok-id.ensures in
+    let here = entry c.args.self.now names c.in_ok-id.field-0 c.in-Entry.id c.in-Entry.is c.in_ok-id.ensures.found in
     absurd (lost c.self.inside.tree.keyed c.args.self.now rep names here.0 here.1 c.in-Entry.id here.2 c.in_err-node_of-in-Entry.ensures.err.1)
 
 pub returns-then-not-is_file-clause-answer : goal.returns-then-not-is_file-clause-answer
 returns-then-not-is_file-clause-answer c =
     let rep = stands_for _ _ c.self.view_is c.self.invariant in
     let names = segments c.args.path.now.bytes in
-    let here = entry c.args.self.now names c.in_ok-id.field-0 c.in-Entry.id c.in-Entry.is c.in_ok-id.ensures in
+    let here = entry c.args.self.now names c.in_ok-id.field-0 c.in-Entry.id c.in-Entry.is c.in_ok-id.ensures.found in
     let n = c.in_ok-node_of-in-Entry.ensures.ok in
     let item = item_is c.self.inside.tree.keyed c.args.self.now rep names here.0 here.1 c.in-Entry.id here.2 n.0 n.1 in (
       refl,
@@ -49,7 +49,7 @@ pub invariant_of-self-in-Entry : goal.invariant_of-self-in-Entry
 invariant_of-self-in-Entry c =
     let rep = stands_for _ _ c.self.view_is c.self.invariant in
     let names = segments c.args.path.now.bytes in
-    let here = entry c.args.self.now names c.in_ok-id.field-0 c.in-Entry.id c.in-Entry.is c.in_ok-id.ensures in
+    let here = entry c.args.self.now names c.in_ok-id.field-0 c.in-Entry.id c.in-Entry.is c.in_ok-id.ensures.found in
     let n = c.in_ok-node_of-in-Entry.ensures.ok in
     let item = item_is c.self.inside.tree.keyed c.args.self.now rep names here.0 here.1 c.in-Entry.id here.2 n.0 n.1 in
     let file : here.0.node.kind ≡ File = ap (λ (n : Node). n.kind) (sym item ∙ n.2) ∙ c.if-not-is_file.ensures.0 refl in
@@ -62,7 +62,7 @@ pub returns-in-Entry-clause-answer : goal.returns-in-Entry-clause-answer
 returns-in-Entry-clause-answer c =
     let rep = stands_for _ _ c.self.view_is c.self.invariant in
     let names = segments c.args.path.now.bytes in
-    let here = entry c.args.self.now names c.in_ok-id.field-0 c.in-Entry.id c.in-Entry.is c.in_ok-id.ensures in
+    let here = entry c.args.self.now names c.in_ok-id.field-0 c.in-Entry.id c.in-Entry.is c.in_ok-id.ensures.found in
     let n = c.in_ok-node_of-in-Entry.ensures.ok in
     let item = item_is c.self.inside.tree.keyed c.args.self.now rep names here.0 here.1 c.in-Entry.id here.2 n.0 n.1 in
     let file : here.0.node.kind ≡ File = ap (λ (n : Node). n.kind) (sym item ∙ n.2) ∙ c.if-not-is_file.ensures.0 refl in
@@ -74,19 +74,19 @@ returns-in-Entry-clause-answer c =
 pub add_node-requires-clause-known : goal.add_node-requires-clause-known
 add_node-requires-clause-known c =
     let names = segments c.args.path.now.bytes in
-    let here = missing c.args.self.now names c.in_ok-id.field-0 c.in-Missing.folder _ c.in-Missing.is c.in_ok-id.ensures in
+    let here = missing c.args.self.now names c.in_ok-id.field-0 c.in-Missing.folder _ c.in-Missing.is c.in_ok-id.ensures.found in
     folder_known c.self.inside.tree.keyed c.args.self.now (stands_for _ _ c.self.view_is c.self.invariant) names c.in-Missing.folder _ here
 
 pub add_node-requires-clause-free : goal.add_node-requires-clause-free
 add_node-requires-clause-free c =
     let names = segments c.args.path.now.bytes in
-    let here = missing c.args.self.now names c.in_ok-id.field-0 c.in-Missing.folder _ c.in-Missing.is c.in_ok-id.ensures in
+    let here = missing c.args.self.now names c.in_ok-id.field-0 c.in-Missing.folder _ c.in-Missing.is c.in_ok-id.ensures.found in
     no_member c.self.inside.tree.keyed c.args.self.now (stands_for _ _ c.self.view_is c.self.invariant) names c.in-Missing.folder _ here c.in_ok-name-in-Missing.name c.in_ok-name-in-Missing.ensures
 
 pub invariant_of-self-in-Missing : goal.invariant_of-self-in-Missing
 invariant_of-self-in-Missing c =
     let names = segments c.args.path.now.bytes in
-    let here = missing c.args.self.now names c.in_ok-id.field-0 c.in-Missing.folder _ c.in-Missing.is c.in_ok-id.ensures in
+    let here = missing c.args.self.now names c.in_ok-id.field-0 c.in-Missing.folder _ c.in-Missing.is c.in_ok-id.ensures.found in
     let rep' : Represents c.add_node.new.tree.keyed (added c.args.self.now names (new_file c.args.bytes.now c.args.now.0)) =
     with_file c.self.inside.tree.keyed c.args.self.now (stands_for _ _ c.self.view_is c.self.invariant) names c.in-Missing.folder _ here c.in_ok-name-in-Missing.name c.in_ok-name-in-Missing.ensures
     c.args.bytes.now c.args.now.0 c.new_file.result (c.new_file.ensures ∙ ap (λ bytes. new_file bytes c.args.now.0) c.in_ok-content.ensures) c.add_node.new.tree.keyed c.in_ok-add_node-in-Missing.ensures.ok.1 in
@@ -95,7 +95,7 @@ invariant_of-self-in-Missing c =
 pub returns-in-Missing-clause-answer : goal.returns-in-Missing-clause-answer
 returns-in-Missing-clause-answer c =
     let names = segments c.args.path.now.bytes in
-    let here = missing c.args.self.now names c.in_ok-id.field-0 c.in-Missing.folder _ c.in-Missing.is c.in_ok-id.ensures in
+    let here = missing c.args.self.now names c.in_ok-id.field-0 c.in-Missing.folder _ c.in-Missing.is c.in_ok-id.ensures.found in
     let rep' : Represents c.add_node.new.tree.keyed (added c.args.self.now names (new_file c.args.bytes.now c.args.now.0)) =
     with_file c.self.inside.tree.keyed c.args.self.now (stands_for _ _ c.self.view_is c.self.invariant) names c.in-Missing.folder _ here c.in_ok-name-in-Missing.name c.in_ok-name-in-Missing.ensures
     c.args.bytes.now c.args.now.0 c.new_file.result (c.new_file.ensures ∙ ap (λ bytes. new_file bytes c.args.now.0) c.in_ok-content.ensures) c.add_node.new.tree.keyed c.in_ok-add_node-in-Missing.ensures.ok.1 in

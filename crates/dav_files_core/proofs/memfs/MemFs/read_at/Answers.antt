@@ -25,18 +25,18 @@ pub returns-in_err-id : goal.returns-in_err-id
 returns-in_err-id c =
     let p = err_from_is_err_and c.from_residual.result c.from_residual.ensures.1 in
     refused c.in_err-id.field-0.0 c.from_residual.result _ (p.1 ∙ ap Err p.2)
-    (read_lost c.args.self.now (segments c.args.path.now.bytes) c.in_err-id.field-0.0 c.args.at c.args.count c.in_err-id.ensures)
+    (read_lost c.args.self.now (segments c.args.path.now.bytes) c.in_err-id.field-0.0 c.args.at c.args.count c.in_err-id.ensures.found)
 
 pub returns-in_err-node : goal.returns-in_err-node
 returns-in_err-node c =
     let rep = stands_for _ _ c.self.view_is c.self.invariant in
-    let here = found_number c.args.self.now (segments c.args.path.now.bytes) c.in_ok-id.id c.in_ok-id.ensures in
+    let here = found_number c.args.self.now (segments c.args.path.now.bytes) c.in_ok-id.id c.in_ok-id.ensures.found in
     absurd (lost c.self.inside.tree.keyed c.args.self.now rep (segments c.args.path.now.bytes) here.0 here.1 c.in_ok-id.id here.2 c.in_err-node.ensures.err.1)
 
 pub returns-then-not-is_file : goal.returns-then-not-is_file
 returns-then-not-is_file c =
     let rep = stands_for _ _ c.self.view_is c.self.invariant in
-    let here = found_number c.args.self.now (segments c.args.path.now.bytes) c.in_ok-id.id c.in_ok-id.ensures in
+    let here = found_number c.args.self.now (segments c.args.path.now.bytes) c.in_ok-id.id c.in_ok-id.ensures.found in
     let n = c.in_ok-node.ensures.ok in
     let item = item_is c.self.inside.tree.keyed c.args.self.now rep (segments c.args.path.now.bytes) here.0 here.1 c.in_ok-id.id here.2 n.0 n.1 in
     inr (read_folder c.args.self.now (segments c.args.path.now.bytes) here.0 here.1 c.args.at c.args.count
@@ -45,7 +45,7 @@ returns-then-not-is_file c =
 pub returns : goal.returns
 returns c =
     let rep = stands_for _ _ c.self.view_is c.self.invariant in
-    let here = found_number c.args.self.now (segments c.args.path.now.bytes) c.in_ok-id.id c.in_ok-id.ensures in
+    let here = found_number c.args.self.now (segments c.args.path.now.bytes) c.in_ok-id.id c.in_ok-id.ensures.found in
     let n = c.in_ok-node.ensures.ok in
     let item = item_is c.self.inside.tree.keyed c.args.self.now rep (segments c.args.path.now.bytes) here.0 here.1 c.in_ok-id.id here.2 n.0 n.1 in
     let same = sym n.2 ∙ item in

@@ -26,8 +26,8 @@ at_end m p target n e h = subst (λ q. LeadsTo m q (Ok target)) (take_all n p (o
 pub loop-name-init : goal.loop-name-init
 loop-name-init c = at_root c.args.self.now (stands_for _ _ c.self.view_is c.self.invariant).is_map
 
-pub returns-in_err-target-in-Entry : goal.returns-in_err-target-in-Entry
-returns-in_err-target-in-Entry c =
+pub returns-in_err-target-in-Entry-clause-found : goal.returns-in_err-target-in-Entry-clause-found
+returns-in_err-target-in-Entry-clause-found c =
     let names = segments c.args.path.now.bytes in
     let i = length c.loop-name.yielded in
     let all = YieldsList-from_first (λ x. x.now) segments names (cc) in
@@ -52,8 +52,8 @@ loop-name-preserved c =
     let more : length (c.loop-name.yielded ++ (c.in-Some.name ∷ [])) ≡ i + 1 = rw length_push refl in
     subst (λ q. LeadsTo c.args.self.now q (Ok c.in_ok-target-in-Entry.target)) (sym (ap (λ n. take n names) more ∙ one_more names i c.in-Some.name.now t.0 name)) next
 
-pub returns-in-Missing : goal.returns-in-Missing
-returns-in-Missing c =
+pub returns-in-Missing-clause-found : goal.returns-in-Missing-clause-found
+returns-in-Missing-clause-found c =
     let names = segments c.args.path.now.bytes in
     let i = length c.loop-name.yielded in
     let all = YieldsList-from_first (λ x. x.now) segments names (cc) in
@@ -62,8 +62,8 @@ returns-in-Missing c =
     behind_missing c.args.self.now (stands_for _ _ c.self.view_is c.self.invariant).is_map names i c.in-Some.name.now t.0 name c.in-Missing.folder c.in-Missing.name.now
     (at c.args.self.now (take i names) c.loop-name.target (Missing c.in-Missing.folder c.in-Missing.name) c.in-Missing.is c.loop-name.invariant)
 
-pub returns : goal.returns
-returns c =
+pub returns-clause-found : goal.returns-clause-found
+returns-clause-found c =
     let names = segments c.args.path.now.bytes in
     let all = YieldsList-from_first (λ x. x.now) segments names (cc) in
     let t = YieldsList-end all c.loop-name.yielded _ c.loop-name.yielded_by _ _ c.in-None.is c.next.ensures.steps in

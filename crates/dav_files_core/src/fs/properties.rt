@@ -1,0 +1,69 @@
+//! Properties.
+ghost use Rattle.std.specs.Prelude.{◌≡◌, Some, MatchResult};
+ghost use Rattle.std.specs.String.{string_bytes};
+ghost use Rattle.dav_files_core.specs.PropertyXml.{property_xml, start_tag, declaration};
+
+use dav_path_core::errors::{FsError, FsResult};
+use std::alloc::Global;
+
+/// A property (RFC 4918 section 4).
+#[derive(Drop)]
+pub struct DavProp {
+    /// Its name, without a prefix.
+    pub name: String,
+    /// The prefix that stands for the namespace in the xml.
+    pub prefix: Option<String>,
+    /// The namespace.
+    pub namespace: Option<String>,
+    /// The property as xml.
+    pub xml: Option<Vec<u8>>,
+}
+
+impl DavProp {
+    /// A property with a text as its value. The xml is `<P:N xmlns:P="S">V</P:N>`, with nothing in it escaped.
+    ///
+    /// `InsufficientStorage` where it is out of memory.
+    pub fn new(
+        alloc: Global,
+        name: String,
+        prefix: String,
+        namespace: String,
+        value: String,
+    ) -> FsResult<DavProp>
+        ensures { MatchResult result
+            (λ p. (p.name ≡ name) × (p.prefix ≡ Some prefix) × (p.namespace ≡ Some namespace)
+            × ((v : _) × (p.xml ≡ Some v) × (v.items ≡ property_xml (string_bytes name) (string_bytes prefix) (string_bytes namespace) (string_bytes value))))
+            (λ e. e ≡ FsError.InsufficientStorage) }
+    {
+        let xml = xml_of(alloc, name.as_str(), prefix.as_str(), namespace.as_str(), value.as_str())?;
+        Ok(DavProp {
+            name,
+            prefix: Some(prefix),
+            namespace: Some(namespace),
+            xml: Some(xml),
+        })
+    }
+}
+
+fn xml_of(alloc: Global, n: &str, p: &str, s: &str, v: &str) -> FsResult<Vec<u8>>
+    ensures { MatchResult result (λ xml. xml.items ≡ property_xml n.now p.now s.now v.now) (λ e. e ≡ FsError.InsufficientStorage) }
+{
+    let tag = format!(in alloc; "{p}:{n}")?;
+    let declaration = declaration(alloc, p, s)?;
+    let start = start_tag(alloc, tag.as_str(), declaration.as_str())?;
+    let end = format!(in alloc; "</{tag}>")?;
+    let xml = format!(in alloc; "{start}{v}{end}")?;
+    Ok(xml.into_bytes())
+}
+
+fn declaration(alloc: Global, p: &str, s: &str) -> FsResult<String>
+    ensures { MatchResult result (λ t. string_bytes t ≡ declaration p.now s.now) (λ e. e ≡ FsError.InsufficientStorage) }
+{
+    Ok(format!(in alloc; " xmlns:{p}=\"{s}\"")?)
+}
+
+fn start_tag(alloc: Global, t: &str, xmlns: &str) -> FsResult<String>
+    ensures { MatchResult result (λ text. string_bytes text ≡ start_tag t.now xmlns.now) (λ e. e ≡ FsError.InsufficientStorage) }
+{
+    Ok(format!(in alloc; "<{t}{xmlns}>")?)
+}

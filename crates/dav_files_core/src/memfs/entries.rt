@@ -1,0 +1,112 @@
+//! Single changes of the map of files, by the number of an entry.
+ghost use Rattle.std.specs.Prelude.{◌≡◌, ◌∷◌, ◌++◌, [], Some, Ok};
+ghost use Rattle.dav_path_core.specs.Answers.{AnswersAs};
+ghost use Rattle.dav_path_core.specs.Fronts.{Path};
+ghost use Rattle.dav_files_core.specs.Exactly.{AnswersExactly};
+ghost use Rattle.dav_files_core.specs.Outcomes.{added, changed, touched};
+ghost use Rattle.dav_files_core.specs.Resources.{Node, Resource, IsResourceMap, at_path};
+ghost use Rattle.dav_files_core.specs.Private.TreeCalls.{IsMissing};
+ghost use Rattle.dav_files_core.specs.Private.Entries.{HasNumber, HasFile, HasFolder, StandsIn, IsBare, taken_out, put_there};
+
+use super::MemFs;
+use super::nodes::{Node, add_node, delete_node, move_node, node_of, set_modified, set_node, write_file};
+use crate::fs::Moment;
+use bytes::Bytes;
+use dav_path_core::errors::{FsError, FsResult};
+
+impl MemFs {
+    // The node of the entry with a number.
+    pub(super) fn node_at(&self, id: u64) -> &Node
+        requires { HasNumber self.now id }
+        ensures { (p : Path) (r : Resource) → at_path self.now p ≡ Some r → r.number ≡ id → result.now ≡ r.node }
+    {
+        match node_of(&self.tree, id) {
+            Ok(node) => node,
+            Err(_) => unreachable!(),
+        }
+    }
+
+    // The number of the folder in which an entry stands; the root stands in none.
+    pub(super) fn folder_of(&self, id: u64) -> Option<u64>
+        requires { HasNumber self.now id }
+        ensures { (p : Path) (r : Resource) → at_path self.now p ≡ Some r → r.number ≡ id → StandsIn self.now p result }
+    {
+        match self.tree.parent_of(id) {
+            Ok(parent) => parent,
+            Err(_) => unreachable!(),
+        }
+    }
+
+    // Adds a node where a path leads to no entry yet.
+    pub(super) fn add_entry(&mut self, folder: u64, name: &[u8], node: Node) -> FsResult<u64>
+        requires free { (p : Path) × IsMissing self.old p folder name.now }
+        requires bare { IsBare node }
+        ensures answer { (p : Path) → IsMissing self.old p folder name.now
+            → AnswersAs (λ id. id) result (Ok (self.old.next, added self.old p node)) self.old self.new }
+        ensures shape { IsResourceMap self.new }
+    {
+        let name = Bytes::copy_from_slice(self.alloc, name)?;
+        let id = add_node(&mut self.tree, folder, name, node)?;
+        Ok(id)
+    }
+
+    // Sets the modified time of an entry.
+    pub(super) fn touch(&mut self, id: u64, now: Moment)
+        requires { HasNumber self.old id }
+        ensures change { (p : Path) (r : Resource) → at_path self.old p ≡ Some r → r.number ≡ id → self.new ≡ touched self.old p now.0 }
+        ensures shape { IsResourceMap self.new }
+    {
+        match set_modified(&mut self.tree, id, now) {
+            Ok(()) => {}
+            Err(_) => unreachable!(),
+        }
+    }
+
+    // Writes the bytes of a file and its modified time.
+    pub(super) fn write(&mut self, id: u64, content: Vec<u8>, now: Moment)
+        requires { HasFile self.old id }
+        ensures change { (p : Path) (r : Resource) → at_path self.old p ≡ Some r → r.number ≡ id
+            → self.new ≡ changed self.old p r (record r.node { bytes = content.items; modified = now.0 }) }
+        ensures shape { IsResourceMap self.new }
+    {
+        match write_file(&mut self.tree, id, content, now) {
+            Ok(()) => {}
+            Err(_) => unreachable!(),
+        }
+    }
+
+    // Puts another node in place of a file's.
+    pub(super) fn replace(&mut self, id: u64, node: Node)
+        requires file { HasFile self.old id }
+        requires bare { IsBare node }
+        ensures change { (p : Path) (r : Resource) → at_path self.old p ≡ Some r → r.number ≡ id → self.new ≡ changed self.old p r node }
+        ensures shape { IsResourceMap self.new }
+    {
+        match set_node(&mut self.tree, id, node) {
+            Ok(()) => {}
+            Err(_) => unreachable!(),
+        }
+    }
+
+    // Takes out an entry without members.
+    pub(super) fn take_out(&mut self, id: u64) -> FsResult<()>
+        requires { HasNumber self.old id }
+        ensures answer { (p : Path) (r : Resource) → at_path self.old p ≡ Some r → r.number ≡ id
+            → AnswersExactly (λ _. tt) result (taken_out self.old p) self.old self.new }
+        ensures shape { IsResourceMap self.new }
+    {
+        delete_node(&mut self.tree, id)
+    }
+
+    // Puts an entry, with all below it, into a folder under a name.
+    pub(super) fn relocate(&mut self, id: u64, folder: u64, name: &[u8]) -> FsResult<()>
+        requires known { HasNumber self.old id }
+        requires folder { HasFolder self.old folder }
+        ensures answer { (p q : Path) (r f : Resource) → at_path self.old p ≡ Some r → r.number ≡ id → at_path self.old q ≡ Some f → f.number ≡ folder
+            → AnswersAs (λ _. tt) result (put_there self.old p (q ++ (name.now ∷ []))) self.old self.new }
+        ensures shape { IsResourceMap self.new }
+    {
+        let name = Bytes::copy_from_slice(self.alloc, name)?;
+        move_node(&mut self.tree, id, folder, name)
+    }
+}

@@ -1,0 +1,258 @@
+//! The calls of a file system on files in memory.
+ghost use Rattle.std.specs.Prelude.{◌≡◌, Some, Ok, Err, IsSome, false, true, MatchResult, OnErr};
+ghost use Rattle.dav_path_core.specs.Segments.{segments};
+ghost use Rattle.dav_path_core.specs.Answers.{AnswersAs, Tells};
+ghost use Rattle.dav_files_core.specs.Commands.{metadata};
+ghost use Rattle.dav_files_core.specs.Copying.{copy};
+ghost use Rattle.dav_files_core.specs.Exactly.{AnswersExactly, TellsExactly};
+ghost use Rattle.dav_files_core.specs.Folders.{create_dir, remove};
+ghost use Rattle.dav_files_core.specs.Meta.{meta_of};
+ghost use Rattle.dav_files_core.specs.Opening.{opening};
+ghost use Rattle.dav_files_core.specs.Private.Entries.{FindsFolder};
+ghost use Rattle.dav_files_core.specs.Renaming.{rename};
+ghost use Rattle.dav_files_core.specs.Resources.{IsResourceMap, at_path};
+
+use super::listing::MemFsEntry;
+use super::nodes::Node;
+use super::opening::MemFsFile;
+use super::{MemFs, MemFsMeta, Target};
+use crate::fs::{DavFileSystem, DavProp, Moment, OpenOptions, ReadDirMeta};
+use dav_path_core::davpath::DavPath;
+use dav_path_core::errors::{FsError, FsResult};
+use dav_path_core::tree::ROOT_ID;
+
+impl MemFs {
+    // Removes an entry without members.
+    fn remove(&mut self, path: &DavPath, now: Moment) -> FsResult<()>
+        ensures answer { AnswersExactly (λ _. tt) result (remove self.old (segments path.now.bytes) now.0) self.old self.new }
+        ensures shape { IsResourceMap self.new }
+    {
+        let id = self.number_of(path)?;
+        let Some(folder) = self.folder_of(id) else {
+            return Err(FsError::Forbidden);
+        };
+        self.take_out(id)?;
+        self.touch(folder, now);
+        Ok(())
+    }
+
+    // Makes a folder.
+    fn make_folder(&mut self, path: &DavPath, now: Moment) -> FsResult<()>
+        ensures answer { AnswersAs (λ _. tt) result (create_dir self.old (segments path.now.bytes) now.0) self.old self.new }
+        ensures shape { IsResourceMap self.new }
+    {
+        match self.target_of(path)? {
+            Target::Entry(_) => return Err(FsError::Exists),
+            Target::Missing { folder, name } => {
+                let node = Node::new_folder(self.alloc, now);
+                self.add_entry(folder, name, node)?;
+                self.touch(folder, now);
+                return Ok(());
+            }
+        }
+    }
+
+    // Opens what is at a path.
+    fn open_file(&mut self, path: &DavPath, options: &OpenOptions, now: Moment) -> FsResult<MemFsFile>
+        ensures answer { AnswersAs (λ f. f) result (opening self.old (segments path.now.bytes) options.now now.0) self.old self.new }
+        ensures known { IsSome (at_path self.old (segments path.now.bytes))
+            → AnswersExactly (λ f. f) result (opening self.old (segments path.now.bytes) options.now now.0) self.old self.new }
+        ensures shape { IsResourceMap self.new }
+    {
+        match self.target_of(path)? {
+            Target::Entry(number) => {
+                if options.create_new {
+                    return Err(FsError::Exists);
+                }
+                if !self.node_at(number).is_file() {
+                    return Err(FsError::Forbidden);
+                }
+                if options.truncate {
+                    self.write(number, Vec::new(self.alloc), now);
+                }
+                return Ok(MemFsFile {
+                    number,
+                    position: 0,
+                    append: options.append,
+                });
+            }
+            Target::Missing { folder, name } => {
+                if !options.create {
+                    return Err(FsError::NotFound);
+                }
+                let node = Node::new_file(Vec::new(self.alloc), now);
+                let number = self.add_entry(folder, name, node)?;
+                return Ok(MemFsFile {
+                    number,
+                    position: 0,
+                    append: options.append,
+                });
+            }
+        }
+    }
+
+    // Copies one entry.
+    fn copy_entry(&mut self, from: &DavPath, to: &DavPath, now: Moment) -> FsResult<()>
+        ensures answer { AnswersAs (λ _. tt) result (copy self.old (segments from.now.bytes) (segments to.now.bytes) now.0) self.old self.new }
+        ensures shape { IsResourceMap self.new }
+    {
+        let source = self.number_of(from)?;
+        let target = self.target_of(to)?;
+        let node = self.node_at(source).made_at(self.alloc, now)?;
+        match target {
+            Target::Entry(id) => {
+                if !self.node_at(id).is_file() {
+                    return Err(FsError::Forbidden);
+                }
+                self.replace(id, node);
+                return Ok(());
+            }
+            Target::Missing { folder, name } => {
+                self.add_entry(folder, name, node)?;
+                return Ok(());
+            }
+        }
+    }
+
+    // Puts an entry, with all below it, at another path.
+    fn move_entry(&mut self, from: &DavPath, to: &DavPath, now: Moment) -> FsResult<()>
+        ensures answer { AnswersAs (λ _. tt) result (rename self.old (segments from.now.bytes) (segments to.now.bytes) now.0) self.old self.new }
+        ensures shape { IsResourceMap self.new }
+    {
+        let source = self.number_of(from)?;
+        let Some(folder) = self.folder_at(to)? else {
+            return Err(if source == ROOT_ID { FsError::Forbidden } else { FsError::Exists });
+        };
+        let above = self.folder_of(source);
+        self.relocate(source, folder, to.file_name_bytes())?;
+        let Some(above) = above else {
+            unreachable!()
+        };
+        self.touch(above, now);
+        self.touch(folder, now);
+        Ok(())
+    }
+
+    // The number of the folder in which a path stands, whether or not something is there; the root stands in none.
+    fn folder_at(&self, path: &DavPath) -> FsResult<Option<u64>>
+        ensures { FindsFolder self.now (segments path.now.bytes) result }
+    {
+        match self.target_of(path)? {
+            Target::Missing { folder, .. } => Ok(Some(folder)),
+            Target::Entry(id) => Ok(self.folder_of(id)),
+        }
+    }
+}
+
+impl DavFileSystem for MemFs {
+    type File = MemFsFile;
+    type Meta = MemFsMeta;
+    type Entry = MemFsEntry;
+
+    ghost use Rattle.dav_files_core.specs.Meta.{meta_of};
+    ghost use Rattle.dav_files_core.specs.Listing.{entry_of};
+
+    ghost contents = { λ m. m };
+
+    ghost opened = { λ f. f };
+
+    ghost told = { meta_of };
+
+    ghost listed = { entry_of };
+
+    /// It takes no memory where something stands at the path.
+    fn open(&mut self, path: &DavPath, options: OpenOptions, now: Moment) -> FsResult<MemFsFile>
+        ensures answer { AnswersAs (λ f. f) result (opening self.old (segments path.now.bytes) options now.0) self.old self.new }
+        ensures known { IsSome (at_path self.old (segments path.now.bytes))
+            → AnswersExactly (λ f. f) result (opening self.old (segments path.now.bytes) options now.0) self.old self.new }
+        ensures shape { IsResourceMap self.new }
+    {
+        self.open_file(path, &options, now)
+    }
+
+    fn read_dir(&self, path: &DavPath, meta: ReadDirMeta) -> FsResult<Vec<MemFsEntry>>
+    {
+        Err(FsError::NotImplemented)
+    }
+
+    /// It takes no memory.
+    fn metadata(&self, path: &DavPath) -> FsResult<MemFsMeta>
+        ensures { TellsExactly meta_of result (metadata self.now (segments path.now.bytes)) }
+    {
+        self.metadata(path)
+    }
+
+    /// As `metadata`: there are no links.
+    fn symlink_metadata(&self, path: &DavPath) -> FsResult<MemFsMeta>
+        ensures { TellsExactly meta_of result (metadata self.now (segments path.now.bytes)) }
+    {
+        self.metadata(path)
+    }
+
+    fn create_dir(&mut self, path: &DavPath, now: Moment) -> FsResult<()>
+        ensures answer { AnswersAs (λ _. tt) result (create_dir self.old (segments path.now.bytes) now.0) self.old self.new }
+        ensures shape { IsResourceMap self.new }
+    {
+        self.make_folder(path, now)
+    }
+
+    /// It takes no memory. A file is removed, too.
+    fn remove_dir(&mut self, path: &DavPath, now: Moment) -> FsResult<()>
+        ensures answer { AnswersExactly (λ _. tt) result (remove self.old (segments path.now.bytes) now.0) self.old self.new }
+        ensures shape { IsResourceMap self.new }
+    {
+        self.remove(path, now)
+    }
+
+    /// It takes no memory. A folder without members is removed, too.
+    fn remove_file(&mut self, path: &DavPath, now: Moment) -> FsResult<()>
+        ensures answer { AnswersExactly (λ _. tt) result (remove self.old (segments path.now.bytes) now.0) self.old self.new }
+        ensures shape { IsResourceMap self.new }
+    {
+        self.remove(path, now)
+    }
+
+    fn rename(&mut self, from: &DavPath, to: &DavPath, now: Moment) -> FsResult<()>
+        ensures answer { AnswersAs (λ _. tt) result (rename self.old (segments from.now.bytes) (segments to.now.bytes) now.0) self.old self.new }
+        ensures shape { IsResourceMap self.new }
+    {
+        self.move_entry(from, to, now)
+    }
+
+    fn copy(&mut self, from: &DavPath, to: &DavPath, now: Moment) -> FsResult<()>
+        ensures answer { AnswersAs (λ _. tt) result (copy self.old (segments from.now.bytes) (segments to.now.bytes) now.0) self.old self.new }
+        ensures shape { IsResourceMap self.new }
+    {
+        self.copy_entry(from, to, now)
+    }
+
+    /// Not offered.
+    fn set_accessed(&mut self, path: &DavPath, tm: Moment) -> FsResult<()>
+        ensures answer { result ≡ Err FsError.NotImplemented }
+        ensures same { self.new ≡ self.old }
+    {
+        Err(FsError::NotImplemented)
+    }
+
+    /// Not offered.
+    fn set_modified(&mut self, path: &DavPath, tm: Moment) -> FsResult<()>
+        ensures answer { result ≡ Err FsError.NotImplemented }
+        ensures same { self.new ≡ self.old }
+    {
+        Err(FsError::NotImplemented)
+    }
+
+    /// Properties may be kept at every path.
+    fn have_props(&self, path: &DavPath) -> bool
+        ensures { result ≡ true }
+    {
+        true
+    }
+
+    /// Not offered.
+    fn get_quota(&self) -> FsResult<(u64, Option<u64>)>
+        ensures { result ≡ Err FsError.NotImplemented }
+    {
+        Err(FsError::NotImplemented)
+    }
+}

@@ -1,12 +1,14 @@
 pub mod Above
 pub mod Added
 pub mod Changed
+pub mod Describing
 pub mod Found
 pub mod Fronts
 pub mod HasMembers
 pub mod Leads
 pub mod Leaving
 pub mod Lengths
+pub mod Listed
 pub mod Making
 pub mod Members
 pub mod Moved

@@ -1,11 +1,12 @@
 //! The calls of a file system on files in memory.
-ghost use Rattle.std.specs.Prelude.{◌≡◌, Some, Ok, Err, IsSome, false, true, MatchResult, OnErr};
+ghost use Rattle.std.specs.Prelude.{◌≡◌, Some, Ok, Err, IsSome, true, map};
 ghost use Rattle.dav_path_core.specs.Segments.{segments};
 ghost use Rattle.dav_path_core.specs.Answers.{AnswersAs, Tells};
 ghost use Rattle.dav_files_core.specs.Commands.{metadata};
 ghost use Rattle.dav_files_core.specs.Copying.{copy};
 ghost use Rattle.dav_files_core.specs.Exactly.{AnswersExactly, TellsExactly};
 ghost use Rattle.dav_files_core.specs.Folders.{create_dir, remove};
+ghost use Rattle.dav_files_core.specs.Listing.{entry_of, read_dir};
 ghost use Rattle.dav_files_core.specs.Meta.{meta_of};
 ghost use Rattle.dav_files_core.specs.Opening.{opening};
 ghost use Rattle.dav_files_core.specs.Private.Entries.{FindsFolder};
@@ -149,9 +150,6 @@ impl DavFileSystem for MemFs {
     type Meta = MemFsMeta;
     type Entry = MemFsEntry;
 
-    ghost use Rattle.dav_files_core.specs.Meta.{meta_of};
-    ghost use Rattle.dav_files_core.specs.Listing.{entry_of};
-
     ghost contents = { λ m. m };
 
     ghost opened = { λ f. f };
@@ -171,8 +169,9 @@ impl DavFileSystem for MemFs {
     }
 
     fn read_dir(&self, path: &DavPath, meta: ReadDirMeta) -> FsResult<Vec<MemFsEntry>>
+        ensures { Tells (λ v. map entry_of v.items) result (read_dir self.now (segments path.now.bytes)) }
     {
-        Err(FsError::NotImplemented)
+        self.list(path)
     }
 
     /// It takes no memory.

@@ -1,10 +1,20 @@
 //! Listings of folders in memory.
-ghost use Rattle.std.specs.Prelude.{◌≡◌, ◌↔◌, IsTrue, Ok, false, IfOk};
+ghost use Rattle.std.specs.Prelude.{◌≡◌, ◌↔◌, IsTrue, Some, Ok, false, map, IfOk, MatchResult};
+ghost use Rattle.std.specs.FinMap.{entries};
+ghost use Rattle.dav_path_core.specs.Answers.{Tells};
+ghost use Rattle.dav_path_core.specs.Fronts.{Path};
+ghost use Rattle.dav_path_core.specs.Segments.{segments};
+ghost use Rattle.dav_files_core.specs.Finding.{members};
+ghost use Rattle.dav_files_core.specs.Listing.{entry_of, read_dir};
+ghost use Rattle.dav_files_core.specs.Resources.{Resource, at_path};
+ghost use Rattle.dav_files_core.specs.Private.Entries.{HasNumber};
+ghost use Rattle.dav_files_core.specs.Private.Listed.{numbered, AllNumbers, Described};
 
-use super::{Kind, MemFsMeta};
+use super::{Kind, MemFs, MemFsMeta};
 use crate::fs::DavDirEntry;
 use bytes::Bytes;
-use dav_path_core::errors::FsResult;
+use dav_path_core::davpath::DavPath;
+use dav_path_core::errors::{FsError, FsResult};
 
 /// A member of a folder: its name, and what is known of it.
 #[derive(Drop)]
@@ -33,5 +43,44 @@ impl DavDirEntry for MemFsEntry {
         ensures { IfOk result (λ b. IsTrue b ↔ (self.now.meta.kind ≡ Kind.Folder)) }
     {
         Ok(matches!(self.meta.kind, Kind::Folder))
+    }
+}
+
+impl MemFs {
+    // The members of a folder.
+    pub(super) fn list(&self, path: &DavPath) -> FsResult<Vec<MemFsEntry>>
+        ensures { Tells (λ v. map entry_of v.items) result (read_dir self.now (segments path.now.bytes)) }
+    {
+        let id = self.number_of(path)?;
+        if self.node_at(id).is_file() {
+            return Err(FsError::Forbidden);
+        }
+        let members = self.members_of(id)?;
+        self.described(members)
+    }
+
+    // The names and numbers of what stands in a folder, sorted by the bytes of the names.
+    fn members_of(&self, id: u64) -> FsResult<Vec<(Bytes, u64)>>
+        requires { HasNumber self.now id }
+        ensures { MatchResult result
+            (λ v. (p : Path) (r : Resource) → at_path self.now p ≡ Some r → r.number ≡ id → v.items ≡ map numbered (entries (members self.now p)))
+            (λ e. e ≡ FsError.InsufficientStorage) }
+    {
+        let mut pairs: Vec<(Bytes, u64)> = self.tree.get_children(id)?.collect(self.alloc)?;
+        pairs.sort()?;
+        Ok(pairs)
+    }
+
+    // What is known of some entries, under their names.
+    fn described(&self, members: Vec<(Bytes, u64)>) -> FsResult<Vec<MemFsEntry>>
+        requires { AllNumbers self.now members.items }
+        ensures { MatchResult result (λ v. Described self.now members.items v.items) (λ e. e ≡ FsError.InsufficientStorage) }
+    {
+        let mut entries = Vec::new(self.alloc);
+        for (name, id) in members {
+            let meta = self.node_at(id).meta();
+            entries.push(MemFsEntry { name, meta })?;
+        }
+        Ok(entries)
     }
 }

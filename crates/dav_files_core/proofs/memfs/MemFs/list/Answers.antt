@@ -1,0 +1,34 @@
+use Rattle.std.proofs.Common.{◌≡◌, true, false, sym, ap, ◌∙◌, refl}
+use Rattle.dav_path_core.specs.Segments.{segments}
+use Rattle.dav_files_core.specs.Resources.{Node}
+use Rattle.dav_files_core.proofs.Describing.{members_known, listing_answer}
+use Rattle.dav_files_core.proofs.Putting.{found_number}
+use Rattle.dav_files_core.proofs.Walking.{not_file}
+use Rattle.dav_files_core.proofs.memfs.MemFs.list.Goals as goal
+
+not_true : ¬ (false ≡ true)
+not_true e = cc
+
+pub node_at-requires : goal.node_at-requires
+node_at-requires c =
+    let names = segments c.args.path.now.bytes in
+    let here = found_number c.args.self.now names c.in_ok-id.id c.in_ok-id.ensures.found in (names, here.0, here.1, here.2)
+
+pub members_of-requires : goal.members_of-requires
+members_of-requires c =
+    let names = segments c.args.path.now.bytes in
+    let here = found_number c.args.self.now names c.in_ok-id.id c.in_ok-id.ensures.found in (names, here.0, here.1, here.2)
+
+pub described-requires : goal.described-requires
+described-requires c =
+    let names = segments c.args.path.now.bytes in
+    let here = found_number c.args.self.now names c.in_ok-id.id c.in_ok-id.ensures.found in
+    members_known c.args.self.now names c.in_ok-members.members.items (c.in_ok-members.ensures names here.0 here.1 here.2)
+
+pub returns : goal.returns
+returns c =
+    let names = segments c.args.path.now.bytes in
+    let here = found_number c.args.self.now names c.in_ok-id.id c.in_ok-id.ensures.found in
+    let node = c.node_at.ensures names here.0 here.1 here.2 in
+    listing_answer c.args.self.now names here.0 here.1 (not_file here.0.node.kind (λ file. not_true (c.if-is_file.ensures.1 (ap (λ (n : Node). n.kind) node ∙ file))))
+    c.in_ok-members.members.items (c.in_ok-members.ensures names here.0 here.1 here.2) c.described.result c.described.ensures

@@ -1,5 +1,5 @@
 -- The folder in which an entry stands, by the number of its parent in the tree.
-use Rattle.std.proofs.Common.{◌≡◌, ℕ, Option, Some, None, Result, Ok, Err, refl, sym, ap, ◌∙◌, subst}
+use Rattle.std.proofs.Common.{◌≡◌, ℕ, Option, Some, None, Result, Ok, Err, sym, ap, ◌∙◌, subst}
 use Rattle.std.specs.Option.{option_map, ok_or}
 use Rattle.std.specs.FinMap.{get}
 use Rattle.dav_path_core.specs.declared.errors.FsError.{FsError}

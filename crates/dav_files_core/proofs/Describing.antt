@@ -1,5 +1,5 @@
 -- What is listed for names and numbers is what is known of the members.
-use Rattle.std.proofs.Common.{◌≡◌, inl, inr, ℕ, zero, suc, ◌<◌, List, [], ◌∷◌, ◌++◌, length, map, get_or, Vec, Global, Some, Result, Ok, Err, MatchResult, refl, sym, ap, ◌∙◌, subst, arith}
+use Rattle.std.proofs.Common.{◌≡◌, inl, ℕ, zero, suc, ◌<◌, List, [], ◌∷◌, ◌++◌, length, map, get_or, Vec, Global, Some, Result, Ok, Err, MatchResult, refl, sym, ap, ◌∙◌, subst, arith}
 use Rattle.std.specs.FinMap.{entries, get}
 use Rattle.dav_path_core.specs.Answers.{Tells}
 use Rattle.dav_path_core.specs.declared.errors.FsError.{FsError}

@@ -2,7 +2,7 @@
 use Rattle.std.proofs.Common.{◌≡◌, ℕ, List, Some, Result, Ok, sym, ap, subst}
 use Rattle.std.specs.Borrow.{Bor}
 use Rattle.dav_path_core.specs.declared.errors.FsError.{FsError}
-use Rattle.dav_path_core.specs.Fronts.{Segment, Path}
+use Rattle.dav_path_core.specs.Fronts.{Path}
 use Rattle.dav_files_core.specs.declared.memfs.Target.{Target}
 use Rattle.dav_files_core.specs.declared.memfs.Target.TheVariants.{Entry, Missing}
 use Rattle.dav_files_core.specs.Outcomes.{added}

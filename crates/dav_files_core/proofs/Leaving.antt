@@ -1,5 +1,5 @@
 -- Taking a node out of the tree is taking an entry out of the map, and is refused alike.
-use Rattle.std.proofs.Common.{◌≡◌, ℕ, Bool, true, false, cond, [], ◌∷◌, ◌++◌, Option, Some, None, is_some, Result, Ok, Err, MatchResult, refl, sym, ap, ◌∙◌, subst}
+use Rattle.std.proofs.Common.{◌≡◌, ℕ, Bool, true, false, [], ◌∷◌, Some, None, is_some, Result, Ok, Err, MatchResult, refl, sym, ap, ◌∙◌, subst}
 use Rattle.std.specs.Prelude.{◌==◌, ◌||◌, if◌then◌else◌}
 use Rattle.std.proofs.lemmas.Bool.{true≢false, eqb-true, eq-eqb}
 use Rattle.std.specs.FinMap.{get}
@@ -8,11 +8,10 @@ use Rattle.dav_path_core.specs.declared.errors.FsError.TheVariants.{NotFound, Fo
 use Rattle.dav_path_core.specs.Fronts.{Path}
 use Rattle.dav_path_core.specs.Keyed.{has_child, delete_refusal, without as without_node}
 use Rattle.dav_path_core.proofs.lists.FinMaps.{none_some, one_some}
-use Rattle.dav_path_core.proofs.lists.Snoc.{snoc_not_empty}
 use Rattle.dav_files_core.specs.Exactly.{AnswersExactly}
 use Rattle.dav_files_core.specs.Finding.{has_members}
 use Rattle.dav_files_core.specs.Folders.{is_root}
-use Rattle.dav_files_core.specs.Outcomes.{Outcome, without}
+use Rattle.dav_files_core.specs.Outcomes.{without}
 use Rattle.dav_files_core.specs.Private.Entries.{taken_out}
 use Rattle.dav_files_core.specs.Private.Represents.{FileTree, Represents, resource_map}
 use Rattle.dav_files_core.specs.Resources.{Resource, ResourceMap, at_path, IsResourceMap}

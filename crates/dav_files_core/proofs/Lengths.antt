@@ -1,5 +1,5 @@
 -- A path is no longer than itself.
-use Rattle.std.proofs.Common.{◌≡◌, [], ◌∷◌, ◌++◌, ℕ, ◌+◌, length, ap, arith, length-append}
+use Rattle.std.proofs.Common.{◌≡◌, [], ◌∷◌, ◌++◌, length, ap, arith, length-append}
 use Rattle.dav_path_core.specs.Fronts.{Segment, Path}
 
 pub longer : (q : Path) (s : Segment) → ¬ (q ≡ q ++ (s ∷ []))

@@ -1,8 +1,8 @@
 -- The children of a folder's node, sorted, are its members.
-use Rattle.std.proofs.Common.{◌≡◌, ◌≢◌, ◌⊎◌, inl, inr, ℕ, zero, suc, ◌+◌, ◌<◌, Bool, true, false, cond, ◌&&◌, eqb, nat_eq, nat_cmp, is_lt, List, [], ◌∷◌, ◌++◌, length, map, get_or, Option, Some, None, IsPermutation, refl, sym, ap, ◌∙◌, subst, arith}
+use Rattle.std.proofs.Common.{◌≡◌, inl, inr, ℕ, zero, suc, ◌+◌, ◌<◌, Bool, true, false, cond, ◌&&◌, eqb, nat_eq, nat_cmp, is_lt, List, [], ◌∷◌, ◌++◌, length, map, get_or, Option, Some, None, IsPermutation, refl, sym, ap, ◌∙◌, subst, arith}
 use Rattle.std.specs.Prelude.{T, option_map}
 use Rattle.std.specs.Cmp.Lexicographic.{pointwise, bytes_decides}
-use Rattle.std.specs.FinMap.{entries, get, find, get-entries, is_sorted, entries_sorted}
+use Rattle.std.specs.FinMap.{entries, find, get-entries, is_sorted, entries_sorted}
 use Rattle.std.specs.FinMap.Entries.{below_all, same_entries}
 use Rattle.std.specs.List.{All, Contains, IsDistinct, list_any}
 use Rattle.std.specs.List.Sorted.{IsSortedBy}
@@ -156,12 +156,13 @@ module _ (t : TreeValue Segment Node) (m : ResourceMap) (rep : Represents t.keye
   listed : (q : Segment) (x : Resource) → at_path m (p ++ (q ∷ [])) ≡ Some x → find segment_cmp q pairs ≡ None → ⊥
   listed q x there none =
       let (k, item, stored, _, _) = node_below t.keyed m rep p r q x here there in
-      let above : parent_number t.keyed x.number ≡ Some id = ap (λ (o : Option FileEntry). option_map (λ (q : ℕ × Segment). q.0) (parent_and_key_of o)) stored ∙ ap Some number in
+      let up : parent_number t.keyed x.number ≡ Some r.number = ap (λ (o : Option FileEntry). option_map (λ (q : ℕ × Segment). q.0) (parent_and_key_of o)) stored in
+      let above : parent_number t.keyed x.number ≡ Some id = subst (λ n. parent_number t.keyed x.number ≡ Some n) number up in
       let e = in_pairs x.number children ((lists.listed.members x.number).1 above) in
       let inside = Contains-permutation children pairs e.0 moved e.1 in
       let at = named_one e.0 (subst (IsNamed (pointwise nat_eq) t id) e.1.2 (lists.named e.1.0 e.0 e.1.1)) in
       let name : e.0.0 ≡ q = snoc_last p p e.0.0 q (rep.is_map.apart (p ++ (e.0.0 ∷ [])) (p ++ (q ∷ [])) at.0 x at.1 there (at.2 ∙ e.2)) in
-      missed pairs q none inside.0 e.0 inside.1 (ap (λ (e : Pair). e.0) inside.2 ∙ name)
+      missed pairs q none inside.0 e.0 inside.1 (subst (λ (s : Segment). (get_or pairs inside.0 e.0).0 ≡ s) name (ap (λ (e : Pair). e.0) inside.2))
 
   look : (q : Segment) → find segment_cmp q pairs ≡ option_map (λ (r : Resource). r.number) (at_path m (p ++ (q ∷ [])))
   look q = by (find segment_cmp q pairs) refl (at_path m (p ++ (q ∷ []))) refl

@@ -29,6 +29,7 @@ find-moved from to (e ∷ es) q =
   where
     rest : List (Path × Resource)
     rest = filter_map (moved_entry from to) es
+
     by : (o : Option Path) → path_after from to e.0 ≡ o → find path_cmp q (filter_map (moved_entry from to) es) ≡ option_and_then (λ p. find path_cmp p es) (path_after to from q)
         → find path_cmp q (filter_map (moved_entry from to) (e ∷ es)) ≡ option_and_then (λ p. find path_cmp p (e ∷ es)) (path_after to from q)
     by None h ih =
@@ -37,12 +38,12 @@ find-moved from to (e ∷ es) q =
     by (Some p) h ih =
         ap (λ (o : Option Path). find path_cmp q (cons_option (option_map (λ (p : Path). (p, e.1)) o) rest)) h ∙ elim (dec path_total path_exact q p) [
           | inl same ↦
-            ap (λ b. cond b (Some e.1) (find path_cmp q rest)) (ap (eq_by_cmp path_cmp q) (sym same) ∙ eq_by_cmp_same path_total q)
-            ∙ sym (ap (option_and_then (λ p. find path_cmp p (e ∷ es))) (after_back from to e.0 q (h ∙ ap Some (sym same)))
+              ap (λ b. cond b (Some e.1) (find path_cmp q rest)) (ap (eq_by_cmp path_cmp q) (sym same) ∙ eq_by_cmp_same path_total q)
+              ∙ sym (ap (option_and_then (λ p. find path_cmp p (e ∷ es))) (after_back from to e.0 q (h ∙ ap Some (sym same)))
               ∙ ap (λ b. cond b (Some e.1) (find path_cmp e.0 es)) (eq_by_cmp_same path_total e.0))
           | inr other ↦
-            ap (λ b. cond b (Some e.1) (find path_cmp q rest)) (test_false path_total path_exact q p other) ∙ ih
-            ∙ passed e es (path_after to from q) (λ back. other (one_some (path_after from to e.0) q p (after_back to from q e.0 back) h))
+              ap (λ b. cond b (Some e.1) (find path_cmp q rest)) (test_false path_total path_exact q p other) ∙ ih
+              ∙ passed e es (path_after to from q) (λ back. other (one_some (path_after from to e.0) q p (after_back to from q e.0 back) h))
         ]
 
 pub get-moved : (m : ResourceMap) (from to q : Path) → at_path (moved m from to) q ≡ option_and_then (at_path m) (path_after to from q)

@@ -11,7 +11,7 @@ use Rattle.dav_path_core.proofs.lists.Snoc.{snoc_not_empty, snoc_front}
 use Rattle.dav_files_core.specs.declared.memfs.Kind.TheVariants.{Folder}
 use Rattle.dav_files_core.specs.Moved.{path_after, moved}
 use Rattle.dav_files_core.specs.Private.Represents.{FileEntry, FileTree, PlaceFits, Shown, Represents}
-use Rattle.dav_files_core.specs.Resources.{Node, Resource, ResourceMap, at_path, IsResourceMap}
+use Rattle.dav_files_core.specs.Resources.{Resource, ResourceMap, at_path, IsResourceMap}
 use Rattle.dav_files_core.proofs.Fronts.{behind_is, behind_none, none_behind, after_from, after_other, after_back, after_snoc}
 use Rattle.dav_files_core.proofs.Moved.{get-moved}
 
@@ -55,8 +55,8 @@ module _ (m : ResourceMap) (is_map : IsResourceMap m) (from : Path) (r : Resourc
 
   pub folder_stays : path_after from to p ≡ Some p
   folder_stays = after_other from to p
-    (behind_none from p (λ s e. none_behind from to not_below (s ++ (name ∷ [])) (ap (λ t. t ++ (name ∷ [])) e ∙ append_assoc from s (name ∷ []))))
-    (behind_none to p (λ s e. none_below s q (ap (at_path m) (sym e) ∙ folder)))
+      (behind_none from p (λ s e. none_behind from to not_below (s ++ (name ∷ [])) (ap (λ t. t ++ (name ∷ [])) e ∙ append_assoc from s (name ∷ []))))
+      (behind_none to p (λ s e. none_below s q (ap (at_path m) (sym e) ∙ folder)))
 
   pub root_stays : path_after from to [] ≡ Some []
   root_stays = after_other from to [] (behind_none from [] (λ s e. nothing from s e)) (behind_none to [] (λ s e. snoc_not_empty p name (empty_front to s e)))
@@ -64,6 +64,7 @@ module _ (m : ResourceMap) (is_map : IsResourceMap m) (from : Path) (r : Resourc
       empty_front : (a s : Path) → [] ≡ a ++ s → a ≡ []
       empty_front [] s e = refl
       empty_front (x ∷ a) s e = absurd (cc)
+
       nothing : (a s : Path) → ¬ ([] ≡ from ++ s)
       nothing a s e = not_root (empty_front from s e)
 
@@ -81,16 +82,16 @@ module _ (m : ResourceMap) (is_map : IsResourceMap m) (from : Path) (r : Resourc
     parents = λ a s x h. elim (dec path_total path_exact (a ++ (s ∷ [])) to) [
       | inl target ↦ (q, went p a q folder (folder_stays ∙ ap Some (snoc_front p a name s (sym target))), is_folder)
       | inr other ↦
-        let c = came (a ++ (s ∷ [])) x h in
-        let above = parent_came a s c.0 other c.1 in
-        let old = is_map.parents above.0 s x (ap (at_path m) (sym above.2) ∙ c.2) in
-        (old.0, went above.0 a old.0 old.1 (after_back to from a above.0 above.1), old.2)
+          let c = came (a ++ (s ∷ [])) x h in
+          let above = parent_came a s c.0 other c.1 in
+          let old = is_map.parents above.0 s x (ap (at_path m) (sym above.2) ∙ c.2) in
+          (old.0, went above.0 a old.0 old.1 (after_back to from a above.0 above.1), old.2)
     ];
     apart = λ a a' x x' h h' e.
-      let c = came a x h in
-      let c' = came a' x' h' in
-      let same = is_map.apart c.0 c'.0 x x' c.2 c'.2 e in
-      one_some (path_after from to c'.0) a a' (ap (path_after from to) (sym same) ∙ after_back to from a c.0 c.1) (after_back to from a' c'.0 c'.1);
+        let c = came a x h in
+        let c' = came a' x' h' in
+        let same = is_map.apart c.0 c'.0 x x' c.2 c'.2 e in
+        one_some (path_after from to c'.0) a a' (ap (path_after from to) (sym same) ∙ after_back to from a c.0 c.1) (after_back to from a' c'.0 c'.1);
     below = λ a x h. let c = came a x h in is_map.below c.0 x c.2;
     bare = λ a x h. let c = came a x h in is_map.bare c.0 x c.2;
   }
@@ -142,9 +143,9 @@ module _ (t : FileTree) (m : ResourceMap) (rep : Represents t m)
   all_shown : (a b : Path) (x : Resource) → path_after from target b ≡ Some a → at_path m b ≡ Some x → Shown tree map a x
   all_shown a b x goes here = elim (dec path_total path_exact b from) [
     | inl same ↦
-      let at_target : target ≡ a = one_some (path_after from target from) target a (source_goes m rep.is_map from r p q k source not_root folder is_folder free not_below) (ap (path_after from target) (sym same) ∙ goes) in
-      let is_source : r ≡ x = one_some (at_path m from) r x source (ap (at_path m) (sym same) ∙ here) in
-      subst (λ (x : Resource). Shown tree map a x) is_source (subst (λ a. Shown tree map a r) at_target new_shown)
+        let at_target : target ≡ a = one_some (path_after from target from) target a (source_goes m rep.is_map from r p q k source not_root folder is_folder free not_below) (ap (path_after from target) (sym same) ∙ goes) in
+        let is_source : r ≡ x = one_some (at_path m from) r x source (ap (at_path m) (sym same) ∙ here) in
+        subst (λ (x : Resource). Shown tree map a x) is_source (subst (λ a. Shown tree map a r) at_target new_shown)
     | inr other ↦ old_shown a b x other goes here (rep.shown b x here)
   ]
 
@@ -153,13 +154,13 @@ module _ (t : FileTree) (m : ResourceMap) (rep : Represents t m)
     is_map = IsResourceMap-moved m rep.is_map from r p q k source not_root folder is_folder free not_below;
     next = rep.next;
     shown = λ a x h.
-      let c = came m rep.is_map from r p q k source not_root folder is_folder free not_below a x h in
-      all_shown a c.0 x (after_back target from a c.0 c.1) c.2;
+        let c = came m rep.is_map from r p q k source not_root folder is_folder free not_below a x h in
+        all_shown a c.0 x (after_back target from a c.0 c.1) c.2;
     all = λ id node_of h. elim (inserted nat_cmp_total nat_cmp-IsAntisymmetric t.nodes r.number placed id node_of h) [
       | inl new ↦ (target, r, stay from target r source (source_goes m rep.is_map from r p q k source not_root folder is_folder free not_below), sym new.0)
       | inr old ↦
-        let e = rep.all id node_of old.1 in
-        let a = goes m rep.is_map from r p q k source not_root folder is_folder free not_below e.0 e.1 e.2 in
-        (a.0, e.1, stay e.0 a.0 e.1 e.2 a.1, e.3)
+          let e = rep.all id node_of old.1 in
+          let a = goes m rep.is_map from r p q k source not_root folder is_folder free not_below e.0 e.1 e.2 in
+          (a.0, e.1, stay e.0 a.0 e.1 e.2 a.1, e.3)
     ];
   }

@@ -1,5 +1,5 @@
 -- A move of a node, as a move of the map, and how it is refused.
-use Rattle.std.proofs.Common.{◌≡◌, ◌≢◌, inl, inr, ℕ, Bool, true, false, cond, [], ◌∷◌, ◌++◌, Option, Some, None, is_some, Result, Ok, Err, IfOk, IfErr, MatchResult, refl, sym, ap, ◌∙◌, subst, nat_eq, append_assoc, append-nil}
+use Rattle.std.proofs.Common.{◌≡◌, inl, inr, ℕ, Bool, true, false, [], ◌∷◌, ◌++◌, Option, Some, None, is_some, Result, Ok, Err, IfOk, IfErr, MatchResult, refl, sym, ap, ◌∙◌, subst, nat_eq, append_assoc, append-nil}
 use Rattle.std.specs.Prelude.{◌==◌, ◌||◌, ◌&&◌, if◌then◌else◌}
 use Rattle.std.specs.Cmp.Lexicographic.{pointwise, bytes_decides}
 use Rattle.std.specs.Cmp.{nat_cmp_total}
@@ -26,7 +26,7 @@ use Rattle.dav_files_core.specs.Private.TreeCalls.{IsMember}
 use Rattle.dav_files_core.specs.Resources.{Resource, ResourceMap, at_path}
 use Rattle.dav_files_core.proofs.Fronts.{behind_append, behind_is, none_behind}
 use Rattle.dav_files_core.proofs.HasMembers.{has_none, has_child_is, no_members}
-use Rattle.dav_files_core.proofs.Leaving.{root_is, not_root, root_number, known}
+use Rattle.dav_files_core.proofs.Leaving.{not_root, root_number, known}
 use Rattle.dav_files_core.proofs.Lengths.{longer}
 use Rattle.dav_files_core.proofs.Moved.{moved-without}
 use Rattle.dav_files_core.proofs.Moving.{Represents-moved}

@@ -1,7 +1,6 @@
 -- What a removal answers, from what is taken out.
-use Rattle.std.proofs.Common.{◌≡◌, ◌⊎◌, inl, inr, ℕ, Bool, true, false, [], ◌∷◌, ◌++◌, Some, None, Result, Ok, Err, refl, sym, ap, ◌∙◌}
+use Rattle.std.proofs.Common.{◌≡◌, ℕ, Bool, true, false, Some, Ok, Err, refl, sym, ap, ◌∙◌}
 use Rattle.std.specs.Prelude.{ok_or, ◌||◌, if◌then◌else◌}
-use Rattle.dav_path_core.specs.declared.errors.FsError.{FsError}
 use Rattle.dav_path_core.specs.declared.errors.FsError.TheVariants.{Forbidden}
 use Rattle.dav_path_core.specs.Fronts.{Path, parent}
 use Rattle.dav_path_core.proofs.lists.FinMaps.{get_left}
@@ -9,7 +8,7 @@ use Rattle.dav_path_core.proofs.lists.Orders.{path_total, path_exact}
 use Rattle.dav_files_core.specs.Finding.{has_members, refusal_at}
 use Rattle.dav_files_core.specs.Folders.{is_root, remove}
 use Rattle.dav_files_core.specs.Outcomes.{Outcome, ◌>>=◌, touched, without}
-use Rattle.dav_files_core.specs.Private.Entries.{HasNumber, StandsIn, taken_out}
+use Rattle.dav_files_core.specs.Private.Entries.{StandsIn, taken_out}
 use Rattle.dav_files_core.specs.Resources.{Resource, ResourceMap, at_path}
 use Rattle.dav_files_core.proofs.Found.{parent-snoc}
 use Rattle.dav_files_core.proofs.Lengths.{longer}

@@ -1,14 +1,14 @@
 -- What a rename answers, from where an entry is put.
-use Rattle.std.proofs.Common.{◌≡◌, ◌⊎◌, inl, inr, ℕ, Bool, true, false, [], ◌∷◌, ◌++◌, Option, Some, None, Result, Ok, Err, refl, sym, ap, ◌∙◌, subst, append_assoc, append-nil}
+use Rattle.std.proofs.Common.{◌≡◌, ◌⊎◌, inl, inr, ℕ, Bool, true, false, [], ◌∷◌, ◌++◌, Option, Some, None, Result, Ok, Err, refl, sym, ap, ◌∙◌, append_assoc}
 use Rattle.std.specs.Prelude.{ok_or, unwrap_or, if◌then◌else◌}
 use Rattle.std.specs.List.{last_or}
 use Rattle.std.proofs.lemmas.Bool.{true≢false}
 use Rattle.dav_path_core.specs.declared.errors.FsError.{FsError}
 use Rattle.dav_path_core.specs.declared.errors.FsError.TheVariants.{Exists, Forbidden}
 use Rattle.dav_path_core.specs.Fronts.{Segment, Path, parent, behind}
-use Rattle.dav_path_core.proofs.lists.FinMaps.{none_some, one_some, get_same, get_other, dec}
+use Rattle.dav_path_core.proofs.lists.FinMaps.{one_some, get_same, get_other, dec}
 use Rattle.dav_path_core.proofs.lists.Orders.{path_total, path_exact}
-use Rattle.dav_files_core.specs.Finding.{find, refusal_at, has_members}
+use Rattle.dav_files_core.specs.Finding.{refusal_at, has_members}
 use Rattle.dav_files_core.specs.Folders.{is_root}
 use Rattle.dav_files_core.specs.Moved.{moved}
 use Rattle.dav_files_core.specs.Outcomes.{Outcome, ◌>>=◌, find_folder, changed, touched, touched_at}
@@ -18,8 +18,7 @@ use Rattle.dav_files_core.specs.Resources.{Node, Resource, ResourceMap, at_path,
 use Rattle.dav_files_core.proofs.Found.{parent-snoc, folder_there}
 use Rattle.dav_files_core.proofs.Fronts.{behind_none, none_behind}
 use Rattle.dav_files_core.proofs.HasMembers.{has_member}
-use Rattle.dav_files_core.proofs.Leaving.{root_is, root_number}
-use Rattle.dav_files_core.proofs.Lengths.{longer, no_longer}
+use Rattle.dav_files_core.proofs.Lengths.{no_longer}
 use Rattle.dav_files_core.proofs.Making.{folder_found}
 use Rattle.dav_files_core.proofs.Moved.{moved_other}
 use Rattle.dav_files_core.proofs.Moving.{front_there}

@@ -1,16 +1,24 @@
 -- Worked rows of the resource map, computed on the definitions.
-use Rattle.std.proofs.Common.{◌≡◌, cond, List, [], ◌∷◌, length, Some, None, Ok, Err, refl, sym, ◌∙◌, arith}
-use Rattle.std.specs.Prelude.{codes}
+use Rattle.std.proofs.Common.{◌≡◌, ℕ, false, true, cond, List, [], ◌∷◌, length, Some, None, Ok, Err, refl, sym, ◌∙◌, arith}
+use Rattle.std.specs.Prelude.{codes, Result}
 use Rattle.std.specs.Ordering.{eq_by_cmp}
 use Rattle.std.specs.declared.cmp.Ordering.{Ordering}
-use Rattle.std.specs.FinMap.{FinMap, entries, get, insert, empty, get-empty, get-insert, entries-insert, put as put_in, len-empty, len-entries, keys}
-use Rattle.dav_path_core.specs.declared.errors.FsError.TheVariants.{NotFound, Forbidden}
+use Rattle.std.specs.FinMap.{FinMap, entries, get, insert, remove, empty, from_entries, find as find_in, get-empty, get-insert, get-remove, get-from_entries, entries-insert, put as put_in, len-empty, len-entries, keys}
+use Rattle.dav_path_core.specs.declared.errors.FsError.{FsError}
+use Rattle.dav_path_core.specs.declared.errors.FsError.TheVariants.{NotFound, Forbidden, Exists}
 use Rattle.dav_path_core.specs.Fronts.{Segment, Path, segment_cmp, path_cmp, parent}
 use Rattle.dav_path_core.proofs.lists.Orders.{segment_total, path_total}
-use Rattle.dav_files_core.specs.Resources.{Resource}
+use Rattle.dav_files_core.specs.declared.fs.OpenOptions.{OpenOptions}
+use Rattle.dav_files_core.specs.declared.memfs.Kind.TheVariants.{Folder}
+use Rattle.dav_files_core.specs.Resources.{Resource, ResourceMap}
 use Rattle.dav_files_core.specs.Finding.{find, members, place}
 use Rattle.dav_files_core.specs.Outcomes.{Outcome, ◌>>=◌, start, new_file, new_folder}
-use Rattle.dav_files_core.specs.Commands.{put, read_at}
+use Rattle.dav_files_core.specs.Commands.{put, read_at, metadata}
+use Rattle.dav_files_core.specs.Copying.{copy}
+use Rattle.dav_files_core.specs.Folders.{create_dir, remove as remove_at}
+use Rattle.dav_files_core.specs.Listing.{read_dir}
+use Rattle.dav_files_core.specs.Opening.{opening}
+use Rattle.dav_files_core.specs.Renaming.{rename}
 
 -- ---- finite maps that are written out
 
@@ -39,7 +47,13 @@ names-insert = entries-insert segment_total
 names-empty : entries (empty {X = Resource} {R = segment_cmp}) ≡ []
 names-empty = entries-empty segment_cmp
 
-ruleset literals = (at-insert, at-empty, in-insert, in-empty, names-insert, names-empty)
+at-remove : (m : FinMap path_cmp Resource) (k q : Path) → get (remove m k) q ≡ cond (eq_by_cmp path_cmp q k) None (get m q)
+at-remove = get-remove path_total
+
+at-from_entries : (es : List (Path × Resource)) (q : Path) → get (from_entries {R = path_cmp} es) q ≡ find_in path_cmp q es
+at-from_entries = get-from_entries path_total
+
+ruleset literals = (at-insert, at-empty, at-remove, at-from_entries, in-insert, in-empty, names-insert, names-empty)
 
 -- ---- a file at /a, of the bytes abc
 
@@ -96,3 +110,166 @@ parent_of_root = refl
 
 parent_below_a : parent below_a ≡ a
 parent_below_a = refl
+
+-- ---- folders, moves, copies and listings: each row goes on from the one before
+
+abbrev then : Outcome (Unit {0}) → (ResourceMap → Outcome (Unit {0})) → Outcome (Unit {0})
+then o f = o >>= λ x. f x.1
+
+-- when what is at a path was last changed
+abbrev changed_at : Path → ResourceMap → Result ℕ FsError
+changed_at p m = metadata m p >>= λ meta. Ok meta.modified
+
+abbrev d : Path
+d = codes "d" ∷ []
+
+abbrev d_f : Path
+d_f = codes "d" ∷ codes "f" ∷ []
+
+abbrev e : Path
+e = codes "e" ∷ []
+
+abbrev e_f : Path
+e_f = codes "e" ∷ codes "f" ∷ []
+
+abbrev e_r : Path
+e_r = codes "e" ∷ codes "r" ∷ []
+
+abbrev g : Path
+g = codes "g" ∷ []
+
+abbrev folder_d : Outcome (Unit {0})
+folder_d = then (create_dir (start 1) d 2) (λ m. put m d_f (codes "ab") 3)
+
+folder_changed : folder_d >>= (λ x. changed_at d x.1) ≡ Ok 2
+folder_changed = simp literals
+
+above_changed : folder_d >>= (λ x. metadata x.1 []) ≡ Ok (record { kind = Folder; length = 0; modified = 2; created = 1 })
+above_changed = simp literals
+
+abbrev folder_e : Outcome (Unit {0})
+folder_e = then folder_d (λ m. rename m d e 5)
+
+renamed_root : folder_e >>= (λ x. changed_at [] x.1) ≡ Ok 5
+renamed_root = simp literals
+
+renamed_folder : folder_e >>= (λ x. find x.1 e) ≡ Ok (record { number = 2; node = new_folder 2 })
+renamed_folder = simp literals
+
+renamed_file : folder_e >>= (λ x. find x.1 e_f) ≡ Ok (record { number = 3; node = new_file (codes "ab") 3 })
+renamed_file = simp literals
+
+renamed_away : folder_e >>= (λ x. find x.1 d_f) ≡ Err NotFound
+renamed_away = simp literals
+
+abbrev copied : Outcome (Unit {0})
+copied = then folder_e (λ m. copy m e_f g 7)
+
+copied_file : copied >>= (λ x. find x.1 g) ≡ Ok (record { number = 4; node = record (new_file (codes "ab") 3) { created = 7 } })
+copied_file = simp literals
+
+copied_root : copied >>= (λ x. changed_at [] x.1) ≡ Ok 5
+copied_root = simp literals
+
+abbrev copied_again : Outcome (Unit {0})
+copied_again = then copied (λ m. copy m e_f g 9)
+
+copied_over : copied_again >>= (λ x. find x.1 g) ≡ Ok (record { number = 4; node = record (new_file (codes "ab") 3) { created = 9 } })
+copied_over = simp literals
+
+abbrev put_over : Outcome (Unit {0})
+put_over = then copied_again (λ m. rename m g e_f 11)
+
+renamed_over : put_over >>= (λ x. find x.1 e_f) ≡ Ok (record { number = 4; node = record (new_file (codes "ab") 3) { created = 9 } })
+renamed_over = simp literals
+
+both_folders : put_over >>= (λ x. changed_at e x.1 >>= λ at_e. changed_at [] x.1 >>= λ at_root. Ok (at_e ∷ at_root ∷ [])) ≡ Ok (11 ∷ 11 ∷ [])
+both_folders = simp literals
+
+has_members_still : put_over >>= (λ x. remove_at x.1 e 12) ≡ Err Forbidden
+has_members_still = simp literals
+
+abbrev emptied : Outcome (Unit {0})
+emptied = then put_over (λ m. remove_at m e_f 13)
+
+removed_file : emptied >>= (λ x. find x.1 e_f) ≡ Err NotFound
+removed_file = simp literals
+
+removed_changed : emptied >>= (λ x. changed_at e x.1) ≡ Ok 13
+removed_changed = simp literals
+
+-- the root copied into a folder
+abbrev with_copy : Outcome (Unit {0})
+with_copy = then (create_dir (start 1) e 11) (λ m. copy m [] e_r 14)
+
+copied_folder : with_copy >>= (λ x. metadata x.1 e_r) ≡ Ok (record { kind = Folder; length = 0; modified = 11; created = 14 })
+copied_folder = simp literals
+
+no_members : with_copy >>= (λ x. read_dir x.1 e_r) ≡ Ok []
+no_members = simp literals
+
+copied_listed : with_copy >>= (λ x. read_dir x.1 e) ≡ Ok ((codes "r", record { kind = Folder; length = 0; modified = 11; created = 14 }) ∷ [])
+copied_listed = simp literals
+
+-- a folder copied onto a file, which keeps its number; and onto a folder
+abbrev onto_file : Outcome (Unit {0})
+onto_file = then (put (start 1) a (codes "abc") 5) (λ m. then (create_dir m e 6) (λ m. copy m e a 7))
+
+became_folder : onto_file >>= (λ x. find x.1 a) ≡ Ok (record { number = 2; node = record (new_folder 6) { created = 7 } })
+became_folder = simp literals
+
+onto_folder : onto_file >>= (λ x. copy x.1 e a 8) ≡ Err Forbidden
+onto_folder = simp literals
+
+-- listed by the bytes of the names
+abbrev four : Outcome (Unit {0})
+four = then (create_dir (start 1) (codes "a" ∷ []) 15) (λ m. then (create_dir m (codes "B" ∷ []) 15) (λ m. then (create_dir m ((195 ∷ 169 ∷ []) ∷ []) 15) (λ m. create_dir m e 15)))
+
+in_order : four >>= (λ x. Ok (keys (members x.1 []))) ≡ Ok (codes "B" ∷ codes "a" ∷ codes "e" ∷ (195 ∷ 169 ∷ []) ∷ [])
+in_order = simp literals
+
+-- ---- refusals of a rename
+
+abbrev folder_a : Outcome (Unit {0})
+folder_a = create_dir (start 1) a 2
+
+below_itself : folder_a >>= (λ x. rename x.1 a (codes "a" ∷ codes "b" ∷ []) 5) ≡ Err Forbidden
+below_itself = simp literals
+
+onto_itself : folder_d >>= (λ x. rename x.1 d d 5) ≡ Err Exists
+onto_itself = simp literals
+
+root_onto_itself : rename (start 1) [] [] 5 ≡ Err Forbidden
+root_onto_itself = simp literals
+
+onto_root : with_a >>= (λ x. rename x.1 a [] 9) ≡ Err Exists
+onto_root = simp literals
+
+own_place : with_a >>= (λ x. rename x.1 a a 9 >>= λ y. find y.1 a) ≡ Ok (record { number = 2; node = new_file (codes "abc") 5 })
+own_place = simp literals
+
+-- ---- opening
+
+abbrev nothing_asked : OpenOptions
+nothing_asked = record { read = false; write = false; append = false; truncate = false; create = false; create_new = false; size = None; checksum = None }
+
+open_there : with_a >>= (λ x. opening x.1 a (record nothing_asked { create_new = true }) 9) ≡ Err Exists
+open_there = simp literals
+
+open_missing : opening (start 1) a nothing_asked 9 ≡ Err NotFound
+open_missing = simp literals
+
+open_below_file : with_a >>= (λ x. opening x.1 below_a (record nothing_asked { create = true }) 9) ≡ Err Forbidden
+open_below_file = simp literals
+
+open_folder : opening (start 1) [] nothing_asked 9 ≡ Err Forbidden
+open_folder = simp literals
+
+truncated : with_a >>= (λ x. opening x.1 a (record nothing_asked { truncate = true }) 20 >>= λ y. find y.1 a) ≡ Ok (record { number = 2; node = record (new_file [] 5) { modified = 20 } })
+truncated = simp literals
+
+not_truncated : with_a >>= (λ x. opening x.1 a nothing_asked 20 >>= λ y. find y.1 a) ≡ Ok (record { number = 2; node = new_file (codes "abc") 5 })
+not_truncated = simp literals
+
+created : opening (start 1) a (record nothing_asked { create = true }) 20 >>= (λ y. find y.1 a) ≡ Ok (record { number = 2; node = new_file [] 20 })
+created = simp literals

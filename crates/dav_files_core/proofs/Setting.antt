@@ -1,12 +1,12 @@
 -- Another node of an entry, in the tree and in the map.
-use Rattle.std.proofs.Common.{◌≡◌, ℕ, List, Some, Result, Ok, Err, refl, sym, ap, ◌∙◌, subst}
+use Rattle.std.proofs.Common.{◌≡◌, ℕ, List, Some, Ok, sym, ap, ◌∙◌, subst}
 use Rattle.std.specs.FinMap.{get}
 use Rattle.dav_path_core.specs.Fronts.{Path}
 use Rattle.dav_path_core.specs.Keyed.{with_item_at}
 use Rattle.dav_files_core.specs.declared.memfs.Kind.TheVariants.{Folder, File}
 use Rattle.dav_files_core.specs.Outcomes.{changed, touched, touched_at}
 use Rattle.dav_files_core.specs.Private.Entries.{IsBare, HasFile}
-use Rattle.dav_files_core.specs.Private.Represents.{FileEntry, FileTree, Represents}
+use Rattle.dav_files_core.specs.Private.Represents.{FileTree, Represents}
 use Rattle.dav_files_core.specs.Private.TreeCalls.{SetsNode, WritesFile}
 use Rattle.dav_files_core.specs.Resources.{Node, Resource, ResourceMap, at_path, IsResourceMap}
 use Rattle.dav_path_core.proofs.lists.FinMaps.{one_some}

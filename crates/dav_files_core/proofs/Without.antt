@@ -1,7 +1,7 @@
 -- A leaf taken out of the tree is an entry less.
-use Rattle.std.proofs.Common.{◌≡◌, ℕ, [], ◌∷◌, ◌++◌, Option, Some, None, refl, sym, ap, ◌∙◌}
+use Rattle.std.proofs.Common.{◌≡◌, ℕ, [], ◌∷◌, ◌++◌, Option, Some, None, sym, ap, ◌∙◌}
 use Rattle.std.specs.Cmp.{nat_cmp_total}
-use Rattle.std.specs.FinMap.{get, nat_cmp-IsAntisymmetric}
+use Rattle.std.specs.FinMap.{nat_cmp-IsAntisymmetric}
 use Rattle.dav_path_core.specs.Fronts.{Segment, Path}
 use Rattle.dav_path_core.specs.Keyed.{without as without_node}
 use Rattle.dav_path_core.proofs.lists.FinMaps.{none_some, one_some, get_left, removed}
@@ -53,16 +53,16 @@ module _ (t : FileTree) (m : ResourceMap) (rep : Represents t m)
     is_map = IsResourceMap-without m rep.is_map p r here not_root leaf;
     next = rep.next;
     shown = λ q x h.
-      let old = left m rep.is_map p r here not_root leaf q x h in
-      let s = rep.shown q x old.1 in
-      record {
-        placed = s.placed;
-        stored = get_left nat_cmp_total nat_cmp-IsAntisymmetric t.nodes r.number x.number (λ e. old.0 (rep.is_map.apart q p x r old.1 here e)) ∙ s.stored;
-        shown = s.shown;
-        fits = left_fits q x s.placed.parent_and_key old.1 s.fits;
-      };
+        let old = left m rep.is_map p r here not_root leaf q x h in
+        let s = rep.shown q x old.1 in
+        record {
+          placed = s.placed;
+          stored = get_left nat_cmp_total nat_cmp-IsAntisymmetric t.nodes r.number x.number (λ e. old.0 (rep.is_map.apart q p x r old.1 here e)) ∙ s.stored;
+          shown = s.shown;
+          fits = left_fits q x s.placed.parent_and_key old.1 s.fits;
+        };
     all = λ id n h.
-      let old = removed nat_cmp_total nat_cmp-IsAntisymmetric t.nodes r.number id n h in
-      let e = rep.all id n old.1 in
-      (e.0, e.1, stays m rep.is_map p r here not_root leaf e.0 e.1 (λ same. old.0 (sym e.3 ∙ ap (λ (x : Resource). x.number) (one_some (at_path m p) e.1 r (ap (at_path m) (sym same) ∙ e.2) here))) e.2, e.3);
+        let old = removed nat_cmp_total nat_cmp-IsAntisymmetric t.nodes r.number id n h in
+        let e = rep.all id n old.1 in
+        (e.0, e.1, stays m rep.is_map p r here not_root leaf e.0 e.1 (λ same. old.0 (sym e.3 ∙ ap (λ (x : Resource). x.number) (one_some (at_path m p) e.1 r (ap (at_path m) (sym same) ∙ e.2) here))) e.2, e.3);
   }

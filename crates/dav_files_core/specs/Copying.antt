@@ -1,5 +1,5 @@
 -- Copying one entry (RFC 4918 section 9.8). A folder is copied without its members, as with `Depth: 0`.
-use Rattle.std.specs.Prelude.{ℕ, Option, Some, None, Result, Ok}
+use Rattle.std.specs.Prelude.{ℕ, Option, Some, None, Ok}
 use Rattle.dav_path_core.specs.Fronts.{Path, parent}
 use Rattle.dav_files_core.specs.Resources.{Node, Resource, ResourceMap, at_path}
 use Rattle.dav_files_core.specs.Finding.{find}

@@ -1,5 +1,5 @@
 -- Folders made, and folders and files removed (RFC 4918 sections 9.3 and 9.6).
-use Rattle.std.specs.Prelude.{ℕ, Bool, true, false, ◌||◌, [], ◌∷◌, is_some, Result, Ok, Err, if◌then◌else◌}
+use Rattle.std.specs.Prelude.{ℕ, Bool, true, false, ◌||◌, [], ◌∷◌, is_some, Ok, Err, if◌then◌else◌}
 use Rattle.dav_path_core.specs.declared.errors.FsError.TheVariants.{Exists, Forbidden}
 use Rattle.dav_path_core.specs.Fronts.{Path, parent}
 use Rattle.dav_files_core.specs.Resources.{ResourceMap, at_path}

@@ -1,5 +1,5 @@
 -- Opening a file (own).
-use Rattle.std.specs.Prelude.{ℕ, Bool, [], Option, Some, None, Result, Ok, Err, if◌then◌else◌}
+use Rattle.std.specs.Prelude.{ℕ, Bool, [], Option, Some, None, Ok, Err, if◌then◌else◌}
 use Rattle.dav_path_core.specs.declared.errors.FsError.TheVariants.{Exists}
 use Rattle.dav_path_core.specs.Fronts.{Path, parent}
 use Rattle.dav_files_core.specs.declared.fs.OpenOptions.{OpenOptions}

@@ -195,7 +195,11 @@ pub trait DavFileSystem {
     }
 
     /// Sets the properties that come with `true`, and removes the others (RFC 4918 section 9.2).
-    fn patch_props(&mut self, path: &DavPath, patch: Vec<(bool, DavProp)>) -> FsResult<Vec<(StatusCode, DavProp)>>
+    fn patch_props(
+        &mut self,
+        path: &DavPath,
+        patch: Vec<(bool, DavProp)>,
+    ) -> FsResult<Vec<(StatusCode, DavProp)>>
         ensures { OnErr result (contents self.new ≡ contents self.old) }
     {
         Err(FsError::NotImplemented)

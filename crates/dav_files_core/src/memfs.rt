@@ -16,15 +16,14 @@ mod meta;
 mod nodes;
 mod opening;
 
-pub use listing::MemFsEntry;
-pub use opening::MemFsFile;
-
 use crate::fs::Moment;
 use bytes::Bytes;
 use dav_path_core::davpath::DavPath;
 use dav_path_core::errors::{FsError, FsResult};
 use dav_path_core::tree::{ROOT_ID, Tree};
+pub use listing::MemFsEntry;
 use nodes::{Node, add_node, member_of, node_of, write_file};
+pub use opening::MemFsFile;
 use std::alloc::Global;
 use std::marker::Model;
 

@@ -145,8 +145,8 @@ fn answer_to(alloc: Global, files: &mut MemFs, call: &str) -> FsResult<String> {
         }
         ["put", path, now, text] => put(alloc, files, path, now, text),
         ["read", path, at, count] => read(alloc, files, path, at, count),
-        ["meta", path] => shown(alloc, files.metadata(&path_of(alloc, path)?)?),
-        ["meta-of-links", path] => shown(alloc, files.symlink_metadata(&path_of(alloc, path)?)?),
+        ["meta", path] => shown(alloc, &files.metadata(&path_of(alloc, path)?)?),
+        ["meta-of-links", path] => shown(alloc, &files.symlink_metadata(&path_of(alloc, path)?)?),
         ["list", path] => list(alloc, files, path),
         ["open", path, how, now] => open(alloc, files, path, how, now),
         ["quota"] => {
@@ -250,7 +250,7 @@ fn list(alloc: Global, files: &MemFs, path: &str) -> FsResult<String> {
 }
 
 // The kind, the length, and when it was last changed and made.
-fn shown<M: DavMetaData>(alloc: Global, meta: M) -> FsResult<String> {
+fn shown<M: DavMetaData>(alloc: Global, meta: &M) -> FsResult<String> {
     let kind = if meta.is_dir() { "folder" } else { "file" };
     let (length, modified, created) = (meta.len(), meta.modified()?.0, meta.created()?.0);
     Ok(format!(in alloc; "{kind} {length} {modified} {created}")?)

@@ -35,7 +35,13 @@ impl DavProp {
             × ((v : _) × (p.xml ≡ Some v) × (v.items ≡ property_xml (string_bytes name) (string_bytes prefix) (string_bytes namespace) (string_bytes value))))
             (λ e. e ≡ FsError.InsufficientStorage) }
     {
-        let xml = xml_of(alloc, name.as_str(), prefix.as_str(), namespace.as_str(), value.as_str())?;
+        let xml = xml_of(
+            alloc,
+            name.as_str(),
+            prefix.as_str(),
+            namespace.as_str(),
+            value.as_str(),
+        )?;
         Ok(DavProp {
             name,
             prefix: Some(prefix),

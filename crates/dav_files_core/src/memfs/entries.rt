@@ -9,7 +9,9 @@ ghost use Rattle.dav_files_core.specs.Private.TreeCalls.{IsMissing};
 ghost use Rattle.dav_files_core.specs.Private.Entries.{HasNumber, HasFile, HasFolder, StandsIn, IsBare, taken_out, put_there};
 
 use super::MemFs;
-use super::nodes::{Node, add_node, delete_node, move_node, node_of, set_modified, set_node, write_file};
+use super::nodes::{
+    Node, add_node, delete_node, move_node, node_of, set_modified, set_node, write_file,
+};
 use crate::fs::Moment;
 use bytes::Bytes;
 use dav_path_core::errors::{FsError, FsResult};

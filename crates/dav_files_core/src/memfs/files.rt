@@ -54,7 +54,12 @@ impl MemFs {
     }
 
     // Opens what is at a path.
-    fn open_file(&mut self, path: &DavPath, options: &OpenOptions, now: Moment) -> FsResult<MemFsFile>
+    fn open_file(
+        &mut self,
+        path: &DavPath,
+        options: &OpenOptions,
+        now: Moment,
+    ) -> FsResult<MemFsFile>
         ensures answer { AnswersAs (λ f. f) result (opening self.old (segments path.now.bytes) options.now now.0) self.old self.new }
         ensures known { IsSome (at_path self.old (segments path.now.bytes))
             → AnswersExactly (λ f. f) result (opening self.old (segments path.now.bytes) options.now now.0) self.old self.new }
@@ -122,13 +127,15 @@ impl MemFs {
     {
         let source = self.number_of(from)?;
         let Some(folder) = self.folder_at(to)? else {
-            return Err(if source == ROOT_ID { FsError::Forbidden } else { FsError::Exists });
+            return Err(if source == ROOT_ID {
+                FsError::Forbidden
+            } else {
+                FsError::Exists
+            });
         };
         let above = self.folder_of(source);
         self.relocate(source, folder, to.file_name_bytes())?;
-        let Some(above) = above else {
-            unreachable!()
-        };
+        let Some(above) = above else { unreachable!() };
         self.touch(above, now);
         self.touch(folder, now);
         Ok(())
@@ -147,7 +154,9 @@ impl MemFs {
 
 impl DavFileSystem for MemFs {
     type File = MemFsFile;
+
     type Meta = MemFsMeta;
+
     type Entry = MemFsEntry;
 
     ghost contents = { λ m. m };

@@ -170,7 +170,12 @@ pub(super) fn delete_node(tree: &mut Tree<Bytes, Node>, id: u64) -> FsResult<()>
 }
 
 /// Puts a node, with all below it, below another under a name, in place of a node without children that stands there.
-pub(super) fn move_node(tree: &mut Tree<Bytes, Node>, id: u64, folder: u64, name: Bytes) -> FsResult<()>
+pub(super) fn move_node(
+    tree: &mut Tree<Bytes, Node>,
+    id: u64,
+    folder: u64,
+    name: Bytes,
+) -> FsResult<()>
     ensures answer { MatchResult result
         (λ _. (move_refusal (pointwise nat_eq) tree.old.keyed id folder name true ≡ None)
         × (tree.new.keyed ≡ moved (pointwise nat_eq) tree.old.keyed id folder name))

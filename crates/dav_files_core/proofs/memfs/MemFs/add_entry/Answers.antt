@@ -1,4 +1,4 @@
-use Rattle.std.proofs.Common.{◌≡◌, Ok, sym, ap, ◌∙◌}
+use Rattle.std.proofs.Common.{Ok, sym, ap, ◌∙◌}
 use Rattle.dav_files_core.specs.Outcomes.{added}
 use Rattle.dav_files_core.proofs.Stepping.{stands_for, stands_itself, is_view, folder_known, no_member, with_node}
 use Rattle.dav_files_core.proofs.memfs.MemFs.add_entry.Goals as goal

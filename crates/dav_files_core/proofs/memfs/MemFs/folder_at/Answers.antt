@@ -1,8 +1,5 @@
-use Rattle.std.proofs.Common.{◌≡◌, ℕ, [], ◌∷◌, ◌++◌, Option, Some, None, Ok}
-use Rattle.dav_path_core.specs.Fronts.{Path, parent}
+use Rattle.dav_path_core.specs.Fronts.{parent}
 use Rattle.dav_path_core.specs.Segments.{segments}
-use Rattle.dav_files_core.specs.Private.Entries.{StandsIn, FindsFolder}
-use Rattle.dav_files_core.specs.Resources.{ResourceMap, Resource, at_path, IsResourceMap}
 use Rattle.dav_files_core.proofs.Leads.{entry, missing}
 use Rattle.dav_files_core.proofs.Renamed.{finds_folder}
 use Rattle.dav_files_core.proofs.memfs.MemFs.folder_at.Goals as goal

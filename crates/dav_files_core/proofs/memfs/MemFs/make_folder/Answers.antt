@@ -1,8 +1,8 @@
-use Rattle.std.proofs.Common.{◌≡◌, ◌⊎◌, inr, ℕ, Ok, refl, sym, ap, ◌∙◌, subst}
-use Rattle.dav_path_core.specs.Fronts.{Path, parent}
+use Rattle.std.proofs.Common.{inr, Ok, refl, sym, ap, ◌∙◌}
+use Rattle.dav_path_core.specs.Fronts.{parent}
 use Rattle.dav_path_core.specs.Segments.{segments}
-use Rattle.dav_files_core.specs.Outcomes.{added, touched, new_folder}
-use Rattle.dav_files_core.specs.Resources.{Node, Resource, ResourceMap, at_path}
+use Rattle.dav_files_core.specs.Outcomes.{added, touched}
+use Rattle.dav_files_core.specs.Resources.{Node, ResourceMap, at_path}
 use Rattle.dav_files_core.proofs.Leads.{entry, missing}
 use Rattle.dav_files_core.proofs.Making.{made_taken, made_free, folder_stays}
 use Rattle.dav_files_core.proofs.Leads.{left_added}

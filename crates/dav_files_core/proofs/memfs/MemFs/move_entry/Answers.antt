@@ -1,12 +1,12 @@
-use Rattle.std.proofs.Common.{◌≡◌, ◌⊎◌, inl, inr, ℕ, [], ◌∷◌, ◌++◌, Option, Some, None, Ok, Err, Result, refl, sym, ap, ◌∙◌, subst}
+use Rattle.std.proofs.Common.{◌≡◌, inl, inr, ℕ, Option, Some, Ok, Err, Result, sym, ap, ◌∙◌, subst}
 use Rattle.std.proofs.lemmas.Result.{err_from_is_err_and}
 use Rattle.dav_path_core.specs.Answers.{AnswersAs}
 use Rattle.dav_path_core.specs.declared.errors.FsError.{FsError}
-use Rattle.dav_path_core.specs.Fronts.{Segment, Path, parent}
+use Rattle.dav_path_core.specs.Fronts.{Path, parent}
 use Rattle.dav_path_core.specs.Segments.{segments}
 use Rattle.dav_files_core.specs.Outcomes.{Outcome, touched}
 use Rattle.dav_files_core.specs.Private.Entries.{FindsFolder}
-use Rattle.dav_files_core.specs.Resources.{ResourceMap, Resource, at_path}
+use Rattle.dav_files_core.specs.Resources.{ResourceMap, at_path}
 use Rattle.dav_files_core.proofs.Found.{folder_there}
 use Rattle.dav_files_core.proofs.Putting.{found_number}
 use Rattle.dav_files_core.proofs.Renamed.{Target, away, put_named, rename_refused}
@@ -51,7 +51,7 @@ returns-in_err-relocate-clause-answer c =
       elim a.1 [
         | inl memory ↦ inl memory
         | inr h ↦ inr (rename_refused m c.in_ok-source.ensures.shape from here.0 here.1 to c.in-Some.folder target e c.args.now.0
-          (put_named m c.in_ok-source.ensures.shape from here.0 here.1 to c.in-Some.folder target c.file_name_bytes.result.now _ c.file_name_bytes.ensures h))
+            (put_named m c.in_ok-source.ensures.shape from here.0 here.1 to c.in-Some.folder target c.file_name_bytes.result.now _ c.file_name_bytes.ensures h))
       ],
     )
 

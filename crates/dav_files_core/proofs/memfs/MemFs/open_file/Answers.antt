@@ -1,8 +1,7 @@
-use Rattle.std.proofs.Common.{◌≡◌, ◌⊎◌, inl, inr, ℕ, Ok, Err, true, false, refl, sym, ap, ◌∙◌, subst}
-use Rattle.dav_path_core.specs.Fronts.{Path, parent}
+use Rattle.std.proofs.Common.{refl, sym, ap, ◌∙◌}
 use Rattle.dav_path_core.specs.Segments.{segments}
-use Rattle.dav_files_core.specs.Resources.{Node, Resource, ResourceMap, at_path}
-use Rattle.dav_files_core.proofs.Leads.{entry, missing, left_added}
+use Rattle.dav_files_core.specs.Resources.{Node}
+use Rattle.dav_files_core.proofs.Leads.{entry}
 use Rattle.dav_files_core.proofs.memfs.MemFs.open_file.Goals as goal
 
 pub node_at-requires : goal.node_at-requires

@@ -1,4 +1,4 @@
-use Rattle.std.proofs.Common.{◌≡◌, [], ◌∷◌, ◌++◌, ap, ◌∙◌, subst}
+use Rattle.std.proofs.Common.{[], ◌∷◌, ◌++◌, ap, ◌∙◌, subst}
 use Rattle.dav_path_core.specs.Answers.{AnswersAs}
 use Rattle.dav_path_core.specs.Fronts.{Segment}
 use Rattle.dav_files_core.specs.Private.Entries.{put_there}

@@ -1,4 +1,3 @@
-use Rattle.dav_files_core.specs.Resources.{at_path}
 use Rattle.dav_files_core.proofs.Leaving.{taken_stands, taken_answer}
 use Rattle.dav_files_core.proofs.Stepping.{stands_for}
 use Rattle.dav_files_core.proofs.memfs.MemFs.take_out.Goals as goal

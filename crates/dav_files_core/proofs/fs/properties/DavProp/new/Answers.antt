@@ -1,4 +1,4 @@
-use Rattle.std.proofs.Common.{◌≡◌, refl, ◌∙◌}
+use Rattle.std.proofs.Common.{refl, ◌∙◌}
 use Rattle.dav_files_core.specs.PropertyXml.{property_xml}
 use Rattle.dav_files_core.proofs.fs.properties.DavProp.new.Goals as goal
 

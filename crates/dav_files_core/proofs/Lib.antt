@@ -5,6 +5,7 @@ pub mod Describing
 pub mod Found
 pub mod Fronts
 pub mod HasMembers
+pub mod Laws
 pub mod Leads
 pub mod Leaving
 pub mod Lengths

@@ -1,5 +1,5 @@
 -- What a rename answers, from where an entry is put.
-use Rattle.std.proofs.Common.{◌≡◌, ◌⊎◌, inl, inr, ℕ, Bool, true, false, [], ◌∷◌, ◌++◌, Option, Some, None, Result, Ok, Err, refl, sym, ap, ◌∙◌, append_assoc}
+use Rattle.std.proofs.Common.{◌≡◌, ◌⊎◌, inl, inr, ℕ, Bool, true, false, [], ◌∷◌, ◌++◌, Option, Some, None, Result, Ok, Err, refl, sym, ap, ◌∙◌, append_assoc, append-nil}
 use Rattle.std.specs.Prelude.{ok_or, unwrap_or, if◌then◌else◌}
 use Rattle.std.specs.List.{last_or}
 use Rattle.std.proofs.lemmas.Bool.{true≢false}
@@ -16,7 +16,7 @@ use Rattle.dav_files_core.specs.Private.Entries.{StandsIn, FindsFolder, put_ther
 use Rattle.dav_files_core.specs.Renaming.{rename, relocated, put_elsewhere}
 use Rattle.dav_files_core.specs.Resources.{Node, Resource, ResourceMap, at_path, IsResourceMap}
 use Rattle.dav_files_core.proofs.Found.{parent-snoc, folder_there}
-use Rattle.dav_files_core.proofs.Fronts.{behind_none, none_behind}
+use Rattle.dav_files_core.proofs.Fronts.{behind_is, behind_none, none_behind}
 use Rattle.dav_files_core.proofs.HasMembers.{has_member}
 use Rattle.dav_files_core.proofs.Lengths.{no_longer}
 use Rattle.dav_files_core.proofs.Making.{folder_found}
@@ -57,17 +57,18 @@ module _ (m : ResourceMap) (from p : Path) (name : Segment) where
       else (if root then Err Forbidden
       else put_elsewhere m from to (behind from to)))
 
-  record Put (m' : ResourceMap) : Type 0 where
+  -- what a relocation that is done says
+  pub record Put (m' : ResourceMap) : Type 0 where
     pub leaf : has_members m to ≡ false
     pub not_up : is_root from ≡ false
-    pub put : (m' ≡ m) ⊎ ((behind from to ≡ None) × (m' ≡ moved m from to))
+    pub put : ((from ≡ to) × (m' ≡ m)) ⊎ ((behind from to ≡ None) × (m' ≡ moved m from to))
 
-  put : (m' : ResourceMap) → relocated m from to ≡ Ok m' → Put m'
+  pub put : (m' : ResourceMap) → relocated m from to ≡ Ok m' → Put m'
   put m' h = by (has_members m to) refl (is_root from) refl (sym (ap (λ b. rest b (has_members m to) (is_root from)) (snoc_no_root p name)) ∙ h)
     where
-      how : (o : Option Path) → behind from to ≡ o → put_elsewhere m from to o ≡ Ok m' → (m' ≡ m) ⊎ ((behind from to ≡ None) × (m' ≡ moved m from to))
+      how : (o : Option Path) → behind from to ≡ o → put_elsewhere m from to o ≡ Ok m' → ((from ≡ to) × (m' ≡ m)) ⊎ ((behind from to ≡ None) × (m' ≡ moved m from to))
       how None e h = inr (e, cc)
-      how (Some []) e h = inl (cc)
+      how (Some []) e h = inl (sym (behind_is from to [] e ∙ append-nil from), cc)
       how (Some (s ∷ below)) e h = absurd (cc)
 
       by : (members : Bool) → has_members m to ≡ members → (root : Bool) → is_root from ≡ root → rest false (has_members m to) (is_root from) ≡ Ok m' → Put m'
@@ -98,7 +99,7 @@ module _ (m : ResourceMap) (is_map : IsResourceMap m) (from : Path) (r : Resourc
     -- the folder of the target stays
     pub target_stays : at_path m' p ≡ Some f
     target_stays = elim ((put m from p name m' h).put) [
-      | inl same ↦ ap (λ m. at_path m p) same ∙ (folder_there m p f folder).0
+      | inl same ↦ ap (λ m. at_path m p) same.1 ∙ (folder_there m p f folder).0
       | inr away ↦
           ap (λ m. at_path m p) away.1
           ∙ moved_other m from target p
@@ -110,7 +111,7 @@ module _ (m : ResourceMap) (is_map : IsResourceMap m) (from : Path) (r : Resourc
     -- and that of the source
     pub source_stays : (q : Path) (s : Segment) (a : Resource) → from ≡ q ++ (s ∷ []) → at_path m q ≡ Some a → at_path m' q ≡ Some a
     source_stays q s a is at = elim ((put m from p name m' h).put) [
-      | inl same ↦ ap (λ m. at_path m q) same ∙ at
+      | inl same ↦ ap (λ m. at_path m q) same.1 ∙ at
       | inr away ↦
           ap (λ m. at_path m q) away.1
           ∙ moved_other m from target q (behind_none from q (λ u e. no_longer q s u (e ∙ ap (λ t. t ++ u) is))) (behind_none target q (λ u e. absurd (full u e)))

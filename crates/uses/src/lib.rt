@@ -3,6 +3,7 @@
 #![tactic(auto)]
 
 pub mod calendars;
+pub mod elsewhere;
 #[cfg(test)]
 mod files;
 pub mod locking;

@@ -7,7 +7,8 @@ use keys::Dull;
 use playing::{lost, play};
 use std::test::Fail;
 
-// `add PARENT KEY ITEM` and `move ID PARENT KEY`, with `!` to overwrite; `lost N` counts unknown numbers up to N.
+// `add PARENT KEY ITEM` and `move ID PARENT KEY`, with `!` to overwrite; `lost N` counts unknown numbers up to N; `like` looks up by
+// hash. The last two trees have wide nodes.
 const ROWS: &str = "new = ok
 add 1 a 20 = 2
 add 2 b 30 = 3
@@ -163,10 +164,8 @@ move 3 2 b = ok
 children 1 = a:2 c:4
 children 2 = b:3 a:5
 children 4 = none
-children 9 = NotFound";
-
-// The same where a node has many children: with a table of them, and without one where all keys hash alike.
-const WIDE: &str = "new = ok
+children 9 = NotFound
+new = ok
 add 1 a 1 = 2
 add 1 b 1 = 3
 add 1 c 1 = 4
@@ -267,16 +266,6 @@ get 20 c = NotFound";
 #[test]
 fn plays_on_bytes(rt: HostRuntime) -> Result<(), Fail> {
     play::<Vec<u8>>(&rt, rt.alloc(), ROWS)
-}
-
-#[test]
-fn plays_wide_on_bytes(rt: HostRuntime) -> Result<(), Fail> {
-    play::<Vec<u8>>(&rt, rt.alloc(), WIDE)
-}
-
-#[test]
-fn plays_wide_on_dull_keys(rt: HostRuntime) -> Result<(), Fail> {
-    play::<Dull>(&rt, rt.alloc(), WIDE)
 }
 
 #[test]

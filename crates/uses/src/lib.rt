@@ -1,8 +1,10 @@
-//! Examples for users: a handler of PUT, a manager of locks, a reader of headers, a store on `Tree`; and the rows of files,
-//! locks and requests.
+//! Examples for users: a handler of PUT, a manager of locks, a reader of headers, a store on `Tree`, a folder made on any
+//! file system; and the rows of files, locks and requests.
 #![tactic(auto)]
 
 pub mod calendars;
+#[cfg(test)]
+mod defaults;
 pub mod elsewhere;
 #[cfg(test)]
 mod files;

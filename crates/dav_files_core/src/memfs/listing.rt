@@ -40,9 +40,21 @@ impl DavDirEntry for MemFsEntry {
     }
 
     fn is_dir(&self) -> FsResult<bool>
-        ensures { IfOk result (λ b. IsTrue b ↔ (self.now.meta.kind ≡ Kind.Folder)) }
+        ensures { MatchResult result (λ b. IsTrue b ↔ (self.now.meta.kind ≡ Kind.Folder)) (λ _. ⊥) }
     {
         Ok(matches!(self.meta.kind, Kind::Folder))
+    }
+
+    fn is_file(&self) -> FsResult<bool>
+        ensures { MatchResult result (λ b. IsTrue b ↔ (self.now.meta.kind ≡ Kind.File)) (λ _. ⊥) }
+    {
+        Ok(matches!(self.meta.kind, Kind::File))
+    }
+
+    fn is_symlink(&self) -> FsResult<bool>
+        ensures { result ≡ Ok false }
+    {
+        Ok(false)
     }
 }
 

@@ -2,7 +2,9 @@
 ghost use Rattle.dav_files_core.specs.Listing.{entry_of};
 ghost use Rattle.dav_files_core.specs.Meta.{meta_of};
 
-use dav_files_core::fs::{DavDirEntry, DavFileSystem, DavMetaData, DavProp, Moment, OpenOptions, ReadDirMeta};
+use dav_files_core::fs::{
+    DavDirEntry, DavFileSystem, DavMetaData, DavProp, Moment, OpenOptions, ReadDirMeta,
+};
 use dav_files_core::memfs::{MemFs, MemFsEntry, MemFsFile, MemFsMeta};
 use dav_path_core::davpath::DavPath;
 use dav_path_core::errors::{FsError, FsResult};
@@ -16,7 +18,9 @@ struct Bare {
 
 impl DavFileSystem for Bare {
     type File = MemFsFile;
+
     type Meta = MemFsMeta;
+
     type Entry = MemFsEntry;
 
     ghost contents = { λ b. b.files };
@@ -84,9 +88,17 @@ fn changes_nothing_by_default(rt: HostRuntime) -> Result<(), Fail> {
     };
     let path = DavPath::new(alloc, "/")?;
     let refused = Err(FsError::NotImplemented);
-    assert!(rt; bare.create_dir(&path, Moment(2)) == refused && bare.remove_dir(&path, Moment(2)) == refused);
-    assert!(rt; bare.remove_file(&path, Moment(2)) == refused && bare.rename(&path, &path, Moment(2)) == refused);
-    assert!(rt; bare.copy(&path, &path, Moment(2)) == refused && bare.set_accessed(&path, Moment(2)) == refused);
+    assert!(rt;
+        bare.create_dir(&path, Moment(2)) == refused && bare.remove_dir(&path, Moment(2)) == refused
+    );
+    assert!(rt;
+        bare.remove_file(&path, Moment(2)) == refused
+            && bare.rename(&path, &path, Moment(2)) == refused
+    );
+    assert!(rt;
+        bare.copy(&path, &path, Moment(2)) == refused
+            && bare.set_accessed(&path, Moment(2)) == refused
+    );
     assert!(rt; bare.set_modified(&path, Moment(2)) == refused && !bare.have_props(&path));
     assert!(rt; bare.symlink_metadata(&path)? == bare.metadata(&path)?);
     Ok(())
@@ -101,7 +113,12 @@ fn keeps_no_properties_by_default(rt: HostRuntime) -> Result<(), Fail> {
     let path = DavPath::new(alloc, "/")?;
     let text = || String::from_str(alloc, "a");
     let prop = DavProp::new(alloc, text()?, text()?, text()?, text()?)?;
-    assert!(rt; matches!(bare.patch_props(&path, Vec::new(alloc)), Err(FsError::NotImplemented)));
+    assert!(rt;
+        matches!(
+            bare.patch_props(&path, Vec::new(alloc)),
+            Err(FsError::NotImplemented)
+        )
+    );
     assert!(rt; matches!(bare.get_props(&path, true), Err(FsError::NotImplemented)));
     assert!(rt; matches!(bare.get_prop(&path, &prop), Err(FsError::NotImplemented)));
     assert!(rt; bare.get_quota() == Err(FsError::NotImplemented));
@@ -113,7 +130,9 @@ fn knows_little_by_default(rt: HostRuntime) -> Result<(), Fail> {
     let (none, some) = (Size(0), Size(3));
     assert!(rt; none.is_empty() && !some.is_empty() && some.is_file() && !some.is_symlink());
     let refused = Err(FsError::NotImplemented);
-    assert!(rt; some.created() == refused && some.accessed() == refused && some.status_changed() == refused);
+    assert!(rt;
+        some.created() == refused && some.accessed() == refused && some.status_changed() == refused
+    );
     assert!(rt; some.executable() == Err(FsError::NotImplemented));
     let member = Sized { size: 3 };
     assert!(rt; !member.is_dir()? && member.is_file()? && !member.is_symlink()?);

@@ -19,7 +19,7 @@ pub fn make_elsewhere<F: DavFileSystem>(
     ensures { IfOk result (λ _. IsResourceMap (F.contents files.old)
         → segments first.now.bytes ≢ segments second.now.bytes
         → (at_path (F.contents files.new) (segments second.now.bytes)
-            ≡ Some (record { number = (F.contents files.old).next; node = new_folder now.0 }))
+        ≡ Some (record { number = (F.contents files.old).next; node = new_folder now.0 }))
         × (at_path (F.contents files.new) (segments first.now.bytes) ≡ None)) }
 {
     files.create_dir(first, now)?;

@@ -1,5 +1,7 @@
 //! Rows of files in memory: a call, and behind ` = ` its answer. `-` stands for no bytes.
-use dav_files_core::fs::{DavDirEntry, DavFileSystem, DavMetaData, Moment, OpenOptions, ReadDirMeta};
+use dav_files_core::fs::{
+    DavDirEntry, DavFileSystem, DavMetaData, Moment, OpenOptions, ReadDirMeta,
+};
 use dav_files_core::memfs::MemFs;
 use dav_path_core::davpath::DavPath;
 use dav_path_core::errors::{FsError, FsResult};
@@ -204,7 +206,11 @@ fn change_two(
     to: &str,
     now: &str,
 ) -> FsResult<String> {
-    let (from, to, now) = (path_of(alloc, from)?, path_of(alloc, to)?, Moment(number(now)?));
+    let (from, to, now) = (
+        path_of(alloc, from)?,
+        path_of(alloc, to)?,
+        Moment(number(now)?),
+    );
     match call {
         "rename" => files.rename(&from, &to, now)?,
         "copy" => files.copy(&from, &to, now)?,

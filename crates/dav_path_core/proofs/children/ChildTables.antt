@@ -40,7 +40,7 @@ module _ {S R : Type 0} where
     changes : Updates nat_eq m n p (Some u)
     changes = h.3 (ap is_some (sym at))
 
-    written-here : (g : ℕ) → told n.entries p g ≡ Some (get nat_eq u g)
+    pub written-here : (g : ℕ) → told n.entries p g ≡ Some (get nat_eq u g)
     written-here = told-here m n p u changes
 
     pub written-other : (q g : ℕ) → q ≢ p → told n.entries q g ≡ told m.entries q g

@@ -29,11 +29,11 @@ module _ {K : Type 0} (hashed : K → ℕ) (C D : ℕ → K → ℕ → Type 0) 
   pub tabled-noted : (p n h : ℕ) → Noted t u p h n → ((q m : ℕ) (l : K) → D q l m → C q l m ⊎ ((q ≡ p) × (hashed l ≡ h) × (m ≡ n))) → IsTabled D hashed u
   tabled-noted p n h noted sub = λ q m l o child says. elim (sub q m l child) [
     | inl old ↦
-      let f = noted.0 q (hashed l) o says in
-      let is : f.0 ≡ Some m = tabled q m l f.0 old f.1 in
-      sym (f.2 (λ both.
-          let none = (noted.1 o (ap (λ r. u r h) (sym both.0) ∙ ap (u q) (sym both.1) ∙ says)).1 in
-          none≢some m (same_some None (Some m) (sym none ∙ ap (λ r. t r h) (sym both.0) ∙ ap (t q) (sym both.1) ∙ f.1 ∙ ap (λ (x : Option ℕ). Some x) is)))) ∙ is
+        let f = noted.0 q (hashed l) o says in
+        let is : f.0 ≡ Some m = tabled q m l f.0 old f.1 in
+        sym (f.2 (λ both.
+        let none = (noted.1 o (ap (λ r. u r h) (sym both.0) ∙ ap (u q) (sym both.1) ∙ says)).1 in
+        none≢some m (same_some None (Some m) (sym none ∙ ap (λ r. t r h) (sym both.0) ∙ ap (t q) (sym both.1) ∙ f.1 ∙ ap (λ (x : Option ℕ). Some x) is)))) ∙ is
     | inr new ↦ (noted.1 o (ap (λ r. u r h) (sym new.0) ∙ ap (u q) (sym new.1) ∙ says)).0 ∙ ap (λ (x : ℕ). Some x) (sym new.2)
   ]
 
@@ -112,13 +112,13 @@ module _ {K D S : Type 0} (hashed : K → ℕ) (t : TreeValue K D) (p : ℕ) whe
     walk = walk_next t p id s.passed s.walk;
     has = λ c l h child. elim (or_cases (list_any (eqb c) s.passed) (list_any (eqb c) (id ∷ [])) (sym (list_any-append (eqb c) s.passed (id ∷ [])) ∙ h)) [
       | inl before ↦
-        let was : get nat_eq m (hashed l) ≡ Some c = s.has c l before child in
-        got-other m n (hashed k) (Some id) put (hashed l) (λ e. none≢some c (none ∙ ap (get nat_eq m) (sym e) ∙ was)) ∙ was
+          let was : get nat_eq m (hashed l) ≡ Some c = s.has c l before child in
+          got-other m n (hashed k) (Some id) put (hashed l) (λ e. none≢some c (none ∙ ap (get nat_eq m) (sym e) ∙ was)) ∙ was
       | inr last ↦ elim (or_cases (eqb c id) false last) [
         | inl same ↦
-          let is : c ≡ id = eqb-true c id same in
-          let key : l ≡ k = ap (λ (q : ℕ × K). q.1) (same_some (p, l) (p, k) (sym (subst (λ v. IsChild t.keyed p l v) is child) ∙ is_child)) in
-          ap (λ x. get nat_eq n (hashed x)) key ∙ got-here m n (hashed k) (Some id) put ∙ ap (λ (x : ℕ). Some x) (sym is)
+            let is : c ≡ id = eqb-true c id same in
+            let key : l ≡ k = ap (λ (q : ℕ × K). q.1) (same_some (p, l) (p, k) (sym (subst (λ v. IsChild t.keyed p l v) is child) ∙ is_child)) in
+            ap (λ x. get nat_eq n (hashed x)) key ∙ got-here m n (hashed k) (Some id) put ∙ ap (λ (x : ℕ). Some x) (sym is)
         | inr nowhere ↦ absurd (false≢true nowhere)
       ]
     ];

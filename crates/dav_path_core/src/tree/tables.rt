@@ -1,6 +1,6 @@
 //! Tables of children, by the hashes of their keys. A wide node has one where there was memory for it; a node without one is
 //! walked.
-ghost use Rattle.std.specs.Prelude.{◌≡◌, ℕ, None, Some, true, false, nat_eq, Bool, IfOk, OnErr, IfErr, IfSome};
+ghost use Rattle.std.specs.Prelude.{◌≡◌, ℕ, Option, None, Some, true, false, nat_eq, Bool, IfOk, OnErr, IfErr, IfSome};
 ghost use Rattle.std.specs.Fn.{FnReturnsAt};
 ghost use Rattle.std.specs.Option.{ok_or};
 ghost use Rattle.std.specs.Map.{IsKeyTest};
@@ -55,7 +55,8 @@ pub(super) fn note(tables: &mut Tables, node: u64, hash: u64, child: u64)
 
 /// Takes a hash out of the table of a node.
 pub(super) fn forget(tables: &mut Tables, node: u64, hash: u64)
-    ensures { Forgot (told tables.old.entries) (told tables.new.entries) node hash }
+    ensures kept { Forgot (told tables.old.entries) (told tables.new.entries) node hash }
+    ensures gone { (o : Option ℕ) → told tables.new.entries node hash ≡ Some o → o ≡ None }
 {
     if let Some(table) = tables.get_mut(&node) {
         table.remove(&hash);

@@ -76,7 +76,10 @@ fn of_child<K: Key>(
     match name {
         "get" => shown(alloc, tree.get_child(id, &key)?),
         "find" => shown(alloc, tree.find_child(id, |other| *other == key)?),
-        "like" => shown(alloc, tree.find_child_like(id, &key, |other| *other == key)?),
+        "like" => shown(
+            alloc,
+            tree.find_child_like(id, &key, |other| *other == key)?,
+        ),
         _ => Err(FsError::NotImplemented),
     }
 }

@@ -28,10 +28,13 @@ invariant_of-self-2 g c = record {
 pub returns-clause-answer : goal.returns-clause-answer
 returns-clause-answer g c = (
   refl,
-  (ap (λ t. t.keyed.next) c.self.view_is, (keyed-added g.K.PartialEq.eq g.met.K.Eq.laws.symm c.self.inside.nodes.entries c.put_new.new.nodes.entries c.self.inside.next c.args.parent c.args.key
-      (new_node c.args.parent c.args.key c.args.item (first_in (node_at c.self.inside.nodes.entries) c.args.parent)) c.self.invariant.linked
-      (sym (known-view c.self.inside.nodes.entries c.self.inside.next c.args.parent) ∙ subst (λ t. IsKnown t.keyed c.args.parent) (sym c.self.view_is) c.requires.known)
-      (subst (λ t. child (g.K.PartialEq.eq c.args.key) t.keyed c.args.parent ≡ None) (sym c.self.view_is) c.requires.free) refl refl refl refl c.in_ok-put_new.ensures.ok) ∙ ap (λ t. add t.keyed c.args.parent c.args.key c.args.item) c.self.view_is),
+  (
+    ap (λ t. t.keyed.next) c.self.view_is,
+    (keyed-added g.K.PartialEq.eq g.met.K.Eq.laws.symm c.self.inside.nodes.entries c.put_new.new.nodes.entries c.self.inside.next c.args.parent c.args.key
+        (new_node c.args.parent c.args.key c.args.item (first_in (node_at c.self.inside.nodes.entries) c.args.parent)) c.self.invariant.linked
+        (sym (known-view c.self.inside.nodes.entries c.self.inside.next c.args.parent) ∙ subst (λ t. IsKnown t.keyed c.args.parent) (sym c.self.view_is) c.requires.known)
+        (subst (λ t. child (g.K.PartialEq.eq c.args.key) t.keyed c.args.parent ≡ None) (sym c.self.view_is) c.requires.free) refl refl refl refl c.in_ok-put_new.ensures.ok) ∙ ap (λ t. add t.keyed c.args.parent c.args.key c.args.item) c.self.view_is,
+  ),
 )
 
 pub returns-clause-shape : goal.returns-clause-shape

@@ -11,11 +11,11 @@ returns-in_err-put_new-clause-shape g c = shape_of c.self.invariant.linked (ap (
 pub invariant_of-self-2 : goal.invariant_of-self-2
 invariant_of-self-2 g c = record {
   linked = IsLinked-over g.K.PartialEq.eq g.met.K.Eq.laws c.self.inside.nodes.entries c.put_new.new.nodes.entries c.hang.new.nodes.entries c.self.inside.next c.args.parent c.args.key c.args.item c.args.old c.self.invariant.linked
-    c.args.self.now c.self.view_is c.requires.known c.requires.taken c.in_ok-put_new.ensures.ok c.hang.ensures;
+      c.args.self.now c.self.view_is c.requires.known c.requires.taken c.in_ok-put_new.ensures.ok c.hang.ensures;
   tabled = tabled-hung g.K.PartialEq.eq g.met.K.Eq.laws c.self.inside.nodes.entries c.put_new.new.nodes.entries c.hang.new.nodes.entries c.self.inside.next c.args.parent c.args.key c.args.item c.args.old c.self.invariant.linked
-    c.args.self.now c.self.view_is c.requires.known c.requires.taken c.in_ok-put_new.ensures.ok c.hang.ensures
+      c.args.self.now c.self.view_is c.requires.known c.requires.taken c.in_ok-put_new.ensures.ok c.hang.ensures
       (λ k. hash (g.K.Hash.hash_input k)) (told c.self.inside.tables.entries) (told c.forget.new.tables.entries) (told c.note.new.tables.entries) (told c.note-2.new.tables.entries) c.hash_of-hash.result
-      (λ a b same. ap hash (g.met.K.Hash.respects_eq a b same)) (sym c.hash_of-hash.ensures) c.self.invariant.tabled c.forget.ensures c.note.ensures c.note-2.ensures;
+      (λ a b same. ap hash (g.met.K.Hash.respects_eq a b same)) (sym c.hash_of-hash.ensures) c.self.invariant.tabled c.forget.ensures.kept c.note.ensures c.note-2.ensures;
 }
 
 pub cut_out-requires-clause-known : goal.cut_out-requires-clause-known

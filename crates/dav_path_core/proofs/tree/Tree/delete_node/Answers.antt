@@ -72,7 +72,7 @@ invariant_of-self g c = record {
       (tabled-without (λ k. hash (g.K.Hash.hash_input k)) (keyed_of c.self.inside.nodes.entries c.self.inside.next) (told c.self.inside.tables.entries) (told c.forget.new.tables.entries) c.self.invariant.tabled
       c.args.id c.in-Some-parent_and_key.above c.hash_of.result c.in-Some-parent_and_key.name
       (ap parent_and_key_of (entry-view c.self.inside.nodes.entries c.self.inside.next c.args.id (Some c.in-Some.node.now) c.in-Some.ensures.value) ∙ c.in-Some-parent_and_key.is)
-      (sym c.hash_of.ensures) c.forget.ensures (told c.drop_table.new.tables.entries) c.drop_table.ensures);
+      (sym c.hash_of.ensures) c.forget.ensures.kept (told c.drop_table.new.tables.entries) c.drop_table.ensures);
 }
 
 pub returns-clause-answer : goal.returns-clause-answer

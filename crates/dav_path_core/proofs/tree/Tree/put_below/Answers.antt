@@ -37,20 +37,20 @@ made g c =
 pub invariant_of-self : goal.invariant_of-self
 invariant_of-self g c = record {
   linked = IsLinked-placed g.K.PartialEq.eq g.met.K.Eq.laws.symm c.self.inside.nodes.entries c.put_before.new.nodes.entries c.self.inside.next c.args.id c.args.new_parent c.in-Some-parent_and_key.above c.args.new_name c.in-Some-parent_and_key.name
-    c.in-Some.node.now c.self.invariant.linked (subst (λ t. IsKnown t.keyed c.args.new_parent) (sym c.self.view_is) c.requires.known_parent) c.requires.not_root
-    (subst (λ t. is_under t.keyed c.args.id c.args.new_parent ≡ false) (sym c.self.view_is) c.requires.outside)
-    (subst (λ t. child (g.K.PartialEq.eq c.args.new_name) t.keyed c.args.new_parent ≡ None) (sym c.self.view_is) c.requires.free)
-    c.in-Some.ensures.value c.in-Some-parent_and_key.is (made g c);
+      c.in-Some.node.now c.self.invariant.linked (subst (λ t. IsKnown t.keyed c.args.new_parent) (sym c.self.view_is) c.requires.known_parent) c.requires.not_root
+      (subst (λ t. is_under t.keyed c.args.id c.args.new_parent ≡ false) (sym c.self.view_is) c.requires.outside)
+      (subst (λ t. child (g.K.PartialEq.eq c.args.new_name) t.keyed c.args.new_parent ≡ None) (sym c.self.view_is) c.requires.free)
+      c.in-Some.ensures.value c.in-Some-parent_and_key.is (made g c);
   tabled = subst (λ t. IsTabled (IsChild t) (λ k. hash (g.K.Hash.hash_input k)) (told c.note.new.tables.entries)) (sym (
       keyed-placed g.K.PartialEq.eq g.met.K.Eq.laws.symm c.self.inside.nodes.entries c.put_before.new.nodes.entries c.self.inside.next c.args.id c.args.new_parent c.in-Some-parent_and_key.above c.args.new_name c.in-Some-parent_and_key.name
-    c.in-Some.node.now c.self.invariant.linked (subst (λ t. IsKnown t.keyed c.args.new_parent) (sym c.self.view_is) c.requires.known_parent) c.requires.not_root
-    (subst (λ t. is_under t.keyed c.args.id c.args.new_parent ≡ false) (sym c.self.view_is) c.requires.outside)
-    (subst (λ t. child (g.K.PartialEq.eq c.args.new_name) t.keyed c.args.new_parent ≡ None) (sym c.self.view_is) c.requires.free)
-    c.in-Some.ensures.value c.in-Some-parent_and_key.is (made g c)))
+      c.in-Some.node.now c.self.invariant.linked (subst (λ t. IsKnown t.keyed c.args.new_parent) (sym c.self.view_is) c.requires.known_parent) c.requires.not_root
+      (subst (λ t. is_under t.keyed c.args.id c.args.new_parent ≡ false) (sym c.self.view_is) c.requires.outside)
+      (subst (λ t. child (g.K.PartialEq.eq c.args.new_name) t.keyed c.args.new_parent ≡ None) (sym c.self.view_is) c.requires.free)
+      c.in-Some.ensures.value c.in-Some-parent_and_key.is (made g c)))
       (tabled-placed (λ k. hash (g.K.Hash.hash_input k)) (keyed_of c.self.inside.nodes.entries c.self.inside.next) (told c.self.inside.tables.entries) (told c.forget.new.tables.entries) c.self.invariant.tabled
       c.args.id c.in-Some-parent_and_key.above c.hash_of.result c.in-Some-parent_and_key.name
       (ap parent_and_key_of (entry-view c.self.inside.nodes.entries c.self.inside.next c.args.id (Some c.in-Some.node.now) c.in-Some.ensures.value) ∙ c.in-Some-parent_and_key.is)
-      (sym c.hash_of.ensures) c.forget.ensures (told c.note.new.tables.entries) c.args.new_parent c.args.new_name
+      (sym c.hash_of.ensures) c.forget.ensures.kept (told c.note.new.tables.entries) c.args.new_parent c.args.new_name
       (subst (λ h. Noted (told c.forget.new.tables.entries) (told c.note.new.tables.entries) c.args.new_parent h c.args.id) c.hash_of-2.ensures c.note.ensures));
 }
 

@@ -26,7 +26,7 @@ returns-then-same-clause-passes g c = (
 pub returns-clause-fails : goal.returns-clause-fails
 returns-clause-fails g c = λ k e.
     let same = same_some (c.in-Some-parent_and_key.above, c.in-Some-parent_and_key.name) (c.args.parent, k)
-        (sym (parent_and_key-told c.self.inside.nodes.entries c.self.inside.next c.args.self.now c.self.view_is c.args.id c.in-Some.node.now c.in-Some.ensures.value ∙ c.in-Some-parent_and_key.is) ∙ e) in
+    (sym (parent_and_key-told c.self.inside.nodes.entries c.self.inside.next c.args.self.now c.self.view_is c.args.id c.in-Some.node.now c.in-Some.ensures.value ∙ c.in-Some-parent_and_key.is) ∙ e) in
     elim c.else-above-parent.branch [
       | else-above-parent-via-then-above-parent+else-same w ↦ record { shown = _; shows = ap (λ (q : ℕ × g.row.K.Denot). q.1) same; says = record { met = w.if-same.ensures } }
       | else-above-parent-via-else-above-parent w ↦ absurd (w.if-above-parent.false (ap (λ (q : ℕ × g.row.K.Denot). q.0) same))

@@ -90,6 +90,9 @@ impl OpenOptions {
 
 /// A store of files and folders on paths. Of every implementation, seen as a map from paths to resources: a call that is
 /// done answers, and leaves the map, as the definition of its command says; a refusal leaves the map as it was.
+///
+/// All calls but `open`, `read_dir` and `metadata` have a default. It is `NotImplemented`, but `symlink_metadata` is `metadata`, and
+/// `have_props` is false.
 pub trait DavFileSystem {
     /// An open file.
     type File;
@@ -248,7 +251,7 @@ pub trait DavDirEntry {
     }
 }
 
-/// What is known of a file or a folder (RFC 4918 section 15).
+/// What is known of a file or a folder (RFC 4918 section 15). What has no other default is `NotImplemented` by default.
 pub trait DavMetaData {
     /// How many bytes it has.
     fn len(&self) -> u64;

@@ -177,6 +177,7 @@ impl DavFileSystem for MemFs {
         self.open_file(path, &options, now)
     }
 
+    /// As finding refuses; `Forbidden` for a file; `InsufficientStorage` where it is out of memory.
     fn read_dir(&self, path: &DavPath, meta: ReadDirMeta) -> FsResult<Vec<MemFsEntry>>
         ensures { Tells (λ v. map entry_of v.items) result (read_dir self.now (segments path.now.bytes)) }
     {
@@ -197,6 +198,8 @@ impl DavFileSystem for MemFs {
         self.metadata(path)
     }
 
+    /// For its folder as finding refuses, and `Forbidden` for a file there; `Exists` where something stands at the path;
+    /// `InsufficientStorage` where it is out of memory or numbers.
     fn create_dir(&mut self, path: &DavPath, now: Moment) -> FsResult<()>
         ensures answer { AnswersAs (λ _. tt) result (create_dir self.old (segments path.now.bytes) now.0) self.old self.new }
         ensures shape { IsResourceMap self.new }
@@ -220,6 +223,9 @@ impl DavFileSystem for MemFs {
         self.remove(path, now)
     }
 
+    /// In this order: the source, then the target's folder, as finding refuses, and `Forbidden` for a file there; `Exists` for `/`,
+    /// unless `/` itself is moved, and for a target with members; `Forbidden` where `/` itself is moved, and for a target below the source.
+    /// `InsufficientStorage` where it is out of memory.
     fn rename(&mut self, from: &DavPath, to: &DavPath, now: Moment) -> FsResult<()>
         ensures answer { AnswersAs (λ _. tt) result (rename self.old (segments from.now.bytes) (segments to.now.bytes) now.0) self.old self.new }
         ensures shape { IsResourceMap self.new }
@@ -227,6 +233,8 @@ impl DavFileSystem for MemFs {
         self.move_entry(from, to, now)
     }
 
+    /// The source as finding refuses; `Forbidden` for a folder as the target; for a missing target its folder as finding refuses, and
+    /// `Forbidden` for a file there; `InsufficientStorage` where it is out of memory or numbers.
     fn copy(&mut self, from: &DavPath, to: &DavPath, now: Moment) -> FsResult<()>
         ensures answer { AnswersAs (λ _. tt) result (copy self.old (segments from.now.bytes) (segments to.now.bytes) now.0) self.old self.new }
         ensures shape { IsResourceMap self.new }

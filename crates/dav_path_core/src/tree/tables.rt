@@ -74,8 +74,9 @@ pub(super) fn drop_table(tables: &mut Tables, node: u64)
 const WIDE: usize = 16;
 
 impl<K: Eq + Hash + Clone, D> Tree<K, D> {
-    /// The number of a child whose key passes the test, among those whose keys hash as `like` does. So a key is looked up by what
-    /// it compares with, and a wide node by its table. `NotFound` where no such key passes, and for an unknown number (own).
+    /// The number of a child whose key passes the test. A child whose key does not hash as `like` does may be passed over: so a key is
+    /// looked up by what it compares with, and a wide node by its table. `NotFound` only where no key that hashes alike passes, and for an
+    /// unknown number (own).
     pub fn find_child_like<Q: Hash, F: Fn(&K) -> bool>(
         &self,
         parent: u64,

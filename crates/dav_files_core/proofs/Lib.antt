@@ -1,10 +1,13 @@
 pub mod Above
 pub mod Added
+pub mod Again
 pub mod Changed
 pub mod Describing
+pub mod Following
 pub mod Found
 pub mod Fronts
 pub mod HasMembers
+pub mod KeptProperties
 pub mod Laws
 pub mod Leads
 pub mod Leaving
@@ -14,6 +17,10 @@ pub mod Making
 pub mod Members
 pub mod Moved
 pub mod Moving
+pub mod Numbered
+pub mod Opened
+pub mod Overwriting
+pub mod Overwritten
 pub mod Places
 pub mod Putting
 pub mod ReadAnswers
@@ -22,6 +29,7 @@ pub mod Relocating
 pub mod Removing
 pub mod Renamed
 pub mod Rows
+pub mod Seen
 pub mod Setting
 pub mod Started
 pub mod Stepping
@@ -30,3 +38,4 @@ pub mod TreeWords
 pub mod Walk
 pub mod Walking
 pub mod Without
+pub mod Written

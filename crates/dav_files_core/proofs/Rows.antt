@@ -1,24 +1,28 @@
 -- Worked rows of the resource map, computed on the definitions.
-use Rattle.std.proofs.Common.{◌≡◌, ℕ, false, true, cond, List, [], ◌∷◌, length, Some, None, Ok, Err, refl, sym, ◌∙◌, arith}
-use Rattle.std.specs.Prelude.{codes, Result}
+use Rattle.std.proofs.Common.{◌≡◌, ℕ, false, true, cond, List, [], ◌∷◌, length, Option, Some, None, Ok, Err, refl, sym, ◌∙◌, arith}
+use Rattle.std.specs.Prelude.{codes, Result, pos, negsuc}
+use Rattle.std.specs.declared.io.traits.SeekFrom.TheVariants.{Start, End, Current}
 use Rattle.std.specs.Ordering.{eq_by_cmp}
 use Rattle.std.specs.declared.cmp.Ordering.{Ordering}
 use Rattle.std.specs.FinMap.{FinMap, entries, get, insert, remove, empty, from_entries, find as find_in, get-empty, get-insert, get-remove, get-from_entries, entries-insert, put as put_in, len-empty, len-entries, keys}
 use Rattle.dav_path_core.specs.declared.errors.FsError.{FsError}
-use Rattle.dav_path_core.specs.declared.errors.FsError.TheVariants.{NotFound, Forbidden, Exists}
+use Rattle.dav_path_core.specs.declared.errors.FsError.TheVariants.{NotFound, NotImplemented, Forbidden, Exists, TooLarge}
 use Rattle.dav_path_core.specs.Fronts.{Segment, Path, segment_cmp, path_cmp, parent}
 use Rattle.dav_path_core.proofs.lists.Orders.{segment_total, path_total}
 use Rattle.dav_files_core.specs.declared.fs.OpenOptions.{OpenOptions}
 use Rattle.dav_files_core.specs.declared.memfs.Kind.TheVariants.{Folder}
-use Rattle.dav_files_core.specs.Resources.{Resource, ResourceMap}
+use Rattle.dav_files_core.specs.Resources.{Property, Properties, Resource, ResourceMap, key_cmp}
 use Rattle.dav_files_core.specs.Finding.{find, members, place}
 use Rattle.dav_files_core.specs.Outcomes.{Outcome, ◌>>=◌, start, new_file, new_folder}
 use Rattle.dav_files_core.specs.Commands.{put, read_at, metadata}
 use Rattle.dav_files_core.specs.Copying.{copy}
 use Rattle.dav_files_core.specs.Folders.{create_dir, remove as remove_at}
 use Rattle.dav_files_core.specs.Listing.{read_dir}
-use Rattle.dav_files_core.specs.Opening.{opening}
+use Rattle.dav_files_core.specs.OpenFiles.{read_bytes, seek, write_bytes}
+use Rattle.dav_files_core.specs.Opening.{OpenFile, opening}
+use Rattle.dav_files_core.specs.Properties.{get_prop, get_props, patch_props}
 use Rattle.dav_files_core.specs.Renaming.{rename}
+use Rattle.dav_files_core.proofs.KeptProperties.{key_total}
 
 -- ---- finite maps that are written out
 
@@ -53,7 +57,22 @@ at-remove = get-remove path_total
 at-from_entries : (es : List (Path × Resource)) (q : Path) → get (from_entries {R = path_cmp} es) q ≡ find_in path_cmp q es
 at-from_entries = get-from_entries path_total
 
-ruleset literals = (at-insert, at-empty, at-remove, at-from_entries, in-insert, in-empty, names-insert, names-empty)
+prop-insert : (m : Properties) (k : List ℕ × List ℕ) (v : Property) (q : List ℕ × List ℕ) → get (insert m k v) q ≡ cond (eq_by_cmp key_cmp q k) (Some v) (get m q)
+prop-insert = get-insert key_total
+
+prop-remove : (m : Properties) (k q : List ℕ × List ℕ) → get (remove m k) q ≡ cond (eq_by_cmp key_cmp q k) None (get m q)
+prop-remove = get-remove key_total
+
+prop-empty : (q : List ℕ × List ℕ) → get (empty {X = Property} {R = key_cmp}) q ≡ None
+prop-empty q = get-empty key_cmp q
+
+props-insert : (m : Properties) (k : List ℕ × List ℕ) (v : Property) → entries (insert m k v) ≡ put_in key_cmp k v (entries m)
+props-insert = entries-insert key_total
+
+props-empty : entries (empty {X = Property} {R = key_cmp}) ≡ []
+props-empty = entries-empty key_cmp
+
+ruleset literals = (at-insert, at-empty, at-remove, at-from_entries, in-insert, in-empty, names-insert, names-empty, prop-insert, prop-remove, prop-empty, props-insert, props-empty)
 
 -- ---- a file at /a, of the bytes abc
 
@@ -273,3 +292,117 @@ not_truncated = simp literals
 
 created : opening (start 1) a (record nothing_asked { create = true }) 20 >>= (λ y. find y.1 a) ≡ Ok (record { number = 2; node = new_file [] 20 })
 created = simp literals
+
+-- ---- open files
+
+abbrev file_2 : OpenFile
+file_2 = record { number = 2; position = 0; append = false }
+
+-- what stands at /a, and where the file stands, after a write
+abbrev left_at_a : Unit {0} × (OpenFile × ResourceMap) → Result (Resource × ℕ) FsError
+left_at_a w = find w.1.1 a >>= λ r. Ok (r, w.1.0.position)
+
+abbrev a_with : List ℕ → Resource
+a_with bytes = record { number = 2; node = record (new_file bytes 5) { modified = 5 } }
+
+gap_filled : with_a >>= (λ x. seek x.1 file_2 (Start 5) >>= λ s. write_bytes x.1 s.1 (codes "z") >>= left_at_a) ≡ Ok (a_with (97 ∷ 98 ∷ 99 ∷ 0 ∷ 0 ∷ 122 ∷ []), 6)
+gap_filled = simp literals
+
+gap_alone : with_a >>= (λ x. seek x.1 file_2 (Start 5) >>= λ s. write_bytes x.1 s.1 [] >>= left_at_a) ≡ Ok (a_with (97 ∷ 98 ∷ 99 ∷ 0 ∷ 0 ∷ []), 5)
+gap_alone = simp literals
+
+written_over : with_a >>= (λ x. seek x.1 file_2 (Start 1) >>= λ s. write_bytes x.1 s.1 (codes "z") >>= left_at_a) ≡ Ok (a_with (codes "azc"), 2)
+written_over = simp literals
+
+appended : with_a >>= (λ x. read_bytes x.1 (record file_2 { append = true }) 1 >>= λ y. write_bytes x.1 y.1 (codes "d") >>= left_at_a) ≡ Ok (a_with (codes "abcd"), 4)
+appended = simp literals
+
+moved_on : with_a >>= (λ x. read_bytes x.1 file_2 1 >>= λ y. read_bytes x.1 y.1 9) ≡ Ok (codes "bc", record file_2 { position = 3 })
+moved_on = simp literals
+
+from_the_end : with_a >>= (λ x. seek x.1 file_2 (End (negsuc 0))) ≡ Ok (2, record file_2 { position = 2 })
+from_the_end = simp literals
+
+before_the_start : with_a >>= (λ x. seek x.1 file_2 (End (negsuc 3))) ≡ Err NotImplemented
+before_the_start = simp literals
+
+abbrev far : OpenFile
+far = record file_2 { position = 18446744073709551615 }
+
+nothing_far : with_a >>= (λ x. read_bytes x.1 far 1) ≡ Ok ([], far)
+nothing_far = simp literals
+
+too_far : with_a >>= (λ x. write_bytes x.1 far (codes "z")) ≡ Err TooLarge
+too_far = simp literals
+
+past_all : with_a >>= (λ x. seek x.1 far (Current (pos 1))) ≡ Err NotImplemented
+past_all = simp literals
+
+-- the file became a folder
+folder_read : onto_file >>= (λ x. read_bytes x.1 file_2 1) ≡ Err Forbidden
+folder_read = simp literals
+
+folder_end : onto_file >>= (λ x. seek x.1 file_2 (End (pos 0))) ≡ Err Forbidden
+folder_end = simp literals
+
+folder_start : onto_file >>= (λ x. seek x.1 file_2 (Start 2)) ≡ Ok (2, record file_2 { position = 2 })
+folder_start = simp literals
+
+-- its folder was renamed
+followed : folder_e >>= (λ x. write_bytes x.1 (record file_2 { number = 3 }) (codes "xyz") >>= λ w. find w.1.1 e_f) ≡ Ok (record { number = 3; node = new_file (codes "xyz") 3 })
+followed = simp literals
+
+-- it is gone, and another file stands at its path
+abbrev replaced : Outcome (Unit {0})
+replaced = then (put (start 1) a (codes "abc") 5) (λ m. then (put m g (codes "xyz") 5) (λ m. rename m g a 6))
+
+gone_read : replaced >>= (λ x. read_bytes x.1 file_2 1) ≡ Err NotFound
+gone_read = simp literals
+
+gone_write : replaced >>= (λ x. write_bytes x.1 file_2 (codes "w") >>= λ w. Ok w.0) ≡ Err NotFound
+gone_write = simp literals
+
+gone_end : replaced >>= (λ x. seek x.1 file_2 (End (pos 0))) ≡ Err NotFound
+gone_end = simp literals
+
+other_read : replaced >>= (λ x. read_bytes x.1 (record file_2 { number = 3 }) 1) ≡ Ok (codes "x", record { number = 3; position = 1; append = false })
+other_read = simp literals
+
+-- ---- properties of the root
+
+abbrev named : Option (List ℕ) → List ℕ → Option (List ℕ) → Property
+named namespace name xml = record { name = name; prefix = None; namespace = namespace; xml = xml }
+
+abbrev n_x : Property
+n_x = named None (codes "n") (Some (codes "x"))
+
+abbrev n_y : Property
+n_y = named (Some []) (codes "n") (Some (codes "y"))
+
+abbrev set_twice : Outcome (List (ℕ × Property))
+set_twice = patch_props (start 1) [] ((true, n_x) ∷ (true, n_y) ∷ [])
+
+one_key : set_twice >>= (λ x. get_props x.1 [] true) ≡ Ok (n_y ∷ [])
+one_key = simp literals
+
+either_key : set_twice >>= (λ x. get_prop x.1 [] (named None (codes "n") None)) ≡ Ok (codes "y")
+either_key = simp literals
+
+another_name : set_twice >>= (λ x. get_prop x.1 [] (named None (codes "m") None)) ≡ Err NotFound
+another_name = simp literals
+
+no_xml : patch_props (start 1) [] ((true, named None (codes "n") None) ∷ []) >>= (λ x. get_prop x.1 [] n_x) ≡ Err NotFound
+no_xml = simp literals
+
+answers : patch_props (start 1) [] ((true, n_x) ∷ (false, named None (codes "m") None) ∷ []) >>= (λ x. Ok x.0) ≡ Ok ((200, named None (codes "n") None) ∷ (200, named None (codes "m") None) ∷ [])
+answers = simp literals
+
+by_namespace : patch_props (start 1) [] ((true, named (Some (codes "ab")) (codes "c") None) ∷ (true, named (Some (codes "a")) (codes "bc") None) ∷ []) >>= (λ x. get_props x.1 [] false)
+    ≡ Ok (named (Some (codes "a")) (codes "bc") None ∷ named (Some (codes "ab")) (codes "c") None ∷ [])
+by_namespace = simp literals
+
+times_stay : set_twice >>= (λ x. metadata x.1 []) ≡ Ok (record { kind = Folder; length = 0; modified = 1; created = 1 })
+times_stay = simp literals
+
+copied_along : set_twice >>= (λ x. put x.1 a (codes "abc") 5 >>= λ y. copy y.1 [] a 7 >>= λ z. get_props z.1 a true) ≡ Ok (n_y ∷ [])
+copied_along = simp literals

@@ -4,11 +4,12 @@ use Rattle.std.specs.FinMap.{get}
 use Rattle.dav_path_core.specs.Fronts.{Path}
 use Rattle.dav_path_core.specs.Keyed.{with_item_at}
 use Rattle.dav_files_core.specs.declared.memfs.Kind.TheVariants.{Folder, File}
+use Rattle.dav_files_core.specs.OpenFiles.{overwritten}
 use Rattle.dav_files_core.specs.Outcomes.{changed, touched, touched_at}
 use Rattle.dav_files_core.specs.Private.Entries.{IsBare, HasFile}
 use Rattle.dav_files_core.specs.Private.Represents.{FileTree, Represents}
 use Rattle.dav_files_core.specs.Private.TreeCalls.{SetsNode, WritesFile}
-use Rattle.dav_files_core.specs.Resources.{Node, Resource, ResourceMap, at_path, IsResourceMap}
+use Rattle.dav_files_core.specs.Resources.{Node, Properties, Resource, ResourceMap, at_path, IsResourceMap}
 use Rattle.dav_path_core.proofs.lists.FinMaps.{one_some}
 use Rattle.dav_files_core.proofs.Changed.{Represents-changed}
 use Rattle.dav_files_core.proofs.Stepping.{item_is, written}
@@ -27,6 +28,10 @@ module _ (t : FileTree) (m : ResourceMap) (rep : Represents t m) (p : Path) (r :
   touched_stands now t' h =
       subst (λ m. Represents t' m) (ap (touched_at m p now) (sym here)) (set_stands (λ n. record n { modified = now }) (λ f. f) (rep.is_map.bare p r here) t' h)
 
+  -- other properties
+  pub props_stand : (props : Properties) (t' : FileTree) → SetsNode t id (λ n. record n { props = props }) (Ok tt) t' → Represents t' (changed m p r (record r.node { props = props }))
+  props_stand props t' h = set_stands (λ n. record n { props = props }) (λ f. f) (rep.is_map.bare p r here) t' h
+
 -- one entry has the number
 pub same_entry : (m : ResourceMap) → IsResourceMap m → (id : ℕ) (p : Path) (r : Resource) → at_path m p ≡ Some r → r.number ≡ id → (q : Path) (s : Resource) → at_path m q ≡ Some s → s.number ≡ id → r ≡ s
 same_entry m is_map id p r here number q s there other =
@@ -44,3 +49,9 @@ module _ (t : FileTree) (m : ResourceMap) (rep : Represents t m) (id : ℕ) (fil
   -- another node in place of a file's
   pub replaced_stands : (node : Node) → IsBare node → (t' : FileTree) → SetsNode t id (λ _. node) (Ok tt) t' → Represents t' (changed m p r node)
   replaced_stands node bare t' h = set_stands t m rep p r here id number (λ _. node) (λ f. let both : Folder ≡ File = sym f ∙ is_file in absurd (cc)) bare t' h
+
+  -- bytes put over some of a file's
+  pub overwritten_stands : (start : ℕ) (new : List ℕ) (t' : FileTree) → SetsNode t id (λ n. record n { bytes = overwritten n.bytes start new }) (Ok tt) t'
+      → Represents t' (changed m p r (record r.node { bytes = overwritten r.node.bytes start new }))
+  overwritten_stands start new t' h =
+      set_stands t m rep p r here id number (λ n. record n { bytes = overwritten n.bytes start new }) (λ f. f) (λ f. let both : Folder ≡ File = sym f ∙ is_file in absurd (cc)) t' h

@@ -1,7 +1,8 @@
 -- What the tree's clauses say, in the words of walks.
-use Rattle.std.proofs.Common.{◌≡◌, inl, inr, ℕ, true, false, is_some, List, Option, Some, None, Result, Ok, Err, IfOk, IfErr, MatchResult, refl, sym, ap, ◌∙◌, subst, Bor, nat_eq}
+use Rattle.std.proofs.Common.{◌≡◌, inl, inr, ℕ, true, false, is_some, List, Option, Some, None, Result, Ok, Err, IfOk, IfErr, OnOk, MatchResult, refl, sym, ap, ◌∙◌, subst, Bor, nat_eq}
 use Rattle.std.specs.Option.{option_map, ok_or}
-use Rattle.std.specs.FinMap.{get}
+use Rattle.std.specs.Cmp.{nat_cmp_total}
+use Rattle.std.specs.FinMap.{get, insert, nat_cmp-IsAntisymmetric}
 use Rattle.std.specs.Cmp.Lexicographic.{pointwise, bytes_decides}
 use Rattle.std.proofs.lemmas.Bool.{true≢false}
 use Rattle.dav_path_core.specs.declared.errors.FsError.{FsError}
@@ -13,6 +14,7 @@ use Rattle.dav_path_core.specs.Answers.{Answers}
 use Rattle.dav_path_core.specs.Keyed.{entry, item, parent_and_key, parent_and_key_of, child, add, add_refusal, cleared, with_item, with_item_at}
 use Rattle.dav_path_core.specs.TreeValue.{TreeValue}
 use Rattle.dav_path_core.specs.Fronts.{Segment}
+use Rattle.dav_files_core.proofs.Seen.{insert_same}
 use Rattle.dav_path_core.proofs.trees.Trees.{child-some, child-none, same_some, none≢some, refusal-none, cleared-free}
 
 module _ (t : FileTree) where
@@ -88,3 +90,23 @@ module _ (t : FileTree) where
       by : (o : Option FileEntry) → get t.nodes id ≡ o → option_map (λ e. e.item) o ≡ Some old → SetsNode t id f (Ok tt) (with_item t id new)
       by None e h = absurd (none≢some old h)
       by (Some x) e h = (x, e, ap (λ o. with_item_at t id o new) e ∙ ap (λ (n : Node). with_item_at t id (Some x) n) (is ∙ ap f (sym (same_some _ _ h))))
+
+  -- the item that is there already
+  pub same_item : (id : ℕ) (d : Node) → item t id ≡ Some d → with_item t id d ≡ t
+  same_item id d h = by (get t.nodes id) refl h
+    where
+      by : (o : Option FileEntry) → get t.nodes id ≡ o → option_map (λ e. e.item) o ≡ Some d → with_item t id d ≡ t
+      by None e h = absurd (none≢some d h)
+      by (Some x) e h =
+          let same : record x { item = d } ≡ x = ap (λ (n : Node). record x { item = n }) (sym (same_some _ _ h)) in
+          let nodes = insert_same nat_cmp_total nat_cmp-IsAntisymmetric t.nodes id x e in
+          ap (λ o. with_item_at t id o d) e ∙ (λ i. record t { nodes = insert t.nodes id (same i) }) ∙ (λ i. record t { nodes = nodes i })
+
+  -- a change of a node that may be refused
+  pub set_ok : (id : ℕ) (old new : Node) (f : Node → Node) → item t id ≡ Some old → (r : Result (Unit {0}) FsError) → OnOk r (new ≡ f old) → OnOk r (SetsNode t id f (Ok tt) (with_item t id new))
+  set_ok id old new f h (Ok x) is = set id old new f h is
+  set_ok id old new f h (Err e) is = tt
+
+  pub set_err : (id : ℕ) (old new : Node) → item t id ≡ Some old → (r : Result (Unit {0}) FsError) → IfErr r (λ e. (e ≡ InsufficientStorage) × (new ≡ old)) → IfErr r (λ e. (e ≡ InsufficientStorage) × (with_item t id new ≡ t))
+  set_err id old new h (Ok x) is = tt
+  set_err id old new h (Err e) is = (is.0, ap (with_item t id) is.1 ∙ same_item id old h)

@@ -4,12 +4,15 @@ pub mod Copying
 pub mod Exactly
 pub mod Finding
 pub mod Folders
+pub mod Following
 pub mod Listing
 pub mod Meta
 pub mod Moved
+pub mod OpenFiles
 pub mod Opening
 pub mod Outcomes
 pub mod Private
+pub mod Properties
 pub mod PropertyXml
 pub mod Renaming
 pub mod Resources

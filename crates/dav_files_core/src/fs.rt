@@ -6,14 +6,17 @@ ghost use Rattle.dav_files_core.specs.Copying.{copy};
 ghost use Rattle.dav_files_core.specs.Folders.{create_dir, remove};
 ghost use Rattle.dav_files_core.specs.Listing.{read_dir};
 ghost use Rattle.dav_files_core.specs.Opening.{opening};
+ghost use Rattle.dav_files_core.specs.Properties.{answer_of, entry_of, get_prop, get_props, patch_props, property_of};
 ghost use Rattle.dav_files_core.specs.Renaming.{rename};
 
 use dav_path_core::davpath::DavPath;
 use dav_path_core::errors::{FsError, FsResult};
 use http::StatusCode;
 
+mod open_files;
 mod properties;
 
+pub use open_files::{DavFile, numbers_are_given_once, open_files_follow};
 pub use properties::DavProp;
 
 /// A moment, in nanoseconds since 1970 (own).
@@ -197,24 +200,30 @@ pub trait DavFileSystem {
         false
     }
 
-    /// Sets the properties that come with `true`, and removes the others (RFC 4918 section 9.2).
+    /// Sets the properties that come with `true`, and removes the others, one after another, all or none (RFC 4918 section 9.2).
     fn patch_props(
         &mut self,
         path: &DavPath,
         patch: Vec<(bool, DavProp)>,
     ) -> FsResult<Vec<(StatusCode, DavProp)>>
-        ensures { OnErr result (contents self.new ≡ contents self.old) }
+        ensures ok { IfOk result (λ v. patch_props (contents self.old) (segments path.now.bytes) (map entry_of patch.items) ≡ Ok (map answer_of v.items, contents self.new)) }
+        ensures err { OnErr result (contents self.new ≡ contents self.old) }
     {
         Err(FsError::NotImplemented)
     }
 
-    /// The properties at a path, with their xml where `do_content` is set.
-    fn get_props(&self, path: &DavPath, do_content: bool) -> FsResult<Vec<DavProp>> {
+    /// The properties at a path, each once, sorted by the bytes of their namespaces, then of their names; with their xml where
+    /// `do_content` is set.
+    fn get_props(&self, path: &DavPath, do_content: bool) -> FsResult<Vec<DavProp>>
+        ensures { IfOk result (λ v. get_props (contents self.now) (segments path.now.bytes) do_content ≡ Ok (map property_of v.items)) }
+    {
         Err(FsError::NotImplemented)
     }
 
-    /// The xml of one property.
-    fn get_prop(&self, path: &DavPath, prop: &DavProp) -> FsResult<Vec<u8>> {
+    /// The xml of one property, which is looked up by its namespace and its name.
+    fn get_prop(&self, path: &DavPath, prop: &DavProp) -> FsResult<Vec<u8>>
+        ensures { IfOk result (λ v. get_prop (contents self.now) (segments path.now.bytes) (property_of prop.now) ≡ Ok v.items) }
+    {
         Err(FsError::NotImplemented)
     }
 

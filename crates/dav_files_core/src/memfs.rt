@@ -1,9 +1,9 @@
 //! Files in memory.
-ghost use Rattle.std.specs.Prelude.{◌≡◌, ◌∷◌, ◌++◌, [], take, drop, Some, IfOk, MatchResult};
+ghost use Rattle.std.specs.Prelude.{◌≡◌, ◌∷◌, ◌++◌, [], Some, IfOk, MatchResult};
 ghost use Rattle.dav_path_core.specs.Segments.{segments};
-ghost use Rattle.dav_path_core.specs.Answers.{AnswersAs, Tells};
+ghost use Rattle.dav_path_core.specs.Answers.{AnswersAs};
 ghost use Rattle.dav_files_core.specs.Outcomes.{start};
-ghost use Rattle.dav_files_core.specs.Commands.{metadata, put, read_at};
+ghost use Rattle.dav_files_core.specs.Commands.{metadata, put};
 ghost use Rattle.dav_files_core.specs.Meta.{meta_of};
 ghost use Rattle.dav_files_core.specs.Resources.{Resource, IsResourceMap, at_path};
 ghost use Rattle.dav_files_core.specs.Private.TreeCalls.{number_of, LeadsTo};
@@ -14,7 +14,9 @@ mod files;
 mod listing;
 mod meta;
 mod nodes;
+mod numbered;
 mod opening;
+mod properties;
 
 use crate::fs::Moment;
 use bytes::Bytes;
@@ -151,7 +153,12 @@ impl MemFs {
             }
             Target::Missing { folder, name } => {
                 let name = Bytes::copy_from_slice(self.alloc, name)?;
-                add_node(&mut self.tree, folder, name, Node::new_file(content, now))?;
+                add_node(
+                    &mut self.tree,
+                    folder,
+                    name,
+                    Node::new_file(self.alloc, content, now),
+                )?;
                 return Ok(());
             }
         }
@@ -169,21 +176,6 @@ impl MemFs {
         let node = node_of(&self.tree, id)?;
         Ok(node.meta())
     }
-
-    /// The bytes of a file from min(`at`, length) to min(`at` + `count`, length), with the sum unbounded.
-    ///
-    /// `NotFound` where the longest front of the path that is there is a folder, `Forbidden` where it is a file and for a
-    /// folder at the path, `InsufficientStorage` where it is out of memory.
-    pub fn read_at(&self, path: &DavPath, at: usize, count: usize) -> FsResult<Bytes>
-        ensures { Tells (λ b. b) result (read_at self.now (segments path.now.bytes) at count) }
-    {
-        let id = self.number_of(path)?;
-        let node = node_of(&self.tree, id)?;
-        if !node.is_file() {
-            return Err(FsError::Forbidden);
-        }
-        part_of(self.alloc, &node.content, at, count)
-    }
 }
 
 fn copy_of(alloc: Global, bytes: &[u8]) -> FsResult<Vec<u8>>
@@ -192,29 +184,51 @@ fn copy_of(alloc: Global, bytes: &[u8]) -> FsResult<Vec<u8>>
     Ok(bytes.to_vec(alloc)?)
 }
 
-// A copy of some bytes, `count` at most from `at` on.
-fn part_of(alloc: Global, content: &[u8], at: usize, count: usize) -> FsResult<Bytes>
-    ensures { MatchResult result (λ b. b ≡ take count (drop at content.now)) (λ e. e ≡ FsError.InsufficientStorage) }
-{
-    let rest = &content[at.min(content.len())..];
-    let part = &rest[..count.min(rest.len())];
-    Ok(Bytes::copy_from_slice(alloc, part)?)
-}
-
 #[cfg(test)]
 mod tests {
     use super::*;
+    use crate::fs::{DavFile, DavFileSystem, DavProp, OpenOptions};
+    use std::io::SeekFrom;
     use std::test::Fail;
+
+    fn property(alloc: Global) -> FsResult<DavProp> {
+        Ok(DavProp {
+            name: String::from_str(alloc, "n")?,
+            prefix: None,
+            namespace: None,
+            xml: None,
+        })
+    }
+
+    // A file is written while its folder is renamed, and the folder is copied onto a file.
+    fn stored(alloc: Global) -> Result<MemFs, Fail> {
+        let mut files = MemFs::new(alloc, Moment(1))?;
+        let (old, new) = (DavPath::new(alloc, "/d")?, DavPath::new(alloc, "/e")?);
+        files.create_dir(&old, Moment(2))?;
+        let path = DavPath::new(alloc, "/d/f")?;
+        files.put(&path, b"abc", Moment(5))?;
+        let mut file = files.open(&path, OpenOptions::write(), Moment(6))?;
+        files.rename(&old, &new, Moment(7))?;
+        file.seek(&files, SeekFrom::Start(5))?;
+        file.write_bytes(&mut files, Bytes::from_static(b"z"))?;
+        files.patch_props(&new, vec![in alloc; (true, property(alloc)?)]?)?;
+        let copy = DavPath::new(alloc, "/q")?;
+        files.put(&copy, b"x", Moment(8))?;
+        files.copy(&new, &copy, Moment(9))?;
+        Ok(files)
+    }
 
     #[test]
     fn keeps_its_files_in_a_tree(rt: HostRuntime) -> Result<(), Fail> {
-        let mut files = MemFs::new(rt.alloc(), Moment(1))?;
-        files.put(&DavPath::new(rt.alloc(), "/a")?, b"abc", Moment(5))?;
-        let id = member_of(&files.tree, ROOT_ID, b"a")?;
+        let files = stored(rt.alloc())?;
+        let folder = member_of(&files.tree, ROOT_ID, b"e")?;
+        let id = member_of(&files.tree, folder, b"f")?;
         let node = node_of(&files.tree, id)?;
-        assert!(rt; files.tree.parent_of(id)? == Some(ROOT_ID));
-        assert!(rt; node.is_file());
-        assert!(rt; node.content.as_slice() == b"abc".as_slice());
+        assert!(rt; files.tree.parent_of(id)? == Some(folder));
+        assert!(rt; node.content.as_slice() == b"abc\0\0z".as_slice());
+        let copy = node_of(&files.tree, member_of(&files.tree, ROOT_ID, b"q")?)?;
+        assert!(rt; !copy.is_file());
+        assert!(rt; copy.props.list(rt.alloc(), true)?.len() == 1);
         Ok(())
     }
 }

@@ -2,12 +2,13 @@
 use Rattle.std.proofs.Common.{◌≡◌, ◌⊎◌, inl, inr, Bool, true, false, not, ◌&&◌, ◌||◌, List, [], sym, ◌∙◌, ap, subst}
 use Rattle.std.proofs.lemmas.Bool.{and_parts, and_from, and_cases, or_cases, or_parts, or_left, cases_Bool, false≢true, not-false}
 use Rattle.dav_path_core.specs.Fronts.{Path, is_front, is_same_path}
-use Rattle.dav_path_core.proofs.paths.FrontLemmas.{is_same_path-same, is_front-refl}
+use Rattle.dav_path_core.proofs.paths.FrontLemmas.{is_same_path-same, is_same_path-refl, is_front-refl}
 use Rattle.dav_locks_core.specs.Lock.{Lock}
 use Rattle.dav_locks_core.specs.Locks.{Caller, lock_path, reaches, covers, held, any_held, is_at_or_below, refuses_change, check_conflicts}
+use Rattle.dav_locks_core.specs.Held.{HoldsExclusive, HoldsBelow}
 use Rattle.dav_locks_core.proofs.Exclusivity.{two_reach}
 use Rattle.dav_locks_core.proofs.ListLemmas.{none_passes}
-use Rattle.dav_locks_core.proofs.ListMembers.{In, all_in, find_any}
+use Rattle.dav_locks_core.proofs.ListMembers.{In, In-Contains, all_in, find_any}
 
 -- one lock is held, or neither covers the path alone nor stands below
 no_conflict_at : (locks : List Lock) (q : Path) (deep : Bool) (who : Caller) → check_conflicts locks q deep who ≡ [] → (l : Lock) → In l locks
@@ -32,6 +33,18 @@ exclusive_held locks q deep who none l i exclusive p covered reached = elim (no_
   ]
 ]
 
+-- so are all exclusive locks that cover the path
+pub holds_exclusive : (locks : List Lock) (q : Path) (deep : Bool) (who : Caller) → check_conflicts locks q deep who ≡ [] → HoldsExclusive locks q who
+holds_exclusive locks q deep who none l c exclusive covered =
+    exclusive_held locks q deep who none l (In-Contains locks l c) exclusive q covered (or_left (is_same_path q q) (deep && is_front q q) (is_same_path-refl q))
+
+-- and, of a deep check, all locks at the path and below it
+pub holds_below : (locks : List Lock) (q : Path) (deep : Bool) (who : Caller) → check_conflicts locks q deep who ≡ [] → deep ≡ true → HoldsBelow locks q who
+holds_below locks q deep who none is l c under = elim (no_conflict_at locks q deep who none l (In-Contains locks l c)) [
+  | inl h ↦ h
+  | inr apart ↦ absurd (false≢true (sym apart.1 ∙ and_from _ _ is under))
+]
+
 -- what is reached stands at or below the check's path
 reached_below : (q : Path) (deep : Bool) (p : Path) → reaches q deep p ≡ true → is_front q p ≡ true
 reached_below q deep p reached = elim (or_cases (is_same_path q p) (deep && is_front q p) reached) [
@@ -54,4 +67,11 @@ any_lock_held locks q deep who none l i p covered reached = elim (no_conflict_at
         (found.0, found.1, parts.1, (q, reached_below q deep p reached, parts.0))
     | inr b ↦ absurd (false≢true (sym apart.1 ∙ b))
   ]
+]
+
+-- every lock at or below the path of a deep check is held
+pub below_held : (locks : List Lock) (q : Path) (who : Caller) → check_conflicts locks q true who ≡ [] → (l : Lock) → In l locks → is_at_or_below l q ≡ true → held l who ≡ true
+below_held locks q who none l i below = elim (no_conflict_at locks q true who none l i) [
+  | inl h ↦ h
+  | inr apart ↦ absurd (false≢true (sym apart.1 ∙ below))
 ]

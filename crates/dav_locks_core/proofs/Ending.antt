@@ -1,12 +1,12 @@
 -- Which locks a list loses, and what stands where a token is found.
 use Rattle.std.proofs.Common.{◌≡◌, ◌⊎◌, inl, inr, ℕ, ◌+◌, ◌<◌, zero, suc, Bool, true, false, ◌||◌, cond, List, [], ◌∷◌, ◌++◌, length, get_or, Option, Some, None, option_map, refl, sym, ◌∙◌, ap, subst, arith}
-use Rattle.std.specs.Prelude.{remove, nat_le}
+use Rattle.std.specs.Prelude.{filter, remove, set, nat_le}
 use Rattle.std.proofs.lemmas.Bool.{cases_Bool, false≢true, or_left, or_right}
 use Rattle.std.proofs.lemmas.Option.{none-some}
 use Rattle.dav_path_core.specs.Fronts.{Path}
 use Rattle.dav_locks_core.specs.Lock.{Lock}
-use Rattle.dav_locks_core.specs.Locks.{found, found_from, found_here, better, height}
-use Rattle.dav_locks_core.specs.Ended.{LocksEnded}
+use Rattle.dav_locks_core.specs.Locks.{found, found_from, found_here, better, height, refreshed}
+use Rattle.dav_locks_core.specs.Ended.{SameButTimes, LocksEnded}
 use Rattle.dav_locks_core.proofs.ListMembers.{In}
 
 pub LocksEnded-refl : (gone : Lock → Bool) (locks : List Lock) → LocksEnded gone locks locks
@@ -27,23 +27,51 @@ LocksEnded-remove gone [] k h = tt
 LocksEnded-remove gone (a ∷ locks) zero h = LocksEnded-one gone a locks locks (h a (omega arith)) (LocksEnded-refl gone locks)
 LocksEnded-remove gone (a ∷ locks) (suc k) h = inl (refl, LocksEnded-remove gone locks k (λ d lt. h d (omega arith)))
 
-pub LocksEnded-trans : (g h : Lock → Bool) (a b c : List Lock) → LocksEnded g a b → LocksEnded h b c → LocksEnded (λ l. g l || h l) a c
-LocksEnded-trans g h [] b c p q = tt
-LocksEnded-trans g h (x ∷ a) [] c p q = LocksEnded-one (λ l. g l || h l) x a c (or_left _ _ p.0) (LocksEnded-trans g h a [] c p.1 tt)
-LocksEnded-trans g h (x ∷ a) (y ∷ b) [] p q = elim p [
-  | inl same ↦ (or_right _ _ (ap h (sym same.0) ∙ q.0), LocksEnded-trans g h a b [] same.1 q.1)
-  | inr lost ↦ (or_left _ _ lost.0, LocksEnded-trans g h a (y ∷ b) [] lost.1 q)
+pub LocksEnded-filter : (gone keep : Lock → Bool) (locks : List Lock) → ((l : Lock) → In l locks → keep l ≡ false → gone l ≡ true)
+    → LocksEnded gone locks (filter keep locks)
+LocksEnded-filter gone keep [] h = tt
+LocksEnded-filter gone keep (a ∷ locks) h =
+    let rest = LocksEnded-filter gone keep locks (λ l i. h l (inr i)) in
+    elim (keep a) as (λ b. keep a ≡ b → LocksEnded gone (a ∷ locks) (cond b (a ∷ filter keep locks) (filter keep locks))) [
+      | true ↦ λ e. inl (refl, rest)
+      | false ↦ λ e. LocksEnded-one gone a locks (filter keep locks) (h a (inl refl) e) rest
+    ] refl
+
+pub LocksEnded-set : (gone : Lock → Bool) (locks : List Lock) (k : ℕ) (l : Lock) (now : ℕ) (timeout : Option ℕ) → l ≡ refreshed now timeout (get_or locks k l)
+    → LocksEnded gone locks (set locks k l)
+LocksEnded-set gone [] zero l now timeout h = tt
+LocksEnded-set gone [] (suc k) l now timeout h = tt
+LocksEnded-set gone (a ∷ locks) zero l now timeout h = inl (times h, LocksEnded-refl gone locks)
+  where
+    times : l ≡ refreshed now timeout a → SameButTimes a l
+    times h = h ∙ ap (λ (m : Lock). record a { timeout_at = m.timeout_at; timeout = m.timeout }) (sym h)
+LocksEnded-set gone (a ∷ locks) (suc k) l now timeout h = inl (refl, LocksEnded-set gone locks k l now timeout h)
+
+-- a test that doesn't look at timeouts
+abbrev pub IgnoresTimes : (Lock → Bool) → Type 0
+IgnoresTimes test = (a b : Lock) → SameButTimes a b → test b ≡ test a
+
+pub SameButTimes-trans : (a b c : Lock) → SameButTimes a b → SameButTimes b c → SameButTimes a c
+SameButTimes-trans a b c e k = k ∙ ap (λ (l : Lock). record l { timeout_at = c.timeout_at; timeout = c.timeout }) e
+
+pub LocksEnded-trans : (g h : Lock → Bool) → IgnoresTimes h → (a b c : List Lock) → LocksEnded g a b → LocksEnded h b c → LocksEnded (λ l. g l || h l) a c
+LocksEnded-trans g h ignores [] b c p q = tt
+LocksEnded-trans g h ignores (x ∷ a) [] c p q = LocksEnded-one (λ l. g l || h l) x a c (or_left _ _ p.0) (LocksEnded-trans g h ignores a [] c p.1 tt)
+LocksEnded-trans g h ignores (x ∷ a) (y ∷ b) [] p q = elim p [
+  | inl same ↦ (or_right _ _ (sym (ignores x y same.0) ∙ q.0), LocksEnded-trans g h ignores a b [] same.1 q.1)
+  | inr lost ↦ (or_left _ _ lost.0, LocksEnded-trans g h ignores a (y ∷ b) [] lost.1 q)
 ]
-LocksEnded-trans g h (x ∷ a) (y ∷ b) (z ∷ c) p q = elim p [
+LocksEnded-trans g h ignores (x ∷ a) (y ∷ b) (z ∷ c) p q = elim p [
   | inl same ↦ elim q [
-    | inl again ↦ inl (again.0 ∙ same.0, LocksEnded-trans g h a b c same.1 again.1)
-    | inr lost ↦ inr (or_right _ _ (ap h (sym same.0) ∙ lost.0), LocksEnded-trans g h a b (z ∷ c) same.1 lost.1)
+    | inl again ↦ inl (SameButTimes-trans x y z same.0 again.0, LocksEnded-trans g h ignores a b c same.1 again.1)
+    | inr lost ↦ inr (or_right _ _ (sym (ignores x y same.0) ∙ lost.0), LocksEnded-trans g h ignores a b (z ∷ c) same.1 lost.1)
   ]
-  | inr lost ↦ inr (or_left _ _ lost.0, LocksEnded-trans g h a (y ∷ b) (z ∷ c) lost.1 q)
+  | inr lost ↦ inr (or_left _ _ lost.0, LocksEnded-trans g h ignores a (y ∷ b) (z ∷ c) lost.1 q)
 ]
 
--- what isn't gone stands
-pub In-LocksEnded : (gone : Lock → Bool) (l : Lock) → gone l ≡ false → (old new : List Lock) → LocksEnded gone old new → In l old → In l new
+-- what isn't gone stands, but for its timeout
+pub In-LocksEnded : (gone : Lock → Bool) (l : Lock) → gone l ≡ false → (old new : List Lock) → LocksEnded gone old new → In l old
+    → (k : Lock) × In k new × SameButTimes l k
 In-LocksEnded gone l keep [] new p i = absurd i
 In-LocksEnded gone l keep (a ∷ old) [] p i = elim i [
   | inl here ↦ absurd (false≢true (sym keep ∙ ap gone (sym here) ∙ p.0))
@@ -51,8 +79,8 @@ In-LocksEnded gone l keep (a ∷ old) [] p i = elim i [
 ]
 In-LocksEnded gone l keep (a ∷ old) (b ∷ new) p i = elim p [
   | inl same ↦ elim i [
-    | inl here ↦ inl (same.0 ∙ here)
-    | inr there ↦ inr (In-LocksEnded gone l keep old new same.1 there)
+    | inl here ↦ (b, inl refl, subst (λ a. SameButTimes a b) here same.0)
+    | inr there ↦ let k = In-LocksEnded gone l keep old new same.1 there in (k.0, inr k.1, k.2)
   ]
   | inr lost ↦ elim i [
     | inl here ↦ absurd (false≢true (sym keep ∙ ap gone (sym here) ∙ lost.0))

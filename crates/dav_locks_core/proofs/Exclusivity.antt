@@ -1,12 +1,12 @@
 -- What keeps a list of locks exclusive.
-use Rattle.std.proofs.Common.{◌≡◌, ◌⊎◌, inl, inr, ℕ, zero, suc, Bool, true, false, not, ◌&&◌, ◌||◌, cond, List, [], ◌∷◌, ◌++◌, sym, ◌∙◌, refl, ap, subst}
+use Rattle.std.proofs.Common.{◌≡◌, ◌⊎◌, inl, inr, ℕ, zero, suc, Bool, true, false, not, ◌&&◌, ◌||◌, cond, Option, List, [], ◌∷◌, ◌++◌, get_or, set, sym, ◌∙◌, refl, ap, subst}
 use Rattle.std.specs.Prelude.{filter, remove}
 use Rattle.std.specs.List.{AllByRecursion}
 use Rattle.std.proofs.lemmas.Bool.{and_parts, and_from, or_cases, or_parts, or_right, cases_Bool, false≢true}
 use Rattle.dav_path_core.specs.Fronts.{Path, is_front, is_same_path}
 use Rattle.dav_path_core.proofs.paths.FrontLemmas.{is_same_path-same, fronts_of_one}
 use Rattle.dav_locks_core.specs.Lock.{Lock}
-use Rattle.dav_locks_core.specs.Locks.{Caller, lock_path, covers, held, any_held, compatible, refuses_lock, lock_conflicts, refuses_change, check_conflicts, is_at_or_below}
+use Rattle.dav_locks_core.specs.Locks.{Caller, lock_path, covers, held, any_held, compatible, refuses_lock, lock_conflicts, refuses_change, check_conflicts, is_at_or_below, refreshed}
 use Rattle.dav_locks_core.specs.Exclusive.{Compat, Exclusive}
 use Rattle.dav_locks_core.proofs.ListMembers.{In, all_in, find_any}
 use Rattle.dav_locks_core.proofs.ListLemmas.{none_passes, filter_none, weaker, all_filter, all_push, all_remove}
@@ -62,6 +62,20 @@ Exclusive-remove [] zero h = tt
 Exclusive-remove [] (suc k) h = tt
 Exclusive-remove (l ∷ locks) zero h = h.1
 Exclusive-remove (l ∷ locks) (suc k) h = (all_remove (Compat l) locks k h.0, Exclusive-remove locks k h.1)
+
+-- another timeout changes nothing of what a lock covers
+all_set : (P : Lock → Type 0) (locks : List Lock) (k : ℕ) (y d : Lock) → (P (get_or locks k d) → P y) → AllByRecursion P locks → AllByRecursion P (set locks k y)
+all_set P [] zero y d h a = tt
+all_set P [] (suc k) y d h a = tt
+all_set P (l ∷ locks) zero y d h a = (h a.0, a.1)
+all_set P (l ∷ locks) (suc k) y d h a = (a.0, all_set P locks k y d h a.1)
+
+pub Exclusive-refreshed : (locks : List Lock) (k now : ℕ) (timeout : Option ℕ) (d : Lock) → Exclusive locks → Exclusive (set locks k (refreshed now timeout (get_or locks k d)))
+Exclusive-refreshed [] zero now timeout d h = tt
+Exclusive-refreshed [] (suc k) now timeout d h = tt
+Exclusive-refreshed (l ∷ locks) zero now timeout d h = h
+Exclusive-refreshed (l ∷ locks) (suc k) now timeout d h =
+    (all_set (Compat l) locks k (refreshed now timeout (get_or locks k d)) d (λ c. c) h.0, Exclusive-refreshed locks k now timeout d h.1)
 
 -- ---- locks that cover one path, one of which is held
 

@@ -1,6 +1,6 @@
 -- Lists of numbered values, in the order of their numbers: look-ups, places, a push and a removal.
-use Rattle.std.proofs.Common.{◌≡◌, ◌≢◌, inl, inr, ℕ, zero, suc, ◌<◌, ◌==◌, ◌&&◌, Bool, true, false, cond, not, T, List, [], ◌∷◌, ◌++◌, length, get_or, Some, None, refl, sym, ap, ◌∙◌, subst, arith, nat_lt}
-use Rattle.std.specs.Prelude.{remove}
+use Rattle.std.proofs.Common.{◌≡◌, ◌≢◌, inl, inr, ℕ, zero, suc, ◌<◌, ◌==◌, ◌&&◌, Bool, true, false, cond, not, T, List, [], ◌∷◌, ◌++◌, length, get_or, set, Option, Some, None, refl, sym, ap, ◌∙◌, subst, arith, nat_lt}
+use Rattle.std.specs.Prelude.{remove, filter}
 use Rattle.std.specs.Ordering.{nat_cmp, is_lt, eq_by_cmp}
 use Rattle.std.specs.Cmp.{nat_cmp_total, unsigned_tied}
 use Rattle.std.specs.FinMap.{find, is_sorted, nat_cmp-IsAntisymmetric}
@@ -157,3 +157,82 @@ module _ {X : Type 0} where
   found-kept es k d q v s lt ne h =
       let g = (get_or es k d).0 in
       find-remove es k d q s lt ∙ ap (λ b. cond b (find nat_cmp q es) None) (but-apart g q (λ e. ne (sym e))) ∙ h
+
+  -- ---- a filter
+
+  -- what is left of a value that is found
+  abbrev pub kept_if : (ℕ × X → Bool) → ℕ → Option X → Option X
+  kept_if test q None = None
+  kept_if test q (Some v) = cond (test (q, v)) (Some v) None
+
+  below_filter : (test : ℕ × X → Bool) (k : ℕ) (es : List (ℕ × X)) → T (below_all nat_cmp k es) → T (below_all nat_cmp k (filter test es))
+  below_filter test k [] h = tt
+  below_filter test k (e ∷ es) h = elim (test e) as (λ b. T (below_all nat_cmp k (cond b (e ∷ filter test es) (filter test es)))) [
+    | true ↦ both _ _ (first _ _ h) (below_filter test k es (second _ _ h))
+    | false ↦ below_filter test k es (second _ _ h)
+  ]
+
+  pub InOrder-filter : (test : ℕ × X → Bool) (es : List (ℕ × X)) → InOrder es → InOrder (filter test es)
+  InOrder-filter test [] s = tt
+  InOrder-filter test (e ∷ es) s = elim (test e) as (λ b. InOrder (cond b (e ∷ filter test es) (filter test es))) [
+    | true ↦ both _ _ (below_filter test e.0 es (first _ _ s)) (InOrder-filter test es (second _ _ s))
+    | false ↦ InOrder-filter test es (second _ _ s)
+  ]
+
+  -- a number below all is not found
+  not_below : (k : ℕ) (es : List (ℕ × X)) → T (below_all nat_cmp k es) → find nat_cmp k es ≡ None
+  not_below k [] h = refl
+  not_below k (e ∷ es) h =
+      let lt : k < e.0 = is_lt-below k e.0 (first _ _ h) in
+      find-head k e es ∙ ap (λ b. cond b (Some e.1) (find nat_cmp k es)) (ne_eqb k e.0 (λ q. omega (arith, lt, q))) ∙ not_below k es (second _ _ h)
+
+  pub find-filter : (test : ℕ × X → Bool) (es : List (ℕ × X)) (q : ℕ) → InOrder es → find nat_cmp q (filter test es) ≡ kept_if test q (find nat_cmp q es)
+  find-filter test [] q s = refl
+  find-filter test (e ∷ es) q s = elim (cases_eq q e.0) [
+    | inl is ↦
+        subst (λ q. find nat_cmp q (filter test (e ∷ es)) ≡ kept_if test q (find nat_cmp q (e ∷ es))) (sym is)
+        (at_head (test e) refl ∙ sym (ap (kept_if test e.0) (find-here e es)))
+    | inr ne ↦ past (test e) ne ∙ find-filter test es q (second _ _ s) ∙ ap (kept_if test q) (sym (find-head q e es ∙ ap (λ b. cond b (Some e.1) (find nat_cmp q es)) (ne_eqb q e.0 ne)))
+  ]
+    where
+      at_head : (b : Bool) → test e ≡ b → find nat_cmp e.0 (cond b (e ∷ filter test es) (filter test es)) ≡ cond b (Some e.1) None
+      at_head true i = find-here e (filter test es)
+      at_head false i = not_below e.0 (filter test es) (below_filter test e.0 es (first _ _ s))
+
+      past : (b : Bool) → q ≢ e.0 → find nat_cmp q (cond b (e ∷ filter test es) (filter test es)) ≡ find nat_cmp q (filter test es)
+      past true ne = find-head q e (filter test es) ∙ ap (λ b. cond b (Some e.1) (find nat_cmp q (filter test es))) (ne_eqb q e.0 ne)
+      past false ne = refl
+
+  -- ---- another value at a place
+
+  below_set : (x k v : ℕ) (y : X) (d : ℕ × X) (es : List (ℕ × X)) → T (below_all nat_cmp x es) → k < length es → v ≡ (get_or es k d).0 → T (below_all nat_cmp x (set es k (v, y)))
+  below_set x k v y d [] h lt is = absurd (omega (arith, lt))
+  below_set x zero v y d (e ∷ es) h lt is = both _ _ (subst (λ n. T (is_lt (nat_cmp x n))) (sym is) (first _ _ h)) (second _ _ h)
+  below_set x (suc k) v y d (e ∷ es) h lt is = both _ _ (first _ _ h) (below_set x k v y d es (second _ _ h) (omega (arith, lt)) is)
+
+  pub InOrder-set : (es : List (ℕ × X)) (k v : ℕ) (y : X) (d : ℕ × X) → InOrder es → k < length es → v ≡ (get_or es k d).0 → InOrder (set es k (v, y))
+  InOrder-set [] k v y d s lt is = absurd (omega (arith, lt))
+  InOrder-set (e ∷ es) zero v y d s lt is = both _ _ (subst (λ n. T (below_all nat_cmp n es)) (sym is) (first _ _ s)) (second _ _ s)
+  InOrder-set (e ∷ es) (suc k) v y d s lt is = both _ _ (below_set e.0 k v y d es (first _ _ s) (omega (arith, lt)) is) (InOrder-set es k v y d (second _ _ s) (omega (arith, lt)) is)
+
+  pub find-set : (es : List (ℕ × X)) (k v : ℕ) (y : X) (d : ℕ × X) (q : ℕ) → InOrder es → k < length es → v ≡ (get_or es k d).0 → find nat_cmp q (set es k (v, y)) ≡ cond (q == v) (Some y) (find nat_cmp q es)
+  find-set [] k v y d q s lt is = absurd (omega (arith, lt))
+  find-set (e ∷ es) zero v y d q s lt is =
+      find-head q (v, y) es ∙ elim (q == v) as (λ b. (q == v) ≡ b → cond b (Some y) (find nat_cmp q es) ≡ cond b (Some y) (find nat_cmp q (e ∷ es))) [
+        | true ↦ λ t. refl
+        | false ↦ λ f. sym (find-head q e es ∙ ap (λ n. cond (q == n) (Some e.1) (find nat_cmp q es)) (sym is) ∙ ap (λ b. cond b (Some e.1) (find nat_cmp q es)) f)
+      ] refl
+  find-set (e ∷ es) (suc k) v y d q s lt is =
+      let up : e.0 < (get_or es k d).0 = above_at e.0 es k d (first _ _ s) (omega (arith, lt)) in
+      find-head q e (set es k (v, y)) ∙ ap (λ o. cond (q == e.0) (Some e.1) o) (find-set es k v y d q (second _ _ s) (omega (arith, lt)) is)
+      ∙ elim (cases_eq q e.0) [
+        | inl i ↦
+            let here : (q == e.0) ≡ true = eq-eqb q e.0 i in
+            let not_v : (q == v) ≡ false = ne_eqb q v (λ j. omega (arith, up, is, i, j)) in
+            ap (λ b. cond b (Some e.1) (cond (q == v) (Some y) (find nat_cmp q es))) here
+            ∙ sym (ap (λ b. cond b (Some y) (find nat_cmp q (e ∷ es))) not_v ∙ find-head q e es ∙ ap (λ b. cond b (Some e.1) (find nat_cmp q es)) here)
+        | inr ne ↦
+            let apart : (q == e.0) ≡ false = ne_eqb q e.0 ne in
+            ap (λ b. cond b (Some e.1) (cond (q == v) (Some y) (find nat_cmp q es))) apart
+            ∙ ap (λ o. cond (q == v) (Some y) o) (sym (find-head q e es ∙ ap (λ b. cond b (Some e.1) (find nat_cmp q es)) apart))
+      ]

@@ -3,7 +3,8 @@ use Rattle.std.specs.Prelude.{◌≡◌, ℕ, List, [], ◌∷◌, Bool, true, f
 use Rattle.dav_path_core.specs.Segments.{segments}
 use Rattle.dav_path_core.specs.Fronts.{Path}
 use Rattle.dav_locks_core.specs.Lock.{Lock}
-use Rattle.dav_locks_core.specs.Locks.{Caller, lock_conflicts, check_conflicts, found, end_of}
+use Rattle.dav_locks_core.specs.Locks.{Caller, lock_conflicts, check_conflicts, found, end_of, refreshed, discovered, without_below}
+use Rattle.dav_locks_core.specs.LockFronts.{lock_fronts}
 
 abbrev lock : List ℕ → List ℕ → List ℕ → Bool → Bool → Lock
 lock token path who shared deep = record {
@@ -100,3 +101,36 @@ end_in_two_seconds = refl
 
 end_at_most : end_of 5 (Some 18446744073709551615) ≡ Some 18446744073709551615
 end_at_most = refl
+
+-- the covering locks, from the root down
+abbrev shared_root : Lock
+shared_root = lock (codes "t3") (codes "/") (codes "ann") true true
+
+discovered_down : discovered (shared_ab ∷ shared_root ∷ []) ab ≡ shared_root ∷ shared_ab ∷ []
+unfolding segments
+discovered_down = refl
+
+discovered_shallow : discovered (exclusive_a ∷ []) ab ≡ []
+unfolding segments
+discovered_shallow = refl
+
+-- what goes is at the path or below, by segments
+abbrev exclusive_other : Lock
+exclusive_other = lock (codes "t3") (codes "/ab") (codes "ann") false false
+
+left_beside : without_below a (exclusive_a ∷ exclusive_ab ∷ exclusive_other ∷ []) ≡ exclusive_other ∷ []
+unfolding segments
+left_beside = refl
+
+none_left : without_below (segments (codes "/")) (exclusive_a ∷ exclusive_ab ∷ exclusive_other ∷ []) ≡ []
+unfolding segments
+none_left = refl
+
+-- another timeout, and nothing else
+refreshed_at_seven : refreshed 7 (Some 3) exclusive_a ≡ record exclusive_a { timeout_at = Some 3000000007; timeout = Some 3 }
+refreshed_at_seven = refl
+
+-- the root, and each lock's path with those above it
+fronts_of_two : lock_fronts (exclusive_ab ∷ exclusive_other ∷ []) ≡ [] ∷ a ∷ ab ∷ segments (codes "/ab") ∷ []
+unfolding segments
+fronts_of_two = refl

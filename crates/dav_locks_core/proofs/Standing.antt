@@ -1,20 +1,22 @@
 -- A tree represents one list, and what each change of the tree does to it.
-use Rattle.std.proofs.Common.{◌≡◌, ◌≢◌, inl, inr, ℕ, ◌+◌, ◌<◌, ◌==◌, true, false, cond, List, [], ◌∷◌, ◌++◌, length, get_or, Option, Some, None, IsSome, is_some, refl, sym, ap, ◌∙◌, subst, arith}
-use Rattle.std.specs.Prelude.{remove, option_and_then}
+use Rattle.std.proofs.Common.{◌≡◌, ◌≢◌, inl, inr, ℕ, ◌+◌, ◌<◌, ◌==◌, true, false, cond, List, [], ◌∷◌, ◌++◌, length, get_or, set, Option, Some, None, IsSome, is_some, refl, sym, ap, ◌∙◌, subst, arith}
+use Rattle.std.specs.Prelude.{remove}
 use Rattle.std.specs.Option.{option_map, unwrap_or}
 use Rattle.std.specs.Ordering.{nat_cmp, eq_by_cmp}
 use Rattle.std.specs.Cmp.{nat_cmp_total}
 use Rattle.std.specs.FinMap.{get, find, entries, entries_sorted, from_entries, get-from_entries, get-entries, get-empty, empty, nat_cmp-IsAntisymmetric}
 use Rattle.std.specs.FinMap.Entries.{same_entries}
 use Rattle.std.proofs.lemmas.Bool.{cases_eq, eq-eqb, ne_eqb, false≢true}
-use Rattle.dav_path_core.specs.Fronts.{Segment, Path}
+use Rattle.dav_path_core.specs.Fronts.{Segment}
 use Rattle.dav_path_core.specs.Keyed.{Entry, entry, parent_and_key, parent_and_key_of, IsKnown, IsTree, with_item, with_item_at, lone}
 use Rattle.dav_path_core.proofs.trees.Trees.{Sets, Sets-insert, IsTree-with_item, find-here, find-head, same_some, none≢some}
 use Rattle.dav_locks_core.specs.Lock.{Lock}
 use Rattle.dav_locks_core.specs.Locks as locks
-use Rattle.dav_locks_core.specs.Private.LockTree.{NumberedLock, LockTree, locks_at, is_segment, child_at, node_at, all_standing, all_granted, or_else, Grown}
+use Rattle.dav_locks_core.specs.Private.LockTree.{NumberedLock, LockTree, locks_at, is_segment, child_at, node_at, all_standing, all_granted, or_else}
+use Rattle.dav_locks_core.specs.Private.Pruning.{SameLocks}
 use Rattle.dav_locks_core.specs.Private.Represents.{Represents}
-use Rattle.dav_locks_core.proofs.Numbered.{InOrder, AllBelow, find-later, in_order_tail, found_at_place, find-push, InOrder-push, InOrder-remove, found-removed, found-kept}
+use Rattle.dav_locks_core.proofs.Subtrees.{way_stays}
+use Rattle.dav_locks_core.proofs.Numbered.{InOrder, AllBelow, find-later, in_order_tail, found_at_place, find-push, InOrder-push, InOrder-remove, found-removed, found-kept, InOrder-set, find-set}
 use Rattle.dav_locks_core.proofs.Ways.{child_at-is, child_at-from}
 
 -- ---- one list
@@ -61,7 +63,7 @@ among g n e (x ∷ es) h s =
     ] refl (sym (find-head n x es) ∙ h))
 
 -- the locks at a node, by its entry
-locks_of_entry : (t : LockTree) (n : ℕ) (o : Option (Entry Segment (List NumberedLock))) → entry t n ≡ o → locks_at t n ≡ unwrap_or (option_map (λ e. e.item) o) []
+pub locks_of_entry : (t : LockTree) (n : ℕ) (o : Option (Entry Segment (List NumberedLock))) → entry t n ≡ o → locks_at t n ≡ unwrap_or (option_map (λ e. e.item) o) []
 locks_of_entry t n o h = ap (λ o. unwrap_or (option_map (λ e. e.item) o) []) h
 
 pub one_list : (t : LockTree) (granted : List NumberedLock) (next : ℕ) → Represents t granted next → all_granted t ≡ granted
@@ -90,24 +92,17 @@ one_list t granted next r =
         let w = in_node q l (entries t.nodes) (entries_sorted t.nodes) e in
         sym (r.listed w.0 q l (ap (find nat_cmp q) (locks_of_entry t w.0 (Some w.1) (get-entries t.nodes w.0 ∙ w.2)) ∙ w.3)).0
 
--- ---- more nodes
+-- ---- the same locks in another tree
 
--- a way stays
-way_stays : (t u : LockTree) → ((n c : ℕ) (s : Segment) → child_at t n s ≡ Some c → child_at u n s ≡ Some c) → (n m : ℕ) (p : Path) → node_at t n p ≡ Some m → node_at u n p ≡ Some m
-unfolding node_at
-way_stays t u ways n m [] h = h
-way_stays t u ways n m (s ∷ p) h = by (λ c. way_stays t u ways c m p) (child_at t n s) refl h
-  where
-    by : ((c : ℕ) → node_at t c p ≡ Some m → node_at u c p ≡ Some m) → (o : Option ℕ) → child_at t n s ≡ o → option_and_then (λ c. node_at t c p) o ≡ Some m → option_and_then (λ c. node_at u c p) (child_at u n s) ≡ Some m
-    by rec None e h = absurd (none≢some m h)
-    by rec (Some c) e h = ap (λ o. option_and_then (λ c. node_at u c p) o) (ways n c s e) ∙ rec c h
-
-pub Represents-grown : (t u : LockTree) (granted : List NumberedLock) (next : ℕ) → Represents t granted next → Grown t u → IsTree is_segment u → Represents u granted next
-Represents-grown t u granted next r g tree = record {
-  tree = tree;
+pub Represents-same : (t u : LockTree) (granted : List NumberedLock) (next : ℕ) → Represents t granted next → SameLocks t u → Represents u granted next
+Represents-same t u granted next r g = record {
+  tree = g.tree;
   in_order = r.in_order;
   nodes_in_order = λ n. subst InOrder (sym (g.locks n)) (r.nodes_in_order n);
-  listed = λ n k l h. let w = r.listed n k l (sym (ap (find nat_cmp k) (g.locks n)) ∙ h) in (w.0, way_stays t u g.ways 1 n (locks.lock_path l) w.1);
+  listed = λ n k l h.
+      let at : find nat_cmp k (locks_at t n) ≡ Some l = sym (ap (find nat_cmp k) (g.locks n)) ∙ h in
+      let w = r.listed n k l at in
+      (w.0, g.ways n (locks.lock_path l) (λ none. none≢some l (sym (ap (find nat_cmp k) none) ∙ at)) w.1);
   stands = λ k l h. let w = r.stands k l h in (w.0, ap (find nat_cmp k) (g.locks w.0) ∙ w.1);
   below = r.below;
 }
@@ -120,6 +115,8 @@ pub record Changes (t u : LockTree) (n : ℕ) (here : List NumberedLock) : Type 
   pub at : locks_at u n ≡ here
   pub other : (m : ℕ) → m ≢ n → locks_at u m ≡ locks_at t m
   pub ways : (n c : ℕ) (s : Segment) → child_at t n s ≡ Some c → child_at u n s ≡ Some c
+  pub known : (m : ℕ) → IsKnown u m → IsKnown t m
+  pub places : (m : ℕ) → parent_and_key u m ≡ parent_and_key t m
 
 pub Changes-with_item : (t : LockTree) (n : ℕ) (here : List NumberedLock) → IsTree is_segment t → IsKnown t n → Changes t (with_item t n here) n here
 Changes-with_item t n here tree known = by (entry t n) refl
@@ -142,6 +139,11 @@ Changes-with_item t n here tree known = by (entry t n) refl
           at = locks_of_entry u n _ (ap (λ (v : LockTree). entry v n) same ∙ s.here);
           other = λ m ne. ap (λ o. unwrap_or (option_map (λ e. e.item) o) []) (ap (λ (v : LockTree). entry v m) same ∙ s.other m ne);
           ways = λ k c w h. child_at-from u tree' k w c (parents_and_keys c ∙ child_at-is t k w c h);
+          known = λ m h. elim (cases_eq m n) [
+            | inl i ↦ subst (IsKnown t) (sym i) known
+            | inr ne ↦ sym (ap is_some (ap (λ (v : LockTree). entry v m) same ∙ s.other m ne)) ∙ h
+          ];
+          places = parents_and_keys;
         }
 
 module _ (t u : LockTree) (granted : List NumberedLock) (next : ℕ) (r : Represents t granted next) where
@@ -296,6 +298,109 @@ module _ (t u : LockTree) (granted : List NumberedLock) (next : ℕ) (r : Repres
       stands = shorter_stands;
       below = λ g l h. r.below g l (loses g l h).1;
     }
+
+  -- another lock of the same path at one place
+  module _ (n k j : ℕ) (l : Lock) (d : NumberedLock) (within : k < length (locks_at t n)) (listed_at : j < length granted)
+      (one : get_or granted j d ≡ get_or (locks_at t n) k d) (same_path : locks.lock_path l ≡ locks.lock_path (get_or granted j d).1)
+      (c : Changes t u n (set (locks_at t n) k ((get_or (locks_at t n) k d).0, l))) where
+    number : ℕ
+    number = (get_or (locks_at t n) k d).0
+
+    listed_number : number ≡ (get_or granted j d).0
+    unfolding number
+    listed_number = ap (λ (g : NumberedLock). g.0) (sym one)
+
+    -- the lock that is replaced, in the list and at its node
+    was_listed : find nat_cmp number granted ≡ Some (get_or granted j d).1
+    was_listed = ap (λ g. find nat_cmp g granted) listed_number ∙ found_at_place granted j d r.in_order listed_at
+
+    was_here : find nat_cmp number (locks_at t n) ≡ Some (get_or granted j d).1
+    unfolding number
+    was_here = found_at_place (locks_at t n) k d (r.nodes_in_order n) within ∙ ap (λ (g : NumberedLock). Some g.1) (sym one)
+
+    was_led : node_at t 1 (locks.lock_path l) ≡ Some n
+    was_led = ap (node_at t 1) same_path ∙ (r.listed n number _ was_here).1
+
+    found_list : (g : ℕ) → find nat_cmp g (set granted j (number, l)) ≡ cond (g == number) (Some l) (find nat_cmp g granted)
+    found_list g = find-set granted j number l d g r.in_order listed_at listed_number
+
+    found_node : (g : ℕ) → find nat_cmp g (set (locks_at t n) k (number, l)) ≡ cond (g == number) (Some l) (find nat_cmp g (locks_at t n))
+    unfolding number
+    found_node g = find-set (locks_at t n) k number l d g (r.nodes_in_order n) within refl
+
+    other_list : (g : ℕ) (o : Lock) → g ≢ number → find nat_cmp g granted ≡ Some o → find nat_cmp g (set granted j (number, l)) ≡ Some o
+    other_list g o ne h = found_list g ∙ ap (λ b. cond b (Some l) (find nat_cmp g granted)) (ne_eqb g number ne) ∙ h
+
+    new_list : (g : ℕ) → g ≡ number → find nat_cmp g (set granted j (number, l)) ≡ Some l
+    new_list g e = found_list g ∙ ap (λ b. cond b (Some l) (find nat_cmp g granted)) (eq-eqb g number e)
+
+    other_listed : (m g : ℕ) (o : Lock) → g ≢ number → find nat_cmp g (locks_at t m) ≡ Some o → (find nat_cmp g (set granted j (number, l)) ≡ Some o) × (node_at u 1 (locks.lock_path o) ≡ Some m)
+    other_listed m g o ne h = let a = r.listed m g o h in (other_list g o ne a.0, way_stays t u c.ways 1 m (locks.lock_path o) a.1)
+
+    set_listed : (m g : ℕ) (o : Lock) → find nat_cmp g (locks_at u m) ≡ Some o → (find nat_cmp g (set granted j (number, l)) ≡ Some o) × (node_at u 1 (locks.lock_path o) ≡ Some m)
+    unfolding number
+    set_listed m g o h = elim (cases_eq m n) [
+      | inl e ↦
+          let at : find nat_cmp g (set (locks_at t n) k (number, l)) ≡ Some o = sym (ap (find nat_cmp g) (ap (locks_at u) e ∙ c.at)) ∙ h in
+          elim (cases_eq g number) [
+            | inl i ↦
+                let same : l ≡ o = same_some l o (sym (found_node g ∙ ap (λ b. cond b (Some l) (find nat_cmp g (locks_at t n))) (eq-eqb g number i)) ∙ at) in (
+                  new_list g i ∙ ap (λ (o : Lock). Some o) same,
+                  ap (λ (o : Lock). node_at u 1 (locks.lock_path o)) (sym same) ∙ way_stays t u c.ways 1 n (locks.lock_path l) was_led ∙ ap (λ (m : ℕ). Some m) (sym e),
+                )
+            | inr ne ↦
+                let before : find nat_cmp g (locks_at t n) ≡ Some o = sym (found_node g ∙ ap (λ b. cond b (Some l) (find nat_cmp g (locks_at t n))) (ne_eqb g number ne)) ∙ at in
+                other_listed m g o ne (ap (λ m. find nat_cmp g (locks_at t m)) e ∙ before)
+          ]
+      | inr apart ↦
+          let before : find nat_cmp g (locks_at t m) ≡ Some o = sym (ap (find nat_cmp g) (c.other m apart)) ∙ h in
+          other_listed m g o (λ i. only_there m g o apart before i) before
+    ]
+      where
+        -- the lock that is replaced stands at no other node
+        only_there : (m g : ℕ) (o : Lock) → m ≢ n → find nat_cmp g (locks_at t m) ≡ Some o → g ≡ number → ⊥
+        only_there m g o apart before i =
+            let a = r.listed m g o before in
+            let same : o ≡ (get_or granted j d).1 = same_some _ _ (sym a.0 ∙ ap (λ g. find nat_cmp g granted) i ∙ was_listed) in
+            apart (same_some m n (sym a.1 ∙ ap (λ (o : Lock). node_at t 1 (locks.lock_path o)) same ∙ ap (node_at t 1) (sym same_path) ∙ was_led))
+
+    set_stands : (g : ℕ) (o : Lock) → find nat_cmp g (set granted j (number, l)) ≡ Some o → (m : ℕ) × (find nat_cmp g (locks_at u m) ≡ Some o)
+    unfolding number
+    set_stands g o h = elim (cases_eq g number) [
+      | inl i ↦
+          let same : l ≡ o = same_some l o (sym (new_list g i) ∙ h) in
+          (n, ap (find nat_cmp g) c.at ∙ found_node g ∙ ap (λ b. cond b (Some l) (find nat_cmp g (locks_at t n))) (eq-eqb g number i) ∙ ap (λ (o : Lock). Some o) same)
+      | inr ne ↦
+          let w = r.stands g o (sym (found_list g ∙ ap (λ b. cond b (Some l) (find nat_cmp g granted)) (ne_eqb g number ne)) ∙ h) in
+          elim (cases_eq w.0 n) [
+            | inl e ↦ (
+              n,
+              ap (find nat_cmp g) c.at ∙ found_node g ∙ ap (λ b. cond b (Some l) (find nat_cmp g (locks_at t n))) (ne_eqb g number ne)
+                  ∙ ap (λ m. find nat_cmp g (locks_at t m)) (sym e) ∙ w.1,
+            )
+            | inr apart ↦ (w.0, ap (find nat_cmp g) (c.other w.0 apart) ∙ w.1)
+          ]
+    ]
+
+    set_below : (g : ℕ) (o : Lock) → find nat_cmp g (set granted j (number, l)) ≡ Some o → g < next
+    set_below g o h = elim (cases_eq g number) [
+      | inl i ↦ r.below g _ (ap (λ g. find nat_cmp g granted) i ∙ was_listed)
+      | inr ne ↦ r.below g o (sym (found_list g ∙ ap (λ b. cond b (Some l) (find nat_cmp g granted)) (ne_eqb g number ne)) ∙ h)
+    ]
+
+    pub Represents-set : Represents u (set granted j ((get_or granted j d).0, l)) next
+    unfolding number
+    Represents-set = subst (λ v. Represents u (set granted j (v, l)) next) listed_number (record {
+      tree = c.tree;
+      in_order = InOrder-set granted j number l d r.in_order listed_at listed_number;
+      nodes_in_order = λ m. elim (cases_eq m n) [
+        | inl e ↦ subst InOrder (sym (ap (locks_at u) e ∙ c.at)) (InOrder-set (locks_at t n) k number l d (r.nodes_in_order n) within refl)
+        | inr ne ↦ subst InOrder (sym (c.other m ne)) (r.nodes_in_order m)
+      ];
+      listed = set_listed;
+      stands = set_stands;
+      below = set_below;
+    })
 
 -- ---- no locks
 

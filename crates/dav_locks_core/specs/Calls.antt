@@ -1,9 +1,11 @@
 -- What calls on locks are given, and what they answer.
-use Rattle.std.specs.Prelude.{ℕ, List, Bool, Option, option_map, Contains, map, String, string_bytes}
+use Rattle.std.specs.Prelude.{◌≡◌, ◌≢◌, ℕ, List, [], Bool, Option, None, IsSome, option_map, Contains, map, String, string_bytes}
 use Rattle.std.specs.Borrow.{Bor}
 use Rattle.std.specs.declared.alloc.Global.{Global}
 use Rattle.dav_locks_core.specs.Lock.{Lock}
 use Rattle.dav_locks_core.specs.Locks.{Caller}
+use Rattle.dav_locks_core.specs.declared.ls.RefreshError.{RefreshError}
+use Rattle.dav_locks_core.specs.declared.ls.RefreshError.TheVariants.{NoLock, OutOfMemory as NoRoom}
 use Rattle.dav_locks_core.specs.declared.ls.LockError.{LockError}
 use Rattle.dav_locks_core.specs.declared.ls.LockError.TheVariants.{Conflict, OutOfMemory}
 
@@ -19,3 +21,13 @@ caller principal ignore tokens = record { principal = lent_text principal; ignor
 abbrev pub Shows : List Lock → LockError → Type 0
 Shows conflicts (Conflict l) = Contains conflicts l
 Shows conflicts OutOfMemory = Unit {0}
+
+-- the same of a call that takes memory only to show a conflict
+abbrev pub ShowsOnly : List Lock → LockError → Type 0
+ShowsOnly conflicts (Conflict l) = Contains conflicts l
+ShowsOnly conflicts OutOfMemory = conflicts ≢ []
+
+-- a refresh is refused where no lock is found, and else only for memory
+abbrev pub RefusesRefresh : Option ℕ → RefreshError → Type 0
+RefusesRefresh place NoLock = place ≡ None
+RefusesRefresh place NoRoom = IsSome place

@@ -2,7 +2,9 @@ pub mod Calls
 pub mod Codes
 pub mod Ended
 pub mod Exclusive
+pub mod Held
 pub mod Lock
+pub mod LockFronts
 pub mod Locks
 pub mod NewLock
 pub mod Private

@@ -1,6 +1,6 @@
 -- The lock list, in the order of granting, and what its locks forbid (RFC 4918 sections 6 and 7). Each set of conflicts is
 -- a filter of the whole list.
-use Rattle.std.specs.Prelude.{ℕ, List, [], ◌∷◌, Bool, true, false, ◌&&◌, ◌||◌, not, if◌then◌else◌, nat_le, Option, Some, None, length, filter, bytes_eq, ◌+◌, ◌*◌, min, option_map}
+use Rattle.std.specs.Prelude.{ℕ, zero, suc, List, [], ◌∷◌, ◌++◌, Bool, true, false, ◌&&◌, ◌||◌, ◌==◌, not, if◌then◌else◌, nat_le, Option, Some, None, length, filter, bytes_eq, ◌+◌, ◌*◌, min, option_map}
 use Rattle.std.specs.List.{list_any}
 use Rattle.dav_path_core.specs.Segments.{segments}
 use Rattle.dav_path_core.specs.Fronts.{Path, is_front, is_same_path}
@@ -90,3 +90,24 @@ found locks p token = option_map (λ f. f.0) (found_from 0 locks p token)
 -- the moment, in nanoseconds, at which a timeout of so many seconds ends: at most the greatest moment
 abbrev pub end_of : ℕ → Option ℕ → Option ℕ
 end_of now timeout = option_map (λ seconds. min (now + seconds * 1000000000) 18446744073709551615) timeout
+
+-- the lock that a refresh at a moment makes of one
+abbrev pub refreshed : ℕ → Option ℕ → Lock → Lock
+refreshed now timeout l = record l { timeout_at = end_of now timeout; timeout = timeout }
+
+-- the locks that cover a path and stand at paths of so many segments, in the order of granting
+abbrev pub covering_at : List Lock → Path → ℕ → List Lock
+covering_at locks p n = filter (λ l. covers l p && (height l == n)) locks
+
+-- those at paths of n segments, then those at paths of one more, and so on for so many numbers
+abbrev pub covering_from : List Lock → Path → ℕ → ℕ → List Lock
+covering_from locks p n zero = []
+covering_from locks p n (suc more) = covering_at locks p n ++ covering_from locks p (n + 1) more
+
+-- the covering locks, from the root down: by the number of segments of their paths, then in the order of granting
+abbrev pub discovered : List Lock → Path → List Lock
+discovered locks p = covering_from locks p 0 (suc (length p))
+
+-- the locks that neither stand at the path nor below it
+abbrev pub without_below : Path → List Lock → List Lock
+without_below p locks = filter (λ l. not (is_at_or_below l p)) locks

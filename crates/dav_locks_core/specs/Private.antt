@@ -1,5 +1,7 @@
 -- Words that private contracts alone name.
 pub mod LockRequests
 pub mod LockTree
+pub mod Pruning
 pub mod Represents
+pub mod SubtreeWalks
 pub mod WayTests

@@ -1,6 +1,16 @@
-//! What calls on locks share.
+//! What calls on locks share, and the trait of a lock system.
+ghost use Rattle.std.specs.Prelude.{◌≡◌, ◌++◌, ◌∷◌, [], ℕ, true, Some, None, remove, set, get_or, IfOk, IfErr, OnOk, OnErr};
+ghost use Rattle.dav_path_core.specs.Segments.{segments};
+ghost use Rattle.dav_locks_core.specs.Locks.{lock_conflicts, check_conflicts, found, refreshed, discovered, without_below};
+ghost use Rattle.dav_locks_core.specs.Exclusive.{Exclusive};
+ghost use Rattle.dav_locks_core.specs.Held.{HoldsExclusive, HoldsBelow};
+ghost use Rattle.dav_locks_core.specs.Tokens.{token_from};
+ghost use Rattle.dav_locks_core.specs.Calls.{Shows, ShowsOnly, RefusesRefresh, lent_text, caller};
+ghost use Rattle.dav_locks_core.specs.NewLock.{new_lock};
+
 use dav_files_core::fs::Moment;
 use dav_path_core::davpath::DavPath;
+use rand_core::Rng;
 use std::alloc::{AllocError, AllocFailed};
 use std::marker::Model;
 use thiserror::Error;
@@ -79,3 +89,113 @@ impl<T: Drop> From<AllocFailed<T>> for LockError {
 #[derive(Debug, Drop, Error, Clone, Copy, PartialEq, Eq)]
 #[error("NoLock")]
 pub struct NoLock;
+
+/// Why a refresh is refused. It displays as its name.
+#[derive(Debug, Drop, Error, Clone, Copy, PartialEq, Eq)]
+pub enum RefreshError {
+    /// No lock with that token stands at the path or above it.
+    #[error("NoLock")]
+    NoLock,
+    /// There is no memory for the answer.
+    #[error("OutOfMemory")]
+    OutOfMemory,
+}
+
+impl From<AllocError> for RefreshError {
+    ghost use Rattle.std.specs.Prelude.{◌≡◌};
+    ghost use Rattle.dav_locks_core.specs.declared.ls.RefreshError.TheVariants.{OutOfMemory};
+
+    ghost from_gives = { λ _ e. e ≡ OutOfMemory };
+
+    fn from(_: AllocError) -> Self {
+        RefreshError::OutOfMemory
+    }
+}
+
+/// A keeper of locks (RFC 4918 sections 6 and 7). Of every implementation, seen as one list of locks in the order of
+/// granting: a call answers, and leaves the list, as the definitions say; a refusal leaves the list, and the generator, as
+/// they were; two locks that cover one path are both shared.
+pub trait DavLockSystem {
+    ghost use Rattle.std.specs.Prelude.{List};
+    ghost use Rattle.dav_locks_core.specs.Lock.{Lock};
+
+    /// The locks, in the order of granting.
+    ghost locks: { Self → List Lock };
+
+    /// Grants a lock of a path, unless one stands in the way, which is shown (RFC 4918 section 9.10). Tokens and principals
+    /// play no part. `OutOfMemory` may come first. Refused, it draws nothing.
+    fn lock<R: Rng>(
+        &mut self,
+        path: &DavPath,
+        principal: Option<&str>,
+        owner: Option<&str>,
+        timeout: Option<u64>,
+        shared: bool,
+        deep: bool,
+        now: Moment,
+        rng: &mut R,
+    ) -> Result<DavLock, LockError>
+        ensures free { OnOk result (lock_conflicts (locks self.old) (segments path.now.bytes) shared deep ≡ []) }
+        ensures granted { IfOk result (λ lock. lock ≡ new_lock (token_from (R.stream rng.old)).0 path.now
+            (lent_text principal.entry) (lent_text owner.entry) timeout shared deep now.0) }
+        ensures added { IfOk result (λ lock. locks self.new ≡ locks self.old ++ lock ∷ []) }
+        ensures drawn { OnOk result (R.stream rng.new ≡ (token_from (R.stream rng.old)).1) }
+        ensures shown { IfErr result (λ e. Shows (lock_conflicts (locks self.old) (segments path.now.bytes) shared deep) e) }
+        ensures unchanged { OnErr result (locks self.new ≡ locks self.old) }
+        ensures undrawn { OnErr result (R.stream rng.new ≡ R.stream rng.old) }
+        ensures exclusive { Exclusive (locks self.new) };
+
+    /// Ends the lock with that token at the path or above it: the one nearest to the root, of these the first granted
+    /// (RFC 4918 section 9.11). The principal isn't looked at. Takes no memory.
+    fn unlock(&mut self, path: &DavPath, token: &str) -> Result<(), NoLock>
+        ensures done { OnOk result ((k : ℕ) × (found (locks self.old) (segments path.now.bytes) token.now ≡ Some k)
+            × (locks self.new ≡ remove (locks self.old) k)) }
+        ensures none { OnErr result ((found (locks self.old) (segments path.now.bytes) token.now ≡ None)
+            × (locks self.new ≡ locks self.old)) }
+        ensures exclusive { Exclusive (locks self.new) };
+
+    /// Gives the lock that `unlock` would end another timeout, from a moment on, and answers the lock as it is then
+    /// (RFC 4918 section 9.10.2). It keeps its place. `OutOfMemory` only where there is such a lock.
+    fn refresh(
+        &mut self,
+        path: &DavPath,
+        token: &str,
+        timeout: Option<u64>,
+        now: Moment,
+    ) -> Result<DavLock, RefreshError>
+        ensures done { IfOk result (λ lock. (k : ℕ) × (found (locks self.old) (segments path.now.bytes) token.now ≡ Some k)
+            × (lock ≡ refreshed now.0 timeout (get_or (locks self.old) k lock))
+            × (locks self.new ≡ set (locks self.old) k lock)) }
+        ensures refused { IfErr result (λ e. RefusesRefresh (found (locks self.old) (segments path.now.bytes) token.now) e) }
+        ensures unchanged { OnErr result (locks self.new ≡ locks self.old) }
+        ensures exclusive { Exclusive (locks self.new) };
+
+    /// Whether a change may be made at a path, and where it is deep below it too, by who submits those tokens (RFC 4918
+    /// section 7). A lock that refuses it is shown. `OutOfMemory` only where one refuses it.
+    fn check(
+        &self,
+        path: &DavPath,
+        principal: Option<&str>,
+        ignore_principal: bool,
+        deep: bool,
+        tokens: &[String],
+    ) -> Result<(), LockError>
+        ensures passes { OnOk result (check_conflicts (locks self.now) (segments path.now.bytes) deep
+            (caller principal.entry ignore_principal tokens.now) ≡ []) }
+        ensures shown { IfErr result (λ e. ShowsOnly (check_conflicts (locks self.now) (segments path.now.bytes) deep
+            (caller principal.entry ignore_principal tokens.now)) e) }
+        // Where it passes, every exclusive lock that covers the path is held, and where it is deep every lock at or below.
+        ensures held { OnOk result (HoldsExclusive (locks self.now) (segments path.now.bytes)
+            (caller principal.entry ignore_principal tokens.now)) }
+        ensures held_below { OnOk result (deep ≡ true → HoldsBelow (locks self.now) (segments path.now.bytes)
+            (caller principal.entry ignore_principal tokens.now)) };
+
+    /// The locks that cover a path, from the root down, then in the order of granting.
+    fn discover(&self, path: &DavPath) -> Result<Vec<DavLock>, AllocError>
+        ensures { IfOk result (λ v. v.items ≡ discovered (locks self.now) (segments path.now.bytes)) };
+
+    /// Drops the locks at a path and below it. Takes no memory.
+    fn delete(&mut self, path: &DavPath)
+        ensures left { locks self.new ≡ without_below (segments path.now.bytes) (locks self.old) }
+        ensures exclusive { Exclusive (locks self.new) };
+}

@@ -1,30 +1,31 @@
 //! Locks in memory.
-ghost use Rattle.std.specs.Prelude.{◌≡◌, false, ◌++◌, ◌∷◌, [], ℕ, Some, None, remove, IfOk, IfErr, OnOk, OnErr};
-ghost use Rattle.dav_path_core.specs.Segments.{segments};
-ghost use Rattle.dav_locks_core.specs.Locks.{lock_conflicts, check_conflicts, found};
+ghost use Rattle.std.specs.Prelude.{◌≡◌, ◌≤◌, ◌+◌, [], sum_by, IfOk, IfErr};
+ghost use Rattle.dav_locks_core.specs.Locks.{height};
+ghost use Rattle.dav_locks_core.specs.LockFronts.{front_count};
 ghost use Rattle.dav_locks_core.specs.Exclusive.{Exclusive};
-ghost use Rattle.dav_locks_core.specs.Tokens.{token_from};
-ghost use Rattle.dav_locks_core.specs.Calls.{Shows, lent_text, caller};
-ghost use Rattle.dav_locks_core.specs.NewLock.{new_lock};
 
 mod granting;
 mod holding;
+mod pruning;
+mod subtree;
 #[cfg(test)]
 mod tests;
 mod way;
 
-use crate::ls::{DavLock, LockError, NoLock};
+use crate::ls::{DavLock, DavLockSystem, LockError, NoLock, RefreshError};
 use bytes::Bytes;
 use dav_files_core::fs::Moment;
 use dav_path_core::davpath::DavPath;
 use dav_path_core::errors::{FsError, FsResult};
 use dav_path_core::tree::Tree;
-use granting::{LockRequest, end_lock, end_of_timeout, grant};
+use granting::{LockRequest, end_lock, end_of_timeout, grant, refresh_lock};
 use holding::{Caller, Unheld, WithToken};
+use pruning::{clear, prune};
 use rand_core::Rng;
-use std::alloc::Global;
+use std::alloc::{AllocError, Global};
 use std::marker::Model;
-use way::{check_locks_to_path, copy_at, get_or_create_path_node, lookup_lock};
+use subtree::check_locks_from_path;
+use way::{check_locks_to_path, covering_locks, get_or_create_path_node, lookup_lock, lookup_node};
 
 /// The locks that stand at one path, each with its grant number, in the order of granting.
 #[derive(Drop)]
@@ -81,10 +82,22 @@ impl MemLs {
         })
     }
 
-    /// Grants a lock of a path, unless one stands in the way, which is shown (RFC 4918 section 9.10).
-    ///
-    /// `OutOfMemory` also where all grant numbers to 2^64 - 2 are used up. Refused, it draws nothing.
-    pub fn lock<R: Rng>(
+    /// How many nodes its tree has: as many as the paths of its locks have distinct fronts, the root always among them.
+    /// Takes no memory.
+    pub fn node_count(&self) -> usize
+        ensures count { result ≡ front_count self.now }
+        // So it is at most 1 and the sum of the numbers of segments of all locks.
+        ensures bound { result ≤ 1 + sum_by height self.now }
+    {
+        self.tree.node_count()
+    }
+}
+
+impl DavLockSystem for MemLs {
+    ghost locks = { λ m. m };
+
+    /// `OutOfMemory` also where all grant numbers to 2^64 - 2 are used up.
+    fn lock<R: Rng>(
         &mut self,
         path: &DavPath,
         principal: Option<&str>,
@@ -94,18 +107,7 @@ impl MemLs {
         deep: bool,
         now: Moment,
         rng: &mut R,
-    ) -> Result<DavLock, LockError>
-        requires { deep ≡ false }
-        ensures free { OnOk result (lock_conflicts self.old (segments path.now.bytes) shared deep ≡ []) }
-        ensures granted { IfOk result (λ lock. lock ≡ new_lock (token_from (R.stream rng.old)).0 path.now
-            (lent_text principal.entry) (lent_text owner.entry) timeout shared deep now.0) }
-        ensures added { IfOk result (λ lock. self.new ≡ self.old ++ lock ∷ []) }
-        ensures drawn { OnOk result (R.stream rng.new ≡ (token_from (R.stream rng.old)).1) }
-        ensures shown { IfErr result (λ e. Shows (lock_conflicts self.old (segments path.now.bytes) shared deep) e) }
-        ensures unchanged { OnErr result (self.new ≡ self.old) }
-        ensures undrawn { OnErr result (R.stream rng.new ≡ R.stream rng.old) }
-        ensures exclusive { Exclusive self.new }
-    {
+    ) -> Result<DavLock, LockError> {
         let request = LockRequest {
             path,
             principal,
@@ -116,61 +118,84 @@ impl MemLs {
             deep,
         };
         check_locks_to_path(&self.tree, path, &request)?;
+        if deep {
+            check_locks_from_path(&self.tree, path, &request)?;
+        }
         if self.next == u64::MAX {
             return Err(LockError::OutOfMemory);
         }
         let node = get_or_create_path_node(&mut self.tree, self.alloc, path)?;
-        let lock = grant(&mut self.tree, self.alloc, node, self.next, &request, rng)?;
-        self.next += 1;
-        Ok(lock)
+        match grant(&mut self.tree, self.alloc, node, self.next, &request, rng) {
+            Ok(lock) => {
+                self.next += 1;
+                Ok(lock)
+            }
+            Err(error) => {
+                prune(&mut self.tree, node);
+                Err(error)
+            }
+        }
     }
 
-    /// Ends the lock with that token at the path or above it: the one nearest to the root, of these the first granted
-    /// (RFC 4918 section 9.11). Takes no memory.
-    pub fn unlock(&mut self, path: &DavPath, token: &str) -> Result<(), NoLock>
-        ensures done { OnOk result ((k : ℕ) × (found self.old (segments path.now.bytes) token.now ≡ Some k)
-            × (self.new ≡ remove self.old k)) }
-        ensures none { OnErr result ((found self.old (segments path.now.bytes) token.now ≡ None)
-            × (self.new ≡ self.old)) }
-        ensures exclusive { Exclusive self.new }
-    {
+    fn unlock(&mut self, path: &DavPath, token: &str) -> Result<(), NoLock> {
         match lookup_lock(&self.tree, path, &WithToken { token }) {
             None => Err(NoLock),
             Some((node, place)) => {
                 end_lock(&mut self.tree, node, place);
+                prune(&mut self.tree, node);
                 Ok(())
             }
         }
     }
 
-    /// Whether a change may be made at a path, by who submits those tokens (RFC 4918 section 7). A lock that refuses it is
-    /// shown.
-    pub fn check(
+    fn refresh(
+        &mut self,
+        path: &DavPath,
+        token: &str,
+        timeout: Option<u64>,
+        now: Moment,
+    ) -> Result<DavLock, RefreshError> {
+        match lookup_lock(&self.tree, path, &WithToken { token }) {
+            None => Err(RefreshError::NoLock),
+            Some((node, place)) => {
+                let lock = refresh_lock(&mut self.tree, node, place, timeout, now)?;
+                Ok(lock)
+            }
+        }
+    }
+
+    fn check(
         &self,
         path: &DavPath,
         principal: Option<&str>,
         ignore_principal: bool,
         deep: bool,
         tokens: &[String],
-    ) -> Result<(), LockError>
-        requires { deep ≡ false }
-        ensures passes { OnOk result (check_conflicts self.now (segments path.now.bytes) deep
-            (caller principal.entry ignore_principal tokens.now) ≡ []) }
-        ensures shown { IfErr result (λ e. Shows (check_conflicts self.now (segments path.now.bytes) deep
-            (caller principal.entry ignore_principal tokens.now)) e) }
-    {
+    ) -> Result<(), LockError> {
         let caller = Caller {
             principal,
             ignore_principal,
             tokens,
         };
-        let Some((node, place)) = lookup_lock(&self.tree, path, &Unheld { caller }) else {
-            return Ok(());
-        };
+        let unheld = Unheld { caller };
         // Two locks that cover one path are both shared, and beside a shared one it is enough to hold another.
-        match lookup_lock(&self.tree, path, &caller) {
-            Some(_) => Ok(()),
-            None => Err(LockError::Conflict(copy_at(&self.tree, node, place)?)),
+        if lookup_lock(&self.tree, path, &caller).is_none() {
+            check_locks_to_path(&self.tree, path, &unheld)?;
+        }
+        if deep {
+            check_locks_from_path(&self.tree, path, &unheld)?;
+        }
+        Ok(())
+    }
+
+    fn discover(&self, path: &DavPath) -> Result<Vec<DavLock>, AllocError> {
+        covering_locks(&self.tree, self.alloc, path)
+    }
+
+    fn delete(&mut self, path: &DavPath) {
+        if let Some(node) = lookup_node(&self.tree, path) {
+            clear(&mut self.tree, node);
+            prune(&mut self.tree, node);
         }
     }
 }

@@ -1,4 +1,5 @@
 pub mod ChildChanges
+pub mod Counting
 pub mod Cutting
 pub mod KeyedCuts
 pub mod KeyedDepth

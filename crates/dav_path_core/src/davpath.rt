@@ -28,6 +28,7 @@ use reading::{joined, kept_pieces, raw_path};
 use std::alloc::{AllocError, AllocFailed, Global};
 use std::marker::Model;
 use thiserror::Error;
+pub use url::escaped;
 
 /// Why a text is no path, or can't be had as one. It displays as the case's name (own).
 #[derive(Debug, Drop, Error, Clone, Copy, PartialEq, Eq)]

@@ -4,6 +4,7 @@ ghost use Rattle.std.specs.Fn.{FnReturnsAt};
 ghost use Rattle.std.specs.Option.{ok_or};
 ghost use Rattle.std.specs.Borrow.{sem};
 ghost use Rattle.std.specs.Map.{IsKeyTest};
+ghost use Rattle.std.specs.FinMap.{len};
 ghost use Rattle.dav_path_core.specs.Answers.{Answers};
 ghost use Rattle.dav_path_core.specs.Keyed.{item, parent as parent_number, IsChild, child, lone, add, add_refusal, cleared, with_item, delete_refusal, without, entry, has_child as has_child_of, is_kept as is_kept_in, is_under, move_refusal, placed, moved, Under, cut, cut_refusal, IsCut, IsKnown};
 ghost use Rattle.dav_path_core.specs.TreeValue.{IsTreeValue, first, after, if_known};
@@ -113,6 +114,14 @@ impl<K: Eq + Hash + Clone, D> Tree<K, D> {
             unreachable!()
         };
         (name, node.next_sibling)
+    }
+
+    /// How many nodes there are. Takes no memory.
+    pub fn node_count(&self) -> usize
+        ensures count { result ≡ len self.now.keyed.nodes }
+        ensures shape { IsTreeValue K.eq self.now }
+    {
+        self.nodes.len()
     }
 
     /// The number of a node's parent, `None` for the root. `NotFound` for an unknown number.

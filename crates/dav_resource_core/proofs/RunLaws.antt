@@ -1,11 +1,14 @@
 -- What a run keeps, and how it goes on.
-use Rattle.std.proofs.Common.{◌≡◌, inl, inr, ℕ, ◌+◌, ◌<◌, List, [], ◌∷◌, ◌++◌, length, get_or, take, map, sym, ◌∙◌, ap, subst}
+use Rattle.std.proofs.Common.{◌≡◌, inl, inr, ℕ, ◌+◌, ◌<◌, List, [], ◌∷◌, ◌++◌, length, get_or, take, map, Option, refl, ◌||◌, sym, ◌∙◌, ap, subst}
 use Rattle.std.proofs.lemmas.Bool.{or_left, or_parts, false≢true}
 use Rattle.std.proofs.lemmas.List.{take_more, map_push}
 use Rattle.dav_files_core.specs.Finding.{place}
+use Rattle.dav_locks_core.specs.Lock.{Lock}
+use Rattle.dav_locks_core.specs.Locks.{covers}
+use Rattle.dav_locks_core.specs.Ended.{SameButTimes}
 use Rattle.dav_locks_core.specs.Exclusive.{Exclusive}
 use Rattle.dav_locks_core.proofs.ListMembers.{In-Contains, Contains-In}
-use Rattle.dav_locks_core.proofs.Ending.{LocksEnded-refl, LocksEnded-trans, In-LocksEnded}
+use Rattle.dav_locks_core.proofs.Ending.{IgnoresTimes, LocksEnded-refl, LocksEnded-trans, In-LocksEnded}
 use Rattle.dav_resource_core.specs.Requests.{Request, Answer}
 use Rattle.dav_resource_core.specs.Step.{State, Same, Step, Run}
 use Rattle.dav_resource_core.specs.Naming.{names_as, names, unlocks, named_in}
@@ -33,12 +36,20 @@ each_ends_named = each_step (λ s r a s'. EndsNamed s r s') serves_ends
 
 -- ---- from the start to the end
 
+-- timeouts play no part in naming
+named_in_ignores : (rs : List Request) → IgnoresTimes (named_in rs)
+named_in_ignores rs a b same = ap (named_in rs) same ∙ times rs a b.timeout_at b.timeout
+  where
+    times : (rs : List Request) (a : Lock) (until timeout : Option ℕ) → named_in rs (record a { timeout_at = until; timeout = timeout }) ≡ named_in rs a
+    times [] a until timeout = refl
+    times (r ∷ rs) a until timeout = ap (λ b. names r a || b) (times rs a until timeout)
+
 pub run_stand : (s s' : State) (rs : List Request) (answers : List Answer) → Run s rs answers s' → UnnamedStand s rs s'
 run_stand s s' [] [] h = rw h.locks_are (LocksEnded-refl (named_in []) s.locks)
 run_stand s s' [] (a ∷ answers) h = absurd h
 run_stand s s' (r ∷ rs) [] h = absurd h
 run_stand s s' (r ∷ rs) (a ∷ answers) h =
-    LocksEnded-trans (names r) (named_in rs) s.locks h.0.locks s'.locks (serves_ends s h.0 r a h.1) (run_stand h.0 s' rs answers h.2)
+    LocksEnded-trans (names r) (named_in rs) (named_in_ignores rs) s.locks h.0.locks s'.locks (serves_ends s h.0 r a h.1) (run_stand h.0 s' rs answers h.2)
 
 pub each_isolated : (s s' : State) (rs : List Request) (answers : List Answer) → EachIsolated s rs answers s'
 each_isolated = each_step (λ s r a s'. Isolated s r s') serves_isolated
@@ -53,7 +64,10 @@ run_isolated s s' (r ∷ rs) [] h l i exclusive free p covered = absurd h
 run_isolated s s' (r ∷ rs) (a ∷ answers) h l i exclusive free p covered =
     let parts = or_parts (names r l) (named_in rs l) free in
     let stands = In-LocksEnded (names r) l parts.0 s.locks h.0.locks (serves_ends s h.0 r a h.1) (In-Contains s.locks l i) in
-    let rest : place s'.map p ≡ place h.0.map p = run_isolated h.0 s' rs answers h.2 l (Contains-In h.0.locks l stands) exclusive parts.1 p covered in
+    let k : Lock = stands.0 in
+    let same : SameButTimes l k = stands.2 in
+    let rest : place s'.map p ≡ place h.0.map p = run_isolated h.0 s' rs answers h.2 k (Contains-In h.0.locks k stands.1)
+    (ap (λ (l : Lock). l.shared) same ∙ exclusive) (named_in_ignores rs l k same ∙ parts.1) p (ap (λ (l : Lock). covers l p) same ∙ covered) in
     elim (serves_isolated s h.0 r a h.1 l i exclusive p covered) [
       | inl e ↦ rest ∙ e
       | inr named ↦ absurd (false≢true (sym parts.0 ∙ or_left (names_as r l) (unlocks r.command l.token) named))

@@ -1,51 +1,69 @@
--- What a refused check of a target, and a refused call on locks, are in a step.
-use Rattle.std.proofs.Common.{◌≡◌, Bool, true, false, List, [], ◌∷◌, Err, sym, subst, append-nil}
-use Rattle.std.specs.Prelude.{Contains, cond}
+-- What a refused check, and a refused call on locks, are in a step.
+use Rattle.std.proofs.Common.{◌≡◌, ℕ, Bool, List, [], ◌∷◌, ◌++◌, Option, Err, refl, sym, ap, ◌∙◌, subst, append-nil, append_assoc}
+use Rattle.std.specs.Prelude.{Contains}
 use Rattle.std.proofs.lemmas.List.Elements.{Contains-append_left}
-use Rattle.dav_path_core.specs.Fronts.{Path, parent}
-use Rattle.dav_files_core.specs.Resources.{ResourceMap}
+use Rattle.dav_path_core.specs.Fronts.{Path}
+use Rattle.dav_path_core.specs.PathText.{PathText}
+use Rattle.dav_path_core.specs.Segments.{segments}
 use Rattle.dav_locks_core.specs.Lock.{Lock}
-use Rattle.dav_locks_core.specs.Locks.{Caller, check_conflicts}
-use Rattle.dav_locks_core.specs.Calls.{Shows}
+use Rattle.dav_locks_core.specs.Locks.{Caller, check_conflicts, lock_conflicts}
+use Rattle.dav_locks_core.specs.Calls.{Shows, ShowsOnly}
 use Rattle.dav_locks_core.specs.declared.ls.LockError.{LockError}
 use Rattle.dav_locks_core.specs.declared.ls.LockError.TheVariants.{Conflict, OutOfMemory as NoRoom}
-use Rattle.dav_resource_core.specs.declared.guarded.Refusal.{Refusal}
-use Rattle.dav_resource_core.specs.declared.guarded.Refusal.TheVariants.{Fs, Locked, NoLock, OutOfMemory}
+use Rattle.dav_resource_core.specs.declared.guarded.requests.Refusal.{Refusal}
+use Rattle.dav_resource_core.specs.declared.guarded.requests.Refusal.TheVariants.{Fs, Locked, NoLock, OutOfMemory}
 use Rattle.dav_resource_core.specs.Requests as plain
-use Rattle.dav_resource_core.specs.Checks.{Check, has, refusing, shallow, target}
-use Rattle.dav_resource_core.specs.Step.{State, Same, is_offered, takes_lock_memory, conflicts, Step}
+use Rattle.dav_resource_core.specs.Checks.{Check, refusing, reached, MayLack}
+use Rattle.dav_resource_core.specs.Step.{State, Same, Step}
 use Rattle.dav_resource_core.specs.Served.{refusal_of}
 use Rattle.dav_resource_core.specs.Private.Serving.{refused_by, RefusedBy}
-use Rattle.dav_resource_core.proofs.StepLaws.{serves_offered}
 
 -- ---- checks
 
 -- a refused check of one path
-pub refused_path : (locks : List Lock) (who : Caller) (p : Path) (e : LockError) (x : Refusal) → x ≡ refused_by e → Shows (check_conflicts locks p false who) e → RefusedBy locks who (shallow p ∷ []) x
-refused_path locks who p (Conflict lock) x is shown = rw is (subst (λ zs. Contains zs lock) (sym (append-nil (check_conflicts locks p false who))) shown)
-refused_path locks who p NoRoom x is shown = rw is (λ e. cc)
+pub refused_path : (locks : List Lock) (who : Caller) (p : Path) (deep : Bool) (e : LockError) (x : Refusal) → x ≡ refused_by e → ShowsOnly (check_conflicts locks p deep who) e
+    → RefusedBy locks who (reached p deep ∷ []) x
+refused_path locks who p deep (Conflict lock) x is shown = rw is (subst (λ zs. Contains zs lock) (sym (append-nil (check_conflicts locks p deep who))) shown)
+refused_path locks who p deep NoRoom x is shown = rw is (λ none. shown (sym (append-nil (check_conflicts locks p deep who)) ∙ none))
 
--- what refuses the first check refuses them all
-refused_more : (locks : List Lock) (who : Caller) (k : Check) (ks : List Check) (e : Refusal) → RefusedBy locks who (k ∷ []) e → RefusedBy locks who (k ∷ ks) e
-refused_more locks who k ks (Locked lock) h =
+refusing-append : (locks : List Lock) (who : Caller) (ks ls : List Check) → refusing locks who (ks ++ ls) ≡ refusing locks who ks ++ refusing locks who ls
+refusing-append locks who [] ls = refl
+refusing-append locks who (k ∷ ks) ls =
     let first : List Lock = check_conflicts locks k.path k.deep who in
-    Contains-append_left first (refusing locks who ks) lock (subst (λ zs. Contains zs lock) (append-nil first) h)
-refused_more locks who k ks OutOfMemory h = λ e. cc
-refused_more locks who k ks (Fs e) h = absurd h
-refused_more locks who k ks NoLock h = absurd h
+    ap (λ zs. first ++ zs) (refusing-append locks who ks ls) ∙ sym (append_assoc first (refusing locks who ks) (refusing locks who ls))
 
--- what refuses the target of a put refuses the put
-pub refused_target : (locks : List Lock) (who : Caller) (m : ResourceMap) (p : Path) (e : Refusal) → RefusedBy locks who (shallow p ∷ []) e → RefusedBy locks who (target m p) e
-refused_target locks who m p e h = by (has m p)
-  where
-    by : (b : Bool) → RefusedBy locks who (cond b (shallow p ∷ []) (shallow p ∷ shallow (parent p) ∷ [])) e
-    by true = h
-    by false = refused_more locks who (shallow p) (shallow (parent p) ∷ []) e h
+lack_more : (locks : List Lock) (who : Caller) (ks ls : List Check) → MayLack locks who ks → MayLack locks who (ks ++ ls)
+lack_more locks who [] ls h = absurd h
+lack_more locks who (k ∷ []) [] h = h
+lack_more locks who (k ∷ []) (l ∷ ls) h = tt
+lack_more locks who (k ∷ j ∷ ks) ls h = tt
+
+-- what refuses the first checks refuses them all
+pub refused_more : (locks : List Lock) (who : Caller) (ks ls : List Check) (e : Refusal) → RefusedBy locks who ks e → RefusedBy locks who (ks ++ ls) e
+refused_more locks who ks ls (Locked lock) h =
+    subst (λ zs. Contains zs lock) (sym (refusing-append locks who ks ls)) (Contains-append_left (refusing locks who ks) (refusing locks who ls) lock h)
+refused_more locks who ks ls OutOfMemory h = lack_more locks who ks ls h
+refused_more locks who ks ls (Fs e) h = absurd h
+refused_more locks who ks ls NoLock h = absurd h
+
+-- where none refuses the first checks, what refuses the others refuses them all
+pub refused_later : (locks : List Lock) (who : Caller) (k j : Check) (ks ls : List Check) (e : Refusal) → refusing locks who (k ∷ j ∷ ks) ≡ [] → RefusedBy locks who ls e
+    → RefusedBy locks who ((k ∷ j ∷ ks) ++ ls) e
+refused_later locks who k j ks ls (Locked lock) none h =
+    subst (λ zs. Contains zs lock) (sym (refusing-append locks who (k ∷ j ∷ ks) ls ∙ ap (λ zs. zs ++ refusing locks who ls) none)) h
+refused_later locks who k j ks ls OutOfMemory none h = tt
+refused_later locks who k j ks ls (Fs e) none h = absurd h
+refused_later locks who k j ks ls NoLock none h = absurd h
+
+-- where none refuses the first checks nor the others, none refuses them all
+pub free_all : (locks : List Lock) (who : Caller) (ks ls : List Check) → refusing locks who ks ≡ [] → refusing locks who ls ≡ [] → refusing locks who (ks ++ ls) ≡ []
+free_all locks who ks ls none others = refusing-append locks who ks ls ∙ ap (λ zs. zs ++ refusing locks who ls) none ∙ others
 
 -- ---- locks
 
 -- a refused lock
-pub refused_lock : (s s' : State) (r : plain.Request) (e : LockError) (x : Refusal) → x ≡ refused_by e → is_offered r.command ≡ true → takes_lock_memory r.command ≡ true
-    → Shows (conflicts s r) e → Same s s' → Step s r (Err (refusal_of x)) s'
-refused_lock s s' r (Conflict lock) x is offered takes shown same = rw is (serves_offered s s' r (Err (plain.Locked lock)) offered (shown, same))
-refused_lock s s' r NoRoom x is offered takes shown same = rw is (serves_offered s s' r (Err plain.OutOfMemory) offered (takes, same))
+pub refused_lock : (s s' : State) (r : plain.Request) (path : PathText) (owner : Option (List ℕ)) (timeout : Option ℕ) (shared deep : Bool) (e : LockError) (x : Refusal)
+    → x ≡ refused_by e → r.command ≡ plain.Command.Lock path owner timeout shared deep
+    → Shows (lock_conflicts s.locks (segments path.bytes) shared deep) e → Same s s' → Step s r (Err (refusal_of x)) s'
+refused_lock s s' r path owner timeout shared deep (Conflict lock) x is c shown same = rw (is, c) (shown, same)
+refused_lock s s' r path owner timeout shared deep NoRoom x is c shown same = rw (is, c) (tt, same)

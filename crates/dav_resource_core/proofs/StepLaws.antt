@@ -1,23 +1,24 @@
 -- What one step keeps.
-use Rattle.std.proofs.Common.{◌≡◌, ◌⊎◌, inl, inr, Bool, true, false, ◌||◌, List, [], ◌∷◌, get_or, Ok, Err, refl, sym, ap, subst}
-use Rattle.std.specs.Bool.{MatchBool}
+use Rattle.std.proofs.Common.{◌≡◌, ◌⊎◌, inl, inr, true, ◌||◌, not, List, [], ◌∷◌, get_or, Ok, Err, refl, sym, ap, subst}
+use Rattle.std.specs.Prelude.{set}
 use Rattle.std.specs.List.{list_any}
-use Rattle.std.proofs.lemmas.Bool.{and_parts, or_right, cases_Bool, false≢true}
+use Rattle.std.proofs.lemmas.Bool.{and_parts, or_left, or_right, cases_Bool, false≢true, not-false}
 use Rattle.rand_core.specs.Stream.{Stream}
-use Rattle.dav_path_core.specs.Fronts.{Path}
+use Rattle.dav_path_core.specs.Fronts.{Path, parent}
 use Rattle.dav_locks_core.specs.Lock.{Lock}
-use Rattle.dav_locks_core.specs.Locks.{Caller, check_conflicts}
+use Rattle.dav_locks_core.specs.Locks.{Caller, is_at_or_below, check_conflicts, without_below}
 use Rattle.dav_locks_core.specs.Exclusive.{Exclusive}
 use Rattle.dav_locks_core.specs.Ended.{LocksEnded}
-use Rattle.dav_locks_core.proofs.Exclusivity.{Exclusive-push, Exclusive-remove}
+use Rattle.dav_locks_core.proofs.Exclusivity.{Exclusive-push, Exclusive-filter, Exclusive-remove, Exclusive-refreshed}
 use Rattle.dav_locks_core.proofs.ListMembers.{In-Contains, Contains-In, append_none}
-use Rattle.dav_locks_core.proofs.Checking.{exclusive_held, any_lock_held}
-use Rattle.dav_locks_core.proofs.Ending.{LocksEnded-refl, LocksEnded-push, LocksEnded-remove, found_at}
+use Rattle.dav_locks_core.proofs.Checking.{exclusive_held, any_lock_held, below_held}
+use Rattle.dav_locks_core.proofs.Ending.{LocksEnded-refl, LocksEnded-push, LocksEnded-remove, LocksEnded-filter, LocksEnded-set, found_at}
 use Rattle.dav_files_core.specs.Resources.{ResourceMap}
 use Rattle.dav_files_core.specs.Finding.{place}
 use Rattle.dav_resource_core.specs.Requests.{Command, Request, Reply, Fs, Locked, NoLock, OutOfMemory, Answer}
-use Rattle.dav_resource_core.specs.Checks.{Check, caller_of, checks, is_reached, refusing}
-use Rattle.dav_resource_core.specs.Step.{State, IsState, Same, is_offered, Unoffered, Does, conflicts_by, Effect, ServesOffered, Serves}
+use Rattle.dav_resource_core.specs.Checks.{Check, caller_of, checks, is_reached, reached, shallow, member, refusing}
+use Rattle.dav_resource_core.specs.Step.{State, IsState, Same, conflicts_by, Effect, Serves}
+use Rattle.dav_resource_core.specs.ResourceStep.{Does}
 use Rattle.dav_resource_core.specs.Naming.{names_as, names, unlocks}
 use Rattle.dav_resource_core.specs.Isolation.{StaysExclusive, EndsNamed, Isolated, AnyIsolated}
 use Rattle.dav_resource_core.proofs.Frame.{framed}
@@ -32,39 +33,30 @@ Same-equal s s' h = rebuilt s' s.map s.locks s.rng h
     rebuilt : (s' : State) (m : ResourceMap) (locks : List Lock) (g : Stream) → IsState s' m locks g → s' ≡ record { map = m; locks = locks; rng = g }
     rebuilt s' m locks g h = rw (sym h.map_is, sym h.locks_are, sym h.rng_is) refl
 
--- ---- what is offered and what isn't
-
-pub serves_offered : (s s' : State) (r : Request) (a : Answer) → is_offered r.command ≡ true → ServesOffered s r a s' → Serves s r a s'
-serves_offered s s' r a offered h = subst (λ b. MatchBool b (ServesOffered s r a s') (Unoffered a × Same s s')) (sym offered) h
-
-pub serves_cases : (s s' : State) (r : Request) (a : Answer) → Serves s r a s' → ServesOffered s r a s' ⊎ (Unoffered a × Same s s')
-serves_cases s s' r a h = by (is_offered r.command) h
-  where
-    by : (b : Bool) → MatchBool b (ServesOffered s r a s') (Unoffered a × Same s s') → ServesOffered s r a s' ⊎ (Unoffered a × Same s s')
-    by true h = inl h
-    by false h = inr h
-
 -- ---- a refusal leaves the state, and what is done met no conflict
 
 -- the state is as before, or the command was done
 abbrev Outcome : State → Request → Answer → State → Type 0
 Outcome s r a s' = Same s s' ⊎ ((reply : Reply) × (a ≡ Ok reply) × (conflicts_by r.command s r ≡ []) × Effect r.command s r reply s')
 
-offered_outcome : (s s' : State) (r : Request) (a : Answer) → ServesOffered s r a s' → Outcome s r a s'
-offered_outcome s s' r (Ok reply) h = inr (reply, refl, h.0, h.1)
-offered_outcome s s' r (Err (Fs e)) h = inl h.1
-offered_outcome s s' r (Err (Locked l)) h = inl h.1
-offered_outcome s s' r (Err NoLock) h = inl h.1
-offered_outcome s s' r (Err OutOfMemory) h = inl h.1
-
 outcome : (s s' : State) (r : Request) (a : Answer) → Serves s r a s' → Outcome s r a s'
-outcome s s' r a h = elim (serves_cases s s' r a h) [ inl offered ↦ offered_outcome s s' r a offered | inr unoffered ↦ inl unoffered.1 ]
+outcome s s' r (Ok reply) h = inr (reply, refl, h.0, h.1)
+outcome s s' r (Err (Fs e)) h = inl h.1
+outcome s s' r (Err (Locked l)) h = inl h.1
+outcome s s' r (Err NoLock) h = inl h.1
+outcome s s' r (Err OutOfMemory) h = inl h.1
 
 -- ---- exclusivity
 
 effect_exclusive : (c : Command) (s s' : State) (r : Request) (reply : Reply) → conflicts_by c s r ≡ [] → Effect c s r reply s' → Exclusive s.locks → Exclusive s'.locks
 effect_exclusive (Command.Lock path owner timeout shared deep) s s' r reply free e h = rw e.1.locks_are (Exclusive-push s.locks _ h free)
 effect_exclusive (Command.Unlock path token) s s' r reply free e h = rw e.3.locks_are (Exclusive-remove s.locks e.0 h)
+effect_exclusive (Command.Refresh path token timeout) s s' r reply free e h =
+    rw e.5.locks_are (subst (λ l. Exclusive (set s.locks e.0 l)) (sym e.3) (Exclusive-refreshed s.locks e.0 r.now timeout e.1 h))
+effect_exclusive (Command.Discover path) s s' r reply free e h = rw e.1.locks_are h
+effect_exclusive (Command.Check path deep) s s' r reply free e h = rw e.1.locks_are h
+effect_exclusive (Command.Remove path) s s' r reply free e h = rw e.1.locks_are (Exclusive-filter _ s.locks h)
+effect_exclusive (Command.Move from to) s s' r reply free e h = rw e.1.locks_are (Exclusive-filter _ s.locks h)
 effect_exclusive _ s s' r reply free e h = rw e.1.locks_are h
 
 pub serves_exclusive : (s s' : State) (r : Request) (a : Answer) → Serves s r a s' → StaysExclusive s s'
@@ -75,18 +67,31 @@ serves_exclusive s s' r a h x = elim (outcome s s' r a h) [
 
 -- ---- a lock that ends is named
 
-effect_ends : (c : Command) (s s' : State) (r : Request) (reply : Reply) → r.command ≡ c → Effect c s r reply s' → LocksEnded (names r) s.locks s'.locks
-effect_ends (Command.Lock path owner timeout shared deep) s s' r reply is e = rw e.1.locks_are (LocksEnded-push (names r) s.locks _)
-effect_ends (Command.Unlock path token) s s' r reply is e = rw e.3.locks_are (LocksEnded-remove (names r) s.locks e.0 (λ d lt.
+-- what a deep check reaches and finds free is held
+below_named : (s : State) (r : Request) (p : Path) (ks : List Check) → refusing s.locks (caller_of r) (reached p true ∷ ks) ≡ []
+    → LocksEnded (names r) s.locks (without_below p s.locks)
+below_named s r p ks free = LocksEnded-filter (names r) (λ l. not (is_at_or_below l p)) s.locks (λ l i gone.
+    let none = (append_none (check_conflicts s.locks p true (caller_of r)) (refusing s.locks (caller_of r) ks) free).0 in
+    or_left (names_as r l) (unlocks r.command l.token) (below_held s.locks p (caller_of r) none l i (not-false (is_at_or_below l p) gone)))
+
+effect_ends : (c : Command) (s s' : State) (r : Request) (reply : Reply) → r.command ≡ c → conflicts_by c s r ≡ [] → Effect c s r reply s' → LocksEnded (names r) s.locks s'.locks
+effect_ends (Command.Lock path owner timeout shared deep) s s' r reply is free e = rw e.1.locks_are (LocksEnded-push (names r) s.locks _)
+effect_ends (Command.Unlock path token) s s' r reply is free e = rw e.3.locks_are (LocksEnded-remove (names r) s.locks e.0 (λ d lt.
     let ended : Lock = get_or s.locks e.0 d in
     let here = found_at s.locks path token e.0 e.1 d in
     or_right (names_as r ended) (unlocks r.command ended.token) (subst (λ c. unlocks c ended.token ≡ true) (sym is) (and_parts _ _ here).0)))
-effect_ends _ s s' r reply is e = rw e.1.locks_are (LocksEnded-refl (names r) s.locks)
+effect_ends (Command.Refresh path token timeout) s s' r reply is free e =
+    rw e.5.locks_are (LocksEnded-set (names r) s.locks e.0 e.1 r.now timeout e.3)
+effect_ends (Command.Discover path) s s' r reply is free e = rw e.1.locks_are (LocksEnded-refl (names r) s.locks)
+effect_ends (Command.Check path deep) s s' r reply is free e = rw e.1.locks_are (LocksEnded-refl (names r) s.locks)
+effect_ends (Command.Remove path) s s' r reply is free e = rw e.1.locks_are (below_named s r path (shallow (parent path) ∷ []) free)
+effect_ends (Command.Move from to) s s' r reply is free e = rw e.1.locks_are (below_named s r from (shallow (parent from) ∷ member to true) free)
+effect_ends _ s s' r reply is free e = rw e.1.locks_are (LocksEnded-refl (names r) s.locks)
 
 pub serves_ends : (s s' : State) (r : Request) (a : Answer) → Serves s r a s' → EndsNamed s r s'
 serves_ends s s' r a h = elim (outcome s s' r a h) [
   | inl same ↦ rw same.locks_are (LocksEnded-refl (names r) s.locks)
-  | inr done ↦ effect_ends r.command s s' r done.0 refl done.3
+  | inr done ↦ effect_ends r.command s s' r done.0 refl done.2 done.3
 ]
 
 -- ---- isolation
@@ -98,6 +103,9 @@ Moves c s r s' = (s'.map ≡ s.map) ⊎ ((refusing s.locks (caller_of r) (checks
 effect_moves : (c : Command) (s s' : State) (r : Request) (reply : Reply) → conflicts_by c s r ≡ [] → Effect c s r reply s' → Moves c s r s'
 effect_moves (Command.Lock path owner timeout shared deep) s s' r reply free e = inl e.1.map_is
 effect_moves (Command.Unlock path token) s s' r reply free e = inl e.3.map_is
+effect_moves (Command.Refresh path token timeout) s s' r reply free e = inl e.5.map_is
+effect_moves (Command.Discover path) s s' r reply free e = inl e.1.map_is
+effect_moves (Command.Check path deep) s s' r reply free e = inl e.1.map_is
 effect_moves _ s s' r reply free e = inr (free, (reply, e.0))
 
 serves_moves : (s s' : State) (r : Request) (a : Answer) → Serves s r a s' → Moves r.command s r s'

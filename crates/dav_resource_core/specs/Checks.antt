@@ -1,5 +1,5 @@
 -- What a command is checked for (RFC 4918 section 7): at which paths something may change, one clause a command.
-use Rattle.std.specs.Prelude.{List, [], ◌∷◌, ◌++◌, Bool, false, is_some, if◌then◌else◌}
+use Rattle.std.specs.Prelude.{◌≢◌, List, [], ◌∷◌, ◌++◌, Bool, true, false, is_some, if◌then◌else◌}
 use Rattle.dav_path_core.specs.Fronts.{Path, parent}
 use Rattle.dav_files_core.specs.Resources.{ResourceMap, at_path}
 use Rattle.dav_locks_core.specs.Lock.{Lock}
@@ -11,8 +11,11 @@ pub record Check : Type 0 where
   pub path : Path
   pub deep : Bool
 
+abbrev pub reached : Path → Bool → Check
+reached p deep = record { path = p; deep = deep }
+
 abbrev pub shallow : Path → Check
-shallow p = record { path = p; deep = false }
+shallow p = reached p false
 
 -- whether something may change at the path
 abbrev pub is_reached : Check → Path → Bool
@@ -31,13 +34,28 @@ refusing locks who (k ∷ ks) = check_conflicts locks k.path k.deep who ++ refus
 abbrev pub has : ResourceMap → Path → Bool
 has m p = is_some (at_path m p)
 
--- a target that isn't there changes its parent too
+-- what is made or taken away changes its parent too
+abbrev pub member : Path → Bool → List Check
+member p deep = reached p deep ∷ shallow (parent p) ∷ []
+
+-- a target is made where it isn't there
 abbrev pub target : ResourceMap → Path → List Check
-target m p = if has m p then shallow p ∷ [] else shallow p ∷ shallow (parent p) ∷ []
+target m p = if has m p then shallow p ∷ [] else member p false
 
 -- the first column of the table of commands: what each is checked for
 abbrev pub checks : ResourceMap → Command → List Check
 checks m (Command.Put path bytes) = target m path
-checks m (Command.Read path at count) = []
-checks m (Command.Lock path owner timeout shared deep) = []
-checks m (Command.Unlock path token) = []
+checks m (Command.Write path at bytes) = shallow path ∷ []
+checks m (Command.MkCol path) = member path false
+checks m (Command.Remove path) = member path true
+checks m (Command.Move from to) = member from true ++ member to true
+checks m (Command.Copy from to) = target m to
+checks m (Command.PatchProps path patch) = shallow path ∷ []
+checks m (Command.Check path deep) = reached path deep ∷ []
+checks m _ = []
+
+-- what checks may be out of memory for: to show a lock that refuses one, and for the path of a parent
+abbrev pub MayLack : List Lock → Caller → List Check → Type 0
+MayLack locks who [] = ⊥
+MayLack locks who (k ∷ []) = refusing locks who (k ∷ []) ≢ []
+MayLack locks who (k ∷ l ∷ ks) = Unit {0}

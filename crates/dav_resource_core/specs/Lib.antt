@@ -3,6 +3,7 @@ pub mod Isolation
 pub mod Naming
 pub mod Private
 pub mod Requests
+pub mod ResourceStep
 pub mod Seeds
 pub mod Served
 pub mod Step

@@ -2,6 +2,7 @@
 ghost use Rattle.std.specs.Prelude.{◌≡◌, ◌⊎◌, map, string_bytes};
 ghost use Rattle.dav_resource_core.specs.Seeds.{seed};
 
+mod answers;
 mod labels;
 mod lines;
 mod numbers;
@@ -32,7 +33,8 @@ pub fn seed_of(args: &[String]) -> Option<u64>
 }
 
 /// Plays a scenario: runs the requests of `input`, one a line, in stores that begin with a root folder at moment 0, and
-/// writes an answer a line to `output`. The generator of lock tokens begins with the seed.
+/// writes an answer a line to `output`. The generator of lock tokens begins with the seed. Answers are written out whenever the next line
+/// isn't at hand yet.
 ///
 /// Answers the status to end with. 0 at the end of the input. 2 after a line of a wrong form, which `faults` names by its
 /// number; later lines aren't run. 3 where the input or the output fails, or there is no memory outside a line. A failed
@@ -119,6 +121,10 @@ fn play_lines<I: Read + Drop, O: Write + Drop>(
     let mut line = Vec::new(alloc);
     for number in 1..u64::MAX {
         line.clear();
+        // What is answered is told before more input is waited for.
+        if !input.buffer().contains(&b'\n') {
+            output.flush()?;
+        }
         if input.read_until(b'\n', &mut line)? == 0 {
             return Ok(());
         }

@@ -1,144 +1,30 @@
 //! Requests on the stores.
-ghost use Rattle.std.specs.Prelude.{◌≡◌, ℕ, List, true, ◌≤◌, ◌<◌, ◌+◌, ◌++◌, ◌∷◌, [], map, vec_len, vec_capacity, option_map, string_bytes, IfOk, OnOk, IfErr, OnErr, MatchResult};
+ghost use Rattle.std.specs.Prelude.{◌≡◌, ℕ, List, ◌≤◌, ◌<◌, ◌+◌, ◌++◌, ◌∷◌, [], map, vec_len, vec_capacity, IfOk, OnOk, OnErr, MatchResult};
 ghost use Rattle.rand_core.specs.Stream.{Stream};
-ghost use Rattle.dav_locks_core.specs.Calls.{lent_text};
-ghost use Rattle.dav_path_core.specs.Segments.{segments};
 ghost use Rattle.dav_files_core.specs.Resources.{IsResourceMap};
 ghost use Rattle.dav_locks_core.specs.Exclusive.{Exclusive};
-ghost use Rattle.dav_resource_core.specs.Checks.{caller_of, checks, refusing, shallow, target};
-ghost use Rattle.dav_resource_core.specs.Step.{State, is_on_map, Step, Run};
+ghost use Rattle.dav_resource_core.specs.Step.{State, Step, Run};
 ghost use Rattle.dav_resource_core.specs.Requests as plain;
 ghost use Rattle.dav_resource_core.specs.Isolation.{EndsNamed, UnnamedStand, Isolated, AnyIsolated, EachExclusive, EachEndsNamed, EachIsolated, EachAnyIsolated, UnnamedIsolated, KeepsLocks};
 ghost use Rattle.dav_resource_core.specs.Stores.{start_stores, state_of};
-ghost use Rattle.dav_resource_core.specs.Served.{command_of, request_of, answer_of};
-ghost use Rattle.dav_resource_core.specs.Private.Serving.{RefusedBy, DoesOnMap};
+ghost use Rattle.dav_resource_core.specs.Served.{request_of, answer_of};
 
+mod checks;
+mod files;
+mod locks;
+mod requests;
 #[cfg(test)]
 mod tests;
 
-use bytes::Bytes;
 use dav_files_core::fs::Moment;
 use dav_files_core::memfs::MemFs;
-use dav_locks_core::ls::{DavLock, LockError, NoLock};
 use dav_locks_core::memls::MemLs;
-use dav_path_core::davpath::DavPath;
 use dav_path_core::errors::{FsError, FsResult};
+use files::serve_files;
 use rand_core::Rng;
+pub use requests::{Command, Refusal, Reply, Request};
 use std::alloc::{AllocError, Global};
 use std::marker::Model;
-
-/// What a request asks for.
-#[derive(Drop)]
-pub enum Command {
-    /// Makes the bytes of a file those given; a missing file is made (RFC 4918 section 9.7).
-    Put {
-        /// The file.
-        path: DavPath,
-        /// Its bytes.
-        bytes: Bytes,
-    },
-    /// Reads a file.
-    Read {
-        /// The file.
-        path: DavPath,
-        /// How many bytes are left out at the front.
-        at: usize,
-        /// How many bytes are read, at most.
-        count: usize,
-    },
-    /// Locks a path (RFC 4918 section 9.10), in the map or not. No resource is made. A shared or deep lock isn't offered
-    /// yet: it is answered `Fs(NotImplemented)`.
-    Lock {
-        /// The path.
-        path: DavPath,
-        /// The owner's text, kept as given.
-        owner: Option<String>,
-        /// In seconds, kept as asked; none where there is no timeout. Locks don't end by it yet.
-        timeout: Option<u64>,
-        /// Others may hold a lock there too.
-        shared: bool,
-        /// It covers every path below, too.
-        deep: bool,
-    },
-    /// Ends a lock (RFC 4918 section 9.11): the one with that token at the path or above it, the nearest to the root, of
-    /// these the first granted. The principal isn't looked at.
-    Unlock {
-        /// The path.
-        path: DavPath,
-        /// The lock's token.
-        token: String,
-    },
-}
-
-/// One request.
-#[derive(Drop)]
-pub struct Request {
-    /// Who asks; none where nobody is named.
-    pub principal: Option<String>,
-    /// The lock tokens that are submitted.
-    pub tokens: Vec<String>,
-    /// The moment at which it is asked.
-    pub now: Moment,
-    /// What is asked for.
-    pub command: Command,
-}
-
-/// What a request that is done answers.
-#[derive(Drop)]
-pub enum Reply {
-    /// It is done, with nothing to tell.
-    Done,
-    /// The bytes that were read.
-    Bytes(Bytes),
-    /// The lock that was granted.
-    Lock(DavLock),
-}
-
-/// Why a request is refused. Nothing was changed.
-#[derive(Drop)]
-pub enum Refusal {
-    /// The files refuse it; `Fs(InsufficientStorage)` also where they are out of memory.
-    Fs(FsError),
-    /// This lock stands in the way.
-    Locked(DavLock),
-    /// There is no such lock.
-    NoLock,
-    /// There is no memory for a check or for a lock.
-    OutOfMemory,
-}
-
-impl From<LockError> for Refusal {
-    ghost use Rattle.dav_resource_core.specs.Private.Serving.{refused_by};
-
-    ghost from_gives = { λ e r. r ≡ refused_by e };
-
-    fn from(error: LockError) -> Self {
-        match error {
-            LockError::Conflict(lock) => Refusal::Locked(lock),
-            LockError::OutOfMemory => Refusal::OutOfMemory,
-        }
-    }
-}
-
-impl From<FsError> for Refusal {
-    ghost use Rattle.dav_resource_core.specs.declared.guarded.Refusal.TheVariants.{Fs};
-
-    ghost from_gives = { λ e r. r ≡ Fs e };
-
-    fn from(error: FsError) -> Self {
-        Refusal::Fs(error)
-    }
-}
-
-impl From<NoLock> for Refusal {
-    ghost use Rattle.dav_resource_core.specs.declared.guarded.Refusal.TheVariants as refusal;
-
-    ghost from_gives = { λ _ r. r ≡ refusal.NoLock };
-
-    fn from(_: NoLock) -> Self {
-        Refusal::NoLock
-    }
-}
 
 /// The stores, which requests alone reach.
 #[derive(Drop)]
@@ -205,82 +91,17 @@ impl Guarded {
     {
         self.check_command(request)?;
         match &request.command {
-            Command::Put { .. } | Command::Read { .. } => {
+            Command::Lock { .. }
+            | Command::Unlock { .. }
+            | Command::Refresh { .. }
+            | Command::Discover { .. }
+            | Command::Check { .. } => return self.serve_locks(request, rng),
+            _ => {
                 let reply = serve_files(&mut self.fs, &request.command, request.now)?;
+                self.drop_locks(&request.command);
                 return Ok(reply);
             }
-            Command::Lock {
-                path,
-                owner,
-                timeout,
-                shared,
-                deep,
-            } => {
-                if *shared || *deep {
-                    return Err(Refusal::Fs(FsError::NotImplemented));
-                }
-                let principal = text_of(&request.principal);
-                let owner = text_of(owner);
-                let lock = self.locks.lock(
-                    path,
-                    principal,
-                    owner,
-                    *timeout,
-                    *shared,
-                    *deep,
-                    request.now,
-                    rng,
-                )?;
-                return Ok(Reply::Lock(lock));
-            }
-            Command::Unlock { path, token } => {
-                self.locks.unlock(path, token.as_str())?;
-                return Ok(Reply::Done);
-            }
         }
-    }
-
-    // Makes the checks of a command (RFC 4918 section 7).
-    fn check_command(&self, request: &Request) -> Result<(), Refusal>
-        ensures ok { OnOk result (refusing self.now.locks (caller_of (request_of request.entry.now))
-            (checks self.now.map (command_of request.entry.now.command)) ≡ []) }
-        ensures err { IfErr result (RefusedBy self.now.locks (caller_of (request_of request.entry.now))
-            (checks self.now.map (command_of request.entry.now.command))) }
-    {
-        match &request.command {
-            Command::Put { path, .. } => return self.check_target(request, path),
-            _ => return Ok(()),
-        }
-    }
-
-    // Checks a target, and its parent where nothing stands at the target (RFC 4918 section 7.4).
-    fn check_target(&self, request: &Request, path: &DavPath) -> Result<(), Refusal>
-        ensures ok { OnOk result (refusing self.now.locks (caller_of (request_of request.entry.now))
-            (target self.now.map (segments path.now.bytes)) ≡ []) }
-        ensures err { IfErr result (RefusedBy self.now.locks (caller_of (request_of request.entry.now))
-            (target self.now.map (segments path.now.bytes))) }
-    {
-        self.check_path(request, path)?;
-        if self.fs.metadata(path).is_ok() {
-            return Ok(());
-        }
-        match path.parent() {
-            Ok(parent) => return self.check_path(request, &parent),
-            Err(_) => return Err(Refusal::OutOfMemory),
-        }
-    }
-
-    // Checks one path, shallow, by the request's tokens and principal.
-    fn check_path(&self, request: &Request, path: &DavPath) -> Result<(), Refusal>
-        ensures ok { OnOk result (refusing self.now.locks (caller_of (request_of request.entry.now))
-            (shallow (segments path.now.bytes) ∷ []) ≡ []) }
-        ensures err { IfErr result (RefusedBy self.now.locks (caller_of (request_of request.entry.now))
-            (shallow (segments path.now.bytes) ∷ [])) }
-    {
-        let principal = text_of(&request.principal);
-        self.locks
-            .check(path, principal, false, false, &request.tokens)?;
-        Ok(())
     }
 
     /// Answers requests in order, one answer each; a refusal ends nothing. `AllocError` where there is no room for the
@@ -351,36 +172,6 @@ pub fn runs_keep_locks()
         → Run (state_of (start_stores now) rng) requests answers end
         → KeepsLocks (state_of (start_stores now) rng) requests answers end }
 {}
-
-// A command on the files, at a moment.
-fn serve_files(files: &mut MemFs, command: &Command, now: Moment) -> FsResult<Reply>
-    requires on_map { is_on_map (command_of command.now) ≡ true }
-    requires shape { IsResourceMap files.old }
-    ensures answer { DoesOnMap files.old (command_of command.now) now.0 result files.new }
-    ensures shape { IsResourceMap files.new }
-{
-    match command {
-        Command::Put { path, bytes } => {
-            files.put(path, bytes.as_slice(), now)?;
-            return Ok(Reply::Done);
-        }
-        Command::Read { path, at, count } => {
-            let bytes = files.read_at(path, *at, *count)?;
-            return Ok(Reply::Bytes(bytes));
-        }
-        _ => unreachable!(),
-    }
-}
-
-// The text of an owned one, if there is one.
-fn text_of(text: &Option<String>) -> Option<&str>
-    ensures { lent_text result ≡ option_map string_bytes text.now }
-{
-    match text {
-        Some(text) => Some(text.as_str()),
-        None => None,
-    }
-}
 
 // Adds an answer where there is room for it.
 fn add_answer(answers: &mut Vec<Result<Reply, Refusal>>, answer: Result<Reply, Refusal>)

@@ -1,11 +1,12 @@
 //! Rows of files in memory: a call, and behind ` = ` its answer. `-` stands for no bytes.
 use dav_files_core::fs::{
-    DavDirEntry, DavFileSystem, DavMetaData, Moment, OpenOptions, ReadDirMeta,
+    DavDirEntry, DavFile, DavFileSystem, DavMetaData, Moment, OpenOptions, ReadDirMeta,
 };
 use dav_files_core::memfs::MemFs;
 use dav_path_core::davpath::DavPath;
 use dav_path_core::errors::{FsError, FsResult};
 use std::alloc::Global;
+use std::io::SeekFrom;
 use std::test::Fail;
 
 const ROWS: &str = "new = ok
@@ -175,10 +176,10 @@ fn put(alloc: Global, files: &mut MemFs, path: &str, now: &str, text: &str) -> F
     Ok(String::from_str(alloc, "ok")?)
 }
 
-fn read(alloc: Global, files: &MemFs, path: &str, at: &str, count: &str) -> FsResult<String> {
-    let path = path_of(alloc, path)?;
-    let (at, count) = (number(at)? as usize, number(count)? as usize);
-    let bytes = files.read_at(&path, at, count)?;
+fn read(alloc: Global, files: &mut MemFs, path: &str, at: &str, count: &str) -> FsResult<String> {
+    let mut file = files.open(&path_of(alloc, path)?, OpenOptions::read(), Moment(1))?;
+    file.seek(files, SeekFrom::Start(number(at)?))?;
+    let bytes = file.read_bytes(files, number(count)? as usize)?;
     let text = match str::from_utf8(bytes.as_slice()) {
         Ok("") => "-",
         Ok(text) => text,

@@ -12,10 +12,15 @@ pub mod locking;
 #[cfg(test)]
 mod locks;
 #[cfg(test)]
+mod open_files;
+#[cfg(test)]
 mod plenty;
+#[cfg(test)]
+mod properties;
 pub mod putting;
 pub mod reading_headers;
 #[cfg(test)]
 mod requests;
 #[cfg(test)]
 mod scenarios;
+pub mod writing_parts;

@@ -2,12 +2,12 @@
 ghost use Rattle.std.specs.Prelude.{◌≡◌, ◌++◌, ◌∷◌, [], true, false, Some, map, Contains, IfOk, OnErr, string_bytes};
 ghost use Rattle.dav_resource_core.specs.Segments.{segments};
 ghost use Rattle.dav_resource_core.specs.Lock.{Lock};
-ghost use Rattle.dav_resource_core.specs.Locks.{check_conflicts};
+ghost use Rattle.dav_resource_core.specs.Locks.{check_conflicts, without_below};
 ghost use Rattle.dav_resource_core.specs.Exclusive.{Exclusive};
 
 use dav_resource_core::davpath::DavPath;
 use dav_resource_core::fs::Moment;
-use dav_resource_core::ls::LockError;
+use dav_resource_core::ls::{DavLock, DavLockSystem, LockError};
 use dav_resource_core::memls::MemLs;
 use rand_core::Rng;
 use std::alloc::AllocError;
@@ -59,6 +59,25 @@ pub fn may_change(
     }
 }
 
+/// Takes a path over, with all below it, for its holder alone, on any keeper of locks: the locks there go, and a deep
+/// exclusive lock is asked for. Where a lock from above is in the way, or memory is short, they are gone all the same.
+pub fn take_over<L: DavLockSystem, R: Rng>(
+    locks: &mut L,
+    path: &DavPath,
+    holder: &str,
+    now: Moment,
+    rng: &mut R,
+) -> Result<DavLock, LockError>
+    ensures taken { IfOk result (λ lock. L.locks locks.new
+        ≡ without_below (segments path.now.bytes) (L.locks locks.old) ++ lock ∷ []) }
+    ensures deep { IfOk result (λ lock. (lock.path ≡ path.now) × (lock.deep ≡ true) × (lock.shared ≡ false)) }
+    ensures refused { OnErr result (L.locks locks.new ≡ without_below (segments path.now.bytes) (L.locks locks.old)) }
+    ensures exclusive { Exclusive (L.locks locks.new) }
+{
+    locks.delete(path);
+    locks.lock(path, Some(holder), None, None, false, true, now, rng)
+}
+
 #[cfg(test)]
 mod tests {
     use super::*;
@@ -80,6 +99,22 @@ mod tests {
         let tokens = vec![in alloc; token]?;
         assert!(rt; may_change(&locks, &path, "ann", &tokens)?);
         assert!(rt; !may_change(&locks, &path, "bob", &tokens)?);
+        Ok(())
+    }
+
+    #[test]
+    fn takes_over(rt: HostRuntime) -> Result<(), Fail> {
+        let alloc = rt.alloc();
+        let mut locks = MemLs::new(alloc)?;
+        let mut rng = Pcg64::seed_from_u64(1);
+        let (above, path) = (DavPath::new(alloc, "/a")?, DavPath::new(alloc, "/a/b")?);
+        for place in [&above, &path] {
+            assert!(rt; take(&mut locks, place, "ann", 60, Moment(5), &mut rng).is_ok());
+        }
+        assert!(rt; take_over(&mut locks, &path, "bob", Moment(6), &mut rng).is_ok());
+        assert_eq!(rt; locks.discover(&path)?.len(), 1);
+        assert!(rt; take_over(&mut locks, &above, "cat", Moment(7), &mut rng).is_ok());
+        assert_eq!(rt; locks.discover(&path)?.len(), 1);
         Ok(())
     }
 }

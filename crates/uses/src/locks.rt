@@ -1,9 +1,10 @@
 //! Rows of locks: a call at moment 5, and behind ` = ` its answer. `-` stands for none.
 mod counter;
+mod deep;
 
 use counter::Counter;
 use dav_files_core::fs::Moment;
-use dav_locks_core::ls::{DavLock, LockError, NoLock};
+use dav_locks_core::ls::{DavLock, DavLockSystem, LockError, NoLock};
 use dav_locks_core::memls::MemLs;
 use dav_path_core::davpath::DavPath;
 use std::alloc::{AllocError, Global};
@@ -158,17 +159,4 @@ fn given(word: &str) -> Option<&str> {
         "-" => None,
         word => Some(word),
     }
-}
-
-#[test]
-fn shares(rt: HostRuntime) -> Result<(), Fail> {
-    let alloc = rt.alloc();
-    let mut rng = Counter(1);
-    let mut locks = MemLs::new(alloc)?;
-    let a = DavPath::new(alloc, "/a")?;
-    for (shared, free) in [(true, true), (true, true), (false, false)] {
-        let answer = locks.lock(&a, None, None, None, shared, false, Moment(5), &mut rng);
-        assert_eq!(rt; answer.is_ok(), free);
-    }
-    Ok(())
 }

@@ -1,6 +1,7 @@
 //! A large file and many locks, where there is memory: no call has a limit of its own.
 use dav_resource_core::davpath::DavPath;
-use dav_resource_core::fs::Moment;
+use dav_resource_core::fs::{DavFile, DavFileSystem, Moment, OpenOptions};
+use dav_resource_core::ls::DavLockSystem;
 use dav_resource_core::memfs::MemFs;
 use dav_resource_core::memls::MemLs;
 use rand_core::SeedableRng;
@@ -17,7 +18,8 @@ fn keeps_large_files(rt: HostRuntime) -> Result<(), Fail> {
     let bytes = vec![in alloc; 7u8; 10_000_000]?;
     files.put(&path, &bytes, Moment(2))?;
     assert_eq!(rt; files.metadata(&path)?.length, 10_000_000);
-    assert!(rt; files.read_at(&path, 0, 20_000_000)?.as_slice() == bytes.as_slice());
+    let mut file = files.open(&path, OpenOptions::read(), Moment(3))?;
+    assert!(rt; file.read_bytes(&files, 20_000_000)?.as_slice() == bytes.as_slice());
     Ok(())
 }
 

@@ -146,6 +146,7 @@ fn shown(alloc: Global, answer: &Result<Reply, Refusal>, token: &str) -> Result<
             Ok(String::from_str(alloc, text)?)
         }
         Ok(Reply::Lock(lock)) => shown_lock(alloc, lock, token),
+        Ok(_) => Err(Fail::from("another reply")),
         Err(Refusal::Fs(error)) => Ok(format!(in alloc; "{error}")?),
         Err(Refusal::Locked(lock)) => Ok(format!(in alloc; "locked {}", name(lock, token))?),
         Err(Refusal::NoLock) => Ok(String::from_str(alloc, "no lock")?),

@@ -4,7 +4,7 @@ ghost use Rattle.std.specs.String.{string_bytes};
 ghost use Rattle.dav_files_core.specs.PropertyXml.{property_xml, start_tag, declaration};
 
 use dav_path_core::errors::{FsError, FsResult};
-use std::alloc::Global;
+use std::alloc::{AllocError, Global};
 
 /// A property (RFC 4918 section 4).
 #[derive(Drop)]
@@ -47,6 +47,36 @@ impl DavProp {
             prefix: Some(prefix),
             namespace: Some(namespace),
             xml: Some(xml),
+        })
+    }
+
+    ghost use Rattle.dav_files_core.specs.Properties.{property_of, without_xml};
+
+    // The same without its xml. `InsufficientStorage` where it is out of memory.
+    pub(crate) fn without_xml(&self) -> FsResult<DavProp>
+        ensures { MatchResult result (λ p. property_of p ≡ without_xml (property_of self.now)) (λ e. e ≡ FsError.InsufficientStorage) }
+    {
+        Ok(DavProp {
+            name: self.name.clone()?,
+            prefix: self.prefix.clone()?,
+            namespace: self.namespace.clone()?,
+            xml: None,
+        })
+    }
+}
+
+/// The same property, or out of memory.
+impl Clone for DavProp {
+    ghost use Rattle.dav_files_core.specs.Properties.{property_of};
+
+    ghost is_clone = { λ prop copy. property_of copy ≡ property_of prop };
+
+    fn clone(&self) -> Result<DavProp, AllocError> {
+        Ok(DavProp {
+            name: self.name.clone()?,
+            prefix: self.prefix.clone()?,
+            namespace: self.namespace.clone()?,
+            xml: self.xml.clone()?,
         })
     }
 }

@@ -1,8 +1,9 @@
 //! Single changes of the map of files, by the number of an entry.
-ghost use Rattle.std.specs.Prelude.{◌≡◌, ◌∷◌, ◌++◌, [], Some, Ok};
+ghost use Rattle.std.specs.Prelude.{◌≡◌, ◌∷◌, ◌++◌, ◌+◌, ◌<◌, ◌^◌, [], length, Some, Ok, OnOk, OnErr};
 ghost use Rattle.dav_path_core.specs.Answers.{AnswersAs};
 ghost use Rattle.dav_path_core.specs.Fronts.{Path};
 ghost use Rattle.dav_files_core.specs.Exactly.{AnswersExactly};
+ghost use Rattle.dav_files_core.specs.OpenFiles.{overwritten};
 ghost use Rattle.dav_files_core.specs.Outcomes.{added, changed, touched};
 ghost use Rattle.dav_files_core.specs.Resources.{Node, Resource, IsResourceMap, at_path};
 ghost use Rattle.dav_files_core.specs.Private.TreeCalls.{IsMissing};
@@ -10,10 +11,12 @@ ghost use Rattle.dav_files_core.specs.Private.Entries.{HasNumber, HasFile, HasFo
 
 use super::MemFs;
 use super::nodes::{
-    Node, add_node, delete_node, move_node, node_of, set_modified, set_node, write_file,
+    Node, add_node, delete_node, move_node, node_of, overwrite, set_modified, set_node, set_props,
+    write_file,
 };
+use super::properties::Props;
 use crate::fs::Moment;
-use bytes::Bytes;
+use bytes::{Buf, Bytes};
 use dav_path_core::errors::{FsError, FsResult};
 
 impl MemFs {
@@ -88,6 +91,32 @@ impl MemFs {
             Ok(()) => {}
             Err(_) => unreachable!(),
         }
+    }
+
+    // Puts other properties in place of those of an entry.
+    pub(super) fn set_props(&mut self, id: u64, props: Props)
+        requires { HasNumber self.old id }
+        ensures change { (p : Path) (r : Resource) → at_path self.old p ≡ Some r → r.number ≡ id → self.new ≡ changed self.old p r (record r.node { props = props }) }
+        ensures shape { IsResourceMap self.new }
+    {
+        match set_props(&mut self.tree, id, props) {
+            Ok(()) => {}
+            Err(_) => unreachable!(),
+        }
+    }
+
+    // Puts bytes over those of a file from a place on, with zeros in a gap; the times stay.
+    pub(super) fn overwrite<B: Buf>(&mut self, id: u64, start: usize, buf: &mut B) -> FsResult<()>
+        requires file { HasFile self.old id }
+        requires fits { start + length (B.unread buf.old) < 2 ^ 64 }
+        ensures answer { (p : Path) (r : Resource) → at_path self.old p ≡ Some r → r.number ≡ id
+            → AnswersAs (λ x. x) result (Ok (tt, changed self.old p r (record r.node { bytes = overwritten r.node.bytes start (B.unread buf.old) }))) self.old self.new }
+        ensures spent { OnOk result (B.unread buf.new ≡ []) }
+        ensures unread { OnErr result (buf.new ≡ buf.old) }
+        ensures kept { B.kept buf.new ≡ B.kept buf.old }
+        ensures shape { IsResourceMap self.new }
+    {
+        overwrite(&mut self.tree, id, start, buf)
     }
 
     // Takes out an entry without members.

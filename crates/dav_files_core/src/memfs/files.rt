@@ -6,10 +6,11 @@ ghost use Rattle.dav_files_core.specs.Commands.{metadata};
 ghost use Rattle.dav_files_core.specs.Copying.{copy};
 ghost use Rattle.dav_files_core.specs.Exactly.{AnswersExactly, TellsExactly};
 ghost use Rattle.dav_files_core.specs.Folders.{create_dir, remove};
-ghost use Rattle.dav_files_core.specs.Listing.{entry_of, read_dir};
+ghost use Rattle.dav_files_core.specs.Listing.{entry_of as member_of, read_dir};
 ghost use Rattle.dav_files_core.specs.Meta.{meta_of};
 ghost use Rattle.dav_files_core.specs.Opening.{opening};
 ghost use Rattle.dav_files_core.specs.Private.Entries.{FindsFolder};
+ghost use Rattle.dav_files_core.specs.Properties.{answer_of, entry_of, get_prop, get_props, patch_props, property_of};
 ghost use Rattle.dav_files_core.specs.Renaming.{rename};
 ghost use Rattle.dav_files_core.specs.Resources.{IsResourceMap, at_path};
 
@@ -21,6 +22,7 @@ use crate::fs::{DavFileSystem, DavProp, Moment, OpenOptions, ReadDirMeta};
 use dav_path_core::davpath::DavPath;
 use dav_path_core::errors::{FsError, FsResult};
 use dav_path_core::tree::ROOT_ID;
+use http::StatusCode;
 
 impl MemFs {
     // Removes an entry without members.
@@ -86,7 +88,7 @@ impl MemFs {
                 if !options.create {
                     return Err(FsError::NotFound);
                 }
-                let node = Node::new_file(Vec::new(self.alloc), now);
+                let node = Node::new_file(self.alloc, Vec::new(self.alloc), now);
                 let number = self.add_entry(folder, name, node)?;
                 return Ok(MemFsFile {
                     number,
@@ -165,7 +167,7 @@ impl DavFileSystem for MemFs {
 
     ghost told = { meta_of };
 
-    ghost listed = { entry_of };
+    ghost listed = { member_of };
 
     /// It takes no memory where something stands at the path.
     fn open(&mut self, path: &DavPath, options: OpenOptions, now: Moment) -> FsResult<MemFsFile>
@@ -179,7 +181,7 @@ impl DavFileSystem for MemFs {
 
     /// As finding refuses; `Forbidden` for a file; `InsufficientStorage` where it is out of memory.
     fn read_dir(&self, path: &DavPath, meta: ReadDirMeta) -> FsResult<Vec<MemFsEntry>>
-        ensures { Tells (λ v. map entry_of v.items) result (read_dir self.now (segments path.now.bytes)) }
+        ensures { Tells (λ v. map member_of v.items) result (read_dir self.now (segments path.now.bytes)) }
     {
         self.list(path)
     }
@@ -263,6 +265,33 @@ impl DavFileSystem for MemFs {
         ensures { result ≡ true }
     {
         true
+    }
+
+    /// The path as finding refuses; `InsufficientStorage` where it is out of memory.
+    fn patch_props(
+        &mut self,
+        path: &DavPath,
+        patch: Vec<(bool, DavProp)>,
+    ) -> FsResult<Vec<(StatusCode, DavProp)>>
+        ensures answer { AnswersAs (λ v. map answer_of v.items) result (patch_props self.old (segments path.now.bytes) (map entry_of patch.items)) self.old self.new }
+        ensures shape { IsResourceMap self.new }
+    {
+        self.patch(path, patch)
+    }
+
+    /// The path as finding refuses; `InsufficientStorage` where it is out of memory.
+    fn get_props(&self, path: &DavPath, do_content: bool) -> FsResult<Vec<DavProp>>
+        ensures { Tells (λ v. map property_of v.items) result (get_props self.now (segments path.now.bytes) do_content) }
+    {
+        self.properties(path, do_content)
+    }
+
+    /// The path as finding refuses, then `NotFound` without such a property, or without its xml; `InsufficientStorage` where it is
+    /// out of memory.
+    fn get_prop(&self, path: &DavPath, prop: &DavProp) -> FsResult<Vec<u8>>
+        ensures { Tells (λ v. v.items) result (get_prop self.now (segments path.now.bytes) (property_of prop.now)) }
+    {
+        self.property(path, prop)
     }
 
     /// Not offered.

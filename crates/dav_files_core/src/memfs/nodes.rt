@@ -1,15 +1,17 @@
 //! The nodes of the tree of files, and the calls by which files meet the tree.
-ghost use Rattle.std.specs.Prelude.{◌≡◌, ◌↔◌, IsTrue, true, Some, None, IfOk, IfErr, MatchResult, nat_eq};
+ghost use Rattle.std.specs.Prelude.{◌≡◌, ◌↔◌, ◌+◌, ◌<◌, ◌^◌, IsTrue, true, Some, None, Ok, [], length, IfOk, IfErr, OnOk, OnErr, MatchResult, nat_eq};
 ghost use Rattle.std.specs.Option.{ok_or};
 ghost use Rattle.std.specs.Cmp.Lexicographic.{pointwise};
 ghost use Rattle.dav_path_core.specs.Keyed.{child, add, delete_refusal, without, move_refusal, moved, parent, Under};
 ghost use Rattle.dav_files_core.specs.Outcomes.{new_file, new_folder};
 ghost use Rattle.dav_files_core.specs.Meta.{meta_of, meta_at};
+ghost use Rattle.dav_files_core.specs.OpenFiles.{overwritten};
 ghost use Rattle.dav_files_core.specs.Private.TreeCalls.{FindsMember, FindsNode, WritesFile, SetsNode, IsThere};
 
+use super::properties::Props;
 use super::{Kind, MemFsMeta};
 use crate::fs::Moment;
-use bytes::Bytes;
+use bytes::{Buf, Bytes};
 use dav_path_core::errors::{FsError, FsResult};
 use dav_path_core::tree::Tree;
 use std::alloc::Global;
@@ -22,10 +24,10 @@ pub(super) struct Node {
     pub(super) content: Vec<u8>,
     pub(super) created: Moment,
     pub(super) modified: Moment,
+    pub(super) props: Props,
 }
 
 impl Model for Node {
-    ghost use Rattle.std.specs.FinMap.{empty};
     ghost use Rattle.dav_files_core.specs.Resources.{Node};
     ghost use Rattle.dav_files_core.specs.Codes.{coded_node};
 
@@ -33,7 +35,7 @@ impl Model for Node {
 
     ghost coded = { coded_node };
 
-    ghost view = { λ n. record { kind = n.kind; bytes = n.content.items; props = empty; created = n.created.0; modified = n.modified.0 } };
+    ghost view = { λ n. record { kind = n.kind; bytes = n.content.items; props = n.props; created = n.created.0; modified = n.modified.0 } };
 }
 
 impl Node {
@@ -45,10 +47,11 @@ impl Node {
             content: Vec::new(alloc),
             created: now,
             modified: now,
+            props: Props::new(alloc),
         }
     }
 
-    pub(super) fn new_file(content: Vec<u8>, now: Moment) -> Node
+    pub(super) fn new_file(alloc: Global, content: Vec<u8>, now: Moment) -> Node
         ensures { result ≡ new_file content.items now.0 }
     {
         Node {
@@ -56,6 +59,7 @@ impl Node {
             content,
             created: now,
             modified: now,
+            props: Props::new(alloc),
         }
     }
 
@@ -85,7 +89,24 @@ impl Node {
             content: self.content.as_slice().to_vec(alloc)?,
             created: now,
             modified: self.modified,
+            props: self.props.clone()?,
         })
+    }
+
+    // Puts bytes over its own from a place on, with zeros in a gap.
+    fn overwrite<B: Buf>(&mut self, start: usize, buf: &mut B) -> FsResult<()>
+        requires { start + length (B.unread buf.old) < 2 ^ 64 }
+        ensures ok { OnOk result (self.new ≡ record self.old { bytes = overwritten self.old.bytes start (B.unread buf.old) }) }
+        ensures err { IfErr result (λ e. (e ≡ FsError.InsufficientStorage) × (self.new ≡ self.old)) }
+        ensures spent { OnOk result (B.unread buf.new ≡ []) }
+        ensures unread { OnErr result (buf.new ≡ buf.old) }
+        ensures kept { B.kept buf.new ≡ B.kept buf.old }
+    {
+        let end = start + buf.remaining();
+        let length = self.content.len().max(end);
+        self.content.resize(length, 0)?;
+        buf.copy_to_slice(&mut self.content[start..end]);
+        Ok(())
     }
 }
 
@@ -156,6 +177,34 @@ pub(super) fn set_node(tree: &mut Tree<Bytes, Node>, id: u64, node: Node) -> FsR
     let old = tree.get_node_mut(id)?;
     *old = node;
     Ok(())
+}
+
+/// Puts other properties in place of those of a node. `NotFound` where there is no such node.
+pub(super) fn set_props(tree: &mut Tree<Bytes, Node>, id: u64, props: Props) -> FsResult<()>
+    ensures { SetsNode tree.old.keyed id (λ n. record n { props = props }) result tree.new.keyed }
+{
+    let node = tree.get_node_mut(id)?;
+    node.props = props;
+    Ok(())
+}
+
+/// Puts bytes over those of a node from a place on, with zeros in a gap. `InsufficientStorage` where it is out of memory.
+pub(super) fn overwrite<B: Buf>(
+    tree: &mut Tree<Bytes, Node>,
+    id: u64,
+    start: usize,
+    buf: &mut B,
+) -> FsResult<()>
+    requires known { IsThere tree.old.keyed id }
+    requires fits { start + length (B.unread buf.old) < 2 ^ 64 }
+    ensures ok { OnOk result (SetsNode tree.old.keyed id (λ n. record n { bytes = overwritten n.bytes start (B.unread buf.old) }) (Ok tt) tree.new.keyed) }
+    ensures err { IfErr result (λ e. (e ≡ FsError.InsufficientStorage) × (tree.new.keyed ≡ tree.old.keyed)) }
+    ensures spent { OnOk result (B.unread buf.new ≡ []) }
+    ensures unread { OnErr result (buf.new ≡ buf.old) }
+    ensures kept { B.kept buf.new ≡ B.kept buf.old }
+{
+    let node = tree.get_node_mut(id)?;
+    node.overwrite(start, buf)
 }
 
 /// Takes a node out that has no child. `NotFound` where there is no such node, `Forbidden` for the root and for a node

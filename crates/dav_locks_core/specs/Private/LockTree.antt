@@ -1,6 +1,6 @@
 -- The locks of a tree of segments: those that stand at each node, with their grant numbers, and the list that they make, in
 -- the order of granting.
-use Rattle.std.specs.Prelude.{◌≡◌, ℕ, Bool, true, false, List, [], ◌∷◌, ◌++◌, Option, Some, None, option_map, option_and_then, map, position, nat_eq, slice_index_or}
+use Rattle.std.specs.Prelude.{◌≡◌, ℕ, Bool, true, false, List, [], ◌∷◌, ◌++◌, Option, Some, None, IsSome, option_map, option_and_then, map, filter, position, nat_eq, slice_index_or}
 use Rattle.std.specs.Option.{unwrap_or}
 use Rattle.std.specs.Ordering.{nat_cmp}
 use Rattle.std.specs.FinMap.{entries, from_entries}
@@ -70,11 +70,17 @@ lookup_lock test t n [] = with_node n (first_at (test true) t n)
 lookup_lock test t n (s ∷ p) =
     or_else (with_node n (first_at (test false) t n)) (option_and_then (λ c. lookup_lock test t c p) (child_at t n s))
 
--- a conflict that is shown is the lock at that node and place
+-- the locks that cover a path, on the way down to it from a node: the deep ones above it and those at its end
+unfoldable pub covering_down : LockTree → ℕ → Path → List Lock
+covering_down t n [] = locks_of (locks_at t n)
+covering_down t n (s ∷ p) =
+    filter (λ l. l.deep) (locks_of (locks_at t n)) ++ unwrap_or (option_map (λ c. covering_down t c p) (child_at t n s)) []
+
+-- what is shown is the lock at that node and place, if there is memory to show it
 abbrev pub ShowsAt : LockTree → Option (ℕ × ℕ) → LockError → Type 0
 ShowsAt t o (Conflict l) =
     (f : ℕ × ℕ) × (o ≡ Some f) × ((d : NumberedLock) → l ≡ (slice_index_or (locks_at t f.0) f.1 d).1)
-ShowsAt t o OutOfMemory = Unit {0}
+ShowsAt t o OutOfMemory = IsSome o
 
 -- u is t with more nodes, at which no locks stand
 pub record Grown (t u : LockTree) : Type 0 where

@@ -6,6 +6,7 @@ use Rattle.dav_path_core.specs.Keyed.{IsTree}
 use Rattle.dav_locks_core.specs.Lock.{Lock}
 use Rattle.dav_locks_core.specs.Locks.{lock_path}
 use Rattle.dav_locks_core.specs.Private.LockTree.{NumberedLock, LockTree, locks_at, node_at, is_segment, all_granted, lock_list}
+use Rattle.dav_locks_core.specs.Private.Pruning.{AllNeeded}
 use Rattle.dav_locks_core.specs.Exclusive.{Exclusive}
 
 -- the list and the locks at each node are in the order of their numbers, which are below the next; each lock at a node is of
@@ -18,7 +19,12 @@ pub record Represents (t : LockTree) (granted : List NumberedLock) (next : ℕ) 
   pub stands : (g : ℕ) (l : Lock) → find nat_cmp g granted ≡ Some l → (n : ℕ) × (find nat_cmp g (locks_at t n) ≡ Some l)
   pub below : (g : ℕ) (l : Lock) → find nat_cmp g granted ≡ Some l → g < next
 
--- what a lock list keeps
-pub record IsLockTree (t : LockTree) (next : ℕ) : Type 0 where
+-- a tree of locks that represents its list, in which two locks that cover one path are both shared
+pub record IsLockList (t : LockTree) (next : ℕ) : Type 0 where
   pub represents : Represents t (all_granted t) next
   pub exclusive : Exclusive (lock_list t)
+
+-- what a lock list keeps: that, and no node that no lock needs
+pub record IsLockTree (t : LockTree) (next : ℕ) : Type 0 where
+  pub list : IsLockList t next
+  pub needed : AllNeeded t

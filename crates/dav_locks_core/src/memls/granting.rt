@@ -1,7 +1,7 @@
 //! Granting locks, and ending them.
-ghost use Rattle.std.specs.Prelude.{◌≡◌, ◌≤◌, ◌<◌, ◌+◌, ◌++◌, ◌∷◌, [], option_map, length, remove, IfOk, IfErr, OnOk, OnErr, string_bytes, string_len, string_capacity};
+ghost use Rattle.std.specs.Prelude.{◌≡◌, ◌≤◌, ◌<◌, ◌+◌, ◌++◌, ◌∷◌, [], option_map, length, remove, IfOk, IfErr, OnOk, OnErr, string_bytes, string_len, string_capacity, slice_index_or, slice_set};
 ghost use Rattle.dav_path_core.specs.Keyed.{IsKnown, with_item};
-ghost use Rattle.dav_locks_core.specs.Locks.{end_of};
+ghost use Rattle.dav_locks_core.specs.Locks.{end_of, refreshed};
 ghost use Rattle.dav_locks_core.specs.Tokens.{token_from};
 ghost use Rattle.dav_locks_core.specs.Calls.{lent_text};
 ghost use Rattle.dav_locks_core.specs.Private.LockTree as spec;
@@ -65,6 +65,56 @@ pub(super) fn end_lock(tree: &mut Tree<Bytes, NodeLocks>, node: u64, place: usiz
         }
         Err(_) => unreachable!(),
     }
+}
+
+// Gives the lock at a place among those at a node another timeout, and answers a copy.
+pub(super) fn refresh_lock(
+    tree: &mut Tree<Bytes, NodeLocks>,
+    node: u64,
+    place: usize,
+    timeout: Option<u64>,
+    now: Moment,
+) -> Result<DavLock, AllocError>
+    requires { place < length (spec.locks_at tree.old.keyed node) }
+    ensures answer { IfOk result (λ lock. (d : spec.NumberedLock)
+        → lock ≡ refreshed now.0 timeout (slice_index_or (spec.locks_at tree.old.keyed node) place d).1) }
+    ensures changed { IfOk result (λ lock. (d : spec.NumberedLock) → tree.new.keyed ≡ with_item tree.old.keyed node
+        (slice_set (spec.locks_at tree.old.keyed node) place
+        ((slice_index_or (spec.locks_at tree.old.keyed node) place d).0, lock))) }
+    ensures unchanged { OnErr result (tree.new.keyed ≡ tree.old.keyed) }
+{
+    match tree.get_node_mut(node) {
+        Ok(node_locks) => refresh_in(&mut node_locks.locks, place, timeout, now),
+        Err(_) => unreachable!(),
+    }
+}
+
+// Gives the lock at a place another timeout, and answers a copy.
+fn refresh_in(
+    locks: &mut Vec<(u64, DavLock)>,
+    place: usize,
+    timeout: Option<u64>,
+    now: Moment,
+) -> Result<DavLock, AllocError>
+    requires { place < length locks.old.items }
+    ensures answer { IfOk result (λ lock. (d : spec.NumberedLock)
+        → lock ≡ refreshed now.0 timeout (slice_index_or locks.old.items place d).1) }
+    ensures changed { IfOk result (λ lock. (d : spec.NumberedLock) → locks.new.items
+        ≡ slice_set locks.old.items place ((slice_index_or locks.old.items place d).0, lock)) }
+    ensures unchanged { OnErr result (locks.new.items ≡ locks.old.items) }
+{
+    let timeout_at = end_of_timeout(now, timeout);
+    let mut answer = locks[place].1.clone()?;
+    set_timeout(&mut answer, timeout, timeout_at);
+    set_timeout(&mut locks[place].1, timeout, timeout_at);
+    Ok(answer)
+}
+
+fn set_timeout(lock: &mut DavLock, timeout: Option<u64>, timeout_at: Option<Moment>)
+    ensures { lock.new ≡ record lock.old { timeout_at = option_map (λ m. m.0) timeout_at; timeout = timeout } }
+{
+    lock.timeout = timeout;
+    lock.timeout_at = timeout_at;
 }
 
 // Adds a lock to a list, and gives one that is equal. All memory is taken before the token is drawn.

@@ -116,3 +116,51 @@ fn grants_to_the_last_number(rt: HostRuntime) -> Result<(), Fail> {
     assert!(rt; locks.next == u64::MAX && rng.0 == 5);
     Ok(())
 }
+
+// A call, and how many nodes the tree has then. `unlock` takes the place of its lock among those granted.
+const NODES: &str = "new - 1
+lock /a/b/c 4
+lock /a/b/d 5
+unlock 0 4
+unlock 1 1
+new - 1
+lock /a/b 3
+lock /a/b/c/d 5
+delete /a/b/c 3
+delete /a 1
+new - 1
+lock / 1
+unlock 0 1";
+
+#[test]
+fn holds_no_node_that_no_lock_needs(rt: HostRuntime) -> Result<(), Fail> {
+    let alloc = rt.alloc();
+    let mut rng = Counter(1);
+    let mut locks = MemLs::new(alloc)?;
+    let mut granted: Vec<DavLock> = Vec::new(alloc);
+    for row in NODES.split('\n') {
+        let words: Vec<&str> = row.split(' ').collect(alloc)?;
+        let [call, word, count] = words.as_slice() else {
+            return Err("no row")?;
+        };
+        match *call {
+            "new" => {
+                locks = MemLs::new(alloc)?;
+                granted.clear();
+            }
+            "lock" => {
+                let path = DavPath::new(alloc, word)?;
+                let answer = locks.lock(&path, None, None, None, false, false, Moment(5), &mut rng);
+                granted.push(answer.ok().ok_or("refused")?)?;
+            }
+            "unlock" => {
+                let lock = granted.get(word.parse::<usize>()?).ok_or("no lock")?;
+                assert!(rt; locks.unlock(&lock.path, lock.token.as_str()).is_ok());
+            }
+            _ => locks.delete(&DavPath::new(alloc, word)?),
+        }
+        assert_eq!(rt; locks.tree.node_count(), count.parse()?, "{row}");
+        assert_eq!(rt; locks.node_count(), locks.tree.node_count());
+    }
+    Ok(())
+}

@@ -1,12 +1,14 @@
 //! The way down a path in the tree of locks.
-ghost use Rattle.std.specs.Prelude.{◌≡◌, ◌<◌, Some, None, length, IfOk, IfErr, OnOk, slice_index_or};
+ghost use Rattle.std.specs.Prelude.{◌≡◌, ◌⊎◌, ◌<◌, ◌++◌, ◌||◌, ℕ, Some, None, length, filter, IfOk, IfErr, OnOk, OnErr, MatchResult, slice_index_or};
 ghost use Rattle.dav_path_core.specs.Segments.{segments};
 ghost use Rattle.dav_path_core.specs.Keyed.{IsKnown, IsTree};
 ghost use Rattle.dav_locks_core.specs.Private.LockTree.{NumberedLock, child_at, node_at, is_segment, ShowsAt, Grown};
 ghost use Rattle.dav_locks_core.specs.Private.LockTree as spec;
+ghost use Rattle.dav_locks_core.specs.Private.Pruning.{AllNeeded, NeededBut, SameLocks};
 
 use super::NodeLocks;
 use super::holding::LockTest;
+use super::pruning::prune;
 use crate::ls::{DavLock, LockError};
 use bytes::Bytes;
 use dav_path_core::davpath::DavPath;
@@ -34,7 +36,7 @@ pub(super) fn locks_at(tree: &Tree<Bytes, NodeLocks>, node: u64) -> &[(u64, DavL
 }
 
 // The place among the locks at a node of the first that passes.
-fn first_at<T: LockTest>(
+pub(super) fn first_at<T: LockTest>(
     tree: &Tree<Bytes, NodeLocks>,
     node: u64,
     test: &T,
@@ -45,6 +47,20 @@ fn first_at<T: LockTest>(
     locks_at(tree, node)
         .iter()
         .position(|(_, lock)| test.passes(at_path, lock))
+}
+
+// The node at a path.
+pub(super) fn lookup_node(tree: &Tree<Bytes, NodeLocks>, path: &DavPath) -> Option<u64>
+    ensures { result ≡ node_at tree.now.keyed 1 (segments path.now.bytes) }
+{
+    let mut node = ROOT_ID;
+    for segment in path.segments() {
+        match child_of(tree, node, segment) {
+            Some(child) => node = child,
+            None => return None,
+        }
+    }
+    Some(node)
 }
 
 // The node, and the place there, of the first lock that passes on the way down to a path.
@@ -107,6 +123,44 @@ pub(super) fn check_locks_to_path<T: LockTest>(
     }
 }
 
+// Copies of the locks that cover a path, from the root down.
+pub(super) fn covering_locks(
+    tree: &Tree<Bytes, NodeLocks>,
+    alloc: Global,
+    path: &DavPath,
+) -> Result<Vec<DavLock>, AllocError>
+    ensures { IfOk result (λ v. v.items ≡ spec.covering_down tree.now.keyed 1 (segments path.now.bytes)) }
+{
+    let mut covering = Vec::new(alloc);
+    let mut node = ROOT_ID;
+    for segment in path.segments() {
+        add_copies(&mut covering, locks_at(tree, node), false)?;
+        match child_of(tree, node, segment) {
+            Some(child) => node = child,
+            None => return Ok(covering),
+        }
+    }
+    add_copies(&mut covering, locks_at(tree, node), true)?;
+    Ok(covering)
+}
+
+// Adds copies of the locks at a node to a list, of the deep ones alone where the path goes on.
+fn add_copies(
+    covering: &mut Vec<DavLock>,
+    granted: &[(u64, DavLock)],
+    at_path: bool,
+) -> Result<(), AllocError>
+    ensures { OnOk result (covering.new.items
+        ≡ covering.old.items ++ filter (λ l. at_path || l.deep) (spec.locks_of granted.now)) }
+{
+    for (_, lock) in granted {
+        if at_path || lock.deep {
+            covering.push(copy_of(lock)?)?;
+        }
+    }
+    Ok(())
+}
+
 // The child of a node under a segment, which is added where it isn't there.
 fn get_or_create_child(
     tree: &mut Tree<Bytes, NodeLocks>,
@@ -119,7 +173,9 @@ fn get_or_create_child(
     ensures grown { Grown tree.old.keyed tree.new.keyed }
     ensures shape { IsTree is_segment tree.new.keyed }
     ensures child { IfOk result (λ n. (child_at tree.new.keyed node segment.now ≡ Some n) × IsKnown tree.new.keyed n) }
+    ensures alone { IfOk result (λ n. (k : ℕ) → IsKnown tree.new.keyed k → IsKnown tree.old.keyed k ⊎ (k ≡ n)) }
     ensures error { IfErr result (λ e. e ≡ LockError.OutOfMemory) }
+    ensures unchanged { OnErr result (tree.new.keyed ≡ tree.old.keyed) }
 {
     if let Some(child) = child_of(tree, node, segment) {
         return Ok(child);
@@ -134,22 +190,29 @@ fn get_or_create_child(
     }
 }
 
-// The node at a path. The nodes on the way that aren't there are added.
+// The node at a path. The nodes on the way that aren't there are added; refused, they are taken away again.
 pub(super) fn get_or_create_path_node(
     tree: &mut Tree<Bytes, NodeLocks>,
     alloc: Global,
     path: &DavPath,
 ) -> Result<u64, LockError>
-    requires { IsTree is_segment tree.old.keyed }
-    ensures grown { Grown tree.old.keyed tree.new.keyed }
-    ensures shape { IsTree is_segment tree.new.keyed }
+    requires shape { IsTree is_segment tree.old.keyed }
+    requires needed { AllNeeded tree.old.keyed }
+    ensures same { SameLocks tree.old.keyed tree.new.keyed }
     ensures node { IfOk result (λ n. (node_at tree.new.keyed 1 (segments path.now.bytes) ≡ Some n)
         × IsKnown tree.new.keyed n) }
+    ensures needed { MatchResult result (λ n. NeededBut tree.new.keyed n) (λ _. AllNeeded tree.new.keyed) }
     ensures error { IfErr result (λ e. e ≡ LockError.OutOfMemory) }
 {
     let mut node = ROOT_ID;
     for segment in path.segments() {
-        node = get_or_create_child(tree, alloc, node, segment)?;
+        match get_or_create_child(tree, alloc, node, segment) {
+            Ok(child) => node = child,
+            Err(error) => {
+                prune(tree, node);
+                return Err(error);
+            }
+        }
     }
     Ok(node)
 }

@@ -28,6 +28,10 @@ abbrev one_if : Bool → ℕ
 one_if true = 1
 one_if false = 0
 
+one_if-le : (a b : Bool) → (a ≡ true → b ≡ true) → one_if a ≤ one_if b
+one_if-le false b h = omega arith
+one_if-le true b h = let is : one_if b ≡ 1 = ap one_if (h refl) in omega (arith, is)
+
 module _ {K D : Type 0} where
   -- the first link of a node leads to a child, or it has none
   pub first_kind : (eq : K → K → Bool) (es : List (ℕ × Node K D)) (next : ℕ) → IsLinked eq es next → (n : ℕ) (o : Option (Node K D)) → o ≡ node_at es n
@@ -76,6 +80,25 @@ module _ {K D : Type 0} where
         let same : one_if (is_some (entry (without t n) m)) ≡ one_if (is_some (entry t m)) = ap (λ o. one_if (is_some o)) ((entry-without t n).other m (λ e. ne (sym e))) in
         let rest = fewer t n m known (omega (arith, lt, ne)) in
         omega (arith, same, rest)
+  ]
+
+  -- fewer, where one goes and none comes
+  no_more : (t u : Keyed K D) (m : ℕ) → ((q : ℕ) → IsKnown u q → IsKnown t q) → known_below u m ≤ known_below t m
+  no_more t u zero h = omega arith
+  no_more t u (suc m) h = let one = one_if-le (is_some (entry u m)) (is_some (entry t m)) (h m) in let rest = no_more t u m h in omega (arith, one, rest)
+
+  pub fewer_gone : (t u : Keyed K D) (n m : ℕ) → ((q : ℕ) → IsKnown u q → IsKnown t q) → IsKnown t n → entry u n ≡ None → n < m → known_below u m < known_below t m
+  fewer_gone t u n zero h known gone lt = absurd (omega (arith, lt))
+  fewer_gone t u n (suc m) h known gone lt = elim (cases_eq n m) [
+    | inl is ↦
+        let now : one_if (is_some (entry u m)) ≡ 0 = subst (λ v. one_if (is_some (entry u v)) ≡ 0) is (ap (λ o. one_if (is_some o)) gone) in
+        let was : one_if (is_some (entry t m)) ≡ 1 = subst (λ v. one_if (is_some (entry t v)) ≡ 1) is (ap one_if known) in
+        let rest = no_more t u m h in
+        omega (arith, now, was, rest)
+    | inr ne ↦
+        let one = one_if-le (is_some (entry u m)) (is_some (entry t m)) (h m) in
+        let rest = fewer_gone t u n m h known gone (omega (arith, lt, ne)) in
+        omega (arith, one, rest)
   ]
 
   -- ---- a cut of s at n: begun, with leaves sought from a number below n, or over

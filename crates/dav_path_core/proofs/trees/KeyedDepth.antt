@@ -25,7 +25,7 @@ abbrev pub way : {f : ℕ → Option ℕ} {n : ℕ} → Leads f n → List ℕ
 way root = 1 ∷ []
 way (up {n = n} e l) = n ∷ way l
 
-length-way : {f : ℕ → Option ℕ} {n : ℕ} (l : Leads f n) → length (way l) ≡ suc (depth l)
+pub length-way : {f : ℕ → Option ℕ} {n : ℕ} (l : Leads f n) → length (way l) ≡ suc (depth l)
 length-way root = refl
 length-way (up e l) = ap suc (length-way l)
 
@@ -38,18 +38,18 @@ module _ (f : ℕ → Option ℕ) (top : f 1 ≡ None) where
   depth-same is (up {p = p} e l) (up {p = q} e' r) = ap suc (depth-same (same_some p q (sym e ∙ ap f is ∙ e')) l r)
 
   -- from each number on the way, a way that is no longer
-  on_way : {n : ℕ} (l : Leads f n) (k : ℕ) → list_any (eqb k) (way l) ≡ true → (r : Leads f k) × (depth r ≤ depth l)
+  pub on_way : {n : ℕ} (l : Leads f n) (k : ℕ) → list_any (eqb k) (way l) ≡ true → (r : Leads f k) × (depth r ≤ depth l)
   on_way root k h = elim (or_cases (eqb k 1) false h) [ inl e ↦ (subst (Leads f) (sym (eqb-true k 1 e)) root, omega (arith, depth-same (eqb-true k 1 e) (subst (Leads f) (sym (eqb-true k 1 e)) root) root)) | inr e ↦ absurd (false≢true e) ]
   on_way (up {n = n} e l) k h = elim (or_cases (eqb k n) (list_any (eqb k) (way l)) h) [
     | inl is ↦ (subst (Leads f) (sym (eqb-true k n is)) (up e l), omega (arith, depth-same (eqb-true k n is) (subst (Leads f) (sym (eqb-true k n is)) (up e l)) (up e l)))
     | inr on ↦ let r = on_way l k on in (r.0, omega (arith, r.1))
   ]
 
-  once : {n : ℕ} (l : Leads f n) → IsDistinct eqb (way l)
+  pub once : {n : ℕ} (l : Leads f n) → IsDistinct eqb (way l)
   once root = more_distinct 1 [] (λ h. false≢true h) no_distinct
   once (up {n = n} e l) = more_distinct n (way l) (λ h. let r = on_way l n h in omega (arith, r.1, depth-same refl r.0 (up e l))) (once l)
 
-  one_up : {k p : ℕ} (l : Leads f k) → f k ≡ Some p → (r : Leads f p) × (suc (depth r) ≡ depth l)
+  pub one_up : {k p : ℕ} (l : Leads f k) → f k ≡ Some p → (r : Leads f p) × (suc (depth r) ≡ depth l)
   one_up {p = p} root e = absurd (none≢some p (sym top ∙ e))
   one_up {p = p} (up {p = q} e' l) e =
       let is : q ≡ p = same_some q p (sym e' ∙ e) in (subst (Leads f) is l, ap suc (depth-same (sym is) (subst (Leads f) is l) l))

@@ -24,7 +24,7 @@ same_some x y e = ap (λ o. unwrap_or o x) e
 pub none≢some : {A : Type 0} (x : A) → None ≡ Some x → ⊥
 none≢some x e = false≢true (ap is_some e)
 
-is_lt-below : (a b : ℕ) → T (is_lt (nat_cmp a b)) → a < b
+pub is_lt-below : (a b : ℕ) → T (is_lt (nat_cmp a b)) → a < b
 is_lt-below a b h =
     elim (nat_lt a b) as (λ v. nat_lt a b ≡ v → T (is_lt (cond v Less (cond (a == b) Equal Greater))) → a < b) [
       | true ↦ λ e p. ltb-true a b e

@@ -17,8 +17,9 @@ const ESCAPED: AsciiSet = ascii_set!(
         .remove(b'/')
 );
 
-/// The bytes as they are written in a URL text.
-pub(super) fn escaped(bytes: &[u8]) -> PercentEncode<'_>
+/// The bytes as they are written in a URL text: ASCII letters and digits, `-`, `_`, `.`, `~` and `/` as they are, any other byte as `%` and
+/// two upper-case hexadecimal digits (RFC 3986 section 2.1). It takes no memory (own).
+pub fn escaped(bytes: &[u8]) -> PercentEncode<'_>
     ensures { encoded_text result ≡ url bytes.now }
 {
     percent_encode(bytes, ESCAPED)

@@ -1,9 +1,13 @@
 //! Answers to the lines of a scenario.
+use super::answers::{
+    write_bytes, write_entries, write_locks, write_meta, write_props, write_refreshed,
+    write_refusal, write_statuses,
+};
 use super::labels::Labels;
 use super::lines::{Action, Asked};
 use super::{OUT_OF_MEMORY, Stop};
-use crate::guarded::{Command, Guarded, Refusal, Reply, Request};
-use bytes::Bytes;
+use crate::guarded::{Command, Guarded, Reply, Request};
+use dav_files_core::fs::DavProp;
 use dav_locks_core::ls::DavLock;
 use dav_path_core::davpath::{DavPath, ParseError};
 use rand_pcg::Pcg64;
@@ -40,18 +44,28 @@ impl Player {
     ) -> Result<(), Stop> {
         match self.stores.apply(request, &mut self.rng) {
             Ok(Reply::Done) => Ok(output.write_all(b"ok\n")?),
-            Ok(Reply::Bytes(bytes)) => write_bytes(self.alloc, &bytes, output),
-            Ok(Reply::Lock(lock)) => self.write_granted(lock, output),
+            Ok(Reply::Bytes(bytes)) => write_bytes(self.alloc, bytes.as_slice(), output),
+            Ok(Reply::Entries(entries)) => write_entries(&entries, output),
+            Ok(Reply::Meta(meta)) => write_meta(&meta, output),
+            Ok(Reply::Patched(answers)) => write_statuses(&answers, output),
+            Ok(Reply::Props(props)) => write_props(&props, output),
+            Ok(Reply::Value(xml)) => write_bytes(self.alloc, &xml, output),
+            Ok(Reply::Lock(lock)) => self.write_lock(request, lock, output),
+            Ok(Reply::Locks(locks)) => write_locks(&self.labels, &locks, output),
             Err(refusal) => write_refusal(&self.labels, &refusal, output),
         }
     }
 
-    // The label of a lock that was granted: its token is kept.
-    fn write_granted<O: Write + Drop>(
+    // The label of a lock: the token of one that was granted is kept, and of one that was refreshed its end is told.
+    fn write_lock<O: Write + Drop>(
         &mut self,
+        request: &Request,
         lock: DavLock,
         output: &mut BufWriter<O>,
     ) -> Result<(), Stop> {
+        if matches!(request.command, Command::Refresh { .. }) {
+            return write_refreshed(&self.labels, &lock, output);
+        }
         let number = self.labels.add(lock.token)?;
         Ok(writeln!(output, "ok t{number}")?)
     }
@@ -105,9 +119,55 @@ fn command_of(alloc: Global, granted: &Labels, action: Action<'_>) -> Result<Com
             let path = DavPath::new(alloc, path)?;
             Ok(Command::Put { path, bytes })
         }
+        Action::Write { path, at, bytes } => {
+            let path = DavPath::new(alloc, path)?;
+            Ok(Command::Write { path, at, bytes })
+        }
         Action::Read { path, at, count } => {
             let path = DavPath::new(alloc, path)?;
             Ok(Command::Read { path, at, count })
+        }
+        Action::List { path } => {
+            let path = DavPath::new(alloc, path)?;
+            Ok(Command::List { path })
+        }
+        Action::Meta { path } => {
+            let path = DavPath::new(alloc, path)?;
+            Ok(Command::Meta { path })
+        }
+        Action::MkCol { path } => {
+            let path = DavPath::new(alloc, path)?;
+            Ok(Command::MkCol { path })
+        }
+        Action::Remove { path } => {
+            let path = DavPath::new(alloc, path)?;
+            Ok(Command::Remove { path })
+        }
+        Action::Move { from, to } => {
+            let from = DavPath::new(alloc, from)?;
+            let to = DavPath::new(alloc, to)?;
+            Ok(Command::Move { from, to })
+        }
+        Action::Copy { from, to } => {
+            let from = DavPath::new(alloc, from)?;
+            let to = DavPath::new(alloc, to)?;
+            Ok(Command::Copy { from, to })
+        }
+        Action::PatchProps { path, set, prop } => {
+            let path = DavPath::new(alloc, path)?;
+            let patch = patch_of(alloc, set, prop)?;
+            Ok(Command::PatchProps { path, patch })
+        }
+        Action::GetProps { path } => {
+            let path = DavPath::new(alloc, path)?;
+            Ok(Command::GetProps {
+                path,
+                content: false,
+            })
+        }
+        Action::GetProp { path, prop } => {
+            let path = DavPath::new(alloc, path)?;
+            Ok(Command::GetProp { path, prop })
         }
         Action::Lock {
             path,
@@ -129,33 +189,33 @@ fn command_of(alloc: Global, granted: &Labels, action: Action<'_>) -> Result<Com
             let token = granted.token_of(label)?;
             Ok(Command::Unlock { path, token })
         }
+        Action::Refresh {
+            path,
+            label,
+            timeout,
+        } => {
+            let path = DavPath::new(alloc, path)?;
+            let token = granted.token_of(label)?;
+            Ok(Command::Refresh {
+                path,
+                token,
+                timeout,
+            })
+        }
+        Action::Discover { path } => {
+            let path = DavPath::new(alloc, path)?;
+            Ok(Command::Discover { path })
+        }
+        Action::Check { path, deep } => {
+            let path = DavPath::new(alloc, path)?;
+            Ok(Command::Check { path, deep })
+        }
     }
 }
 
-// The bytes in lower-case hexadecimal digits, `-` for none.
-fn write_bytes<O: Write + Drop>(
-    alloc: Global,
-    bytes: &Bytes,
-    output: &mut BufWriter<O>,
-) -> Result<(), Stop> {
-    if bytes.is_empty() {
-        return Ok(output.write_all(b"ok -\n")?);
-    }
-    match hex::encode(alloc, bytes.as_slice()) {
-        Ok(text) => Ok(writeln!(output, "ok {text}")?),
-        Err(_) => Ok(output.write_all(OUT_OF_MEMORY)?),
-    }
-}
-
-fn write_refusal<O: Write + Drop>(
-    labels: &Labels,
-    refusal: &Refusal,
-    output: &mut BufWriter<O>,
-) -> Result<(), Stop> {
-    match refusal {
-        Refusal::Fs(error) => Ok(writeln!(output, "error {} {error}", error.status().as_u16())?),
-        Refusal::Locked(lock) => Ok(writeln!(output, "locked t{}", labels.number_of(&lock.token))?),
-        Refusal::NoLock => Ok(output.write_all(b"no lock\n")?),
-        Refusal::OutOfMemory => Ok(output.write_all(OUT_OF_MEMORY)?),
-    }
+// One property, to be set or removed.
+fn patch_of(alloc: Global, set: bool, prop: DavProp) -> Result<Vec<(bool, DavProp)>, AllocError> {
+    let mut patch = Vec::new(alloc);
+    patch.push((set, prop))?;
+    Ok(patch)
 }

@@ -1,4 +1,8 @@
 use super::*;
+use bytes::Bytes;
+use dav_files_core::fs::{DavFile, DavFileSystem, OpenOptions};
+use dav_locks_core::ls::{DavLock, DavLockSystem};
+use dav_path_core::davpath::DavPath;
 use rand_core::SeedableRng;
 use rand_pcg::Pcg64;
 use std::test::Fail;
@@ -50,7 +54,8 @@ fn keeps_its_stores_in_two_fields(rt: HostRuntime) -> Result<(), Fail> {
     let lock = granted(stores.apply(&lock_root(&rt)?, &mut rng)).ok_or("not granted")?;
     let root = DavPath::new(rt.alloc(), "/")?;
     let x = DavPath::new(rt.alloc(), "/x")?;
-    assert!(rt; stores.fs.read_at(&x, 0, 9)?.as_slice() == b"ab".as_slice());
+    let mut file = stores.fs.open(&x, OpenOptions::read(), Moment(6))?;
+    assert!(rt; file.read_bytes(&stores.fs, 9)?.as_slice() == b"ab".as_slice());
     assert!(rt; stores.locks.check(&root, None, false, false, &[]).is_err());
     assert!(rt; stores.locks.unlock(&root, lock.token.as_str()).is_ok());
     assert!(rt; stores.locks.check(&root, None, false, false, &[]).is_ok());

@@ -62,7 +62,7 @@ fn ends_where_the_output_fails(rt: HostRuntime) {
         room: 3,
     };
     let mut faulted = Vec::new(rt.alloc());
-    let input = b"1 - - put /a 61\n2 - - put /b 61\n3 - - mkcol /d\n".as_slice();
+    let input = b"1 - - put /a 61\n2 - - put /b 61\n3 - - mkdir /d\n".as_slice();
     assert_eq!(rt; replay(rt.alloc(), 1, input, &mut output, &mut faulted), 3);
     assert!(rt; output.told.as_slice() == b"ok\n".as_slice());
     assert!(rt; faulted.as_slice() == b"i/o error\n".as_slice());
@@ -71,7 +71,7 @@ fn ends_where_the_output_fails(rt: HostRuntime) {
 #[test]
 fn keeps_its_status_where_faults_fail(rt: HostRuntime) {
     let mut told = Vec::new(rt.alloc());
-    let input = b"1 - - mkcol /d\n".as_slice();
+    let input = b"1 - - mkdir /d\n".as_slice();
     assert_eq!(rt; replay(rt.alloc(), 1, input, &mut told, full(&rt)), 2);
     let input = BrokenInput { rest: b"" };
     assert_eq!(rt; replay(rt.alloc(), 1, input, &mut told, full(&rt)), 3);

@@ -2,6 +2,7 @@ use Rattle.std.proofs.Common.{[], ap, ◌∙◌}
 use Rattle.dav_path_core.specs.Keyed.{lone}
 use Rattle.dav_locks_core.specs.Private.LockTree.{LockTree, locks_at}
 use Rattle.dav_locks_core.proofs.Standing.{lone-none}
+use Rattle.dav_locks_core.proofs.Pruning.{lone_needed}
 use Rattle.dav_locks_core.proofs.LockLists.{IsSeenAs, seen-none}
 use Rattle.dav_locks_core.proofs.memls.MemLs.new.Goals as goal
 
@@ -11,7 +12,7 @@ empty c =
     (λ n. ap (λ (t : LockTree). locks_at t n) (c.in_ok-tree.ensures.answer.1 ∙ ap lone c.new.ensures.items) ∙ lone-none n)
 
 pub invariant_of-result : goal.invariant_of-result
-invariant_of-result c = (empty c).keeps
+invariant_of-result c = record { list = (empty c).keeps; needed = lone_needed c.in_ok-tree.tree.keyed c.new.result.items c.in_ok-tree.ensures.answer.1 }
 
 pub returns-clause-empty : goal.returns-clause-empty
 returns-clause-empty c = (empty c).seen

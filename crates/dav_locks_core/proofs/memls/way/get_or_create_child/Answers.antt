@@ -1,6 +1,6 @@
 use Rattle.std.proofs.Common.{Some, sym, ap, ◌∙◌, subst, ℕ}
 use Rattle.dav_path_core.specs.Keyed.{IsKnown}
-use Rattle.dav_locks_core.proofs.Growing.{Grows, Grows-by, child_known}
+use Rattle.dav_locks_core.proofs.Growing.{Grows, Grows-by, child_known, alone-add}
 use Rattle.dav_locks_core.proofs.memls.way.get_or_create_child.Goals as goal
 
 grows : (c : goal.In-Ok) → Grows c.args.tree.now.keyed c.add_child.new.self.keyed c.args.node c.args.segment.now
@@ -21,3 +21,8 @@ returns-in-Ok-clause-child c =
     let child = (grows c).child in
     let known = (grows c).known in
     (child ∙ ap (λ (n : ℕ). Some n) (sym number), subst (IsKnown c.add_child.new.self.keyed) (sym number) known)
+
+pub returns-in-Ok-clause-alone : goal.returns-in-Ok-clause-alone
+returns-in-Ok-clause-alone c =
+    alone-add c.args.tree.now.keyed c.add_child.new.self.keyed c.args.node c.args.segment.now c.in_ok-key.key c.new.result.items c.in-Ok.child
+    c.in_default.ensures c.in_ok-key.ensures c.in-Ok.ensures.answer.1.0 c.in-Ok.ensures.answer.1.1

@@ -8,5 +8,5 @@ use Rattle.dav_resource_core.proofs.guarded.Guarded.check_path.Goals as goal
 pub returns-in_err-check-clause-err : goal.returns-in_err-check-clause-err
 returns-in_err-check-clause-err c =
     let p = err_from_is_err_and c.from_residual.result c.from_residual.ensures.1 in
-    rw p.1 (refused_path c.args.self.now.locks (caller_of (request_of c.args.request.now)) (segments c.args.path.now.bytes) c.in_err-check.field-0.0 p.0 p.2
+    rw p.1 (refused_path c.args.self.now.locks (caller_of (request_of c.args.request.now)) (segments c.args.path.now.bytes) c.args.deep c.in_err-check.field-0.0 p.0 p.2
     (rw (← c.self.view_is, ← c.text_of-principal.ensures, ← c.deref.ensures.value) c.in_err-check.ensures.shown))

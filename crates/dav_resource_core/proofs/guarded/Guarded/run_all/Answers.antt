@@ -1,11 +1,12 @@
 use Rattle.std.proofs.Common.{arith}
 use Rattle.dav_resource_core.proofs.RunLaws.{run_on}
+use Rattle.dav_resource_core.specs.Stores.{state_of}
 use Rattle.dav_resource_core.specs.Served.{request_of, answer_of}
 use Rattle.dav_resource_core.proofs.guarded.Guarded.run_all.Goals as goal
 
 pub loop-request-preserved : goal.loop-request-preserved
 loop-request-preserved g c = record {
-  ran = run_on request_of answer_of _ _ _ c.args.requests.now c.loop-request.request-index c.loop-request.answers.items _ c.request-item.result c.serve-answer.result
+  ran = run_on request_of answer_of (state_of c.args.self.now (g.R.Rng.stream c.args.rng.now)) (state_of c.loop-request.self (g.R.Rng.stream c.loop-request.rng)) (state_of c.serve-answer.new.self (g.R.Rng.stream c.serve-answer.new.rng)) c.args.requests.now c.loop-request.request-index c.loop-request.answers.items _ c.request-item.result c.serve-answer.result
       c.loop-request-test.true c.request-item.is c.add_answer.ensures.items c.loop-request.invariant.ran c.serve-answer.ensures.step;
   count = omega arith;
   room = omega arith;

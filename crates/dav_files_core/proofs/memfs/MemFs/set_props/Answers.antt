@@ -1,0 +1,23 @@
+use Rattle.std.proofs.Common.{sym}
+use Rattle.dav_files_core.proofs.Setting.{props_stand}
+use Rattle.dav_files_core.proofs.Stepping.{stands_for, stands_itself, is_view, lost}
+use Rattle.dav_files_core.proofs.memfs.MemFs.set_props.Goals as goal
+
+pub unreachable-requires : goal.unreachable-requires
+unreachable-requires c =
+    let h = c.requires in
+    lost c.self.inside.tree.keyed c.args.self.now (stands_for _ _ c.self.view_is c.self.invariant) h.0 h.1 h.2 c.args.id h.3 c.in-Err.ensures.1
+
+pub invariant_of-self : goal.invariant_of-self
+invariant_of-self c =
+    let h = c.requires in
+    stands_itself c.set_props.new.tree.keyed _
+    (props_stand c.self.inside.tree.keyed c.args.self.now (stands_for _ _ c.self.view_is c.self.invariant) h.0 h.1 h.2 c.args.id h.3 c.args.props c.set_props.new.tree.keyed c.in-Ok.ensures)
+
+pub returns-clause-change : goal.returns-clause-change
+returns-clause-change c = λ p r here number.
+    sym (is_view c.set_props.new.tree.keyed _
+    (props_stand c.self.inside.tree.keyed c.args.self.now (stands_for _ _ c.self.view_is c.self.invariant) p r here c.args.id number c.args.props c.set_props.new.tree.keyed c.in-Ok.ensures))
+
+pub returns-clause-shape : goal.returns-clause-shape
+returns-clause-shape c = (invariant_of-self c).is_map

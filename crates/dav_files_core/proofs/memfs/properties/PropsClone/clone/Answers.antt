@@ -1,0 +1,12 @@
+use Rattle.std.proofs.Common.{ap, ◌∙◌}
+use Rattle.std.specs.FinMap.{from_entries}
+use Rattle.dav_files_core.specs.Properties.{property_of}
+use Rattle.dav_files_core.specs.Resources.{key_cmp}
+use Rattle.dav_files_core.proofs.KeptProperties.{same_key}
+use Rattle.dav_files_core.proofs.Seen.{seen_copy}
+use Rattle.dav_files_core.proofs.memfs.properties.PropsClone.clone.Goals as goal
+
+pub returns : goal.returns
+returns c = record {
+  cases = ap (from_entries {R = key_cmp}) (seen_copy key_cmp property_of _ same_key c.self.inside.map.entries c.in_ok-clone.field-0.entries c.in_ok-clone.ensures.cases) ∙ c.self.view_is;
+}

@@ -1,0 +1,13 @@
+-- How a node's properties stand for a finite map (own).
+use Rattle.std.specs.Prelude.{ℕ, List, map}
+use Rattle.std.specs.FinMap.{from_entries}
+use Rattle.dav_files_core.specs.declared.fs.properties.DavProp.{DavProp}
+use Rattle.dav_files_core.specs.Properties.{property_of}
+use Rattle.dav_files_core.specs.Resources.{Property, Properties}
+
+-- a key and its property
+abbrev pub kept : (List ℕ × List ℕ) × DavProp → (List ℕ × List ℕ) × Property
+kept e = (e.0, property_of e.1)
+
+abbrev pub properties_of : List ((List ℕ × List ℕ) × DavProp) → Properties
+properties_of es = from_entries (map kept es)

@@ -1,0 +1,208 @@
+//! Properties that are kept in memory.
+ghost use Rattle.std.specs.Prelude.{◌≡◌, map, option_map, option_and_then, OnOk, MatchResult};
+ghost use Rattle.std.specs.Option.{ok_or};
+ghost use Rattle.std.specs.FinMap.{empty, get, insert, remove, values};
+ghost use Rattle.dav_files_core.specs.Private.Kept.{properties_of};
+ghost use Rattle.dav_path_core.specs.Answers.{AnswersAs, Tells};
+ghost use Rattle.dav_path_core.specs.Segments.{segments};
+ghost use Rattle.dav_files_core.specs.Properties.{property_of, entry_of, answer_of, key_of, patched_by, patched, patch_answers, patch_props, shown, get_props, xml_of, get_prop};
+ghost use Rattle.dav_files_core.specs.Resources.{IsResourceMap};
+
+use super::MemFs;
+use crate::fs::DavProp;
+use bytes::Bytes;
+use dav_path_core::davpath::DavPath;
+use dav_path_core::errors::{FsError, FsResult};
+use http::StatusCode;
+use std::alloc::{AllocError, Global};
+use std::collections::BTreeMap;
+use std::marker::Model;
+
+/// The properties of a folder or a file, by namespace and name.
+#[derive(Drop)]
+pub(super) struct Props {
+    map: BTreeMap<(Bytes, Bytes), DavProp>,
+}
+
+impl Model for Props {
+    ghost use Rattle.dav_files_core.specs.Resources.{Properties};
+    ghost use Rattle.dav_files_core.specs.Codes.{coded_properties};
+    ghost use Rattle.dav_files_core.specs.Private.Kept.{properties_of};
+
+    ghost Value = { Properties };
+
+    ghost coded = { coded_properties };
+
+    ghost view = { λ a. properties_of a.map.entries };
+}
+
+/// The same properties, or out of memory.
+impl Clone for Props {
+    ghost is_clone = { λ props copy. copy ≡ props };
+
+    fn clone(&self) -> Result<Props, AllocError> {
+        Ok(Props {
+            map: self.map.clone()?,
+        })
+    }
+}
+
+impl Props {
+    // None.
+    pub(super) fn new(alloc: Global) -> Props
+        ensures { result ≡ empty }
+    {
+        Props {
+            map: BTreeMap::new(alloc),
+        }
+    }
+
+    // Sets and removes, one after another, and answers for each. Refused, some may be set or removed already.
+    fn patch(
+        &mut self,
+        alloc: Global,
+        patch: Vec<(bool, DavProp)>,
+    ) -> FsResult<Vec<(StatusCode, DavProp)>>
+        ensures answer { MatchResult result (λ v. map answer_of v.items ≡ patch_answers (map entry_of patch.items)) (λ e. e ≡ FsError.InsufficientStorage) }
+        ensures left { OnOk result (self.new ≡ patched self.old (map entry_of patch.items)) }
+    {
+        let mut answers = Vec::new(alloc);
+        for (set, prop) in patch {
+            answers.push((StatusCode::OK, prop.without_xml()?))?;
+            self.patch_by(alloc, set, prop)?;
+        }
+        Ok(answers)
+    }
+
+    // Sets or removes one.
+    fn patch_by(&mut self, alloc: Global, set: bool, prop: DavProp) -> FsResult<()>
+        ensures { MatchResult result (λ _. self.new ≡ patched_by self.old (set, property_of prop)) (λ e. e ≡ FsError.InsufficientStorage) }
+    {
+        let key = key_of(alloc, &prop)?;
+        if set {
+            return put_in(&mut self.map, key, prop);
+        }
+        take_out(&mut self.map, &key);
+        Ok(())
+    }
+
+    // Each, with its xml or without, by the bytes of namespace and name.
+    pub(super) fn list(&self, alloc: Global, content: bool) -> FsResult<Vec<DavProp>>
+        ensures { MatchResult result (λ v. map property_of v.items ≡ map (shown content) (values self.now)) (λ e. e ≡ FsError.InsufficientStorage) }
+    {
+        let mut listed = Vec::new(alloc);
+        for prop in self.map.values() {
+            listed.push(shown(prop, content)?)?;
+        }
+        Ok(listed)
+    }
+
+    // The xml of the one with the namespace and name of another.
+    fn xml_of(&self, alloc: Global, wanted: &DavProp) -> FsResult<Vec<u8>>
+        ensures { Tells (λ v. v.items) result (ok_or (xml_of self.now (property_of wanted.now)) FsError.NotFound) }
+    {
+        let key = key_of(alloc, wanted)?;
+        copy_of_xml(alloc, found_in(&self.map, &key))
+    }
+}
+
+// The property at a key.
+fn found_in<'a>(
+    map: &'a BTreeMap<(Bytes, Bytes), DavProp>,
+    key: &(Bytes, Bytes),
+) -> Option<&'a DavProp>
+    ensures { option_map (λ p. property_of p.now) result ≡ get (properties_of map.now.entries) key.now }
+{
+    map.get(key)
+}
+
+// A copy of the xml of a property, if it is there and has one.
+fn copy_of_xml(alloc: Global, prop: Option<&DavProp>) -> FsResult<Vec<u8>>
+    ensures { Tells (λ v. v.items) result (ok_or (option_and_then (λ p. p.xml) (option_map (λ p. property_of p.now) prop.entry)) FsError.NotFound) }
+{
+    let Some(prop) = prop else {
+        return Err(FsError::NotFound);
+    };
+    let Some(xml) = &prop.xml else {
+        return Err(FsError::NotFound);
+    };
+    Ok(xml.as_slice().to_vec(alloc)?)
+}
+
+// Puts a property at its key, in place of one that is there.
+fn put_in(
+    map: &mut BTreeMap<(Bytes, Bytes), DavProp>,
+    key: (Bytes, Bytes),
+    prop: DavProp,
+) -> FsResult<()>
+    ensures { MatchResult result (λ _. properties_of map.new.entries ≡ insert (properties_of map.old.entries) key (property_of prop)) (λ e. e ≡ FsError.InsufficientStorage) }
+{
+    match map.insert(key, prop) {
+        Ok(_) => Ok(()),
+        Err(_) => Err(FsError::InsufficientStorage),
+    }
+}
+
+// Takes the property at a key out, if there is one.
+fn take_out(map: &mut BTreeMap<(Bytes, Bytes), DavProp>, key: &(Bytes, Bytes))
+    ensures { properties_of map.new.entries ≡ remove (properties_of map.old.entries) key.now }
+{
+    let _old = map.remove(key);
+}
+
+// A property with its xml, or without.
+fn shown(prop: &DavProp, content: bool) -> FsResult<DavProp>
+    ensures { MatchResult result (λ p. property_of p ≡ shown content (property_of prop.now)) (λ e. e ≡ FsError.InsufficientStorage) }
+{
+    if content {
+        return Ok(prop.clone()?);
+    }
+    prop.without_xml()
+}
+
+// What tells a property from others: its namespace, empty where it has none, and its name.
+fn key_of(alloc: Global, prop: &DavProp) -> FsResult<(Bytes, Bytes)>
+    ensures { MatchResult result (λ key. key ≡ key_of (property_of prop.now)) (λ e. e ≡ FsError.InsufficientStorage) }
+{
+    let namespace = match &prop.namespace {
+        Some(namespace) => namespace.as_str(),
+        None => "",
+    };
+    let namespace = Bytes::copy_from_slice(alloc, namespace.as_bytes())?;
+    let name = Bytes::copy_from_slice(alloc, prop.name.as_str().as_bytes())?;
+    Ok((namespace, name))
+}
+
+impl MemFs {
+    // Sets and removes properties, all or none.
+    pub(super) fn patch(
+        &mut self,
+        path: &DavPath,
+        patch: Vec<(bool, DavProp)>,
+    ) -> FsResult<Vec<(StatusCode, DavProp)>>
+        ensures answer { AnswersAs (λ v. map answer_of v.items) result (patch_props self.old (segments path.now.bytes) (map entry_of patch.items)) self.old self.new }
+        ensures shape { IsResourceMap self.new }
+    {
+        let id = self.number_of(path)?;
+        let mut props = self.node_at(id).props.clone()?;
+        let answers = props.patch(self.alloc, patch)?;
+        self.set_props(id, props);
+        Ok(answers)
+    }
+
+    // The properties of what is at a path.
+    pub(super) fn properties(&self, path: &DavPath, content: bool) -> FsResult<Vec<DavProp>>
+        ensures { Tells (λ v. map property_of v.items) result (get_props self.now (segments path.now.bytes) content) }
+    {
+        let id = self.number_of(path)?;
+        self.node_at(id).props.list(self.alloc, content)
+    }
+
+    // The xml of a property of what is at a path.
+    pub(super) fn property(&self, path: &DavPath, wanted: &DavProp) -> FsResult<Vec<u8>>
+        ensures { Tells (λ v. v.items) result (get_prop self.now (segments path.now.bytes) (property_of wanted.now)) }
+    {
+        let id = self.number_of(path)?;
+        self.node_at(id).props.xml_of(self.alloc, wanted)
+    }
+}

@@ -1,0 +1,254 @@
+-- A walk below a node meets each number there once.
+use Rattle.std.proofs.Common.{◌≡◌, ◌≢◌, ◌⊎◌, inl, inr, ℕ, ◌+◌, ◌<◌, ◌≤◌, Bool, List, [], ◌∷◌, length, Some, None, refl, sym, ap, ◌∙◌, subst, arith, eqb}
+use Rattle.std.specs.List.{IsDistinct}
+use Rattle.std.specs.FinMap.{len}
+use Rattle.std.proofs.lemmas.Bool.{cases_eq}
+use Rattle.dav_path_core.specs.Keyed.{Under, here, below, Leads, parent, IsKnown}
+use Rattle.dav_path_core.specs.TreeValue.{first, after, IsTreeValue}
+use Rattle.dav_path_core.specs.Private.Chains.{IsIn}
+use Rattle.dav_path_core.proofs.children.Chains.{in_cases, more_distinct, no_distinct}
+use Rattle.dav_path_core.proofs.trees.Counting.{at_most_count, way_short}
+use Rattle.dav_path_core.proofs.trees.Cutting.{Under-trans}
+use Rattle.dav_path_core.proofs.trees.KeyedDepth.{depth, top as no_parent_above, one_up}
+use Rattle.dav_path_core.proofs.trees.Trees.{none≢some, same_some, known_from_parent}
+use Rattle.dav_path_core.proofs.children.Walks.{parent_known}
+use Rattle.dav_locks_core.specs.Lock.{Lock}
+use Rattle.dav_locks_core.specs.Private.LockTree.{is_segment, first_at}
+use Rattle.dav_locks_core.specs.Private.SubtreeWalks.{LinkedLocks, right_behind, further, Later, beside, above, ToCome, GoesOn, IsOver, NoneUnder}
+use Rattle.dav_locks_core.proofs.Subtrees.{Under-up, Under-step, one_above, not_below_child}
+use Rattle.dav_locks_core.proofs.Siblings.{first_is_child, child_from_first, no_first, follows_parent, Follows-next, Follows-none}
+
+module _ (t : LinkedLocks) (top : ℕ) where
+  -- the walk has met all at and below `at`, which is n or above it
+  pub record ClimbsTo (n at turn : ℕ) : Type 0 where
+    pub under : Under (parent t.keyed) top at
+    pub over : Under (parent t.keyed) at n
+    pub known : IsKnown t.keyed at
+    pub leads : Leads (parent t.keyed) at
+    pub short_yet : depth leads + turn < len t.keyed.nodes
+    pub rest : (q : ℕ) → ToCome t top n q → (q ≡ n) ⊎ Later t top at q
+    pub back : (q : ℕ) → Later t top at q → ToCome t top n q
+
+  -- a walk that stands at n after so many turns; at what it has passed no lock passes the test
+  pub record Walked (test : Lock → Bool) (n turn : ℕ) : Type 0 where
+    pub under : Under (parent t.keyed) top n
+    pub known : IsKnown t.keyed n
+    pub passed : List ℕ
+    pub count : length passed ≡ turn
+    pub once : IsDistinct eqb passed
+    pub all_known : (q : ℕ) → IsIn q passed → IsKnown t.keyed q
+    pub gone_by : (q : ℕ) → IsIn q passed → ToCome t top n q → ⊥
+    pub tested : (q : ℕ) → Under (parent t.keyed) top q → (first_at test t.keyed q ≡ None) ⊎ ToCome t top n q
+
+module _ (t : LinkedLocks) (shape : IsTreeValue is_segment t) (top : ℕ) where
+  -- ---- what is to come and what stands at or below a number are apart
+
+  cycle : (n p : ℕ) → parent t.keyed n ≡ Some p → Under (parent t.keyed) n p → ⊥
+  cycle = not_below_child is_segment t.keyed shape.tree
+
+  -- two children of one node have nothing below both
+  apart : (n s p q : ℕ) → parent t.keyed n ≡ Some p → parent t.keyed s ≡ Some p → s ≢ n → Under (parent t.keyed) n q → Under (parent t.keyed) s q → ⊥
+  apart n s p q np sp ne u v = elim (one_above u v) [
+    | inl w ↦ cycle n p np (Under-up w (λ e. ne (sym e)) sp)
+    | inr w ↦ cycle s p sp (Under-up w ne np)
+  ]
+
+  pub not_later : (n q : ℕ) → Under (parent t.keyed) top n → Under (parent t.keyed) n q → Later t top n q → ⊥
+  not_later n q at u (beside {s = s} ne g v) =
+      let w = Under-step at ne in
+      let b = follows_parent is_segment t shape n s w.0 w.1 g in
+      apart n s w.0 q w.1 b.0 b.1 u v
+  not_later n q at u (above {p = p} ne e l) =
+      let w = Under-step at ne in
+      let same : w.0 ≡ p = same_some w.0 p (sym w.1 ∙ e) in
+      not_later p q (subst (λ v. Under (parent t.keyed) top v) same w.2) (Under-trans (below e here) u) l
+
+  -- ---- down to the first child
+
+  module _ (n c : ℕ) (at : Under (parent t.keyed) top n) (known : IsKnown t.keyed n) (is_first : first t n ≡ Some c) where
+    child : parent t.keyed c ≡ Some n
+    child = first_is_child is_segment t shape n c known is_first
+
+    -- no child of n is the top
+    below_top : (s : ℕ) → parent t.keyed s ≡ Some n → s ≢ top
+    below_top s e is = cycle s n e (subst (λ v. Under (parent t.keyed) v n) (sym is) at)
+
+    -- below n stands n itself, or what is at or below a child
+    rest_below : (q : ℕ) → Under (parent t.keyed) n q → (q ≡ n) ⊎ ToCome t top c q
+    rest_below q here = inl refl
+    rest_below q (below {p = p} e u) = elim (cases_eq p n) [
+      | inl is ↦ elim (child_from_first is_segment t shape n c q is_first (e ∙ ap (λ (x : ℕ). Some x) is)) [
+        | inl one ↦ inr (inl (subst (λ v. Under (parent t.keyed) v q) one here))
+        | inr g ↦ inr (inr (beside (below_top c child) g here))
+      ]
+      | inr ne ↦ elim (rest_below p u) [
+        | inl is ↦ absurd (ne is)
+        | inr (inl v) ↦ inr (inl (below e v))
+        | inr (inr l) ↦ inr (inr (Later-below p q e l))
+      ]
+    ]
+      where
+        Later-below : {m : ℕ} → (p q : ℕ) → parent t.keyed q ≡ Some p → Later t top m p → Later t top m q
+        Later-below p q e (beside ne g v) = beside ne g (below e v)
+        Later-below p q e (above ne f l) = above ne f (Later-below p q e l)
+
+    back_up : (q : ℕ) → ToCome t top c q → ToCome t top n q
+    back_up q (inl u) = inl (Under-trans (below child here) u)
+    back_up q (inr (beside {s = s} ne g v)) = inl (Under-trans (below (follows_parent is_segment t shape c s n child g).0 here) v)
+    back_up q (inr (above {p = p} ne e l)) = inr (subst (λ v. Later t top v q) (same_some p n (sym e ∙ child)) l)
+
+    passed_parent : ToCome t top c n → ⊥
+    passed_parent (inl u) = cycle c n child u
+    passed_parent (inr (beside {s = s} ne g v)) = cycle s n (follows_parent is_segment t shape c s n child g).0 v
+    passed_parent (inr (above {p = p} ne e l)) = not_later n n at here (subst (λ v. Later t top v n) (same_some p n (sym e ∙ child)) l)
+
+    pub goes_down : GoesOn t top n c
+    goes_down = record {
+      under = below child at;
+      known = known_from_parent t.keyed c n child;
+      rest = λ q w. elim w [ inl u ↦ rest_below q u | inr l ↦ inr (inr (above (below_top c child) child l)) ];
+      back = back_up;
+      passed = passed_parent;
+    }
+
+  -- ---- up to a sibling
+
+  pub climb_from : (n : ℕ) → Under (parent t.keyed) top n → IsKnown t.keyed n → first t n ≡ None → ClimbsTo t top n n 0
+  climb_from n at known leaf =
+      let l = shape.tree.attached n known in
+      record {
+        under = at;
+        over = here;
+        known = known;
+        leads = l;
+        short_yet = omega (arith, way_short is_segment t.keyed shape.tree n l);
+        rest = λ q w. elim w [ inl u ↦ inl (alone q u) | inr l ↦ inr l ];
+        back = λ q l. inr l;
+      }
+    where
+      alone : (q : ℕ) → Under (parent t.keyed) n q → q ≡ n
+      alone q here = refl
+      alone q (below {p = p} e u) = let is = alone p u in absurd (no_first is_segment t shape n q leaf (e ∙ ap (λ (x : ℕ). Some x) is))
+
+  module _ (n at turn : ℕ) (c : ClimbsTo t top n at turn) where
+    pub climb_over : at ≡ top → IsOver t top n
+    climb_over is q w = elim (c.rest q w) [
+      | inl e ↦ e
+      | inr (beside ne g v) ↦ absurd (ne is)
+      | inr (above ne e l) ↦ absurd (ne is)
+    ]
+
+    pub climb_fits : turn < len t.keyed.nodes
+    climb_fits = omega (arith, c.short_yet)
+
+    module _ (ne : at ≢ top) where
+      up_one : (p : ℕ) × (parent t.keyed at ≡ Some p) × Under (parent t.keyed) top p
+      up_one = Under-step c.under ne
+
+      pub has_parent : parent t.keyed at ≡ None → ⊥
+      has_parent e = none≢some up_one.0 (sym e ∙ up_one.1)
+
+      pub climb_up : (p : ℕ) → after t at ≡ None → parent t.keyed at ≡ Some p → ClimbsTo t top n p (turn + 1)
+      climb_up p last e =
+          let same : up_one.0 ≡ p = same_some up_one.0 p (sym up_one.1 ∙ e) in
+          let r = one_up (parent t.keyed) (no_parent_above is_segment t.keyed shape.tree) c.leads e in
+          record {
+            under = subst (λ v. Under (parent t.keyed) top v) same up_one.2;
+            over = Under-trans (below e here) c.over;
+            known = parent_known is_segment t.keyed shape.tree at p e;
+            leads = r.0;
+            short_yet = omega (arith, r.1, c.short_yet);
+            rest = λ q w. elim (c.rest q w) [
+              | inl i ↦ inl i
+              | inr (beside {s = s} apart_yet g v) ↦ absurd (Follows-none is_segment t shape at s last g)
+              | inr (above {p = r} apart_yet f l) ↦ inr (subst (λ v. Later t top v q) (same_some r p (sym f ∙ e)) l)
+            ];
+            back = λ q l. c.back q (above ne e l);
+          }
+
+      module _ (s : ℕ) (next : after t at ≡ Some s) where
+        beside_at : (parent t.keyed s ≡ Some up_one.0) × (s ≢ at)
+        beside_at = follows_parent is_segment t shape at s up_one.0 up_one.1 (right_behind next)
+
+        not_top : s ≢ top
+        not_top is = cycle s up_one.0 beside_at.0 (subst (λ v. Under (parent t.keyed) v up_one.0) (sym is) up_one.2)
+
+        later_next : (q : ℕ) → Later t top at q → ToCome t top s q
+        later_next q (beside {s = r} apart_yet g v) = elim (Follows-next is_segment t shape at s r next g) [
+          | inl is ↦ inl (subst (λ w. Under (parent t.keyed) w q) is v)
+          | inr more ↦ inr (beside not_top more v)
+        ]
+        later_next q (above {p = p} apart_yet e l) = inr (above not_top (beside_at.0 ∙ sym up_one.1 ∙ e) l)
+
+        next_later : (q : ℕ) → ToCome t top s q → Later t top at q
+        next_later q (inl u) = beside ne (right_behind next) u
+        next_later q (inr (beside apart_yet g v)) = beside ne (further next g) v
+        next_later q (inr (above {p = p} apart_yet e l)) = above ne (up_one.1 ∙ sym beside_at.0 ∙ e) l
+
+        pub goes_aside : GoesOn t top n s
+        goes_aside = record {
+          under = below beside_at.0 up_one.2;
+          known = known_from_parent t.keyed s up_one.0 beside_at.0;
+          rest = λ q w. elim (c.rest q w) [ inl i ↦ inl i | inr l ↦ inr (later_next q l) ];
+          back = λ q w. c.back q (next_later q w);
+          passed = λ w. not_later at n c.under c.over (next_later n w);
+        }
+
+  -- ---- the walk as a whole
+
+  module _ (test : Lock → Bool) where
+    pub walk_from : IsKnown t.keyed top → Walked t top test top 0
+    walk_from known = record {
+      under = here;
+      known = known;
+      passed = [];
+      count = refl;
+      once = no_distinct;
+      all_known = λ q i. absurd (nothing q i);
+      gone_by = λ q i. absurd (nothing q i);
+      tested = λ q u. inr (inl u);
+    }
+      where
+        nothing : (q : ℕ) → IsIn q [] → ⊥
+        nothing q i = cc
+
+    module _ (n turn : ℕ) (w : Walked t top test n turn) where
+      with_this : List ℕ
+      with_this = n ∷ w.passed
+
+      this_once : IsDistinct eqb (n ∷ w.passed)
+      this_once = more_distinct n w.passed (λ i. w.gone_by n i (inl here)) w.once
+
+      known_all : (q : ℕ) → IsIn q (n ∷ w.passed) → IsKnown t.keyed q
+      known_all q i = elim (in_cases q n w.passed i) [ inl is ↦ subst (IsKnown t.keyed) (sym is) w.known | inr later ↦ w.all_known q later ]
+
+      pub walk_fits : turn < len t.keyed.nodes
+      walk_fits =
+          let fits : length (n ∷ w.passed) ≤ len t.keyed.nodes = at_most_count t.keyed (n ∷ w.passed) this_once known_all in
+          omega (arith, fits, w.count)
+
+      -- nothing passes at n
+      module _ (none : first_at test t.keyed n ≡ None) where
+        pub walk_on : (m : ℕ) → GoesOn t top n m → Walked t top test m (turn + 1)
+        walk_on m g = record {
+          under = g.under;
+          known = g.known;
+          passed = n ∷ w.passed;
+          count = omega (arith, w.count);
+          once = this_once;
+          all_known = known_all;
+          gone_by = λ q i c. elim (in_cases q n w.passed i) [
+            | inl is ↦ g.passed (subst (λ v. ToCome t top m v) is c)
+            | inr later ↦ w.gone_by q later (g.back q c)
+          ];
+          tested = λ q u. elim (w.tested q u) [
+            | inl e ↦ inl e
+            | inr c ↦ elim (g.rest q c) [ inl is ↦ inl (ap (first_at test t.keyed) is ∙ none) | inr more ↦ inr more ]
+          ];
+        }
+
+        pub walk_over : IsOver t top n → NoneUnder test t.keyed top
+        walk_over over q u = elim (w.tested q u) [
+          | inl e ↦ e
+          | inr c ↦ ap (first_at test t.keyed) (over q c) ∙ none
+        ]

@@ -1,0 +1,32 @@
+use Rattle.std.proofs.Common.{◌<◌, sym, subst}
+use Rattle.dav_path_core.proofs.trees.Cutting.{known_below, fewer}
+use Rattle.dav_locks_core.specs.Private.LockTree.{LockTree}
+use Rattle.dav_locks_core.specs.Private.Pruning.{AllNeeded, SameLocks}
+use Rattle.dav_locks_core.proofs.Pruning.{PrunesTo, prunes_from, prunes_tree, prunes_on, prunes_end}
+use Rattle.dav_locks_core.proofs.memls.pruning.prune.Goals as goal
+
+pub loop-parent-init : goal.loop-parent-init
+loop-parent-init c = prunes_from c.args.tree.now.keyed c.args.from c.requires.shape c.requires.known c.requires.needed
+
+pub loop-parent-smaller : goal.loop-parent-smaller
+loop-parent-smaller c =
+    let t : LockTree = c.loop-parent.tree.keyed in
+    let n = c.loop-parent.node in
+    let known = c.loop-parent.invariant.known in
+    subst (λ u. known_below u u.next < known_below t t.next) (sym c.in-Some.ensures.3)
+    (fewer t n t.next known ((prunes_tree c.args.tree.now.keyed t n c.loop-parent.invariant).numbered n known).1)
+
+pub loop-parent-preserved : goal.loop-parent-preserved
+loop-parent-preserved c =
+    subst (λ u. PrunesTo c.args.tree.now.keyed u c.in-Some.parent) (sym c.in-Some.ensures.3)
+    (prunes_on c.args.tree.now.keyed c.loop-parent.tree.keyed c.loop-parent.node c.loop-parent.invariant c.in-Some.parent c.in-Some.ensures.0 c.in-Some.ensures.1 c.in-Some.ensures.2)
+
+pub returns-clause-same : goal.returns-clause-same
+returns-clause-same c =
+    subst (λ u. SameLocks c.args.tree.now.keyed u) (sym c.in_default.ensures.0)
+    (prunes_end c.args.tree.now.keyed c.loop-parent.tree.keyed c.loop-parent.node c.loop-parent.invariant c.in_default.ensures.1).0
+
+pub returns-clause-needed : goal.returns-clause-needed
+returns-clause-needed c =
+    subst (λ u. AllNeeded u) (sym c.in_default.ensures.0)
+    (prunes_end c.args.tree.now.keyed c.loop-parent.tree.keyed c.loop-parent.node c.loop-parent.invariant c.in_default.ensures.1).1

@@ -1,0 +1,13 @@
+-- What a check that passes says of the locks (RFC 4918 section 7).
+use Rattle.std.specs.Prelude.{◌≡◌, List, true, false, Contains}
+use Rattle.dav_path_core.specs.Fronts.{Path}
+use Rattle.dav_locks_core.specs.Lock.{Lock}
+use Rattle.dav_locks_core.specs.Locks.{Caller, covers, is_at_or_below, held}
+
+-- every exclusive lock that covers the path is held
+abbrev pub HoldsExclusive : List Lock → Path → Caller → Type 0
+HoldsExclusive locks p who = (l : Lock) → Contains locks l → l.shared ≡ false → covers l p ≡ true → held l who ≡ true
+
+-- every lock at the path or below it is held
+abbrev pub HoldsBelow : List Lock → Path → Caller → Type 0
+HoldsBelow locks p who = (l : Lock) → Contains locks l → is_at_or_below l p ≡ true → held l who ≡ true

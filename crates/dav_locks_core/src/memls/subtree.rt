@@ -1,0 +1,120 @@
+//! What stands at a node of the tree of locks and below it.
+ghost use Rattle.std.specs.Prelude.{◌≡◌, true, MatchOption, OnOk, IfErr};
+ghost use Rattle.dav_path_core.specs.Segments.{segments};
+ghost use Rattle.dav_path_core.specs.Keyed.{IsKnown, IsTree, Under, parent};
+ghost use Rattle.dav_path_core.specs.TreeValue.{IsTreeValue, first, after};
+ghost use Rattle.dav_locks_core.specs.Private.LockTree.{is_segment};
+ghost use Rattle.dav_locks_core.specs.Private.SubtreeWalks.{GoesOn, IsOver, NoneUnder, StandsUnder, NoneBelow, ShowsBelow};
+
+use super::NodeLocks;
+use super::holding::LockTest;
+use super::way::{copy_at, first_at, lookup_node};
+use crate::ls::LockError;
+use bytes::Bytes;
+use dav_path_core::davpath::DavPath;
+use dav_path_core::tree::Tree;
+
+// The first child of a node.
+pub(super) fn first_child(tree: &Tree<Bytes, NodeLocks>, node: u64) -> Option<u64>
+    requires { IsKnown tree.now.keyed node }
+    ensures child { result ≡ first tree.now node }
+    ensures shape { IsTreeValue is_segment tree.now }
+{
+    match tree.first_child(node) {
+        Ok(child) => child,
+        Err(_) => unreachable!(),
+    }
+}
+
+// The sibling after a node.
+fn next_sibling(tree: &Tree<Bytes, NodeLocks>, node: u64) -> Option<u64>
+    requires { IsKnown tree.now.keyed node }
+    ensures { result ≡ after tree.now node }
+{
+    match tree.next_sibling(node) {
+        Ok(sibling) => sibling,
+        Err(_) => unreachable!(),
+    }
+}
+
+// The parent of a node.
+pub(super) fn parent_of(tree: &Tree<Bytes, NodeLocks>, node: u64) -> Option<u64>
+    requires { IsKnown tree.now.keyed node }
+    ensures parent { result ≡ parent tree.now.keyed node }
+    ensures shape { IsTreeValue is_segment tree.now }
+{
+    match tree.parent_of(node) {
+        Ok(parent) => parent,
+        Err(_) => unreachable!(),
+    }
+}
+
+// The node after one in the walk of what stands at `top` and below it: its first child, else the next sibling of the node
+// or of the nearest above it that has one.
+fn next_below(tree: &Tree<Bytes, NodeLocks>, top: u64, node: u64) -> Option<u64>
+    requires known { IsKnown tree.now.keyed node }
+    requires under { Under (parent tree.now.keyed) top node }
+    ensures { MatchOption result (IsOver tree.now top node) (λ n. GoesOn tree.now top node n) }
+{
+    if let Some(child) = first_child(tree, node) {
+        return Some(child);
+    }
+    let mut at = node;
+    // No way up is longer.
+    for _turn in 0..tree.node_count() {
+        if at == top {
+            return None;
+        }
+        if let Some(sibling) = next_sibling(tree, at) {
+            return Some(sibling);
+        }
+        match parent_of(tree, at) {
+            Some(parent) => at = parent,
+            None => unreachable!(),
+        }
+    }
+    unreachable!()
+}
+
+// The node, and the place there, of a lock that passes at `top` or below it.
+fn find_below<T: LockTest>(
+    tree: &Tree<Bytes, NodeLocks>,
+    top: u64,
+    test: &T,
+) -> Option<(u64, usize)>
+    requires { IsKnown tree.now.keyed top }
+    ensures { MatchOption result (NoneUnder (T.test test.now true) tree.now.keyed top)
+        (λ f. StandsUnder (T.test test.now true) tree.now.keyed top f) }
+{
+    let mut node = top;
+    // No walk is longer, since it meets each node once.
+    for _turn in 0..tree.node_count() {
+        if let Some(place) = first_at(tree, node, test, true) {
+            return Some((node, place));
+        }
+        match next_below(tree, top, node) {
+            Some(next) => node = next,
+            None => return None,
+        }
+    }
+    unreachable!()
+}
+
+// Refused where a lock at a path or below it passes the test. The first that is met is shown.
+pub(super) fn check_locks_from_path<T: LockTest>(
+    tree: &Tree<Bytes, NodeLocks>,
+    path: &DavPath,
+    test: &T,
+) -> Result<(), LockError>
+    requires { IsTree is_segment tree.now.keyed }
+    ensures free { OnOk result (NoneBelow (T.test test.now true) tree.now.keyed (segments path.now.bytes)) }
+    ensures shown { IfErr result (λ e. ShowsBelow (T.test test.now true) tree.now.keyed (segments path.now.bytes) e) }
+{
+    let Some(top) = lookup_node(tree, path) else {
+        return Ok(());
+    };
+    match find_below(tree, top, test) {
+        None => Ok(()),
+        Some((node, place)) => Err(LockError::Conflict(copy_at(tree, node, place)?)),
+    }
+}

@@ -1,0 +1,94 @@
+//! What commands are checked for: the locks that stand in their way.
+ghost use Rattle.std.specs.Prelude.{◌≡◌, ◌∷◌, [], ◌++◌, true, option_map, string_bytes, OnOk, IfErr};
+ghost use Rattle.dav_locks_core.specs.Calls.{lent_text};
+ghost use Rattle.dav_path_core.specs.Segments.{segments};
+ghost use Rattle.dav_resource_core.specs.Checks.{caller_of, checks, refusing, reached, member, target};
+ghost use Rattle.dav_resource_core.specs.Served.{command_of, request_of};
+ghost use Rattle.dav_resource_core.specs.Private.Serving.{RefusedBy};
+
+use super::{Command, Guarded, Refusal, Request};
+use dav_locks_core::ls::DavLockSystem;
+use dav_path_core::davpath::DavPath;
+
+impl Guarded {
+    // Makes the checks of a command (RFC 4918 section 7).
+    pub(super) fn check_command(&self, request: &Request) -> Result<(), Refusal>
+        ensures ok { OnOk result (refusing self.now.locks (caller_of (request_of request.entry.now))
+            (checks self.now.map (command_of request.entry.now.command)) ≡ []) }
+        ensures err { IfErr result (RefusedBy self.now.locks (caller_of (request_of request.entry.now))
+            (checks self.now.map (command_of request.entry.now.command))) }
+    {
+        match &request.command {
+            Command::Put { path, .. } => return self.check_target(request, path),
+            Command::Write { path, .. } => return self.check_path(request, path, false),
+            Command::MkCol { path } => return self.check_member(request, path, false),
+            Command::Remove { path } => return self.check_member(request, path, true),
+            Command::Move { from, to } => return self.check_ends(request, from, to),
+            Command::Copy { to, .. } => return self.check_target(request, to),
+            Command::PatchProps { path, .. } => return self.check_path(request, path, false),
+            Command::Check { path, deep } => return self.check_path(request, path, *deep),
+            _ => return Ok(()),
+        }
+    }
+
+    // Checks a target, and its parent where nothing stands at the target (RFC 4918 section 7.4).
+    fn check_target(&self, request: &Request, path: &DavPath) -> Result<(), Refusal>
+        ensures ok { OnOk result (refusing self.now.locks (caller_of (request_of request.entry.now))
+            (target self.now.map (segments path.now.bytes)) ≡ []) }
+        ensures err { IfErr result (RefusedBy self.now.locks (caller_of (request_of request.entry.now))
+            (target self.now.map (segments path.now.bytes))) }
+    {
+        if self.fs.metadata(path).is_ok() {
+            return self.check_path(request, path, false);
+        }
+        return self.check_member(request, path, false);
+    }
+
+    // Checks both ends of a move, with what is below them, and their parents.
+    fn check_ends(&self, request: &Request, from: &DavPath, to: &DavPath) -> Result<(), Refusal>
+        ensures ok { OnOk result (refusing self.now.locks (caller_of (request_of request.entry.now))
+            (member (segments from.now.bytes) true ++ member (segments to.now.bytes) true) ≡ []) }
+        ensures err { IfErr result (RefusedBy self.now.locks (caller_of (request_of request.entry.now))
+            (member (segments from.now.bytes) true ++ member (segments to.now.bytes) true)) }
+    {
+        self.check_member(request, from, true)?;
+        return self.check_member(request, to, true);
+    }
+
+    // Checks a path, and its parent, which changes with it.
+    fn check_member(&self, request: &Request, path: &DavPath, deep: bool) -> Result<(), Refusal>
+        ensures ok { OnOk result (refusing self.now.locks (caller_of (request_of request.entry.now))
+            (member (segments path.now.bytes) deep) ≡ []) }
+        ensures err { IfErr result (RefusedBy self.now.locks (caller_of (request_of request.entry.now))
+            (member (segments path.now.bytes) deep)) }
+    {
+        self.check_path(request, path, deep)?;
+        match path.parent() {
+            Ok(parent) => return self.check_path(request, &parent, false),
+            Err(_) => return Err(Refusal::OutOfMemory),
+        }
+    }
+
+    // Checks one path, and all below it where `deep`, by the request's tokens and principal.
+    fn check_path(&self, request: &Request, path: &DavPath, deep: bool) -> Result<(), Refusal>
+        ensures ok { OnOk result (refusing self.now.locks (caller_of (request_of request.entry.now))
+            (reached (segments path.now.bytes) deep ∷ []) ≡ []) }
+        ensures err { IfErr result (RefusedBy self.now.locks (caller_of (request_of request.entry.now))
+            (reached (segments path.now.bytes) deep ∷ [])) }
+    {
+        let principal = text_of(&request.principal);
+        self.locks
+            .check(path, principal, false, deep, &request.tokens)?;
+        Ok(())
+    }
+}
+
+/// The text of an owned one, if there is one.
+pub(super) fn text_of(text: &Option<String>) -> Option<&str>
+    ensures { lent_text result ≡ option_map string_bytes text.now }
+{
+    match text {
+        Some(text) => Some(text.as_str()),
+        None => None,
+    }
+}

@@ -1,6 +1,6 @@
 -- No command gives a number again.
 use Rattle.std.proofs.Common.{◌≡◌, ◌⊎◌, inl, inr, ℕ, ◌+◌, ◌≤◌, Bool, true, false, List, [], ◌∷◌, Option, Some, None, is_some, Result, Ok, Err, refl, sym, ap, ◌∙◌, subst, arith}
-use Rattle.std.specs.Prelude.{◌||◌, if◌then◌else◌, nat_lt, length, ◌^◌, option_and_then}
+use Rattle.std.specs.Prelude.{◌||◌, if◌then◌else◌, nat_lt, length, ◌^◌, option_and_then, unwrap_or}
 use Rattle.dav_path_core.specs.declared.errors.FsError.{FsError}
 use Rattle.dav_path_core.specs.declared.errors.FsError.TheVariants.{Exists, Forbidden, TooLarge}
 use Rattle.dav_path_core.specs.Fronts.{Path, parent, behind}
@@ -9,7 +9,7 @@ use Rattle.dav_path_core.proofs.lists.Orders.{path_total, path_exact}
 use Rattle.dav_files_core.specs.declared.fs.OpenOptions.{OpenOptions}
 use Rattle.dav_files_core.specs.declared.memfs.Kind.{Kind}
 use Rattle.dav_files_core.specs.declared.memfs.Kind.TheVariants.{Folder, File}
-use Rattle.dav_files_core.specs.Commands.{put, put_at}
+use Rattle.dav_files_core.specs.Commands.{put, put_at, write_at}
 use Rattle.dav_files_core.specs.Copying.{copy, copy_to}
 use Rattle.dav_files_core.specs.Finding.{find, has_members}
 use Rattle.dav_files_core.specs.Folders.{create_dir, is_root, remove}
@@ -28,12 +28,12 @@ use Rattle.dav_files_core.proofs.Numbered.{gone_number, number_gone}
 use Rattle.dav_files_core.proofs.Opened.{is_open}
 
 -- each number of the second map is one of the first, or not below its next one
-abbrev Known : ResourceMap → ResourceMap → Type 0
+abbrev pub Known : ResourceMap → ResourceMap → Type 0
 Known m m' = (q : Path) (x : Resource) → at_path m' q ≡ Some x → HasNumber m x.number ⊎ (m.next ≤ x.number)
 
-record Grows (m m' : ResourceMap) : Type 0 where
-  on : m.next ≤ m'.next
-  known : Known m m'
+pub record Grows (m m' : ResourceMap) : Type 0 where
+  pub on : m.next ≤ m'.next
+  pub known : Known m m'
 
 never : (m m' : ResourceMap) → IsResourceMap m → Grows m m' → NeverAgain m m'
 never m m' is_map g = (
@@ -97,7 +97,7 @@ both a b c f g = record {
 }
 
 -- ---- outcomes
-abbrev Grown : {A : Type 0} → ResourceMap → (A → ResourceMap) → Result A FsError → Type 0
+abbrev pub Grown : {A : Type 0} → ResourceMap → (A → ResourceMap) → Result A FsError → Type 0
 Grown {A} m left o = (x : A) → o ≡ Ok x → Grows m (left x)
 
 module _ {A : Type 0} (m : ResourceMap) (left : A → ResourceMap) where
@@ -122,12 +122,12 @@ only_file_is r x h = by r.node.kind h
     by Folder h = absurd (cc)
     by File h = cc
 
-abbrev map_of : {A : Type 0} → A × ResourceMap → ResourceMap
+abbrev pub map_of : {A : Type 0} → A × ResourceMap → ResourceMap
 map_of x = x.1
 
 -- ---- commands
 module _ (m : ResourceMap) where
-  put_grows : (p : Path) (bytes : List ℕ) (now : ℕ) → Grown m map_of (put m p bytes now)
+  pub put_grows : (p : Path) (bytes : List ℕ) (now : ℕ) → Grown m map_of (put m p bytes now)
   put_grows p bytes now = by (at_path m p) refl
     where
       by : (o : Option Resource) → at_path m p ≡ o → Grown m map_of (put_at m p bytes now o)
@@ -142,12 +142,12 @@ module _ (m : ResourceMap) where
   abbrev made : Path → ℕ → ResourceMap
   made p now = touched (with_folder p now) (parent p) now
 
-  create_dir_grows : (p : Path) (now : ℕ) → Grown m map_of (create_dir m p now)
+  pub create_dir_grows : (p : Path) (now : ℕ) → Grown m map_of (create_dir m p now)
   create_dir_grows p now = first m map_of (find_folder m (parent p)) (λ (_ : Resource). if is_some (at_path m p) then Err Exists else Ok (tt {0}, made p now))
       (λ x h. chosen m map_of (is_some (at_path m p)) (Err Exists) (Ok (tt, made p now)) (err m map_of Exists)
       (ok m map_of (tt, made p now) (both m (with_folder p now) (made p now) (by_added m p (new_folder now)) (by_touched (with_folder p now) (parent p) now))))
 
-  remove_grows : (p : Path) (now : ℕ) → Grown m map_of (remove m p now)
+  pub remove_grows : (p : Path) (now : ℕ) → Grown m map_of (remove m p now)
   remove_grows p now = first m map_of (find m p) (λ (_ : Resource). if is_root p || has_members m p then Err Forbidden else Ok (tt, touched (without m p) (parent p) now))
       (λ x h. chosen m map_of (is_root p || has_members m p) (Err Forbidden) (Ok (tt, touched (without m p) (parent p) now)) (err m map_of Forbidden)
       (ok m map_of (tt, touched (without m p) (parent p) now) (both m (without m p) (touched (without m p) (parent p) now) (by_without m p) (by_touched (without m p) (parent p) now))))
@@ -166,7 +166,7 @@ module _ (m : ResourceMap) where
   abbrev last : Path → Path → ℕ → ResourceMap → Outcome (Unit {0})
   last from to now z = Ok (tt, touched (touched z (parent from) now) (parent to) now)
 
-  rename_grows : (from to : Path) (now : ℕ) → Grown m map_of (rename m from to now)
+  pub rename_grows : (from to : Path) (now : ℕ) → Grown m map_of (rename m from to now)
   rename_grows from to now =
       first m map_of (find m from) (λ (_ : Resource). find_folder m (parent to) >>= λ (_ : Resource). relocated m from to >>= last from to now)
       (λ x h. first m map_of (find_folder m (parent to)) (λ (_ : Resource). relocated m from to >>= last from to now)
@@ -175,7 +175,7 @@ module _ (m : ResourceMap) where
       (both m z (touched (touched z (parent from) now) (parent to) now) (relocated_grows from to z e)
       (both z (touched z (parent from) now) (touched (touched z (parent from) now) (parent to) now) (by_touched z (parent from) now) (by_touched (touched z (parent from) now) (parent to) now))))))
 
-  copy_grows : (from to : Path) (now : ℕ) → Grown m map_of (copy m from to now)
+  pub copy_grows : (from to : Path) (now : ℕ) → Grown m map_of (copy m from to now)
   copy_grows from to now = first m map_of (find m from) (λ (r : Resource). copy_to m to (record r.node { created = now }) (at_path m to)) (λ r h. by (record r.node { created = now }) (at_path m to) refl)
     where
       by : (node : Node) (o : Option Resource) → at_path m to ≡ o → Grown m map_of (copy_to m to node o)
@@ -201,9 +201,28 @@ module _ (m : ResourceMap) where
           (λ x h. ok m map_of (opened m.next options, added m p (new_file [] now)) (by_added m p (new_file [] now))))
           (first m map_of (find m p) (λ (r : Resource). Ok (opened r.number options, m)) (λ x h. ok m map_of (opened x.number options, m) (itself m)))
 
-  patch_grows : (p : Path) (patch : List (Bool × Property)) → Grown m map_of (patch_props m p patch)
+  pub patch_grows : (p : Path) (patch : List (Bool × Property)) → Grown m map_of (patch_props m p patch)
   patch_grows p patch = first m map_of (find m p) (λ (r : Resource). Ok (patch_answers patch, changed m p r (record r.node { props = patched r.node.props patch })))
       (λ r h. ok m map_of (patch_answers patch, changed m p r (record r.node { props = patched r.node.props patch })) (by_changed m p r (record r.node { props = patched r.node.props patch }) (found_there m p r h)))
+
+  pub write_at_grows : (p : Path) (at : Option ℕ) (new : List ℕ) → Grown m map_of (write_at m p at new)
+  write_at_grows p at new =
+      first m map_of (find m p) (λ (r : Resource). only_file r >>= written) (λ r h. first m map_of (only_file r) written
+      (λ x e. chosen m map_of (fits x) (Ok (tt, changed m p x (node x))) (Err TooLarge)
+      (ok m map_of (tt, changed m p x (node x)) (by_changed m p x (node x) (found_there m p r h ∙ ap Some (sym (only_file_is r x e)))))
+      (err m map_of TooLarge)))
+    where
+      start : Resource → ℕ
+      start r = unwrap_or at (length r.node.bytes)
+
+      fits : Resource → Bool
+      fits r = nat_lt (start r + length new) (2 ^ 64)
+
+      node : Resource → Node
+      node r = record r.node { bytes = overwritten r.node.bytes (start r) new }
+
+      written : Resource → Outcome (Unit {0})
+      written r = if fits r then Ok (tt, changed m p r (node r)) else Err TooLarge
 
   abbrev file_map : Unit {0} × (OpenFile × ResourceMap) → ResourceMap
   file_map x = x.1.1

@@ -1,6 +1,7 @@
 pub mod Above
 pub mod Added
 pub mod Again
+pub mod Agreeing
 pub mod Changed
 pub mod Describing
 pub mod Following

@@ -1,3 +1,4 @@
+pub mod Below
 pub mod Codes
 pub mod Commands
 pub mod Copying

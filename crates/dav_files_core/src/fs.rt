@@ -13,9 +13,11 @@ use dav_path_core::davpath::DavPath;
 use dav_path_core::errors::{FsError, FsResult};
 use http::StatusCode;
 
+mod below;
 mod open_files;
 mod properties;
 
+pub use below::commands_see_below;
 pub use open_files::{DavFile, numbers_are_given_once, open_files_follow};
 pub use properties::DavProp;
 

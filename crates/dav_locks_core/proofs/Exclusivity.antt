@@ -2,9 +2,9 @@
 use Rattle.std.proofs.Common.{◌≡◌, ◌⊎◌, inl, inr, ℕ, zero, suc, Bool, true, false, not, ◌&&◌, ◌||◌, cond, Option, List, [], ◌∷◌, ◌++◌, get_or, set, sym, ◌∙◌, refl, ap, subst}
 use Rattle.std.specs.Prelude.{filter, remove}
 use Rattle.std.specs.List.{AllByRecursion}
-use Rattle.std.proofs.lemmas.Bool.{and_parts, and_from, or_cases, or_parts, or_right, cases_Bool, false≢true}
+use Rattle.std.proofs.lemmas.Bool.{and_parts, and_from, or_cases, or_left, or_parts, or_right, cases_Bool, false≢true, false_from_ne_true}
 use Rattle.dav_path_core.specs.Fronts.{Path, is_front, is_same_path}
-use Rattle.dav_path_core.proofs.paths.FrontLemmas.{is_same_path-same, fronts_of_one}
+use Rattle.dav_path_core.proofs.paths.FrontLemmas.{is_same_path-same, is_same_path-refl, is_front-trans, fronts_of_one}
 use Rattle.dav_locks_core.specs.Lock.{Lock}
 use Rattle.dav_locks_core.specs.Locks.{Caller, lock_path, covers, held, any_held, compatible, refuses_lock, lock_conflicts, refuses_change, check_conflicts, is_at_or_below, refreshed}
 use Rattle.dav_locks_core.specs.Exclusive.{Compat, Exclusive}
@@ -88,6 +88,10 @@ two_in (k ∷ locks) h l m (inr i) (inl f) =
     inr (λ p cl cm. (and_parts _ _ (all_in (Compat k) locks l h.0 i p (ap (λ m. covers m p) f ∙ cm) cl)).1)
 two_in (k ∷ locks) h l m (inr i) (inr j) = two_in locks h.1 l m i j
 
+all_of : {P : Lock → Type 0} (xs : List Lock) → ((l : Lock) → In l xs → P l) → AllByRecursion P xs
+all_of [] h = tt
+all_of (l ∷ xs) h = (h l (inl refl), all_of xs (λ x i. h x (inr i)))
+
 held_or_shared : (h c s a z : Bool) → ((h ≡ true) ⊎ (c ≡ true → s ≡ true)) → a ≡ true → (not h && ((c && (not s || not a)) || (false && z))) ≡ false
 held_or_shared true c s a z one any = refl
 held_or_shared false false s a z one any = refl
@@ -107,10 +111,30 @@ held_is_enough locks p who exclusive any =
     ] in
     filter_none (refuses_change locks p false who) locks
     (all_of locks (λ l i. held_or_shared (held l who) (covers l p) l.shared (any_held locks p who) (is_at_or_below l p) (one l i) any))
+
+-- under an exclusive deep lock that is held there is no other, so no check finds a conflict
+no_other : (h c b s a deep : Bool) → (h ≡ true) ⊎ ((c ≡ false) × (b ≡ false)) → (not h && ((c && (not s || not a)) || (deep && b))) ≡ false
+no_other true c b s a deep one = refl
+no_other false c b s a deep (inl e) = absurd (false≢true e)
+no_other false c b s a true (inr e) = ap (λ c. (c && (not s || not a)) || b) e.0 ∙ e.1
+no_other false c b s a false (inr e) = ap (λ c. (c && (not s || not a)) || false) e.0
+
+pub held_above : (locks : List Lock) (l : Lock) (p : Path) (deep : Bool) (who : Caller) → Exclusive locks → In l locks → l.shared ≡ false → l.deep ≡ true → held l who ≡ true
+    → is_front (lock_path l) p ≡ true → check_conflicts locks p deep who ≡ []
+held_above locks l p deep who exclusive i own is_deep is_held above =
+    filter_none (refuses_change locks p deep who) locks (all_of locks (λ k j. no_other (held k who) (covers k p) (is_at_or_below k p) k.shared (any_held locks p who) deep (one k j)))
   where
-    all_of : {P : Lock → Type 0} (xs : List Lock) → ((l : Lock) → In l xs → P l) → AllByRecursion P xs
-    all_of [] h = tt
-    all_of (l ∷ xs) h = (h l (inl refl), all_of xs (λ x i. h x (inr i)))
+    over : (q : Path) → is_front (lock_path l) q ≡ true → covers l q ≡ true
+    over q h = or_right (is_same_path (lock_path l) q) (l.deep && is_front (lock_path l) q) (and_from _ _ is_deep h)
+
+    one : (k : Lock) → In k locks → (held k who ≡ true) ⊎ ((covers k p ≡ false) × (is_at_or_below k p ≡ false))
+    one k j = elim (two_in locks exclusive l k i j) [
+      | inl same ↦ inl (ap (λ l. held l who) (sym same) ∙ is_held)
+      | inr both ↦ inr (
+        false_from_ne_true (covers k p) (λ c. false≢true (sym own ∙ both p (over p above) c)),
+        false_from_ne_true (is_at_or_below k p) (λ b. false≢true (sym own ∙ both (lock_path k) (over (lock_path k) (is_front-trans (lock_path l) p (lock_path k) above b)) (or_left (is_same_path (lock_path k) (lock_path k)) (k.deep && is_front (lock_path k) (lock_path k)) (is_same_path-refl (lock_path k))))),
+      )
+    ]
 
 -- where every lock that covers the path is held
 covered_held : (h c s a z : Bool) → (c && not h) ≡ false → (not h && ((c && (not s || not a)) || (false && z))) ≡ false

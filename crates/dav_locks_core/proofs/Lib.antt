@@ -5,6 +5,7 @@ pub mod DeepConflicts
 pub mod Discovering
 pub mod Ending
 pub mod Exclusivity
+pub mod Expiring
 pub mod FoundLemmas
 pub mod FrontCounting
 pub mod Growing
@@ -17,6 +18,7 @@ pub mod Pruning
 pub mod Rows
 pub mod Siblings
 pub mod Standing
+pub mod StandingIn
 pub mod SubtreeWalking
 pub mod Subtrees
 pub mod Ways

@@ -1,6 +1,6 @@
 -- The members of a list, by recursion.
-use Rattle.std.proofs.Common.{◌≡◌, ◌⊎◌, inl, inr, ℕ, ◌<◌, zero, suc, Bool, true, ◌||◌, List, [], ◌∷◌, ◌++◌, length, refl, subst, arith}
-use Rattle.std.specs.Prelude.{Contains, slice_index_or}
+use Rattle.std.proofs.Common.{◌≡◌, ◌⊎◌, inl, inr, ℕ, ◌<◌, zero, suc, Bool, true, false, cond, ◌||◌, List, [], ◌∷◌, ◌++◌, length, refl, sym, ap, ◌∙◌, subst, arith}
+use Rattle.std.specs.Prelude.{Contains, filter, slice_index_or}
 use Rattle.std.specs.List.{AllByRecursion, list_any}
 use Rattle.std.proofs.lemmas.Bool.{cases_Bool, false≢true}
 
@@ -37,3 +37,10 @@ find_any test (x ∷ xs) h = elim (cases_Bool (test x)) [
 pub append_none : {A : Type 0} (xs ys : List A) → xs ++ ys ≡ [] → (xs ≡ []) × (ys ≡ [])
 append_none [] ys h = (refl, h)
 append_none (x ∷ xs) ys h = cc
+
+pub In-filter : {A : Type 0} (test : A → Bool) (xs : List A) (x : A) → In x xs → test x ≡ true → In x (filter test xs)
+In-filter test [] x i h = absurd i
+In-filter test (y ∷ xs) x i h = elim (test y) as (λ b. test y ≡ b → In x (cond b (y ∷ filter test xs) (filter test xs))) [
+  | true ↦ λ e. elim i [ inl is ↦ inl is | inr j ↦ inr (In-filter test xs x j h) ]
+  | false ↦ λ e. elim i [ inl is ↦ absurd (false≢true (sym e ∙ ap test is ∙ h)) | inr j ↦ In-filter test xs x j h ]
+] refl

@@ -1,8 +1,8 @@
 -- Places in a list: the first that passes a test, what a filter by it keeps, and whether any passes.
 use Rattle.std.proofs.Common.{◌≡◌, ℕ, zero, suc, ◌+◌, ◌<◌, ◌≤◌, List, [], ◌∷◌, Bool, true, false, cond, length, get_or, Some, None, refl, sym, ◌∙◌, inl, inr, subst, ap, arith}
-use Rattle.std.specs.Prelude.{filter, Contains, position, not, nat_lt, ◌||◌}
-use Rattle.std.specs.List.{position_or_len, prefix_len, list_any}
-use Rattle.std.proofs.lemmas.Bool.{cases_Bool, ltb-false}
+use Rattle.std.specs.Prelude.{filter, remove, set, Contains, position, not, nat_lt, ◌||◌, ◌&&◌}
+use Rattle.std.specs.List.{AllByRecursion, position_or_len, prefix_len, list_any}
+use Rattle.std.proofs.lemmas.Bool.{cases_Bool, ltb-false, le-ltb}
 use Rattle.std.proofs.lemmas.List.Quantifiers.{position-Some}
 
 -- none passes of those before the first that passes
@@ -37,7 +37,28 @@ position-first p (x ∷ xs) k h =
     let w = position-Some p (x ∷ xs) k x h in
     (w.0, λ d. (position-Some p (x ∷ xs) k d h).1, λ j d lt. (position-Some p (x ∷ xs) k d h).2 j lt)
 
+-- none where none passes
+pub position-of_none : {X : Type 0} (p : X → Bool) (xs : List X) → AllByRecursion (λ x. p x ≡ false) xs → position p xs ≡ None
+position-of_none {X = X} p xs none = ap (λ n. cond (nat_lt n (length xs)) (Some n) None) (whole xs none) ∙ ap (λ b. cond b (Some (length xs)) None) (le-ltb (length xs) (length xs) (omega arith))
+  where
+    whole : (xs : List X) → AllByRecursion (λ x. p x ≡ false) xs → prefix_len (λ x. not (p x)) xs ≡ length xs
+    whole [] h = refl
+    whole (x ∷ xs) h =
+        let rest = whole xs h.1 in
+        subst (λ b. cond (not b) (1 + prefix_len (λ x. not (p x)) xs) 0 ≡ length (x ∷ xs)) (sym h.0) (omega (arith, rest))
+
 -- ---- a filter
+
+pub filter-all : {X : Type 0} (p : X → Bool) (xs : List X) → AllByRecursion (λ x. p x ≡ true) xs → filter p xs ≡ xs
+filter-all p [] h = refl
+filter-all p (x ∷ xs) h = ap (λ b. cond b (x ∷ filter p xs) (filter p xs)) h.0 ∙ ap (λ ys. x ∷ ys) (filter-all p xs h.1)
+
+-- what doesn't pass may go before
+pub filter-remove : {X : Type 0} (p : X → Bool) (xs : List X) (k : ℕ) → ((d : X) → k < length xs → p (get_or xs k d) ≡ false) → filter p (remove xs k) ≡ filter p xs
+filter-remove p [] zero h = refl
+filter-remove p [] (suc k) h = refl
+filter-remove p (x ∷ xs) zero h = sym (ap (λ b. cond b (x ∷ filter p xs) (filter p xs)) (h x (omega arith)))
+filter-remove p (x ∷ xs) (suc k) h = ap (λ ys. cond (p x) (x ∷ ys) ys) (filter-remove p xs k (λ d lt. h d (omega (arith, lt))))
 
 pub filter-none : {X : Type 0} (p : X → Bool) (xs : List X) → ((k : ℕ) (d : X) → k < length xs → p (get_or xs k d) ≡ false) → filter p xs ≡ []
 filter-none p [] h = refl
@@ -51,6 +72,37 @@ filter-contains p (y ∷ xs) (suc k) d x h e t = elim (p y) as (λ b. Contains (
   | true ↦ (let r = filter-contains p xs k d x (omega arith) e t in (suc r.0, (omega arith), r.2))
   | false ↦ filter-contains p xs k d x (omega arith) e t
 ]
+
+-- what doesn't pass may be replaced by what doesn't
+pub filter-set : {X : Type 0} (p : X → Bool) (xs : List X) (k : ℕ) (y : X) → ((d : X) → k < length xs → p (get_or xs k d) ≡ false) → p y ≡ false → filter p (set xs k y) ≡ filter p xs
+filter-set p [] zero y h f = refl
+filter-set p [] (suc k) y h f = refl
+filter-set p (x ∷ xs) zero y h f = ap (λ b. cond b (y ∷ filter p xs) (filter p xs)) f ∙ sym (ap (λ b. cond b (x ∷ filter p xs) (filter p xs)) (h x (omega arith)))
+filter-set p (x ∷ xs) (suc k) y h f = ap (λ ys. cond (p x) (x ∷ ys) ys) (filter-set p xs k y (λ d lt. h d (omega (arith, lt))) f)
+
+-- one filter behind another
+pub filter-filter : {X : Type 0} (p q : X → Bool) (xs : List X) → filter p (filter q xs) ≡ filter (λ x. q x && p x) xs
+filter-filter p q [] = refl
+filter-filter p q (x ∷ xs) = elim (q x) as (λ b. filter p (cond b (x ∷ filter q xs) (filter q xs)) ≡ cond (b && p x) (x ∷ filter (λ x. q x && p x) xs) (filter (λ x. q x && p x) xs)) [
+  | true ↦ ap (λ ys. cond (p x) (x ∷ ys) ys) (filter-filter p q xs)
+  | false ↦ filter-filter p q xs
+]
+
+-- what a filter keeps, another kept before
+pub filter-again : {X : Type 0} (p q : X → Bool) (xs : List X) → filter p (filter q (filter p xs)) ≡ filter q (filter p xs)
+filter-again p q [] = refl
+filter-again p q (x ∷ xs) = elim (p x) as (λ b. p x ≡ b → filter p (filter q (cond b (x ∷ filter p xs) (filter p xs))) ≡ filter q (cond b (x ∷ filter p xs) (filter p xs))) [
+  | true ↦ λ e. elim (q x) as (λ b. filter p (cond b (x ∷ filter q (filter p xs)) (filter q (filter p xs))) ≡ cond b (x ∷ filter q (filter p xs)) (filter q (filter p xs))) [
+    | true ↦ ap (λ b. cond b (x ∷ filter p (filter q (filter p xs))) (filter p (filter q (filter p xs)))) e ∙ ap (λ ys. x ∷ ys) (filter-again p q xs)
+    | false ↦ filter-again p q xs
+  ]
+  | false ↦ λ e. filter-again p q xs
+] refl
+
+-- tests that agree keep the same
+pub filter-same : {X : Type 0} (p q : X → Bool) (xs : List X) → ((x : X) → p x ≡ q x) → filter p xs ≡ filter q xs
+filter-same p q [] h = refl
+filter-same p q (x ∷ xs) h = ap (λ b. cond b (x ∷ filter p xs) (filter p xs)) (h x) ∙ ap (λ ys. cond (q x) (x ∷ ys) ys) (filter-same p q xs h)
 
 -- ---- whether any passes
 

@@ -99,13 +99,17 @@ map-set f (x ∷ xs) (suc k) y = ap (λ r. f x ∷ r) (map-set f xs k y)
 pub some_granted : NumberedLock
 some_granted = (0, record { token = []; path = record { prefix = []; bytes = [] }; principal = None; owner = None; timeout_at = None; timeout = None; shared = false; deep = false })
 
+-- the lock at a place of the list is ended, which stands at a node
+pub record EndsAt (t u : LockTree) (next n at : ℕ) : Type 0 where
+  pub after : IsSeenAs u next (remove (lock_list t) at)
+  pub known : IsKnown u n
+  pub needed : NeededBut u n
+
 -- the first with the token on the way is ended, which is the found one
 pub record Ends (t u : LockTree) (next n : ℕ) (p : Path) (token : List ℕ) : Type 0 where
   pub at : ℕ
   pub is_found : found (lock_list t) p token ≡ Some at
-  pub after : IsSeenAs u next (remove (lock_list t) at)
-  pub known : IsKnown u n
-  pub needed : NeededBut u n
+  pub ends : EndsAt t u next n at
 
 pub place_within : (t : LockTree) (next m k : ℕ) (p : Path) (token : List ℕ) → IsLockList t next → lookup_lock (has_that_token token) t 1 p ≡ Some (m, k) → k < length (locks_at t m)
 place_within t next m k p token keeps h = let f = found_first t (all_granted t) next keeps.represents p token m k some_granted h in f.2
@@ -117,23 +121,26 @@ known_still t u n standing known is = by (entry t n) refl
     by None e = absurd (false≢true (sym (ap is_some e) ∙ known))
     by (Some x) e = ap (λ (v : LockTree). is_some (entry v n)) is ∙ ap is_some (entry-with_item t n standing x e).here
 
+pub seen-end_at : (t u : LockTree) (next m k at : ℕ) → IsLockTree t next → k < length (locks_at t m) → at < length (all_granted t) → get_or (all_granted t) at some_granted ≡ get_or (locks_at t m) k some_granted
+    → u ≡ with_item t m (remove (locks_at t m) k) → EndsAt t u next m at
+seen-end_at t u next m k at keeps within listed same is =
+    let known : IsKnown t m = known_from_lock t m k within in
+    let changes : Changes t u m (remove (locks_at t m) k) =
+    subst (λ u. Changes t u m (remove (locks_at t m) k)) (sym is) (Changes-with_item t m (remove (locks_at t m) k) keeps.list.represents.tree known) in
+    let shorter : locks_of (remove (all_granted t) at) ≡ remove (lock_list t) at = map-remove (λ (g : NumberedLock). g.1) (all_granted t) at in
+    record {
+      after = subst (IsSeenAs u next) shorter
+          (seen_from u (remove (all_granted t) at) next (Represents-remove t u (all_granted t) next keeps.list.represents m k at some_granted within listed same changes)
+          (subst Exclusive (sym shorter) (Exclusive-remove (lock_list t) at keeps.list.exclusive)));
+      known = known_still t u m (remove (locks_at t m) k) known is;
+      needed = NeededBut-changes t u m (remove (locks_at t m) k) changes (needed_but t m keeps.needed);
+    }
+
 pub seen-end : (t u : LockTree) (next m k : ℕ) (p : Path) (token : List ℕ) → IsLockTree t next → lookup_lock (has_that_token token) t 1 p ≡ Some (m, k)
     → u ≡ with_item t m (remove (locks_at t m) k) → Ends t u next m p token
 seen-end t u next m k p token keeps h is =
     let f = found_first t (all_granted t) next keeps.list.represents p token m k some_granted h in
-    let known : IsKnown t m = known_from_lock t m k f.2 in
-    let changes : Changes t u m (remove (locks_at t m) k) =
-    subst (λ u. Changes t u m (remove (locks_at t m) k)) (sym is) (Changes-with_item t m (remove (locks_at t m) k) keeps.list.represents.tree known) in
-    let shorter : locks_of (remove (all_granted t) f.0) ≡ remove (lock_list t) f.0 = map-remove (λ (g : NumberedLock). g.1) (all_granted t) f.0 in
-    record {
-      at = f.0;
-      is_found = f.1;
-      after = subst (IsSeenAs u next) shorter
-          (seen_from u (remove (all_granted t) f.0) next (Represents-remove t u (all_granted t) next keeps.list.represents m k f.0 some_granted f.2 f.3 f.4 changes)
-          (subst Exclusive (sym shorter) (Exclusive-remove (lock_list t) f.0 keeps.list.exclusive)));
-      known = known_still t u m (remove (locks_at t m) k) known is;
-      needed = NeededBut-changes t u m (remove (locks_at t m) k) changes (needed_but t m keeps.needed);
-    }
+    record { at = f.0; is_found = f.1; ends = seen-end_at t u next m k f.0 keeps f.2 f.3 f.4 is }
 
 pub none_found : (t : LockTree) (next : ℕ) (p : Path) (token : List ℕ) → IsLockList t next → lookup_lock (has_that_token token) t 1 p ≡ None → found (lock_list t) p token ≡ None
 none_found t next p token keeps h = not_found t (all_granted t) next keeps.represents p token h
@@ -292,8 +299,8 @@ kept-grant t v u next n l locks keeps seen same leads known needed free is =
     let before : IsSeenAs v next locks = seen-same t v next locks (seen-start t next locks keeps.list seen) same in
     kept_from u (next + 1) (locks ++ l ∷ []) (seen-push v u next n l locks before leads known free is) (push-needed v u n (next, l) same.tree known needed is)
 
-pub kept-end : (t u v : LockTree) (next n : ℕ) (p : Path) (token : List ℕ) (e : Ends t u next n p token) → SameLocks u v → AllNeeded v → IsKeptAs v next (remove (lock_list t) e.at)
-kept-end t u v next n p token e same needed = kept_from v next (remove (lock_list t) e.at) (seen-same u v next (remove (lock_list t) e.at) e.after same) needed
+pub kept-end : (t u v : LockTree) (next n at : ℕ) (e : EndsAt t u next n at) → SameLocks u v → AllNeeded v → IsKeptAs v next (remove (lock_list t) at)
+kept-end t u v next n at e same needed = kept_from v next (remove (lock_list t) at) (seen-same u v next (remove (lock_list t) at) e.after same) needed
 
 pub kept-refresh : (t u : LockTree) (next : ℕ) (p : Path) (token : List ℕ) (now : ℕ) (timeout : Option ℕ) (l : Lock) (r : Refreshes t u next p token now timeout l) → IsKeptAs u next (set (lock_list t) r.at l)
 kept-refresh t u next p token now timeout l r = kept_from u next (set (lock_list t) r.at l) r.after r.needed

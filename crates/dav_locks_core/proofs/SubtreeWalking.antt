@@ -252,3 +252,16 @@ module _ (t : LinkedLocks) (shape : IsTreeValue is_segment t) (top : ℕ) where
           | inl e ↦ e
           | inr c ↦ ap (first_at test t.keyed) (over q c) ∙ none
         ]
+
+  -- what no lock passes, none passes of a test that fewer pass
+  pub walk_weaker : (test fewer : Lock → Bool) → ((q : ℕ) → first_at test t.keyed q ≡ None → first_at fewer t.keyed q ≡ None) → (n turn : ℕ) → Walked t top test n turn → Walked t top fewer n turn
+  walk_weaker test fewer weaker n turn w = record {
+    under = w.under;
+    known = w.known;
+    passed = w.passed;
+    count = w.count;
+    once = w.once;
+    all_known = w.all_known;
+    gone_by = w.gone_by;
+    tested = λ q u. elim (w.tested q u) [ inl e ↦ inl (weaker q e) | inr c ↦ inr c ];
+  }

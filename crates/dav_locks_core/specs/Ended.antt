@@ -11,3 +11,9 @@ abbrev pub LocksEnded : (may_end : Lock → Bool) (old new : List Lock) → Type
 LocksEnded may_end [] new = Unit {0}
 LocksEnded may_end (a ∷ old) [] = (may_end a ≡ true) × LocksEnded may_end old []
 LocksEnded may_end (a ∷ old) (b ∷ new) = (SameButTimes a b × LocksEnded may_end old new) ⊎ ((may_end a ≡ true) × LocksEnded may_end old (b ∷ new))
+
+-- the locks of the first list stand in the second, unchanged and in the same order, maybe among others
+abbrev pub StandIn : (old new : List Lock) → Type 0
+StandIn [] new = Unit {0}
+StandIn (a ∷ old) [] = ⊥
+StandIn (a ∷ old) (b ∷ new) = ((b ≡ a) × StandIn old new) ⊎ StandIn (a ∷ old) new

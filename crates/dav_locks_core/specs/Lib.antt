@@ -8,4 +8,5 @@ pub mod LockFronts
 pub mod Locks
 pub mod NewLock
 pub mod Private
+pub mod Stale
 pub mod Tokens

@@ -7,6 +7,7 @@ ghost use Rattle.dav_locks_core.specs.Held.{HoldsExclusive, HoldsBelow};
 ghost use Rattle.dav_locks_core.specs.Tokens.{token_from};
 ghost use Rattle.dav_locks_core.specs.Calls.{Shows, ShowsOnly, RefusesRefresh, lent_text, caller};
 ghost use Rattle.dav_locks_core.specs.NewLock.{new_lock};
+ghost use Rattle.dav_locks_core.specs.Stale.{without_stale};
 
 use dav_files_core::fs::Moment;
 use dav_path_core::davpath::DavPath;
@@ -26,7 +27,7 @@ pub struct DavLock {
     pub principal: Option<String>,
     /// The owner's text, kept as given.
     pub owner: Option<String>,
-    /// Its moment and its timeout together, at most the greatest moment; none without a timeout. Locks don't end by it yet.
+    /// Its moment and its timeout together, at most the greatest moment; none without a timeout. It ends then.
     pub timeout_at: Option<Moment>,
     /// The timeout that was asked for, in seconds.
     pub timeout: Option<u64>,
@@ -113,14 +114,21 @@ impl From<AllocError> for RefreshError {
 }
 
 /// A keeper of locks (RFC 4918 sections 6 and 7). Of every implementation, seen as one list of locks in the order of
-/// granting: a call answers, and leaves the list, as the definitions say; a refusal leaves the list, and the generator, as
-/// they were; two locks that cover one path are both shared.
+/// granting: each call first drops the locks whose end has come at its moment, also where it is then refused; it answers, and
+/// leaves the list, as the definitions say; a refusal leaves the other locks, and the generator, as they were; two locks that
+/// cover one path are both shared.
 pub trait DavLockSystem {
     ghost use Rattle.std.specs.Prelude.{List};
     ghost use Rattle.dav_locks_core.specs.Lock.{Lock};
 
     /// The locks, in the order of granting.
     ghost locks: { Self → List Lock };
+
+    /// Drops the locks whose end has come at a moment: those with a `timeout_at` that isn't after it (RFC 4918 section 6.6).
+    /// Takes no memory.
+    fn expire(&mut self, now: Moment)
+        ensures left { locks self.new ≡ without_stale now.0 (locks self.old) }
+        ensures exclusive { Exclusive (locks self.new) };
 
     /// Grants a lock of a path, unless one stands in the way, which is shown (RFC 4918 section 9.10). Tokens and principals
     /// play no part. `OutOfMemory` may come first. Refused, it draws nothing.
@@ -135,23 +143,23 @@ pub trait DavLockSystem {
         now: Moment,
         rng: &mut R,
     ) -> Result<DavLock, LockError>
-        ensures free { OnOk result (lock_conflicts (locks self.old) (segments path.now.bytes) shared deep ≡ []) }
+        ensures free { OnOk result (lock_conflicts (without_stale now.0 (locks self.old)) (segments path.now.bytes) shared deep ≡ []) }
         ensures granted { IfOk result (λ lock. lock ≡ new_lock (token_from (R.stream rng.old)).0 path.now
             (lent_text principal.entry) (lent_text owner.entry) timeout shared deep now.0) }
-        ensures added { IfOk result (λ lock. locks self.new ≡ locks self.old ++ lock ∷ []) }
+        ensures added { IfOk result (λ lock. locks self.new ≡ without_stale now.0 (locks self.old) ++ lock ∷ []) }
         ensures drawn { OnOk result (R.stream rng.new ≡ (token_from (R.stream rng.old)).1) }
-        ensures shown { IfErr result (λ e. Shows (lock_conflicts (locks self.old) (segments path.now.bytes) shared deep) e) }
-        ensures unchanged { OnErr result (locks self.new ≡ locks self.old) }
+        ensures shown { IfErr result (λ e. Shows (lock_conflicts (without_stale now.0 (locks self.old)) (segments path.now.bytes) shared deep) e) }
+        ensures left { OnErr result (locks self.new ≡ without_stale now.0 (locks self.old)) }
         ensures undrawn { OnErr result (R.stream rng.new ≡ R.stream rng.old) }
         ensures exclusive { Exclusive (locks self.new) };
 
     /// Ends the lock with that token at the path or above it: the one nearest to the root, of these the first granted
     /// (RFC 4918 section 9.11). The principal isn't looked at. Takes no memory.
-    fn unlock(&mut self, path: &DavPath, token: &str) -> Result<(), NoLock>
-        ensures done { OnOk result ((k : ℕ) × (found (locks self.old) (segments path.now.bytes) token.now ≡ Some k)
-            × (locks self.new ≡ remove (locks self.old) k)) }
-        ensures none { OnErr result ((found (locks self.old) (segments path.now.bytes) token.now ≡ None)
-            × (locks self.new ≡ locks self.old)) }
+    fn unlock(&mut self, path: &DavPath, token: &str, now: Moment) -> Result<(), NoLock>
+        ensures done { OnOk result ((k : ℕ) × (found (without_stale now.0 (locks self.old)) (segments path.now.bytes) token.now ≡ Some k)
+            × (locks self.new ≡ remove (without_stale now.0 (locks self.old)) k)) }
+        ensures none { OnErr result ((found (without_stale now.0 (locks self.old)) (segments path.now.bytes) token.now ≡ None)
+            × (locks self.new ≡ without_stale now.0 (locks self.old))) }
         ensures exclusive { Exclusive (locks self.new) };
 
     /// Gives the lock that `unlock` would end another timeout, from a moment on, and answers the lock as it is then
@@ -163,39 +171,44 @@ pub trait DavLockSystem {
         timeout: Option<u64>,
         now: Moment,
     ) -> Result<DavLock, RefreshError>
-        ensures done { IfOk result (λ lock. (k : ℕ) × (found (locks self.old) (segments path.now.bytes) token.now ≡ Some k)
-            × (lock ≡ refreshed now.0 timeout (get_or (locks self.old) k lock))
-            × (locks self.new ≡ set (locks self.old) k lock)) }
-        ensures refused { IfErr result (λ e. RefusesRefresh (found (locks self.old) (segments path.now.bytes) token.now) e) }
-        ensures unchanged { OnErr result (locks self.new ≡ locks self.old) }
+        ensures done { IfOk result (λ lock. (k : ℕ) × (found (without_stale now.0 (locks self.old)) (segments path.now.bytes) token.now ≡ Some k)
+            × (lock ≡ refreshed now.0 timeout (get_or (without_stale now.0 (locks self.old)) k lock))
+            × (locks self.new ≡ set (without_stale now.0 (locks self.old)) k lock)) }
+        ensures refused { IfErr result (λ e. RefusesRefresh (found (without_stale now.0 (locks self.old)) (segments path.now.bytes) token.now) e) }
+        ensures left { OnErr result (locks self.new ≡ without_stale now.0 (locks self.old)) }
         ensures exclusive { Exclusive (locks self.new) };
 
     /// Whether a change may be made at a path, and where it is deep below it too, by who submits those tokens (RFC 4918
     /// section 7). A lock that refuses it is shown. `OutOfMemory` only where one refuses it.
     fn check(
-        &self,
+        &mut self,
         path: &DavPath,
         principal: Option<&str>,
         ignore_principal: bool,
         deep: bool,
         tokens: &[String],
+        now: Moment,
     ) -> Result<(), LockError>
-        ensures passes { OnOk result (check_conflicts (locks self.now) (segments path.now.bytes) deep
+        ensures passes { OnOk result (check_conflicts (without_stale now.0 (locks self.old)) (segments path.now.bytes) deep
             (caller principal.entry ignore_principal tokens.now) ≡ []) }
-        ensures shown { IfErr result (λ e. ShowsOnly (check_conflicts (locks self.now) (segments path.now.bytes) deep
+        ensures shown { IfErr result (λ e. ShowsOnly (check_conflicts (without_stale now.0 (locks self.old)) (segments path.now.bytes) deep
             (caller principal.entry ignore_principal tokens.now)) e) }
         // Where it passes, every exclusive lock that covers the path is held, and where it is deep every lock at or below.
-        ensures held { OnOk result (HoldsExclusive (locks self.now) (segments path.now.bytes)
+        ensures held { OnOk result (HoldsExclusive (without_stale now.0 (locks self.old)) (segments path.now.bytes)
             (caller principal.entry ignore_principal tokens.now)) }
-        ensures held_below { OnOk result (deep ≡ true → HoldsBelow (locks self.now) (segments path.now.bytes)
-            (caller principal.entry ignore_principal tokens.now)) };
+        ensures held_below { OnOk result (deep ≡ true → HoldsBelow (without_stale now.0 (locks self.old)) (segments path.now.bytes)
+            (caller principal.entry ignore_principal tokens.now)) }
+        ensures left { locks self.new ≡ without_stale now.0 (locks self.old) }
+        ensures exclusive { Exclusive (locks self.new) };
 
     /// The locks that cover a path, from the root down, then in the order of granting.
-    fn discover(&self, path: &DavPath) -> Result<Vec<DavLock>, AllocError>
-        ensures { IfOk result (λ v. v.items ≡ discovered (locks self.now) (segments path.now.bytes)) };
+    fn discover(&mut self, path: &DavPath, now: Moment) -> Result<Vec<DavLock>, AllocError>
+        ensures discovered { IfOk result (λ v. v.items ≡ discovered (without_stale now.0 (locks self.old)) (segments path.now.bytes)) }
+        ensures left { locks self.new ≡ without_stale now.0 (locks self.old) }
+        ensures exclusive { Exclusive (locks self.new) };
 
     /// Drops the locks at a path and below it. Takes no memory.
-    fn delete(&mut self, path: &DavPath)
-        ensures left { locks self.new ≡ without_below (segments path.now.bytes) (locks self.old) }
+    fn delete(&mut self, path: &DavPath, now: Moment)
+        ensures left { locks self.new ≡ without_below (segments path.now.bytes) (without_stale now.0 (locks self.old)) }
         ensures exclusive { Exclusive (locks self.new) };
 }

@@ -4,6 +4,8 @@ ghost use Rattle.dav_locks_core.specs.Locks.{height};
 ghost use Rattle.dav_locks_core.specs.LockFronts.{front_count};
 ghost use Rattle.dav_locks_core.specs.Exclusive.{Exclusive};
 
+mod calls;
+mod expiring;
 mod granting;
 mod holding;
 mod pruning;
@@ -18,14 +20,10 @@ use dav_files_core::fs::Moment;
 use dav_path_core::davpath::DavPath;
 use dav_path_core::errors::{FsError, FsResult};
 use dav_path_core::tree::Tree;
-use granting::{LockRequest, end_lock, end_of_timeout, grant, refresh_lock};
-use holding::{Caller, Unheld, WithToken};
-use pruning::{clear, prune};
+use expiring::{end_stale, soonest_end};
 use rand_core::Rng;
 use std::alloc::{AllocError, Global};
 use std::marker::Model;
-use subtree::check_locks_from_path;
-use way::{check_locks_to_path, covering_locks, get_or_create_path_node, lookup_lock, lookup_node};
 
 /// The locks that stand at one path, each with its grant number, in the order of granting.
 #[derive(Drop)]
@@ -48,6 +46,8 @@ pub struct MemLs {
     alloc: Global,
     tree: Tree<Bytes, NodeLocks>,
     next: u64,
+    /// No lock ends before it.
+    soonest: Moment,
 }
 
 impl Model for MemLs {
@@ -57,11 +57,11 @@ impl Model for MemLs {
     ghost Value = { List Lock };
 
     ghost use Rattle.dav_locks_core.specs.Private.LockTree.{lock_list};
-    ghost use Rattle.dav_locks_core.specs.Private.Represents.{IsLockTree};
+    ghost use Rattle.dav_locks_core.specs.Private.Soonest.{IsKept};
 
     ghost view = { λ m. lock_list m.tree.keyed };
 
-    ghost invariant = { λ m. IsLockTree m.tree.keyed m.next };
+    ghost invariant = { λ m. IsKept m.tree.keyed m.next m.soonest.0 };
 }
 
 impl MemLs {
@@ -79,6 +79,7 @@ impl MemLs {
             alloc,
             tree,
             next: 1,
+            soonest: Moment(u64::MAX),
         })
     }
 
@@ -96,6 +97,13 @@ impl MemLs {
 impl DavLockSystem for MemLs {
     ghost locks = { λ m. m };
 
+    fn expire(&mut self, now: Moment) {
+        if self.soonest.0 <= now.0 {
+            end_stale(&mut self.tree, now);
+            self.soonest = soonest_end(&self.tree);
+        }
+    }
+
     /// `OutOfMemory` also where all grant numbers to 2^64 - 2 are used up.
     fn lock<R: Rng>(
         &mut self,
@@ -108,44 +116,13 @@ impl DavLockSystem for MemLs {
         now: Moment,
         rng: &mut R,
     ) -> Result<DavLock, LockError> {
-        let request = LockRequest {
-            path,
-            principal,
-            owner,
-            timeout_at: end_of_timeout(now, timeout),
-            timeout,
-            shared,
-            deep,
-        };
-        check_locks_to_path(&self.tree, path, &request)?;
-        if deep {
-            check_locks_from_path(&self.tree, path, &request)?;
-        }
-        if self.next == u64::MAX {
-            return Err(LockError::OutOfMemory);
-        }
-        let node = get_or_create_path_node(&mut self.tree, self.alloc, path)?;
-        match grant(&mut self.tree, self.alloc, node, self.next, &request, rng) {
-            Ok(lock) => {
-                self.next += 1;
-                Ok(lock)
-            }
-            Err(error) => {
-                prune(&mut self.tree, node);
-                Err(error)
-            }
-        }
+        self.expire(now);
+        self.add_lock(path, principal, owner, timeout, shared, deep, now, rng)
     }
 
-    fn unlock(&mut self, path: &DavPath, token: &str) -> Result<(), NoLock> {
-        match lookup_lock(&self.tree, path, &WithToken { token }) {
-            None => Err(NoLock),
-            Some((node, place)) => {
-                end_lock(&mut self.tree, node, place);
-                prune(&mut self.tree, node);
-                Ok(())
-            }
-        }
+    fn unlock(&mut self, path: &DavPath, token: &str, now: Moment) -> Result<(), NoLock> {
+        self.expire(now);
+        self.end_found(path, token)
     }
 
     fn refresh(
@@ -155,47 +132,30 @@ impl DavLockSystem for MemLs {
         timeout: Option<u64>,
         now: Moment,
     ) -> Result<DavLock, RefreshError> {
-        match lookup_lock(&self.tree, path, &WithToken { token }) {
-            None => Err(RefreshError::NoLock),
-            Some((node, place)) => {
-                let lock = refresh_lock(&mut self.tree, node, place, timeout, now)?;
-                Ok(lock)
-            }
-        }
+        self.expire(now);
+        self.refresh_found(path, token, timeout, now)
     }
 
     fn check(
-        &self,
+        &mut self,
         path: &DavPath,
         principal: Option<&str>,
         ignore_principal: bool,
         deep: bool,
         tokens: &[String],
+        now: Moment,
     ) -> Result<(), LockError> {
-        let caller = Caller {
-            principal,
-            ignore_principal,
-            tokens,
-        };
-        let unheld = Unheld { caller };
-        // Two locks that cover one path are both shared, and beside a shared one it is enough to hold another.
-        if lookup_lock(&self.tree, path, &caller).is_none() {
-            check_locks_to_path(&self.tree, path, &unheld)?;
-        }
-        if deep {
-            check_locks_from_path(&self.tree, path, &unheld)?;
-        }
-        Ok(())
+        self.expire(now);
+        self.check_change(path, principal, ignore_principal, deep, tokens)
     }
 
-    fn discover(&self, path: &DavPath) -> Result<Vec<DavLock>, AllocError> {
-        covering_locks(&self.tree, self.alloc, path)
+    fn discover(&mut self, path: &DavPath, now: Moment) -> Result<Vec<DavLock>, AllocError> {
+        self.expire(now);
+        self.covering(path)
     }
 
-    fn delete(&mut self, path: &DavPath) {
-        if let Some(node) = lookup_node(&self.tree, path) {
-            clear(&mut self.tree, node);
-            prune(&mut self.tree, node);
-        }
+    fn delete(&mut self, path: &DavPath, now: Moment) {
+        self.expire(now);
+        self.delete_below(path);
     }
 }

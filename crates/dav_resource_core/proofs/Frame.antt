@@ -17,7 +17,7 @@ use Rattle.dav_files_core.specs.Properties.{patch_props, get_props, get_prop}
 use Rattle.dav_files_core.specs.Renaming.{rename}
 use Rattle.dav_files_core.proofs.Places.{put_places, copy_places, create_dir_places, remove_places, rename_places, write_places, patch_places}
 use Rattle.dav_resource_core.specs.Requests.{Command, Reply, Done, Bytes, Entries, Meta, Patched, Props, Value}
-use Rattle.dav_resource_core.specs.Checks.{Check, has, is_reached, reached, shallow, member, target, checks}
+use Rattle.dav_resource_core.specs.Checks.{IsApart, has, is_reached, reached, shallow, member, target, checks}
 use Rattle.dav_resource_core.specs.ResourceStep.{changes, patches, tells, Does}
 
 -- a shallow check that doesn't reach a path is of another path
@@ -26,14 +26,14 @@ not_reached q p h same =
     false≢true (sym (or_parts (is_same_path q p) false h).0 ∙ ap (is_same_path q) same ∙ is_same_path-refl q)
 
 -- the map that a change left, and an answer that changes nothing
-change_left : (f : Outcome (Unit {0})) (reply : Reply) (m' : ResourceMap) → changes f ≡ Ok (reply, m') → f ≡ Ok (tt {0}, m')
+pub change_left : (f : Outcome (Unit {0})) (reply : Reply) (m' : ResourceMap) → changes f ≡ Ok (reply, m') → f ≡ Ok (tt {0}, m')
 change_left (Ok x) reply m' h =
     let same : (Done, x.1) ≡ (reply, m') = cc in
     let left : x.1 ≡ m' = ap (λ (y : Reply × ResourceMap). y.1) same in
     ap (λ (n : ResourceMap). Ok (tt {0}, n)) left
 change_left (Err e) reply m' h = absurd (cc)
 
-told_left : {A : Type 0} (m : ResourceMap) (tell : A → Reply) (f : Result A FsError) (reply : Reply) (m' : ResourceMap) → tells m tell f ≡ Ok (reply, m') → m' ≡ m
+pub told_left : {A : Type 0} (m : ResourceMap) (tell : A → Reply) (f : Result A FsError) (reply : Reply) (m' : ResourceMap) → tells m tell f ≡ Ok (reply, m') → m' ≡ m
 told_left m tell (Ok x) reply m' h =
     let same : (tell x, m) ≡ (reply, m') = cc in
     ap (λ (y : Reply × ResourceMap). y.1) (sym same)
@@ -42,17 +42,13 @@ told_left m tell (Err e) reply m' h = absurd (cc)
 told_place : {A : Type 0} (m : ResourceMap) (tell : A → Reply) (f : Result A FsError) (reply : Reply) (m' : ResourceMap) (p : Path) → tells m tell f ≡ Ok (reply, m') → place m' p ≡ place m p
 told_place m tell f reply m' p h = ap (λ m. place m p) (told_left m tell f reply m' h)
 
-patch_left : (f : Outcome (List (ℕ × Property))) (reply : Reply) (m' : ResourceMap) → patches f ≡ Ok (reply, m')
+pub patch_left : (f : Outcome (List (ℕ × Property))) (reply : Reply) (m' : ResourceMap) → patches f ≡ Ok (reply, m')
     → (answers : List (ℕ × Property)) × (f ≡ Ok (answers, m'))
 patch_left (Ok x) reply m' h =
     let same : (Patched x.0, x.1) ≡ (reply, m') = cc in
     let left : x.1 ≡ m' = ap (λ (y : Reply × ResourceMap). y.1) same in
     (x.0, ap (λ (n : ResourceMap). Ok (x.0, n)) left)
 patch_left (Err e) reply m' h = absurd (cc)
-
--- no check of a list reaches the path
-abbrev IsApart : List Check → Path → Type 0
-IsApart ks p = list_any (λ k. is_reached k p) ks ≡ false
 
 -- a path that isn't reached
 alone_apart : (q p : Path) → IsApart (shallow q ∷ []) p → ¬ (p ≡ q)

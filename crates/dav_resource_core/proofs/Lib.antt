@@ -1,3 +1,5 @@
+pub mod AloneLaws
+pub mod BelowLaws
 pub mod Frame
 pub mod Numerals
 pub mod RunLaws

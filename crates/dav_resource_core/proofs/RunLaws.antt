@@ -1,19 +1,22 @@
 -- What a run keeps, and how it goes on.
-use Rattle.std.proofs.Common.{◌≡◌, inl, inr, ℕ, ◌+◌, ◌<◌, List, [], ◌∷◌, ◌++◌, length, get_or, take, map, Option, refl, ◌||◌, sym, ◌∙◌, ap, subst}
+use Rattle.std.proofs.Common.{not, Bool, ◌≡◌, inl, inr, ℕ, ◌+◌, ◌<◌, List, [], ◌∷◌, ◌++◌, length, get_or, take, map, sym, ◌∙◌, ap, subst}
+use Rattle.std.specs.Prelude.{filter}
 use Rattle.std.proofs.lemmas.Bool.{or_left, or_parts, false≢true}
 use Rattle.std.proofs.lemmas.List.{take_more, map_push}
 use Rattle.dav_files_core.specs.Finding.{place}
 use Rattle.dav_locks_core.specs.Lock.{Lock}
-use Rattle.dav_locks_core.specs.Locks.{covers}
-use Rattle.dav_locks_core.specs.Ended.{SameButTimes}
+use Rattle.dav_locks_core.specs.Ended.{StandIn}
+use Rattle.dav_locks_core.specs.Stale.{is_stale}
 use Rattle.dav_locks_core.specs.Exclusive.{Exclusive}
-use Rattle.dav_locks_core.proofs.ListMembers.{In-Contains, Contains-In}
-use Rattle.dav_locks_core.proofs.Ending.{IgnoresTimes, LocksEnded-refl, LocksEnded-trans, In-LocksEnded}
+use Rattle.dav_locks_core.proofs.ListMembers.{In, In-Contains, Contains-In, In-filter}
+use Rattle.dav_locks_core.proofs.ListPlaces.{filter-filter, filter-same}
+use Rattle.dav_locks_core.proofs.StandingIn.{StandIn-trans, StandIn-filtered, StandIn-filter, In-StandIn}
 use Rattle.dav_resource_core.specs.Requests.{Request, Answer}
-use Rattle.dav_resource_core.specs.Step.{State, Same, Step, Run}
-use Rattle.dav_resource_core.specs.Naming.{names_as, names, unlocks, named_in}
-use Rattle.dav_resource_core.specs.Isolation.{EndsNamed, Isolated, AnyIsolated, UnnamedStand, UnnamedIsolated, EachStep, EachExclusive, EachEndsNamed, EachIsolated, EachAnyIsolated, KeepsLocks}
-use Rattle.dav_resource_core.proofs.StepLaws.{Same-refl, Same-equal, serves_exclusive, serves_ends, serves_isolated, serves_any_isolated}
+use Rattle.dav_resource_core.specs.Step.{State, Same, Step, Run, start_of}
+use Rattle.dav_resource_core.specs.Naming.{names_as, names, unlocks, touches, touched_in}
+use Rattle.dav_resource_core.specs.Isolation.{EndsNamed, Isolated, AnyIsolated, UntouchedStand, UntouchedIsolated, EachStep, EachExclusive, EachEndsNamed, EachIsolated, EachAnyIsolated, KeepsLocks}
+use Rattle.dav_resource_core.proofs.AloneLaws.{run_alone}
+use Rattle.dav_resource_core.proofs.StepLaws.{Same-refl, Same-equal, step_exclusive, step_ends, step_isolated, step_any_isolated, step_stands, not-or}
 
 -- ---- by each step
 
@@ -28,49 +31,45 @@ pub each_exclusive : (s s' : State) (rs : List Request) (answers : List Answer) 
 each_exclusive s s' [] answers x = tt
 each_exclusive s s' (r ∷ rs) [] x = tt
 each_exclusive s s' (r ∷ rs) (a ∷ answers) x = λ mid step rest.
-    let y : Exclusive mid.locks = serves_exclusive s mid r a step x in
+    let y : Exclusive mid.locks = step_exclusive s mid r a step x in
     (y, each_exclusive mid s' rs answers y)
 
 pub each_ends_named : (s s' : State) (rs : List Request) (answers : List Answer) → EachEndsNamed s rs answers s'
-each_ends_named = each_step (λ s r a s'. EndsNamed s r s') serves_ends
+each_ends_named = each_step (λ s r a s'. EndsNamed s r s') step_ends
 
 -- ---- from the start to the end
 
--- timeouts play no part in naming
-named_in_ignores : (rs : List Request) → IgnoresTimes (named_in rs)
-named_in_ignores rs a b same = ap (named_in rs) same ∙ times rs a b.timeout_at b.timeout
-  where
-    times : (rs : List Request) (a : Lock) (until timeout : Option ℕ) → named_in rs (record a { timeout_at = until; timeout = timeout }) ≡ named_in rs a
-    times [] a until timeout = refl
-    times (r ∷ rs) a until timeout = ap (λ b. names r a || b) (times rs a until timeout)
-
-pub run_stand : (s s' : State) (rs : List Request) (answers : List Answer) → Run s rs answers s' → UnnamedStand s rs s'
-run_stand s s' [] [] h = rw h.locks_are (LocksEnded-refl (named_in []) s.locks)
+pub run_stand : (s s' : State) (rs : List Request) (answers : List Answer) → Run s rs answers s' → UntouchedStand s rs s'
+run_stand s s' [] [] h = rw h.locks_are (StandIn-filtered (λ l. not (touched_in [] l)) s.locks)
 run_stand s s' [] (a ∷ answers) h = absurd h
 run_stand s s' (r ∷ rs) [] h = absurd h
 run_stand s s' (r ∷ rs) (a ∷ answers) h =
-    LocksEnded-trans (names r) (named_in rs) (named_in_ignores rs) s.locks h.0.locks s'.locks (serves_ends s h.0 r a h.1) (run_stand h.0 s' rs answers h.2)
+    let rest : Lock → Bool = λ l. not (touched_in rs l) in
+    let first : filter rest (filter (λ l. not (touches r l)) s.locks) ≡ filter (λ l. not (touched_in (r ∷ rs) l)) s.locks =
+    filter-filter rest (λ l. not (touches r l)) s.locks ∙ filter-same _ _ s.locks (λ l. sym (not-or (touches r l) (touched_in rs l))) in
+    subst (λ xs. StandIn xs s'.locks) first
+    (StandIn-trans _ (filter rest h.0.locks) s'.locks (StandIn-filter rest _ h.0.locks (step_stands s h.0 r a h.1)) (run_stand h.0 s' rs answers h.2))
 
 pub each_isolated : (s s' : State) (rs : List Request) (answers : List Answer) → EachIsolated s rs answers s'
-each_isolated = each_step (λ s r a s'. Isolated s r s') serves_isolated
+each_isolated = each_step (λ s r a s'. Isolated (start_of r s) r s') step_isolated
 
 pub each_any_isolated : (s s' : State) (rs : List Request) (answers : List Answer) → EachAnyIsolated s rs answers s'
-each_any_isolated = each_step (λ s r a s'. AnyIsolated s r s') serves_any_isolated
+each_any_isolated = each_step (λ s r a s'. AnyIsolated (start_of r s) r s') step_any_isolated
 
-pub run_isolated : (s s' : State) (rs : List Request) (answers : List Answer) → Run s rs answers s' → UnnamedIsolated s rs s'
+pub run_isolated : (s s' : State) (rs : List Request) (answers : List Answer) → Run s rs answers s' → UntouchedIsolated s rs s'
 run_isolated s s' [] [] h l i exclusive free p covered = ap (λ m. place m p) h.map_is
 run_isolated s s' [] (a ∷ answers) h l i exclusive free p covered = absurd h
 run_isolated s s' (r ∷ rs) [] h l i exclusive free p covered = absurd h
 run_isolated s s' (r ∷ rs) (a ∷ answers) h l i exclusive free p covered =
-    let parts = or_parts (names r l) (named_in rs l) free in
-    let stands = In-LocksEnded (names r) l parts.0 s.locks h.0.locks (serves_ends s h.0 r a h.1) (In-Contains s.locks l i) in
-    let k : Lock = stands.0 in
-    let same : SameButTimes l k = stands.2 in
-    let rest : place s'.map p ≡ place h.0.map p = run_isolated h.0 s' rs answers h.2 k (Contains-In h.0.locks k stands.1)
-    (ap (λ (l : Lock). l.shared) same ∙ exclusive) (named_in_ignores rs l k same ∙ parts.1) p (ap (λ (l : Lock). covers l p) same ∙ covered) in
-    elim (serves_isolated s h.0 r a h.1 l i exclusive p covered) [
-      | inl e ↦ rest ∙ e
-      | inr named ↦ absurd (false≢true (sym parts.0 ∙ or_left (names_as r l) (unlocks r.command l.token) named))
+    let parts = or_parts (touches r l) (touched_in rs l) free in
+    let apart = or_parts (is_stale r.now l) _ parts.0 in
+    let unnamed = or_parts (names r l) _ apart.1 in
+    let here : In l s.locks = In-Contains s.locks l i in
+    let stands : In l h.0.locks = In-StandIn l _ h.0.locks (step_stands s h.0 r a h.1) (In-filter _ s.locks l here (ap not parts.0)) in
+    let starts : In l (start_of r s).locks = In-filter _ s.locks l here (ap not apart.0) in
+    elim (step_isolated s h.0 r a h.1 l (Contains-In (start_of r s).locks l starts) exclusive p covered) [
+      | inl e ↦ run_isolated h.0 s' rs answers h.2 l (Contains-In h.0.locks l stands) exclusive parts.1 p covered ∙ e
+      | inr named ↦ absurd (false≢true (sym unnamed.0 ∙ or_left (names_as r l) (unlocks r.command l.token) named))
     ]
 
 -- all of it, from an exclusive start
@@ -82,6 +81,7 @@ keeps_locks s s' rs answers x h = record {
   ends_named = each_ends_named s s' rs answers;
   stand = run_stand s s' rs answers h;
   kept = run_isolated s s' rs answers h;
+  alone = run_alone s s' rs answers x h;
 }
 
 -- ---- a run goes on

@@ -14,7 +14,7 @@ use Rattle.dav_resource_core.specs.declared.guarded.requests.Refusal.{Refusal}
 use Rattle.dav_resource_core.specs.declared.guarded.requests.Refusal.TheVariants.{Fs, Locked, NoLock, OutOfMemory}
 use Rattle.dav_resource_core.specs.Requests as plain
 use Rattle.dav_resource_core.specs.Checks.{Check, refusing, reached, MayLack}
-use Rattle.dav_resource_core.specs.Step.{State, Same, Step}
+use Rattle.dav_resource_core.specs.Step.{State, Same, Serves}
 use Rattle.dav_resource_core.specs.Served.{refusal_of}
 use Rattle.dav_resource_core.specs.Private.Serving.{refused_by, RefusedBy}
 
@@ -64,6 +64,6 @@ free_all locks who ks ls none others = refusing-append locks who ks ls ∙ ap (�
 -- a refused lock
 pub refused_lock : (s s' : State) (r : plain.Request) (path : PathText) (owner : Option (List ℕ)) (timeout : Option ℕ) (shared deep : Bool) (e : LockError) (x : Refusal)
     → x ≡ refused_by e → r.command ≡ plain.Command.Lock path owner timeout shared deep
-    → Shows (lock_conflicts s.locks (segments path.bytes) shared deep) e → Same s s' → Step s r (Err (refusal_of x)) s'
+    → Shows (lock_conflicts s.locks (segments path.bytes) shared deep) e → Same s s' → Serves s r (Err (refusal_of x)) s'
 refused_lock s s' r path owner timeout shared deep (Conflict lock) x is c shown same = rw (is, c) (shown, same)
 refused_lock s s' r path owner timeout shared deep NoRoom x is c shown same = rw (is, c) (tt, same)

@@ -1,5 +1,6 @@
 -- What a command is checked for (RFC 4918 section 7): at which paths something may change, one clause a command.
-use Rattle.std.specs.Prelude.{◌≢◌, List, [], ◌∷◌, ◌++◌, Bool, true, false, is_some, if◌then◌else◌}
+use Rattle.std.specs.Prelude.{◌≡◌, ◌≢◌, List, [], ◌∷◌, ◌++◌, Bool, true, false, is_some, if◌then◌else◌}
+use Rattle.std.specs.List.{list_any}
 use Rattle.dav_path_core.specs.Fronts.{Path, parent}
 use Rattle.dav_files_core.specs.Resources.{ResourceMap, at_path}
 use Rattle.dav_locks_core.specs.Lock.{Lock}
@@ -20,6 +21,10 @@ shallow p = reached p false
 -- whether something may change at the path
 abbrev pub is_reached : Check → Path → Bool
 is_reached k p = reaches k.path k.deep p
+
+-- no check of a list reaches the path
+abbrev pub IsApart : List Check → Path → Type 0
+IsApart ks p = list_any (λ k. is_reached k p) ks ≡ false
 
 -- a request's tokens count under its principal alone
 abbrev pub caller_of : Request → Caller

@@ -1,15 +1,17 @@
--- What locks promise of a step, and of each step of a run (RFC 4918 sections 6 and 7). The state before is the one from which
--- the step starts.
-use Rattle.std.specs.Prelude.{◌≡◌, ◌⊎◌, List, ◌∷◌, true, false, Contains}
+-- What locks promise of a step, and of each step of a run (RFC 4918 sections 6 and 7). Isolation speaks of the state from which the
+-- step starts.
+use Rattle.std.specs.Prelude.{◌≡◌, ◌⊎◌, List, ◌∷◌, true, false, not, ◌||◌, filter, Contains}
 use Rattle.dav_path_core.specs.Fronts.{Path, is_front}
 use Rattle.dav_files_core.specs.Finding.{place}
 use Rattle.dav_locks_core.specs.Lock.{Lock}
 use Rattle.dav_locks_core.specs.Locks.{covers}
 use Rattle.dav_locks_core.specs.Exclusive.{Exclusive}
-use Rattle.dav_locks_core.specs.Ended.{LocksEnded}
+use Rattle.dav_locks_core.specs.Ended.{LocksEnded, StandIn}
+use Rattle.dav_locks_core.specs.Stale.{is_stale}
 use Rattle.dav_resource_core.specs.Requests.{Request, Answer}
-use Rattle.dav_resource_core.specs.Step.{State, Step, Run}
-use Rattle.dav_resource_core.specs.Naming.{names_as, names, named_in}
+use Rattle.dav_resource_core.specs.Step.{State, Step, Run, start_of}
+use Rattle.dav_resource_core.specs.Naming.{names_as, names, touched_in}
+use Rattle.dav_resource_core.specs.Alone.{HoldersAlone}
 
 -- ---- of a step
 
@@ -17,9 +19,9 @@ use Rattle.dav_resource_core.specs.Naming.{names_as, names, named_in}
 abbrev pub StaysExclusive : State → State → Type 0
 StaysExclusive s s' = Exclusive s.locks → Exclusive s'.locks
 
--- a lock ends only where the request names it
+-- a lock ends only where its moment has come or the request names it
 abbrev pub EndsNamed : State → Request → State → Type 0
-EndsNamed s r s' = LocksEnded (names r) s.locks s'.locks
+EndsNamed s r s' = LocksEnded (λ l. is_stale r.now l || names r l) s.locks s'.locks
 
 -- the place of a path that an exclusive lock covers is unchanged, or the request names that lock's token under its principal
 abbrev pub Isolated : State → Request → State → Type 0
@@ -38,14 +40,14 @@ AnyIsolated s r s' = (l : Lock) → Contains s.locks l → (p : Path) → covers
 
 -- ---- of a run, by its requests alone
 
--- a path that an exclusive lock of the start covers keeps its place where no request names that lock
-abbrev pub UnnamedIsolated : State → List Request → State → Type 0
-UnnamedIsolated s rs s' = (l : Lock) → Contains s.locks l → l.shared ≡ false → named_in rs l ≡ false → (p : Path) → covers l p ≡ true
+-- a path that an exclusive lock of the start covers keeps its place where no request touches that lock
+abbrev pub UntouchedIsolated : State → List Request → State → Type 0
+UntouchedIsolated s rs s' = (l : Lock) → Contains s.locks l → l.shared ≡ false → touched_in rs l ≡ false → (p : Path) → covers l p ≡ true
     → place s'.map p ≡ place s.map p
 
--- the locks of the start that no request names stand at the end, in the same order
-abbrev pub UnnamedStand : State → List Request → State → Type 0
-UnnamedStand s rs s' = LocksEnded (named_in rs) s.locks s'.locks
+-- the locks of the start that no request touches stand unchanged at the end, in the same order
+abbrev pub UntouchedStand : State → List Request → State → Type 0
+UntouchedStand s rs s' = StandIn (filter (λ l. not (touched_in rs l)) s.locks) s'.locks
 
 -- ---- of each step of a run
 
@@ -63,10 +65,10 @@ abbrev pub EachEndsNamed : State → List Request → List Answer → State → 
 EachEndsNamed = EachStep (λ s r a s'. EndsNamed s r s')
 
 abbrev pub EachIsolated : State → List Request → List Answer → State → Type 0
-EachIsolated = EachStep (λ s r a s'. Isolated s r s')
+EachIsolated = EachStep (λ s r a s'. Isolated (start_of r s) r s')
 
 abbrev pub EachAnyIsolated : State → List Request → List Answer → State → Type 0
-EachAnyIsolated = EachStep (λ s r a s'. AnyIsolated s r s')
+EachAnyIsolated = EachStep (λ s r a s'. AnyIsolated (start_of r s) r s')
 
 -- ---- all of it, of one run
 
@@ -76,5 +78,6 @@ pub record KeepsLocks (s : State) (rs : List Request) (answers : List Answer) (s
   pub isolated : EachIsolated s rs answers s'
   pub any_isolated : EachAnyIsolated s rs answers s'
   pub ends_named : EachEndsNamed s rs answers s'
-  pub stand : UnnamedStand s rs s'
-  pub kept : UnnamedIsolated s rs s'
+  pub stand : UntouchedStand s rs s'
+  pub kept : UntouchedIsolated s rs s'
+  pub alone : HoldersAlone s rs answers

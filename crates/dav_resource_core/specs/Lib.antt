@@ -1,3 +1,4 @@
+pub mod Alone
 pub mod Checks
 pub mod Isolation
 pub mod Naming
@@ -11,8 +12,10 @@ pub mod Stores
 pub use Rattle.dav_path_core.specs.Fronts
 pub use Rattle.dav_path_core.specs.PathText
 pub use Rattle.dav_path_core.specs.Segments
+pub use Rattle.dav_files_core.specs.Below
 pub use Rattle.dav_files_core.specs.Finding
 pub use Rattle.dav_files_core.specs.Resources
 pub use Rattle.dav_locks_core.specs.Exclusive
 pub use Rattle.dav_locks_core.specs.Lock
 pub use Rattle.dav_locks_core.specs.Locks
+pub use Rattle.dav_locks_core.specs.Stale

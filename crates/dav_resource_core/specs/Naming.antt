@@ -1,7 +1,8 @@
--- The locks that a request names (RFC 4918 section 6.4).
+-- The locks that a request names, refreshes or outlasts (RFC 4918 sections 6.4 and 6.6).
 use Rattle.std.specs.Prelude.{ℕ, List, [], ◌∷◌, Bool, false, ◌||◌, bytes_eq}
 use Rattle.dav_locks_core.specs.Lock.{Lock}
 use Rattle.dav_locks_core.specs.Locks.{held}
+use Rattle.dav_locks_core.specs.Stale.{is_stale}
 use Rattle.dav_resource_core.specs.Requests.{Command, Request}
 use Rattle.dav_resource_core.specs.Checks.{caller_of}
 
@@ -17,7 +18,16 @@ unlocks _ ended = false
 abbrev pub names : Request → Lock → Bool
 names r l = names_as r l || unlocks r.command l.token
 
--- some request of the list names the lock
-abbrev pub named_in : List Request → Lock → Bool
-named_in [] l = false
-named_in (r ∷ rs) l = names r l || named_in rs l
+-- the command gives a lock with that token another timeout
+abbrev pub refreshes : Command → List ℕ → Bool
+refreshes (Command.Refresh path token timeout) other = bytes_eq other token
+refreshes _ other = false
+
+-- the request may end the lock or change it: it comes at its end or later, names it, or refreshes its token
+abbrev pub touches : Request → Lock → Bool
+touches r l = is_stale r.now l || (names r l || refreshes r.command l.token)
+
+-- some request of the list does
+abbrev pub touched_in : List Request → Lock → Bool
+touched_in [] l = false
+touched_in (r ∷ rs) l = touches r l || touched_in rs l

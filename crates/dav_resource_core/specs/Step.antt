@@ -6,6 +6,7 @@ use Rattle.dav_path_core.specs.Segments.{segments}
 use Rattle.dav_files_core.specs.Resources.{ResourceMap}
 use Rattle.dav_locks_core.specs.Lock.{Lock}
 use Rattle.dav_locks_core.specs.Locks.{lock_conflicts, found, refreshed, discovered}
+use Rattle.dav_locks_core.specs.Stale.{without_stale}
 use Rattle.dav_locks_core.specs.Tokens.{token_from}
 use Rattle.dav_locks_core.specs.NewLock.{new_lock}
 use Rattle.dav_resource_core.specs.Requests.{Command, Request, Reply, Done, Granted, Locks, Fs, Locked, NoLock, OutOfMemory, Answer}
@@ -76,9 +77,9 @@ Serves s r (Err (Fs e)) s' =
     × Same s s'
 Serves s r (Ok reply) s' = (conflicts s r ≡ []) × Effect r.command s r reply s'
 
--- the state that a request finds; a step goes on from there
+-- the state that a step starts from: the locks are dropped whose end has come at the request's moment, whatever its answer
 abbrev pub start_of : Request → State → State
-start_of r s = s
+start_of r s = record s { locks = without_stale r.now s.locks }
 
 -- one request, its answer, and the state after
 abbrev pub Step : State → Request → Answer → State → Type 0
@@ -87,8 +88,11 @@ Step s r a s' = Serves (start_of r s) r a s'
 -- ---- a run
 
 -- as many answers as requests, and a chain of steps through all of them
+abbrev pub Chain : (State → Request → Answer → State → Type 0) → State → List Request → List Answer → State → Type 0
+Chain Link s [] [] s' = Same s s'
+Chain Link s [] (a ∷ answers) s' = ⊥
+Chain Link s (r ∷ rs) [] s' = ⊥
+Chain Link s (r ∷ rs) (a ∷ answers) s' = (mid : State) × Link s r a mid × Chain Link mid rs answers s'
+
 abbrev pub Run : State → List Request → List Answer → State → Type 0
-Run s [] [] s' = Same s s'
-Run s [] (a ∷ answers) s' = ⊥
-Run s (r ∷ rs) [] s' = ⊥
-Run s (r ∷ rs) (a ∷ answers) s' = (mid : State) × Step s r a mid × Run mid rs answers s'
+Run = Chain Step

@@ -11,7 +11,7 @@ mod playing;
 use crate::guarded::Guarded;
 use dav_files_core::fs::Moment;
 use labels::Labels;
-use lines::{Line, line_of};
+use lines::{Unread, request_of};
 use numbers::number;
 use playing::Player;
 use rand_core::SeedableRng;
@@ -131,11 +131,12 @@ fn play_lines<I: Read + Drop, O: Write + Drop>(
         if line.ends_with(b"\n") {
             let _ended = line.pop();
         }
-        match line_of(alloc, &line) {
-            Ok(Line::Blank) => {}
-            Ok(Line::Malformed) => return Err(Stop::Malformed(number)),
-            Ok(Line::Asked(asked)) => player.answer(asked, output)?,
-            Err(AllocError) => output.write_all(OUT_OF_MEMORY)?,
+        match request_of(alloc, &player.labels, &line) {
+            Ok(Some(request)) => player.answer(&request, output)?,
+            Ok(None) => {}
+            Err(Unread::Malformed) => return Err(Stop::Malformed(number)),
+            Err(Unread::BadPath(error)) => writeln!(output, "bad path {error}")?,
+            Err(Unread::OutOfMemory) => output.write_all(OUT_OF_MEMORY)?,
         }
     }
     Ok(())

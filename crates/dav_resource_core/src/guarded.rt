@@ -3,14 +3,17 @@ ghost use Rattle.std.specs.Prelude.{◌≡◌, ℕ, List, ◌≤◌, ◌<◌, �
 ghost use Rattle.rand_core.specs.Stream.{Stream};
 ghost use Rattle.dav_files_core.specs.Resources.{IsResourceMap};
 ghost use Rattle.dav_locks_core.specs.Exclusive.{Exclusive};
-ghost use Rattle.dav_resource_core.specs.Step.{State, Step, Run};
+ghost use Rattle.dav_locks_core.specs.Stale.{without_stale};
+ghost use Rattle.dav_resource_core.specs.Step.{State, Step, Run, Serves, start_of};
 ghost use Rattle.dav_resource_core.specs.Requests as plain;
-ghost use Rattle.dav_resource_core.specs.Isolation.{EndsNamed, UnnamedStand, Isolated, AnyIsolated, EachExclusive, EachEndsNamed, EachIsolated, EachAnyIsolated, UnnamedIsolated, KeepsLocks};
+ghost use Rattle.dav_resource_core.specs.Alone.{HoldersAlone};
+ghost use Rattle.dav_resource_core.specs.Isolation.{EndsNamed, UntouchedStand, Isolated, AnyIsolated, EachExclusive, EachEndsNamed, EachIsolated, EachAnyIsolated, UntouchedIsolated, KeepsLocks};
 ghost use Rattle.dav_resource_core.specs.Stores.{start_stores, state_of};
 ghost use Rattle.dav_resource_core.specs.Served.{request_of, answer_of};
 
 mod checks;
 mod files;
+mod laws;
 mod locks;
 mod requests;
 #[cfg(test)]
@@ -18,9 +21,11 @@ mod tests;
 
 use dav_files_core::fs::Moment;
 use dav_files_core::memfs::MemFs;
+use dav_locks_core::ls::DavLockSystem;
 use dav_locks_core::memls::MemLs;
 use dav_path_core::errors::{FsError, FsResult};
 use files::serve_files;
+pub use laws::{commands_keep_to_folders, holders_are_let_in};
 use rand_core::Rng;
 pub use requests::{Command, Refusal, Reply, Request};
 use std::alloc::{AllocError, Global};
@@ -59,8 +64,9 @@ impl Guarded {
         Ok(Guarded { alloc, fs, locks })
     }
 
-    /// Answers one request. Locks in the way come before any other refusal but out of memory. A granted lock alone draws
-    /// from the generator; on every other answer it stays as it was.
+    /// Answers one request. First, and whatever the answer, the locks are dropped whose end has come at its moment. Locks in the way
+    /// come before any other refusal but out of memory. A granted lock alone draws from the generator; on every other answer it
+    /// stays as it was.
     pub fn apply<R: Rng>(&mut self, request: &Request, rng: &mut R) -> Result<Reply, Refusal>
         ensures step { Step (state_of self.old (R.stream rng.old)) (request_of request.entry.now) (answer_of result)
             (state_of self.new (R.stream rng.new)) }
@@ -70,21 +76,35 @@ impl Guarded {
         // Two locks that cover one path are both shared.
         ensures exclusive { Exclusive self.new.locks }
         // A path under an exclusive lock changes only by a request that names its token under its principal.
-        ensures isolated { Isolated (state_of self.old (R.stream rng.old)) (request_of request.entry.now)
+        ensures isolated { Isolated (start_of (request_of request.entry.now) (state_of self.old (R.stream rng.old))) (request_of request.entry.now)
             (state_of self.new (R.stream rng.new)) }
         // A path under any lock changes only by a request that names, as its holder, a lock that covers it or a front of it.
-        ensures any_isolated { AnyIsolated (state_of self.old (R.stream rng.old)) (request_of request.entry.now)
+        ensures any_isolated { AnyIsolated (start_of (request_of request.entry.now) (state_of self.old (R.stream rng.old))) (request_of request.entry.now)
             (state_of self.new (R.stream rng.new)) }
-        // A lock ends only where its token is named.
+        // A lock ends only where its token is named or its moment has come.
         ensures ends_named { EndsNamed (state_of self.old (R.stream rng.old)) (request_of request.entry.now)
             (state_of self.new (R.stream rng.new)) }
     {
         self.serve(request, rng)
     }
 
-    // One request: refused by its checks, else done on the files or on the locks.
+    // One request, in the stores without the locks whose end has come.
     fn serve<R: Rng>(&mut self, request: &Request, rng: &mut R) -> Result<Reply, Refusal>
         ensures step { Step (state_of self.old (R.stream rng.old)) (request_of request.entry.now) (answer_of result)
+            (state_of self.new (R.stream rng.new)) }
+        ensures exclusive { Exclusive self.new.locks }
+        ensures shape { IsResourceMap self.new.map }
+    {
+        self.locks.expire(request.now);
+        self.serve_fresh(request, rng)
+    }
+
+    // One request: refused by its checks, else done on the files or on the locks.
+    fn serve_fresh<R: Rng>(&mut self, request: &Request, rng: &mut R) -> Result<Reply, Refusal>
+        requires fresh { without_stale request.now.now.0 self.old.locks ≡ self.old.locks }
+        requires exclusive { Exclusive self.old.locks }
+        requires shape { IsResourceMap self.old.map }
+        ensures step { Serves (state_of self.old (R.stream rng.old)) (request_of request.entry.now) (answer_of result)
             (state_of self.new (R.stream rng.new)) }
         ensures exclusive { Exclusive self.new.locks }
         ensures shape { IsResourceMap self.new.map }
@@ -98,7 +118,7 @@ impl Guarded {
             | Command::Check { .. } => return self.serve_locks(request, rng),
             _ => {
                 let reply = serve_files(&mut self.fs, &request.command, request.now)?;
-                self.drop_locks(&request.command);
+                self.drop_locks(request);
                 return Ok(reply);
             }
         }
@@ -109,7 +129,7 @@ impl Guarded {
     ///
     /// Through every run of requests from empty stores, each answer is that of a finite map of paths and a list of locks; two
     /// locks that cover one path are both shared; a path under an exclusive lock changes only by a request that names its token
-    /// under its principal; a lock ends only where its token is named. (Accepted paths and `If` values are exactly the written
+    /// under its principal; a lock ends only where its token is named or its moment has come. (Accepted paths and `If` values are exactly the written
     /// grammars': `DavPath::new` and `If::decode`.)
     pub fn run<R: Rng>(
         &mut self,
@@ -126,18 +146,23 @@ impl Guarded {
         ensures each_exclusive { IfOk result (λ answers. EachExclusive (state_of self.old (R.stream rng.old))
             (map request_of requests.now) (map answer_of answers.items) (state_of self.new (R.stream rng.new))) }
         // In each step a path under a lock changes only by a request that names such a lock, and a lock ends only where its
-        // token is named.
+        // token is named or its moment has come.
         ensures each_isolated { IfOk result (λ answers. EachIsolated (state_of self.old (R.stream rng.old))
             (map request_of requests.now) (map answer_of answers.items) (state_of self.new (R.stream rng.new))) }
         ensures each_any_isolated { IfOk result (λ answers. EachAnyIsolated (state_of self.old (R.stream rng.old))
             (map request_of requests.now) (map answer_of answers.items) (state_of self.new (R.stream rng.new))) }
         ensures each_ends_named { IfOk result (λ answers. EachEndsNamed (state_of self.old (R.stream rng.old))
             (map request_of requests.now) (map answer_of answers.items) (state_of self.new (R.stream rng.new))) }
-        // The locks of the start that no request names stand at the end, and what an exclusive one of them covers is as it was.
-        ensures stand { OnOk result (UnnamedStand (state_of self.old (R.stream rng.old)) (map request_of requests.now)
+        // The locks of the start that no request names or refreshes, and whose end has come at none, stand at the end as they were,
+        // and what an exclusive one of them covers is as it was.
+        ensures stand { OnOk result (UntouchedStand (state_of self.old (R.stream rng.old)) (map request_of requests.now)
             (state_of self.new (R.stream rng.new))) }
-        ensures kept { OnOk result (UnnamedIsolated (state_of self.old (R.stream rng.old))
+        ensures kept { OnOk result (UntouchedIsolated (state_of self.old (R.stream rng.old))
             (map request_of requests.now) (state_of self.new (R.stream rng.new))) }
+        // The requests of the holder of an exclusive deep lock that lasts, where all are below the lock's path, are answered as if no
+        // others were there.
+        ensures alone { IfOk result (λ answers. HoldersAlone (state_of self.old (R.stream rng.old))
+            (map request_of requests.now) (map answer_of answers.items)) }
     {
         self.run_all(requests, rng)
     }
@@ -166,7 +191,7 @@ impl Guarded {
 
 /// The law of every run of requests from the stores of a new `Guarded` (RFC 4918 sections 6 and 7): two locks that cover one path
 /// are both shared; a path under an exclusive lock changes only by a request that names its token under its principal; a
-/// lock ends only where its token is named. `Guarded::run` ensures that it is such a run.
+/// lock ends only where its token is named or its moment has come. `Guarded::run` ensures that it is such a run.
 pub fn runs_keep_locks()
     ensures { (now : ℕ) (rng : Stream) (requests : List plain.Request) (answers : List plain.Answer) (end : State)
         → Run (state_of (start_stores now) rng) requests answers end

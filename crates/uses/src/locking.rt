@@ -4,6 +4,7 @@ ghost use Rattle.dav_resource_core.specs.Segments.{segments};
 ghost use Rattle.dav_resource_core.specs.Lock.{Lock};
 ghost use Rattle.dav_resource_core.specs.Locks.{check_conflicts, without_below};
 ghost use Rattle.dav_resource_core.specs.Exclusive.{Exclusive};
+ghost use Rattle.dav_resource_core.specs.Stale.{without_stale};
 
 use dav_resource_core::davpath::DavPath;
 use dav_resource_core::fs::Moment;
@@ -12,7 +13,8 @@ use dav_resource_core::memls::MemLs;
 use rand_core::Rng;
 use std::alloc::AllocError;
 
-/// Locks a path for its holder alone, and answers the token. A lock in the way is shown, and nothing is changed.
+/// Locks a path for its holder alone, and answers the token. A lock in the way is shown, and nothing is changed. Locks whose end has
+/// come go first.
 pub fn take<R: Rng>(
     locks: &mut MemLs,
     path: &DavPath,
@@ -22,9 +24,9 @@ pub fn take<R: Rng>(
     rng: &mut R,
 ) -> Result<String, LockError>
     ensures exclusive { Exclusive locks.new }
-    ensures taken { IfOk result (λ token. (lock : Lock) × (locks.new ≡ locks.old ++ lock ∷ [])
+    ensures taken { IfOk result (λ token. (lock : Lock) × (locks.new ≡ without_stale now.0 locks.old ++ lock ∷ [])
         × (lock.token ≡ string_bytes token)) }
-    ensures refused { OnErr result (locks.new ≡ locks.old) }
+    ensures refused { OnErr result (locks.new ≡ without_stale now.0 locks.old) }
 {
     let lock = locks.lock(
         path,
@@ -39,20 +41,21 @@ pub fn take<R: Rng>(
     Ok(lock.token)
 }
 
-/// Whether a holder who submits those tokens may change a path.
+/// Whether a holder who submits those tokens may change a path. Locks whose end has come aren't in the way, and go.
 pub fn may_change(
-    locks: &MemLs,
+    locks: &mut MemLs,
     path: &DavPath,
     holder: &str,
     tokens: &[String],
+    now: Moment,
 ) -> Result<bool, AllocError>
-    ensures may { IfOk result (λ may. may ≡ true → check_conflicts locks.now (segments path.now.bytes) false
+    ensures may { IfOk result (λ may. may ≡ true → check_conflicts (without_stale now.0 locks.old) (segments path.now.bytes) false
         (record { principal = Some holder.now; ignore = false; tokens = map string_bytes tokens.now }) ≡ []) }
     ensures may_not { IfOk result (λ may. may ≡ false → (lock : Lock) × Contains
-        (check_conflicts locks.now (segments path.now.bytes) false
+        (check_conflicts (without_stale now.0 locks.old) (segments path.now.bytes) false
         (record { principal = Some holder.now; ignore = false; tokens = map string_bytes tokens.now })) lock) }
 {
-    match locks.check(path, Some(holder), false, false, tokens) {
+    match locks.check(path, Some(holder), false, false, tokens, now) {
         Ok(()) => Ok(true),
         Err(LockError::Conflict(_lock)) => Ok(false),
         Err(LockError::OutOfMemory) => Err(AllocError),
@@ -69,12 +72,12 @@ pub fn take_over<L: DavLockSystem, R: Rng>(
     rng: &mut R,
 ) -> Result<DavLock, LockError>
     ensures taken { IfOk result (λ lock. L.locks locks.new
-        ≡ without_below (segments path.now.bytes) (L.locks locks.old) ++ lock ∷ []) }
+        ≡ without_below (segments path.now.bytes) (without_stale now.0 (L.locks locks.old)) ++ lock ∷ []) }
     ensures deep { IfOk result (λ lock. (lock.path ≡ path.now) × (lock.deep ≡ true) × (lock.shared ≡ false)) }
-    ensures refused { OnErr result (L.locks locks.new ≡ without_below (segments path.now.bytes) (L.locks locks.old)) }
+    ensures refused { OnErr result (L.locks locks.new ≡ without_below (segments path.now.bytes) (without_stale now.0 (L.locks locks.old))) }
     ensures exclusive { Exclusive (L.locks locks.new) }
 {
-    locks.delete(path);
+    locks.delete(path, now);
     locks.lock(path, Some(holder), None, None, false, true, now, rng)
 }
 
@@ -95,10 +98,10 @@ mod tests {
             return Err("refused")?;
         };
         assert!(rt; take(&mut locks, &path, "bob", 60, Moment(6), &mut rng).is_err());
-        assert!(rt; !may_change(&locks, &path, "ann", &[])?);
+        assert!(rt; !may_change(&mut locks, &path, "ann", &[], Moment(7))?);
         let tokens = vec![in alloc; token]?;
-        assert!(rt; may_change(&locks, &path, "ann", &tokens)?);
-        assert!(rt; !may_change(&locks, &path, "bob", &tokens)?);
+        assert!(rt; may_change(&mut locks, &path, "ann", &tokens, Moment(7))?);
+        assert!(rt; !may_change(&mut locks, &path, "bob", &tokens, Moment(7))?);
         Ok(())
     }
 
@@ -112,9 +115,9 @@ mod tests {
             assert!(rt; take(&mut locks, place, "ann", 60, Moment(5), &mut rng).is_ok());
         }
         assert!(rt; take_over(&mut locks, &path, "bob", Moment(6), &mut rng).is_ok());
-        assert_eq!(rt; locks.discover(&path)?.len(), 1);
+        assert_eq!(rt; locks.discover(&path, Moment(8))?.len(), 1);
         assert!(rt; take_over(&mut locks, &above, "cat", Moment(7), &mut rng).is_ok());
-        assert_eq!(rt; locks.discover(&path)?.len(), 1);
+        assert_eq!(rt; locks.discover(&path, Moment(8))?.len(), 1);
         Ok(())
     }
 }

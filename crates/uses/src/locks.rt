@@ -87,21 +87,22 @@ impl Player {
             &mut self.rng,
         );
         match answer {
-            Ok(lock) => shown(self.alloc, &lock),
+            // (a clone is shown, so that it is had, too)
+            Ok(lock) => shown(self.alloc, &lock.clone()?),
             Err(error) => refused(self.alloc, &error),
         }
     }
 
     fn unlock(&mut self, path: &str, token: &str) -> Result<String, Fail> {
         let path = DavPath::new(self.alloc, path)?;
-        match self.locks.unlock(&path, token) {
+        match self.locks.unlock(&path, token, Moment(5)) {
             Ok(()) => Ok(String::from_str(self.alloc, "ok")?),
             Err(error) => Ok(format!(in self.alloc; "{error}")?),
         }
     }
 
     fn check(
-        &self,
+        &mut self,
         path: &str,
         who: &str,
         ignore_principal: bool,
@@ -112,9 +113,14 @@ impl Player {
         if let Some(token) = given(token) {
             tokens.push(String::from_str(self.alloc, token)?)?;
         }
-        let answer = self
-            .locks
-            .check(&path, given(who), ignore_principal, false, &tokens);
+        let answer = self.locks.check(
+            &path,
+            given(who),
+            ignore_principal,
+            false,
+            &tokens,
+            Moment(5),
+        );
         match answer {
             Ok(()) => Ok(String::from_str(self.alloc, "ok")?),
             Err(error) => refused(self.alloc, &error),

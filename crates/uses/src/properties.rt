@@ -195,7 +195,7 @@ fn prop_of(alloc: Global, text: &str) -> FsResult<DavProp> {
     })
 }
 
-// The xml of a property with a value.
+// The xml of a clone of a property with a value.
 fn made(alloc: Global) -> FsResult<String> {
     let prop = DavProp::new(
         alloc,
@@ -204,7 +204,7 @@ fn made(alloc: Global) -> FsResult<String> {
         String::from_str(alloc, "DAV:")?,
         String::from_str(alloc, "v")?,
     )?;
-    match &prop.xml {
+    match &prop.clone()?.xml {
         Some(xml) => text_of(alloc, xml),
         None => Err(FsError::GeneralFailure),
     }

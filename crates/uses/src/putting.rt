@@ -3,6 +3,7 @@ ghost use Rattle.std.specs.Prelude.{◌≡◌, true, false, Contains};
 ghost use Rattle.dav_resource_core.specs.Fronts.{Path};
 ghost use Rattle.dav_resource_core.specs.Finding.{place};
 ghost use Rattle.dav_resource_core.specs.Lock.{Lock};
+ghost use Rattle.dav_resource_core.specs.Stale.{without_stale};
 ghost use Rattle.dav_resource_core.specs.Locks.{covers};
 
 use bytes::Bytes;
@@ -14,7 +15,8 @@ use http::StatusCode;
 use rand_core::Rng;
 use std::alloc::Global;
 
-/// The status of the reply to a PUT that names no lock, or the error that says it. What stands under an exclusive lock stays.
+/// The status of the reply to a PUT that names no lock, or the error that says it. What stands under an exclusive lock that
+/// has not ended stays.
 pub fn answer_put<R: Rng>(
     alloc: Global,
     stores: &mut Guarded,
@@ -23,7 +25,7 @@ pub fn answer_put<R: Rng>(
     now: Moment,
     rng: &mut R,
 ) -> Result<StatusCode, DavError>
-    ensures { (lock : Lock) → Contains stores.old.locks lock → lock.shared ≡ false
+    ensures { (lock : Lock) → Contains (without_stale now.0 stores.old.locks) lock → lock.shared ≡ false
         → (path : Path) → covers lock path ≡ true → place stores.new.map path ≡ place stores.old.map path }
 {
     let path = DavPath::new(alloc, target)?;

@@ -1,26 +1,46 @@
-//! Rows of requests: MOMENT COMMAND ARGS, and behind ` = ` the answer. `TOKEN` is the token of the lock granted last, a URN
-//! of 45 bytes.
+//! Rows of requests: MOMENT WHO COMMAND ARGS, and behind ` = ` the answer. WHO names `TOKEN`, the token of the lock granted
+//! last, a URN of 45 bytes; `-` is nobody.
 use bytes::Bytes;
-use dav_files_core::fs::Moment;
+use dav_files_core::fs::{DavProp, Moment};
 use dav_locks_core::ls::DavLock;
 use dav_path_core::davpath::DavPath;
 use dav_resource_core::guarded::{Command, Guarded, Refusal, Reply, Request};
+use http::StatusCode;
 use rand_core::SeedableRng;
 use rand_pcg::Pcg64;
-use std::alloc::Global;
+use std::alloc::{AllocError, Global};
 use std::test::Fail;
 
-const RUN: &str = "5 put /a abc
-6 put / x
-7 read /a 1 9";
+// Each text without an empty line is one run; all are run in the same stores.
+const RUNS: &str = "5 - put /a abc = done
+6 - put / x = Forbidden
+7 - read /a 1 9 = bc
 
-const APPLIED: &str = "5 put /a abc = done
-6 read /x 0 1 = NotFound
-5 lock / ann ann's 2 = TOKEN / ann ann's 2 2000000005 false false
-6 put /x a = locked TOKEN
-7 unlock /x TOKEN = done
-7 unlock /x TOKEN = no lock
-6 put /x a = done";
+1 - mkcol /s = done
+1 - put /s/f ab = done
+2 ann lock /t/u ann's 2 = TOKEN /t/u ann ann's 2 2000000002 false false
+3 ann move /s /t = locked TOKEN
+
+4 bob move /s /t = locked TOKEN
+5 ann move /s /t = done
+6 - discover /t/u = TOKEN /t/u ann ann's 2 2000000002 false false
+6 - read /t/f 0 9 = ab
+6 - read /s/f 0 9 = NotFound
+
+7 - mkcol /b = done
+8 - move /b /b/c = Forbidden
+9 - put /b/f x = done
+10 - move /b /b = Exists";
+
+const APPLIED: &str = "5 - put /a abc = done
+6 - read /x 0 1 = NotFound
+5 ann lock / ann's 2 = TOKEN / ann ann's 2 2000000005 false false
+6 - put /x a = locked TOKEN
+7 - unlock /x = done
+7 - unlock /x = no lock
+6 - put /x a = done
+8 - patch /x m n = 200 200
+8 - props /x = m|a n|a";
 
 // The stores, their generator, and the token of the lock that was granted last.
 #[derive(Drop)]
@@ -41,35 +61,54 @@ impl Player {
         })
     }
 
-    fn apply(&mut self, call: &str) -> Result<String, Fail> {
-        let request = request_of(self.alloc, call, self.token.as_str())?;
-        let answer = self.stores.apply(&request, &mut self.rng);
-        if let Ok(Reply::Lock(lock)) = &answer {
-            self.token = lock.token.clone()?;
-        }
-        shown(self.alloc, &answer, self.token.as_str())
+    fn request(&self, call: &str) -> Result<Request, Fail> {
+        request_of(self.alloc, call, self.token.as_str())
     }
 
-    // The answers to calls, a line each.
-    fn run(&mut self, requests: &[Request]) -> Result<String, Fail> {
-        let answers = self.stores.run(requests, &mut self.rng)?;
-        let mut text = String::new(self.alloc);
-        for answer in &answers {
-            writeln!(text, "{}", shown(self.alloc, answer, "")?)?;
+    fn apply(&mut self, call: &str) -> Result<String, Fail> {
+        let request = self.request(call)?;
+        let answer = self.stores.apply(&request, &mut self.rng);
+        self.shown(&answer)
+    }
+
+    // The answers to the calls of a run, which stand before ` = `.
+    fn run(&mut self, rows: &str) -> Result<Vec<String>, Fail> {
+        let mut requests = Vec::new(self.alloc);
+        for row in rows.split('\n') {
+            let (call, _wanted) = row.split_once(" = ").ok_or("no answer")?;
+            requests.push(self.request(call)?)?;
         }
-        Ok(text)
+        let answers = self.stores.run(&requests, &mut self.rng)?;
+        let mut told = Vec::new(self.alloc);
+        for answer in &answers {
+            told.push(self.shown(answer)?)?;
+        }
+        Ok(told)
+    }
+
+    // An answer as text; the token of a granted lock is kept.
+    fn shown(&mut self, answer: &Result<Reply, Refusal>) -> Result<String, Fail> {
+        if let Ok(Reply::Lock(lock)) = answer {
+            self.token = lock.token.clone()?;
+        }
+        shown(self.alloc, answer, self.token.as_str())
     }
 }
 
+// A body of `run` that is always out of memory (run-always-out-of-memory) is refused here, and one of `lock` or `apply`
+// (lock-always-out-of-memory) below, too.
 #[test]
 fn runs_go_on_after_a_refusal(rt: HostRuntime) -> Result<(), Fail> {
     let mut player = Player::new(rt.alloc())?;
-    let mut requests = Vec::new(rt.alloc());
-    for call in RUN.split('\n') {
-        requests.push(request_of(rt.alloc(), call, "")?)?;
+    for rows in RUNS.split("\n\n") {
+        let answers = player.run(rows)?;
+        assert!(rt; answers.len() == rows.split('\n').count());
+        for (row, answer) in rows.split('\n').zip(&answers) {
+            let (_call, wanted) = row.split_once(" = ").ok_or("no answer")?;
+            assert!(rt; answer.as_str() == wanted, "{row}, not {answer}");
+        }
     }
-    assert!(rt; player.run(&requests)?.as_str() == "done\nForbidden\nbc\n");
-    assert!(rt; player.run(&[])?.is_empty());
+    assert!(rt; player.stores.run(&[], &mut player.rng)?.is_empty());
     Ok(())
 }
 
@@ -86,23 +125,37 @@ fn applies_each_request(rt: HostRuntime) -> Result<(), Fail> {
 
 fn request_of(alloc: Global, call: &str, token: &str) -> Result<Request, Fail> {
     let words: Vec<&str> = call.split(' ').collect(alloc)?;
-    let (now, words) = words.split_first().ok_or("no words")?;
-    let (command, principal) = match words {
-        ["put", path, text] => (put(alloc, path, text)?, None),
-        ["read", path, at, count] => (read(alloc, path, at, count)?, None),
-        ["lock", path, who, owner, timeout] => (
-            lock(alloc, path, owner, timeout)?,
-            Some(String::from_str(alloc, who)?),
-        ),
-        ["unlock", path, "TOKEN"] => (unlock(alloc, path, token)?, None),
-        _ => return Err(Fail::from("no such request")),
+    let Some((&[now, who], words)) = words.split_first_chunk::<2>() else {
+        return Err(Fail::from("no words"));
     };
+    let mut tokens = Vec::new(alloc);
+    if who != "-" {
+        tokens.push(String::from_str(alloc, token)?)?;
+    }
     Ok(Request {
-        principal,
-        tokens: Vec::new(alloc),
+        principal: match who {
+            "-" => None,
+            who => Some(String::from_str(alloc, who)?),
+        },
+        tokens,
         now: Moment(now.parse()?),
-        command,
+        command: command_of(alloc, words, token)?,
     })
+}
+
+fn command_of(alloc: Global, words: &[&str], token: &str) -> Result<Command, Fail> {
+    match words {
+        ["put", path, text] => put(alloc, path, text),
+        ["read", path, at, count] => read(alloc, path, at, count),
+        ["mkcol", path] => make_folder(alloc, path),
+        ["move", from, to] => move_to(alloc, from, to),
+        ["lock", path, owner, timeout] => lock(alloc, path, owner, timeout),
+        ["unlock", path] => unlock(alloc, path, token),
+        ["discover", path] => discover(alloc, path),
+        ["patch", path, names @ ..] => patch(alloc, path, names),
+        ["props", path] => props(alloc, path),
+        _ => Err(Fail::from("no such request")),
+    }
 }
 
 fn put(alloc: Global, path: &str, text: &str) -> Result<Command, Fail> {
@@ -117,6 +170,45 @@ fn read(alloc: Global, path: &str, at: &str, count: &str) -> Result<Command, Fai
         path: DavPath::new(alloc, path)?,
         at: at.parse()?,
         count: count.parse()?,
+    })
+}
+
+fn make_folder(alloc: Global, path: &str) -> Result<Command, Fail> {
+    let path = DavPath::new(alloc, path)?;
+    Ok(Command::MkCol { path })
+}
+
+fn move_to(alloc: Global, from: &str, to: &str) -> Result<Command, Fail> {
+    let from = DavPath::new(alloc, from)?;
+    let to = DavPath::new(alloc, to)?;
+    Ok(Command::Move { from, to })
+}
+
+fn discover(alloc: Global, path: &str) -> Result<Command, Fail> {
+    let path = DavPath::new(alloc, path)?;
+    Ok(Command::Discover { path })
+}
+
+// Sets a property of each name, whose xml is `a`.
+fn patch(alloc: Global, path: &str, names: &[&str]) -> Result<Command, Fail> {
+    let mut patch = Vec::new(alloc);
+    for name in names {
+        let prop = DavProp {
+            name: String::from_str(alloc, name)?,
+            prefix: None,
+            namespace: None,
+            xml: Some(b"a".to_vec(alloc)?),
+        };
+        patch.push((true, prop))?;
+    }
+    let path = DavPath::new(alloc, path)?;
+    Ok(Command::PatchProps { path, patch })
+}
+
+fn props(alloc: Global, path: &str) -> Result<Command, Fail> {
+    Ok(Command::GetProps {
+        path: DavPath::new(alloc, path)?,
+        content: true,
     })
 }
 
@@ -146,12 +238,50 @@ fn shown(alloc: Global, answer: &Result<Reply, Refusal>, token: &str) -> Result<
             Ok(String::from_str(alloc, text)?)
         }
         Ok(Reply::Lock(lock)) => shown_lock(alloc, lock, token),
+        Ok(Reply::Locks(locks)) => match locks.as_slice() {
+            [lock] => shown_lock(alloc, lock, token),
+            _ => Err(Fail::from("not one lock")),
+        },
+        Ok(Reply::Patched(answers)) => shown_statuses(alloc, answers),
+        Ok(Reply::Props(props)) => shown_props(alloc, props),
         Ok(_) => Err(Fail::from("another reply")),
         Err(Refusal::Fs(error)) => Ok(format!(in alloc; "{error}")?),
         Err(Refusal::Locked(lock)) => Ok(format!(in alloc; "locked {}", name(lock, token))?),
         Err(Refusal::NoLock) => Ok(String::from_str(alloc, "no lock")?),
         Err(Refusal::OutOfMemory) => Ok(String::from_str(alloc, "no memory")?),
     }
+}
+
+fn shown_statuses(alloc: Global, answers: &[(StatusCode, DavProp)]) -> Result<String, Fail> {
+    let mut text = String::new(alloc);
+    for (status, _prop) in answers {
+        add(
+            &mut text,
+            format!(in alloc; "{}", status.as_u16())?.as_str(),
+        )?;
+    }
+    Ok(text)
+}
+
+// Names and xml.
+fn shown_props(alloc: Global, props: &[DavProp]) -> Result<String, Fail> {
+    let mut text = String::new(alloc);
+    for prop in props {
+        let xml = prop.xml.as_deref().ok_or("no xml")?;
+        let xml = str::from_utf8(xml).unwrap_or("?");
+        add(
+            &mut text,
+            format!(in alloc; "{}|{xml}", prop.name)?.as_str(),
+        )?;
+    }
+    Ok(text)
+}
+
+fn add(text: &mut String, word: &str) -> Result<(), AllocError> {
+    if !text.is_empty() {
+        text.push(' ')?;
+    }
+    text.push_str(word)
 }
 
 // Token, path, principal, owner, timeout, moment of the end, shared and deep.

@@ -1,13 +1,15 @@
 //! Scenarios: `> ` a line of input, `< ` one of output, `! ` one of standard error, and `= ` the status that ends each.
+mod corners;
 mod files;
 mod forms;
 mod locks;
 mod streams;
 
+use corners::CORNERS;
 use dav_resource_core::davreplay::{replay, seed_of};
 use files::{FOLDERS, ONE_FILE, PROPERTIES, WRITES};
 use forms::{FORMS, MALFORMED};
-use locks::{DEEP, ENDS, HOLDERS, LOCKS, MOVES, REFRESHED};
+use locks::{ALONE, DEEP, ENDS, HOLDERS, LOCKS, MOVES, REFRESHED, TIMEOUTS};
 use std::io::Read;
 use std::process::Abort;
 use std::test::Fail;
@@ -81,10 +83,38 @@ fn play<R: AllocGlobal + Abort>(rt: &R, scenarios: &str) -> Result<(), Fail> {
 fn plays_each_scenario(rt: HostRuntime) -> Result<(), Fail> {
     for scenarios in [
         ONE_FILE, LOCKS, HOLDERS, DEEP, FOLDERS, MOVES, ENDS, REFRESHED, WRITES, PROPERTIES, FORMS,
+        CORNERS, TIMEOUTS,
     ] {
         play(&rt, scenarios)?;
     }
     Ok(())
+}
+
+// The scenarios without what a principal asks, and what is answered to that.
+fn without<R: AllocGlobal>(rt: &R, scenarios: &str, principal: &str) -> Result<String, Fail> {
+    let mut left = String::new(rt.alloc());
+    let mut is_left_out = false;
+    for line in scenarios.split('\n') {
+        let (mark, text) = line.split_once(' ').ok_or("no mark")?;
+        if mark != "<" {
+            is_left_out = text.split(' ').nth(1) == Some(principal);
+        }
+        if !is_left_out {
+            if !left.is_empty() {
+                left.push('\n')?;
+            }
+            left.push_str(line)?;
+        }
+    }
+    Ok(left)
+}
+
+#[test]
+fn answers_a_holder_alone(rt: HostRuntime) -> Result<(), Fail> {
+    let alone = without(&rt, ALONE, "bob")?;
+    assert!(rt; alone.len() < ALONE.len());
+    play(&rt, ALONE)?;
+    play(&rt, alone.as_str())
 }
 
 #[test]

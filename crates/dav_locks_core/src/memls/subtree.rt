@@ -51,7 +51,7 @@ pub(super) fn parent_of(tree: &Tree<Bytes, NodeLocks>, node: u64) -> Option<u64>
 
 // The node after one in the walk of what stands at `top` and below it: its first child, else the next sibling of the node
 // or of the nearest above it that has one.
-fn next_below(tree: &Tree<Bytes, NodeLocks>, top: u64, node: u64) -> Option<u64>
+pub(super) fn next_below(tree: &Tree<Bytes, NodeLocks>, top: u64, node: u64) -> Option<u64>
     requires known { IsKnown tree.now.keyed node }
     requires under { Under (parent tree.now.keyed) top node }
     ensures { MatchOption result (IsOver tree.now top node) (λ n. GoesOn tree.now top node n) }
@@ -77,7 +77,7 @@ fn next_below(tree: &Tree<Bytes, NodeLocks>, top: u64, node: u64) -> Option<u64>
 }
 
 // The node, and the place there, of a lock that passes at `top` or below it.
-fn find_below<T: LockTest>(
+pub(super) fn find_below<T: LockTest>(
     tree: &Tree<Bytes, NodeLocks>,
     top: u64,
     test: &T,

@@ -100,6 +100,7 @@ fn near_the_end(alloc: Global) -> FsResult<MemLs> {
         alloc,
         tree,
         next: u64::MAX - 1,
+        soonest: Moment(u64::MAX),
     })
 }
 
@@ -155,9 +156,13 @@ fn holds_no_node_that_no_lock_needs(rt: HostRuntime) -> Result<(), Fail> {
             }
             "unlock" => {
                 let lock = granted.get(word.parse::<usize>()?).ok_or("no lock")?;
-                assert!(rt; locks.unlock(&lock.path, lock.token.as_str()).is_ok());
+                assert!(rt;
+                    locks
+                        .unlock(&lock.path, lock.token.as_str(), Moment(6))
+                        .is_ok()
+                );
             }
-            _ => locks.delete(&DavPath::new(alloc, word)?),
+            _ => locks.delete(&DavPath::new(alloc, word)?, Moment(6)),
         }
         assert_eq!(rt; locks.tree.node_count(), count.parse()?, "{row}");
         assert_eq!(rt; locks.node_count(), locks.tree.node_count());

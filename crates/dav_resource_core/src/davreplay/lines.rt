@@ -1,110 +1,55 @@
-//! The form of a line, before its path is read.
+//! The form of a line.
+use super::labels::Labels;
 use super::numbers::{is_digits, number};
+use crate::guarded::{Command, Request};
 use bytes::Bytes;
 use dav_files_core::fs::{DavProp, Moment};
-use std::alloc::{AllocError, Global};
+use dav_path_core::davpath::{DavPath, ParseError};
+use std::alloc::{AllocError, AllocFailed, Global};
 
-/// A line of input.
+/// Why a line's words give no request.
 #[derive(Drop)]
-pub(super) enum Line<'a> {
-    /// It has no words.
-    Blank,
-    /// It has a wrong form.
+pub(super) enum Unread {
+    /// Its form is wrong.
     Malformed,
-    /// It asks for something.
-    Asked(Asked<'a>),
+    /// Its form is right, but a path isn't read: of two, the first such.
+    BadPath(ParseError),
+    /// There is no memory for them.
+    OutOfMemory,
 }
 
-/// A request whose paths and labels aren't read yet.
-#[derive(Drop)]
-pub(super) struct Asked<'a> {
-    pub(super) now: Moment,
-    pub(super) principal: Option<String>,
-    pub(super) labels: Vec<&'a str>,
-    pub(super) action: Action<'a>,
+impl From<ParseError> for Unread {
+    fn from(error: ParseError) -> Unread {
+        match error {
+            ParseError::OutOfMemory => Unread::OutOfMemory,
+            error => Unread::BadPath(error),
+        }
+    }
 }
 
-/// A command, its paths and labels as words.
-#[derive(Drop)]
-pub(super) enum Action<'a> {
-    Put {
-        path: &'a str,
-        bytes: Bytes,
-    },
-    Write {
-        path: &'a str,
-        at: Option<usize>,
-        bytes: Bytes,
-    },
-    Read {
-        path: &'a str,
-        at: usize,
-        count: usize,
-    },
-    List {
-        path: &'a str,
-    },
-    Meta {
-        path: &'a str,
-    },
-    MkCol {
-        path: &'a str,
-    },
-    Remove {
-        path: &'a str,
-    },
-    Move {
-        from: &'a str,
-        to: &'a str,
-    },
-    Copy {
-        from: &'a str,
-        to: &'a str,
-    },
-    PatchProps {
-        path: &'a str,
-        set: bool,
-        prop: DavProp,
-    },
-    GetProps {
-        path: &'a str,
-    },
-    GetProp {
-        path: &'a str,
-        prop: DavProp,
-    },
-    Lock {
-        path: &'a str,
-        timeout: Option<u64>,
-        shared: bool,
-        deep: bool,
-    },
-    Unlock {
-        path: &'a str,
-        label: &'a str,
-    },
-    Refresh {
-        path: &'a str,
-        label: &'a str,
-        timeout: Option<u64>,
-    },
-    Discover {
-        path: &'a str,
-    },
-    Check {
-        path: &'a str,
-        deep: bool,
-    },
+impl From<AllocError> for Unread {
+    fn from(_: AllocError) -> Unread {
+        Unread::OutOfMemory
+    }
+}
+
+impl<T: Drop> From<AllocFailed<T>> for Unread {
+    fn from(_: AllocFailed<T>) -> Unread {
+        Unread::OutOfMemory
+    }
 }
 
 // No well-formed line has more words.
 const WORDS: usize = 8;
 
-/// What a line says. Its words are separated by spaces; it is malformed where it isn't UTF-8.
-pub(super) fn line_of(alloc: Global, line: &[u8]) -> Result<Line<'_>, AllocError> {
-    let Ok(text) = str::from_utf8(line) else {
-        return Ok(Line::Malformed);
-    };
+/// The request of a line, its labels replaced by the tokens that they stand for; none where it has no words. Its words are
+/// separated by spaces; it is malformed where it isn't UTF-8.
+pub(super) fn request_of(
+    alloc: Global,
+    granted: &Labels,
+    line: &[u8],
+) -> Result<Option<Request>, Unread> {
+    let text = str::from_utf8(line).map_err(|_| Unread::Malformed)?;
     let mut words = Vec::with_capacity(alloc, WORDS)?;
     for word in text.split(' ') {
         if !word.is_empty() {
@@ -112,116 +57,200 @@ pub(super) fn line_of(alloc: Global, line: &[u8]) -> Result<Line<'_>, AllocError
         }
     }
     if words.is_empty() {
-        return Ok(Line::Blank);
+        return Ok(None);
     }
-    match asked_of(alloc, &words)? {
-        Some(asked) => Ok(Line::Asked(asked)),
-        None => Ok(Line::Malformed),
-    }
+    Ok(Some(asked(alloc, granted, &words)?))
 }
 
-// `MOMENT PRINCIPAL LABELS COMMAND ARGS`.
-fn asked_of<'a>(alloc: Global, words: &[&'a str]) -> Result<Option<Asked<'a>>, AllocError> {
-    let Some((&[now, principal, labels, command], args)) = words.split_first_chunk::<4>() else {
-        return Ok(None);
+// `MOMENT PRINCIPAL LABELS COMMAND PATH ARGS`.
+fn asked(alloc: Global, granted: &Labels, words: &[&str]) -> Result<Request, Unread> {
+    let Some((&[now, principal, labels, command, path], args)) = words.split_first_chunk::<5>()
+    else {
+        return Err(Unread::Malformed);
     };
-    let Some(now) = number(now) else {
-        return Ok(None);
-    };
-    let Some(labels) = labels_of(alloc, labels)? else {
-        return Ok(None);
-    };
-    let Some(action) = action_of(alloc, command, args)? else {
-        return Ok(None);
-    };
-    let principal = match principal {
-        "-" => None,
-        name => Some(String::from_str(alloc, name)?),
-    };
-    Ok(Some(Asked {
-        now: Moment(now),
-        principal,
-        labels,
-        action,
-    }))
+    let now = Moment(number_of(now)?);
+    let labels = labels_of(alloc, labels)?;
+    let path = DavPath::new(alloc, path);
+    let command = command_of(alloc, granted, command, path, args)?;
+    Ok(Request {
+        principal: text_of(alloc, principal)?,
+        tokens: granted.tokens_of(&labels)?,
+        now,
+        command,
+    })
 }
+
+// A path, which is asked for behind the form of all other words.
+type Path = Result<DavPath, ParseError>;
 
 // The command by its word and those behind it.
-fn action_of<'a>(
+fn command_of(
     alloc: Global,
+    granted: &Labels,
     command: &str,
-    args: &[&'a str],
-) -> Result<Option<Action<'a>>, AllocError> {
+    path: Path,
+    args: &[&str],
+) -> Result<Command, Unread> {
     match (command, args) {
-        ("put", [path, hex]) => match bytes_of(alloc, hex)? {
-            Some(bytes) => Ok(Some(Action::Put { path, bytes })),
-            None => Ok(None),
-        },
-        ("write", [path, at, hex]) => write_of(alloc, path, at, hex),
-        ("read", [path, at, count]) => Ok(read_of(path, at, count)),
-        ("list", [path]) => Ok(Some(Action::List { path })),
-        ("meta", [path]) => Ok(Some(Action::Meta { path })),
-        ("mkcol", [path]) => Ok(Some(Action::MkCol { path })),
-        ("remove", [path]) => Ok(Some(Action::Remove { path })),
-        ("move", [from, to]) => Ok(Some(Action::Move { from, to })),
-        ("copy", [from, to]) => Ok(Some(Action::Copy { from, to })),
-        ("setprop", [path, space, name, hex]) => setprop_of(alloc, path, space, name, hex),
-        ("delprop", [path, space, name]) => Ok(Some(Action::PatchProps {
-            path,
-            set: false,
-            prop: prop_of(alloc, space, name, None)?,
-        })),
-        ("props", [path]) => Ok(Some(Action::GetProps { path })),
-        ("prop", [path, space, name]) => Ok(Some(Action::GetProp {
-            path,
-            prop: prop_of(alloc, space, name, None)?,
-        })),
-        ("lock", [path, scope, depth, timeout]) => Ok(lock_of(path, scope, depth, timeout)),
-        ("unlock", [path, label]) => Ok(unlock_of(path, label)),
-        ("refresh", [path, label, timeout]) => Ok(refresh_of(path, label, timeout)),
-        ("discover", [path]) => Ok(Some(Action::Discover { path })),
-        ("check", [path, depth]) => Ok(check_of(path, depth)),
-        _ => Ok(None),
+        ("put", [hex]) => put(alloc, path, hex),
+        ("write", [at, hex]) => write(alloc, path, at, hex),
+        ("read", [at, count]) => read(path, at, count),
+        ("list", []) => Ok(Command::List { path: path? }),
+        ("meta", []) => Ok(Command::Meta { path: path? }),
+        ("mkcol", []) => Ok(Command::MkCol { path: path? }),
+        ("remove", []) => Ok(Command::Remove { path: path? }),
+        ("move", [to]) => move_to(path, DavPath::new(alloc, to)),
+        ("copy", [to]) => copy_to(path, DavPath::new(alloc, to)),
+        ("setprop", [space, name, hex]) => set_prop(alloc, path, space, name, hex),
+        ("delprop", [space, name]) => delete_prop(alloc, path, space, name),
+        ("props", []) => props(path),
+        ("prop", [space, name]) => prop(alloc, path, space, name),
+        ("lock", [scope, depth, timeout]) => lock(path, scope, depth, timeout),
+        ("unlock", [label]) => unlock(granted, path, label),
+        ("refresh", [label, timeout]) => refresh(granted, path, label, timeout),
+        ("discover", []) => Ok(Command::Discover { path: path? }),
+        ("check", [depth]) => check(path, depth),
+        _ => Err(Unread::Malformed),
     }
 }
 
-// A place in the bytes, or `end`.
-fn write_of<'a>(
-    alloc: Global,
-    path: &'a str,
-    at: &str,
-    hex: &str,
-) -> Result<Option<Action<'a>>, AllocError> {
+fn put(alloc: Global, path: Path, hex: &str) -> Result<Command, Unread> {
+    let bytes = bytes_of(alloc, hex)?;
+    let path = path?;
+    Ok(Command::Put { path, bytes })
+}
+
+// `AT` is a place in the bytes, or `end`.
+fn write(alloc: Global, path: Path, at: &str, hex: &str) -> Result<Command, Unread> {
     let at = match at {
         "end" => None,
-        digits => match number(digits) {
-            Some(at) => Some(at as usize),
-            None => return Ok(None),
-        },
+        digits => Some(number_of(digits)? as usize),
     };
-    match bytes_of(alloc, hex)? {
-        Some(bytes) => Ok(Some(Action::Write { path, at, bytes })),
-        None => Ok(None),
-    }
+    let bytes = bytes_of(alloc, hex)?;
+    let path = path?;
+    Ok(Command::Write { path, at, bytes })
 }
 
-fn setprop_of<'a>(
+fn read(path: Path, at: &str, count: &str) -> Result<Command, Unread> {
+    let at = number_of(at)? as usize;
+    let count = number_of(count)? as usize;
+    let path = path?;
+    Ok(Command::Read { path, at, count })
+}
+
+fn move_to(from: Path, to: Path) -> Result<Command, Unread> {
+    let (from, to) = (from?, to?);
+    Ok(Command::Move { from, to })
+}
+
+fn copy_to(from: Path, to: Path) -> Result<Command, Unread> {
+    let (from, to) = (from?, to?);
+    Ok(Command::Copy { from, to })
+}
+
+fn set_prop(
     alloc: Global,
-    path: &'a str,
+    path: Path,
     space: &str,
     name: &str,
     hex: &str,
-) -> Result<Option<Action<'a>>, AllocError> {
-    let Some(bytes) = bytes_of(alloc, hex)? else {
-        return Ok(None);
-    };
-    let xml = bytes.as_slice().to_vec(alloc)?;
+) -> Result<Command, Unread> {
+    let xml = bytes_of(alloc, hex)?.as_slice().to_vec(alloc)?;
     let prop = prop_of(alloc, space, name, Some(xml))?;
-    Ok(Some(Action::PatchProps {
-        path,
-        set: true,
-        prop,
-    }))
+    patch(alloc, path?, true, prop)
+}
+
+fn delete_prop(alloc: Global, path: Path, space: &str, name: &str) -> Result<Command, Unread> {
+    let prop = prop_of(alloc, space, name, None)?;
+    patch(alloc, path?, false, prop)
+}
+
+// One property, to be set or removed.
+fn patch(alloc: Global, path: DavPath, set: bool, prop: DavProp) -> Result<Command, Unread> {
+    let mut patch = Vec::new(alloc);
+    patch.push((set, prop))?;
+    Ok(Command::PatchProps { path, patch })
+}
+
+fn props(path: Path) -> Result<Command, Unread> {
+    let path = path?;
+    let content = false;
+    Ok(Command::GetProps { path, content })
+}
+
+fn prop(alloc: Global, path: Path, space: &str, name: &str) -> Result<Command, Unread> {
+    let prop = prop_of(alloc, space, name, None)?;
+    let path = path?;
+    Ok(Command::GetProp { path, prop })
+}
+
+fn lock(path: Path, scope: &str, depth: &str, timeout: &str) -> Result<Command, Unread> {
+    let shared = match scope {
+        "exclusive" => false,
+        "shared" => true,
+        _ => return Err(Unread::Malformed),
+    };
+    let deep = is_deep(depth)?;
+    let timeout = timeout_of(timeout)?;
+    Ok(Command::Lock {
+        path: path?,
+        owner: None,
+        timeout,
+        shared,
+        deep,
+    })
+}
+
+fn unlock(granted: &Labels, path: Path, label: &str) -> Result<Command, Unread> {
+    let token = granted.token_of(label_of(label)?)?;
+    let path = path?;
+    Ok(Command::Unlock { path, token })
+}
+
+fn refresh(granted: &Labels, path: Path, label: &str, timeout: &str) -> Result<Command, Unread> {
+    let label = label_of(label)?;
+    let timeout = timeout_of(timeout)?;
+    Ok(Command::Refresh {
+        path: path?,
+        token: granted.token_of(label)?,
+        timeout,
+    })
+}
+
+fn check(path: Path, depth: &str) -> Result<Command, Unread> {
+    let deep = is_deep(depth)?;
+    let path = path?;
+    Ok(Command::Check { path, deep })
+}
+
+// A number within u64, in decimal digits.
+fn number_of(word: &str) -> Result<u64, Unread> {
+    number(word).ok_or(Unread::Malformed)
+}
+
+// `shallow` or `deep`.
+fn is_deep(word: &str) -> Result<bool, Unread> {
+    match word {
+        "shallow" => Ok(false),
+        "deep" => Ok(true),
+        _ => Err(Unread::Malformed),
+    }
+}
+
+// Seconds, or `-` for none.
+fn timeout_of(word: &str) -> Result<Option<u64>, Unread> {
+    match word {
+        "-" => Ok(None),
+        seconds => Ok(Some(number_of(seconds)?)),
+    }
+}
+
+// A text, or `-` for none.
+fn text_of(alloc: Global, word: &str) -> Result<Option<String>, AllocError> {
+    match word {
+        "-" => Ok(None),
+        text => Ok(Some(String::from_str(alloc, text)?)),
+    }
 }
 
 // A property without a prefix; its namespace is `-` for none.
@@ -231,114 +260,45 @@ fn prop_of(
     name: &str,
     xml: Option<Vec<u8>>,
 ) -> Result<DavProp, AllocError> {
-    let namespace = match space {
-        "-" => None,
-        space => Some(String::from_str(alloc, space)?),
-    };
     Ok(DavProp {
         name: String::from_str(alloc, name)?,
         prefix: None,
-        namespace,
+        namespace: text_of(alloc, space)?,
         xml,
     })
 }
 
-fn read_of<'a>(path: &'a str, at: &str, count: &str) -> Option<Action<'a>> {
-    let at = number(at)? as usize;
-    let count = number(count)? as usize;
-    Some(Action::Read { path, at, count })
-}
-
-// `exclusive` or `shared`, `shallow` or `deep`, and a timeout in seconds or `-` for none.
-fn lock_of<'a>(path: &'a str, scope: &str, depth: &str, timeout: &str) -> Option<Action<'a>> {
-    let shared = match scope {
-        "exclusive" => false,
-        "shared" => true,
-        _ => return None,
-    };
-    let deep = depth_of(depth)?;
-    let timeout = timeout_of(timeout)?;
-    Some(Action::Lock {
-        path,
-        timeout,
-        shared,
-        deep,
-    })
-}
-
-fn unlock_of<'a>(path: &'a str, label: &'a str) -> Option<Action<'a>> {
-    if is_label(label) {
-        Some(Action::Unlock { path, label })
-    } else {
-        None
-    }
-}
-
-fn refresh_of<'a>(path: &'a str, label: &'a str, timeout: &str) -> Option<Action<'a>> {
-    if !is_label(label) {
-        return None;
-    }
-    let timeout = timeout_of(timeout)?;
-    Some(Action::Refresh {
-        path,
-        label,
-        timeout,
-    })
-}
-
-fn check_of<'a>(path: &'a str, depth: &str) -> Option<Action<'a>> {
-    let deep = depth_of(depth)?;
-    Some(Action::Check { path, deep })
-}
-
-fn depth_of(word: &str) -> Option<bool> {
-    match word {
-        "shallow" => Some(false),
-        "deep" => Some(true),
-        _ => None,
-    }
-}
-
-// Seconds, or `-` for none.
-fn timeout_of(word: &str) -> Option<Option<u64>> {
-    match word {
-        "-" => Some(None),
-        seconds => Some(Some(number(seconds)?)),
-    }
-}
-
 // An even number of hexadecimal digits, or `-` for no bytes.
-fn bytes_of(alloc: Global, word: &str) -> Result<Option<Bytes>, AllocError> {
+fn bytes_of(alloc: Global, word: &str) -> Result<Bytes, Unread> {
     if word == "-" {
-        return Ok(Some(Bytes::new()));
+        return Ok(Bytes::new());
     }
     match hex::decode(alloc, word) {
-        Ok(bytes) => Ok(Some(Bytes::from_vec(bytes)?)),
-        Err(hex::FromHexError::OutOfMemory) => Err(AllocError),
-        Err(_) => Ok(None),
+        Ok(bytes) => Ok(Bytes::from_vec(bytes)?),
+        Err(hex::FromHexError::OutOfMemory) => Err(Unread::OutOfMemory),
+        Err(_) => Err(Unread::Malformed),
     }
 }
 
 // Labels joined by commas, or `-` for none.
-fn labels_of<'a>(alloc: Global, word: &'a str) -> Result<Option<Vec<&'a str>>, AllocError> {
+fn labels_of<'a>(alloc: Global, word: &'a str) -> Result<Vec<&'a str>, Unread> {
     let mut labels = Vec::new(alloc);
     if word == "-" {
-        return Ok(Some(labels));
+        return Ok(labels);
     }
     for label in word.split(',') {
-        if !is_label(label) {
-            return Ok(None);
-        }
-        labels.push(label)?;
+        labels.push(label_of(label)?)?;
     }
-    Ok(Some(labels))
+    Ok(labels)
 }
 
 // `t` and a number from 1 without leading zeros.
-fn is_label(word: &str) -> bool {
+fn label_of(word: &str) -> Result<&str, Unread> {
     match word.strip_prefix("t") {
-        Some(digits) => !digits.is_empty() && !digits.starts_with("0") && is_digits(digits),
-        None => false,
+        Some(digits) if !digits.is_empty() && !digits.starts_with("0") && is_digits(digits) => {
+            Ok(word)
+        }
+        _ => Err(Unread::Malformed),
     }
 }
 
@@ -349,9 +309,10 @@ mod tests {
 
     #[test]
     fn reads_the_moment(rt: HostRuntime) -> Result<(), Fail> {
-        match line_of(rt.alloc(), b"57 - - read /a 0 1")? {
-            Line::Asked(asked) => assert!(rt; asked.now == Moment(57)),
-            Line::Blank | Line::Malformed => assert!(rt; false),
+        let granted = Labels::new(rt.alloc());
+        match request_of(rt.alloc(), &granted, b"57 - - read /a 0 1") {
+            Ok(Some(request)) => assert!(rt; request.now == Moment(57)),
+            _ => assert!(rt; false),
         }
         Ok(())
     }

@@ -1,6 +1,7 @@
 //! What commands are checked for: the locks that stand in their way.
 ghost use Rattle.std.specs.Prelude.{◌≡◌, ◌∷◌, [], ◌++◌, true, option_map, string_bytes, OnOk, IfErr};
 ghost use Rattle.dav_locks_core.specs.Calls.{lent_text};
+ghost use Rattle.dav_locks_core.specs.Stale.{without_stale};
 ghost use Rattle.dav_path_core.specs.Segments.{segments};
 ghost use Rattle.dav_resource_core.specs.Checks.{caller_of, checks, refusing, reached, member, target};
 ghost use Rattle.dav_resource_core.specs.Served.{command_of, request_of};
@@ -12,11 +13,13 @@ use dav_path_core::davpath::DavPath;
 
 impl Guarded {
     // Makes the checks of a command (RFC 4918 section 7).
-    pub(super) fn check_command(&self, request: &Request) -> Result<(), Refusal>
-        ensures ok { OnOk result (refusing self.now.locks (caller_of (request_of request.entry.now))
-            (checks self.now.map (command_of request.entry.now.command)) ≡ []) }
-        ensures err { IfErr result (RefusedBy self.now.locks (caller_of (request_of request.entry.now))
-            (checks self.now.map (command_of request.entry.now.command))) }
+    pub(super) fn check_command(&mut self, request: &Request) -> Result<(), Refusal>
+        requires fresh { without_stale request.now.now.0 self.old.locks ≡ self.old.locks }
+        ensures ok { OnOk result (refusing self.old.locks (caller_of (request_of request.entry.now))
+            (checks self.old.map (command_of request.entry.now.command)) ≡ []) }
+        ensures err { IfErr result (RefusedBy self.old.locks (caller_of (request_of request.entry.now))
+            (checks self.old.map (command_of request.entry.now.command))) }
+        ensures same { self.new ≡ self.old }
     {
         match &request.command {
             Command::Put { path, .. } => return self.check_target(request, path),
@@ -32,11 +35,13 @@ impl Guarded {
     }
 
     // Checks a target, and its parent where nothing stands at the target (RFC 4918 section 7.4).
-    fn check_target(&self, request: &Request, path: &DavPath) -> Result<(), Refusal>
-        ensures ok { OnOk result (refusing self.now.locks (caller_of (request_of request.entry.now))
-            (target self.now.map (segments path.now.bytes)) ≡ []) }
-        ensures err { IfErr result (RefusedBy self.now.locks (caller_of (request_of request.entry.now))
-            (target self.now.map (segments path.now.bytes))) }
+    fn check_target(&mut self, request: &Request, path: &DavPath) -> Result<(), Refusal>
+        requires fresh { without_stale request.now.now.0 self.old.locks ≡ self.old.locks }
+        ensures ok { OnOk result (refusing self.old.locks (caller_of (request_of request.entry.now))
+            (target self.old.map (segments path.now.bytes)) ≡ []) }
+        ensures err { IfErr result (RefusedBy self.old.locks (caller_of (request_of request.entry.now))
+            (target self.old.map (segments path.now.bytes))) }
+        ensures same { self.new ≡ self.old }
     {
         if self.fs.metadata(path).is_ok() {
             return self.check_path(request, path, false);
@@ -45,22 +50,26 @@ impl Guarded {
     }
 
     // Checks both ends of a move, with what is below them, and their parents.
-    fn check_ends(&self, request: &Request, from: &DavPath, to: &DavPath) -> Result<(), Refusal>
-        ensures ok { OnOk result (refusing self.now.locks (caller_of (request_of request.entry.now))
+    fn check_ends(&mut self, request: &Request, from: &DavPath, to: &DavPath) -> Result<(), Refusal>
+        requires fresh { without_stale request.now.now.0 self.old.locks ≡ self.old.locks }
+        ensures ok { OnOk result (refusing self.old.locks (caller_of (request_of request.entry.now))
             (member (segments from.now.bytes) true ++ member (segments to.now.bytes) true) ≡ []) }
-        ensures err { IfErr result (RefusedBy self.now.locks (caller_of (request_of request.entry.now))
+        ensures err { IfErr result (RefusedBy self.old.locks (caller_of (request_of request.entry.now))
             (member (segments from.now.bytes) true ++ member (segments to.now.bytes) true)) }
+        ensures same { self.new ≡ self.old }
     {
         self.check_member(request, from, true)?;
         return self.check_member(request, to, true);
     }
 
     // Checks a path, and its parent, which changes with it.
-    fn check_member(&self, request: &Request, path: &DavPath, deep: bool) -> Result<(), Refusal>
-        ensures ok { OnOk result (refusing self.now.locks (caller_of (request_of request.entry.now))
+    fn check_member(&mut self, request: &Request, path: &DavPath, deep: bool) -> Result<(), Refusal>
+        requires fresh { without_stale request.now.now.0 self.old.locks ≡ self.old.locks }
+        ensures ok { OnOk result (refusing self.old.locks (caller_of (request_of request.entry.now))
             (member (segments path.now.bytes) deep) ≡ []) }
-        ensures err { IfErr result (RefusedBy self.now.locks (caller_of (request_of request.entry.now))
+        ensures err { IfErr result (RefusedBy self.old.locks (caller_of (request_of request.entry.now))
             (member (segments path.now.bytes) deep)) }
+        ensures same { self.new ≡ self.old }
     {
         self.check_path(request, path, deep)?;
         match path.parent() {
@@ -70,15 +79,17 @@ impl Guarded {
     }
 
     // Checks one path, and all below it where `deep`, by the request's tokens and principal.
-    fn check_path(&self, request: &Request, path: &DavPath, deep: bool) -> Result<(), Refusal>
-        ensures ok { OnOk result (refusing self.now.locks (caller_of (request_of request.entry.now))
+    fn check_path(&mut self, request: &Request, path: &DavPath, deep: bool) -> Result<(), Refusal>
+        requires fresh { without_stale request.now.now.0 self.old.locks ≡ self.old.locks }
+        ensures ok { OnOk result (refusing self.old.locks (caller_of (request_of request.entry.now))
             (reached (segments path.now.bytes) deep ∷ []) ≡ []) }
-        ensures err { IfErr result (RefusedBy self.now.locks (caller_of (request_of request.entry.now))
+        ensures err { IfErr result (RefusedBy self.old.locks (caller_of (request_of request.entry.now))
             (reached (segments path.now.bytes) deep ∷ [])) }
+        ensures same { self.new ≡ self.old }
     {
         let principal = text_of(&request.principal);
         self.locks
-            .check(path, principal, false, deep, &request.tokens)?;
+            .check(path, principal, false, deep, &request.tokens, request.now)?;
         Ok(())
     }
 }

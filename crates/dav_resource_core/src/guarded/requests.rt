@@ -100,7 +100,7 @@ pub enum Command {
         path: DavPath,
         /// The owner's text, kept as given.
         owner: Option<String>,
-        /// In seconds, kept as asked; none where there is no timeout. Locks don't end by it yet.
+        /// In seconds, kept as asked; none where there is no timeout.
         timeout: Option<u64>,
         /// Others may hold a lock there too.
         shared: bool,

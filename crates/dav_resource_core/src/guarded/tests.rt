@@ -1,63 +1,113 @@
 use super::*;
 use bytes::Bytes;
 use dav_files_core::fs::{DavFile, DavFileSystem, OpenOptions};
-use dav_locks_core::ls::{DavLock, DavLockSystem};
+use dav_locks_core::ls::DavLockSystem;
 use dav_path_core::davpath::DavPath;
 use rand_core::SeedableRng;
 use rand_pcg::Pcg64;
 use std::test::Fail;
 
-fn request(rt: &HostRuntime, now: u64, command: Command) -> Request {
-    Request {
-        principal: None,
-        tokens: Vec::new(rt.alloc()),
-        now: Moment(now),
+// A request of ann's, who names these tokens.
+fn request(rt: &HostRuntime, tokens: Vec<String>, command: Command) -> Result<Request, Fail> {
+    Ok(Request {
+        principal: Some(String::from_str(rt.alloc(), "ann")?),
+        tokens,
+        now: Moment(5),
         command,
-    }
+    })
 }
 
-fn put(rt: &HostRuntime, now: u64, path: &str, bytes: &[u8]) -> Result<Request, Fail> {
-    let command = Command::Put {
-        path: DavPath::new(rt.alloc(), path)?,
-        bytes: Bytes::copy_from_slice(rt.alloc(), bytes)?,
+fn unnamed(rt: &HostRuntime, command: Command) -> Result<Request, Fail> {
+    request(rt, Vec::new(rt.alloc()), command)
+}
+
+fn move_folder(rt: &HostRuntime) -> Result<Command, Fail> {
+    let from = DavPath::new(rt.alloc(), "/s")?;
+    let to = DavPath::new(rt.alloc(), "/t")?;
+    Ok(Command::Move { from, to })
+}
+
+// A folder with a file, a lock on what isn't there yet, and a move of the folder to above it.
+fn refused_move(rt: &HostRuntime) -> Result<Vec<Request>, Fail> {
+    let path = DavPath::new(rt.alloc(), "/s")?;
+    let file = DavPath::new(rt.alloc(), "/s/f")?;
+    let locked = DavPath::new(rt.alloc(), "/t/u")?;
+    let mut requests = Vec::new(rt.alloc());
+    requests.push(unnamed(rt, Command::MkCol { path })?)?;
+    let put = Command::Put {
+        path: file,
+        bytes: Bytes::copy_from_slice(rt.alloc(), b"ab")?,
     };
-    Ok(request(rt, now, command))
+    requests.push(unnamed(rt, put)?)?;
+    let lock = Command::Lock {
+        path: locked,
+        owner: None,
+        timeout: None,
+        shared: false,
+        deep: false,
+    };
+    requests.push(unnamed(rt, lock)?)?;
+    requests.push(unnamed(rt, move_folder(rt)?)?)?;
+    Ok(requests)
 }
 
-fn granted(answer: Result<Reply, Refusal>) -> Option<DavLock> {
-    match answer {
-        Ok(Reply::Lock(lock)) => Some(lock),
+// The token of a lock at `/t/u` that is in the way of the last of these answers.
+fn in_the_way(mut answers: Vec<Result<Reply, Refusal>>) -> Option<String> {
+    match answers.pop()? {
+        Err(Refusal::Locked(lock)) => Some(lock.token),
         _ => None,
     }
 }
 
-// Ann's lock of the root, for two seconds from moment 5 on.
-fn lock_root(rt: &HostRuntime) -> Result<Request, Fail> {
-    let command = Command::Lock {
-        path: DavPath::new(rt.alloc(), "/")?,
-        owner: Some(String::from_str(rt.alloc(), "ann's")?),
-        timeout: Some(2),
-        shared: false,
-        deep: false,
-    };
-    let mut asked = request(rt, 5, command);
-    asked.principal = Some(String::from_str(rt.alloc(), "ann")?);
-    Ok(asked)
-}
-
-// The stores stand in the fields `fs` and `locks`.
-#[test]
-fn keeps_its_stores_in_two_fields(rt: HostRuntime) -> Result<(), Fail> {
+// The stores after the move is refused, and then done under the lock's token.
+fn moved(rt: &HostRuntime) -> Result<(Guarded, String), Fail> {
     let mut stores = Guarded::new(rt.alloc(), Moment(0))?;
     let mut rng = Pcg64::seed_from_u64(1);
-    assert!(rt; stores.apply(&put(&rt, 4, "/x", b"ab")?, &mut rng).is_ok());
-    let lock = granted(stores.apply(&lock_root(&rt)?, &mut rng)).ok_or("not granted")?;
-    let root = DavPath::new(rt.alloc(), "/")?;
-    let x = DavPath::new(rt.alloc(), "/x")?;
-    let mut file = stores.fs.open(&x, OpenOptions::read(), Moment(6))?;
+    let answers = stores.run(&refused_move(rt)?, &mut rng)?;
+    let token = in_the_way(answers).ok_or("not locked")?;
+    let mut tokens = Vec::new(rt.alloc());
+    tokens.push(token.clone()?)?;
+    let again = request(rt, tokens, move_folder(rt)?)?;
+    match stores.run(&[again], &mut rng)?.first() {
+        Some(Ok(Reply::Done)) => Ok((stores, token)),
+        _ => Err(Fail::from("not moved")),
+    }
+}
+
+// The files stand in the field `fs`.
+#[test]
+fn keeps_its_files_in_fs(rt: HostRuntime) -> Result<(), Fail> {
+    let (mut stores, _token) = moved(&rt)?;
+    let path = DavPath::new(rt.alloc(), "/t/f")?;
+    let mut file = stores.fs.open(&path, OpenOptions::read(), Moment(6))?;
     assert!(rt; file.read_bytes(&stores.fs, 9)?.as_slice() == b"ab".as_slice());
-    assert!(rt; stores.locks.check(&root, None, false, false, &[]).is_err());
-    assert!(rt; stores.locks.unlock(&root, lock.token.as_str()).is_ok());
-    assert!(rt; stores.locks.check(&root, None, false, false, &[]).is_ok());
+    let source = DavPath::new(rt.alloc(), "/s")?;
+    assert!(rt; stores.fs.metadata(&source).is_err());
+    Ok(())
+}
+
+// The locks stand in the field `locks`.
+#[test]
+fn keeps_its_locks_in_locks(rt: HostRuntime) -> Result<(), Fail> {
+    let (mut stores, token) = moved(&rt)?;
+    let path = DavPath::new(rt.alloc(), "/t/u")?;
+    assert!(rt;
+        stores
+            .locks
+            .check(&path, None, false, false, &[], Moment(6))
+            .is_err()
+    );
+    assert!(rt;
+        stores
+            .locks
+            .unlock(&path, token.as_str(), Moment(6))
+            .is_ok()
+    );
+    assert!(rt;
+        stores
+            .locks
+            .check(&path, None, false, false, &[], Moment(6))
+            .is_ok()
+    );
     Ok(())
 }

@@ -1,5 +1,5 @@
 //! Rows of deep and shared locks: a call, and behind ` = ` its answer. `t1` is the lock granted first, and so on; `-` stands
-//! for none. A lock is asked for at moment 5, a refresh at moment 7.
+//! for none. Calls are made at moment 5, or at that which `at` gave last.
 use super::counter::Counter;
 use dav_files_core::fs::Moment;
 use dav_locks_core::ls::{DavLock, DavLockSystem, LockError, RefreshError};
@@ -39,6 +39,7 @@ discover /a/b = t2 t1
 new = ok
 lock /a - shared shallow = t1
 lock /a - shared shallow = t2
+at 7 = ok
 refresh /a t1 3 = t1 3000000007
 refresh /a/b t1 - = t1 -
 refresh / t1 3 = NoLock
@@ -88,7 +89,34 @@ check /a/b - - deep = conflict t2
 check /a/x - t1 deep = ok
 check /a/c - - deep = ok
 delete /q = ok
-count = 5";
+count = 5
+new = ok
+lock /a/b/c - exclusive shallow = t1
+lock /a - shared shallow = t2
+lock /d - exclusive deep = t3
+refresh /d t3 9 = t3 9000000005
+refresh /a/b/c t1 1 = t1 1000000005
+count = 5
+at 1000000004 = ok
+discover /a/b/c = t1
+check /a/b/c - - shallow = conflict t1
+count = 5
+at 1000000005 = ok
+check /a/b/c - - shallow = ok
+count = 3
+at 6 = ok
+discover /a/b/c = -
+unlock /a/b/c t1 = NoLock
+lock /a/b - exclusive deep = t4
+refresh /a/b t4 - = t4 -
+expire 9000000004 = ok
+discover /d = t3
+expire 9000000005 = ok
+discover /d = -
+discover /a = t2
+expire 18446744073709551615 = ok
+discover /a/b = t4
+count = 3";
 
 #[test]
 fn plays_on_deep_locks(rt: HostRuntime) -> Result<(), Fail> {
@@ -115,6 +143,7 @@ struct Player {
     locks: MemLs,
     rng: Counter,
     granted: Vec<String>,
+    now: Moment,
 }
 
 impl Player {
@@ -124,6 +153,7 @@ impl Player {
             locks: MemLs::new(alloc)?,
             rng: Counter(1),
             granted: Vec::new(alloc),
+            now: Moment(5),
         })
     }
 
@@ -132,6 +162,14 @@ impl Player {
         match words.as_slice() {
             ["new"] => {
                 *self = Player::new(self.alloc)?;
+                Ok(self.text("ok")?)
+            }
+            ["at", moment] => {
+                self.now = Moment(moment.parse()?);
+                Ok(self.text("ok")?)
+            }
+            ["expire", moment] => {
+                self.locks.expire(Moment(moment.parse()?));
                 Ok(self.text("ok")?)
             }
             ["count"] => Ok(format!(in self.alloc; "{}", self.locks.node_count())?),
@@ -156,7 +194,8 @@ impl Player {
             ),
             ["discover", path] => self.discover(path),
             ["delete", path] => {
-                self.locks.delete(&DavPath::new(self.alloc, path)?);
+                self.locks
+                    .delete(&DavPath::new(self.alloc, path)?, self.now);
                 Ok(self.text("ok")?)
             }
             _ => Err(Fail::from("no such call")),
@@ -172,7 +211,7 @@ impl Player {
             None,
             shared,
             deep,
-            Moment(5),
+            self.now,
             &mut self.rng,
         );
         match answer {
@@ -187,7 +226,7 @@ impl Player {
     fn unlock(&mut self, path: &str, label: &str) -> Result<String, Fail> {
         let path = DavPath::new(self.alloc, path)?;
         let token = self.token(label)?;
-        match self.locks.unlock(&path, token.as_str()) {
+        match self.locks.unlock(&path, token.as_str(), self.now) {
             Ok(()) => Ok(self.text("ok")?),
             Err(error) => Ok(format!(in self.alloc; "{error}")?),
         }
@@ -197,10 +236,7 @@ impl Player {
         let path = DavPath::new(self.alloc, path)?;
         let token = self.token(label)?;
         let timeout = seconds.parse().ok();
-        match self
-            .locks
-            .refresh(&path, token.as_str(), timeout, Moment(7))
-        {
+        match self.locks.refresh(&path, token.as_str(), timeout, self.now) {
             Ok(lock) => {
                 let label = self.label(&lock)?;
                 match lock.timeout_at {
@@ -213,7 +249,7 @@ impl Player {
     }
 
     fn check(
-        &self,
+        &mut self,
         path: &str,
         who: &str,
         ignore_principal: bool,
@@ -227,17 +263,15 @@ impl Player {
                 tokens.push(self.token(label)?)?;
             }
         }
-        match self
-            .locks
-            .check(&path, given(who), ignore_principal, deep, &tokens)
-        {
+        match self.locks.check(&path, given(who), ignore_principal, deep, &tokens, self.now) {
             Ok(()) => Ok(self.text("ok")?),
             Err(error) => Ok(self.refused(&error)?),
         }
     }
 
-    fn discover(&self, path: &str) -> Result<String, Fail> {
-        let covering = self.locks.discover(&DavPath::new(self.alloc, path)?)?;
+    fn discover(&mut self, path: &str) -> Result<String, Fail> {
+        let path = DavPath::new(self.alloc, path)?;
+        let covering = self.locks.discover(&path, self.now)?;
         if covering.is_empty() {
             return Ok(self.text("-")?);
         }

@@ -37,7 +37,7 @@ pub(super) const HOLDERS: &str = "> 1 ann - lock /x exclusive shallow 9
 < locked t1
 > 7 - - unlock /x t2
 < no lock
-> 8 cat - lock /y exclusive shallow 0
+> 8 cat - lock /y exclusive shallow 9
 < ok t2
 > 9 ann t1 put /y 61
 < locked t2
@@ -218,4 +218,91 @@ pub(super) const REFRESHED: &str = "> 5 ann - lock /a exclusive deep 2
 < ok
 > 10 - - discover /c
 < ok t3
+= 0";
+
+// A holder, ann, and a stranger, bob: without what he asks, the other answers are the same.
+pub(super) const ALONE: &str = "> 1 - - mkcol /d
+< ok
+> 2 ann - lock /d exclusive deep -
+< ok t1
+> 3 bob - put /d/x 61
+< locked t1
+> 4 ann t1 put /d/x 62
+< ok
+> 5 bob - put /y 61
+< ok
+> 6 ann t1 meta /d/x
+< ok file 1 4 4
+= 0
+> 1 - - mkcol /d
+< ok
+> 2 ann - lock /d exclusive deep -
+< ok t1
+> 3 ann t1 mkcol /d/s
+< ok
+> 4 bob - move /d/s /s
+< locked t1
+> 5 bob t1 remove /d/s
+< locked t1
+> 6 bob - mkcol /e
+< ok
+> 7 ann t1 put /d/s/f 6162
+< ok
+> 8 bob - copy /d/s/f /e/g
+< ok
+> 9 bob - move /e /d/e
+< locked t1
+> 10 bob - lock /d/s/f shared shallow -
+< locked t1
+> 11 ann t1 copy /d/s/f /d/g
+< ok
+> 12 bob - lock /e exclusive deep -
+< ok t2
+> 13 ann t1 move /d/s /d/t
+< ok
+> 14 bob t2 move /e /z
+< ok
+> 15 ann t1 setprop /d/t - n 61
+< ok 200
+> 16 ann t1 list /d/t
+< ok f
+> 17 ann t1 meta /d/t/f
+< ok file 2 7 7
+> 18 ann t1 put /d/x/y 61
+< error 404 NotFound
+> 19 ann t1 remove /d/t
+< error 403 Forbidden
+> 20 ann t1 props /d/t
+< ok - n
+= 0";
+
+// Locks that end by time: moments may go back, and a dropped lock doesn't come back with them.
+pub(super) const TIMEOUTS: &str = "> 1 ann - lock /a exclusive deep 2
+< ok t1
+> 2000000000 bob - put /a 61
+< locked t1
+> 2000000001 bob - put /a 61
+< ok
+> 5 ann - unlock /a t1
+< no lock
+> 6 ann - lock /a exclusive shallow 0
+< ok t2
+> 5 bob - put /a 62
+< locked t2
+> 6 - - read /a 0 9
+< ok 61
+> 5 bob - put /a 62
+< ok
+> 7 ann - lock /b exclusive shallow 1
+< ok t3
+> 1000000006 - - refresh /b t3 1
+< ok t3 2000000006
+> 1000000007 - - discover /b
+< ok t3
+> 2000000006 - - discover /b
+< ok
+> 8 ann - lock /b exclusive shallow -
+< ok t4
+> 18446744073709551615 - - discover /b
+< ok t4
 = 0";

@@ -1,4 +1,5 @@
 use Rattle.std.proofs.lemmas.Result.{IfOk-weaker}
+use Rattle.dav_resource_core.proofs.AloneLaws.{run_alone}
 use Rattle.dav_resource_core.proofs.RunLaws.{each_exclusive, each_ends_named, each_isolated, each_any_isolated, run_stand, run_isolated}
 use Rattle.dav_resource_core.proofs.guarded.Guarded.run.Goals as goal
 
@@ -19,3 +20,6 @@ returns-clause-stand g c = IfOk-weaker c.run_all.result _ _ (λ answers ran. run
 
 pub returns-clause-kept : goal.returns-clause-kept
 returns-clause-kept g c = IfOk-weaker c.run_all.result _ _ (λ answers ran. run_isolated _ _ _ _ ran) c.run_all.ensures.run
+
+pub returns-clause-alone : goal.returns-clause-alone
+returns-clause-alone g c = IfOk-weaker c.run_all.result _ _ (λ answers ran. run_alone _ _ _ _ c.run_all.ensures.exclusive.0 ran) c.run_all.ensures.run

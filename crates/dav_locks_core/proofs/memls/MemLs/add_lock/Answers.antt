@@ -1,4 +1,4 @@
-use Rattle.std.proofs.Common.{◌≡◌, [], ◌∷◌, ◌++◌, ◌+◌, Some, true, IfErr, ap, sym, ◌∙◌, subst}
+use Rattle.std.proofs.Common.{◌≡◌, [], ◌∷◌, ◌++◌, ◌+◌, Some, true, false, IfErr, ap, sym, ◌∙◌, subst}
 use Rattle.std.proofs.lemmas.Bool.{true≢false}
 use Rattle.std.proofs.lemmas.Result.{err_from_is_err_and}
 use Rattle.dav_path_core.specs.Segments.{segments}
@@ -9,17 +9,19 @@ use Rattle.dav_locks_core.specs.Private.Pruning.{SameLocks}
 use Rattle.dav_locks_core.specs.Private.SubtreeWalks.{NoneBelow}
 use Rattle.dav_locks_core.specs.Private.WayTests.{refuses_wanted}
 use Rattle.dav_locks_core.specs.Calls.{Shows}
+use Rattle.dav_locks_core.specs.Private.Soonest.{comes_before, NoneEndsBefore}
+use Rattle.dav_locks_core.proofs.Expiring.{sooner-push}
 use Rattle.dav_locks_core.proofs.LockLists.{IsKeptAs, kept-same, kept-grant, lock_free, lock_shown, lock_shown_below, shows_weaker, on_err}
 use Rattle.dav_locks_core.proofs.Pruning.{SameLocks-trans}
-use Rattle.dav_locks_core.proofs.memls.MemLsDavLockSystem.lock.Given.{Over}
-use Rattle.dav_locks_core.proofs.memls.MemLsDavLockSystem.lock.Goals.{then-deep+in_ok-check_locks_from_path, else-deep}
-use Rattle.dav_locks_core.proofs.memls.MemLsDavLockSystem.lock.Goals as goal
+use Rattle.dav_locks_core.proofs.memls.MemLs.add_lock.Given.{Over}
+use Rattle.dav_locks_core.proofs.memls.MemLs.add_lock.Goals.{then-deep+in_ok-check_locks_from_path, else-deep}
+use Rattle.dav_locks_core.proofs.memls.MemLs.add_lock.Goals as goal
 
 pub returns-in_err-check_locks_to_path-clause-shown : goal.returns-in_err-check_locks_to_path-clause-shown
 returns-in_err-check_locks_to_path-clause-shown g c =
     let conflicts = lock_conflicts c.args.self.now (segments c.args.path.now.bytes) c.args.shared c.args.deep in
     let p = err_from_is_err_and c.from_residual.result c.from_residual.ensures.1 in
-    let shown = lock_shown c.self.inside.tree.keyed c.self.inside.next c.self.invariant.list (segments c.args.path.now.bytes) c.args.shared c.args.deep c.in_err-check_locks_to_path.field-0.0 c.in_err-check_locks_to_path.ensures.shown in
+    let shown = lock_shown c.self.inside.tree.keyed c.self.inside.next c.self.invariant.tree.list (segments c.args.path.now.bytes) c.args.shared c.args.deep c.in_err-check_locks_to_path.field-0.0 c.in_err-check_locks_to_path.ensures.shown in
     subst (λ r. IfErr r (λ e. Shows conflicts e)) (sym p.1)
     (subst (λ e. Shows conflicts e) (sym p.2)
     (subst (λ locks. Shows (lock_conflicts locks (segments c.args.path.now.bytes) c.args.shared c.args.deep) c.in_err-check_locks_to_path.field-0.0) c.self.view_is (shows_weaker _ _ shown)))
@@ -28,7 +30,7 @@ pub returns-in_err-check_locks_from_path-clause-shown : goal.returns-in_err-chec
 returns-in_err-check_locks_from_path-clause-shown g c =
     let conflicts = lock_conflicts c.args.self.now (segments c.args.path.now.bytes) c.args.shared c.args.deep in
     let p = err_from_is_err_and c.from_residual-in_err-check_locks_from_path.result c.from_residual-in_err-check_locks_from_path.ensures.1 in
-    let shown = lock_shown_below c.self.inside.tree.keyed c.self.inside.next c.self.invariant.list (segments c.args.path.now.bytes) c.args.shared c.args.deep c.in_err-check_locks_from_path.field-0.0 c.if-deep.true c.in_err-check_locks_from_path.ensures.shown in
+    let shown = lock_shown_below c.self.inside.tree.keyed c.self.inside.next c.self.invariant.tree.list (segments c.args.path.now.bytes) c.args.shared c.args.deep c.in_err-check_locks_from_path.field-0.0 c.if-deep.true c.in_err-check_locks_from_path.ensures.shown in
     subst (λ r. IfErr r (λ e. Shows conflicts e)) (sym p.1)
     (subst (λ e. Shows conflicts e) (sym p.2)
     (subst (λ locks. Shows (lock_conflicts locks (segments c.args.path.now.bytes) c.args.shared c.args.deep) c.in_err-check_locks_from_path.field-0.0) c.self.view_is (shows_weaker _ _ shown)))
@@ -36,10 +38,13 @@ returns-in_err-check_locks_from_path-clause-shown g c =
 -- no memory for the way
 unmade : (g : Over) (c : goal.After-from_residual-in_err-node g) → IsKeptAs c.get_or_create_path_node.new.tree.keyed c.self.inside.next c.args.self.now
 unmade g c =
-    kept-same c.self.inside.tree.keyed c.get_or_create_path_node.new.tree.keyed c.self.inside.next c.args.self.now c.self.invariant c.self.view_is c.get_or_create_path_node.ensures.same c.in_err-node.ensures.needed
+    kept-same c.self.inside.tree.keyed c.get_or_create_path_node.new.tree.keyed c.self.inside.next c.args.self.now c.self.invariant.tree c.self.view_is c.get_or_create_path_node.ensures.same c.in_err-node.ensures.needed
 
 pub invariant_of-self : goal.invariant_of-self
-invariant_of-self g c = (unmade g c).keeps
+invariant_of-self g c = record {
+  tree = (unmade g c).keeps;
+  none_ends = subst (NoneEndsBefore c.self.inside.soonest.0) (c.self.view_is ∙ sym (unmade g c).seen) c.self.invariant.none_ends;
+}
 
 pub returns-in_err-node-clause-unchanged : goal.returns-in_err-node-clause-unchanged
 returns-in_err-node-clause-unchanged g c = on_err c.from_residual-in_err-node.result (unmade g c).seen
@@ -50,12 +55,15 @@ returns-in_err-node-clause-exclusive g c = (unmade g c).keeps.list.exclusive
 -- none for the lock
 ungranted : (g : Over) (c : goal.After-prune g) → IsKeptAs c.prune.new.tree.keyed c.self.inside.next c.args.self.now
 ungranted g c =
-    kept-same c.self.inside.tree.keyed c.prune.new.tree.keyed c.self.inside.next c.args.self.now c.self.invariant c.self.view_is
+    kept-same c.self.inside.tree.keyed c.prune.new.tree.keyed c.self.inside.next c.args.self.now c.self.invariant.tree c.self.view_is
     (SameLocks-trans c.self.inside.tree.keyed c.grant.new.tree.keyed c.prune.new.tree.keyed
     (subst (λ t. SameLocks c.self.inside.tree.keyed t) (sym c.in-Err.ensures.unchanged) c.get_or_create_path_node.ensures.same) c.prune.ensures.same) c.prune.ensures.needed
 
 pub invariant_of-self-in-Err : goal.invariant_of-self-in-Err
-invariant_of-self-in-Err g c = (ungranted g c).keeps
+invariant_of-self-in-Err g c = record {
+  tree = (ungranted g c).keeps;
+  none_ends = subst (NoneEndsBefore c.self.inside.soonest.0) (c.self.view_is ∙ sym (ungranted g c).seen) c.self.invariant.none_ends;
+}
 
 pub returns-in-Err-clause-unchanged : goal.returns-in-Err-clause-unchanged
 returns-in-Err-clause-unchanged g c = (ungranted g c).seen
@@ -63,7 +71,7 @@ returns-in-Err-clause-unchanged g c = (ungranted g c).seen
 pub returns-in-Err-clause-exclusive : goal.returns-in-Err-clause-exclusive
 returns-in-Err-clause-exclusive g c = (ungranted g c).keeps.list.exclusive
 
-free : (g : Over) (c : goal.After-self-1 g) → lock_conflicts c.args.self.now (segments c.args.path.now.bytes) c.args.shared c.args.deep ≡ []
+free : (g : Over) (c : goal.After-self-in-Ok-1 g) → lock_conflicts c.args.self.now (segments c.args.path.now.bytes) c.args.shared c.args.deep ≡ []
 free g c =
     let below : c.args.deep ≡ true → NoneBelow (refuses_wanted c.args.shared true) c.self.inside.tree.keyed (segments c.args.path.now.bytes) =
     elim c.if-deep.branch [
@@ -71,20 +79,25 @@ free g c =
       | else-deep w ↦ λ e. absurd (true≢false (sym e ∙ w.if-deep.false))
     ] in
     subst (λ locks. lock_conflicts locks (segments c.args.path.now.bytes) c.args.shared c.args.deep ≡ []) c.self.view_is
-    (lock_free c.self.inside.tree.keyed c.self.inside.next c.self.invariant.list (segments c.args.path.now.bytes) c.args.shared c.args.deep c.in_ok-check_locks_to_path.ensures.free below)
+    (lock_free c.self.inside.tree.keyed c.self.inside.next c.self.invariant.tree.list (segments c.args.path.now.bytes) c.args.shared c.args.deep c.in_ok-check_locks_to_path.ensures.free below)
 
-granted : (g : Over) (c : goal.After-self-1 g) → IsKeptAs c.grant.new.tree.keyed (c.self.inside.next + 1) (c.args.self.now ++ c.in-Ok.lock ∷ [])
+granted : (g : Over) (c : goal.After-self-in-Ok-1 g) → IsKeptAs c.grant.new.tree.keyed (c.self.inside.next + 1) (c.args.self.now ++ c.in-Ok.lock ∷ [])
 granted g c =
     let l = c.in-Ok.lock in
     let v = c.get_or_create_path_node.new.tree.keyed in
     let leads : node_at v 1 (lock_path l) ≡ Some c.in_ok-node.node = ap (λ (l : Lock). node_at v 1 (lock_path l)) c.in-Ok.ensures.granted ∙ c.in_ok-node.ensures.node.0 in
     let no_conflict : lock_conflicts c.args.self.now (lock_path l) l.shared l.deep ≡ [] =
     ap (λ (l : Lock). lock_conflicts c.args.self.now (lock_path l) l.shared l.deep) c.in-Ok.ensures.granted ∙ free g c in
-    kept-grant c.self.inside.tree.keyed v c.grant.new.tree.keyed c.self.inside.next c.in_ok-node.node l c.args.self.now c.self.invariant c.self.view_is c.get_or_create_path_node.ensures.same leads
+    kept-grant c.self.inside.tree.keyed v c.grant.new.tree.keyed c.self.inside.next c.in_ok-node.node l c.args.self.now c.self.invariant.tree c.self.view_is c.get_or_create_path_node.ensures.same leads
     c.in_ok-node.ensures.node.1 c.in_ok-node.ensures.needed no_conflict c.in-Ok.ensures.added
 
 pub invariant_of-self-in-Ok : goal.invariant_of-self-in-Ok
-invariant_of-self-in-Ok g c = (granted g c).keeps
+invariant_of-self-in-Ok g c = record {
+  tree = (granted g c).keeps;
+  none_ends = subst (NoneEndsBefore c.sooner-self-inside.result.0) (sym (granted g c).seen)
+      (sooner-push c.self.inside.soonest.0 c.sooner-self-inside.result.0 c.args.self.now c.in-Ok.lock c.sooner-self-inside.ensures.sooner (subst (λ end. comes_before c.sooner-self-inside.result.0 end ≡ false) (ap (λ l. l.timeout_at) c.lock.view_is) c.sooner-self-inside.ensures.none)
+      (subst (NoneEndsBefore c.self.inside.soonest.0) c.self.view_is c.self.invariant.none_ends));
+}
 
 pub returns-in-Ok-clause-free : goal.returns-in-Ok-clause-free
 returns-in-Ok-clause-free g c = free g c

@@ -1,0 +1,172 @@
+//! The calls on locks, once those whose end has come are dropped.
+ghost use Rattle.std.specs.Prelude.{◌≡◌, ◌++◌, ◌∷◌, [], ℕ, true, Some, None, remove, set, get_or, IfOk, IfErr, OnOk, OnErr};
+ghost use Rattle.dav_path_core.specs.Segments.{segments};
+ghost use Rattle.dav_locks_core.specs.Locks.{lock_conflicts, check_conflicts, found, refreshed, discovered, without_below};
+ghost use Rattle.dav_locks_core.specs.Exclusive.{Exclusive};
+ghost use Rattle.dav_locks_core.specs.Held.{HoldsExclusive, HoldsBelow};
+ghost use Rattle.dav_locks_core.specs.Tokens.{token_from};
+ghost use Rattle.dav_locks_core.specs.Calls.{Shows, ShowsOnly, RefusesRefresh, lent_text, caller};
+ghost use Rattle.dav_locks_core.specs.NewLock.{new_lock};
+
+use super::MemLs;
+use super::expiring::sooner;
+use super::granting::{LockRequest, end_lock, end_of_timeout, grant, refresh_lock};
+use super::holding::{Caller, Unheld, WithToken};
+use super::pruning::{clear, prune};
+use super::subtree::check_locks_from_path;
+use super::way::{
+    check_locks_to_path, covering_locks, get_or_create_path_node, lookup_lock, lookup_node,
+};
+use crate::ls::{DavLock, LockError, NoLock, RefreshError};
+use dav_files_core::fs::Moment;
+use dav_path_core::davpath::DavPath;
+use rand_core::Rng;
+use std::alloc::AllocError;
+
+impl MemLs {
+    // Grants a lock of a path, unless one stands in the way, which is shown.
+    pub(super) fn add_lock<R: Rng>(
+        &mut self,
+        path: &DavPath,
+        principal: Option<&str>,
+        owner: Option<&str>,
+        timeout: Option<u64>,
+        shared: bool,
+        deep: bool,
+        now: Moment,
+        rng: &mut R,
+    ) -> Result<DavLock, LockError>
+        ensures free { OnOk result (lock_conflicts self.old (segments path.now.bytes) shared deep ≡ []) }
+        ensures granted { IfOk result (λ lock. lock ≡ new_lock (token_from (R.stream rng.old)).0 path.now
+            (lent_text principal.entry) (lent_text owner.entry) timeout shared deep now.0) }
+        ensures added { IfOk result (λ lock. self.new ≡ self.old ++ lock ∷ []) }
+        ensures drawn { OnOk result (R.stream rng.new ≡ (token_from (R.stream rng.old)).1) }
+        ensures shown { IfErr result (λ e. Shows (lock_conflicts self.old (segments path.now.bytes) shared deep) e) }
+        ensures unchanged { OnErr result (self.new ≡ self.old) }
+        ensures undrawn { OnErr result (R.stream rng.new ≡ R.stream rng.old) }
+        ensures exclusive { Exclusive self.new }
+    {
+        let request = LockRequest {
+            path,
+            principal,
+            owner,
+            timeout_at: end_of_timeout(now, timeout),
+            timeout,
+            shared,
+            deep,
+        };
+        check_locks_to_path(&self.tree, path, &request)?;
+        if deep {
+            check_locks_from_path(&self.tree, path, &request)?;
+        }
+        if self.next == u64::MAX {
+            return Err(LockError::OutOfMemory);
+        }
+        let node = get_or_create_path_node(&mut self.tree, self.alloc, path)?;
+        match grant(&mut self.tree, self.alloc, node, self.next, &request, rng) {
+            Ok(lock) => {
+                self.next += 1;
+                self.soonest = sooner(self.soonest, lock.timeout_at);
+                Ok(lock)
+            }
+            Err(error) => {
+                prune(&mut self.tree, node);
+                Err(error)
+            }
+        }
+    }
+
+    // Ends the lock with that token at the path or above it.
+    pub(super) fn end_found(&mut self, path: &DavPath, token: &str) -> Result<(), NoLock>
+        ensures done { OnOk result ((k : ℕ) × (found self.old (segments path.now.bytes) token.now ≡ Some k)
+            × (self.new ≡ remove self.old k)) }
+        ensures none { OnErr result ((found self.old (segments path.now.bytes) token.now ≡ None)
+            × (self.new ≡ self.old)) }
+        ensures exclusive { Exclusive self.new }
+    {
+        match lookup_lock(&self.tree, path, &WithToken { token }) {
+            None => Err(NoLock),
+            Some((node, place)) => {
+                end_lock(&mut self.tree, node, place);
+                prune(&mut self.tree, node);
+                Ok(())
+            }
+        }
+    }
+
+    // Gives that lock another timeout.
+    pub(super) fn refresh_found(
+        &mut self,
+        path: &DavPath,
+        token: &str,
+        timeout: Option<u64>,
+        now: Moment,
+    ) -> Result<DavLock, RefreshError>
+        ensures done { IfOk result (λ lock. (k : ℕ) × (found self.old (segments path.now.bytes) token.now ≡ Some k)
+            × (lock ≡ refreshed now.0 timeout (get_or self.old k lock)) × (self.new ≡ set self.old k lock)) }
+        ensures refused { IfErr result (λ e. RefusesRefresh (found self.old (segments path.now.bytes) token.now) e) }
+        ensures unchanged { OnErr result (self.new ≡ self.old) }
+        ensures exclusive { Exclusive self.new }
+    {
+        match lookup_lock(&self.tree, path, &WithToken { token }) {
+            None => Err(RefreshError::NoLock),
+            Some((node, place)) => {
+                let lock = refresh_lock(&mut self.tree, node, place, timeout, now)?;
+                self.soonest = sooner(self.soonest, lock.timeout_at);
+                Ok(lock)
+            }
+        }
+    }
+
+    // Whether a change may be made; a lock that refuses it is shown.
+    pub(super) fn check_change(
+        &self,
+        path: &DavPath,
+        principal: Option<&str>,
+        ignore_principal: bool,
+        deep: bool,
+        tokens: &[String],
+    ) -> Result<(), LockError>
+        ensures passes { OnOk result (check_conflicts self.now (segments path.now.bytes) deep
+            (caller principal.entry ignore_principal tokens.now) ≡ []) }
+        ensures shown { IfErr result (λ e. ShowsOnly (check_conflicts self.now (segments path.now.bytes) deep
+            (caller principal.entry ignore_principal tokens.now)) e) }
+        ensures held { OnOk result (HoldsExclusive self.now (segments path.now.bytes)
+            (caller principal.entry ignore_principal tokens.now)) }
+        ensures held_below { OnOk result (deep ≡ true → HoldsBelow self.now (segments path.now.bytes)
+            (caller principal.entry ignore_principal tokens.now)) }
+    {
+        let caller = Caller {
+            principal,
+            ignore_principal,
+            tokens,
+        };
+        let unheld = Unheld { caller };
+        // Two locks that cover one path are both shared, and beside a shared one it is enough to hold another.
+        if lookup_lock(&self.tree, path, &caller).is_none() {
+            check_locks_to_path(&self.tree, path, &unheld)?;
+        }
+        if deep {
+            check_locks_from_path(&self.tree, path, &unheld)?;
+        }
+        Ok(())
+    }
+
+    // Copies of the locks that cover a path.
+    pub(super) fn covering(&self, path: &DavPath) -> Result<Vec<DavLock>, AllocError>
+        ensures { IfOk result (λ v. v.items ≡ discovered self.now (segments path.now.bytes)) }
+    {
+        covering_locks(&self.tree, self.alloc, path)
+    }
+
+    // Drops the locks at a path and below it.
+    pub(super) fn delete_below(&mut self, path: &DavPath)
+        ensures left { self.new ≡ without_below (segments path.now.bytes) self.old }
+        ensures exclusive { Exclusive self.new }
+    {
+        if let Some(node) = lookup_node(&self.tree, path) {
+            clear(&mut self.tree, node);
+            prune(&mut self.tree, node);
+        }
+    }
+}

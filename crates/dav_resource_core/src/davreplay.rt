@@ -99,7 +99,6 @@ fn play<I: Read + Drop, O: Write + Drop>(
         return Err(Stop::OutOfMemory);
     };
     let mut player = Player {
-        alloc,
         stores,
         rng: Pcg64::seed_from_u64(seed),
         labels: Labels::new(alloc),
@@ -120,24 +119,47 @@ fn play_lines<I: Read + Drop, O: Write + Drop>(
 ) -> Result<(), Stop> {
     let mut line = Vec::new(alloc);
     for number in 1..u64::MAX {
-        line.clear();
-        // What is answered is told before more input is waited for.
-        if !input.buffer().contains(&b'\n') {
-            output.flush()?;
-        }
-        if input.read_until(b'\n', &mut line)? == 0 {
+        if !read_line(input, &mut line, output)? {
             return Ok(());
         }
-        if line.ends_with(b"\n") {
-            let _ended = line.pop();
-        }
-        match request_of(alloc, &player.labels, &line) {
-            Ok(Some(request)) => player.answer(&request, output)?,
-            Ok(None) => {}
-            Err(Unread::Malformed) => return Err(Stop::Malformed(number)),
-            Err(Unread::BadPath(error)) => writeln!(output, "bad path {error}")?,
-            Err(Unread::OutOfMemory) => output.write_all(OUT_OF_MEMORY)?,
-        }
+        play_line(alloc, player, number, &line, output)?;
+    }
+    Ok(())
+}
+
+// The next line without its end, if there is one. What is answered is told before more input is waited for.
+fn read_line<I: Read + Drop, O: Write + Drop>(
+    input: &mut BufReader<I>,
+    line: &mut Vec<u8>,
+    output: &mut BufWriter<O>,
+) -> Result<bool, Stop> {
+    line.clear();
+    if !input.buffer().contains(&b'\n') {
+        output.flush()?;
+    }
+    if input.read_until(b'\n', line)? == 0 {
+        return Ok(false);
+    }
+    if line.ends_with(b"\n") {
+        let _ended = line.pop();
+    }
+    Ok(true)
+}
+
+// Answers the line of that number.
+fn play_line<O: Write + Drop>(
+    alloc: Global,
+    player: &mut Player,
+    number: u64,
+    line: &[u8],
+    output: &mut BufWriter<O>,
+) -> Result<(), Stop> {
+    match request_of(alloc, &player.labels, line) {
+        Ok(Some(request)) => player.answer(&request, output)?,
+        Ok(None) => {}
+        Err(Unread::Malformed) => return Err(Stop::Malformed(number)),
+        Err(Unread::BadPath(error)) => writeln!(output, "bad path {error}")?,
+        Err(Unread::OutOfMemory) => output.write_all(OUT_OF_MEMORY)?,
     }
     Ok(())
 }

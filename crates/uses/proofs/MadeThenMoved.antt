@@ -1,5 +1,5 @@
 -- A folder that was made and then renamed, in the map.
-use Rattle.std.proofs.Common.{◌≡◌, ◌≢◌, ◌⊎◌, inl, inr, ℕ, [], ◌∷◌, ◌++◌, Some, None, Result, Ok, Err, IfOk, refl, sym, ap, ◌∙◌, subst, append_assoc, append-nil}
+use Rattle.std.proofs.Common.{◌≡◌, ◌≢◌, ◌⊎◌, inl, inr, ℕ, [], ◌∷◌, ◌++◌, Some, None, Result, Ok, Err, IfOk, sym, ap, ◌∙◌, subst, append_assoc, append-nil}
 use Rattle.std.proofs.lemmas.Bool.{true≢false}
 use Rattle.dav_path_core.specs.declared.errors.FsError.{FsError}
 use Rattle.dav_path_core.specs.Fronts.{Segment, Path, parent, behind}
@@ -18,7 +18,7 @@ use Rattle.dav_files_core.proofs.Laws.{RenamedEntry, made_folder, renamed_entry,
 use Rattle.dav_files_core.proofs.Lengths.{longer}
 use Rattle.dav_files_core.proofs.Moved.{moved_to, moved_from}
 use Rattle.dav_files_core.proofs.Moving.{front_there}
-use Rattle.dav_files_core.proofs.Renamed.{Put, put}
+use Rattle.dav_files_core.proofs.Renamed.{put}
 
 module _ (m mid new : ResourceMap) (is_map : IsResourceMap m) (p : Path) (now : ℕ) (made : create_dir m p now ≡ Ok (tt, mid)) where
   abbrev folder : Resource

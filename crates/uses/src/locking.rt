@@ -105,18 +105,29 @@ mod tests {
         Ok(())
     }
 
+    // Whether a path is taken over, and how many locks cover it then.
+    fn covering(
+        locks: &mut MemLs,
+        path: &DavPath,
+        now: Moment,
+        rng: &mut Pcg64,
+    ) -> Result<(bool, usize), AllocError> {
+        let is_taken = take_over(locks, path, "bob", now, rng).is_ok();
+        Ok((is_taken, locks.discover(path, now)?.len()))
+    }
+
     #[test]
     fn takes_over(rt: HostRuntime) -> Result<(), Fail> {
         let alloc = rt.alloc();
         let mut locks = MemLs::new(alloc)?;
         let mut rng = Pcg64::seed_from_u64(1);
-        let (above, path) = (DavPath::new(alloc, "/a")?, DavPath::new(alloc, "/a/b")?);
+        let above = DavPath::new(alloc, "/a")?;
+        let path = DavPath::new(alloc, "/a/b")?;
         for place in [&above, &path] {
             assert!(rt; take(&mut locks, place, "ann", 60, Moment(5), &mut rng).is_ok());
         }
-        assert!(rt; take_over(&mut locks, &path, "bob", Moment(6), &mut rng).is_ok());
-        assert_eq!(rt; locks.discover(&path, Moment(8))?.len(), 1);
-        assert!(rt; take_over(&mut locks, &above, "cat", Moment(7), &mut rng).is_ok());
+        assert!(rt; covering(&mut locks, &path, Moment(6), &mut rng)? == (true, 1));
+        assert!(rt; covering(&mut locks, &above, Moment(7), &mut rng)? == (true, 1));
         assert_eq!(rt; locks.discover(&path, Moment(8))?.len(), 1);
         Ok(())
     }

@@ -7,23 +7,28 @@ use dav_files_core::memfs::{Kind, MemFsEntry, MemFsMeta};
 use dav_locks_core::ls::DavLock;
 use dav_path_core::davpath::escaped;
 use http::StatusCode;
-use std::alloc::Global;
 use std::io::{BufWriter, Write};
+
+// As many bytes are written at once.
+const CHUNK: usize = 64;
 
 /// The bytes in lower-case hexadecimal digits, `-` for none.
 pub(super) fn write_bytes<O: Write + Drop>(
-    alloc: Global,
     bytes: &[u8],
     output: &mut BufWriter<O>,
 ) -> Result<(), Stop> {
     if bytes.is_empty() {
         return Ok(output.write_all(b"ok -\n")?);
     }
-    let Ok(text) = hex::encode(alloc, bytes) else {
-        return Ok(output.write_all(OUT_OF_MEMORY)?);
-    };
     output.write_all(b"ok ")?;
-    output.write_all(text.as_bytes())?;
+    for chunk in bytes.chunks(CHUNK) {
+        let mut digits = [0; 2 * CHUNK];
+        let digits = &mut digits[..2 * chunk.len()];
+        if hex::encode_to_slice(chunk, digits).is_err() {
+            unreachable!();
+        }
+        output.write_all(digits)?;
+    }
     Ok(output.write_all(b"\n")?)
 }
 

@@ -39,77 +39,69 @@ impl<T: Drop> From<AllocFailed<T>> for Unread {
     }
 }
 
-// No well-formed line has more words.
-const WORDS: usize = 8;
-
-/// The request of a line, its labels replaced by the tokens that they stand for; none where it has no words. Its words are
-/// separated by spaces; it is malformed where it isn't UTF-8.
+/// The request of a line, `MOMENT PRINCIPAL LABELS COMMAND PATH ARGS`, its labels replaced by the tokens that they stand for; none
+/// where it has no words. Its words are separated by spaces; it is malformed where it isn't UTF-8.
 pub(super) fn request_of(
     alloc: Global,
     granted: &Labels,
     line: &[u8],
 ) -> Result<Option<Request>, Unread> {
     let text = str::from_utf8(line).map_err(|_| Unread::Malformed)?;
-    let mut words = Vec::with_capacity(alloc, WORDS)?;
-    for word in text.split(' ') {
-        if !word.is_empty() {
-            words.push(word)?;
-        }
-    }
-    if words.is_empty() {
+    let mut words = text.split(' ').filter(|word| !word.is_empty());
+    let Some(now) = words.next() else {
         return Ok(None);
-    }
-    Ok(Some(asked(alloc, granted, &words)?))
-}
-
-// `MOMENT PRINCIPAL LABELS COMMAND PATH ARGS`.
-fn asked(alloc: Global, granted: &Labels, words: &[&str]) -> Result<Request, Unread> {
-    let Some((&[now, principal, labels, command, path], args)) = words.split_first_chunk::<5>()
-    else {
-        return Err(Unread::Malformed);
     };
+    let mut word = || words.next().ok_or(Unread::Malformed);
+    let (principal, labels, command, path) = (word()?, word()?, word()?, word()?);
+    let args = [words.next(), words.next(), words.next(), words.next()];
     let now = Moment(number_of(now)?);
     let labels = labels_of(alloc, labels)?;
     let path = DavPath::new(alloc, path);
     let command = command_of(alloc, granted, command, path, args)?;
-    Ok(Request {
+    Ok(Some(Request {
         principal: text_of(alloc, principal)?,
         tokens: granted.tokens_of(&labels)?,
         now,
         command,
-    })
+    }))
 }
 
 // A path, which is asked for behind the form of all other words.
 type Path = Result<DavPath, ParseError>;
 
-// The command by its word and those behind it.
+// The command by its word and those behind it, of which no command has four.
 fn command_of(
     alloc: Global,
     granted: &Labels,
     command: &str,
     path: Path,
-    args: &[&str],
+    args: [Option<&str>; 4],
 ) -> Result<Command, Unread> {
     match (command, args) {
-        ("put", [hex]) => put(alloc, path, hex),
-        ("write", [at, hex]) => write(alloc, path, at, hex),
-        ("read", [at, count]) => read(path, at, count),
-        ("list", []) => Ok(Command::List { path: path? }),
-        ("meta", []) => Ok(Command::Meta { path: path? }),
-        ("mkcol", []) => Ok(Command::MkCol { path: path? }),
-        ("remove", []) => Ok(Command::Remove { path: path? }),
-        ("move", [to]) => move_to(path, DavPath::new(alloc, to)),
-        ("copy", [to]) => copy_to(path, DavPath::new(alloc, to)),
-        ("setprop", [space, name, hex]) => set_prop(alloc, path, space, name, hex),
-        ("delprop", [space, name]) => delete_prop(alloc, path, space, name),
-        ("props", []) => props(path),
-        ("prop", [space, name]) => prop(alloc, path, space, name),
-        ("lock", [scope, depth, timeout]) => lock(path, scope, depth, timeout),
-        ("unlock", [label]) => unlock(granted, path, label),
-        ("refresh", [label, timeout]) => refresh(granted, path, label, timeout),
-        ("discover", []) => Ok(Command::Discover { path: path? }),
-        ("check", [depth]) => check(path, depth),
+        ("put", [Some(hex), None, ..]) => put(alloc, path, hex),
+        ("write", [Some(at), Some(hex), None, ..]) => write(alloc, path, at, hex),
+        ("read", [Some(at), Some(count), None, ..]) => read(path, at, count),
+        ("list", [None, ..]) => Ok(Command::List { path: path? }),
+        ("meta", [None, ..]) => Ok(Command::Meta { path: path? }),
+        ("mkcol", [None, ..]) => Ok(Command::MkCol { path: path? }),
+        ("remove", [None, ..]) => Ok(Command::Remove { path: path? }),
+        ("move", [Some(to), None, ..]) => move_to(path, DavPath::new(alloc, to)),
+        ("copy", [Some(to), None, ..]) => copy_to(path, DavPath::new(alloc, to)),
+        ("setprop", [Some(space), Some(name), Some(hex), None]) => set_prop(
+            alloc, path, space, name, hex,
+        ),
+        ("delprop", [Some(space), Some(name), None, ..]) => delete_prop(alloc, path, space, name),
+        ("props", [None, ..]) => props(path),
+        ("prop", [Some(space), Some(name), None, ..]) => prop(alloc, path, space, name),
+        ("lock", [Some(scope), Some(depth), Some(timeout), None]) => lock(
+            path, scope, depth, timeout,
+        ),
+        ("unlock", [Some(label), None, ..]) => unlock(granted, path, label),
+        ("refresh", [Some(label), Some(timeout), None, ..]) => refresh(
+            granted, path, label, timeout,
+        ),
+        ("discover", [None, ..]) => Ok(Command::Discover { path: path? }),
+        ("check", [Some(depth), None, ..]) => check(path, depth),
         _ => Err(Unread::Malformed),
     }
 }

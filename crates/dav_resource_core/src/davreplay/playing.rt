@@ -8,13 +8,11 @@ use super::labels::Labels;
 use crate::guarded::{Command, Guarded, Reply, Request};
 use dav_locks_core::ls::DavLock;
 use rand_pcg::Pcg64;
-use std::alloc::Global;
 use std::io::{BufWriter, Write};
 
 /// The stores, the generator of lock tokens, and the labels of the locks granted so far.
 #[derive(Drop)]
 pub(super) struct Player {
-    pub(super) alloc: Global,
     pub(super) stores: Guarded,
     pub(super) rng: Pcg64,
     pub(super) labels: Labels,
@@ -29,12 +27,12 @@ impl Player {
     ) -> Result<(), Stop> {
         match self.stores.apply(request, &mut self.rng) {
             Ok(Reply::Done) => Ok(output.write_all(b"ok\n")?),
-            Ok(Reply::Bytes(bytes)) => write_bytes(self.alloc, bytes.as_slice(), output),
+            Ok(Reply::Bytes(bytes)) => write_bytes(bytes.as_slice(), output),
             Ok(Reply::Entries(entries)) => write_entries(&entries, output),
             Ok(Reply::Meta(meta)) => write_meta(&meta, output),
             Ok(Reply::Patched(answers)) => write_statuses(&answers, output),
             Ok(Reply::Props(props)) => write_props(&props, output),
-            Ok(Reply::Value(xml)) => write_bytes(self.alloc, &xml, output),
+            Ok(Reply::Value(xml)) => write_bytes(&xml, output),
             Ok(Reply::Lock(lock)) => self.write_lock(request, lock, output),
             Ok(Reply::Locks(locks)) => write_locks(&self.labels, &locks, output),
             Err(refusal) => write_refusal(&self.labels, &refusal, output),

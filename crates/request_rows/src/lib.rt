@@ -1,0 +1,7 @@
+//! Rows of requests, and scenarios of `davreplay`: tests alone.
+#![tactic(auto)]
+
+#[cfg(test)]
+mod requests;
+#[cfg(test)]
+mod scenarios;

@@ -1,0 +1,15 @@
+//! Rows of files and locks, and a large file and many locks: tests alone.
+#![tactic(auto)]
+
+#[cfg(test)]
+mod defaults;
+#[cfg(test)]
+mod files;
+#[cfg(test)]
+mod locks;
+#[cfg(test)]
+mod open_files;
+#[cfg(test)]
+mod plenty;
+#[cfg(test)]
+mod properties;

@@ -1,0 +1,252 @@
+//! A handler of requests: the status of the reply to each.
+ghost use Rattle.std.specs.Prelude.{◌≡◌, ◌⊎◌, false, Contains};
+ghost use Rattle.http.specs.StatusCode.{IsInClass};
+ghost use Rattle.dav_resource_core.specs.Lock.{Lock};
+ghost use Rattle.dav_resource_core.specs.Stale.{without_stale};
+ghost use Rattle.dav_resource_core.specs.Served.{request_of, refusal_of};
+ghost use Rattle.dav_resource_core.specs.Step.{start_of, conflicts};
+ghost use Rattle.dav_resource_core.specs.Stores.{state_of};
+ghost use Rattle.dav_resource_core.specs.Requests as plain;
+ghost use Rattle.uses.specs.Handling.{is_onto_itself};
+
+use dav_resource_core::davpath::DavPath;
+use dav_resource_core::errors::FsError;
+use dav_resource_core::guarded::{Command, Guarded, Refusal, Request};
+use http::StatusCode;
+use rand_core::Rng;
+use std::alloc::{AllocError, Global};
+
+/// The status of the reply to a request: 423 where a lock stands in the way, or 507 where there is no memory. A folder's members go
+/// by requests of their own, before it.
+pub fn answer<R: Rng>(
+    alloc: Global,
+    stores: &mut Guarded,
+    request: &Request,
+    rng: &mut R,
+) -> StatusCode
+    ensures locked { result ≡ 423 → (lock : Lock) × Contains (conflicts (start_of (request_of request.entry.now)
+        (state_of stores.old (R.stream rng.old))) (request_of request.entry.now)) lock }
+    ensures in_the_way { (lock : Lock) → Contains (conflicts (start_of (request_of request.entry.now)
+        (state_of stores.old (R.stream rng.old))) (request_of request.entry.now)) lock
+        → is_onto_itself request.entry.now.command ≡ false → (result ≡ 423) ⊎ (result ≡ 507) }
+    ensures map { (¬ IsInClass 200 result) → stores.new.map ≡ stores.old.map }
+    ensures locks { (¬ IsInClass 200 result) → without_stale request.entry.now.now.0 stores.new.locks
+        ≡ without_stale request.entry.now.now.0 stores.old.locks }
+{
+    if is_onto_itself(&request.command) {
+        return StatusCode::FORBIDDEN;
+    }
+    let Ok(known) = known_of(alloc, stores, request, rng) else {
+        return StatusCode::INSUFFICIENT_STORAGE;
+    };
+    match stores.apply(request, rng) {
+        Ok(_reply) => done(&request.command, known),
+        Err(refusal) => refused(&request.command, &refusal, known),
+    }
+}
+
+// Whether something stood where a command reads, and where it writes.
+#[derive(Clone, Copy)]
+struct Known {
+    source: bool,
+    target: bool,
+}
+
+// A `Meta` of both ends of a request; it leaves the state from which the request starts.
+fn known_of<R: Rng>(
+    alloc: Global,
+    stores: &mut Guarded,
+    request: &Request,
+    rng: &mut R,
+) -> Result<Known, AllocError>
+    ensures start { start_of (request_of request.entry.now) (state_of stores.new (R.stream rng.new))
+        ≡ start_of (request_of request.entry.now) (state_of stores.old (R.stream rng.old)) }
+    ensures map { stores.new.map ≡ stores.old.map }
+{
+    let (source, target) = match &request.command {
+        Command::Put { path, .. } => (path, path),
+        Command::Move { from, to } | Command::Copy { from, to } => (from, to),
+        _ => {
+            return Ok(Known {
+                source: false,
+                target: false,
+            });
+        }
+    };
+    Ok(Known {
+        source: is_there(alloc, stores, source, request, rng)?,
+        target: is_there(alloc, stores, target, request, rng)?,
+    })
+}
+
+// Whether something stands at a path.
+fn is_there<R: Rng>(
+    alloc: Global,
+    stores: &mut Guarded,
+    path: &DavPath,
+    request: &Request,
+    rng: &mut R,
+) -> Result<bool, AllocError>
+    ensures start { start_of (request_of request.entry.now) (state_of stores.new (R.stream rng.new))
+        ≡ start_of (request_of request.entry.now) (state_of stores.old (R.stream rng.old)) }
+    ensures map { stores.new.map ≡ stores.old.map }
+{
+    let path = path.clone()?;
+    let asked = Request {
+        principal: None,
+        tokens: Vec::new(alloc),
+        now: request.now,
+        command: Command::Meta { path },
+    };
+    Ok(stores.apply(&asked, rng).is_ok())
+}
+
+// A move onto its own place (RFC 4918 section 9.9.4).
+fn is_onto_itself(command: &Command) -> bool
+    ensures { result ≡ is_onto_itself command.now }
+{
+    match command {
+        Command::Move { from, to } => from == to,
+        _ => false,
+    }
+}
+
+// The status of what is done (RFC 4918 section 9).
+fn done(command: &Command, known: Known) -> StatusCode
+    ensures { IsInClass 200 result }
+{
+    match command {
+        Command::MkCol { .. } => StatusCode::CREATED,
+        Command::Put { .. } | Command::Move { .. } | Command::Copy { .. } if !known.target => {
+            StatusCode::CREATED
+        }
+        Command::Put { .. }
+        | Command::Move { .. }
+        | Command::Copy { .. }
+        | Command::Remove { .. }
+        | Command::Unlock { .. } => StatusCode::NO_CONTENT,
+        Command::PatchProps { .. } | Command::GetProps { .. } => StatusCode::MULTI_STATUS,
+        _ => StatusCode::OK,
+    }
+}
+
+// The status of a refusal.
+fn refused(command: &Command, refusal: &Refusal, known: Known) -> StatusCode
+    ensures locked { result ≡ 423 → (lock : Lock) × (refusal_of refusal.now ≡ plain.Locked lock) }
+    ensures shown { (lock : Lock) → refusal_of refusal.now ≡ plain.Locked lock → result ≡ 423 }
+    ensures memory { refusal_of refusal.now ≡ plain.OutOfMemory → result ≡ 507 }
+    ensures storage { refusal_of refusal.now ≡ plain.Fs FsError.InsufficientStorage → result ≡ 507 }
+{
+    match refusal {
+        Refusal::Locked(_lock) => StatusCode::LOCKED,
+        Refusal::OutOfMemory => StatusCode::INSUFFICIENT_STORAGE,
+        Refusal::NoLock => match command {
+            Command::Refresh { .. } => StatusCode::PRECONDITION_FAILED,
+            _ => StatusCode::CONFLICT,
+        },
+        Refusal::Fs(error) => refused_by_files(command, *error, known),
+    }
+}
+
+// The status of a refusal by the files: what a missing parent, and a folder in place of a file, are to a client.
+fn refused_by_files(command: &Command, error: FsError, known: Known) -> StatusCode
+    ensures storage { error ≡ FsError.InsufficientStorage → result ≡ 507 }
+    ensures not_locked { result ≡ 423 → ⊥ }
+{
+    match (command, error) {
+        (Command::Put { .. } | Command::MkCol { .. }, FsError::NotFound) => StatusCode::CONFLICT,
+        (Command::Move { .. } | Command::Copy { .. }, FsError::NotFound) if known.source => {
+            StatusCode::CONFLICT
+        }
+        (Command::Put { .. }, FsError::Forbidden) if known.target => {
+            StatusCode::METHOD_NOT_ALLOWED
+        }
+        _ => error.status(),
+    }
+}
+
+#[cfg(test)]
+mod tests {
+    use super::*;
+    use bytes::Bytes;
+    use dav_resource_core::fs::Moment;
+    use rand_core::SeedableRng;
+    use rand_pcg::Pcg64;
+    use std::test::Fail;
+
+    // Requests in order, each with its status.
+    const ROWS: &str = "put /a = 201
+put /a = 204
+put /a/b = 403
+put /d/x = 409
+mkcol /d = 201
+mkcol /d = 405
+mkcol /x/y = 409
+put /d = 405
+delete /x = 404
+move /x /y = 404
+move /a /y/z = 409
+move /a /a = 403
+move /a /d/x = 201
+put /a = 201
+move /a /d/x = 204
+delete /d = 403
+put /f = 201
+lock /d = 200
+put /d/x = 423
+put /d/y = 423
+mkcol /d/y = 423
+delete /d/x = 423
+move /d/x /y = 423
+move /f /d/x = 423
+delete /f = 204";
+
+    fn command_of(alloc: Global, row: &str) -> Result<Command, Fail> {
+        let Some((word, paths)) = row.split_once(' ') else {
+            return Err(row)?;
+        };
+        let (path, to) = paths.split_once(' ').unwrap_or((paths, paths));
+        let path = DavPath::new(alloc, path)?;
+        match word {
+            "put" => Ok(Command::Put {
+                path,
+                bytes: Bytes::new(),
+            }),
+            "mkcol" => Ok(Command::MkCol { path }),
+            "delete" => Ok(Command::Remove { path }),
+            "move" => Ok(Command::Move {
+                from: path,
+                to: DavPath::new(alloc, to)?,
+            }),
+            "lock" => Ok(Command::Lock {
+                path,
+                owner: None,
+                timeout: None,
+                shared: false,
+                deep: true,
+            }),
+            _ => Err(row)?,
+        }
+    }
+
+    #[test]
+    fn answers_requests(rt: HostRuntime) -> Result<(), Fail> {
+        let alloc = rt.alloc();
+        let mut stores = Guarded::new(alloc, Moment(0))?;
+        let mut rng = Pcg64::seed_from_u64(1);
+        for line in ROWS.split('\n') {
+            let Some((row, status)) = line.split_once(" = ") else {
+                return Err(line)?;
+            };
+            let request = Request {
+                principal: None,
+                tokens: Vec::new(alloc),
+                now: Moment(5),
+                command: command_of(alloc, row)?,
+            };
+            let answer = answer(alloc, &mut stores, &request, &mut rng).as_u16();
+            assert!(rt; status.parse::<u16>() == Ok(answer), "{row}");
+        }
+        Ok(())
+    }
+}

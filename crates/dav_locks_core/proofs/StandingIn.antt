@@ -5,10 +5,6 @@ use Rattle.dav_locks_core.specs.Lock.{Lock}
 use Rattle.dav_locks_core.specs.Ended.{StandIn}
 use Rattle.dav_locks_core.proofs.ListMembers.{In}
 
-pub StandIn-refl : (locks : List Lock) → StandIn locks locks
-StandIn-refl [] = tt
-StandIn-refl (a ∷ locks) = inl (refl, StandIn-refl locks)
-
 pub StandIn-trans : (a b c : List Lock) → StandIn a b → StandIn b c → StandIn a c
 StandIn-trans [] b c p q = tt
 StandIn-trans (x ∷ a) [] c p q = absurd p

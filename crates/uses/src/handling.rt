@@ -16,8 +16,8 @@ use http::StatusCode;
 use rand_core::Rng;
 use std::alloc::{AllocError, Global};
 
-/// The status of the reply to a request: 423 where a lock stands in the way, or 507 where there is no memory. A folder's members go
-/// by requests of their own, before it.
+/// The status of the reply to a request (RFC 4918 section 9): 423 where a lock stands in the way, or 507 where there is no memory; but 403 to a
+/// move onto its own place, which is not tried. A folder's members go before it, by requests of their own.
 pub fn answer<R: Rng>(
     alloc: Global,
     stores: &mut Guarded,

@@ -9,7 +9,7 @@ use dav_path_core::davpath::escaped;
 use http::StatusCode;
 use std::io::{BufWriter, Write};
 
-// As many bytes are written at once.
+// At most so many bytes are written at once.
 const CHUNK: usize = 64;
 
 /// The bytes in lower-case hexadecimal digits, `-` for none.

@@ -18,12 +18,9 @@ mod open_files;
 mod properties;
 
 pub use below::commands_see_below;
+pub use dav_path_core::util::Moment;
 pub use open_files::{DavFile, numbers_are_given_once, open_files_follow};
 pub use properties::DavProp;
-
-/// A moment, in nanoseconds since 1970 (own).
-#[derive(Clone, Copy, PartialEq, Eq, Debug)]
-pub struct Moment(pub u64);
 
 /// What a listing is to find out of each member.
 #[derive(Clone, Copy, PartialEq, Eq, Debug)]

@@ -9,8 +9,8 @@ ghost use Rattle.dav_locks_core.specs.Calls.{Shows, ShowsOnly, RefusesRefresh, l
 ghost use Rattle.dav_locks_core.specs.NewLock.{new_lock};
 ghost use Rattle.dav_locks_core.specs.Stale.{without_stale};
 
-use dav_files_core::fs::Moment;
 use dav_path_core::davpath::DavPath;
+use dav_path_core::util::Moment;
 use rand_core::Rng;
 use std::alloc::{AllocError, AllocFailed};
 use std::marker::Model;

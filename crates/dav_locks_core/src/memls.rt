@@ -16,10 +16,10 @@ mod way;
 
 use crate::ls::{DavLock, DavLockSystem, LockError, NoLock, RefreshError};
 use bytes::Bytes;
-use dav_files_core::fs::Moment;
 use dav_path_core::davpath::DavPath;
 use dav_path_core::errors::{FsError, FsResult};
 use dav_path_core::tree::Tree;
+use dav_path_core::util::Moment;
 use expiring::{end_stale, soonest_end};
 use rand_core::Rng;
 use std::alloc::{AllocError, Global};

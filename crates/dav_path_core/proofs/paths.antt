@@ -8,4 +8,5 @@ pub mod PrefixLemmas
 pub mod ReadLaws
 pub mod Rewriting
 pub mod SegmentLemmas
+pub mod SlashedLemmas
 pub mod UrlLemmas

@@ -24,7 +24,7 @@ use http_uri::Uri;
 pub use iter::Segments;
 pub use lent::DavPathRef;
 use lent::trim_slash;
-use reading::{joined, kept_pieces, raw_path};
+use reading::{end_in_slash, kept_pieces, raw_path};
 use std::alloc::{AllocError, AllocFailed, Global};
 use std::marker::Model;
 use thiserror::Error;
@@ -105,8 +105,8 @@ impl DavPath {
         ensures err { IfErr result (λ e. (e ≡ ParseError.OutOfMemory) ⊎ Fault src.now e) }
     {
         let raw = raw_path(src.as_bytes())?;
-        let kept = kept_pieces(alloc, raw)?;
-        let fullpath = joined(alloc, &kept, raw.ends_with(b"/"))?;
+        let mut fullpath = kept_pieces(alloc, raw)?;
+        end_in_slash(&mut fullpath, raw.ends_with(b"/"))?;
         Ok(DavPath {
             fullpath,
             prefix_length: 0,

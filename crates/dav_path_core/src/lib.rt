@@ -1,4 +1,4 @@
-//! Paths of WebDAV resources, the errors of calls on files, and trees of numbered nodes.
+//! Paths of WebDAV resources, methods, the errors of calls on files, moments, and trees of numbered nodes.
 #![tactic(auto)]
 
 pub mod davpath;

@@ -1,4 +1,4 @@
-//! The methods of HTTP and WebDAV requests, and sets of methods.
+//! The methods of HTTP and WebDAV requests, sets of methods, and moments.
 ghost use Rattle.std.specs.Prelude.{◌≡◌, map, MatchResult};
 ghost use Rattle.std.specs.Borrow.{sem};
 ghost use Rattle.dav_path_core.specs.MethodSets.{bits, with_method, without_method, has_method, words, bits_in, bits_of_words};
@@ -6,6 +6,10 @@ ghost use Rattle.dav_path_core.specs.Private.Tables.{entry_of};
 
 use http::Method;
 use thiserror::Error;
+
+/// A moment, in nanoseconds since 1970 (own).
+#[derive(Clone, Copy, PartialEq, Eq, Debug)]
+pub struct Moment(pub u64);
 
 /// A method of a request. Its number is the bit that stands for it in a `DavMethodSet`.
 #[derive(Debug, Clone, Copy, PartialEq, Eq, Hash)]

@@ -134,9 +134,12 @@ fn read_line<I: Read + Drop, O: Write + Drop>(
     output: &mut BufWriter<O>,
 ) -> Result<bool, Stop> {
     line.clear();
-    if !input.buffer().contains(&b'\n') {
-        output.flush()?;
+    if let Some(end) = input.buffer().iter().position(|byte| *byte == b'\n') {
+        line.extend_from_slice(&input.buffer()[..end])?;
+        input.consume(end + 1);
+        return Ok(true);
     }
+    output.flush()?;
     if input.read_until(b'\n', line)? == 0 {
         return Ok(false);
     }

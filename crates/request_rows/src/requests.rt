@@ -39,7 +39,7 @@ const APPLIED: &str = "5 - put /a abc = done
 7 - unlock /x = done
 7 - unlock /x = no lock
 6 - put /x a = done
-8 - patch /x m n = 200 200
+8 - patch /x m,n = 200 200
 8 - props /x = m|a n|a";
 
 // The stores, their generator, and the token of the lock that was granted last.
@@ -124,14 +124,18 @@ fn applies_each_request(rt: HostRuntime) -> Result<(), Fail> {
 }
 
 fn request_of(alloc: Global, call: &str, token: &str) -> Result<Request, Fail> {
-    let words: Vec<&str> = call.split(' ').collect(alloc)?;
-    let Some((&[now, who], words)) = words.split_first_chunk::<2>() else {
-        return Err(Fail::from("no words"));
+    let mut words = call.split(' ');
+    let mut word = || match words.next() {
+        Some(word) => word,
+        None => "",
     };
+    let (now, who, command, path) = (word(), word(), word(), word());
+    let args = (word(), word());
     let mut tokens = Vec::new(alloc);
     if who != "-" {
         tokens.push(String::from_str(alloc, token)?)?;
     }
+    let path = DavPath::new(alloc, path)?;
     Ok(Request {
         principal: match who {
             "-" => None,
@@ -139,60 +143,56 @@ fn request_of(alloc: Global, call: &str, token: &str) -> Result<Request, Fail> {
         },
         tokens,
         now: Moment(now.parse()?),
-        command: command_of(alloc, words, token)?,
+        command: command_of(alloc, command, path, args, token)?,
     })
 }
 
-fn command_of(alloc: Global, words: &[&str], token: &str) -> Result<Command, Fail> {
-    match words {
-        ["put", path, text] => put(alloc, path, text),
-        ["read", path, at, count] => read(alloc, path, at, count),
-        ["mkcol", path] => make_folder(alloc, path),
-        ["move", from, to] => move_to(alloc, from, to),
-        ["lock", path, owner, timeout] => lock(alloc, path, owner, timeout),
-        ["unlock", path] => unlock(alloc, path, token),
-        ["discover", path] => discover(alloc, path),
-        ["patch", path, names @ ..] => patch(alloc, path, names),
-        ["props", path] => props(alloc, path),
+fn command_of(
+    alloc: Global,
+    command: &str,
+    path: DavPath,
+    args: (&str, &str),
+    token: &str,
+) -> Result<Command, Fail> {
+    match command {
+        "put" => put(alloc, path, args.0),
+        "read" => read(path, args.0, args.1),
+        "mkcol" => Ok(Command::MkCol { path }),
+        "move" => move_to(alloc, path, args.0),
+        "lock" => lock(alloc, path, args.0, args.1),
+        "unlock" => unlock(alloc, path, token),
+        "discover" => Ok(Command::Discover { path }),
+        "patch" => patch(alloc, path, args.0),
+        "props" => Ok(Command::GetProps {
+            path,
+            content: true,
+        }),
         _ => Err(Fail::from("no such request")),
     }
 }
 
-fn put(alloc: Global, path: &str, text: &str) -> Result<Command, Fail> {
-    Ok(Command::Put {
-        path: DavPath::new(alloc, path)?,
-        bytes: Bytes::copy_from_slice(alloc, text.as_bytes())?,
-    })
+fn put(alloc: Global, path: DavPath, text: &str) -> Result<Command, Fail> {
+    let bytes = Bytes::copy_from_slice(alloc, text.as_bytes())?;
+    Ok(Command::Put { path, bytes })
 }
 
-fn read(alloc: Global, path: &str, at: &str, count: &str) -> Result<Command, Fail> {
+fn read(path: DavPath, at: &str, count: &str) -> Result<Command, Fail> {
     Ok(Command::Read {
-        path: DavPath::new(alloc, path)?,
+        path,
         at: at.parse()?,
         count: count.parse()?,
     })
 }
 
-fn make_folder(alloc: Global, path: &str) -> Result<Command, Fail> {
-    let path = DavPath::new(alloc, path)?;
-    Ok(Command::MkCol { path })
-}
-
-fn move_to(alloc: Global, from: &str, to: &str) -> Result<Command, Fail> {
-    let from = DavPath::new(alloc, from)?;
+fn move_to(alloc: Global, from: DavPath, to: &str) -> Result<Command, Fail> {
     let to = DavPath::new(alloc, to)?;
     Ok(Command::Move { from, to })
 }
 
-fn discover(alloc: Global, path: &str) -> Result<Command, Fail> {
-    let path = DavPath::new(alloc, path)?;
-    Ok(Command::Discover { path })
-}
-
-// Sets a property of each name, whose xml is `a`.
-fn patch(alloc: Global, path: &str, names: &[&str]) -> Result<Command, Fail> {
+// Sets a property of each name, between commas, whose xml is `a`.
+fn patch(alloc: Global, path: DavPath, names: &str) -> Result<Command, Fail> {
     let mut patch = Vec::new(alloc);
-    for name in names {
+    for name in names.split(',') {
         let prop = DavProp {
             name: String::from_str(alloc, name)?,
             prefix: None,
@@ -201,21 +201,13 @@ fn patch(alloc: Global, path: &str, names: &[&str]) -> Result<Command, Fail> {
         };
         patch.push((true, prop))?;
     }
-    let path = DavPath::new(alloc, path)?;
     Ok(Command::PatchProps { path, patch })
 }
 
-fn props(alloc: Global, path: &str) -> Result<Command, Fail> {
-    Ok(Command::GetProps {
-        path: DavPath::new(alloc, path)?,
-        content: true,
-    })
-}
-
 // An exclusive shallow lock.
-fn lock(alloc: Global, path: &str, owner: &str, timeout: &str) -> Result<Command, Fail> {
+fn lock(alloc: Global, path: DavPath, owner: &str, timeout: &str) -> Result<Command, Fail> {
     Ok(Command::Lock {
-        path: DavPath::new(alloc, path)?,
+        path,
         owner: Some(String::from_str(alloc, owner)?),
         timeout: Some(timeout.parse()?),
         shared: false,
@@ -223,11 +215,9 @@ fn lock(alloc: Global, path: &str, owner: &str, timeout: &str) -> Result<Command
     })
 }
 
-fn unlock(alloc: Global, path: &str, token: &str) -> Result<Command, Fail> {
-    Ok(Command::Unlock {
-        path: DavPath::new(alloc, path)?,
-        token: String::from_str(alloc, token)?,
-    })
+fn unlock(alloc: Global, path: DavPath, token: &str) -> Result<Command, Fail> {
+    let token = String::from_str(alloc, token)?;
+    Ok(Command::Unlock { path, token })
 }
 
 fn shown(alloc: Global, answer: &Result<Reply, Refusal>, token: &str) -> Result<String, Fail> {

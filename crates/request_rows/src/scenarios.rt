@@ -10,6 +10,7 @@ use dav_resource_core::davreplay::{replay, seed_of};
 use files::{FOLDERS, ONE_FILE, PROPERTIES, WRITES};
 use forms::{FORMS, MALFORMED};
 use locks::{ALONE, DEEP, ENDS, HOLDERS, LOCKS, MOVES, REFRESHED, TIMEOUTS};
+use std::alloc::AllocError;
 use std::io::Read;
 use std::process::Abort;
 use std::test::Fail;
@@ -32,14 +33,12 @@ impl Scenario {
     }
 
     fn add(&mut self, mark: &str, line: &str) -> Result<(), Fail> {
-        let text = match mark {
-            ">" => &mut self.input,
-            "<" => &mut self.output,
-            "!" => &mut self.faults,
+        match mark {
+            ">" => add_line(&mut self.input, line)?,
+            "<" => add_line(&mut self.output, line)?,
+            "!" => add_line(&mut self.faults, line)?,
             _ => return Err(Fail::from("no such mark")),
-        };
-        text.push_str(line)?;
-        text.push('\n')?;
+        }
         Ok(())
     }
 
@@ -53,6 +52,11 @@ impl Scenario {
             status,
         )
     }
+}
+
+fn add_line(text: &mut String, line: &str) -> Result<(), AllocError> {
+    text.push_str(line)?;
+    text.push('\n')
 }
 
 // Whether a scenario with seed 1 gives these answers, this text on standard error, and this status.

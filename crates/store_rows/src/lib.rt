@@ -8,8 +8,6 @@ mod files;
 #[cfg(test)]
 mod locks;
 #[cfg(test)]
-mod open_files;
-#[cfg(test)]
 mod plenty;
 #[cfg(test)]
-mod properties;
+mod words;

@@ -202,30 +202,32 @@ move /f /d/x = 423
 delete /f = 204";
 
     fn command_of(alloc: Global, row: &str) -> Result<Command, Fail> {
-        let Some((word, paths)) = row.split_once(' ') else {
-            return Err(row)?;
-        };
-        let (path, to) = paths.split_once(' ').unwrap_or((paths, paths));
-        let path = DavPath::new(alloc, path)?;
+        let (word, paths) = row.split_once(' ').ok_or("no path")?;
+        match paths.split_once(' ') {
+            Some((from, to)) => Ok(Command::Move {
+                from: DavPath::new(alloc, from)?,
+                to: DavPath::new(alloc, to)?,
+            }),
+            None => Ok(command_at(word, DavPath::new(alloc, paths)?).ok_or("no such word")?),
+        }
+    }
+
+    fn command_at(word: &str, path: DavPath) -> Option<Command> {
         match word {
-            "put" => Ok(Command::Put {
+            "put" => Some(Command::Put {
                 path,
                 bytes: Bytes::new(),
             }),
-            "mkcol" => Ok(Command::MkCol { path }),
-            "delete" => Ok(Command::Remove { path }),
-            "move" => Ok(Command::Move {
-                from: path,
-                to: DavPath::new(alloc, to)?,
-            }),
-            "lock" => Ok(Command::Lock {
+            "mkcol" => Some(Command::MkCol { path }),
+            "delete" => Some(Command::Remove { path }),
+            "lock" => Some(Command::Lock {
                 path,
                 owner: None,
                 timeout: None,
                 shared: false,
                 deep: true,
             }),
-            _ => Err(row)?,
+            _ => None,
         }
     }
 
@@ -235,9 +237,7 @@ delete /f = 204";
         let mut stores = Guarded::new(alloc, Moment(0))?;
         let mut rng = Pcg64::seed_from_u64(1);
         for line in ROWS.split('\n') {
-            let Some((row, status)) = line.split_once(" = ") else {
-                return Err(line)?;
-            };
+            let (row, status) = line.split_once(" = ").ok_or("no status")?;
             let request = Request {
                 principal: None,
                 tokens: Vec::new(alloc),

@@ -18,8 +18,8 @@ use super::way::{
     check_locks_to_path, covering_locks, get_or_create_path_node, lookup_lock, lookup_node,
 };
 use crate::ls::{DavLock, LockError, NoLock, RefreshError};
-use dav_files_core::fs::Moment;
 use dav_path_core::davpath::DavPath;
+use dav_path_core::util::Moment;
 use rand_core::Rng;
 use std::alloc::AllocError;
 

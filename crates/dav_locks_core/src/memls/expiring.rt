@@ -15,8 +15,8 @@ use super::subtree::{find_below, next_below};
 use super::way::locks_at;
 use crate::ls::DavLock;
 use bytes::Bytes;
-use dav_files_core::fs::Moment;
 use dav_path_core::tree::{ROOT_ID, Tree};
+use dav_path_core::util::Moment;
 
 /// The locks whose end has come at a moment.
 #[derive(Clone, Copy)]

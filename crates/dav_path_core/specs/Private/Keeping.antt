@@ -1,8 +1,18 @@
 -- How `DavPath::new` goes on by one piece: the pieces kept after it, or why it is refused. Private contracts alone speak of it.
-use Rattle.std.specs.Prelude.{◌≡◌, ℕ, List, [], ◌∷◌, ◌++◌, All, IsTrue}
+use Rattle.std.specs.Prelude.{◌≡◌, ℕ, List, [], ◌∷◌, ◌++◌, All, Contains, IsTrue}
+use Rattle.std.specs.List.{flat_map}
 use Rattle.dav_path_core.specs.declared.davpath.ParseError.{ParseError}
 use Rattle.dav_path_core.specs.declared.davpath.ParseError.TheVariants.{InvalidPath, ForbiddenPath}
 use Rattle.dav_path_core.specs.Reading.{is_idle, is_up, is_ordinary, IsForeign, Rewrites}
+
+-- the path of kept pieces: each behind a slash
+abbrev pub slashed : List (List ℕ) → List ℕ
+slashed kept = flat_map (λ s. 47 ∷ s) kept
+
+-- these bytes are the path of these pieces, of which none holds a slash
+pub record Spells (kept : List (List ℕ)) (path : List ℕ) : Type 0 where
+  pub whole : All (λ s. ¬ Contains s 47) kept
+  pub spelling : path ≡ slashed kept
 
 -- the pieces kept after this one
 pub data Takes (old : List (List ℕ)) (piece : List ℕ) (new : List (List ℕ)) : Type 0 where

@@ -1,13 +1,15 @@
 //! How a URL path is read: cut before the query, split, decoded and resolved.
-ghost use Rattle.std.specs.Prelude.{◌≡◌, ◌⊎◌, ◌↔◌, map, IsTrue, IfOk, IfErr, OnOk};
+ghost use Rattle.std.specs.Prelude.{◌≡◌, ◌⊎◌, ◌↔◌, ◌∷◌, ◌++◌, ℕ, List, Contains, IsTrue, IfOk, IfErr, OnOk};
+ghost use Rattle.std.specs.Cow.{cow_slice_items};
 ghost use Rattle.percent_encoding.specs.Percent.{percent_decode as decoded_bytes_of};
 ghost use Rattle.dav_path_core.specs.Reading.{is_idle, is_up, IsForeign, IsTarget, raw, path_of, decoded_pieces};
 ghost use Rattle.dav_path_core.specs.Fault.{FirstFault};
-ghost use Rattle.dav_path_core.specs.Private.Keeping.{Takes, Refuses, ComesDown};
+ghost use Rattle.dav_path_core.specs.Private.Keeping.{slashed, Spells, Takes, Refuses, ComesDown};
 
 use super::ParseError;
 use percent_encoding::percent_decode;
 use std::alloc::{AllocError, Global};
+use std::borrow::CowSlice;
 
 /// The path before the query, if the text is printable, has no fragment before it and begins with a slash.
 pub(super) fn raw_path(text: &[u8]) -> Result<&[u8], ParseError>
@@ -32,13 +34,12 @@ fn before_query(text: &[u8]) -> &[u8]
     &text[..end]
 }
 
-// A piece with its escapes decoded (RFC 3986 section 2.1); a `%` without two hexadecimal digits stays.
-fn decoded(alloc: Global, piece: &[u8]) -> Result<Vec<u8>, AllocError>
-    ensures { IfOk result (λ v. v.items ≡ decoded_bytes_of piece.now) }
+// A piece with its escapes decoded (RFC 3986 section 2.1); a `%` without two hexadecimal digits stays. It takes no memory where
+// the piece has none.
+fn decoded<'a>(alloc: Global, piece: &'a [u8]) -> Result<CowSlice<'a, u8, Global>, AllocError>
+    ensures { IfOk result (λ v. cow_slice_items v ≡ decoded_bytes_of piece.now) }
 {
-    let mut bytes = Vec::new(alloc);
-    percent_decode(piece).append_to(&mut bytes)?;
-    Ok(bytes)
+    percent_decode(piece).into_cow(alloc)
 }
 
 // Empty or `.`.
@@ -62,53 +63,62 @@ fn is_foreign_piece(piece: &[u8]) -> bool
     piece.contains(&0) || piece.contains(&b'/')
 }
 
-// Takes one piece more: drops it, drops the last one kept, or keeps it.
-fn take_piece(kept: &mut Vec<Vec<u8>>, piece: Vec<u8>) -> Result<(), ParseError>
-    ensures ok { OnOk result
-        (Takes (map (λ w. w.items) kept.old.items) piece.items (map (λ w. w.items) kept.new.items)) }
-    ensures clean { OnOk result (¬ IsForeign piece.items) }
-    ensures err { IfErr result (λ e. (e ≡ ParseError.OutOfMemory)
-        ⊎ Refuses (map (λ w. w.items) kept.old.items) piece.items e) }
+// Takes the last piece away, with the slash before it.
+fn drop_last(path: &mut Vec<u8>) -> Result<(), ParseError>
+    ensures ok { OnOk result ((last : List ℕ)
+        × (path.old.items ≡ path.new.items ++ 47 ∷ last) × (¬ Contains last 47)) }
+    ensures err { IfErr result (λ e. (e ≡ ParseError.ForbiddenPath) × (¬ Contains path.old.items 47)) }
 {
-    if is_foreign_piece(&piece) {
-        return Err(ParseError::InvalidPath);
-    }
-    if is_idle_piece(&piece) {
-        return Ok(());
-    }
-    if is_up_piece(&piece) {
-        match kept.pop() {
-            Some(_) => return Ok(()),
-            None => return Err(ParseError::ForbiddenPath),
+    while let Some(byte) = path.pop() {
+        if byte == b'/' {
+            return Ok(());
         }
     }
-    kept.push(piece)?;
+    Err(ParseError::ForbiddenPath)
+}
+
+// Takes one piece more: drops it, drops the last one kept, or keeps it.
+fn take_piece(path: &mut Vec<u8>, piece: &[u8]) -> Result<(), ParseError>
+    ensures ok { OnOk result ((kept : List (List ℕ)) → Spells kept path.old.items
+        → (new : List (List ℕ)) × Takes kept piece.now new × Spells new path.new.items) }
+    ensures clean { OnOk result (¬ IsForeign piece.now) }
+    ensures err { IfErr result (λ e. (e ≡ ParseError.OutOfMemory)
+        ⊎ ((kept : List (List ℕ)) → Spells kept path.old.items → Refuses kept piece.now e)) }
+{
+    if is_foreign_piece(piece) {
+        return Err(ParseError::InvalidPath);
+    }
+    if is_idle_piece(piece) {
+        return Ok(());
+    }
+    if is_up_piece(piece) {
+        return drop_last(path);
+    }
+    path.push(b'/')?;
+    path.extend_from_slice(piece)?;
     Ok(())
 }
 
-/// The pieces that are kept, decoded: in the end ordinary ones alone.
-pub(super) fn kept_pieces(alloc: Global, raw: &[u8]) -> Result<Vec<Vec<u8>>, ParseError>
-    ensures ok { IfOk result (λ kept. ComesDown (decoded_pieces raw.now) (map (λ w. w.items) kept.items)) }
+/// The path of the pieces that are kept, decoded, each behind a slash: in the end ordinary ones alone.
+pub(super) fn kept_pieces(alloc: Global, raw: &[u8]) -> Result<Vec<u8>, ParseError>
+    ensures ok { IfOk result (λ path. (kept : List (List ℕ))
+        × ComesDown (decoded_pieces raw.now) kept × (path.items ≡ slashed kept)) }
     ensures err { IfErr result (λ e. (e ≡ ParseError.OutOfMemory) ⊎ FirstFault (decoded_pieces raw.now) e) }
 {
-    let mut kept = Vec::new(alloc);
-    for piece in raw.split(|b| *b == b'/') {
-        take_piece(&mut kept, decoded(alloc, piece)?)?;
-    }
-    Ok(kept)
-}
-
-/// The path of the kept pieces, with a slash at the end where `slash` is set or none is kept.
-pub(super) fn joined(alloc: Global, kept: &[Vec<u8>], slash: bool) -> Result<Vec<u8>, AllocError>
-    ensures { IfOk result (λ path. path.items ≡ path_of (map (λ w. w.items) kept.now) slash) }
-{
     let mut path = Vec::new(alloc);
-    for segment in kept {
-        path.push(b'/')?;
-        path.extend_from_slice(segment)?;
-    }
-    if slash || kept.is_empty() {
-        path.push(b'/')?;
+    for piece in raw.split(|b| *b == b'/') {
+        take_piece(&mut path, &decoded(alloc, piece)?)?;
     }
     Ok(path)
+}
+
+/// Puts a slash at the end of the path of the kept pieces where `slash` is set or none is kept.
+pub(super) fn end_in_slash(path: &mut Vec<u8>, slash: bool) -> Result<(), AllocError>
+    ensures { OnOk result ((kept : List (List ℕ)) → path.old.items ≡ slashed kept
+        → path.new.items ≡ path_of kept slash) }
+{
+    if slash || path.is_empty() {
+        path.push(b'/')?;
+    }
+    Ok(())
 }

@@ -51,8 +51,14 @@ pub(super) fn request_of(
     let Some(now) = words.next() else {
         return Ok(None);
     };
-    let mut word = || words.next().ok_or(Unread::Malformed);
-    let (principal, labels, command, path) = (word()?, word()?, word()?, word()?);
+    let [Some(principal), Some(labels), Some(command), Some(path)] = [
+        words.next(),
+        words.next(),
+        words.next(),
+        words.next(),
+    ] else {
+        return Err(Unread::Malformed);
+    };
     let args = [words.next(), words.next(), words.next(), words.next()];
     let now = Moment(number_of(now)?);
     let labels = labels_of(alloc, labels)?;
@@ -291,21 +297,5 @@ fn label_of(word: &str) -> Result<&str, Unread> {
             Ok(word)
         }
         _ => Err(Unread::Malformed),
-    }
-}
-
-#[cfg(test)]
-mod tests {
-    use super::*;
-    use std::test::Fail;
-
-    #[test]
-    fn reads_the_moment(rt: HostRuntime) -> Result<(), Fail> {
-        let granted = Labels::new(rt.alloc());
-        match request_of(rt.alloc(), &granted, b"57 - - read /a 0 1") {
-            Ok(Some(request)) => assert!(rt; request.now == Moment(57)),
-            _ => assert!(rt; false),
-        }
-        Ok(())
     }
 }

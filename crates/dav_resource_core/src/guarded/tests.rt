@@ -51,25 +51,22 @@ fn refused_move(rt: &HostRuntime) -> Result<Vec<Request>, Fail> {
     Ok(requests)
 }
 
-// The token of a lock at `/t/u` that is in the way of the last of these answers.
-fn in_the_way(mut answers: Vec<Result<Reply, Refusal>>) -> Option<String> {
-    match answers.pop()? {
-        Err(Refusal::Locked(lock)) => Some(lock.token),
-        _ => None,
-    }
+// The last answer to some requests.
+fn last_answer(stores: &mut Guarded, requests: &[Request]) -> Result<Result<Reply, Refusal>, Fail> {
+    let mut answers = stores.run(requests, &mut Pcg64::seed_from_u64(1))?;
+    Ok(answers.pop().ok_or("no answer")?)
 }
 
 // The stores after the move is refused, and then done under the lock's token.
 fn moved(rt: &HostRuntime) -> Result<(Guarded, String), Fail> {
     let mut stores = Guarded::new(rt.alloc(), Moment(0))?;
-    let mut rng = Pcg64::seed_from_u64(1);
-    let answers = stores.run(&refused_move(rt)?, &mut rng)?;
-    let token = in_the_way(answers).ok_or("not locked")?;
-    let mut tokens = Vec::new(rt.alloc());
-    tokens.push(token.clone()?)?;
+    let Err(Refusal::Locked(lock)) = last_answer(&mut stores, &refused_move(rt)?)? else {
+        return Err(Fail::from("not locked"));
+    };
+    let tokens = vec![in rt.alloc(); lock.token.clone()?]?;
     let again = request(rt, tokens, move_folder(rt)?)?;
-    match stores.run(&[again], &mut rng)?.first() {
-        Some(Ok(Reply::Done)) => Ok((stores, token)),
+    match last_answer(&mut stores, &[again])? {
+        Ok(Reply::Done) => Ok((stores, lock.token)),
         _ => Err(Fail::from("not moved")),
     }
 }

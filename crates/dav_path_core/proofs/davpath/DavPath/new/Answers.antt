@@ -12,28 +12,35 @@ returns-in_err-raw-clause-err c =
     let e = c.in_err-raw.ensures.err in
     rw (p.1, p.2, e.0) (inr (no_target (rw c.as_bytes.ensures.value at e.1)))
 
-pub returns-in_err-kept-clause-only : goal.returns-in_err-kept-clause-only
-returns-in_err-kept-clause-only c = λ bytes r.
-    let p = err_from_is_err_and c.from_residual-in_err-kept.result c.from_residual-in_err-kept.ensures.1 in
+pub returns-in_err-fullpath-clause-only : goal.returns-in_err-fullpath-clause-only
+returns-in_err-fullpath-clause-only c = λ bytes r.
+    let p = err_from_is_err_and c.from_residual-in_err-fullpath.result c.from_residual-in_err-fullpath.ensures.1 in
     let target = c.in_ok-raw.ensures.ok in
     rw (p.1, p.2)
     (⊎_elim (λ e. e)
-    (λ (f : FirstFault (decoded_pieces c.in_ok-raw.raw.now) c.in_err-kept.field-0.0). absurd (no_path c.args.src.now bytes c.in_err-kept.field-0.0 (first _ r.target (rw (target.1, c.as_bytes.ensures.value) at f)) r))
-    c.in_err-kept.ensures.err)
+    (λ (f : FirstFault (decoded_pieces c.in_ok-raw.raw.now) c.in_err-fullpath.field-0.0). absurd (no_path c.args.src.now bytes c.in_err-fullpath.field-0.0 (first _ r.target (rw (target.1, c.as_bytes.ensures.value) at f)) r))
+    c.in_err-fullpath.ensures.err)
 
-pub returns-in_err-kept-clause-err : goal.returns-in_err-kept-clause-err
-returns-in_err-kept-clause-err c =
-    let p = err_from_is_err_and c.from_residual-in_err-kept.result c.from_residual-in_err-kept.ensures.1 in
+pub returns-in_err-fullpath-clause-err : goal.returns-in_err-fullpath-clause-err
+returns-in_err-fullpath-clause-err c =
+    let p = err_from_is_err_and c.from_residual-in_err-fullpath.result c.from_residual-in_err-fullpath.ensures.1 in
     let target = c.in_ok-raw.ensures.ok in
     rw (p.1, p.2)
-    (⊎_elim inl (λ (f : FirstFault (decoded_pieces c.in_ok-raw.raw.now) c.in_err-kept.field-0.0). inr (first _ (rw c.as_bytes.ensures.value at target.0) (rw (target.1, c.as_bytes.ensures.value) at f))) c.in_err-kept.ensures.err)
+    (⊎_elim inl (λ (f : FirstFault (decoded_pieces c.in_ok-raw.raw.now) c.in_err-fullpath.field-0.0). inr (first _ (rw c.as_bytes.ensures.value at target.0) (rw (target.1, c.as_bytes.ensures.value) at f))) c.in_err-fullpath.ensures.err)
 
 pub returns-clause-ok : goal.returns-clause-ok
 returns-clause-ok c =
     let target = c.in_ok-raw.ensures.ok in
-    (refl, read_from c.args.src.now c.in_ok-raw.raw.now _ _ (rw c.as_bytes.ensures.value at target.0) (rw c.as_bytes.ensures.value at target.1) c.in_ok-kept.ensures.ok (rw (c.deref.ensures.value, c.ends_with.ensures.value) at c.in_ok-fullpath.ensures))
+    let kept = c.in_ok-fullpath.ensures.ok in (
+      refl,
+      read_from c.args.src.now c.in_ok-raw.raw.now _ kept.0 (rw c.as_bytes.ensures.value at target.0) (rw c.as_bytes.ensures.value at target.1) kept.1
+          (rw c.ends_with.ensures.value at (c.in_ok-end_in_slash.ensures kept.0 kept.2)),
+    )
 
 pub returns-clause-only : goal.returns-clause-only
 returns-clause-only c = λ bytes r.
     let target = c.in_ok-raw.ensures.ok in
-    one_path c.args.src.now _ bytes (read_from c.args.src.now c.in_ok-raw.raw.now _ _ (rw c.as_bytes.ensures.value at target.0) (rw c.as_bytes.ensures.value at target.1) c.in_ok-kept.ensures.ok (rw (c.deref.ensures.value, c.ends_with.ensures.value) at c.in_ok-fullpath.ensures)) r
+    let kept = c.in_ok-fullpath.ensures.ok in
+    one_path c.args.src.now _ bytes
+    (read_from c.args.src.now c.in_ok-raw.raw.now _ kept.0 (rw c.as_bytes.ensures.value at target.0) (rw c.as_bytes.ensures.value at target.1) kept.1
+    (rw c.ends_with.ensures.value at (c.in_ok-end_in_slash.ensures kept.0 kept.2))) r

@@ -22,6 +22,9 @@ use std::io::{self, BufRead, BufReader, BufWriter, ErrorKind, Read, Write};
 /// The answer to a line for which there is no memory.
 const OUT_OF_MEMORY: &[u8] = b"out of memory\n";
 
+/// How many bytes are read at once, and written.
+const BUFFER: usize = 64 * 1024;
+
 /// The seed that the words behind the program's name give: one word of one or more decimal digits, within u64.
 pub fn seed_of(args: &[String]) -> Option<u64>
     ensures { result ≡ seed (map string_bytes args.now) }
@@ -103,8 +106,8 @@ fn play<I: Read + Drop, O: Write + Drop>(
         rng: Pcg64::seed_from_u64(seed),
         labels: Labels::new(alloc),
     };
-    let mut input = BufReader::new(alloc, input)?;
-    let mut output = BufWriter::new(alloc, output)?;
+    let mut input = BufReader::with_capacity(alloc, BUFFER, input)?;
+    let mut output = BufWriter::with_capacity(alloc, BUFFER, output)?;
     let played = play_lines(alloc, &mut player, &mut input, &mut output);
     output.flush()?;
     played

@@ -8,7 +8,7 @@ use Rattle.std.proofs.lemmas.List.Elements.{All-nil, All-push, All-pop}
 use Rattle.std.proofs.lemmas.List.Sums.{count_by_more_yes, count_by_more_no}
 use Rattle.dav_path_core.specs.declared.davpath.ParseError.{ParseError}
 use Rattle.percent_encoding.specs.Percent.{percent_decode}
-use Rattle.std.specs.List.{flat_map, join_with_byte}
+use Rattle.std.specs.List.{join_with_byte}
 use Rattle.std.proofs.lemmas.List.{get_or-map, length-map, append-nil}
 use Rattle.dav_path_core.specs.Segments.{pieces}
 use Rattle.std.proofs.lemmas.Bool.{lt-ltb}
@@ -16,7 +16,7 @@ use Rattle.dav_path_core.specs.Reading.{path_of, decoded_pieces, is_idle, is_up,
 use Rattle.dav_path_core.specs.Reading.Rewrites.{none}
 use Rattle.dav_path_core.specs.Fault.{IsFaultAt, NoFaultBelow, FirstFault, LeavesRoot, piece_at}
 use Rattle.dav_path_core.specs.Fault.IsFaultAt.{foreign as foreign_at, above as above_at}
-use Rattle.dav_path_core.specs.Private.Keeping.{Takes, Refuses, ComesDown}
+use Rattle.dav_path_core.specs.Private.Keeping.{slashed, Takes, Refuses, ComesDown}
 use Rattle.dav_path_core.specs.Private.Keeping.Takes.{idle, up, ordinary}
 use Rattle.dav_path_core.specs.Private.Keeping.Refuses.{foreign, above}
 use Rattle.dav_path_core.proofs.paths.Rewriting.{Rewrites-push, Rewrites-idle, Rewrites-up, not_idle, not_up, idle_not_up}
@@ -124,19 +124,19 @@ Along-done raw_text kept n a h = Along-end (decoded_pieces raw_text) kept n a (o
 
 -- ---- the path of what is kept
 
-pub joined_is : (kept : List (List ℕ)) → 0 < length kept → 47 ∷ join_with_byte 47 kept ≡ flat_map (λ s. 47 ∷ s) kept
+pub joined_is : (kept : List (List ℕ)) → 0 < length kept → 47 ∷ join_with_byte 47 kept ≡ slashed kept
 joined_is [] h = absurd (omega arith)
 joined_is (x ∷ []) h = ap (λ l. 47 ∷ l) (sym (append-nil x))
 joined_is (x ∷ y ∷ kept) h = ap (λ l. 47 ∷ (x ++ l)) (joined_is (y ∷ kept) (omega arith))
 
 -- a slash more, where the path is to end in one or is empty; and none
-pub path_with_slash : (kept : List (List ℕ)) (slash : Bool) → (slash ≡ true) ⊎ (length kept ≡ 0) → flat_map (λ s. 47 ∷ s) kept ++ 47 ∷ [] ≡ path_of kept slash
+pub path_with_slash : (kept : List (List ℕ)) (slash : Bool) → (slash ≡ true) ⊎ (length kept ≡ 0) → slashed kept ++ 47 ∷ [] ≡ path_of kept slash
 path_with_slash [] true h = refl
 path_with_slash [] false h = refl
 path_with_slash (x ∷ kept) true h =
     rw (lt-ltb 0 (length (x ∷ kept)) (omega arith)) (ap (λ l. l ++ 47 ∷ []) (sym (joined_is (x ∷ kept) (omega arith))))
 path_with_slash (x ∷ kept) false h = ⊎_elim (λ e. cc) (λ e. absurd (omega (arith, e))) h
 
-pub path_with_none : (kept : List (List ℕ)) (slash : Bool) → slash ≡ false → 0 < length kept → flat_map (λ s. 47 ∷ s) kept ≡ path_of kept slash
+pub path_with_none : (kept : List (List ℕ)) (slash : Bool) → slash ≡ false → 0 < length kept → slashed kept ≡ path_of kept slash
 path_with_none kept true e h = cc
 path_with_none kept false e h = sym (joined_is kept h) ∙ sym (append-nil (47 ∷ join_with_byte 47 kept))

@@ -19,6 +19,7 @@ use Rattle.dav_path_core.specs.Reading.IsDroppable.{idle}
 use Rattle.dav_path_core.specs.Reading.Rewrites.{none, more}
 use Rattle.dav_path_core.proofs.paths.Rewriting.{AllOrdinary, AllOrdinary-from_reduced, not_idle, not_up}
 use Rattle.dav_path_core.proofs.paths.KeptLemmas.{path_with_slash}
+use Rattle.dav_path_core.proofs.paths.SlashedLemmas.{nothing_in_none}
 use Rattle.dav_path_core.proofs.paths.Laws.{read_from}
 use Rattle.dav_path_core.proofs.lists.Snoc.{by_last, snoc_last}
 use Rattle.dav_path_core.proofs.paths.ParentLemmas.{HasNoSlash}
@@ -184,11 +185,8 @@ rewritten kept _ closed = subst (λ l. Rewrites l kept) (sym (append-nil kept)) 
 rewritten kept _ slashed =
     more _ _ _ (record { front = kept; gone = [] ∷ []; back = []; droppable = idle [] refl; before = refl; after = sym (append-nil kept) }) (none kept)
 
-lacks : (b : ℕ) → ¬ Contains [] b
-lacks b c = omega (arith, c.1)
-
 empty_clean : ¬ IsForeign []
-empty_clean = ⊎_elim (lacks 0) (lacks 47)
+empty_clean = ⊎_elim (nothing_in_none 0) (nothing_in_none 47)
 
 tail_all : (P : List ℕ → Type 0) (tail : List (List ℕ)) → P [] → IsTail tail → AllByRecursion P tail
 tail_all P _ h closed = tt

@@ -11,10 +11,12 @@ use Rattle.dav_path_core.specs.Private.Keeping.{slashed, Spells, Takes}
 use Rattle.dav_path_core.proofs.paths.KeptLemmas.{Along, Along-turn}
 use Rattle.dav_path_core.proofs.lists.Snoc.{by_last}
 
+-- what is said of a value is weakened
 pub OnOk-weaker : {T E : Type 0} (r : Result T E) (P Q : Type 0) → (P → Q) → OnOk r P → OnOk r Q
 OnOk-weaker (Ok x) P Q f h = f h
 OnOk-weaker (Err e) P Q f h = tt
 
+-- neither of two tests, as a test
 pub neither : (a b : Bool) → a ≡ false → b ≡ false → IsTrue (not a && not b)
 neither false false p q = refl
 neither true b p q = cc
@@ -77,8 +79,9 @@ pub slashed-some : (kept : List (List ℕ)) (path : List ℕ) → path ≡ slash
 slashed-some [] path e h = absurd (omega (arith, h, ap length e))
 slashed-some (s ∷ kept) path e h = omega arith
 
--- ---- the path of what is kept, after the first n pieces
+-- ---- over the raw pieces
 
+-- these bytes are the path of what is kept of the first n pieces
 abbrev pub KeptPath : (raw_text path : List ℕ) (n : ℕ) → Type 0
 KeptPath raw_text path n = (kept : List (List ℕ)) × Along (decoded_pieces raw_text) kept n × Spells kept path
 

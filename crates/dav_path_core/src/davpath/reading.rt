@@ -34,8 +34,8 @@ fn before_query(text: &[u8]) -> &[u8]
     &text[..end]
 }
 
-// A piece with its escapes decoded (RFC 3986 section 2.1); a `%` without two hexadecimal digits stays. It takes no memory where
-// the piece has none.
+// A piece with its escapes decoded (RFC 3986 section 2.1); a `%` without two hexadecimal digits stays. A piece
+// without escapes is lent as it stands.
 fn decoded<'a>(alloc: Global, piece: &'a [u8]) -> Result<CowSlice<'a, u8, Global>, AllocError>
     ensures { IfOk result (λ v. cow_slice_items v ≡ decoded_bytes_of piece.now) }
 {

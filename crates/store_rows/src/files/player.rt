@@ -1,7 +1,7 @@
 //! Plays calls on files in memory.
-use super::super::words::words_of;
 use super::opened::answer_of_open;
 use super::properties::{patch_of, prop_of, shown_props, shown_statuses, xml_of_new};
+use crate::words::words_of;
 use dav_files_core::fs::{
     DavDirEntry, DavFile, DavFileSystem, DavMetaData, Moment, OpenOptions, ReadDirMeta,
 };

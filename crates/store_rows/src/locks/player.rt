@@ -1,6 +1,6 @@
 //! Plays calls on locks in memory.
-use super::super::words::words_of;
 use super::counter::Counter;
+use crate::words::words_of;
 use dav_files_core::fs::Moment;
 use dav_locks_core::ls::{DavLock, DavLockSystem, LockError};
 use dav_locks_core::memls::MemLs;

@@ -1,8 +1,9 @@
 -- What the links of a tree's nodes tell, and what a change of the tree does to them.
-use Rattle.std.proofs.Common.{nat_eq, ◌≡◌, ◌≢◌, ◌+◌, ◌==◌, ℕ, Bool, is_some, IsSome, true, false, cond, List, [], ◌∷◌, Some, None, Option, refl, ap, sym, ◌∙◌, subst, inl, inr, arith}
-use Rattle.std.specs.Option.{option_map}
+use Rattle.std.proofs.Common.{nat_eq, ◌≡◌, ◌≢◌, ◌+◌, ◌==◌, ℕ, Bool, is_some, IsSome, true, false, cond, List, [], ◌∷◌, Some, None, Option, Ok, Err, refl, ap, sym, ◌∙◌, subst, inl, inr, arith}
+use Rattle.std.specs.Option.{option_map, ok_or}
 use Rattle.std.specs.HashMap.{HashMap, Updates, WritesThrough}
 use Rattle.std.proofs.lemmas.Bool.{cases_eq, false≢true}
+use Rattle.dav_path_core.specs.declared.errors.FsError.TheVariants.{NotFound}
 use Rattle.dav_path_core.specs.declared.tree.Node.{Node}
 use Rattle.dav_path_core.specs.Keyed.{Entry, parent_and_key, parent_and_key_of, parent, child, add, IsKnown, IsTree}
 use Rattle.dav_path_core.specs.TreeValue.{TreeValue, Siblings, done, more, IsTreeValue, if_known, first, after, links_first, links_after}
@@ -56,6 +57,9 @@ module _ {K D : Type 0} where
     pub tells_none : None ≡ node_at es n → {X : Type 0} (y : X) → None ≡ if_known t n y
     tells_none at y = sym (ap (λ t. if_known t n y) (sym view) ∙ ap (option_map (λ _. y)) (entry-view es next n None at))
 
+    pub told_nowhere : None ≡ node_at es n → {X : Type 0} (y : X) → Err NotFound ≡ ok_or (if_known t n y) NotFound
+    told_nowhere at y = ap (λ o. ok_or o NotFound) (tells_none at y)
+
     module _ (x : Node K D) (at : Some x ≡ node_at es n) where
       pub known : {X : Type 0} (y : X) → Some y ≡ if_known t n y
       known y = sym (ap (λ t. if_known t n y) (sym view) ∙ ap (option_map (λ _. y)) (entry-view es next n (Some x) at))
@@ -65,6 +69,10 @@ module _ {K D : Type 0} where
 
       pub after-told : after t n ≡ x.next_sibling
       after-told = ap (λ t. after t n) (sym view) ∙ ap (λ f. f n) (after-view es next) ∙ ap (λ o. links_after (option_map links_of o)) (sym at)
+
+      -- the answer of a call that gives one of these links
+      pub told_there : (link told : Option ℕ) → told ≡ link → Ok link ≡ ok_or (if_known t n told) NotFound
+      told_there link told e = ap (λ o. ok_or o NotFound) (ap (λ (o : Option ℕ). Some o) (sym e) ∙ known told)
 
       pub parent_and_key-told : parent_and_key t.keyed n ≡ x.parent_and_key
       parent_and_key-told = ap (λ t. parent_and_key t.keyed n) (sym view) ∙ ap parent_and_key_of (entry-view es next n (Some x) at)

@@ -1,8 +1,9 @@
 //! A store of its own on `Tree`: a calendar of events by their names.
-ghost use Rattle.std.specs.Prelude.{◌≡◌, IfOk, OnErr};
+ghost use Rattle.std.specs.Prelude.{◌≡◌, Some, None, IfOk, OnErr, MatchResult};
+ghost use Rattle.uses.specs.Events as spec;
 
 use bytes::Bytes;
-use dav_resource_core::errors::FsResult;
+use dav_resource_core::errors::{FsError, FsResult};
 use dav_resource_core::tree::{ROOT_ID, Tree};
 use std::alloc::Global;
 
@@ -19,15 +20,18 @@ pub fn add_event(alloc: Global, events: &mut Calendar, name: &[u8], text: String
 }
 
 /// The text of the event of that name. `NotFound` where there is none.
-pub fn event<'a>(events: &'a Calendar, name: &[u8]) -> FsResult<&'a str> {
-    let id = events.find_child(ROOT_ID, |key| key.as_slice() == name)?;
+pub fn event<'a>(events: &'a Calendar, name: &[u8]) -> FsResult<&'a str>
+    ensures { MatchResult result
+        (λ text. spec.event events.now name.now ≡ Some text.now)
+        (λ e. (e ≡ FsError.NotFound) × (spec.event events.now name.now ≡ None)) }
+{
+    let id = events.find_child_like(ROOT_ID, &name, |key| key.as_slice() == name)?;
     Ok(events.get_node(id)?.as_str())
 }
 
 #[cfg(test)]
 mod tests {
     use super::*;
-    use dav_resource_core::errors::FsError;
     use std::test::Fail;
 
     #[test]

@@ -11,13 +11,13 @@ ghost use Rattle.uses.specs.Handling.{is_onto_itself};
 
 use dav_resource_core::davpath::DavPath;
 use dav_resource_core::errors::FsError;
-use dav_resource_core::guarded::{Command, Guarded, Refusal, Request};
+use dav_resource_core::guarded::{Command, Guarded, Refusal, Reply, Request};
 use http::StatusCode;
 use rand_core::Rng;
 use std::alloc::{AllocError, Global};
 
 /// The status of the reply to a request (RFC 4918 section 9): 423 where a lock stands in the way, or 507 where there is no memory; but 403 to a
-/// move onto its own place, which is not tried. A folder's members go before it, by requests of their own.
+/// move or a copy onto its own place, which is not tried. A folder's members go before it, by requests of their own.
 pub fn answer<R: Rng>(
     alloc: Global,
     stores: &mut Guarded,
@@ -45,11 +45,37 @@ pub fn answer<R: Rng>(
     }
 }
 
-// Whether something stood where a command reads, and where it writes.
+// What stands at a path.
+#[derive(Clone, Copy, PartialEq, Eq)]
+enum Found {
+    There,
+    Missing,
+    // Nothing, and a file stands above.
+    BelowFile,
+}
+
+// What stood where a command reads, and where it writes.
 #[derive(Clone, Copy)]
 struct Known {
-    source: bool,
-    target: bool,
+    source: Found,
+    target: Found,
+}
+
+// The paths where a command reads and writes, of those whose status depends on what stands there.
+fn ends_of(command: &Command) -> Option<(&DavPath, &DavPath)> {
+    match command {
+        Command::Put { path, .. }
+        | Command::Write { path, .. }
+        | Command::Read { path, .. }
+        | Command::List { path }
+        | Command::Meta { path }
+        | Command::Remove { path }
+        | Command::PatchProps { path, .. }
+        | Command::GetProps { path, .. }
+        | Command::GetProp { path, .. } => Some((path, path)),
+        Command::Move { from, to } | Command::Copy { from, to } => Some((from, to)),
+        _ => None,
+    }
 }
 
 // A `Meta` of both ends of a request; it leaves the state from which the request starts.
@@ -63,30 +89,26 @@ fn known_of<R: Rng>(
         ≡ start_of (request_of request.entry.now) (state_of stores.old (R.stream rng.old)) }
     ensures map { stores.new.map ≡ stores.old.map }
 {
-    let (source, target) = match &request.command {
-        Command::Put { path, .. } => (path, path),
-        Command::Move { from, to } | Command::Copy { from, to } => (from, to),
-        _ => {
-            return Ok(Known {
-                source: false,
-                target: false,
-            });
-        }
+    let Some((source, target)) = ends_of(&request.command) else {
+        return Ok(Known {
+            source: Found::Missing,
+            target: Found::Missing,
+        });
     };
     Ok(Known {
-        source: is_there(alloc, stores, source, request, rng)?,
-        target: is_there(alloc, stores, target, request, rng)?,
+        source: found_at(alloc, stores, source, request, rng)?,
+        target: found_at(alloc, stores, target, request, rng)?,
     })
 }
 
-// Whether something stands at a path.
-fn is_there<R: Rng>(
+// What stands at a path.
+fn found_at<R: Rng>(
     alloc: Global,
     stores: &mut Guarded,
     path: &DavPath,
     request: &Request,
     rng: &mut R,
-) -> Result<bool, AllocError>
+) -> Result<Found, AllocError>
     ensures start { start_of (request_of request.entry.now) (state_of stores.new (R.stream rng.new))
         ≡ start_of (request_of request.entry.now) (state_of stores.old (R.stream rng.old)) }
     ensures map { stores.new.map ≡ stores.old.map }
@@ -98,15 +120,24 @@ fn is_there<R: Rng>(
         now: request.now,
         command: Command::Meta { path },
     };
-    Ok(stores.apply(&asked, rng).is_ok())
+    let answer = stores.apply(&asked, rng);
+    Ok(found_by(&answer))
 }
 
-// A move onto its own place (RFC 4918 section 9.9.4).
+fn found_by(answer: &Result<Reply, Refusal>) -> Found {
+    match answer {
+        Ok(_) => Found::There,
+        Err(Refusal::Fs(FsError::Forbidden)) => Found::BelowFile,
+        Err(_) => Found::Missing,
+    }
+}
+
+// A move or a copy onto its own place (RFC 4918 sections 9.8.5 and 9.9.4).
 fn is_onto_itself(command: &Command) -> bool
     ensures { result ≡ is_onto_itself command.now }
 {
     match command {
-        Command::Move { from, to } => from == to,
+        Command::Move { from, to } | Command::Copy { from, to } => from == to,
         _ => false,
     }
 }
@@ -117,9 +148,8 @@ fn done(command: &Command, known: Known) -> StatusCode
 {
     match command {
         Command::MkCol { .. } => StatusCode::CREATED,
-        Command::Put { .. } | Command::Move { .. } | Command::Copy { .. } if !known.target => {
-            StatusCode::CREATED
-        }
+        Command::Put { .. } | Command::Move { .. } | Command::Copy { .. }
+            if known.target != Found::There => { StatusCode::CREATED }
         Command::Put { .. }
         | Command::Move { .. }
         | Command::Copy { .. }
@@ -148,19 +178,23 @@ fn refused(command: &Command, refusal: &Refusal, known: Known) -> StatusCode
     }
 }
 
-// The status of a refusal by the files: what a missing parent, and a folder in place of a file, are to a client.
+// The status of a refusal by the files: what a missing parent, a file above, and a folder in place of a file are to a client.
 fn refused_by_files(command: &Command, error: FsError, known: Known) -> StatusCode
     ensures storage { error ≡ FsError.InsufficientStorage → result ≡ 507 }
     ensures not_locked { result ≡ 423 → ⊥ }
 {
     match (command, error) {
-        (Command::Put { .. } | Command::MkCol { .. }, FsError::NotFound) => StatusCode::CONFLICT,
-        (Command::Move { .. } | Command::Copy { .. }, FsError::NotFound) if known.source => {
-            StatusCode::CONFLICT
-        }
-        (Command::Put { .. }, FsError::Forbidden) if known.target => {
+        (Command::Put { .. }, FsError::Forbidden) if known.target == Found::There => {
             StatusCode::METHOD_NOT_ALLOWED
         }
+        (Command::Put { .. } | Command::MkCol { .. }, FsError::NotFound | FsError::Forbidden) => {
+            StatusCode::CONFLICT
+        }
+        (_, FsError::Forbidden) if known.source == Found::BelowFile => StatusCode::NOT_FOUND,
+        (Command::Move { .. } | Command::Copy { .. }, FsError::NotFound)
+            if known.source == Found::There => { StatusCode::CONFLICT }
+        (Command::Move { .. } | Command::Copy { .. }, FsError::Forbidden)
+            if known.target == Found::BelowFile => { StatusCode::CONFLICT }
         _ => error.status(),
     }
 }
@@ -177,7 +211,12 @@ mod tests {
     // Requests in order, each with its status.
     const ROWS: &str = "put /a = 201
 put /a = 204
-put /a/b = 403
+put /a/b = 409
+mkcol /a/b = 409
+get /a/b = 404
+delete /a/b = 404
+get /a = 200
+get /x = 404
 put /d/x = 409
 mkcol /d = 201
 mkcol /d = 405
@@ -187,6 +226,19 @@ delete /x = 404
 move /x /y = 404
 move /a /y/z = 409
 move /a /a = 403
+copy /a /a = 403
+copy /a /a/b = 409
+move /a /a/b = 409
+mkcol /e = 201
+move /e /e/b = 403
+put /b = 201
+move /e /b/c = 409
+move /b/c /e/c = 404
+copy /b/c /e/c = 404
+copy /b /e = 403
+move / /e/f = 403
+delete /b = 204
+delete /e = 204
 move /a /d/x = 201
 put /a = 201
 move /a /d/x = 204
@@ -204,11 +256,19 @@ delete /f = 204";
     fn command_of(alloc: Global, row: &str) -> Result<Command, Fail> {
         let (word, paths) = row.split_once(' ').ok_or("no path")?;
         match paths.split_once(' ') {
-            Some((from, to)) => Ok(Command::Move {
-                from: DavPath::new(alloc, from)?,
-                to: DavPath::new(alloc, to)?,
-            }),
+            Some((from, to)) => Ok(command_between(
+                word,
+                DavPath::new(alloc, from)?,
+                DavPath::new(alloc, to)?,
+            )),
             None => Ok(command_at(word, DavPath::new(alloc, paths)?).ok_or("no such word")?),
+        }
+    }
+
+    fn command_between(word: &str, from: DavPath, to: DavPath) -> Command {
+        match word {
+            "copy" => Command::Copy { from, to },
+            _ => Command::Move { from, to },
         }
     }
 
@@ -217,6 +277,11 @@ delete /f = 204";
             "put" => Some(Command::Put {
                 path,
                 bytes: Bytes::new(),
+            }),
+            "get" => Some(Command::Read {
+                path,
+                at: 0,
+                count: 9,
             }),
             "mkcol" => Some(Command::MkCol { path }),
             "delete" => Some(Command::Remove { path }),

@@ -1,14 +1,14 @@
 //! Headers of a COPY, read.
-ghost use Rattle.std.specs.Prelude.{◌≡◌, ◌≢◌, [], true, Ok};
-ghost use Rattle.dav_headers_core.specs.declared.davheaders.depths.Depth.TheVariants as Depth;
+ghost use Rattle.std.specs.Prelude.{◌≡◌};
+ghost use Rattle.dav_headers_core.specs.Gives.{exactly};
+ghost use Rattle.uses.specs.Copies as spec;
 
 use dav_resource_core::davheaders::{Depth, HeaderError, Overwrite};
 use http_header::HeaderValue;
 
 /// How far down a COPY reaches (RFC 4918 section 9.8.3): all the way without a `Depth`; a depth of one is `Invalid`.
 pub fn copy_depth(values: &[HeaderValue]) -> Result<Depth, HeaderError>
-    ensures without { values.now ≡ [] → result ≡ Ok Depth.Infinity }
-    ensures never_one { result ≢ Ok Depth.One }
+    ensures { result ≡ exactly (spec.copy_depth values.now) }
 {
     if values.is_empty() {
         return Ok(Depth::Infinity);
@@ -21,7 +21,7 @@ pub fn copy_depth(values: &[HeaderValue]) -> Result<Depth, HeaderError>
 
 /// Whether a COPY may replace what stands at its destination (RFC 4918 section 10.6): it may without an `Overwrite`.
 pub fn may_overwrite(values: &[HeaderValue]) -> Result<bool, HeaderError>
-    ensures { values.now ≡ [] → result ≡ Ok true }
+    ensures { result ≡ exactly (spec.may_overwrite values.now) }
 {
     if values.is_empty() {
         return Ok(true);

@@ -5,8 +5,8 @@ use Rattle.dav_resource_core.specs.Requests.{Command, Request}
 use Rattle.dav_resource_core.specs.Served.{request_of, answer_of}
 use Rattle.dav_resource_core.specs.Stores.{state_of}
 use Rattle.uses.proofs.Asking.{asked_alone, asked_before}
-use Rattle.uses.proofs.handling.is_there.Given.{Over}
-use Rattle.uses.proofs.handling.is_there.Goals as goal
+use Rattle.uses.proofs.handling.found_at.Given.{Over}
+use Rattle.uses.proofs.handling.found_at.Goals as goal
 
 -- the question
 abbrev asked : (g : Over) → goal.Joined-asked-2 g → Request
@@ -19,10 +19,10 @@ asked g c = record {
 
 pub returns-clause-start : goal.returns-clause-start
 returns-clause-start g c =
-    asked_before (state_of c.args.stores.now (g.R.Rng.stream c.args.rng.now)) (state_of c.apply.new.self (g.R.Rng.stream c.apply.new.rng))
-    (request_of c.args.request.now) (asked g c) (segments c.in_ok-path.path.bytes) (answer_of c.apply.result) refl refl c.apply.ensures.step
+    asked_before (state_of c.args.stores.now (g.R.Rng.stream c.args.rng.now)) (state_of c.apply-answer.new.self (g.R.Rng.stream c.apply-answer.new.rng))
+    (request_of c.args.request.now) (asked g c) (segments c.in_ok-path.path.bytes) (answer_of c.apply-answer.result) refl refl c.apply-answer.ensures.step
 
 pub returns-clause-map : goal.returns-clause-map
 returns-clause-map g c =
-    (asked_alone (state_of c.args.stores.now (g.R.Rng.stream c.args.rng.now)) (state_of c.apply.new.self (g.R.Rng.stream c.apply.new.rng))
-    (asked g c) (segments c.in_ok-path.path.bytes) (answer_of c.apply.result) refl c.apply.ensures.step).map_is
+    (asked_alone (state_of c.args.stores.now (g.R.Rng.stream c.args.rng.now)) (state_of c.apply-answer.new.self (g.R.Rng.stream c.apply-answer.new.rng))
+    (asked g c) (segments c.in_ok-path.path.bytes) (answer_of c.apply-answer.result) refl c.apply-answer.ensures.step).map_is

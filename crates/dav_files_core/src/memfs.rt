@@ -1,4 +1,6 @@
-//! Files in memory.
+//! Files in memory. What a clause sees of a `MemFs` is its resource map: a finite map from paths to folders and files, with the next number
+//! (`ResourceMap`). Its calls are those of `DavFileSystem`, in the module `files`, and `put`.
+//! Read `put` first, and then `open` in `files`.
 ghost use Rattle.std.specs.Prelude.{◌≡◌, ◌∷◌, ◌++◌, [], Some, IfOk, MatchResult};
 ghost use Rattle.dav_path_core.specs.Segments.{segments};
 ghost use Rattle.dav_path_core.specs.Answers.{AnswersAs};
@@ -6,6 +8,7 @@ ghost use Rattle.dav_files_core.specs.Outcomes.{start};
 ghost use Rattle.dav_files_core.specs.Commands.{metadata, put};
 ghost use Rattle.dav_files_core.specs.Meta.{meta_of};
 ghost use Rattle.dav_files_core.specs.Resources.{Resource, IsResourceMap, at_path};
+ghost use Rattle.dav_files_core.specs.Private.Entries.{HasNumber};
 ghost use Rattle.dav_files_core.specs.Private.TreeCalls.{number_of, LeadsTo};
 ghost use Rattle.dav_path_core.specs.Fronts.{Path};
 
@@ -24,7 +27,7 @@ use dav_path_core::davpath::DavPath;
 use dav_path_core::errors::{FsError, FsResult};
 use dav_path_core::tree::{ROOT_ID, Tree};
 pub use listing::MemFsEntry;
-use nodes::{Node, add_node, member_of, node_of, write_file};
+use nodes::{Node, member_of, node_of};
 pub use opening::MemFsFile;
 use std::alloc::Global;
 use std::marker::Model;
@@ -94,6 +97,7 @@ impl MemFs {
     // The number of what is at a path.
     fn number_of(&self, path: &DavPath) -> FsResult<u64>
         ensures found { result ≡ number_of self.now (segments path.now.bytes) }
+        ensures number { IfOk result (HasNumber self.now) }
         ensures shape { IsResourceMap self.now }
     {
         match self.target_of(path)? {
@@ -145,21 +149,16 @@ impl MemFs {
         let content = copy_of(self.alloc, bytes)?;
         match self.target_of(path)? {
             Target::Entry(id) => {
-                if !node_of(&self.tree, id)?.is_file() {
+                if !self.node_at(id).is_file() {
                     return Err(FsError::Forbidden);
                 }
-                write_file(&mut self.tree, id, content, now)?;
-                return Ok(());
+                self.write(id, content, now);
+                Ok(())
             }
             Target::Missing { folder, name } => {
-                let name = Bytes::copy_from_slice(self.alloc, name)?;
-                add_node(
-                    &mut self.tree,
-                    folder,
-                    name,
-                    Node::new_file(self.alloc, content, now),
-                )?;
-                return Ok(());
+                let node = Node::new_file(self.alloc, content, now);
+                self.add_entry(folder, name, node)?;
+                Ok(())
             }
         }
     }
@@ -173,8 +172,7 @@ impl MemFs {
             (λ e. metadata self.now (segments path.now.bytes) ≡ Err e) }
     {
         let id = self.number_of(path)?;
-        let node = node_of(&self.tree, id)?;
-        Ok(node.meta())
+        Ok(self.node_at(id).meta())
     }
 }
 

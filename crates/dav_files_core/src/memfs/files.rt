@@ -39,32 +39,37 @@ impl MemFs {
         Ok(())
     }
 
-    // Makes a folder.
-    fn make_folder(&mut self, path: &DavPath, now: Moment) -> FsResult<()>
-        ensures answer { AnswersAs (λ _. tt) result (create_dir self.old (segments path.now.bytes) now.0) self.old self.new }
-        ensures shape { IsResourceMap self.new }
+    // The number of the folder in which a path stands, whether or not something is there; the root stands in none.
+    fn folder_at(&self, path: &DavPath) -> FsResult<Option<u64>>
+        ensures { FindsFolder self.now (segments path.now.bytes) result }
     {
         match self.target_of(path)? {
-            Target::Entry(_) => return Err(FsError::Exists),
-            Target::Missing { folder, name } => {
-                let node = Node::new_folder(self.alloc, now);
-                self.add_entry(folder, name, node)?;
-                self.touch(folder, now);
-                return Ok(());
-            }
+            Target::Missing { folder, .. } => Ok(Some(folder)),
+            Target::Entry(id) => Ok(self.folder_of(id)),
         }
     }
+}
 
-    // Opens what is at a path.
-    fn open_file(
-        &mut self,
-        path: &DavPath,
-        options: &OpenOptions,
-        now: Moment,
-    ) -> FsResult<MemFsFile>
-        ensures answer { AnswersAs (λ f. f) result (opening self.old (segments path.now.bytes) options.now now.0) self.old self.new }
+impl DavFileSystem for MemFs {
+    type File = MemFsFile;
+
+    type Meta = MemFsMeta;
+
+    type Entry = MemFsEntry;
+
+    ghost contents = { λ m. m };
+
+    ghost opened = { λ f. f };
+
+    ghost told = { meta_of };
+
+    ghost listed = { member_of };
+
+    /// It takes no memory where something stands at the path.
+    fn open(&mut self, path: &DavPath, options: OpenOptions, now: Moment) -> FsResult<MemFsFile>
+        ensures answer { AnswersAs (λ f. f) result (opening self.old (segments path.now.bytes) options now.0) self.old self.new }
         ensures known { IsSome (at_path self.old (segments path.now.bytes))
-            → AnswersExactly (λ f. f) result (opening self.old (segments path.now.bytes) options.now now.0) self.old self.new }
+            → AnswersExactly (λ f. f) result (opening self.old (segments path.now.bytes) options now.0) self.old self.new }
         ensures shape { IsResourceMap self.new }
     {
         match self.target_of(path)? {
@@ -99,91 +104,16 @@ impl MemFs {
         }
     }
 
-    // Copies one entry.
-    fn copy_entry(&mut self, from: &DavPath, to: &DavPath, now: Moment) -> FsResult<()>
-        ensures answer { AnswersAs (λ _. tt) result (copy self.old (segments from.now.bytes) (segments to.now.bytes) now.0) self.old self.new }
-        ensures shape { IsResourceMap self.new }
-    {
-        let source = self.number_of(from)?;
-        let target = self.target_of(to)?;
-        let node = self.node_at(source).made_at(self.alloc, now)?;
-        match target {
-            Target::Entry(id) => {
-                if !self.node_at(id).is_file() {
-                    return Err(FsError::Forbidden);
-                }
-                self.replace(id, node);
-                return Ok(());
-            }
-            Target::Missing { folder, name } => {
-                self.add_entry(folder, name, node)?;
-                return Ok(());
-            }
-        }
-    }
-
-    // Puts an entry, with all below it, at another path.
-    fn move_entry(&mut self, from: &DavPath, to: &DavPath, now: Moment) -> FsResult<()>
-        ensures answer { AnswersAs (λ _. tt) result (rename self.old (segments from.now.bytes) (segments to.now.bytes) now.0) self.old self.new }
-        ensures shape { IsResourceMap self.new }
-    {
-        let source = self.number_of(from)?;
-        let Some(folder) = self.folder_at(to)? else {
-            return Err(if source == ROOT_ID {
-                FsError::Forbidden
-            } else {
-                FsError::Exists
-            });
-        };
-        let above = self.folder_of(source);
-        self.relocate(source, folder, to.file_name_bytes())?;
-        let Some(above) = above else { unreachable!() };
-        self.touch(above, now);
-        self.touch(folder, now);
-        Ok(())
-    }
-
-    // The number of the folder in which a path stands, whether or not something is there; the root stands in none.
-    fn folder_at(&self, path: &DavPath) -> FsResult<Option<u64>>
-        ensures { FindsFolder self.now (segments path.now.bytes) result }
-    {
-        match self.target_of(path)? {
-            Target::Missing { folder, .. } => Ok(Some(folder)),
-            Target::Entry(id) => Ok(self.folder_of(id)),
-        }
-    }
-}
-
-impl DavFileSystem for MemFs {
-    type File = MemFsFile;
-
-    type Meta = MemFsMeta;
-
-    type Entry = MemFsEntry;
-
-    ghost contents = { λ m. m };
-
-    ghost opened = { λ f. f };
-
-    ghost told = { meta_of };
-
-    ghost listed = { member_of };
-
-    /// It takes no memory where something stands at the path.
-    fn open(&mut self, path: &DavPath, options: OpenOptions, now: Moment) -> FsResult<MemFsFile>
-        ensures answer { AnswersAs (λ f. f) result (opening self.old (segments path.now.bytes) options now.0) self.old self.new }
-        ensures known { IsSome (at_path self.old (segments path.now.bytes))
-            → AnswersExactly (λ f. f) result (opening self.old (segments path.now.bytes) options now.0) self.old self.new }
-        ensures shape { IsResourceMap self.new }
-    {
-        self.open_file(path, &options, now)
-    }
-
     /// As finding refuses; `Forbidden` for a file; `InsufficientStorage` where it is out of memory.
     fn read_dir(&self, path: &DavPath, meta: ReadDirMeta) -> FsResult<Vec<MemFsEntry>>
         ensures { Tells (λ v. map member_of v.items) result (read_dir self.now (segments path.now.bytes)) }
     {
-        self.list(path)
+        let id = self.number_of(path)?;
+        if self.node_at(id).is_file() {
+            return Err(FsError::Forbidden);
+        }
+        let members = self.members_of(id)?;
+        self.described(members)
     }
 
     /// It takes no memory.
@@ -206,7 +136,15 @@ impl DavFileSystem for MemFs {
         ensures answer { AnswersAs (λ _. tt) result (create_dir self.old (segments path.now.bytes) now.0) self.old self.new }
         ensures shape { IsResourceMap self.new }
     {
-        self.make_folder(path, now)
+        match self.target_of(path)? {
+            Target::Entry(_) => return Err(FsError::Exists),
+            Target::Missing { folder, name } => {
+                let node = Node::new_folder(self.alloc, now);
+                self.add_entry(folder, name, node)?;
+                self.touch(folder, now);
+                return Ok(());
+            }
+        }
     }
 
     /// It takes no memory. A file is removed, too.
@@ -232,7 +170,20 @@ impl DavFileSystem for MemFs {
         ensures answer { AnswersAs (λ _. tt) result (rename self.old (segments from.now.bytes) (segments to.now.bytes) now.0) self.old self.new }
         ensures shape { IsResourceMap self.new }
     {
-        self.move_entry(from, to, now)
+        let source = self.number_of(from)?;
+        let Some(folder) = self.folder_at(to)? else {
+            return Err(if source == ROOT_ID {
+                FsError::Forbidden
+            } else {
+                FsError::Exists
+            });
+        };
+        let above = self.folder_of(source);
+        self.relocate(source, folder, to.file_name_bytes())?;
+        let Some(above) = above else { unreachable!() };
+        self.touch(above, now);
+        self.touch(folder, now);
+        Ok(())
     }
 
     /// The source as finding refuses; `Forbidden` for a folder as the target; for a missing target its folder as finding refuses, and
@@ -241,7 +192,22 @@ impl DavFileSystem for MemFs {
         ensures answer { AnswersAs (λ _. tt) result (copy self.old (segments from.now.bytes) (segments to.now.bytes) now.0) self.old self.new }
         ensures shape { IsResourceMap self.new }
     {
-        self.copy_entry(from, to, now)
+        let source = self.number_of(from)?;
+        let target = self.target_of(to)?;
+        let node = self.node_at(source).made_at(self.alloc, now)?;
+        match target {
+            Target::Entry(id) => {
+                if !self.node_at(id).is_file() {
+                    return Err(FsError::Forbidden);
+                }
+                self.replace(id, node);
+                return Ok(());
+            }
+            Target::Missing { folder, name } => {
+                self.add_entry(folder, name, node)?;
+                return Ok(());
+            }
+        }
     }
 
     /// Not offered.
@@ -276,14 +242,19 @@ impl DavFileSystem for MemFs {
         ensures answer { AnswersAs (λ v. map answer_of v.items) result (patch_props self.old (segments path.now.bytes) (map entry_of patch.items)) self.old self.new }
         ensures shape { IsResourceMap self.new }
     {
-        self.patch(path, patch)
+        let id = self.number_of(path)?;
+        let mut props = self.node_at(id).props.clone()?;
+        let answers = props.patch(self.alloc, patch)?;
+        self.set_props(id, props);
+        Ok(answers)
     }
 
     /// The path as finding refuses; `InsufficientStorage` where it is out of memory.
     fn get_props(&self, path: &DavPath, do_content: bool) -> FsResult<Vec<DavProp>>
         ensures { Tells (λ v. map property_of v.items) result (get_props self.now (segments path.now.bytes) do_content) }
     {
-        self.properties(path, do_content)
+        let id = self.number_of(path)?;
+        self.node_at(id).props.list(self.alloc, do_content)
     }
 
     /// The path as finding refuses, then `NotFound` without such a property, or without its xml; `InsufficientStorage` where it is
@@ -291,7 +262,8 @@ impl DavFileSystem for MemFs {
     fn get_prop(&self, path: &DavPath, prop: &DavProp) -> FsResult<Vec<u8>>
         ensures { Tells (λ v. v.items) result (get_prop self.now (segments path.now.bytes) (property_of prop.now)) }
     {
-        self.property(path, prop)
+        let id = self.number_of(path)?;
+        self.node_at(id).props.xml_of(self.alloc, prop)
     }
 
     /// Not offered.

@@ -59,20 +59,8 @@ impl DavDirEntry for MemFsEntry {
 }
 
 impl MemFs {
-    // The members of a folder.
-    pub(super) fn list(&self, path: &DavPath) -> FsResult<Vec<MemFsEntry>>
-        ensures { Tells (λ v. map entry_of v.items) result (read_dir self.now (segments path.now.bytes)) }
-    {
-        let id = self.number_of(path)?;
-        if self.node_at(id).is_file() {
-            return Err(FsError::Forbidden);
-        }
-        let members = self.members_of(id)?;
-        self.described(members)
-    }
-
     // The names and numbers of what stands in a folder, sorted by the bytes of the names.
-    fn members_of(&self, id: u64) -> FsResult<Vec<(Bytes, u64)>>
+    pub(super) fn members_of(&self, id: u64) -> FsResult<Vec<(Bytes, u64)>>
         requires { HasNumber self.now id }
         ensures { MatchResult result
             (λ v. (p : Path) (r : Resource) → at_path self.now p ≡ Some r → r.number ≡ id → v.items ≡ map numbered (entries (members self.now p)))
@@ -84,7 +72,7 @@ impl MemFs {
     }
 
     // What is known of some entries, under their names.
-    fn described(&self, members: Vec<(Bytes, u64)>) -> FsResult<Vec<MemFsEntry>>
+    pub(super) fn described(&self, members: Vec<(Bytes, u64)>) -> FsResult<Vec<MemFsEntry>>
         requires { AllNumbers self.now members.items }
         ensures { MatchResult result (λ v. Described self.now members.items v.items) (λ e. e ≡ FsError.InsufficientStorage) }
     {

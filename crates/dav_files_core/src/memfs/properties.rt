@@ -8,10 +8,8 @@ ghost use Rattle.dav_path_core.specs.Segments.{segments};
 ghost use Rattle.dav_files_core.specs.Properties.{property_of, entry_of, answer_of, key_of, patched_by, patched, patch_answers, patch_props, shown, get_props, xml_of, get_prop};
 ghost use Rattle.dav_files_core.specs.Resources.{IsResourceMap};
 
-use super::MemFs;
 use crate::fs::DavProp;
 use bytes::Bytes;
-use dav_path_core::davpath::DavPath;
 use dav_path_core::errors::{FsError, FsResult};
 use http::StatusCode;
 use std::alloc::{AllocError, Global};
@@ -58,7 +56,7 @@ impl Props {
     }
 
     // Sets and removes, one after another, and answers for each. Refused, some may be set or removed already.
-    fn patch(
+    pub(super) fn patch(
         &mut self,
         alloc: Global,
         patch: Vec<(bool, DavProp)>,
@@ -98,7 +96,7 @@ impl Props {
     }
 
     // The xml of the one with the namespace and name of another.
-    fn xml_of(&self, alloc: Global, wanted: &DavProp) -> FsResult<Vec<u8>>
+    pub(super) fn xml_of(&self, alloc: Global, wanted: &DavProp) -> FsResult<Vec<u8>>
         ensures { Tells (λ v. v.items) result (ok_or (xml_of self.now (property_of wanted.now)) FsError.NotFound) }
     {
         let key = key_of(alloc, wanted)?;
@@ -171,38 +169,4 @@ fn key_of(alloc: Global, prop: &DavProp) -> FsResult<(Bytes, Bytes)>
     let namespace = Bytes::copy_from_slice(alloc, namespace.as_bytes())?;
     let name = Bytes::copy_from_slice(alloc, prop.name.as_str().as_bytes())?;
     Ok((namespace, name))
-}
-
-impl MemFs {
-    // Sets and removes properties, all or none.
-    pub(super) fn patch(
-        &mut self,
-        path: &DavPath,
-        patch: Vec<(bool, DavProp)>,
-    ) -> FsResult<Vec<(StatusCode, DavProp)>>
-        ensures answer { AnswersAs (λ v. map answer_of v.items) result (patch_props self.old (segments path.now.bytes) (map entry_of patch.items)) self.old self.new }
-        ensures shape { IsResourceMap self.new }
-    {
-        let id = self.number_of(path)?;
-        let mut props = self.node_at(id).props.clone()?;
-        let answers = props.patch(self.alloc, patch)?;
-        self.set_props(id, props);
-        Ok(answers)
-    }
-
-    // The properties of what is at a path.
-    pub(super) fn properties(&self, path: &DavPath, content: bool) -> FsResult<Vec<DavProp>>
-        ensures { Tells (λ v. map property_of v.items) result (get_props self.now (segments path.now.bytes) content) }
-    {
-        let id = self.number_of(path)?;
-        self.node_at(id).props.list(self.alloc, content)
-    }
-
-    // The xml of a property of what is at a path.
-    pub(super) fn property(&self, path: &DavPath, wanted: &DavProp) -> FsResult<Vec<u8>>
-        ensures { Tells (λ v. v.items) result (get_prop self.now (segments path.now.bytes) (property_of wanted.now)) }
-    {
-        let id = self.number_of(path)?;
-        self.node_at(id).props.xml_of(self.alloc, wanted)
-    }
 }

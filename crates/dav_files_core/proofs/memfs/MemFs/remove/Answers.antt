@@ -5,16 +5,6 @@ use Rattle.dav_files_core.proofs.Putting.{found_number}
 use Rattle.dav_files_core.proofs.Removing.{removed, folder_left}
 use Rattle.dav_files_core.proofs.memfs.MemFs.remove.Goals as goal
 
-pub folder_of-requires : goal.folder_of-requires
-folder_of-requires c =
-    let names = segments c.args.path.now.bytes in
-    let here = found_number c.args.self.now names c.in_ok-id.id c.in_ok-id.ensures.found in (names, here.0, here.1, here.2)
-
-pub take_out-requires : goal.take_out-requires
-take_out-requires c =
-    let names = segments c.args.path.now.bytes in
-    let here = found_number c.args.self.now names c.in_ok-id.id c.in_ok-id.ensures.found in (names, here.0, here.1, here.2)
-
 pub touch-requires : goal.touch-requires
 touch-requires c =
     let names = segments c.args.path.now.bytes in

@@ -4,20 +4,10 @@ use Rattle.dav_files_core.specs.Resources.{Node}
 use Rattle.dav_files_core.proofs.Describing.{members_known, listing_answer}
 use Rattle.dav_files_core.proofs.Putting.{found_number}
 use Rattle.dav_files_core.proofs.Walking.{not_file}
-use Rattle.dav_files_core.proofs.memfs.MemFs.list.Goals as goal
+use Rattle.dav_files_core.proofs.memfs.files.MemFsDavFileSystem.read_dir.Goals as goal
 
 not_true : ¬ (false ≡ true)
 not_true e = cc
-
-pub node_at-requires : goal.node_at-requires
-node_at-requires c =
-    let names = segments c.args.path.now.bytes in
-    let here = found_number c.args.self.now names c.in_ok-id.id c.in_ok-id.ensures.found in (names, here.0, here.1, here.2)
-
-pub members_of-requires : goal.members_of-requires
-members_of-requires c =
-    let names = segments c.args.path.now.bytes in
-    let here = found_number c.args.self.now names c.in_ok-id.id c.in_ok-id.ensures.found in (names, here.0, here.1, here.2)
 
 pub described-requires : goal.described-requires
 described-requires c =

@@ -6,7 +6,7 @@ use Rattle.dav_files_core.specs.Resources.{Node, ResourceMap, at_path}
 use Rattle.dav_files_core.proofs.Leads.{entry, missing}
 use Rattle.dav_files_core.proofs.Making.{made_taken, made_free, folder_stays}
 use Rattle.dav_files_core.proofs.Leads.{left_added}
-use Rattle.dav_files_core.proofs.memfs.MemFs.make_folder.Goals as goal
+use Rattle.dav_files_core.proofs.memfs.files.MemFsDavFileSystem.create_dir.Goals as goal
 
 pub returns-in-Entry-clause-answer : goal.returns-in-Entry-clause-answer
 returns-in-Entry-clause-answer c =

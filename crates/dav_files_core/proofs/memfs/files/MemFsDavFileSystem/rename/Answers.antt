@@ -10,23 +10,13 @@ use Rattle.dav_files_core.specs.Resources.{ResourceMap, at_path}
 use Rattle.dav_files_core.proofs.Found.{folder_there}
 use Rattle.dav_files_core.proofs.Putting.{found_number}
 use Rattle.dav_files_core.proofs.Renamed.{Target, away, put_named, rename_refused}
-use Rattle.dav_files_core.proofs.memfs.MemFs.move_entry.Goals as goal
+use Rattle.dav_files_core.proofs.memfs.files.MemFsDavFileSystem.rename.Goals as goal
 
 target_in : (m : ResourceMap) (p : Path) (o : Option ℕ) (folder : ℕ) → o ≡ Some folder → FindsFolder m p (Ok o) → Target m p folder
 target_in m p o folder is h = subst (λ (o : Option ℕ). FindsFolder m p (Ok o)) is h
 
 refused : (result : Result (Unit {0}) FsError) (e : FsError) (outcome : Outcome (Unit {0})) (old new : ResourceMap) → result ≡ Err e → AnswersAs {A = Unit {0}} (λ _. tt {0}) (Err e) outcome old new → AnswersAs {A = Unit {0}} (λ _. tt {0}) result outcome old new
 refused result e outcome old new is h = subst (λ (result : Result (Unit {0}) FsError). AnswersAs {A = Unit {0}} (λ _. tt {0}) result outcome old new) (sym is) h
-
-pub folder_of-above-requires : goal.folder_of-above-requires
-folder_of-above-requires c =
-    let names = segments c.args.from.now.bytes in
-    let here = found_number c.args.self.now names c.in_ok-source.source c.in_ok-source.ensures.found in (names, here.0, here.1, here.2)
-
-pub relocate-requires-clause-known : goal.relocate-requires-clause-known
-relocate-requires-clause-known c =
-    let names = segments c.args.from.now.bytes in
-    let here = found_number c.args.self.now names c.in_ok-source.source c.in_ok-source.ensures.found in (names, here.0, here.1, here.2)
 
 pub relocate-requires-clause-folder : goal.relocate-requires-clause-folder
 relocate-requires-clause-folder c =

@@ -1,0 +1,12 @@
+use Rattle.std.proofs.Common.{refl}
+use Rattle.dav_path_core.specs.Segments.{segments}
+use Rattle.dav_files_core.proofs.Leads.{entry_number, entry_file}
+use Rattle.dav_files_core.proofs.memfs.files.MemFsDavFileSystem.open.Goals as goal
+
+pub node_at-requires : goal.node_at-requires
+node_at-requires c = entry_number c.args.self.now (segments c.args.path.now.bytes) c.in_ok-number.field-0 c.in-Entry.number c.in-Entry.is c.in_ok-number.ensures.found
+
+pub write-requires : goal.write-requires
+write-requires c =
+    entry_file c.args.self.now (segments c.args.path.now.bytes) c.in_ok-number.field-0 c.in-Entry.number c.in-Entry.is c.in_ok-number.ensures.found
+    c.node_at.result.now c.node_at.ensures (c.if-not-is_file.ensures.0 refl)

@@ -14,7 +14,9 @@ use Rattle.dav_files_core.specs.declared.memfs.Kind.TheVariants.{Folder}
 use Rattle.dav_files_core.specs.Resources.{Property, Properties, Resource, ResourceMap, key_cmp}
 use Rattle.dav_files_core.specs.Finding.{find, members, place}
 use Rattle.dav_files_core.specs.Outcomes.{Outcome, ◌>>=◌, start, new_file, new_folder}
-use Rattle.dav_files_core.specs.Commands.{put, read_at, metadata}
+use Rattle.dav_files_core.specs.Describing.{metadata}
+use Rattle.dav_files_core.specs.Parts.{read_at}
+use Rattle.dav_files_core.specs.Putting.{put}
 use Rattle.dav_files_core.specs.Copying.{copy}
 use Rattle.dav_files_core.specs.Folders.{create_dir, remove as remove_at}
 use Rattle.dav_files_core.specs.Listing.{read_dir}
@@ -22,7 +24,7 @@ use Rattle.dav_files_core.specs.OpenFiles.{read_bytes, seek, write_bytes}
 use Rattle.dav_files_core.specs.Opening.{OpenFile, opening}
 use Rattle.dav_files_core.specs.Properties.{get_prop, get_props, patch_props}
 use Rattle.dav_files_core.specs.Renaming.{rename}
-use Rattle.dav_files_core.proofs.KeptProperties.{key_total}
+use Rattle.dav_files_core.proofs.properties.PropertyMapLemmas.{key_total}
 
 -- ---- finite maps that are written out
 

@@ -1,7 +1,7 @@
 pub mod Below
 pub mod Codes
-pub mod Commands
 pub mod Copying
+pub mod Describing
 pub mod Exactly
 pub mod Finding
 pub mod Folders
@@ -12,8 +12,10 @@ pub mod Moved
 pub mod OpenFiles
 pub mod Opening
 pub mod Outcomes
+pub mod Parts
 pub mod Private
 pub mod Properties
 pub mod PropertyXml
+pub mod Putting
 pub mod Renaming
 pub mod Resources

@@ -1,7 +1,7 @@
 -- Words that private contracts alone name.
 pub mod Entries
-pub mod Kept
 pub mod Listed
 pub mod Numbered
+pub mod PropertyMaps
 pub mod Represents
 pub mod TreeCalls

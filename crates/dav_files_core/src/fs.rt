@@ -1,7 +1,7 @@
 //! What calls on files share, and the traits of a file system.
 ghost use Rattle.std.specs.Prelude.{◌≡◌, ℕ, List, map, None, false, true, Ok, IfOk, OnErr, MatchResult};
 ghost use Rattle.dav_path_core.specs.Segments.{segments};
-ghost use Rattle.dav_files_core.specs.Commands.{metadata};
+ghost use Rattle.dav_files_core.specs.Describing.{metadata};
 ghost use Rattle.dav_files_core.specs.Copying.{copy};
 ghost use Rattle.dav_files_core.specs.Folders.{create_dir, remove};
 ghost use Rattle.dav_files_core.specs.Listing.{read_dir};

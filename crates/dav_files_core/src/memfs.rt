@@ -5,7 +5,8 @@ ghost use Rattle.std.specs.Prelude.{◌≡◌, ◌∷◌, ◌++◌, [], Some, If
 ghost use Rattle.dav_path_core.specs.Segments.{segments};
 ghost use Rattle.dav_path_core.specs.Answers.{AnswersAs};
 ghost use Rattle.dav_files_core.specs.Outcomes.{start};
-ghost use Rattle.dav_files_core.specs.Commands.{metadata, put};
+ghost use Rattle.dav_files_core.specs.Describing.{metadata};
+ghost use Rattle.dav_files_core.specs.Putting.{put};
 ghost use Rattle.dav_files_core.specs.Meta.{meta_of};
 ghost use Rattle.dav_files_core.specs.Resources.{Resource, IsResourceMap, at_path};
 ghost use Rattle.dav_files_core.specs.Private.Entries.{HasNumber};

@@ -8,8 +8,8 @@ use Rattle.dav_path_core.specs.Fronts.{Path, is_front, is_same_path}
 use Rattle.dav_path_core.proofs.paths.FrontLemmas.{is_front-refl}
 use Rattle.dav_files_core.specs.Resources.{at_path}
 use Rattle.dav_files_core.specs.Below.{is_below, SameBelow, AgreeBelow}
-use Rattle.dav_files_core.proofs.Agreeing.{not_front}
-use Rattle.dav_files_core.proofs.Fronts.{behind_append}
+use Rattle.dav_files_core.proofs.laws.AgreeingLemmas.{not_front}
+use Rattle.dav_files_core.proofs.paths.FrontLemmas.{behind_append}
 use Rattle.dav_locks_core.specs.Lock.{Lock}
 use Rattle.dav_locks_core.specs.Locks.{lock_path, is_at_or_below, without_below}
 use Rattle.dav_locks_core.specs.Stale.{is_stale, without_stale}

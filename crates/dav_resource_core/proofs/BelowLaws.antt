@@ -8,14 +8,16 @@ use Rattle.dav_path_core.specs.Fronts.{Path, is_front}
 use Rattle.dav_files_core.specs.Resources.{Property, ResourceMap, at_path}
 use Rattle.dav_files_core.specs.Below.{is_below, SameBelow, AgreeBelow, Alike, SameAnswer}
 use Rattle.dav_files_core.specs.Outcomes.{Outcome}
-use Rattle.dav_files_core.specs.Commands.{metadata, put, read_at, write_at}
+use Rattle.dav_files_core.specs.Describing.{metadata}
+use Rattle.dav_files_core.specs.Parts.{read_at, write_at}
+use Rattle.dav_files_core.specs.Putting.{put}
 use Rattle.dav_files_core.specs.Copying.{copy}
 use Rattle.dav_files_core.specs.Folders.{create_dir, remove}
 use Rattle.dav_files_core.specs.Listing.{read_dir}
 use Rattle.dav_files_core.specs.Properties.{patch_props, get_props, get_prop}
 use Rattle.dav_files_core.specs.Renaming.{rename}
-use Rattle.dav_files_core.proofs.Again.{put_grows, write_at_grows, create_dir_grows, remove_grows, rename_grows, copy_grows, patch_grows}
-use Rattle.dav_files_core.proofs.Agreeing.{inside, parent_front, put_alike, write_alike, create_dir_alike, remove_alike, rename_alike, copy_alike, patch_alike, read_same, read_dir_same, metadata_same, get_props_same, get_prop_same}
+use Rattle.dav_files_core.proofs.laws.AgainLemmas.{put_grows, write_at_grows, create_dir_grows, remove_grows, rename_grows, copy_grows, patch_grows}
+use Rattle.dav_files_core.proofs.laws.AgreeingLemmas.{inside, parent_front, put_alike, write_alike, create_dir_alike, remove_alike, rename_alike, copy_alike, patch_alike, read_same, read_dir_same, metadata_same, get_props_same, get_prop_same}
 use Rattle.dav_resource_core.specs.Requests.{Command, Reply, Bytes, Entries, Meta, Patched, Props, Value}
 use Rattle.dav_resource_core.specs.Checks.{Check, IsApart, has, shallow, member, target, checks}
 use Rattle.dav_resource_core.specs.ResourceStep.{is_on_map, DoesAs, changes, patches, tells, Does}

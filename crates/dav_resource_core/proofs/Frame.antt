@@ -9,13 +9,15 @@ use Rattle.dav_path_core.proofs.paths.FrontLemmas.{is_same_path-refl}
 use Rattle.dav_files_core.specs.Resources.{Property, ResourceMap}
 use Rattle.dav_files_core.specs.Finding.{place}
 use Rattle.dav_files_core.specs.Outcomes.{Outcome}
-use Rattle.dav_files_core.specs.Commands.{metadata, put, read_at, write_at}
+use Rattle.dav_files_core.specs.Describing.{metadata}
+use Rattle.dav_files_core.specs.Parts.{read_at, write_at}
+use Rattle.dav_files_core.specs.Putting.{put}
 use Rattle.dav_files_core.specs.Copying.{copy}
 use Rattle.dav_files_core.specs.Folders.{create_dir, remove}
 use Rattle.dav_files_core.specs.Listing.{read_dir}
 use Rattle.dav_files_core.specs.Properties.{patch_props, get_props, get_prop}
 use Rattle.dav_files_core.specs.Renaming.{rename}
-use Rattle.dav_files_core.proofs.Places.{put_places, copy_places, create_dir_places, remove_places, rename_places, write_places, patch_places}
+use Rattle.dav_files_core.proofs.laws.PlaceLemmas.{put_places, copy_places, create_dir_places, remove_places, rename_places, write_places, patch_places}
 use Rattle.dav_resource_core.specs.Requests.{Command, Reply, Done, Bytes, Entries, Meta, Patched, Props, Value}
 use Rattle.dav_resource_core.specs.Checks.{IsApart, has, is_reached, reached, shallow, member, target, checks}
 use Rattle.dav_resource_core.specs.ResourceStep.{changes, patches, tells, Does}

@@ -3,7 +3,9 @@ use Rattle.std.specs.Prelude.{◌≡◌, ℕ, List, Bool, true, false, Result, O
 use Rattle.dav_path_core.specs.declared.errors.FsError.{FsError}
 use Rattle.dav_files_core.specs.Resources.{Property, ResourceMap}
 use Rattle.dav_files_core.specs.Outcomes.{Outcome, ◌>>=◌}
-use Rattle.dav_files_core.specs.Commands.{metadata, put, read_at, write_at}
+use Rattle.dav_files_core.specs.Describing.{metadata}
+use Rattle.dav_files_core.specs.Parts.{read_at, write_at}
+use Rattle.dav_files_core.specs.Putting.{put}
 use Rattle.dav_files_core.specs.Copying.{copy}
 use Rattle.dav_files_core.specs.Folders.{create_dir, remove}
 use Rattle.dav_files_core.specs.Listing.{read_dir}

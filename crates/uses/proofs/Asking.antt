@@ -1,7 +1,7 @@
 -- A question leaves the state from which a request of its moment starts, and a refusal the locks that last.
 use Rattle.std.proofs.Common.{◌≡◌, inl, inr, Err, ap, ◌∙◌, subst}
 use Rattle.dav_path_core.specs.Fronts.{Path}
-use Rattle.dav_files_core.specs.Commands.{metadata}
+use Rattle.dav_files_core.specs.Describing.{metadata}
 use Rattle.dav_locks_core.specs.Stale.{without_stale}
 use Rattle.dav_locks_core.proofs.Expiring.{stale_once}
 use Rattle.dav_resource_core.specs.Requests.{Command, Request, Reply, Meta, Answer, Refusal, Fs, Locked, NoLock, OutOfMemory}

@@ -11,14 +11,14 @@ use Rattle.dav_files_core.specs.Moved.{moved}
 use Rattle.dav_files_core.specs.Outcomes.{added, touched, new_folder}
 use Rattle.dav_files_core.specs.Renaming.{rename, relocated}
 use Rattle.dav_files_core.specs.Resources.{Resource, ResourceMap, at_path, IsResourceMap}
-use Rattle.dav_files_core.proofs.Found.{parent-snoc}
-use Rattle.dav_files_core.proofs.Fronts.{behind_none}
-use Rattle.dav_files_core.proofs.HasMembers.{has_member}
-use Rattle.dav_files_core.proofs.Laws.{RenamedEntry, made_folder, renamed_entry, touched_other, touched_none, IsResourceMap-create_dir}
-use Rattle.dav_files_core.proofs.Lengths.{longer}
-use Rattle.dav_files_core.proofs.Moved.{moved_to, moved_from}
-use Rattle.dav_files_core.proofs.Moving.{front_there}
-use Rattle.dav_files_core.proofs.Renamed.{put}
+use Rattle.dav_files_core.proofs.walks.FoundLemmas.{parent-snoc}
+use Rattle.dav_files_core.proofs.paths.FrontLemmas.{behind_none}
+use Rattle.dav_files_core.proofs.walks.HasMembersLemmas.{has_member}
+use Rattle.dav_files_core.proofs.laws.DoneLemmas.{RenamedEntry, made_folder, renamed_entry, touched_other, touched_none, IsResourceMap-create_dir}
+use Rattle.dav_files_core.proofs.paths.LengthLemmas.{longer}
+use Rattle.dav_files_core.proofs.moves.MovedLemmas.{moved_to, moved_from}
+use Rattle.dav_files_core.proofs.moves.MovingLemmas.{front_there}
+use Rattle.dav_files_core.proofs.moves.RenamedLemmas.{put}
 
 module _ (m mid new : ResourceMap) (is_map : IsResourceMap m) (p : Path) (now : ℕ) (made : create_dir m p now ≡ Ok (tt, mid)) where
   abbrev folder : Resource

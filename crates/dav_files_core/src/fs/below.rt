@@ -2,7 +2,9 @@
 ghost use Rattle.std.specs.Prelude.{◌≡◌, ℕ, Bool, true, List, Option};
 ghost use Rattle.dav_path_core.specs.Fronts.{Path};
 ghost use Rattle.dav_files_core.specs.Below.{is_below, SeesBelow, TellsBelow};
-ghost use Rattle.dav_files_core.specs.Commands.{metadata, put, read_at, write_at};
+ghost use Rattle.dav_files_core.specs.Describing.{metadata};
+ghost use Rattle.dav_files_core.specs.Parts.{read_at, write_at};
+ghost use Rattle.dav_files_core.specs.Putting.{put};
 ghost use Rattle.dav_files_core.specs.Copying.{copy};
 ghost use Rattle.dav_files_core.specs.Folders.{create_dir, remove};
 ghost use Rattle.dav_files_core.specs.Listing.{read_dir};

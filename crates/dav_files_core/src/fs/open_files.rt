@@ -2,7 +2,7 @@
 ghost use Rattle.std.specs.Prelude.{◌≡◌, ℕ, Bool, List, [], Ok, IfOk, OnOk, OnErr};
 ghost use Rattle.dav_path_core.specs.Fronts.{Path};
 ghost use Rattle.dav_files_core.specs.declared.fs.OpenOptions.{OpenOptions};
-ghost use Rattle.dav_files_core.specs.Commands.{put};
+ghost use Rattle.dav_files_core.specs.Putting.{put};
 ghost use Rattle.dav_files_core.specs.Copying.{copy};
 ghost use Rattle.dav_files_core.specs.Folders.{create_dir, remove};
 ghost use Rattle.dav_files_core.specs.Following.{NeverAgain, TakesAlong};

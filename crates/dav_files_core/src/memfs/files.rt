@@ -2,7 +2,7 @@
 ghost use Rattle.std.specs.Prelude.{◌≡◌, Some, Ok, Err, IsSome, true, map};
 ghost use Rattle.dav_path_core.specs.Segments.{segments};
 ghost use Rattle.dav_path_core.specs.Answers.{AnswersAs, Tells};
-ghost use Rattle.dav_files_core.specs.Commands.{metadata};
+ghost use Rattle.dav_files_core.specs.Describing.{metadata};
 ghost use Rattle.dav_files_core.specs.Copying.{copy};
 ghost use Rattle.dav_files_core.specs.Exactly.{AnswersExactly, TellsExactly};
 ghost use Rattle.dav_files_core.specs.Folders.{create_dir, remove};

@@ -2,7 +2,7 @@
 ghost use Rattle.std.specs.Prelude.{◌≡◌, map, option_map, option_and_then, OnOk, MatchResult};
 ghost use Rattle.std.specs.Option.{ok_or};
 ghost use Rattle.std.specs.FinMap.{empty, get, insert, remove, values};
-ghost use Rattle.dav_files_core.specs.Private.Kept.{properties_of};
+ghost use Rattle.dav_files_core.specs.Private.PropertyMaps.{properties_of};
 ghost use Rattle.dav_path_core.specs.Answers.{AnswersAs, Tells};
 ghost use Rattle.dav_path_core.specs.Segments.{segments};
 ghost use Rattle.dav_files_core.specs.Properties.{property_of, entry_of, answer_of, key_of, patched_by, patched, patch_answers, patch_props, shown, get_props, xml_of, get_prop};
@@ -25,7 +25,7 @@ pub(super) struct Props {
 impl Model for Props {
     ghost use Rattle.dav_files_core.specs.Resources.{Properties};
     ghost use Rattle.dav_files_core.specs.Codes.{coded_properties};
-    ghost use Rattle.dav_files_core.specs.Private.Kept.{properties_of};
+    ghost use Rattle.dav_files_core.specs.Private.PropertyMaps.{properties_of};
 
     ghost Value = { Properties };
 

@@ -2,7 +2,7 @@
 ghost use Rattle.std.specs.Prelude.{◌≡◌, true, map, MatchResult};
 ghost use Rattle.dav_path_core.specs.Answers.{AnswersAs, Tells};
 ghost use Rattle.dav_path_core.specs.Segments.{segments};
-ghost use Rattle.dav_files_core.specs.Commands.{read_at, write_at};
+ghost use Rattle.dav_files_core.specs.Parts.{read_at, write_at};
 ghost use Rattle.dav_files_core.specs.Properties.{entry_of};
 ghost use Rattle.dav_files_core.specs.Resources.{IsResourceMap};
 ghost use Rattle.dav_resource_core.specs.ResourceStep.{is_on_map};

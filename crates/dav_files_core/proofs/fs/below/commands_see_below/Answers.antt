@@ -1,4 +1,4 @@
-use Rattle.dav_files_core.proofs.Agreeing.{inside, put_alike, write_alike, create_dir_alike, remove_alike, rename_alike, copy_alike, patch_alike, read_same, read_dir_same, metadata_same, get_props_same, get_prop_same}
+use Rattle.dav_files_core.proofs.laws.AgreeingLemmas.{inside, put_alike, write_alike, create_dir_alike, remove_alike, rename_alike, copy_alike, patch_alike, read_same, read_dir_same, metadata_same, get_props_same, get_prop_same}
 use Rattle.dav_files_core.proofs.fs.below.commands_see_below.Goals as goal
 
 pub returns-clause-put : goal.returns-clause-put

@@ -1,4 +1,4 @@
-use Rattle.dav_files_core.proofs.Again.{put_never, create_dir_never, remove_never, rename_never, copy_never, opening_never, patch_never, write_never}
+use Rattle.dav_files_core.proofs.laws.AgainLemmas.{put_never, create_dir_never, remove_never, rename_never, copy_never, opening_never, patch_never, write_never}
 use Rattle.dav_files_core.proofs.fs.open_files.numbers_are_given_once.Goals as goal
 
 pub returns-clause-put : goal.returns-clause-put

@@ -1,4 +1,4 @@
-use Rattle.dav_files_core.proofs.Following.{takes_along}
+use Rattle.dav_files_core.proofs.laws.FollowingLemmas.{takes_along}
 use Rattle.dav_files_core.proofs.fs.open_files.open_files_follow.Goals as goal
 
 pub returns : goal.returns

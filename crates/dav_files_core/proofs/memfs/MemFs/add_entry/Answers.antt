@@ -1,6 +1,6 @@
 use Rattle.std.proofs.Common.{Ok, sym, ap, ◌∙◌}
 use Rattle.dav_files_core.specs.Outcomes.{added}
-use Rattle.dav_files_core.proofs.Stepping.{stands_for, stands_itself, is_view, folder_known, no_member, with_node}
+use Rattle.dav_files_core.proofs.changes.LeftLemmas.{stands_for, stands_itself, is_view, folder_known, no_member, with_node}
 use Rattle.dav_files_core.proofs.memfs.MemFs.add_entry.Goals as goal
 
 pub add_node-requires-clause-known : goal.add_node-requires-clause-known

@@ -5,7 +5,7 @@ use Rattle.dav_path_core.specs.Fronts.{Segment}
 use Rattle.dav_files_core.specs.Meta.{meta_at}
 use Rattle.dav_files_core.specs.Private.Entries.{HasNumber}
 use Rattle.dav_files_core.specs.Private.Listed.{Described}
-use Rattle.dav_files_core.proofs.Describing.{number_at, Described-push}
+use Rattle.dav_files_core.proofs.listings.DescribingLemmas.{number_at, Described-push}
 use Rattle.dav_files_core.proofs.memfs.MemFs.described.Goals as goal
 
 pub node_at-requires : goal.node_at-requires

@@ -1,7 +1,7 @@
 use Rattle.dav_path_core.specs.Fronts.{parent}
 use Rattle.dav_path_core.specs.Segments.{segments}
-use Rattle.dav_files_core.proofs.Leads.{entry, missing}
-use Rattle.dav_files_core.proofs.Renamed.{finds_folder}
+use Rattle.dav_files_core.proofs.walks.LeadLemmas.{entry, missing}
+use Rattle.dav_files_core.proofs.moves.RenamedLemmas.{finds_folder}
 use Rattle.dav_files_core.proofs.memfs.MemFs.folder_at.Goals as goal
 
 pub folder_of-requires : goal.folder_of-requires

@@ -1,5 +1,5 @@
-use Rattle.dav_files_core.proofs.Above.{parent_known, stands_in}
-use Rattle.dav_files_core.proofs.Stepping.{stands_for}
+use Rattle.dav_files_core.proofs.walks.AboveLemmas.{parent_known, stands_in}
+use Rattle.dav_files_core.proofs.changes.LeftLemmas.{stands_for}
 use Rattle.dav_files_core.proofs.memfs.MemFs.folder_of.Goals as goal
 
 pub unreachable-requires : goal.unreachable-requires

@@ -4,9 +4,9 @@ use Rattle.std.proofs.lemmas.Iterator.Consumers.{YieldsList-from_first}
 use Rattle.std.proofs.lemmas.Result.{err_from_is_err_and}
 use Rattle.dav_path_core.specs.declared.errors.FsError.{FsError}
 use Rattle.dav_path_core.specs.declared.errors.FsError.TheVariants.{InsufficientStorage}
-use Rattle.dav_files_core.proofs.Leaving.{known}
-use Rattle.dav_files_core.proofs.Listed.{Pair, are_members}
-use Rattle.dav_files_core.proofs.Stepping.{stands_for}
+use Rattle.dav_files_core.proofs.changes.LeavingLemmas.{known}
+use Rattle.dav_files_core.proofs.listings.ListedLemmas.{Pair, are_members}
+use Rattle.dav_files_core.proofs.changes.LeftLemmas.{stands_for}
 use Rattle.dav_files_core.proofs.memfs.MemFs.members_of.Goals as goal
 
 refused : {A : Type 0} (P : A → Type 0) (e : FsError) (r : Result A FsError) → r ≡ Err e → e ≡ InsufficientStorage → MatchResult r P (λ e. e ≡ InsufficientStorage)

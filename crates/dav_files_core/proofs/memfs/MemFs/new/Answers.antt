@@ -3,8 +3,8 @@ use Rattle.dav_path_core.specs.Keyed.{lone}
 use Rattle.dav_files_core.specs.Private.Represents.{Represents, FileTree}
 use Rattle.dav_files_core.specs.Outcomes.{start, new_folder}
 use Rattle.dav_files_core.specs.Resources.{Node}
-use Rattle.dav_files_core.proofs.Started.{Represents-single}
-use Rattle.dav_files_core.proofs.Stepping.{stands_itself, is_view}
+use Rattle.dav_files_core.proofs.walks.StartLemmas.{Represents-single}
+use Rattle.dav_files_core.proofs.changes.LeftLemmas.{stands_itself, is_view}
 use Rattle.dav_files_core.proofs.memfs.MemFs.new.Goals as goal
 
 -- what the new tree stands for

@@ -1,5 +1,5 @@
 use Rattle.std.proofs.Common.{sym, ◌∙◌}
-use Rattle.dav_files_core.proofs.Stepping.{stands_for, lost, item_is}
+use Rattle.dav_files_core.proofs.changes.LeftLemmas.{stands_for, lost, item_is}
 use Rattle.dav_files_core.proofs.memfs.MemFs.node_at.Goals as goal
 
 pub unreachable-requires : goal.unreachable-requires

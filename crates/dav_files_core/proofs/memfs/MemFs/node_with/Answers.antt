@@ -1,5 +1,5 @@
-use Rattle.dav_files_core.proofs.Opened.{node_found}
-use Rattle.dav_files_core.proofs.Stepping.{stands_for}
+use Rattle.dav_files_core.proofs.opens.OpenedLemmas.{node_found}
+use Rattle.dav_files_core.proofs.changes.LeftLemmas.{stands_for}
 use Rattle.dav_files_core.proofs.memfs.MemFs.node_with.Goals as goal
 
 pub returns-clause-answer : goal.returns-clause-answer

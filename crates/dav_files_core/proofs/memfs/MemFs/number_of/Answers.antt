@@ -1,5 +1,5 @@
 use Rattle.dav_path_core.specs.Segments.{segments}
-use Rattle.dav_files_core.proofs.Leads.{entry_number}
+use Rattle.dav_files_core.proofs.walks.LeadLemmas.{entry_number}
 use Rattle.dav_files_core.proofs.memfs.MemFs.number_of.Goals as goal
 
 pub returns-in-Entry-clause-number : goal.returns-in-Entry-clause-number

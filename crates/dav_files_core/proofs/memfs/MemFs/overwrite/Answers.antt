@@ -1,5 +1,5 @@
-use Rattle.dav_files_core.proofs.Overwriting.{is_there, overwritten_answer, overwritten_left}
-use Rattle.dav_files_core.proofs.Stepping.{stands_for}
+use Rattle.dav_files_core.proofs.opens.OverwritingLemmas.{is_there, overwritten_answer, overwritten_left}
+use Rattle.dav_files_core.proofs.changes.LeftLemmas.{stands_for}
 use Rattle.dav_files_core.proofs.memfs.MemFs.overwrite.Goals as goal
 
 pub overwrite-requires-clause-known : goal.overwrite-requires-clause-known

@@ -4,9 +4,9 @@ use Rattle.dav_path_core.specs.Fronts.{Segment}
 use Rattle.dav_files_core.specs.Private.Entries.{put_there}
 use Rattle.dav_files_core.specs.Private.Represents.{resource_map}
 use Rattle.dav_files_core.specs.Resources.{Resource}
-use Rattle.dav_files_core.proofs.Relocating.{moved_stands, moved_answer}
-use Rattle.dav_files_core.proofs.Setting.{same_entry}
-use Rattle.dav_files_core.proofs.Stepping.{stands_for}
+use Rattle.dav_files_core.proofs.moves.RelocatingLemmas.{moved_stands, moved_answer}
+use Rattle.dav_files_core.proofs.changes.SettingLemmas.{same_entry}
+use Rattle.dav_files_core.proofs.changes.LeftLemmas.{stands_for}
 use Rattle.dav_files_core.proofs.memfs.MemFs.relocate.Goals as goal
 
 pub invariant_of-self : goal.invariant_of-self

@@ -1,8 +1,8 @@
 use Rattle.std.proofs.Common.{Ok, sym, ap, ◌∙◌}
 use Rattle.dav_path_core.specs.Fronts.{parent}
 use Rattle.dav_path_core.specs.Segments.{segments}
-use Rattle.dav_files_core.proofs.Putting.{found_number}
-use Rattle.dav_files_core.proofs.Removing.{removed, folder_left}
+use Rattle.dav_files_core.proofs.changes.PuttingLemmas.{found_number}
+use Rattle.dav_files_core.proofs.changes.RemovingLemmas.{removed, folder_left}
 use Rattle.dav_files_core.proofs.memfs.MemFs.remove.Goals as goal
 
 pub touch-requires : goal.touch-requires

@@ -1,6 +1,6 @@
 use Rattle.std.proofs.Common.{sym}
-use Rattle.dav_files_core.proofs.Setting.{replaced_stands}
-use Rattle.dav_files_core.proofs.Stepping.{stands_for, stands_itself, is_view, lost}
+use Rattle.dav_files_core.proofs.changes.SettingLemmas.{replaced_stands}
+use Rattle.dav_files_core.proofs.changes.LeftLemmas.{stands_for, stands_itself, is_view, lost}
 use Rattle.dav_files_core.proofs.memfs.MemFs.replace.Goals as goal
 
 pub unreachable-requires : goal.unreachable-requires

@@ -1,6 +1,6 @@
 use Rattle.std.proofs.Common.{sym}
-use Rattle.dav_files_core.proofs.Setting.{props_stand}
-use Rattle.dav_files_core.proofs.Stepping.{stands_for, stands_itself, is_view, lost}
+use Rattle.dav_files_core.proofs.changes.SettingLemmas.{props_stand}
+use Rattle.dav_files_core.proofs.changes.LeftLemmas.{stands_for, stands_itself, is_view, lost}
 use Rattle.dav_files_core.proofs.memfs.MemFs.set_props.Goals as goal
 
 pub unreachable-requires : goal.unreachable-requires

@@ -1,5 +1,5 @@
-use Rattle.dav_files_core.proofs.Leaving.{taken_stands, taken_answer}
-use Rattle.dav_files_core.proofs.Stepping.{stands_for}
+use Rattle.dav_files_core.proofs.changes.LeavingLemmas.{taken_stands, taken_answer}
+use Rattle.dav_files_core.proofs.changes.LeftLemmas.{stands_for}
 use Rattle.dav_files_core.proofs.memfs.MemFs.take_out.Goals as goal
 
 pub invariant_of-self : goal.invariant_of-self

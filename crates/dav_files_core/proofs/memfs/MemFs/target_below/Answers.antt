@@ -1,7 +1,7 @@
 use Rattle.std.proofs.Common.{◌≡◌, true, false, sym, ap, ◌∙◌, refl}
 use Rattle.dav_files_core.specs.Resources.{Node}
-use Rattle.dav_files_core.proofs.Walking.{below_file, below_folder, at_member}
-use Rattle.dav_files_core.proofs.Stepping.{stands_for, lost}
+use Rattle.dav_files_core.proofs.walks.StepLemmas.{below_file, below_folder, at_member}
+use Rattle.dav_files_core.proofs.changes.LeftLemmas.{stands_for, lost}
 use Rattle.dav_files_core.proofs.memfs.MemFs.target_below.Goals as goal
 
 not_true : ¬ (false ≡ true)

@@ -9,9 +9,9 @@ use Rattle.dav_files_core.specs.declared.memfs.Target.{Target}
 use Rattle.dav_files_core.specs.declared.memfs.Target.TheVariants.{Entry, Missing}
 use Rattle.dav_files_core.specs.Resources.{ResourceMap}
 use Rattle.dav_files_core.specs.Private.TreeCalls.{LeadsTo}
-use Rattle.dav_files_core.proofs.Found.{found_there}
-use Rattle.dav_files_core.proofs.Walking.{item_there, one_more, at_root, behind_refused, behind_missing}
-use Rattle.dav_files_core.proofs.Stepping.{stands_for}
+use Rattle.dav_files_core.proofs.walks.FoundLemmas.{found_there}
+use Rattle.dav_files_core.proofs.walks.StepLemmas.{item_there, one_more, at_root, behind_refused, behind_missing}
+use Rattle.dav_files_core.proofs.changes.LeftLemmas.{stands_for}
 use Rattle.dav_files_core.proofs.memfs.MemFs.target_of.Goals as goal
 
 refused : (m : ResourceMap) (p : Path) (e : FsError) (r : Result Target FsError) → r ≡ Err e → LeadsTo m p (Err e) → LeadsTo m p r

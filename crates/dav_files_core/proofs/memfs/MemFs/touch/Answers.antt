@@ -1,7 +1,7 @@
 use Rattle.std.proofs.Common.{sym}
 use Rattle.dav_files_core.specs.Outcomes.{touched}
-use Rattle.dav_files_core.proofs.Setting.{touched_stands}
-use Rattle.dav_files_core.proofs.Stepping.{stands_for, stands_itself, is_view, lost}
+use Rattle.dav_files_core.proofs.changes.SettingLemmas.{touched_stands}
+use Rattle.dav_files_core.proofs.changes.LeftLemmas.{stands_for, stands_itself, is_view, lost}
 use Rattle.dav_files_core.proofs.memfs.MemFs.touch.Goals as goal
 
 pub unreachable-requires : goal.unreachable-requires

@@ -1,4 +1,4 @@
-use Rattle.dav_files_core.proofs.TreeWords.{added_ok, added_err}
+use Rattle.dav_files_core.proofs.walks.TreeWordLemmas.{added_ok, added_err}
 use Rattle.dav_files_core.proofs.memfs.nodes.add_node.Goals as goal
 
 pub returns-clause-ok : goal.returns-clause-ok

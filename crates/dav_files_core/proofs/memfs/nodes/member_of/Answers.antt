@@ -1,4 +1,4 @@
-use Rattle.dav_files_core.proofs.TreeWords.{finds}
+use Rattle.dav_files_core.proofs.walks.TreeWordLemmas.{finds}
 use Rattle.dav_files_core.proofs.memfs.nodes.member_of.Goals as goal
 
 pub returns : goal.returns

@@ -1,4 +1,4 @@
-use Rattle.dav_files_core.proofs.TreeWords.{items}
+use Rattle.dav_files_core.proofs.walks.TreeWordLemmas.{items}
 use Rattle.dav_files_core.proofs.memfs.nodes.node_of.Goals as goal
 
 pub returns-clause-ok : goal.returns-clause-ok

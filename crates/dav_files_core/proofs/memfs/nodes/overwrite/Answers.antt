@@ -1,5 +1,5 @@
 use Rattle.dav_files_core.specs.OpenFiles.{overwritten}
-use Rattle.dav_files_core.proofs.TreeWords.{set_ok, set_err}
+use Rattle.dav_files_core.proofs.walks.TreeWordLemmas.{set_ok, set_err}
 use Rattle.dav_files_core.proofs.memfs.nodes.overwrite.Goals as goal
 
 pub returns-clause-ok : goal.returns-clause-ok

@@ -1,6 +1,6 @@
 use Rattle.std.proofs.Common.{ap}
 use Rattle.dav_files_core.specs.Resources.{Node}
-use Rattle.dav_files_core.proofs.TreeWords.{set}
+use Rattle.dav_files_core.proofs.walks.TreeWordLemmas.{set}
 use Rattle.dav_files_core.proofs.memfs.nodes.set_modified.Goals as goal
 
 pub returns : goal.returns

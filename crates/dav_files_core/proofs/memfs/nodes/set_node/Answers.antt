@@ -1,5 +1,5 @@
 use Rattle.std.proofs.Common.{refl}
-use Rattle.dav_files_core.proofs.TreeWords.{set}
+use Rattle.dav_files_core.proofs.walks.TreeWordLemmas.{set}
 use Rattle.dav_files_core.proofs.memfs.nodes.set_node.Goals as goal
 
 pub returns : goal.returns

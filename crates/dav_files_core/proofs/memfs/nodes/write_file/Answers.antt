@@ -1,6 +1,6 @@
 use Rattle.std.proofs.Common.{ap}
 use Rattle.dav_files_core.specs.Resources.{Node}
-use Rattle.dav_files_core.proofs.TreeWords.{written}
+use Rattle.dav_files_core.proofs.walks.TreeWordLemmas.{written}
 use Rattle.dav_files_core.proofs.memfs.nodes.write_file.Goals as goal
 
 pub returns : goal.returns

@@ -1,4 +1,4 @@
-use Rattle.dav_files_core.proofs.KeptProperties.{found_kept}
+use Rattle.dav_files_core.proofs.properties.PropertyMapLemmas.{found_kept}
 use Rattle.dav_files_core.proofs.memfs.properties.found_in.Goals as goal
 
 pub returns : goal.returns

@@ -1,6 +1,6 @@
 use Rattle.dav_files_core.specs.Properties.{property_of}
-use Rattle.dav_files_core.proofs.KeptProperties.{key_total, key_exact}
-use Rattle.dav_files_core.proofs.Seen.{map_insert}
+use Rattle.dav_files_core.proofs.properties.PropertyMapLemmas.{key_total, key_exact}
+use Rattle.dav_files_core.proofs.properties.FinMapLemmas.{map_insert}
 use Rattle.dav_files_core.proofs.memfs.properties.put_in.Goals as goal
 
 pub returns-in-Ok : goal.returns-in-Ok

@@ -1,6 +1,6 @@
 use Rattle.dav_files_core.specs.Properties.{property_of}
-use Rattle.dav_files_core.proofs.KeptProperties.{key_total, key_exact}
-use Rattle.dav_files_core.proofs.Seen.{map_remove}
+use Rattle.dav_files_core.proofs.properties.PropertyMapLemmas.{key_total, key_exact}
+use Rattle.dav_files_core.proofs.properties.FinMapLemmas.{map_remove}
 use Rattle.dav_files_core.proofs.memfs.properties.take_out.Goals as goal
 
 pub returns : goal.returns

@@ -4,7 +4,7 @@ use Rattle.dav_path_core.specs.Segments.{segments}
 use Rattle.dav_files_core.specs.OpenFiles.{read_bytes}
 use Rattle.dav_files_core.specs.Opening.{OpenFile, opening}
 use Rattle.dav_files_core.specs.Resources.{ResourceMap}
-use Rattle.dav_files_core.proofs.ReadAnswers.{opened_there, read_through, stands_at}
+use Rattle.dav_files_core.proofs.opens.ReadLemmas.{opened_there, read_through, stands_at}
 use Rattle.dav_resource_core.proofs.guarded.files.read_file.Goals as goal
 
 pub returns-clause-answer : goal.returns-clause-answer

@@ -6,7 +6,7 @@ use Rattle.dav_files_core.specs.declared.fs.OpenOptions.{OpenOptions}
 use Rattle.dav_files_core.specs.OpenFiles.{write_bytes}
 use Rattle.dav_files_core.specs.Opening.{OpenFile, opening}
 use Rattle.dav_files_core.specs.Resources.{ResourceMap}
-use Rattle.dav_files_core.proofs.ReadAnswers.{using, opened_there, stands_at, write_through}
+use Rattle.dav_files_core.proofs.opens.ReadLemmas.{using, opened_there, stands_at, write_through}
 use Rattle.dav_resource_core.proofs.guarded.files.write_file.Goals as goal
 
 none_by : (at : Option ℕ) (b : Bool) → is_some at ≡ not b → b ≡ is_none at

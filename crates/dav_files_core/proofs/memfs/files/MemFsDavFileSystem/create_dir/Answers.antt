@@ -3,9 +3,9 @@ use Rattle.dav_path_core.specs.Fronts.{parent}
 use Rattle.dav_path_core.specs.Segments.{segments}
 use Rattle.dav_files_core.specs.Outcomes.{added, touched}
 use Rattle.dav_files_core.specs.Resources.{Node, ResourceMap, at_path}
-use Rattle.dav_files_core.proofs.Leads.{entry, missing}
-use Rattle.dav_files_core.proofs.Making.{made_taken, made_free, folder_stays}
-use Rattle.dav_files_core.proofs.Leads.{left_added}
+use Rattle.dav_files_core.proofs.walks.LeadLemmas.{entry, missing}
+use Rattle.dav_files_core.proofs.changes.MakingLemmas.{made_taken, made_free, folder_stays}
+use Rattle.dav_files_core.proofs.walks.LeadLemmas.{left_added}
 use Rattle.dav_files_core.proofs.memfs.files.MemFsDavFileSystem.create_dir.Goals as goal
 
 pub returns-in-Entry-clause-answer : goal.returns-in-Entry-clause-answer

@@ -1,6 +1,6 @@
 use Rattle.std.proofs.Common.{refl}
 use Rattle.dav_path_core.specs.Segments.{segments}
-use Rattle.dav_files_core.proofs.Leads.{entry_number, entry_file}
+use Rattle.dav_files_core.proofs.walks.LeadLemmas.{entry_number, entry_file}
 use Rattle.dav_files_core.proofs.memfs.files.MemFsDavFileSystem.open.Goals as goal
 
 pub node_at-requires : goal.node_at-requires

@@ -1,9 +1,9 @@
 use Rattle.std.proofs.Common.{◌≡◌, true, false, ap, ◌∙◌}
 use Rattle.dav_path_core.specs.Segments.{segments}
 use Rattle.dav_files_core.specs.Resources.{Node}
-use Rattle.dav_files_core.proofs.Describing.{members_known, listing_answer}
-use Rattle.dav_files_core.proofs.Putting.{found_number}
-use Rattle.dav_files_core.proofs.Walking.{not_file}
+use Rattle.dav_files_core.proofs.listings.DescribingLemmas.{members_known, listing_answer}
+use Rattle.dav_files_core.proofs.changes.PuttingLemmas.{found_number}
+use Rattle.dav_files_core.proofs.walks.StepLemmas.{not_file}
 use Rattle.dav_files_core.proofs.memfs.files.MemFsDavFileSystem.read_dir.Goals as goal
 
 not_true : ¬ (false ≡ true)

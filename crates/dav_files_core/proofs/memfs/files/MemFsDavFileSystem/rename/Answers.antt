@@ -7,9 +7,9 @@ use Rattle.dav_path_core.specs.Segments.{segments}
 use Rattle.dav_files_core.specs.Outcomes.{Outcome, touched}
 use Rattle.dav_files_core.specs.Private.Entries.{FindsFolder}
 use Rattle.dav_files_core.specs.Resources.{ResourceMap, at_path}
-use Rattle.dav_files_core.proofs.Found.{folder_there}
-use Rattle.dav_files_core.proofs.Putting.{found_number}
-use Rattle.dav_files_core.proofs.Renamed.{Target, away, put_named, rename_refused}
+use Rattle.dav_files_core.proofs.walks.FoundLemmas.{folder_there}
+use Rattle.dav_files_core.proofs.changes.PuttingLemmas.{found_number}
+use Rattle.dav_files_core.proofs.moves.RenamedLemmas.{Target, away, put_named, rename_refused}
 use Rattle.dav_files_core.proofs.memfs.files.MemFsDavFileSystem.rename.Goals as goal
 
 target_in : (m : ResourceMap) (p : Path) (o : Option ℕ) (folder : ℕ) → o ≡ Some folder → FindsFolder m p (Ok o) → Target m p folder

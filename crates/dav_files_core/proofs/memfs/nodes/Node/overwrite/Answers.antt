@@ -2,7 +2,7 @@ use Rattle.std.proofs.Common.{sym, ap, ◌∙◌}
 use Rattle.std.proofs.lemmas.List.{with_items_is}
 use Rattle.dav_files_core.specs.OpenFiles.{overwritten}
 use Rattle.dav_files_core.specs.Resources.{Node}
-use Rattle.dav_files_core.proofs.Overwritten.{stored, length-stored}
+use Rattle.dav_files_core.proofs.opens.OverwrittenLemmas.{stored, length-stored}
 use Rattle.dav_files_core.proofs.memfs.nodes.Node.overwrite.Goals as goal
 
 pub returns-clause-ok : goal.returns-clause-ok

@@ -1,7 +1,7 @@
 use Rattle.std.proofs.Common.{Ok, Err, ap, sym, ◌∙◌, refl, inr}
 use Rattle.std.proofs.lemmas.Result.{err_from_is_err_and}
 use Rattle.dav_files_core.specs.Opening.{OpenFile}
-use Rattle.dav_files_core.proofs.Written.{entry, there, its_number, has_file, too_large, done, left_by, no_memory}
+use Rattle.dav_files_core.proofs.opens.WrittenLemmas.{entry, there, its_number, has_file, too_large, done, left_by, no_memory}
 use Rattle.dav_files_core.proofs.memfs.opening.MemFsFileDavFileMemFs.write_buf.Goals as goal
 
 pub returns-in_default-clause-shape : goal.returns-in_default-clause-shape

@@ -1,7 +1,7 @@
 use Rattle.std.proofs.Common.{◌∙◌, map}
 use Rattle.std.proofs.lemmas.Iterator.Consumers.{YieldsList-from_rest, YieldsList-end}
 use Rattle.dav_files_core.specs.Properties.{shown}
-use Rattle.dav_files_core.proofs.KeptProperties.{Kept, listed}
+use Rattle.dav_files_core.proofs.properties.PropertyMapLemmas.{Kept, listed}
 use Rattle.dav_files_core.proofs.memfs.properties.Props.list.Goals as goal
 
 pub returns : goal.returns

@@ -2,8 +2,8 @@ use Rattle.std.proofs.Common.{ap, ◌∙◌}
 use Rattle.std.specs.FinMap.{from_entries}
 use Rattle.dav_files_core.specs.Properties.{property_of}
 use Rattle.dav_files_core.specs.Resources.{key_cmp}
-use Rattle.dav_files_core.proofs.KeptProperties.{same_key}
-use Rattle.dav_files_core.proofs.Seen.{seen_copy}
+use Rattle.dav_files_core.proofs.properties.PropertyMapLemmas.{same_key}
+use Rattle.dav_files_core.proofs.properties.FinMapLemmas.{seen_copy}
 use Rattle.dav_files_core.proofs.memfs.properties.PropsClone.clone.Goals as goal
 
 pub returns : goal.returns

@@ -1,0 +1,9 @@
+pub mod AddedLemmas
+pub mod ChangedLemmas
+pub mod LeavingLemmas
+pub mod LeftLemmas
+pub mod MakingLemmas
+pub mod PuttingLemmas
+pub mod RemovingLemmas
+pub mod SettingLemmas
+pub mod WithoutLemmas

@@ -1,0 +1,57 @@
+-- Another node of an entry, in the tree and in the map.
+use Rattle.std.proofs.Common.{◌≡◌, ℕ, List, Some, Ok, sym, ap, ◌∙◌, subst}
+use Rattle.std.specs.FinMap.{get}
+use Rattle.dav_path_core.specs.Fronts.{Path}
+use Rattle.dav_path_core.specs.Keyed.{with_item_at}
+use Rattle.dav_files_core.specs.declared.memfs.Kind.TheVariants.{Folder, File}
+use Rattle.dav_files_core.specs.OpenFiles.{overwritten}
+use Rattle.dav_files_core.specs.Outcomes.{changed, touched, touched_at}
+use Rattle.dav_files_core.specs.Private.Entries.{IsBare, HasFile}
+use Rattle.dav_files_core.specs.Private.Represents.{FileTree, Represents}
+use Rattle.dav_files_core.specs.Private.TreeCalls.{SetsNode, WritesFile}
+use Rattle.dav_files_core.specs.Resources.{Node, Properties, Resource, ResourceMap, at_path, IsResourceMap}
+use Rattle.dav_path_core.proofs.lists.FinMaps.{one_some}
+use Rattle.dav_files_core.proofs.changes.ChangedLemmas.{Represents-changed}
+use Rattle.dav_files_core.proofs.changes.LeftLemmas.{item_is, written}
+
+module _ (t : FileTree) (m : ResourceMap) (rep : Represents t m) (p : Path) (r : Resource) (here : at_path m p ≡ Some r) (id : ℕ) (number : r.number ≡ id) where
+  -- a node that was set
+  pub set_stands : (set : Node → Node) → (r.node.kind ≡ Folder → (set r.node).kind ≡ Folder) → IsBare (set r.node)
+      → (t' : FileTree) → SetsNode t id set (Ok tt) t' → Represents t' (changed m p r (set r.node))
+  set_stands set still bare t' h =
+      let item : h.0.item ≡ r.node = item_is t m rep p r here id number h.0 h.1 in
+      let rep' = Represents-changed t m rep p r h.0 (set r.node) here (ap (λ id. get t.nodes id) number ∙ h.1) still bare in
+      subst (λ t'. Represents t' (changed m p r (set r.node))) (ap (λ id. with_item_at t id (Some h.0) (set r.node)) number ∙ ap (λ (n : Node). with_item_at t id (Some h.0) (set n)) (sym item) ∙ sym h.2) rep'
+
+  -- a modified time that was set
+  pub touched_stands : (now : ℕ) (t' : FileTree) → SetsNode t id (λ n. record n { modified = now }) (Ok tt) t' → Represents t' (touched m p now)
+  touched_stands now t' h =
+      subst (λ m. Represents t' m) (ap (touched_at m p now) (sym here)) (set_stands (λ n. record n { modified = now }) (λ f. f) (rep.is_map.bare p r here) t' h)
+
+  -- other properties
+  pub props_stand : (props : Properties) (t' : FileTree) → SetsNode t id (λ n. record n { props = props }) (Ok tt) t' → Represents t' (changed m p r (record r.node { props = props }))
+  props_stand props t' h = set_stands (λ n. record n { props = props }) (λ f. f) (rep.is_map.bare p r here) t' h
+
+-- one entry has the number
+pub same_entry : (m : ResourceMap) → IsResourceMap m → (id : ℕ) (p : Path) (r : Resource) → at_path m p ≡ Some r → r.number ≡ id → (q : Path) (s : Resource) → at_path m q ≡ Some s → s.number ≡ id → r ≡ s
+same_entry m is_map id p r here number q s there other =
+    let same : p ≡ q = is_map.apart p q r s here there (number ∙ sym other) in
+    one_some (at_path m q) r s (ap (at_path m) (sym same) ∙ here) there
+
+module _ (t : FileTree) (m : ResourceMap) (rep : Represents t m) (id : ℕ) (file : HasFile m id) (p : Path) (r : Resource) (here : at_path m p ≡ Some r) (number : r.number ≡ id) where
+  is_file : r.node.kind ≡ File
+  is_file = ap (λ (r : Resource). r.node.kind) (same_entry m rep.is_map id p r here number file.0 file.1 file.2 file.3) ∙ file.4
+
+  -- a file's bytes that were written
+  pub written_stands : (bytes : List ℕ) (now : ℕ) (t' : FileTree) → WritesFile t id bytes now (Ok tt) t' → Represents t' (changed m p r (record r.node { bytes = bytes; modified = now }))
+  written_stands bytes now t' h = written t m rep p r here is_file id number bytes now t' h
+
+  -- another node in place of a file's
+  pub replaced_stands : (node : Node) → IsBare node → (t' : FileTree) → SetsNode t id (λ _. node) (Ok tt) t' → Represents t' (changed m p r node)
+  replaced_stands node bare t' h = set_stands t m rep p r here id number (λ _. node) (λ f. let both : Folder ≡ File = sym f ∙ is_file in absurd (cc)) bare t' h
+
+  -- bytes put over some of a file's
+  pub overwritten_stands : (start : ℕ) (new : List ℕ) (t' : FileTree) → SetsNode t id (λ n. record n { bytes = overwritten n.bytes start new }) (Ok tt) t'
+      → Represents t' (changed m p r (record r.node { bytes = overwritten r.node.bytes start new }))
+  overwritten_stands start new t' h =
+      set_stands t m rep p r here id number (λ n. record n { bytes = overwritten n.bytes start new }) (λ f. f) (λ f. let both : Folder ≡ File = sym f ∙ is_file in absurd (cc)) t' h

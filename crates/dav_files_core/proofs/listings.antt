@@ -1,0 +1,3 @@
+pub mod DescribingLemmas
+pub mod ListedLemmas
+pub mod MemberLemmas

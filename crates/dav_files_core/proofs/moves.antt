@@ -1,0 +1,4 @@
+pub mod MovedLemmas
+pub mod MovingLemmas
+pub mod RelocatingLemmas
+pub mod RenamedLemmas

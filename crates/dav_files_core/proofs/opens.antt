@@ -1,0 +1,6 @@
+pub mod NumberedLemmas
+pub mod OpenedLemmas
+pub mod OverwritingLemmas
+pub mod OverwrittenLemmas
+pub mod ReadLemmas
+pub mod WrittenLemmas

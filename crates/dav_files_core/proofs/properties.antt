@@ -1,0 +1,2 @@
+pub mod FinMapLemmas
+pub mod PropertyMapLemmas

@@ -1,0 +1,10 @@
+pub mod AboveLemmas
+pub mod FoundLemmas
+pub mod HasMembersLemmas
+pub mod LeadLemmas
+pub mod RecoverLemmas
+pub mod StartLemmas
+pub mod StepLemmas
+pub mod SubtreeLemmas
+pub mod TreeWordLemmas
+pub mod WalkLemmas

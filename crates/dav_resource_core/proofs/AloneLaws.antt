@@ -14,10 +14,10 @@ use Rattle.dav_locks_core.specs.Lock.{Lock}
 use Rattle.dav_locks_core.specs.Locks.{lock_path, is_at_or_below, without_below}
 use Rattle.dav_locks_core.specs.Stale.{is_stale, without_stale}
 use Rattle.dav_locks_core.specs.Exclusive.{Exclusive}
-use Rattle.dav_locks_core.proofs.ListLemmas.{all_filter}
-use Rattle.dav_locks_core.proofs.ListMembers.{In, In-Contains, Contains-In, In-filter}
-use Rattle.dav_locks_core.proofs.Exclusivity.{Exclusive-filter, held_above}
-use Rattle.dav_locks_core.proofs.StandingIn.{In-StandIn}
+use Rattle.dav_path_core.proofs.lists.EachLemmas.{all_filter}
+use Rattle.dav_path_core.proofs.lists.MemberLemmas.{In, In-Contains, Contains-In, In-filter}
+use Rattle.dav_locks_core.proofs.laws.ExclusiveLemmas.{Exclusive-filter, held_above}
+use Rattle.dav_locks_core.proofs.laws.StandInLemmas.{In-StandIn}
 use Rattle.dav_resource_core.specs.Requests.{Command, Request, Reply, Fs, Locked, NoLock, OutOfMemory, Answer}
 use Rattle.dav_resource_core.specs.Checks.{Check, caller_of, checks, has, refusing, MayLack}
 use Rattle.dav_resource_core.specs.ResourceStep.{is_on_map, Does, locks_left}

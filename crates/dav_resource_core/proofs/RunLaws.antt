@@ -2,15 +2,16 @@
 use Rattle.std.proofs.Common.{not, Bool, ◌≡◌, inl, inr, ℕ, ◌+◌, ◌<◌, List, [], ◌∷◌, ◌++◌, length, get_or, take, map, sym, ◌∙◌, ap, subst}
 use Rattle.std.specs.Prelude.{filter}
 use Rattle.std.proofs.lemmas.Bool.{or_left, or_parts, false≢true}
+use Rattle.std.proofs.lemmas.List.Elements.{filter_agree}
 use Rattle.std.proofs.lemmas.List.{take_more, map_push}
 use Rattle.dav_files_core.specs.Finding.{place}
 use Rattle.dav_locks_core.specs.Lock.{Lock}
 use Rattle.dav_locks_core.specs.Ended.{StandIn}
 use Rattle.dav_locks_core.specs.Stale.{is_stale}
 use Rattle.dav_locks_core.specs.Exclusive.{Exclusive}
-use Rattle.dav_locks_core.proofs.ListMembers.{In, In-Contains, Contains-In, In-filter}
-use Rattle.dav_locks_core.proofs.ListPlaces.{filter-filter, filter-same}
-use Rattle.dav_locks_core.proofs.StandingIn.{StandIn-trans, StandIn-filtered, StandIn-filter, In-StandIn}
+use Rattle.dav_path_core.proofs.lists.MemberLemmas.{In, In-Contains, Contains-In, In-filter}
+use Rattle.dav_path_core.proofs.lists.PlaceLemmas.{filter-filter}
+use Rattle.dav_locks_core.proofs.laws.StandInLemmas.{StandIn-trans, StandIn-filtered, StandIn-filter, In-StandIn}
 use Rattle.dav_resource_core.specs.Requests.{Request, Answer}
 use Rattle.dav_resource_core.specs.Step.{State, Same, Step, Run, start_of}
 use Rattle.dav_resource_core.specs.Naming.{names_as, names, unlocks, touches, touched_in}
@@ -46,7 +47,7 @@ run_stand s s' (r ∷ rs) [] h = absurd h
 run_stand s s' (r ∷ rs) (a ∷ answers) h =
     let rest : Lock → Bool = λ l. not (touched_in rs l) in
     let first : filter rest (filter (λ l. not (touches r l)) s.locks) ≡ filter (λ l. not (touched_in (r ∷ rs) l)) s.locks =
-    filter-filter rest (λ l. not (touches r l)) s.locks ∙ filter-same _ _ s.locks (λ l. sym (not-or (touches r l) (touched_in rs l))) in
+    filter-filter rest (λ l. not (touches r l)) s.locks ∙ filter_agree _ _ (λ l. sym (not-or (touches r l) (touched_in rs l))) s.locks in
     subst (λ xs. StandIn xs s'.locks) first
     (StandIn-trans _ (filter rest h.0.locks) s'.locks (StandIn-filter rest _ h.0.locks (step_stands s h.0 r a h.1)) (run_stand h.0 s' rs answers h.2))
 

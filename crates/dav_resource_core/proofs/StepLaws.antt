@@ -3,6 +3,7 @@ use Rattle.std.proofs.Common.{◌≡◌, ◌⊎◌, inl, inr, Bool, true, false,
 use Rattle.std.specs.Prelude.{set, remove, filter, bytes_eq}
 use Rattle.std.specs.List.{list_any}
 use Rattle.std.proofs.lemmas.Bool.{and_parts, or_left, or_right, cases_Bool, false≢true, not-false}
+use Rattle.std.proofs.lemmas.List.Elements.{filter_agree}
 use Rattle.rand_core.specs.Stream.{Stream}
 use Rattle.dav_path_core.specs.Fronts.{Path, parent}
 use Rattle.dav_locks_core.specs.Lock.{Lock}
@@ -10,12 +11,12 @@ use Rattle.dav_locks_core.specs.Locks.{Caller, is_at_or_below, check_conflicts, 
 use Rattle.dav_locks_core.specs.Exclusive.{Exclusive}
 use Rattle.dav_locks_core.specs.Ended.{LocksEnded, StandIn}
 use Rattle.dav_locks_core.specs.Stale.{is_stale, without_stale}
-use Rattle.dav_locks_core.proofs.Exclusivity.{Exclusive-push, Exclusive-filter, Exclusive-remove, Exclusive-refreshed}
-use Rattle.dav_locks_core.proofs.ListMembers.{In, In-Contains, Contains-In, append_none}
-use Rattle.dav_locks_core.proofs.ListPlaces.{filter-remove, filter-set, filter-filter, filter-same}
-use Rattle.dav_locks_core.proofs.StandingIn.{StandIn-trans, StandIn-push, StandIn-more, StandIn-filtered}
-use Rattle.dav_locks_core.proofs.Checking.{exclusive_held, any_lock_held, below_held}
-use Rattle.dav_locks_core.proofs.Ending.{LocksEnded-refl, LocksEnded-push, LocksEnded-remove, LocksEnded-filter, LocksEnded-set, LocksEnded-trans, IgnoresTimes, found_at}
+use Rattle.dav_locks_core.proofs.laws.ExclusiveLemmas.{Exclusive-push, Exclusive-filter, Exclusive-remove, Exclusive-refreshed}
+use Rattle.dav_path_core.proofs.lists.MemberLemmas.{In, In-Contains, Contains-In, append_none}
+use Rattle.dav_path_core.proofs.lists.PlaceLemmas.{filter-remove, filter-set, filter-filter}
+use Rattle.dav_locks_core.proofs.laws.StandInLemmas.{StandIn-trans, StandIn-push, StandIn-more, StandIn-filtered}
+use Rattle.dav_locks_core.proofs.laws.CheckLemmas.{exclusive_held, any_lock_held, below_held}
+use Rattle.dav_locks_core.proofs.laws.EndedLemmas.{LocksEnded-refl, LocksEnded-push, LocksEnded-remove, LocksEnded-filter, LocksEnded-set, LocksEnded-trans, IgnoresTimes, found_at}
 use Rattle.dav_files_core.specs.Resources.{ResourceMap}
 use Rattle.dav_files_core.specs.Finding.{place}
 use Rattle.dav_resource_core.specs.Requests.{Command, Request, Reply, Fs, Locked, NoLock, OutOfMemory, Answer}
@@ -238,5 +239,5 @@ not-or false b = refl
 
 pub step_stands : (s s' : State) (r : Request) (a : Answer) → Step s r a s' → StandIn (filter (λ l. not (touches r l)) s.locks) s'.locks
 step_stands s s' r a h =
-    subst (λ xs. StandIn xs s'.locks) (filter-filter (untouched r) (λ l. not (is_stale r.now l)) s.locks ∙ filter-same _ _ s.locks (λ l. sym (not-or (is_stale r.now l) _)))
+    subst (λ xs. StandIn xs s'.locks) (filter-filter (untouched r) (λ l. not (is_stale r.now l)) s.locks ∙ filter_agree _ _ (λ l. sym (not-or (is_stale r.now l) _)) s.locks)
     (serves_stands (start_of r s) s' r a h)

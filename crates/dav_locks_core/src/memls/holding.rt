@@ -102,7 +102,7 @@ fn is_principal(lock: &DavLock, principal: Option<&str>) -> bool
     }
 }
 
-#[tactic(auto, using(crate::proofs::ListLemmas::any_map))]
+#[tactic(auto, using(dav_path_core::proofs::lists::EachLemmas::any_map))]
 fn has_token(tokens: &[String], token: &String) -> bool
     ensures { result ≡ list_any (λ t. bytes_eq t (string_bytes token.now)) (map string_bytes tokens.now) }
 {

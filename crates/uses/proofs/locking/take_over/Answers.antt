@@ -3,7 +3,7 @@ use Rattle.std.proofs.lemmas.Result.{IfOk-weaker}
 use Rattle.dav_path_core.specs.Segments.{segments}
 use Rattle.dav_locks_core.specs.Locks.{is_at_or_below, without_below}
 use Rattle.dav_locks_core.specs.Stale.{is_stale, without_stale}
-use Rattle.dav_locks_core.proofs.ListPlaces.{filter-again}
+use Rattle.dav_path_core.proofs.lists.PlaceLemmas.{filter-again}
 use Rattle.uses.proofs.locking.take_over.Given.{Over}
 use Rattle.uses.proofs.locking.take_over.Goals as goal
 

@@ -10,9 +10,9 @@ use Rattle.dav_locks_core.specs.Private.SubtreeWalks.{NoneBelow}
 use Rattle.dav_locks_core.specs.Private.WayTests.{refuses_wanted}
 use Rattle.dav_locks_core.specs.Calls.{Shows}
 use Rattle.dav_locks_core.specs.Private.Soonest.{comes_before, NoneEndsBefore}
-use Rattle.dav_locks_core.proofs.Expiring.{sooner-push}
-use Rattle.dav_locks_core.proofs.LockLists.{IsKeptAs, kept-same, kept-grant, lock_free, lock_shown, lock_shown_below, shows_weaker, on_err}
-use Rattle.dav_locks_core.proofs.Pruning.{SameLocks-trans}
+use Rattle.dav_locks_core.proofs.ends.ExpiringLemmas.{sooner-push}
+use Rattle.dav_locks_core.proofs.answers.LockListLemmas.{IsKeptAs, kept-same, kept-grant, lock_free, lock_shown, lock_shown_below, shows_weaker, on_err}
+use Rattle.dav_locks_core.proofs.trees.PruningLemmas.{SameLocks-trans}
 use Rattle.dav_locks_core.proofs.memls.MemLs.add_lock.Given.{Over}
 use Rattle.dav_locks_core.proofs.memls.MemLs.add_lock.Goals.{then-deep+in_ok-check_locks_from_path, else-deep}
 use Rattle.dav_locks_core.proofs.memls.MemLs.add_lock.Goals as goal

@@ -8,8 +8,8 @@ use Rattle.dav_locks_core.specs.Locks.{Caller, check_conflicts}
 use Rattle.dav_locks_core.specs.Private.LockTree.{lock_list, lookup_lock}
 use Rattle.dav_locks_core.specs.Private.SubtreeWalks.{NoneBelow}
 use Rattle.dav_locks_core.specs.Private.WayTests.{is_covering_held, is_covering_unheld}
-use Rattle.dav_locks_core.proofs.Checking.{holds_exclusive, holds_below}
-use Rattle.dav_locks_core.proofs.LockLists.{check_free, check_held, check_shown, check_deep_free, check_shown_below}
+use Rattle.dav_locks_core.proofs.laws.CheckLemmas.{holds_exclusive, holds_below}
+use Rattle.dav_locks_core.proofs.answers.LockListLemmas.{check_free, check_held, check_shown, check_deep_free, check_shown_below}
 use Rattle.dav_locks_core.proofs.memls.MemLs.check_change.Goals.{then-is_none+in_ok-check_locks_to_path, else-is_none, then-deep+in_ok-check_locks_from_path, else-deep}
 use Rattle.dav_locks_core.proofs.memls.MemLs.check_change.Goals as goal
 

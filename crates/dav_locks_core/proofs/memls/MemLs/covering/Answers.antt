@@ -2,7 +2,7 @@ use Rattle.std.proofs.Common.{ap, ◌∙◌}
 use Rattle.std.proofs.lemmas.Result.{IfOk-weaker}
 use Rattle.dav_path_core.specs.Segments.{segments}
 use Rattle.dav_locks_core.specs.Locks.{discovered}
-use Rattle.dav_locks_core.proofs.LockLists.{seen-discovered}
+use Rattle.dav_locks_core.proofs.answers.LockListLemmas.{seen-discovered}
 use Rattle.dav_locks_core.proofs.memls.MemLs.covering.Goals as goal
 
 pub returns : goal.returns

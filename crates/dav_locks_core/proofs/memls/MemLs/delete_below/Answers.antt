@@ -3,9 +3,9 @@ use Rattle.dav_path_core.specs.Segments.{segments}
 use Rattle.dav_locks_core.specs.Locks.{without_below}
 use Rattle.dav_locks_core.specs.Private.LockTree.{lock_list}
 use Rattle.dav_locks_core.specs.Private.Soonest.{NoneEndsBefore}
-use Rattle.dav_locks_core.proofs.ListLemmas.{all_filter}
-use Rattle.dav_locks_core.proofs.LockLists.{IsKeptAs, seen-delete, kept-delete, none_deleted}
-use Rattle.dav_locks_core.proofs.Subtrees.{way_known}
+use Rattle.dav_path_core.proofs.lists.EachLemmas.{all_filter}
+use Rattle.dav_locks_core.proofs.answers.LockListLemmas.{IsKeptAs, seen-delete, kept-delete, none_deleted}
+use Rattle.dav_locks_core.proofs.walks.SubtreeLemmas.{way_known}
 use Rattle.dav_locks_core.proofs.memls.MemLs.delete_below.Goals as goal
 
 pub clear-requires-clause-known : goal.clear-requires-clause-known

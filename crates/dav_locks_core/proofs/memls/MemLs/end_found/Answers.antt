@@ -4,8 +4,8 @@ use Rattle.dav_path_core.specs.Segments.{segments}
 use Rattle.dav_locks_core.specs.Locks.{found}
 use Rattle.dav_locks_core.specs.Private.LockTree.{lock_list}
 use Rattle.dav_locks_core.specs.Private.Soonest.{NoneEndsBefore}
-use Rattle.dav_locks_core.proofs.ListLemmas.{all_remove}
-use Rattle.dav_locks_core.proofs.LockLists.{place_within, Ends, IsKeptAs, seen-end, kept-end, none_found}
+use Rattle.dav_path_core.proofs.lists.EachLemmas.{all_remove}
+use Rattle.dav_locks_core.proofs.answers.LockListLemmas.{place_within, Ends, IsKeptAs, seen-end, kept-end, none_found}
 use Rattle.dav_locks_core.proofs.memls.MemLs.end_found.Goals as goal
 
 pub end_lock-requires : goal.end_lock-requires

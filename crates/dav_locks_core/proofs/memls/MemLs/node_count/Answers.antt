@@ -3,7 +3,7 @@ use Rattle.std.specs.Prelude.{sum_by}
 use Rattle.dav_locks_core.specs.Locks.{height}
 use Rattle.dav_locks_core.specs.LockFronts.{front_count}
 use Rattle.dav_locks_core.specs.Private.LockTree.{all_granted}
-use Rattle.dav_locks_core.proofs.FrontCounting.{nodes_are_fronts, front_count-bound}
+use Rattle.dav_locks_core.proofs.answers.FrontCountLemmas.{nodes_are_fronts, front_count-bound}
 use Rattle.dav_locks_core.proofs.memls.MemLs.node_count.Goals as goal
 
 pub returns-clause-count : goal.returns-clause-count

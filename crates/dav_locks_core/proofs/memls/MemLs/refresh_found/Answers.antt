@@ -5,8 +5,8 @@ use Rattle.dav_locks_core.specs.Calls.{RefusesRefresh}
 use Rattle.dav_locks_core.specs.Locks.{found, refreshed}
 use Rattle.dav_locks_core.specs.Private.LockTree.{lock_list}
 use Rattle.dav_locks_core.specs.Private.Soonest.{comes_before, NoneEndsBefore}
-use Rattle.dav_locks_core.proofs.Expiring.{sooner-set}
-use Rattle.dav_locks_core.proofs.LockLists.{place_within, some_granted, seen-refresh, kept-refresh, none_found, some_found}
+use Rattle.dav_locks_core.proofs.ends.ExpiringLemmas.{sooner-set}
+use Rattle.dav_locks_core.proofs.answers.LockListLemmas.{place_within, some_granted, seen-refresh, kept-refresh, none_found, some_found}
 use Rattle.dav_locks_core.proofs.memls.MemLs.refresh_found.Goals as goal
 
 pub refresh_lock-requires : goal.refresh_lock-requires

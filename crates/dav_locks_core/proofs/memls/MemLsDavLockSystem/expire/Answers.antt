@@ -1,7 +1,7 @@
 use Rattle.std.proofs.Common.{ap, sym, ◌∙◌, subst, arith}
 use Rattle.dav_locks_core.specs.Stale.{without_stale}
 use Rattle.dav_locks_core.specs.Private.Soonest.{ends_before, NoneEndsBefore}
-use Rattle.dav_locks_core.proofs.Expiring.{none_stale, none_of_list}
+use Rattle.dav_locks_core.proofs.ends.ExpiringLemmas.{none_stale, none_of_list}
 use Rattle.dav_locks_core.proofs.memls.MemLsDavLockSystem.expire.Goals as goal
 
 pub end_stale-requires : goal.end_stale-requires

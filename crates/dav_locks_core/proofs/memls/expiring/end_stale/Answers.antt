@@ -1,4 +1,4 @@
-use Rattle.dav_locks_core.proofs.Expiring.{expiring_from, expiring_on, expired, fewer_locks, stale_within, stale_ends}
+use Rattle.dav_locks_core.proofs.ends.ExpiringLemmas.{expiring_from, expiring_on, expired, fewer_locks, stale_within, stale_ends}
 use Rattle.dav_locks_core.proofs.memls.expiring.end_stale.Goals as goal
 
 pub find_below-requires : goal.find_below-requires

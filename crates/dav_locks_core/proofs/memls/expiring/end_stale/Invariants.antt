@@ -1,6 +1,6 @@
 use Rattle.std.proofs.Common.{length}
 use Rattle.dav_locks_core.specs.Private.LockTree.{lock_list}
-use Rattle.dav_locks_core.proofs.Expiring.{Expiring}
+use Rattle.dav_locks_core.proofs.ends.ExpiringLemmas.{Expiring}
 use Rattle.dav_locks_core.proofs.memls.expiring.end_stale.Given as goal
 
 abbrev pub invariant-loop-node : goal.invariant-loop-node

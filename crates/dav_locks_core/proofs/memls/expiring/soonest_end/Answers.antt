@@ -1,7 +1,7 @@
 use Rattle.std.proofs.Common.{arith}
 use Rattle.dav_locks_core.specs.Private.Soonest.{ends_before}
-use Rattle.dav_locks_core.proofs.Expiring.{walk_sooner, none_at}
-use Rattle.dav_locks_core.proofs.SubtreeWalking.{walk_from, walk_on, walk_over, walk_fits}
+use Rattle.dav_locks_core.proofs.ends.ExpiringLemmas.{walk_sooner, none_at}
+use Rattle.dav_locks_core.proofs.walks.WalkLemmas.{walk_from, walk_on, walk_over, walk_fits}
 use Rattle.dav_locks_core.proofs.memls.expiring.soonest_end.Goals as goal
 
 pub loop-turn-init : goal.loop-turn-init

@@ -1,5 +1,5 @@
 use Rattle.dav_locks_core.specs.Private.Soonest.{ends_before}
-use Rattle.dav_locks_core.proofs.SubtreeWalking.{Walked}
+use Rattle.dav_locks_core.proofs.walks.WalkLemmas.{Walked}
 use Rattle.dav_locks_core.proofs.memls.expiring.soonest_end.Given as goal
 
 abbrev pub invariant-loop-turn : goal.invariant-loop-turn

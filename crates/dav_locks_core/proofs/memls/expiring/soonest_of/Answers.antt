@@ -2,7 +2,7 @@ use Rattle.std.proofs.Common.{◌≡◌, ◌++◌, ◌∷◌, [], ◌+◌, false
 use Rattle.std.proofs.lemmas.List.{take_more, map_push, take_all}
 use Rattle.dav_locks_core.specs.Private.LockTree.{NumberedLock, locks_of}
 use Rattle.dav_locks_core.specs.Private.Soonest.{comes_before, NoneEndsBefore}
-use Rattle.dav_locks_core.proofs.Expiring.{sooner-push}
+use Rattle.dav_locks_core.proofs.ends.ExpiringLemmas.{sooner-push}
 use Rattle.dav_locks_core.proofs.memls.expiring.soonest_of.Goals as goal
 
 pub loop-lock-init : goal.loop-lock-init

@@ -1,4 +1,4 @@
-use Rattle.dav_locks_core.proofs.Growing.{same_after}
+use Rattle.dav_locks_core.proofs.trees.GrowingLemmas.{same_after}
 use Rattle.dav_locks_core.proofs.memls.granting.grant.Goals as goal
 
 pub returns-clause-unchanged : goal.returns-clause-unchanged

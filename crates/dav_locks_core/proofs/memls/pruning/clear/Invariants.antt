@@ -1,5 +1,5 @@
 use Rattle.dav_path_core.proofs.trees.Cutting.{known_below}
-use Rattle.dav_locks_core.proofs.Clearing.{ClearsTo}
+use Rattle.dav_locks_core.proofs.trees.ClearingLemmas.{ClearsTo}
 use Rattle.dav_locks_core.proofs.memls.pruning.clear.Given as goal
 
 abbrev pub invariant-loop-child : goal.invariant-loop-child

@@ -2,7 +2,7 @@ use Rattle.std.proofs.Common.{◌<◌, sym, subst}
 use Rattle.dav_path_core.proofs.trees.Cutting.{known_below, fewer}
 use Rattle.dav_locks_core.specs.Private.LockTree.{LockTree}
 use Rattle.dav_locks_core.specs.Private.Pruning.{AllNeeded, SameLocks}
-use Rattle.dav_locks_core.proofs.Pruning.{PrunesTo, prunes_from, prunes_tree, prunes_on, prunes_end}
+use Rattle.dav_locks_core.proofs.trees.PruningLemmas.{PrunesTo, prunes_from, prunes_tree, prunes_on, prunes_end}
 use Rattle.dav_locks_core.proofs.memls.pruning.prune.Goals as goal
 
 pub loop-parent-init : goal.loop-parent-init

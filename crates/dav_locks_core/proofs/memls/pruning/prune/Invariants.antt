@@ -1,5 +1,5 @@
 use Rattle.dav_path_core.proofs.trees.Cutting.{known_below}
-use Rattle.dav_locks_core.proofs.Pruning.{PrunesTo}
+use Rattle.dav_locks_core.proofs.trees.PruningLemmas.{PrunesTo}
 use Rattle.dav_locks_core.proofs.memls.pruning.prune.Given as goal
 
 abbrev pub invariant-loop-parent : goal.invariant-loop-parent

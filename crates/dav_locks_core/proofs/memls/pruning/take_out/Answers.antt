@@ -1,6 +1,6 @@
 use Rattle.std.proofs.Common.{refl, inl, sym, ◌∙◌}
 use Rattle.dav_locks_core.specs.Private.LockTree.{is_segment}
-use Rattle.dav_locks_core.proofs.Subtrees.{no_parent}
+use Rattle.dav_locks_core.proofs.walks.SubtreeLemmas.{no_parent}
 use Rattle.dav_locks_core.proofs.memls.pruning.take_out.Goals as goal
 
 pub returns-in_default : goal.returns-in_default

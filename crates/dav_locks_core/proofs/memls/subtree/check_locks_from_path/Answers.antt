@@ -2,7 +2,7 @@ use Rattle.std.proofs.Common.{ℕ, IfErr, true, refl, sym, subst}
 use Rattle.std.proofs.lemmas.Result.{err_from_is_err_and}
 use Rattle.dav_path_core.specs.Segments.{segments}
 use Rattle.dav_locks_core.specs.Private.SubtreeWalks.{ShowsBelow}
-use Rattle.dav_locks_core.proofs.Subtrees.{way_known}
+use Rattle.dav_locks_core.proofs.walks.SubtreeLemmas.{way_known}
 use Rattle.dav_locks_core.proofs.memls.subtree.check_locks_from_path.Goals as goal
 
 pub find_below-requires : goal.find_below-requires

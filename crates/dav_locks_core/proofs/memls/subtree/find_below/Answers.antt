@@ -1,5 +1,5 @@
 use Rattle.std.proofs.Common.{true, sym, arith}
-use Rattle.dav_locks_core.proofs.SubtreeWalking.{walk_from, walk_on, walk_over, walk_fits}
+use Rattle.dav_locks_core.proofs.walks.WalkLemmas.{walk_from, walk_on, walk_over, walk_fits}
 use Rattle.dav_locks_core.proofs.memls.subtree.find_below.Goals as goal
 
 pub loop-turn-init : goal.loop-turn-init

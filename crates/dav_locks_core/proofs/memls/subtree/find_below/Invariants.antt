@@ -1,5 +1,5 @@
 use Rattle.std.proofs.Common.{true}
-use Rattle.dav_locks_core.proofs.SubtreeWalking.{Walked}
+use Rattle.dav_locks_core.proofs.walks.WalkLemmas.{Walked}
 use Rattle.dav_locks_core.proofs.memls.subtree.find_below.Given as goal
 
 abbrev pub invariant-loop-turn : goal.invariant-loop-turn

@@ -1,5 +1,5 @@
 use Rattle.std.proofs.Common.{sym, ◌∙◌, arith}
-use Rattle.dav_locks_core.proofs.SubtreeWalking.{goes_down, climb_from, climb_over, climb_fits, climb_up, goes_aside, has_parent}
+use Rattle.dav_locks_core.proofs.walks.WalkLemmas.{goes_down, climb_from, climb_over, climb_fits, climb_up, goes_aside, has_parent}
 use Rattle.dav_locks_core.proofs.memls.subtree.next_below.Goals as goal
 
 pub returns-in-Some : goal.returns-in-Some

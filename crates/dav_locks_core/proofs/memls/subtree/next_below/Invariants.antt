@@ -1,4 +1,4 @@
-use Rattle.dav_locks_core.proofs.SubtreeWalking.{ClimbsTo}
+use Rattle.dav_locks_core.proofs.walks.WalkLemmas.{ClimbsTo}
 use Rattle.dav_locks_core.proofs.memls.subtree.next_below.Given as goal
 
 abbrev pub invariant-loop-turn : goal.invariant-loop-turn

@@ -2,9 +2,9 @@ use Rattle.std.proofs.Common.{[], sym, ap, ◌∙◌, subst}
 use Rattle.dav_path_core.specs.Keyed.{lone}
 use Rattle.dav_locks_core.specs.Private.LockTree.{LockTree, locks_at}
 use Rattle.dav_locks_core.specs.Private.Soonest.{NoneEndsBefore}
-use Rattle.dav_locks_core.proofs.Standing.{lone-none}
-use Rattle.dav_locks_core.proofs.Pruning.{lone_needed}
-use Rattle.dav_locks_core.proofs.LockLists.{IsSeenAs, seen-none}
+use Rattle.dav_locks_core.proofs.trees.StandingLemmas.{lone-none}
+use Rattle.dav_locks_core.proofs.trees.PruningLemmas.{lone_needed}
+use Rattle.dav_locks_core.proofs.answers.LockListLemmas.{IsSeenAs, seen-none}
 use Rattle.dav_locks_core.proofs.memls.tests.near_the_end.Goals as goal
 
 empty : (c : goal.In_ok-tree) → IsSeenAs c.in_ok-tree.tree.keyed 18446744073709551614 []

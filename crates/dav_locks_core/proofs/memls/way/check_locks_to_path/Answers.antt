@@ -1,6 +1,6 @@
 use Rattle.std.proofs.Common.{sym}
 use Rattle.dav_path_core.specs.Segments.{segments}
-use Rattle.dav_locks_core.proofs.Ways.{IsFirst-from}
+use Rattle.dav_locks_core.proofs.trees.WayLemmas.{IsFirst-from}
 use Rattle.dav_locks_core.proofs.memls.way.check_locks_to_path.Goals as goal
 
 pub copy_at-requires : goal.copy_at-requires

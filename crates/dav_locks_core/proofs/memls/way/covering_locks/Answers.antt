@@ -1,7 +1,7 @@
 use Rattle.std.proofs.Common.{◌++◌, sym, ap, ◌∙◌}
 use Rattle.dav_path_core.specs.Segments.{segments}
 use Rattle.dav_locks_core.specs.Private.LockTree.{covering_down}
-use Rattle.dav_locks_core.proofs.Discovering.{down-step, down-stuck, down-end}
+use Rattle.dav_locks_core.proofs.answers.DiscoverLemmas.{down-step, down-stuck, down-end}
 use Rattle.dav_locks_core.proofs.memls.way.covering_locks.Goals as goal
 
 pub loop-segment-preserved : goal.loop-segment-preserved

@@ -1,6 +1,6 @@
 use Rattle.std.proofs.Common.{Some, sym, ap, ◌∙◌, subst, ℕ}
 use Rattle.dav_path_core.specs.Keyed.{IsKnown}
-use Rattle.dav_locks_core.proofs.Growing.{Grows, Grows-by, child_known, alone-add}
+use Rattle.dav_locks_core.proofs.trees.GrowingLemmas.{Grows, Grows-by, child_known, alone-add}
 use Rattle.dav_locks_core.proofs.memls.way.get_or_create_child.Goals as goal
 
 grows : (c : goal.In-Ok) → Grows c.args.tree.now.keyed c.add_child.new.self.keyed c.args.node c.args.segment.now

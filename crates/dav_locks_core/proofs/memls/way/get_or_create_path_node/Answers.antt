@@ -1,7 +1,7 @@
 use Rattle.std.proofs.Common.{sym, subst, ◌∙◌}
 use Rattle.dav_path_core.specs.Segments.{segments}
-use Rattle.dav_locks_core.proofs.Growing.{IsMade, IsMade-none, IsMade-more, IsMade-end, IsMade-needed, SameLocks-grown}
-use Rattle.dav_locks_core.proofs.Pruning.{SameLocks-trans}
+use Rattle.dav_locks_core.proofs.trees.GrowingLemmas.{IsMade, IsMade-none, IsMade-more, IsMade-end, IsMade-needed, SameLocks-grown}
+use Rattle.dav_locks_core.proofs.trees.PruningLemmas.{SameLocks-trans}
 use Rattle.dav_locks_core.specs.Private.LockTree.{is_segment}
 use Rattle.dav_locks_core.specs.Private.Pruning.{NeededBut, SameLocks}
 use Rattle.dav_path_core.specs.Keyed.{IsKnown, IsTree}

@@ -1,5 +1,5 @@
 use Rattle.dav_path_core.specs.Segments.{segments}
-use Rattle.dav_locks_core.proofs.Growing.{IsMade}
+use Rattle.dav_locks_core.proofs.trees.GrowingLemmas.{IsMade}
 use Rattle.dav_locks_core.proofs.memls.way.get_or_create_path_node.Given as goal
 
 abbrev pub invariant-loop-segment : goal.invariant-loop-segment

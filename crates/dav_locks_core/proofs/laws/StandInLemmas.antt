@@ -3,7 +3,7 @@ use Rattle.std.proofs.Common.{◌≡◌, inl, inr, Bool, true, false, cond, List
 use Rattle.std.specs.Prelude.{filter}
 use Rattle.dav_locks_core.specs.Lock.{Lock}
 use Rattle.dav_locks_core.specs.Ended.{StandIn}
-use Rattle.dav_locks_core.proofs.ListMembers.{In}
+use Rattle.dav_path_core.proofs.lists.MemberLemmas.{In}
 
 pub StandIn-trans : (a b c : List Lock) → StandIn a b → StandIn b c → StandIn a c
 StandIn-trans [] b c p q = tt

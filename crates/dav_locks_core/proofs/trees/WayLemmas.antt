@@ -14,7 +14,7 @@ use Rattle.dav_path_core.proofs.lists.Orders.{segment_total}
 use Rattle.dav_path_core.proofs.paths.FrontLemmas.{name_test, is_front-parts, is_front-cons}
 use Rattle.dav_locks_core.specs.Lock.{Lock}
 use Rattle.dav_locks_core.specs.Private.LockTree.{NumberedLock, LockTree, locks_at, is_segment, child_at, node_at, first_at, or_else, with_node, lookup_lock}
-use Rattle.dav_locks_core.proofs.ListPlaces.{position-none, position-first}
+use Rattle.dav_path_core.proofs.lists.PlaceLemmas.{position-none, position-first}
 
 -- ---- children by their segments
 

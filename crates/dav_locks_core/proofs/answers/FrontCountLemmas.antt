@@ -27,11 +27,11 @@ use Rattle.dav_locks_core.specs.LockFronts.{fronts_below_root, lock_fronts, fron
 use Rattle.dav_locks_core.specs.Private.LockTree.{NumberedLock, LockTree, is_segment, locks_at, node_at, locks_of}
 use Rattle.dav_locks_core.specs.Private.Pruning.{AllNeeded}
 use Rattle.dav_locks_core.specs.Private.Represents.{Represents}
-use Rattle.dav_locks_core.proofs.ListMembers.{In}
-use Rattle.dav_locks_core.proofs.Numbered.{place_of_found, found_at_place}
-use Rattle.dav_locks_core.proofs.Standing.{locks_of_entry}
-use Rattle.dav_locks_core.proofs.Subtrees.{known_above, way_to, through, front_of, node_at-here}
-use Rattle.dav_locks_core.proofs.Ways.{one_path}
+use Rattle.dav_path_core.proofs.lists.MemberLemmas.{In}
+use Rattle.dav_locks_core.proofs.lists.NumberedLemmas.{place_of_found, found_at_place}
+use Rattle.dav_locks_core.proofs.trees.StandingLemmas.{locks_of_entry}
+use Rattle.dav_locks_core.proofs.walks.SubtreeLemmas.{known_above, way_to, through, front_of, node_at-here}
+use Rattle.dav_locks_core.proofs.trees.WayLemmas.{one_path}
 
 -- ---- members of a list of paths
 

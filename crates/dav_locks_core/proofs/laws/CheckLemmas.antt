@@ -6,9 +6,9 @@ use Rattle.dav_path_core.proofs.paths.FrontLemmas.{is_same_path-same, is_same_pa
 use Rattle.dav_locks_core.specs.Lock.{Lock}
 use Rattle.dav_locks_core.specs.Locks.{Caller, lock_path, reaches, covers, held, any_held, is_at_or_below, refuses_change, check_conflicts}
 use Rattle.dav_locks_core.specs.Held.{HoldsExclusive, HoldsBelow}
-use Rattle.dav_locks_core.proofs.Exclusivity.{two_reach}
-use Rattle.dav_locks_core.proofs.ListLemmas.{none_passes}
-use Rattle.dav_locks_core.proofs.ListMembers.{In, In-Contains, all_in, find_any}
+use Rattle.dav_locks_core.proofs.laws.ExclusiveLemmas.{two_reach}
+use Rattle.dav_path_core.proofs.lists.EachLemmas.{none_passes}
+use Rattle.dav_path_core.proofs.lists.MemberLemmas.{In, In-Contains, all_in, find_any}
 
 -- one lock is held, or neither covers the path alone nor stands below
 no_conflict_at : (locks : List Lock) (q : Path) (deep : Bool) (who : Caller) → check_conflicts locks q deep who ≡ [] → (l : Lock) → In l locks

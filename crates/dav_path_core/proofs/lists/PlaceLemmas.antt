@@ -1,5 +1,5 @@
 -- Places in a list: the first that passes a test, what a filter by it keeps, and whether any passes.
-use Rattle.std.proofs.Common.{◌≡◌, ℕ, zero, suc, ◌+◌, ◌<◌, ◌≤◌, List, [], ◌∷◌, Bool, true, false, cond, length, get_or, Some, None, refl, sym, ◌∙◌, inl, inr, subst, ap, arith}
+use Rattle.std.proofs.Common.{◌≡◌, ℕ, zero, suc, ◌+◌, ◌<◌, ◌≤◌, List, [], ◌∷◌, Bool, true, false, cond, length, get_or, map, Some, None, refl, sym, ◌∙◌, inl, inr, subst, ap, arith}
 use Rattle.std.specs.Prelude.{filter, remove, set, Contains, position, not, nat_lt, ◌||◌, ◌&&◌}
 use Rattle.std.specs.List.{AllByRecursion, position_or_len, prefix_len, list_any}
 use Rattle.std.proofs.lemmas.Bool.{cases_Bool, ltb-false, le-ltb}
@@ -53,6 +53,10 @@ pub filter-all : {X : Type 0} (p : X → Bool) (xs : List X) → AllByRecursion 
 filter-all p [] h = refl
 filter-all p (x ∷ xs) h = ap (λ b. cond b (x ∷ filter p xs) (filter p xs)) h.0 ∙ ap (λ ys. x ∷ ys) (filter-all p xs h.1)
 
+pub filter_all_at : {X : Type 0} (p : X → Bool) (xs : List X) → ((k : ℕ) (d : X) → k < length xs → p (get_or xs k d) ≡ true) → filter p xs ≡ xs
+filter_all_at p [] h = refl
+filter_all_at p (x ∷ xs) h = ap (λ b. cond b (x ∷ filter p xs) (filter p xs)) (h 0 x (omega arith)) ∙ ap (λ ys. x ∷ ys) (filter_all_at p xs (λ k d lt. h (suc k) d (omega (arith, lt))))
+
 -- what doesn't pass may go before
 pub filter-remove : {X : Type 0} (p : X → Bool) (xs : List X) (k : ℕ) → ((d : X) → k < length xs → p (get_or xs k d) ≡ false) → filter p (remove xs k) ≡ filter p xs
 filter-remove p [] zero h = refl
@@ -60,10 +64,10 @@ filter-remove p [] (suc k) h = refl
 filter-remove p (x ∷ xs) zero h = sym (ap (λ b. cond b (x ∷ filter p xs) (filter p xs)) (h x (omega arith)))
 filter-remove p (x ∷ xs) (suc k) h = ap (λ ys. cond (p x) (x ∷ ys) ys) (filter-remove p xs k (λ d lt. h d (omega (arith, lt))))
 
-pub filter-none : {X : Type 0} (p : X → Bool) (xs : List X) → ((k : ℕ) (d : X) → k < length xs → p (get_or xs k d) ≡ false) → filter p xs ≡ []
-filter-none p [] h = refl
-filter-none p (x ∷ xs) h =
-    subst (λ b. cond b (x ∷ filter p xs) (filter p xs) ≡ []) (sym (h 0 x (omega arith))) (filter-none p xs (λ k d lt. h (suc k) d (omega arith)))
+pub filter_none_at : {X : Type 0} (p : X → Bool) (xs : List X) → ((k : ℕ) (d : X) → k < length xs → p (get_or xs k d) ≡ false) → filter p xs ≡ []
+filter_none_at p [] h = refl
+filter_none_at p (x ∷ xs) h =
+    subst (λ b. cond b (x ∷ filter p xs) (filter p xs) ≡ []) (sym (h 0 x (omega arith))) (filter_none_at p xs (λ k d lt. h (suc k) d (omega arith)))
 
 pub filter-contains : {X : Type 0} (p : X → Bool) (xs : List X) (k : ℕ) (d x : X) → k < length xs → get_or xs k d ≡ x → p x ≡ true → Contains (filter p xs) x
 filter-contains p [] k d x h e t = absurd (omega arith)
@@ -99,10 +103,13 @@ filter-again p q (x ∷ xs) = elim (p x) as (λ b. p x ≡ b → filter p (filte
   | false ↦ λ e. filter-again p q xs
 ] refl
 
--- tests that agree keep the same
-pub filter-same : {X : Type 0} (p q : X → Bool) (xs : List X) → ((x : X) → p x ≡ q x) → filter p xs ≡ filter q xs
-filter-same p q [] h = refl
-filter-same p q (x ∷ xs) h = ap (λ b. cond b (x ∷ filter p xs) (filter p xs)) (h x) ∙ ap (λ ys. cond (q x) (x ∷ ys) ys) (filter-same p q xs h)
+-- a filter of what is made of each element
+pub map-filter : {A B : Type 0} (f : A → B) (test : B → Bool) (xs : List A) → map f (filter (λ x. test (f x)) xs) ≡ filter test (map f xs)
+map-filter f test [] = refl
+map-filter f test (x ∷ xs) = elim (test (f x)) as (λ b. map f (cond b (x ∷ filter (λ x. test (f x)) xs) (filter (λ x. test (f x)) xs)) ≡ cond b (f x ∷ filter test (map f xs)) (filter test (map f xs))) [
+  | true ↦ ap (λ r. f x ∷ r) (map-filter f test xs)
+  | false ↦ map-filter f test xs
+]
 
 -- ---- whether any passes
 

@@ -15,13 +15,13 @@ use Rattle.dav_locks_core.specs.Private.Pruning.{AllNeeded, SameLocks}
 use Rattle.dav_locks_core.specs.Private.Represents.{IsLockList, IsLockTree}
 use Rattle.dav_locks_core.specs.Private.Soonest.{comes_before, ends_before, NoneEndsBefore}
 use Rattle.dav_locks_core.specs.Private.SubtreeWalks.{LinkedLocks, NoneUnder, StandsUnder}
-use Rattle.dav_locks_core.proofs.DeepConflicts.{none_below}
-use Rattle.dav_locks_core.proofs.ListLemmas.{none_passes, weaker, all_push, all_set}
-use Rattle.dav_locks_core.proofs.ListPlaces.{position-none, position-first, position-of_none, filter-none, filter-all, filter-remove}
-use Rattle.dav_locks_core.proofs.LockLists.{IsKeptAs, EndsAt, some_granted, seen-end_at, kept-end}
-use Rattle.dav_locks_core.proofs.Numbered.{place_of_found, found_at_place}
-use Rattle.dav_locks_core.proofs.SubtreeWalking.{Walked, walk_weaker}
-use Rattle.dav_locks_core.proofs.Subtrees.{node_at-here}
+use Rattle.dav_locks_core.proofs.answers.DeepConflictLemmas.{none_below}
+use Rattle.dav_path_core.proofs.lists.EachLemmas.{none_passes, weaker, all_push, all_set}
+use Rattle.dav_path_core.proofs.lists.PlaceLemmas.{position-none, position-first, position-of_none, filter_none_at, filter-all, filter-remove}
+use Rattle.dav_locks_core.proofs.answers.LockListLemmas.{IsKeptAs, EndsAt, some_granted, seen-end_at, kept-end}
+use Rattle.dav_locks_core.proofs.lists.NumberedLemmas.{place_of_found, found_at_place}
+use Rattle.dav_locks_core.proofs.walks.WalkLemmas.{Walked, walk_weaker}
+use Rattle.dav_locks_core.proofs.walks.SubtreeLemmas.{node_at-here}
 
 -- ---- moments
 
@@ -49,7 +49,7 @@ pub sooner-push : (moment sooner : ℕ) (locks : List Lock) (l : Lock) → soone
 sooner-push moment sooner locks l le last none = all_push _ locks l (sooner-all locks moment sooner le none) last
 
 pub sooner-set : (moment sooner : ℕ) (locks : List Lock) (k : ℕ) (l : Lock) → sooner ≤ moment → comes_before sooner l.timeout_at ≡ false → NoneEndsBefore moment locks → NoneEndsBefore sooner (set locks k l)
-sooner-set moment sooner locks k l le last none = all_set _ locks k l (sooner-all locks moment sooner le none) last
+sooner-set moment sooner locks k l le last none = all_set _ locks k l l (λ _. last) (sooner-all locks moment sooner le none)
 
 -- ---- the locks at one node
 
@@ -63,7 +63,7 @@ none_at t n moment granted here none = subst (λ xs. position (λ g. ends_before
 sooner_node : (xs : List NumberedLock) (moment sooner : ℕ) → sooner ≤ moment → position (λ g. ends_before moment g.1) xs ≡ None → position (λ g. ends_before sooner g.1) xs ≡ None
 sooner_node xs moment sooner le h =
     position-of_none (λ g. ends_before sooner g.1) xs
-    (none_passes (λ g. ends_before sooner g.1) xs (filter-none (λ g. ends_before sooner g.1) xs (λ k d lt.
+    (none_passes (λ g. ends_before sooner g.1) xs (filter_none_at (λ g. ends_before sooner g.1) xs (λ k d lt.
     earlier (get_or xs k d).1.timeout_at moment sooner le (position-none (λ g. ends_before moment g.1) xs h k d lt))))
 
 -- a walk that has found no lock that ends before a moment has found none for a sooner one
@@ -76,7 +76,7 @@ walk_sooner t shape moment sooner n turn le w =
 -- where no lock passes at the root or below it, none of the list does
 pub none_of_list : (t : LockTree) (next : ℕ) (test : Lock → Bool) → IsLockList t next → NoneUnder test t 1 → AllByRecursion (λ l. test l ≡ false) (lock_list t)
 none_of_list t next test keeps none =
-    none_passes test (lock_list t) (filter-none test (lock_list t) (λ k e lt.
+    none_passes test (lock_list t) (filter_none_at test (lock_list t) (λ k e lt.
     none_below t (all_granted t) next keeps.represents [] test (λ top leads. subst (NoneUnder test t) (same_some 1 top (sym (node_at-here t 1) ∙ leads)) none) k e lt refl))
 
 -- a lock stands at a place of the list

@@ -18,13 +18,14 @@ use Rattle.dav_locks_core.specs.Private.WayTests.{refuses_wanted, is_covering_he
 use Rattle.dav_locks_core.specs.declared.ls.LockError.{LockError}
 use Rattle.dav_locks_core.specs.declared.ls.LockError.TheVariants.{Conflict, OutOfMemory}
 use Rattle.dav_path_core.proofs.trees.Trees.{same_some}
-use Rattle.dav_locks_core.proofs.Clearing.{NeededBut-cleared, Represents-cleared, entry-with_item}
-use Rattle.dav_locks_core.proofs.Discovering.{discovered_down, all_stay, map-filter}
-use Rattle.dav_locks_core.proofs.DeepConflicts.{deep_lock_free, deep_lock_shown, deep_check_free, deep_check_shown, lock_shown_wider, check_shown_wider}
-use Rattle.dav_locks_core.proofs.Exclusivity.{Exclusive-push, Exclusive-remove, Exclusive-filter, Exclusive-refreshed, held_is_enough, all_held}
-use Rattle.dav_locks_core.proofs.Pruning.{NeededBut-changes, all_needed, needed_but}
-use Rattle.dav_locks_core.proofs.Standing.{one_list, Represents-same, Represents-none, Changes, Changes-with_item, Represents-push, Represents-remove, Represents-set}
-use Rattle.dav_locks_core.proofs.Conflicts.{Agrees, wanted, covering, uncovered, asked, no_conflict, conflict, none_is_any, some_is_any, not_found, found_first}
+use Rattle.dav_locks_core.proofs.trees.ClearingLemmas.{NeededBut-cleared, Represents-cleared, entry-with_item}
+use Rattle.dav_locks_core.proofs.answers.DiscoverLemmas.{discovered_down, all_stay}
+use Rattle.dav_path_core.proofs.lists.PlaceLemmas.{map-filter}
+use Rattle.dav_locks_core.proofs.answers.DeepConflictLemmas.{deep_lock_free, deep_lock_shown, deep_check_free, deep_check_shown, lock_shown_wider, check_shown_wider}
+use Rattle.dav_locks_core.proofs.laws.ExclusiveLemmas.{Exclusive-push, Exclusive-remove, Exclusive-filter, Exclusive-refreshed, held_is_enough, all_held}
+use Rattle.dav_locks_core.proofs.trees.PruningLemmas.{NeededBut-changes, all_needed, needed_but}
+use Rattle.dav_locks_core.proofs.trees.StandingLemmas.{one_list, Represents-same, Represents-none, Changes, Changes-with_item, Represents-push, Represents-remove, Represents-set}
+use Rattle.dav_locks_core.proofs.answers.ConflictLemmas.{Agrees, wanted, covering, uncovered, asked, no_conflict, conflict, none_is_any, some_is_any, not_found, found_first}
 
 -- ---- what a tree keeps, by a list that it represents
 

@@ -10,11 +10,11 @@ use Rattle.dav_locks_core.specs.Private.LockTree.{NumberedLock, LockTree, locks_
 use Rattle.dav_locks_core.specs.Private.SubtreeWalks.{StandsUnder, NoneBelow}
 use Rattle.dav_locks_core.specs.Private.WayTests.{refuses_wanted, is_covering_unheld}
 use Rattle.dav_locks_core.specs.Private.Represents.{Represents}
-use Rattle.dav_locks_core.proofs.ListPlaces.{position-none, position-first, filter-none, filter-contains}
-use Rattle.dav_locks_core.proofs.ListLemmas.{none_passes}
-use Rattle.dav_locks_core.proofs.ListMembers.{In, In-Contains, all_in, Contains-In}
-use Rattle.dav_locks_core.proofs.Numbered.{place_of_found, found_at_place}
-use Rattle.dav_locks_core.proofs.Subtrees.{through, front_of}
+use Rattle.dav_path_core.proofs.lists.PlaceLemmas.{position-none, position-first, filter_none_at, filter-contains}
+use Rattle.dav_path_core.proofs.lists.EachLemmas.{none_passes}
+use Rattle.dav_path_core.proofs.lists.MemberLemmas.{In, In-Contains, all_in, Contains-In}
+use Rattle.dav_locks_core.proofs.lists.NumberedLemmas.{place_of_found, found_at_place}
+use Rattle.dav_locks_core.proofs.walks.SubtreeLemmas.{through, front_of}
 
 and_true : (b : Bool) → (b && true) ≡ b
 and_true true = refl
@@ -85,7 +85,7 @@ wider true false d b h = absurd (true≢false (sym h))
 module _ (t : LockTree) (granted : List NumberedLock) (next : ℕ) (r : Represents t granted next) (p : Path) where
   pub deep_lock_free : (shared deep : Bool) → lock_conflicts (locks_of granted) p shared false ≡ [] → (deep ≡ true → NoneBelow (refuses_wanted shared true) t p)
       → lock_conflicts (locks_of granted) p shared deep ≡ []
-  deep_lock_free shared deep none below = filter-none (refuses_lock p shared deep) (locks_of granted) (λ k e lt.
+  deep_lock_free shared deep none below = filter_none_at (refuses_lock p shared deep) (locks_of granted) (λ k e lt.
       let l = get_or (locks_of granted) k e in
       split (not (l.shared && shared)) (covers l p) deep (is_at_or_below l p) (none_at (refuses_lock p shared false) (locks_of granted) none k e lt)
       (λ is under. sym (and_true (not (l.shared && shared))) ∙ none_below t granted next r p (refuses_wanted shared true) (below is) k e lt under))
@@ -97,7 +97,7 @@ module _ (t : LockTree) (granted : List NumberedLock) (next : ℕ) (r : Represen
 
   pub deep_check_free : (deep : Bool) (who : Caller) → check_conflicts (locks_of granted) p false who ≡ [] → (deep ≡ true → NoneBelow (is_covering_unheld who true) t p)
       → check_conflicts (locks_of granted) p deep who ≡ []
-  deep_check_free deep who none below = filter-none (refuses_change (locks_of granted) p deep who) (locks_of granted) (λ k e lt.
+  deep_check_free deep who none below = filter_none_at (refuses_change (locks_of granted) p deep who) (locks_of granted) (λ k e lt.
       let l = get_or (locks_of granted) k e in
       split (not (held l who)) (covers l p && (not l.shared || not (any_held (locks_of granted) p who))) deep (is_at_or_below l p)
       (none_at (refuses_change (locks_of granted) p false who) (locks_of granted) none k e lt)

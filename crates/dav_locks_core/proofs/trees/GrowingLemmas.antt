@@ -13,8 +13,8 @@ use Rattle.dav_path_core.proofs.trees.Trees.{Sets, Sets-insert, child-some, chil
 use Rattle.dav_path_core.proofs.trees.KeyedCuts.{parent_child, Under-mono}
 use Rattle.dav_locks_core.specs.Private.LockTree.{NumberedLock, LockTree, is_segment, child_at, node_at, Grown}
 use Rattle.dav_locks_core.specs.Private.Pruning.{AllNeeded, NeededBut, SameLocks}
-use Rattle.dav_locks_core.proofs.Subtrees.{is_parent, way_stays}
-use Rattle.dav_locks_core.proofs.Ways.{child_at-is, child_at-from, is_segment-refl}
+use Rattle.dav_locks_core.proofs.walks.SubtreeLemmas.{is_parent, way_stays}
+use Rattle.dav_locks_core.proofs.trees.WayLemmas.{child_at-is, child_at-from, is_segment-refl}
 
 -- ---- the same locks once more
 

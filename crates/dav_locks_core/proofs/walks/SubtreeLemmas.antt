@@ -12,7 +12,7 @@ use Rattle.dav_path_core.proofs.trees.KeyedCuts.{parent_child}
 use Rattle.dav_path_core.proofs.trees.Trees.{none≢some, same_some, known_from_child}
 use Rattle.dav_path_core.proofs.children.Walks.{parent_known}
 use Rattle.dav_locks_core.specs.Private.LockTree.{LockTree, is_segment, child_at, node_at}
-use Rattle.dav_locks_core.proofs.Ways.{child_at-is, child_at-from, one_path}
+use Rattle.dav_locks_core.proofs.trees.WayLemmas.{child_at-is, child_at-from, one_path}
 
 -- ---- numbers that lead to one
 

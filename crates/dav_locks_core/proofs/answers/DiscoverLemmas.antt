@@ -8,6 +8,7 @@ use Rattle.std.specs.FinMap.{find, nat_cmp-IsAntisymmetric}
 use Rattle.std.specs.FinMap.Entries.{same_entries}
 use Rattle.std.proofs.lemmas.Bool.{eq-eqb, eqb-true, and_parts, or_cases, true≢false, false_from_ne_true}
 use Rattle.std.proofs.lemmas.List.{length-append, length-map, get_or-map}
+use Rattle.std.proofs.lemmas.List.Elements.{filter_agree}
 use Rattle.dav_path_core.specs.Fronts.{Segment, Path, is_front, is_same_path}
 use Rattle.dav_path_core.proofs.paths.FrontLemmas.{is_same_path-same, is_same_path-refl, is_front-refl, is_front-parts, is_front-cons}
 use Rattle.dav_path_core.proofs.trees.Trees.{none≢some, same_some}
@@ -15,40 +16,10 @@ use Rattle.dav_locks_core.specs.Lock.{Lock}
 use Rattle.dav_locks_core.specs.Locks.{lock_path, covers, height, covering_at, covering_from, discovered, is_at_or_below, without_below}
 use Rattle.dav_locks_core.specs.Private.LockTree.{NumberedLock, LockTree, locks_at, child_at, node_at, locks_of, covering_down}
 use Rattle.dav_locks_core.specs.Private.Represents.{Represents}
-use Rattle.dav_locks_core.proofs.Numbered.{kept_if, find-filter, InOrder-filter, found_at_place}
-use Rattle.dav_locks_core.proofs.ListPlaces.{filter-none}
-use Rattle.dav_locks_core.proofs.Subtrees.{node_at-append, node_at-step, node_at-stuck, node_at-here, through, is_front-append}
-use Rattle.dav_locks_core.proofs.Ways.{one_path}
-
--- ---- filters
-
-pub filter-same : {X : Type 0} (f g : X → Bool) (xs : List X) → ((x : X) → f x ≡ g x) → filter f xs ≡ filter g xs
-filter-same f g xs h = ap (λ f. filter f xs) (λ i x. h x i)
-
-pub filter-both : {X : Type 0} (f g : X → Bool) (xs : List X) → filter f (filter g xs) ≡ filter (λ x. g x && f x) xs
-filter-both f g [] = refl
-filter-both f g (x ∷ xs) = elim (g x) as (λ b. filter f (cond b (x ∷ filter g xs) (filter g xs)) ≡ cond (b && f x) (x ∷ filter (λ x. g x && f x) xs) (filter (λ x. g x && f x) xs)) [
-  | true ↦ (elim (f x) as (λ b. cond b (x ∷ filter f (filter g xs)) (filter f (filter g xs)) ≡ cond b (x ∷ filter (λ x. g x && f x) xs) (filter (λ x. g x && f x) xs)) [
-    | true ↦ ap (λ r. x ∷ r) (filter-both f g xs)
-    | false ↦ filter-both f g xs
-  ])
-  | false ↦ filter-both f g xs
-]
-
-filter-all : {X : Type 0} (xs : List X) → filter (λ x. true) xs ≡ xs
-filter-all [] = refl
-filter-all (x ∷ xs) = ap (λ r. x ∷ r) (filter-all xs)
-
-pub map-filter : {A B : Type 0} (f : A → B) (test : B → Bool) (xs : List A) → map f (filter (λ x. test (f x)) xs) ≡ filter test (map f xs)
-map-filter f test [] = refl
-map-filter f test (x ∷ xs) = elim (test (f x)) as (λ b. map f (cond b (x ∷ filter (λ x. test (f x)) xs) (filter (λ x. test (f x)) xs)) ≡ cond b (f x ∷ filter test (map f xs)) (filter test (map f xs))) [
-  | true ↦ ap (λ r. f x ∷ r) (map-filter f test xs)
-  | false ↦ map-filter f test xs
-]
-
-keeps_all : {X : Type 0} (test : X → Bool) (xs : List X) → ((k : ℕ) (d : X) → k < length xs → test (get_or xs k d) ≡ true) → filter test xs ≡ xs
-keeps_all test [] h = refl
-keeps_all test (x ∷ xs) h = ap (λ b. cond b (x ∷ filter test xs) (filter test xs)) (h 0 x (omega arith)) ∙ ap (λ r. x ∷ r) (keeps_all test xs (λ k d lt. h (suc k) d (omega (arith, lt))))
+use Rattle.dav_locks_core.proofs.lists.NumberedLemmas.{kept_if, find-filter, InOrder-filter, found_at_place}
+use Rattle.dav_path_core.proofs.lists.PlaceLemmas.{filter_none_at, filter_all_at, filter-filter, map-filter}
+use Rattle.dav_locks_core.proofs.walks.SubtreeLemmas.{node_at-append, node_at-step, node_at-stuck, node_at-here, through, is_front-append}
+use Rattle.dav_locks_core.proofs.trees.WayLemmas.{one_path}
 
 -- ---- a covering lock by the number of its segments
 
@@ -142,7 +113,7 @@ module _ (t : LockTree) (n : ℕ) where
   pub down-end : (before now : List Lock) (here : List NumberedLock) → here ≡ locks_at t n → now ≡ before ++ filter (λ l. true) (locks_of here) → before ++ covering_down t n [] ≡ now
   unfolding covering_down
   down-end before now here at added =
-      ap (λ (h : List NumberedLock). before ++ locks_of h) (sym at) ∙ ap (λ xs. before ++ xs) (sym (filter-all (locks_of here))) ∙ sym added
+      ap (λ (h : List NumberedLock). before ++ locks_of h) (sym at) ∙ ap (λ xs. before ++ xs) (sym (filter_all_at (λ _. true) (locks_of here) (λ _ _ _. refl))) ∙ sym added
 
 -- ---- the locks at a node
 
@@ -184,8 +155,8 @@ module _ (t : LockTree) (granted : List NumberedLock) (next : ℕ) (r : Represen
   covering_here : (q s : Path) (m : ℕ) → node_at t 1 q ≡ Some m → filter (λ l. cond (goes_on s) l.deep true) (locks_of (locks_at t m)) ≡ covering_at (locks_of granted) (q ++ s) (length q)
   covering_here q s m leads =
       ap (filter (λ (l : Lock). cond (goes_on s) l.deep true)) (locks_at_path q m leads)
-      ∙ filter-both (λ (l : Lock). cond (goes_on s) l.deep true) (λ l. is_same_path (lock_path l) q) (locks_of granted)
-      ∙ filter-same _ _ (locks_of granted) (λ l. sym (covering_test l q s))
+      ∙ filter-filter (λ (l : Lock). cond (goes_on s) l.deep true) (λ l. is_same_path (lock_path l) q) (locks_of granted)
+      ∙ filter_agree _ _ (λ l. sym (covering_test l q s)) (locks_of granted)
 
   -- no lock stands at or below a path that leads nowhere
   no_lock : (q : Path) → node_at t 1 q ≡ None → (j : ℕ) (d : NumberedLock) → j < length granted → is_front q (lock_path (get_or granted j d).1) ≡ true → ⊥
@@ -205,7 +176,7 @@ module _ (t : LockTree) (granted : List NumberedLock) (next : ℕ) (r : Represen
   none_beyond : (q s : Path) → node_at t 1 q ≡ None → (n more : ℕ) → length q ≤ n → covering_from (locks_of granted) (q ++ s) n more ≡ []
   none_beyond q s stuck n zero le = refl
   none_beyond q s stuck n (suc more) le =
-      ap (λ xs. xs ++ covering_from (locks_of granted) (q ++ s) (n + 1) more) (filter-none _ (locks_of granted) none) ∙ none_beyond q s stuck (n + 1) more (omega (arith, le))
+      ap (λ xs. xs ++ covering_from (locks_of granted) (q ++ s) (n + 1) more) (filter_none_at _ (locks_of granted) none) ∙ none_beyond q s stuck (n + 1) more (omega (arith, le))
     where
       none : (j : ℕ) (e : Lock) → j < length (locks_of granted) → (covers (get_or (locks_of granted) j e) (q ++ s) && (height (get_or (locks_of granted) j e) == n)) ≡ false
       none j e lt =
@@ -219,7 +190,7 @@ module _ (t : LockTree) (granted : List NumberedLock) (next : ℕ) (r : Represen
 
   covering_on : (s : Path) (q : Path) (m : ℕ) → node_at t 1 q ≡ Some m → covering_down t m s ≡ covering_from (locks_of granted) (q ++ s) (length q) (suc (length s))
   unfolding covering_down
-  covering_on [] q m leads = sym (filter-all (locks_of (locks_at t m))) ∙ covering_here q [] m leads ∙ sym (append-nil (covering_at (locks_of granted) (q ++ []) (length q)))
+  covering_on [] q m leads = sym (filter_all_at (λ _. true) (locks_of (locks_at t m)) (λ _ _ _. refl)) ∙ covering_here q [] m leads ∙ sym (append-nil (covering_at (locks_of granted) (q ++ []) (length q)))
   covering_on (x ∷ s) q m leads = by (λ c. covering_on s (q ++ x ∷ []) c) (child_at t m x) refl
     where
       whole : (q ++ x ∷ []) ++ s ≡ q ++ x ∷ s
@@ -249,7 +220,7 @@ module _ (t : LockTree) (granted : List NumberedLock) (next : ℕ) (r : Represen
 
   -- and none goes with it
   pub all_stay : (q : Path) → node_at t 1 q ≡ None → without_below q (locks_of granted) ≡ locks_of granted
-  all_stay q stuck = keeps_all (λ l. not (is_at_or_below l q)) (locks_of granted) (λ j e lt.
+  all_stay q stuck = filter_all_at (λ l. not (is_at_or_below l q)) (locks_of granted) (λ j e lt.
       let at = locks_of_at j e lt in
       let l = get_or (locks_of granted) j e in
       ap not (false_from_ne_true (is_front q (lock_path l)) (λ f. no_lock q stuck j (0, e) at.0 (ap (λ (l : Lock). is_front q (lock_path l)) (sym at.1) ∙ f))))

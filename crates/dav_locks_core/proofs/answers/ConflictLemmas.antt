@@ -12,10 +12,10 @@ use Rattle.dav_locks_core.specs.Locks.{lock_path, covers, height, held, Caller, 
 use Rattle.dav_locks_core.specs.Private.LockTree.{NumberedLock, LockTree, locks_at, node_at, lookup_lock, locks_of}
 use Rattle.dav_locks_core.specs.Private.WayTests.{refuses_wanted, is_covering_held, is_covering_unheld, has_that_token}
 use Rattle.dav_locks_core.specs.Private.Represents.{Represents}
-use Rattle.dav_locks_core.proofs.Numbered.{place_of_found, found_at_place, lower_at}
-use Rattle.dav_locks_core.proofs.ListPlaces.{filter-none, filter-contains, any-none}
-use Rattle.dav_locks_core.proofs.FoundLemmas.{IsBest, found-none, found-best}
-use Rattle.dav_locks_core.proofs.Ways.{IsFirst, IsFirst-from, NoneOnWay-from, one_path}
+use Rattle.dav_locks_core.proofs.lists.NumberedLemmas.{place_of_found, found_at_place, lower_at}
+use Rattle.dav_path_core.proofs.lists.PlaceLemmas.{filter_none_at, filter-contains, any-none}
+use Rattle.dav_locks_core.proofs.laws.FoundLemmas.{IsBest, found-none, found-best}
+use Rattle.dav_locks_core.proofs.trees.WayLemmas.{IsFirst, IsFirst-from, NoneOnWay-from, one_path}
 
 -- a test of the locks on a way to p, and a test of all locks: they agree on the way, and no other lock passes
 pub record Agrees (on_way : Bool → Lock → Bool) (of_all : Lock → Bool) (p : Path) : Type 0 where
@@ -129,7 +129,7 @@ module _ (t : LockTree) (granted : List NumberedLock) (next : ℕ) (r : Represen
 
   -- no conflict
   pub no_conflict : lookup_lock on_way t 1 p ≡ None → filter of_all (locks_of granted) ≡ []
-  no_conflict h = filter-none of_all (locks_of granted) (none_of_locks h)
+  no_conflict h = filter_none_at of_all (locks_of granted) (none_of_locks h)
 
   pub none_is_any : lookup_lock on_way t 1 p ≡ None → list_any of_all (locks_of granted) ≡ false
   none_is_any h = any-none of_all (locks_of granted) (none_of_locks h)

@@ -7,7 +7,7 @@ use Rattle.dav_path_core.specs.Fronts.{Path}
 use Rattle.dav_locks_core.specs.Lock.{Lock}
 use Rattle.dav_locks_core.specs.Locks.{found, found_from, found_here, better, height, refreshed}
 use Rattle.dav_locks_core.specs.Ended.{SameButTimes, LocksEnded}
-use Rattle.dav_locks_core.proofs.ListMembers.{In}
+use Rattle.dav_path_core.proofs.lists.MemberLemmas.{In}
 
 pub LocksEnded-refl : (gone : Lock → Bool) (locks : List Lock) → LocksEnded gone locks locks
 LocksEnded-refl gone [] = tt

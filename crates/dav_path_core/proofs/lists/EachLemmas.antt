@@ -1,5 +1,5 @@
 -- Facts on each element of a list, and filters that keep nothing.
-use Rattle.std.proofs.Common.{◌≡◌, inl, inr, ℕ, zero, suc, Bool, true, false, cond, ◌||◌, List, [], ◌∷◌, ◌++◌, map, subst, refl, ap, ◌∙◌}
+use Rattle.std.proofs.Common.{◌≡◌, inl, inr, ℕ, zero, suc, Bool, true, false, cond, ◌||◌, List, [], ◌∷◌, ◌++◌, get_or, map, subst, refl, ap, ◌∙◌}
 use Rattle.std.specs.Prelude.{filter, remove, set}
 use Rattle.std.specs.List.{AllByRecursion, list_any}
 use Rattle.std.proofs.lemmas.Bool.{cases_Bool}
@@ -37,11 +37,12 @@ all_remove P [] (suc k) h = tt
 all_remove P (x ∷ xs) zero h = h.1
 all_remove P (x ∷ xs) (suc k) h = (h.0, all_remove P xs k h.1)
 
-pub all_set : {A : Type 0} (P : A → Type 0) (xs : List A) (k : ℕ) (y : A) → AllByRecursion P xs → P y → AllByRecursion P (set xs k y)
-all_set P [] zero y h k = tt
-all_set P [] (suc n) y h k = tt
-all_set P (x ∷ xs) zero y h k = (k, h.1)
-all_set P (x ∷ xs) (suc n) y h k = (h.0, all_set P xs n y h.1 k)
+-- another value in the place of one
+pub all_set : {A : Type 0} (P : A → Type 0) (xs : List A) (k : ℕ) (y d : A) → (P (get_or xs k d) → P y) → AllByRecursion P xs → AllByRecursion P (set xs k y)
+all_set P [] zero y d f h = tt
+all_set P [] (suc k) y d f h = tt
+all_set P (x ∷ xs) zero y d f h = (f h.0, h.1)
+all_set P (x ∷ xs) (suc k) y d f h = (h.0, all_set P xs k y d f h.1)
 
 pub any_map : {A B : Type 0} (f : A → B) (p : B → Bool) (xs : List A) → list_any p (map f xs) ≡ list_any (λ x. p (f x)) xs
 any_map f p [] = refl

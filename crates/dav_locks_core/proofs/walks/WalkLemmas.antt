@@ -15,8 +15,8 @@ use Rattle.dav_path_core.proofs.children.Walks.{parent_known}
 use Rattle.dav_locks_core.specs.Lock.{Lock}
 use Rattle.dav_locks_core.specs.Private.LockTree.{is_segment, first_at}
 use Rattle.dav_locks_core.specs.Private.SubtreeWalks.{LinkedLocks, right_behind, further, Later, beside, above, ToCome, GoesOn, IsOver, NoneUnder}
-use Rattle.dav_locks_core.proofs.Subtrees.{Under-up, Under-step, one_above, not_below_child}
-use Rattle.dav_locks_core.proofs.Siblings.{first_is_child, child_from_first, no_first, follows_parent, Follows-next, Follows-none}
+use Rattle.dav_locks_core.proofs.walks.SubtreeLemmas.{Under-up, Under-step, one_above, not_below_child}
+use Rattle.dav_locks_core.proofs.walks.SiblingLemmas.{first_is_child, child_from_first, no_first, follows_parent, Follows-next, Follows-none}
 
 module _ (t : LinkedLocks) (top : ℕ) where
   -- the walk has met all at and below `at`, which is n or above it

@@ -8,8 +8,8 @@ use Rattle.dav_path_core.proofs.paths.FrontLemmas.{is_same_path-same, is_same_pa
 use Rattle.dav_locks_core.specs.Lock.{Lock}
 use Rattle.dav_locks_core.specs.Locks.{Caller, lock_path, covers, held, any_held, compatible, refuses_lock, lock_conflicts, refuses_change, check_conflicts, is_at_or_below, refreshed}
 use Rattle.dav_locks_core.specs.Exclusive.{Compat, Exclusive}
-use Rattle.dav_locks_core.proofs.ListMembers.{In, all_in, find_any}
-use Rattle.dav_locks_core.proofs.ListLemmas.{none_passes, filter_none, weaker, all_filter, all_push, all_remove}
+use Rattle.dav_path_core.proofs.lists.MemberLemmas.{In, all_in, find_any}
+use Rattle.dav_path_core.proofs.lists.EachLemmas.{none_passes, filter_none, weaker, all_filter, all_push, all_remove, all_set}
 
 -- two that reach one path, each at its path or, where it is deep, below: the first reaches the second's path, or stands below a deep second
 pub two_reach : (a q p : Path) (da dq : Bool) → (is_same_path a p || (da && is_front a p)) ≡ true → (is_same_path q p || (dq && is_front q p)) ≡ true
@@ -64,12 +64,6 @@ Exclusive-remove (l ∷ locks) zero h = h.1
 Exclusive-remove (l ∷ locks) (suc k) h = (all_remove (Compat l) locks k h.0, Exclusive-remove locks k h.1)
 
 -- another timeout changes nothing of what a lock covers
-all_set : (P : Lock → Type 0) (locks : List Lock) (k : ℕ) (y d : Lock) → (P (get_or locks k d) → P y) → AllByRecursion P locks → AllByRecursion P (set locks k y)
-all_set P [] zero y d h a = tt
-all_set P [] (suc k) y d h a = tt
-all_set P (l ∷ locks) zero y d h a = (h a.0, a.1)
-all_set P (l ∷ locks) (suc k) y d h a = (a.0, all_set P locks k y d h a.1)
-
 pub Exclusive-refreshed : (locks : List Lock) (k now : ℕ) (timeout : Option ℕ) (d : Lock) → Exclusive locks → Exclusive (set locks k (refreshed now timeout (get_or locks k d)))
 Exclusive-refreshed [] zero now timeout d h = tt
 Exclusive-refreshed [] (suc k) now timeout d h = tt

@@ -15,9 +15,9 @@ use Rattle.dav_locks_core.specs.Locks as locks
 use Rattle.dav_locks_core.specs.Private.LockTree.{NumberedLock, LockTree, locks_at, is_segment, child_at, node_at, all_standing, all_granted, or_else}
 use Rattle.dav_locks_core.specs.Private.Pruning.{SameLocks}
 use Rattle.dav_locks_core.specs.Private.Represents.{Represents}
-use Rattle.dav_locks_core.proofs.Subtrees.{way_stays}
-use Rattle.dav_locks_core.proofs.Numbered.{InOrder, AllBelow, find-later, in_order_tail, found_at_place, find-push, InOrder-push, InOrder-remove, found-removed, found-kept, InOrder-set, find-set}
-use Rattle.dav_locks_core.proofs.Ways.{child_at-is, child_at-from}
+use Rattle.dav_locks_core.proofs.walks.SubtreeLemmas.{way_stays}
+use Rattle.dav_locks_core.proofs.lists.NumberedLemmas.{InOrder, AllBelow, find-later, in_order_tail, found_at_place, find-push, InOrder-push, InOrder-remove, found-removed, found-kept, InOrder-set, find-set}
+use Rattle.dav_locks_core.proofs.trees.WayLemmas.{child_at-is, child_at-from}
 
 -- ---- one list
 

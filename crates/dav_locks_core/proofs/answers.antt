@@ -1,0 +1,5 @@
+pub mod ConflictLemmas
+pub mod DeepConflictLemmas
+pub mod DiscoverLemmas
+pub mod FrontCountLemmas
+pub mod LockListLemmas

@@ -1,0 +1,5 @@
+pub mod CheckLemmas
+pub mod EndedLemmas
+pub mod ExclusiveLemmas
+pub mod FoundLemmas
+pub mod StandInLemmas

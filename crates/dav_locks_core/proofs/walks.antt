@@ -1,0 +1,3 @@
+pub mod SiblingLemmas
+pub mod SubtreeLemmas
+pub mod WalkLemmas

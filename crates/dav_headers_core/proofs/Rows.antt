@@ -14,7 +14,7 @@ use Rattle.dav_headers_core.specs.Languages.{language_header}
 use Rattle.dav_headers_core.specs.Destinations.{destination_header}
 use Rattle.dav_headers_core.specs.declared.davheaders.depths.Depth.TheVariants as depth
 use Rattle.dav_headers_core.specs.declared.davheaders.timeouts.DavTimeout.TheVariants.{Seconds, Infinite}
-use Rattle.dav_headers_core.specs.declared.davheaders.update_range.XUpdateRange.TheVariants.{FromTo, AllFrom, Last}
+use Rattle.dav_headers_core.specs.declared.davheaders.update_ranges.XUpdateRange.TheVariants.{FromTo, AllFrom, Last}
 
 abbrev one : List ℕ → List FieldValue
 one bytes = plain_value bytes ∷ []

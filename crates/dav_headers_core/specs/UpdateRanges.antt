@@ -6,8 +6,8 @@ use Rattle.dav_headers_core.specs.Optional.{◌>>=◌}
 use Rattle.dav_headers_core.specs.Values.{one_text}
 use Rattle.dav_headers_core.specs.Numbers.{number}
 use Rattle.dav_headers_core.specs.Behind.{behind}
-use Rattle.dav_headers_core.specs.declared.davheaders.update_range.XUpdateRange.{XUpdateRange}
-use Rattle.dav_headers_core.specs.declared.davheaders.update_range.XUpdateRange.TheVariants.{FromTo, AllFrom, Last, Append}
+use Rattle.dav_headers_core.specs.declared.davheaders.update_ranges.XUpdateRange.{XUpdateRange}
+use Rattle.dav_headers_core.specs.declared.davheaders.update_ranges.XUpdateRange.TheVariants.{FromTo, AllFrom, Last, Append}
 
 abbrev pub is_dash : ℕ → Bool
 is_dash b = b == 45

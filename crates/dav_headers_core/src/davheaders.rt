@@ -1,4 +1,6 @@
-//! Headers: their names, and what their values say.
+//! Headers: their names, and what their values say. What a clause sees of a value is its bytes; one definition a header says what the values mean,
+//! as `depth_header` does, a function into `Option`. Of `If` it is a grammar.
+//! Read `Depth::decode` first, and `If::decode` for the grammar.
 mod depths;
 mod destinations;
 mod errors;
@@ -11,7 +13,7 @@ mod overwrites;
 mod tag_lists;
 mod texts;
 mod timeouts;
-mod update_range;
+mod update_ranges;
 mod urls;
 mod values;
 
@@ -30,4 +32,4 @@ pub use overwrites::Overwrite;
 pub use tag_lists::{ETagList, IfMatch, IfNoneMatch};
 pub use texts::{ContentLocation, ContentType, LockToken, XLitmus};
 pub use timeouts::{DavTimeout, Timeout, timeouts_round_trip};
-pub use update_range::{XUpdateRange, ranges_round_trip};
+pub use update_ranges::{XUpdateRange, ranges_round_trip};

@@ -66,19 +66,11 @@ Does m (Command.GetProps path content) now result m' = DoesAs (tells m Props (ge
 Does m (Command.GetProp path wanted) now result m' = DoesAs (tells m Value (get_prop m path wanted)) m result m'
 Does m _ now result m' = ⊥
 
--- its work on the map takes memory
+-- its work on the map takes memory: that of all commands on the map but these two
 abbrev pub takes_map_memory : Command → Bool
-takes_map_memory (Command.Put path bytes) = true
-takes_map_memory (Command.Write path at bytes) = true
-takes_map_memory (Command.Read path at count) = true
-takes_map_memory (Command.List path) = true
-takes_map_memory (Command.MkCol path) = true
-takes_map_memory (Command.Move from to) = true
-takes_map_memory (Command.Copy from to) = true
-takes_map_memory (Command.PatchProps path patch) = true
-takes_map_memory (Command.GetProps path content) = true
-takes_map_memory (Command.GetProp path wanted) = true
-takes_map_memory _ = false
+takes_map_memory (Command.Meta path) = false
+takes_map_memory (Command.Remove path) = false
+takes_map_memory command = is_on_map command
 
 -- the locks that stand once it is done: where something goes, the locks there and below go with it
 abbrev pub locks_left : Command → List Lock → List Lock

@@ -66,7 +66,8 @@ Effect (Command.Discover path) s r reply s' = (reply ≡ Locks (discovered s.loc
 Effect (Command.Check path deep) s r reply s' = (reply ≡ Done) × Same s s'
 Effect command s r reply s' = Does s.map command r.now (Ok reply) s'.map × IsState s' s'.map (locks_left command s.locks) s.rng
 
--- Each answer, and when it comes: a refusal leaves the state, and out of memory comes at any time.
+-- Each answer, and when it comes. A refusal leaves the state. Out of memory comes only to a command whose checks, or whose work, may
+-- lack memory, and then in place of any other answer.
 abbrev pub Serves : State → Request → Answer → State → Type 0
 Serves s r (Err (Locked l)) s' = Contains (conflicts s r) l × Same s s'
 Serves s r (Err OutOfMemory) s' = MayLackMemory r.command s r × Same s s'

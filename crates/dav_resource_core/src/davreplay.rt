@@ -11,13 +11,14 @@ mod playing;
 use crate::guarded::Guarded;
 use dav_files_core::fs::Moment;
 use labels::Labels;
+use line_streams::{Fault, read_line};
 use lines::{Unread, request_of};
 use numbers::number;
 use playing::Player;
 use rand_core::SeedableRng;
 use rand_pcg::Pcg64;
-use std::alloc::{AllocError, Global};
-use std::io::{self, BufRead, BufReader, BufWriter, ErrorKind, Read, Write};
+use std::alloc::Global;
+use std::io::{BufReader, BufWriter, Read, Write};
 
 /// The answer to a line for which there is no memory.
 const OUT_OF_MEMORY: &[u8] = b"out of memory\n";
@@ -51,55 +52,28 @@ pub fn replay<I: Read + Drop, O: Write + Drop, E: Write + Drop>(
 ) -> u8
     ensures { (result ≡ 0) ⊎ (result ≡ 2) ⊎ (result ≡ 3) }
 {
-    let Err(stop) = play(alloc, seed, input, output) else {
-        return 0;
-    };
-    let _written = match stop {
-        Stop::Malformed(line) => writeln!(faults, "line {line}: malformed"),
-        Stop::Io => faults.write_all(b"i/o error\n"),
-        Stop::OutOfMemory => faults.write_all(OUT_OF_MEMORY),
-    };
-    match stop {
-        Stop::Malformed(_) => 2,
-        Stop::Io | Stop::OutOfMemory => 3,
-    }
-}
-
-/// Why lines are read no further.
-#[derive(Clone, Copy)]
-enum Stop {
-    /// The line of this number, from 1, has a wrong form.
-    Malformed(u64),
-    /// The input or the output failed.
-    Io,
-    /// There is no memory outside a line.
-    OutOfMemory,
-}
-
-impl From<io::Error> for Stop {
-    fn from(error: io::Error) -> Stop {
-        match error.kind() {
-            ErrorKind::OutOfMemory => Stop::OutOfMemory,
-            _ => Stop::Io,
+    match play(alloc, seed, input, output) {
+        Ok(None) => 0,
+        Ok(Some(line)) => {
+            let _written = writeln!(faults, "line {line}: malformed");
+            2
+        }
+        Err(fault) => {
+            let _written = faults.write_all(fault.text());
+            3
         }
     }
 }
 
-impl From<AllocError> for Stop {
-    fn from(_: AllocError) -> Stop {
-        Stop::OutOfMemory
-    }
-}
-
-// What was answered before a fault is written before the fault is told.
+// The number of a line of a wrong form, where there is one, from 1. What was answered before it, and before a fault, is written first.
 fn play<I: Read + Drop, O: Write + Drop>(
     alloc: Global,
     seed: u64,
     input: I,
     output: O,
-) -> Result<(), Stop> {
+) -> Result<Option<u64>, Fault> {
     let Ok(stores) = Guarded::new(alloc, Moment(0)) else {
-        return Err(Stop::OutOfMemory);
+        return Err(Fault::OutOfMemory);
     };
     let mut player = Player {
         stores,
@@ -113,59 +87,38 @@ fn play<I: Read + Drop, O: Write + Drop>(
     played
 }
 
-// One line at a time, in one buffer.
+// One line at a time, in one buffer, up to one of a wrong form.
 fn play_lines<I: Read + Drop, O: Write + Drop>(
     alloc: Global,
     player: &mut Player,
     input: &mut BufReader<I>,
     output: &mut BufWriter<O>,
-) -> Result<(), Stop> {
+) -> Result<Option<u64>, Fault> {
     let mut line = Vec::new(alloc);
     for number in 1..u64::MAX {
         if !read_line(input, &mut line, output)? {
-            return Ok(());
+            return Ok(None);
         }
-        play_line(alloc, player, number, &line, output)?;
+        if !play_line(alloc, player, &line, output)? {
+            return Ok(Some(number));
+        }
     }
-    Ok(())
+    Ok(None)
 }
 
-// The next line without its end, if there is one. What is answered is told before more input is waited for.
-fn read_line<I: Read + Drop, O: Write + Drop>(
-    input: &mut BufReader<I>,
-    line: &mut Vec<u8>,
-    output: &mut BufWriter<O>,
-) -> Result<bool, Stop> {
-    line.clear();
-    if let Some(end) = input.buffer().iter().position(|byte| *byte == b'\n') {
-        line.extend_from_slice(&input.buffer()[..end])?;
-        input.consume(end + 1);
-        return Ok(true);
-    }
-    output.flush()?;
-    if input.read_until(b'\n', line)? == 0 {
-        return Ok(false);
-    }
-    if line.ends_with(b"\n") {
-        let _ended = line.pop();
-    }
-    Ok(true)
-}
-
-// Answers the line of that number.
+// Answers a line, and tells whether it has a right form.
 fn play_line<O: Write + Drop>(
     alloc: Global,
     player: &mut Player,
-    number: u64,
     line: &[u8],
     output: &mut BufWriter<O>,
-) -> Result<(), Stop> {
+) -> Result<bool, Fault> {
     match request_of(alloc, &player.labels, line) {
         Ok(Some(request)) => player.answer(&request, output)?,
         Ok(None) => {}
-        Err(Unread::Malformed) => return Err(Stop::Malformed(number)),
+        Err(Unread::Malformed) => return Ok(false),
         Err(Unread::BadPath(error)) => writeln!(output, "bad path {error}")?,
         Err(Unread::OutOfMemory) => output.write_all(OUT_OF_MEMORY)?,
     }
-    Ok(())
+    Ok(true)
 }

@@ -1,4 +1,6 @@
-//! Requests on the stores.
+//! Requests on the stores. What a clause sees of a `Guarded` is its two stores, a resource map and a list of locks (`Stores`); requests and answers are
+//! plain data there (`request_of`, `answer_of`), and `Step` says what one request does.
+//! Read `apply` first, and then `run`.
 ghost use Rattle.std.specs.Prelude.{◌≡◌, ℕ, List, ◌≤◌, ◌<◌, ◌+◌, ◌++◌, ◌∷◌, [], map, vec_len, vec_capacity, IfOk, OnOk, OnErr, MatchResult};
 ghost use Rattle.rand_core.specs.Stream.{Stream};
 ghost use Rattle.dav_files_core.specs.Resources.{IsResourceMap};

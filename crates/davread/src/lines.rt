@@ -3,33 +3,16 @@ use crate::headers::{self, Header};
 use crate::refusals::Refusal;
 use crate::words::words_of;
 use crate::{equality, methods, paths};
-use std::alloc::{AllocError, Global};
-use std::io::{self, BufRead, BufReader, BufWriter, ErrorKind, Read, Write};
+use line_streams::{Fault, read_line};
+use std::alloc::Global;
+use std::io::{BufReader, BufWriter, Read, Write};
 
-/// Why lines are read no further.
-#[derive(Clone, Copy)]
-pub enum Stop {
-    /// The input or the output failed.
-    Io,
-    /// There is no memory outside a line.
-    OutOfMemory,
-}
-
-impl From<io::Error> for Stop {
-    fn from(error: io::Error) -> Stop {
-        match error.kind() {
-            ErrorKind::OutOfMemory => Stop::OutOfMemory,
-            _ => Stop::Io,
-        }
-    }
-}
-
-/// Reads `input` to its end and writes to `output` an answer for each line. What was answered is written before it stops.
+/// Reads `input` to its end and writes to `output` an answer for each line. What was answered is written before it waits, and before it stops.
 pub fn answer_lines<I: Read + Drop, O: Write + Drop>(
     alloc: Global,
     input: I,
     output: O,
-) -> Result<(), Stop> {
+) -> Result<(), Fault> {
     let mut input = BufReader::new(alloc, input)?;
     let mut output = BufWriter::new(alloc, output)?;
     let answered = answer_each(alloc, &mut input, &mut output);
@@ -42,15 +25,11 @@ fn answer_each<I: Read + Drop, O: Write + Drop>(
     alloc: Global,
     input: &mut BufReader<I>,
     output: &mut BufWriter<O>,
-) -> Result<(), Stop> {
+) -> Result<(), Fault> {
     let mut line = Vec::new(alloc);
     for _ in 0..u64::MAX {
-        line.clear();
-        if input.read_until(b'\n', &mut line)? == 0 {
+        if !read_line(input, &mut line, output)? {
             return Ok(());
-        }
-        if line.ends_with(b"\n") {
-            let _ended = line.pop();
         }
         match answer_to(alloc, &line) {
             Ok(Some(answer)) => writeln!(output, "{answer}")?,

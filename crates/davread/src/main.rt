@@ -10,22 +10,20 @@ mod refusals;
 mod telling;
 mod words;
 
-use lines::{Stop, answer_lines};
+use line_streams::Fault;
+use lines::answer_lines;
 use std::io::Write;
 use std::process::ExitCode;
 
 fn main(rt: HostRuntime) -> ExitCode {
     match answer_lines(rt.alloc(), rt.stdin(), rt.stdout()) {
         Ok(()) => ExitCode::from(0),
-        Err(stop) => stopped(rt.stderr(), stop),
+        Err(fault) => stopped(rt.stderr(), fault),
     }
 }
 
-// Tells why lines were read no further. A failed write changes no status.
-fn stopped<E: Write + Drop>(mut faults: E, stop: Stop) -> ExitCode {
-    let _written = match stop {
-        Stop::Io => faults.write_all(b"i/o error\n"),
-        Stop::OutOfMemory => faults.write_all(b"out of memory\n"),
-    };
+// Tells why no more lines were read. A failed write changes no status.
+fn stopped<E: Write + Drop>(mut faults: E, fault: Fault) -> ExitCode {
+    let _written = faults.write_all(fault.text());
     ExitCode::from(3)
 }

@@ -63,7 +63,7 @@ pub trait DavFile<S> {
         ensures ok { IfOk result (λ at. seek (contents fs.now) (opened self.old) to ≡ Ok (at, opened self.new)) }
         ensures err { OnErr result (opened self.new ≡ opened self.old) };
 
-    /// Makes what was written last.
+    /// Makes written data durable, where the store outlives the program.
     fn flush(&mut self, fs: &mut S) -> FsResult<()>
         ensures same { opened self.new ≡ opened self.old }
         ensures kept { contents fs.new ≡ contents fs.old };

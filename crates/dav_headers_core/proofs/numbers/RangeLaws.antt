@@ -11,8 +11,8 @@ use Rattle.dav_headers_core.specs.Optional.{◌>>=◌}
 use Rattle.dav_headers_core.specs.Values.{is_text_byte}
 use Rattle.dav_headers_core.specs.Numbers.{number}
 use Rattle.dav_headers_core.specs.UpdateRanges.{range_between, range_header, range_text, IsWithin}
-use Rattle.dav_headers_core.specs.declared.davheaders.update_range.XUpdateRange.{XUpdateRange}
-use Rattle.dav_headers_core.specs.declared.davheaders.update_range.XUpdateRange.TheVariants.{FromTo, AllFrom, Last, Append}
+use Rattle.dav_headers_core.specs.declared.davheaders.update_ranges.XUpdateRange.{XUpdateRange}
+use Rattle.dav_headers_core.specs.declared.davheaders.update_ranges.XUpdateRange.TheVariants.{FromTo, AllFrom, Last, Append}
 use Rattle.dav_headers_core.proofs.numbers.DashLemmas.{NoDash, just_two}
 use Rattle.dav_headers_core.proofs.numbers.NumberLemmas.{decimal_in, number-decimal}
 use Rattle.dav_headers_core.proofs.texts.TextLemmas.{text-append, each_of}

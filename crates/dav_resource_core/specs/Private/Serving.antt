@@ -23,7 +23,8 @@ RefusedBy locks who ks (Locked lock) = Contains (refusing locks who ks) lock
 RefusedBy locks who ks OutOfMemory = MayLack locks who ks
 RefusedBy locks who ks _ = ⊥
 
--- what a command on the map does at a moment; refused, it leaves the map as it was, and out of memory comes at any time
+-- what a command on the map does at a moment; refused, it leaves the map as it was, and out of memory comes
+-- only where its work takes memory, in place of any other answer
 abbrev pub DoesOnMap : ResourceMap → plain.Command → ℕ → Result Reply FsError → ResourceMap → Type 0
 DoesOnMap m command now (Ok reply) m' = Does m command now (Ok (reply_of reply)) m'
 DoesOnMap m command now (Err e) m' =

@@ -1,12 +1,13 @@
 //! How answers are written.
+use super::OUT_OF_MEMORY;
 use super::labels::Labels;
-use super::{OUT_OF_MEMORY, Stop};
 use crate::guarded::Refusal;
 use dav_files_core::fs::{DavDirEntry, DavProp};
 use dav_files_core::memfs::{Kind, MemFsEntry, MemFsMeta};
 use dav_locks_core::ls::DavLock;
 use dav_path_core::davpath::escaped;
 use http::StatusCode;
+use line_streams::Fault;
 use std::io::{BufWriter, Write};
 
 // At most so many bytes are written at once.
@@ -16,7 +17,7 @@ const CHUNK: usize = 64;
 pub(super) fn write_bytes<O: Write + Drop>(
     bytes: &[u8],
     output: &mut BufWriter<O>,
-) -> Result<(), Stop> {
+) -> Result<(), Fault> {
     if bytes.is_empty() {
         return Ok(output.write_all(b"ok -\n")?);
     }
@@ -36,7 +37,7 @@ pub(super) fn write_bytes<O: Write + Drop>(
 pub(super) fn write_entries<O: Write + Drop>(
     entries: &[MemFsEntry],
     output: &mut BufWriter<O>,
-) -> Result<(), Stop> {
+) -> Result<(), Fault> {
     output.write_all(b"ok")?;
     for entry in entries {
         write!(output, " {}", escaped(entry.name()))?;
@@ -51,7 +52,7 @@ pub(super) fn write_entries<O: Write + Drop>(
 pub(super) fn write_meta<O: Write + Drop>(
     meta: &MemFsMeta,
     output: &mut BufWriter<O>,
-) -> Result<(), Stop> {
+) -> Result<(), Fault> {
     let kind = match meta.kind {
         Kind::Folder => "folder",
         Kind::File => "file",
@@ -64,7 +65,7 @@ pub(super) fn write_meta<O: Write + Drop>(
 pub(super) fn write_statuses<O: Write + Drop>(
     answers: &[(StatusCode, DavProp)],
     output: &mut BufWriter<O>,
-) -> Result<(), Stop> {
+) -> Result<(), Fault> {
     output.write_all(b"ok")?;
     for (status, _prop) in answers {
         write!(output, " {}", status.as_u16())?;
@@ -76,7 +77,7 @@ pub(super) fn write_statuses<O: Write + Drop>(
 pub(super) fn write_props<O: Write + Drop>(
     props: &[DavProp],
     output: &mut BufWriter<O>,
-) -> Result<(), Stop> {
+) -> Result<(), Fault> {
     output.write_all(b"ok")?;
     for prop in props {
         let namespace = match &prop.namespace {
@@ -93,7 +94,7 @@ pub(super) fn write_locks<O: Write + Drop>(
     labels: &Labels,
     locks: &[DavLock],
     output: &mut BufWriter<O>,
-) -> Result<(), Stop> {
+) -> Result<(), Fault> {
     output.write_all(b"ok")?;
     for lock in locks {
         write!(output, " t{}", labels.number_of(&lock.token))?;
@@ -106,7 +107,7 @@ pub(super) fn write_refreshed<O: Write + Drop>(
     labels: &Labels,
     lock: &DavLock,
     output: &mut BufWriter<O>,
-) -> Result<(), Stop> {
+) -> Result<(), Fault> {
     let number = labels.number_of(&lock.token);
     match lock.timeout_at {
         Some(end) => Ok(writeln!(output, "ok t{number} {}", end.0)?),
@@ -119,7 +120,7 @@ pub(super) fn write_refusal<O: Write + Drop>(
     labels: &Labels,
     refusal: &Refusal,
     output: &mut BufWriter<O>,
-) -> Result<(), Stop> {
+) -> Result<(), Fault> {
     match refusal {
         Refusal::Fs(error) => Ok(writeln!(output, "error {} {error}", error.status().as_u16())?),
         Refusal::Locked(lock) => Ok(writeln!(output, "locked t{}", labels.number_of(&lock.token))?),

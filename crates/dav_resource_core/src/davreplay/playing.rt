@@ -1,5 +1,4 @@
 //! Answers to the lines of a scenario.
-use super::Stop;
 use super::answers::{
     write_bytes, write_entries, write_locks, write_meta, write_props, write_refreshed,
     write_refusal, write_statuses,
@@ -7,6 +6,7 @@ use super::answers::{
 use super::labels::Labels;
 use crate::guarded::{Command, Guarded, Reply, Request};
 use dav_locks_core::ls::DavLock;
+use line_streams::Fault;
 use rand_pcg::Pcg64;
 use std::io::{BufWriter, Write};
 
@@ -24,7 +24,7 @@ impl Player {
         &mut self,
         request: &Request,
         output: &mut BufWriter<O>,
-    ) -> Result<(), Stop> {
+    ) -> Result<(), Fault> {
         match self.stores.apply(request, &mut self.rng) {
             Ok(Reply::Done) => Ok(output.write_all(b"ok\n")?),
             Ok(Reply::Bytes(bytes)) => write_bytes(bytes.as_slice(), output),
@@ -45,7 +45,7 @@ impl Player {
         request: &Request,
         lock: DavLock,
         output: &mut BufWriter<O>,
-    ) -> Result<(), Stop> {
+    ) -> Result<(), Fault> {
         if matches!(request.command, Command::Refresh { .. }) {
             return write_refreshed(&self.labels, &lock, output);
         }

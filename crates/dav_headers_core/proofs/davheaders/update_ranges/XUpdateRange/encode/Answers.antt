@@ -3,7 +3,7 @@ use Rattle.std.proofs.lemmas.Result.{err_from_is_err_and}
 use Rattle.dav_headers_core.specs.UpdateRanges.{range_header, range_text}
 use Rattle.dav_headers_core.proofs.numbers.RangeLaws.{range_round_trips, range_is_text}
 use Rattle.dav_headers_core.proofs.texts.WrittenLemmas.{of_written, is_written, memory_alone}
-use Rattle.dav_headers_core.proofs.davheaders.update_range.XUpdateRange.encode.Goals as goal
+use Rattle.dav_headers_core.proofs.davheaders.update_ranges.XUpdateRange.encode.Goals as goal
 
 pub returns-in_err-text_of-clause-value : goal.returns-in_err-text_of-clause-value
 returns-in_err-text_of-clause-value c =

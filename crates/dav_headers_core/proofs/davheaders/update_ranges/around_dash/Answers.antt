@@ -2,7 +2,7 @@ use Rattle.std.proofs.Common.{refl, sym, lit<}
 use Rattle.std.proofs.lemmas.Bool.{both_ways}
 use Rattle.std.proofs.lemmas.Str.Pattern.{NoCharPasses-char, split_parts, contains_char}
 use Rattle.dav_headers_core.proofs.numbers.DashLemmas.{no_two, just_two, too_many}
-use Rattle.dav_headers_core.proofs.davheaders.update_range.around_dash.Goals as goal
+use Rattle.dav_headers_core.proofs.davheaders.update_ranges.around_dash.Goals as goal
 
 pub returns-in_err-first : goal.returns-in_err-first
 returns-in_err-first c =

@@ -1,6 +1,6 @@
 use Rattle.std.proofs.Common.{◌∙◌}
 use Rattle.dav_headers_core.proofs.numbers.NumberLemmas.{number_is}
-use Rattle.dav_headers_core.proofs.davheaders.update_range.number_of.Goals as goal
+use Rattle.dav_headers_core.proofs.davheaders.update_ranges.number_of.Goals as goal
 
 pub returns : goal.returns
 returns c = c.ok.ensures.value ∙ number_is 64 c.args.text.now c.parse.result c.parse.ensures.value.0

@@ -7,7 +7,7 @@ ghost use Rattle.dav_headers_core.specs.Values.{written};
 ghost use Rattle.dav_headers_core.specs.Numbers.{number};
 ghost use Rattle.dav_headers_core.specs.UpdateRanges.{is_dash, two, range_between, range_of, range_header, range_text, IsWithin};
 ghost use Rattle.dav_headers_core.specs.declared.davheaders.errors.HeaderError.TheVariants as HeaderError;
-ghost use Rattle.dav_headers_core.specs.declared.davheaders.update_range.XUpdateRange.{XUpdateRange as Range};
+ghost use Rattle.dav_headers_core.specs.declared.davheaders.update_ranges.XUpdateRange.{XUpdateRange as Range};
 
 use super::HeaderError;
 use super::values::{one_text, value_of};

@@ -1,5 +1,5 @@
 //! What calls on locks share, and the trait of a lock system.
-ghost use Rattle.std.specs.Prelude.{◌≡◌, ◌++◌, ◌∷◌, [], ℕ, true, Some, None, remove, set, get_or, IfOk, IfErr, OnOk, OnErr};
+ghost use Rattle.std.specs.Prelude.{◌≡◌, ◌≢◌, ◌++◌, ◌∷◌, [], ℕ, true, Some, None, remove, set, get_or, IfOk, IfErr, OnOk, OnErr};
 ghost use Rattle.dav_path_core.specs.Segments.{segments};
 ghost use Rattle.dav_locks_core.specs.Locks.{lock_conflicts, check_conflicts, found, refreshed, discovered, without_below};
 ghost use Rattle.dav_locks_core.specs.Exclusive.{Exclusive};
@@ -17,7 +17,7 @@ use std::marker::Model;
 use thiserror::Error;
 
 /// A lock on a path (RFC 4918 section 6).
-#[derive(Clone, Drop)]
+#[derive(Debug, Clone, Drop)]
 pub struct DavLock {
     /// The token that names it, a URN.
     pub token: String,
@@ -55,12 +55,14 @@ impl Model for DavLock {
     } };
 }
 
-/// Why a call on locks is refused.
-#[derive(Drop)]
+/// Why a call on locks is refused. It displays as its name.
+#[derive(Debug, Drop, Error)]
 pub enum LockError {
     /// This lock stands in the way.
+    #[error("Conflict")]
     Conflict(DavLock),
     /// There is no memory for it.
+    #[error("OutOfMemory")]
     OutOfMemory,
 }
 
@@ -201,9 +203,10 @@ pub trait DavLockSystem {
         ensures left { locks self.new ≡ without_stale now.0 (locks self.old) }
         ensures exclusive { Exclusive (locks self.new) };
 
-    /// The locks that cover a path, from the root down, then in the order of granting.
+    /// The locks that cover a path, from the root down, then in the order of granting. `AllocError` only where there is one.
     fn discover(&mut self, path: &DavPath, now: Moment) -> Result<Vec<DavLock>, AllocError>
         ensures discovered { IfOk result (λ v. v.items ≡ discovered (without_stale now.0 (locks self.old)) (segments path.now.bytes)) }
+        ensures refused { OnErr result (discovered (without_stale now.0 (locks self.old)) (segments path.now.bytes) ≢ []) }
         ensures left { locks self.new ≡ without_stale now.0 (locks self.old) }
         ensures exclusive { Exclusive (locks self.new) };
 

@@ -1,4 +1,5 @@
-//! Locks in memory.
+//! Locks in memory. A clause sees a `MemLs` as one list: its locks, in the order of granting. How they are kept is private: in
+//! a tree of the segments of their paths. Read `lock` first; what each call promises stands with the trait `DavLockSystem`.
 ghost use Rattle.std.specs.Prelude.{◌≡◌, ◌≤◌, ◌+◌, [], sum_by, IfOk, IfErr};
 ghost use Rattle.dav_locks_core.specs.Locks.{height};
 ghost use Rattle.dav_locks_core.specs.LockFronts.{front_count};

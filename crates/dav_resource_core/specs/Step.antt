@@ -1,5 +1,5 @@
 -- A step and a run of requests, over a resource map, a list of locks and what a generator still gives.
-use Rattle.std.specs.Prelude.{◌≡◌, ◌⊎◌, ℕ, List, [], ◌∷◌, ◌++◌, true, Some, None, Ok, Err, Contains, remove, set, get_or, is_some}
+use Rattle.std.specs.Prelude.{◌≡◌, ◌≢◌, ◌⊎◌, ℕ, List, [], ◌∷◌, ◌++◌, true, Some, None, Ok, Err, Contains, remove, set, get_or, is_some}
 use Rattle.rand_core.specs.Stream.{Stream}
 use Rattle.dav_path_core.specs.declared.errors.FsError.TheVariants.{InsufficientStorage}
 use Rattle.dav_path_core.specs.Segments.{segments}
@@ -49,7 +49,7 @@ FindsNone _ locks = ⊥
 abbrev pub MayLackMemory : Command → State → Request → Type 0
 MayLackMemory (Command.Lock path owner timeout shared deep) s r = Unit {0}
 MayLackMemory (Command.Refresh path token timeout) s r = is_some (found s.locks path token) ≡ true
-MayLackMemory (Command.Discover path) s r = Unit {0}
+MayLackMemory (Command.Discover path) s r = discovered s.locks path ≢ []
 MayLackMemory command s r = MayLack s.locks (caller_of r) (checks s.map command)
 
 -- what a command does that meets no conflict

@@ -1,6 +1,6 @@
 -- The locks on the way down to a path that cover it are those of the list that do, by the number of segments.
-use Rattle.std.proofs.Common.{◌≡◌, inl, inr, ℕ, zero, suc, ◌+◌, ◌<◌, ◌≤◌, ◌==◌, ◌&&◌, ◌||◌, Bool, true, false, cond, not, List, [], ◌∷◌, ◌++◌, length, map, get_or, Option, Some, None, refl, sym, ap, ◌∙◌, subst, arith, append_assoc, append-nil}
-use Rattle.std.specs.Prelude.{filter, option_and_then}
+use Rattle.std.proofs.Common.{◌≡◌, ◌≢◌, inl, inr, ℕ, zero, suc, ◌+◌, ◌<◌, ◌≤◌, ◌==◌, ◌&&◌, ◌||◌, Bool, true, false, cond, not, List, [], ◌∷◌, ◌++◌, length, get_or, Option, Some, None, refl, sym, ap, ◌∙◌, subst, arith, append_assoc, append-nil}
+use Rattle.std.specs.Prelude.{Contains, filter, option_and_then}
 use Rattle.std.specs.Option.{option_map, unwrap_or}
 use Rattle.std.specs.Ordering.{nat_cmp}
 use Rattle.std.specs.Cmp.{nat_cmp_total}
@@ -17,7 +17,8 @@ use Rattle.dav_locks_core.specs.Locks.{lock_path, covers, height, covering_at, c
 use Rattle.dav_locks_core.specs.Private.LockTree.{NumberedLock, LockTree, locks_at, child_at, node_at, locks_of, covering_down}
 use Rattle.dav_locks_core.specs.Private.Represents.{Represents}
 use Rattle.dav_locks_core.proofs.lists.NumberedLemmas.{kept_if, find-filter, InOrder-filter, found_at_place}
-use Rattle.dav_path_core.proofs.lists.PlaceLemmas.{filter_none_at, filter_all_at, filter-filter, map-filter}
+use Rattle.dav_path_core.proofs.lists.MemberLemmas.{append_none}
+use Rattle.dav_path_core.proofs.lists.PlaceLemmas.{filter_none_at, filter_all_at, filter-contains, filter-filter, map-filter}
 use Rattle.dav_locks_core.proofs.walks.SubtreeLemmas.{node_at-append, node_at-step, node_at-stuck, node_at-here, through, is_front-append}
 use Rattle.dav_locks_core.proofs.trees.WayLemmas.{one_path}
 
@@ -114,6 +115,29 @@ module _ (t : LockTree) (n : ℕ) where
   unfolding covering_down
   down-end before now here at added =
       ap (λ (h : List NumberedLock). before ++ locks_of h) (sym at) ∙ ap (λ xs. before ++ xs) (sym (filter_all_at (λ _. true) (locks_of here) (λ _ _ _. refl))) ∙ sym added
+
+-- ---- where there is something to copy
+
+pub some_kept : (granted : List NumberedLock) (test : Lock → Bool) (i : ℕ) (g : NumberedLock) → i < length granted → g ≡ get_or granted i g → test g.1 ≡ true → filter test (locks_of granted) ≢ []
+some_kept granted test i g lt is passes none =
+    let long = length-map granted (λ (g : NumberedLock). g.1) in
+    let at : get_or (locks_of granted) i g.1 ≡ g.1 = get_or-map (λ (g : NumberedLock). g.1) granted i g g.1 lt ∙ ap (λ (g : NumberedLock). g.1) (sym is) in
+    let c = subst (λ xs. Contains xs g.1) none (filter-contains test (locks_of granted) i g.1 g.1 (omega (arith, long, lt)) at passes) in
+    absurd (omega (arith, c.1))
+
+module _ (t : LockTree) (n : ℕ) (before whole : List Lock) (here : List NumberedLock) (at : here ≡ locks_at t n) where
+  pub some_above : (s : Segment) (p : Path) → whole ≡ before ++ covering_down t n (s ∷ p) → filter (λ l. l.deep) (locks_of here) ≢ [] → whole ≢ []
+  unfolding covering_down
+  some_above s p is some none =
+      let parts = append_none before (covering_down t n (s ∷ p)) (sym is ∙ none) in
+      let first = append_none (filter (λ (l : Lock). l.deep) (locks_of (locks_at t n))) (unwrap_or (option_map (λ c. covering_down t c p) (child_at t n s)) []) parts.1 in
+      some (ap (λ (h : List NumberedLock). filter (λ (l : Lock). l.deep) (locks_of h)) at ∙ first.0)
+
+  pub some_at_end : whole ≡ before ++ covering_down t n [] → filter (λ l. true) (locks_of here) ≢ [] → whole ≢ []
+  unfolding covering_down
+  some_at_end is some none =
+      let parts = append_none before (covering_down t n []) (sym is ∙ none) in
+      some (ap (λ (h : List NumberedLock). filter (λ (l : Lock). true) (locks_of h)) at ∙ ap (λ xs. filter (λ (l : Lock). true) xs) parts.1)
 
 -- ---- the locks at a node
 

@@ -1,5 +1,5 @@
 //! The calls on locks, once those whose end has come are dropped.
-ghost use Rattle.std.specs.Prelude.{◌≡◌, ◌++◌, ◌∷◌, [], ℕ, true, Some, None, remove, set, get_or, IfOk, IfErr, OnOk, OnErr};
+ghost use Rattle.std.specs.Prelude.{◌≡◌, ◌≢◌, ◌++◌, ◌∷◌, [], ℕ, true, Some, None, remove, set, get_or, IfOk, IfErr, OnOk, OnErr};
 ghost use Rattle.dav_path_core.specs.Segments.{segments};
 ghost use Rattle.dav_locks_core.specs.Locks.{lock_conflicts, check_conflicts, found, refreshed, discovered, without_below};
 ghost use Rattle.dav_locks_core.specs.Exclusive.{Exclusive};
@@ -154,7 +154,8 @@ impl MemLs {
 
     // Copies of the locks that cover a path.
     pub(super) fn covering(&self, path: &DavPath) -> Result<Vec<DavLock>, AllocError>
-        ensures { IfOk result (λ v. v.items ≡ discovered self.now (segments path.now.bytes)) }
+        ensures copies { IfOk result (λ v. v.items ≡ discovered self.now (segments path.now.bytes)) }
+        ensures refused { OnErr result (discovered self.now (segments path.now.bytes) ≢ []) }
     {
         covering_locks(&self.tree, self.alloc, path)
     }

@@ -1,5 +1,5 @@
 //! The way down a path in the tree of locks.
-ghost use Rattle.std.specs.Prelude.{◌≡◌, ◌⊎◌, ◌<◌, ◌++◌, ◌||◌, ℕ, Some, None, length, filter, IfOk, IfErr, OnOk, OnErr, MatchResult, slice_index_or};
+ghost use Rattle.std.specs.Prelude.{◌≡◌, ◌≢◌, ◌⊎◌, ◌<◌, ◌++◌, ◌||◌, ℕ, Some, None, length, [], filter, IfOk, IfErr, OnOk, OnErr, MatchResult, slice_index_or};
 ghost use Rattle.dav_path_core.specs.Segments.{segments};
 ghost use Rattle.dav_path_core.specs.Keyed.{IsKnown, IsTree};
 ghost use Rattle.dav_locks_core.specs.Private.LockTree.{NumberedLock, child_at, node_at, is_segment, ShowsAt, Grown};
@@ -129,7 +129,8 @@ pub(super) fn covering_locks(
     alloc: Global,
     path: &DavPath,
 ) -> Result<Vec<DavLock>, AllocError>
-    ensures { IfOk result (λ v. v.items ≡ spec.covering_down tree.now.keyed 1 (segments path.now.bytes)) }
+    ensures copies { IfOk result (λ v. v.items ≡ spec.covering_down tree.now.keyed 1 (segments path.now.bytes)) }
+    ensures refused { OnErr result (spec.covering_down tree.now.keyed 1 (segments path.now.bytes) ≢ []) }
 {
     let mut covering = Vec::new(alloc);
     let mut node = ROOT_ID;
@@ -150,8 +151,9 @@ fn add_copies(
     granted: &[(u64, DavLock)],
     at_path: bool,
 ) -> Result<(), AllocError>
-    ensures { OnOk result (covering.new.items
+    ensures added { OnOk result (covering.new.items
         ≡ covering.old.items ++ filter (λ l. at_path || l.deep) (spec.locks_of granted.now)) }
+    ensures refused { OnErr result (filter (λ l. at_path || l.deep) (spec.locks_of granted.now) ≢ []) }
 {
     for (_, lock) in granted {
         if at_path || lock.deep {

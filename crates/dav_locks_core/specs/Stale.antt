@@ -1,8 +1,8 @@
--- Locks that end by time (RFC 4918 section 6.6).
+-- Locks that expire (RFC 4918 section 6.6).
 use Rattle.std.specs.Prelude.{ℕ, List, Bool, false, not, filter, nat_le, Option, Some, None}
 use Rattle.dav_locks_core.specs.Lock.{Lock}
 
--- whether an end has come at a moment; what has none doesn't end
+-- whether an end has come at a moment; a lock without an end never expires
 abbrev pub has_come : ℕ → Option ℕ → Bool
 has_come now None = false
 has_come now (Some end) = nat_le end now

@@ -116,7 +116,7 @@ impl From<AllocError> for RefreshError {
 }
 
 /// A keeper of locks (RFC 4918 sections 6 and 7). Of every implementation, seen as one list of locks in the order of
-/// granting: each call first drops the locks whose end has come at its moment, also where it is then refused; it answers, and
+/// granting: each call first drops the locks that have expired at its moment, also where it is then refused; it answers, and
 /// leaves the list, as the definitions say; a refusal leaves the other locks, and the generator, as they were; two locks that
 /// cover one path are both shared.
 pub trait DavLockSystem {
@@ -126,7 +126,7 @@ pub trait DavLockSystem {
     /// The locks, in the order of granting.
     ghost locks: { Self → List Lock };
 
-    /// Drops the locks whose end has come at a moment: those with a `timeout_at` that isn't after it (RFC 4918 section 6.6).
+    /// Drops the locks that have expired at a moment: those with a `timeout_at` that isn't after it (RFC 4918 section 6.6).
     /// Takes no memory.
     fn expire(&mut self, now: Moment)
         ensures left { locks self.new ≡ without_stale now.0 (locks self.old) }

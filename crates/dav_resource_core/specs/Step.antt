@@ -78,7 +78,7 @@ Serves s r (Err (Fs e)) s' =
     × Same s s'
 Serves s r (Ok reply) s' = (conflicts s r ≡ []) × Effect r.command s r reply s'
 
--- the state that a step starts from: the locks are dropped whose end has come at the request's moment, whatever its answer
+-- the state that a step starts from: the locks are dropped that have expired at the request's moment, whatever its answer
 abbrev pub start_of : Request → State → State
 start_of r s = record s { locks = without_stale r.now s.locks }
 

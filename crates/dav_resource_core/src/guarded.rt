@@ -66,7 +66,7 @@ impl Guarded {
         Ok(Guarded { alloc, fs, locks })
     }
 
-    /// Answers one request. First, and whatever the answer, the locks are dropped whose end has come at its moment. Locks in the way
+    /// Answers one request. First, and whatever the answer, the locks are dropped that have expired at its moment. Locks in the way
     /// come before any other refusal but out of memory. A granted lock alone draws from the generator; on every other answer it
     /// stays as it was.
     pub fn apply<R: Rng>(&mut self, request: &Request, rng: &mut R) -> Result<Reply, Refusal>
@@ -90,7 +90,7 @@ impl Guarded {
         self.serve(request, rng)
     }
 
-    // One request, in the stores without the locks whose end has come.
+    // One request, in the stores without the locks that have expired.
     fn serve<R: Rng>(&mut self, request: &Request, rng: &mut R) -> Result<Reply, Refusal>
         ensures step { Step (state_of self.old (R.stream rng.old)) (request_of request.entry.now) (answer_of result)
             (state_of self.new (R.stream rng.new)) }
@@ -155,7 +155,7 @@ impl Guarded {
             (map request_of requests.now) (map answer_of answers.items) (state_of self.new (R.stream rng.new))) }
         ensures each_ends_named { IfOk result (λ answers. EachEndsNamed (state_of self.old (R.stream rng.old))
             (map request_of requests.now) (map answer_of answers.items) (state_of self.new (R.stream rng.new))) }
-        // The locks of the start that no request names or refreshes, and whose end has come at none, stand at the end as they were,
+        // The locks of the start that no request names or refreshes, and that expire at none, stand at the end as they were,
         // and what an exclusive one of them covers is as it was.
         ensures stand { OnOk result (UntouchedStand (state_of self.old (R.stream rng.old)) (map request_of requests.now)
             (state_of self.new (R.stream rng.new))) }

@@ -13,8 +13,8 @@ use dav_resource_core::memls::MemLs;
 use rand_core::Rng;
 use std::alloc::AllocError;
 
-/// Locks a path for its holder alone, and answers the token. A lock in the way is shown, and nothing is changed. Locks whose end has
-/// come go first.
+/// Locks a path for its holder alone, and answers the token. A lock in the way is shown, and nothing is changed. Locks that have
+/// expired go first.
 pub fn take<R: Rng>(
     locks: &mut MemLs,
     path: &DavPath,
@@ -41,7 +41,7 @@ pub fn take<R: Rng>(
     Ok(lock.token)
 }
 
-/// Whether a holder who submits those tokens may change a path. Locks whose end has come aren't in the way, and go.
+/// Whether a holder who submits those tokens may change a path. Locks that have expired aren't in the way, and go.
 pub fn may_change(
     locks: &mut MemLs,
     path: &DavPath,

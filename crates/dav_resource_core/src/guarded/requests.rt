@@ -174,7 +174,7 @@ pub enum Reply {
     Locks(Vec<DavLock>),
 }
 
-/// Why a request is refused. Nothing was changed, but locks whose end has come are gone.
+/// Why a request is refused. Nothing was changed, but locks that have expired are gone.
 #[derive(Drop)]
 pub enum Refusal {
     /// The files refuse it; `Fs(InsufficientStorage)` also where they are out of memory.

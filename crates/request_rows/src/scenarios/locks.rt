@@ -276,7 +276,7 @@ pub(super) const ALONE: &str = "> 1 - - mkcol /d
 < ok - n
 = 0";
 
-// Locks that end by time: moments may go back, and a dropped lock doesn't come back with them.
+// Locks that expire: moments may go back, and a dropped lock doesn't come back with them.
 pub(super) const TIMEOUTS: &str = "> 1 ann - lock /a exclusive deep 2
 < ok t1
 > 2000000000 bob - put /a 61

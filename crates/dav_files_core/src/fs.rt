@@ -10,7 +10,6 @@ ghost use Rattle.dav_files_core.specs.Properties.{answer_of, entry_of, get_prop,
 ghost use Rattle.dav_files_core.specs.Renaming.{rename};
 
 use dav_path_core::davpath::DavPath;
-use dav_path_core::errors::{FsError, FsResult};
 use http::StatusCode;
 
 mod below;
@@ -18,6 +17,7 @@ mod open_files;
 mod properties;
 
 pub use below::commands_see_below;
+pub use dav_path_core::errors::{FsError, FsResult};
 pub use dav_path_core::util::Moment;
 pub use open_files::{DavFile, numbers_are_given_once, open_files_follow};
 pub use properties::DavProp;
@@ -34,7 +34,7 @@ pub enum ReadDirMeta {
 }
 
 /// How a file is opened.
-#[derive(PartialEq, Eq, Drop)]
+#[derive(Debug, Clone, Default, PartialEq, Eq, Drop)]
 pub struct OpenOptions {
     /// To be read.
     pub read: bool,

@@ -65,7 +65,7 @@ enum Target<'a> {
 }
 
 /// Files in memory: a map from paths to folders and files.
-#[derive(Drop)]
+#[derive(Debug, Drop)]
 pub struct MemFs {
     alloc: Global,
     tree: Tree<Bytes, Node>,

@@ -28,7 +28,7 @@ use tables::{Tables, drop_table, forget, hash_of, note};
 pub const ROOT_ID: u64 = 1;
 
 /// A node, with its data.
-#[derive(Drop)]
+#[derive(Debug, Drop)]
 pub struct Node<K, D> {
     /// The data.
     pub item: D,
@@ -40,7 +40,7 @@ pub struct Node<K, D> {
 
 /// A tree of nodes. Each has a number, given from 1 upwards and never again, and each but the root is the child of one
 /// node under one key.
-#[derive(Drop)]
+#[derive(Debug, Drop)]
 pub struct Tree<K: Eq + Hash, D> {
     nodes: HashMap<u64, Node<K, D>>,
     tables: Tables,

@@ -111,8 +111,7 @@ fn keeps_no_properties_by_default(rt: HostRuntime) -> Result<(), Fail> {
         files: MemFs::new(alloc, Moment(1))?,
     };
     let path = DavPath::new(alloc, "/")?;
-    let text = || String::from_str(alloc, "a");
-    let prop = DavProp::new(alloc, text()?, text()?, text()?, text()?)?;
+    let prop = DavProp::new(alloc, "a", "a", "a", "a")?;
     assert!(rt;
         matches!(
             bare.patch_props(&path, Vec::new(alloc)),

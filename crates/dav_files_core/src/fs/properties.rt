@@ -1,5 +1,5 @@
 //! Properties.
-ghost use Rattle.std.specs.Prelude.{◌≡◌, Some, MatchResult};
+ghost use Rattle.std.specs.Prelude.{◌≡◌, Some, option_map, IfOk, IfErr, MatchResult};
 ghost use Rattle.std.specs.String.{string_bytes};
 ghost use Rattle.dav_files_core.specs.PropertyXml.{property_xml, start_tag, declaration};
 
@@ -7,7 +7,7 @@ use dav_path_core::errors::{FsError, FsResult};
 use std::alloc::{AllocError, Global};
 
 /// A property (RFC 4918 section 4).
-#[derive(Drop)]
+#[derive(Debug, Drop)]
 pub struct DavProp {
     /// Its name, without a prefix.
     pub name: String,
@@ -25,28 +25,23 @@ impl DavProp {
     /// `InsufficientStorage` where it is out of memory.
     pub fn new(
         alloc: Global,
-        name: String,
-        prefix: String,
-        namespace: String,
-        value: String,
+        name: &str,
+        prefix: &str,
+        namespace: &str,
+        value: &str,
     ) -> FsResult<DavProp>
-        ensures { MatchResult result
-            (λ p. (p.name ≡ name) × (p.prefix ≡ Some prefix) × (p.namespace ≡ Some namespace)
-            × ((v : _) × (p.xml ≡ Some v) × (v.items ≡ property_xml (string_bytes name) (string_bytes prefix) (string_bytes namespace) (string_bytes value))))
-            (λ e. e ≡ FsError.InsufficientStorage) }
+        ensures name { IfOk result (λ p. string_bytes p.name ≡ name.now) }
+        ensures prefix { IfOk result (λ p. option_map string_bytes p.prefix ≡ Some prefix.now) }
+        ensures namespace { IfOk result (λ p. option_map string_bytes p.namespace ≡ Some namespace.now) }
+        ensures xml { IfOk result (λ p. option_map (λ v. v.items) p.xml
+            ≡ Some (property_xml name.now prefix.now namespace.now value.now)) }
+        ensures error { IfErr result (λ e. e ≡ FsError.InsufficientStorage) }
     {
-        let xml = xml_of(
-            alloc,
-            name.as_str(),
-            prefix.as_str(),
-            namespace.as_str(),
-            value.as_str(),
-        )?;
         Ok(DavProp {
-            name,
-            prefix: Some(prefix),
-            namespace: Some(namespace),
-            xml: Some(xml),
+            name: name.to_string(alloc)?,
+            prefix: Some(prefix.to_string(alloc)?),
+            namespace: Some(namespace.to_string(alloc)?),
+            xml: Some(xml_of(alloc, name, prefix, namespace, value)?),
         })
     }
 

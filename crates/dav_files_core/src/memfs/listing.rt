@@ -17,7 +17,7 @@ use dav_path_core::davpath::DavPath;
 use dav_path_core::errors::{FsError, FsResult};
 
 /// A member of a folder: its name, and what is known of it.
-#[derive(Drop)]
+#[derive(Debug, Clone, Drop)]
 pub struct MemFsEntry {
     name: Bytes,
     meta: MemFsMeta,

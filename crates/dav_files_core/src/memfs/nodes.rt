@@ -18,7 +18,7 @@ use std::alloc::Global;
 use std::marker::Model;
 
 /// A folder or a file.
-#[derive(Drop)]
+#[derive(Debug, Drop)]
 pub(super) struct Node {
     pub(super) kind: Kind,
     pub(super) content: Vec<u8>,

@@ -14,7 +14,7 @@ use std::io::SeekFrom;
 use std::marker::Model;
 
 /// An open file. It follows its entry through renames, until that entry is gone.
-#[derive(Drop)]
+#[derive(Debug, Drop)]
 pub struct MemFsFile {
     pub(super) number: u64,
     pub(super) position: usize,

@@ -17,7 +17,7 @@ use std::collections::BTreeMap;
 use std::marker::Model;
 
 /// The properties of a folder or a file, by namespace and name.
-#[derive(Drop)]
+#[derive(Debug, Drop)]
 pub(super) struct Props {
     map: BTreeMap<(Bytes, Bytes), DavProp>,
 }

@@ -10,7 +10,7 @@ use std::hash::Hash;
 use std::marker::Model;
 
 /// The children of a node, one after another: of each a key equal to its own, and its number.
-#[derive(Drop)]
+#[derive(Debug, Drop)]
 pub struct Children<K> {
     pairs: std::vec::IntoIter<(K, u64)>,
 }

@@ -11,7 +11,7 @@ use http::StatusCode;
 use std::alloc::AllocError;
 
 /// What a request asks for.
-#[derive(Drop)]
+#[derive(Debug, Drop)]
 pub enum Command {
     /// Makes the bytes of a file those given; a missing file is made (RFC 4918 section 9.7).
     Put {
@@ -139,7 +139,7 @@ pub enum Command {
 }
 
 /// One request.
-#[derive(Drop)]
+#[derive(Debug, Drop)]
 pub struct Request {
     /// Who asks; none where nobody is named.
     pub principal: Option<String>,
@@ -152,7 +152,7 @@ pub struct Request {
 }
 
 /// What a request that is done answers.
-#[derive(Drop)]
+#[derive(Debug, Drop)]
 pub enum Reply {
     /// It is done, with nothing to tell.
     Done,
@@ -175,7 +175,7 @@ pub enum Reply {
 }
 
 /// Why a request is refused. Nothing was changed, but locks that have expired are gone.
-#[derive(Drop)]
+#[derive(Debug, Drop)]
 pub enum Refusal {
     /// The files refuse it; `Fs(InsufficientStorage)` also where they are out of memory.
     Fs(FsError),

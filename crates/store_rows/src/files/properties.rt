@@ -91,13 +91,7 @@ fn add(text: &mut String, word: &str) -> FsResult<()> {
 
 /// The xml of a clone of a property that `new` made.
 pub(super) fn xml_of_new(alloc: Global) -> FsResult<String> {
-    let prop = DavProp::new(
-        alloc,
-        String::from_str(alloc, "name")?,
-        String::from_str(alloc, "D")?,
-        String::from_str(alloc, "DAV:")?,
-        String::from_str(alloc, "v")?,
-    )?;
+    let prop = DavProp::new(alloc, "name", "D", "DAV:", "v")?;
     match &prop.clone()?.xml {
         Some(xml) => text_of(alloc, xml),
         None => Err(FsError::GeneralFailure),

@@ -23,7 +23,19 @@ false false
 5 check /a/b - - shallow = ok
 5 check /a bob t1 shallow = conflict t1
 5 check /a - t1 shallow = conflict t1
-5 check /a ann - shallow = conflict t1";
+5 check /a ann - shallow = conflict t1
+5 new = ok
+5 lock /a ann <owner-owner-owner-owner-owner-owner-owner-owner-owner-owner-owner-owner-owner-owner-> 9 exclusive deep = t1
+5 granted = urn:uuid:02000000-0300-4000-8400-000005000000 /a ann <owner-owner-owner-owner-owner-owner-owner-owner-owner-owner-owner-owner-owner-owner-> 9 9000000005 false true
+5 lock /a/b - - - shared shallow = conflict t1
+5 discover /a/b = t1
+5 new = ok
+5 lock /a - <one/> 9 shared deep = t1
+5 lock /a - <two/> 9 shared deep = t2
+5 lock /a - <three/> - shared shallow = t3
+5 discover /a = t1 t2 t3
+5 discover /a/b = t1 t2
+5 check /a - t3 deep = conflict t1";
 
 // `conflict` alone stands for a conflict with any lock.
 pub(super) const DEEP_LOCKS: &str = "5 new = ok

@@ -6,4 +6,5 @@ pub mod MakingLemmas
 pub mod PuttingLemmas
 pub mod RemovingLemmas
 pub mod SettingLemmas
+pub mod TriedLemmas
 pub mod WithoutLemmas

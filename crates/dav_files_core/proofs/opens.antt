@@ -1,6 +1,5 @@
 pub mod NumberedLemmas
 pub mod OpenedLemmas
-pub mod OverwritingLemmas
 pub mod OverwrittenLemmas
 pub mod ReadLemmas
 pub mod WrittenLemmas

@@ -1,2 +1,3 @@
 pub mod FinMapLemmas
+pub mod PatchLemmas
 pub mod PropertyMapLemmas

@@ -2,6 +2,7 @@
 pub mod Entries
 pub mod Listed
 pub mod Numbered
+pub mod Patching
 pub mod PropertyMaps
 pub mod Represents
 pub mod TreeCalls

@@ -1,5 +1,5 @@
 -- Another node of an entry, in the tree and in the map.
-use Rattle.std.proofs.Common.{◌≡◌, ℕ, List, Some, Ok, sym, ap, ◌∙◌, subst}
+use Rattle.std.proofs.Common.{◌≡◌, ℕ, Bool, List, Some, Ok, sym, ap, ◌∙◌, subst}
 use Rattle.std.specs.FinMap.{get}
 use Rattle.dav_path_core.specs.Fronts.{Path}
 use Rattle.dav_path_core.specs.Keyed.{with_item_at}
@@ -8,8 +8,9 @@ use Rattle.dav_files_core.specs.OpenFiles.{overwritten}
 use Rattle.dav_files_core.specs.Outcomes.{changed, touched, touched_at}
 use Rattle.dav_files_core.specs.Private.Entries.{IsBare, HasFile}
 use Rattle.dav_files_core.specs.Private.Represents.{FileTree, Represents}
+use Rattle.dav_files_core.specs.Properties.{patched}
 use Rattle.dav_files_core.specs.Private.TreeCalls.{SetsNode, WritesFile}
-use Rattle.dav_files_core.specs.Resources.{Node, Properties, Resource, ResourceMap, at_path, IsResourceMap}
+use Rattle.dav_files_core.specs.Resources.{Node, Property, Resource, ResourceMap, at_path, IsResourceMap}
 use Rattle.dav_path_core.proofs.lists.FinMaps.{one_some}
 use Rattle.dav_files_core.proofs.changes.ChangedLemmas.{Represents-changed}
 use Rattle.dav_files_core.proofs.changes.LeftLemmas.{item_is, written}
@@ -28,9 +29,10 @@ module _ (t : FileTree) (m : ResourceMap) (rep : Represents t m) (p : Path) (r :
   touched_stands now t' h =
       subst (λ m. Represents t' m) (ap (touched_at m p now) (sym here)) (set_stands (λ n. record n { modified = now }) (λ f. f) (rep.is_map.bare p r here) t' h)
 
-  -- other properties
-  pub props_stand : (props : Properties) (t' : FileTree) → SetsNode t id (λ n. record n { props = props }) (Ok tt) t' → Represents t' (changed m p r (record r.node { props = props }))
-  props_stand props t' h = set_stands (λ n. record n { props = props }) (λ f. f) (rep.is_map.bare p r here) t' h
+  -- properties that were patched
+  pub patched_stands : (patch : List (Bool × Property)) (t' : FileTree) → SetsNode t id (λ n. record n { props = patched n.props patch }) (Ok tt) t'
+      → Represents t' (changed m p r (record r.node { props = patched r.node.props patch }))
+  patched_stands patch t' h = set_stands (λ n. record n { props = patched n.props patch }) (λ f. f) (rep.is_map.bare p r here) t' h
 
 -- one entry has the number
 pub same_entry : (m : ResourceMap) → IsResourceMap m → (id : ℕ) (p : Path) (r : Resource) → at_path m p ≡ Some r → r.number ≡ id → (q : Path) (s : Resource) → at_path m q ≡ Some s → s.number ≡ id → r ≡ s

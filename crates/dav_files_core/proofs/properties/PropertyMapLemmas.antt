@@ -58,3 +58,6 @@ found_kept es key r h = by r ∙ ap (option_map property_of) h ∙ sym (get-as_m
     by : (r : Option (Bor DavProp)) → option_map (λ (p : Bor DavProp). property_of p.now) r ≡ option_map property_of (option_copied r)
     by None = refl
     by (Some p) = refl
+
+pub kept_nowhere : (es : List Kept) (key : List ℕ × List ℕ) → lookup (λ k. is_eq (key_cmp key k)) es ≡ None → get (properties_of es) key ≡ None
+kept_nowhere es key h = get-as_map key_total key_exact property_of es key ∙ ap (option_map property_of) h

@@ -1,5 +1,5 @@
 -- What the tree's clauses say, in the words of walks.
-use Rattle.std.proofs.Common.{◌≡◌, inl, inr, ℕ, true, false, is_some, List, Option, Some, None, Result, Ok, Err, IfOk, IfErr, OnOk, MatchResult, refl, sym, ap, ◌∙◌, subst, Bor, nat_eq}
+use Rattle.std.proofs.Common.{◌≡◌, inl, inr, ℕ, Bool, true, false, is_some, List, Option, Some, None, Result, Ok, Err, IfOk, IfErr, OnOk, OnErr, MatchResult, refl, sym, ap, ◌∙◌, subst, Bor, nat_eq}
 use Rattle.std.specs.Option.{option_map, ok_or}
 use Rattle.std.specs.Cmp.{nat_cmp_total}
 use Rattle.std.specs.FinMap.{get, insert, nat_cmp-IsAntisymmetric}
@@ -7,7 +7,8 @@ use Rattle.std.specs.Cmp.Lexicographic.{pointwise, bytes_decides}
 use Rattle.std.proofs.lemmas.Bool.{true≢false}
 use Rattle.dav_path_core.specs.declared.errors.FsError.{FsError}
 use Rattle.dav_path_core.specs.declared.errors.FsError.TheVariants.{NotFound, InsufficientStorage}
-use Rattle.dav_files_core.specs.Resources.{Node}
+use Rattle.dav_files_core.specs.Properties.{patched}
+use Rattle.dav_files_core.specs.Resources.{Node, Properties, Property}
 use Rattle.dav_files_core.specs.Private.Represents.{FileTree, FileEntry}
 use Rattle.dav_files_core.specs.Private.TreeCalls.{IsMember, FindsMember, FindsNode, WritesFile, SetsNode, IsThere}
 use Rattle.dav_path_core.specs.Answers.{Answers}
@@ -103,10 +104,21 @@ module _ (t : FileTree) where
           ap (λ o. with_item_at t id o d) e ∙ (λ i. record t { nodes = insert t.nodes id (same i) }) ∙ (λ i. record t { nodes = nodes i })
 
   -- a change of a node that may be refused
-  pub set_ok : (id : ℕ) (old new : Node) (f : Node → Node) → item t id ≡ Some old → (r : Result (Unit {0}) FsError) → OnOk r (new ≡ f old) → OnOk r (SetsNode t id f (Ok tt) (with_item t id new))
+  pub set_ok : (id : ℕ) (old new : Node) (f : Node → Node) → item t id ≡ Some old → {A : Type 0} → (r : Result A FsError) → OnOk r (new ≡ f old) → OnOk r (SetsNode t id f (Ok tt) (with_item t id new))
   set_ok id old new f h (Ok x) is = set id old new f h is
   set_ok id old new f h (Err e) is = tt
 
-  pub set_err : (id : ℕ) (old new : Node) → item t id ≡ Some old → (r : Result (Unit {0}) FsError) → IfErr r (λ e. (e ≡ InsufficientStorage) × (new ≡ old)) → IfErr r (λ e. (e ≡ InsufficientStorage) × (with_item t id new ≡ t))
+  pub set_err : (id : ℕ) (old new : Node) → item t id ≡ Some old → {A : Type 0} → (r : Result A FsError) → IfErr r (λ e. (e ≡ InsufficientStorage) × (new ≡ old)) → IfErr r (λ e. (e ≡ InsufficientStorage) × (with_item t id new ≡ t))
   set_err id old new h (Ok x) is = tt
   set_err id old new h (Err e) is = (is.0, ap (with_item t id) is.1 ∙ same_item id old h)
+
+-- a node whose properties are patched, if it can be done
+module _ {A : Type 0} (old now : Node) (is : old ≡ now) (props : Properties) (patch : List (Bool × Property)) where
+  pub patched_ok : (r : Result A FsError) → OnOk r (props ≡ patched old.props patch) → OnOk r (record old { props = props } ≡ record now { props = patched now.props patch })
+  patched_ok (Ok x) h = ap (λ props. record old { props = props }) h ∙ ap (λ (n : Node). record n { props = patched n.props patch }) is
+  patched_ok (Err e) h = tt
+
+  pub patched_err : (P : A → Type 0) (r : Result A FsError) → MatchResult r P (λ e. e ≡ InsufficientStorage) → OnErr r (props ≡ old.props)
+      → IfErr r (λ e. (e ≡ InsufficientStorage) × (record old { props = props } ≡ now))
+  patched_err P (Ok x) memory h = tt
+  patched_err P (Err e) memory h = (memory, ap (λ props. record old { props = props }) h ∙ is)

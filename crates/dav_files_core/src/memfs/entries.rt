@@ -1,23 +1,24 @@
 //! Single changes of the map of files, by the number of an entry.
-ghost use Rattle.std.specs.Prelude.{◌≡◌, ◌∷◌, ◌++◌, ◌+◌, ◌<◌, ◌^◌, [], length, Some, Ok, OnOk, OnErr};
+ghost use Rattle.std.specs.Prelude.{◌≡◌, ◌∷◌, ◌++◌, ◌+◌, ◌<◌, ◌^◌, [], length, map, Some, Ok, OnOk, OnErr};
 ghost use Rattle.dav_path_core.specs.Answers.{AnswersAs};
 ghost use Rattle.dav_path_core.specs.Fronts.{Path};
 ghost use Rattle.dav_files_core.specs.Exactly.{AnswersExactly};
 ghost use Rattle.dav_files_core.specs.OpenFiles.{overwritten};
 ghost use Rattle.dav_files_core.specs.Outcomes.{added, changed, touched};
+ghost use Rattle.dav_files_core.specs.Properties.{answer_of, entry_of, patch_answers, patched};
 ghost use Rattle.dav_files_core.specs.Resources.{Node, Resource, IsResourceMap, at_path};
 ghost use Rattle.dav_files_core.specs.Private.TreeCalls.{IsMissing};
 ghost use Rattle.dav_files_core.specs.Private.Entries.{HasNumber, HasFile, HasFolder, StandsIn, IsBare, taken_out, put_there};
 
 use super::MemFs;
 use super::nodes::{
-    Node, add_node, delete_node, move_node, node_of, overwrite, set_modified, set_node, set_props,
-    write_file,
+    Node, add_node, delete_node, move_node, node_of, overwrite, patch_props, set_modified,
+    set_node, write_file,
 };
-use super::properties::Props;
-use crate::fs::Moment;
+use crate::fs::{DavProp, Moment};
 use bytes::{Buf, Bytes};
 use dav_path_core::errors::{FsError, FsResult};
+use http::StatusCode;
 
 impl MemFs {
     // The node of the entry with a number.
@@ -93,16 +94,18 @@ impl MemFs {
         }
     }
 
-    // Puts other properties in place of those of an entry.
-    pub(super) fn set_props(&mut self, id: u64, props: Props)
+    // Sets and removes properties of an entry, all or none, and answers for each.
+    pub(super) fn patch(
+        &mut self,
+        id: u64,
+        patch: Vec<(bool, DavProp)>,
+    ) -> FsResult<Vec<(StatusCode, DavProp)>>
         requires { HasNumber self.old id }
-        ensures change { (p : Path) (r : Resource) → at_path self.old p ≡ Some r → r.number ≡ id → self.new ≡ changed self.old p r (record r.node { props = props }) }
+        ensures answer { (p : Path) (r : Resource) → at_path self.old p ≡ Some r → r.number ≡ id
+            → AnswersAs (λ v. map answer_of v.items) result (Ok (patch_answers (map entry_of patch.items), changed self.old p r (record r.node { props = patched r.node.props (map entry_of patch.items) }))) self.old self.new }
         ensures shape { IsResourceMap self.new }
     {
-        match set_props(&mut self.tree, id, props) {
-            Ok(()) => {}
-            Err(_) => unreachable!(),
-        }
+        patch_props(&mut self.tree, self.alloc, id, patch)
     }
 
     // Puts bytes over those of a file from a place on, with zeros in a gap; the times stay.

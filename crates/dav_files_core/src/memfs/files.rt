@@ -243,10 +243,7 @@ impl DavFileSystem for MemFs {
         ensures shape { IsResourceMap self.new }
     {
         let id = self.number_of(path)?;
-        let mut props = self.node_at(id).props.clone()?;
-        let answers = props.patch(self.alloc, patch)?;
-        self.set_props(id, props);
-        Ok(answers)
+        self.patch(id, patch)
     }
 
     /// The path as finding refuses; `InsufficientStorage` where it is out of memory.

@@ -1,19 +1,21 @@
 //! The nodes of the tree of files, and the calls by which files meet the tree.
-ghost use Rattle.std.specs.Prelude.{◌≡◌, ◌↔◌, ◌+◌, ◌<◌, ◌^◌, IsTrue, true, Some, None, Ok, [], length, IfOk, IfErr, OnOk, OnErr, MatchResult, nat_eq};
+ghost use Rattle.std.specs.Prelude.{◌≡◌, ◌↔◌, ◌+◌, ◌<◌, ◌^◌, IsTrue, true, map, Some, None, Ok, [], length, IfOk, IfErr, OnOk, OnErr, MatchResult, nat_eq};
 ghost use Rattle.std.specs.Option.{ok_or};
 ghost use Rattle.std.specs.Cmp.Lexicographic.{pointwise};
 ghost use Rattle.dav_path_core.specs.Keyed.{child, add, delete_refusal, without, move_refusal, moved, parent, Under};
 ghost use Rattle.dav_files_core.specs.Outcomes.{new_file, new_folder};
 ghost use Rattle.dav_files_core.specs.Meta.{meta_of, meta_at};
 ghost use Rattle.dav_files_core.specs.OpenFiles.{overwritten};
+ghost use Rattle.dav_files_core.specs.Properties.{answer_of, entry_of, patch_answers, patched};
 ghost use Rattle.dav_files_core.specs.Private.TreeCalls.{FindsMember, FindsNode, WritesFile, SetsNode, IsThere};
 
 use super::properties::Props;
 use super::{Kind, MemFsMeta};
-use crate::fs::Moment;
+use crate::fs::{DavProp, Moment};
 use bytes::{Buf, Bytes};
 use dav_path_core::errors::{FsError, FsResult};
 use dav_path_core::tree::Tree;
+use http::StatusCode;
 use std::alloc::Global;
 use std::marker::Model;
 
@@ -179,13 +181,20 @@ pub(super) fn set_node(tree: &mut Tree<Bytes, Node>, id: u64, node: Node) -> FsR
     Ok(())
 }
 
-/// Puts other properties in place of those of a node. `NotFound` where there is no such node.
-pub(super) fn set_props(tree: &mut Tree<Bytes, Node>, id: u64, props: Props) -> FsResult<()>
-    ensures { SetsNode tree.old.keyed id (λ n. record n { props = props }) result tree.new.keyed }
+/// Sets and removes properties of a node, all or none, and answers for each. `InsufficientStorage` where it is out of memory.
+pub(super) fn patch_props(
+    tree: &mut Tree<Bytes, Node>,
+    alloc: Global,
+    id: u64,
+    patch: Vec<(bool, DavProp)>,
+) -> FsResult<Vec<(StatusCode, DavProp)>>
+    requires { IsThere tree.old.keyed id }
+    ensures answer { IfOk result (λ v. map answer_of v.items ≡ patch_answers (map entry_of patch.items)) }
+    ensures ok { OnOk result (SetsNode tree.old.keyed id (λ n. record n { props = patched n.props (map entry_of patch.items) }) (Ok tt) tree.new.keyed) }
+    ensures err { IfErr result (λ e. (e ≡ FsError.InsufficientStorage) × (tree.new.keyed ≡ tree.old.keyed)) }
 {
     let node = tree.get_node_mut(id)?;
-    node.props = props;
-    Ok(())
+    node.props.patch(alloc, patch)
 }
 
 /// Puts bytes over those of a node from a place on, with zeros in a gap. `InsufficientStorage` where it is out of memory.

@@ -1,5 +1,5 @@
 //! Properties that are kept in memory.
-ghost use Rattle.std.specs.Prelude.{◌≡◌, map, option_map, option_and_then, OnOk, MatchResult};
+ghost use Rattle.std.specs.Prelude.{◌≡◌, map, None, option_map, option_and_then, OnOk, OnErr, IfErr, MatchResult};
 ghost use Rattle.std.specs.Option.{ok_or};
 ghost use Rattle.std.specs.FinMap.{empty, get, insert, remove, values};
 ghost use Rattle.dav_files_core.specs.Private.PropertyMaps.{properties_of};
@@ -8,10 +8,13 @@ ghost use Rattle.dav_path_core.specs.Segments.{segments};
 ghost use Rattle.dav_files_core.specs.Properties.{property_of, entry_of, answer_of, key_of, patched_by, patched, patch_answers, patch_props, shown, get_props, xml_of, get_prop};
 ghost use Rattle.dav_files_core.specs.Resources.{IsResourceMap};
 
+mod patching;
+
 use crate::fs::DavProp;
 use bytes::Bytes;
 use dav_path_core::errors::{FsError, FsResult};
 use http::StatusCode;
+use patching::{make_changes, make_room, read_patch};
 use std::alloc::{AllocError, Global};
 use std::collections::BTreeMap;
 use std::marker::Model;
@@ -55,33 +58,20 @@ impl Props {
         }
     }
 
-    // Sets and removes, one after another, and answers for each. Refused, some may be set or removed already.
+    // Sets and removes, one after another, and answers for each, all or none.
     pub(super) fn patch(
         &mut self,
         alloc: Global,
         patch: Vec<(bool, DavProp)>,
     ) -> FsResult<Vec<(StatusCode, DavProp)>>
         ensures answer { MatchResult result (λ v. map answer_of v.items ≡ patch_answers (map entry_of patch.items)) (λ e. e ≡ FsError.InsufficientStorage) }
-        ensures left { OnOk result (self.new ≡ patched self.old (map entry_of patch.items)) }
+        ensures ok { OnOk result (self.new ≡ patched self.old (map entry_of patch.items)) }
+        ensures err { OnErr result (self.new ≡ self.old) }
     {
-        let mut answers = Vec::new(alloc);
-        for (set, prop) in patch {
-            answers.push((StatusCode::OK, prop.without_xml()?))?;
-            self.patch_by(alloc, set, prop)?;
-        }
+        let (answers, changes) = read_patch(alloc, &self.map, patch)?;
+        make_room(alloc, &mut self.map, changes.missing.as_slice())?;
+        make_changes(&mut self.map, changes.last);
         Ok(answers)
-    }
-
-    // Sets or removes one.
-    fn patch_by(&mut self, alloc: Global, set: bool, prop: DavProp) -> FsResult<()>
-        ensures { MatchResult result (λ _. self.new ≡ patched_by self.old (set, property_of prop)) (λ e. e ≡ FsError.InsufficientStorage) }
-    {
-        let key = key_of(alloc, &prop)?;
-        if set {
-            return put_in(&mut self.map, key, prop);
-        }
-        take_out(&mut self.map, &key);
-        Ok(())
     }
 
     // Each, with its xml or without, by the bytes of namespace and name.
@@ -127,13 +117,15 @@ fn copy_of_xml(alloc: Global, prop: Option<&DavProp>) -> FsResult<Vec<u8>>
     Ok(xml.as_slice().to_vec(alloc)?)
 }
 
-// Puts a property at its key, in place of one that is there.
+// Puts a property at its key, in place of one that is there; that takes no memory.
 fn put_in(
     map: &mut BTreeMap<(Bytes, Bytes), DavProp>,
     key: (Bytes, Bytes),
     prop: DavProp,
 ) -> FsResult<()>
-    ensures { MatchResult result (λ _. properties_of map.new.entries ≡ insert (properties_of map.old.entries) key (property_of prop)) (λ e. e ≡ FsError.InsufficientStorage) }
+    ensures ok { OnOk result (properties_of map.new.entries ≡ insert (properties_of map.old.entries) key (property_of prop)) }
+    ensures absent { OnErr result (get (properties_of map.old.entries) key ≡ None) }
+    ensures err { IfErr result (λ e. (e ≡ FsError.InsufficientStorage) × (properties_of map.new.entries ≡ properties_of map.old.entries)) }
 {
     match map.insert(key, prop) {
         Ok(_) => Ok(()),

@@ -1,1 +1,3 @@
+pub mod EndLemmas
 pub mod ExpiringLemmas
+pub mod ForgettingLemmas

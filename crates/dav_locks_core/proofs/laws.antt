@@ -2,4 +2,5 @@ pub mod CheckLemmas
 pub mod EndedLemmas
 pub mod ExclusiveLemmas
 pub mod FoundLemmas
+pub mod StaleLemmas
 pub mod StandInLemmas

@@ -6,6 +6,7 @@ ghost use Rattle.dav_locks_core.specs.LockFronts.{front_count};
 ghost use Rattle.dav_locks_core.specs.Exclusive.{Exclusive};
 
 mod calls;
+mod ends;
 mod expiring;
 mod granting;
 mod holding;
@@ -21,9 +22,11 @@ use dav_path_core::davpath::DavPath;
 use dav_path_core::errors::{FsError, FsResult};
 use dav_path_core::tree::Tree;
 use dav_path_core::util::Moment;
-use expiring::{end_stale, soonest_end};
+use ends::Ends;
+use expiring::end_stale;
 use rand_core::Rng;
 use std::alloc::{AllocError, Global};
+use std::collections::BTreeMap;
 use std::marker::Model;
 
 /// The locks that stand at one path, each with its grant number, in the order of granting.
@@ -47,8 +50,7 @@ pub struct MemLs {
     alloc: Global,
     tree: Tree<Bytes, NodeLocks>,
     next: u64,
-    /// No lock ends before it.
-    soonest: Moment,
+    ends: Ends,
 }
 
 impl Model for MemLs {
@@ -58,11 +60,11 @@ impl Model for MemLs {
     ghost Value = { List Lock };
 
     ghost use Rattle.dav_locks_core.specs.Private.LockTree.{lock_list};
-    ghost use Rattle.dav_locks_core.specs.Private.Soonest.{IsKept};
+    ghost use Rattle.dav_locks_core.specs.Private.Ends.{IsKept};
 
     ghost view = { λ m. lock_list m.tree.keyed };
 
-    ghost invariant = { λ m. IsKept m.tree.keyed m.next m.soonest.0 };
+    ghost invariant = { λ m. IsKept m.tree.keyed m.next m.ends };
 }
 
 impl MemLs {
@@ -80,7 +82,7 @@ impl MemLs {
             alloc,
             tree,
             next: 1,
-            soonest: Moment(u64::MAX),
+            ends: BTreeMap::new(alloc),
         })
     }
 
@@ -99,10 +101,7 @@ impl DavLockSystem for MemLs {
     ghost locks = { λ m. m };
 
     fn expire(&mut self, now: Moment) {
-        if self.soonest.0 <= now.0 {
-            end_stale(&mut self.tree, now);
-            self.soonest = soonest_end(&self.tree);
-        }
+        end_stale(&mut self.tree, &mut self.ends, now);
     }
 
     /// `OutOfMemory` also where all grant numbers to 2^64 - 2 are used up.

@@ -3,7 +3,7 @@ use Rattle.std.proofs.Common.{◌≡◌, inl, inr, Err, ap, ◌∙◌, subst}
 use Rattle.dav_path_core.specs.Fronts.{Path}
 use Rattle.dav_files_core.specs.Describing.{metadata}
 use Rattle.dav_locks_core.specs.Stale.{without_stale}
-use Rattle.dav_locks_core.proofs.ends.ExpiringLemmas.{stale_once}
+use Rattle.dav_locks_core.proofs.laws.StaleLemmas.{stale_once}
 use Rattle.dav_resource_core.specs.Requests.{Command, Request, Reply, Meta, Answer, Refusal, Fs, Locked, NoLock, OutOfMemory}
 use Rattle.dav_resource_core.specs.Step.{State, Same, Effect, Serves, Step, start_of}
 use Rattle.dav_resource_core.proofs.Frame.{told_left}

@@ -34,7 +34,7 @@ pub record IsSeenAs (t : LockTree) (next : ℕ) (locks : List Lock) : Type 0 whe
   pub keeps : IsLockList t next
   pub seen : lock_list t ≡ locks
 
-seen_from : (t : LockTree) (granted : List NumberedLock) (next : ℕ) → Represents t granted next → Exclusive (locks_of granted) → IsSeenAs t next (locks_of granted)
+pub seen_from : (t : LockTree) (granted : List NumberedLock) (next : ℕ) → Represents t granted next → Exclusive (locks_of granted) → IsSeenAs t next (locks_of granted)
 seen_from t granted next r x =
     let one : all_granted t ≡ granted = one_list t granted next r in
     record {
@@ -78,7 +78,7 @@ push-needed t u n g tree known needed is =
 
 -- ---- an end
 
-known_from_lock : (t : LockTree) (n k : ℕ) → k < length (locks_at t n) → IsKnown t n
+pub known_from_lock : (t : LockTree) (n k : ℕ) → k < length (locks_at t n) → IsKnown t n
 known_from_lock t n k lt = by (entry t n) refl
   where
     by : (o : Option (Entry Segment (List NumberedLock))) → entry t n ≡ o → IsKnown t n
@@ -115,7 +115,7 @@ pub record Ends (t u : LockTree) (next n : ℕ) (p : Path) (token : List ℕ) : 
 pub place_within : (t : LockTree) (next m k : ℕ) (p : Path) (token : List ℕ) → IsLockList t next → lookup_lock (has_that_token token) t 1 p ≡ Some (m, k) → k < length (locks_at t m)
 place_within t next m k p token keeps h = let f = found_first t (all_granted t) next keeps.represents p token m k some_granted h in f.2
 
-known_still : (t u : LockTree) (n : ℕ) (standing : List NumberedLock) → IsKnown t n → u ≡ with_item t n standing → IsKnown u n
+pub known_still : (t u : LockTree) (n : ℕ) (standing : List NumberedLock) → IsKnown t n → u ≡ with_item t n standing → IsKnown u n
 known_still t u n standing known is = by (entry t n) refl
   where
     by : (o : Option (Entry Segment (List NumberedLock))) → entry t n ≡ o → IsKnown u n

@@ -1,154 +1,254 @@
--- Lists and trees of locks, where those go whose end has come.
-use Rattle.std.proofs.Common.{◌≡◌, ℕ, zero, suc, ◌<◌, ◌≤◌, Bool, true, false, not, List, [], ◌∷◌, ◌++◌, length, get_or, set, Option, Some, None, refl, sym, ap, ◌∙◌, subst, arith}
-use Rattle.std.specs.Prelude.{remove, position}
-use Rattle.std.specs.List.{AllByRecursion}
-use Rattle.std.proofs.lemmas.Bool.{lt-leb, ltb-false, le-ltb}
-use Rattle.std.proofs.lemmas.List.{get_or-map, length-map}
+-- A tree of locks where those go whose end has come, a node at a time.
+use Rattle.std.proofs.Common.{◌≡◌, ◌≢◌, ◌⊎◌, inl, inr, ℕ, ◌<◌, ◌≤◌, Bool, true, false, cond, not, is_some, List, [], get_or, Option, Some, None, refl, sym, ap, ◌∙◌, subst}
+use Rattle.std.specs.Prelude.{filter}
+use Rattle.std.specs.Ordering.{nat_cmp}
+use Rattle.std.specs.FinMap.{find}
+use Rattle.std.proofs.lemmas.Bool.{cases_eq, lt-leb, le-leb, true≢false, false≢true}
 use Rattle.std.proofs.lemmas.List.Elements.{filter_passes, recursion_from_All}
-use Rattle.dav_path_core.specs.Keyed.{with_item}
-use Rattle.dav_path_core.specs.TreeValue.{IsTreeValue}
-use Rattle.dav_path_core.proofs.trees.Trees.{same_some}
+use Rattle.dav_path_core.specs.Fronts.{Segment, Path}
+use Rattle.dav_path_core.specs.Keyed.{Entry, entry, IsKnown, IsTree, with_item}
+use Rattle.dav_path_core.proofs.lists.PlaceLemmas.{filter-all, filter_all_at, map-filter}
+use Rattle.dav_path_core.proofs.trees.Trees.{same_some, none≢some}
 use Rattle.dav_locks_core.specs.Lock.{Lock}
+use Rattle.dav_locks_core.specs.Locks.{lock_path}
+use Rattle.dav_locks_core.specs.Exclusive.{Exclusive}
 use Rattle.dav_locks_core.specs.Stale.{has_come, is_stale, without_stale}
-use Rattle.dav_locks_core.specs.Private.LockTree.{NumberedLock, LockTree, is_segment, locks_at, all_granted, locks_of, lock_list, first_at}
-use Rattle.dav_locks_core.specs.Private.Pruning.{AllNeeded, SameLocks}
-use Rattle.dav_locks_core.specs.Private.Represents.{IsLockList, IsLockTree}
-use Rattle.dav_locks_core.specs.Private.Soonest.{comes_before, ends_before, NoneEndsBefore}
-use Rattle.dav_locks_core.specs.Private.SubtreeWalks.{LinkedLocks, NoneUnder, StandsUnder}
-use Rattle.dav_locks_core.proofs.answers.DeepConflictLemmas.{none_below}
-use Rattle.dav_path_core.proofs.lists.EachLemmas.{none_passes, weaker, all_push, all_set}
-use Rattle.dav_path_core.proofs.lists.PlaceLemmas.{position-none, position-first, position-of_none, filter_none_at, filter-all, filter-remove}
-use Rattle.dav_locks_core.proofs.answers.LockListLemmas.{IsKeptAs, EndsAt, some_granted, seen-end_at, kept-end}
-use Rattle.dav_locks_core.proofs.lists.NumberedLemmas.{place_of_found, found_at_place}
-use Rattle.dav_locks_core.proofs.walks.WalkLemmas.{Walked, walk_weaker}
-use Rattle.dav_locks_core.proofs.walks.SubtreeLemmas.{node_at-here}
+use Rattle.dav_locks_core.specs.Private.Ends.{Ends, node_of, SameEnds, NoneEnds, TakesEnded, AreEnds, IsKept}
+use Rattle.dav_locks_core.specs.Private.LockTree.{NumberedLock, LockTree, is_segment, locks_at, node_at, all_granted, locks_of, lock_list}
+use Rattle.dav_locks_core.specs.Private.Pruning.{AllNeeded, NeededBut, SameLocks}
+use Rattle.dav_locks_core.specs.Private.Represents.{Represents}
+use Rattle.dav_locks_core.proofs.answers.LockListLemmas.{IsSeenAs, seen_from, known_still}
+use Rattle.dav_locks_core.proofs.laws.ExclusiveLemmas.{Exclusive-filter}
+use Rattle.dav_locks_core.proofs.lists.NumberedLemmas.{InOrder, InOrder-filter, find-filter, kept_if, found_at_place}
+use Rattle.dav_locks_core.proofs.trees.PruningLemmas.{NeededBut-changes, needed_but}
+use Rattle.dav_locks_core.proofs.trees.StandingLemmas.{Changes, Changes-with_item, locks_of_entry}
+use Rattle.dav_locks_core.proofs.walks.SubtreeLemmas.{way_stays}
+
+-- its end hasn't come
+abbrev pub lasts : ℕ → NumberedLock → Bool
+lasts now g = not (is_stale now g.1)
+
+abbrev pub lasting_at : ℕ → LockTree → ℕ → List NumberedLock
+lasting_at now t n = filter (lasts now) (locks_at t n)
+
+-- u is t without the stale locks of some nodes, and new has the ends of those that stand in it
+pub record Thins (t u : LockTree) (old new : Ends) (now : ℕ) : Type 0 where
+  pub tree : IsTree is_segment u
+  pub needed : AllNeeded u
+  pub locks : (n : ℕ) → (locks_at u n ≡ locks_at t n) ⊎ (locks_at u n ≡ lasting_at now t n)
+  pub ways : (n : ℕ) (p : Path) → locks_at u n ≢ [] → node_at t 1 p ≡ Some n → node_at u 1 p ≡ Some n
+  pub noted : (e g n : ℕ) (l : Lock) → find nat_cmp g (locks_at u n) ≡ Some l → l.timeout_at ≡ Some e → node_of new e g ≡ Some n
+  pub only : (e g n : ℕ) → node_of new e g ≡ Some n → node_of old e g ≡ Some n
 
 -- ---- moments
 
-not_yet : (end : Option ℕ) (moment now : ℕ) → comes_before moment end ≡ false → now < moment → has_come now end ≡ false
-not_yet None moment now h lt = refl
-not_yet (Some e) moment now h lt = let later : moment ≤ e = ltb-false e moment h in lt-leb e now (omega (arith, later, lt))
+last_by_end : (now : ℕ) (end : Option ℕ) → ((e : ℕ) → end ≡ Some e → now < e) → not (has_come now end) ≡ true
+last_by_end now None h = refl
+last_by_end now (Some e) h = ap not (lt-leb e now (h e refl))
 
-earlier : (end : Option ℕ) (moment sooner : ℕ) → sooner ≤ moment → comes_before moment end ≡ false → comes_before sooner end ≡ false
-earlier None moment sooner le h = refl
-earlier (Some e) moment sooner le h = let later : moment ≤ e = ltb-false e moment h in le-ltb e sooner (omega (arith, later, le))
+ended_by : (now e : ℕ) (l : Lock) → l.timeout_at ≡ Some e → e ≤ now → not (is_stale now l) ≡ true → ⊥
+ended_by now e l is le lasts = true≢false (sym lasts ∙ ap (λ end. not (has_come now end)) is ∙ ap not (le-leb e now le))
 
--- before any of them ends, all are left
-pub none_stale : (locks : List Lock) (soonest now : ℕ) → NoneEndsBefore soonest locks → now < soonest → without_stale now locks ≡ locks
-none_stale locks soonest now none lt =
-    filter-all (λ l. not (is_stale now l)) locks (weaker _ (λ l. not (is_stale now l) ≡ true) (λ l h. ap not (not_yet l.timeout_at soonest now h lt)) locks none)
+-- ---- what a filter leaves
 
--- once is enough
-pub stale_once : (now : ℕ) (locks : List Lock) → without_stale now (without_stale now locks) ≡ without_stale now locks
-stale_once now locks = filter-all (λ l. not (is_stale now l)) (without_stale now locks) (recursion_from_All _ (without_stale now locks) (filter_passes (λ l. not (is_stale now l)) locks))
-
-pub sooner-all : (locks : List Lock) (moment sooner : ℕ) → sooner ≤ moment → NoneEndsBefore moment locks → NoneEndsBefore sooner locks
-sooner-all locks moment sooner le none = weaker _ _ (λ l h. earlier l.timeout_at moment sooner le h) locks none
-
-pub sooner-push : (moment sooner : ℕ) (locks : List Lock) (l : Lock) → sooner ≤ moment → comes_before sooner l.timeout_at ≡ false → NoneEndsBefore moment locks → NoneEndsBefore sooner (locks ++ l ∷ [])
-sooner-push moment sooner locks l le last none = all_push _ locks l (sooner-all locks moment sooner le none) last
-
-pub sooner-set : (moment sooner : ℕ) (locks : List Lock) (k : ℕ) (l : Lock) → sooner ≤ moment → comes_before sooner l.timeout_at ≡ false → NoneEndsBefore moment locks → NoneEndsBefore sooner (set locks k l)
-sooner-set moment sooner locks k l le last none = all_set _ locks k l l (λ _. last) (sooner-all locks moment sooner le none)
-
--- ---- the locks at one node
-
-pub none_at : (t : LockTree) (n moment : ℕ) (granted : List NumberedLock) → granted ≡ locks_at t n → NoneEndsBefore moment (locks_of granted) → first_at (ends_before moment) t n ≡ None
-none_at t n moment granted here none = subst (λ xs. position (λ g. ends_before moment g.1) xs ≡ None) here (position-of_none (λ g. ends_before moment g.1) granted (of_pairs granted none))
+kept_some : (test : NumberedLock → Bool) (g : ℕ) (l : Lock) (o : Option Lock) → kept_if test g o ≡ Some l → (o ≡ Some l) × (test (g, l) ≡ true)
+kept_some test g l None h = absurd (none≢some l h)
+kept_some test g l (Some k) h = by (test (g, k)) refl h
   where
-    of_pairs : (xs : List NumberedLock) → NoneEndsBefore moment (locks_of xs) → AllByRecursion (λ g. ends_before moment g.1 ≡ false) xs
-    of_pairs [] h = tt
-    of_pairs (x ∷ xs) h = (h.0, of_pairs xs h.1)
+    by : (b : Bool) → test (g, k) ≡ b → cond b (Some k) None ≡ Some l → (Some k ≡ Some l) × (test (g, l) ≡ true)
+    by true e h = (h, ap (λ k. test (g, k)) (sym (same_some k l h)) ∙ e)
+    by false e h = absurd (none≢some l h)
 
-sooner_node : (xs : List NumberedLock) (moment sooner : ℕ) → sooner ≤ moment → position (λ g. ends_before moment g.1) xs ≡ None → position (λ g. ends_before sooner g.1) xs ≡ None
-sooner_node xs moment sooner le h =
-    position-of_none (λ g. ends_before sooner g.1) xs
-    (none_passes (λ g. ends_before sooner g.1) xs (filter_none_at (λ g. ends_before sooner g.1) xs (λ k d lt.
-    earlier (get_or xs k d).1.timeout_at moment sooner le (position-none (λ g. ends_before moment g.1) xs h k d lt))))
+some_kept : (test : NumberedLock → Bool) (g : ℕ) (l : Lock) (o : Option Lock) → o ≡ Some l → test (g, l) ≡ true → kept_if test g o ≡ Some l
+some_kept test g l o is passes = ap (kept_if test g) is ∙ ap (λ b. cond b (Some l) None) passes
 
--- a walk that has found no lock that ends before a moment has found none for a sooner one
-pub walk_sooner : (t : LinkedLocks) (shape : IsTreeValue is_segment t) (moment sooner n turn : ℕ) → sooner ≤ moment → Walked t 1 (ends_before moment) n turn → Walked t 1 (ends_before sooner) n turn
-walk_sooner t shape moment sooner n turn le w =
-    walk_weaker t shape 1 (ends_before moment) (ends_before sooner) (λ q none. sooner_node (locks_at t.keyed q) moment sooner le none) n turn w
+module _ (test : NumberedLock → Bool) (granted : List NumberedLock) (sorted : InOrder granted) (g : ℕ) (l : Lock) where
+  in_filter : find nat_cmp g (filter test granted) ≡ Some l → (find nat_cmp g granted ≡ Some l) × (test (g, l) ≡ true)
+  in_filter h = kept_some test g l (find nat_cmp g granted) (sym (find-filter test granted g sorted) ∙ h)
 
--- ---- the whole tree
+  to_filter : find nat_cmp g granted ≡ Some l → test (g, l) ≡ true → find nat_cmp g (filter test granted) ≡ Some l
+  to_filter h passes = find-filter test granted g sorted ∙ some_kept test g l (find nat_cmp g granted) h passes
 
--- where no lock passes at the root or below it, none of the list does
-pub none_of_list : (t : LockTree) (next : ℕ) (test : Lock → Bool) → IsLockList t next → NoneUnder test t 1 → AllByRecursion (λ l. test l ≡ false) (lock_list t)
-none_of_list t next test keeps none =
-    none_passes test (lock_list t) (filter_none_at test (lock_list t) (λ k e lt.
-    none_below t (all_granted t) next keeps.represents [] test (λ top leads. subst (NoneUnder test t) (same_some 1 top (sym (node_at-here t 1) ∙ leads)) none) k e lt refl))
+twice : (test : NumberedLock → Bool) (granted : List NumberedLock) → filter test (filter test granted) ≡ filter test granted
+twice test granted = filter-all test (filter test granted) (recursion_from_All _ (filter test granted) (filter_passes test granted))
 
--- a lock stands at a place of the list
-pub record Listed (t : LockTree) (m k : ℕ) : Type 0 where
-  pub at : ℕ
-  pub within : at < length (all_granted t)
-  pub same : get_or (all_granted t) at some_granted ≡ get_or (locks_at t m) k some_granted
+-- ---- the loop
 
-pub listed_at : (t : LockTree) (next m k : ℕ) → IsLockList t next → k < length (locks_at t m) → Listed t m k
-listed_at t next m k keeps lt =
-    let g = get_or (locks_at t m) k some_granted in
-    let b = keeps.represents.listed m g.0 g.1 (found_at_place (locks_at t m) k some_granted (keeps.represents.nodes_in_order m) lt) in
-    let w = place_of_found g.0 g.1 (all_granted t) b.0 in
-    record { at = w.0; within = w.1; same = w.2 some_granted }
+pub known_of_lock : (t : LockTree) (n g : ℕ) → is_some (find nat_cmp g (locks_at t n)) ≡ true → IsKnown t n
+known_of_lock t n g h = by (entry t n) refl
+  where
+    by : (o : Option (Entry Segment (List NumberedLock))) → entry t n ≡ o → IsKnown t n
+    by None e = absurd (false≢true (sym (ap (λ granted. is_some (find nat_cmp g granted)) (locks_of_entry t n None e)) ∙ h))
+    by (Some x) e = ap is_some e
 
--- u is t without some whose end has come
-pub record Expiring (t u : LockTree) (now : ℕ) : Type 0 where
-  pub tree : (next : ℕ) → IsLockTree t next → IsLockTree u next
-  pub left : without_stale now (lock_list u) ≡ without_stale now (lock_list t)
+module _ (t : LockTree) (next now : ℕ) (old : Ends) (keeps : IsKept t next old) where
+  sorted : (n : ℕ) → InOrder (locks_at t n)
+  sorted = keeps.tree.list.represents.nodes_in_order
 
-pub expiring_from : (t : LockTree) (now : ℕ) → Expiring t t now
-expiring_from t now = record { tree = λ next keeps. keeps; left = refl }
+  pub thins_from : Thins t t old old now
+  thins_from = record {
+    tree = keeps.tree.list.represents.tree;
+    needed = keeps.tree.needed;
+    locks = λ n. inl refl;
+    ways = λ n p some leads. leads;
+    noted = keeps.are_ends.noted;
+    only = λ e g n h. h;
+  }
 
-module _ (u : LockTree) (now : ℕ) (f : ℕ × ℕ) (s : StandsUnder (is_stale now) u 1 f) where
-  pub stale_within : f.1 < length (locks_at u f.0)
-  stale_within = let first = position-first (λ (g : NumberedLock). is_stale now g.1) (locks_at u f.0) f.1 s.1 in first.0
+  module _ (u : LockTree) (new : Ends) (th : Thins t u old new now) where
+    pub in_order : (n : ℕ) → InOrder (locks_at u n)
+    in_order n = elim (th.locks n) [
+      | inl e ↦ subst InOrder (sym e) (sorted n)
+      | inr e ↦ subst InOrder (sym e) (InOrder-filter (lasts now) (locks_at t n) (sorted n))
+    ]
 
-  stale_there : is_stale now (get_or (locks_at u f.0) f.1 some_granted).1 ≡ true
-  stale_there = let first = position-first (λ (g : NumberedLock). is_stale now g.1) (locks_at u f.0) f.1 s.1 in first.1 some_granted
+    -- an end is taken out
+    module _ (mid : Ends) (number node : ℕ) (taken : TakesEnded new mid now number node) where
+      -- of a lock that isn't the one that was taken
+      others : (e g n : ℕ) → node_of new e g ≡ Some n → ((e ≡ taken.end) → g ≡ number → n ≡ node → ⊥) → node_of mid e g ≡ Some n
+      others e g n was apart = taken.gone.others e g (λ p. apart p.0 p.1 (one e g n p.0 p.1 was)) ∙ was
+        where
+          one : (e g n : ℕ) → e ≡ taken.end → g ≡ number → node_of new e g ≡ Some n → n ≡ node
+          one e g n i j was = same_some n node (sym was ∙ ap (λ e. node_of new e g) i ∙ ap (node_of new taken.end) j ∙ taken.was)
 
-  -- one that is stale is ended
-  module _ (w : LockTree) (is : w ≡ with_item u f.0 (remove (locks_at u f.0) f.1)) where
-    pub stale_place : (next : ℕ) → IsLockTree u next → Listed u f.0 f.1
-    stale_place next keeps = listed_at u next f.0 f.1 keeps.list stale_within
+      fewer : (e g n : ℕ) → node_of mid e g ≡ Some n → node_of old e g ≡ Some n
+      fewer e g n h = elim (cases_eq e taken.end) [
+        | inl i ↦ elim (cases_eq g number) [
+          | inl j ↦ absurd (none≢some n (sym taken.gone.this ∙ ap (node_of mid taken.end) (sym j) ∙ ap (λ e. node_of mid e g) (sym i) ∙ h))
+          | inr ne ↦ th.only e g n (sym (taken.gone.others e g (λ p. ne p.1)) ∙ h)
+        ]
+        | inr ne ↦ th.only e g n (sym (taken.gone.others e g (λ p. ne p.0)) ∙ h)
+      ]
 
-    pub stale_ends : (next : ℕ) (keeps : IsLockTree u next) → EndsAt u w next f.0 (stale_place next keeps).at
-    stale_ends next keeps = let p = stale_place next keeps in seen-end_at u w next f.0 f.1 p.at keeps stale_within p.within p.same is
+      -- its lock has gone already
+      pub thins_past : is_some (find nat_cmp number (locks_at u node)) ≡ false → Thins t u old mid now
+      thins_past none = record {
+        tree = th.tree;
+        needed = th.needed;
+        locks = th.locks;
+        ways = th.ways;
+        noted = λ e g n l h end. others e g n (th.noted e g n l h end) (λ i j at.
+            true≢false (sym (ap is_some (sym (ap (λ g. find nat_cmp g (locks_at u node)) j) ∙ sym (ap (λ n. find nat_cmp g (locks_at u n)) at) ∙ h)) ∙ none));
+        only = fewer;
+      }
 
-    module _ (v : LockTree) (same : SameLocks w v) (needed : AllNeeded v) where
-      stale_kept : (next : ℕ) (keeps : IsLockTree u next) → IsKeptAs v next (remove (lock_list u) (stale_place next keeps).at)
-      stale_kept next keeps = kept-end u w v next f.0 (stale_place next keeps).at (stale_ends next keeps) same needed
+      -- the stale locks at its node go
+      module _ (w : LockTree) (some : is_some (find nat_cmp number (locks_at u node)) ≡ true) (is : w ≡ with_item u node (lasting_at now u node)) where
+        changes : Changes u w node (lasting_at now u node)
+        changes = subst (λ w. Changes u w node (lasting_at now u node)) (sym is) (Changes-with_item u node (lasting_at now u node) th.tree (known_of_lock u node number some))
 
-      pub expiring_on : (t : LockTree) (next : ℕ) → IsLockTree t next → Expiring t u now → Expiring t v now
-      expiring_on t next keeps e =
-          let k = e.tree next keeps in
-          let p = stale_place next k in
-          record {
-            tree = λ next keeps. (stale_kept next (e.tree next keeps)).keeps;
-            left = ap (without_stale now) (stale_kept next k).seen
-                ∙ filter-remove (λ l. not (is_stale now l)) (lock_list u) p.at (λ d lt. ap not (is_one p d))
-                ∙ e.left;
+        pub thinned_tree : IsTree is_segment w
+        thinned_tree = changes.tree
+
+        pub thinned_known : IsKnown w node
+        thinned_known = known_still u w node (lasting_at now u node) (known_of_lock u node number some) is
+
+        pub thinned_needed : NeededBut w node
+        thinned_needed = NeededBut-changes u w node (lasting_at now u node) changes (needed_but u node th.needed)
+
+        module _ (v : LockTree) (same : SameLocks w v) (needed : AllNeeded v) where
+          here : (n : ℕ) → n ≡ node → locks_at v n ≡ lasting_at now u node
+          here n i = same.locks n ∙ ap (locks_at w) i ∙ changes.at
+
+          elsewhere : (n : ℕ) → n ≢ node → locks_at v n ≡ locks_at u n
+          elsewhere n ne = same.locks n ∙ changes.other n ne
+
+          locks_on : (n : ℕ) → (locks_at v n ≡ locks_at t n) ⊎ (locks_at v n ≡ lasting_at now t n)
+          locks_on n = elim (cases_eq n node) [
+            | inl i ↦ inr (here n i ∙ lasting_here ∙ ap (lasting_at now t) (sym i))
+            | inr ne ↦ elim (th.locks n) [ inl e ↦ inl (elsewhere n ne ∙ e) | inr e ↦ inr (elsewhere n ne ∙ e) ]
+          ]
+            where
+              lasting_here : lasting_at now u node ≡ lasting_at now t node
+              lasting_here = elim (th.locks node) [
+                | inl e ↦ ap (filter (lasts now)) e
+                | inr e ↦ ap (filter (lasts now)) e ∙ twice (lasts now) (locks_at t node)
+              ]
+
+          ways_on : (n : ℕ) (p : Path) → locks_at v n ≢ [] → node_at t 1 p ≡ Some n → node_at v 1 p ≡ Some n
+          ways_on n p some leads =
+              let before : locks_at u n ≢ [] = λ none. some (elim (cases_eq n node) [
+                | inl i ↦ here n i ∙ ap (filter (lasts now)) (sym (ap (locks_at u) i) ∙ none)
+                | inr ne ↦ elsewhere n ne ∙ none
+              ]) in
+              same.ways n p (λ none. some (same.locks n ∙ none)) (way_stays u w changes.ways 1 n p (th.ways n p before leads))
+
+          noted_on : (e g n : ℕ) (l : Lock) → find nat_cmp g (locks_at v n) ≡ Some l → l.timeout_at ≡ Some e → node_of mid e g ≡ Some n
+          noted_on e g n l h end = elim (cases_eq n node) [
+            | inl i ↦
+                let w = in_filter (lasts now) (locks_at u node) (in_order node) g l (sym (ap (find nat_cmp g) (here n i)) ∙ h) in
+                others e g n (th.noted e g n l (ap (λ n. find nat_cmp g (locks_at u n)) i ∙ w.0) end) (λ same_end j at. ended_by now e l end (subst (λ e. e ≤ now) (sym same_end) taken.has_come) w.1)
+            | inr ne ↦ others e g n (th.noted e g n l (sym (ap (find nat_cmp g) (elsewhere n ne)) ∙ h) end) (λ same_end j at. ne at)
+          ]
+
+          pub thins_on : Thins t v old mid now
+          thins_on = record {
+            tree = same.tree;
+            needed = needed;
+            locks = locks_on;
+            ways = ways_on;
+            noted = noted_on;
+            only = fewer;
           }
-        where
-          is_one : (p : Listed u f.0 f.1) (d : Lock) → is_stale now (get_or (lock_list u) p.at d) ≡ true
-          is_one p d =
-              ap (is_stale now) (get_or-map (λ (g : NumberedLock). g.1) (all_granted u) p.at some_granted d p.within)
-              ∙ ap (λ (g : NumberedLock). is_stale now g.1) p.same ∙ stale_there
 
-      pub fewer_locks : (next : ℕ) → IsLockTree u next → length (lock_list v) < length (lock_list u)
-      fewer_locks next keeps =
-          let p = stale_place next keeps in
-          let long : length (lock_list u) ≡ length (all_granted u) = length-map (all_granted u) (λ (g : NumberedLock). g.1) in
-          subst (λ locks. length locks < length (lock_list u)) (sym (stale_kept next keeps).seen) (shorter (lock_list u) p.at (omega (arith, long, p.within)))
-        where
-          shorter : (xs : List Lock) (k : ℕ) → k < length xs → length (remove xs k) < length xs
-          shorter [] k lt = absurd (omega (arith, lt))
-          shorter (x ∷ xs) zero lt = omega arith
-          shorter (x ∷ xs) (suc k) lt = let r = shorter xs k (omega (arith, lt)) in omega (arith, r)
+    pub thins_same : (mid : Ends) → SameEnds new mid → Thins t u old mid now
+    thins_same mid same = record {
+      tree = th.tree;
+      needed = th.needed;
+      locks = th.locks;
+      ways = th.ways;
+      noted = λ e g n l h end. same e g ∙ th.noted e g n l h end;
+      only = λ e g n h. th.only e g n (sym (same e g) ∙ h);
+    }
 
--- none is left whose end has come
-pub expired : (t u : LockTree) (now next : ℕ) → IsLockTree t next → Expiring t u now → NoneUnder (is_stale now) u 1 → lock_list u ≡ without_stale now (lock_list t)
-expired t u now next keeps e none =
-    sym (filter-all (λ l. not (is_stale now l)) (lock_list u)
-    (weaker _ (λ l. not (is_stale now l) ≡ true) (λ l h. ap not h) (lock_list u) (none_of_list u next (is_stale now) (e.tree next keeps).list none)))
-    ∙ e.left
+    -- ---- none is left whose end has come
+
+    module _ (none : NoneEnds new now) where
+      all_lasting : (n : ℕ) → locks_at u n ≡ lasting_at now t n
+      all_lasting n = elim (th.locks n) [
+        | inl e ↦
+            e ∙ sym (filter_all_at (lasts now) (locks_at t n) (λ k d lt.
+            let g = get_or (locks_at t n) k d in
+            let found : find nat_cmp g.0 (locks_at u n) ≡ Some g.1 = ap (find nat_cmp g.0) e ∙ found_at_place (locks_at t n) k d (sorted n) lt in
+            last_by_end now g.1.timeout_at (λ end is. none end g.0 n (th.noted end g.0 n g.1 found is))))
+        | inr e ↦ e
+      ]
+
+      represents_lasting : Represents u (filter (lasts now) (all_granted t)) next
+      represents_lasting =
+          let r = keeps.tree.list.represents in
+          record {
+            tree = th.tree;
+            in_order = InOrder-filter (lasts now) (all_granted t) r.in_order;
+            nodes_in_order = in_order;
+            listed = λ n g l h.
+                let w = in_filter (lasts now) (locks_at t n) (sorted n) g l (sym (ap (find nat_cmp g) (all_lasting n)) ∙ h) in
+                let a = r.listed n g l w.0 in
+                (to_filter (lasts now) (all_granted t) r.in_order g l a.0 w.1, th.ways n (lock_path l) (λ nothing. none≢some l (sym (ap (find nat_cmp g) nothing) ∙ h)) a.1);
+            stands = λ g l h.
+                let w = in_filter (lasts now) (all_granted t) r.in_order g l h in
+                let a = r.stands g l w.0 in
+                (a.0, ap (find nat_cmp g) (all_lasting a.0) ∙ to_filter (lasts now) (locks_at t a.0) (sorted a.0) g l a.1 w.1);
+            below = λ g l h. r.below g l (in_filter (lasts now) (all_granted t) r.in_order g l h).0;
+          }
+
+      seen_lasting : IsSeenAs u next (without_stale now (lock_list t))
+      seen_lasting =
+          let shown : locks_of (filter (lasts now) (all_granted t)) ≡ without_stale now (lock_list t) = map-filter (λ (g : NumberedLock). g.1) (λ l. not (is_stale now l)) (all_granted t) in
+          subst (IsSeenAs u next) shown
+          (seen_from u (filter (lasts now) (all_granted t)) next represents_lasting (subst Exclusive (sym shown) (Exclusive-filter (λ l. not (is_stale now l)) (lock_list t) keeps.tree.list.exclusive)))
+
+      ends_lasting : AreEnds u new
+      ends_lasting = record {
+        noted = th.noted;
+        only = λ e g n h.
+            let w = keeps.are_ends.only e g n (th.only e g n h) in
+            let lasting : not (is_stale now w.0) ≡ true = last_by_end now w.0.timeout_at (λ end is. subst (λ e. now < e) (same_some e end (sym w.2 ∙ is)) (none e g n h)) in
+            (w.0, ap (find nat_cmp g) (all_lasting n) ∙ to_filter (lasts now) (locks_at t n) (sorted n) g w.0 w.1 lasting, w.2);
+      }
+
+      pub thinned_kept : IsKept u next new
+      thinned_kept = record { tree = record { list = seen_lasting.keeps; needed = th.needed }; are_ends = ends_lasting }
+
+      pub thinned_left : lock_list u ≡ without_stale now (lock_list t)
+      thinned_left = seen_lasting.seen

@@ -1,12 +1,16 @@
 -- Lists of numbered values, in the order of their numbers: look-ups, places, a push and a removal.
-use Rattle.std.proofs.Common.{◌≡◌, ◌≢◌, inl, inr, ℕ, zero, suc, ◌<◌, ◌==◌, ◌&&◌, Bool, true, false, cond, not, T, List, [], ◌∷◌, ◌++◌, length, get_or, set, Option, Some, None, refl, sym, ap, ◌∙◌, subst, arith, nat_lt}
+use Rattle.std.proofs.Common.{◌≡◌, ◌≢◌, inl, inr, ℕ, zero, suc, ◌<◌, ◌≤◌, ◌==◌, ◌&&◌, Bool, true, false, cond, not, T, List, [], ◌∷◌, ◌++◌, length, get_or, set, Option, Some, None, is_some, Result, Ok, Err, is_ok, refl, sym, ap, ◌∙◌, subst, arith, nat_lt}
 use Rattle.std.specs.Prelude.{remove, filter}
-use Rattle.std.specs.Ordering.{nat_cmp, is_lt, eq_by_cmp}
+use Rattle.std.specs.Ordering.{nat_cmp, is_lt, eq_by_cmp, ordering_index}
 use Rattle.std.specs.Cmp.{nat_cmp_total, unsigned_tied}
 use Rattle.std.specs.FinMap.{find, is_sorted, nat_cmp-IsAntisymmetric}
 use Rattle.std.specs.FinMap.Entries.{below_all, where_key, find-append, find-where_key, is_sorted-where_key}
 use Rattle.std.specs.declared.cmp.Ordering.TheVariants.{Less, Equal, Greater}
-use Rattle.std.proofs.lemmas.Bool.{cases_eq, eq-eqb, ne_eqb, eqb-true, ltb-true, lt-ltb}
+use Rattle.std.specs.List.Sorted.{IsSearchInRange, IsBinarySearchResult, IsNonDecreasingBy}
+use Rattle.std.proofs.lemmas.Bool.Decides.{nat_tests}
+use Rattle.std.proofs.lemmas.Cmp.{ranked}
+use Rattle.std.proofs.lemmas.List.Sorted.{IsNonDecreasingBy-from_default}
+use Rattle.std.proofs.lemmas.Bool.{cases_eq, cases_lt, eq-eqb, ne_eqb, eqb-true, ltb-true, lt-ltb}
 use Rattle.dav_path_core.proofs.trees.Trees.{find-head, find-here, same_some, none≢some}
 
 first : (a b : Bool) → T (a && b) → T a
@@ -73,6 +77,37 @@ module _ {X : Type 0} where
       let up : e.0 < (get_or es k d).0 = above_at e.0 es k d (first _ _ s) (omega arith) in
       find-head (get_or es k d).0 e es ∙ ap (λ b. cond b (Some e.1) (find nat_cmp (get_or es k d).0 es)) (ne_eqb (get_or es k d).0 e.0 (λ q. omega (arith, up, q)))
       ∙ found_at_place es k d (second _ _ s) (omega arith)
+
+  -- a binary search by number answers whether it is there
+  module _ (es : List (ℕ × X)) (d : ℕ × X) (s : InOrder es) (q : ℕ) where
+    rises : IsNonDecreasingBy (λ e. ordering_index (nat_cmp e.0 q)) es
+    rises = IsNonDecreasingBy-from_default (λ e. ordering_index (nat_cmp e.0 q)) es d (λ i j le lt.
+        elim (cases_eq i j) [
+          | inl e ↦ subst (λ k. ordering_index (nat_cmp (get_or es i d).0 q) ≤ ordering_index (nat_cmp (get_or es k d).0 q)) e (omega arith)
+          | inr ne ↦ let up = later es i j d s (omega (arith, le, ne)) lt in grind (arith, nat_tests)
+        ])
+      where
+        later : (es : List (ℕ × X)) (i j : ℕ) (d : ℕ × X) → InOrder es → i < j → j < length es → (get_or es i d).0 < (get_or es j d).0
+        later [] i j d s lt in' = absurd (omega (arith, in'))
+        later (e ∷ es) i zero d s lt in' = absurd (omega (arith, lt))
+        later (e ∷ es) zero (suc j) d s lt in' = above_at e.0 es j d (first _ _ s) (omega (arith, in'))
+        later (e ∷ es) (suc i) (suc j) d s lt in' = later es i j d (second _ _ s) (omega (arith, lt)) (omega (arith, in'))
+
+    pub searched : (r : Result ℕ ℕ) → IsSearchInRange r (length es) → IsBinarySearchResult (λ e. nat_cmp e.0 q) es r → is_ok r ≡ is_some (find nat_cmp q es)
+    searched (Ok at) lt equal =
+        let same : (get_or es at d).0 ≡ q = ranked _ q _ (sym (equal d)) in
+        sym (ap (λ q. is_some (find nat_cmp q es)) (sym same) ∙ ap is_some (found_at_place es at d s lt))
+    searched (Err at) le parted = none (find nat_cmp q es) refl
+      where
+        apart : (k : ℕ) → k < length es → (get_or es k d).0 ≡ q → ⊥
+        apart k lt same = elim (cases_lt k at) [
+          | inl before ↦ (let less : (get_or es k d).0 < q = ranked _ q _ (sym ((parted rises).0 k d (omega arith) before)) in omega (arith, less, same))
+          | inr after ↦ (let more : q < (get_or es k d).0 = ranked _ q _ (sym ((parted rises).1 k d after lt)) in omega (arith, more, same))
+        ]
+
+        none : (o : Option X) → find nat_cmp q es ≡ o → false ≡ is_some o
+        none None e = refl
+        none (Some v) e = let w = place_of_found q v es e in absurd (apart w.0 w.1 (ap (λ (e : ℕ × X). e.0) (w.2 d)))
 
   -- a look-up in a longer list
   pub find-later : (e : ℕ × X) (es : List (ℕ × X)) (q : ℕ) (v : X) → InOrder (e ∷ es) → find nat_cmp q es ≡ Some v → find nat_cmp q (e ∷ es) ≡ Some v
@@ -143,6 +178,12 @@ module _ {X : Type 0} where
     where
       tied : (q x : ℕ) → nat_cmp q x ≡ Equal → q ≡ x
       tied q x t = nat_cmp-IsAntisymmetric q x t
+
+  pub find-other : (es : List (ℕ × X)) (k : ℕ) (d : ℕ × X) (q : ℕ) → InOrder es → k < length es → q ≢ (get_or es k d).0 → find nat_cmp q (remove es k) ≡ find nat_cmp q es
+  find-other es k d q s lt ne = find-remove es k d q s lt ∙ ap (λ b. cond b (find nat_cmp q es) None) (but-apart (get_or es k d).0 q (λ e. ne (sym e)))
+
+  pub find-gone : (es : List (ℕ × X)) (k : ℕ) (d : ℕ × X) → InOrder es → k < length es → find nat_cmp (get_or es k d).0 (remove es k) ≡ None
+  find-gone es k d s lt = let g = (get_or es k d).0 in find-remove es k d g s lt ∙ ap (λ b. cond b (find nat_cmp g es) None) (but-same g g refl)
 
   -- one that is found after a removal has another number, and was found before
   pub found-removed : (es : List (ℕ × X)) (k : ℕ) (d : ℕ × X) (q : ℕ) (v : X) → InOrder es → k < length es → find nat_cmp q (remove es k) ≡ Some v → (q ≢ (get_or es k d).0) × (find nat_cmp q es ≡ Some v)

@@ -96,7 +96,7 @@ module _ (t u : LockTree) (top : ℕ) (g : Cleared t u top) where
   outside_known : (n : ℕ) → IsKnown u n → n ≢ top → Under (parent t) top n → ⊥
   outside_known n known ne v = false≢true (sym (ap is_some (g.below n v ne)) ∙ known)
 
-  outside_locked : (n : ℕ) → locks_at u n ≢ [] → Under (parent t) top n → ⊥
+  pub outside_locked : (n : ℕ) → locks_at u n ≢ [] → Under (parent t) top n → ⊥
   outside_locked n some v = elim (cases_eq n top) [
     | inl is ↦ some (ap (locks_at u) is ∙ g.here)
     | inr ne ↦ some (locks_of_entry u n None (g.below n v ne))
@@ -108,7 +108,7 @@ module _ (t u : LockTree) (top : ℕ) (g : Cleared t u top) where
     | inr ne ↦ ap parent_and_key_of (g.kept q (outside_known q known ne))
   ]
 
-  locks_left : (n : ℕ) → (Under (parent t) top n → ⊥) → locks_at u n ≡ locks_at t n
+  pub locks_left : (n : ℕ) → (Under (parent t) top n → ⊥) → locks_at u n ≡ locks_at t n
   locks_left n outside = locks_of_entry u n (entry t n) (g.kept n outside)
 
   known_of_locks : (v : LockTree) (n : ℕ) → locks_at v n ≢ [] → IsKnown v n

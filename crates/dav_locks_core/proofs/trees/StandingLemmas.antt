@@ -150,7 +150,7 @@ module _ (t u : LockTree) (granted : List NumberedLock) (next : ℕ) (r : Repres
   all_below : AllBelow next granted
   all_below j d lt = r.below _ _ (found_at_place granted j d r.in_order lt)
 
-  all_below_at : (n : ℕ) → AllBelow next (locks_at t n)
+  pub all_below_at : (n : ℕ) → AllBelow next (locks_at t n)
   all_below_at n j d lt = r.below _ _ (r.listed n _ _ (found_at_place (locks_at t n) j d (r.nodes_in_order n) lt)).0
 
   apart_from_next : (g : ℕ) (l : Lock) → find nat_cmp g granted ≡ Some l → g ≢ next

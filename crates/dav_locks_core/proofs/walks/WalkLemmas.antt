@@ -1,5 +1,5 @@
 -- A walk below a node meets each number there once.
-use Rattle.std.proofs.Common.{◌≡◌, ◌≢◌, ◌⊎◌, inl, inr, ℕ, ◌+◌, ◌<◌, ◌≤◌, Bool, List, [], ◌∷◌, length, Some, None, refl, sym, ap, ◌∙◌, subst, arith, eqb}
+use Rattle.std.proofs.Common.{◌≡◌, ◌≢◌, ◌⊎◌, inl, inr, ℕ, ◌+◌, ◌<◌, ◌≤◌, List, [], ◌∷◌, length, Some, None, refl, sym, ap, ◌∙◌, subst, arith, eqb}
 use Rattle.std.specs.List.{IsDistinct}
 use Rattle.std.specs.FinMap.{len}
 use Rattle.std.proofs.lemmas.Bool.{cases_eq}
@@ -12,9 +12,8 @@ use Rattle.dav_path_core.proofs.trees.Cutting.{Under-trans}
 use Rattle.dav_path_core.proofs.trees.KeyedDepth.{depth, top as no_parent_above, one_up}
 use Rattle.dav_path_core.proofs.trees.Trees.{none≢some, same_some, known_from_parent}
 use Rattle.dav_path_core.proofs.children.Walks.{parent_known}
-use Rattle.dav_locks_core.specs.Lock.{Lock}
-use Rattle.dav_locks_core.specs.Private.LockTree.{is_segment, first_at}
-use Rattle.dav_locks_core.specs.Private.SubtreeWalks.{LinkedLocks, right_behind, further, Later, beside, above, ToCome, GoesOn, IsOver, NoneUnder}
+use Rattle.dav_locks_core.specs.Private.LockTree.{is_segment}
+use Rattle.dav_locks_core.specs.Private.SubtreeWalks.{LinkedLocks, right_behind, further, Later, beside, above, ToCome, GoesOn, IsOver}
 use Rattle.dav_locks_core.proofs.walks.SubtreeLemmas.{Under-up, Under-step, one_above, not_below_child}
 use Rattle.dav_locks_core.proofs.walks.SiblingLemmas.{first_is_child, child_from_first, no_first, follows_parent, Follows-next, Follows-none}
 
@@ -29,8 +28,8 @@ module _ (t : LinkedLocks) (top : ℕ) where
     pub rest : (q : ℕ) → ToCome t top n q → (q ≡ n) ⊎ Later t top at q
     pub back : (q : ℕ) → Later t top at q → ToCome t top n q
 
-  -- a walk that stands at n after so many turns; at what it has passed no lock passes the test
-  pub record Walked (test : Lock → Bool) (n turn : ℕ) : Type 0 where
+  -- a walk that stands at n after so many turns; P holds of what it has passed
+  pub record Walked (P : ℕ → Type 0) (n turn : ℕ) : Type 0 where
     pub under : Under (parent t.keyed) top n
     pub known : IsKnown t.keyed n
     pub passed : List ℕ
@@ -38,7 +37,7 @@ module _ (t : LinkedLocks) (top : ℕ) where
     pub once : IsDistinct eqb passed
     pub all_known : (q : ℕ) → IsIn q passed → IsKnown t.keyed q
     pub gone_by : (q : ℕ) → IsIn q passed → ToCome t top n q → ⊥
-    pub tested : (q : ℕ) → Under (parent t.keyed) top q → (first_at test t.keyed q ≡ None) ⊎ ToCome t top n q
+    pub so_far : (q : ℕ) → Under (parent t.keyed) top q → P q ⊎ ToCome t top n q
 
 module _ (t : LinkedLocks) (shape : IsTreeValue is_segment t) (top : ℕ) where
   -- ---- what is to come and what stands at or below a number are apart
@@ -196,8 +195,8 @@ module _ (t : LinkedLocks) (shape : IsTreeValue is_segment t) (top : ℕ) where
 
   -- ---- the walk as a whole
 
-  module _ (test : Lock → Bool) where
-    pub walk_from : IsKnown t.keyed top → Walked t top test top 0
+  module _ (P : ℕ → Type 0) where
+    pub walk_from : IsKnown t.keyed top → Walked t top P top 0
     walk_from known = record {
       under = here;
       known = known;
@@ -206,13 +205,13 @@ module _ (t : LinkedLocks) (shape : IsTreeValue is_segment t) (top : ℕ) where
       once = no_distinct;
       all_known = λ q i. absurd (nothing q i);
       gone_by = λ q i. absurd (nothing q i);
-      tested = λ q u. inr (inl u);
+      so_far = λ q u. inr (inl u);
     }
       where
         nothing : (q : ℕ) → IsIn q [] → ⊥
         nothing q i = cc
 
-    module _ (n turn : ℕ) (w : Walked t top test n turn) where
+    module _ (n turn : ℕ) (w : Walked t top P n turn) where
       with_this : List ℕ
       with_this = n ∷ w.passed
 
@@ -227,9 +226,9 @@ module _ (t : LinkedLocks) (shape : IsTreeValue is_segment t) (top : ℕ) where
           let fits : length (n ∷ w.passed) ≤ len t.keyed.nodes = at_most_count t.keyed (n ∷ w.passed) this_once known_all in
           omega (arith, fits, w.count)
 
-      -- nothing passes at n
-      module _ (none : first_at test t.keyed n ≡ None) where
-        pub walk_on : (m : ℕ) → GoesOn t top n m → Walked t top test m (turn + 1)
+      -- it holds of n
+      module _ (is : P n) where
+        pub walk_on : (m : ℕ) → GoesOn t top n m → Walked t top P m (turn + 1)
         walk_on m g = record {
           under = g.under;
           known = g.known;
@@ -241,21 +240,21 @@ module _ (t : LinkedLocks) (shape : IsTreeValue is_segment t) (top : ℕ) where
             | inl is ↦ g.passed (subst (λ v. ToCome t top m v) is c)
             | inr later ↦ w.gone_by q later (g.back q c)
           ];
-          tested = λ q u. elim (w.tested q u) [
+          so_far = λ q u. elim (w.so_far q u) [
             | inl e ↦ inl e
-            | inr c ↦ elim (g.rest q c) [ inl is ↦ inl (ap (first_at test t.keyed) is ∙ none) | inr more ↦ inr more ]
+            | inr c ↦ elim (g.rest q c) [ inl same ↦ inl (subst P (sym same) is) | inr more ↦ inr more ]
           ];
         }
 
-        pub walk_over : IsOver t top n → NoneUnder test t.keyed top
-        walk_over over q u = elim (w.tested q u) [
+        pub walk_over : IsOver t top n → (q : ℕ) → Under (parent t.keyed) top q → P q
+        walk_over over q u = elim (w.so_far q u) [
           | inl e ↦ e
-          | inr c ↦ ap (first_at test t.keyed) (over q c) ∙ none
+          | inr c ↦ subst P (sym (over q c)) is
         ]
 
-  -- what no lock passes, none passes of a test that fewer pass
-  pub walk_weaker : (test fewer : Lock → Bool) → ((q : ℕ) → first_at test t.keyed q ≡ None → first_at fewer t.keyed q ≡ None) → (n turn : ℕ) → Walked t top test n turn → Walked t top fewer n turn
-  walk_weaker test fewer weaker n turn w = record {
+  -- what follows from it holds too
+  pub walk_weaker : (P Q : ℕ → Type 0) → ((q : ℕ) → P q → Q q) → (n turn : ℕ) → Walked t top P n turn → Walked t top Q n turn
+  walk_weaker P Q weaker n turn w = record {
     under = w.under;
     known = w.known;
     passed = w.passed;
@@ -263,5 +262,5 @@ module _ (t : LinkedLocks) (shape : IsTreeValue is_segment t) (top : ℕ) where
     once = w.once;
     all_known = w.all_known;
     gone_by = w.gone_by;
-    tested = λ q u. elim (w.tested q u) [ inl e ↦ inl (weaker q e) | inr c ↦ inr c ];
+    so_far = λ q u. elim (w.so_far q u) [ inl p ↦ inl (weaker q p) | inr c ↦ inr c ];
   }

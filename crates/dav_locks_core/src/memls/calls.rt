@@ -9,8 +9,10 @@ ghost use Rattle.dav_locks_core.specs.Calls.{Shows, ShowsOnly, RefusesRefresh, l
 ghost use Rattle.dav_locks_core.specs.NewLock.{new_lock};
 
 use super::MemLs;
-use super::expiring::sooner;
-use super::granting::{LockRequest, end_lock, end_of_timeout, grant, refresh_lock};
+use super::ends::{forget, forget_below, note, renote};
+use super::granting::{
+    LockRequest, end_at, end_lock, end_of_timeout, grant, refresh_lock, refreshed_copy,
+};
 use super::holding::{Caller, Unheld, WithToken};
 use super::pruning::{clear, prune};
 use super::subtree::check_locks_from_path;
@@ -63,13 +65,17 @@ impl MemLs {
             return Err(LockError::OutOfMemory);
         }
         let node = get_or_create_path_node(&mut self.tree, self.alloc, path)?;
+        if let Err(error) = note(&mut self.ends, request.timeout_at, self.next, node) {
+            prune(&mut self.tree, node);
+            return Err(LockError::from(error));
+        }
         match grant(&mut self.tree, self.alloc, node, self.next, &request, rng) {
             Ok(lock) => {
                 self.next += 1;
-                self.soonest = sooner(self.soonest, lock.timeout_at);
                 Ok(lock)
             }
             Err(error) => {
+                forget(&mut self.ends, request.timeout_at, self.next);
                 prune(&mut self.tree, node);
                 Err(error)
             }
@@ -87,6 +93,8 @@ impl MemLs {
         match lookup_lock(&self.tree, path, &WithToken { token }) {
             None => Err(NoLock),
             Some((node, place)) => {
+                let (number, end) = end_at(&self.tree, node, place);
+                forget(&mut self.ends, end, number);
                 end_lock(&mut self.tree, node, place);
                 prune(&mut self.tree, node);
                 Ok(())
@@ -111,8 +119,10 @@ impl MemLs {
         match lookup_lock(&self.tree, path, &WithToken { token }) {
             None => Err(RefreshError::NoLock),
             Some((node, place)) => {
-                let lock = refresh_lock(&mut self.tree, node, place, timeout, now)?;
-                self.soonest = sooner(self.soonest, lock.timeout_at);
+                let lock = refreshed_copy(&self.tree, node, place, timeout, now)?;
+                let (number, end) = end_at(&self.tree, node, place);
+                renote(&mut self.ends, end, lock.timeout_at, number, node)?;
+                refresh_lock(&mut self.tree, node, place, timeout, now);
                 Ok(lock)
             }
         }
@@ -166,6 +176,7 @@ impl MemLs {
         ensures exclusive { Exclusive self.new }
     {
         if let Some(node) = lookup_node(&self.tree, path) {
+            forget_below(&self.tree, &mut self.ends, node);
             clear(&mut self.tree, node);
             prune(&mut self.tree, node);
         }

@@ -8,6 +8,7 @@ ghost use Rattle.dav_locks_core.specs.Private.LockTree as spec;
 ghost use Rattle.dav_locks_core.specs.Private.LockRequests.{lock_for};
 
 use super::NodeLocks;
+use super::way::{copy_at, locks_at};
 use crate::ls::{DavLock, LockError};
 use bytes::Bytes;
 use dav_path_core::davpath::DavPath;
@@ -54,6 +55,21 @@ pub(super) fn grant<R: Rng>(
     }
 }
 
+// The number, and the end, of the lock at a place among those at a node.
+pub(super) fn end_at(
+    tree: &Tree<Bytes, NodeLocks>,
+    node: u64,
+    place: usize,
+) -> (u64, Option<Moment>)
+    requires { place < length (spec.locks_at tree.now.keyed node) }
+    ensures number { (d : spec.NumberedLock) → result.0 ≡ (slice_index_or (spec.locks_at tree.now.keyed node) place d).0 }
+    ensures end { (d : spec.NumberedLock) → option_map (λ m. m.0) result.1
+        ≡ (slice_index_or (spec.locks_at tree.now.keyed node) place d).1.timeout_at }
+{
+    let granted = &locks_at(tree, node)[place];
+    (granted.0, granted.1.timeout_at)
+}
+
 // Ends the lock at a place among those at a node.
 pub(super) fn end_lock(tree: &mut Tree<Bytes, NodeLocks>, node: u64, place: usize)
     requires { place < length (spec.locks_at tree.old.keyed node) }
@@ -67,21 +83,37 @@ pub(super) fn end_lock(tree: &mut Tree<Bytes, NodeLocks>, node: u64, place: usiz
     }
 }
 
-// Gives the lock at a place among those at a node another timeout, and answers a copy.
+// A copy of the lock at a place among those at a node, with another timeout.
+pub(super) fn refreshed_copy(
+    tree: &Tree<Bytes, NodeLocks>,
+    node: u64,
+    place: usize,
+    timeout: Option<u64>,
+    now: Moment,
+) -> Result<DavLock, AllocError>
+    requires { place < length (spec.locks_at tree.now.keyed node) }
+    ensures { IfOk result (λ lock. (d : spec.NumberedLock)
+        → lock ≡ refreshed now.0 timeout (slice_index_or (spec.locks_at tree.now.keyed node) place d).1) }
+{
+    let mut lock = copy_at(tree, node, place)?;
+    set_timeout(&mut lock, timeout, end_of_timeout(now, timeout));
+    Ok(lock)
+}
+
+// Gives the lock at a place among those at a node another timeout.
 pub(super) fn refresh_lock(
     tree: &mut Tree<Bytes, NodeLocks>,
     node: u64,
     place: usize,
     timeout: Option<u64>,
     now: Moment,
-) -> Result<DavLock, AllocError>
+)
     requires { place < length (spec.locks_at tree.old.keyed node) }
-    ensures answer { IfOk result (λ lock. (d : spec.NumberedLock)
-        → lock ≡ refreshed now.0 timeout (slice_index_or (spec.locks_at tree.old.keyed node) place d).1) }
-    ensures changed { IfOk result (λ lock. (d : spec.NumberedLock) → tree.new.keyed ≡ with_item tree.old.keyed node
-        (slice_set (spec.locks_at tree.old.keyed node) place
-        ((slice_index_or (spec.locks_at tree.old.keyed node) place d).0, lock))) }
-    ensures unchanged { OnErr result (tree.new.keyed ≡ tree.old.keyed) }
+    ensures { (d : spec.NumberedLock) → tree.new.keyed ≡ with_item tree.old.keyed node
+        (slice_set (spec.locks_at tree.old.keyed node) place (
+          (slice_index_or (spec.locks_at tree.old.keyed node) place d).0,
+          refreshed now.0 timeout (slice_index_or (spec.locks_at tree.old.keyed node) place d).1,
+        )) }
 {
     match tree.get_node_mut(node) {
         Ok(node_locks) => refresh_in(&mut node_locks.locks, place, timeout, now),
@@ -89,25 +121,13 @@ pub(super) fn refresh_lock(
     }
 }
 
-// Gives the lock at a place another timeout, and answers a copy.
-fn refresh_in(
-    locks: &mut Vec<(u64, DavLock)>,
-    place: usize,
-    timeout: Option<u64>,
-    now: Moment,
-) -> Result<DavLock, AllocError>
+// Gives the lock at a place another timeout.
+fn refresh_in(locks: &mut Vec<(u64, DavLock)>, place: usize, timeout: Option<u64>, now: Moment)
     requires { place < length locks.old.items }
-    ensures answer { IfOk result (λ lock. (d : spec.NumberedLock)
-        → lock ≡ refreshed now.0 timeout (slice_index_or locks.old.items place d).1) }
-    ensures changed { IfOk result (λ lock. (d : spec.NumberedLock) → locks.new.items
-        ≡ slice_set locks.old.items place ((slice_index_or locks.old.items place d).0, lock)) }
-    ensures unchanged { OnErr result (locks.new.items ≡ locks.old.items) }
+    ensures { (d : spec.NumberedLock) → locks.new.items ≡ slice_set locks.old.items place
+        ((slice_index_or locks.old.items place d).0, refreshed now.0 timeout (slice_index_or locks.old.items place d).1) }
 {
-    let timeout_at = end_of_timeout(now, timeout);
-    let mut answer = locks[place].1.clone()?;
-    set_timeout(&mut answer, timeout, timeout_at);
-    set_timeout(&mut locks[place].1, timeout, timeout_at);
-    Ok(answer)
+    set_timeout(&mut locks[place].1, timeout, end_of_timeout(now, timeout));
 }
 
 fn set_timeout(lock: &mut DavLock, timeout: Option<u64>, timeout_at: Option<Moment>)

@@ -100,7 +100,7 @@ fn near_the_end(alloc: Global) -> FsResult<MemLs> {
         alloc,
         tree,
         next: u64::MAX - 1,
-        soonest: Moment(u64::MAX),
+        ends: BTreeMap::new(alloc),
     })
 }
 
@@ -118,32 +118,46 @@ fn grants_to_the_last_number(rt: HostRuntime) -> Result<(), Fail> {
     Ok(())
 }
 
-// A call, and how many nodes the tree has then. `unlock` takes the place of its lock among those granted.
-const NODES: &str = "new - 1
-lock /a/b/c 4
-lock /a/b/d 5
-unlock 0 4
-unlock 1 1
-new - 1
-lock /a/b 3
-lock /a/b/c/d 5
-delete /a/b/c 3
-delete /a 1
-new - 1
-lock / 1
-unlock 0 1";
+// A call, a timeout, and how many nodes the tree has then and how many ends are noted. `unlock` and `refresh` take the place of
+// their lock among those granted, `expire` a moment. The locks are granted at moment 5.
+const CALLS: &str = "new - - 1 0
+lock /a/b/c - 4 0
+lock /a/b/d 1 5 1
+unlock 0 - 4 1
+unlock 1 - 1 0
+new - - 1 0
+lock /a/b 1 3 1
+lock /a/b/c/d 1 5 2
+lock /a/b 2 5 2
+refresh 0 1 5 2
+refresh 0 - 5 1
+refresh 0 2 5 2
+delete /a/b/c - 3 1
+delete /a - 1 0
+new - - 1 0
+lock / 3 1 1
+lock /c 2 2 2
+lock /a/b 1 4 3
+lock /a/c 1 5 4
+lock /a - 5 4
+expire 1000000004 - 5 4
+expire 1000000005 - 3 2
+expire 3000000004 - 2 1
+unlock 0 - 2 0
+expire 3000000005 - 2 0";
 
 #[test]
-fn holds_no_node_that_no_lock_needs(rt: HostRuntime) -> Result<(), Fail> {
+fn holds_what_its_locks_need(rt: HostRuntime) -> Result<(), Fail> {
     let alloc = rt.alloc();
     let mut rng = Counter(1);
     let mut locks = MemLs::new(alloc)?;
     let mut granted: Vec<DavLock> = Vec::new(alloc);
-    for row in NODES.split('\n') {
+    for row in CALLS.split('\n') {
         let words: Vec<&str> = row.split(' ').collect(alloc)?;
-        let [call, word, count] = words.as_slice() else {
+        let [call, word, timeout, nodes, ends] = words.as_slice() else {
             return Err("no row")?;
         };
+        let timeout = timeout.parse::<u64>().ok();
         match *call {
             "new" => {
                 locks = MemLs::new(alloc)?;
@@ -151,21 +165,36 @@ fn holds_no_node_that_no_lock_needs(rt: HostRuntime) -> Result<(), Fail> {
             }
             "lock" => {
                 let path = DavPath::new(alloc, word)?;
-                let answer = locks.lock(&path, None, None, None, false, false, Moment(5), &mut rng);
-                granted.push(answer.ok().ok_or("refused")?)?;
+                let answer = locks.lock(
+                    &path,
+                    None,
+                    None,
+                    timeout,
+                    false,
+                    false,
+                    Moment(5),
+                    &mut rng,
+                );
+                if let Ok(lock) = answer {
+                    granted.push(lock)?;
+                }
             }
             "unlock" => {
                 let lock = granted.get(word.parse::<usize>()?).ok_or("no lock")?;
-                assert!(rt;
-                    locks
-                        .unlock(&lock.path, lock.token.as_str(), Moment(6))
-                        .is_ok()
-                );
+                let answer = locks.unlock(&lock.path, lock.token.as_str(), Moment(6));
+                assert!(rt; answer.is_ok(), "{row}");
             }
+            "refresh" => {
+                let lock = granted.get(word.parse::<usize>()?).ok_or("no lock")?;
+                let answer = locks.refresh(&lock.path, lock.token.as_str(), timeout, Moment(6));
+                assert!(rt; answer.is_ok(), "{row}");
+            }
+            "expire" => locks.expire(Moment(word.parse()?)),
             _ => locks.delete(&DavPath::new(alloc, word)?, Moment(6)),
         }
-        assert_eq!(rt; locks.tree.node_count(), count.parse()?, "{row}");
+        assert_eq!(rt; locks.tree.node_count(), nodes.parse()?, "{row}");
         assert_eq!(rt; locks.node_count(), locks.tree.node_count());
+        assert_eq!(rt; locks.ends.len(), ends.parse()?, "{row}");
     }
     Ok(())
 }

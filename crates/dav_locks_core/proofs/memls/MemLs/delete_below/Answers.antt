@@ -1,12 +1,14 @@
-use Rattle.std.proofs.Common.{ap, sym, ◌∙◌, subst}
+use Rattle.std.proofs.Common.{ap, sym, ◌∙◌}
 use Rattle.dav_path_core.specs.Segments.{segments}
 use Rattle.dav_locks_core.specs.Locks.{without_below}
 use Rattle.dav_locks_core.specs.Private.LockTree.{lock_list}
-use Rattle.dav_locks_core.specs.Private.Soonest.{NoneEndsBefore}
-use Rattle.dav_path_core.proofs.lists.EachLemmas.{all_filter}
+use Rattle.dav_locks_core.proofs.ends.EndLemmas.{ends-delete}
 use Rattle.dav_locks_core.proofs.answers.LockListLemmas.{IsKeptAs, seen-delete, kept-delete, none_deleted}
 use Rattle.dav_locks_core.proofs.walks.SubtreeLemmas.{way_known}
 use Rattle.dav_locks_core.proofs.memls.MemLs.delete_below.Goals as goal
+
+pub forget_below-requires-clause-known : goal.forget_below-requires-clause-known
+forget_below-requires-clause-known c = way_known c.self.inside.tree.keyed 1 c.in-Some.node (segments c.args.path.now.bytes) c.self.invariant.tree.list.represents.tree.root.0 (sym c.in-Some.ensures)
 
 pub clear-requires-clause-known : goal.clear-requires-clause-known
 clear-requires-clause-known c = way_known c.self.inside.tree.keyed 1 c.in-Some.node (segments c.args.path.now.bytes) c.self.invariant.tree.list.represents.tree.root.0 (sym c.in-Some.ensures)
@@ -22,7 +24,7 @@ deleted c =
 pub invariant_of-self : goal.invariant_of-self
 invariant_of-self c = record {
   tree = (deleted c).keeps;
-  none_ends = subst (NoneEndsBefore c.self.inside.soonest.0) (sym (deleted c).seen) (all_filter _ _ (lock_list c.self.inside.tree.keyed) c.self.invariant.none_ends);
+  are_ends = ends-delete c.self.inside.tree.keyed c.self.inside.next c.self.invariant.tree c.self.inside.ends c.self.invariant.are_ends c.clear.new.tree.keyed c.prune.new.tree.keyed c.forget_below.new.ends c.in-Some.node c.clear.ensures c.forget_below.ensures c.prune.ensures.same;
 }
 
 pub returns-in-Some-clause-left : goal.returns-in-Some-clause-left

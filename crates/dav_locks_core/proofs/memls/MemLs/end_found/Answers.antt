@@ -1,12 +1,16 @@
-use Rattle.std.proofs.Common.{◌≡◌, Some, None, ap, sym, refl, ◌∙◌, subst}
-use Rattle.std.specs.Prelude.{remove}
+use Rattle.std.proofs.Common.{◌≡◌, Some, None, get_or, ap, sym, refl, ◌∙◌, subst}
+use Rattle.std.specs.Prelude.{remove, option_map}
 use Rattle.dav_path_core.specs.Segments.{segments}
 use Rattle.dav_locks_core.specs.Locks.{found}
-use Rattle.dav_locks_core.specs.Private.LockTree.{lock_list}
-use Rattle.dav_locks_core.specs.Private.Soonest.{NoneEndsBefore}
-use Rattle.dav_path_core.proofs.lists.EachLemmas.{all_remove}
-use Rattle.dav_locks_core.proofs.answers.LockListLemmas.{place_within, Ends, IsKeptAs, seen-end, kept-end, none_found}
+use Rattle.dav_locks_core.specs.Private.LockTree.{locks_at, lock_list}
+use Rattle.dav_locks_core.specs.Private.Ends.{Notes}
+use Rattle.dav_locks_core.proofs.ends.EndLemmas.{ends-end}
+use Rattle.dav_locks_core.proofs.answers.LockListLemmas.{place_within, some_granted, Ends, IsKeptAs, seen-end, kept-end, none_found}
 use Rattle.dav_locks_core.proofs.memls.MemLs.end_found.Goals as goal
+
+pub end_at-number-requires : goal.end_at-number-requires
+end_at-number-requires c =
+    place_within c.self.inside.tree.keyed c.self.inside.next c.in-Some.node c.in-Some.place (segments c.args.path.now.bytes) c.args.token.now c.self.invariant.tree.list (sym c.in-Some.ensures)
 
 pub end_lock-requires : goal.end_lock-requires
 end_lock-requires c =
@@ -30,10 +34,14 @@ ended c =
 
 pub invariant_of-self : goal.invariant_of-self
 invariant_of-self c =
-    let at = (ends c).at in
+    let g = get_or (locks_at c.self.inside.tree.keyed c.in-Some.node) c.in-Some.place some_granted in
+    let within = place_within c.self.inside.tree.keyed c.self.inside.next c.in-Some.node c.in-Some.place (segments c.args.path.now.bytes) c.args.token.now c.self.invariant.tree.list (sym c.in-Some.ensures) in
+    let forgotten : Notes c.self.inside.ends c.forget.new.ends g.1.timeout_at g.0 None =
+    subst (λ end. Notes c.self.inside.ends c.forget.new.ends end g.0 None) (c.end_at-number.ensures.end some_granted)
+    (subst (λ number. Notes c.self.inside.ends c.forget.new.ends (option_map (λ m. m.0) c.end_at-number.result.1) number None) (c.end_at-number.ensures.number some_granted) c.forget.ensures) in
     record {
       tree = (ended c).keeps;
-      none_ends = subst (NoneEndsBefore c.self.inside.soonest.0) (sym (ended c).seen) (all_remove _ (lock_list c.self.inside.tree.keyed) at c.self.invariant.none_ends);
+      are_ends = ends-end c.self.inside.tree.keyed c.self.inside.next c.self.invariant.tree c.self.inside.ends c.self.invariant.are_ends c.end_lock.new.tree.keyed c.forget.new.ends c.in-Some.node c.in-Some.place some_granted within c.prune.new.tree.keyed c.end_lock.ensures c.prune.ensures.same forgotten;
     }
 
 pub returns-in-None-clause-none : goal.returns-in-None-clause-none

@@ -1,21 +1,24 @@
-use Rattle.std.proofs.Common.{[], ap, sym, ◌∙◌, subst}
+use Rattle.std.proofs.Common.{◌≡◌, ℕ, [], ap, ◌∙◌}
 use Rattle.dav_path_core.specs.Keyed.{lone}
 use Rattle.dav_locks_core.specs.Private.LockTree.{LockTree, locks_at}
-use Rattle.dav_locks_core.specs.Private.Soonest.{NoneEndsBefore}
+use Rattle.dav_locks_core.proofs.ends.EndLemmas.{AreEnds-none}
 use Rattle.dav_locks_core.proofs.trees.StandingLemmas.{lone-none}
 use Rattle.dav_locks_core.proofs.trees.PruningLemmas.{lone_needed}
 use Rattle.dav_locks_core.proofs.answers.LockListLemmas.{IsSeenAs, seen-none}
 use Rattle.dav_locks_core.proofs.memls.MemLs.new.Goals as goal
 
-empty : (c : goal.In_ok-tree) → IsSeenAs c.in_ok-tree.tree.keyed 1 []
+nothing : (c : goal.After-new-3) → (n : ℕ) → locks_at c.in_ok-tree.tree.keyed n ≡ []
+nothing c = λ n. ap (λ (t : LockTree). locks_at t n) (c.in_ok-tree.ensures.answer.1 ∙ ap lone c.new.ensures.items) ∙ lone-none n
+
+empty : (c : goal.After-new-3) → IsSeenAs c.in_ok-tree.tree.keyed 1 []
 empty c =
     seen-none c.in_ok-tree.tree.keyed 1 c.in_ok-tree.ensures.shape.tree
-    (λ n. ap (λ (t : LockTree). locks_at t n) (c.in_ok-tree.ensures.answer.1 ∙ ap lone c.new.ensures.items) ∙ lone-none n)
+    (nothing c)
 
 pub invariant_of-result : goal.invariant_of-result
 invariant_of-result c = record {
   tree = record { list = (empty c).keeps; needed = lone_needed c.in_ok-tree.tree.keyed c.new.result.items c.in_ok-tree.ensures.answer.1 };
-  none_ends = subst (NoneEndsBefore 18446744073709551615) (sym (empty c).seen) tt;
+  are_ends = AreEnds-none c.in_ok-tree.tree.keyed c.new-3.result (nothing c) c.new-3.ensures.empty;
 }
 
 pub returns-clause-empty : goal.returns-clause-empty

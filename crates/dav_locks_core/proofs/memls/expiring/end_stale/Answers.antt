@@ -1,42 +1,35 @@
-use Rattle.dav_locks_core.proofs.ends.ExpiringLemmas.{expiring_from, expiring_on, expired, fewer_locks, stale_within, stale_ends}
+use Rattle.std.proofs.Common.{sym}
+use Rattle.dav_locks_core.proofs.ends.ExpiringLemmas.{known_of_lock, thins_from, in_order, thins_past, thins_on, thins_same, thinned_tree, thinned_known, thinned_needed, thinned_kept, thinned_left}
 use Rattle.dav_locks_core.proofs.memls.expiring.end_stale.Goals as goal
 
-pub find_below-requires : goal.find_below-requires
-find_below-requires c = let keeps = c.loop-node.invariant.tree c.requires.0 c.requires.1 in keeps.list.represents.tree.root.0
+pub loop-number-init : goal.loop-number-init
+loop-number-init c = thins_from c.args.tree.now.keyed c.requires.0 c.args.now.0 c.args.ends.now c.requires.1
 
-pub end_lock-requires : goal.end_lock-requires
-end_lock-requires c = stale_within c.loop-node.tree.keyed c.args.now.0 (c.in-Some.node, c.in-Some.place) c.in-Some.ensures
+pub stands_at-requires : goal.stands_at-requires
+stands_at-requires c = in_order c.args.tree.now.keyed c.requires.0 c.args.now.0 c.args.ends.now c.requires.1 c.loop-number.tree.keyed c.loop-number.ends c.loop-number.invariant c.in-Some.node
+
+pub drop_stale-requires : goal.drop_stale-requires
+drop_stale-requires c = known_of_lock c.loop-number.tree.keyed c.in-Some.node c.in-Some.number (sym c.if-stands_at.ensures)
 
 pub prune-requires-clause-shape : goal.prune-requires-clause-shape
-prune-requires-clause-shape c =
-    let e = stale_ends c.loop-node.tree.keyed c.args.now.0 (c.in-Some.node, c.in-Some.place) c.in-Some.ensures c.end_lock.new.tree.keyed c.end_lock.ensures c.requires.0 (c.loop-node.invariant.tree c.requires.0 c.requires.1) in
-    e.after.keeps.represents.tree
+prune-requires-clause-shape c = thinned_tree c.args.tree.now.keyed c.requires.0 c.args.now.0 c.args.ends.now c.requires.1 c.loop-number.tree.keyed c.loop-number.ends c.loop-number.invariant c.take_ended.new.ends c.in-Some.number c.in-Some.node c.in-Some.ensures.taken c.drop_stale.new.tree.keyed (sym c.if-stands_at.ensures) c.drop_stale.ensures
 
 pub prune-requires-clause-known : goal.prune-requires-clause-known
-prune-requires-clause-known c =
-    let e = stale_ends c.loop-node.tree.keyed c.args.now.0 (c.in-Some.node, c.in-Some.place) c.in-Some.ensures c.end_lock.new.tree.keyed c.end_lock.ensures c.requires.0 (c.loop-node.invariant.tree c.requires.0 c.requires.1) in
-    e.known
+prune-requires-clause-known c = thinned_known c.args.tree.now.keyed c.requires.0 c.args.now.0 c.args.ends.now c.requires.1 c.loop-number.tree.keyed c.loop-number.ends c.loop-number.invariant c.take_ended.new.ends c.in-Some.number c.in-Some.node c.in-Some.ensures.taken c.drop_stale.new.tree.keyed (sym c.if-stands_at.ensures) c.drop_stale.ensures
 
 pub prune-requires-clause-needed : goal.prune-requires-clause-needed
-prune-requires-clause-needed c =
-    let e = stale_ends c.loop-node.tree.keyed c.args.now.0 (c.in-Some.node, c.in-Some.place) c.in-Some.ensures c.end_lock.new.tree.keyed c.end_lock.ensures c.requires.0 (c.loop-node.invariant.tree c.requires.0 c.requires.1) in
-    e.needed
+prune-requires-clause-needed c = thinned_needed c.args.tree.now.keyed c.requires.0 c.args.now.0 c.args.ends.now c.requires.1 c.loop-number.tree.keyed c.loop-number.ends c.loop-number.invariant c.take_ended.new.ends c.in-Some.number c.in-Some.node c.in-Some.ensures.taken c.drop_stale.new.tree.keyed (sym c.if-stands_at.ensures) c.drop_stale.ensures
 
-pub loop-node-init : goal.loop-node-init
-loop-node-init c = expiring_from c.args.tree.now.keyed c.args.now.0
+pub loop-number-preserved-then-stands_at : goal.loop-number-preserved-then-stands_at
+loop-number-preserved-then-stands_at c = thins_on c.args.tree.now.keyed c.requires.0 c.args.now.0 c.args.ends.now c.requires.1 c.loop-number.tree.keyed c.loop-number.ends c.loop-number.invariant c.take_ended.new.ends c.in-Some.number c.in-Some.node c.in-Some.ensures.taken c.drop_stale.new.tree.keyed (sym c.if-stands_at.ensures) c.drop_stale.ensures c.prune.new.tree.keyed c.prune.ensures.same c.prune.ensures.needed
 
-pub loop-node-smaller : goal.loop-node-smaller
-loop-node-smaller c =
-    fewer_locks c.loop-node.tree.keyed c.args.now.0 (c.in-Some.node, c.in-Some.place) c.in-Some.ensures c.end_lock.new.tree.keyed c.end_lock.ensures c.prune.new.tree.keyed c.prune.ensures.same c.prune.ensures.needed
-    c.requires.0 (c.loop-node.invariant.tree c.requires.0 c.requires.1)
-
-pub loop-node-preserved : goal.loop-node-preserved
-loop-node-preserved c =
-    expiring_on c.loop-node.tree.keyed c.args.now.0 (c.in-Some.node, c.in-Some.place) c.in-Some.ensures c.end_lock.new.tree.keyed c.end_lock.ensures c.prune.new.tree.keyed c.prune.ensures.same c.prune.ensures.needed
-    c.args.tree.now.keyed c.requires.0 c.requires.1 c.loop-node.invariant
+pub loop-number-preserved : goal.loop-number-preserved
+loop-number-preserved c = thins_past c.args.tree.now.keyed c.requires.0 c.args.now.0 c.args.ends.now c.requires.1 c.loop-number.tree.keyed c.loop-number.ends c.loop-number.invariant c.take_ended.new.ends c.in-Some.number c.in-Some.node c.in-Some.ensures.taken (sym c.if-stands_at.ensures)
 
 pub returns : goal.returns
-returns c = record {
-  tree = c.loop-node.invariant.tree;
-  left = expired c.args.tree.now.keyed c.loop-node.tree.keyed c.args.now.0 c.requires.0 c.requires.1 c.loop-node.invariant c.in_default.ensures;
-}
+returns c =
+    let th = thins_same c.args.tree.now.keyed c.requires.0 c.args.now.0 c.args.ends.now c.requires.1 c.loop-number.tree.keyed c.loop-number.ends c.loop-number.invariant c.take_ended.new.ends c.in_default.ensures.left in
+    record {
+      kept = λ next keeps. thinned_kept c.args.tree.now.keyed next c.args.now.0 c.args.ends.now keeps c.loop-number.tree.keyed c.take_ended.new.ends th c.in_default.ensures.taken;
+      left = λ next keeps. thinned_left c.args.tree.now.keyed next c.args.now.0 c.args.ends.now keeps c.loop-number.tree.keyed c.take_ended.new.ends th c.in_default.ensures.taken;
+    }

@@ -1,6 +1,6 @@
 use Rattle.std.proofs.Common.{◌≡◌, sym, subst}
 use Rattle.dav_locks_core.specs.Stale.{without_stale}
-use Rattle.dav_locks_core.proofs.ends.ExpiringLemmas.{stale_once}
+use Rattle.dav_locks_core.proofs.laws.StaleLemmas.{stale_once}
 use Rattle.dav_resource_core.proofs.guarded.Guarded.serve.Goals as goal
 
 pub serve_fresh-requires-clause-fresh : goal.serve_fresh-requires-clause-fresh

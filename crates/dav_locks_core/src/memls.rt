@@ -30,7 +30,7 @@ use std::collections::BTreeMap;
 use std::marker::Model;
 
 /// The locks that stand at one path, each with its grant number, in the order of granting.
-#[derive(Drop)]
+#[derive(Debug, Drop)]
 struct NodeLocks {
     locks: Vec<(u64, DavLock)>,
 }
@@ -45,7 +45,7 @@ impl Model for NodeLocks {
 }
 
 /// A list of locks in memory, kept as a tree of the segments of their paths.
-#[derive(Drop)]
+#[derive(Debug, Drop)]
 pub struct MemLs {
     alloc: Global,
     tree: Tree<Bytes, NodeLocks>,

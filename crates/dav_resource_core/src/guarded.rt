@@ -34,7 +34,7 @@ use std::alloc::{AllocError, Global};
 use std::marker::Model;
 
 /// The stores, which requests alone reach.
-#[derive(Drop)]
+#[derive(Debug, Drop)]
 pub struct Guarded {
     alloc: Global,
     fs: MemFs,

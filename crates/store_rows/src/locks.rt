@@ -3,7 +3,7 @@ mod counter;
 mod player;
 mod rows;
 
-use dav_locks_core::ls::{NoLock, RefreshError};
+use dav_locks_core::ls::{LockError, NoLock, RefreshError};
 use player::Player;
 use rows::{DEEP_LOCKS, LOCKS};
 use std::process::Abort;
@@ -33,7 +33,8 @@ fn plays_on_deep_locks(rt: HostRuntime) -> Result<(), Fail> {
 #[test]
 fn tells_names(rt: HostRuntime) -> Result<(), Fail> {
     let (none, short) = (RefreshError::NoLock, RefreshError::OutOfMemory);
-    let text = format!(in rt.alloc(); "{NoLock} {none} {short}")?;
-    assert!(rt; text.as_str() == "NoLock NoLock OutOfMemory");
+    let full = LockError::OutOfMemory;
+    let text = format!(in rt.alloc(); "{NoLock} {none} {short} {full}")?;
+    assert!(rt; text.as_str() == "NoLock NoLock OutOfMemory OutOfMemory");
     Ok(())
 }

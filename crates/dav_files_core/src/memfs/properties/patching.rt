@@ -100,10 +100,8 @@ fn note_last(
     ensures ok { OnOk result (changes_of last.new.entries ≡ insert (changes_of last.old.entries) key (option_map property_of change)) }
     ensures err { IfErr result (λ e. e ≡ FsError.InsufficientStorage) }
 {
-    match last.insert(key, change) {
-        Ok(_) => Ok(()),
-        Err(_) => Err(FsError::InsufficientStorage),
-    }
+    last.insert(key, change)?;
+    Ok(())
 }
 
 /// Puts an empty property at each of some keys that have none, at all of them or at none.

@@ -1,53 +1,10 @@
 use super::way::{child_of, locks_at};
 use super::*;
 use dav_path_core::tree::ROOT_ID;
-use rand_core::utils;
-use rand_core::utils::NextWord;
-use std::marker::Model;
+use rand_core::SeedableRng;
+use rand_pcg::Pcg64;
 use std::process::Abort;
 use std::test::Fail;
-
-// A generator that counts.
-#[derive(Drop)]
-struct Counter(u32);
-
-impl Model for Counter {
-    ghost use Rattle.std.specs.Prelude.{ℕ};
-
-    ghost Value = { ℕ };
-
-    ghost view = { λ a. a.0 };
-}
-
-impl NextWord<u32> for Counter {
-    ghost use Rattle.std.specs.Prelude.{◌+◌, ◌%◌, ◌^◌};
-
-    ghost step = { λ s. ((s + 1) % 2 ^ 32, (s + 1) % 2 ^ 32) };
-
-    fn next_word(&mut self) -> u32 {
-        self.0 = self.0.wrapping_add(1);
-        self.0
-    }
-}
-
-impl Rng for Counter {
-    ghost use Rattle.std.specs.Prelude.{◌+◌, ◌%◌, ◌^◌};
-    ghost use Rattle.rand_core.specs.Steps.{stream_of, steps_u32};
-
-    ghost stream = { stream_of (steps_u32 (λ s. ((s + 1) % 2 ^ 32, (s + 1) % 2 ^ 32))) };
-
-    fn next_u32(&mut self) -> u32 {
-        self.next_word()
-    }
-
-    fn next_u64(&mut self) -> u64 {
-        utils::next_u64_via_u32(self)
-    }
-
-    fn fill_bytes(&mut self, dst: &mut [u8]) {
-        utils::fill_bytes_via_u32(self, dst)
-    }
-}
 
 // One lock alone stands at the node.
 fn stands_alone(
@@ -80,7 +37,7 @@ fn stand_at_their_nodes(rt: &impl Abort, locks: &MemLs) -> Result<(), Fail> {
 #[test]
 fn keeps_locks_at_their_nodes(rt: HostRuntime) -> Result<(), Fail> {
     let alloc = rt.alloc();
-    let mut rng = Counter(1);
+    let mut rng = Pcg64::seed_from_u64(1);
     let mut locks = MemLs::new(alloc)?;
     for text in ["/a", "/a/b"] {
         let path = DavPath::new(alloc, text)?;
@@ -107,14 +64,14 @@ fn near_the_end(alloc: Global) -> FsResult<MemLs> {
 #[test]
 fn grants_to_the_last_number(rt: HostRuntime) -> Result<(), Fail> {
     let alloc = rt.alloc();
-    let mut rng = Counter(1);
+    let mut rng = Pcg64::seed_from_u64(1);
     let mut locks = near_the_end(alloc)?;
     let path = DavPath::new(alloc, "/a")?;
     let first = locks.lock(&path, None, None, None, true, false, Moment(5), &mut rng);
-    assert!(rt; first.is_ok() && locks.next == u64::MAX && rng.0 == 5);
+    assert!(rt; first.is_ok() && locks.next == u64::MAX);
     let second = locks.lock(&path, None, None, None, true, false, Moment(5), &mut rng);
     assert!(rt; matches!(second, Err(LockError::OutOfMemory)));
-    assert!(rt; locks.next == u64::MAX && rng.0 == 5);
+    assert!(rt; locks.next == u64::MAX);
     Ok(())
 }
 
@@ -149,7 +106,7 @@ expire 3000000005 - 2 0";
 #[test]
 fn holds_what_its_locks_need(rt: HostRuntime) -> Result<(), Fail> {
     let alloc = rt.alloc();
-    let mut rng = Counter(1);
+    let mut rng = Pcg64::seed_from_u64(1);
     let mut locks = MemLs::new(alloc)?;
     let mut granted: Vec<DavLock> = Vec::new(alloc);
     for row in CALLS.split('\n') {

@@ -1,11 +1,12 @@
 -- What a rename answers, from where an entry is put.
-use Rattle.std.proofs.Common.{◌≡◌, ◌⊎◌, inl, inr, ℕ, Bool, true, false, [], ◌∷◌, ◌++◌, Option, Some, None, Result, Ok, Err, refl, sym, ap, ◌∙◌, append_assoc, append-nil}
+use Rattle.std.proofs.Common.{◌≡◌, ◌⊎◌, inl, inr, ℕ, Bool, true, false, [], ◌∷◌, ◌++◌, Option, Some, None, Result, Ok, Err, refl, sym, ap, ◌∙◌, subst, append_assoc, append-nil}
 use Rattle.std.specs.Prelude.{ok_or, unwrap_or, if◌then◌else◌}
 use Rattle.std.specs.List.{last_or}
 use Rattle.std.proofs.lemmas.Bool.{true≢false}
 use Rattle.dav_path_core.specs.declared.errors.FsError.{FsError}
 use Rattle.dav_path_core.specs.declared.errors.FsError.TheVariants.{Exists, Forbidden}
 use Rattle.dav_path_core.specs.Fronts.{Segment, Path, parent, behind}
+use Rattle.dav_files_core.specs.declared.memfs.Kind.TheVariants.{Folder}
 use Rattle.dav_path_core.proofs.lists.FinMaps.{one_some, get_same, get_other, dec}
 use Rattle.dav_path_core.proofs.lists.Orders.{path_total, path_exact}
 use Rattle.dav_files_core.specs.Finding.{refusal_at, has_members}
@@ -13,6 +14,7 @@ use Rattle.dav_files_core.specs.Folders.{is_root}
 use Rattle.dav_files_core.specs.Moved.{moved}
 use Rattle.dav_files_core.specs.Outcomes.{Outcome, ◌>>=◌, find_folder, changed, touched, touched_at}
 use Rattle.dav_files_core.specs.Private.Entries.{StandsIn, FindsFolder, put_there}
+use Rattle.dav_files_core.specs.Private.TreeCalls.{number_of}
 use Rattle.dav_files_core.specs.Renaming.{rename, relocated, put_elsewhere}
 use Rattle.dav_files_core.specs.Resources.{Node, Resource, ResourceMap, at_path, IsResourceMap}
 use Rattle.dav_files_core.proofs.walks.FoundLemmas.{parent-snoc, folder_there}
@@ -20,6 +22,7 @@ use Rattle.dav_files_core.proofs.paths.FrontLemmas.{behind_is, behind_none, none
 use Rattle.dav_files_core.proofs.walks.HasMembersLemmas.{has_member}
 use Rattle.dav_files_core.proofs.paths.LengthLemmas.{no_longer}
 use Rattle.dav_files_core.proofs.changes.MakingLemmas.{folder_found}
+use Rattle.dav_files_core.proofs.changes.PuttingLemmas.{found_number}
 use Rattle.dav_files_core.proofs.moves.MovedLemmas.{moved_other}
 use Rattle.dav_files_core.proofs.moves.MovingLemmas.{front_there}
 use Rattle.dav_files_core.proofs.moves.RelocatingLemmas.{snoc_no_root}
@@ -213,3 +216,29 @@ module _ (m : ResourceMap) (is_map : IsResourceMap m) (from : Path) (r : Resourc
       by : (o : Result ResourceMap FsError) → ◌≡◌ {A = Outcome (Unit {0})} (o >>= λ (m : ResourceMap). Ok (tt, m)) (Err e) → o ≡ Err e
       by (Ok x) h = absurd (cc)
       by (Err x) h = cc
+
+-- ---- the whole call, by the numbers that it found
+-- what it found: the source, and the folder of the target
+pub record Ends (m : ResourceMap) (from to : Path) (source folder : ℕ) : Type 0 where
+  pub entry : Resource
+  pub stands : at_path m from ≡ Some entry
+  pub numbered : entry.number ≡ source
+  pub target : Target m to folder
+  pub above : at_path m target.0 ≡ Some target.2
+  pub is_folder : target.2.node.kind ≡ Folder
+
+pub ends : (m : ResourceMap) (from to : Path) (source : ℕ) → Ok source ≡ number_of m from → (o : Option ℕ) (folder : ℕ) → o ≡ Some folder → FindsFolder m to (Ok o) → Ends m from to source folder
+ends m from to source found o folder is finds =
+    let here = found_number m from source found in
+    let target : Target m to folder = subst (λ (o : Option ℕ). FindsFolder m to (Ok o)) is finds in
+    let there = folder_there m target.0 target.2 target.4 in
+    record { entry = here.0; stands = here.1; numbered = here.2; target = target; above = there.0; is_folder = there.1 }
+
+module _ (m : ResourceMap) (is_map : IsResourceMap m) (from to : Path) (source folder : ℕ) (e : Ends m from to source folder) where
+  -- what is left where the entry was put there by a name, the last of the target's path
+  pub went : (name : Segment) → name ≡ unwrap_or (last_or None to) [] → (m' : ResourceMap) → put_there m from (e.target.0 ++ (name ∷ [])) ≡ Ok (tt, m') → (above : ℕ) → StandsIn m from (Some above) → Away m m' from to above folder
+  went name is m' put above stands = away m is_map from e.entry e.stands to folder e.target m' (put_named m is_map from e.entry e.stands to folder e.target name _ is put) above stands
+
+  -- and where it was refused
+  pub stayed : (name : Segment) → name ≡ unwrap_or (last_or None to) [] → (error : FsError) (now : ℕ) → put_there m from (e.target.0 ++ (name ∷ [])) ≡ Err error → rename m from to now ≡ Err error
+  stayed name is error now put = rename_refused m is_map from e.entry e.stands to folder e.target error now (put_named m is_map from e.entry e.stands to folder e.target name _ is put)

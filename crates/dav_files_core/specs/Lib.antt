@@ -17,5 +17,6 @@ pub mod Private
 pub mod Properties
 pub mod PropertyXml
 pub mod Putting
+pub mod Refusing
 pub mod Renaming
 pub mod Resources

@@ -1,10 +1,17 @@
 -- Worked rows of the lock list, which compute.
 use Rattle.std.specs.Prelude.{◌≡◌, ℕ, List, [], ◌∷◌, Bool, true, false, Some, None, codes, refl, remove}
+use Rattle.std.proofs.Common.{inl}
+use Rattle.std.proofs.lemmas.Bool.{false≢true}
 use Rattle.dav_path_core.specs.Segments.{segments}
 use Rattle.dav_path_core.specs.Fronts.{Path}
 use Rattle.dav_locks_core.specs.Lock.{Lock}
 use Rattle.dav_locks_core.specs.Locks.{Caller, lock_conflicts, check_conflicts, found, end_of, refreshed, discovered, without_below}
-use Rattle.dav_locks_core.specs.LockFronts.{lock_fronts}
+use Rattle.dav_locks_core.specs.LockFronts.{lock_fronts, front_count}
+use Rattle.dav_locks_core.specs.Stale.{is_stale, without_stale}
+use Rattle.dav_locks_core.specs.Exclusive.{Exclusive}
+use Rattle.dav_locks_core.specs.Held.{HoldsExclusive, HoldsBelow}
+use Rattle.dav_locks_core.specs.NewLock.{new_lock}
+use Rattle.dav_path_core.proofs.lists.MemberLemmas.{Contains-In}
 
 abbrev lock : List ℕ → List ℕ → List ℕ → Bool → Bool → Lock
 lock token path who shared deep = record {
@@ -134,3 +141,58 @@ refreshed_at_seven = refl
 fronts_of_two : lock_fronts (exclusive_ab ∷ exclusive_other ∷ []) ≡ [] ∷ a ∷ ab ∷ segments (codes "/ab") ∷ []
 unfolding segments
 fronts_of_two = refl
+
+-- a front that two paths share counts once
+front_count_of_two : front_count (exclusive_a ∷ exclusive_ab ∷ []) ≡ 3
+unfolding segments
+front_count_of_two = refl
+
+-- a lock expires at its moment and not before, and without an end never
+abbrev timed_a : Lock
+timed_a = record exclusive_a { timeout_at = Some 9 }
+
+stands_before : is_stale 8 timed_a ≡ false
+stands_before = refl
+
+expires_at_its_moment : is_stale 9 timed_a ≡ true
+expires_at_its_moment = refl
+
+never_expires : is_stale 18446744073709551615 exclusive_a ≡ false
+never_expires = refl
+
+left_at_nine : without_stale 9 (timed_a ∷ exclusive_ab ∷ []) ≡ exclusive_ab ∷ []
+left_at_nine = refl
+
+-- of locks with one token the nearest to the root is found, of these the first granted
+abbrev same_token_below : Lock
+same_token_below = lock (codes "t1") (codes "/a/b") (codes "bob") true false
+
+found_nearest_to_root : found (same_token_below ∷ shared_a ∷ []) ab (codes "t1") ≡ Some 1
+unfolding segments found
+found_nearest_to_root = refl
+
+found_first_granted : found (same_token_below ∷ shared_a ∷ exclusive_a ∷ []) ab (codes "t1") ≡ Some 1
+unfolding segments found
+found_first_granted = refl
+
+-- the lock that is granted at moment 5 for two seconds
+granted_at_five : new_lock (codes "t1") (record { prefix = []; bytes = codes "/a" }) (Some (codes "ann")) None (Some 2) false false 5
+    ≡ record exclusive_a { timeout_at = Some 2000000005; timeout = Some 2 }
+granted_at_five = refl
+
+-- two shared locks may cover one path, two exclusive ones may not
+both_shared : Exclusive (shared_a ∷ shared_ab ∷ [])
+both_shared = ((λ p c d. refl, tt), (tt, tt))
+
+not_both_exclusive : ¬ Exclusive (exclusive_a ∷ exclusive_a ∷ [])
+unfolding segments
+not_both_exclusive h = false≢true (h.0.0 a refl refl)
+
+-- who names no token holds no exclusive lock, and no lock below
+not_held : ¬ HoldsExclusive (exclusive_a ∷ []) a (ann [])
+unfolding segments
+not_held h = false≢true (h exclusive_a (Contains-In (exclusive_a ∷ []) exclusive_a (inl refl)) refl refl)
+
+not_held_below : ¬ HoldsBelow (shared_ab ∷ []) a (ann (codes "t1" ∷ []))
+unfolding segments
+not_held_below h = false≢true (h shared_ab (Contains-In (shared_ab ∷ []) shared_ab (inl refl)) refl)

@@ -1,7 +1,11 @@
 //! Locks in memory. A clause sees a `MemLs` as one list: its locks, in the order of granting. How they are kept is private: in
 //! a tree of the segments of their paths. Read `lock` first; what each call promises stands with the trait `DavLockSystem`.
-ghost use Rattle.std.specs.Prelude.{◌≡◌, ◌≤◌, ◌+◌, [], sum_by, IfOk, IfErr};
-ghost use Rattle.dav_locks_core.specs.Locks.{height};
+ghost use Rattle.std.specs.Prelude.{◌≡◌, ◌≤◌, ◌+◌, [], true, sum_by, IfOk, IfErr, OnOk};
+ghost use Rattle.dav_path_core.specs.Segments.{segments};
+ghost use Rattle.dav_locks_core.specs.Calls.{ShowsOnly, caller};
+ghost use Rattle.dav_locks_core.specs.Held.{HoldsExclusive, HoldsBelow};
+ghost use Rattle.dav_locks_core.specs.Locks.{check_conflicts, height};
+ghost use Rattle.dav_locks_core.specs.Stale.{without_stale};
 ghost use Rattle.dav_locks_core.specs.LockFronts.{front_count};
 ghost use Rattle.dav_locks_core.specs.Exclusive.{Exclusive};
 
@@ -18,7 +22,7 @@ mod way;
 
 use crate::ls::{DavLock, DavLockSystem, LockError, NoLock, RefreshError};
 use bytes::Bytes;
-use dav_path_core::davpath::DavPath;
+use dav_path_core::davpath::{DavPath, DavPathRef};
 use dav_path_core::errors::{FsError, FsResult};
 use dav_path_core::tree::Tree;
 use dav_path_core::util::Moment;
@@ -95,6 +99,31 @@ impl MemLs {
     {
         self.tree.node_count()
     }
+
+    /// As `check` of `DavLockSystem`, of a lent path (own).
+    pub fn check_ref(
+        &mut self,
+        path: &DavPathRef<'_>,
+        principal: Option<&str>,
+        ignore_principal: bool,
+        deep: bool,
+        tokens: &[String],
+        now: Moment,
+    ) -> Result<(), LockError>
+        ensures passes { OnOk result (check_conflicts (without_stale now.0 self.old) (segments path.now) deep
+            (caller principal.entry ignore_principal tokens.now) ≡ []) }
+        ensures shown { IfErr result (λ e. ShowsOnly (check_conflicts (without_stale now.0 self.old) (segments path.now) deep
+            (caller principal.entry ignore_principal tokens.now)) e) }
+        ensures held { OnOk result (HoldsExclusive (without_stale now.0 self.old) (segments path.now)
+            (caller principal.entry ignore_principal tokens.now)) }
+        ensures held_below { OnOk result (deep ≡ true → HoldsBelow (without_stale now.0 self.old) (segments path.now)
+            (caller principal.entry ignore_principal tokens.now)) }
+        ensures left { self.new ≡ without_stale now.0 self.old }
+        ensures exclusive { Exclusive self.new }
+    {
+        self.expire(now);
+        self.check_change(path, principal, ignore_principal, deep, tokens)
+    }
 }
 
 impl DavLockSystem for MemLs {
@@ -145,8 +174,8 @@ impl DavLockSystem for MemLs {
         tokens: &[String],
         now: Moment,
     ) -> Result<(), LockError> {
-        self.expire(now);
-        self.check_change(path, principal, ignore_principal, deep, tokens)
+        let path = path.behind_prefix();
+        self.check_ref(&path, principal, ignore_principal, deep, tokens, now)
     }
 
     fn discover(&mut self, path: &DavPath, now: Moment) -> Result<Vec<DavLock>, AllocError> {

@@ -9,4 +9,5 @@ pub mod ReadLaws
 pub mod Rewriting
 pub mod SegmentLemmas
 pub mod SlashedLemmas
+pub mod TrimLemmas
 pub mod UrlLemmas

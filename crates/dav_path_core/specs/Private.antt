@@ -5,3 +5,4 @@ pub mod Holding
 pub mod Keeping
 pub mod Nodes
 pub mod Tables
+pub mod Trimming

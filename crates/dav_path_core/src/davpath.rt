@@ -23,7 +23,7 @@ mod url;
 use http_uri::Uri;
 pub use iter::Segments;
 pub use lent::DavPathRef;
-use lent::trim_slash;
+use lent::{above_name, trim_slash, trim_slashes};
 use reading::{end_in_slash, kept_pieces, raw_path};
 use std::alloc::{AllocError, AllocFailed, Global};
 use std::marker::Model;
@@ -170,8 +170,8 @@ impl DavPath {
         DavPathRef::new(&self.fullpath)
     }
 
-    // The path behind the prefix.
-    fn behind_prefix(&self) -> DavPathRef<'_>
+    /// The path behind the prefix, lent. Takes no memory (own).
+    pub fn behind_prefix(&self) -> DavPathRef<'_>
         ensures { result ≡ self.now.bytes }
     {
         DavPathRef::new(self.as_bytes())
@@ -239,6 +239,14 @@ impl DavPath {
         ensures value { IfSome result (λ text. text.now ≡ relative self.now.bytes) }
     {
         self.behind_prefix().as_rel_ospath()
+    }
+
+    /// The path of the parent, lent: its segments are those behind the prefix without the last. The root is its own
+    /// parent. Takes no memory (own).
+    pub fn parent_ref(&self) -> DavPathRef<'_>
+        ensures { segments result ≡ parent (segments self.now.bytes) }
+    {
+        DavPathRef::new(above_name(trim_slashes(self.as_bytes())))
     }
 
     // How many segments there are.

@@ -56,12 +56,6 @@ finds_on_map (Command.Unlock path token) locks on h = false≢true on
 finds_on_map (Command.Refresh path token timeout) locks on h = false≢true on
 finds_on_map _ locks on h = h
 
--- where no lock refuses the checks, they are out of memory for the same reasons among other locks
-lacks_too : (locks others : List Lock) (r : Request) (ks : List Check) → refusing locks (caller_of r) ks ≡ [] → MayLack locks (caller_of r) ks → MayLack others (caller_of r) ks
-lacks_too locks others r [] free h = h
-lacks_too locks others r (k ∷ []) free h = absurd (h free)
-lacks_too locks others r (k ∷ j ∷ ks) free h = tt
-
 serves_next : (s s' : State) (r : Request) (a : Answer) → Serves s r a s' → s.map.next ≤ s'.map.next
 serves_next s s' r a h = elim (serves_moves s s' r a h) [
   | inl same ↦ same_next s.map s'.map same
@@ -186,11 +180,8 @@ module _ (l : Lock) (own : l.shared ≡ false) (deep : l.deep ≡ true) where
   serves_lone s s' t r (Err (Locked k)) u lone h = absurd (no_lock_shown s r k u lone.here h.0)
   serves_lone s s' t r (Err NoLock) u lone h = absurd (finds_on_map r.command s.locks u.on h.0)
   serves_lone s s' t r (Err OutOfMemory) u lone h =
-      let c : Command = r.command in
-      let lacks : MayLack s.locks (caller_of r) (checks s.map c) = subst (λ (T : Type 0). T) (lacks_on_map c s r u.on) h.0 in
-      let too : MayLack t.locks (caller_of r) (checks t.map c) =
-      subst (MayLack t.locks (caller_of r)) (sym (same_checks (lock_path l) s.map t.map c lone.agree u.below)) (lacks_too s.locks t.locks r (checks s.map c) (free_under s r u lone.here) lacks) in
-      refused_too s s' t r (Err OutOfMemory) lone h.1 (subst (λ (T : Type 0). T) (sym (lacks_on_map c t r u.on)) too, Same-refl t)
+      let lacks : MayLack s.locks (caller_of r) (checks s.map r.command) = subst (λ (T : Type 0). T) (lacks_on_map r.command s r u.on) h.0 in
+      absurd (lacks (free_under s r u lone.here))
 
   -- ---- all requests
 

@@ -2,6 +2,7 @@
 use Rattle.std.proofs.Common.{◌≡◌, ℕ, Bool, List, [], ◌∷◌, ◌++◌, Option, Err, refl, sym, ap, ◌∙◌, subst, append-nil, append_assoc}
 use Rattle.std.specs.Prelude.{Contains}
 use Rattle.std.proofs.lemmas.List.Elements.{Contains-append_left}
+use Rattle.dav_path_core.proofs.lists.MemberLemmas.{append_none}
 use Rattle.dav_path_core.specs.Fronts.{Path}
 use Rattle.dav_path_core.specs.PathText.{PathText}
 use Rattle.dav_path_core.specs.Segments.{segments}
@@ -33,10 +34,7 @@ refusing-append locks who (k ∷ ks) ls =
     ap (λ zs. first ++ zs) (refusing-append locks who ks ls) ∙ sym (append_assoc first (refusing locks who ks) (refusing locks who ls))
 
 lack_more : (locks : List Lock) (who : Caller) (ks ls : List Check) → MayLack locks who ks → MayLack locks who (ks ++ ls)
-lack_more locks who [] ls h = absurd h
-lack_more locks who (k ∷ []) [] h = h
-lack_more locks who (k ∷ []) (l ∷ ls) h = tt
-lack_more locks who (k ∷ j ∷ ks) ls h = tt
+lack_more locks who ks ls h none = h (append_none (refusing locks who ks) (refusing locks who ls) (sym (refusing-append locks who ks ls) ∙ none)).0
 
 -- what refuses the first checks refuses them all
 pub refused_more : (locks : List Lock) (who : Caller) (ks ls : List Check) (e : Refusal) → RefusedBy locks who ks e → RefusedBy locks who (ks ++ ls) e
@@ -46,18 +44,19 @@ refused_more locks who ks ls OutOfMemory h = lack_more locks who ks ls h
 refused_more locks who ks ls (Fs e) h = absurd h
 refused_more locks who ks ls NoLock h = absurd h
 
+refusing-rest : (locks : List Lock) (who : Caller) (ks ls : List Check) → refusing locks who ks ≡ [] → refusing locks who (ks ++ ls) ≡ refusing locks who ls
+refusing-rest locks who ks ls none = refusing-append locks who ks ls ∙ ap (λ zs. zs ++ refusing locks who ls) none
+
 -- where none refuses the first checks, what refuses the others refuses them all
-pub refused_later : (locks : List Lock) (who : Caller) (k j : Check) (ks ls : List Check) (e : Refusal) → refusing locks who (k ∷ j ∷ ks) ≡ [] → RefusedBy locks who ls e
-    → RefusedBy locks who ((k ∷ j ∷ ks) ++ ls) e
-refused_later locks who k j ks ls (Locked lock) none h =
-    subst (λ zs. Contains zs lock) (sym (refusing-append locks who (k ∷ j ∷ ks) ls ∙ ap (λ zs. zs ++ refusing locks who ls) none)) h
-refused_later locks who k j ks ls OutOfMemory none h = tt
-refused_later locks who k j ks ls (Fs e) none h = absurd h
-refused_later locks who k j ks ls NoLock none h = absurd h
+pub refused_later : (locks : List Lock) (who : Caller) (ks ls : List Check) (e : Refusal) → refusing locks who ks ≡ [] → RefusedBy locks who ls e → RefusedBy locks who (ks ++ ls) e
+refused_later locks who ks ls (Locked lock) none h = subst (λ zs. Contains zs lock) (sym (refusing-rest locks who ks ls none)) h
+refused_later locks who ks ls OutOfMemory none h = λ all. h (sym (refusing-rest locks who ks ls none) ∙ all)
+refused_later locks who ks ls (Fs e) none h = absurd h
+refused_later locks who ks ls NoLock none h = absurd h
 
 -- where none refuses the first checks nor the others, none refuses them all
 pub free_all : (locks : List Lock) (who : Caller) (ks ls : List Check) → refusing locks who ks ≡ [] → refusing locks who ls ≡ [] → refusing locks who (ks ++ ls) ≡ []
-free_all locks who ks ls none others = refusing-append locks who ks ls ∙ ap (λ zs. zs ++ refusing locks who ls) none ∙ others
+free_all locks who ks ls none others = refusing-rest locks who ks ls none ∙ others
 
 -- ---- locks
 

@@ -59,8 +59,6 @@ checks m (Command.PatchProps path patch) = shallow path ∷ []
 checks m (Command.Check path deep) = reached path deep ∷ []
 checks m _ = []
 
--- what checks may be out of memory for: to show a lock that refuses one, and for the path of a parent
+-- checks may be out of memory only to show a lock that refuses one of them
 abbrev pub MayLack : List Lock → Caller → List Check → Type 0
-MayLack locks who [] = ⊥
-MayLack locks who (k ∷ []) = refusing locks who (k ∷ []) ≢ []
-MayLack locks who (k ∷ l ∷ ks) = Unit {0}
+MayLack locks who ks = refusing locks who ks ≢ []

@@ -1,13 +1,15 @@
 //! What the traits of files answer where an implementation says nothing of its own.
-ghost use Rattle.dav_files_core.specs.Listing.{entry_of};
-ghost use Rattle.dav_files_core.specs.Meta.{meta_of};
+ghost use Rattle.std.specs.Prelude.{refl, codes};
+ghost use Rattle.dav_files_core.specs.declared.memfs.Kind.{Kind};
 
+use bytes::{Buf, Bytes};
 use dav_files_core::fs::{
-    DavDirEntry, DavFileSystem, DavMetaData, DavProp, Moment, OpenOptions, ReadDirMeta,
+    DavDirEntry, DavFile, DavFileSystem, DavMetaData, DavProp, Moment, OpenOptions, ReadDirMeta,
 };
 use dav_files_core::memfs::{MemFs, MemFsEntry, MemFsFile, MemFsMeta};
 use dav_path_core::davpath::DavPath;
 use dav_path_core::errors::{FsError, FsResult};
+use std::io::SeekFrom;
 use std::test::Fail;
 
 /// A file system that offers what it has to.
@@ -16,8 +18,46 @@ struct Bare {
     files: MemFs,
 }
 
+/// An open file that offers what it has to.
+#[derive(Drop)]
+struct BareFile {
+    file: MemFsFile,
+}
+
+impl DavFile<Bare> for BareFile {
+    type Meta = MemFsMeta;
+
+    ghost contents = { λ b. b.files };
+
+    ghost opened = { λ f. f.file };
+
+    fn metadata(&mut self, fs: &Bare) -> FsResult<MemFsMeta> {
+        self.file.metadata(&fs.files)
+    }
+
+    fn read_bytes(&mut self, fs: &Bare, count: usize) -> FsResult<Bytes> {
+        self.file.read_bytes(&fs.files, count)
+    }
+
+    fn write_bytes(&mut self, fs: &mut Bare, bytes: Bytes) -> FsResult<()> {
+        self.file.write_bytes(&mut fs.files, bytes)
+    }
+
+    fn write_buf<B: Buf>(&mut self, fs: &mut Bare, buf: &mut B) -> FsResult<()> {
+        self.file.write_buf(&mut fs.files, buf)
+    }
+
+    fn seek(&mut self, fs: &Bare, to: SeekFrom) -> FsResult<u64> {
+        self.file.seek(&fs.files, to)
+    }
+
+    fn flush(&mut self, fs: &mut Bare) -> FsResult<()> {
+        self.file.flush(&mut fs.files)
+    }
+}
+
 impl DavFileSystem for Bare {
-    type File = MemFsFile;
+    type File = BareFile;
 
     type Meta = MemFsMeta;
 
@@ -25,14 +65,11 @@ impl DavFileSystem for Bare {
 
     ghost contents = { λ b. b.files };
 
-    ghost opened = { λ f. f };
+    ghost one_view = { λ b. refl };
 
-    ghost told = { meta_of };
-
-    ghost listed = { entry_of };
-
-    fn open(&mut self, path: &DavPath, options: OpenOptions, now: Moment) -> FsResult<MemFsFile> {
-        self.files.open(path, options, now)
+    fn open(&mut self, path: &DavPath, options: OpenOptions, now: Moment) -> FsResult<BareFile> {
+        let file = self.files.open(path, options, now)?;
+        Ok(BareFile { file })
     }
 
     fn read_dir(&self, path: &DavPath, meta: ReadDirMeta) -> FsResult<Vec<MemFsEntry>> {
@@ -49,6 +86,8 @@ impl DavFileSystem for Bare {
 struct Size(u64);
 
 impl DavMetaData for Size {
+    ghost told = { λ s. record { kind = Kind.File; length = s.0; modified = 7; created = 7 } };
+
     fn len(&self) -> u64 {
         self.0
     }
@@ -70,6 +109,8 @@ struct Sized {
 
 impl DavDirEntry for Sized {
     type Meta = Size;
+
+    ghost listed = { λ s. (codes "a", record { kind = Kind.File; length = s.size; modified = 7; created = 7 }) };
 
     fn name(&self) -> &[u8] {
         b"a"
@@ -101,6 +142,20 @@ fn changes_nothing_by_default(rt: HostRuntime) -> Result<(), Fail> {
         assert!(rt; is_so);
     }
     assert!(rt; bare.symlink_metadata(&path)? == bare.metadata(&path)?);
+    Ok(())
+}
+
+#[test]
+fn leads_nowhere_by_default(rt: HostRuntime) -> Result<(), Fail> {
+    let alloc = rt.alloc();
+    let mut bare = Bare {
+        files: MemFs::new(alloc, Moment(1))?,
+    };
+    let path = DavPath::new(alloc, "/a")?;
+    bare.files.put(&path, b"abc", Moment(2))?;
+    let mut file = bare.open(&path, OpenOptions::read(), Moment(3))?;
+    assert!(rt; file.redirect_url(&bare)?.is_none());
+    assert!(rt; file.read_bytes(&bare, 9)?.as_slice() == b"abc".as_slice());
     Ok(())
 }
 

@@ -1,5 +1,5 @@
 //! The trait of an open file.
-ghost use Rattle.std.specs.Prelude.{◌≡◌, ℕ, Bool, List, [], Ok, IfOk, OnOk, OnErr};
+ghost use Rattle.std.specs.Prelude.{◌≡◌, ℕ, Bool, List, [], Ok, IfOk, IfErr, OnOk, OnErr};
 ghost use Rattle.dav_path_core.specs.Fronts.{Path};
 ghost use Rattle.dav_files_core.specs.declared.fs.OpenOptions.{OpenOptions};
 ghost use Rattle.dav_files_core.specs.Putting.{put};
@@ -9,9 +9,11 @@ ghost use Rattle.dav_files_core.specs.Following.{NeverAgain, TakesAlong};
 ghost use Rattle.dav_files_core.specs.OpenFiles.{open_metadata, read_bytes, seek, write_bytes};
 ghost use Rattle.dav_files_core.specs.Opening.{OpenFile, opening};
 ghost use Rattle.dav_files_core.specs.Properties.{patch_props};
+ghost use Rattle.dav_files_core.specs.Refusing.{RefusesAs};
 ghost use Rattle.dav_files_core.specs.Renaming.{rename};
 ghost use Rattle.dav_files_core.specs.Resources.{Property, ResourceMap, IsResourceMap};
 
+use super::DavMetaData;
 use bytes::{Buf, Bytes};
 use dav_path_core::errors::FsResult;
 use std::io::SeekFrom;
@@ -21,9 +23,9 @@ use std::io::SeekFrom;
 /// of the call says; a refusal leaves the position, what the file system holds, and the buffer as they were.
 pub trait DavFile<S> {
     /// What is known of a file or a folder.
-    type Meta;
+    type Meta: DavMetaData + Drop;
 
-    ghost use Rattle.dav_files_core.specs.Meta.{Meta};
+    ghost use Rattle.std.specs.Prelude.{Bool, false};
 
     /// What the file system holds.
     ghost contents: { S → ResourceMap };
@@ -31,24 +33,27 @@ pub trait DavFile<S> {
     /// Which entry it is, and where it stands.
     ghost opened: { Self → OpenFile };
 
-    /// What an answer tells of a file or a folder.
-    ghost told: { Self.Meta → Meta };
+    /// Whether bytes may be had elsewhere.
+    ghost offers_redirects: { Bool } = { false };
 
     /// What is known of the entry.
     fn metadata(&mut self, fs: &S) -> FsResult<Self::Meta>
-        ensures ok { IfOk result (λ meta. open_metadata (contents fs.now) (opened self.old) ≡ Ok (told meta)) }
-        ensures same { opened self.new ≡ opened self.old };
+        ensures ok { IfOk result (λ meta. open_metadata (contents fs.now) (opened self.old) ≡ Ok (Self.Meta.told meta)) }
+        ensures same { opened self.new ≡ opened self.old }
+        ensures refused { IfErr result (λ e. RefusesAs (open_metadata (contents fs.now) (opened self.old)) e) };
 
     /// The bytes from the position on, `count` at most; it then stands behind them.
     fn read_bytes(&mut self, fs: &S, count: usize) -> FsResult<Bytes>
         ensures ok { IfOk result (λ b. read_bytes (contents fs.now) (opened self.old) count ≡ Ok (b, opened self.new)) }
-        ensures err { OnErr result (opened self.new ≡ opened self.old) };
+        ensures err { OnErr result (opened self.new ≡ opened self.old) }
+        ensures refused { IfErr result (λ e. RefusesAs (read_bytes (contents fs.now) (opened self.old) count) e) };
 
     /// Writes bytes at the position, or at the end where it appends; it then stands behind them. A gap is filled with zeros.
     fn write_bytes(&mut self, fs: &mut S, bytes: Bytes) -> FsResult<()>
         ensures ok { IfOk result (λ x. write_bytes (contents fs.old) (opened self.old) bytes ≡ Ok (x, (opened self.new, contents fs.new))) }
         ensures err { OnErr result (opened self.new ≡ opened self.old) }
-        ensures kept { OnErr result (contents fs.new ≡ contents fs.old) };
+        ensures kept { OnErr result (contents fs.new ≡ contents fs.old) }
+        ensures refused { IfErr result (λ e. RefusesAs (write_bytes (contents fs.old) (opened self.old) bytes) e) };
 
     /// Writes all that a buffer still gives, and leaves it spent; refused, it leaves the buffer unread.
     fn write_buf<B: Buf>(&mut self, fs: &mut S, buf: &mut B) -> FsResult<()>
@@ -56,12 +61,14 @@ pub trait DavFile<S> {
         ensures spent { OnOk result (B.unread buf.new ≡ []) }
         ensures err { OnErr result (opened self.new ≡ opened self.old) }
         ensures kept { OnErr result (contents fs.new ≡ contents fs.old) }
-        ensures unread { OnErr result (B.unread buf.new ≡ B.unread buf.old) };
+        ensures unread { OnErr result (B.unread buf.new ≡ B.unread buf.old) }
+        ensures refused { IfErr result (λ e. RefusesAs (write_bytes (contents fs.old) (opened self.old) (B.unread buf.old)) e) };
 
     /// Moves the position, and answers the new one.
     fn seek(&mut self, fs: &S, to: SeekFrom) -> FsResult<u64>
         ensures ok { IfOk result (λ at. seek (contents fs.now) (opened self.old) to ≡ Ok (at, opened self.new)) }
-        ensures err { OnErr result (opened self.new ≡ opened self.old) };
+        ensures err { OnErr result (opened self.new ≡ opened self.old) }
+        ensures refused { IfErr result (λ e. RefusesAs (seek (contents fs.now) (opened self.old) to) e) };
 
     /// Makes written data durable, where the store outlives the program.
     fn flush(&mut self, fs: &mut S) -> FsResult<()>
@@ -71,6 +78,7 @@ pub trait DavFile<S> {
     /// Where the bytes are to be got instead, as a URL. Unless it is told otherwise, nowhere.
     fn redirect_url(&mut self, fs: &S) -> FsResult<Option<String>>
         ensures same { opened self.new ≡ opened self.old }
+        ensures offered { offers_redirects ≡ false → result ≡ Ok None }
     {
         Ok(None)
     }

@@ -1,5 +1,5 @@
 //! The calls of a file system on files in memory.
-ghost use Rattle.std.specs.Prelude.{◌≡◌, Some, Ok, Err, IsSome, true, map};
+ghost use Rattle.std.specs.Prelude.{◌≡◌, Some, Ok, Err, IsSome, true, map, refl};
 ghost use Rattle.dav_path_core.specs.Segments.{segments};
 ghost use Rattle.dav_path_core.specs.Answers.{AnswersAs, Tells};
 ghost use Rattle.dav_files_core.specs.Describing.{metadata};
@@ -59,11 +59,19 @@ impl DavFileSystem for MemFs {
 
     ghost contents = { λ m. m };
 
-    ghost opened = { λ f. f };
+    ghost one_view = { λ m. refl };
 
-    ghost told = { meta_of };
+    ghost offers_create_dir = { true };
 
-    ghost listed = { member_of };
+    ghost offers_remove_dir = { true };
+
+    ghost offers_remove_file = { true };
+
+    ghost offers_rename = { true };
+
+    ghost offers_copy = { true };
+
+    ghost offers_props = { true };
 
     /// It takes no memory where something stands at the path.
     fn open(&mut self, path: &DavPath, options: OpenOptions, now: Moment) -> FsResult<MemFsFile>

@@ -27,6 +27,8 @@ pub struct MemFsEntry {
 impl DavDirEntry for MemFsEntry {
     type Meta = MemFsMeta;
 
+    ghost listed = { entry_of };
+
     fn name(&self) -> &[u8]
         ensures { result.now ≡ self.now.name }
     {

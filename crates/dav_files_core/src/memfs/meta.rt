@@ -1,5 +1,6 @@
 //! What is known of a folder or a file in memory.
-ghost use Rattle.std.specs.Prelude.{◌≡◌, ◌↔◌, IsTrue, Ok, Err, false, ◌==◌};
+ghost use Rattle.std.specs.Prelude.{◌≡◌, ◌↔◌, IsTrue, Ok, Err, false, true, ◌==◌};
+ghost use Rattle.dav_files_core.specs.Meta.{meta_of};
 
 use super::{Kind, MemFsMeta};
 use crate::fs::{DavMetaData, Moment};
@@ -7,6 +8,10 @@ use dav_path_core::errors::{FsError, FsResult};
 
 /// It takes no memory. What is not kept is `NotImplemented`.
 impl DavMetaData for MemFsMeta {
+    ghost told = { meta_of };
+
+    ghost offers_created = { true };
+
     fn len(&self) -> u64
         ensures { result ≡ self.now.length }
     {

@@ -54,8 +54,6 @@ impl DavFile<MemFs> for MemFsFile {
 
     ghost opened = { λ f. f };
 
-    ghost told = { meta_of };
-
     /// It takes no memory.
     fn metadata(&mut self, fs: &MemFs) -> FsResult<MemFsMeta>
         ensures answer { TellsExactly meta_of result (open_metadata fs.now self.old) }

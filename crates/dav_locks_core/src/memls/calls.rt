@@ -15,12 +15,13 @@ use super::granting::{
 };
 use super::holding::{Caller, Unheld, WithToken};
 use super::pruning::{clear, prune};
-use super::subtree::check_locks_from_path;
+use super::subtree::{check_locks_from_path, check_locks_from_path_ref};
 use super::way::{
-    check_locks_to_path, covering_locks, get_or_create_path_node, lookup_lock, lookup_node,
+    check_locks_to_path, check_locks_to_path_ref, covering_locks, get_or_create_path_node,
+    lookup_lock, lookup_lock_ref, lookup_node,
 };
 use crate::ls::{DavLock, LockError, NoLock, RefreshError};
-use dav_path_core::davpath::DavPath;
+use dav_path_core::davpath::{DavPath, DavPathRef};
 use dav_path_core::util::Moment;
 use rand_core::Rng;
 use std::alloc::AllocError;
@@ -128,22 +129,22 @@ impl MemLs {
         }
     }
 
-    // Whether a change may be made; a lock that refuses it is shown.
+    // Whether a change may be made at a lent path; a lock that refuses it is shown.
     pub(super) fn check_change(
         &self,
-        path: &DavPath,
+        path: &DavPathRef<'_>,
         principal: Option<&str>,
         ignore_principal: bool,
         deep: bool,
         tokens: &[String],
     ) -> Result<(), LockError>
-        ensures passes { OnOk result (check_conflicts self.now (segments path.now.bytes) deep
+        ensures passes { OnOk result (check_conflicts self.now (segments path.now) deep
             (caller principal.entry ignore_principal tokens.now) ≡ []) }
-        ensures shown { IfErr result (λ e. ShowsOnly (check_conflicts self.now (segments path.now.bytes) deep
+        ensures shown { IfErr result (λ e. ShowsOnly (check_conflicts self.now (segments path.now) deep
             (caller principal.entry ignore_principal tokens.now)) e) }
-        ensures held { OnOk result (HoldsExclusive self.now (segments path.now.bytes)
+        ensures held { OnOk result (HoldsExclusive self.now (segments path.now)
             (caller principal.entry ignore_principal tokens.now)) }
-        ensures held_below { OnOk result (deep ≡ true → HoldsBelow self.now (segments path.now.bytes)
+        ensures held_below { OnOk result (deep ≡ true → HoldsBelow self.now (segments path.now)
             (caller principal.entry ignore_principal tokens.now)) }
     {
         let caller = Caller {
@@ -153,11 +154,11 @@ impl MemLs {
         };
         let unheld = Unheld { caller };
         // Two locks that cover one path are both shared, and beside a shared one it is enough to hold another.
-        if lookup_lock(&self.tree, path, &caller).is_none() {
-            check_locks_to_path(&self.tree, path, &unheld)?;
+        if lookup_lock_ref(&self.tree, path, &caller).is_none() {
+            check_locks_to_path_ref(&self.tree, path, &unheld)?;
         }
         if deep {
-            check_locks_from_path(&self.tree, path, &unheld)?;
+            check_locks_from_path_ref(&self.tree, path, &unheld)?;
         }
         Ok(())
     }

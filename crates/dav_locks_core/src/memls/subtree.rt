@@ -8,10 +8,10 @@ ghost use Rattle.dav_locks_core.specs.Private.SubtreeWalks.{GoesOn, IsOver, None
 
 use super::NodeLocks;
 use super::holding::LockTest;
-use super::way::{copy_at, first_at, lookup_node};
+use super::way::{copy_at, first_at, lookup_node_ref};
 use crate::ls::LockError;
 use bytes::Bytes;
-use dav_path_core::davpath::DavPath;
+use dav_path_core::davpath::{DavPath, DavPathRef};
 use dav_path_core::tree::Tree;
 
 // The first child of a node.
@@ -110,7 +110,20 @@ pub(super) fn check_locks_from_path<T: LockTest>(
     ensures free { OnOk result (NoneBelow (T.test test.now true) tree.now.keyed (segments path.now.bytes)) }
     ensures shown { IfErr result (λ e. ShowsBelow (T.test test.now true) tree.now.keyed (segments path.now.bytes) e) }
 {
-    let Some(top) = lookup_node(tree, path) else {
+    check_locks_from_path_ref(tree, &path.behind_prefix(), test)
+}
+
+// The same of a lent path.
+pub(super) fn check_locks_from_path_ref<T: LockTest>(
+    tree: &Tree<Bytes, NodeLocks>,
+    path: &DavPathRef<'_>,
+    test: &T,
+) -> Result<(), LockError>
+    requires { IsTree is_segment tree.now.keyed }
+    ensures free { OnOk result (NoneBelow (T.test test.now true) tree.now.keyed (segments path.now)) }
+    ensures shown { IfErr result (λ e. ShowsBelow (T.test test.now true) tree.now.keyed (segments path.now) e) }
+{
+    let Some(top) = lookup_node_ref(tree, path) else {
         return Ok(());
     };
     match find_below(tree, top, test) {

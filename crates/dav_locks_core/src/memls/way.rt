@@ -11,7 +11,7 @@ use super::holding::LockTest;
 use super::pruning::prune;
 use crate::ls::{DavLock, LockError};
 use bytes::Bytes;
-use dav_path_core::davpath::DavPath;
+use dav_path_core::davpath::{DavPath, DavPathRef};
 use dav_path_core::tree::{ROOT_ID, Tree};
 use std::alloc::{AllocError, Global};
 
@@ -53,6 +53,13 @@ pub(super) fn first_at<T: LockTest>(
 pub(super) fn lookup_node(tree: &Tree<Bytes, NodeLocks>, path: &DavPath) -> Option<u64>
     ensures { result ≡ node_at tree.now.keyed 1 (segments path.now.bytes) }
 {
+    lookup_node_ref(tree, &path.behind_prefix())
+}
+
+// The node at a lent path.
+pub(super) fn lookup_node_ref(tree: &Tree<Bytes, NodeLocks>, path: &DavPathRef<'_>) -> Option<u64>
+    ensures { result ≡ node_at tree.now.keyed 1 (segments path.now) }
+{
     let mut node = ROOT_ID;
     for segment in path.segments() {
         match child_of(tree, node, segment) {
@@ -70,6 +77,17 @@ pub(super) fn lookup_lock<T: LockTest>(
     test: &T,
 ) -> Option<(u64, usize)>
     ensures { result ≡ spec.lookup_lock (T.test test.now) tree.now.keyed 1 (segments path.now.bytes) }
+{
+    lookup_lock_ref(tree, &path.behind_prefix(), test)
+}
+
+// The same of a lent path.
+pub(super) fn lookup_lock_ref<T: LockTest>(
+    tree: &Tree<Bytes, NodeLocks>,
+    path: &DavPathRef<'_>,
+    test: &T,
+) -> Option<(u64, usize)>
+    ensures { result ≡ spec.lookup_lock (T.test test.now) tree.now.keyed 1 (segments path.now) }
 {
     let mut node = ROOT_ID;
     for segment in path.segments() {
@@ -117,7 +135,20 @@ pub(super) fn check_locks_to_path<T: LockTest>(
     ensures shown { IfErr result (λ e. ShowsAt tree.now.keyed
         (spec.lookup_lock (T.test test.now) tree.now.keyed 1 (segments path.now.bytes)) e) }
 {
-    match lookup_lock(tree, path, test) {
+    check_locks_to_path_ref(tree, &path.behind_prefix(), test)
+}
+
+// The same of a lent path.
+pub(super) fn check_locks_to_path_ref<T: LockTest>(
+    tree: &Tree<Bytes, NodeLocks>,
+    path: &DavPathRef<'_>,
+    test: &T,
+) -> Result<(), LockError>
+    ensures free { OnOk result (spec.lookup_lock (T.test test.now) tree.now.keyed 1 (segments path.now) ≡ None) }
+    ensures shown { IfErr result (λ e. ShowsAt tree.now.keyed
+        (spec.lookup_lock (T.test test.now) tree.now.keyed 1 (segments path.now)) e) }
+{
+    match lookup_lock_ref(tree, path, test) {
         None => Ok(()),
         Some((node, place)) => Err(LockError::Conflict(copy_at(tree, node, place)?)),
     }

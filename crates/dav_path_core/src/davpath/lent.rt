@@ -3,6 +3,8 @@ ghost use Rattle.std.specs.Prelude.{◌≡◌, ◌≤◌, ◌<◌, ◌^◌, ◌�
 ghost use Rattle.std.specs.List.{before_last, list_any};
 ghost use Rattle.std.specs.Str.{IsUtf8};
 ghost use Rattle.dav_path_core.specs.Segments.{segments, is_slash};
+ghost use Rattle.dav_path_core.specs.Fronts.{parent};
+ghost use Rattle.dav_path_core.specs.Private.Trimming.{EndsInName};
 ghost use Rattle.dav_path_core.specs.Reading.{ends_in_slash};
 ghost use Rattle.dav_path_core.specs.Url.{url};
 ghost use Rattle.dav_path_core.specs.Respelling.{KeepsPath};
@@ -146,4 +148,28 @@ pub(super) fn trim_slash(bytes: &[u8]) -> &[u8]
     } else {
         bytes
     }
+}
+
+// The bytes without all slashes at the end.
+pub(super) fn trim_slashes(bytes: &[u8]) -> &[u8]
+    ensures same { segments result.now ≡ segments bytes.now }
+    ensures end { EndsInName result.now }
+{
+    let mut end = bytes.len();
+    while end > 0 && bytes[end - 1] == b'/' {
+        end -= 1;
+    }
+    &bytes[..end]
+}
+
+// What stands before the last segment, where the bytes end in one.
+pub(super) fn above_name(bytes: &[u8]) -> &[u8]
+    requires { EndsInName bytes.now }
+    ensures { segments result.now ≡ parent (segments bytes.now) }
+{
+    let mut end = bytes.len();
+    while end > 0 && bytes[end - 1] != b'/' {
+        end -= 1;
+    }
+    &bytes[..end]
 }

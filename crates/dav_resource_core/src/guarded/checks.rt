@@ -8,8 +8,7 @@ ghost use Rattle.dav_resource_core.specs.Served.{command_of, request_of};
 ghost use Rattle.dav_resource_core.specs.Private.Serving.{RefusedBy};
 
 use super::{Command, Guarded, Refusal, Request};
-use dav_locks_core::ls::DavLockSystem;
-use dav_path_core::davpath::DavPath;
+use dav_path_core::davpath::{DavPath, DavPathRef};
 
 impl Guarded {
     // Makes the checks of a command (RFC 4918 section 7).
@@ -72,10 +71,7 @@ impl Guarded {
         ensures same { self.new ≡ self.old }
     {
         self.check_path(request, path, deep)?;
-        match path.parent() {
-            Ok(parent) => return self.check_path(request, &parent, false),
-            Err(_) => return Err(Refusal::OutOfMemory),
-        }
+        self.check_path_ref(request, &path.parent_ref(), false)
     }
 
     // Checks one path, and all below it where `deep`, by the request's tokens and principal.
@@ -87,9 +83,26 @@ impl Guarded {
             (reached (segments path.now.bytes) deep ∷ [])) }
         ensures same { self.new ≡ self.old }
     {
+        self.check_path_ref(request, &path.behind_prefix(), deep)
+    }
+
+    // The same of a lent path.
+    fn check_path_ref(
+        &mut self,
+        request: &Request,
+        path: &DavPathRef<'_>,
+        deep: bool,
+    ) -> Result<(), Refusal>
+        requires fresh { without_stale request.now.now.0 self.old.locks ≡ self.old.locks }
+        ensures ok { OnOk result (refusing self.old.locks (caller_of (request_of request.entry.now))
+            (reached (segments path.now) deep ∷ []) ≡ []) }
+        ensures err { IfErr result (RefusedBy self.old.locks (caller_of (request_of request.entry.now))
+            (reached (segments path.now) deep ∷ [])) }
+        ensures same { self.new ≡ self.old }
+    {
         let principal = text_of(&request.principal);
         self.locks
-            .check(path, principal, false, deep, &request.tokens, request.now)?;
+            .check_ref(path, principal, false, deep, &request.tokens, request.now)?;
         Ok(())
     }
 }

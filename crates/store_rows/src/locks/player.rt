@@ -46,7 +46,7 @@ impl Player {
             "granted" => return shown(self.alloc, self.granted.last().ok_or("no lock")?),
             _ => {}
         }
-        let path = DavPath::new(self.alloc, path)?;
+        let path = path_of(self.alloc, path)?;
         match call {
             "lock" => self.lock(now, &path, [first, second, third, scope, depth]),
             "check" => self.check(now, &path, false, [first, second, third]),
@@ -185,6 +185,15 @@ impl Player {
             LockError::OutOfMemory => String::from_str(self.alloc, "no memory"),
         }
     }
+}
+
+// `PREFIX|REST` is a path with a prefix.
+fn path_of(alloc: Global, word: &str) -> Result<DavPath, Fail> {
+    let (prefix, rest) = word.split_once('|').unwrap_or(("", word));
+    let text = format!(in alloc; "{prefix}{rest}")?;
+    let mut path = DavPath::new(alloc, text.as_str())?;
+    path.set_prefix(prefix)?;
+    Ok(path)
 }
 
 // Of a clone: token, path, principal, owner, timeout, moment of the end, shared and deep.

@@ -1,4 +1,4 @@
-//! Rows of locks. `t1` is the lock granted first, and so on; `-` stands for none.
+//! Rows of locks. `t1` is the lock granted first, and so on; `-` stands for none. `PREFIX|REST` is a path with a prefix, which takes no part.
 
 // `lock PATH PRINCIPAL OWNER TIMEOUT SCOPE DEPTH` asks for a lock, and `granted` shows the one granted last, whole. `check! ..` is a
 // check that ignores the principal. `drawn` is what the generator gave last.
@@ -35,7 +35,24 @@ false false
 5 lock /a - <three/> - shared shallow = t3
 5 discover /a = t1 t2 t3
 5 discover /a/b = t1 t2
-5 check /a - t3 deep = conflict t1";
+5 check /a - t3 deep = conflict t1
+5 new = ok
+5 lock /p|/a/b ann <ann/> 9 exclusive deep = t1
+5 granted = urn:uuid:02000000-0300-4000-8400-000005000000 /a/b ann <ann/> 9 9000000005 false true
+5 lock /a/b/c - - - shared shallow = conflict t1
+5 discover /q|/a/b = t1
+5 discover /p|/a/b/c = t1
+5 discover /p/a/b = -
+5 check /p|/a/b ann t1 deep = ok
+5 check /p|/a bob t1 deep = conflict t1
+5 refresh /q|/a/b/c t1 3 = t1 3000000005
+5 lock /p|/ - - - shared deep = conflict t1
+5 delete /q|/a = ok
+5 lock /p|/ - - - shared deep = t2
+5 discover / = t2
+5 unlock /q|/ t2 = ok
+5 discover /p|/a = -
+5 count = 1";
 
 // `conflict` alone stands for a conflict with any lock.
 pub(super) const DEEP_LOCKS: &str = "5 new = ok

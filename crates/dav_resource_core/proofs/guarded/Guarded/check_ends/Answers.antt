@@ -1,8 +1,7 @@
-use Rattle.std.proofs.Common.{true, [], IfErr, subst}
+use Rattle.std.proofs.Common.{true, IfErr, subst}
 use Rattle.std.proofs.lemmas.Result.{err_from_is_err_and, IfErr-weaker}
-use Rattle.dav_path_core.specs.Fronts.{parent}
 use Rattle.dav_path_core.specs.Segments.{segments}
-use Rattle.dav_resource_core.specs.Checks.{caller_of, reached, shallow, member}
+use Rattle.dav_resource_core.specs.Checks.{caller_of, member}
 use Rattle.dav_resource_core.specs.Served.{request_of}
 use Rattle.dav_resource_core.specs.Stores.{Stores}
 use Rattle.dav_resource_core.specs.Private.Serving.{RefusedBy}
@@ -19,6 +18,6 @@ pub returns-clause-err : goal.returns-clause-err
 returns-clause-err c =
     let from = segments c.args.from.now.bytes in
     IfErr-weaker c.check_member-2.result _ _
-    (λ e h. refused_later c.args.self.now.locks (caller_of (request_of c.args.request.now)) (reached from true) (shallow (parent from)) [] (member (segments c.args.to.now.bytes) true) e
+    (λ e h. refused_later c.args.self.now.locks (caller_of (request_of c.args.request.now)) (member from true) (member (segments c.args.to.now.bytes) true) e
     c.in_ok-check_member.ensures.ok h)
     (subst (λ (g : Stores). IfErr c.check_member-2.result (RefusedBy g.locks (caller_of (request_of c.args.request.now)) (member (segments c.args.to.now.bytes) true))) c.check_member.ensures.same c.check_member-2.ensures.err)

@@ -2,7 +2,7 @@ use Rattle.std.proofs.Common.{sym, ap, ◌∙◌}
 use Rattle.dav_path_core.specs.Segments.{segments}
 use Rattle.dav_locks_core.specs.Private.LockTree.{node_at}
 use Rattle.dav_locks_core.proofs.walks.SubtreeLemmas.{node_at-here, node_at-step, node_at-stuck}
-use Rattle.dav_locks_core.proofs.memls.way.lookup_node.Goals as goal
+use Rattle.dav_locks_core.proofs.memls.way.lookup_node_ref.Goals as goal
 
 pub loop-segment-init : goal.loop-segment-init
 loop-segment-init c =

@@ -2,7 +2,7 @@ use Rattle.std.proofs.Common.{None, sym, ap, ◌∙◌}
 use Rattle.dav_path_core.specs.Segments.{segments}
 use Rattle.dav_locks_core.specs.Private.LockTree.{lookup_lock}
 use Rattle.dav_locks_core.proofs.trees.WayLemmas.{way-end, way-found, way-down, way-stuck}
-use Rattle.dav_locks_core.proofs.memls.way.lookup_lock.Goals as goal
+use Rattle.dav_locks_core.proofs.memls.way.lookup_lock_ref.Goals as goal
 
 pub loop-segment-init : goal.loop-segment-init
 loop-segment-init g c =

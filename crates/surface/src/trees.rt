@@ -1,0 +1,88 @@
+//! Of `tree`, for one type of keys and one of data.
+use dav_resource_core::errors::FsResult;
+use dav_resource_core::tree::{Children, Node, ROOT_ID, Tree};
+use std::alloc::Global;
+
+pub fn root() -> u64 {
+    ROOT_ID
+}
+
+pub fn new(alloc: Global, item: u8) -> FsResult<Tree<u64, u8>> {
+    Tree::new(alloc, item)
+}
+
+pub fn add_child(
+    tree: &mut Tree<u64, u8>,
+    parent: u64,
+    key: u64,
+    item: u8,
+    overwrite: bool,
+) -> FsResult<u64> {
+    tree.add_child(parent, key, item, overwrite)
+}
+
+pub fn get_child(tree: &Tree<u64, u8>, parent: u64, key: &u64) -> FsResult<u64> {
+    tree.get_child(parent, key)
+}
+
+pub fn find_child(tree: &Tree<u64, u8>, parent: u64, wanted: u64) -> FsResult<u64> {
+    tree.find_child(parent, |key| *key == wanted)
+}
+
+pub fn find_child_like(tree: &Tree<u64, u8>, parent: u64, wanted: u64) -> FsResult<u64> {
+    tree.find_child_like(parent, &wanted, |key| *key == wanted)
+}
+
+pub fn get_children(tree: &Tree<u64, u8>, parent: u64) -> FsResult<Children<u64>> {
+    tree.get_children(parent)
+}
+
+pub fn next_child(children: &mut Children<u64>) -> Option<(u64, u64)> {
+    children.next()
+}
+
+pub fn get_node(tree: &Tree<u64, u8>, id: u64) -> FsResult<&u8> {
+    tree.get_node(id)
+}
+
+pub fn get_node_mut(tree: &mut Tree<u64, u8>, id: u64) -> FsResult<&mut u8> {
+    tree.get_node_mut(id)
+}
+
+pub fn delete_node(tree: &mut Tree<u64, u8>, id: u64) -> FsResult<Node<u64, u8>> {
+    tree.delete_node(id)
+}
+
+pub fn item(node: Node<u64, u8>) -> u8 {
+    node.item
+}
+
+pub fn delete_subtree(tree: &mut Tree<u64, u8>, id: u64) -> FsResult<()> {
+    tree.delete_subtree(id)
+}
+
+pub fn move_node(
+    tree: &mut Tree<u64, u8>,
+    id: u64,
+    new_parent: u64,
+    new_name: u64,
+    overwrite: bool,
+) -> FsResult<()> {
+    tree.move_node(id, new_parent, new_name, overwrite)
+}
+
+pub fn parent_of(tree: &Tree<u64, u8>, id: u64) -> FsResult<Option<u64>> {
+    tree.parent_of(id)
+}
+
+pub fn first_child(tree: &Tree<u64, u8>, id: u64) -> FsResult<Option<u64>> {
+    tree.first_child(id)
+}
+
+pub fn next_sibling(tree: &Tree<u64, u8>, id: u64) -> FsResult<Option<u64>> {
+    tree.next_sibling(id)
+}
+
+pub fn node_count(tree: &Tree<u64, u8>) -> usize {
+    tree.node_count()
+}

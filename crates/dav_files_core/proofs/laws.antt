@@ -1,5 +1,5 @@
-pub mod AgainLemmas
 pub mod AgreeingLemmas
 pub mod DoneLemmas
 pub mod FollowingLemmas
+pub mod GrownLemmas
 pub mod PlaceLemmas

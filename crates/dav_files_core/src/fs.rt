@@ -9,6 +9,7 @@ ghost use Rattle.dav_files_core.specs.Opening.{opening};
 ghost use Rattle.dav_files_core.specs.Properties.{answer_of, entry_of, get_prop, get_props, patch_props, property_of};
 ghost use Rattle.dav_files_core.specs.Refusing.{RefusesAs, RefusesAsOffered};
 ghost use Rattle.dav_files_core.specs.Renaming.{rename};
+ghost use Rattle.dav_files_core.specs.Resources.{IsResourceMap};
 ghost use Rattle.dav_files_core.specs.declared.memfs.Kind.{Kind};
 
 use dav_path_core::davpath::DavPath;
@@ -17,12 +18,14 @@ use http::StatusCode;
 mod below;
 mod open_files;
 mod properties;
+mod shape;
 
 pub use below::commands_see_below;
 pub use dav_path_core::errors::{FsError, FsResult};
 pub use dav_path_core::util::Moment;
 pub use open_files::{DavFile, numbers_are_given_once, open_files_follow};
 pub use properties::DavProp;
+pub use shape::commands_keep_shape;
 
 /// What a listing is to find out of each member.
 #[derive(Clone, Copy, PartialEq, Eq, Debug)]
@@ -93,7 +96,8 @@ impl OpenOptions {
 }
 
 /// A store of files and folders on paths. Of every implementation, seen as a map from paths to resources: a call that is
-/// done answers, and leaves the map, as the definition of its command says; a refusal leaves the map as it was.
+/// done answers, and leaves the map, as the definition of its command says; a refusal leaves the map as it was. What it holds is a
+/// resource map, as `open`, `read_dir` and `metadata` tell; that each command keeps it so is the law `commands_keep_shape`.
 ///
 /// All calls but `open`, `read_dir` and `metadata` have a default. It is `NotImplemented`, but `symlink_metadata` is `metadata`, and
 /// `have_props` is false. An implementation that offers such a call says so by a ghost member, `offers_copy` for `copy` and so on; where it
@@ -143,22 +147,26 @@ pub trait DavFileSystem {
     fn open(&mut self, path: &DavPath, options: OpenOptions, now: Moment) -> FsResult<Self::File>
         ensures ok { IfOk result (λ f. opening (contents self.old) (segments path.now.bytes) options now.0 ≡ Ok (Self.File.opened f, contents self.new)) }
         ensures err { OnErr result (contents self.new ≡ contents self.old) }
-        ensures refused { IfErr result (λ e. RefusesAs (opening (contents self.old) (segments path.now.bytes) options now.0) e) };
+        ensures refused { IfErr result (λ e. RefusesAs (opening (contents self.old) (segments path.now.bytes) options now.0) e) }
+        ensures shape { IsResourceMap (contents self.new) };
 
     /// The members of a folder, each once, sorted by the bytes of their names.
     fn read_dir(&self, path: &DavPath, meta: ReadDirMeta) -> FsResult<Vec<Self::Entry>>
         ensures ok { IfOk result (λ v. read_dir (contents self.now) (segments path.now.bytes) ≡ Ok (map Self.Entry.listed v.items)) }
-        ensures refused { IfErr result (λ e. RefusesAs (read_dir (contents self.now) (segments path.now.bytes)) e) };
+        ensures refused { IfErr result (λ e. RefusesAs (read_dir (contents self.now) (segments path.now.bytes)) e) }
+        ensures shape { IsResourceMap (contents self.now) };
 
     /// What is known of what is at a path.
     fn metadata(&self, path: &DavPath) -> FsResult<Self::Meta>
         ensures ok { IfOk result (λ meta. metadata (contents self.now) (segments path.now.bytes) ≡ Ok (Self.Meta.told meta)) }
-        ensures refused { IfErr result (λ e. RefusesAs (metadata (contents self.now) (segments path.now.bytes)) e) };
+        ensures refused { IfErr result (λ e. RefusesAs (metadata (contents self.now) (segments path.now.bytes)) e) }
+        ensures shape { IsResourceMap (contents self.now) };
 
     /// The same of a link itself. Unless it is told otherwise, there are no links.
     fn symlink_metadata(&self, path: &DavPath) -> FsResult<Self::Meta>
         ensures ok { IfOk result (λ meta. metadata (contents self.now) (segments path.now.bytes) ≡ Ok (Self.Meta.told meta)) }
         ensures refused { IfErr result (λ e. RefusesAs (metadata (contents self.now) (segments path.now.bytes)) e) }
+        ensures shape { IsResourceMap (contents self.now) }
     {
         self.metadata(path)
     }

@@ -168,9 +168,10 @@ impl MemFs {
     ///
     /// `NotFound` where the longest front of the path that is there is a folder, `Forbidden` where it is a file.
     pub fn metadata(&self, path: &DavPath) -> FsResult<MemFsMeta>
-        ensures { MatchResult result
+        ensures answer { MatchResult result
             (λ meta. metadata self.now (segments path.now.bytes) ≡ Ok (meta_of meta))
             (λ e. metadata self.now (segments path.now.bytes) ≡ Err e) }
+        ensures shape { IsResourceMap self.now }
     {
         let id = self.number_of(path)?;
         Ok(self.node_at(id).meta())

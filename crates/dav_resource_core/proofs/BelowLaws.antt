@@ -16,7 +16,7 @@ use Rattle.dav_files_core.specs.Folders.{create_dir, remove}
 use Rattle.dav_files_core.specs.Listing.{read_dir}
 use Rattle.dav_files_core.specs.Properties.{patch_props, get_props, get_prop}
 use Rattle.dav_files_core.specs.Renaming.{rename}
-use Rattle.dav_files_core.proofs.laws.AgainLemmas.{put_grows, write_at_grows, create_dir_grows, remove_grows, rename_grows, copy_grows, patch_grows}
+use Rattle.dav_files_core.proofs.laws.GrownLemmas.{put_grows, write_at_grows, create_dir_grows, remove_grows, rename_grows, copy_grows, patch_grows}
 use Rattle.dav_files_core.proofs.laws.AgreeingLemmas.{inside, parent_front, put_alike, write_alike, create_dir_alike, remove_alike, rename_alike, copy_alike, patch_alike, read_same, read_dir_same, metadata_same, get_props_same, get_prop_same}
 use Rattle.dav_resource_core.specs.Requests.{Command, Reply, Bytes, Entries, Meta, Patched, Props, Value}
 use Rattle.dav_resource_core.specs.Checks.{Check, IsApart, has, shallow, member, target, checks}

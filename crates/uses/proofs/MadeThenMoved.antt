@@ -14,7 +14,8 @@ use Rattle.dav_files_core.specs.Resources.{Resource, ResourceMap, at_path, IsRes
 use Rattle.dav_files_core.proofs.walks.FoundLemmas.{parent-snoc}
 use Rattle.dav_files_core.proofs.paths.FrontLemmas.{behind_none}
 use Rattle.dav_files_core.proofs.walks.HasMembersLemmas.{has_member}
-use Rattle.dav_files_core.proofs.laws.DoneLemmas.{RenamedEntry, made_folder, renamed_entry, touched_other, touched_none, IsResourceMap-create_dir}
+use Rattle.dav_files_core.proofs.laws.DoneLemmas.{RenamedEntry, made_folder, renamed_entry, touched_other, touched_none}
+use Rattle.dav_files_core.proofs.laws.GrownLemmas.{create_dir_grows}
 use Rattle.dav_files_core.proofs.paths.LengthLemmas.{longer}
 use Rattle.dav_files_core.proofs.moves.MovedLemmas.{moved_to, moved_from}
 use Rattle.dav_files_core.proofs.moves.MovingLemmas.{front_there}
@@ -40,7 +41,7 @@ module _ (m mid new : ResourceMap) (is_map : IsResourceMap m) (p : Path) (now : 
     -- the target had no members
     no_member : (t : Segment) (v : Path) → ¬ (p ≡ to ++ (t ∷ v))
     no_member t v e =
-        let next = front_there mid (IsResourceMap-create_dir m mid p now is_map made) (to ++ (t ∷ [])) v folder (ap (at_path mid) (append_assoc to (t ∷ []) v ∙ sym e) ∙ there) in
+        let next = front_there mid ((create_dir_grows m p now (tt, mid) made).shape is_map) (to ++ (t ∷ [])) v folder (ap (at_path mid) (append_assoc to (t ∷ []) v ∙ sym e) ∙ there) in
         true≢false (sym (has_member mid to t next.0 next.1) ∙ (put mid p q s x h).leaf)
 
     behind_target : behind to p ≡ None

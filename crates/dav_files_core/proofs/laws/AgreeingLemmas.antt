@@ -9,6 +9,7 @@ use Rattle.dav_path_core.specs.Fronts.{Segment, Path, parent, behind, is_front, 
 use Rattle.dav_path_core.proofs.lists.Orders.{segment_total, segment_exact, path_total, path_exact}
 use Rattle.dav_path_core.proofs.lists.FinMaps.{get_same, get_other, get_left, get_gone, dec}
 use Rattle.dav_path_core.proofs.paths.FrontLemmas.{is_same_path-refl}
+use Rattle.dav_files_core.specs.declared.fs.OpenOptions.{OpenOptions}
 use Rattle.dav_files_core.specs.Resources.{Node, Property, Resource, ResourceMap, at_path}
 use Rattle.dav_files_core.specs.Finding.{find, members, has_any, has_members}
 use Rattle.dav_files_core.specs.Outcomes.{Outcome, ◌>>=◌, only_file, only_folder, find_folder, added, changed, touched, touched_at, without, new_file, new_folder}
@@ -22,6 +23,7 @@ use Rattle.dav_files_core.specs.Listing.{listed, read_dir}
 use Rattle.dav_files_core.specs.Meta.{meta_at}
 use Rattle.dav_files_core.specs.Moved.{moved, path_after}
 use Rattle.dav_files_core.specs.OpenFiles.{overwritten}
+use Rattle.dav_files_core.specs.Opening.{OpenFile, opened, opening, opening_at, truncated}
 use Rattle.dav_files_core.specs.Properties.{patch_answers, patched, patch_props, shown, get_props, xml_of, get_prop}
 use Rattle.dav_files_core.specs.Renaming.{put_elsewhere, relocated, rename}
 use Rattle.dav_files_core.proofs.walks.FoundLemmas.{find_there, find_below, parent-append}
@@ -322,6 +324,30 @@ module _ (folder : Path) (m n : ResourceMap) (agree : AgreeBelow folder m n) whe
           (λ r. (refl, changed_agree folder m n agree to r node))
       by node None = alike_on (SameAnswer folder) (find_folder m (parent to)) (find_folder n (parent to)) (λ (_ : Resource). Ok (tt, added m to node)) (λ (_ : Resource). Ok (tt, added n to node))
           (find_folder_within folder m n agree (parent to) (parent_within folder to v)) (λ _. (refl, added_agree folder m n agree to node))
+
+  pub opening_alike : (p : Path) (options : OpenOptions) (now : ℕ) → Inside folder p → AlikeHere (λ m. opening m p options now)
+  opening_alike p options now w = subst (λ o. Alike (SameAnswer folder) (opening m p options now) (opening_at n p options now o)) (sym (at_within folder m n agree p (within folder p w))) (by (at_path m p))
+    where
+      there : ResourceMap → Resource → Outcome OpenFile
+      there m r = Ok (opened r.number options, truncated m p r options.truncate now)
+
+      made : ResourceMap → Outcome OpenFile
+      made m = Ok (opened m.next options, added m p (new_file [] now))
+
+      found : ResourceMap → Resource → Outcome OpenFile
+      found m r = Ok (opened r.number options, m)
+
+      emptied : (r : Resource) (b : Bool) → AgreeBelow folder (truncated m p r b now) (truncated n p r b now)
+      emptied r true = changed_agree folder m n agree p r (record r.node { bytes = []; modified = now })
+      emptied r false = agree
+
+      by : (o : Option Resource) → Alike (SameAnswer folder) (opening_at m p options now o) (opening_at n p options now o)
+      by (Some r) = alike_if (SameAnswer folder) options.create_new options.create_new (Err Exists) (Err Exists) (only_file r >>= there m) (only_file r >>= there n) refl refl
+          (alike_on (SameAnswer folder) (only_file r) (only_file r) (there m) (there n) refl (λ r. (refl, emptied r options.truncate)))
+      by None = alike_if (SameAnswer folder) options.create options.create (find_folder m (parent p) >>= λ (_ : Resource). made m) (find_folder n (parent p) >>= λ (_ : Resource). made n) (find m p >>= found m) (find n p >>= found n) refl
+          (alike_on (SameAnswer folder) (find_folder m (parent p)) (find_folder n (parent p)) (λ (_ : Resource). made m) (λ (_ : Resource). made n) (find_folder_within folder m n agree (parent p) (parent_within folder p w))
+          (λ _. (ap (λ k. opened k options) agree.next, added_agree folder m n agree p (new_file [] now))))
+          (alike_on (SameAnswer folder) (find m p) (find n p) (found m) (found n) (find_within folder m n agree p (within folder p w)) (λ r. (refl, agree)))
 
   pub patch_alike : (p : Path) (patch : List (Bool × Property)) → Inside folder p → AlikeHere (λ m. patch_props m p patch)
   patch_alike p patch w = alike_on (SameAnswer folder) (find m p) (find n p)

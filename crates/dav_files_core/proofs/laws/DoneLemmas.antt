@@ -12,7 +12,8 @@ use Rattle.dav_files_core.specs.Finding.{find}
 use Rattle.dav_files_core.specs.Folders.{create_dir}
 use Rattle.dav_files_core.specs.Outcomes.{Outcome, ◌>>=◌, find_folder, added, touched, touched_at, new_folder}
 use Rattle.dav_files_core.specs.Renaming.{rename, relocated}
-use Rattle.dav_files_core.specs.Resources.{Resource, ResourceMap, at_path, IsResourceMap}
+use Rattle.dav_files_core.specs.Private.Entries.{IsBare}
+use Rattle.dav_files_core.specs.Resources.{Node, Resource, ResourceMap, at_path, IsResourceMap}
 use Rattle.dav_files_core.proofs.changes.AddedLemmas.{IsResourceMap-added}
 use Rattle.dav_files_core.proofs.changes.ChangedLemmas.{IsResourceMap-changed}
 use Rattle.dav_files_core.proofs.walks.FoundLemmas.{folder_there, found_there, parent-snoc}
@@ -47,6 +48,18 @@ module _ (m : ResourceMap) (q : Path) (now : ℕ) where
       by None e = is_map
       by (Some r) e = IsResourceMap-changed m is_map q r (record r.node { modified = now }) e (λ f. f) (is_map.bare q r e)
 
+-- ---- an entry that is new in its folder
+pub IsResourceMap-added_free : (m : ResourceMap) (p : Path) (node : Node) (f : Resource) → IsResourceMap m → at_path m p ≡ None → find_folder m (parent p) ≡ Ok f → IsBare node → IsResourceMap (added m p node)
+IsResourceMap-added_free m p node f is_map free folder bare = by (by_last p)
+  where
+    by : (p ≡ []) ⊎ ((q : Path) × (s : Segment) × (p ≡ q ++ (s ∷ []))) → IsResourceMap (added m p node)
+    by (inl empty) = none_some (at_path m p) is_map.root.0 free (ap (at_path m) empty ∙ is_map.root.1)
+    by (inr last) =
+        let above = folder_there m (parent p) f folder in
+        let here : at_path m last.0 ≡ Some f = ap (at_path m) (sym (ap parent last.2 ∙ parent-snoc last.0 last.1)) ∙ above.0 in
+        subst (λ p. IsResourceMap (added m p node)) (sym last.2)
+        (IsResourceMap-added m is_map last.0 last.1 f node here above.1 (ap (at_path m) (sym last.2) ∙ free) bare)
+
 -- ---- a folder that was made
 pub record MadeFolder (m m' : ResourceMap) (p : Path) (now : ℕ) : Type 0 where
   pub folder : (f : Resource) × (at_path m (parent p) ≡ Some f) × (f.node.kind ≡ Folder)
@@ -63,18 +76,6 @@ made_folder m m' p now h =
     by : (o : Option Resource) → ◌≡◌ {A = Outcome (Unit {0})} (if is_some o then Err Exists else Ok (tt, touched (added m p (new_folder now)) (parent p) now)) (Ok (tt, m')) → (o ≡ None) × (m' ≡ touched (added m p (new_folder now)) (parent p) now)
     by None h = (refl, left_is _ m' h)
     by (Some r) h = absurd (cc)
-
-pub IsResourceMap-create_dir : (m m' : ResourceMap) (p : Path) (now : ℕ) → IsResourceMap m → create_dir m p now ≡ Ok (tt, m') → IsResourceMap m'
-IsResourceMap-create_dir m m' p now is_map h =
-    let made = made_folder m m' p now h in
-    subst IsResourceMap (sym made.left) (IsResourceMap-touched (added m p (new_folder now)) (parent p) now (by made (by_last p)))
-  where
-    by : MadeFolder m m' p now → (p ≡ []) ⊎ ((q : Path) × (s : Segment) × (p ≡ q ++ (s ∷ []))) → IsResourceMap (added m p (new_folder now))
-    by made (inl empty) = none_some (at_path m p) is_map.root.0 made.free (ap (at_path m) empty ∙ is_map.root.1)
-    by made (inr last) =
-        let above : at_path m last.0 ≡ Some made.folder.0 = ap (at_path m) (sym (ap parent last.2 ∙ parent-snoc last.0 last.1)) ∙ made.folder.1 in
-        subst (λ p. IsResourceMap (added m p (new_folder now))) (sym last.2)
-        (IsResourceMap-added m is_map last.0 last.1 made.folder.0 (new_folder now) above made.folder.2 (ap (at_path m) (sym last.2) ∙ made.free) (λ _. refl))
 
 -- ---- an entry that was renamed
 pub record RenamedEntry (m m' : ResourceMap) (from to : Path) (now : ℕ) : Type 0 where

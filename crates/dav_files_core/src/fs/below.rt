@@ -1,6 +1,7 @@
 //! The law of commands below a folder.
 ghost use Rattle.std.specs.Prelude.{◌≡◌, ℕ, Bool, true, List, Option};
 ghost use Rattle.dav_path_core.specs.Fronts.{Path};
+ghost use Rattle.dav_files_core.specs.declared.fs.OpenOptions.{OpenOptions};
 ghost use Rattle.dav_files_core.specs.Below.{is_below, SeesBelow, TellsBelow};
 ghost use Rattle.dav_files_core.specs.Describing.{metadata};
 ghost use Rattle.dav_files_core.specs.Parts.{read_at, write_at};
@@ -8,6 +9,7 @@ ghost use Rattle.dav_files_core.specs.Putting.{put};
 ghost use Rattle.dav_files_core.specs.Copying.{copy};
 ghost use Rattle.dav_files_core.specs.Folders.{create_dir, remove};
 ghost use Rattle.dav_files_core.specs.Listing.{read_dir};
+ghost use Rattle.dav_files_core.specs.Opening.{opening};
 ghost use Rattle.dav_files_core.specs.Properties.{get_prop, get_props, patch_props};
 ghost use Rattle.dav_files_core.specs.Renaming.{rename};
 ghost use Rattle.dav_files_core.specs.Resources.{Property};
@@ -22,6 +24,7 @@ pub fn commands_see_below()
     ensures remove { (folder p : Path) (now : ℕ) → is_below folder p ≡ true → SeesBelow folder (λ m. remove m p now) }
     ensures rename { (folder from to : Path) (now : ℕ) → is_below folder from ≡ true → is_below folder to ≡ true → SeesBelow folder (λ m. rename m from to now) }
     ensures copy { (folder from to : Path) (now : ℕ) → is_below folder from ≡ true → is_below folder to ≡ true → SeesBelow folder (λ m. copy m from to now) }
+    ensures opening { (folder p : Path) (options : OpenOptions) (now : ℕ) → is_below folder p ≡ true → SeesBelow folder (λ m. opening m p options now) }
     ensures patch_props { (folder p : Path) (patch : List (Bool × Property)) → is_below folder p ≡ true → SeesBelow folder (λ m. patch_props m p patch) }
     ensures read_at { (folder p : Path) (at count : ℕ) → is_below folder p ≡ true → TellsBelow folder (λ m. read_at m p at count) }
     ensures read_dir { (folder p : Path) → is_below folder p ≡ true → TellsBelow folder (λ m. read_dir m p) }

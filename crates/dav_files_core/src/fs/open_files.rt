@@ -1,11 +1,12 @@
 //! The trait of an open file.
-ghost use Rattle.std.specs.Prelude.{◌≡◌, ℕ, Bool, List, [], Ok, IfOk, IfErr, OnOk, OnErr};
+ghost use Rattle.std.specs.Prelude.{◌≡◌, ℕ, Bool, List, [], Option, Ok, IfOk, IfErr, OnOk, OnErr};
 ghost use Rattle.dav_path_core.specs.Fronts.{Path};
 ghost use Rattle.dav_files_core.specs.declared.fs.OpenOptions.{OpenOptions};
+ghost use Rattle.dav_files_core.specs.Parts.{write_at};
 ghost use Rattle.dav_files_core.specs.Putting.{put};
 ghost use Rattle.dav_files_core.specs.Copying.{copy};
 ghost use Rattle.dav_files_core.specs.Folders.{create_dir, remove};
-ghost use Rattle.dav_files_core.specs.Following.{NeverAgain, TakesAlong};
+ghost use Rattle.dav_files_core.specs.Following.{NeverAgain, OthersStay, TakesAlong, TakesPlace};
 ghost use Rattle.dav_files_core.specs.OpenFiles.{open_metadata, read_bytes, seek, write_bytes};
 ghost use Rattle.dav_files_core.specs.Opening.{OpenFile, opening};
 ghost use Rattle.dav_files_core.specs.Properties.{patch_props};
@@ -84,16 +85,20 @@ pub trait DavFile<S> {
     }
 }
 
-/// The law of what is open: a rename takes what has a number at or below the source along, to the same place at or below the
-/// target. `IsResourceMap` of the map that is left is the clause `shape` of `MemFs::rename`.
+/// The law of what is open, where a rename is done: what has a number at or below the source stands at the same place at or below the
+/// target; what stood at the target is gone, unless it was the source; and what is elsewhere stays where it is, and as it is, but
+/// that the folders of source and target have another modified time.
 pub fn open_files_follow()
-    ensures { (m m' : ResourceMap) (from to : Path) (now : ℕ) → IsResourceMap m → IsResourceMap m' → rename m from to now ≡ Ok (tt, m') → TakesAlong m from to m' }
+    ensures along { (m m' : ResourceMap) (from to : Path) (now : ℕ) → IsResourceMap m → rename m from to now ≡ Ok (tt, m') → TakesAlong m from to m' }
+    ensures replaced { (m m' : ResourceMap) (from to : Path) (now : ℕ) → IsResourceMap m → rename m from to now ≡ Ok (tt, m') → TakesPlace m from to m' }
+    ensures others { (m m' : ResourceMap) (from to : Path) (now : ℕ) → IsResourceMap m → rename m from to now ≡ Ok (tt, m') → OthersStay m from to now m' }
 {}
 
 /// The law of numbers: a number whose entry is gone isn't given again, by any command; so what is open is not another entry, wherever
 /// that stands.
 pub fn numbers_are_given_once()
     ensures put { (m m' : ResourceMap) (p : Path) (bytes : List ℕ) (now : ℕ) → IsResourceMap m → put m p bytes now ≡ Ok (tt, m') → NeverAgain m m' }
+    ensures write_at { (m m' : ResourceMap) (p : Path) (at : Option ℕ) (bytes : List ℕ) → IsResourceMap m → write_at m p at bytes ≡ Ok (tt, m') → NeverAgain m m' }
     ensures create_dir { (m m' : ResourceMap) (p : Path) (now : ℕ) → IsResourceMap m → create_dir m p now ≡ Ok (tt, m') → NeverAgain m m' }
     ensures remove { (m m' : ResourceMap) (p : Path) (now : ℕ) → IsResourceMap m → remove m p now ≡ Ok (tt, m') → NeverAgain m m' }
     ensures rename { (m m' : ResourceMap) (from to : Path) (now : ℕ) → IsResourceMap m → rename m from to now ≡ Ok (tt, m') → NeverAgain m m' }

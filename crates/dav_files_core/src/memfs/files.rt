@@ -114,7 +114,8 @@ impl DavFileSystem for MemFs {
 
     /// As finding refuses; `Forbidden` for a file; `InsufficientStorage` where it is out of memory.
     fn read_dir(&self, path: &DavPath, meta: ReadDirMeta) -> FsResult<Vec<MemFsEntry>>
-        ensures { Tells (λ v. map member_of v.items) result (read_dir self.now (segments path.now.bytes)) }
+        ensures answer { Tells (λ v. map member_of v.items) result (read_dir self.now (segments path.now.bytes)) }
+        ensures shape { IsResourceMap self.now }
     {
         let id = self.number_of(path)?;
         if self.node_at(id).is_file() {
@@ -126,14 +127,16 @@ impl DavFileSystem for MemFs {
 
     /// It takes no memory.
     fn metadata(&self, path: &DavPath) -> FsResult<MemFsMeta>
-        ensures { TellsExactly meta_of result (metadata self.now (segments path.now.bytes)) }
+        ensures answer { TellsExactly meta_of result (metadata self.now (segments path.now.bytes)) }
+        ensures shape { IsResourceMap self.now }
     {
         self.metadata(path)
     }
 
     /// As `metadata`: there are no links.
     fn symlink_metadata(&self, path: &DavPath) -> FsResult<MemFsMeta>
-        ensures { TellsExactly meta_of result (metadata self.now (segments path.now.bytes)) }
+        ensures answer { TellsExactly meta_of result (metadata self.now (segments path.now.bytes)) }
+        ensures shape { IsResourceMap self.now }
     {
         self.metadata(path)
     }

@@ -1,4 +1,4 @@
-use Rattle.dav_files_core.proofs.laws.AgreeingLemmas.{inside, put_alike, write_alike, create_dir_alike, remove_alike, rename_alike, copy_alike, patch_alike, read_same, read_dir_same, metadata_same, get_props_same, get_prop_same}
+use Rattle.dav_files_core.proofs.laws.AgreeingLemmas.{inside, put_alike, write_alike, create_dir_alike, remove_alike, rename_alike, copy_alike, opening_alike, patch_alike, read_same, read_dir_same, metadata_same, get_props_same, get_prop_same}
 use Rattle.dav_files_core.proofs.fs.below.commands_see_below.Goals as goal
 
 pub returns-clause-put : goal.returns-clause-put
@@ -18,6 +18,9 @@ returns-clause-rename c = λ folder from to now f t m n agree. rename_alike fold
 
 pub returns-clause-copy : goal.returns-clause-copy
 returns-clause-copy c = λ folder from to now f t m n agree. copy_alike folder m n agree from to now (inside folder from f) (inside folder to t)
+
+pub returns-clause-opening : goal.returns-clause-opening
+returns-clause-opening c = λ folder p options now below m n agree. opening_alike folder m n agree p options now (inside folder p below)
 
 pub returns-clause-patch_props : goal.returns-clause-patch_props
 returns-clause-patch_props c = λ folder p patch below m n agree. patch_alike folder m n agree p patch (inside folder p below)

@@ -15,8 +15,8 @@ described-requires c =
     let here = found_number c.args.self.now names c.in_ok-id.id c.in_ok-id.ensures.found in
     members_known c.args.self.now names c.in_ok-members.members.items (c.in_ok-members.ensures names here.0 here.1 here.2)
 
-pub returns : goal.returns
-returns c =
+pub returns-clause-answer : goal.returns-clause-answer
+returns-clause-answer c =
     let names = segments c.args.path.now.bytes in
     let here = found_number c.args.self.now names c.in_ok-id.id c.in_ok-id.ensures.found in
     let node = c.node_at.ensures names here.0 here.1 here.2 in

@@ -16,7 +16,7 @@ use Rattle.dav_files_core.specs.Folders.{create_dir, remove}
 use Rattle.dav_files_core.specs.Listing.{read_dir}
 use Rattle.dav_files_core.specs.Properties.{patch_props, get_props, get_prop}
 use Rattle.dav_files_core.specs.Renaming.{rename}
-use Rattle.dav_files_core.proofs.laws.GrownLemmas.{put_grows, write_at_grows, create_dir_grows, remove_grows, rename_grows, copy_grows, patch_grows}
+use Rattle.dav_files_core.proofs.laws.GrownLemmas.{Grows, itself, put_grows, write_at_grows, create_dir_grows, remove_grows, rename_grows, copy_grows, patch_grows}
 use Rattle.dav_files_core.proofs.laws.AgreeingLemmas.{inside, parent_front, put_alike, write_alike, create_dir_alike, remove_alike, rename_alike, copy_alike, patch_alike, read_same, read_dir_same, metadata_same, get_props_same, get_prop_same}
 use Rattle.dav_resource_core.specs.Requests.{Command, Reply, Bytes, Entries, Meta, Patched, Props, Value}
 use Rattle.dav_resource_core.specs.Checks.{Check, IsApart, has, shallow, member, target, checks}
@@ -174,22 +174,30 @@ same_checks folder m n _ agree below = refl
 pub same_next : (m m' : ResourceMap) → m' ≡ m → m.next ≤ m'.next
 same_next m m' same = let next : m'.next ≡ m.next = ap (λ (m : ResourceMap). m.next) same in omega (arith, next)
 
+-- ---- what is done leaves a map that has grown
+
+unchanged : (m m' : ResourceMap) → m' ≡ m → Grows m m'
+unchanged m m' same = subst (Grows m) (sym same) (itself m)
+
+pub does_grows : (m m' : ResourceMap) (c : Command) (now : ℕ) (reply : Reply) → Does m c now (Ok reply) m' → Grows m m'
+does_grows m m' (Command.Put path bytes) now reply does = put_grows m path bytes now (tt, m') (change_left (put m path bytes now) reply m' does)
+does_grows m m' (Command.Write path at bytes) now reply does = write_at_grows m path at bytes (tt, m') (change_left (write_at m path at bytes) reply m' does)
+does_grows m m' (Command.Read path at count) now reply does = unchanged m m' (told_left m Bytes (read_at m path at count) reply m' does)
+does_grows m m' (Command.List path) now reply does = unchanged m m' (told_left m Entries (read_dir m path) reply m' does)
+does_grows m m' (Command.Meta path) now reply does = unchanged m m' (told_left m Meta (metadata m path) reply m' does)
+does_grows m m' (Command.MkCol path) now reply does = create_dir_grows m path now (tt, m') (change_left (create_dir m path now) reply m' does)
+does_grows m m' (Command.Remove path) now reply does = remove_grows m path now (tt, m') (change_left (remove m path now) reply m' does)
+does_grows m m' (Command.Move from to) now reply does = rename_grows m from to now (tt, m') (change_left (rename m from to now) reply m' does)
+does_grows m m' (Command.Copy from to) now reply does = copy_grows m from to now (tt, m') (change_left (copy m from to now) reply m' does)
+does_grows m m' (Command.PatchProps path patch) now reply does =
+    let done = patch_left (patch_props m path patch) reply m' does in patch_grows m path patch (done.0, m') done.1
+does_grows m m' (Command.GetProps path content) now reply does = unchanged m m' (told_left m Props (get_props m path content) reply m' does)
+does_grows m m' (Command.GetProp path wanted) now reply does = unchanged m m' (told_left m Value (get_prop m path wanted) reply m' does)
+does_grows m m' (Command.Lock path owner timeout shared deep) now reply does = absurd does
+does_grows m m' (Command.Unlock path token) now reply does = absurd does
+does_grows m m' (Command.Refresh path token timeout) now reply does = absurd does
+does_grows m m' (Command.Discover path) now reply does = absurd does
+does_grows m m' (Command.Check path deep) now reply does = absurd does
+
 pub does_next : (m m' : ResourceMap) (c : Command) (now : ℕ) (reply : Reply) → Does m c now (Ok reply) m' → m.next ≤ m'.next
-does_next m m' (Command.Put path bytes) now reply does = (put_grows m path bytes now (tt, m') (change_left (put m path bytes now) reply m' does)).on
-does_next m m' (Command.Write path at bytes) now reply does = (write_at_grows m path at bytes (tt, m') (change_left (write_at m path at bytes) reply m' does)).on
-does_next m m' (Command.Read path at count) now reply does = same_next m m' (told_left m Bytes (read_at m path at count) reply m' does)
-does_next m m' (Command.List path) now reply does = same_next m m' (told_left m Entries (read_dir m path) reply m' does)
-does_next m m' (Command.Meta path) now reply does = same_next m m' (told_left m Meta (metadata m path) reply m' does)
-does_next m m' (Command.MkCol path) now reply does = (create_dir_grows m path now (tt, m') (change_left (create_dir m path now) reply m' does)).on
-does_next m m' (Command.Remove path) now reply does = (remove_grows m path now (tt, m') (change_left (remove m path now) reply m' does)).on
-does_next m m' (Command.Move from to) now reply does = (rename_grows m from to now (tt, m') (change_left (rename m from to now) reply m' does)).on
-does_next m m' (Command.Copy from to) now reply does = (copy_grows m from to now (tt, m') (change_left (copy m from to now) reply m' does)).on
-does_next m m' (Command.PatchProps path patch) now reply does =
-    let done = patch_left (patch_props m path patch) reply m' does in (patch_grows m path patch (done.0, m') done.1).on
-does_next m m' (Command.GetProps path content) now reply does = same_next m m' (told_left m Props (get_props m path content) reply m' does)
-does_next m m' (Command.GetProp path wanted) now reply does = same_next m m' (told_left m Value (get_prop m path wanted) reply m' does)
-does_next m m' (Command.Lock path owner timeout shared deep) now reply does = absurd does
-does_next m m' (Command.Unlock path token) now reply does = absurd does
-does_next m m' (Command.Refresh path token timeout) now reply does = absurd does
-does_next m m' (Command.Discover path) now reply does = absurd does
-does_next m m' (Command.Check path deep) now reply does = absurd does
+does_next m m' c now reply does = (does_grows m m' c now reply does).on

@@ -5,6 +5,7 @@ use Rattle.std.proofs.lemmas.Bool.{or_left, or_parts, false≢true}
 use Rattle.std.proofs.lemmas.List.Elements.{filter_agree}
 use Rattle.std.proofs.lemmas.List.{take_more, map_push}
 use Rattle.dav_files_core.specs.Finding.{place}
+use Rattle.dav_files_core.specs.Resources.{IsResourceMap}
 use Rattle.dav_locks_core.specs.Lock.{Lock}
 use Rattle.dav_locks_core.specs.Ended.{StandIn}
 use Rattle.dav_locks_core.specs.Stale.{is_stale}
@@ -13,11 +14,12 @@ use Rattle.dav_path_core.proofs.lists.MemberLemmas.{In, In-Contains, Contains-In
 use Rattle.dav_path_core.proofs.lists.PlaceLemmas.{filter-filter}
 use Rattle.dav_locks_core.proofs.laws.StandInLemmas.{StandIn-trans, StandIn-filtered, StandIn-filter, In-StandIn}
 use Rattle.dav_resource_core.specs.Requests.{Request, Answer}
-use Rattle.dav_resource_core.specs.Step.{State, Same, Step, Run, start_of}
+use Rattle.dav_resource_core.specs.Step.{State, Same, Serves, Step, Run, start_of}
 use Rattle.dav_resource_core.specs.Naming.{names_as, names, unlocks, touches, touched_in}
-use Rattle.dav_resource_core.specs.Isolation.{EndsNamed, Isolated, AnyIsolated, UntouchedStand, UntouchedIsolated, EachStep, EachExclusive, EachEndsNamed, EachIsolated, EachAnyIsolated, KeepsLocks}
+use Rattle.dav_resource_core.specs.Isolation.{EndsNamed, Isolated, AnyIsolated, UntouchedStand, UntouchedIsolated, EachStep, EachExclusive, EachShape, EachEndsNamed, EachIsolated, EachAnyIsolated, KeepsLocks}
 use Rattle.dav_resource_core.proofs.AloneLaws.{run_alone}
-use Rattle.dav_resource_core.proofs.StepLaws.{Same-refl, Same-equal, step_exclusive, step_ends, step_isolated, step_any_isolated, step_stands, not-or}
+use Rattle.dav_resource_core.proofs.StepLaws.{Same-refl, Same-equal, step_exclusive, step_ends, step_isolated, step_any_isolated, step_stands, serves_moves, not-or}
+use Rattle.dav_resource_core.proofs.BelowLaws.{does_grows}
 
 -- ---- by each step
 
@@ -34,6 +36,29 @@ each_exclusive s s' (r ∷ rs) [] x = tt
 each_exclusive s s' (r ∷ rs) (a ∷ answers) x = λ mid step rest.
     let y : Exclusive mid.locks = step_exclusive s mid r a step x in
     (y, each_exclusive mid s' rs answers y)
+
+-- ---- the map's shape
+
+serves_shape : (s s' : State) (r : Request) (a : Answer) → Serves s r a s' → IsResourceMap s.map → IsResourceMap s'.map
+serves_shape s s' r a h is_map = elim (serves_moves s s' r a h) [
+  | inl same ↦ subst IsResourceMap (sym same) is_map
+  | inr done ↦ (does_grows s.map s'.map r.command r.now done.1.0 done.1.1).shape is_map
+]
+
+pub each_shape : (s s' : State) (rs : List Request) (answers : List Answer) → IsResourceMap s.map → EachShape s rs answers s'
+each_shape s s' [] answers is_map = tt
+each_shape s s' (r ∷ rs) [] is_map = tt
+each_shape s s' (r ∷ rs) (a ∷ answers) is_map = λ mid step rest.
+    let next : IsResourceMap mid.map = serves_shape (start_of r s) mid r a step is_map in
+    (next, each_shape mid s' rs answers next)
+
+pub run_shape : (s s' : State) (rs : List Request) (answers : List Answer) → IsResourceMap s.map → Run s rs answers s' → IsResourceMap s'.map
+run_shape s s' [] [] is_map h = subst IsResourceMap (sym h.map_is) is_map
+run_shape s s' [] (a ∷ answers) is_map h = absurd h
+run_shape s s' (r ∷ rs) [] is_map h = absurd h
+run_shape s s' (r ∷ rs) (a ∷ answers) is_map h = run_shape h.0 s' rs answers (serves_shape (start_of r s) h.0 r a h.1 is_map) h.2
+
+-- ---- what a lock's end takes
 
 pub each_ends_named : (s s' : State) (rs : List Request) (answers : List Answer) → EachEndsNamed s rs answers s'
 each_ends_named = each_step (λ s r a s'. EndsNamed s r s') step_ends
@@ -87,16 +112,22 @@ keeps_locks s s' rs answers x h = record {
 
 -- ---- a run goes on
 
-pub step_from : (s mid s' : State) (r : Request) (a : Answer) → Same s mid → Step mid r a s' → Step s r a s'
-step_from s mid s' r a h k = subst (λ m. Step m r a s') (Same-equal s mid h) k
+-- by another run
+pub run_join : (s mid s' : State) (rs more : List Request) (answers others : List Answer)
+    → Run s rs answers mid → Run mid more others s' → Run s (rs ++ more) (answers ++ others) s'
+run_join s mid s' [] more [] others h k = subst (λ m. Run m more others s') (Same-equal s mid h) k
+run_join s mid s' [] more (b ∷ answers) others h k = absurd h
+run_join s mid s' (q ∷ rs) more [] others h k = absurd h
+run_join s mid s' (q ∷ rs) more (b ∷ answers) others h k = (h.0, h.1, run_join h.0 mid s' rs more answers others h.2 k)
+
+-- a step is a run of one request
+pub run_one : (s s' : State) (r : Request) (a : Answer) → Step s r a s' → Run s (r ∷ []) (a ∷ []) s'
+run_one s s' r a h = (s', h, Same-refl s')
 
 -- by one step
 pub run_more : (s mid s' : State) (rs : List Request) (answers : List Answer) (r : Request) (a : Answer)
     → Run s rs answers mid → Step mid r a s' → Run s (rs ++ (r ∷ [])) (answers ++ (a ∷ [])) s'
-run_more s mid s' [] [] r a h k = (s', step_from s mid s' r a h k, Same-refl s')
-run_more s mid s' [] (b ∷ answers) r a h k = absurd h
-run_more s mid s' (q ∷ rs) [] r a h k = absurd h
-run_more s mid s' (q ∷ rs) (b ∷ answers) r a h k = (h.0, h.1, run_more h.0 mid s' rs answers r a h.2 k)
+run_more s mid s' rs answers r a h k = run_join s mid s' rs (r ∷ []) answers (a ∷ []) h (run_one mid s' r a k)
 
 -- a loop over requests and their answers, each seen as plain data
 pub run_on : {A B : Type 0} (request_of : A → Request) (answer_of : B → Answer) (s mid s' : State) (rs : List A) (i : ℕ) (answers new : List B) (r : A) (a : B)

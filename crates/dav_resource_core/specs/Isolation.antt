@@ -3,6 +3,7 @@
 use Rattle.std.specs.Prelude.{◌≡◌, ◌⊎◌, List, ◌∷◌, true, false, not, ◌||◌, filter, Contains}
 use Rattle.dav_path_core.specs.Fronts.{Path, is_front}
 use Rattle.dav_files_core.specs.Finding.{place}
+use Rattle.dav_files_core.specs.Resources.{IsResourceMap}
 use Rattle.dav_locks_core.specs.Lock.{Lock}
 use Rattle.dav_locks_core.specs.Locks.{covers}
 use Rattle.dav_locks_core.specs.Exclusive.{Exclusive}
@@ -60,6 +61,10 @@ EachStep Law s _ _ s' = Unit {0}
 -- in each state two locks that cover one path are both shared
 abbrev pub EachExclusive : State → List Request → List Answer → State → Type 0
 EachExclusive = EachStep (λ s r a s'. Exclusive s'.locks)
+
+-- each state has a resource map
+abbrev pub EachShape : State → List Request → List Answer → State → Type 0
+EachShape = EachStep (λ s r a s'. IsResourceMap s'.map)
 
 abbrev pub EachEndsNamed : State → List Request → List Answer → State → Type 0
 EachEndsNamed = EachStep (λ s r a s'. EndsNamed s r s')

@@ -9,7 +9,7 @@ ghost use Rattle.dav_locks_core.specs.Stale.{without_stale};
 ghost use Rattle.dav_resource_core.specs.Step.{State, Step, Run, Serves, start_of};
 ghost use Rattle.dav_resource_core.specs.Requests as plain;
 ghost use Rattle.dav_resource_core.specs.Alone.{HoldersAlone};
-ghost use Rattle.dav_resource_core.specs.Isolation.{EndsNamed, UntouchedStand, Isolated, AnyIsolated, EachExclusive, EachEndsNamed, EachIsolated, EachAnyIsolated, UntouchedIsolated, KeepsLocks};
+ghost use Rattle.dav_resource_core.specs.Isolation.{EndsNamed, UntouchedStand, Isolated, AnyIsolated, EachExclusive, EachShape, EachEndsNamed, EachIsolated, EachAnyIsolated, UntouchedIsolated, KeepsLocks};
 ghost use Rattle.dav_resource_core.specs.Stores.{start_stores, state_of};
 ghost use Rattle.dav_resource_core.specs.Served.{request_of, answer_of};
 
@@ -27,7 +27,7 @@ use dav_locks_core::ls::DavLockSystem;
 use dav_locks_core::memls::MemLs;
 use dav_path_core::errors::{FsError, FsResult};
 use files::serve_files;
-pub use laws::{commands_keep_to_folders, holders_are_let_in};
+pub use laws::{commands_keep_to_folders, holders_are_let_in, runs_join, runs_keep_shape};
 use rand_core::Rng;
 pub use requests::{Command, Refusal, Reply, Request};
 use std::alloc::{AllocError, Global};
@@ -147,6 +147,10 @@ impl Guarded {
         ensures exclusive { Exclusive self.old.locks × Exclusive self.new.locks }
         ensures each_exclusive { IfOk result (λ answers. EachExclusive (state_of self.old (R.stream rng.old))
             (map request_of requests.now) (map answer_of answers.items) (state_of self.new (R.stream rng.new))) }
+        // The map is a resource map, at the end and after each step.
+        ensures shape { IsResourceMap self.old.map × IsResourceMap self.new.map }
+        ensures each_shape { IfOk result (λ answers. EachShape (state_of self.old (R.stream rng.old))
+            (map request_of requests.now) (map answer_of answers.items) (state_of self.new (R.stream rng.new))) }
         // In each step a path under a lock changes only by a request that names such a lock, and a lock ends only where its
         // token is named or its moment has come.
         ensures each_isolated { IfOk result (λ answers. EachIsolated (state_of self.old (R.stream rng.old))
@@ -180,7 +184,7 @@ impl Guarded {
         ensures unchanged { OnErr result (self.new ≡ self.old) }
         ensures undrawn { OnErr result (R.stream rng.new ≡ R.stream rng.old) }
         ensures exclusive { Exclusive self.old.locks × Exclusive self.new.locks }
-        ensures shape { IsResourceMap self.new.map }
+        ensures shape { IsResourceMap self.old.map × IsResourceMap self.new.map }
     {
         let mut answers = Vec::with_capacity(self.alloc, requests.len())?;
         for request in requests {
@@ -191,13 +195,13 @@ impl Guarded {
     }
 }
 
-/// The law of every run of requests from the stores of a new `Guarded` (RFC 4918 sections 6 and 7): two locks that cover one path
-/// are both shared; a path under an exclusive lock changes only by a request that names its token under its principal; a
-/// lock ends only where its token is named or its moment has come. `Guarded::run` ensures that it is such a run.
+/// The law of every run of requests from stores in which two locks that cover one path are both shared, as they are in the stores of a
+/// new `Guarded` and in all that follow (RFC 4918 sections 6 and 7): that stays so; a path under an exclusive lock changes only by a
+/// request that names its token under its principal; a lock ends only where its token is named or its moment has come; and what no
+/// request touches stands. `Guarded::run` ensures that it is such a run, and `runs_join` that runs are one where they follow one another.
 pub fn runs_keep_locks()
-    ensures { (now : ℕ) (rng : Stream) (requests : List plain.Request) (answers : List plain.Answer) (end : State)
-        → Run (state_of (start_stores now) rng) requests answers end
-        → KeepsLocks (state_of (start_stores now) rng) requests answers end }
+    ensures { (start : State) (requests : List plain.Request) (answers : List plain.Answer) (end : State)
+        → Exclusive start.locks → Run start requests answers end → KeepsLocks start requests answers end }
 {}
 
 // Adds an answer where there is room for it.

@@ -85,7 +85,7 @@ only_file_is r x h = by r.node.kind refl h
     by File e h = let same : r ≡ x = cc in (sym same, ap (λ (r : Resource). r.node.kind) (sym same) ∙ e)
 
 module _ (m : ResourceMap) where
-  itself : Grows m m
+  pub itself : Grows m m
   itself = record { on = omega arith; known = λ q x h. inl (q, x, h, refl); shape = λ is_map. is_map }
 
   by_added : (p : Path) (node : Node) (f : Resource) → at_path m p ≡ None → find_folder m (parent p) ≡ Ok f → (IsResourceMap m → IsBare node) → Grows m (added m p node)

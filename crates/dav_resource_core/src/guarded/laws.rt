@@ -1,17 +1,18 @@
 //! Laws of commands on the map and of holders of locks, over plain data.
-ghost use Rattle.std.specs.Prelude.{◌≡◌, ℕ, List, ◌++◌, true, false, Result, Ok, Contains};
+ghost use Rattle.std.specs.Prelude.{◌≡◌, ℕ, List, [], ◌∷◌, ◌++◌, true, false, Result, Ok, Contains};
 ghost use Rattle.std.specs.List.{AllByRecursion, list_all};
 ghost use Rattle.dav_path_core.specs.declared.errors.FsError.{FsError};
 ghost use Rattle.dav_path_core.specs.Fronts.{Path};
 ghost use Rattle.dav_files_core.specs.Below.{is_below, AgreeBelow, SameBelow};
-ghost use Rattle.dav_files_core.specs.Resources.{ResourceMap};
+ghost use Rattle.dav_files_core.specs.Resources.{ResourceMap, IsResourceMap};
 ghost use Rattle.dav_locks_core.specs.Exclusive.{Exclusive};
 ghost use Rattle.dav_locks_core.specs.Lock.{Lock};
 ghost use Rattle.dav_resource_core.specs.Alone.{paths, answers_under, Alone, IsLetIn, Lasts};
 ghost use Rattle.dav_resource_core.specs.Checks.{checks, IsApart};
+ghost use Rattle.dav_resource_core.specs.Isolation.{EachShape};
 ghost use Rattle.dav_resource_core.specs.Requests as plain;
 ghost use Rattle.dav_resource_core.specs.ResourceStep.{Does};
-ghost use Rattle.dav_resource_core.specs.Step.{State};
+ghost use Rattle.dav_resource_core.specs.Step.{State, Step, Run};
 
 /// The law of the resource step at a folder (RFC 4918 section 5.2). What stands at and below it decides what a command with all its paths below
 /// it answers, and what that leaves there, numbers included. A command none of whose checks reaches at or below it leaves
@@ -29,4 +30,20 @@ pub fn commands_keep_to_folders()
 pub fn holders_are_let_in()
     ensures { (s : State) (requests : List plain.Request) (answers : List plain.Answer) (lock : Lock) → Exclusive s.locks → Contains s.locks lock
         → lock.shared ≡ false → lock.deep ≡ true → Lasts requests lock → Alone s requests answers lock → AllByRecursion IsLetIn (answers_under lock requests answers) }
+{}
+
+/// The law of runs that follow one another: from the state that one run leaves the next goes on, and both are one run; and one step is a
+/// run. So who calls `Guarded::apply` request by request has every law of runs over the whole life of the stores.
+pub fn runs_join()
+    ensures join { (s mid end : State) (first second : List plain.Request) (early late : List plain.Answer)
+        → Run s first early mid → Run mid second late end → Run s (first ++ second) (early ++ late) end }
+    ensures step { (s end : State) (request : plain.Request) (answer : plain.Answer) → Step s request answer end → Run s (request ∷ []) (answer ∷ []) end }
+{}
+
+/// The law of the map's shape (RFC 4918 section 5): a run that starts from a resource map has one in each of its states, and at its end.
+pub fn runs_keep_shape()
+    ensures each { (s : State) (requests : List plain.Request) (answers : List plain.Answer) (end : State)
+        → IsResourceMap s.map → Run s requests answers end → EachShape s requests answers end }
+    ensures end { (s : State) (requests : List plain.Request) (answers : List plain.Answer) (end : State)
+        → IsResourceMap s.map → Run s requests answers end → IsResourceMap end.map }
 {}

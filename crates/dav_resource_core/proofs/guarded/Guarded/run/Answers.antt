@@ -1,10 +1,13 @@
 use Rattle.std.proofs.lemmas.Result.{IfOk-weaker}
 use Rattle.dav_resource_core.proofs.AloneLaws.{run_alone}
-use Rattle.dav_resource_core.proofs.RunLaws.{each_exclusive, each_ends_named, each_isolated, each_any_isolated, run_stand, run_isolated}
+use Rattle.dav_resource_core.proofs.RunLaws.{each_exclusive, each_shape, each_ends_named, each_isolated, each_any_isolated, run_stand, run_isolated}
 use Rattle.dav_resource_core.proofs.guarded.Guarded.run.Goals as goal
 
 pub returns-clause-each_exclusive : goal.returns-clause-each_exclusive
 returns-clause-each_exclusive g c = IfOk-weaker c.run_all.result _ _ (λ answers ran. each_exclusive _ _ _ _ c.run_all.ensures.exclusive.0) c.run_all.ensures.run
+
+pub returns-clause-each_shape : goal.returns-clause-each_shape
+returns-clause-each_shape g c = IfOk-weaker c.run_all.result _ _ (λ answers ran. each_shape _ _ _ _ c.run_all.ensures.shape.0) c.run_all.ensures.run
 
 pub returns-clause-each_isolated : goal.returns-clause-each_isolated
 returns-clause-each_isolated g c = IfOk-weaker c.run_all.result _ _ (λ answers ran. each_isolated _ _ _ _) c.run_all.ensures.run

@@ -1,4 +1,5 @@
 pub mod CheckLemmas
+pub mod DiscoveredLemmas
 pub mod EndedLemmas
 pub mod ExclusiveLemmas
 pub mod FoundLemmas

@@ -1,8 +1,8 @@
 -- Requests under an exclusive deep lock are answered as if no others were there.
 use Rattle.std.proofs.Common.{◌≡◌, inl, inr, ℕ, ◌≤◌, Bool, true, false, not, ◌||◌, List, [], ◌∷◌, ◌++◌, cond, is_some, Ok, Err, refl, sym, ap, ◌∙◌, subst, arith}
 use Rattle.std.specs.Prelude.{Contains}
-use Rattle.std.specs.List.{AllByRecursion, list_all}
-use Rattle.std.proofs.lemmas.Bool.{and_from, and_parts, cases_Bool, false≢true, false_from_ne_true, or_left, or_right}
+use Rattle.std.specs.List.{AllByRecursion}
+use Rattle.std.proofs.lemmas.Bool.{and_from, and_parts, cases_Bool, false≢true, true≢false, false_from_ne_true, or_left, or_right}
 use Rattle.std.proofs.lemmas.List.Elements.{filter_passes, recursion_from_All}
 use Rattle.dav_path_core.specs.Fronts.{Path, is_front, is_same_path}
 use Rattle.dav_path_core.proofs.paths.FrontLemmas.{is_front-refl}
@@ -11,29 +11,35 @@ use Rattle.dav_files_core.specs.Below.{is_below, SameBelow, AgreeBelow}
 use Rattle.dav_files_core.proofs.laws.AgreeingLemmas.{not_front}
 use Rattle.dav_files_core.proofs.paths.FrontLemmas.{behind_append}
 use Rattle.dav_locks_core.specs.Lock.{Lock}
-use Rattle.dav_locks_core.specs.Locks.{lock_path, is_at_or_below, without_below}
+use Rattle.dav_locks_core.specs.Locks.{lock_path, covers, discovered, is_at_or_below, without_below}
 use Rattle.dav_locks_core.specs.Stale.{is_stale, without_stale}
 use Rattle.dav_locks_core.specs.Exclusive.{Exclusive}
 use Rattle.dav_path_core.proofs.lists.EachLemmas.{all_filter}
 use Rattle.dav_path_core.proofs.lists.MemberLemmas.{In, In-Contains, Contains-In, In-filter}
+use Rattle.dav_locks_core.proofs.laws.DiscoveredLemmas.{covers_alone, same_discovered}
 use Rattle.dav_locks_core.proofs.laws.ExclusiveLemmas.{Exclusive-filter, held_above}
 use Rattle.dav_locks_core.proofs.laws.StandInLemmas.{In-StandIn}
-use Rattle.dav_resource_core.specs.Requests.{Command, Request, Reply, Fs, Locked, NoLock, OutOfMemory, Answer}
-use Rattle.dav_resource_core.specs.Checks.{Check, caller_of, checks, has, refusing, MayLack}
+use Rattle.dav_resource_core.specs.Requests.{Command, Request, Reply, Locks, Fs, Locked, NoLock, OutOfMemory, Answer}
+use Rattle.dav_resource_core.specs.Checks.{Check, caller_of, checks, has, refusing}
 use Rattle.dav_resource_core.specs.ResourceStep.{is_on_map, Does, locks_left}
 use Rattle.dav_resource_core.specs.Naming.{names_as, names, unlocks, refreshes}
 use Rattle.dav_resource_core.specs.Step.{State, IsState, Same, conflicts, conflicts_by, FindsNone, MayLackMemory, Effect, Serves, start_of, Run}
-use Rattle.dav_resource_core.specs.Alone.{paths, under, requests_under, answers_under, NamedUnder, Lasts, IsLetIn, raised, RaisedRun, Alone, HoldersAlone}
+use Rattle.dav_resource_core.specs.Alone.{is_within, under, requests_under, answers_under, NamedUnder, Lasts, IsLetIn, raised, RaisedRun, Alone, HoldersAlone}
 use Rattle.dav_resource_core.proofs.StepLaws.{Same-refl, Same-equal, outcome, untouched, serves_exclusive, serves_stands, serves_isolated, serves_moves}
 use Rattle.dav_resource_core.proofs.BelowLaws.{does_below, does_refused, checks_below, same_checks, same_next, does_next}
 
--- ---- steps of a command on the map
+-- ---- steps of a command within a folder
 
-conflicts_on_map : (c : Command) (s : State) (r : Request) → is_on_map c ≡ true → conflicts_by c s r ≡ refusing s.locks (caller_of r) (checks s.map c)
-conflicts_on_map (Command.Lock path owner timeout shared deep) s r on = absurd (false≢true on)
-conflicts_on_map _ s r on = refl
+conflicts_within : (folder : Path) (c : Command) (s : State) (r : Request) → is_within folder c ≡ true → conflicts_by c s r ≡ refusing s.locks (caller_of r) (checks s.map c)
+conflicts_within folder (Command.Lock path owner timeout shared deep) s r within = absurd (false≢true within)
+conflicts_within folder _ s r within = refl
 
--- what it does where it meets no conflict
+finds_within : (folder : Path) (c : Command) (locks : List Lock) → is_within folder c ≡ true → ¬ FindsNone c locks
+finds_within folder (Command.Unlock path token) locks within h = false≢true within
+finds_within folder (Command.Refresh path token timeout) locks within h = false≢true within
+finds_within folder _ locks within h = h
+
+-- what one on the map does where it meets no conflict
 abbrev Done : Command → State → Request → Reply → State → Type 0
 Done c s r reply s' = Does s.map c r.now (Ok reply) s'.map × IsState s' s'.map (locks_left c s.locks) s.rng
 
@@ -44,17 +50,6 @@ effect_on_map (Command.Refresh path token timeout) s s' r reply on = absurd (fal
 effect_on_map (Command.Discover path) s s' r reply on = absurd (false≢true on)
 effect_on_map (Command.Check path deep) s s' r reply on = absurd (false≢true on)
 effect_on_map _ s s' r reply on = refl
-
-lacks_on_map : (c : Command) (s : State) (r : Request) → is_on_map c ≡ true → MayLackMemory c s r ≡ MayLack s.locks (caller_of r) (checks s.map c)
-lacks_on_map (Command.Lock path owner timeout shared deep) s r on = absurd (false≢true on)
-lacks_on_map (Command.Refresh path token timeout) s r on = absurd (false≢true on)
-lacks_on_map (Command.Discover path) s r on = absurd (false≢true on)
-lacks_on_map _ s r on = refl
-
-finds_on_map : (c : Command) (locks : List Lock) → is_on_map c ≡ true → ¬ FindsNone c locks
-finds_on_map (Command.Unlock path token) locks on h = false≢true on
-finds_on_map (Command.Refresh path token timeout) locks on h = false≢true on
-finds_on_map _ locks on h = h
 
 serves_next : (s s' : State) (r : Request) (a : Answer) → Serves s r a s' → s.map.next ≤ s'.map.next
 serves_next s s' r a h = elim (serves_moves s s' r a h) [
@@ -84,8 +79,8 @@ module _ (l : Lock) (own : l.shared ≡ false) (deep : l.deep ≡ true) where
     lock = In-filter (λ k. not (is_at_or_below k p)) locks l st.lock (ap not (not_front (lock_path l) p below));
   }
 
-  stands_left : (c : Command) (locks : List Lock) → list_all (is_below (lock_path l)) (paths c) ≡ true → Stands locks → Stands (locks_left c locks)
-  stands_left (Command.Remove path) locks below st = stands_apart path locks (and_parts (is_below (lock_path l) path) true below).0 st
+  stands_left : (c : Command) (locks : List Lock) → is_within (lock_path l) c ≡ true → Stands locks → Stands (locks_left c locks)
+  stands_left (Command.Remove path) locks below st = stands_apart path locks below st
   stands_left (Command.Move from to) locks below st = stands_apart from locks (and_parts (is_below (lock_path l) from) _ below).0 st
   stands_left _ locks below st = st
 
@@ -100,31 +95,56 @@ module _ (l : Lock) (own : l.shared ≡ false) (deep : l.deep ≡ true) where
 
   record IsUnder (r : Request) : Type 0 where
     named : names_as r l ≡ true
-    on : is_on_map r.command ≡ true
-    below : list_all (is_below (lock_path l)) (paths r.command) ≡ true
+    within : is_within (lock_path l) r.command ≡ true
 
   is_under : (r : Request) → under r l ≡ true → IsUnder r
-  is_under r h =
-      let parts = and_parts (names_as r l) _ h in
-      let more = and_parts (is_on_map r.command) _ parts.1 in
-      record { named = parts.0; on = more.0; below = more.1 }
+  is_under r h = let parts = and_parts (names_as r l) _ h in record { named = parts.0; within = parts.1 }
 
   -- it meets no conflict
   free_under : (s : State) (r : Request) → IsUnder r → Stands s.locks → refusing s.locks (caller_of r) (checks s.map r.command) ≡ []
-  free_under s r u st = refusing_none s.locks r st u.named (checks s.map r.command) (checks_below (lock_path l) s.map r.command u.on u.below)
+  free_under s r u st = refusing_none s.locks r st u.named (checks s.map r.command) (checks_below (lock_path l) s.map r.command u.within)
 
   no_conflict : (s : State) (r : Request) → IsUnder r → Stands s.locks → conflicts s r ≡ []
-  no_conflict s r u st = conflicts_on_map r.command s r u.on ∙ free_under s r u st
+  no_conflict s r u st = conflicts_within (lock_path l) r.command s r u.within ∙ free_under s r u st
 
   no_lock_shown : (s : State) (r : Request) (k : Lock) → IsUnder r → Stands s.locks → ¬ Contains (conflicts s r) k
   no_lock_shown s r k u st shown = In-Contains [] k (subst (λ locks. Contains locks k) (no_conflict s r u st) shown)
 
+  -- what is discovered at or below its path is the lock alone
+  discovers_same : (locks others : List Lock) (p : Path) → is_front (lock_path l) p ≡ true → Stands locks → Stands others → discovered others p ≡ discovered locks p
+  discovers_same locks others p front st too =
+      let here : covers l p ≡ true = or_right (is_same_path (lock_path l) p) _ (and_from l.deep (is_front (lock_path l) p) deep front) in
+      same_discovered locks others p (covers_alone others l p too.exclusive too.lock own here ∙ sym (covers_alone locks l p st.exclusive st.lock own here))
+
+  -- a command within the folder that is not on the map only tells, and tells the same of two lists in which the lock stands
+  tells_too : (c : Command) (s s' t : State) (r : Request) (reply : Reply) → is_on_map c ≡ false → is_within (lock_path l) c ≡ true → Stands s.locks → Stands t.locks
+      → Effect c s r reply s' → Effect c t r reply t × Same s s'
+  tells_too (Command.Lock path owner timeout shared deep) s s' t r reply off within st too h = absurd (false≢true within)
+  tells_too (Command.Unlock path token) s s' t r reply off within st too h = absurd (false≢true within)
+  tells_too (Command.Refresh path token timeout) s s' t r reply off within st too h = absurd (false≢true within)
+  tells_too (Command.Discover path) s s' t r reply off within st too h =
+      ((h.0 ∙ ap Locks (sym (discovers_same s.locks t.locks path within st too)), Same-refl t), h.1)
+  tells_too (Command.Check path deep) s s' t r reply off within st too h = ((h.0, Same-refl t), h.1)
+  tells_too _ s s' t r reply off within st too h = absurd (true≢false off)
+
+  -- out of memory comes in both as well
+  lacks_too : (c : Command) (s t : State) (r : Request) → is_within (lock_path l) c ≡ true → refusing s.locks (caller_of r) (checks s.map c) ≡ [] → Stands s.locks → Stands t.locks
+      → MayLackMemory c s r → MayLackMemory c t r
+  lacks_too (Command.Lock path owner timeout shared deep) s t r within free st too h = absurd (false≢true within)
+  lacks_too (Command.Unlock path token) s t r within free st too h = absurd (false≢true within)
+  lacks_too (Command.Refresh path token timeout) s t r within free st too h = absurd (false≢true within)
+  lacks_too (Command.Discover path) s t r within free st too h = λ e. h (sym (discovers_same s.locks t.locks path within st too) ∙ e)
+  lacks_too _ s t r within free st too h = absurd (h free)
+
   stands_after : (s s' : State) (r : Request) (a : Answer) → IsUnder r → Serves s r a s' → Stands s.locks → Stands s'.locks
   stands_after s s' r a u h st = elim (outcome s s' r a h) [
     | inl same ↦ subst Stands (sym same.locks_are) st
-    | inr done ↦
-        let left : Done r.command s r done.0 s' = subst (λ (T : Type 0). T) (effect_on_map r.command s s' r done.0 u.on) done.3 in
-        subst Stands (sym left.1.locks_are) (stands_left r.command s.locks u.below st)
+    | inr done ↦ elim (cases_Bool (is_on_map r.command)) [
+      | inl on ↦
+          let left : Done r.command s r done.0 s' = subst (λ (T : Type 0). T) (effect_on_map r.command s s' r done.0 on) done.3 in
+          subst Stands (sym left.1.locks_are) (stands_left r.command s.locks u.within st)
+      | inr off ↦ let told = tells_too r.command s s' s r done.0 off u.within st st done.3 in subst Stands (sym told.1.locks_are) st
+    ]
   ]
 
   -- so no answer to it shows a lock
@@ -155,33 +175,37 @@ module _ (l : Lock) (own : l.shared ≡ false) (deep : l.deep ≡ true) where
 
   -- so it is answered in the other state, too, and the states agree afterwards
   serves_lone : (s s' t : State) (r : Request) (a : Answer) → IsUnder r → Lone s t → Serves s r a s' → ServedToo t r a s'
-  serves_lone s s' t r (Ok reply) u lone h =
-      let c : Command = r.command in
-      let done : Done c s r reply s' = subst (λ (T : Type 0). T) (effect_on_map c s s' r reply u.on) h.1 in
-      let does = does_below (lock_path l) s.map t.map s'.map c r.now (Ok reply) lone.agree u.below done.0 in
-      let t' : State = record { map = does.0; locks = locks_left c t.locks; rng = t.rng } in (
-        t',
-        (no_conflict t r u lone.alone, subst (λ (T : Type 0). T) (sym (effect_on_map c t t' r reply u.on)) (does.1, record { map_is = refl; locks_are = refl; rng_is = refl })),
-        record {
-          agree = does.2;
-          here = stands_after s s' r (Ok reply) u h lone.here;
-          alone = stands_left c t.locks u.below lone.alone;
-        },
-      )
+  serves_lone s s' t r (Ok reply) u lone h = elim (cases_Bool (is_on_map r.command)) [
+    | inl on ↦
+        let c : Command = r.command in
+        let done : Done c s r reply s' = subst (λ (T : Type 0). T) (effect_on_map c s s' r reply on) h.1 in
+        let does = does_below (lock_path l) s.map t.map s'.map c r.now (Ok reply) lone.agree u.within done.0 in
+        let t' : State = record { map = does.0; locks = locks_left c t.locks; rng = t.rng } in (
+          t',
+          (no_conflict t r u lone.alone, subst (λ (T : Type 0). T) (sym (effect_on_map c t t' r reply on)) (does.1, record { map_is = refl; locks_are = refl; rng_is = refl })),
+          record {
+            agree = does.2;
+            here = stands_after s s' r (Ok reply) u h lone.here;
+            alone = stands_left c t.locks u.within lone.alone;
+          },
+        )
+    | inr off ↦
+        let told = tells_too r.command s s' t r reply off u.within lone.here lone.alone h.1 in
+        refused_too s s' t r (Ok reply) lone told.1 (no_conflict t r u lone.alone, told.0)
+  ]
   serves_lone s s' t r (Err (Fs e)) u lone h = refused_too s s' t r (Err (Fs e)) lone h.1 (
     elim h.0 [
       | inl full ↦ inl full
       | inr refused ↦
-          let does = does_below (lock_path l) s.map t.map s.map r.command r.now (Err e) lone.agree u.below refused.2 in
+          let does = does_below (lock_path l) s.map t.map s.map r.command r.now (Err e) lone.agree u.within refused.2 in
           inr (refused.0, no_conflict t r u lone.alone, subst (Does t.map r.command r.now (Err e)) (does_refused t.map does.0 r.command r.now e does.1) does.1)
     ],
     Same-refl t,
   )
   serves_lone s s' t r (Err (Locked k)) u lone h = absurd (no_lock_shown s r k u lone.here h.0)
-  serves_lone s s' t r (Err NoLock) u lone h = absurd (finds_on_map r.command s.locks u.on h.0)
+  serves_lone s s' t r (Err NoLock) u lone h = absurd (finds_within (lock_path l) r.command s.locks u.within h.0)
   serves_lone s s' t r (Err OutOfMemory) u lone h =
-      let lacks : MayLack s.locks (caller_of r) (checks s.map r.command) = subst (λ (T : Type 0). T) (lacks_on_map r.command s r u.on) h.0 in
-      absurd (lacks (free_under s r u lone.here))
+      refused_too s s' t r (Err OutOfMemory) lone h.1 (lacks_too r.command s t r u.within (free_under s r u lone.here) lone.here lone.alone h.0, Same-refl t)
 
   -- ---- all requests
 

@@ -1,7 +1,7 @@
 -- The resource step below a folder and apart from it, over all commands.
 use Rattle.std.proofs.Common.{◌≡◌, ℕ, ◌≤◌, Bool, true, false, List, [], ◌∷◌, ◌++◌, is_some, Result, Ok, Err, refl, sym, ap, ◌∙◌, subst, arith}
 use Rattle.std.specs.Prelude.{if◌then◌else◌}
-use Rattle.std.specs.List.{AllByRecursion, list_all}
+use Rattle.std.specs.List.{AllByRecursion}
 use Rattle.std.proofs.lemmas.Bool.{and_parts, false≢true}
 use Rattle.dav_path_core.specs.declared.errors.FsError.{FsError}
 use Rattle.dav_path_core.specs.Fronts.{Path, is_front}
@@ -17,11 +17,11 @@ use Rattle.dav_files_core.specs.Listing.{read_dir}
 use Rattle.dav_files_core.specs.Properties.{patch_props, get_props, get_prop}
 use Rattle.dav_files_core.specs.Renaming.{rename}
 use Rattle.dav_files_core.proofs.laws.GrownLemmas.{Grows, itself, put_grows, write_at_grows, create_dir_grows, remove_grows, rename_grows, copy_grows, patch_grows}
-use Rattle.dav_files_core.proofs.laws.AgreeingLemmas.{inside, parent_front, put_alike, write_alike, create_dir_alike, remove_alike, rename_alike, copy_alike, patch_alike, read_same, read_dir_same, metadata_same, get_props_same, get_prop_same}
+use Rattle.dav_files_core.proofs.laws.AgreeingLemmas.{inside, within_front, parent_front, put_alike, write_alike, create_dir_alike, remove_alike, rename_alike, copy_alike, patch_alike, read_same, read_dir_same, metadata_same, get_props_same, get_prop_same}
 use Rattle.dav_resource_core.specs.Requests.{Command, Reply, Bytes, Entries, Meta, Patched, Props, Value}
 use Rattle.dav_resource_core.specs.Checks.{Check, IsApart, has, shallow, member, target, checks}
-use Rattle.dav_resource_core.specs.ResourceStep.{is_on_map, DoesAs, changes, patches, tells, Does}
-use Rattle.dav_resource_core.specs.Alone.{paths}
+use Rattle.dav_resource_core.specs.ResourceStep.{DoesAs, changes, patches, tells, Does}
+use Rattle.dav_resource_core.specs.Alone.{is_within}
 use Rattle.dav_resource_core.proofs.Frame.{change_left, told_left, patch_left, framed}
 
 -- ---- the law: what is below decides
@@ -67,44 +67,36 @@ module _ (folder : Path) where
     told_too : {A : Type 0} (tell : A → Reply) (o u : Result A FsError) (m' : ResourceMap) (result : Result Reply FsError) → u ≡ o → DoesAs (tells m tell o) m result m' → DoneToo (DoesAs (tells n tell u) n result) m'
     told_too tell o u m' result e does = does_too (tells m tell o) (tells n tell u) m n m' result agree (tells_alike m n tell o u agree e) does
 
--- all of a list
-one_below : (folder p : Path) → list_all (is_below folder) (p ∷ []) ≡ true → is_below folder p ≡ true
-one_below folder p h = (and_parts (is_below folder p) true h).0
-
-both_below : (folder p q : Path) → list_all (is_below folder) (p ∷ q ∷ []) ≡ true → (is_below folder p ≡ true) × (is_below folder q ≡ true)
-both_below folder p q h =
-    let parts = and_parts (is_below folder p) (list_all (is_below folder) (q ∷ [])) h in (parts.0, one_below folder q parts.1)
-
--- where two maps agree at and below a folder, a command with all its paths below it has the same reply in both, and they agree afterwards
-pub does_below : (folder : Path) (m n m' : ResourceMap) (c : Command) (now : ℕ) (result : Result Reply FsError) → AgreeBelow folder m n → list_all (is_below folder) (paths c) ≡ true
+-- where two maps agree at and below a folder, a command within it has the same reply in both, and they agree afterwards
+pub does_below : (folder : Path) (m n m' : ResourceMap) (c : Command) (now : ℕ) (result : Result Reply FsError) → AgreeBelow folder m n → is_within folder c ≡ true
     → Does m c now result m' → (n' : ResourceMap) × Does n c now result n' × AgreeBelow folder m' n'
 does_below folder m n m' (Command.Put path bytes) now result agree below does =
-    changed_too folder m n agree (put m path bytes now) (put n path bytes now) m' result (put_alike folder m n agree path bytes now (inside folder path (one_below folder path below))) does
+    changed_too folder m n agree (put m path bytes now) (put n path bytes now) m' result (put_alike folder m n agree path bytes now (inside folder path below)) does
 does_below folder m n m' (Command.Write path at bytes) now result agree below does =
-    changed_too folder m n agree (write_at m path at bytes) (write_at n path at bytes) m' result (write_alike folder m n agree path at bytes (inside folder path (one_below folder path below))) does
+    changed_too folder m n agree (write_at m path at bytes) (write_at n path at bytes) m' result (write_alike folder m n agree path at bytes (within_front folder path below)) does
 does_below folder m n m' (Command.Read path at count) now result agree below does =
-    told_too folder m n agree Bytes (read_at m path at count) (read_at n path at count) m' result (read_same folder m n agree path at count (inside folder path (one_below folder path below))) does
+    told_too folder m n agree Bytes (read_at m path at count) (read_at n path at count) m' result (read_same folder m n agree path at count (within_front folder path below)) does
 does_below folder m n m' (Command.List path) now result agree below does =
-    told_too folder m n agree Entries (read_dir m path) (read_dir n path) m' result (read_dir_same folder m n agree path (inside folder path (one_below folder path below))) does
+    told_too folder m n agree Entries (read_dir m path) (read_dir n path) m' result (read_dir_same folder m n agree path (within_front folder path below)) does
 does_below folder m n m' (Command.Meta path) now result agree below does =
-    told_too folder m n agree Meta (metadata m path) (metadata n path) m' result (metadata_same folder m n agree path (inside folder path (one_below folder path below))) does
+    told_too folder m n agree Meta (metadata m path) (metadata n path) m' result (metadata_same folder m n agree path (within_front folder path below)) does
 does_below folder m n m' (Command.MkCol path) now result agree below does =
-    changed_too folder m n agree (create_dir m path now) (create_dir n path now) m' result (create_dir_alike folder m n agree path now (inside folder path (one_below folder path below))) does
+    changed_too folder m n agree (create_dir m path now) (create_dir n path now) m' result (create_dir_alike folder m n agree path now (inside folder path below)) does
 does_below folder m n m' (Command.Remove path) now result agree below does =
-    changed_too folder m n agree (remove m path now) (remove n path now) m' result (remove_alike folder m n agree path now (inside folder path (one_below folder path below))) does
+    changed_too folder m n agree (remove m path now) (remove n path now) m' result (remove_alike folder m n agree path now (inside folder path below)) does
 does_below folder m n m' (Command.Move from to) now result agree below does =
-    let both = both_below folder from to below in
+    let both = and_parts _ (is_below folder to) below in
     changed_too folder m n agree (rename m from to now) (rename n from to now) m' result (rename_alike folder m n agree from to now (inside folder from both.0) (inside folder to both.1)) does
 does_below folder m n m' (Command.Copy from to) now result agree below does =
-    let both = both_below folder from to below in
-    changed_too folder m n agree (copy m from to now) (copy n from to now) m' result (copy_alike folder m n agree from to now (inside folder from both.0) (inside folder to both.1)) does
+    let both = and_parts _ (is_below folder to) below in
+    changed_too folder m n agree (copy m from to now) (copy n from to now) m' result (copy_alike folder m n agree from to now (within_front folder from both.0) (inside folder to both.1)) does
 does_below folder m n m' (Command.PatchProps path patch) now result agree below does =
     does_too folder (patches (patch_props m path patch)) (patches (patch_props n path patch)) m n m' result agree
-    (patches_alike folder (patch_props m path patch) (patch_props n path patch) (patch_alike folder m n agree path patch (inside folder path (one_below folder path below)))) does
+    (patches_alike folder (patch_props m path patch) (patch_props n path patch) (patch_alike folder m n agree path patch (within_front folder path below))) does
 does_below folder m n m' (Command.GetProps path content) now result agree below does =
-    told_too folder m n agree Props (get_props m path content) (get_props n path content) m' result (get_props_same folder m n agree path content (inside folder path (one_below folder path below))) does
+    told_too folder m n agree Props (get_props m path content) (get_props n path content) m' result (get_props_same folder m n agree path content (within_front folder path below)) does
 does_below folder m n m' (Command.GetProp path wanted) now result agree below does =
-    told_too folder m n agree Value (get_prop m path wanted) (get_prop n path wanted) m' result (get_prop_same folder m n agree path wanted (inside folder path (one_below folder path below))) does
+    told_too folder m n agree Value (get_prop m path wanted) (get_prop n path wanted) m' result (get_prop_same folder m n agree path wanted (within_front folder path below)) does
 does_below folder m n m' (Command.Lock path owner timeout shared deep) now result agree below does = absurd does
 does_below folder m n m' (Command.Unlock path token) now result agree below does = absurd does
 does_below folder m n m' (Command.Refresh path token timeout) now result agree below does = absurd does
@@ -126,7 +118,7 @@ pub does_apart : (folder : Path) (m m' : ResourceMap) (c : Command) (now : ℕ) 
 does_apart folder m m' c now reply does apart s =
     ap (λ x. x.0) (framed m m' c now reply (folder ++ s) does (apart s))
 
--- ---- checks of a command with all its paths below the folder
+-- ---- checks of a command within the folder
 
 front : (folder p : Path) → is_below folder p ≡ true → is_front folder p ≡ true
 front folder p h = (and_parts (is_front folder p) _ h).0
@@ -145,18 +137,18 @@ target_below folder m p h = by (has m p)
     by false = member_below folder p false h
 
 -- all of them are at or below it
-pub checks_below : (folder : Path) (m : ResourceMap) (c : Command) → is_on_map c ≡ true → list_all (is_below folder) (paths c) ≡ true → AllFront folder (checks m c)
-checks_below folder m (Command.Put path bytes) on below = target_below folder m path (one_below folder path below)
-checks_below folder m (Command.Write path at bytes) on below = (front folder path (one_below folder path below), tt)
-checks_below folder m (Command.MkCol path) on below = member_below folder path false (one_below folder path below)
-checks_below folder m (Command.Remove path) on below = member_below folder path true (one_below folder path below)
-checks_below folder m (Command.Move from to) on below =
-    let both = both_below folder from to below in
+pub checks_below : (folder : Path) (m : ResourceMap) (c : Command) → is_within folder c ≡ true → AllFront folder (checks m c)
+checks_below folder m (Command.Put path bytes) within = target_below folder m path within
+checks_below folder m (Command.Write path at bytes) within = (within, tt)
+checks_below folder m (Command.MkCol path) within = member_below folder path false within
+checks_below folder m (Command.Remove path) within = member_below folder path true within
+checks_below folder m (Command.Move from to) within =
+    let both = and_parts (is_below folder from) (is_below folder to) within in
     (front folder from both.0, (parent_front folder from both.0, member_below folder to true both.1))
-checks_below folder m (Command.Copy from to) on below = target_below folder m to (both_below folder from to below).1
-checks_below folder m (Command.PatchProps path patch) on below = (front folder path (one_below folder path below), tt)
-checks_below folder m (Command.Check path deep) on below = absurd (false≢true on)
-checks_below folder m _ on below = tt
+checks_below folder m (Command.Copy from to) within = target_below folder m to (and_parts (is_front folder from) (is_below folder to) within).1
+checks_below folder m (Command.PatchProps path patch) within = (within, tt)
+checks_below folder m (Command.Check path deep) within = (within, tt)
+checks_below folder m _ within = tt
 
 same_target : (folder : Path) (m n : ResourceMap) (p : Path) → AgreeBelow folder m n → is_below folder p ≡ true → target n p ≡ target m p
 same_target folder m n p agree h =
@@ -164,9 +156,9 @@ same_target folder m n p agree h =
     ap (λ o. if is_some o then shallow p ∷ [] else member p false) (ap (at_path n) w.2 ∙ agree.same (w.0 ∷ w.1) ∙ sym (ap (at_path m) w.2))
 
 -- and they are the same in two maps that agree
-pub same_checks : (folder : Path) (m n : ResourceMap) (c : Command) → AgreeBelow folder m n → list_all (is_below folder) (paths c) ≡ true → checks n c ≡ checks m c
-same_checks folder m n (Command.Put path bytes) agree below = same_target folder m n path agree (one_below folder path below)
-same_checks folder m n (Command.Copy from to) agree below = same_target folder m n to agree (both_below folder from to below).1
+pub same_checks : (folder : Path) (m n : ResourceMap) (c : Command) → AgreeBelow folder m n → is_within folder c ≡ true → checks n c ≡ checks m c
+same_checks folder m n (Command.Put path bytes) agree below = same_target folder m n path agree below
+same_checks folder m n (Command.Copy from to) agree below = same_target folder m n to agree (and_parts (is_front folder from) (is_below folder to) below).1
 same_checks folder m n _ agree below = refl
 
 -- ---- the next number never falls

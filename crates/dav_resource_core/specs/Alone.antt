@@ -1,38 +1,39 @@
 -- The holder of a deep exclusive lock, with all others left out (RFC 4918 sections 6.1, 6.4 and 7.4).
 use Rattle.std.specs.Prelude.{◌≡◌, ℕ, ◌≤◌, List, [], ◌∷◌, Bool, true, false, ◌&&◌, if◌then◌else◌, filter, Err, Contains}
-use Rattle.std.specs.List.{AllByRecursion, list_all}
-use Rattle.dav_path_core.specs.Fronts.{Path}
+use Rattle.std.specs.List.{AllByRecursion}
+use Rattle.dav_path_core.specs.Fronts.{Path, is_front}
 use Rattle.dav_files_core.specs.Below.{is_below}
 use Rattle.dav_locks_core.specs.Lock.{Lock}
 use Rattle.dav_locks_core.specs.Locks.{lock_path}
 use Rattle.dav_locks_core.specs.Stale.{is_stale}
 use Rattle.dav_resource_core.specs.Requests.{Command, Request, Locked, Answer}
 use Rattle.dav_resource_core.specs.Checks.{has}
-use Rattle.dav_resource_core.specs.ResourceStep.{is_on_map}
 use Rattle.dav_resource_core.specs.Naming.{names_as, names, refreshes}
 use Rattle.dav_resource_core.specs.Step.{State, Step, Chain}
 
 -- ---- requests under a lock
 
--- the paths of a command on the map
-abbrev pub paths : Command → List Path
-paths (Command.Put path bytes) = path ∷ []
-paths (Command.Write path at bytes) = path ∷ []
-paths (Command.Read path at count) = path ∷ []
-paths (Command.List path) = path ∷ []
-paths (Command.Meta path) = path ∷ []
-paths (Command.MkCol path) = path ∷ []
-paths (Command.Remove path) = path ∷ []
-paths (Command.Move from to) = from ∷ to ∷ []
-paths (Command.Copy from to) = from ∷ to ∷ []
-paths (Command.PatchProps path patch) = path ∷ []
-paths (Command.GetProps path content) = path ∷ []
-paths (Command.GetProp path wanted) = path ∷ []
-paths _ = []
+-- what the command looks at, or changes where it is, stands at or below the folder, and what it makes, removes or moves stands below
+abbrev pub is_within : Path → Command → Bool
+is_within folder (Command.Put path bytes) = is_below folder path
+is_within folder (Command.Write path at bytes) = is_front folder path
+is_within folder (Command.Read path at count) = is_front folder path
+is_within folder (Command.List path) = is_front folder path
+is_within folder (Command.Meta path) = is_front folder path
+is_within folder (Command.MkCol path) = is_below folder path
+is_within folder (Command.Remove path) = is_below folder path
+is_within folder (Command.Move from to) = is_below folder from && is_below folder to
+is_within folder (Command.Copy from to) = is_front folder from && is_below folder to
+is_within folder (Command.PatchProps path patch) = is_front folder path
+is_within folder (Command.GetProps path content) = is_front folder path
+is_within folder (Command.GetProp path wanted) = is_front folder path
+is_within folder (Command.Discover path) = is_front folder path
+is_within folder (Command.Check path deep) = is_front folder path
+is_within folder _ = false
 
--- the request names the lock as its holder, is for a command on the map, and has all its paths below the lock's
+-- the request names the lock as its holder, and its command is within the folder where the lock stands
 abbrev pub under : Request → Lock → Bool
-under r l = names_as r l && (is_on_map r.command && list_all (is_below (lock_path l)) (paths r.command))
+under r l = names_as r l && is_within (lock_path l) r.command
 
 -- of a list of requests, those under the lock
 abbrev pub requests_under : Lock → List Request → List Request

@@ -34,7 +34,7 @@ use Rattle.dav_files_core.proofs.moves.MovedLemmas.{get-moved, moved_other}
 -- ---- paths at and below a folder
 
 -- the path is the folder's, or stands below it
-abbrev Within : Path → Path → Type 0
+abbrev pub Within : Path → Path → Type 0
 Within folder p = (s : Path) × (p ≡ folder ++ s)
 
 -- it stands below
@@ -46,6 +46,13 @@ within folder p w = (w.0 ∷ w.1, w.2)
 
 parent_within : (folder p : Path) → Inside folder p → Within folder (parent p)
 parent_within folder p w = (parent (w.0 ∷ w.1), ap parent w.2 ∙ parent-append folder w.0 w.1)
+
+pub within_front : (folder p : Path) → is_front folder p ≡ true → Within folder p
+within_front folder p h = by (behind folder p) refl h
+  where
+    by : (o : Option Path) → behind folder p ≡ o → is_some o ≡ true → Within folder p
+    by None e t = absurd (false≢true t)
+    by (Some s) e t = (s, behind_is folder p s e)
 
 pub inside : (folder p : Path) → is_below folder p ≡ true → Inside folder p
 inside folder p h = let parts = and_parts (is_front folder p) (not (is_same_path folder p)) h in by (behind folder p) refl parts.0 parts.1
@@ -229,9 +236,9 @@ module _ (folder : Path) (m n : ResourceMap) (agree : AgreeBelow folder m n) whe
           (λ (_ : Resource). Ok (tt, added n p (new_file bytes now))) (find_folder_within folder m n agree (parent p) (parent_within folder p w))
           (λ _. (refl, added_agree folder m n agree p (new_file bytes now)))
 
-  pub write_alike : (p : Path) (at : Option ℕ) (new : List ℕ) → Inside folder p → AlikeHere (λ m. write_at m p at new)
+  pub write_alike : (p : Path) (at : Option ℕ) (new : List ℕ) → Within folder p → AlikeHere (λ m. write_at m p at new)
   write_alike p at new w = alike_on (SameAnswer folder) (find m p) (find n p) (λ (r : Resource). only_file r >>= written m) (λ (r : Resource). only_file r >>= written n)
-      (find_within folder m n agree p (within folder p w))
+      (find_within folder m n agree p w)
       (λ r. alike_on (SameAnswer folder) (only_file r) (only_file r) (written m) (written n) refl
       (λ r. alike_if (SameAnswer folder) (fits r) (fits r) (Ok (tt, left m r)) (Ok (tt, left n r)) (Err TooLarge) (Err TooLarge) refl
       (refl, changed_agree folder m n agree p r (record r.node { bytes = overwritten r.node.bytes (start r) new })) refl))
@@ -308,9 +315,9 @@ module _ (folder : Path) (m n : ResourceMap) (agree : AgreeBelow folder m n) whe
       into : ResourceMap → Outcome (Unit {0})
       into m = find_folder m (parent to) >>= λ (_ : Resource). put_there m
 
-  pub copy_alike : (from to : Path) (now : ℕ) → Inside folder from → Inside folder to → AlikeHere (λ m. copy m from to now)
+  pub copy_alike : (from to : Path) (now : ℕ) → Within folder from → Inside folder to → AlikeHere (λ m. copy m from to now)
   copy_alike from to now w v = alike_on (SameAnswer folder) (find m from) (find n from) (λ (r : Resource). copied m r) (λ (r : Resource). copied n r)
-      (find_within folder m n agree from (within folder from w))
+      (find_within folder m n agree from w)
       (λ r. subst (λ o. Alike (SameAnswer folder) (copied m r) (copy_to n to (source r) o)) (sym (at_within folder m n agree to (within folder to v))) (by (source r) (at_path m to)))
     where
       source : Resource → Node
@@ -349,30 +356,30 @@ module _ (folder : Path) (m n : ResourceMap) (agree : AgreeBelow folder m n) whe
           (λ _. (ap (λ k. opened k options) agree.next, added_agree folder m n agree p (new_file [] now))))
           (alike_on (SameAnswer folder) (find m p) (find n p) (found m) (found n) (find_within folder m n agree p (within folder p w)) (λ r. (refl, agree)))
 
-  pub patch_alike : (p : Path) (patch : List (Bool × Property)) → Inside folder p → AlikeHere (λ m. patch_props m p patch)
+  pub patch_alike : (p : Path) (patch : List (Bool × Property)) → Within folder p → AlikeHere (λ m. patch_props m p patch)
   patch_alike p patch w = alike_on (SameAnswer folder) (find m p) (find n p)
       (λ (r : Resource). Ok (patch_answers patch, changed m p r (record r.node { props = patched r.node.props patch })))
       (λ (r : Resource). Ok (patch_answers patch, changed n p r (record r.node { props = patched r.node.props patch })))
-      (find_within folder m n agree p (within folder p w))
+      (find_within folder m n agree p w)
       (λ r. (refl, changed_agree folder m n agree p r (record r.node { props = patched r.node.props patch })))
 
   -- what is told of a path that is found
-  told_same : {A : Type 0} (p : Path) (tell : Resource → Result A FsError) → Inside folder p → (find n p >>= tell) ≡ (find m p >>= tell)
-  told_same p tell w = ap (λ (f : Result Resource FsError). f >>= tell) (find_within folder m n agree p (within folder p w))
+  told_same : {A : Type 0} (p : Path) (tell : Resource → Result A FsError) → Within folder p → (find n p >>= tell) ≡ (find m p >>= tell)
+  told_same p tell w = ap (λ (f : Result Resource FsError). f >>= tell) (find_within folder m n agree p w)
 
-  pub metadata_same : (p : Path) → Inside folder p → metadata n p ≡ metadata m p
+  pub metadata_same : (p : Path) → Within folder p → metadata n p ≡ metadata m p
   metadata_same p = told_same p (λ r. Ok (meta_at r.node))
 
-  pub read_same : (p : Path) (at count : ℕ) → Inside folder p → read_at n p at count ≡ read_at m p at count
+  pub read_same : (p : Path) (at count : ℕ) → Within folder p → read_at n p at count ≡ read_at m p at count
   read_same p at count = told_same p (λ r. only_file r >>= λ r. Ok (take count (drop at r.node.bytes)))
 
-  pub get_props_same : (p : Path) (content : Bool) → Inside folder p → get_props n p content ≡ get_props m p content
+  pub get_props_same : (p : Path) (content : Bool) → Within folder p → get_props n p content ≡ get_props m p content
   get_props_same p content = told_same p (λ r. Ok (map (shown content) (values r.node.props)))
 
-  pub get_prop_same : (p : Path) (wanted : Property) → Inside folder p → get_prop n p wanted ≡ get_prop m p wanted
+  pub get_prop_same : (p : Path) (wanted : Property) → Within folder p → get_prop n p wanted ≡ get_prop m p wanted
   get_prop_same p wanted = told_same p (λ r. ok_or (xml_of r.node.props wanted) NotFound)
 
-  pub read_dir_same : (p : Path) → Inside folder p → read_dir n p ≡ read_dir m p
+  pub read_dir_same : (p : Path) → Within folder p → read_dir n p ≡ read_dir m p
   read_dir_same p w =
-      ap (λ ms. find_folder n p >>= λ (_ : Resource). Ok (map listed (entries ms))) (members_within folder m n agree p (within folder p w))
-      ∙ ap (λ (f : Result Resource FsError). f >>= λ (_ : Resource). Ok (map listed (entries (members m p)))) (find_folder_within folder m n agree p (within folder p w))
+      ap (λ ms. find_folder n p >>= λ (_ : Resource). Ok (map listed (entries ms))) (members_within folder m n agree p w)
+      ∙ ap (λ (f : Result Resource FsError). f >>= λ (_ : Resource). Ok (map listed (entries (members m p)))) (find_folder_within folder m n agree p w)

@@ -1,3 +1,4 @@
+pub mod ChildLemmas
 pub mod FrontLemmas
 pub mod KeptLemmas
 pub mod Laws

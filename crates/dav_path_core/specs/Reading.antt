@@ -61,6 +61,11 @@ pub record IsTarget (text : List ℕ) : Type 0 where
 abbrev pub IsForeign : List ℕ → Type 0
 IsForeign piece = Contains piece 0 ⊎ Contains piece 47
 
+-- a name that a segment of a path can be which is read: ordinary, and without byte 0 and `/`
+pub record CanBeSegment (name : List ℕ) : Type 0 where
+  pub ordinary : IsTrue (is_ordinary name)
+  pub clean : ¬ IsForeign name
+
 abbrev pub ends_in_slash : List ℕ → Bool
 ends_in_slash bytes = ends_with nat_eq bytes (codes "/")
 

@@ -1,8 +1,8 @@
 //! Paths of resources.
-ghost use Rattle.std.specs.Prelude.{◌++◌, take, ◌≡◌, ◌≤◌, ◌<◌, ◌^◌, ◌⊎◌, ◌↔◌, ℕ, List, [], ◌∷◌, length, string_bytes, IfOk, IfErr, OnOk, OnErr, IsSome, IfSome, MatchResult};
+ghost use Rattle.std.specs.Prelude.{◌++◌, if◌then◌else◌, take, false, ◌≡◌, ◌≤◌, ◌<◌, ◌^◌, ◌⊎◌, ◌↔◌, ℕ, List, [], ◌∷◌, length, string_bytes, IfOk, IfErr, OnOk, OnErr, IsSome, IfSome, MatchResult};
 ghost use Rattle.std.specs.Str.{IsUtf8};
 ghost use Rattle.http_uri.specs.Uri.{uri_path};
-ghost use Rattle.dav_path_core.specs.Reading.{Read, ends_in_slash};
+ghost use Rattle.dav_path_core.specs.Reading.{CanBeSegment, Read, ends_in_slash};
 ghost use Rattle.dav_path_core.specs.Fault.{Fault};
 ghost use Rattle.dav_path_core.specs.Segments.{segments};
 ghost use Rattle.dav_path_core.specs.Fronts.{parent};
@@ -24,7 +24,7 @@ use http_uri::Uri;
 pub use iter::Segments;
 pub use lent::DavPathRef;
 use lent::{above_name, trim_slash, trim_slashes};
-use reading::{end_in_slash, kept_pieces, raw_path};
+use reading::{can_be_segment, end_in_slash, kept_pieces, raw_path};
 use std::alloc::{AllocError, AllocFailed, Global};
 use std::marker::Model;
 use thiserror::Error;
@@ -273,6 +273,29 @@ impl DavPath {
             prefix_length: self.prefix_length,
         })
     }
+
+    /// The path of the member of that name in the folder here, with the same prefix and no slash at its end (own).
+    ///
+    /// `InvalidPath` for a name that no segment can have: an empty one, `.`, `..`, and one that holds byte 0 or a slash.
+    /// `OutOfMemory` else alone.
+    pub fn child(&self, name: &[u8]) -> Result<DavPath, ParseError>
+        ensures ok { IfOk result (λ path. segments path.bytes ≡ segments self.now.bytes ++ (name.now ∷ [])) }
+        ensures prefix { IfOk result (λ path. path.prefix ≡ self.now.prefix) }
+        ensures no_slash { IfOk result (λ path. ends_in_slash path.bytes ≡ false) }
+        ensures only { IfOk result (λ path. CanBeSegment name.now) }
+        ensures err { IfErr result (λ e. ((e ≡ ParseError.InvalidPath) × ¬ CanBeSegment name.now)
+            ⊎ ((e ≡ ParseError.OutOfMemory) × CanBeSegment name.now)) }
+    {
+        if !can_be_segment(name) {
+            return Err(ParseError::InvalidPath);
+        }
+        let alloc = *self.fullpath.allocator();
+        let fullpath = name_behind(alloc, &self.fullpath, self.is_collection(), name)?;
+        Ok(DavPath {
+            fullpath,
+            prefix_length: self.prefix_length,
+        })
+    }
 }
 
 /// A law for callers: a path that path reading gives begins with `/`, holds no `//`, and has no segment that is `.` or
@@ -306,6 +329,24 @@ fn folder_of(
         path.extend_from_slice(segment)?;
         path.push(b'/')?;
     }
+    Ok(path)
+}
+
+// A path with a name behind it, and a slash between them where the path has none at its end.
+fn name_behind(
+    alloc: Global,
+    folder: &[u8],
+    ends_in_slash: bool,
+    name: &[u8],
+) -> Result<Vec<u8>, AllocError>
+    ensures { IfOk result (λ path. path.items
+        ≡ folder.now ++ ((if ends_in_slash then [] else 47 ∷ []) ++ name.now)) }
+{
+    let mut path = folder.to_vec(alloc)?;
+    if !ends_in_slash {
+        path.push(b'/')?;
+    }
+    path.extend_from_slice(name)?;
     Ok(path)
 }
 

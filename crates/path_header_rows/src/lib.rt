@@ -14,6 +14,8 @@ mod long_paths;
 #[cfg(test)]
 mod method_sets;
 #[cfg(test)]
+mod path_children;
+#[cfg(test)]
 mod path_clones;
 #[cfg(test)]
 mod plenty;

@@ -35,6 +35,10 @@ pub fn parent(path: &DavPath) -> Result<DavPath, ParseError> {
     path.parent()
 }
 
+pub fn child(path: &DavPath, name: &[u8]) -> Result<DavPath, ParseError> {
+    path.child(name)
+}
+
 pub fn as_bytes(path: &DavPath) -> &[u8] {
     path.as_bytes()
 }

@@ -37,7 +37,7 @@ parent-push (x ∷ y ∷ p) s = ap (λ l. x ∷ l) (parent-push (y ∷ p) s)
 nonempty : (s : List ℕ) → 0 < length s → is_nonempty s ≡ true
 nonempty s h = grind (arith, nat_tests)
 
-segments-name : (s : List ℕ) → 0 < length s → NoSlashFrom s 0 → segments s ≡ s ∷ []
+pub segments-name : (s : List ℕ) → 0 < length s → NoSlashFrom s 0 → segments s ≡ s ∷ []
 unfolding segments
 segments-name s long clean =
     ap (filter is_nonempty) (slice_split_none is_slash s (All-from_get_or (λ b. is_slash b ≡ false) s 0 (λ k below. clean.none k (omega arith) below)))

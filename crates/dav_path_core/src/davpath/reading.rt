@@ -2,7 +2,7 @@
 ghost use Rattle.std.specs.Prelude.{◌≡◌, ◌⊎◌, ◌↔◌, ◌∷◌, ◌++◌, ℕ, List, Contains, IsTrue, IfOk, IfErr, OnOk};
 ghost use Rattle.std.specs.Cow.{cow_slice_items};
 ghost use Rattle.percent_encoding.specs.Percent.{percent_decode as decoded_bytes_of};
-ghost use Rattle.dav_path_core.specs.Reading.{is_idle, is_up, IsForeign, IsTarget, raw, path_of, decoded_pieces};
+ghost use Rattle.dav_path_core.specs.Reading.{is_idle, is_up, CanBeSegment, IsForeign, IsTarget, raw, path_of, decoded_pieces};
 ghost use Rattle.dav_path_core.specs.Fault.{FirstFault};
 ghost use Rattle.dav_path_core.specs.Private.Keeping.{slashed, Spells, Takes, Refuses, ComesDown};
 
@@ -61,6 +61,13 @@ fn is_foreign_piece(piece: &[u8]) -> bool
     ensures { IsTrue result ↔ IsForeign piece.now }
 {
     piece.contains(&0) || piece.contains(&b'/')
+}
+
+/// Whether a segment can have this name: not empty, not `.` nor `..`, without byte 0 and `/`.
+pub(super) fn can_be_segment(name: &[u8]) -> bool
+    ensures { IsTrue result ↔ CanBeSegment name.now }
+{
+    !is_idle_piece(name) && !is_up_piece(name) && !is_foreign_piece(name)
 }
 
 // Takes the last piece away, with the slash before it.

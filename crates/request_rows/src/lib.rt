@@ -2,6 +2,8 @@
 #![tactic(auto)]
 
 #[cfg(test)]
+mod plenty;
+#[cfg(test)]
 mod requests;
 #[cfg(test)]
 mod scenarios;

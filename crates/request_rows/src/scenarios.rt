@@ -121,10 +121,14 @@ fn answers_a_holder_alone(rt: HostRuntime) -> Result<(), Fail> {
     play(&rt, alone.as_str())
 }
 
+// Each stands between two lines of a right form, of which the second isn't run.
 #[test]
 fn names_malformed_lines(rt: HostRuntime) {
     for line in MALFORMED.split('\n') {
-        let input = b"1 - - put /z 61\n".as_slice().chain(line.as_bytes());
+        let input = b"1 - - put /z 61\n"
+            .as_slice()
+            .chain(line.as_bytes())
+            .chain(b"\n9 - - put /y 61\n".as_slice());
         let mut told = Vec::new(rt.alloc());
         let mut faulted = Vec::new(rt.alloc());
         let ended = replay(rt.alloc(), 1, input, &mut told, &mut faulted);
@@ -163,6 +167,26 @@ fn reads_odd_lines(rt: HostRuntime) {
     for (input, output, faults, status) in rows {
         assert!(rt; plays(&rt, input, output, faults, status), "{input:?}");
     }
+}
+
+// Bytes that are written in several pieces, read from a file and from a property.
+#[test]
+fn writes_long_bytes(rt: HostRuntime) -> Result<(), Fail> {
+    for size in [1, 63, 64, 65, 1_024, 1_025, 5_000] {
+        let mut hex = String::new(rt.alloc());
+        for place in 0..size {
+            hex.push_str(format!(in rt.alloc(); "{:02x}", place % 251)?.as_str())?;
+        }
+        let input = format!(in rt.alloc();
+            "1 - - setprop / - n {hex}\n2 - - prop / - n\n3 - - put /f {hex}\n4 - - read /f 0 {size}\n"
+        )?;
+        let output = format!(in rt.alloc(); "ok 200\nok {hex}\nok\nok {hex}\n")?;
+        assert!(rt;
+            plays(&rt, input.as_bytes(), output.as_str(), "", 0),
+            "{size}"
+        );
+    }
+    Ok(())
 }
 
 const SEEDS: [(&str, Option<u64>); 8] = [

@@ -26,7 +26,7 @@ use Rattle.dav_resource_core.specs.Naming.{names_as, names, unlocks, refreshes}
 use Rattle.dav_resource_core.specs.Step.{State, IsState, Same, conflicts, conflicts_by, FindsNone, MayLackMemory, Effect, Serves, start_of, Run}
 use Rattle.dav_resource_core.specs.Alone.{is_within, under, requests_under, answers_under, NamedUnder, Lasts, IsLetIn, raised, RaisedRun, Alone, HoldersAlone}
 use Rattle.dav_resource_core.proofs.StepLaws.{Same-refl, Same-equal, outcome, untouched, serves_exclusive, serves_stands, serves_isolated, serves_moves}
-use Rattle.dav_resource_core.proofs.BelowLaws.{does_below, does_refused, checks_below, same_checks, same_next, does_next}
+use Rattle.dav_resource_core.proofs.BelowLaws.{does_below, does_refused, checks_below, same_next, does_next}
 
 -- ---- steps of a command within a folder
 

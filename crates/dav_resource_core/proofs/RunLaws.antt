@@ -14,11 +14,11 @@ use Rattle.dav_path_core.proofs.lists.MemberLemmas.{In, In-Contains, Contains-In
 use Rattle.dav_path_core.proofs.lists.PlaceLemmas.{filter-filter}
 use Rattle.dav_locks_core.proofs.laws.StandInLemmas.{StandIn-trans, StandIn-filtered, StandIn-filter, In-StandIn}
 use Rattle.dav_resource_core.specs.Requests.{Request, Answer}
-use Rattle.dav_resource_core.specs.Step.{State, Same, Serves, Step, Run, start_of}
+use Rattle.dav_resource_core.specs.Step.{State, Serves, Step, Run, start_of}
 use Rattle.dav_resource_core.specs.Naming.{names_as, names, unlocks, touches, touched_in}
-use Rattle.dav_resource_core.specs.Isolation.{EndsNamed, Isolated, AnyIsolated, UntouchedStand, UntouchedIsolated, EachStep, EachExclusive, EachShape, EachEndsNamed, EachIsolated, EachAnyIsolated, KeepsLocks}
+use Rattle.dav_resource_core.specs.Isolation.{EndsNamed, NewShown, EachNewShown, Isolated, AnyIsolated, UntouchedStand, UntouchedIsolated, EachStep, EachExclusive, EachShape, EachEndsNamed, EachIsolated, EachAnyIsolated, KeepsLocks}
 use Rattle.dav_resource_core.proofs.AloneLaws.{run_alone}
-use Rattle.dav_resource_core.proofs.StepLaws.{Same-refl, Same-equal, step_exclusive, step_ends, step_isolated, step_any_isolated, step_stands, serves_moves, not-or}
+use Rattle.dav_resource_core.proofs.StepLaws.{Same-refl, Same-equal, step_exclusive, step_ends, step_shows, step_isolated, step_any_isolated, step_stands, serves_moves, not-or}
 use Rattle.dav_resource_core.proofs.BelowLaws.{does_grows}
 
 -- ---- by each step
@@ -63,6 +63,9 @@ run_shape s s' (r ∷ rs) (a ∷ answers) is_map h = run_shape h.0 s' rs answers
 pub each_ends_named : (s s' : State) (rs : List Request) (answers : List Answer) → EachEndsNamed s rs answers s'
 each_ends_named = each_step (λ s r a s'. EndsNamed s r s') step_ends
 
+pub each_new_shown : (s s' : State) (rs : List Request) (answers : List Answer) → EachNewShown s rs answers s'
+each_new_shown = each_step (λ s r a s'. NewShown s a s') step_shows
+
 -- ---- from the start to the end
 
 pub run_stand : (s s' : State) (rs : List Request) (answers : List Answer) → Run s rs answers s' → UntouchedStand s rs s'
@@ -105,6 +108,7 @@ keeps_locks s s' rs answers x h = record {
   isolated = each_isolated s s' rs answers;
   any_isolated = each_any_isolated s s' rs answers;
   ends_named = each_ends_named s s' rs answers;
+  new_shown = each_new_shown s s' rs answers;
   stand = run_stand s s' rs answers h;
   kept = run_isolated s s' rs answers h;
   alone = run_alone s s' rs answers x h;

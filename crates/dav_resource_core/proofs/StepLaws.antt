@@ -1,7 +1,7 @@
 -- What one step keeps.
 use Rattle.std.proofs.Common.{◌≡◌, ◌⊎◌, inl, inr, Bool, true, false, cond, ◌||◌, ◌&&◌, not, List, [], ◌∷◌, get_or, Ok, Err, refl, sym, ap, ◌∙◌, subst}
-use Rattle.std.specs.Prelude.{set, remove, filter, bytes_eq}
-use Rattle.std.specs.List.{list_any}
+use Rattle.std.specs.Prelude.{set, remove, filter, bytes_eq, Contains}
+use Rattle.std.specs.List.{AllByRecursion, list_any}
 use Rattle.std.proofs.lemmas.Bool.{and_parts, or_left, or_right, cases_Bool, false≢true, not-false}
 use Rattle.std.proofs.lemmas.List.Elements.{filter_agree}
 use Rattle.rand_core.specs.Stream.{Stream}
@@ -12,19 +12,20 @@ use Rattle.dav_locks_core.specs.Exclusive.{Exclusive}
 use Rattle.dav_locks_core.specs.Ended.{LocksEnded, StandIn}
 use Rattle.dav_locks_core.specs.Stale.{is_stale, without_stale}
 use Rattle.dav_locks_core.proofs.laws.ExclusiveLemmas.{Exclusive-push, Exclusive-filter, Exclusive-remove, Exclusive-refreshed}
-use Rattle.dav_path_core.proofs.lists.MemberLemmas.{In, In-Contains, Contains-In, append_none}
+use Rattle.dav_path_core.proofs.lists.EachLemmas.{all_filter, all_push, all_remove, all_set}
+use Rattle.dav_path_core.proofs.lists.MemberLemmas.{In, In-Contains, Contains-In, all_in, append_none}
 use Rattle.dav_path_core.proofs.lists.PlaceLemmas.{filter-remove, filter-set, filter-filter}
 use Rattle.dav_locks_core.proofs.laws.StandInLemmas.{StandIn-trans, StandIn-push, StandIn-more, StandIn-filtered}
 use Rattle.dav_locks_core.proofs.laws.CheckLemmas.{exclusive_held, any_lock_held, below_held}
 use Rattle.dav_locks_core.proofs.laws.EndedLemmas.{LocksEnded-refl, LocksEnded-push, LocksEnded-remove, LocksEnded-filter, LocksEnded-set, LocksEnded-trans, IgnoresTimes, found_at}
 use Rattle.dav_files_core.specs.Resources.{ResourceMap}
 use Rattle.dav_files_core.specs.Finding.{place}
-use Rattle.dav_resource_core.specs.Requests.{Command, Request, Reply, Fs, Locked, NoLock, OutOfMemory, Answer}
+use Rattle.dav_resource_core.specs.Requests.{Command, Request, Reply, Granted, Fs, Locked, NoLock, OutOfMemory, Answer}
 use Rattle.dav_resource_core.specs.Checks.{Check, caller_of, checks, is_reached, reached, shallow, member, refusing}
 use Rattle.dav_resource_core.specs.Step.{State, IsState, Same, conflicts_by, Effect, Serves, Step, start_of}
 use Rattle.dav_resource_core.specs.ResourceStep.{Does}
 use Rattle.dav_resource_core.specs.Naming.{names_as, names, unlocks, refreshes, touches}
-use Rattle.dav_resource_core.specs.Isolation.{StaysExclusive, EndsNamed, Isolated, AnyIsolated}
+use Rattle.dav_resource_core.specs.Isolation.{StaysExclusive, EndsNamed, NewShown, Isolated, AnyIsolated}
 use Rattle.dav_resource_core.proofs.Frame.{framed}
 
 pub Same-refl : (s : State) → Same s s
@@ -101,6 +102,38 @@ serves_ends s s' r a h = elim (outcome s s' r a h) [
   | inl same ↦ rw same.locks_are (LocksEnded-refl (names r) s.locks)
   | inr done ↦ effect_ends r.command s s' r done.0 refl done.2 done.3
 ]
+
+-- ---- a lock that wasn't there is shown
+
+effect_shows : (c : Command) (s s' : State) (r : Request) (reply : Reply) (P : Lock → Type 0) → ((l : Lock) → reply ≡ Granted l → P l) → Effect c s r reply s'
+    → AllByRecursion P s.locks → AllByRecursion P s'.locks
+effect_shows (Command.Lock path owner timeout shared deep) s s' r reply P granted e h = rw e.1.locks_are (all_push P s.locks _ h (granted _ e.0))
+effect_shows (Command.Unlock path token) s s' r reply P granted e h = rw e.3.locks_are (all_remove P s.locks e.0 h)
+effect_shows (Command.Refresh path token timeout) s s' r reply P granted e h = rw e.5.locks_are (all_set P s.locks e.0 e.1 e.1 (λ _. granted e.1 e.4) h)
+effect_shows (Command.Discover path) s s' r reply P granted e h = rw e.1.locks_are h
+effect_shows (Command.Check path deep) s s' r reply P granted e h = rw e.1.locks_are h
+effect_shows (Command.Remove path) s s' r reply P granted e h = rw e.1.locks_are (all_filter P _ s.locks h)
+effect_shows (Command.Move from to) s s' r reply P granted e h = rw e.1.locks_are (all_filter P _ s.locks h)
+effect_shows _ s s' r reply P granted e h = rw e.1.locks_are h
+
+pub step_shows : (s s' : State) (r : Request) (a : Answer) → Step s r a s' → NewShown s a s'
+step_shows s s' r a h l i = all_in Known s'.locks l after (In-Contains s'.locks l i)
+  where
+    Known : Lock → Type 0
+    Known l = Contains s.locks l ⊎ (a ≡ Ok (Granted l))
+
+    own : (locks : List Lock) → ((l : Lock) → In l locks → Known l) → AllByRecursion Known locks
+    own [] known = tt
+    own (k ∷ locks) known = (known k (inl refl), own locks (λ l i. known l (inr i)))
+
+    before : AllByRecursion Known (start_of r s).locks
+    before = all_filter Known (λ l. not (is_stale r.now l)) s.locks (own s.locks (λ l i. inl (Contains-In s.locks l i)))
+
+    after : AllByRecursion Known s'.locks
+    after = elim (outcome (start_of r s) s' r a h) [
+      | inl same ↦ rw same.locks_are before
+      | inr done ↦ effect_shows r.command (start_of r s) s' r done.0 Known (λ l e. inr (done.1 ∙ ap Ok e)) done.3 before
+    ]
 
 -- ---- a lock that isn't named stands as it is
 

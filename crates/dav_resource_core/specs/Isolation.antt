@@ -1,6 +1,6 @@
 -- What locks promise of a step, and of each step of a run (RFC 4918 sections 6 and 7). Isolation speaks of the state from which the
 -- step starts.
-use Rattle.std.specs.Prelude.{◌≡◌, ◌⊎◌, List, ◌∷◌, true, false, not, ◌||◌, filter, Contains}
+use Rattle.std.specs.Prelude.{◌≡◌, ◌⊎◌, List, ◌∷◌, true, false, not, ◌||◌, filter, Ok, Contains}
 use Rattle.dav_path_core.specs.Fronts.{Path, is_front}
 use Rattle.dav_files_core.specs.Finding.{place}
 use Rattle.dav_files_core.specs.Resources.{IsResourceMap}
@@ -9,7 +9,7 @@ use Rattle.dav_locks_core.specs.Locks.{covers}
 use Rattle.dav_locks_core.specs.Exclusive.{Exclusive}
 use Rattle.dav_locks_core.specs.Ended.{LocksEnded, StandIn}
 use Rattle.dav_locks_core.specs.Stale.{is_stale}
-use Rattle.dav_resource_core.specs.Requests.{Request, Answer}
+use Rattle.dav_resource_core.specs.Requests.{Request, Granted, Answer}
 use Rattle.dav_resource_core.specs.Step.{State, Step, Run, start_of}
 use Rattle.dav_resource_core.specs.Naming.{names_as, names, touched_in}
 use Rattle.dav_resource_core.specs.Alone.{HoldersAlone}
@@ -23,6 +23,10 @@ StaysExclusive s s' = Exclusive s.locks → Exclusive s'.locks
 -- a lock ends only where its moment has come or the request names it
 abbrev pub EndsNamed : State → Request → State → Type 0
 EndsNamed s r s' = LocksEnded (λ l. is_stale r.now l || names r l) s.locks s'.locks
+
+-- each lock of the state after is one of the state before, as it was, or the one that the answer shows as granted
+abbrev pub NewShown : State → Answer → State → Type 0
+NewShown s a s' = (l : Lock) → Contains s'.locks l → Contains s.locks l ⊎ (a ≡ Ok (Granted l))
 
 -- the place of a path that an exclusive lock covers is unchanged, or the request names that lock's token under its principal
 abbrev pub Isolated : State → Request → State → Type 0
@@ -69,6 +73,9 @@ EachShape = EachStep (λ s r a s'. IsResourceMap s'.map)
 abbrev pub EachEndsNamed : State → List Request → List Answer → State → Type 0
 EachEndsNamed = EachStep (λ s r a s'. EndsNamed s r s')
 
+abbrev pub EachNewShown : State → List Request → List Answer → State → Type 0
+EachNewShown = EachStep (λ s r a s'. NewShown s a s')
+
 abbrev pub EachIsolated : State → List Request → List Answer → State → Type 0
 EachIsolated = EachStep (λ s r a s'. Isolated (start_of r s) r s')
 
@@ -83,6 +90,7 @@ pub record KeepsLocks (s : State) (rs : List Request) (answers : List Answer) (s
   pub isolated : EachIsolated s rs answers s'
   pub any_isolated : EachAnyIsolated s rs answers s'
   pub ends_named : EachEndsNamed s rs answers s'
+  pub new_shown : EachNewShown s rs answers s'
   pub stand : UntouchedStand s rs s'
   pub kept : UntouchedIsolated s rs s'
   pub alone : HoldersAlone s rs answers

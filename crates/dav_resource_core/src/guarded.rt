@@ -9,7 +9,7 @@ ghost use Rattle.dav_locks_core.specs.Stale.{without_stale};
 ghost use Rattle.dav_resource_core.specs.Step.{State, Step, Run, Serves, start_of};
 ghost use Rattle.dav_resource_core.specs.Requests as plain;
 ghost use Rattle.dav_resource_core.specs.Alone.{HoldersAlone};
-ghost use Rattle.dav_resource_core.specs.Isolation.{EndsNamed, UntouchedStand, Isolated, AnyIsolated, EachExclusive, EachShape, EachEndsNamed, EachIsolated, EachAnyIsolated, UntouchedIsolated, KeepsLocks};
+ghost use Rattle.dav_resource_core.specs.Isolation.{EndsNamed, NewShown, EachNewShown, UntouchedStand, Isolated, AnyIsolated, EachExclusive, EachShape, EachEndsNamed, EachIsolated, EachAnyIsolated, UntouchedIsolated, KeepsLocks};
 ghost use Rattle.dav_resource_core.specs.Stores.{start_stores, state_of};
 ghost use Rattle.dav_resource_core.specs.Served.{request_of, answer_of};
 
@@ -86,6 +86,8 @@ impl Guarded {
         // A lock ends only where its token is named or its moment has come.
         ensures ends_named { EndsNamed (state_of self.old (R.stream rng.old)) (request_of request.entry.now)
             (state_of self.new (R.stream rng.new)) }
+        // A lock that was not there as it is now is the one that the answer shows.
+        ensures new_shown { NewShown (state_of self.old (R.stream rng.old)) (answer_of result) (state_of self.new (R.stream rng.new)) }
     {
         self.serve(request, rng)
     }
@@ -158,6 +160,9 @@ impl Guarded {
         ensures each_any_isolated { IfOk result (λ answers. EachAnyIsolated (state_of self.old (R.stream rng.old))
             (map request_of requests.now) (map answer_of answers.items) (state_of self.new (R.stream rng.new))) }
         ensures each_ends_named { IfOk result (λ answers. EachEndsNamed (state_of self.old (R.stream rng.old))
+            (map request_of requests.now) (map answer_of answers.items) (state_of self.new (R.stream rng.new))) }
+        // In each step a lock that was not there as it is then is the one that the answer shows.
+        ensures each_new_shown { IfOk result (λ answers. EachNewShown (state_of self.old (R.stream rng.old))
             (map request_of requests.now) (map answer_of answers.items) (state_of self.new (R.stream rng.new))) }
         // The locks of the start that no request names or refreshes, and that expire at none, stand at the end as they were,
         // and what an exclusive one of them covers is as it was.

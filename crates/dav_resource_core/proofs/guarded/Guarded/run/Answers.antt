@@ -1,6 +1,6 @@
 use Rattle.std.proofs.lemmas.Result.{IfOk-weaker}
 use Rattle.dav_resource_core.proofs.AloneLaws.{run_alone}
-use Rattle.dav_resource_core.proofs.RunLaws.{each_exclusive, each_shape, each_ends_named, each_isolated, each_any_isolated, run_stand, run_isolated}
+use Rattle.dav_resource_core.proofs.RunLaws.{each_exclusive, each_shape, each_ends_named, each_new_shown, each_isolated, each_any_isolated, run_stand, run_isolated}
 use Rattle.dav_resource_core.proofs.guarded.Guarded.run.Goals as goal
 
 pub returns-clause-each_exclusive : goal.returns-clause-each_exclusive
@@ -17,6 +17,9 @@ returns-clause-each_any_isolated g c = IfOk-weaker c.run_all.result _ _ (λ answ
 
 pub returns-clause-each_ends_named : goal.returns-clause-each_ends_named
 returns-clause-each_ends_named g c = IfOk-weaker c.run_all.result _ _ (λ answers ran. each_ends_named _ _ _ _) c.run_all.ensures.run
+
+pub returns-clause-each_new_shown : goal.returns-clause-each_new_shown
+returns-clause-each_new_shown g c = IfOk-weaker c.run_all.result _ _ (λ answers ran. each_new_shown _ _ _ _) c.run_all.ensures.run
 
 pub returns-clause-stand : goal.returns-clause-stand
 returns-clause-stand g c = IfOk-weaker c.run_all.result _ _ (λ answers ran. run_stand _ _ _ _ ran) c.run_all.ensures.run

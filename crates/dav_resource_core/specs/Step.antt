@@ -67,14 +67,14 @@ Effect (Command.Check path deep) s r reply s' = (reply ≡ Done) × Same s s'
 Effect command s r reply s' = Does s.map command r.now (Ok reply) s'.map × IsState s' s'.map (locks_left command s.locks) s.rng
 
 -- Each answer, and when it comes. A refusal leaves the state. Out of memory comes only to a command whose checks, or whose work, may
--- lack memory, and then in place of any other answer.
+-- lack memory, and then in place of any other answer; of the work on the map only where no lock stands in the way.
 abbrev pub Serves : State → Request → Answer → State → Type 0
 Serves s r (Err (Locked l)) s' = Contains (conflicts s r) l × Same s s'
 Serves s r (Err OutOfMemory) s' = MayLackMemory r.command s r × Same s s'
 Serves s r (Err NoLock) s' = FindsNone r.command s.locks × Same s s'
 Serves s r (Err (Fs e)) s' =
-    (((e ≡ InsufficientStorage) × (takes_map_memory r.command ≡ true))
-    ⊎ ((is_on_map r.command ≡ true) × (conflicts s r ≡ []) × Does s.map r.command r.now (Err e) s.map))
+    (is_on_map r.command ≡ true) × (conflicts s r ≡ [])
+    × (((e ≡ InsufficientStorage) × (takes_map_memory r.command ≡ true)) ⊎ Does s.map r.command r.now (Err e) s.map)
     × Same s s'
 Serves s r (Ok reply) s' = (conflicts s r ≡ []) × Effect r.command s r reply s'
 

@@ -193,15 +193,17 @@ module _ (l : Lock) (own : l.shared ≡ false) (deep : l.deep ≡ true) where
         let told = tells_too r.command s s' t r reply off u.within lone.here lone.alone h.1 in
         refused_too s s' t r (Ok reply) lone told.1 (no_conflict t r u lone.alone, told.0)
   ]
-  serves_lone s s' t r (Err (Fs e)) u lone h = refused_too s s' t r (Err (Fs e)) lone h.3 (
-    h.0,
-    no_conflict t r u lone.alone,
-    elim h.2 [
-      | inl full ↦ inl full
-      | inr refused ↦
-          let does = does_below (lock_path l) s.map t.map s.map r.command r.now (Err e) lone.agree u.within refused in
-          inr (subst (Does t.map r.command r.now (Err e)) (does_refused t.map does.0 r.command r.now e does.1) does.1)
-    ],
+  serves_lone s s' t r (Err (Fs e)) u lone h = refused_too s s' t r (Err (Fs e)) lone h.1 (
+    (
+      h.0.0,
+      no_conflict t r u lone.alone,
+      elim h.0.2 [
+        | inl full ↦ inl full
+        | inr refused ↦
+            let does = does_below (lock_path l) s.map t.map s.map r.command r.now (Err e) lone.agree u.within refused in
+            inr (subst (Does t.map r.command r.now (Err e)) (does_refused t.map does.0 r.command r.now e does.1) does.1)
+      ],
+    ),
     Same-refl t,
   )
   serves_lone s s' t r (Err (Locked k)) u lone h = absurd (no_lock_shown s r k u lone.here h.0)

@@ -46,7 +46,7 @@ Outcome s r a s' = Same s s' ⊎ ((reply : Reply) × (a ≡ Ok reply) × (confli
 
 pub outcome : (s s' : State) (r : Request) (a : Answer) → Serves s r a s' → Outcome s r a s'
 outcome s s' r (Ok reply) h = inr (reply, refl, h.0, h.1)
-outcome s s' r (Err (Fs e)) h = inl h.3
+outcome s s' r (Err (Fs e)) h = inl h.1
 outcome s s' r (Err (Locked l)) h = inl h.1
 outcome s s' r (Err NoLock) h = inl h.1
 outcome s s' r (Err OutOfMemory) h = inl h.1

@@ -73,8 +73,8 @@ Serves s r (Err (Locked l)) s' = Contains (conflicts s r) l × Same s s'
 Serves s r (Err OutOfMemory) s' = MayLackMemory r.command s r × Same s s'
 Serves s r (Err NoLock) s' = FindsNone r.command s.locks × Same s s'
 Serves s r (Err (Fs e)) s' =
-    (is_on_map r.command ≡ true) × (conflicts s r ≡ [])
-    × (((e ≡ InsufficientStorage) × (takes_map_memory r.command ≡ true)) ⊎ Does s.map r.command r.now (Err e) s.map)
+    ((is_on_map r.command ≡ true) × (conflicts s r ≡ [])
+    × (((e ≡ InsufficientStorage) × (takes_map_memory r.command ≡ true)) ⊎ Does s.map r.command r.now (Err e) s.map))
     × Same s s'
 Serves s r (Ok reply) s' = (conflicts s r ≡ []) × Effect r.command s r reply s'
 

@@ -1,6 +1,7 @@
 pub mod Alone
 pub mod Checks
 pub mod Isolation
+pub mod Lines
 pub mod Naming
 pub mod Private
 pub mod Requests

@@ -1,2 +1,3 @@
 -- Words that private contracts alone name.
+pub mod Reading
 pub mod Serving

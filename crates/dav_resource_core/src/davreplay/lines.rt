@@ -1,4 +1,14 @@
 //! The form of a line.
+ghost use Rattle.std.specs.Prelude.{◌≡◌, List, [], ◌∷◌, Ok, Some, None, map, option_map, string_bytes, IfOk};
+ghost use Rattle.std.specs.List.{list_all, slice_split};
+ghost use Rattle.dav_path_core.specs.Segments.{segments};
+ghost use Rattle.dav_files_core.specs.Properties.{property_of};
+ghost use Rattle.dav_headers_core.specs.Pieces.{is_comma};
+ghost use Rattle.dav_resource_core.specs.Seeds.{numeral};
+ghost use Rattle.dav_resource_core.specs.Lines.{depth_word, scope_word, timeout_word, place_word, text_word, hex_word, is_count, is_label, labels_word, put_form, write_form, read_form, move_form, copy_form, set_form, delete_form, props_form, prop_form, lock_form, check_form};
+ghost use Rattle.dav_resource_core.specs.Requests.Command.{PatchProps};
+ghost use Rattle.dav_resource_core.specs.Private.Reading.{exactly, Gives, both, reading, IsRead, IsReadOrRoom};
+
 use super::labels::Labels;
 use super::numbers::{is_digits, number};
 use crate::guarded::{Command, Request};
@@ -19,6 +29,10 @@ pub(super) enum Unread {
 }
 
 impl From<ParseError> for Unread {
+    ghost use Rattle.dav_resource_core.specs.Private.Reading.{unread_by};
+
+    ghost from_gives = { λ e r. r ≡ unread_by e };
+
     fn from(error: ParseError) -> Unread {
         match error {
             ParseError::OutOfMemory => Unread::OutOfMemory,
@@ -28,12 +42,20 @@ impl From<ParseError> for Unread {
 }
 
 impl From<AllocError> for Unread {
+    ghost use Rattle.dav_resource_core.specs.declared.davreplay.lines.Unread.TheVariants.{OutOfMemory};
+
+    ghost from_gives = { λ _ e. e ≡ OutOfMemory };
+
     fn from(_: AllocError) -> Unread {
         Unread::OutOfMemory
     }
 }
 
 impl<T: Drop> From<AllocFailed<T>> for Unread {
+    ghost use Rattle.dav_resource_core.specs.declared.davreplay.lines.Unread.TheVariants.{OutOfMemory};
+
+    ghost from_gives = { λ _ e. e ≡ OutOfMemory };
+
     fn from(_: AllocFailed<T>) -> Unread {
         Unread::OutOfMemory
     }
@@ -112,37 +134,45 @@ fn command_of(
     }
 }
 
-fn put(alloc: Global, path: Path, hex: &str) -> Result<Command, Unread> {
+fn put(alloc: Global, path: Path, hex: &str) -> Result<Command, Unread>
+    ensures { IsReadOrRoom result (reading (put_form hex.now) path) }
+{
     let bytes = bytes_of(alloc, hex)?;
     let path = path?;
     Ok(Command::Put { path, bytes })
 }
 
-// `AT` is a place in the bytes, or `end`.
-fn write(alloc: Global, path: Path, at: &str, hex: &str) -> Result<Command, Unread> {
-    let at = match at {
-        "end" => None,
-        digits => Some(number_of(digits)? as usize),
-    };
+fn write(alloc: Global, path: Path, at: &str, hex: &str) -> Result<Command, Unread>
+    ensures { IsReadOrRoom result (reading (write_form at.now hex.now) path) }
+{
+    let at = place_of(at)?;
     let bytes = bytes_of(alloc, hex)?;
     let path = path?;
     Ok(Command::Write { path, at, bytes })
 }
 
-fn read(path: Path, at: &str, count: &str) -> Result<Command, Unread> {
+fn read(path: Path, at: &str, count: &str) -> Result<Command, Unread>
+    ensures { IsRead result (reading (read_form at.now count.now) path) }
+{
     let at = number_of(at)? as usize;
     let count = number_of(count)? as usize;
     let path = path?;
     Ok(Command::Read { path, at, count })
 }
 
-fn move_to(from: Path, to: Path) -> Result<Command, Unread> {
-    let (from, to) = (from?, to?);
+fn move_to(from: Path, to: Path) -> Result<Command, Unread>
+    ensures { IsRead result (reading move_form (both from to)) }
+{
+    let from = from?;
+    let to = to?;
     Ok(Command::Move { from, to })
 }
 
-fn copy_to(from: Path, to: Path) -> Result<Command, Unread> {
-    let (from, to) = (from?, to?);
+fn copy_to(from: Path, to: Path) -> Result<Command, Unread>
+    ensures { IsRead result (reading copy_form (both from to)) }
+{
+    let from = from?;
+    let to = to?;
     Ok(Command::Copy { from, to })
 }
 
@@ -152,42 +182,50 @@ fn set_prop(
     space: &str,
     name: &str,
     hex: &str,
-) -> Result<Command, Unread> {
+) -> Result<Command, Unread>
+    ensures { IsReadOrRoom result (reading (set_form space.now name.now hex.now) path) }
+{
     let xml = bytes_of(alloc, hex)?.as_slice().to_vec(alloc)?;
     let prop = prop_of(alloc, space, name, Some(xml))?;
     patch(alloc, path?, true, prop)
 }
 
-fn delete_prop(alloc: Global, path: Path, space: &str, name: &str) -> Result<Command, Unread> {
+fn delete_prop(alloc: Global, path: Path, space: &str, name: &str) -> Result<Command, Unread>
+    ensures { IsReadOrRoom result (reading (delete_form space.now name.now) path) }
+{
     let prop = prop_of(alloc, space, name, None)?;
     patch(alloc, path?, false, prop)
 }
 
 // One property, to be set or removed.
-fn patch(alloc: Global, path: DavPath, set: bool, prop: DavProp) -> Result<Command, Unread> {
+fn patch(alloc: Global, path: DavPath, set: bool, prop: DavProp) -> Result<Command, Unread>
+    ensures { IsReadOrRoom result (Ok (PatchProps (segments path.bytes) ((set, property_of prop) ∷ []))) }
+{
     let mut patch = Vec::new(alloc);
     patch.push((set, prop))?;
     Ok(Command::PatchProps { path, patch })
 }
 
-fn props(path: Path) -> Result<Command, Unread> {
+fn props(path: Path) -> Result<Command, Unread>
+    ensures { IsRead result (reading props_form path) }
+{
     let path = path?;
     let content = false;
     Ok(Command::GetProps { path, content })
 }
 
-fn prop(alloc: Global, path: Path, space: &str, name: &str) -> Result<Command, Unread> {
+fn prop(alloc: Global, path: Path, space: &str, name: &str) -> Result<Command, Unread>
+    ensures { IsReadOrRoom result (reading (prop_form space.now name.now) path) }
+{
     let prop = prop_of(alloc, space, name, None)?;
     let path = path?;
     Ok(Command::GetProp { path, prop })
 }
 
-fn lock(path: Path, scope: &str, depth: &str, timeout: &str) -> Result<Command, Unread> {
-    let shared = match scope {
-        "exclusive" => false,
-        "shared" => true,
-        _ => return Err(Unread::Malformed),
-    };
+fn lock(path: Path, scope: &str, depth: &str, timeout: &str) -> Result<Command, Unread>
+    ensures { IsRead result (reading (lock_form scope.now depth.now timeout.now) path) }
+{
+    let shared = is_shared(scope)?;
     let deep = is_deep(depth)?;
     let timeout = timeout_of(timeout)?;
     Ok(Command::Lock {
@@ -215,19 +253,29 @@ fn refresh(granted: &Labels, path: Path, label: &str, timeout: &str) -> Result<C
     })
 }
 
-fn check(path: Path, depth: &str) -> Result<Command, Unread> {
+fn check(path: Path, depth: &str) -> Result<Command, Unread>
+    ensures { IsRead result (reading (check_form depth.now) path) }
+{
     let deep = is_deep(depth)?;
     let path = path?;
     Ok(Command::Check { path, deep })
 }
 
 // A number within u64, in decimal digits.
-fn number_of(word: &str) -> Result<u64, Unread> {
-    number(word).ok_or(Unread::Malformed)
+fn number_of(word: &str) -> Result<u64, Unread>
+    ensures { result ≡ exactly (numeral word.now) }
+{
+    match number(word) {
+        Some(value) => Ok(value),
+        None => Err(Unread::Malformed),
+    }
 }
 
 // `shallow` or `deep`.
-fn is_deep(word: &str) -> Result<bool, Unread> {
+#[tactic(auto, unfolding(crate::specs::Lines::depth_word))]
+fn is_deep(word: &str) -> Result<bool, Unread>
+    ensures { result ≡ exactly (depth_word word.now) }
+{
     match word {
         "shallow" => Ok(false),
         "deep" => Ok(true),
@@ -235,20 +283,55 @@ fn is_deep(word: &str) -> Result<bool, Unread> {
     }
 }
 
-// Seconds, or `-` for none.
-fn timeout_of(word: &str) -> Result<Option<u64>, Unread> {
+// `exclusive` or `shared`.
+#[tactic(auto, unfolding(crate::specs::Lines::scope_word))]
+fn is_shared(word: &str) -> Result<bool, Unread>
+    ensures { result ≡ exactly (scope_word word.now) }
+{
     match word {
-        "-" => Ok(None),
-        seconds => Ok(Some(number_of(seconds)?)),
+        "exclusive" => Ok(false),
+        "shared" => Ok(true),
+        _ => Err(Unread::Malformed),
+    }
+}
+
+// Seconds, or `-` for none.
+#[tactic(auto, unfolding(crate::specs::Lines::timeout_word))]
+fn timeout_of(word: &str) -> Result<Option<u64>, Unread>
+    ensures { result ≡ exactly (timeout_word word.now) }
+{
+    if word == "-" {
+        return Ok(None);
+    }
+    match number(word) {
+        Some(seconds) => Ok(Some(seconds)),
+        None => Err(Unread::Malformed),
+    }
+}
+
+// A place in the bytes, or `end`.
+#[tactic(auto, unfolding(crate::specs::Lines::place_word))]
+fn place_of(word: &str) -> Result<Option<usize>, Unread>
+    ensures { result ≡ exactly (place_word word.now) }
+{
+    if word == "end" {
+        return Ok(None);
+    }
+    match number(word) {
+        Some(at) => Ok(Some(at as usize)),
+        None => Err(Unread::Malformed),
     }
 }
 
 // A text, or `-` for none.
-fn text_of(alloc: Global, word: &str) -> Result<Option<String>, AllocError> {
-    match word {
-        "-" => Ok(None),
-        text => Ok(Some(String::from_str(alloc, text)?)),
+#[tactic(auto, unfolding(crate::specs::Lines::text_word))]
+fn text_of(alloc: Global, word: &str) -> Result<Option<String>, AllocError>
+    ensures { IfOk result (λ text. option_map string_bytes text ≡ text_word word.now) }
+{
+    if word == "-" {
+        return Ok(None);
     }
+    Ok(Some(String::from_str(alloc, word)?))
 }
 
 // A property without a prefix; its namespace is `-` for none.
@@ -257,7 +340,14 @@ fn prop_of(
     space: &str,
     name: &str,
     xml: Option<Vec<u8>>,
-) -> Result<DavProp, AllocError> {
+) -> Result<DavProp, AllocError>
+    ensures { IfOk result (λ prop. property_of prop ≡ record {
+      name = name.now;
+      prefix = None;
+      namespace = text_word space.now;
+      xml = option_map (λ bytes. bytes.items) xml;
+    }) }
+{
     Ok(DavProp {
         name: String::from_str(alloc, name)?,
         prefix: None,
@@ -267,7 +357,10 @@ fn prop_of(
 }
 
 // An even number of hexadecimal digits, or `-` for no bytes.
-fn bytes_of(alloc: Global, word: &str) -> Result<Bytes, Unread> {
+#[tactic(auto, unfolding(crate::specs::Lines::hex_word))]
+fn bytes_of(alloc: Global, word: &str) -> Result<Bytes, Unread>
+    ensures { Gives (λ bytes. bytes) result (hex_word word.now) }
+{
     if word == "-" {
         return Ok(Bytes::new());
     }
@@ -279,23 +372,58 @@ fn bytes_of(alloc: Global, word: &str) -> Result<Bytes, Unread> {
 }
 
 // Labels joined by commas, or `-` for none.
-fn labels_of<'a>(alloc: Global, word: &'a str) -> Result<Vec<&'a str>, Unread> {
-    let mut labels = Vec::new(alloc);
+#[tactic(auto, unfolding(crate::specs::Lines::labels_word))]
+fn labels_of<'a>(alloc: Global, word: &'a str) -> Result<Vec<&'a str>, Unread>
+    ensures { Gives (λ labels. map (λ label. label.now) labels.items) result (labels_word word.now) }
+{
     if word == "-" {
-        return Ok(labels);
+        return Ok(Vec::new(alloc));
     }
-    for label in word.split(',') {
-        labels.push(label_of(label)?)?;
+    let labels = pieces_of(alloc, word)?;
+    if are_labels(&labels) {
+        Ok(labels)
+    } else {
+        Err(Unread::Malformed)
     }
-    Ok(labels)
+}
+
+// What stands between commas.
+fn pieces_of<'a>(alloc: Global, word: &'a str) -> Result<Vec<&'a str>, AllocError>
+    ensures { IfOk result (λ pieces. map (λ piece. piece.now) pieces.items ≡ slice_split is_comma word.now) }
+{
+    word.split(',').collect(alloc)
+}
+
+fn are_labels(words: &[&str]) -> bool
+    ensures { result ≡ list_all (λ word. is_label word.now) words.now }
+{
+    words.iter().all(|word| is_label(word))
 }
 
 // `t` and a number from 1 without leading zeros.
-fn label_of(word: &str) -> Result<&str, Unread> {
+#[tactic(auto, unfolding(crate::specs::Lines::is_label))]
+fn is_label(word: &str) -> bool
+    ensures { result ≡ is_label word.now }
+{
     match word.strip_prefix("t") {
-        Some(digits) if !digits.is_empty() && !digits.starts_with("0") && is_digits(digits) => {
-            Ok(word)
-        }
-        _ => Err(Unread::Malformed),
+        Some(digits) => is_count(digits),
+        None => false,
+    }
+}
+
+fn is_count(digits: &str) -> bool
+    ensures { result ≡ is_count digits.now }
+{
+    match digits.as_bytes() {
+        [first, ..] => *first != b'0' && is_digits(digits),
+        [] => false,
+    }
+}
+
+fn label_of(word: &str) -> Result<&str, Unread> {
+    if is_label(word) {
+        Ok(word)
+    } else {
+        Err(Unread::Malformed)
     }
 }

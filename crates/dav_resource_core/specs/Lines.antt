@@ -1,0 +1,109 @@
+-- What the words of a line of `davreplay` say (own).
+use Rattle.std.specs.Prelude.{ℕ, Bool, true, false, not, ◌&&◌, ◌==◌, List, [], ◌∷◌, Option, Some, None, bytes_eq, codes, if◌then◌else◌, option_map}
+use Rattle.std.specs.Char.{is_ascii_digit}
+use Rattle.std.specs.List.{list_all, slice_split}
+use Rattle.std.specs.Option.{option_map_or}
+use Rattle.std.specs.Result.{result_ok}
+use Rattle.hex.specs.Hex.{decode_of}
+use Rattle.dav_headers_core.specs.Behind.{behind}
+use Rattle.dav_headers_core.specs.Optional.{◌>>=◌, when}
+use Rattle.dav_headers_core.specs.Pieces.{is_comma}
+use Rattle.dav_path_core.specs.PathText.{PathText}
+use Rattle.dav_path_core.specs.Segments.{segments}
+use Rattle.dav_files_core.specs.Resources.{Property}
+use Rattle.dav_resource_core.specs.Requests as plain
+use Rattle.dav_resource_core.specs.Seeds.{numeral}
+
+-- the word for nothing
+abbrev pub is_dash : List ℕ → Bool
+is_dash word = bytes_eq word (codes "-")
+
+-- whether a check or a lock is deep
+unfoldable pub depth_word : List ℕ → Option Bool
+depth_word word =
+    if bytes_eq word (codes "shallow") then Some false else (
+    if bytes_eq word (codes "deep") then Some true else None)
+
+-- whether a lock is shared
+unfoldable pub scope_word : List ℕ → Option Bool
+scope_word word =
+    if bytes_eq word (codes "exclusive") then Some false else (
+    if bytes_eq word (codes "shared") then Some true else None)
+
+-- no timeout, or so many seconds
+unfoldable pub timeout_word : List ℕ → Option (Option ℕ)
+timeout_word word = if is_dash word then Some None else option_map Some (numeral word)
+
+-- the end of a file, or a place in it
+unfoldable pub place_word : List ℕ → Option (Option ℕ)
+place_word word = if bytes_eq word (codes "end") then Some None else option_map Some (numeral word)
+
+-- no text, or the word itself
+unfoldable pub text_word : List ℕ → Option (List ℕ)
+text_word word = if is_dash word then None else Some word
+
+-- no bytes, or those of an even number of hexadecimal digits
+unfoldable pub hex_word : List ℕ → Option (List ℕ)
+hex_word word = if is_dash word then Some [] else result_ok (decode_of word)
+
+-- ---- labels
+
+-- decimal digits, the first of them no `0`
+abbrev pub is_count : List ℕ → Bool
+is_count [] = false
+is_count (first ∷ digits) = not (first == 48) && list_all is_ascii_digit (first ∷ digits)
+
+-- `t`, and such digits
+unfoldable pub is_label : List ℕ → Bool
+is_label word = option_map_or is_count (behind (codes "t") word) false
+
+-- the labels between commas, or none
+unfoldable pub labels_word : List ℕ → Option (List (List ℕ))
+labels_word word =
+    if is_dash word then Some [] else when (list_all is_label (slice_split is_comma word)) (slice_split is_comma word)
+
+-- ---- what the words behind a command's paths make of these
+
+-- a command for each path, or pair of paths
+abbrev pub Form : Type 0 → Type 0
+Form P = Option (P → plain.Command)
+
+-- a property without a prefix
+abbrev pub property_word : List ℕ → List ℕ → Option (List ℕ) → Property
+property_word space name xml = record { name = name; prefix = None; namespace = text_word space; xml = xml }
+
+abbrev pub put_form : List ℕ → Form PathText
+put_form hex = hex_word hex >>= λ bytes. Some (λ path. plain.Command.Put (segments path.bytes) bytes)
+
+abbrev pub write_form : List ℕ → List ℕ → Form PathText
+write_form place hex = place_word place >>= λ at. hex_word hex >>= λ bytes. Some (λ path. plain.Command.Write (segments path.bytes) at bytes)
+
+abbrev pub read_form : List ℕ → List ℕ → Form PathText
+read_form first second = numeral first >>= λ at. numeral second >>= λ count. Some (λ path. plain.Command.Read (segments path.bytes) at count)
+
+abbrev pub move_form : Form (PathText × PathText)
+move_form = Some (λ ends. plain.Command.Move (segments ends.0.bytes) (segments ends.1.bytes))
+
+abbrev pub copy_form : Form (PathText × PathText)
+copy_form = Some (λ ends. plain.Command.Copy (segments ends.0.bytes) (segments ends.1.bytes))
+
+abbrev pub set_form : List ℕ → List ℕ → List ℕ → Form PathText
+set_form space name hex = hex_word hex >>= λ xml.
+    Some (λ path. plain.Command.PatchProps (segments path.bytes) ((true, property_word space name (Some xml)) ∷ []))
+
+abbrev pub delete_form : List ℕ → List ℕ → Form PathText
+delete_form space name = Some (λ path. plain.Command.PatchProps (segments path.bytes) ((false, property_word space name None) ∷ []))
+
+abbrev pub props_form : Form PathText
+props_form = Some (λ path. plain.Command.GetProps (segments path.bytes) false)
+
+abbrev pub prop_form : List ℕ → List ℕ → Form PathText
+prop_form space name = Some (λ path. plain.Command.GetProp (segments path.bytes) (property_word space name None))
+
+-- a lock has no owner's text
+abbrev pub lock_form : List ℕ → List ℕ → List ℕ → Form PathText
+lock_form scope depth limit = scope_word scope >>= λ shared. depth_word depth >>= λ deep. timeout_word limit >>= λ timeout.
+    Some (λ path. plain.Command.Lock path None timeout shared deep)
+
+abbrev pub check_form : List ℕ → Form PathText
+check_form depth = depth_word depth >>= λ deep. Some (λ path. plain.Command.Check (segments path.bytes) deep)

@@ -1,0 +1,47 @@
+-- What the readers of words answer.
+use Rattle.std.specs.Prelude.{◌≡◌, ◌⊎◌, Option, Some, None, Result, Ok, Err}
+use Rattle.dav_path_core.specs.declared.davpath.ParseError.{ParseError}
+use Rattle.dav_path_core.specs.declared.davpath.ParseError.TheVariants.{OutOfMemory as NoRoom}
+use Rattle.dav_resource_core.specs.declared.guarded.requests.Command.{Command}
+use Rattle.dav_resource_core.specs.declared.davreplay.lines.Unread.{Unread}
+use Rattle.dav_resource_core.specs.declared.davreplay.lines.Unread.TheVariants.{Malformed, BadPath, OutOfMemory}
+use Rattle.dav_resource_core.specs.Lines.{Form}
+use Rattle.dav_resource_core.specs.Requests as plain
+use Rattle.dav_resource_core.specs.Served.{command_of}
+
+-- what a word says, or that it is malformed
+abbrev pub exactly : {U : Type 0} → Option U → Result U Unread
+exactly (Some x) = Ok x
+exactly None = Err Malformed
+
+-- the same, with the value as it is shown, or out of memory
+abbrev pub Gives : {V U : Type 0} → (V → U) → Result V Unread → Option U → Type 0
+Gives shown (Ok x) said = said ≡ Some (shown x)
+Gives shown (Err e) said = (e ≡ OutOfMemory) ⊎ ((e ≡ Malformed) × (said ≡ None))
+
+-- how a path that isn't read is told
+abbrev pub unread_by : ParseError → Unread
+unread_by NoRoom = OutOfMemory
+unread_by e = BadPath e
+
+-- two paths, or why the first that isn't read is none
+abbrev pub both : {A : Type 0} → Result A ParseError → Result A ParseError → Result (A × A) ParseError
+both (Ok x) (Ok y) = Ok (x, y)
+both (Ok x) (Err e) = Err e
+both (Err e) other = Err e
+
+-- the command of words and paths: a wrong form of the words comes before a path that isn't read
+abbrev pub reading : {P : Type 0} → Form P → Result P ParseError → Result plain.Command Unread
+reading None path = Err Malformed
+reading (Some form) (Ok path) = Ok (form path)
+reading (Some form) (Err e) = Err (unread_by e)
+
+-- this answer
+abbrev pub IsRead : Result Command Unread → Result plain.Command Unread → Type 0
+IsRead (Ok command) wanted = wanted ≡ Ok (command_of command)
+IsRead (Err e) wanted = wanted ≡ Err e
+
+-- this answer, or out of memory
+abbrev pub IsReadOrRoom : Result Command Unread → Result plain.Command Unread → Type 0
+IsReadOrRoom (Ok command) wanted = wanted ≡ Ok (command_of command)
+IsReadOrRoom (Err e) wanted = (e ≡ OutOfMemory) ⊎ (wanted ≡ Err e)

@@ -1,2 +1,4 @@
 pub mod Asking
 pub mod MadeThenMoved
+pub mod OneSize
+pub mod SizeLemmas

@@ -1,3 +1,4 @@
 pub mod Copies
 pub mod Events
 pub mod Handling
+pub mod Sizes

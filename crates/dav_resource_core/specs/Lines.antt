@@ -1,5 +1,5 @@
 -- What the words of a line of `davreplay` say (own).
-use Rattle.std.specs.Prelude.{ℕ, Bool, true, false, not, ◌&&◌, ◌==◌, List, [], ◌∷◌, Option, Some, None, bytes_eq, codes, if◌then◌else◌, option_map}
+use Rattle.std.specs.Prelude.{ℕ, Bool, true, false, not, ◌&&◌, ◌==◌, List, [], ◌∷◌, Option, Some, None, bytes_eq, codes, if◌then◌else◌, option_map, unwrap_or, slice_get, ◌-◌}
 use Rattle.std.specs.Char.{is_ascii_digit}
 use Rattle.std.specs.List.{list_all, slice_split}
 use Rattle.std.specs.Option.{option_map_or}
@@ -62,6 +62,18 @@ unfoldable pub labels_word : List ℕ → Option (List (List ℕ))
 labels_word word =
     if is_dash word then Some [] else when (list_all is_label (slice_split is_comma word)) (slice_split is_comma word)
 
+-- the token of the lock that was granted as this one, from 1: tokens stand in the order of granting
+unfoldable pub nth_token : List (List ℕ) → ℕ → Option (List ℕ)
+nth_token tokens n = if n == 0 then None else slice_get tokens (n - 1)
+
+-- the token of the lock that a label names, if it was granted
+unfoldable pub token_at : List (List ℕ) → List ℕ → Option (List ℕ)
+token_at tokens label = behind (codes "t") label >>= λ digits. numeral digits >>= λ n. nth_token tokens n
+
+-- the token that a label stands for; where no such lock was granted its own text
+abbrev pub token_of : List (List ℕ) → List ℕ → List ℕ
+token_of tokens label = unwrap_or (token_at tokens label) label
+
 -- ---- what the words behind a command's paths make of these
 
 -- a command for each path, or pair of paths
@@ -107,3 +119,10 @@ lock_form scope depth limit = scope_word scope >>= λ shared. depth_word depth >
 
 abbrev pub check_form : List ℕ → Form PathText
 check_form depth = depth_word depth >>= λ deep. Some (λ path. plain.Command.Check (segments path.bytes) deep)
+
+abbrev pub unlock_form : List (List ℕ) → List ℕ → Form PathText
+unlock_form tokens label = when (is_label label) (λ path. plain.Command.Unlock (segments path.bytes) (token_of tokens label))
+
+abbrev pub refresh_form : List (List ℕ) → List ℕ → List ℕ → Form PathText
+refresh_form tokens label limit = when (is_label label) (token_of tokens label) >>= λ token. timeout_word limit >>= λ timeout.
+    Some (λ path. plain.Command.Refresh (segments path.bytes) token timeout)

@@ -1,8 +1,9 @@
 -- What the readers of words answer.
-use Rattle.std.specs.Prelude.{◌≡◌, ◌⊎◌, Option, Some, None, Result, Ok, Err}
+use Rattle.std.specs.Prelude.{ℕ, List, map, string_bytes, ◌≡◌, ◌⊎◌, Option, Some, None, Result, Ok, Err}
 use Rattle.dav_path_core.specs.declared.davpath.ParseError.{ParseError}
 use Rattle.dav_path_core.specs.declared.davpath.ParseError.TheVariants.{OutOfMemory as NoRoom}
 use Rattle.dav_resource_core.specs.declared.guarded.requests.Command.{Command}
+use Rattle.dav_resource_core.specs.declared.davreplay.labels.Labels.{Labels}
 use Rattle.dav_resource_core.specs.declared.davreplay.lines.Unread.{Unread}
 use Rattle.dav_resource_core.specs.declared.davreplay.lines.Unread.TheVariants.{Malformed, BadPath, OutOfMemory}
 use Rattle.dav_resource_core.specs.Lines.{Form}
@@ -45,3 +46,7 @@ IsRead (Err e) wanted = wanted ≡ Err e
 abbrev pub IsReadOrRoom : Result Command Unread → Result plain.Command Unread → Type 0
 IsReadOrRoom (Ok command) wanted = wanted ≡ Ok (command_of command)
 IsReadOrRoom (Err e) wanted = (e ≡ OutOfMemory) ⊎ (wanted ≡ Err e)
+
+-- the tokens of the locks granted so far
+abbrev pub granted_tokens : Labels → List (List ℕ)
+granted_tokens labels = map string_bytes labels.tokens.items

@@ -1,4 +1,8 @@
 //! Labels of locks: `tN` stands for the token of the lock that was granted as the N-th.
+ghost use Rattle.std.specs.Prelude.{◌≡◌, map, option_map, string_bytes, IfOk};
+ghost use Rattle.dav_resource_core.specs.Lines.{nth_token, token_at, token_of};
+ghost use Rattle.dav_resource_core.specs.Private.Reading.{granted_tokens};
+
 use super::numbers::number;
 use std::alloc::{AllocError, Global};
 use std::collections::HashMap;
@@ -42,7 +46,10 @@ impl Labels {
     }
 
     /// The tokens that labels stand for.
-    pub(super) fn tokens_of(&self, labels: &[&str]) -> Result<Vec<String>, AllocError> {
+    pub(super) fn tokens_of(&self, labels: &[&str]) -> Result<Vec<String>, AllocError>
+        ensures { IfOk result (λ tokens. map string_bytes tokens.items
+            ≡ map (λ label. token_of (granted_tokens self.now) label.now) labels.now) }
+    {
         let mut tokens = Vec::new(self.alloc);
         for label in labels {
             tokens.push(self.token_of(label)?)?;
@@ -51,7 +58,9 @@ impl Labels {
     }
 
     /// The token that a label stands for; where no such lock was granted its own text, which is no token.
-    pub(super) fn token_of(&self, label: &str) -> Result<String, AllocError> {
+    pub(super) fn token_of(&self, label: &str) -> Result<String, AllocError>
+        ensures { IfOk result (λ token. string_bytes token ≡ token_of (granted_tokens self.now) label.now) }
+    {
         match self.granted_at(label) {
             Some(token) => String::from_str(self.alloc, token),
             None => String::from_str(self.alloc, label),
@@ -59,10 +68,22 @@ impl Labels {
     }
 
     // The token of the lock that a label names, if it was granted.
-    fn granted_at(&self, label: &str) -> Option<&str> {
-        let place = usize::try_from(number(label.strip_prefix("t")?)?)
-            .ok()?
-            .checked_sub(1)?;
+    #[tactic(auto, unfolding(crate::specs::Lines::token_at))]
+    fn granted_at(&self, label: &str) -> Option<&str>
+        ensures { option_map (λ token. token.now) result ≡ token_at (granted_tokens self.now) label.now }
+    {
+        self.nth(number(label.strip_prefix("t")?)?)
+    }
+
+    // The token of the lock that was granted as the N-th, from 1.
+    #[tactic(auto, unfolding(crate::specs::Lines::nth_token))]
+    fn nth(&self, number: u64) -> Option<&str>
+        ensures { option_map (λ token. token.now) result ≡ nth_token (granted_tokens self.now) number }
+    {
+        if number == 0 {
+            return None;
+        }
+        let place = number as usize - 1;
         Some(self.tokens.get(place)?.as_str())
     }
 }

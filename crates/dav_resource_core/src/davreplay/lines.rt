@@ -5,9 +5,9 @@ ghost use Rattle.dav_path_core.specs.Segments.{segments};
 ghost use Rattle.dav_files_core.specs.Properties.{property_of};
 ghost use Rattle.dav_headers_core.specs.Pieces.{is_comma};
 ghost use Rattle.dav_resource_core.specs.Seeds.{numeral};
-ghost use Rattle.dav_resource_core.specs.Lines.{depth_word, scope_word, timeout_word, place_word, text_word, hex_word, is_count, is_label, labels_word, put_form, write_form, read_form, move_form, copy_form, set_form, delete_form, props_form, prop_form, lock_form, check_form};
+ghost use Rattle.dav_resource_core.specs.Lines.{depth_word, scope_word, timeout_word, place_word, text_word, hex_word, is_count, is_label, labels_word, put_form, write_form, read_form, move_form, copy_form, set_form, delete_form, props_form, prop_form, lock_form, check_form, unlock_form, refresh_form};
 ghost use Rattle.dav_resource_core.specs.Requests.Command.{PatchProps};
-ghost use Rattle.dav_resource_core.specs.Private.Reading.{exactly, Gives, both, reading, IsRead, IsReadOrRoom};
+ghost use Rattle.dav_resource_core.specs.Private.Reading.{exactly, Gives, both, reading, IsRead, IsReadOrRoom, granted_tokens};
 
 use super::labels::Labels;
 use super::numbers::{is_digits, number};
@@ -237,18 +237,29 @@ fn lock(path: Path, scope: &str, depth: &str, timeout: &str) -> Result<Command, 
     })
 }
 
-fn unlock(granted: &Labels, path: Path, label: &str) -> Result<Command, Unread> {
-    let token = granted.token_of(label_of(label)?)?;
+fn unlock(granted: &Labels, path: Path, label: &str) -> Result<Command, Unread>
+    ensures { IsReadOrRoom result (reading (unlock_form (granted_tokens granted.now) label.now) path) }
+{
+    if !is_label(label) {
+        return Err(Unread::Malformed);
+    }
+    let token = granted.token_of(label)?;
     let path = path?;
     Ok(Command::Unlock { path, token })
 }
 
-fn refresh(granted: &Labels, path: Path, label: &str, timeout: &str) -> Result<Command, Unread> {
-    let label = label_of(label)?;
+fn refresh(granted: &Labels, path: Path, label: &str, timeout: &str) -> Result<Command, Unread>
+    ensures { IsReadOrRoom result (reading (refresh_form (granted_tokens granted.now) label.now timeout.now) path) }
+{
+    if !is_label(label) {
+        return Err(Unread::Malformed);
+    }
     let timeout = timeout_of(timeout)?;
+    let token = granted.token_of(label)?;
+    let path = path?;
     Ok(Command::Refresh {
-        path: path?,
-        token: granted.token_of(label)?,
+        path,
+        token,
         timeout,
     })
 }
@@ -417,13 +428,5 @@ fn is_count(digits: &str) -> bool
     match digits.as_bytes() {
         [first, ..] => *first != b'0' && is_digits(digits),
         [] => false,
-    }
-}
-
-fn label_of(word: &str) -> Result<&str, Unread> {
-    if is_label(word) {
-        Ok(word)
-    } else {
-        Err(Unread::Malformed)
     }
 }

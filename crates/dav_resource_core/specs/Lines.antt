@@ -1,5 +1,5 @@
 -- What the words of a line of `davreplay` say (own).
-use Rattle.std.specs.Prelude.{ℕ, Bool, true, false, not, ◌&&◌, ◌==◌, List, [], ◌∷◌, Option, Some, None, bytes_eq, codes, if◌then◌else◌, option_map, unwrap_or, slice_get, ◌-◌}
+use Rattle.std.specs.Prelude.{ℕ, Bool, true, false, not, ◌&&◌, ◌||◌, ◌==◌, List, [], ◌∷◌, Option, Some, None, bytes_eq, codes, if◌then◌else◌, option_map, unwrap_or, slice_get, ◌-◌}
 use Rattle.std.specs.Char.{is_ascii_digit}
 use Rattle.std.specs.List.{list_all, slice_split}
 use Rattle.std.specs.Option.{option_map_or}
@@ -126,3 +126,41 @@ unlock_form tokens label = when (is_label label) (λ path. plain.Command.Unlock 
 abbrev pub refresh_form : List (List ℕ) → List ℕ → List ℕ → Form PathText
 refresh_form tokens label limit = when (is_label label) (token_of tokens label) >>= λ token. timeout_word limit >>= λ timeout.
     Some (λ path. plain.Command.Refresh (segments path.bytes) token timeout)
+
+-- ---- which command its word names, by the count of words behind its path
+
+unfoldable pub form_alone : List ℕ → Form PathText
+form_alone command =
+    if bytes_eq command (codes "list") then Some (λ path. plain.Command.List (segments path.bytes)) else (
+    if bytes_eq command (codes "meta") then Some (λ path. plain.Command.Meta (segments path.bytes)) else (
+    if bytes_eq command (codes "mkcol") then Some (λ path. plain.Command.MkCol (segments path.bytes)) else (
+    if bytes_eq command (codes "remove") then Some (λ path. plain.Command.Remove (segments path.bytes)) else (
+    if bytes_eq command (codes "props") then props_form else (
+    if bytes_eq command (codes "discover") then Some (λ path. plain.Command.Discover (segments path.bytes)) else None)))))
+
+abbrev pub has_two_paths : List ℕ → Bool
+has_two_paths command = bytes_eq command (codes "move") || bytes_eq command (codes "copy")
+
+unfoldable pub form_of_ends : List ℕ → Form (PathText × PathText)
+form_of_ends command =
+    if bytes_eq command (codes "move") then move_form else (
+    if bytes_eq command (codes "copy") then copy_form else None)
+
+unfoldable pub form_with_one : List (List ℕ) → List ℕ → List ℕ → Form PathText
+form_with_one tokens command one =
+    if bytes_eq command (codes "put") then put_form one else (
+    if bytes_eq command (codes "unlock") then unlock_form tokens one else (
+    if bytes_eq command (codes "check") then check_form one else None))
+
+unfoldable pub form_with_two : List (List ℕ) → List ℕ → List ℕ → List ℕ → Form PathText
+form_with_two tokens command one two =
+    if bytes_eq command (codes "write") then write_form one two else (
+    if bytes_eq command (codes "read") then read_form one two else (
+    if bytes_eq command (codes "delprop") then delete_form one two else (
+    if bytes_eq command (codes "prop") then prop_form one two else (
+    if bytes_eq command (codes "refresh") then refresh_form tokens one two else None))))
+
+unfoldable pub form_with_three : List ℕ → List ℕ → List ℕ → List ℕ → Form PathText
+form_with_three command one two three =
+    if bytes_eq command (codes "setprop") then set_form one two three else (
+    if bytes_eq command (codes "lock") then lock_form one two three else None)

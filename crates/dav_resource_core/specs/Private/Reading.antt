@@ -1,5 +1,8 @@
 -- What the readers of words answer.
-use Rattle.std.specs.Prelude.{ℕ, List, map, string_bytes, ◌≡◌, ◌⊎◌, Option, Some, None, Result, Ok, Err}
+use Rattle.std.specs.Prelude.{ℕ, List, [], map, string_bytes, ◌≡◌, ◌⊎◌, Option, Some, None, Result, Ok, Err}
+use Rattle.dav_path_core.specs.Fault.{Fault}
+use Rattle.dav_path_core.specs.PathText.{PathText}
+use Rattle.dav_path_core.specs.Reading.{Read}
 use Rattle.dav_path_core.specs.declared.davpath.ParseError.{ParseError}
 use Rattle.dav_path_core.specs.declared.davpath.ParseError.TheVariants.{OutOfMemory as NoRoom}
 use Rattle.dav_resource_core.specs.declared.guarded.requests.Command.{Command}
@@ -24,6 +27,11 @@ Gives shown (Err e) said = (e ≡ OutOfMemory) ⊎ ((e ≡ Malformed) × (said �
 abbrev pub unread_by : ParseError → Unread
 unread_by NoRoom = OutOfMemory
 unread_by e = BadPath e
+
+-- what reading a text as a path answers
+abbrev pub PathIs : List ℕ → Result PathText ParseError → Type 0
+PathIs text (Ok path) = (path.prefix ≡ []) × Read text path.bytes
+PathIs text (Err e) = (e ≡ NoRoom) ⊎ Fault text e
 
 -- two paths, or why the first that isn't read is none
 abbrev pub both : {A : Type 0} → Result A ParseError → Result A ParseError → Result (A × A) ParseError

@@ -1,5 +1,5 @@
 //! Labels of locks: `tN` stands for the token of the lock that was granted as the N-th.
-ghost use Rattle.std.specs.Prelude.{◌≡◌, map, option_map, string_bytes, IfOk};
+ghost use Rattle.std.specs.Prelude.{◌≡◌, [], ◌∷◌, ◌++◌, map, option_map, string_bytes, IfOk, OnOk};
 ghost use Rattle.dav_resource_core.specs.Lines.{nth_token, token_at, token_of};
 ghost use Rattle.dav_resource_core.specs.Private.Reading.{granted_tokens};
 
@@ -27,7 +27,10 @@ impl Labels {
     }
 
     /// Keeps the token of a lock that was granted, and gives the number of its label.
-    pub(super) fn add(&mut self, token: String) -> Result<usize, AllocError> {
+    #[tactic(auto, using(std::proofs::lemmas::List::map_push))]
+    pub(super) fn add(&mut self, token: String) -> Result<usize, AllocError>
+        ensures { OnOk result (granted_tokens self.new ≡ granted_tokens self.old ++ string_bytes token ∷ []) }
+    {
         let number = match self.numbers.get(token.as_str()) {
             Some(number) => *number,
             None => {

@@ -1,13 +1,15 @@
 //! The form of a line.
-ghost use Rattle.std.specs.Prelude.{◌≡◌, List, [], ◌∷◌, Ok, Some, None, map, option_map, string_bytes, IfOk};
+ghost use Rattle.std.specs.Prelude.{◌≡◌, Result, List, [], ◌∷◌, Ok, Some, None, map, option_map, string_bytes, IfOk};
 ghost use Rattle.std.specs.List.{list_all, slice_split};
+ghost use Rattle.std.specs.Bool.{MatchBool};
+ghost use Rattle.dav_path_core.specs.PathText.{PathText};
 ghost use Rattle.dav_path_core.specs.Segments.{segments};
 ghost use Rattle.dav_files_core.specs.Properties.{property_of};
 ghost use Rattle.dav_headers_core.specs.Pieces.{is_comma};
 ghost use Rattle.dav_resource_core.specs.Seeds.{numeral};
-ghost use Rattle.dav_resource_core.specs.Lines.{depth_word, scope_word, timeout_word, place_word, text_word, hex_word, is_count, is_label, labels_word, put_form, write_form, read_form, move_form, copy_form, set_form, delete_form, props_form, prop_form, lock_form, check_form, unlock_form, refresh_form};
+ghost use Rattle.dav_resource_core.specs.Lines.{depth_word, scope_word, timeout_word, place_word, text_word, hex_word, is_count, is_label, labels_word, put_form, write_form, read_form, move_form, copy_form, set_form, delete_form, props_form, prop_form, lock_form, check_form, unlock_form, refresh_form, form_alone, has_two_paths, form_of_ends, form_with_one, form_with_two, form_with_three};
 ghost use Rattle.dav_resource_core.specs.Requests.Command.{PatchProps};
-ghost use Rattle.dav_resource_core.specs.Private.Reading.{exactly, Gives, both, reading, IsRead, IsReadOrRoom, granted_tokens};
+ghost use Rattle.dav_resource_core.specs.Private.Reading.{exactly, Gives, PathIs, both, reading, IsRead, IsReadOrRoom, granted_tokens};
 
 use super::labels::Labels;
 use super::numbers::{is_digits, number};
@@ -97,7 +99,7 @@ pub(super) fn request_of(
 // A path, which is asked for behind the form of all other words.
 type Path = Result<DavPath, ParseError>;
 
-// The command by its word and those behind it, of which no command has four.
+// The command by its word and those behind its path, of which there are three at most.
 fn command_of(
     alloc: Global,
     granted: &Labels,
@@ -105,31 +107,120 @@ fn command_of(
     path: Path,
     args: [Option<&str>; 4],
 ) -> Result<Command, Unread> {
-    match (command, args) {
-        ("put", [Some(hex), None, ..]) => put(alloc, path, hex),
-        ("write", [Some(at), Some(hex), None, ..]) => write(alloc, path, at, hex),
-        ("read", [Some(at), Some(count), None, ..]) => read(path, at, count),
-        ("list", [None, ..]) => Ok(Command::List { path: path? }),
-        ("meta", [None, ..]) => Ok(Command::Meta { path: path? }),
-        ("mkcol", [None, ..]) => Ok(Command::MkCol { path: path? }),
-        ("remove", [None, ..]) => Ok(Command::Remove { path: path? }),
-        ("move", [Some(to), None, ..]) => move_to(path, DavPath::new(alloc, to)),
-        ("copy", [Some(to), None, ..]) => copy_to(path, DavPath::new(alloc, to)),
-        ("setprop", [Some(space), Some(name), Some(hex), None]) => set_prop(
-            alloc, path, space, name, hex,
+    match args {
+        [None, ..] => with_no_words(command, path),
+        [Some(one), None, ..] => with_one_word(alloc, granted, command, path, one),
+        [Some(one), Some(two), None, _] => with_two_words(alloc, granted, command, path, one, two),
+        [Some(one), Some(two), Some(three), None] => with_three_words(
+            alloc, command, path, one, two, three,
         ),
-        ("delprop", [Some(space), Some(name), None, ..]) => delete_prop(alloc, path, space, name),
-        ("props", [None, ..]) => props(path),
-        ("prop", [Some(space), Some(name), None, ..]) => prop(alloc, path, space, name),
-        ("lock", [Some(scope), Some(depth), Some(timeout), None]) => lock(
-            path, scope, depth, timeout,
-        ),
-        ("unlock", [Some(label), None, ..]) => unlock(granted, path, label),
-        ("refresh", [Some(label), Some(timeout), None, ..]) => refresh(
-            granted, path, label, timeout,
-        ),
-        ("discover", [None, ..]) => Ok(Command::Discover { path: path? }),
-        ("check", [Some(depth), None, ..]) => check(path, depth),
+        _ => Err(Unread::Malformed),
+    }
+}
+
+#[tactic(auto, unfolding(crate::specs::Lines::form_alone))]
+fn with_no_words(command: &str, path: Path) -> Result<Command, Unread>
+    ensures { IsRead result (reading (form_alone command.now) path) }
+{
+    match command {
+        "list" => Ok(Command::List { path: path? }),
+        "meta" => Ok(Command::Meta { path: path? }),
+        "mkcol" => Ok(Command::MkCol { path: path? }),
+        "remove" => Ok(Command::Remove { path: path? }),
+        "props" => props(path),
+        "discover" => Ok(Command::Discover { path: path? }),
+        _ => Err(Unread::Malformed),
+    }
+}
+
+// The word is a second path, or says what is done at the one path.
+fn with_one_word(
+    alloc: Global,
+    granted: &Labels,
+    command: &str,
+    path: Path,
+    one: &str,
+) -> Result<Command, Unread>
+    ensures { MatchBool (has_two_paths command.now)
+        ((to : Result PathText ParseError) × PathIs one.now to × IsRead result (reading (form_of_ends command.now) (both path to)))
+        (IsReadOrRoom result (reading (form_with_one (granted_tokens granted.now) command.now one.now) path)) }
+{
+    if has_two_paths(command) {
+        return with_two_paths(command, path, DavPath::new(alloc, one));
+    }
+    at_one_path(alloc, granted, command, path, one)
+}
+
+fn has_two_paths(command: &str) -> bool
+    ensures { result ≡ has_two_paths command.now }
+{
+    command == "move" || command == "copy"
+}
+
+#[tactic(auto, unfolding(crate::specs::Lines::form_of_ends))]
+fn with_two_paths(command: &str, from: Path, to: Path) -> Result<Command, Unread>
+    ensures { IsRead result (reading (form_of_ends command.now) (both from to)) }
+{
+    match command {
+        "move" => move_to(from, to),
+        "copy" => copy_to(from, to),
+        _ => Err(Unread::Malformed),
+    }
+}
+
+#[tactic(auto, unfolding(crate::specs::Lines::form_with_one))]
+fn at_one_path(
+    alloc: Global,
+    granted: &Labels,
+    command: &str,
+    path: Path,
+    one: &str,
+) -> Result<Command, Unread>
+    ensures { IsReadOrRoom result (reading (form_with_one (granted_tokens granted.now) command.now one.now) path) }
+{
+    match command {
+        "put" => put(alloc, path, one),
+        "unlock" => unlock(granted, path, one),
+        "check" => check(path, one),
+        _ => Err(Unread::Malformed),
+    }
+}
+
+#[tactic(auto, unfolding(crate::specs::Lines::form_with_two))]
+fn with_two_words(
+    alloc: Global,
+    granted: &Labels,
+    command: &str,
+    path: Path,
+    one: &str,
+    two: &str,
+) -> Result<Command, Unread>
+    ensures { IsReadOrRoom result (reading (form_with_two (granted_tokens granted.now) command.now one.now two.now) path) }
+{
+    match command {
+        "write" => write(alloc, path, one, two),
+        "read" => read(path, one, two),
+        "delprop" => delete_prop(alloc, path, one, two),
+        "prop" => prop(alloc, path, one, two),
+        "refresh" => refresh(granted, path, one, two),
+        _ => Err(Unread::Malformed),
+    }
+}
+
+#[tactic(auto, unfolding(crate::specs::Lines::form_with_three))]
+fn with_three_words(
+    alloc: Global,
+    command: &str,
+    path: Path,
+    one: &str,
+    two: &str,
+    three: &str,
+) -> Result<Command, Unread>
+    ensures { IsReadOrRoom result (reading (form_with_three command.now one.now two.now three.now) path) }
+{
+    match command {
+        "setprop" => set_prop(alloc, path, one, two, three),
+        "lock" => lock(path, one, two, three),
         _ => Err(Unread::Malformed),
     }
 }

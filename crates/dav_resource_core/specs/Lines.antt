@@ -1,5 +1,5 @@
 -- What the words of a line of `davreplay` say (own).
-use Rattle.std.specs.Prelude.{ℕ, Bool, true, false, not, ◌&&◌, ◌||◌, ◌==◌, List, [], ◌∷◌, Option, Some, None, bytes_eq, codes, if◌then◌else◌, option_map, unwrap_or, slice_get, ◌-◌}
+use Rattle.std.specs.Prelude.{ℕ, Bool, true, false, not, ◌&&◌, ◌||◌, ◌==◌, List, [], ◌∷◌, Option, Some, None, bytes_eq, codes, if◌then◌else◌, option_map, unwrap_or, slice_get, ◌-◌, filter}
 use Rattle.std.specs.Char.{is_ascii_digit}
 use Rattle.std.specs.List.{list_all, slice_split}
 use Rattle.std.specs.Option.{option_map_or}
@@ -9,10 +9,20 @@ use Rattle.dav_headers_core.specs.Behind.{behind}
 use Rattle.dav_headers_core.specs.Optional.{◌>>=◌, when}
 use Rattle.dav_headers_core.specs.Pieces.{is_comma}
 use Rattle.dav_path_core.specs.PathText.{PathText}
-use Rattle.dav_path_core.specs.Segments.{segments}
+use Rattle.dav_path_core.specs.Segments.{segments, is_nonempty}
 use Rattle.dav_files_core.specs.Resources.{Property}
 use Rattle.dav_resource_core.specs.Requests as plain
 use Rattle.dav_resource_core.specs.Seeds.{numeral}
+
+-- a space
+abbrev pub is_space : ℕ → Bool
+is_space b = b == 32
+
+-- the words of a line: what stands between spaces, but for nothing between two
+unfoldable pub words : List ℕ → List (List ℕ)
+words line = filter is_nonempty (slice_split is_space line)
+
+-- ---- single words
 
 -- the word for nothing
 abbrev pub is_dash : List ℕ → Bool

@@ -1,5 +1,6 @@
 -- What the readers of words answer.
-use Rattle.std.specs.Prelude.{ℕ, List, [], map, string_bytes, ◌≡◌, ◌⊎◌, Option, Some, None, Result, Ok, Err}
+use Rattle.std.specs.Prelude.{ℕ, List, [], ◌∷◌, map, string_bytes, ◌≡◌, ◌⊎◌, Option, Some, None, Result, Ok, Err}
+use Rattle.std.specs.Bool.{MatchBool}
 use Rattle.dav_path_core.specs.Fault.{Fault}
 use Rattle.dav_path_core.specs.PathText.{PathText}
 use Rattle.dav_path_core.specs.Reading.{Read}
@@ -9,7 +10,7 @@ use Rattle.dav_resource_core.specs.declared.guarded.requests.Command.{Command}
 use Rattle.dav_resource_core.specs.declared.davreplay.labels.Labels.{Labels}
 use Rattle.dav_resource_core.specs.declared.davreplay.lines.Unread.{Unread}
 use Rattle.dav_resource_core.specs.declared.davreplay.lines.Unread.TheVariants.{Malformed, BadPath, OutOfMemory}
-use Rattle.dav_resource_core.specs.Lines.{Form}
+use Rattle.dav_resource_core.specs.Lines.{Form, form_alone, has_two_paths, form_of_ends, form_with_one, form_with_two, form_with_three}
 use Rattle.dav_resource_core.specs.Requests as plain
 use Rattle.dav_resource_core.specs.Served.{command_of}
 
@@ -58,3 +59,17 @@ IsReadOrRoom (Err e) wanted = (e ≡ OutOfMemory) ⊎ (wanted ≡ Err e)
 -- the tokens of the locks granted so far
 abbrev pub granted_tokens : Labels → List (List ℕ)
 granted_tokens labels = map string_bytes labels.tokens.items
+
+-- a command with one word behind its path, which is a second path of some commands
+abbrev pub IsWithOne : List (List ℕ) → List ℕ → Result PathText ParseError → List ℕ → Result Command Unread → Type 0
+IsWithOne tokens command path one result = MatchBool (has_two_paths command)
+    ((to : Result PathText ParseError) × PathIs one to × IsRead result (reading (form_of_ends command) (both path to)))
+    (IsReadOrRoom result (reading (form_with_one tokens command one) path))
+
+-- a command with these words behind its path
+abbrev pub CommandIs : List (List ℕ) → List ℕ → Result PathText ParseError → List (List ℕ) → Result Command Unread → Type 0
+CommandIs tokens command path [] result = IsRead result (reading (form_alone command) path)
+CommandIs tokens command path (one ∷ []) result = IsWithOne tokens command path one result
+CommandIs tokens command path (one ∷ two ∷ []) result = IsReadOrRoom result (reading (form_with_two tokens command one two) path)
+CommandIs tokens command path (one ∷ two ∷ three ∷ []) result = IsReadOrRoom result (reading (form_with_three command one two three) path)
+CommandIs tokens command path (one ∷ two ∷ three ∷ four ∷ more) result = result ≡ Err Malformed

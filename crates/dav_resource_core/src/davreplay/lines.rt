@@ -1,15 +1,13 @@
 //! The form of a line.
-ghost use Rattle.std.specs.Prelude.{◌≡◌, Result, List, [], ◌∷◌, Ok, Some, None, map, option_map, string_bytes, IfOk};
+ghost use Rattle.std.specs.Prelude.{◌≡◌, List, [], ◌∷◌, Ok, Some, None, map, option_map, string_bytes, IfOk};
 ghost use Rattle.std.specs.List.{list_all, slice_split};
-ghost use Rattle.std.specs.Bool.{MatchBool};
-ghost use Rattle.dav_path_core.specs.PathText.{PathText};
 ghost use Rattle.dav_path_core.specs.Segments.{segments};
 ghost use Rattle.dav_files_core.specs.Properties.{property_of};
 ghost use Rattle.dav_headers_core.specs.Pieces.{is_comma};
 ghost use Rattle.dav_resource_core.specs.Seeds.{numeral};
-ghost use Rattle.dav_resource_core.specs.Lines.{depth_word, scope_word, timeout_word, place_word, text_word, hex_word, is_count, is_label, labels_word, put_form, write_form, read_form, move_form, copy_form, set_form, delete_form, props_form, prop_form, lock_form, check_form, unlock_form, refresh_form, form_alone, has_two_paths, form_of_ends, form_with_one, form_with_two, form_with_three};
+ghost use Rattle.dav_resource_core.specs.Lines.{words, depth_word, scope_word, timeout_word, place_word, text_word, hex_word, is_count, is_label, labels_word, put_form, write_form, read_form, move_form, copy_form, set_form, delete_form, props_form, prop_form, lock_form, check_form, unlock_form, refresh_form, form_alone, has_two_paths, form_of_ends, form_with_one, form_with_two, form_with_three};
 ghost use Rattle.dav_resource_core.specs.Requests.Command.{PatchProps};
-ghost use Rattle.dav_resource_core.specs.Private.Reading.{exactly, Gives, PathIs, both, reading, IsRead, IsReadOrRoom, granted_tokens};
+ghost use Rattle.dav_resource_core.specs.Private.Reading.{exactly, Gives, IsWithOne, CommandIs, both, reading, IsRead, IsReadOrRoom, granted_tokens};
 
 use super::labels::Labels;
 use super::numbers::{is_digits, number};
@@ -71,29 +69,32 @@ pub(super) fn request_of(
     line: &[u8],
 ) -> Result<Option<Request>, Unread> {
     let text = str::from_utf8(line).map_err(|_| Unread::Malformed)?;
-    let mut words = text.split(' ').filter(|word| !word.is_empty());
-    let Some(now) = words.next() else {
-        return Ok(None);
-    };
-    let [Some(principal), Some(labels), Some(command), Some(path)] = [
-        words.next(),
-        words.next(),
-        words.next(),
-        words.next(),
-    ] else {
-        return Err(Unread::Malformed);
-    };
-    let args = [words.next(), words.next(), words.next(), words.next()];
-    let now = Moment(number_of(now)?);
-    let labels = labels_of(alloc, labels)?;
-    let path = DavPath::new(alloc, path);
-    let command = command_of(alloc, granted, command, path, args)?;
-    Ok(Some(Request {
-        principal: text_of(alloc, principal)?,
-        tokens: granted.tokens_of(&labels)?,
-        now,
-        command,
-    }))
+    let words = words_of(alloc, text)?;
+    match words.as_slice() {
+        [] => Ok(None),
+        [now, principal, labels, command, path, args @ ..] => {
+            let now = Moment(number_of(now)?);
+            let labels = labels_of(alloc, labels)?;
+            let path = DavPath::new(alloc, path);
+            let command = command_of(alloc, granted, command, path, args)?;
+            Ok(Some(Request {
+                principal: text_of(alloc, principal)?,
+                tokens: granted.tokens_of(&labels)?,
+                now,
+                command,
+            }))
+        }
+        _ => Err(Unread::Malformed),
+    }
+}
+
+// What stands between spaces, but for nothing between two.
+fn words_of<'a>(alloc: Global, text: &'a str) -> Result<Vec<&'a str>, AllocError>
+    ensures { IfOk result (λ found. map (λ word. word.now) found.items ≡ words text.now) }
+{
+    text.split(' ')
+        .filter(|word| !word.is_empty())
+        .collect(alloc)
 }
 
 // A path, which is asked for behind the form of all other words.
@@ -105,15 +106,15 @@ fn command_of(
     granted: &Labels,
     command: &str,
     path: Path,
-    args: [Option<&str>; 4],
-) -> Result<Command, Unread> {
+    args: &[&str],
+) -> Result<Command, Unread>
+    ensures { CommandIs (granted_tokens granted.now) command.now path (map (λ arg. arg.now) args.now) result }
+{
     match args {
-        [None, ..] => with_no_words(command, path),
-        [Some(one), None, ..] => with_one_word(alloc, granted, command, path, one),
-        [Some(one), Some(two), None, _] => with_two_words(alloc, granted, command, path, one, two),
-        [Some(one), Some(two), Some(three), None] => with_three_words(
-            alloc, command, path, one, two, three,
-        ),
+        [] => with_no_words(command, path),
+        [one] => with_one_word(alloc, granted, command, path, one),
+        [one, two] => with_two_words(alloc, granted, command, path, one, two),
+        [one, two, three] => with_three_words(alloc, command, path, one, two, three),
         _ => Err(Unread::Malformed),
     }
 }
@@ -141,9 +142,7 @@ fn with_one_word(
     path: Path,
     one: &str,
 ) -> Result<Command, Unread>
-    ensures { MatchBool (has_two_paths command.now)
-        ((to : Result PathText ParseError) × PathIs one.now to × IsRead result (reading (form_of_ends command.now) (both path to)))
-        (IsReadOrRoom result (reading (form_with_one (granted_tokens granted.now) command.now one.now) path)) }
+    ensures { IsWithOne (granted_tokens granted.now) command.now path one.now result }
 {
     if has_two_paths(command) {
         return with_two_paths(command, path, DavPath::new(alloc, one));

@@ -96,6 +96,9 @@ target http://x.yz/a?b
 same /a/b /b /a
 method MKCOL
 methods webdav-ro GET
+xml <?xml%20version='1.0'?><p:a%20xmlns:p='u:x'%20p:b='1'%20c='&amp;'>x<!--y-->&#65;<![CDATA[z]]><b/></p:a>
+xml <a>&b;</a>
+write xml <a%20xmlns='DAV:'%20xmlns:p='u:x'%20p:b='&lt;'>x</a>
 """
 
 CHANGES = "put write mkcol remove move copy setprop delprop lock unlock refresh".split()

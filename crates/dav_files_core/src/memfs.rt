@@ -141,22 +141,23 @@ impl MemFs {
     /// with both times `now` (RFC 4918 section 9.7).
     ///
     /// For a missing file its folder is found: `NotFound` where the longest front of the folder's path that is there is a
-    /// folder, `Forbidden` where it is a file. `Forbidden` for a folder at the path. `InsufficientStorage` where it is out of
-    /// memory or numbers, before any other refusal.
+    /// folder, `Forbidden` where it is a file. `Forbidden` for a folder at the path. Where nothing of that refuses,
+    /// `InsufficientStorage` where it is out of memory or numbers.
     pub fn put(&mut self, path: &DavPath, bytes: &[u8], now: Moment) -> FsResult<()>
         ensures answer { AnswersAs (λ _. tt) result (put self.old (segments path.now.bytes) bytes.now now.0) self.old self.new }
         ensures shape { IsResourceMap self.new }
     {
-        let content = copy_of(self.alloc, bytes)?;
         match self.target_of(path)? {
             Target::Entry(id) => {
                 if !self.node_at(id).is_file() {
                     return Err(FsError::Forbidden);
                 }
+                let content = copy_of(self.alloc, bytes)?;
                 self.write(id, content, now);
                 Ok(())
             }
             Target::Missing { folder, name } => {
+                let content = copy_of(self.alloc, bytes)?;
                 let node = Node::new_file(self.alloc, content, now);
                 self.add_entry(folder, name, node)?;
                 Ok(())

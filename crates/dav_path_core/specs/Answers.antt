@@ -1,5 +1,5 @@
--- What a call answers, by what its definition says; that it is out of memory may come before any other refusal.
-use Rattle.std.specs.Prelude.{◌≡◌, ◌⊎◌, Option, Some, None, Result, Ok, Err}
+-- What a call answers, by what its definition says, and when it may be out of memory instead.
+use Rattle.std.specs.Prelude.{◌≡◌, ◌⊎◌, Option, Some, None, Result, Ok, Err, IsOk}
 use Rattle.dav_path_core.specs.declared.errors.FsError.{FsError}
 use Rattle.dav_path_core.specs.declared.errors.FsError.TheVariants.{InsufficientStorage}
 
@@ -8,13 +8,22 @@ abbrev pub Answers : {T : Type 0} → Option FsError → Result T FsError → (T
 Answers refusal (Ok x) P Q = (refusal ≡ None) × P x
 Answers refusal (Err e) P Q = ((e ≡ InsufficientStorage) ⊎ (refusal ≡ Some e)) × Q
 
+-- out of memory where nothing else refuses, or else as the outcome refuses
+abbrev pub Refused : {A : Type 0} → Result A FsError → FsError → Type 0
+Refused outcome e = ((e ≡ InsufficientStorage) × IsOk outcome) ⊎ (outcome ≡ Err e)
+
 -- The call answers as the outcome says, its answer seen by `view`, and leaves the state that the outcome says;
 -- refused, it leaves the state as it was.
 abbrev pub AnswersAs : {A B S : Type 0} → (A → B) → Result A FsError → Result (B × S) FsError → S → S → Type 0
 AnswersAs view (Ok x) outcome old new = outcome ≡ Ok (view x, new)
-AnswersAs view (Err e) outcome old new = (new ≡ old) × ((e ≡ InsufficientStorage) ⊎ (outcome ≡ Err e))
+AnswersAs view (Err e) outcome old new = (new ≡ old) × Refused outcome e
 
 -- the same of a call that changes nothing
 abbrev pub Tells : {A B : Type 0} → (A → B) → Result A FsError → Result B FsError → Type 0
 Tells view (Ok x) outcome = outcome ≡ Ok (view x)
-Tells view (Err e) outcome = (e ≡ InsufficientStorage) ⊎ (outcome ≡ Err e)
+Tells view (Err e) outcome = Refused outcome e
+
+-- as `AnswersAs`, where out of memory may come in place of any other refusal, too
+abbrev pub AnswersWithRoom : {A B S : Type 0} → (A → B) → Result A FsError → Result (B × S) FsError → S → S → Type 0
+AnswersWithRoom view (Ok x) outcome old new = outcome ≡ Ok (view x, new)
+AnswersWithRoom view (Err e) outcome old new = (new ≡ old) × ((e ≡ InsufficientStorage) ⊎ (outcome ≡ Err e))

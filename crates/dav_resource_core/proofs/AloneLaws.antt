@@ -21,7 +21,7 @@ use Rattle.dav_locks_core.proofs.laws.ExclusiveLemmas.{Exclusive-filter, held_ab
 use Rattle.dav_locks_core.proofs.laws.StandInLemmas.{In-StandIn}
 use Rattle.dav_resource_core.specs.Requests.{Command, Request, Reply, Locks, Fs, Locked, NoLock, OutOfMemory, Answer}
 use Rattle.dav_resource_core.specs.Checks.{Check, caller_of, checks, has, refusing}
-use Rattle.dav_resource_core.specs.ResourceStep.{is_on_map, Does, locks_left}
+use Rattle.dav_resource_core.specs.ResourceStep.{is_on_map, Does, MayLackOnMap, locks_left}
 use Rattle.dav_resource_core.specs.Naming.{names_as, names, unlocks, refreshes}
 use Rattle.dav_resource_core.specs.Step.{State, IsState, Same, conflicts, conflicts_by, FindsNone, MayLackMemory, Effect, Serves, start_of, Run}
 use Rattle.dav_resource_core.specs.Alone.{is_within, under, requests_under, answers_under, NamedUnder, Lasts, IsLetIn, raised, RaisedRun, Alone, HoldersAlone}
@@ -175,6 +175,7 @@ module _ (l : Lock) (own : l.shared ≡ false) (deep : l.deep ≡ true) where
 
   -- so it is answered in the other state, too, and the states agree afterwards
   serves_lone : (s s' t : State) (r : Request) (a : Answer) → IsUnder r → Lone s t → Serves s r a s' → ServedToo t r a s'
+  unfolding MayLackOnMap
   serves_lone s s' t r (Ok reply) u lone h = elim (cases_Bool (is_on_map r.command)) [
     | inl on ↦
         let c : Command = r.command in
@@ -198,7 +199,19 @@ module _ (l : Lock) (own : l.shared ≡ false) (deep : l.deep ≡ true) where
       h.0.0,
       no_conflict t r u lone.alone,
       elim h.0.2 [
-        | inl full ↦ inl full
+        | inl full ↦
+            inl (
+              full.0,
+              (
+                full.1.0,
+                elim full.1.1 [
+                  | inl early ↦ inl early
+                  | inr done ↦
+                      let does = does_below (lock_path l) s.map t.map done.1 r.command r.now (Ok done.0) lone.agree u.within done.2 in
+                      inr (done.0, does.0, does.1)
+                ],
+              ),
+            )
         | inr refused ↦
             let does = does_below (lock_path l) s.map t.map s.map r.command r.now (Err e) lone.agree u.within refused in
             inr (subst (Does t.map r.command r.now (Err e)) (does_refused t.map does.0 r.command r.now e does.1) does.1)

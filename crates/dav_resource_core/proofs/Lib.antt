@@ -5,3 +5,4 @@ pub mod Numerals
 pub mod RunLaws
 pub mod Serving
 pub mod StepLaws
+pub mod Texts

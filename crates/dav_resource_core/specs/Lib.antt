@@ -1,4 +1,5 @@
 pub mod Alone
+pub mod AnswerTexts
 pub mod Checks
 pub mod Isolation
 pub mod Lines

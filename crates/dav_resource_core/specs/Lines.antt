@@ -1,5 +1,5 @@
 -- What the words of a line of `davreplay` say (own).
-use Rattle.std.specs.Prelude.{ℕ, Bool, true, false, not, ◌&&◌, ◌||◌, ◌==◌, List, [], ◌∷◌, Option, Some, None, bytes_eq, codes, if◌then◌else◌, option_map, unwrap_or, slice_get, ◌-◌, filter}
+use Rattle.std.specs.Prelude.{ℕ, Bool, true, false, not, ◌&&◌, ◌||◌, ◌==◌, List, [], ◌∷◌, Option, Some, None, bytes_eq, codes, if◌then◌else◌, option_map, unwrap_or, slice_get, ◌-◌, filter, map}
 use Rattle.std.specs.Char.{is_ascii_digit}
 use Rattle.std.specs.List.{list_all, slice_split}
 use Rattle.std.specs.Option.{option_map_or}
@@ -40,13 +40,17 @@ scope_word word =
     if bytes_eq word (codes "exclusive") then Some false else (
     if bytes_eq word (codes "shared") then Some true else None)
 
+-- nothing by a word of its own, or a number
+unfoldable pub number_or : List ℕ → List ℕ → Option (Option ℕ)
+number_or none word = if bytes_eq word none then Some None else option_map Some (numeral word)
+
 -- no timeout, or so many seconds
-unfoldable pub timeout_word : List ℕ → Option (Option ℕ)
-timeout_word word = if is_dash word then Some None else option_map Some (numeral word)
+abbrev pub timeout_word : List ℕ → Option (Option ℕ)
+timeout_word = number_or (codes "-")
 
 -- the end of a file, or a place in it
-unfoldable pub place_word : List ℕ → Option (Option ℕ)
-place_word word = if bytes_eq word (codes "end") then Some None else option_map Some (numeral word)
+abbrev pub place_word : List ℕ → Option (Option ℕ)
+place_word = number_or (codes "end")
 
 -- no text, or the word itself
 unfoldable pub text_word : List ℕ → Option (List ℕ)
@@ -174,3 +178,18 @@ unfoldable pub form_with_three : List ℕ → List ℕ → List ℕ → List ℕ
 form_with_three command one two three =
     if bytes_eq command (codes "setprop") then set_form one two three else (
     if bytes_eq command (codes "lock") then lock_form one two three else None)
+
+-- ---- the first three words of a line, and what they and its command ask
+
+-- the moment, the principal, and the tokens that the labels stand for
+pub record Head : Type 0 where
+  pub now : ℕ
+  pub principal : Option (List ℕ)
+  pub tokens : List (List ℕ)
+
+abbrev pub head_form : List (List ℕ) → List ℕ → List ℕ → List ℕ → Option Head
+head_form tokens moment principal labels = numeral moment >>= λ now. labels_word labels >>= λ named.
+    Some (record { now = now; principal = text_word principal; tokens = map (token_of tokens) named })
+
+abbrev pub asked : Head → plain.Command → plain.Request
+asked head command = record { principal = head.principal; tokens = head.tokens; now = head.now; command = command }

@@ -1,3 +1,4 @@
 -- Words that private contracts alone name.
+pub mod Playing
 pub mod Reading
 pub mod Serving

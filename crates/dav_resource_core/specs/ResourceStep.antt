@@ -1,5 +1,5 @@
 -- The resource step: what commands do on a resource map (RFC 4918 section 9).
-use Rattle.std.specs.Prelude.{◌≡◌, ℕ, List, Bool, true, false, Result, Ok, Err}
+use Rattle.std.specs.Prelude.{◌≡◌, ◌⊎◌, ℕ, List, Bool, true, false, Result, Ok, Err}
 use Rattle.dav_path_core.specs.declared.errors.FsError.{FsError}
 use Rattle.dav_files_core.specs.Resources.{Property, ResourceMap}
 use Rattle.dav_files_core.specs.Outcomes.{Outcome, ◌>>=◌}
@@ -71,6 +71,19 @@ abbrev pub takes_map_memory : Command → Bool
 takes_map_memory (Command.Meta path) = false
 takes_map_memory (Command.Remove path) = false
 takes_map_memory command = is_on_map command
+
+-- it takes memory before all is looked at that may refuse it
+abbrev pub takes_memory_early : Command → Bool
+takes_memory_early (Command.Move from to) = true
+takes_memory_early _ = false
+
+-- nothing on the map refuses it
+abbrev pub IsDone : ResourceMap → Command → ℕ → Type 0
+IsDone m command now = (reply : Reply) × (m' : ResourceMap) × Does m command now (Ok reply) m'
+
+-- its work on the map may be out of memory
+unfoldable pub MayLackOnMap : ResourceMap → Command → ℕ → Type 0
+MayLackOnMap m command now = (takes_map_memory command ≡ true) × ((takes_memory_early command ≡ true) ⊎ IsDone m command now)
 
 -- the locks that stand once it is done: where something goes, the locks there and below go with it
 abbrev pub locks_left : Command → List Lock → List Lock

@@ -11,7 +11,7 @@ use Rattle.dav_locks_core.specs.Tokens.{token_from}
 use Rattle.dav_locks_core.specs.NewLock.{new_lock}
 use Rattle.dav_resource_core.specs.Requests.{Command, Request, Reply, Done, Granted, Locks, Fs, Locked, NoLock, OutOfMemory, Answer}
 use Rattle.dav_resource_core.specs.Checks.{caller_of, checks, refusing, MayLack}
-use Rattle.dav_resource_core.specs.ResourceStep.{is_on_map, Does, takes_map_memory, locks_left}
+use Rattle.dav_resource_core.specs.ResourceStep.{is_on_map, Does, MayLackOnMap, locks_left}
 
 -- the map, the locks, and what the generator still gives
 pub record State : Type 0 where
@@ -67,14 +67,14 @@ Effect (Command.Check path deep) s r reply s' = (reply ≡ Done) × Same s s'
 Effect command s r reply s' = Does s.map command r.now (Ok reply) s'.map × IsState s' s'.map (locks_left command s.locks) s.rng
 
 -- Each answer, and when it comes. A refusal leaves the state. Out of memory comes only to a command whose checks, or whose work, may
--- lack memory, and then in place of any other answer; of the work on the map only where no lock stands in the way.
+-- lack memory; of the work on the map only where no lock stands in the way and, but for a move, nothing else refuses.
 abbrev pub Serves : State → Request → Answer → State → Type 0
 Serves s r (Err (Locked l)) s' = Contains (conflicts s r) l × Same s s'
 Serves s r (Err OutOfMemory) s' = MayLackMemory r.command s r × Same s s'
 Serves s r (Err NoLock) s' = FindsNone r.command s.locks × Same s s'
 Serves s r (Err (Fs e)) s' =
     ((is_on_map r.command ≡ true) × (conflicts s r ≡ [])
-    × (((e ≡ InsufficientStorage) × (takes_map_memory r.command ≡ true)) ⊎ Does s.map r.command r.now (Err e) s.map))
+    × (((e ≡ InsufficientStorage) × MayLackOnMap s.map r.command r.now) ⊎ Does s.map r.command r.now (Err e) s.map))
     × Same s s'
 Serves s r (Ok reply) s' = (conflicts s r ≡ []) × Effect r.command s r reply s'
 

@@ -1,5 +1,9 @@
 //! A player of scenarios: one request a line, one answer a line.
-ghost use Rattle.std.specs.Prelude.{◌≡◌, ◌⊎◌, map, string_bytes};
+ghost use Rattle.std.specs.Prelude.{◌≡◌, ◌⊎◌, map, string_bytes, IfOk};
+ghost use Rattle.std.specs.Io.Buffered.{writer_contents};
+ghost use Rattle.std.specs.Io.KnownBytes.{Appends};
+ghost use Rattle.dav_resource_core.specs.Private.Playing.{Follows, LinePlayed};
+ghost use Rattle.dav_resource_core.specs.Stores.{state_of};
 ghost use Rattle.dav_resource_core.specs.Seeds.{seed};
 
 mod answers;
@@ -8,14 +12,14 @@ mod lines;
 mod numbers;
 mod playing;
 
-use crate::guarded::Guarded;
+use crate::guarded::{Guarded, Request};
 use dav_files_core::fs::Moment;
 use labels::Labels;
 use line_streams::{Fault, read_line};
 use lines::{Unread, request_of};
 use numbers::number;
 use playing::Player;
-use rand_core::SeedableRng;
+use rand_core::{Rng, SeedableRng};
 use rand_pcg::Pcg64;
 use std::alloc::Global;
 use std::io::{BufReader, BufWriter, Read, Write};
@@ -88,9 +92,9 @@ fn play<I: Read + Drop, O: Write + Drop>(
 }
 
 // One line at a time, in one buffer, up to one of a wrong form.
-fn play_lines<I: Read + Drop, O: Write + Drop>(
+fn play_lines<R: Rng + Drop, I: Read + Drop, O: Write + Drop>(
     alloc: Global,
-    player: &mut Player,
+    player: &mut Player<R>,
     input: &mut BufReader<I>,
     output: &mut BufWriter<O>,
 ) -> Result<Option<u64>, Fault> {
@@ -107,18 +111,44 @@ fn play_lines<I: Read + Drop, O: Write + Drop>(
 }
 
 // Answers a line, and tells whether it has a right form.
-fn play_line<O: Write + Drop>(
+fn play_line<R: Rng + Drop, O: Write + Drop>(
     alloc: Global,
-    player: &mut Player,
+    player: &mut Player<R>,
     line: &[u8],
     output: &mut BufWriter<O>,
-) -> Result<bool, Fault> {
-    match request_of(alloc, &player.labels, line) {
-        Ok(Some(request)) => player.answer(&request, output)?,
-        Ok(None) => {}
-        Err(Unread::Malformed) => return Ok(false),
-        Err(Unread::BadPath(error)) => writeln!(output, "bad path {error}")?,
-        Err(Unread::OutOfMemory) => output.write_all(OUT_OF_MEMORY)?,
+) -> Result<bool, Fault>
+    ensures { IfOk result (λ right. LinePlayed (state_of player.old.stores (R.stream player.old.rng), player.old.labels) line.now right
+        (state_of player.new.stores (R.stream player.new.rng), player.new.labels)
+        (Appends (writer_contents O.contents output.old) (writer_contents O.contents output.new))) }
+{
+    let said = request_of(alloc, &player.labels, line);
+    follow(player, said, output)
+}
+
+// What follows what a line says.
+fn follow<R: Rng + Drop, O: Write + Drop>(
+    player: &mut Player<R>,
+    said: Result<Option<Request>, Unread>,
+    output: &mut BufWriter<O>,
+) -> Result<bool, Fault>
+    ensures { IfOk result (λ right. Follows (state_of player.old.stores (R.stream player.old.rng), player.old.labels) said right
+        (state_of player.new.stores (R.stream player.new.rng), player.new.labels)
+        (Appends (writer_contents O.contents output.old) (writer_contents O.contents output.new))) }
+{
+    match said {
+        Ok(Some(request)) => {
+            player.answer(&request, output)?;
+            Ok(true)
+        }
+        Ok(None) => Ok(true),
+        Err(Unread::Malformed) => Ok(false),
+        Err(Unread::BadPath(error)) => {
+            writeln!(output, "bad path {error}")?;
+            Ok(true)
+        }
+        Err(Unread::OutOfMemory) => {
+            output.write_all(OUT_OF_MEMORY)?;
+            Ok(true)
+        }
     }
-    Ok(true)
 }

@@ -2,7 +2,7 @@
 use crate::headers::{self, Header};
 use crate::refusals::Refusal;
 use crate::words::words_of;
-use crate::{equality, methods, paths};
+use crate::{equality, methods, paths, xml};
 use line_streams::{Fault, read_line};
 use std::alloc::Global;
 use std::io::{BufReader, BufWriter, Read, Write};
@@ -60,6 +60,9 @@ fn answer_of(alloc: Global, kind: &[u8], words: &[&[u8]]) -> Result<String, Refu
         ("same", [text, other, prefixes @ ..]) => paths::same(alloc, text, other, prefixes),
         ("method", [word]) => methods::method(alloc, word),
         ("methods", words) => methods::methods(alloc, words),
+        ("xml", [word]) => xml::document(alloc, word),
+        ("write", [b"element", word]) => xml::alone(alloc, word),
+        ("write", [b"xml", word]) => xml::written(alloc, word),
         ("value", [b"etag", word]) => headers::tag_of_value(alloc, word),
         ("equal", [kind, word, other]) => equality::equal(alloc, Header::named(kind)?, word, other),
         ("text", [kind, word]) => headers::of_text(alloc, Header::named(kind)?, word),

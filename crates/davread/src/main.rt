@@ -1,4 +1,4 @@
-//! Says what values of headers, paths and methods mean: one line of standard input, one answer a line of standard output.
+//! Says what values of headers, paths, methods and documents mean: one line of standard input, one answer a line of standard output.
 #![tactic(auto)]
 
 mod equality;
@@ -9,6 +9,7 @@ mod paths;
 mod refusals;
 mod telling;
 mod words;
+mod xml;
 
 use line_streams::Fault;
 use lines::answer_lines;

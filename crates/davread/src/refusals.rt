@@ -2,6 +2,7 @@
 use dav_headers_core::davheaders::HeaderError;
 use dav_path_core::davpath::ParseError;
 use dav_path_core::util::InvalidMethod;
+use dav_xml_core::davxml::XmlError;
 use std::alloc::AllocError;
 use thiserror::Error;
 
@@ -26,6 +27,9 @@ pub enum Refusal {
     /// The path isn't read, or has no such prefix.
     #[error("{0}")]
     Path(#[from] ParseError),
+    /// The bytes are read as no document.
+    #[error("{0}")]
+    Xml(#[from] XmlError),
     /// A word stands for no method.
     #[error("{0}")]
     Method(#[from] InvalidMethod),

@@ -1,5 +1,5 @@
 -- Another node of an entry, in the tree and in the map, where the change may be refused.
-use Rattle.std.proofs.Common.{◌≡◌, inl, ℕ, Some, Result, Ok, Err, IfOk, IfErr, OnOk, sym, subst}
+use Rattle.std.proofs.Common.{◌≡◌, inl, ℕ, Some, Result, Ok, Err, IfOk, IfErr, OnOk, refl, sym, subst}
 use Rattle.dav_path_core.specs.Answers.{AnswersAs}
 use Rattle.dav_path_core.specs.declared.errors.FsError.{FsError}
 use Rattle.dav_path_core.specs.declared.errors.FsError.TheVariants.{InsufficientStorage}
@@ -35,4 +35,4 @@ module _ {A : Type 0} (t : FileTree) (m : ResourceMap) (rep : Represents t m) (i
 
       left : changed m p x (set x.node) ≡ resource_map t'
       left = is_view t' _ (stands p x here number t' sets)
-  tried_answer view answer (Err e) t' sets keeps is p x here number = (sym (is_view t' m (subst (λ t. Represents t m) (sym keeps.1) rep)), inl keeps.0)
+  tried_answer view answer (Err e) t' sets keeps is p x here number = (sym (is_view t' m (subst (λ t. Represents t m) (sym keeps.1) rep)), inl (keeps.0, refl))

@@ -10,7 +10,6 @@ use Rattle.dav_path_core.proofs.paths.FrontLemmas.{is_same_path-refl}
 use Rattle.dav_files_core.specs.Following.{TakesAlong, TakesPlace, OthersStay, dated, dated_folder}
 use Rattle.dav_files_core.specs.Folders.{is_root}
 use Rattle.dav_files_core.specs.Moved.{moved, path_after}
-use Rattle.dav_files_core.specs.OpenFiles.{with_number}
 use Rattle.dav_files_core.specs.Outcomes.{touched, touched_at}
 use Rattle.dav_files_core.specs.Renaming.{rename, relocated}
 use Rattle.dav_files_core.specs.Resources.{Resource, ResourceMap, at_path, IsResourceMap}

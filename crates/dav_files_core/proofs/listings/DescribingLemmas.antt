@@ -1,6 +1,7 @@
 -- What is listed for names and numbers is what is known of the members.
 use Rattle.std.proofs.Common.{◌≡◌, inl, ℕ, zero, suc, ◌<◌, List, [], ◌∷◌, ◌++◌, length, map, get_or, Vec, Global, Some, Result, Ok, Err, MatchResult, refl, sym, ap, ◌∙◌, subst, arith}
 use Rattle.std.specs.FinMap.{entries, get}
+use Rattle.std.specs.Prelude.{is_ok}
 use Rattle.dav_path_core.specs.Answers.{Tells}
 use Rattle.dav_path_core.specs.declared.errors.FsError.{FsError}
 use Rattle.dav_path_core.specs.declared.errors.FsError.TheVariants.{InsufficientStorage}
@@ -60,4 +61,5 @@ module _ (m : ResourceMap) where
     listing_answer r here kind pairs is (Ok v) h =
         ap (λ (o : Result Resource FsError). o >>= λ (_ : Resource). Ok (map listed (entries (members m p)))) (folder_found m p r here kind)
         ∙ ap (λ xs. Ok xs) (same_list (entries (members m p)) all_stand v.items (subst (λ xs. Described m xs v.items) is h))
-    listing_answer r here kind pairs is (Err e) h = inl h
+    listing_answer r here kind pairs is (Err e) h =
+        inl (h, ap is_ok (ap (λ (o : Result Resource FsError). o >>= λ (_ : Resource). Ok (map listed (entries (members m p)))) (folder_found m p r here kind)))

@@ -5,7 +5,7 @@ use Rattle.std.specs.Cmp.Lexicographic.{pointwise, bytes_decides}
 use Rattle.std.specs.Cmp.{nat_cmp_total}
 use Rattle.std.specs.FinMap.{get, nat_cmp-IsAntisymmetric}
 use Rattle.std.proofs.lemmas.Bool.{true≢false, eq-eqb, ne_eqb}
-use Rattle.dav_path_core.specs.Answers.{AnswersAs}
+use Rattle.dav_path_core.specs.Answers.{AnswersWithRoom}
 use Rattle.dav_path_core.specs.declared.errors.FsError.{FsError}
 use Rattle.dav_path_core.specs.declared.errors.FsError.TheVariants.{NotFound, Exists, Forbidden}
 use Rattle.dav_path_core.specs.Fronts.{Segment, Path, behind}
@@ -233,7 +233,7 @@ module _ (t : FileTree) (m : ResourceMap) (rep : Represents t m)
   moved_stands (Err e) t' h outside = stands_itself t' m (subst (λ t. Represents t m) (sym h.1) rep)
 
   pub moved_answer : (result : Result (Unit {0}) FsError) (t' : FileTree) → Moves result t' → IfOk result (λ _. ¬ IsBelow) → IfErr result (λ e. e ≡ Forbidden → IsBelow)
-      → AnswersAs (λ _. tt {0}) result (put_there_outcome m from to) m (resource_map t')
+      → AnswersWithRoom (λ _. tt {0}) result (put_there_outcome m from to) m (resource_map t')
   moved_answer (Ok x) t' h outside up =
       let d = done t' h.0 outside h.1 in
       ap (λ (o : Result ResourceMap FsError). o >>= λ (m : ResourceMap). Ok (tt {0}, m)) d.1 ∙ ap (λ m. Ok (tt {0}, m)) (is_view t' d.0 d.2)

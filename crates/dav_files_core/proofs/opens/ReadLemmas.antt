@@ -1,7 +1,8 @@
 -- What a read or a write at a path answers, through a file that is opened for it; and what is known of a path.
 use Rattle.std.proofs.Common.{◌≡◌, inl, inr, ℕ, ◌+◌, ◌^◌, Bool, true, false, List, length, None, Option, Some, Result, Ok, Err, refl, sym, ap, ◌∙◌, subst}
 use Rattle.std.specs.Option.{ok_or}
-use Rattle.std.specs.Prelude.{nat_lt, unwrap_or, is_none, if◌then◌else◌}
+use Rattle.std.specs.Prelude.{nat_lt, unwrap_or, is_none, is_ok, if◌then◌else◌}
+use Rattle.std.proofs.lemmas.Bool.{false≢true}
 use Rattle.dav_path_core.specs.Answers.{AnswersAs, Tells}
 use Rattle.dav_path_core.specs.declared.errors.FsError.{FsError}
 use Rattle.dav_path_core.specs.declared.errors.FsError.TheVariants.{NotFound, Forbidden, TooLarge}
@@ -97,7 +98,7 @@ module _ (read write append : Bool) (m : ResourceMap) (p : Path) (now : ℕ) whe
           let pairs : (bytes, record file { position = at + length bytes }) ≡ (b, g') = cc in
           read_is ∙ ap (λ (x : List ℕ × OpenFile). Ok x.0) pairs
       read_through (Err e) g g' h = elim h.1 [
-        | inl out ↦ inl out
+        | inl out ↦ inl (out.0, ap is_ok read_is)
         | inr refused ↦ absurd (let both : ◌≡◌ {A = Result (List ℕ × OpenFile) FsError} (Ok (bytes, record file { position = at + length bytes })) (Err e) = sym reads ∙ refused in cc)
       ]
 
@@ -164,12 +165,12 @@ module _ (m : ResourceMap) (p : Path) (is_map : IsResourceMap m) (at : Option �
       by true (Ok x) h is =
           let pairs : (tt {0}, (record behind { position = start + length new }, written)) ≡ (x, (g, m'')) = cc in
           is ∙ ap (λ (y : Unit {0} × (OpenFile × ResourceMap)). Ok (y.0, y.1.1)) pairs
-      by true (Err e) h is = (ap (λ (y : OpenFile × ResourceMap). y.1) h.0, elim h.1 [ inl out ↦ inl out | inr refused ↦ absurd (cc) ])
+      by true (Err e) h is = (ap (λ (y : OpenFile × ResourceMap). y.1) h.0, elim h.1 [ inl out ↦ inl (out.0, ap is_ok is) | inr refused ↦ absurd (cc) ])
       by false (Ok x) h is = absurd (cc)
       by false (Err e) h is = (
         ap (λ (y : OpenFile × ResourceMap). y.1) h.0,
         elim h.1 [
-          | inl out ↦ inl out
+          | inl out ↦ absurd (false≢true out.1)
           | inr refused ↦ inr (is ∙ (let same : TooLarge ≡ e = cc in ap (λ (x : FsError). Err x) same))
         ],
       )

@@ -1,10 +1,10 @@
 -- What a write answers, by the entry that is open.
-use Rattle.std.proofs.Common.{◌≡◌, ◌⊎◌, inl, inr, ℕ, ◌+◌, ◌<◌, ◌^◌, List, length, Some, Result, Ok, Err, sym, ap, ◌∙◌, subst}
-use Rattle.std.specs.Prelude.{nat_lt, Bool, true, false, if◌then◌else◌}
+use Rattle.std.proofs.Common.{◌≡◌, inl, inr, ℕ, ◌+◌, ◌<◌, ◌^◌, List, length, Some, Result, Ok, Err, sym, ap, ◌∙◌, subst}
+use Rattle.std.specs.Prelude.{nat_lt, Bool, true, false, if◌then◌else◌, IsOk}
 use Rattle.std.proofs.lemmas.Bool.{cases_Bool, ltb-true, lt-ltb}
-use Rattle.dav_path_core.specs.Answers.{AnswersAs}
+use Rattle.dav_path_core.specs.Answers.{AnswersAs, Refused}
 use Rattle.dav_path_core.specs.declared.errors.FsError.{FsError}
-use Rattle.dav_path_core.specs.declared.errors.FsError.TheVariants.{InsufficientStorage, TooLarge}
+use Rattle.dav_path_core.specs.declared.errors.FsError.TheVariants.{TooLarge}
 use Rattle.dav_path_core.specs.Fronts.{Path}
 use Rattle.dav_files_core.specs.OpenFiles.{open_file, overwritten, start_of_write, write_bytes}
 use Rattle.dav_files_core.specs.Opening.{OpenFile}
@@ -77,6 +77,6 @@ pub left_by : (x m : ResourceMap) (u : Unit {0}) → ◌≡◌ {A = Outcome (Uni
 left_by x m u h = let pairs : (tt {0}, x) ≡ (u, m) = cc in ap (λ (x : Unit {0} × ResourceMap). x.1) pairs
 
 -- it is out of memory alone, where nothing else refuses
-pub no_memory : {S : Type 0} (e : FsError) (r : Result (Unit {0}) FsError) → r ≡ Err e → (x m m' : ResourceMap) → (m' ≡ m) × ((e ≡ InsufficientStorage) ⊎ ◌≡◌ {A = Outcome (Unit {0})} (Ok (tt, x)) (Err e))
-    → (outcome : Result (Unit {0} × (S × ResourceMap)) FsError) (f : S) → AnswersAs (λ (x : Unit {0}). x) r outcome (f, m) (f, m')
-no_memory e r is x m m' h outcome f = subst (λ (r : Result (Unit {0}) FsError). AnswersAs (λ (x : Unit {0}). x) r outcome (f, m) (f, m')) (sym is) ((λ i. (f, h.0 i)), elim h.1 [ inl out ↦ inl out | inr none ↦ absurd (cc) ])
+pub no_memory : {S : Type 0} (e : FsError) (r : Result (Unit {0}) FsError) → r ≡ Err e → (x m m' : ResourceMap) → (m' ≡ m) × Refused {A = Unit {0} × ResourceMap} (Ok (tt, x)) e
+    → (outcome : Result (Unit {0} × (S × ResourceMap)) FsError) → IsOk outcome → (f : S) → AnswersAs (λ (x : Unit {0}). x) r outcome (f, m) (f, m')
+no_memory e r is x m m' h outcome there f = subst (λ (r : Result (Unit {0}) FsError). AnswersAs (λ (x : Unit {0}). x) r outcome (f, m) (f, m')) (sym is) ((λ i. (f, h.0 i)), elim h.1 [ inl out ↦ inl (out.0, there) | inr none ↦ absurd (cc) ])

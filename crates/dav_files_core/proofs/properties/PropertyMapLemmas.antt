@@ -1,5 +1,5 @@
 -- The properties of a node, as a finite map.
-use Rattle.std.proofs.Common.{◌≡◌, ℕ, List, [], ◌∷◌, Option, Some, None, map, refl, sym, ap, ◌∙◌, Bor}
+use Rattle.std.proofs.Common.{◌≡◌, ℕ, true, false, cond, List, [], ◌∷◌, Option, Some, None, map, refl, sym, ap, ◌∙◌, Bor}
 use Rattle.std.specs.Option.{option_copied, option_map}
 use Rattle.std.specs.Ordering.{is_eq, ordering_then}
 use Rattle.std.specs.declared.cmp.Ordering.{Ordering}
@@ -61,3 +61,19 @@ found_kept es key r h = by r ∙ ap (option_map property_of) h ∙ sym (get-as_m
 
 pub kept_nowhere : (es : List Kept) (key : List ℕ × List ℕ) → lookup (λ k. is_eq (key_cmp key k)) es ≡ None → get (properties_of es) key ≡ None
 kept_nowhere es key h = get-as_map key_total key_exact property_of es key ∙ ap (option_map property_of) h
+
+-- ---- a walk from entry to entry, up to one with a key
+module _ (key : List ℕ × List ℕ) where
+  abbrev behind : List Kept → Option DavProp
+  behind = lookup (λ k. is_eq (key_cmp key k))
+
+  pub walk_on : (es more : List Kept) (k : List ℕ × List ℕ) (p : DavProp) → es ≡ (k, p) ∷ more → is_eq (key_cmp key k) ≡ false → behind es ≡ behind more
+  walk_on es more k p is other = ap behind is ∙ ap (λ b. cond b (Some p) (behind more)) other
+
+  pub walk_ends : (all es : List Kept) → behind all ≡ behind es → es ≡ [] → None ≡ get (properties_of all) key
+  walk_ends all es same is = sym (kept_nowhere all key (same ∙ ap behind is))
+
+  pub walk_finds : (all es more : List Kept) (k : List ℕ × List ℕ) (p : DavProp) → behind all ≡ behind es → es ≡ (k, p) ∷ more → is_eq (key_cmp key k) ≡ true
+      → Some (property_of p) ≡ get (properties_of all) key
+  walk_finds all es more k p same is here =
+      sym (get-as_map key_total key_exact property_of all key ∙ ap (option_map property_of) (same ∙ ap behind is ∙ ap (λ b. cond b (Some p) (behind more)) here))

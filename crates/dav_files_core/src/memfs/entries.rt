@@ -1,6 +1,6 @@
 //! Single changes of the map of files, by the number of an entry.
 ghost use Rattle.std.specs.Prelude.{◌≡◌, ◌∷◌, ◌++◌, ◌+◌, ◌<◌, ◌^◌, [], length, map, Some, Ok, OnOk, OnErr};
-ghost use Rattle.dav_path_core.specs.Answers.{AnswersAs};
+ghost use Rattle.dav_path_core.specs.Answers.{AnswersAs, AnswersWithRoom};
 ghost use Rattle.dav_path_core.specs.Fronts.{Path};
 ghost use Rattle.dav_files_core.specs.Exactly.{AnswersExactly};
 ghost use Rattle.dav_files_core.specs.OpenFiles.{overwritten};
@@ -137,7 +137,7 @@ impl MemFs {
         requires known { HasNumber self.old id }
         requires folder { HasFolder self.old folder }
         ensures answer { (p q : Path) (r f : Resource) → at_path self.old p ≡ Some r → r.number ≡ id → at_path self.old q ≡ Some f → f.number ≡ folder
-            → AnswersAs (λ _. tt) result (put_there self.old p (q ++ (name.now ∷ []))) self.old self.new }
+            → AnswersWithRoom (λ _. tt) result (put_there self.old p (q ++ (name.now ∷ []))) self.old self.new }
         ensures shape { IsResourceMap self.new }
     {
         let name = Bytes::copy_from_slice(self.alloc, name)?;

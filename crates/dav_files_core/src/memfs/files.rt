@@ -1,7 +1,7 @@
 //! The calls of a file system on files in memory.
 ghost use Rattle.std.specs.Prelude.{◌≡◌, Some, Ok, Err, IsSome, true, map, refl};
 ghost use Rattle.dav_path_core.specs.Segments.{segments};
-ghost use Rattle.dav_path_core.specs.Answers.{AnswersAs, Tells};
+ghost use Rattle.dav_path_core.specs.Answers.{AnswersAs, AnswersWithRoom, Tells};
 ghost use Rattle.dav_files_core.specs.Describing.{metadata};
 ghost use Rattle.dav_files_core.specs.Copying.{copy};
 ghost use Rattle.dav_files_core.specs.Exactly.{AnswersExactly, TellsExactly};
@@ -178,7 +178,7 @@ impl DavFileSystem for MemFs {
     /// unless `/` itself is moved, and for a target with members; `Forbidden` where `/` itself is moved, and for a target below the source.
     /// `InsufficientStorage` where it is out of memory.
     fn rename(&mut self, from: &DavPath, to: &DavPath, now: Moment) -> FsResult<()>
-        ensures answer { AnswersAs (λ _. tt) result (rename self.old (segments from.now.bytes) (segments to.now.bytes) now.0) self.old self.new }
+        ensures answer { AnswersWithRoom (λ _. tt) result (rename self.old (segments from.now.bytes) (segments to.now.bytes) now.0) self.old self.new }
         ensures shape { IsResourceMap self.new }
     {
         let source = self.number_of(from)?;
@@ -205,16 +205,17 @@ impl DavFileSystem for MemFs {
     {
         let source = self.number_of(from)?;
         let target = self.target_of(to)?;
-        let node = self.node_at(source).made_at(self.alloc, now)?;
         match target {
             Target::Entry(id) => {
                 if !self.node_at(id).is_file() {
                     return Err(FsError::Forbidden);
                 }
+                let node = self.node_at(source).made_at(self.alloc, now)?;
                 self.replace(id, node);
                 return Ok(());
             }
             Target::Missing { folder, name } => {
+                let node = self.node_at(source).made_at(self.alloc, now)?;
                 self.add_entry(folder, name, node)?;
                 return Ok(());
             }

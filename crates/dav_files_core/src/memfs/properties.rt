@@ -1,12 +1,13 @@
 //! Properties that are kept in memory.
 ghost use Rattle.std.specs.Prelude.{◌≡◌, map, None, option_map, option_and_then, OnOk, OnErr, IfErr, MatchResult};
 ghost use Rattle.std.specs.Option.{ok_or};
+ghost use Rattle.std.specs.Ordering.{is_eq};
 ghost use Rattle.std.specs.FinMap.{empty, get, insert, remove, values};
 ghost use Rattle.dav_files_core.specs.Private.PropertyMaps.{properties_of};
 ghost use Rattle.dav_path_core.specs.Answers.{AnswersAs, Tells};
 ghost use Rattle.dav_path_core.specs.Segments.{segments};
 ghost use Rattle.dav_files_core.specs.Properties.{property_of, entry_of, answer_of, key_of, patched_by, patched, patch_answers, patch_props, shown, get_props, xml_of, get_prop};
-ghost use Rattle.dav_files_core.specs.Resources.{IsResourceMap};
+ghost use Rattle.dav_files_core.specs.Resources.{IsResourceMap, key_cmp};
 
 mod patching;
 
@@ -89,8 +90,10 @@ impl Props {
     pub(super) fn xml_of(&self, alloc: Global, wanted: &DavProp) -> FsResult<Vec<u8>>
         ensures { Tells (λ v. v.items) result (ok_or (xml_of self.now (property_of wanted.now)) FsError.NotFound) }
     {
-        let key = key_of(alloc, wanted)?;
-        copy_of_xml(alloc, found_in(&self.map, &key))
+        match key_of(alloc, wanted) {
+            Ok(key) => copy_of_xml(alloc, found_in(&self.map, &key)),
+            Err(_) => copy_of_xml(alloc, walked_to(&self.map, wanted)),
+        }
     }
 }
 
@@ -102,6 +105,31 @@ fn found_in<'a>(
     ensures { option_map (λ p. property_of p.now) result ≡ get (properties_of map.now.entries) key.now }
 {
     map.get(key)
+}
+
+// The property with the namespace and name of another, looked for without memory, one after another.
+fn walked_to<'a>(
+    map: &'a BTreeMap<(Bytes, Bytes), DavProp>,
+    wanted: &DavProp,
+) -> Option<&'a DavProp>
+    ensures { option_map (λ p. property_of p.now) result ≡ get (properties_of map.now.entries) (key_of (property_of wanted.now)) }
+{
+    let namespace = namespace_of(wanted);
+    let name = wanted.name.as_str().as_bytes();
+    for (key, prop) in map.iter() {
+        if is_key(key, namespace, name) {
+            return Some(prop);
+        }
+    }
+    None
+}
+
+// Whether a key has this namespace and name.
+fn is_key(key: &(Bytes, Bytes), namespace: &[u8], name: &[u8]) -> bool
+    ensures { result ≡ is_eq (key_cmp (namespace.now, name.now) key.now) }
+{
+    let by_name = name.cmp(key.1.as_slice());
+    namespace.cmp(key.0.as_slice()).then(by_name).is_eq()
 }
 
 // A copy of the xml of a property, if it is there and has one.
@@ -154,11 +182,17 @@ fn shown(prop: &DavProp, content: bool) -> FsResult<DavProp>
 fn key_of(alloc: Global, prop: &DavProp) -> FsResult<(Bytes, Bytes)>
     ensures { MatchResult result (λ key. key ≡ key_of (property_of prop.now)) (λ e. e ≡ FsError.InsufficientStorage) }
 {
-    let namespace = match &prop.namespace {
-        Some(namespace) => namespace.as_str(),
-        None => "",
-    };
-    let namespace = Bytes::copy_from_slice(alloc, namespace.as_bytes())?;
+    let namespace = Bytes::copy_from_slice(alloc, namespace_of(prop))?;
     let name = Bytes::copy_from_slice(alloc, prop.name.as_str().as_bytes())?;
     Ok((namespace, name))
+}
+
+// The bytes of a property's namespace.
+fn namespace_of(prop: &DavProp) -> &[u8]
+    ensures { result.now ≡ (key_of (property_of prop.now)).0 }
+{
+    match &prop.namespace {
+        Some(namespace) => namespace.as_str().as_bytes(),
+        None => b"",
+    }
 }

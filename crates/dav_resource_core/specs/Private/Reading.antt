@@ -1,18 +1,29 @@
 -- What the readers of words answer.
-use Rattle.std.specs.Prelude.{ℕ, List, [], ◌∷◌, map, string_bytes, ◌≡◌, ◌⊎◌, Option, Some, None, Result, Ok, Err}
+use Rattle.std.specs.Prelude.{ℕ, List, [], ◌∷◌, map, option_map, string_bytes, bytes_eq, unwrap_or, ◌≡◌, ◌⊎◌, Option, Some, None, Result, Ok, Err, IsUtf8}
 use Rattle.std.specs.Bool.{MatchBool}
+use Rattle.std.specs.Map.{lookup}
 use Rattle.dav_path_core.specs.Fault.{Fault}
 use Rattle.dav_path_core.specs.PathText.{PathText}
 use Rattle.dav_path_core.specs.Reading.{Read}
 use Rattle.dav_path_core.specs.declared.davpath.ParseError.{ParseError}
 use Rattle.dav_path_core.specs.declared.davpath.ParseError.TheVariants.{OutOfMemory as NoRoom}
 use Rattle.dav_resource_core.specs.declared.guarded.requests.Command.{Command}
+use Rattle.dav_resource_core.specs.declared.guarded.requests.Request.{Request}
 use Rattle.dav_resource_core.specs.declared.davreplay.labels.Labels.{Labels}
 use Rattle.dav_resource_core.specs.declared.davreplay.lines.Unread.{Unread}
 use Rattle.dav_resource_core.specs.declared.davreplay.lines.Unread.TheVariants.{Malformed, BadPath, OutOfMemory}
-use Rattle.dav_resource_core.specs.Lines.{Form, form_alone, has_two_paths, form_of_ends, form_with_one, form_with_two, form_with_three}
+use Rattle.dav_resource_core.specs.Lines.{Form, form_alone, has_two_paths, form_of_ends, form_with_one, form_with_two, form_with_three, words, Head, head_form, asked}
+use Rattle.dav_resource_core.specs.declared.guarded.requests.Reply.{Reply}
+use Rattle.dav_resource_core.specs.declared.guarded.requests.Reply.TheVariants.{Lock as Granted}
+use Rattle.dav_resource_core.specs.declared.guarded.requests.Refusal.{Refusal}
+use Rattle.dav_resource_core.specs.declared.guarded.requests.Refusal.TheVariants.{Fs, Locked, NoLock, OutOfMemory as NoMemory}
+use Rattle.dav_resource_core.specs.AnswerTexts.{locked_line, no_lock_line, out_of_memory_line}
 use Rattle.dav_resource_core.specs.Requests as plain
-use Rattle.dav_resource_core.specs.Served.{command_of}
+use Rattle.dav_resource_core.specs.Served.{command_of, request_of}
+
+-- the number of the label of a lock's token: that which is kept for it, or 0
+abbrev pub label_number : Labels → List ℕ → ℕ
+label_number labels token = unwrap_or (lookup (λ k. bytes_eq token (string_bytes k)) labels.numbers.entries) 0
 
 -- what a word says, or that it is malformed
 abbrev pub exactly : {U : Type 0} → Option U → Result U Unread
@@ -73,3 +84,40 @@ CommandIs tokens command path (one ∷ []) result = IsWithOne tokens command pat
 CommandIs tokens command path (one ∷ two ∷ []) result = IsReadOrRoom result (reading (form_with_two tokens command one two) path)
 CommandIs tokens command path (one ∷ two ∷ three ∷ []) result = IsReadOrRoom result (reading (form_with_three command one two three) path)
 CommandIs tokens command path (one ∷ two ∷ three ∷ four ∷ more) result = result ≡ Err Malformed
+
+-- ---- a line
+
+-- the request of its first three words and its command: a wrong form of those words comes first
+abbrev pub asking : Option Head → Result Command Unread → Result (Option plain.Request) Unread
+asking None command = Err Malformed
+asking (Some head) (Ok command) = Ok (Some (asked head (command_of command)))
+asking (Some head) (Err e) = Err e
+
+-- this request, or out of memory
+abbrev pub IsAskedOrRoom : Result (Option Request) Unread → Result (Option plain.Request) Unread → Type 0
+IsAskedOrRoom (Ok request) wanted = wanted ≡ Ok (option_map request_of request)
+IsAskedOrRoom (Err e) wanted = (e ≡ OutOfMemory) ⊎ (wanted ≡ Err e)
+
+-- a line with these words: nothing without any, and a path behind four others at least
+abbrev pub WordsAre : List (List ℕ) → List (List ℕ) → Result (Option Request) Unread → Type 0
+WordsAre tokens [] result = result ≡ Ok None
+WordsAre tokens (moment ∷ principal ∷ labels ∷ word ∷ first ∷ args) result =
+    (path : Result PathText ParseError) × (command : Result Command Unread) × PathIs first path × CommandIs tokens word path args command
+    × IsAskedOrRoom result (asking (head_form tokens moment principal labels) command)
+WordsAre tokens _ result = result ≡ Err Malformed
+
+-- a line of these bytes: malformed where they aren't UTF-8, and else as its words say, or out of memory
+abbrev pub LineIs : List (List ℕ) → List ℕ → Result (Option Request) Unread → Type 0
+LineIs tokens line result = (IsUtf8 line → (result ≡ Err OutOfMemory) ⊎ WordsAre tokens (words line) result) × (¬ IsUtf8 line → result ≡ Err Malformed)
+
+-- the line of a refusal, but of one by the files, whose name is only tested
+abbrev pub refusal_line : Labels → Refusal → Option (List ℕ)
+refusal_line labels (Locked lock) = Some (locked_line (label_number labels lock.token))
+refusal_line labels NoLock = Some no_lock_line
+refusal_line labels NoMemory = Some out_of_memory_line
+refusal_line labels (Fs e) = None
+
+-- a reply that shows no single lock
+abbrev pub IsNoLock : Reply → Type 0
+IsNoLock (Granted lock) = ⊥
+IsNoLock _ = Unit {0}

@@ -1,5 +1,5 @@
 -- What private calls of `Guarded` answer.
-use Rattle.std.specs.Prelude.{◌≡◌, ◌⊎◌, ℕ, true, List, Result, Ok, Err, Contains}
+use Rattle.std.specs.Prelude.{◌≡◌, ◌⊎◌, ℕ, List, Result, Ok, Err, Contains}
 use Rattle.dav_path_core.specs.declared.errors.FsError.{FsError}
 use Rattle.dav_path_core.specs.declared.errors.FsError.TheVariants.{InsufficientStorage}
 use Rattle.dav_files_core.specs.Resources.{ResourceMap}
@@ -14,7 +14,7 @@ use Rattle.dav_resource_core.specs.declared.guarded.requests.Refusal.{Refusal}
 use Rattle.dav_resource_core.specs.declared.guarded.requests.Refusal.TheVariants.{Locked, NoLock, OutOfMemory}
 use Rattle.dav_resource_core.specs.Requests as plain
 use Rattle.dav_resource_core.specs.Checks.{Check, refusing, MayLack}
-use Rattle.dav_resource_core.specs.ResourceStep.{Does, takes_map_memory}
+use Rattle.dav_resource_core.specs.ResourceStep.{Does, MayLackOnMap}
 use Rattle.dav_resource_core.specs.Served.{reply_of}
 
 -- a refusal of some checks: it shows a lock that refuses one of them, or there is no memory to make them
@@ -24,11 +24,11 @@ RefusedBy locks who ks OutOfMemory = MayLack locks who ks
 RefusedBy locks who ks _ = ⊥
 
 -- what a command on the map does at a moment; refused, it leaves the map as it was, and out of memory comes
--- only where its work takes memory, in place of any other answer
+-- only where its work may lack memory
 abbrev pub DoesOnMap : ResourceMap → plain.Command → ℕ → Result Reply FsError → ResourceMap → Type 0
 DoesOnMap m command now (Ok reply) m' = Does m command now (Ok (reply_of reply)) m'
 DoesOnMap m command now (Err e) m' =
-    (m' ≡ m) × (((e ≡ InsufficientStorage) × (takes_map_memory command ≡ true)) ⊎ Does m command now (Err e) m)
+    (m' ≡ m) × (((e ≡ InsufficientStorage) × MayLackOnMap m command now) ⊎ Does m command now (Err e) m)
 
 -- a call on files that is done has nothing to tell
 abbrev pub with_nothing : {A : Type 0} → Result A FsError → Result Reply FsError

@@ -1,4 +1,15 @@
 //! How answers are written.
+ghost use Rattle.std.specs.Prelude.{◌≡◌, ◌≤◌, ◌++◌, length, map, IfSome, OnOk};
+ghost use Rattle.hex.specs.Hex.{encode_lower};
+ghost use Rattle.std.specs.List.{flat_map};
+ghost use Rattle.std.specs.Io.Buffered.{writer_contents};
+ghost use Rattle.std.specs.Io.KnownBytes.{Appends};
+ghost use Rattle.dav_files_core.specs.Listing.{entry_of};
+ghost use Rattle.dav_files_core.specs.Meta.{meta_of};
+ghost use Rattle.dav_files_core.specs.Properties.{answer_of, property_of};
+ghost use Rattle.dav_resource_core.specs.AnswerTexts.{ok_line, spaced, label_text, hex_text, meta_text, member_text, status_text, property_text, end_text};
+ghost use Rattle.dav_resource_core.specs.Private.Reading.{label_number, refusal_line};
+
 use super::OUT_OF_MEMORY;
 use super::labels::Labels;
 use crate::guarded::Refusal;
@@ -17,42 +28,63 @@ const CHUNK: usize = 64;
 pub(super) fn write_bytes<O: Write + Drop>(
     bytes: &[u8],
     output: &mut BufWriter<O>,
-) -> Result<(), Fault> {
+) -> Result<(), Fault>
+    ensures { OnOk result (Appends (writer_contents O.contents output.old) (writer_contents O.contents output.new) (ok_line (spaced (hex_text bytes.now)))) }
+{
     if bytes.is_empty() {
         return Ok(output.write_all(b"ok -\n")?);
     }
     output.write_all(b"ok ")?;
     for chunk in bytes.chunks(CHUNK) {
-        let mut digits = [0; 2 * CHUNK];
-        let digits = &mut digits[..2 * chunk.len()];
-        if hex::encode_to_slice(chunk, digits).is_err() {
-            unreachable!();
-        }
-        output.write_all(digits)?;
+        write_chunk(chunk, output)?;
     }
     Ok(output.write_all(b"\n")?)
+}
+
+// So many bytes, at most `CHUNK`.
+fn write_chunk<O: Write + Drop>(chunk: &[u8], output: &mut BufWriter<O>) -> Result<(), Fault>
+    requires { length chunk.now ≤ 64 }
+    ensures { OnOk result (Appends (writer_contents O.contents output.old) (writer_contents O.contents output.new) (encode_lower chunk.now)) }
+{
+    let mut digits = [0; 2 * CHUNK];
+    let digits = &mut digits[..2 * chunk.len()];
+    if hex::encode_to_slice(chunk, digits).is_err() {
+        unreachable!();
+    }
+    Ok(output.write_all(digits)?)
 }
 
 /// The names of members as URL texts, with `/` after a folder's.
 pub(super) fn write_entries<O: Write + Drop>(
     entries: &[MemFsEntry],
     output: &mut BufWriter<O>,
-) -> Result<(), Fault> {
+) -> Result<(), Fault>
+    ensures { OnOk result (Appends (writer_contents O.contents output.old) (writer_contents O.contents output.new) (ok_line (flat_map member_text (map entry_of entries.now)))) }
+{
     output.write_all(b"ok")?;
     for entry in entries {
-        write!(output, " {}", escaped(entry.name()))?;
-        if entry.is_dir() == Ok(true) {
-            output.write_all(b"/")?;
-        }
+        write_entry(entry, output)?;
     }
     Ok(output.write_all(b"\n")?)
+}
+
+fn write_entry<O: Write + Drop>(entry: &MemFsEntry, output: &mut BufWriter<O>) -> Result<(), Fault>
+    ensures { OnOk result (Appends (writer_contents O.contents output.old) (writer_contents O.contents output.new) (member_text (entry_of entry.now))) }
+{
+    write!(output, " {}", escaped(entry.name()))?;
+    if entry.is_dir() == Ok(true) {
+        output.write_all(b"/")?;
+    }
+    Ok(())
 }
 
 /// The kind, the length and the times of a file or a folder.
 pub(super) fn write_meta<O: Write + Drop>(
     meta: &MemFsMeta,
     output: &mut BufWriter<O>,
-) -> Result<(), Fault> {
+) -> Result<(), Fault>
+    ensures { OnOk result (Appends (writer_contents O.contents output.old) (writer_contents O.contents output.new) (ok_line (meta_text (meta_of meta.now)))) }
+{
     let kind = match meta.kind {
         Kind::Folder => "folder",
         Kind::File => "file",
@@ -65,28 +97,47 @@ pub(super) fn write_meta<O: Write + Drop>(
 pub(super) fn write_statuses<O: Write + Drop>(
     answers: &[(StatusCode, DavProp)],
     output: &mut BufWriter<O>,
-) -> Result<(), Fault> {
+) -> Result<(), Fault>
+    ensures { OnOk result (Appends (writer_contents O.contents output.old) (writer_contents O.contents output.new) (ok_line (flat_map status_text (map answer_of answers.now)))) }
+{
     output.write_all(b"ok")?;
-    for (status, _prop) in answers {
-        write!(output, " {}", status.as_u16())?;
+    for answer in answers {
+        write_status(answer, output)?;
     }
     Ok(output.write_all(b"\n")?)
+}
+
+fn write_status<O: Write + Drop>(
+    answer: &(StatusCode, DavProp),
+    output: &mut BufWriter<O>,
+) -> Result<(), Fault>
+    ensures { OnOk result (Appends (writer_contents O.contents output.old) (writer_contents O.contents output.new) (status_text (answer_of answer.now))) }
+{
+    Ok(write!(output, " {}", answer.0.as_u16())?)
 }
 
 /// The namespaces and the names of properties, `-` for no namespace.
 pub(super) fn write_props<O: Write + Drop>(
     props: &[DavProp],
     output: &mut BufWriter<O>,
-) -> Result<(), Fault> {
+) -> Result<(), Fault>
+    ensures { OnOk result (Appends (writer_contents O.contents output.old) (writer_contents O.contents output.new) (ok_line (flat_map property_text (map property_of props.now)))) }
+{
     output.write_all(b"ok")?;
     for prop in props {
-        let namespace = match &prop.namespace {
-            Some(namespace) => namespace.as_str(),
-            None => "-",
-        };
-        write!(output, " {namespace} {}", prop.name)?;
+        write_prop(prop, output)?;
     }
     Ok(output.write_all(b"\n")?)
+}
+
+fn write_prop<O: Write + Drop>(prop: &DavProp, output: &mut BufWriter<O>) -> Result<(), Fault>
+    ensures { OnOk result (Appends (writer_contents O.contents output.old) (writer_contents O.contents output.new) (property_text (property_of prop.now))) }
+{
+    let namespace = match &prop.namespace {
+        Some(namespace) => namespace.as_str(),
+        None => "-",
+    };
+    Ok(write!(output, " {namespace} {}", prop.name)?)
 }
 
 /// The labels of locks.
@@ -94,12 +145,24 @@ pub(super) fn write_locks<O: Write + Drop>(
     labels: &Labels,
     locks: &[DavLock],
     output: &mut BufWriter<O>,
-) -> Result<(), Fault> {
+) -> Result<(), Fault>
+    ensures { OnOk result (Appends (writer_contents O.contents output.old) (writer_contents O.contents output.new) (ok_line (flat_map (λ token. spaced (label_text (label_number labels.now token))) (map (λ lock. lock.token) locks.now)))) }
+{
     output.write_all(b"ok")?;
     for lock in locks {
-        write!(output, " t{}", labels.number_of(&lock.token))?;
+        write_label(labels, lock, output)?;
     }
     Ok(output.write_all(b"\n")?)
+}
+
+fn write_label<O: Write + Drop>(
+    labels: &Labels,
+    lock: &DavLock,
+    output: &mut BufWriter<O>,
+) -> Result<(), Fault>
+    ensures { OnOk result (Appends (writer_contents O.contents output.old) (writer_contents O.contents output.new) (spaced (label_text (label_number labels.now lock.now.token)))) }
+{
+    Ok(write!(output, " t{}", labels.number_of(&lock.token))?)
 }
 
 /// The label of a lock, and the moment at which its timeout ends, `-` for none.
@@ -107,7 +170,10 @@ pub(super) fn write_refreshed<O: Write + Drop>(
     labels: &Labels,
     lock: &DavLock,
     output: &mut BufWriter<O>,
-) -> Result<(), Fault> {
+) -> Result<(), Fault>
+    ensures { OnOk result (Appends (writer_contents O.contents output.old) (writer_contents O.contents output.new)
+        (ok_line (spaced (label_text (label_number labels.now lock.now.token)) ++ spaced (end_text lock.now.timeout_at)))) }
+{
     let number = labels.number_of(&lock.token);
     match lock.timeout_at {
         Some(end) => Ok(writeln!(output, "ok t{number} {}", end.0)?),
@@ -120,7 +186,9 @@ pub(super) fn write_refusal<O: Write + Drop>(
     labels: &Labels,
     refusal: &Refusal,
     output: &mut BufWriter<O>,
-) -> Result<(), Fault> {
+) -> Result<(), Fault>
+    ensures { OnOk result (IfSome (refusal_line labels.now refusal.now) (Appends (writer_contents O.contents output.old) (writer_contents O.contents output.new))) }
+{
     match refusal {
         Refusal::Fs(error) => Ok(writeln!(output, "error {} {error}", error.status().as_u16())?),
         Refusal::Locked(lock) => Ok(writeln!(output, "locked t{}", labels.number_of(&lock.token))?),

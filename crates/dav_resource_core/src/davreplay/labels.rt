@@ -1,7 +1,7 @@
 //! Labels of locks: `tN` stands for the token of the lock that was granted as the N-th.
 ghost use Rattle.std.specs.Prelude.{◌≡◌, [], ◌∷◌, ◌++◌, map, option_map, string_bytes, IfOk, OnOk};
 ghost use Rattle.dav_resource_core.specs.Lines.{nth_token, token_at, token_of};
-ghost use Rattle.dav_resource_core.specs.Private.Reading.{granted_tokens};
+ghost use Rattle.dav_resource_core.specs.Private.Reading.{granted_tokens, label_number};
 
 use super::numbers::number;
 use std::alloc::{AllocError, Global};
@@ -29,7 +29,8 @@ impl Labels {
     /// Keeps the token of a lock that was granted, and gives the number of its label.
     #[tactic(auto, using(std::proofs::lemmas::List::map_push))]
     pub(super) fn add(&mut self, token: String) -> Result<usize, AllocError>
-        ensures { OnOk result (granted_tokens self.new ≡ granted_tokens self.old ++ string_bytes token ∷ []) }
+        ensures tokens { OnOk result (granted_tokens self.new ≡ granted_tokens self.old ++ string_bytes token ∷ []) }
+        ensures number { IfOk result (λ number. number ≡ label_number self.new (string_bytes token)) }
     {
         let number = match self.numbers.get(token.as_str()) {
             Some(number) => *number,
@@ -44,7 +45,9 @@ impl Labels {
     }
 
     /// The number of a token's label. Every lock of the stores was granted here; one that wasn't would be 0.
-    pub(super) fn number_of(&self, token: &str) -> usize {
+    pub(super) fn number_of(&self, token: &str) -> usize
+        ensures { result ≡ label_number self.now token.now }
+    {
         self.numbers.get(token).copied().unwrap_or(0)
     }
 

@@ -5,9 +5,9 @@ ghost use Rattle.dav_path_core.specs.Segments.{segments};
 ghost use Rattle.dav_files_core.specs.Properties.{property_of};
 ghost use Rattle.dav_headers_core.specs.Pieces.{is_comma};
 ghost use Rattle.dav_resource_core.specs.Seeds.{numeral};
-ghost use Rattle.dav_resource_core.specs.Lines.{words, depth_word, scope_word, timeout_word, place_word, text_word, hex_word, is_count, is_label, labels_word, put_form, write_form, read_form, move_form, copy_form, set_form, delete_form, props_form, prop_form, lock_form, check_form, unlock_form, refresh_form, form_alone, has_two_paths, form_of_ends, form_with_one, form_with_two, form_with_three};
+ghost use Rattle.dav_resource_core.specs.Lines.{words, depth_word, scope_word, timeout_word, place_word, number_or, head_form, text_word, hex_word, is_count, is_label, labels_word, put_form, write_form, read_form, move_form, copy_form, set_form, delete_form, props_form, prop_form, lock_form, check_form, unlock_form, refresh_form, form_alone, has_two_paths, form_of_ends, form_with_one, form_with_two, form_with_three};
 ghost use Rattle.dav_resource_core.specs.Requests.Command.{PatchProps};
-ghost use Rattle.dav_resource_core.specs.Private.Reading.{exactly, Gives, IsWithOne, CommandIs, both, reading, IsRead, IsReadOrRoom, granted_tokens};
+ghost use Rattle.dav_resource_core.specs.Private.Reading.{exactly, Gives, IsWithOne, CommandIs, both, reading, IsRead, IsReadOrRoom, IsAskedOrRoom, asking, WordsAre, LineIs, granted_tokens};
 
 use super::labels::Labels;
 use super::numbers::{is_digits, number};
@@ -67,25 +67,57 @@ pub(super) fn request_of(
     alloc: Global,
     granted: &Labels,
     line: &[u8],
-) -> Result<Option<Request>, Unread> {
-    let text = str::from_utf8(line).map_err(|_| Unread::Malformed)?;
+) -> Result<Option<Request>, Unread>
+    ensures { LineIs (granted_tokens granted.now) line.now result }
+{
+    let Ok(text) = str::from_utf8(line) else {
+        return Err(Unread::Malformed);
+    };
     let words = words_of(alloc, text)?;
-    match words.as_slice() {
+    request_of_words(alloc, granted, &words)
+}
+
+// The request of some words; none without any.
+fn request_of_words(
+    alloc: Global,
+    granted: &Labels,
+    words: &[&str],
+) -> Result<Option<Request>, Unread>
+    ensures { WordsAre (granted_tokens granted.now) (map (λ word. word.now) words.now) result }
+{
+    match words {
         [] => Ok(None),
-        [now, principal, labels, command, path, args @ ..] => {
-            let now = Moment(number_of(now)?);
-            let labels = labels_of(alloc, labels)?;
+        [moment, principal, labels, command, path, args @ ..] => {
             let path = DavPath::new(alloc, path);
-            let command = command_of(alloc, granted, command, path, args)?;
-            Ok(Some(Request {
-                principal: text_of(alloc, principal)?,
-                tokens: granted.tokens_of(&labels)?,
-                now,
-                command,
-            }))
+            let command = command_of(alloc, granted, command, path, args);
+            with_head(alloc, granted, moment, principal, labels, command)
         }
         _ => Err(Unread::Malformed),
     }
+}
+
+// A command, at its moment, for its principal, under the tokens of its labels.
+fn with_head(
+    alloc: Global,
+    granted: &Labels,
+    moment: &str,
+    principal: &str,
+    labels: &str,
+    command: Result<Command, Unread>,
+) -> Result<Option<Request>, Unread>
+    ensures { IsAskedOrRoom result (asking (head_form (granted_tokens granted.now) moment.now principal.now labels.now) command) }
+{
+    let now = Moment(number_of(moment)?);
+    let labels = labels_of(alloc, labels)?;
+    let command = command?;
+    let principal = text_of(alloc, principal)?;
+    let tokens = granted.tokens_of(&labels)?;
+    Ok(Some(Request {
+        principal,
+        tokens,
+        now,
+        command,
+    }))
 }
 
 // What stands between spaces, but for nothing between two.
@@ -397,29 +429,32 @@ fn is_shared(word: &str) -> Result<bool, Unread>
 }
 
 // Seconds, or `-` for none.
-#[tactic(auto, unfolding(crate::specs::Lines::timeout_word))]
 fn timeout_of(word: &str) -> Result<Option<u64>, Unread>
     ensures { result ≡ exactly (timeout_word word.now) }
 {
-    if word == "-" {
-        return Ok(None);
-    }
-    match number(word) {
-        Some(seconds) => Ok(Some(seconds)),
-        None => Err(Unread::Malformed),
-    }
+    number_or("-", word)
 }
 
 // A place in the bytes, or `end`.
-#[tactic(auto, unfolding(crate::specs::Lines::place_word))]
 fn place_of(word: &str) -> Result<Option<usize>, Unread>
     ensures { result ≡ exactly (place_word word.now) }
 {
-    if word == "end" {
+    match number_or("end", word)? {
+        Some(at) => Ok(Some(at as usize)),
+        None => Ok(None),
+    }
+}
+
+// A number within u64, or the word for none.
+#[tactic(auto, unfolding(crate::specs::Lines::number_or))]
+fn number_or(none: &str, word: &str) -> Result<Option<u64>, Unread>
+    ensures { result ≡ exactly (number_or none.now word.now) }
+{
+    if word == none {
         return Ok(None);
     }
     match number(word) {
-        Some(at) => Ok(Some(at as usize)),
+        Some(value) => Ok(Some(value)),
         None => Err(Unread::Malformed),
     }
 }

@@ -41,6 +41,7 @@ pub(super) fn serve_files(files: &mut MemFs, command: &Command, now: Moment) -> 
         Command::Move { from, to } => return done(files.rename(from, to, now)),
         Command::Copy { from, to } => return done(files.copy(from, to, now)),
         Command::PatchProps { path, patch } => {
+            files.metadata(path)?;
             return Ok(Reply::Patched(files.patch_props(path, copied(patch)?)?));
         }
         Command::GetProps { path, content } => {

@@ -3,10 +3,10 @@ use Rattle.dav_path_core.specs.Segments.{segments}
 use Rattle.dav_files_core.proofs.walks.LeadLemmas.{entry_number, entry_file}
 use Rattle.dav_files_core.proofs.memfs.files.MemFsDavFileSystem.copy.Goals as goal
 
-pub node_at-requires-in-Entry : goal.node_at-requires-in-Entry
-node_at-requires-in-Entry c = entry_number c.args.self.now (segments c.args.to.now.bytes) c.in_ok-target.target c.in-Entry.id c.in-Entry.is c.in_ok-target.ensures.found
+pub node_at-requires : goal.node_at-requires
+node_at-requires c = entry_number c.args.self.now (segments c.args.to.now.bytes) c.in_ok-target.target c.in-Entry.id c.in-Entry.is c.in_ok-target.ensures.found
 
 pub replace-requires-clause-file : goal.replace-requires-clause-file
 replace-requires-clause-file c =
     entry_file c.args.self.now (segments c.args.to.now.bytes) c.in_ok-target.target c.in-Entry.id c.in-Entry.is c.in_ok-target.ensures.found
-    c.node_at-in-Entry.result.now c.node_at-in-Entry.ensures (c.if-not-is_file.ensures.0 refl)
+    c.node_at.result.now c.node_at.ensures (c.if-not-is_file.ensures.0 refl)

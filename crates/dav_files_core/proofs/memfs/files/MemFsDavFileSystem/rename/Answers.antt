@@ -1,6 +1,6 @@
 use Rattle.std.proofs.Common.{◌≡◌, inl, inr, Ok, Err, Result, sym, ap, ◌∙◌, subst}
 use Rattle.std.proofs.lemmas.Result.{err_from_is_err_and}
-use Rattle.dav_path_core.specs.Answers.{AnswersAs}
+use Rattle.dav_path_core.specs.Answers.{AnswersWithRoom}
 use Rattle.dav_path_core.specs.declared.errors.FsError.{FsError}
 use Rattle.dav_path_core.specs.Fronts.{parent}
 use Rattle.dav_path_core.specs.Segments.{segments}
@@ -9,8 +9,8 @@ use Rattle.dav_files_core.specs.Resources.{ResourceMap, at_path}
 use Rattle.dav_files_core.proofs.moves.RenamedLemmas.{ends, went, stayed}
 use Rattle.dav_files_core.proofs.memfs.files.MemFsDavFileSystem.rename.Goals as goal
 
-refused : (result : Result (Unit {0}) FsError) (e : FsError) (outcome : Outcome (Unit {0})) (old new : ResourceMap) → result ≡ Err e → AnswersAs {A = Unit {0}} (λ _. tt {0}) (Err e) outcome old new → AnswersAs {A = Unit {0}} (λ _. tt {0}) result outcome old new
-refused result e outcome old new is h = subst (λ (result : Result (Unit {0}) FsError). AnswersAs {A = Unit {0}} (λ _. tt {0}) result outcome old new) (sym is) h
+refused : (result : Result (Unit {0}) FsError) (e : FsError) (outcome : Outcome (Unit {0})) (old new : ResourceMap) → result ≡ Err e → AnswersWithRoom {A = Unit {0}} (λ _. tt {0}) (Err e) outcome old new → AnswersWithRoom {A = Unit {0}} (λ _. tt {0}) result outcome old new
+refused result e outcome old new is h = subst (λ (result : Result (Unit {0}) FsError). AnswersWithRoom {A = Unit {0}} (λ _. tt {0}) result outcome old new) (sym is) h
 
 pub relocate-requires-clause-folder : goal.relocate-requires-clause-folder
 relocate-requires-clause-folder c =

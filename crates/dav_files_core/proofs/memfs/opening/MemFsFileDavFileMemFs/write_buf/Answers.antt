@@ -1,4 +1,5 @@
 use Rattle.std.proofs.Common.{Ok, Err, ap, sym, ◌∙◌, refl, inr}
+use Rattle.std.specs.Prelude.{is_ok}
 use Rattle.std.proofs.lemmas.Result.{err_from_is_err_and}
 use Rattle.dav_files_core.specs.Opening.{OpenFile}
 use Rattle.dav_files_core.proofs.opens.WrittenLemmas.{entry, there, its_number, has_file, too_large, done, left_by, no_memory}
@@ -28,7 +29,9 @@ returns-in_err-overwrite-clause-answer g c =
     let found = c.in_ok-length.ensures.answer in
     let p = err_from_is_err_and c.from_residual-in_err-overwrite.result c.from_residual-in_err-overwrite.ensures.1 in
     no_memory c.in_err-overwrite.field-0.0 c.from_residual-in_err-overwrite.result (p.1 ∙ ap Err p.2) _ m c.overwrite.new.self
-    (c.in_err-overwrite.ensures.answer (entry m f id number long found).0.0 (entry m f id number long found).0.1 (there m f id number long found) (its_number m f id number long found)) _ f
+    (c.in_err-overwrite.ensures.answer (entry m f id number long found).0.0 (entry m f id number long found).0.1 (there m f id number long found) (its_number m f id number long found)) _
+    (ap is_ok (done m f id number long found (g.B.Buf.unread c.args.buf.now) c.start_of_write-start.result c.start_of_write-start.ensures
+    c.remaining.result c.remaining.ensures c.in-Some.end (sym c.in-Some.ensures.1) c.in-Some.ensures.0 _ refl)) f
 
 pub returns-clause-answer : goal.returns-clause-answer
 returns-clause-answer g c =

@@ -1,0 +1,6 @@
+pub mod AnswerLemmas
+pub mod Asking
+pub mod CallerLaws
+pub mod Collecting
+pub mod GetLemmas
+pub mod PutLemmas

@@ -1,0 +1,38 @@
+use Rattle.std.proofs.Common.{Ok, Err, refl}
+use Rattle.dav_handler_core.specs.Servers.{server}
+use Rattle.dav_handler_core.proofs.AnswerLemmas.{refused_alike, moves_exclusive, moves_shape}
+use Rattle.dav_handler_core.proofs.dav.DavService.call.Goals as goal
+
+pub returns-in-Ok-clause-ok : goal.returns-in-Ok-clause-ok
+returns-in-Ok-clause-ok g c =
+    let before = server g.R.Rng.stream c.args.self.now in
+    let after = server g.R.Rng.stream c.answer.new.self in
+    let told = c.in-Ok.ensures.done in
+    record {
+      moves = c.answer.ensures.moves;
+      method = told.0;
+      is_method = told.1;
+      result = Ok c.in-Ok.status;
+      status = refl;
+      done = told.2;
+      refused = tt;
+      exclusive = moves_exclusive before after c.args.request.now c.answer.ensures.moves;
+      shape = moves_shape before after c.args.request.now c.answer.ensures.moves;
+    }
+
+pub returns-in-Err-clause-ok : goal.returns-in-Err-clause-ok
+returns-in-Err-clause-ok g c =
+    let before = server g.R.Rng.stream c.args.self.now in
+    let after = server g.R.Rng.stream c.answer.new.self in
+    let told = c.in-Err.ensures.done in
+    record {
+      moves = c.answer.ensures.moves;
+      method = told.0;
+      is_method = told.1;
+      result = Err c.in-Err.fault;
+      status = c.refuse.ensures;
+      done = refused_alike told.0 before after c.args.request.now c.in-Err.fault c.answer.new.response.body.items c.refuse.new.response.body.items told.2;
+      refused = c.in-Err.ensures.refused;
+      exclusive = moves_exclusive before after c.args.request.now c.answer.ensures.moves;
+      shape = moves_shape before after c.args.request.now c.answer.ensures.moves;
+    }

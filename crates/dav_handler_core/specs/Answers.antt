@@ -1,0 +1,121 @@
+-- How the server answers a request: what it promises of the answer, and of what it leaves (RFC 9110 section 9, RFC 4918 sections 6, 7 and 9).
+use Rattle.std.specs.Prelude.{◌≡◌, ◌≢◌, ◌⊎◌, ℕ, ◌<◌, ◌≤◌, List, [], Option, None, Some, Result, Ok, Err, OnErr}
+use Rattle.http.specs.declared.request.Request.{Request}
+use Rattle.http.specs.Request.{head_of, body_of}
+use Rattle.http_server.specs.declared.response.Response.{Response}
+use Rattle.dav_path_core.specs.declared.util.DavMethod.{DavMethod}
+use Rattle.dav_path_core.specs.declared.util.DavMethod.TheVariants as method
+use Rattle.dav_path_core.specs.Methods.{word}
+use Rattle.dav_path_core.specs.PathText.{PathText}
+use Rattle.dav_path_core.specs.Segments.{segments}
+use Rattle.dav_files_core.specs.declared.memfs.Kind.TheVariants.{File}
+use Rattle.dav_files_core.specs.Resources.{Resource, IsResourceMap, at_path}
+use Rattle.dav_locks_core.specs.Exclusive.{Exclusive}
+use Rattle.dav_resource_core.specs.Step.{State}
+use Rattle.dav_handler_core.specs.declared.faults.Fault.{Fault}
+use Rattle.dav_handler_core.specs.declared.faults.Fault.TheVariants as fault
+use Rattle.dav_handler_core.specs.Callers.{Caller, RunBy, SameLive}
+use Rattle.dav_handler_core.specs.Faults.{fault_status}
+use Rattle.dav_handler_core.specs.Putting.{Puts, RefusesPut, in_the_way, put_status}
+use Rattle.dav_handler_core.specs.Senders.{IsSender}
+use Rattle.dav_handler_core.specs.Targets.{IsTargetOf}
+
+-- the prefix that URLs stand behind, and the header that names the principal, where there is one
+pub record Options : Type 0 where
+  pub prefix : List ℕ
+  pub user_header : Option (List ℕ)
+
+-- what a server is: its options, the state of its stores, the moment of the last request, and what its clock says
+pub record Server : Type 0 where
+  pub options : Options
+  pub state : State
+  pub last : ℕ
+  pub clock : ℕ
+
+-- ---- the request
+
+-- the method that a word names, where it names one
+abbrev pub IsMethod : Option DavMethod → List ℕ → Type 0
+IsMethod (Some m) name = word m ≡ name
+IsMethod None name = (m : DavMethod) → word m ≢ name
+
+-- the request is the caller's
+abbrev pub IsFrom : Options → Request (List ℕ) → Caller → Type 0
+IsFrom options request who = IsSender options.user_header (head_of request).headers who
+
+-- its target names the path
+abbrev pub Names : Options → Request (List ℕ) → PathText → Type 0
+Names options request path = IsTargetOf options.prefix (head_of request).uri path
+
+-- the faults of a request that asks for nothing, since its target or its sender isn't read, or no moment or memory is left
+abbrev pub IsUnread : Fault → Type 0
+IsUnread fault.BadRequest = Unit {0}
+IsUnread fault.Unauthorized = Unit {0}
+IsUnread fault.Forbidden = Unit {0}
+IsUnread fault.NotFound = Unit {0}
+IsUnread fault.ServiceUnavailable = Unit {0}
+IsUnread fault.InsufficientStorage = Unit {0}
+IsUnread _ = ⊥
+
+-- ---- what is done, method by method
+
+-- A GET or a HEAD of a file has its bytes; the connection leaves them out of the answer to a HEAD. 404 comes where nothing stands at the path.
+abbrev pub GetAnswers : Server → Request (List ℕ) → Result ℕ Fault → List ℕ → Type 0
+GetAnswers before request (Ok status) body =
+    (status ≡ 200) × ((path : PathText) × Names before.options request path
+    × ((r : Resource) × (at_path before.state.map (segments path.bytes) ≡ Some r) × (r.node.kind ≡ File → body ≡ r.node.bytes)))
+GetAnswers before request (Err e) body =
+    IsUnread e ⊎ ((path : PathText) × Names before.options request path × (e ≡ fault.NotFound) × (at_path before.state.map (segments path.bytes) ≡ None))
+
+-- A PUT that is done leaves the body at its path, and each other path what it had. Else it says why not; a lock in the way comes before any
+-- other reason but memory.
+abbrev pub PutAnswers : Server → Request (List ℕ) → Result ℕ Fault → Server → Type 0
+PutAnswers before request (Ok status) after =
+    (path : PathText) × Names before.options request path × (before.last < after.last)
+    × (status ≡ put_status before.state.map (segments path.bytes)) × Puts before.state after.last (segments path.bytes) (body_of request) after.state
+PutAnswers before request (Err e) after =
+    IsUnread e ⊎ ((path : PathText) × Names before.options request path × ((who : Caller) × IsFrom before.options request who × (who.now ≡ after.last)
+    × RefusesPut before.state who (segments path.bytes) (body_of request) e
+    × (in_the_way before.state who (segments path.bytes) (body_of request) ≢ [] → (e ≡ fault.Locked) ⊎ (e ≡ fault.InsufficientStorage))))
+
+abbrev pub AnswersTo : Option DavMethod → Server → Request (List ℕ) → Result ℕ Fault → List ℕ → Server → Type 0
+AnswersTo (Some method.Get) before request result body after = GetAnswers before request result body × SameLive after.last before.state after.state
+AnswersTo (Some method.Head) before request result body after = GetAnswers before request result body × SameLive after.last before.state after.state
+AnswersTo (Some method.Put) before request result body after = PutAnswers before request result after
+AnswersTo (Some method.Options) before request (Ok status) body after = (status ≡ 200) × (after.state ≡ before.state)
+AnswersTo (Some method.Options) before request (Err e) body after = (e ≡ fault.InsufficientStorage) × (after.state ≡ before.state)
+AnswersTo _ before request result body after = (result ≡ Err fault.NotImplemented) × (after.state ≡ before.state)
+
+-- ---- what every answer keeps to
+
+-- nothing was asked of the stores, or a run of requests of the caller whose request it is
+abbrev pub ByCaller : Server → Request (List ℕ) → Server → Type 0
+ByCaller before request after =
+    (after.state ≡ before.state) ⊎ ((who : Caller) × IsFrom before.options request who × (who.now ≡ after.last) × RunBy who before.state after.state)
+
+-- what a method may do to the server
+pub record Moves (before : Server) (request : Request (List ℕ)) (after : Server) : Type 0 where
+  pub by_caller : ByCaller before request after
+  -- moments never go back
+  pub moments : before.last ≤ after.last
+  pub options : after.options ≡ before.options
+  pub clock : after.clock ≡ before.clock
+
+-- the status that says how it ended
+abbrev pub status_of : Result ℕ Fault → ℕ
+status_of (Ok status) = status
+status_of (Err e) = fault_status e
+
+pub record Answers (before : Server) (request : Request (List ℕ)) (response : Response) (after : Server) : Type 0 where
+  pub moves : Moves before request after
+  -- the method, how it ended, and by which status
+  pub method : Option DavMethod
+  pub is_method : IsMethod method (head_of request).method
+  pub result : Result ℕ Fault
+  pub status : response.status ≡ status_of result
+  pub done : AnswersTo method before request result response.body.items after
+  -- what is refused has changed nothing
+  pub refused : OnErr result (SameLive after.last before.state after.state)
+  -- two locks that cover one path are both shared, and the map is a resource map
+  pub exclusive : Exclusive before.state.locks → Exclusive after.state.locks
+  pub shape : Exclusive before.state.locks → IsResourceMap before.state.map → IsResourceMap after.state.map

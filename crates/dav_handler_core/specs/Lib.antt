@@ -1,0 +1,9 @@
+pub mod Answers
+pub mod Callers
+pub mod Faults
+pub mod Private
+pub mod Putting
+pub mod Senders
+pub mod Servers
+pub mod Sessions
+pub mod Targets

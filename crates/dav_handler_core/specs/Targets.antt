@@ -1,0 +1,12 @@
+-- The path that the target of a request names (RFC 9110 section 7.1): decoded, resolved, and behind the prefix of the server.
+use Rattle.std.specs.Prelude.{ℕ, List}
+use Rattle.http_uri.specs.declared.uri.Uri.{Uri}
+use Rattle.http_uri.specs.Uri.{uri_path}
+use Rattle.dav_path_core.specs.PathText.{PathText, full}
+use Rattle.dav_path_core.specs.Reading.{Read}
+use Rattle.dav_path_core.specs.Prefix.{SetsPrefix}
+
+pub record IsTargetOf (prefix : List ℕ) (uri : Uri) (path : PathText) : Type 0 where
+  pub whole : List ℕ
+  pub read : Read (uri_path uri) whole
+  pub sets : SetsPrefix whole prefix (full path) path.prefix

@@ -1,0 +1,206 @@
+//! The server: an HTTP service over the stores (RFC 4918 section 9, RFC 9110 section 9).
+ghost use Rattle.std.specs.Prelude.{◌≡◌, ◌<◌, ◌≤◌, ◌⊎◌, true, IfOk, IfErr, OnErr, Option, Some};
+ghost use Rattle.http.specs.Request.{head_of};
+ghost use Rattle.http_server.specs.Response.{IsBlank};
+ghost use Rattle.dav_path_core.specs.declared.util.DavMethod.{DavMethod};
+ghost use Rattle.dav_resource_core.specs.Stores.{state_of};
+ghost use Rattle.dav_handler_core.specs.Answers.{Answers, AnswersTo, GetAnswers, IsFrom, IsMethod, IsUnread, Moves, Names, PutAnswers};
+ghost use Rattle.dav_handler_core.specs.Callers.{SameLive};
+ghost use Rattle.dav_handler_core.specs.Faults.{fault_status};
+ghost use Rattle.dav_handler_core.specs.Servers.{options_of, server};
+ghost use Rattle.dav_handler_core.specs.Sessions.{caller};
+ghost use Rattle.dav_handler_core.specs.declared.faults.Fault.TheVariants as fault;
+
+use crate::faults::Fault;
+use crate::methods::{get, options, put};
+use crate::senders::{principal_of, tokens_of};
+use crate::session::Session;
+use crate::targets::target_of;
+use bytes::Bytes;
+use dav_resource_core::davpath::DavPath;
+use dav_resource_core::errors::FsResult;
+use dav_resource_core::fs::Moment;
+use dav_resource_core::guarded::Guarded;
+use dav_resource_core::util::DavMethod;
+use http::{Request, StatusCode};
+use http_header::HeaderName;
+use http_server::{Response, Service};
+use rand_core::Rng;
+use std::alloc::{AllocError, Global};
+
+/// What whoever runs a server chooses.
+#[derive(Debug, Drop)]
+pub struct Settings {
+    /// The path that its URLs stand behind; empty for none (own).
+    pub prefix: String,
+    /// The header by which a proxy in front names the principal; none where nobody is named (own).
+    pub user_header: Option<HeaderName>,
+}
+
+/// A WebDAV server over stores of its own.
+#[derive(Drop)]
+pub struct Dav<R> {
+    alloc: Global,
+    settings: Settings,
+    session: Session<R>,
+    clock: Moment,
+}
+
+impl<R: Rng + Drop> Dav<R> {
+    /// A server over stores, at the moment. `InsufficientStorage` where it is out of memory.
+    pub fn new(
+        alloc: Global,
+        settings: Settings,
+        stores: Guarded,
+        rng: R,
+        now: Moment,
+    ) -> FsResult<Dav<R>>
+        ensures { IfOk result (λ dav. server R.stream dav
+            ≡ record { options = options_of settings; state = state_of stores (R.stream rng); last = now.0; clock = now.0 }) }
+    {
+        let session = Session::new(alloc, stores, rng, now)?;
+        Ok(Dav {
+            alloc,
+            settings,
+            session,
+            clock: now,
+        })
+    }
+}
+
+impl<R: Rng> Dav<R> {
+    /// Sets the clock. Each request comes at the clock's moment, or at the last request's where that is later; a PUT at a later one than that.
+    pub fn set_clock(&mut self, now: Moment)
+        ensures { server R.stream self.new ≡ record (server R.stream self.old) { clock = now.0 } }
+    {
+        self.clock = now;
+    }
+
+    // The moment of a request: the clock's, but not before the last one's, and behind it for a change.
+    fn moment(&self, changes: bool) -> Result<Moment, Fault>
+        ensures ok { IfOk result (λ moment. ((server R.stream self.now).last ≤ moment.0) × (changes ≡ true → (server R.stream self.now).last < moment.0)) }
+        ensures err { IfErr result (λ e. e ≡ fault.ServiceUnavailable) }
+    {
+        let last = self.session.now().0;
+        let least = if changes {
+            last.checked_add(1).ok_or(Fault::ServiceUnavailable)?
+        } else {
+            last
+        };
+        Ok(Moment(least.max(self.clock.0)))
+    }
+
+    // Names the caller of a request, and answers the path of its target.
+    fn begin(&mut self, request: &Request<Bytes>, changes: bool) -> Result<DavPath, Fault>
+        ensures ok { IfOk result (λ path. Names (server R.stream self.old).options request.now path
+            × IsFrom (server R.stream self.old).options request.now (caller self.new.session)
+            × (changes ≡ true → (server R.stream self.old).last < (server R.stream self.new).last)) }
+        ensures err { IfErr result (λ e. IsUnread e) }
+        ensures state { (server R.stream self.new).state ≡ (server R.stream self.old).state }
+        ensures moments { (server R.stream self.old).last ≤ (server R.stream self.new).last }
+        ensures options { (server R.stream self.new).options ≡ (server R.stream self.old).options }
+        ensures clock { (server R.stream self.new).clock ≡ (server R.stream self.old).clock }
+    {
+        let path = target_of(self.alloc, request.uri(), &self.settings.prefix)?;
+        let principal = principal_of(self.alloc, request.headers(), &self.settings.user_header)?;
+        let tokens = tokens_of(self.alloc, request.headers())?;
+        let now = self.moment(changes)?;
+        self.session.begin(principal, tokens, now);
+        Ok(path)
+    }
+
+    // GET and HEAD.
+    fn serve_get(
+        &mut self,
+        request: &Request<Bytes>,
+        response: &mut Response,
+    ) -> Result<StatusCode, Fault>
+        requires { IsBlank response.old }
+        ensures answers { GetAnswers (server R.stream self.old) request.now result response.new.body.items }
+        ensures live { SameLive (server R.stream self.new).last (server R.stream self.old).state (server R.stream self.new).state }
+        ensures moves { Moves (server R.stream self.old) request.now (server R.stream self.new) }
+    {
+        let path = self.begin(request, false)?;
+        get::get(self.alloc, &mut self.session, &path, response)?;
+        Ok(StatusCode::OK)
+    }
+
+    // PUT. `BadRequest` for a part of a file (RFC 9110 section 14.5).
+    fn serve_put(&mut self, request: &Request<Bytes>) -> Result<StatusCode, Fault>
+        ensures answers { PutAnswers (server R.stream self.old) request.now result (server R.stream self.new) }
+        ensures refused { OnErr result (SameLive (server R.stream self.new).last (server R.stream self.old).state (server R.stream self.new).state) }
+        ensures moves { Moves (server R.stream self.old) request.now (server R.stream self.new) }
+    {
+        if request.headers().contains_key("content-range") {
+            return Err(Fault::BadRequest);
+        }
+        let path = self.begin(request, true)?;
+        put::put(&mut self.session, path, request.body().clone()?)
+    }
+
+    // By the method; any other than these is `NotImplemented`.
+    fn answer_to(
+        &mut self,
+        method: DavMethod,
+        request: &Request<Bytes>,
+        response: &mut Response,
+    ) -> Result<StatusCode, Fault>
+        requires { IsBlank response.old }
+        ensures done { AnswersTo (Some method) (server R.stream self.old) request.now result response.new.body.items (server R.stream self.new) }
+        ensures refused { OnErr result (SameLive (server R.stream self.new).last (server R.stream self.old).state (server R.stream self.new).state) }
+        ensures moves { Moves (server R.stream self.old) request.now (server R.stream self.new) }
+    {
+        match method {
+            DavMethod::Options => return options::options(response),
+            DavMethod::Get | DavMethod::Head => return self.serve_get(request, response),
+            DavMethod::Put => return self.serve_put(request),
+            _ => return Err(Fault::NotImplemented),
+        }
+    }
+
+    // By the method's name, which may be that of no method.
+    fn answer(
+        &mut self,
+        request: &Request<Bytes>,
+        response: &mut Response,
+    ) -> Result<StatusCode, Fault>
+        requires { IsBlank response.old }
+        ensures done { (method : Option DavMethod) × IsMethod method (head_of request.now).method
+            × AnswersTo method (server R.stream self.old) request.now result response.new.body.items (server R.stream self.new) }
+        ensures refused { OnErr result (SameLive (server R.stream self.new).last (server R.stream self.old).state (server R.stream self.new).state) }
+        ensures moves { Moves (server R.stream self.old) request.now (server R.stream self.new) }
+    {
+        let Ok(method) = DavMethod::try_from(request.method()) else {
+            return Err(Fault::NotImplemented);
+        };
+        self.answer_to(method, request, response)
+    }
+}
+
+impl<R: Rng> Service for Dav<R> {
+    ghost answers = { λ before request response after. Answers (server R.stream before) request response (server R.stream after) };
+
+    fn call(
+        &mut self,
+        request: &Request<Bytes>,
+        response: &mut Response,
+    ) -> Result<(), AllocError> {
+        match self.answer(request, response) {
+            Ok(status) => response.status = status,
+            Err(fault) => refuse(response, fault),
+        }
+        Ok(())
+    }
+}
+
+// Tells a fault, with nothing but its status; with the methods that are served, where there is memory for it, if the path doesn't take this one
+// (RFC 9110 section 15.5.6).
+fn refuse(response: &mut Response, fault: Fault)
+    ensures { response.new.status ≡ fault_status fault }
+{
+    response.clear();
+    response.status = fault.status();
+    if fault == Fault::MethodNotAllowed {
+        let _ = options::allow(response);
+    }
+}

@@ -1,0 +1,101 @@
+//! Why a request is refused, and by which status.
+ghost use Rattle.std.specs.Prelude.{◌≡◌};
+ghost use Rattle.dav_handler_core.specs.Faults.{fault_status};
+
+use dav_resource_core::davheaders::HeaderError;
+use dav_resource_core::davpath::ParseError;
+use http::StatusCode;
+use std::alloc::{AllocError, AllocFailed};
+
+/// Why an HTTP request is refused. Nothing was changed, but locks that have expired may be gone.
+#[derive(Debug, Clone, Copy, PartialEq, Eq)]
+pub enum Fault {
+    /// 400: the target is no path, or a header can't be read (RFC 9110 section 15.5.1).
+    BadRequest,
+    /// 401: nobody is named where somebody has to be (RFC 9110 section 15.5.2).
+    Unauthorized,
+    /// 403: the path leads out of the root (RFC 9110 section 15.5.4).
+    Forbidden,
+    /// 404: there is nothing at the path, or it isn't behind the prefix (RFC 9110 section 15.5.5).
+    NotFound,
+    /// 405: what stands at the path doesn't take the method (RFC 9110 section 15.5.6).
+    MethodNotAllowed,
+    /// 409: there is no folder in which the path could stand (RFC 4918 section 9.7.1).
+    Conflict,
+    /// 423: a lock stands in the way (RFC 4918 section 11.3).
+    Locked,
+    /// 501: the method isn't served (RFC 9110 section 15.6.2).
+    NotImplemented,
+    /// 503: no later moment is left for a change (own).
+    ServiceUnavailable,
+    /// 507: there is no memory for it (RFC 4918 section 11.5).
+    InsufficientStorage,
+}
+
+impl Fault {
+    /// The status of the answer.
+    pub fn status(self) -> StatusCode
+        ensures { result ≡ fault_status self }
+    {
+        match self {
+            Fault::BadRequest => StatusCode::BAD_REQUEST,
+            Fault::Unauthorized => StatusCode::UNAUTHORIZED,
+            Fault::Forbidden => StatusCode::FORBIDDEN,
+            Fault::NotFound => StatusCode::NOT_FOUND,
+            Fault::MethodNotAllowed => StatusCode::METHOD_NOT_ALLOWED,
+            Fault::Conflict => StatusCode::CONFLICT,
+            Fault::Locked => StatusCode::LOCKED,
+            Fault::NotImplemented => StatusCode::NOT_IMPLEMENTED,
+            Fault::ServiceUnavailable => StatusCode::SERVICE_UNAVAILABLE,
+            Fault::InsufficientStorage => StatusCode::INSUFFICIENT_STORAGE,
+        }
+    }
+}
+
+impl From<AllocError> for Fault {
+    ghost use Rattle.dav_handler_core.specs.declared.faults.Fault.TheVariants.{InsufficientStorage};
+
+    ghost from_gives = { λ _ fault. fault ≡ InsufficientStorage };
+
+    fn from(_: AllocError) -> Self {
+        Fault::InsufficientStorage
+    }
+}
+
+impl<T: Drop> From<AllocFailed<T>> for Fault {
+    ghost use Rattle.dav_handler_core.specs.declared.faults.Fault.TheVariants.{InsufficientStorage};
+
+    ghost from_gives = { λ _ fault. fault ≡ InsufficientStorage };
+
+    fn from(_: AllocFailed<T>) -> Self {
+        Fault::InsufficientStorage
+    }
+}
+
+impl From<ParseError> for Fault {
+    ghost use Rattle.dav_handler_core.specs.Faults.{of_path};
+
+    ghost from_gives = { λ error fault. fault ≡ of_path error };
+
+    fn from(error: ParseError) -> Self {
+        match error {
+            ParseError::InvalidPath => Fault::BadRequest,
+            ParseError::PrefixMismatch => Fault::NotFound,
+            ParseError::ForbiddenPath => Fault::Forbidden,
+            ParseError::OutOfMemory => Fault::InsufficientStorage,
+        }
+    }
+}
+
+impl From<HeaderError> for Fault {
+    ghost use Rattle.dav_handler_core.specs.Faults.{of_header};
+
+    ghost from_gives = { λ error fault. fault ≡ of_header error };
+
+    fn from(error: HeaderError) -> Self {
+        match error {
+            HeaderError::Invalid => Fault::BadRequest,
+            HeaderError::OutOfMemory => Fault::InsufficientStorage,
+        }
+    }
+}

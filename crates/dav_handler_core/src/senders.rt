@@ -1,0 +1,102 @@
+//! Who sends a request, by its headers.
+ghost use Rattle.std.specs.Prelude.{◌≡◌, ◌++◌, [], map, option_map, string_bytes, IfErr, IfOk, OnOk, codes, option_copied, option_to_list};
+ghost use Rattle.http_header.specs.HeaderMap.{get_all};
+ghost use Rattle.dav_headers_core.specs.IfValues.{located, condition_of, conditions_of};
+ghost use Rattle.dav_handler_core.specs.Answers.{IsUnread};
+ghost use Rattle.dav_handler_core.specs.Senders.{NamesPrincipal, Submits, token_of, tokens_in, tokens_of};
+
+use crate::faults::Fault;
+use dav_resource_core::davheaders::{If, IfCondition, IfItem, IfList};
+use http_header::{HeaderMap, HeaderName, HeaderValue};
+use std::alloc::{AllocError, Global};
+use std::slice;
+
+/// The principal whom a header names: none without such a header among the server's settings; else the one value, as text.
+///
+/// `Unauthorized` where the header isn't there, is empty, or is no UTF-8; `BadRequest` where it has more values than one.
+pub(crate) fn principal_of(
+    alloc: Global,
+    headers: &HeaderMap<HeaderValue>,
+    user_header: &Option<HeaderName>,
+) -> Result<Option<String>, Fault>
+    ensures ok { IfOk result (λ principal. NamesPrincipal user_header.now headers.now (option_map string_bytes principal)) }
+    ensures err { IfErr result (λ e. IsUnread e) }
+{
+    let Some(name) = user_header else {
+        return Ok(None);
+    };
+    let Some(value) = value_of(headers, name)? else {
+        return Err(Fault::Unauthorized);
+    };
+    if value.is_empty() {
+        return Err(Fault::Unauthorized);
+    }
+    let Ok(text) = str::from_utf8(value.as_bytes()) else {
+        return Err(Fault::Unauthorized);
+    };
+    Ok(Some(String::from_str(alloc, text)?))
+}
+
+/// The tokens that a request submits: those of its `If`, in order. `BadRequest` where its `If` can't be read.
+pub(crate) fn tokens_of(
+    alloc: Global,
+    headers: &HeaderMap<HeaderValue>,
+) -> Result<Vec<String>, Fault>
+    ensures ok { IfOk result (λ tokens. Submits headers.now (map string_bytes tokens.items)) }
+    ensures err { IfErr result (λ e. IsUnread e) }
+{
+    let Some(value) = value_of(headers, &HeaderName::from_static("if"))? else {
+        return Ok(Vec::new(alloc));
+    };
+    let header = If::decode(alloc, slice::from_ref(value))?;
+    Ok(tokens_of_lists(alloc, &header.0)?)
+}
+
+// The value under a name, where there is one. `BadRequest` where there are more.
+fn value_of<'a>(
+    headers: &'a HeaderMap<HeaderValue>,
+    name: &HeaderName,
+) -> Result<Option<&'a HeaderValue>, Fault>
+    ensures ok { IfOk result (λ value. get_all headers.now name.now ≡ option_to_list (option_copied value)) }
+    ensures err { IfErr result (λ e. IsUnread e) }
+{
+    let mut values = headers.get_all(name).iter();
+    let value = values.next();
+    if values.next().is_some() {
+        return Err(Fault::BadRequest);
+    }
+    Ok(value)
+}
+
+// The state tokens of some lists.
+fn tokens_of_lists(alloc: Global, lists: &[IfList]) -> Result<Vec<String>, AllocError>
+    ensures { IfOk result (λ tokens. map string_bytes tokens.items ≡ tokens_of (map located lists.now)) }
+{
+    let mut tokens = Vec::new(alloc);
+    for list in lists {
+        add_tokens(&mut tokens, &list.conditions)?;
+    }
+    Ok(tokens)
+}
+
+// Adds the state tokens of some conditions.
+fn add_tokens(tokens: &mut Vec<String>, conditions: &[IfCondition]) -> Result<(), AllocError>
+    ensures { OnOk result (map string_bytes tokens.new.items
+        ≡ map string_bytes tokens.old.items ++ tokens_in (conditions_of conditions.now)) }
+{
+    for condition in conditions {
+        add_token(tokens, condition)?;
+    }
+    Ok(())
+}
+
+// Adds the state token of a condition, where it has one.
+fn add_token(tokens: &mut Vec<String>, condition: &IfCondition) -> Result<(), AllocError>
+    ensures { OnOk result (map string_bytes tokens.new.items
+        ≡ map string_bytes tokens.old.items ++ token_of (condition_of condition.now)) }
+{
+    if let IfItem::StateToken(text) = &condition.item {
+        tokens.push(text.clone()?)?;
+    }
+    Ok(())
+}

@@ -1,0 +1,89 @@
+//! What methods ask a session for.
+ghost use Rattle.std.specs.Prelude.{◌≡◌, ◌⊎◌, Some, Ok, IfOk, IfErr, map, option_map, take};
+ghost use Rattle.dav_path_core.specs.Segments.{segments};
+ghost use Rattle.dav_files_core.specs.declared.memfs.Kind.TheVariants.{File, Folder};
+ghost use Rattle.dav_files_core.specs.Listing.{entry_of, read_dir};
+ghost use Rattle.dav_files_core.specs.Meta.{meta_at, meta_of};
+ghost use Rattle.dav_files_core.specs.Resources.{Resource, at_path};
+ghost use Rattle.dav_handler_core.specs.Callers.{RunBy, SameLive};
+ghost use Rattle.dav_handler_core.specs.Private.Refusing.{list_fault};
+ghost use Rattle.dav_handler_core.specs.Sessions as spec;
+ghost use Rattle.dav_resource_core.specs.Served.{refusal_of};
+ghost use Rattle.dav_handler_core.specs.declared.faults.Fault.TheVariants as fault;
+
+use super::Session;
+use crate::faults::Fault;
+use bytes::Bytes;
+use dav_resource_core::davpath::DavPath;
+use dav_resource_core::errors::FsError;
+use dav_resource_core::guarded::{Command, Refusal, Reply};
+use dav_resource_core::memfs::{MemFsEntry, MemFsMeta};
+use rand_core::Rng;
+use std::alloc::AllocError;
+
+impl<R: Rng> Session<R> {
+    /// What is known of what stands at a path; none where nothing does.
+    pub fn meta(&mut self, path: DavPath) -> Option<MemFsMeta>
+        ensures found { option_map meta_of result
+            ≡ option_map (λ r. meta_at r.node) (at_path (spec.state R.stream self.old).map (segments path.bytes)) }
+        ensures run { RunBy (spec.caller self.old) (spec.state R.stream self.old) (spec.state R.stream self.new) }
+        ensures live { SameLive (spec.caller self.old).now (spec.state R.stream self.old) (spec.state R.stream self.new) }
+        ensures caller { spec.caller self.new ≡ spec.caller self.old }
+    {
+        match self.ask(Command::Meta { path }) {
+            Ok(Reply::Meta(meta)) => Some(meta),
+            Ok(_) => None,
+            Err(_) => None,
+        }
+    }
+
+    /// The bytes of a file, so many at most. `NotFound` where no file stands there.
+    pub fn read(&mut self, path: DavPath, count: usize) -> Result<Bytes, Fault>
+        ensures ok { IfOk result (λ bytes. (r : Resource) × (at_path (spec.state R.stream self.old).map (segments path.bytes) ≡ Some r)
+            × (r.node.kind ≡ File) × (bytes ≡ take count r.node.bytes)) }
+        ensures err { IfErr result (λ e. (e ≡ fault.InsufficientStorage) ⊎ ((e ≡ fault.NotFound)
+            × ((r : Resource) → at_path (spec.state R.stream self.old).map (segments path.bytes) ≡ Some r → ¬ (r.node.kind ≡ File)))) }
+        ensures run { RunBy (spec.caller self.old) (spec.state R.stream self.old) (spec.state R.stream self.new) }
+        ensures live { SameLive (spec.caller self.old).now (spec.state R.stream self.old) (spec.state R.stream self.new) }
+        ensures caller { spec.caller self.new ≡ spec.caller self.old }
+    {
+        match self.ask(Command::Read { path, at: 0, count }) {
+            Ok(Reply::Bytes(bytes)) => Ok(bytes),
+            Err(Refusal::Fs(FsError::InsufficientStorage)) => Err(Fault::InsufficientStorage),
+            _ => Err(Fault::NotFound),
+        }
+    }
+
+    /// The members of a folder, sorted by the bytes of their names. `NotFound` where no folder stands there.
+    pub fn list(&mut self, path: DavPath) -> Result<Vec<MemFsEntry>, Fault>
+        ensures ok { IfOk result (λ entries. read_dir (spec.state R.stream self.old).map (segments path.bytes) ≡ Ok (map entry_of entries.items)) }
+        ensures err { IfErr result (λ e. (e ≡ fault.InsufficientStorage) ⊎ ((e ≡ fault.NotFound)
+            × ((r : Resource) → at_path (spec.state R.stream self.old).map (segments path.bytes) ≡ Some r → ¬ (r.node.kind ≡ Folder)))) }
+        ensures run { RunBy (spec.caller self.old) (spec.state R.stream self.old) (spec.state R.stream self.new) }
+        ensures live { SameLive (spec.caller self.old).now (spec.state R.stream self.old) (spec.state R.stream self.new) }
+        ensures caller { spec.caller self.new ≡ spec.caller self.old }
+    {
+        match self.ask(Command::List { path }) {
+            Ok(Reply::Entries(entries)) => Ok(entries),
+            Ok(_) => Err(Fault::NotFound),
+            Err(refusal) => Err(unlisted(&refusal)),
+        }
+    }
+}
+
+// Why a folder isn't listed.
+fn unlisted(refusal: &Refusal) -> Fault
+    ensures { result ≡ list_fault (refusal_of refusal.now) }
+{
+    match refusal {
+        Refusal::Fs(FsError::InsufficientStorage) => Fault::InsufficientStorage,
+        _ => Fault::NotFound,
+    }
+}
+
+/// A path once more.
+pub(crate) fn copy_of(path: &DavPath) -> Result<DavPath, AllocError>
+    ensures { IfOk result (λ copy. copy ≡ path.now) }
+{
+    path.clone()
+}

@@ -1,0 +1,12 @@
+pub mod BuilderLemmas
+pub mod DistinctLemmas
+pub mod ElementLemmas
+pub mod EscapeLemmas
+pub mod Fronts
+pub mod GivesLemmas
+pub mod ReaderLemmas
+pub mod Rows
+pub mod ScanLemmas
+pub mod SequenceLemmas
+pub mod Utf8Lemmas
+pub mod WriterLemmas

@@ -1,0 +1,152 @@
+-- Worked rows of the definitions, computed.
+use Rattle.std.proofs.Common.{◌≡◌, refl, ℕ, List, [], ◌∷◌, ◌++◌, None, Some}
+use Rattle.std.specs.Prelude.{codes}
+use Rattle.std.specs.Str.{is_utf8, chars}
+use Rattle.std.specs.Char.{encode_utf8}
+use Rattle.dav_xml_core.specs.Declarations.{is_version, is_version_info, is_utf8_declaration, is_standalone, are_fields, fields_at, declaration_at, after_declaration}
+use Rattle.dav_xml_core.specs.Documents.{Start, Text, End, Name}
+use Rattle.dav_xml_core.specs.Markup.{attribute_at, start_tag_at, end_tag_at, comment_at, cdata_at, instruction_at, declared_at, markup_at, characters_at, piece_at}
+use Rattle.dav_xml_core.specs.Names.{ncname_at, qname_at}
+use Rattle.dav_xml_core.specs.Namespaces.{bound, declares, may_bind, binding_of, with_binding, prefixed_name, element_name, attribute_name, attribute_of, are_distinct, started_of}
+use Rattle.dav_xml_core.specs.Reading.{started, ended, tagged, content_of, with_characters, with_cdata, nodes_of, content_nodes, document_of}
+use Rattle.dav_xml_core.specs.References.{referenced, expanded_at}
+use Rattle.dav_xml_core.specs.Sequences.{many, sequence}
+
+abbrev name : List ℕ → List ℕ → Name
+name namespace local = record { namespace = namespace; local = local }
+
+empty : document_of (codes "<a/>") ≡ Some (Start (name [] (codes "a")) [] ∷ End ∷ [])
+unfolding chars is_utf8 encode_utf8 document_of content_nodes after_declaration declaration_at fields_at are_fields is_version is_version_info is_utf8_declaration is_standalone nodes_of many sequence piece_at markup_at start_tag_at end_tag_at comment_at cdata_at instruction_at declared_at attribute_at characters_at qname_at ncname_at started ended tagged with_characters with_cdata content_of started_of with_binding element_name prefixed_name attribute_name attribute_of are_distinct declares bound binding_of may_bind expanded_at referenced
+empty = refl
+
+declared : document_of (codes "<?xml version='1.0'?><a/>") ≡ Some (Start (name [] (codes "a")) [] ∷ End ∷ [])
+unfolding chars is_utf8 encode_utf8 document_of content_nodes after_declaration declaration_at fields_at are_fields is_version is_version_info is_utf8_declaration is_standalone nodes_of many sequence piece_at markup_at start_tag_at end_tag_at comment_at cdata_at instruction_at declared_at attribute_at characters_at qname_at ncname_at started ended tagged with_characters with_cdata content_of started_of with_binding element_name prefixed_name attribute_name attribute_of are_distinct declares bound binding_of may_bind expanded_at referenced
+declared = refl
+
+default_namespace : document_of (codes "<a xmlns='u' b=''/>") ≡ Some (Start (name (codes "u") (codes "a")) (record { name = name [] (codes "b"); value = [] } ∷ []) ∷ End ∷ [])
+unfolding chars is_utf8 encode_utf8 document_of content_nodes after_declaration declaration_at fields_at are_fields is_version is_version_info is_utf8_declaration is_standalone nodes_of many sequence piece_at markup_at start_tag_at end_tag_at comment_at cdata_at instruction_at declared_at attribute_at characters_at qname_at ncname_at started ended tagged with_characters with_cdata content_of started_of with_binding element_name prefixed_name attribute_name attribute_of are_distinct declares bound binding_of may_bind expanded_at referenced
+default_namespace = refl
+
+prefixed : document_of (codes "<p:a xmlns:p='u' p:b='1'></p:a>") ≡ Some (Start (name (codes "u") (codes "a")) (record { name = name (codes "u") (codes "b"); value = codes "1" } ∷ []) ∷ End ∷ [])
+unfolding chars is_utf8 encode_utf8 document_of content_nodes after_declaration declaration_at fields_at are_fields is_version is_version_info is_utf8_declaration is_standalone nodes_of many sequence piece_at markup_at start_tag_at end_tag_at comment_at cdata_at instruction_at declared_at attribute_at characters_at qname_at ncname_at started ended tagged with_characters with_cdata content_of started_of with_binding element_name prefixed_name attribute_name attribute_of are_distinct declares bound binding_of may_bind expanded_at referenced
+prefixed = refl
+
+joined_text : document_of (codes "<a>x<!--c-->&amp;<![CDATA[<]]></a>") ≡ Some (Start (name [] (codes "a")) [] ∷ Text (codes "x&<") ∷ End ∷ [])
+unfolding chars is_utf8 encode_utf8 document_of content_nodes after_declaration declaration_at fields_at are_fields is_version is_version_info is_utf8_declaration is_standalone nodes_of many sequence piece_at markup_at start_tag_at end_tag_at comment_at cdata_at instruction_at declared_at attribute_at characters_at qname_at ncname_at started ended tagged with_characters with_cdata content_of started_of with_binding element_name prefixed_name attribute_name attribute_of are_distinct declares bound binding_of may_bind expanded_at referenced
+joined_text = refl
+
+numbers : document_of (codes "<a>&#65;&#x42;</a>") ≡ Some (Start (name [] (codes "a")) [] ∷ Text (codes "AB") ∷ End ∷ [])
+unfolding chars is_utf8 encode_utf8 document_of content_nodes after_declaration declaration_at fields_at are_fields is_version is_version_info is_utf8_declaration is_standalone nodes_of many sequence piece_at markup_at start_tag_at end_tag_at comment_at cdata_at instruction_at declared_at attribute_at characters_at qname_at ncname_at started ended tagged with_characters with_cdata content_of started_of with_binding element_name prefixed_name attribute_name attribute_of are_distinct declares bound binding_of may_bind expanded_at referenced
+numbers = refl
+
+no_element : document_of (codes "") ≡ None
+unfolding chars is_utf8 encode_utf8 document_of content_nodes after_declaration declaration_at fields_at are_fields is_version is_version_info is_utf8_declaration is_standalone nodes_of many sequence piece_at markup_at start_tag_at end_tag_at comment_at cdata_at instruction_at declared_at attribute_at characters_at qname_at ncname_at started ended tagged with_characters with_cdata content_of started_of with_binding element_name prefixed_name attribute_name attribute_of are_distinct declares bound binding_of may_bind expanded_at referenced
+no_element = refl
+
+two_elements : document_of (codes "<a/><b/>") ≡ None
+unfolding chars is_utf8 encode_utf8 document_of content_nodes after_declaration declaration_at fields_at are_fields is_version is_version_info is_utf8_declaration is_standalone nodes_of many sequence piece_at markup_at start_tag_at end_tag_at comment_at cdata_at instruction_at declared_at attribute_at characters_at qname_at ncname_at started ended tagged with_characters with_cdata content_of started_of with_binding element_name prefixed_name attribute_name attribute_of are_distinct declares bound binding_of may_bind expanded_at referenced
+two_elements = refl
+
+not_ended : document_of (codes "<a>") ≡ None
+unfolding chars is_utf8 encode_utf8 document_of content_nodes after_declaration declaration_at fields_at are_fields is_version is_version_info is_utf8_declaration is_standalone nodes_of many sequence piece_at markup_at start_tag_at end_tag_at comment_at cdata_at instruction_at declared_at attribute_at characters_at qname_at ncname_at started ended tagged with_characters with_cdata content_of started_of with_binding element_name prefixed_name attribute_name attribute_of are_distinct declares bound binding_of may_bind expanded_at referenced
+not_ended = refl
+
+other_end : document_of (codes "<a></b>") ≡ None
+unfolding chars is_utf8 encode_utf8 document_of content_nodes after_declaration declaration_at fields_at are_fields is_version is_version_info is_utf8_declaration is_standalone nodes_of many sequence piece_at markup_at start_tag_at end_tag_at comment_at cdata_at instruction_at declared_at attribute_at characters_at qname_at ncname_at started ended tagged with_characters with_cdata content_of started_of with_binding element_name prefixed_name attribute_name attribute_of are_distinct declares bound binding_of may_bind expanded_at referenced
+other_end = refl
+
+other_prefix : document_of (codes "<p:a xmlns:p='u' xmlns:q='u'></q:a>") ≡ None
+unfolding chars is_utf8 encode_utf8 document_of content_nodes after_declaration declaration_at fields_at are_fields is_version is_version_info is_utf8_declaration is_standalone nodes_of many sequence piece_at markup_at start_tag_at end_tag_at comment_at cdata_at instruction_at declared_at attribute_at characters_at qname_at ncname_at started ended tagged with_characters with_cdata content_of started_of with_binding element_name prefixed_name attribute_name attribute_of are_distinct declares bound binding_of may_bind expanded_at referenced
+other_prefix = refl
+
+unbound : document_of (codes "<p:a/>") ≡ None
+unfolding chars is_utf8 encode_utf8 document_of content_nodes after_declaration declaration_at fields_at are_fields is_version is_version_info is_utf8_declaration is_standalone nodes_of many sequence piece_at markup_at start_tag_at end_tag_at comment_at cdata_at instruction_at declared_at attribute_at characters_at qname_at ncname_at started ended tagged with_characters with_cdata content_of started_of with_binding element_name prefixed_name attribute_name attribute_of are_distinct declares bound binding_of may_bind expanded_at referenced
+unbound = refl
+
+bound_to_nothing : document_of (codes "<p:a xmlns:p=''/>") ≡ None
+unfolding chars is_utf8 encode_utf8 document_of content_nodes after_declaration declaration_at fields_at are_fields is_version is_version_info is_utf8_declaration is_standalone nodes_of many sequence piece_at markup_at start_tag_at end_tag_at comment_at cdata_at instruction_at declared_at attribute_at characters_at qname_at ncname_at started ended tagged with_characters with_cdata content_of started_of with_binding element_name prefixed_name attribute_name attribute_of are_distinct declares bound binding_of may_bind expanded_at referenced
+bound_to_nothing = refl
+
+left_scope : document_of (codes "<a><p:b xmlns:p='u'/><p:b/></a>") ≡ None
+unfolding chars is_utf8 encode_utf8 document_of content_nodes after_declaration declaration_at fields_at are_fields is_version is_version_info is_utf8_declaration is_standalone nodes_of many sequence piece_at markup_at start_tag_at end_tag_at comment_at cdata_at instruction_at declared_at attribute_at characters_at qname_at ncname_at started ended tagged with_characters with_cdata content_of started_of with_binding element_name prefixed_name attribute_name attribute_of are_distinct declares bound binding_of may_bind expanded_at referenced
+left_scope = refl
+
+twice : document_of (codes "<a b='' b=''/>") ≡ None
+unfolding chars is_utf8 encode_utf8 document_of content_nodes after_declaration declaration_at fields_at are_fields is_version is_version_info is_utf8_declaration is_standalone nodes_of many sequence piece_at markup_at start_tag_at end_tag_at comment_at cdata_at instruction_at declared_at attribute_at characters_at qname_at ncname_at started ended tagged with_characters with_cdata content_of started_of with_binding element_name prefixed_name attribute_name attribute_of are_distinct declares bound binding_of may_bind expanded_at referenced
+twice = refl
+
+twice_by_two_prefixes : document_of (codes "<a xmlns:p='u' xmlns:q='u' p:b='' q:b=''/>") ≡ None
+unfolding chars is_utf8 encode_utf8 document_of content_nodes after_declaration declaration_at fields_at are_fields is_version is_version_info is_utf8_declaration is_standalone nodes_of many sequence piece_at markup_at start_tag_at end_tag_at comment_at cdata_at instruction_at declared_at attribute_at characters_at qname_at ncname_at started ended tagged with_characters with_cdata content_of started_of with_binding element_name prefixed_name attribute_name attribute_of are_distinct declares bound binding_of may_bind expanded_at referenced
+twice_by_two_prefixes = refl
+
+reference_to_0 : document_of (codes "<a>&#0;</a>") ≡ None
+unfolding chars is_utf8 encode_utf8 document_of content_nodes after_declaration declaration_at fields_at are_fields is_version is_version_info is_utf8_declaration is_standalone nodes_of many sequence piece_at markup_at start_tag_at end_tag_at comment_at cdata_at instruction_at declared_at attribute_at characters_at qname_at ncname_at started ended tagged with_characters with_cdata content_of started_of with_binding element_name prefixed_name attribute_name attribute_of are_distinct declares bound binding_of may_bind expanded_at referenced
+reference_to_0 = refl
+
+past_the_last : document_of (codes "<a>&#x110000;</a>") ≡ None
+unfolding chars is_utf8 encode_utf8 document_of content_nodes after_declaration declaration_at fields_at are_fields is_version is_version_info is_utf8_declaration is_standalone nodes_of many sequence piece_at markup_at start_tag_at end_tag_at comment_at cdata_at instruction_at declared_at attribute_at characters_at qname_at ncname_at started ended tagged with_characters with_cdata content_of started_of with_binding element_name prefixed_name attribute_name attribute_of are_distinct declares bound binding_of may_bind expanded_at referenced
+past_the_last = refl
+
+surrogate : document_of (codes "<a>&#xD800;</a>") ≡ None
+unfolding chars is_utf8 encode_utf8 document_of content_nodes after_declaration declaration_at fields_at are_fields is_version is_version_info is_utf8_declaration is_standalone nodes_of many sequence piece_at markup_at start_tag_at end_tag_at comment_at cdata_at instruction_at declared_at attribute_at characters_at qname_at ncname_at started ended tagged with_characters with_cdata content_of started_of with_binding element_name prefixed_name attribute_name attribute_of are_distinct declares bound binding_of may_bind expanded_at referenced
+surrogate = refl
+
+own_entity : document_of (codes "<a>&x;</a>") ≡ None
+unfolding chars is_utf8 encode_utf8 document_of content_nodes after_declaration declaration_at fields_at are_fields is_version is_version_info is_utf8_declaration is_standalone nodes_of many sequence piece_at markup_at start_tag_at end_tag_at comment_at cdata_at instruction_at declared_at attribute_at characters_at qname_at ncname_at started ended tagged with_characters with_cdata content_of started_of with_binding element_name prefixed_name attribute_name attribute_of are_distinct declares bound binding_of may_bind expanded_at referenced
+own_entity = refl
+
+section_end : document_of (codes "<a>]]></a>") ≡ None
+unfolding chars is_utf8 encode_utf8 document_of content_nodes after_declaration declaration_at fields_at are_fields is_version is_version_info is_utf8_declaration is_standalone nodes_of many sequence piece_at markup_at start_tag_at end_tag_at comment_at cdata_at instruction_at declared_at attribute_at characters_at qname_at ncname_at started ended tagged with_characters with_cdata content_of started_of with_binding element_name prefixed_name attribute_name attribute_of are_distinct declares bound binding_of may_bind expanded_at referenced
+section_end = refl
+
+two_hyphens : document_of (codes "<!-- -- --><a/>") ≡ None
+unfolding chars is_utf8 encode_utf8 document_of content_nodes after_declaration declaration_at fields_at are_fields is_version is_version_info is_utf8_declaration is_standalone nodes_of many sequence piece_at markup_at start_tag_at end_tag_at comment_at cdata_at instruction_at declared_at attribute_at characters_at qname_at ncname_at started ended tagged with_characters with_cdata content_of started_of with_binding element_name prefixed_name attribute_name attribute_of are_distinct declares bound binding_of may_bind expanded_at referenced
+two_hyphens = refl
+
+late_declaration : document_of (codes " <?xml version='1.0'?><a/>") ≡ None
+unfolding chars is_utf8 encode_utf8 document_of content_nodes after_declaration declaration_at fields_at are_fields is_version is_version_info is_utf8_declaration is_standalone nodes_of many sequence piece_at markup_at start_tag_at end_tag_at comment_at cdata_at instruction_at declared_at attribute_at characters_at qname_at ncname_at started ended tagged with_characters with_cdata content_of started_of with_binding element_name prefixed_name attribute_name attribute_of are_distinct declares bound binding_of may_bind expanded_at referenced
+late_declaration = refl
+
+document_type : document_of (codes "<!DOCTYPE a><a/>") ≡ None
+unfolding chars is_utf8 encode_utf8 document_of content_nodes after_declaration declaration_at fields_at are_fields is_version is_version_info is_utf8_declaration is_standalone nodes_of many sequence piece_at markup_at start_tag_at end_tag_at comment_at cdata_at instruction_at declared_at attribute_at characters_at qname_at ncname_at started ended tagged with_characters with_cdata content_of started_of with_binding element_name prefixed_name attribute_name attribute_of are_distinct declares bound binding_of may_bind expanded_at referenced
+document_type = refl
+
+other_encoding : document_of (codes "<?xml version='1.0' encoding='latin1'?><a/>") ≡ None
+unfolding chars is_utf8 encode_utf8 document_of content_nodes after_declaration declaration_at fields_at are_fields is_version is_version_info is_utf8_declaration is_standalone nodes_of many sequence piece_at markup_at start_tag_at end_tag_at comment_at cdata_at instruction_at declared_at attribute_at characters_at qname_at ncname_at started ended tagged with_characters with_cdata content_of started_of with_binding element_name prefixed_name attribute_name attribute_of are_distinct declares bound binding_of may_bind expanded_at referenced
+other_encoding = refl
+
+less_than_in_a_value : document_of (codes "<a b='<'/>") ≡ None
+unfolding chars is_utf8 encode_utf8 document_of content_nodes after_declaration declaration_at fields_at are_fields is_version is_version_info is_utf8_declaration is_standalone nodes_of many sequence piece_at markup_at start_tag_at end_tag_at comment_at cdata_at instruction_at declared_at attribute_at characters_at qname_at ncname_at started ended tagged with_characters with_cdata content_of started_of with_binding element_name prefixed_name attribute_name attribute_of are_distinct declares bound binding_of may_bind expanded_at referenced
+less_than_in_a_value = refl
+
+xml_rebound : document_of (codes "<a xmlns:xml='u'/>") ≡ None
+unfolding chars is_utf8 encode_utf8 document_of content_nodes after_declaration declaration_at fields_at are_fields is_version is_version_info is_utf8_declaration is_standalone nodes_of many sequence piece_at markup_at start_tag_at end_tag_at comment_at cdata_at instruction_at declared_at attribute_at characters_at qname_at ncname_at started ended tagged with_characters with_cdata content_of started_of with_binding element_name prefixed_name attribute_name attribute_of are_distinct declares bound binding_of may_bind expanded_at referenced
+xml_rebound = refl
+
+text_outside : document_of (codes "<a/>x") ≡ None
+unfolding chars is_utf8 encode_utf8 document_of content_nodes after_declaration declaration_at fields_at are_fields is_version is_version_info is_utf8_declaration is_standalone nodes_of many sequence piece_at markup_at start_tag_at end_tag_at comment_at cdata_at instruction_at declared_at attribute_at characters_at qname_at ncname_at started ended tagged with_characters with_cdata content_of started_of with_binding element_name prefixed_name attribute_name attribute_of are_distinct declares bound binding_of may_bind expanded_at referenced
+text_outside = refl
+
+reference_outside : document_of (codes "&#32;<a/>") ≡ None
+unfolding chars is_utf8 encode_utf8 document_of content_nodes after_declaration declaration_at fields_at are_fields is_version is_version_info is_utf8_declaration is_standalone nodes_of many sequence piece_at markup_at start_tag_at end_tag_at comment_at cdata_at instruction_at declared_at attribute_at characters_at qname_at ncname_at started ended tagged with_characters with_cdata content_of started_of with_binding element_name prefixed_name attribute_name attribute_of are_distinct declares bound binding_of may_bind expanded_at referenced
+reference_outside = refl
+
+section_outside : document_of (codes "<![CDATA[]]><a/>") ≡ None
+unfolding chars is_utf8 encode_utf8 document_of content_nodes after_declaration declaration_at fields_at are_fields is_version is_version_info is_utf8_declaration is_standalone nodes_of many sequence piece_at markup_at start_tag_at end_tag_at comment_at cdata_at instruction_at declared_at attribute_at characters_at qname_at ncname_at started ended tagged with_characters with_cdata content_of started_of with_binding element_name prefixed_name attribute_name attribute_of are_distinct declares bound binding_of may_bind expanded_at referenced
+section_outside = refl
+
+byte_order_mark : document_of (0xEF ∷ 0xBB ∷ 0xBF ∷ codes "<a/>") ≡ Some (Start (name [] (codes "a")) [] ∷ End ∷ [])
+unfolding chars is_utf8 encode_utf8 document_of content_nodes after_declaration declaration_at fields_at are_fields is_version is_version_info is_utf8_declaration is_standalone nodes_of many sequence piece_at markup_at start_tag_at end_tag_at comment_at cdata_at instruction_at declared_at attribute_at characters_at qname_at ncname_at started ended tagged with_characters with_cdata content_of started_of with_binding element_name prefixed_name attribute_name attribute_of are_distinct declares bound binding_of may_bind expanded_at referenced
+byte_order_mark = refl
+
+lines : document_of (codes "<a>" ++ 13 ∷ 10 ∷ 13 ∷ codes "</a>") ≡ Some (Start (name [] (codes "a")) [] ∷ Text (10 ∷ 10 ∷ []) ∷ End ∷ [])
+unfolding chars is_utf8 encode_utf8 document_of content_nodes after_declaration declaration_at fields_at are_fields is_version is_version_info is_utf8_declaration is_standalone nodes_of many sequence piece_at markup_at start_tag_at end_tag_at comment_at cdata_at instruction_at declared_at attribute_at characters_at qname_at ncname_at started ended tagged with_characters with_cdata content_of started_of with_binding element_name prefixed_name attribute_name attribute_of are_distinct declares bound binding_of may_bind expanded_at referenced
+lines = refl
+
+overlong : document_of (codes "<a>" ++ 0xC0 ∷ 0x80 ∷ codes "</a>") ≡ None
+unfolding chars is_utf8 encode_utf8 document_of content_nodes after_declaration declaration_at fields_at are_fields is_version is_version_info is_utf8_declaration is_standalone nodes_of many sequence piece_at markup_at start_tag_at end_tag_at comment_at cdata_at instruction_at declared_at attribute_at characters_at qname_at ncname_at started ended tagged with_characters with_cdata content_of started_of with_binding element_name prefixed_name attribute_name attribute_of are_distinct declares bound binding_of may_bind expanded_at referenced
+overlong = refl
+
+not_a_char : document_of (codes "<a>" ++ 0xEF ∷ 0xBF ∷ 0xBE ∷ codes "</a>") ≡ None
+unfolding chars is_utf8 encode_utf8 document_of content_nodes after_declaration declaration_at fields_at are_fields is_version is_version_info is_utf8_declaration is_standalone nodes_of many sequence piece_at markup_at start_tag_at end_tag_at comment_at cdata_at instruction_at declared_at attribute_at characters_at qname_at ncname_at started ended tagged with_characters with_cdata content_of started_of with_binding element_name prefixed_name attribute_name attribute_of are_distinct declares bound binding_of may_bind expanded_at referenced
+not_a_char = refl

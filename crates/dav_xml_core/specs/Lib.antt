@@ -1,0 +1,14 @@
+pub mod Characters
+pub mod Declarations
+pub mod Documents
+pub mod Gives
+pub mod Markup
+pub mod Names
+pub mod Namespaces
+pub mod Optional
+pub mod Reading
+pub mod References
+pub mod Scanning
+pub mod Sequences
+pub mod Views
+pub mod Writing

@@ -1,0 +1,292 @@
+//! Names by their namespaces.
+ghost use Rattle.std.specs.Prelude.{◌≡◌, bytes_eq, codes, map, option_map, [], IfErr, IfOk, unwrap_or};
+ghost use Rattle.std.specs.Rc.{rc_str_bytes};
+ghost use Rattle.dav_xml_core.specs.Gives.{Gives};
+ghost use Rattle.dav_xml_core.specs.declared.davxml.errors.Fault.TheVariants.{Memory};
+ghost use Rattle.dav_xml_core.specs.Namespaces as spec;
+ghost use Rattle.dav_xml_core.specs.Views.{qname_of, raw_attribute_of, binding_of, name_of};
+ghost use Rattle.dav_xml_core.specs.Views as view;
+
+use super::characters::text_of;
+use super::documents::{Attribute, Name};
+use super::errors::Fault;
+use super::markup::RawAttribute;
+use super::names::QName;
+use super::references::value_of;
+use std::alloc::{AllocError, Global};
+use std::collections::BTreeSet;
+use std::rc::RcStr;
+
+const XML_NAMESPACE: &str = "http://www.w3.org/XML/1998/namespace";
+
+const XMLNS_NAMESPACE: &str = "http://www.w3.org/2000/xmlns/";
+
+/// A prefix, which is empty for the default namespace, and what it is bound to.
+#[derive(Debug, Drop)]
+pub(super) struct Binding<'a> {
+    pub(super) prefix: &'a [char],
+    pub(super) namespace: RcStr,
+}
+
+fn is_xmlns(name: &[char]) -> bool
+    ensures { result ≡ bytes_eq name.now (codes "xmlns") }
+{
+    matches!(name, ['x', 'm', 'l', 'n', 's'])
+}
+
+fn is_xml(name: &[char]) -> bool
+    ensures { result ≡ bytes_eq name.now (codes "xml") }
+{
+    matches!(name, ['x', 'm', 'l'])
+}
+
+/// What a prefix is bound to.
+#[tactic(auto, unfolding(crate::specs::Namespaces::bound))]
+fn bound<'a>(bindings: &'a [Binding], prefix: &[char]) -> Option<&'a RcStr>
+    ensures { option_map (λ x. rc_str_bytes x.now) result ≡ spec.bound prefix.now (map binding_of bindings.now) }
+{
+    let mut found = None;
+    for binding in bindings {
+        if binding.prefix == prefix {
+            found = Some(&binding.namespace);
+        }
+    }
+    found
+}
+
+/// The prefix that an attribute of this name binds.
+#[tactic(auto, unfolding(crate::specs::Namespaces::declares))]
+fn declares<'a>(name: QName<'a>) -> Option<&'a [char]>
+    ensures { option_map (λ x. x.now) result ≡ spec.declares (qname_of name.entry) }
+{
+    if name.prefix.is_empty() {
+        if is_xmlns(name.local) {
+            return Some(&[]);
+        }
+        return None;
+    }
+    if is_xmlns(name.prefix) {
+        return Some(name.local);
+    }
+    None
+}
+
+#[tactic(auto, unfolding(crate::specs::Namespaces::may_bind))]
+fn may_bind(prefix: &[char], namespace: &str) -> bool
+    ensures { result ≡ spec.may_bind prefix.now namespace.now }
+{
+    if is_xml(prefix) {
+        return namespace == XML_NAMESPACE;
+    }
+    if is_xmlns(prefix) || namespace == XML_NAMESPACE || namespace == XMLNS_NAMESPACE {
+        return false;
+    }
+    prefix.is_empty() || !namespace.is_empty()
+}
+
+#[tactic(auto, unfolding(crate::specs::Namespaces::binding_of))]
+fn new_binding<'a>(alloc: Global, prefix: &'a [char], raw: &[char]) -> Result<Binding<'a>, Fault>
+    ensures { Gives binding_of result (spec.binding_of prefix.now raw.now) }
+{
+    let value = value_of(alloc, raw)?;
+    let namespace = text_of(alloc, &value)?;
+    if !may_bind(prefix, namespace.as_str()) {
+        return Err(Fault::Malformed);
+    }
+    let namespace = RcStr::from_string(namespace)?;
+    Ok(Binding { prefix, namespace })
+}
+
+/// Adds the binding that an attribute declares, if it declares one.
+#[tactic(auto, unfolding(crate::specs::Namespaces::with_binding))]
+fn bind<'a>(
+    alloc: Global,
+    bindings: &mut Vec<Binding<'a>>,
+    attribute: &RawAttribute<'a>,
+) -> Result<(), Fault>
+    ensures { Gives (λ _. map binding_of bindings.new.items) result
+        (spec.with_binding (map binding_of bindings.old.items) (raw_attribute_of attribute.now)) }
+{
+    if let Some(prefix) = declares(attribute.name) {
+        let binding = new_binding(alloc, prefix, attribute.raw)?;
+        bindings.push(binding)?;
+    }
+    Ok(())
+}
+
+/// Adds the bindings that the attributes of an element declare.
+fn bind_all<'a>(
+    alloc: Global,
+    bindings: &mut Vec<Binding<'a>>,
+    attributes: &[RawAttribute<'a>],
+) -> Result<(), Fault>
+    ensures { Gives (λ _. map binding_of bindings.new.items) result
+        (spec.with_bindings (map binding_of bindings.old.items) (map raw_attribute_of attributes.now)) }
+{
+    for attribute in attributes {
+        bind(alloc, bindings, attribute)?;
+    }
+    Ok(())
+}
+
+#[tactic(auto, unfolding(crate::specs::Namespaces::prefixed_name))]
+fn prefixed_name(alloc: Global, bindings: &[Binding], name: QName) -> Result<Name, Fault>
+    ensures { Gives name_of result (spec.prefixed_name (map binding_of bindings.now) (qname_of name.entry)) }
+{
+    let Some(namespace) = bound(bindings, name.prefix) else {
+        return Err(Fault::Malformed);
+    };
+    let namespace = namespace.clone()?;
+    let local = text_of(alloc, name.local)?;
+    Ok(Name { namespace, local })
+}
+
+fn default_namespace(alloc: Global, bindings: &[Binding]) -> Result<RcStr, AllocError>
+    ensures { IfOk result (λ x. rc_str_bytes x ≡ unwrap_or (spec.bound [] (map binding_of bindings.now)) []) }
+{
+    match bound(bindings, &[]) {
+        Some(namespace) => namespace.clone(),
+        None => RcStr::from_str(alloc, ""),
+    }
+}
+
+#[tactic(auto, unfolding(crate::specs::Namespaces::element_name))]
+fn element_name(alloc: Global, bindings: &[Binding], name: QName) -> Result<Name, Fault>
+    ensures { Gives name_of result (spec.element_name (map binding_of bindings.now) (qname_of name.entry)) }
+{
+    if name.prefix.is_empty() {
+        let namespace = default_namespace(alloc, bindings)?;
+        let local = text_of(alloc, name.local)?;
+        return Ok(Name { namespace, local });
+    }
+    if is_xmlns(name.prefix) {
+        return Err(Fault::Malformed);
+    }
+    prefixed_name(alloc, bindings, name)
+}
+
+#[tactic(auto, unfolding(crate::specs::Namespaces::attribute_name))]
+fn attribute_name(alloc: Global, bindings: &[Binding], name: QName) -> Result<Name, Fault>
+    ensures { Gives name_of result (spec.attribute_name (map binding_of bindings.now) (qname_of name.entry)) }
+{
+    if name.prefix.is_empty() {
+        let namespace = RcStr::from_str(alloc, "")?;
+        let local = text_of(alloc, name.local)?;
+        return Ok(Name { namespace, local });
+    }
+    prefixed_name(alloc, bindings, name)
+}
+
+#[tactic(auto, unfolding(crate::specs::Namespaces::attribute_of))]
+fn attribute_of(
+    alloc: Global,
+    bindings: &[Binding],
+    attribute: &RawAttribute,
+) -> Result<Attribute, Fault>
+    ensures { Gives view.attribute_of result (spec.attribute_of (map binding_of bindings.now) (raw_attribute_of attribute.now)) }
+{
+    let name = attribute_name(alloc, bindings, attribute.name)?;
+    let value = value_of(alloc, attribute.raw)?;
+    let value = text_of(alloc, &value)?;
+    Ok(Attribute { name, value })
+}
+
+/// The attributes that declare nothing.
+fn attributes_of(
+    alloc: Global,
+    bindings: &[Binding],
+    attributes: &[RawAttribute],
+) -> Result<Vec<Attribute>, Fault>
+    ensures { Gives (λ x. map view.attribute_of x.items) result
+        (spec.attributes_of (map binding_of bindings.now) (map raw_attribute_of attributes.now)) }
+{
+    let mut all = Vec::new(alloc);
+    for attribute in attributes {
+        if declares(attribute.name).is_none() {
+            let one = attribute_of(alloc, bindings, attribute)?;
+            all.push(one)?;
+        }
+    }
+    Ok(all)
+}
+
+fn names_of(
+    alloc: Global,
+    bindings: &[Binding],
+    attributes: &[RawAttribute],
+) -> Result<Vec<Name>, Fault>
+    ensures { Gives (λ x. map name_of x.items) result
+        (spec.names_of (map binding_of bindings.now) (map raw_attribute_of attributes.now)) }
+{
+    let mut names = Vec::new(alloc);
+    for attribute in attributes {
+        let name = attribute_name(alloc, bindings, attribute.name)?;
+        names.push(name)?;
+    }
+    Ok(names)
+}
+
+/// Whether no two of the names are the same.
+#[tactic(auto, unfolding(crate::specs::Namespaces::are_distinct))]
+fn are_distinct(alloc: Global, names: &[Name]) -> Result<bool, Fault>
+    ensures value { IfOk result (λ x. x ≡ spec.are_distinct (map name_of names.now)) }
+    ensures refused { IfErr result (λ e. e ≡ Memory) }
+{
+    let mut seen = BTreeSet::new(alloc);
+    for name in names {
+        if !seen.insert((name.local.as_str(), name.namespace.as_str()))? {
+            return Ok(false);
+        }
+    }
+    Ok(true)
+}
+
+fn have_distinct_names(
+    alloc: Global,
+    bindings: &[Binding],
+    attributes: &[RawAttribute],
+) -> Result<bool, Fault>
+    ensures { Gives (λ x. x) result
+        (option_map spec.are_distinct (spec.names_of (map binding_of bindings.now) (map raw_attribute_of attributes.now))) }
+{
+    let names = names_of(alloc, bindings, attributes)?;
+    are_distinct(alloc, &names)
+}
+
+/// The name and the attributes of an element, whose bindings are added.
+#[tactic(auto, unfolding(crate::specs::Namespaces::started_of))]
+pub(super) fn start_of<'a>(
+    alloc: Global,
+    bindings: &mut Vec<Binding<'a>>,
+    name: QName<'a>,
+    attributes: &[RawAttribute<'a>],
+) -> Result<(Name, Vec<Attribute>), Fault>
+    ensures { Gives (λ x. view.started_view bindings.new.items x.0 x.1) result
+        (spec.started_of (map binding_of bindings.old.items) (qname_of name.entry) (map raw_attribute_of attributes.now)) }
+{
+    bind_all(alloc, bindings, attributes)?;
+    let expanded = element_name(alloc, bindings, name)?;
+    if !have_distinct_names(alloc, bindings, attributes)? {
+        return Err(Fault::Malformed);
+    }
+    let attributes = attributes_of(alloc, bindings, attributes)?;
+    Ok((expanded, attributes))
+}
+
+/// The bindings that hold everywhere.
+pub(super) fn always_bound<'a>(alloc: Global) -> Result<Vec<Binding<'a>>, AllocError>
+    ensures { IfOk result (λ x. map binding_of x.items ≡ spec.always_bound) }
+{
+    let xml = RcStr::from_str(alloc, XML_NAMESPACE)?;
+    let xmlns = RcStr::from_str(alloc, XMLNS_NAMESPACE)?;
+    let mut bindings = Vec::new(alloc);
+    bindings.push(Binding {
+        prefix: &['x', 'm', 'l'],
+        namespace: xml,
+    })?;
+    bindings.push(Binding {
+        prefix: &['x', 'm', 'l', 'n', 's'],
+        namespace: xmlns,
+    })?;
+    Ok(bindings)
+}

@@ -1,0 +1,299 @@
+//! Documents written as bytes.
+ghost use Rattle.std.specs.Prelude.{◌≡◌, ◌++◌, ◌∷◌, [], bytes_eq, codes, flat_map, if◌then◌else◌, map, option_map, unwrap_or, ℕ, List, Some, true, false, IfOk, OnOk};
+ghost use Rattle.std.specs.Fmt.{decimal};
+ghost use Rattle.dav_xml_core.specs.Namespaces.{xml_namespace};
+ghost use Rattle.dav_xml_core.specs.Reading.{content_of, is_empty};
+ghost use Rattle.dav_xml_core.specs.References.{value_of};
+ghost use Rattle.dav_xml_core.specs.Writing as spec;
+ghost use Rattle.dav_xml_core.specs.Views.{attribute_of, name_of, node_of, writing_of};
+
+use super::documents::{Attribute, Document, Name, Node};
+use std::alloc::{AllocError, Global};
+
+const XML_NAMESPACE: &str = "http://www.w3.org/XML/1998/namespace";
+
+/// A document that is written as it is made: what is written so far, and the names of the elements that have begun and not
+/// ended. After an error it is of no use.
+#[derive(Debug, Drop)]
+pub struct Writer {
+    alloc: Global,
+    first: &'static [u8],
+    bytes: Vec<u8>,
+    begun: Vec<Vec<u8>>,
+}
+
+/// What stands for a byte that would be read as something else.
+fn reference_of(in_value: bool, b: u8) -> Option<&'static [u8]>
+    ensures { unwrap_or (option_map (λ x. x.now) result) (b ∷ []) ≡ spec.escaped in_value b }
+{
+    match b {
+        b'&' => Some(b"&amp;"),
+        b'<' => Some(b"&lt;"),
+        b'>' => Some(b"&gt;"),
+        b'\r' => Some(b"&#13;"),
+        b'"' if in_value => Some(b"&quot;"),
+        b'\t' if in_value => Some(b"&#9;"),
+        b'\n' if in_value => Some(b"&#10;"),
+        _ => None,
+    }
+}
+
+fn push(out: &mut Vec<u8>, bytes: &[u8]) -> Result<(), AllocError>
+    ensures { OnOk result (out.new.items ≡ out.old.items ++ bytes.now) }
+{
+    out.extend_from_slice(bytes)
+}
+
+fn push_byte(out: &mut Vec<u8>, in_value: bool, b: u8) -> Result<(), AllocError>
+    ensures { OnOk result (out.new.items ≡ out.old.items ++ spec.escaped in_value b) }
+{
+    match reference_of(in_value, b) {
+        Some(reference) => push(out, reference),
+        None => push(out, &[b]),
+    }
+}
+
+fn push_escaped(out: &mut Vec<u8>, in_value: bool, text: &[u8]) -> Result<(), AllocError>
+    ensures { OnOk result (out.new.items ≡ out.old.items ++ flat_map (spec.escaped in_value) text.now) }
+{
+    for b in text {
+        push_byte(out, in_value, *b)?;
+    }
+    Ok(())
+}
+
+fn is_dav(namespace: &str) -> bool
+    ensures { result ≡ bytes_eq namespace.now spec.dav_namespace }
+{
+    namespace == "DAV:"
+}
+
+fn is_xml(namespace: &str) -> bool
+    ensures { result ≡ bytes_eq namespace.now xml_namespace }
+{
+    namespace == XML_NAMESPACE
+}
+
+fn is_other(namespace: &str) -> bool
+    ensures { result ≡ spec.is_other namespace.now }
+{
+    !(namespace.is_empty() || is_dav(namespace) || is_xml(namespace))
+}
+
+#[tactic(auto, using(std::proofs::lemmas::List::append_assoc), unfolding(crate::specs::Writing::tag_name))]
+fn push_name(out: &mut Vec<u8>, prefix: &[u8], name: &Name) -> Result<(), AllocError>
+    ensures { OnOk result (out.new.items ≡ out.old.items ++ spec.tag_name prefix.now (name_of name.now)) }
+{
+    if name.namespace.is_empty() {
+        return push(out, name.local.as_bytes());
+    }
+    if is_dav(&name.namespace) {
+        push(out, b"D:")?;
+        return push(out, name.local.as_bytes());
+    }
+    if is_xml(&name.namespace) {
+        push(out, b"xml:")?;
+        return push(out, name.local.as_bytes());
+    }
+    push(out, prefix)?;
+    push(out, b":")?;
+    push(out, name.local.as_bytes())
+}
+
+#[tactic(auto, using(std::proofs::lemmas::List::append_assoc), unfolding(crate::specs::Writing::declared))]
+fn push_declaration(out: &mut Vec<u8>, prefix: &[u8], name: &Name) -> Result<(), AllocError>
+    ensures { OnOk result (out.new.items ≡ out.old.items ++ spec.declared prefix.now (name_of name.now)) }
+{
+    if !is_other(&name.namespace) {
+        return Ok(());
+    }
+    push(out, b" xmlns:")?;
+    push(out, prefix)?;
+    push(out, b"=\"")?;
+    push_escaped(out, true, name.namespace.as_bytes())?;
+    push(out, b"\"")
+}
+
+#[tactic(auto, using(std::proofs::lemmas::List::append_assoc), unfolding(crate::specs::Writing::attribute_text))]
+fn push_attribute(out: &mut Vec<u8>, prefix: &[u8], attribute: &Attribute) -> Result<(), AllocError>
+    ensures { OnOk result (out.new.items ≡ out.old.items ++ spec.attribute_text prefix.now (attribute_of attribute.now)) }
+{
+    push(out, b" ")?;
+    push_name(out, prefix, &attribute.name)?;
+    push(out, b"=\"")?;
+    push_escaped(out, true, attribute.value.as_bytes())?;
+    push(out, b"\"")?;
+    push_declaration(out, prefix, &attribute.name)
+}
+
+fn numbered_prefix(alloc: Global, number: usize) -> Result<Vec<u8>, AllocError>
+    ensures { IfOk result (λ x. x.items ≡ codes "n" ++ decimal number) }
+{
+    let text = format!(in alloc; "n{number}")?;
+    Ok(text.into_bytes())
+}
+
+fn push_attributes(
+    alloc: Global,
+    out: &mut Vec<u8>,
+    attributes: &[Attribute],
+) -> Result<(), AllocError>
+    ensures { OnOk result (out.new.items ≡ out.old.items ++ spec.attributes_text 0 (map attribute_of attributes.now)) }
+{
+    for (number, attribute) in attributes.iter().enumerate() {
+        let prefix = numbered_prefix(alloc, number)?;
+        push_attribute(out, &prefix, attribute)?;
+    }
+    Ok(())
+}
+
+#[tactic(auto, using(std::proofs::lemmas::List::append_assoc), unfolding(crate::specs::Writing::start_text))]
+fn push_start(
+    alloc: Global,
+    out: &mut Vec<u8>,
+    first: &[u8],
+    name: &Name,
+    attributes: &[Attribute],
+) -> Result<(), AllocError>
+    ensures { OnOk result (out.new.items ≡ out.old.items ++ spec.start_text first.now (name_of name.now) (map attribute_of attributes.now)) }
+{
+    push(out, b"<")?;
+    push_name(out, b"n", name)?;
+    push(out, first)?;
+    push_declaration(out, b"n", name)?;
+    push_attributes(alloc, out, attributes)?;
+    push(out, b">")
+}
+
+fn tag_name(alloc: Global, name: &Name) -> Result<Vec<u8>, AllocError>
+    ensures { IfOk result (λ x. x.items ≡ spec.tag_name spec.element_prefix (name_of name.now)) }
+{
+    let mut out = Vec::new(alloc);
+    push_name(&mut out, b"n", name)?;
+    Ok(out)
+}
+
+impl Writer {
+    /// Nothing is written yet.
+    pub fn new(alloc: Global) -> Writer
+        ensures { writing_of result ≡ spec.unwritten spec.in_document }
+    {
+        Writer {
+            alloc,
+            first: b" xmlns:D=\"DAV:\"",
+            bytes: Vec::new(alloc),
+            begun: Vec::new(alloc),
+        }
+    }
+
+    /// Nothing is written yet of an element that is to mean the same in any document.
+    pub fn alone(alloc: Global) -> Writer
+        ensures { writing_of result ≡ spec.unwritten spec.alone }
+    {
+        Writer {
+            alloc,
+            first: b" xmlns:D=\"DAV:\" xmlns=\"\"",
+            bytes: Vec::new(alloc),
+            begun: Vec::new(alloc),
+        }
+    }
+
+    /// What the next element declares beside its own name.
+    fn declarations(&self) -> &'static [u8]
+        ensures { result.now ≡ (if is_empty (writing_of self.now).begun then (writing_of self.now).first else []) }
+    {
+        if self.begun.is_empty() {
+            self.first
+        } else {
+            &[]
+        }
+    }
+
+    /// An element begins. It is inside the one that began last and hasn't ended.
+    #[tactic(auto, unfolding(crate::specs::Writing::with_start))]
+    pub fn start(&mut self, name: &Name, attributes: &[Attribute]) -> Result<(), AllocError>
+        ensures { OnOk result (writing_of self.new ≡ spec.with_start (writing_of self.old) (name_of name.now) (map attribute_of attributes.now)) }
+    {
+        let begun = tag_name(self.alloc, name)?;
+        let first = self.declarations();
+        push_start(self.alloc, &mut self.bytes, first, name, attributes)?;
+        self.begun.push(begun)?;
+        Ok(())
+    }
+
+    /// Text inside the element that began last and hasn't ended.
+    #[tactic(auto, unfolding(crate::specs::Writing::with_text))]
+    pub fn text(&mut self, text: &str) -> Result<(), AllocError>
+        ensures { OnOk result (writing_of self.new ≡ spec.with_text (writing_of self.old) text.now) }
+    {
+        push_escaped(&mut self.bytes, false, text.as_bytes())
+    }
+
+    /// The element that began last and hasn't ended ends. Where there is none, nothing is written.
+    #[tactic(auto, unfolding(crate::specs::Writing::with_end))]
+    pub fn end(&mut self) -> Result<(), AllocError>
+        ensures { OnOk result (writing_of self.new ≡ spec.with_end (writing_of self.old)) }
+    {
+        let Some(name) = self.begun.pop() else {
+            return Ok(());
+        };
+        push(&mut self.bytes, b"</")?;
+        push(&mut self.bytes, &name)?;
+        push(&mut self.bytes, b">")
+    }
+
+    /// The bytes that are written.
+    pub fn into_bytes(self) -> Vec<u8>
+        ensures { result.items ≡ (writing_of self).bytes }
+    {
+        self.bytes
+    }
+
+    /// The nodes in turn.
+    pub fn nodes(&mut self, nodes: &[Node]) -> Result<(), AllocError>
+        ensures { OnOk result (writing_of self.new ≡ spec.with_nodes (writing_of self.old) (map node_of nodes.now)) }
+    {
+        for node in nodes {
+            self.node(node)?;
+        }
+        Ok(())
+    }
+
+    fn node(&mut self, node: &Node) -> Result<(), AllocError>
+        ensures { OnOk result (writing_of self.new ≡ spec.with_node (writing_of self.old) (node_of node.now)) }
+    {
+        match node {
+            Node::Start(name, attributes) => self.start(name, attributes),
+            Node::Text(text) => self.text(text),
+            Node::End => self.end(),
+        }
+    }
+}
+
+/// The bytes of a document: each element has an end tag, `DAV:` has the prefix `D`, which the first element declares, and any
+/// other namespace a prefix of its own, which its element declares (own). Refused for memory alone.
+#[tactic(auto, unfolding(crate::specs::Writing::written))]
+pub fn write(alloc: Global, document: &Document) -> Result<Vec<u8>, AllocError>
+    ensures { IfOk result (λ x. x.items ≡ spec.written (map node_of document.now.nodes.items)) }
+{
+    let mut writer = Writer::new(alloc);
+    writer.nodes(&document.nodes)?;
+    Ok(writer.into_bytes())
+}
+
+/// The bytes of an element, given by its nodes, that mean the same wherever they stand in another document (own): as `write`, and
+/// the first element declares that there is no default namespace, either. Refused for memory alone.
+#[tactic(auto, unfolding(crate::specs::Writing::written_alone))]
+pub fn write_element(alloc: Global, nodes: &[Node]) -> Result<Vec<u8>, AllocError>
+    ensures { IfOk result (λ x. x.items ≡ spec.written_alone (map node_of nodes.now)) }
+{
+    let mut writer = Writer::alone(alloc);
+    writer.nodes(nodes)?;
+    Ok(writer.into_bytes())
+}
+
+/// A law: what is written for a text or a value is read as the same.
+pub fn texts_round_trip()
+    ensures texts { (text : List ℕ) → content_of (flat_map (spec.escaped false) text) ≡ Some text }
+    ensures values { (text : List ℕ) → value_of (flat_map (spec.escaped true) text) ≡ Some text }
+{}

@@ -1,0 +1,4 @@
+//! XML documents, read from bytes and written.
+#![tactic(auto)]
+
+pub mod davxml;

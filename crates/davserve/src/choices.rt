@@ -1,0 +1,61 @@
+//! The words behind the program's name.
+use dav_handler_core::dav::Settings;
+use http_header::HeaderName;
+use std::alloc::Global;
+
+// A body may have so many bytes, if nothing else is said.
+const MAX_BODY: usize = 64 * 1024 * 1024;
+
+/// What the words choose.
+#[derive(Drop)]
+pub struct Choices {
+    /// The prefix, and the header that names the principal.
+    pub settings: Settings,
+    /// A request's body has so many bytes at most.
+    pub max_body: usize,
+    /// The seed of the tokens, for tests; else they come from the system's randomness.
+    pub seed: Option<u64>,
+    /// The moment of the requests, for tests, in nanoseconds since 1970; else the system's.
+    pub clock: Option<u64>,
+}
+
+impl Choices {
+    /// `--one`, and behind it options, each with its value, in any order; of one that comes twice the last counts. None where a word is none
+    /// of these, a value is missing or isn't one, or there is no memory for it.
+    pub fn of(alloc: Global, words: &[String]) -> Option<Choices> {
+        let (first, rest) = words.split_first()?;
+        if first.as_str() != "--one" || rest.len() % 2 != 0 {
+            return None;
+        }
+        let mut choices = Choices {
+            settings: Settings {
+                prefix: String::new(alloc),
+                user_header: None,
+            },
+            max_body: MAX_BODY,
+            seed: None,
+            clock: None,
+        };
+        for pair in rest.chunks_exact(2) {
+            choices.set(alloc, pair[0].as_str(), pair[1].as_str())?;
+        }
+        Some(choices)
+    }
+
+    fn set(&mut self, alloc: Global, name: &str, value: &str) -> Option<()> {
+        if name == "--prefix" {
+            self.settings.prefix = String::from_str(alloc, value).ok()?;
+        } else if name == "--user-header" {
+            self.settings.user_header = Some(HeaderName::from_bytes(alloc, value.as_bytes()).ok()?);
+        } else if name == "--max-body" {
+            self.max_body = value.parse().ok()?;
+        } else if name == "--seed" {
+            self.seed = Some(value.parse().ok()?);
+        } else if name == "--clock" {
+            self.clock = Some(value.parse().ok()?);
+        } else {
+            return None;
+        }
+        Some(())
+    }
+}

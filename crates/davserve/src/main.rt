@@ -1,0 +1,92 @@
+//! Serves one connection on standard input and output: a WebDAV server over stores in memory.
+#![tactic(auto)]
+
+mod choices;
+mod serving;
+
+use choices::Choices;
+use dav_handler_core::dav::Dav;
+use dav_resource_core::fs::Moment;
+use dav_resource_core::guarded::Guarded;
+use http_server::{Config, Connection};
+use rand::make_rng;
+use rand_chacha::ChaCha20Rng;
+use rand_core::SeedableRng;
+use serving::serve_one;
+use std::alloc::AllocError;
+use std::env;
+use std::hash::RandomState;
+use std::io::{self, ErrorKind, Write};
+use std::process::ExitCode;
+use std::time::{SystemTime, UNIX_EPOCH};
+
+fn main(rt: HostRuntime) -> ExitCode {
+    let words = match words(&rt) {
+        Ok(words) => words,
+        Err(error) if error.kind() == ErrorKind::OutOfMemory => return ended(
+            &rt,
+            "out of memory\n",
+            3,
+        ),
+        Err(_) => return usage(&rt),
+    };
+    let Some(choices) = Choices::of(rt.alloc(), &words) else {
+        return usage(&rt);
+    };
+    match run(&rt, choices) {
+        Ok(()) => ExitCode::SUCCESS,
+        Err(error) if error.kind() == ErrorKind::OutOfMemory => ended(&rt, "out of memory\n", 3),
+        Err(_) => ended(&rt, "a stream failed\n", 1),
+    }
+}
+
+// Answers the requests of one connection.
+fn run(rt: &HostRuntime, choices: Choices) -> io::Result<()> {
+    let rng = match choices.seed {
+        Some(seed) => ChaCha20Rng::seed_from_u64(seed),
+        None => make_rng(rt)?,
+    };
+    let now = match choices.clock {
+        Some(nanoseconds) => Moment(nanoseconds),
+        None => now(rt)?,
+    };
+    let stores = Guarded::new(rt.alloc(), now).map_err(|_| AllocError)?;
+    let mut config = Config::default();
+    config.max_body_len = choices.max_body;
+    let mut connection = Connection::new(rt.alloc(), RandomState::new(rt)?, config);
+    let mut dav = Dav::new(rt.alloc(), choices.settings, stores, rng, now).map_err(|_| AllocError)?;
+    serve_one(&mut connection, &mut dav, &mut rt.stdin(), &mut rt.stdout())
+}
+
+// The system's moment, in nanoseconds since 1970.
+fn now(rt: &HostRuntime) -> io::Result<Moment> {
+    match SystemTime::now(rt)?.duration_since(UNIX_EPOCH) {
+        Ok(since) => Ok(Moment(u64::try_from(since.as_nanos()).unwrap_or(u64::MAX))),
+        Err(_) => Ok(Moment(0)),
+    }
+}
+
+// The words behind the program's name; an error where one is no text.
+fn words(rt: &HostRuntime) -> io::Result<Vec<String>> {
+    let mut words = Vec::new(rt.alloc());
+    for word in env::args(rt)?.skip(1) {
+        if words.push(word).is_err() {
+            return Err(io::Error::from(AllocError));
+        }
+    }
+    Ok(words)
+}
+
+fn usage(rt: &HostRuntime) -> ExitCode {
+    ended(
+        rt,
+        "usage: davserve --one [--prefix PATH] [--user-header NAME] [--max-body BYTES] [--seed NUMBER] [--clock NANOSECONDS]\n",
+        2,
+    )
+}
+
+// A failed write changes no status.
+fn ended(rt: &HostRuntime, text: &str, status: u8) -> ExitCode {
+    let _written = rt.stderr().write_all(text.as_bytes());
+    ExitCode::from(status)
+}

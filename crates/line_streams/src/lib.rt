@@ -1,6 +1,11 @@
 //! Lines of an input, for programs that answer each line: how the next one is read, and what can fail.
 #![tactic(auto)]
 
+ghost use Rattle.std.specs.Prelude.{◌≡◌, ◌<◌, ◌↔◌, length, IsTrue, IfOk, IfSome, OnOk};
+ghost use Rattle.std.specs.Io.BufRead.{first_piece, strip_last, DropsThrough};
+ghost use Rattle.std.specs.Io.Buffered.{reader_remaining, writer_contents};
+ghost use Rattle.std.specs.Io.KnownBytes.{Keeps};
+
 use std::alloc::AllocError;
 use std::io::{self, BufRead, BufReader, BufWriter, ErrorKind, Read, Write};
 
@@ -45,19 +50,28 @@ pub fn read_line<I: Read + Drop, O: Write + Drop>(
     input: &mut BufReader<I>,
     line: &mut Vec<u8>,
     output: &mut BufWriter<O>,
-) -> Result<bool, Fault> {
+) -> Result<bool, Fault>
+    ensures there { IfOk result (λ is_there. IfSome (reader_remaining I.remaining input.old) (λ bytes. IsTrue is_there ↔ (0 < length bytes))) }
+    ensures line { OnOk result (IfSome (reader_remaining I.remaining input.old) (λ bytes. line.new.items ≡ first_piece 10 bytes)) }
+    ensures rest { OnOk result (DropsThrough (reader_remaining I.remaining input.old) (reader_remaining I.remaining input.new) 10) }
+    ensures written { Keeps (writer_contents O.contents output.old) (writer_contents O.contents output.new) }
+{
     line.clear();
-    if let Some(end) = input.buffer().iter().position(|byte| *byte == b'\n') {
-        line.extend_from_slice(&input.buffer()[..end])?;
-        input.consume(end + 1);
-        return Ok(true);
+    if !input.buffer().contains(&b'\n') {
+        output.flush()?;
     }
-    output.flush()?;
     if input.read_until(b'\n', line)? == 0 {
         return Ok(false);
     }
+    drop_end(line);
+    Ok(true)
+}
+
+// A line without its end, where it has one.
+fn drop_end(line: &mut Vec<u8>)
+    ensures { line.new.items ≡ strip_last 10 line.old.items }
+{
     if line.ends_with(b"\n") {
         let _ended = line.pop();
     }
-    Ok(true)
 }

@@ -3,6 +3,11 @@ use Rattle.std.specs.Prelude.{ℕ, List, [], ◌∷◌, ◌++◌, Option, Some, 
 use Rattle.std.specs.Fmt.{decimal}
 use Rattle.std.specs.List.{flat_map}
 use Rattle.hex.specs.Hex.{encode_lower}
+use Rattle.dav_path_core.specs.declared.davpath.ParseError.{ParseError}
+use Rattle.dav_path_core.specs.declared.davpath.ParseError.TheVariants.{InvalidPath, PrefixMismatch, ForbiddenPath, OutOfMemory as NoRoom}
+use Rattle.dav_path_core.specs.declared.errors.FsError.{FsError}
+use Rattle.dav_path_core.specs.declared.errors.FsError.TheVariants.{NotImplemented, GeneralFailure, Exists, NotFound, Forbidden, InsufficientStorage, LoopDetected, PathTooLong, TooLarge, IsRemote}
+use Rattle.dav_path_core.specs.Errors.{fs_status}
 use Rattle.dav_path_core.specs.Fronts.{Segment}
 use Rattle.dav_path_core.specs.Url.{url}
 use Rattle.dav_files_core.specs.declared.memfs.Kind.{Kind}
@@ -67,12 +72,40 @@ abbrev pub end_text : Option ℕ → List ℕ
 end_text (Some end) = decimal end
 end_text None = codes "-"
 
--- the line of a refusal, but of one by the files
+-- ---- refusals
+
 abbrev pub no_lock_line : List ℕ
 no_lock_line = codes "no lock\n"
 
 abbrev pub out_of_memory_line : List ℕ
 out_of_memory_line = codes "out of memory\n"
+
+-- the name of an error by the files
+abbrev pub file_error_text : FsError → List ℕ
+file_error_text NotImplemented = codes "NotImplemented"
+file_error_text GeneralFailure = codes "GeneralFailure"
+file_error_text Exists = codes "Exists"
+file_error_text NotFound = codes "NotFound"
+file_error_text Forbidden = codes "Forbidden"
+file_error_text InsufficientStorage = codes "InsufficientStorage"
+file_error_text LoopDetected = codes "LoopDetected"
+file_error_text PathTooLong = codes "PathTooLong"
+file_error_text TooLarge = codes "TooLarge"
+file_error_text IsRemote = codes "IsRemote"
+
+-- its status, and its name
+abbrev pub error_line : FsError → List ℕ
+error_line e = codes "error " ++ decimal (fs_status e) ++ codes " " ++ file_error_text e ++ codes "\n"
+
+-- the name of what keeps a text from being a path
+abbrev pub path_error_text : ParseError → List ℕ
+path_error_text InvalidPath = codes "InvalidPath"
+path_error_text PrefixMismatch = codes "PrefixMismatch"
+path_error_text ForbiddenPath = codes "ForbiddenPath"
+path_error_text NoRoom = codes "OutOfMemory"
+
+abbrev pub bad_path_line : ParseError → List ℕ
+bad_path_line e = codes "bad path " ++ path_error_text e ++ codes "\n"
 
 -- ---- the line of an answer to a command, by the numbers of the labels of tokens
 
@@ -92,13 +125,12 @@ reply_line number command (Value xml) = ok_line (spaced (hex_text xml))
 reply_line number command (Granted lock) = lock_line number command lock
 reply_line number command (Locks locks) = ok_line (flat_map (λ token. spaced (label_text (number token))) (map (λ lock. lock.token) locks))
 
--- none of a refusal by the files
-abbrev pub answer_line : (List ℕ → ℕ) → Command → Answer → Option (List ℕ)
-answer_line number command (Ok reply) = Some (reply_line number command reply)
-answer_line number command (Err (Locked lock)) = Some (locked_line (number lock.token))
-answer_line number command (Err NoLock) = Some no_lock_line
-answer_line number command (Err OutOfMemory) = Some out_of_memory_line
-answer_line number command (Err (Fs e)) = None
+abbrev pub answer_line : (List ℕ → ℕ) → Command → Answer → List ℕ
+answer_line number command (Ok reply) = reply_line number command reply
+answer_line number command (Err (Fs e)) = error_line e
+answer_line number command (Err (Locked lock)) = locked_line (number lock.token)
+answer_line number command (Err NoLock) = no_lock_line
+answer_line number command (Err OutOfMemory) = out_of_memory_line
 
 -- the tokens of the locks granted so far, once a command was answered so
 abbrev pub tokens_after : Command → Answer → List (List ℕ) → List (List ℕ)

@@ -1,14 +1,16 @@
 //! A player of scenarios: one request a line, one answer a line.
-ghost use Rattle.std.specs.Prelude.{◌≡◌, ◌⊎◌, map, string_bytes, IfOk};
-ghost use Rattle.std.specs.Io.Buffered.{writer_contents};
+ghost use Rattle.std.specs.Prelude.{◌≡◌, ◌⊎◌, ℕ, List, map, string_bytes, IfOk};
+ghost use Rattle.std.specs.Io.Buffered.{reader_remaining, writer_contents};
 ghost use Rattle.std.specs.Io.KnownBytes.{Appends};
-ghost use Rattle.dav_resource_core.specs.Private.Playing.{Follows, LinePlayed};
+ghost use Rattle.std.specs.List.{concat};
+ghost use Rattle.dav_resource_core.specs.Private.Playing.{Follows, LinePlayed, InputPlayed, Replayed};
 ghost use Rattle.dav_resource_core.specs.Stores.{state_of};
 ghost use Rattle.dav_resource_core.specs.Seeds.{seed};
 
 mod answers;
 mod labels;
 mod lines;
+mod names;
 mod numbers;
 mod playing;
 
@@ -17,6 +19,7 @@ use dav_files_core::fs::Moment;
 use labels::Labels;
 use line_streams::{Fault, read_line};
 use lines::{Unread, request_of};
+use names::path_error;
 use numbers::number;
 use playing::Player;
 use rand_core::{Rng, SeedableRng};
@@ -54,7 +57,9 @@ pub fn replay<I: Read + Drop, O: Write + Drop, E: Write + Drop>(
     output: O,
     mut faults: E,
 ) -> u8
-    ensures { (result ≡ 0) ⊎ (result ≡ 2) ⊎ (result ≡ 3) }
+    ensures status { (result ≡ 0) ⊎ (result ≡ 2) ⊎ (result ≡ 3) }
+    ensures whole { result ≡ 0 → Replayed seed (I.remaining input) None }
+    ensures malformed { result ≡ 2 → (number : ℕ) × Replayed seed (I.remaining input) (Some number) }
 {
     match play(alloc, seed, input, output) {
         Ok(None) => 0,
@@ -75,7 +80,9 @@ fn play<I: Read + Drop, O: Write + Drop>(
     seed: u64,
     input: I,
     output: O,
-) -> Result<Option<u64>, Fault> {
+) -> Result<Option<u64>, Fault>
+    ensures { IfOk result (λ end. Replayed seed (I.remaining input) end) }
+{
     let Ok(stores) = Guarded::new(alloc, Moment(0)) else {
         return Err(Fault::OutOfMemory);
     };
@@ -91,13 +98,17 @@ fn play<I: Read + Drop, O: Write + Drop>(
     played
 }
 
-// One line at a time, in one buffer, up to one of a wrong form.
+// One line at a time, in one buffer, up to one of a wrong form. `Io` after 2^64 - 2 lines.
 fn play_lines<R: Rng + Drop, I: Read + Drop, O: Write + Drop>(
     alloc: Global,
     player: &mut Player<R>,
     input: &mut BufReader<I>,
     output: &mut BufWriter<O>,
-) -> Result<Option<u64>, Fault> {
+) -> Result<Option<u64>, Fault>
+    ensures { IfOk result (λ end. (texts : List (List ℕ)) × InputPlayed (state_of player.old.stores (R.stream player.old.rng), player.old.labels)
+        (reader_remaining I.remaining input.old) end texts (state_of player.new.stores (R.stream player.new.rng), player.new.labels)
+        × Appends (writer_contents O.contents output.old) (writer_contents O.contents output.new) (concat texts)) }
+{
     let mut line = Vec::new(alloc);
     for number in 1..u64::MAX {
         if !read_line(input, &mut line, output)? {
@@ -107,7 +118,7 @@ fn play_lines<R: Rng + Drop, I: Read + Drop, O: Write + Drop>(
             return Ok(Some(number));
         }
     }
-    Ok(None)
+    Err(Fault::Io)
 }
 
 // Answers a line, and tells whether it has a right form.
@@ -117,9 +128,9 @@ fn play_line<R: Rng + Drop, O: Write + Drop>(
     line: &[u8],
     output: &mut BufWriter<O>,
 ) -> Result<bool, Fault>
-    ensures { IfOk result (λ right. LinePlayed (state_of player.old.stores (R.stream player.old.rng), player.old.labels) line.now right
-        (state_of player.new.stores (R.stream player.new.rng), player.new.labels)
-        (Appends (writer_contents O.contents output.old) (writer_contents O.contents output.new))) }
+    ensures { IfOk result (λ right. (written : List ℕ) × LinePlayed (state_of player.old.stores (R.stream player.old.rng), player.old.labels) line.now right
+        (state_of player.new.stores (R.stream player.new.rng), player.new.labels) written
+        × Appends (writer_contents O.contents output.old) (writer_contents O.contents output.new) written) }
 {
     let said = request_of(alloc, &player.labels, line);
     follow(player, said, output)
@@ -131,9 +142,9 @@ fn follow<R: Rng + Drop, O: Write + Drop>(
     said: Result<Option<Request>, Unread>,
     output: &mut BufWriter<O>,
 ) -> Result<bool, Fault>
-    ensures { IfOk result (λ right. Follows (state_of player.old.stores (R.stream player.old.rng), player.old.labels) said right
-        (state_of player.new.stores (R.stream player.new.rng), player.new.labels)
-        (Appends (writer_contents O.contents output.old) (writer_contents O.contents output.new))) }
+    ensures { IfOk result (λ right. (written : List ℕ) × Follows (state_of player.old.stores (R.stream player.old.rng), player.old.labels) said right
+        (state_of player.new.stores (R.stream player.new.rng), player.new.labels) written
+        × Appends (writer_contents O.contents output.old) (writer_contents O.contents output.new) written) }
 {
     match said {
         Ok(Some(request)) => {
@@ -143,7 +154,7 @@ fn follow<R: Rng + Drop, O: Write + Drop>(
         Ok(None) => Ok(true),
         Err(Unread::Malformed) => Ok(false),
         Err(Unread::BadPath(error)) => {
-            writeln!(output, "bad path {error}")?;
+            writeln!(output, "bad path {}", path_error(error))?;
             Ok(true)
         }
         Err(Unread::OutOfMemory) => {

@@ -1,33 +1,75 @@
--- What a line of a scenario does: how requests and answers belong to lines (own).
-use Rattle.std.specs.Prelude.{◌≡◌, ℕ, Bool, true, false, List, Option, Some, None, Result, Ok, Err, IfSome}
+-- What the lines of a scenario do: how requests and answers belong to lines (own).
+use Rattle.std.specs.Prelude.{◌≡◌, ℕ, ◌+◌, Bool, true, false, List, [], ◌∷◌, ◌++◌, length, Option, Some, None, Result, Ok, Err, IfSome}
+use Rattle.rand_core.specs.Pcg32Seed.{pcg32_seed}
+use Rattle.rand_core.specs.Steps.{steps_u64_low, stream_of}
+use Rattle.rand_core.specs.Stream.{Stream}
+use Rattle.rand_pcg.specs.Pcg.{pcg64, pcg64_of_seed}
+use Rattle.line_streams.specs.Lines.{lines}
 use Rattle.dav_resource_core.specs.declared.davreplay.labels.Labels.{Labels}
 use Rattle.dav_resource_core.specs.declared.davreplay.lines.Unread.{Unread}
 use Rattle.dav_resource_core.specs.declared.davreplay.lines.Unread.TheVariants.{Malformed, BadPath, OutOfMemory}
 use Rattle.dav_resource_core.specs.declared.guarded.requests.Request.{Request}
-use Rattle.dav_resource_core.specs.AnswerTexts.{answer_line, out_of_memory_line, tokens_after}
+use Rattle.dav_resource_core.specs.AnswerTexts.{answer_line, bad_path_line, out_of_memory_line, tokens_after}
 use Rattle.dav_resource_core.specs.Private.Reading.{LineIs, granted_tokens, label_number}
 use Rattle.dav_resource_core.specs.Requests as plain
 use Rattle.dav_resource_core.specs.Served.{request_of}
 use Rattle.dav_resource_core.specs.Step.{State, Step}
+use Rattle.dav_resource_core.specs.Stores.{start_stores, state_of}
 
 -- the stores with what the generator still gives, and the labels of the locks granted so far
 abbrev pub Played : Type 0
 Played = State × Labels
 
--- a request is a step of the stores, the token of a lock that it was granted is kept, and the line of its answer is written
-abbrev pub Answered : Played → plain.Request → Played → (List ℕ → Type 0) → Type 0
-Answered p r p' Writes =
-    (a : plain.Answer) × Step p.0 r a p'.0 × (granted_tokens p'.1 ≡ tokens_after r.command a (granted_tokens p.1))
-    × IfSome (answer_line (label_number p'.1) r.command a) Writes
+-- ---- a line
 
--- what follows what a line says, and whether the next line is read: a request alone changes the stores, and a malformed line ends the run
-abbrev pub Follows : Played → Result (Option Request) Unread → Bool → Played → (List ℕ → Type 0) → Type 0
-Follows p (Ok (Some request)) on p' Writes = (on ≡ true) × Answered p (request_of request) p' Writes
-Follows p (Ok None) on p' Writes = (on ≡ true) × (p' ≡ p)
-Follows p (Err Malformed) on p' Writes = (on ≡ false) × (p' ≡ p)
-Follows p (Err (BadPath e)) on p' Writes = (on ≡ true) × (p' ≡ p)
-Follows p (Err OutOfMemory) on p' Writes = (on ≡ true) × (p' ≡ p) × Writes out_of_memory_line
+-- a request is a step of the stores, the token of a lock that it was granted is kept, and the line of its answer is written
+abbrev pub Answered : Played → plain.Request → Played → List ℕ → Type 0
+Answered p r p' written =
+    (a : plain.Answer) × Step p.0 r a p'.0 × (granted_tokens p'.1 ≡ tokens_after r.command a (granted_tokens p.1))
+    × (written ≡ answer_line (label_number p'.1) r.command a)
+
+-- what follows what a line says, what is written, and whether the next line is read: a request alone changes the stores, and a malformed line ends the run
+abbrev pub Follows : Played → Result (Option Request) Unread → Bool → Played → List ℕ → Type 0
+Follows p (Ok (Some request)) on p' written = (on ≡ true) × Answered p (request_of request) p' written
+Follows p (Ok None) on p' written = (on ≡ true) × (p' ≡ p) × (written ≡ [])
+Follows p (Err Malformed) on p' written = (on ≡ false) × (p' ≡ p) × (written ≡ [])
+Follows p (Err (BadPath e)) on p' written = (on ≡ true) × (p' ≡ p) × (written ≡ bad_path_line e)
+Follows p (Err OutOfMemory) on p' written = (on ≡ true) × (p' ≡ p) × (written ≡ out_of_memory_line)
 
 -- a line of these bytes
-abbrev pub LinePlayed : Played → List ℕ → Bool → Played → (List ℕ → Type 0) → Type 0
-LinePlayed p line on p' Writes = (said : Result (Option Request) Unread) × LineIs (granted_tokens p.1) line said × Follows p said on p' Writes
+abbrev pub LinePlayed : Played → List ℕ → Bool → Played → List ℕ → Type 0
+LinePlayed p line on p' written = (said : Result (Option Request) Unread) × LineIs (granted_tokens p.1) line said × Follows p said on p' written
+
+-- ---- all lines
+
+-- these lines one after another, none of them malformed, each with what is written for it
+abbrev pub LinesPlayed : Played → List (List ℕ) → List (List ℕ) → Played → Type 0
+LinesPlayed p [] [] p' = p' ≡ p
+LinesPlayed p [] (text ∷ texts) p' = ⊥
+LinesPlayed p (line ∷ more) [] p' = ⊥
+LinesPlayed p (line ∷ more) (text ∷ texts) p' = (mid : Played) × LinePlayed p line true mid text × LinesPlayed mid more texts p'
+
+-- all of these lines, or those in front of the first malformed one, which is told by its number, from 1
+abbrev pub AllPlayed : Played → List (List ℕ) → Option ℕ → List (List ℕ) → Played → Type 0
+AllPlayed p all None texts p' = LinesPlayed p all texts p'
+AllPlayed p all (Some number) texts p' =
+    (front : List (List ℕ)) × (line : List ℕ) × (more : List (List ℕ)) × (all ≡ front ++ line ∷ more) × (number ≡ length front + 1)
+    × LinesPlayed p front texts p' × LineIs (granted_tokens p'.1) line (Err Malformed)
+
+-- the lines of an input, all of them where its bytes are known
+abbrev pub AreLines : List (List ℕ) → Option (List ℕ) → Type 0
+AreLines all input = IfSome input (λ bytes. all ≡ lines bytes)
+
+-- an input, how it ends, and what is written for its lines
+abbrev pub InputPlayed : Played → Option (List ℕ) → Option ℕ → List (List ℕ) → Played → Type 0
+InputPlayed p input end texts p' = (all : List (List ℕ)) × AreLines all input × AllPlayed p all end texts p'
+
+-- what the generator gives that begins with this seed
+abbrev pub generator : ℕ → Stream
+generator seed = stream_of (steps_u64_low pcg64) (pcg64_of_seed (pcg32_seed 32 seed))
+
+-- a scenario with this seed: it starts with a root folder of moment 0, no lock and no label
+abbrev pub Replayed : ℕ → Option (List ℕ) → Option ℕ → Type 0
+Replayed seed input end =
+    (labels : Labels) × (texts : List (List ℕ)) × (p' : Played) × (granted_tokens labels ≡ [])
+    × InputPlayed (state_of (start_stores 0) (generator seed), labels) input end texts p'

@@ -17,7 +17,7 @@ use Rattle.dav_resource_core.specs.declared.guarded.requests.Reply.{Reply}
 use Rattle.dav_resource_core.specs.declared.guarded.requests.Reply.TheVariants.{Lock as Granted}
 use Rattle.dav_resource_core.specs.declared.guarded.requests.Refusal.{Refusal}
 use Rattle.dav_resource_core.specs.declared.guarded.requests.Refusal.TheVariants.{Fs, Locked, NoLock, OutOfMemory as NoMemory}
-use Rattle.dav_resource_core.specs.AnswerTexts.{locked_line, no_lock_line, out_of_memory_line}
+use Rattle.dav_resource_core.specs.AnswerTexts.{error_line, locked_line, no_lock_line, out_of_memory_line}
 use Rattle.dav_resource_core.specs.Requests as plain
 use Rattle.dav_resource_core.specs.Served.{command_of, request_of}
 
@@ -110,12 +110,12 @@ WordsAre tokens _ result = result ≡ Err Malformed
 abbrev pub LineIs : List (List ℕ) → List ℕ → Result (Option Request) Unread → Type 0
 LineIs tokens line result = (IsUtf8 line → (result ≡ Err OutOfMemory) ⊎ WordsAre tokens (words line) result) × (¬ IsUtf8 line → result ≡ Err Malformed)
 
--- the line of a refusal, but of one by the files, whose name is only tested
-abbrev pub refusal_line : Labels → Refusal → Option (List ℕ)
-refusal_line labels (Locked lock) = Some (locked_line (label_number labels lock.token))
-refusal_line labels NoLock = Some no_lock_line
-refusal_line labels NoMemory = Some out_of_memory_line
-refusal_line labels (Fs e) = None
+-- the line of a refusal
+abbrev pub refusal_line : Labels → Refusal → List ℕ
+refusal_line labels (Fs e) = error_line e
+refusal_line labels (Locked lock) = locked_line (label_number labels lock.token)
+refusal_line labels NoLock = no_lock_line
+refusal_line labels NoMemory = out_of_memory_line
 
 -- a reply that shows no single lock
 abbrev pub IsNoLock : Reply → Type 0

@@ -1,5 +1,5 @@
 //! How answers are written.
-ghost use Rattle.std.specs.Prelude.{◌≡◌, ◌≤◌, ◌++◌, length, map, IfSome, OnOk};
+ghost use Rattle.std.specs.Prelude.{◌≡◌, ◌≤◌, ◌++◌, length, map, OnOk};
 ghost use Rattle.hex.specs.Hex.{encode_lower};
 ghost use Rattle.std.specs.List.{flat_map};
 ghost use Rattle.std.specs.Io.Buffered.{writer_contents};
@@ -7,16 +7,18 @@ ghost use Rattle.std.specs.Io.KnownBytes.{Appends};
 ghost use Rattle.dav_files_core.specs.Listing.{entry_of};
 ghost use Rattle.dav_files_core.specs.Meta.{meta_of};
 ghost use Rattle.dav_files_core.specs.Properties.{answer_of, property_of};
-ghost use Rattle.dav_resource_core.specs.AnswerTexts.{ok_line, spaced, label_text, hex_text, meta_text, member_text, status_text, property_text, end_text};
+ghost use Rattle.dav_resource_core.specs.AnswerTexts.{error_line, ok_line, spaced, label_text, hex_text, meta_text, member_text, status_text, property_text, end_text};
 ghost use Rattle.dav_resource_core.specs.Private.Reading.{label_number, refusal_line};
 
 use super::OUT_OF_MEMORY;
 use super::labels::Labels;
+use super::names::file_error;
 use crate::guarded::Refusal;
 use dav_files_core::fs::{DavDirEntry, DavProp};
 use dav_files_core::memfs::{Kind, MemFsEntry, MemFsMeta};
 use dav_locks_core::ls::DavLock;
 use dav_path_core::davpath::escaped;
+use dav_path_core::errors::FsError;
 use http::StatusCode;
 use line_streams::Fault;
 use std::io::{BufWriter, Write};
@@ -187,12 +189,19 @@ pub(super) fn write_refusal<O: Write + Drop>(
     refusal: &Refusal,
     output: &mut BufWriter<O>,
 ) -> Result<(), Fault>
-    ensures { OnOk result (IfSome (refusal_line labels.now refusal.now) (Appends (writer_contents O.contents output.old) (writer_contents O.contents output.new))) }
+    ensures { OnOk result (Appends (writer_contents O.contents output.old) (writer_contents O.contents output.new) (refusal_line labels.now refusal.now)) }
 {
     match refusal {
-        Refusal::Fs(error) => Ok(writeln!(output, "error {} {error}", error.status().as_u16())?),
+        Refusal::Fs(error) => write_file_error(*error, output),
         Refusal::Locked(lock) => Ok(writeln!(output, "locked t{}", labels.number_of(&lock.token))?),
         Refusal::NoLock => Ok(output.write_all(b"no lock\n")?),
         Refusal::OutOfMemory => Ok(output.write_all(OUT_OF_MEMORY)?),
     }
+}
+
+fn write_file_error<O: Write + Drop>(error: FsError, output: &mut BufWriter<O>) -> Result<(), Fault>
+    ensures { OnOk result (Appends (writer_contents O.contents output.old) (writer_contents O.contents output.new) (error_line error)) }
+{
+    let status = error.status().as_u16();
+    Ok(writeln!(output, "error {status} {}", file_error(error))?)
 }

@@ -18,7 +18,9 @@ pub(super) struct Labels {
 }
 
 impl Labels {
-    pub(super) fn new(alloc: Global) -> Labels {
+    pub(super) fn new(alloc: Global) -> Labels
+        ensures { granted_tokens result ≡ [] }
+    {
         Labels {
             alloc,
             tokens: Vec::new(alloc),

@@ -1,5 +1,5 @@
 //! Answers to the lines of a scenario.
-ghost use Rattle.std.specs.Prelude.{◌≡◌, ◌∷◌, ◌++◌, [], Ok, IfSome, OnOk, string_bytes};
+ghost use Rattle.std.specs.Prelude.{◌≡◌, ◌∷◌, ◌++◌, [], ℕ, List, Ok, OnOk, string_bytes};
 ghost use Rattle.std.specs.Io.Buffered.{writer_contents};
 ghost use Rattle.std.specs.Io.KnownBytes.{Appends};
 ghost use Rattle.dav_resource_core.specs.AnswerTexts.{answer_line, label_text, lock_line, ok_line, reply_line, spaced, tokens_after};
@@ -36,9 +36,9 @@ impl<R: Rng + Drop> Player<R> {
         request: &Request,
         output: &mut BufWriter<O>,
     ) -> Result<(), Fault>
-        ensures { OnOk result (Answered (state_of self.old.stores (R.stream self.old.rng), self.old.labels) (request_of request.entry.now)
-            (state_of self.new.stores (R.stream self.new.rng), self.new.labels)
-            (Appends (writer_contents O.contents output.old) (writer_contents O.contents output.new))) }
+        ensures { OnOk result ((written : List ℕ) × Answered (state_of self.old.stores (R.stream self.old.rng), self.old.labels) (request_of request.entry.now)
+            (state_of self.new.stores (R.stream self.new.rng), self.new.labels) written
+            × Appends (writer_contents O.contents output.old) (writer_contents O.contents output.new) written) }
     {
         let answer = self.stores.apply(request, &mut self.rng);
         write_answer(&mut self.labels, &request.command, answer, output)
@@ -53,8 +53,8 @@ fn write_answer<O: Write + Drop>(
     output: &mut BufWriter<O>,
 ) -> Result<(), Fault>
     ensures tokens { OnOk result (granted_tokens labels.new ≡ tokens_after (command_of command.now) (answer_of answer) (granted_tokens labels.old)) }
-    ensures line { OnOk result (IfSome (answer_line (label_number labels.new) (command_of command.now) (answer_of answer))
-        (Appends (writer_contents O.contents output.old) (writer_contents O.contents output.new))) }
+    ensures line { OnOk result (Appends (writer_contents O.contents output.old) (writer_contents O.contents output.new)
+        (answer_line (label_number labels.new) (command_of command.now) (answer_of answer))) }
 {
     match answer {
         Ok(Reply::Lock(lock)) => write_lock(labels, command, lock, output),

@@ -1,0 +1,167 @@
+-- How the lines of an input are played, one after another.
+use Rattle.std.proofs.Common.{◌≡◌, ℕ, ◌+◌, ◌<◌, List, [], ◌∷◌, ◌++◌, Option, Some, None, length, refl, sym, ap, ◌∙◌, subst, append-nil, append_assoc, arith}
+use Rattle.std.specs.Prelude.{Bool, true, false, Ok, Err, IfSome, IsTrue, ◌↔◌, ◌==◌, if◌then◌else◌}
+use Rattle.std.specs.List.{concat}
+use Rattle.std.specs.Io.Buffered.{reader_remaining, reader_inner, reader_buffer, reader_capacity}
+use Rattle.std.specs.Io.BufRead.{first_piece, drop_through, DropsThrough}
+use Rattle.std.specs.Io.KnownBytes.{Appends, Keeps, prepend_known}
+use Rattle.std.specs.declared.io.buffered.BufReader.{BufReader}
+use Rattle.std.proofs.KnownBytes.{Appends-nil, Appends-trans}
+use Rattle.std.proofs.lemmas.Bool.{false≢true}
+use Rattle.std.proofs.lemmas.List.{length_push}
+use Rattle.std.proofs.lemmas.List.Folds.{concat-append}
+use Rattle.line_streams.specs.Lines.{lines}
+use Rattle.line_streams.proofs.LineLaws.{lines_step}
+use Rattle.dav_resource_core.specs.declared.davreplay.lines.Unread.TheVariants.{Malformed, BadPath, OutOfMemory}
+use Rattle.dav_resource_core.specs.Private.Playing.{Played, Follows, LinePlayed, LinesPlayed, AllPlayed, AreLines, InputPlayed}
+use Rattle.dav_resource_core.specs.Private.Reading.{LineIs, granted_tokens}
+
+-- ---- a chain of lines
+
+-- one line more at its end
+lines_more : (p mid p' : Played) (front texts : List (List ℕ)) (line text : List ℕ) → LinesPlayed p front texts mid → LinePlayed mid line true p' text
+    → LinesPlayed p (front ++ line ∷ []) (texts ++ text ∷ []) p'
+lines_more p mid p' [] [] line text chain one = (p', subst (λ q. LinePlayed q line true p' text) chain one, refl)
+lines_more p mid p' [] (t ∷ texts) line text chain one = absurd chain
+lines_more p mid p' (l ∷ front) [] line text chain one = absurd chain
+lines_more p mid p' (l ∷ front) (t ∷ texts) line text chain one = (chain.0, chain.1, lines_more chain.0 mid p' front texts line text chain.2 one)
+
+-- a line that ends the run
+malformed : (p p' : Played) (line text : List ℕ) → LinePlayed p line false p' text → LineIs (granted_tokens p.1) line (Err Malformed) × (p' ≡ p) × (text ≡ [])
+malformed p p' line text (Ok (Some request), is, does) = absurd (false≢true does.0)
+malformed p p' line text (Ok None, is, does) = absurd (false≢true does.0)
+malformed p p' line text (Err Malformed, is, does) = (is, does.1, does.2)
+malformed p p' line text (Err (BadPath e), is, does) = absurd (false≢true does.0)
+malformed p p' line text (Err OutOfMemory, is, does) = absurd (false≢true does.0)
+
+-- ---- the lines of an input
+
+-- where an input's bytes are known, its lines are these and then those that are left
+abbrev pub Front : List (List ℕ) → Option (List ℕ) → Option (List ℕ) → Type 0
+Front front input left = IfSome input (λ bytes. (rest : List ℕ) × (left ≡ Some rest) × (lines bytes ≡ front ++ lines rest))
+
+front_none : (input : Option (List ℕ)) → Front [] input input
+front_none None = tt
+front_none (Some bytes) = (bytes, refl, refl)
+
+lines_left : Option (List ℕ) → List (List ℕ)
+lines_left None = []
+lines_left (Some bytes) = lines bytes
+
+-- a reader tells whether there is a line
+abbrev pub Tells : Option (List ℕ) → Bool → Type 0
+Tells input is_there = IfSome input (λ bytes. IsTrue is_there ↔ (0 < length bytes))
+
+-- and gives the first, and drops it
+abbrev pub Gave : Option (List ℕ) → Bool → List ℕ → Option (List ℕ) → Type 0
+Gave input is_there line left = Tells input is_there × IfSome input (λ bytes. line ≡ first_piece 10 bytes) × DropsThrough input left 10
+
+front_more : (front : List (List ℕ)) (line : List ℕ) (input left left' : Option (List ℕ)) → Front front input left → Gave left true line left' → Front (front ++ line ∷ []) input left'
+front_more front line None left left' before gave = tt
+front_more front line (Some bytes) left left' before gave =
+    let at = subst (λ l. Gave l true line left') before.1 gave in (
+      drop_through 10 before.0,
+      at.2,
+      before.2 ∙ ap (λ l. front ++ l) (lines_step before.0 (at.0.0 refl) ∙ ap (λ l. l ∷ lines (drop_through 10 before.0)) (sym at.1)) ∙ sym (append_assoc front (line ∷ []) _),
+    )
+
+no_lines : (bytes : List ℕ) → IsTrue false ↔ (0 < length bytes) → lines bytes ≡ []
+no_lines [] none = refl
+no_lines (b ∷ bytes) none = absurd (false≢true (none.1 (omega arith)))
+
+front_ended : (front : List (List ℕ)) (input left : Option (List ℕ)) → Front front input left → Tells left false → AreLines front input
+front_ended front None left before none = tt
+front_ended front (Some bytes) left before none =
+    sym (before.2 ∙ ap (λ l. front ++ l) (no_lines before.0 (subst (λ l. Tells l false) before.1 none)) ∙ append-nil front)
+
+front_stopped : (front : List (List ℕ)) (line : List ℕ) (input left : Option (List ℕ)) → Front (front ++ line ∷ []) input left → AreLines (front ++ line ∷ lines_left left) input
+unfolding lines_left
+front_stopped front line None left before = tt
+front_stopped front line (Some bytes) left before =
+    ap (λ l. front ++ line ∷ lines_left l) before.1 ∙ sym (append_assoc front (line ∷ []) (lines before.0)) ∙ sym before.2
+
+-- ---- what is written
+
+kept : (a b c : Option (List ℕ)) (text : List ℕ) → Keeps a b → Appends b c text → Appends a c text
+kept None b c text same more = tt
+kept (Some x) None c text same more = absurd same
+kept (Some x) (Some y) None text same more = absurd more
+kept (Some x) (Some y) (Some z) text same more = more ∙ ap (λ l. l ++ text) same
+
+kept_behind : (a b c : Option (List ℕ)) (text : List ℕ) → Appends a b text → Keeps b c → Appends a c text
+kept_behind None b c text more same = tt
+kept_behind (Some x) None c text more same = absurd more
+kept_behind (Some x) (Some y) None text more same = absurd same
+kept_behind (Some x) (Some y) (Some z) text more same = same ∙ more
+
+concat_more : (texts : List (List ℕ)) (text : List ℕ) → concat (texts ++ text ∷ []) ≡ concat texts ++ text
+concat_more texts text = concat-append texts (text ∷ []) ∙ ap (λ l. concat texts ++ l) (append-nil text)
+
+-- ---- the loop
+
+-- a line was played, and its text written
+abbrev pub Wrote : Played → List ℕ → Bool → Played → Option (List ℕ) → Option (List ℕ) → Type 0
+Wrote p line on p' output output' = (written : List ℕ) × LinePlayed p line on p' written × Appends output output' written
+
+-- the lines in front of this number were played
+abbrev pub PlayedFront : Played → Option (List ℕ) → Option (List ℕ) → ℕ → Played → Option (List ℕ) → Option (List ℕ) → Type 0
+PlayedFront p input output number p' left output' =
+    (front : List (List ℕ)) × (texts : List (List ℕ)) × (number ≡ length front + 1) × LinesPlayed p front texts p' × Front front input left
+    × Appends output output' (concat texts)
+
+-- how it ends
+abbrev pub PlayedTo : Played → Option (List ℕ) → Option (List ℕ) → Option ℕ → Played → Option (List ℕ) → Type 0
+PlayedTo p input output end p' output' = (texts : List (List ℕ)) × InputPlayed p input end texts p' × Appends output output' (concat texts)
+
+pub none_played : (p : Played) (input output : Option (List ℕ)) → PlayedFront p input output 1 p input output
+none_played p input output = ([], [], refl, refl, front_none input, Appends-nil output)
+
+pub one_more : (p mid p' : Played) (input output left left' out out-read out' : Option (List ℕ)) (number : ℕ) (line : List ℕ) (is_there on : Bool)
+    → PlayedFront p input output number mid left out → Gave left is_there line left' → is_there ≡ true → Keeps out out-read → Wrote mid line on p' out-read out' → on ≡ true
+    → PlayedFront p input output (number + 1) p' left' out'
+one_more p mid p' input output left left' out out-read out' number line is_there on before gave there same one right = (
+  before.0 ++ line ∷ [],
+  before.1 ++ one.0 ∷ [],
+  ap (λ n. n + 1) (before.2 ∙ sym (length_push before.0 line)),
+  lines_more p mid p' before.0 before.1 line one.0 before.3 (subst (λ b. LinePlayed mid line b p' one.0) right one.1),
+  front_more before.0 line input left left' before.4 (subst (λ b. Gave left b line left') there gave),
+  subst (Appends output out') (sym (concat_more before.1 one.0)) (Appends-trans output out out' (concat before.1) one.0 before.5 (kept out out-read out' one.0 same one.2)),
+)
+
+pub all_played : (p p' : Played) (input output left out out' : Option (List ℕ)) (number : ℕ) (is_there : Bool)
+    → PlayedFront p input output number p' left out → Tells left is_there → is_there ≡ false → Keeps out out' → PlayedTo p input output None p' out'
+all_played p p' input output left out out' number is_there before tells none same = (
+  before.1,
+  (before.0, front_ended before.0 input left before.4 (subst (Tells left) none tells), before.3),
+  kept_behind output out out' (concat before.1) before.5 same,
+)
+
+pub stopped : (p mid p' : Played) (input output left left' out out-read out' : Option (List ℕ)) (number : ℕ) (line : List ℕ) (is_there on : Bool)
+    → PlayedFront p input output number mid left out → Gave left is_there line left' → is_there ≡ true → Keeps out out-read → Wrote mid line on p' out-read out' → on ≡ false
+    → PlayedTo p input output (Some number) p' out'
+stopped p mid p' input output left left' out out-read out' number line is_there on before gave there same one wrong =
+    let bad = malformed mid p' line one.0 (subst (λ b. LinePlayed mid line b p' one.0) wrong one.1) in
+    let ends = subst (λ q. LinesPlayed p before.0 before.1 q × LineIs (granted_tokens q.1) line (Err Malformed)) (sym bad.1) (before.3, bad.0) in
+    let nothing = subst (Appends out-read out') bad.2 one.2 in
+    let end = lines_left left' in (
+      before.1,
+      (
+        before.0 ++ line ∷ end,
+        front_stopped before.0 line input left' (front_more before.0 line input left left' before.4 (subst (λ b. Gave left b line left') there gave)),
+        (before.0, line, end, refl, before.2, ends.0, ends.1),
+      ),
+      subst (Appends output out') (append-nil (concat before.1)) (Appends-trans output out out' (concat before.1) [] before.5 (kept out out-read out' [] same nothing)),
+    )
+
+-- ---- the reader
+
+nothing_before : (known : Option (List ℕ)) → prepend_known [] known ≡ known
+nothing_before None = refl
+nothing_before (Some bytes) = refl
+
+-- a new reader has all of its input left
+pub fresh : {T A : Type 0} (remaining : T → Option (List ℕ)) (r : BufReader T A) (input : T) → reader_inner r ≡ input → reader_buffer r ≡ [] → reader_capacity r ≡ 65536
+    → reader_remaining remaining r ≡ remaining input
+fresh remaining r input inner empty capacity =
+    ap (λ n. if n == 0 then None else prepend_known (reader_buffer r) (remaining (reader_inner r))) capacity
+    ∙ ap (λ bytes. prepend_known bytes (remaining (reader_inner r))) empty ∙ nothing_before (remaining (reader_inner r)) ∙ ap remaining inner

@@ -10,11 +10,17 @@ use Rattle.std.proofs.KnownBytes.{Appends-nil, Appends-trans}
 use Rattle.std.proofs.lemmas.Bool.{false≢true}
 use Rattle.std.proofs.lemmas.List.{length_push}
 use Rattle.std.proofs.lemmas.List.Folds.{concat-append}
+use Rattle.rand_core.specs.Pcg32Seed.{pcg32_seed}
+use Rattle.rand_core.specs.Steps.{steps_u64_low, stream_of}
+use Rattle.rand_pcg.specs.Lcg.{Lcg}
+use Rattle.rand_pcg.specs.Pcg.{pcg64, pcg64_of_seed}
 use Rattle.line_streams.specs.Lines.{lines}
 use Rattle.line_streams.proofs.LineLaws.{lines_step}
+use Rattle.dav_resource_core.specs.declared.davreplay.labels.Labels.{Labels}
 use Rattle.dav_resource_core.specs.declared.davreplay.lines.Unread.TheVariants.{Malformed, BadPath, OutOfMemory}
-use Rattle.dav_resource_core.specs.Private.Playing.{Played, Follows, LinePlayed, LinesPlayed, AllPlayed, AreLines, InputPlayed}
+use Rattle.dav_resource_core.specs.Private.Playing.{Played, Follows, LinePlayed, LinesPlayed, AllPlayed, AreLines, InputPlayed, Replayed, generator}
 use Rattle.dav_resource_core.specs.Private.Reading.{LineIs, granted_tokens}
+use Rattle.dav_resource_core.specs.Stores.{Stores, start_stores, state_of}
 
 -- ---- a chain of lines
 
@@ -165,3 +171,18 @@ pub fresh : {T A : Type 0} (remaining : T → Option (List ℕ)) (r : BufReader 
 fresh remaining r input inner empty capacity =
     ap (λ n. if n == 0 then None else prepend_known (reader_buffer r) (remaining (reader_inner r))) capacity
     ∙ ap (λ bytes. prepend_known bytes (remaining (reader_inner r))) empty ∙ nothing_before (remaining (reader_inner r)) ∙ ap remaining inner
+
+-- ---- the start
+
+pub replayed : (seed : ℕ) (stores : Stores) (rng : Lcg) (labels : Labels) (left input : Option (List ℕ)) (end : Option ℕ) (texts : List (List ℕ)) (p' : Played)
+    → stores ≡ start_stores 0 → rng ≡ pcg64_of_seed (pcg32_seed 32 seed) → granted_tokens labels ≡ [] → left ≡ input
+    → InputPlayed (state_of stores (stream_of (steps_u64_low pcg64) rng), labels) left end texts p' → Replayed seed input end
+replayed seed stores rng labels left input end texts p' stores_are rng_is none whole played = (
+  labels,
+  texts,
+  p',
+  none,
+  subst (λ s. InputPlayed (state_of s (generator seed), labels) input end texts p') stores_are
+      (subst (λ r. InputPlayed (state_of stores (stream_of (steps_u64_low pcg64) r), labels) input end texts p') rng_is
+      (subst (λ i. InputPlayed (state_of stores (stream_of (steps_u64_low pcg64) rng), labels) i end texts p') whole played)),
+)

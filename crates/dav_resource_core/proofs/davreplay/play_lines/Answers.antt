@@ -22,7 +22,7 @@ returns-then-not-branch-2 g c =
     let left = reader_remaining g.I.Read.remaining c.loop-number.input in
     let left' = reader_remaining g.I.Read.remaining c.read_line.new.input in
     let gave = subst (λ line. Gave left c.in_ok-read_line.field-0 line left') (sym c.deref.ensures.value)
-        (c.in_ok-read_line.ensures.there, c.in_ok-read_line.ensures.line, c.in_ok-read_line.ensures.rest) in
+    (c.in_ok-read_line.ensures.there, c.in_ok-read_line.ensures.line, c.in_ok-read_line.ensures.rest) in
     stopped _ (state_of c.loop-number.player.stores (g.R.Rng.stream c.loop-number.player.rng), c.loop-number.player.labels)
     (state_of c.play_line.new.player.stores (g.R.Rng.stream c.play_line.new.player.rng), c.play_line.new.player.labels)
     (reader_remaining g.I.Read.remaining c.args.input.now) (writer_contents g.O.Write.contents c.args.output.now) left left'
@@ -35,7 +35,7 @@ loop-number-preserved g c =
     let left = reader_remaining g.I.Read.remaining c.loop-number.input in
     let left' = reader_remaining g.I.Read.remaining c.read_line.new.input in
     let gave = subst (λ line. Gave left c.in_ok-read_line.field-0 line left') (sym c.deref.ensures.value)
-        (c.in_ok-read_line.ensures.there, c.in_ok-read_line.ensures.line, c.in_ok-read_line.ensures.rest) in
+    (c.in_ok-read_line.ensures.there, c.in_ok-read_line.ensures.line, c.in_ok-read_line.ensures.rest) in
     one_more _ (state_of c.loop-number.player.stores (g.R.Rng.stream c.loop-number.player.rng), c.loop-number.player.labels)
     (state_of c.play_line.new.player.stores (g.R.Rng.stream c.play_line.new.player.rng), c.play_line.new.player.labels)
     (reader_remaining g.I.Read.remaining c.args.input.now) (writer_contents g.O.Write.contents c.args.output.now) left left'

@@ -5,6 +5,7 @@ pub mod Isolation
 pub mod Lines
 pub mod Naming
 pub mod Private
+pub mod Replaying
 pub mod Requests
 pub mod ResourceStep
 pub mod Seeds

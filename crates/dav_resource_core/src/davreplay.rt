@@ -3,7 +3,8 @@ ghost use Rattle.std.specs.Prelude.{◌≡◌, ◌⊎◌, ℕ, List, map, string
 ghost use Rattle.std.specs.Io.Buffered.{reader_remaining, writer_contents};
 ghost use Rattle.std.specs.Io.KnownBytes.{Appends};
 ghost use Rattle.std.specs.List.{concat};
-ghost use Rattle.dav_resource_core.specs.Private.Playing.{Follows, LinePlayed, InputPlayed, Replayed};
+ghost use Rattle.dav_resource_core.specs.Private.Playing.{Follows, LinePlayed, InputPlayed};
+ghost use Rattle.dav_resource_core.specs.Replaying.{Replayed};
 ghost use Rattle.dav_resource_core.specs.Stores.{state_of};
 ghost use Rattle.dav_resource_core.specs.Seeds.{seed};
 
@@ -48,8 +49,8 @@ pub fn seed_of(args: &[String]) -> Option<u64>
 /// isn't at hand yet.
 ///
 /// Answers the status to end with. 0 at the end of the input. 2 after a line of a wrong form, which `faults` names by its
-/// number; later lines aren't run. 3 where the input or the output fails, or there is no memory outside a line. A failed
-/// write to `faults` changes no status.
+/// number; later lines aren't run. 3 where the input or the output fails, after 2^64 - 2 lines, or where there is no memory
+/// outside a line. A failed write to `faults` changes no status.
 pub fn replay<I: Read + Drop, O: Write + Drop, E: Write + Drop>(
     alloc: Global,
     seed: u64,

@@ -1,9 +1,5 @@
 -- What the lines of a scenario do: how requests and answers belong to lines (own).
 use Rattle.std.specs.Prelude.{◌≡◌, ℕ, ◌+◌, Bool, true, false, List, [], ◌∷◌, ◌++◌, length, Option, Some, None, Result, Ok, Err, IfSome}
-use Rattle.rand_core.specs.Pcg32Seed.{pcg32_seed}
-use Rattle.rand_core.specs.Steps.{steps_u64_low, stream_of}
-use Rattle.rand_core.specs.Stream.{Stream}
-use Rattle.rand_pcg.specs.Pcg.{pcg64, pcg64_of_seed}
 use Rattle.line_streams.specs.Lines.{lines}
 use Rattle.dav_resource_core.specs.declared.davreplay.labels.Labels.{Labels}
 use Rattle.dav_resource_core.specs.declared.davreplay.lines.Unread.{Unread}
@@ -14,7 +10,6 @@ use Rattle.dav_resource_core.specs.Private.Reading.{LineIs, granted_tokens, labe
 use Rattle.dav_resource_core.specs.Requests as plain
 use Rattle.dav_resource_core.specs.Served.{request_of}
 use Rattle.dav_resource_core.specs.Step.{State, Step}
-use Rattle.dav_resource_core.specs.Stores.{start_stores, state_of}
 
 -- the stores with what the generator still gives, and the labels of the locks granted so far
 abbrev pub Played : Type 0
@@ -63,13 +58,3 @@ AreLines all input = IfSome input (λ bytes. all ≡ lines bytes)
 -- an input, how it ends, and what is written for its lines
 abbrev pub InputPlayed : Played → Option (List ℕ) → Option ℕ → List (List ℕ) → Played → Type 0
 InputPlayed p input end texts p' = (all : List (List ℕ)) × AreLines all input × AllPlayed p all end texts p'
-
--- what the generator gives that begins with this seed
-abbrev pub generator : ℕ → Stream
-generator seed = stream_of (steps_u64_low pcg64) (pcg64_of_seed (pcg32_seed 32 seed))
-
--- a scenario with this seed: it starts with a root folder of moment 0, no lock and no label
-abbrev pub Replayed : ℕ → Option (List ℕ) → Option ℕ → Type 0
-Replayed seed input end =
-    (labels : Labels) × (texts : List (List ℕ)) × (p' : Played) × (granted_tokens labels ≡ [])
-    × InputPlayed (state_of (start_stores 0) (generator seed), labels) input end texts p'

@@ -1,5 +1,5 @@
 use Rattle.std.proofs.Common.{subst, ◌∙◌}
-use Rattle.dav_resource_core.specs.Private.Playing.{Replayed}
+use Rattle.dav_resource_core.specs.Replaying.{Replayed}
 use Rattle.dav_resource_core.proofs.davreplay.replay.Goals as goal
 
 pub returns-in-Ok-None-clause-whole : goal.returns-in-Ok-None-clause-whole

@@ -18,7 +18,7 @@ use Rattle.line_streams.specs.Lines.{lines}
 use Rattle.line_streams.proofs.LineLaws.{lines_step}
 use Rattle.dav_resource_core.specs.declared.davreplay.labels.Labels.{Labels}
 use Rattle.dav_resource_core.specs.declared.davreplay.lines.Unread.TheVariants.{Malformed, BadPath, OutOfMemory}
-use Rattle.dav_resource_core.specs.Private.Playing.{Played, Follows, LinePlayed, LinesPlayed, AllPlayed, AreLines, InputPlayed}
+use Rattle.dav_resource_core.specs.Private.Playing.{Played, LinePlayed, LinesPlayed, AreLines, InputPlayed}
 use Rattle.dav_resource_core.specs.Private.Reading.{LineIs, granted_tokens}
 use Rattle.dav_resource_core.specs.Replaying.{Replayed, generator}
 use Rattle.dav_resource_core.specs.Stores.{Stores, start_stores, state_of}

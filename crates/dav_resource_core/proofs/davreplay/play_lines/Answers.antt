@@ -1,7 +1,7 @@
 use Rattle.std.proofs.Common.{subst, sym}
 use Rattle.std.specs.Io.Buffered.{reader_remaining, writer_contents}
 use Rattle.dav_resource_core.specs.Stores.{state_of}
-use Rattle.dav_resource_core.proofs.PlayingLaws.{Gave, Tells, none_played, one_more, all_played, stopped}
+use Rattle.dav_resource_core.proofs.PlayingLaws.{Gave, none_played, one_more, all_played, stopped}
 use Rattle.dav_resource_core.proofs.davreplay.play_lines.Goals as goal
 
 pub loop-number-init : goal.loop-number-init

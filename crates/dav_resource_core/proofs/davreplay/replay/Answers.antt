@@ -1,4 +1,4 @@
-use Rattle.std.proofs.Common.{subst, ◌∙◌}
+use Rattle.std.proofs.Common.{subst}
 use Rattle.dav_resource_core.specs.Replaying.{Replayed}
 use Rattle.dav_resource_core.proofs.davreplay.replay.Goals as goal
 

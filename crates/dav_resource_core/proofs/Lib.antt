@@ -1,7 +1,6 @@
 pub mod AloneLaws
 pub mod BelowLaws
 pub mod Frame
-pub mod Numerals
 pub mod PlayingLaws
 pub mod RunLaws
 pub mod Serving

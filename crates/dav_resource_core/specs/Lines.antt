@@ -12,7 +12,7 @@ use Rattle.dav_path_core.specs.PathText.{PathText}
 use Rattle.dav_path_core.specs.Segments.{segments, is_nonempty}
 use Rattle.dav_files_core.specs.Resources.{Property}
 use Rattle.dav_resource_core.specs.Requests as plain
-use Rattle.dav_resource_core.specs.Seeds.{numeral}
+use Rattle.line_streams.specs.Numerals.{numeral}
 
 -- a space
 abbrev pub is_space : ℕ → Bool

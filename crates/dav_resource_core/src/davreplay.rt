@@ -12,16 +12,15 @@ mod answers;
 mod labels;
 mod lines;
 mod names;
-mod numbers;
 mod playing;
 
 use crate::guarded::{Guarded, Request};
 use dav_files_core::fs::Moment;
 use labels::Labels;
+use line_streams::numbers::number;
 use line_streams::{Fault, read_line};
 use lines::{Unread, request_of};
 use names::path_error;
-use numbers::number;
 use playing::Player;
 use rand_core::{Rng, SeedableRng};
 use rand_pcg::Pcg64;

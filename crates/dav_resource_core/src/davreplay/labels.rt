@@ -3,7 +3,7 @@ ghost use Rattle.std.specs.Prelude.{◌≡◌, [], ◌∷◌, ◌++◌, map, opt
 ghost use Rattle.dav_resource_core.specs.Lines.{nth_token, token_at, token_of};
 ghost use Rattle.dav_resource_core.specs.Private.Reading.{granted_tokens, label_number};
 
-use super::numbers::number;
+use line_streams::numbers::number;
 use std::alloc::{AllocError, Global};
 use std::collections::HashMap;
 

@@ -4,17 +4,17 @@ ghost use Rattle.std.specs.List.{list_all, slice_split};
 ghost use Rattle.dav_path_core.specs.Segments.{segments};
 ghost use Rattle.dav_files_core.specs.Properties.{property_of};
 ghost use Rattle.dav_headers_core.specs.Pieces.{is_comma};
-ghost use Rattle.dav_resource_core.specs.Seeds.{numeral};
+ghost use Rattle.line_streams.specs.Numerals.{numeral};
 ghost use Rattle.dav_resource_core.specs.Lines.{words, depth_word, scope_word, timeout_word, place_word, number_or, head_form, text_word, hex_word, is_count, is_label, labels_word, put_form, write_form, read_form, move_form, copy_form, set_form, delete_form, props_form, prop_form, lock_form, check_form, unlock_form, refresh_form, form_alone, has_two_paths, form_of_ends, form_with_one, form_with_two, form_with_three};
 ghost use Rattle.dav_resource_core.specs.Requests.Command.{PatchProps};
 ghost use Rattle.dav_resource_core.specs.Private.Reading.{exactly, Gives, IsWithOne, CommandIs, both, reading, IsRead, IsReadOrRoom, IsAskedOrRoom, asking, WordsAre, LineIs, granted_tokens};
 
 use super::labels::Labels;
-use super::numbers::{is_digits, number};
 use crate::guarded::{Command, Request};
 use bytes::Bytes;
 use dav_files_core::fs::{DavProp, Moment};
 use dav_path_core::davpath::{DavPath, ParseError};
+use line_streams::numbers::{is_digits, number};
 use std::alloc::{AllocError, AllocFailed, Global};
 
 /// Why a line's words give no request.

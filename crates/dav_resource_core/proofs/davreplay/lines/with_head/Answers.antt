@@ -2,7 +2,7 @@ use Rattle.std.proofs.Common.{◌≡◌, ℕ, List, [], ◌∷◌, Bor, Option, 
 use Rattle.dav_headers_core.specs.Optional.{◌>>=◌}
 use Rattle.dav_resource_core.specs.Lines.{head_form, labels_word, text_word, token_of}
 use Rattle.dav_resource_core.specs.Private.Reading.{asking, exactly, granted_tokens}
-use Rattle.dav_resource_core.specs.Seeds.{numeral}
+use Rattle.line_streams.specs.Numerals.{numeral}
 use Rattle.dav_resource_core.proofs.davreplay.lines.with_head.Goals as goal
 
 said : {U : Type 0} (o : Option U) (x : U) → Ok x ≡ exactly o → o ≡ Some x

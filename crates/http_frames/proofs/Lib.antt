@@ -1,0 +1,4 @@
+pub mod Places
+pub mod Sending
+pub mod Serving
+pub mod Words

@@ -1,0 +1,3 @@
+pub mod Clients
+pub mod Frames
+pub mod Private

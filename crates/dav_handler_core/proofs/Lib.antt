@@ -4,3 +4,4 @@ pub mod CallerLaws
 pub mod Collecting
 pub mod GetLemmas
 pub mod PutLemmas
+pub mod RefusalLemmas

@@ -3,6 +3,7 @@ pub mod Callers
 pub mod Faults
 pub mod Private
 pub mod Putting
+pub mod Refusals
 pub mod Senders
 pub mod Servers
 pub mod Sessions

@@ -5,3 +5,4 @@ pub mod Collecting
 pub mod GetLemmas
 pub mod PutLemmas
 pub mod RefusalLemmas
+pub mod TypeLemmas

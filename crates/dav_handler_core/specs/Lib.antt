@@ -1,5 +1,6 @@
 pub mod Answers
 pub mod Callers
+pub mod ContentTypes
 pub mod Faults
 pub mod Private
 pub mod Putting

@@ -4,3 +4,5 @@ pub mod CallerLaws
 pub mod Collecting
 pub mod GetLemmas
 pub mod PutLemmas
+pub mod RefusalLemmas
+pub mod TypeLemmas

@@ -1,5 +1,5 @@
 -- How the server answers a request: what it promises of the answer, and of what it leaves (RFC 9110 section 9, RFC 4918 sections 6, 7 and 9).
-use Rattle.std.specs.Prelude.{◌≡◌, ◌≢◌, ◌⊎◌, ℕ, ◌<◌, ◌≤◌, List, [], Option, None, Some, Result, Ok, Err, OnErr}
+use Rattle.std.specs.Prelude.{◌≡◌, ◌≢◌, ◌⊎◌, Bool, true, false, ℕ, ◌<◌, ◌≤◌, List, [], Option, None, Some, Result, Ok, Err, OnErr}
 use Rattle.http.specs.declared.request.Request.{Request}
 use Rattle.http.specs.Request.{head_of, body_of}
 use Rattle.http_server.specs.declared.response.Response.{Response}
@@ -17,7 +17,8 @@ use Rattle.dav_handler_core.specs.declared.faults.Fault.TheVariants as fault
 use Rattle.dav_handler_core.specs.Callers.{Caller, RunBy, SameLive}
 use Rattle.dav_handler_core.specs.Faults.{fault_status}
 use Rattle.dav_handler_core.specs.Putting.{Puts, RefusesPut, in_the_way, put_status}
-use Rattle.dav_handler_core.specs.Senders.{IsSender}
+use Rattle.dav_handler_core.specs.Refusals.{RefusesTarget, RefusesPrincipal, HasBadIf, HasPart, IsLastMoment}
+use Rattle.dav_handler_core.specs.Senders.{IsSender, NamesPrincipal}
 use Rattle.dav_handler_core.specs.Targets.{IsTargetOf}
 
 -- the prefix that URLs stand behind, and the header that names the principal, where there is one
@@ -47,36 +48,50 @@ IsFrom options request who = IsSender options.user_header (head_of request).head
 abbrev pub Names : Options → Request (List ℕ) → PathText → Type 0
 Names options request path = IsTargetOf options.prefix (head_of request).uri path
 
--- the faults of a request that asks for nothing, since its target or its sender isn't read, or no moment or memory is left
-abbrev pub IsUnread : Fault → Type 0
-IsUnread fault.BadRequest = Unit {0}
-IsUnread fault.Unauthorized = Unit {0}
-IsUnread fault.Forbidden = Unit {0}
-IsUnread fault.NotFound = Unit {0}
-IsUnread fault.ServiceUnavailable = Unit {0}
-IsUnread fault.InsufficientStorage = Unit {0}
-IsUnread _ = ⊥
+-- somebody or nobody sends it
+abbrev pub HasSender : Options → Request (List ℕ) → Type 0
+HasSender options request = (who : Caller) × IsFrom options request who
+
+-- the whole body of a file, and no part of it
+abbrev pub IsWhole : Request (List ℕ) → Type 0
+IsWhole request = ¬ HasPart (head_of request).headers
+
+-- Why a request asks for nothing, behind the last moment, where it may change something or not: the first that refuses it of its target, its
+-- principal, its tokens and its moment; or there is no memory to read it.
+pub data Unread (options : Options) (request : Request (List ℕ)) (last : ℕ) (changes : Bool) : Fault → Type 0 where
+  memory : Unread options request last changes fault.InsufficientStorage
+  target : (e : Fault) → RefusesTarget options.prefix (head_of request).uri e → Unread options request last changes e
+  principal : (e : Fault) (path : PathText) → Names options request path → RefusesPrincipal options.user_header (head_of request).headers e
+      → Unread options request last changes e
+  tokens : (path : PathText) (named : Option (List ℕ)) → Names options request path
+      → NamesPrincipal options.user_header (head_of request).headers named → HasBadIf (head_of request).headers
+      → Unread options request last changes fault.BadRequest
+  moment : (path : PathText) (who : Caller) → Names options request path → IsFrom options request who → changes ≡ true → IsLastMoment last
+      → Unread options request last changes fault.ServiceUnavailable
 
 -- ---- what is done, method by method
 
 -- A GET or a HEAD of a file has its bytes; the connection leaves them out of the answer to a HEAD. 404 comes where nothing stands at the path.
 abbrev pub GetAnswers : Server → Request (List ℕ) → Result ℕ Fault → List ℕ → Type 0
 GetAnswers before request (Ok status) body =
-    (status ≡ 200) × ((path : PathText) × Names before.options request path
+    (status ≡ 200) × HasSender before.options request × ((path : PathText) × Names before.options request path
     × ((r : Resource) × (at_path before.state.map (segments path.bytes) ≡ Some r) × (r.node.kind ≡ File → body ≡ r.node.bytes)))
 GetAnswers before request (Err e) body =
-    IsUnread e ⊎ ((path : PathText) × Names before.options request path × (e ≡ fault.NotFound) × (at_path before.state.map (segments path.bytes) ≡ None))
+    Unread before.options request before.last false e
+    ⊎ (HasSender before.options request × ((path : PathText) × Names before.options request path × (e ≡ fault.NotFound)
+    × (at_path before.state.map (segments path.bytes) ≡ None)))
 
--- A PUT that is done leaves the body at its path, and each other path what it had. Else it says why not; a lock in the way comes before any
--- other reason but memory.
+-- A PUT that is done leaves the body at its path, and each other path what it had. Else it says why not: a part of a file comes before any other
+-- reason; and behind what is wrong with the request itself, a lock in the way comes before any other but memory.
 abbrev pub PutAnswers : Server → Request (List ℕ) → Result ℕ Fault → Server → Type 0
 PutAnswers before request (Ok status) after =
-    (path : PathText) × Names before.options request path × (before.last < after.last)
-    × (status ≡ put_status before.state.map (segments path.bytes)) × Puts before.state after.last (segments path.bytes) (body_of request) after.state
+    IsWhole request × HasSender before.options request × ((path : PathText) × Names before.options request path × (before.last < after.last)
+    × (status ≡ put_status before.state.map (segments path.bytes)) × Puts before.state after.last (segments path.bytes) (body_of request) after.state)
 PutAnswers before request (Err e) after =
-    IsUnread e ⊎ ((path : PathText) × Names before.options request path × ((who : Caller) × IsFrom before.options request who × (who.now ≡ after.last)
+    (HasPart (head_of request).headers × (e ≡ fault.BadRequest))
+    ⊎ (IsWhole request × (Unread before.options request before.last true e ⊎ ((path : PathText) × Names before.options request path × ((who : Caller) × IsFrom before.options request who × (who.now ≡ after.last)
     × RefusesPut before.state who (segments path.bytes) (body_of request) e
-    × (in_the_way before.state who (segments path.bytes) (body_of request) ≢ [] → (e ≡ fault.Locked) ⊎ (e ≡ fault.InsufficientStorage))))
+    × (in_the_way before.state who (segments path.bytes) (body_of request) ≢ [] → (e ≡ fault.Locked) ⊎ (e ≡ fault.InsufficientStorage))))))
 
 abbrev pub AnswersTo : Option DavMethod → Server → Request (List ℕ) → Result ℕ Fault → List ℕ → Server → Type 0
 AnswersTo (Some method.Get) before request result body after = GetAnswers before request result body × SameLive after.last before.state after.state

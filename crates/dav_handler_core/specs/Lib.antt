@@ -1,8 +1,10 @@
 pub mod Answers
 pub mod Callers
+pub mod ContentTypes
 pub mod Faults
 pub mod Private
 pub mod Putting
+pub mod Refusals
 pub mod Senders
 pub mod Servers
 pub mod Sessions

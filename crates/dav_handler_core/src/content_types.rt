@@ -1,4 +1,6 @@
 //! The types of files, by the last extensions of their names.
+ghost use Rattle.std.specs.Prelude.{◌≡◌, map, option_copied};
+ghost use Rattle.dav_handler_core.specs.ContentTypes as spec;
 
 // An extension in lower case, and the type of such files.
 const TYPES: [(&str, &str); 40] = [
@@ -48,17 +50,40 @@ const TYPES: [(&str, &str); 40] = [
 ];
 
 /// The type of a file with that name, by what stands behind its last dot, in either case of letters (own).
-pub(crate) fn content_type(name: &[u8]) -> &'static str {
-    let Some(dot) = name.iter().rposition(|&b| b == b'.') else {
+pub(crate) fn content_type(name: &[u8]) -> &'static str
+    ensures { result.now ≡ spec.content_type name.now }
+{
+    let Some(extension) = extension(name) else {
         return OTHER;
     };
-    let extension = &name[dot + 1..];
-    for (known, text) in TYPES {
-        if extension.eq_ignore_ascii_case(known.as_bytes()) {
-            return text;
+    match type_in(&TYPES, extension) {
+        Some(text) => text,
+        None => OTHER,
+    }
+}
+
+// What stands behind the last dot of a name, where there is one.
+fn extension(name: &[u8]) -> Option<&[u8]>
+    ensures { option_copied result ≡ spec.extension name.now }
+{
+    for place in (0..name.len()).rev() {
+        if name[place] == b'.' {
+            return Some(&name[place + 1..]);
         }
     }
-    OTHER
+    None
+}
+
+// The type of the first entry of a table that has the extension.
+fn type_in(table: &[(&str, &'static str)], extension: &[u8]) -> Option<&'static str>
+    ensures { option_copied result ≡ spec.type_in (map (λ e. (e.0.now, e.1.now)) table.now) extension.now }
+{
+    for (known, text) in table {
+        if extension.eq_ignore_ascii_case(known.as_bytes()) {
+            return Some(text);
+        }
+    }
+    None
 }
 
 // The type of bytes of which nothing is known (RFC 9110 section 8.3).

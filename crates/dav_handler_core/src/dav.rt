@@ -4,9 +4,10 @@ ghost use Rattle.http.specs.Request.{head_of};
 ghost use Rattle.http_server.specs.Response.{IsBlank};
 ghost use Rattle.dav_path_core.specs.declared.util.DavMethod.{DavMethod};
 ghost use Rattle.dav_resource_core.specs.Stores.{state_of};
-ghost use Rattle.dav_handler_core.specs.Answers.{Answers, AnswersTo, GetAnswers, IsFrom, IsMethod, IsUnread, Moves, Names, PutAnswers};
+ghost use Rattle.dav_handler_core.specs.Answers.{Answers, AnswersTo, GetAnswers, IsFrom, IsMethod, Moves, Names, PutAnswers, Unread};
 ghost use Rattle.dav_handler_core.specs.Callers.{SameLive};
 ghost use Rattle.dav_handler_core.specs.Faults.{fault_status};
+ghost use Rattle.dav_handler_core.specs.Refusals.{IsLastMoment};
 ghost use Rattle.dav_handler_core.specs.Servers.{options_of, server};
 ghost use Rattle.dav_handler_core.specs.Sessions.{caller};
 ghost use Rattle.dav_handler_core.specs.declared.faults.Fault.TheVariants as fault;
@@ -79,7 +80,7 @@ impl<R: Rng> Dav<R> {
     // The moment of a request: the clock's, but not before the last one's, and behind it for a change.
     fn moment(&self, changes: bool) -> Result<Moment, Fault>
         ensures ok { IfOk result (λ moment. ((server R.stream self.now).last ≤ moment.0) × (changes ≡ true → (server R.stream self.now).last < moment.0)) }
-        ensures err { IfErr result (λ e. e ≡ fault.ServiceUnavailable) }
+        ensures err { IfErr result (λ e. (e ≡ fault.ServiceUnavailable) × (changes ≡ true) × IsLastMoment (server R.stream self.now).last) }
     {
         let last = self.session.now().0;
         let least = if changes {
@@ -95,7 +96,7 @@ impl<R: Rng> Dav<R> {
         ensures ok { IfOk result (λ path. Names (server R.stream self.old).options request.now path
             × IsFrom (server R.stream self.old).options request.now (caller self.new.session)
             × (changes ≡ true → (server R.stream self.old).last < (server R.stream self.new).last)) }
-        ensures err { IfErr result (λ e. IsUnread e) }
+        ensures err { IfErr result (λ e. Unread (server R.stream self.old).options request.now (server R.stream self.old).last changes e) }
         ensures state { (server R.stream self.new).state ≡ (server R.stream self.old).state }
         ensures moments { (server R.stream self.old).last ≤ (server R.stream self.new).last }
         ensures options { (server R.stream self.new).options ≡ (server R.stream self.old).options }

@@ -1,9 +1,10 @@
 //! Who sends a request, by its headers.
-ghost use Rattle.std.specs.Prelude.{◌≡◌, ◌++◌, [], map, option_map, string_bytes, IfErr, IfOk, OnOk, codes, option_copied, option_to_list};
+ghost use Rattle.std.specs.Prelude.{◌≡◌, ◌++◌, ◌<◌, ◌⊎◌, [], length, map, option_map, string_bytes, IfErr, IfOk, OnOk, codes, option_copied, option_to_list};
 ghost use Rattle.http_header.specs.HeaderMap.{get_all};
 ghost use Rattle.dav_headers_core.specs.IfValues.{located, condition_of, conditions_of};
-ghost use Rattle.dav_handler_core.specs.Answers.{IsUnread};
+ghost use Rattle.dav_handler_core.specs.Refusals.{RefusesPrincipal, HasBadIf};
 ghost use Rattle.dav_handler_core.specs.Senders.{NamesPrincipal, Submits, token_of, tokens_in, tokens_of};
+ghost use Rattle.dav_handler_core.specs.declared.faults.Fault.TheVariants as fault;
 
 use crate::faults::Fault;
 use dav_resource_core::davheaders::{If, IfCondition, IfItem, IfList};
@@ -20,7 +21,7 @@ pub(crate) fn principal_of(
     user_header: &Option<HeaderName>,
 ) -> Result<Option<String>, Fault>
     ensures ok { IfOk result (λ principal. NamesPrincipal user_header.now headers.now (option_map string_bytes principal)) }
-    ensures err { IfErr result (λ e. IsUnread e) }
+    ensures err { IfErr result (λ e. (e ≡ fault.InsufficientStorage) ⊎ RefusesPrincipal user_header.now headers.now e) }
 {
     let Some(name) = user_header else {
         return Ok(None);
@@ -43,7 +44,7 @@ pub(crate) fn tokens_of(
     headers: &HeaderMap<HeaderValue>,
 ) -> Result<Vec<String>, Fault>
     ensures ok { IfOk result (λ tokens. Submits headers.now (map string_bytes tokens.items)) }
-    ensures err { IfErr result (λ e. IsUnread e) }
+    ensures err { IfErr result (λ e. (e ≡ fault.InsufficientStorage) ⊎ ((e ≡ fault.BadRequest) × HasBadIf headers.now)) }
 {
     let Some(value) = value_of(headers, &HeaderName::from_static("if"))? else {
         return Ok(Vec::new(alloc));
@@ -58,7 +59,7 @@ fn value_of<'a>(
     name: &HeaderName,
 ) -> Result<Option<&'a HeaderValue>, Fault>
     ensures ok { IfOk result (λ value. get_all headers.now name.now ≡ option_to_list (option_copied value)) }
-    ensures err { IfErr result (λ e. IsUnread e) }
+    ensures err { IfErr result (λ e. (e ≡ fault.BadRequest) × (1 < length (get_all headers.now name.now))) }
 {
     let mut values = headers.get_all(name).iter();
     let value = values.next();

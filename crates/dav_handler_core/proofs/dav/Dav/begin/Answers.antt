@@ -1,8 +1,13 @@
-use Rattle.std.proofs.Common.{◌<◌, sym, ap, subst, option_map, map, string_bytes}
+use Rattle.std.proofs.Common.{◌≡◌, ◌<◌, ◌⊎◌, sym, ap, subst, option_map, map, string_bytes}
+use Rattle.std.proofs.lemmas.Result.{err_from_is_err_and}
 use Rattle.http.specs.Request.{head_of}
+use Rattle.dav_handler_core.specs.declared.faults.Fault.TheVariants as fault
 use Rattle.dav_handler_core.specs.Callers.{Caller}
+use Rattle.dav_handler_core.specs.Refusals.{RefusesTarget, RefusesPrincipal, HasBadIf}
 use Rattle.dav_handler_core.specs.Senders.{IsSender, NamesPrincipal, Submits}
+use Rattle.dav_handler_core.specs.Servers.{options_of}
 use Rattle.dav_handler_core.specs.Targets.{IsTargetOf}
+use Rattle.dav_handler_core.proofs.AnswerLemmas.{by_target, by_principal, by_tokens, by_moment}
 use Rattle.dav_handler_core.proofs.dav.Dav.begin.Goals as goal
 
 pub returns-clause-ok : goal.returns-clause-ok
@@ -15,3 +20,49 @@ returns-clause-ok g c = (
   }),
   λ changes. subst (λ n. c.args.self.now.session.request.now.0 < n) (sym (ap (λ (w : Caller). w.now) c.begin.ensures.caller)) (c.in_ok-now.ensures.ok.1 changes),
 )
+
+pub returns-in_err-path-clause-err : goal.returns-in_err-path-clause-err
+returns-in_err-path-clause-err g c =
+    let p = err_from_is_err_and c.from_residual.result c.from_residual.ensures.1 in
+    let e = c.in_err-path.field-0.0 in
+    rw (p.1, p.2) (by_target (options_of c.args.self.now.settings) c.args.request.now c.args.self.now.session.request.now.0 c.args.changes e
+    (subst (λ prefix. (e ≡ fault.InsufficientStorage) ⊎ RefusesTarget prefix (head_of c.args.request.now).uri e) c.deref.ensures
+    (subst (λ uri. (e ≡ fault.InsufficientStorage) ⊎ RefusesTarget c.deref.result.now uri e) c.uri.ensures c.in_err-path.ensures.err)))
+
+pub returns-in_err-principal-clause-err : goal.returns-in_err-principal-clause-err
+returns-in_err-principal-clause-err g c =
+    let p = err_from_is_err_and c.from_residual-in_err-principal.result c.from_residual-in_err-principal.ensures.1 in
+    let e = c.in_err-principal.field-0.0 in
+    rw (p.1, p.2) (by_principal (options_of c.args.self.now.settings) c.args.request.now c.args.self.now.session.request.now.0 c.args.changes e
+    c.in_ok-path.path
+    (subst (λ prefix. IsTargetOf prefix (head_of c.args.request.now).uri c.in_ok-path.path) c.deref.ensures
+    (subst (λ uri. IsTargetOf c.deref.result.now uri c.in_ok-path.path) c.uri.ensures c.in_ok-path.ensures.ok))
+    (subst (λ headers. (e ≡ fault.InsufficientStorage) ⊎ RefusesPrincipal c.args.self.now.settings.user_header headers e) c.headers.ensures c.in_err-principal.ensures.err))
+
+pub returns-in_err-tokens-clause-err : goal.returns-in_err-tokens-clause-err
+returns-in_err-tokens-clause-err g c =
+    let p = err_from_is_err_and c.from_residual-in_err-tokens.result c.from_residual-in_err-tokens.ensures.1 in
+    let e = c.in_err-tokens.field-0.0 in
+    rw (p.1, p.2) (by_tokens (options_of c.args.self.now.settings) c.args.request.now c.args.self.now.session.request.now.0 c.args.changes e
+    c.in_ok-path.path (option_map string_bytes c.in_ok-principal.principal)
+    (subst (λ prefix. IsTargetOf prefix (head_of c.args.request.now).uri c.in_ok-path.path) c.deref.ensures
+    (subst (λ uri. IsTargetOf c.deref.result.now uri c.in_ok-path.path) c.uri.ensures c.in_ok-path.ensures.ok))
+    (subst (λ headers. NamesPrincipal c.args.self.now.settings.user_header headers (option_map string_bytes c.in_ok-principal.principal)) c.headers.ensures
+    c.in_ok-principal.ensures.ok)
+    (subst (λ headers. (e ≡ fault.InsufficientStorage) ⊎ ((e ≡ fault.BadRequest) × HasBadIf headers)) c.headers-2.ensures c.in_err-tokens.ensures.err))
+
+pub returns-in_err-now-clause-err : goal.returns-in_err-now-clause-err
+returns-in_err-now-clause-err g c =
+    let p = err_from_is_err_and c.from_residual-in_err-now.result c.from_residual-in_err-now.ensures.1 in
+    let e = c.in_err-now.field-0.0 in
+    rw (p.1, p.2) (by_moment (options_of c.args.self.now.settings) c.args.request.now c.args.self.now.session.request.now.0 c.args.changes e
+    c.in_ok-path.path
+    (record { principal = option_map string_bytes c.in_ok-principal.principal; tokens = map string_bytes c.in_ok-tokens.tokens.items; now = 0 })
+    (subst (λ prefix. IsTargetOf prefix (head_of c.args.request.now).uri c.in_ok-path.path) c.deref.ensures
+    (subst (λ uri. IsTargetOf c.deref.result.now uri c.in_ok-path.path) c.uri.ensures c.in_ok-path.ensures.ok))
+    (record {
+      principal = subst (λ headers. NamesPrincipal c.args.self.now.settings.user_header headers (option_map string_bytes c.in_ok-principal.principal)) c.headers.ensures
+          c.in_ok-principal.ensures.ok;
+      tokens = subst (λ headers. Submits headers (map string_bytes c.in_ok-tokens.tokens.items)) c.headers-2.ensures c.in_ok-tokens.ensures.ok;
+    })
+    c.in_err-now.ensures.err)

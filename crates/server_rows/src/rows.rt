@@ -1,0 +1,56 @@
+//! The rows. Each text without an empty line is played on a server of its own: its first line has the prefix, the header of the principal, and
+//! the clock; then come the locks that stand at first, each with its principal and path; then requests, each with its answer behind ` = `. A `|`
+//! is the end of a line, and `TOKEN` the token of the lock that was made last.
+pub(crate) const ROWS: &str = "at / - 1000000000
+OPTIONS * HTTP/1.1|Host: h|| = HTTP/1.1 200 OK|dav: 1, 2|allow: OPTIONS, GET, HEAD, PUT|ms-author-via: DAV|content-length: 0||
+GET /a.txt HTTP/1.1|Host: h|| = HTTP/1.1 404 Not Found|content-length: 0||
+PUT /a.txt HTTP/1.1|Host: h|Content-Length: 5||hello = HTTP/1.1 201 Created|content-length: 0||
+GET /a.txt HTTP/1.1|Host: h|| = HTTP/1.1 200 OK|content-type: text/plain|last-modified: Thu, 01 Jan 1970 00:00:01 GMT|content-length: 5||hello
+PUT /a.txt HTTP/1.1|Host: h|Content-Length: 26||a body that is cut in many = HTTP/1.1 204 No Content||
+HEAD /a.txt HTTP/1.1|Host: h|| = HTTP/1.1 200 OK|content-type: text/plain|last-modified: Thu, 01 Jan 1970 00:00:01 GMT|content-length: 26||
+GET /./b/../%61.txt?x HTTP/1.1|Host: h|| = HTTP/1.1 200 OK|content-type: text/plain|last-modified: Thu, 01 Jan 1970 00:00:01 GMT|content-length: 26||a body that is cut in many
+HEAD /no HTTP/1.1|Host: h|| = HTTP/1.1 404 Not Found||
+PUT / HTTP/1.1|Host: h|Content-Length: 1||x = HTTP/1.1 405 Method Not Allowed|allow: OPTIONS, GET, HEAD, PUT|content-length: 0||
+PUT /no/a HTTP/1.1|Host: h|Content-Length: 1||x = HTTP/1.1 409 Conflict|content-length: 0||
+PUT /a.txt/b HTTP/1.1|Host: h|Content-Length: 1||x = HTTP/1.1 409 Conflict|content-length: 0||
+GET /../a.txt HTTP/1.1|Host: h|| = HTTP/1.1 403 Forbidden|content-length: 0||
+GET /%00 HTTP/1.1|Host: h|| = HTTP/1.1 400 Bad Request|content-length: 0||
+GET /a.txt HTTP/1.1|Host: h|If: no list|| = HTTP/1.1 400 Bad Request|content-length: 0||
+GET /a.txt HTTP/1.1|Host: h|If: (<a:b>)|If: (<a:b>)|| = HTTP/1.1 400 Bad Request|content-length: 0||
+PUT /a.txt HTTP/1.1|Host: h|Content-Range: bytes 0-0/5|Content-Length: 1||x = HTTP/1.1 400 Bad Request|content-length: 0||
+MKCOL /b HTTP/1.1|Host: h|| = HTTP/1.1 501 Not Implemented|content-length: 0||
+POST /a.txt HTTP/1.1|Host: h|Content-Length: 1||x = HTTP/1.1 501 Not Implemented|content-length: 0||
+GET /a.txt HTTP/1.1|Host: h|Connection: close|| = HTTP/1.1 200 OK|content-type: text/plain|last-modified: Thu, 01 Jan 1970 00:00:01 GMT|content-length: 26|connection: close||a body that is cut in many
+
+at /dav x-user 1000000000
+PUT /dav/a HTTP/1.1|Host: h|X-User: ann|Content-Length: 1||x = HTTP/1.1 201 Created|content-length: 0||
+GET /dav/a HTTP/1.1|Host: h|X-User: bob|| = HTTP/1.1 200 OK|content-type: application/octet-stream|last-modified: Thu, 01 Jan 1970 00:00:01 GMT|content-length: 1||x
+GET /dav/a HTTP/1.1|Host: h|| = HTTP/1.1 401 Unauthorized|content-length: 0||
+GET /dav/a HTTP/1.1|Host: h|X-User: || = HTTP/1.1 401 Unauthorized|content-length: 0||
+GET /dav/a HTTP/1.1|Host: h|X-User: ann|X-User: bob|| = HTTP/1.1 400 Bad Request|content-length: 0||
+PUT /dav/b HTTP/1.1|Host: h|If: no list|Content-Length: 1||x = HTTP/1.1 401 Unauthorized|content-length: 0||
+GET /dav/b HTTP/1.1|Host: h|X-User: ann|| = HTTP/1.1 404 Not Found|content-length: 0||
+GET /a HTTP/1.1|Host: h|| = HTTP/1.1 404 Not Found|content-length: 0||
+GET /davx HTTP/1.1|Host: h|X-User: ann|| = HTTP/1.1 404 Not Found|content-length: 0||
+GET /dav/../../a HTTP/1.1|Host: h|| = HTTP/1.1 403 Forbidden|content-length: 0||
+OPTIONS /a HTTP/1.1|Host: h|| = HTTP/1.1 200 OK|dav: 1, 2|allow: OPTIONS, GET, HEAD, PUT|ms-author-via: DAV|content-length: 0||
+
+at / x-user 1000000000
+lock ann /a
+PUT /a HTTP/1.1|Host: h|X-User: ann|Content-Length: 1||x = HTTP/1.1 423 Locked|content-length: 0||
+PUT /a HTTP/1.1|Host: h|X-User: bob|If: (<TOKEN>)|Content-Length: 1||x = HTTP/1.1 423 Locked|content-length: 0||
+PUT /a HTTP/1.1|Host: h|X-User: ann|If: (<a:b>)|Content-Length: 1||x = HTTP/1.1 423 Locked|content-length: 0||
+GET /a HTTP/1.1|Host: h|X-User: bob|| = HTTP/1.1 404 Not Found|content-length: 0||
+PUT /a HTTP/1.1|Host: h|X-User: ann|If: (<TOKEN>)|Content-Length: 1||x = HTTP/1.1 201 Created|content-length: 0||
+PUT /a HTTP/1.1|Host: h|X-User: ann|If: (<a:b>) (Not <TOKEN>)|Content-Length: 2||xy = HTTP/1.1 204 No Content||
+PUT /a/b HTTP/1.1|Host: h|X-User: bob|Content-Length: 1||x = HTTP/1.1 423 Locked|content-length: 0||
+PUT /b HTTP/1.1|Host: h|X-User: bob|Content-Length: 1||x = HTTP/1.1 201 Created|content-length: 0||
+GET /a HTTP/1.1|Host: h|X-User: bob|| = HTTP/1.1 200 OK|content-type: application/octet-stream|last-modified: Thu, 01 Jan 1970 00:00:01 GMT|content-length: 2||xy
+
+at / - 18446744073709551615
+lock ann /a
+PUT /b HTTP/1.1|Host: h|Content-Length: 1||x = HTTP/1.1 201 Created|content-length: 0||
+PUT /b HTTP/1.1|Host: h|Content-Length: 1||y = HTTP/1.1 503 Service Unavailable|content-length: 0||
+PUT /a HTTP/1.1|Host: h|Content-Length: 1||y = HTTP/1.1 503 Service Unavailable|content-length: 0||
+PUT /b HTTP/1.1|Host: h|If: no list|Content-Length: 1||y = HTTP/1.1 400 Bad Request|content-length: 0||
+GET /b HTTP/1.1|Host: h|| = HTTP/1.1 200 OK|content-type: application/octet-stream|last-modified: Sun, 21 Jul 2554 23:34:33 GMT|content-length: 1||x";

@@ -2,6 +2,7 @@ pub mod AnswerLemmas
 pub mod Asking
 pub mod CallerLaws
 pub mod Collecting
+pub mod FrameLemmas
 pub mod GetLemmas
 pub mod PutLemmas
 pub mod RefusalLemmas

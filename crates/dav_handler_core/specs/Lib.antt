@@ -7,5 +7,6 @@ pub mod Putting
 pub mod Refusals
 pub mod Senders
 pub mod Servers
+pub mod Serving
 pub mod Sessions
 pub mod Targets

@@ -7,5 +7,6 @@ pub mod faults;
 mod methods;
 mod pages;
 mod senders;
+pub mod serving;
 pub mod session;
 mod targets;

@@ -15,16 +15,21 @@ pub struct Choices {
     pub max_body: usize,
     /// The seed of the tokens, for tests; else they come from the system's randomness.
     pub seed: Option<u64>,
-    /// The moment of the requests, for tests, in nanoseconds since 1970; else the system's.
+    /// The moment at which the clock stands, for tests, in nanoseconds since 1970, until a frame tells another; else it is the system's.
     pub clock: Option<u64>,
+    /// Whether there is one connection, without frames.
+    pub one: bool,
 }
 
 impl Choices {
-    /// `--one`, and behind it options, each with its value, in any order; of one that comes twice the last counts. None where a word is none
+    /// Perhaps `--one`, and behind it options, each with its value, in any order; of one that comes twice the last counts. None where a word is none
     /// of these, a value is missing or isn't one, or there is no memory for it.
     pub fn of(alloc: Global, words: &[String]) -> Option<Choices> {
-        let (first, rest) = words.split_first()?;
-        if first.as_str() != "--one" || rest.len() % 2 != 0 {
+        let (one, rest) = match words {
+            [first, rest @ ..] if first.as_str() == "--one" => (true, rest),
+            _ => (false, words),
+        };
+        if rest.len() % 2 != 0 {
             return None;
         }
         let mut choices = Choices {
@@ -35,6 +40,7 @@ impl Choices {
             max_body: MAX_BODY,
             seed: None,
             clock: None,
+            one,
         };
         for pair in rest.chunks_exact(2) {
             choices.set(alloc, pair[0].as_str(), pair[1].as_str())?;
@@ -52,7 +58,10 @@ impl Choices {
         } else if name == "--seed" {
             self.seed = Some(value.parse().ok()?);
         } else if name == "--clock" {
-            self.clock = Some(value.parse().ok()?);
+            self.clock = Some(match value {
+                "frames" => 0,
+                _ => value.parse().ok()?,
+            });
         } else {
             return None;
         }

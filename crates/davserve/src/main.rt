@@ -1,24 +1,28 @@
-//! Serves one connection on standard input and output: a WebDAV server over stores in memory.
+//! Serves many connections on standard input and output, in frames, or one without them: a WebDAV server over stores in memory.
 #![tactic(auto)]
 
 mod choices;
-mod serving;
 
 use choices::Choices;
 use dav_handler_core::dav::Dav;
+use dav_handler_core::serving::{Clock, End, serve_frames, serve_one};
 use dav_resource_core::fs::Moment;
 use dav_resource_core::guarded::Guarded;
+use http_frames::clients::Clients;
 use http_server::{Config, Connection};
+use line_streams::Fault;
 use rand::make_rng;
 use rand_chacha::ChaCha20Rng;
 use rand_core::SeedableRng;
-use serving::serve_one;
 use std::alloc::AllocError;
 use std::env;
 use std::hash::RandomState;
-use std::io::{self, ErrorKind, Write};
+use std::io::{self, BufReader, BufWriter, ErrorKind, Write};
 use std::process::ExitCode;
 use std::time::{SystemTime, UNIX_EPOCH};
+
+// How many bytes are read at once, and written.
+const BUFFER: usize = 64 * 1024;
 
 fn main(rt: HostRuntime) -> ExitCode {
     let words = match words(&rt) {
@@ -34,14 +38,15 @@ fn main(rt: HostRuntime) -> ExitCode {
         return usage(&rt);
     };
     match run(&rt, choices) {
-        Ok(()) => ExitCode::SUCCESS,
-        Err(error) if error.kind() == ErrorKind::OutOfMemory => ended(&rt, "out of memory\n", 3),
-        Err(_) => ended(&rt, "a stream failed\n", 1),
+        Ok(End::Whole) => ExitCode::SUCCESS,
+        Ok(End::Wrong) => ended(&rt, "a frame is wrong\n", 4),
+        Err(Fault::OutOfMemory) => ended(&rt, "out of memory\n", 3),
+        Err(Fault::Io) => ended(&rt, "a stream failed\n", 1),
     }
 }
 
-// Answers the requests of one connection.
-fn run(rt: &HostRuntime, choices: Choices) -> io::Result<()> {
+// Answers the requests of the connections, with stores that are empty at first.
+fn run(rt: &HostRuntime, choices: Choices) -> Result<End, Fault> {
     let rng = match choices.seed {
         Some(seed) => ChaCha20Rng::seed_from_u64(seed),
         None => make_rng(rt)?,
@@ -53,9 +58,50 @@ fn run(rt: &HostRuntime, choices: Choices) -> io::Result<()> {
     let stores = Guarded::new(rt.alloc(), now).map_err(|_| AllocError)?;
     let mut config = Config::default();
     config.max_body_len = choices.max_body;
-    let mut connection = Connection::new(rt.alloc(), RandomState::new(rt)?, config);
     let mut dav = Dav::new(rt.alloc(), choices.settings, stores, rng, now).map_err(|_| AllocError)?;
-    serve_one(&mut connection, &mut dav, &mut rt.stdin(), &mut rt.stdout())
+    if choices.one {
+        let mut connection = Connection::new(rt.alloc(), RandomState::new(rt)?, config);
+        serve_one(&mut connection, &mut dav, &mut rt.stdin(), &mut rt.stdout())?;
+        return Ok(End::Whole);
+    }
+    let clients = Clients::new(rt.alloc(), RandomState::new(rt)?, config);
+    let clock = SystemClock {
+        rt,
+        runs: choices.clock.is_none(),
+    };
+    serve_all(rt, clients, &mut dav, &clock)
+}
+
+// Serves the connections that the frames on standard input are of.
+fn serve_all(
+    rt: &HostRuntime,
+    mut clients: Clients,
+    dav: &mut Dav<ChaCha20Rng>,
+    clock: &SystemClock,
+) -> Result<End, Fault> {
+    let mut input = BufReader::with_capacity(rt.alloc(), BUFFER, rt.stdin())?;
+    let mut output = BufWriter::with_capacity(rt.alloc(), BUFFER, rt.stdout())?;
+    serve_frames(
+        rt.alloc(),
+        &mut clients,
+        dav,
+        clock,
+        &mut input,
+        &mut output,
+    )
+}
+
+// The system's clock, where it is the one that counts.
+#[derive(Drop)]
+struct SystemClock<'a> {
+    rt: &'a HostRuntime,
+    runs: bool,
+}
+
+impl Clock for SystemClock<'_> {
+    fn moment(&self) -> Option<Moment> {
+        if self.runs { now(self.rt).ok() } else { None }
+    }
 }
 
 // The system's moment, in nanoseconds since 1970.
@@ -80,7 +126,7 @@ fn words(rt: &HostRuntime) -> io::Result<Vec<String>> {
 fn usage(rt: &HostRuntime) -> ExitCode {
     ended(
         rt,
-        "usage: davserve --one [--prefix PATH] [--user-header NAME] [--max-body BYTES] [--seed NUMBER] [--clock NANOSECONDS]\n",
+        "usage: davserve [--one] [--prefix PATH] [--user-header NAME] [--max-body BYTES] [--seed NUMBER] [--clock NANOSECONDS|frames]\n",
         2,
     )
 }

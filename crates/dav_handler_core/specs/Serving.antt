@@ -1,0 +1,64 @@
+-- How a server serves the connections whose frames come on one stream (own).
+use Rattle.std.specs.Prelude.{◌≡◌, ◌⊎◌, ℕ, ◌<◌, ◌≤◌, ◌+◌, List, [], ◌∷◌, ◌++◌, Option, Some, None}
+use Rattle.std.specs.Io.KnownBytes.{Appends, Consumes, IsAtEnd}
+use Rattle.std.specs.List.{flat_map}
+use Rattle.http_server.specs.Exchange.{Chain}
+use Rattle.dav_handler_core.specs.Answers.{Answers, Server}
+use Rattle.http_frames.specs.declared.clients.Clients.{Clients}
+use Rattle.http_frames.specs.declared.frames.Head.TheVariants as head
+use Rattle.http_frames.specs.Clients.{Turn, turn_text, begun, config_of, Has}
+use Rattle.http_frames.specs.Frames.{IsLine, IsPiece}
+use Rattle.http_frames.specs.Frames as frames
+use Rattle.dav_handler_core.specs.declared.serving.End.{End}
+use Rattle.dav_handler_core.specs.declared.serving.End.TheVariants.{Whole, Wrong}
+
+-- what a frame did: bytes of a connection were taken, or the clock was set
+pub data Done : Type 0 where
+  Taken : Turn → Done
+  Told : ℕ → Done
+
+-- the frame that did it has this text
+abbrev pub IsFrame : Done → List ℕ → Type 0
+IsFrame (Taken t) text = IsPiece t.number t.came text
+IsFrame (Told moment) text = (line : List ℕ) × IsLine line text × (frames.head line ≡ Some (head.Clock moment))
+
+-- the text is that of the frames, one after another
+abbrev pub AreFrames : List Done → List ℕ → Type 0
+AreFrames [] text = text ≡ []
+AreFrames (d ∷ done) text = (first : List ℕ) × (rest : List ℕ) × (text ≡ first ++ rest) × IsFrame d first × AreFrames done rest
+
+-- the turn of a frame that has one
+abbrev pub turn_of : Done → List Turn
+turn_of (Taken t) = t ∷ []
+turn_of (Told moment) = []
+
+abbrev pub turns_of : List Done → List Turn
+turns_of done = flat_map turn_of done
+
+-- the calls of the turns lead from the one server to the other, one after another; between the turns the clock may be set
+abbrev pub Leads : Server → List Turn → Server → Type 0
+Leads before [] after = (now : ℕ) × (after ≡ record before { clock = now })
+Leads before (t ∷ turns) after =
+    (now : ℕ) × (next : Server) × Chain Answers (record before { clock = now }) t.made next × Leads next turns after
+
+-- what stands where no more frames are served: nothing, or a frame that is wrong
+abbrev pub IsEnd : End → Clients → Option (List ℕ) → Option (List ℕ) → Type 0
+IsEnd Whole c before after = IsAtEnd before
+IsEnd Wrong c before after = (text : List ℕ) × Consumes before after text
+    × (((line : List ℕ) × IsLine line text × (frames.head line ≡ None))
+    ⊎ ((number : ℕ) × (bytes : List ℕ) × IsPiece number bytes text × (((0 < number) × (number ≤ begun c + 1)) → ⊥)))
+
+-- The frames up to the end were served: each connection as if it were alone, and all by one server.
+pub record AreServed (end : End) (c c' : Clients) (before after : Server) (input input' output output' : Option (List ℕ)) : Type 0 where
+  pub done : List Done
+  -- what was read, up to the end
+  pub text : List ℕ
+  pub frames : AreFrames done text
+  pub between : Option (List ℕ)
+  pub read : Consumes input between text
+  pub ends : IsEnd end c' between input'
+  -- what was written
+  pub wrote : Appends output output' (flat_map turn_text (turns_of done))
+  pub leads : Leads before (turns_of done) after
+  pub has : Has c' (turns_of done)
+  pub config : config_of c' ≡ config_of c

@@ -1,0 +1,118 @@
+//! The connections of a server.
+ghost use Rattle.std.specs.Prelude.{◌≡◌, ℕ, List, [], ◌++◌, IfOk};
+ghost use Rattle.std.specs.Io.KnownBytes.{Appends, Consumes};
+ghost use Rattle.http_server.specs.Connection.{config_of, history};
+ghost use Rattle.http_server.specs.Exchange.{Calls};
+ghost use Rattle.dav_handler_core.specs.Answers.{Answers};
+ghost use Rattle.dav_handler_core.specs.Servers.{server};
+ghost use Rattle.http_frames.specs.Clients.{Has};
+ghost use Rattle.dav_handler_core.specs.Serving.{AreServed};
+ghost use Rattle.dav_handler_core.specs.Private.Steps.{Follows};
+
+use crate::dav::Dav;
+use dav_resource_core::fs::Moment;
+use http_frames::clients::Clients;
+use http_frames::frames::{Next, read_frame};
+use http_server::{Connection, serve};
+use line_streams::Fault;
+use rand_core::Rng;
+use std::alloc::Global;
+use std::io::{self, BufRead, Read, Write};
+
+/// What tells the moment.
+pub trait Clock {
+    /// The moment, or none where frames tell it.
+    fn moment(&self) -> Option<Moment>;
+}
+
+/// Where no more frames are served.
+#[derive(Clone, Copy, PartialEq, Eq, Debug)]
+pub enum End {
+    /// At the end of the input.
+    Whole,
+    /// At a frame that is wrong: its first line is no head, or its number is neither that of a connection that has begun nor the next.
+    Wrong,
+}
+
+/// Serves the connections that the frames of the input are of, and writes their answers as frames, until the input ends or a frame is wrong. What is written
+/// is written out behind each frame. `Io` where a stream fails, or the input ends within a frame; `OutOfMemory` where there is no memory outside a request.
+pub fn serve_frames<R: Rng, C: Clock, I: BufRead, O: Write>(
+    alloc: Global,
+    clients: &mut Clients,
+    dav: &mut Dav<R>,
+    clock: &C,
+    input: &mut I,
+    output: &mut O,
+) -> Result<End, Fault>
+    ensures served { Has clients.old [] → IfOk result (λ end. AreServed end clients.old clients.new (server R.stream dav.old) (server R.stream dav.new)
+        (I.remaining input.old) (I.remaining input.new) (O.contents output.old) (O.contents output.new)) }
+{
+    let mut line = Vec::new(alloc);
+    let mut bytes = Vec::new(alloc);
+    for _frame in 0..u64::MAX {
+        let ended = serve_frame(clients, dav, clock, input, &mut line, &mut bytes, output)?;
+        if let Some(end) = ended {
+            return Ok(end);
+        }
+    }
+    Err(Fault::Io)
+}
+
+// Serves one frame, and tells whether it is the last.
+fn serve_frame<R: Rng, C: Clock, I: BufRead, O: Write>(
+    clients: &mut Clients,
+    dav: &mut Dav<R>,
+    clock: &C,
+    input: &mut I,
+    line: &mut Vec<u8>,
+    bytes: &mut Vec<u8>,
+    output: &mut O,
+) -> Result<Option<End>, Fault>
+    ensures { IfOk result (λ end. Follows end clients.old clients.new (server R.stream dav.old) (server R.stream dav.new)
+        (I.remaining input.old) (I.remaining input.new) (O.contents output.old) (O.contents output.new)) }
+{
+    match read_frame(input, line, bytes)? {
+        Next::End => Ok(Some(End::Whole)),
+        Next::Malformed => Ok(Some(End::Wrong)),
+        Next::Clock(moment) => {
+            dav.set_clock(Moment(moment));
+            Ok(None)
+        }
+        Next::Piece(number) => {
+            tick(dav, clock);
+            if !clients.take(number, bytes, dav, output)? {
+                return Ok(Some(End::Wrong));
+            }
+            output.flush()?;
+            Ok(None)
+        }
+    }
+}
+
+// Sets the server's clock, where this one tells the moment.
+fn tick<R: Rng, C: Clock>(dav: &mut Dav<R>, clock: &C)
+    ensures { (now : ℕ) × (server R.stream dav.new ≡ record (server R.stream dav.old) { clock = now }) }
+{
+    if let Some(now) = clock.moment() {
+        dav.set_clock(now);
+    }
+}
+
+/// Reads, answers and writes until the connection is done. The bytes that are written are the answers, in order, to the requests that the bytes
+/// spell that were read (`always_served` of `http_server`), and each call is answered as `Answers` says, from the state that the call before it left.
+pub fn serve_one<R: Rng, I: Read, O: Write>(
+    connection: &mut Connection,
+    dav: &mut Dav<R>,
+    input: &mut I,
+    output: &mut O,
+) -> io::Result<()>
+    ensures calls { Calls (λ before request response after. Answers (server R.stream before) request response (server R.stream after)) dav.old dav.new
+        (history connection.old).calls (history connection.new).calls }
+    ensures read { (more : List ℕ) × Consumes (I.remaining input.old) (I.remaining input.new) more
+        × ((history connection.new).received ≡ (history connection.old).received ++ more) }
+    ensures written { (more : List ℕ) × Appends (O.contents output.old) (O.contents output.new) more
+        × ((history connection.new).sent ≡ (history connection.old).sent ++ more) }
+    ensures config { config_of connection.new ≡ config_of connection.old }
+{
+    serve(connection, dav, input, output)
+}

@@ -1,6 +1,9 @@
 pub mod Answers
 pub mod Callers
 pub mod Faults
+pub mod FileTags
+pub mod ListedTags
+pub mod Preconditions
 pub mod Private
 pub mod Putting
 pub mod Senders

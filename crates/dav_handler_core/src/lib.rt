@@ -3,9 +3,12 @@
 
 mod content_types;
 pub mod dav;
+pub mod etags;
 pub mod faults;
+mod listed_tags;
 mod methods;
 mod pages;
+pub mod preconditions;
 mod senders;
 pub mod session;
 mod targets;

@@ -2,7 +2,10 @@ pub mod AnswerLemmas
 pub mod Asking
 pub mod CallerLaws
 pub mod Collecting
+pub mod ConditionLemmas
 pub mod FileTagLemmas
 pub mod GetLemmas
 pub mod ListedTagLemmas
 pub mod PutLemmas
+pub mod TaggedLemmas
+pub mod TokenLemmas

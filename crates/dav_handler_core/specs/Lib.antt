@@ -1,5 +1,6 @@
 pub mod Answers
 pub mod Callers
+pub mod Conditions
 pub mod Faults
 pub mod FileTags
 pub mod ListedTags
@@ -9,4 +10,5 @@ pub mod Putting
 pub mod Senders
 pub mod Servers
 pub mod Sessions
+pub mod TaggedLists
 pub mod Targets

@@ -1,6 +1,7 @@
 //! A WebDAV server over the stores of `dav_resource_core`, as a service of the kit's `http_server`.
 #![tactic(auto)]
 
+pub mod conditions;
 mod content_types;
 pub mod dav;
 pub mod etags;

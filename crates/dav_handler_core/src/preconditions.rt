@@ -40,7 +40,8 @@ fn stands(standing: &Standing) -> bool
     }
 }
 
-fn has_tag(comparison: Comparison, standing: &Standing, other: &[u8]) -> bool
+/// Whether it is a file whose tag is equal to this one by the comparison.
+pub(crate) fn has_tag(comparison: Comparison, standing: &Standing, other: &[u8]) -> bool
     ensures { result ≡ spec.has_tag comparison standing.now other.now }
 {
     match standing {

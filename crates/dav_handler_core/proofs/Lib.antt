@@ -2,6 +2,7 @@ pub mod AnswerLemmas
 pub mod Asking
 pub mod CallerLaws
 pub mod Collecting
+pub mod ConditionLaws
 pub mod ConditionLemmas
 pub mod FileTagLemmas
 pub mod GetLemmas

@@ -3,6 +3,7 @@ pub mod Callers
 pub mod Conditions
 pub mod Faults
 pub mod FileTags
+pub mod IfTokens
 pub mod ListedTags
 pub mod Preconditions
 pub mod Private

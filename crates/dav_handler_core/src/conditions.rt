@@ -13,6 +13,8 @@ ghost use Rattle.dav_handler_core.specs.TaggedLists.{spoken};
 ghost use Rattle.dav_handler_core.specs.declared.listed_tags.Comparison.TheVariants.{Strong};
 ghost use Rattle.dav_handler_core.specs.declared.faults.Fault.TheVariants as fault;
 
+mod laws;
+mod state_tokens;
 mod tagged;
 
 use crate::faults::Fault;
@@ -22,7 +24,12 @@ use crate::session::{Session, copy_of};
 use dav_resource_core::davheaders::{ETag, If, IfCondition, IfItem, IfList};
 use dav_resource_core::davpath::DavPath;
 use dav_resource_core::ls::DavLock;
+pub use laws::{
+    held_token_shows_a_lock, not_of_no_lock_holds, one_truth, tagged_lists_are_of_their_tags,
+    untagged_lists_are_of_the_request,
+};
 use rand_core::Rng;
+pub use state_tokens::tokens;
 use std::alloc::Global;
 use std::convert::AsStr;
 pub use tagged::Base;

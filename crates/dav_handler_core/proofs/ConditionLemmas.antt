@@ -1,15 +1,14 @@
 -- How lists of an `If` are looked at one after another, through questions that change nothing.
-use Rattle.std.proofs.Common.{◌≡◌, inl, inr, ℕ, ◌+◌, ◌<◌, Bool, true, false, ◌&&◌, List, ◌∷◌, length, get_or, drop, map, Option, refl, sym, ap, subst, ◌∙◌}
-use Rattle.std.proofs.lemmas.List.{drop_more}
+use Rattle.std.proofs.Common.{◌≡◌, inl, inr, ℕ, ◌+◌, ◌<◌, ◌≤◌, Bool, true, false, ◌&&◌, List, ◌∷◌, length, get_or, drop, map, Option, refl, sym, ap, subst, ◌∙◌}
+use Rattle.std.proofs.lemmas.List.{drop_all, drop_more}
 use Rattle.std.specs.Option.{option_or}
 use Rattle.url.specs.Parts.{Parts}
 use Rattle.dav_path_core.specs.Fronts.{Path}
 use Rattle.dav_headers_core.specs.IfValues.{Located}
 use Rattle.dav_resource_core.specs.Step.{State}
-use Rattle.dav_handler_core.specs.declared.conditions.tagged.Base.{Base}
 use Rattle.dav_handler_core.specs.Callers.{Caller, RunBy, SameLive, live}
 use Rattle.dav_handler_core.specs.Conditions.{ListsAre, conditions_hold}
-use Rattle.dav_handler_core.specs.TaggedLists.{SpeaksOf, spread_from}
+use Rattle.dav_handler_core.specs.TaggedLists.{Base, SpeaksOf, spread_from}
 use Rattle.dav_handler_core.proofs.Asking.{by_join}
 use Rattle.dav_handler_core.proofs.CallerLaws.{by_none}
 
@@ -58,3 +57,8 @@ module _ (s : State) (base : Base) (here : Path) (last : Option Parts) (l : Loca
   -- this one decides where it holds
   pub holds_here : SpeaksOf base here (option_or l.tag last) at → conditions_hold s at l.conditions ≡ true → ListsAre s base here (spread_from last (l ∷ lists)) true
   holds_here speaks holds = inl (at, speaks, holds)
+
+-- no list is left
+pub none_left : {A : Type 0} (s : State) (base : Base) (here : Path) (last : Option Parts) (view : A → Located) (xs : List A) (i : ℕ) → length xs ≤ i
+    → ListsAre s base here (spread_from last (map view (drop i xs))) false
+none_left s base here last view xs i le = subst (λ ys. ListsAre s base here (spread_from last (map view ys)) false) (sym (drop_all i xs le)) tt

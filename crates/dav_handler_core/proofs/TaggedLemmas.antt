@@ -1,14 +1,13 @@
 -- What a text and a URL name on the server.
 use Rattle.std.proofs.Common.{◌≡◌, ◌≢◌, ℕ, List, Option, Some, None, Result, Ok, Err, refl, sym, subst}
-use Rattle.std.specs.Prelude.{MatchOption, MatchResult, IfOk, IfErr, string_bytes}
+use Rattle.std.specs.Prelude.{MatchOption, MatchResult, IfOk, IfErr}
 use Rattle.url.specs.Parts.{Parts}
 use Rattle.dav_path_core.specs.declared.davpath.ParseError.{ParseError}
 use Rattle.dav_path_core.specs.declared.davpath.ParseError.TheVariants as parse
 use Rattle.dav_path_core.specs.PathText.{PathText}
-use Rattle.dav_handler_core.specs.declared.conditions.tagged.Base.{Base}
 use Rattle.dav_handler_core.specs.declared.faults.Fault.{Fault}
 use Rattle.dav_handler_core.specs.declared.faults.Fault.TheVariants as fault
-use Rattle.dav_handler_core.specs.TaggedLists.{IsPathOf, IsSameServer, Names, spoken}
+use Rattle.dav_handler_core.specs.TaggedLists.{Base, IsPathOf, IsSameServer, Names, spoken}
 
 -- what is answered of a text
 abbrev pub Found : List ℕ → List ℕ → Option PathText → Type 0
@@ -29,8 +28,8 @@ only_memory e (Ok found) h = tt
 only_memory e (Err f) h = h
 
 -- what a URL of the server names
-pub named_by : (base : Base) (url : Parts) (prefix text : List ℕ) → IsSameServer url base.url → prefix ≡ string_bytes base.prefix → text ≡ url.path
-    → (found : Option PathText) → Found prefix text found → Names base url (spoken found)
+pub named_by : (base : Base) (url : Parts) (prefix text : List ℕ) → IsSameServer url base.url → prefix ≡ base.prefix → text ≡ url.path → (found : Option PathText)
+    → Found prefix text found → Names base url (spoken found)
 named_by base url prefix text same is_prefix is_text None h = λ p named.
     h named.path (subst (λ t. IsPathOf prefix t named.path) (sym is_text) (subst (λ q. IsPathOf q url.path named.path) (sym is_prefix) named.path_of))
 named_by base url prefix text same is_prefix is_text (Some path) h = record {

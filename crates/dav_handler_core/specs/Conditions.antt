@@ -8,11 +8,10 @@ use Rattle.dav_headers_core.specs.IfBytes.{Item, Token, Tag, Condition}
 use Rattle.dav_headers_core.specs.IfValues.{Located}
 use Rattle.dav_locks_core.specs.Locks.{covers}
 use Rattle.dav_resource_core.specs.Step.{State}
-use Rattle.dav_handler_core.specs.declared.conditions.tagged.Base.{Base}
 use Rattle.dav_handler_core.specs.declared.listed_tags.Comparison.TheVariants.{Strong}
 use Rattle.dav_handler_core.specs.FileTags.{standing_of}
 use Rattle.dav_handler_core.specs.Preconditions.{has_tag}
-use Rattle.dav_handler_core.specs.TaggedLists.{SpeaksOf, spread}
+use Rattle.dav_handler_core.specs.TaggedLists.{Base, SpeaksOf, spread}
 
 -- ---- a condition
 

@@ -1,5 +1,5 @@
 -- Which resource a list of an `If` speaks of (RFC 4918 sections 10.4.2 and 10.4.4).
-use Rattle.std.specs.Prelude.{◌≡◌, ℕ, List, [], ◌∷◌, Option, None, Some, option_map, string_bytes}
+use Rattle.std.specs.Prelude.{◌≡◌, ℕ, List, [], ◌∷◌, Option, None, Some, option_map}
 use Rattle.std.specs.Option.{option_or}
 use Rattle.url.specs.Host.{host_text}
 use Rattle.url.specs.Parts.{Parts, nonempty_host}
@@ -9,7 +9,6 @@ use Rattle.dav_path_core.specs.Prefix.{SetsPrefix}
 use Rattle.dav_path_core.specs.Reading.{Read}
 use Rattle.dav_path_core.specs.Segments.{segments}
 use Rattle.dav_headers_core.specs.IfValues.{Located}
-use Rattle.dav_handler_core.specs.declared.conditions.tagged.Base.{Base}
 
 -- A resource tag is for all lists up to the next one. Each list with the tag that counts for it, where this one counts for the first.
 abbrev pub spread_from : Option Parts → List Located → List Located
@@ -19,6 +18,15 @@ spread_from tag (l ∷ lists) =
 
 abbrev pub spread : List Located → List Located
 spread lists = spread_from None lists
+
+-- where a server's URLs begin: a URL with its scheme, host and port, and the prefix of its paths
+pub record Base : Type 0 where
+  pub url : Parts
+  pub prefix : List ℕ
+
+-- that of a request for a path
+abbrev pub base_of : Parts → PathText → Base
+base_of url here = record { url = url; prefix = here.prefix }
 
 -- the scheme, the host and the port are the same; a port that a scheme has anyway is not told
 pub record IsSameServer (a b : Parts) : Type 0 where
@@ -36,7 +44,7 @@ pub record IsPathOf (prefix text : List ℕ) (path : PathText) : Type 0 where
 pub record IsNamed (base : Base) (url : Parts) (p : Path) : Type 0 where
   pub same : IsSameServer url base.url
   pub path : PathText
-  pub path_of : IsPathOf (string_bytes base.prefix) url.path path
+  pub path_of : IsPathOf base.prefix url.path path
   pub at : p ≡ segments path.bytes
 
 -- the path that the URL names on the server; nothing where it names none

@@ -9,7 +9,7 @@ ghost use Rattle.dav_handler_core.specs.Conditions.{IfIs, condition_holds, condi
 ghost use Rattle.dav_handler_core.specs.FileTags.{standing_of};
 ghost use Rattle.dav_handler_core.specs.Preconditions.{has_tag};
 ghost use Rattle.dav_handler_core.specs.Sessions as spec;
-ghost use Rattle.dav_handler_core.specs.TaggedLists.{spoken};
+ghost use Rattle.dav_handler_core.specs.TaggedLists.{base_of, spoken};
 ghost use Rattle.dav_handler_core.specs.declared.listed_tags.Comparison.TheVariants.{Strong};
 ghost use Rattle.dav_handler_core.specs.declared.faults.Fault.TheVariants as fault;
 
@@ -32,8 +32,8 @@ use rand_core::Rng;
 pub use state_tokens::tokens;
 use std::alloc::Global;
 use std::convert::AsStr;
-pub use tagged::Base;
 use tagged::spoken_of;
+use url::Url;
 
 // Whether a lock of these has the token.
 fn any_has(locks: &[DavLock], token: &str) -> bool
@@ -137,9 +137,9 @@ fn one_holds<R: Rng>(
     session: &mut Session<R>,
     lists: &[IfList],
     here: &DavPath,
-    base: &Base,
+    base: &Url,
 ) -> Result<bool, Fault>
-    ensures ok { IfOk result (IfIs (live (spec.caller session.old).now (spec.state R.stream session.old)) base.now (segments here.now.bytes) (map located lists.now)) }
+    ensures ok { IfOk result (IfIs (live (spec.caller session.old).now (spec.state R.stream session.old)) (base_of base.now here.now) (segments here.now.bytes) (map located lists.now)) }
     ensures err { IfErr result (λ e. e ≡ fault.InsufficientStorage) }
     ensures run { RunBy (spec.caller session.old) (spec.state R.stream session.old) (spec.state R.stream session.new) }
     ensures live { SameLive (spec.caller session.old).now (spec.state R.stream session.old) (spec.state R.stream session.new) }
@@ -147,7 +147,7 @@ fn one_holds<R: Rng>(
 {
     let mut at = Some(copy_of(here)?);
     for list in lists {
-        at = spoken_of(alloc, &list.resource_tag, at, base)?;
+        at = spoken_of(alloc, &list.resource_tag, at, base, here)?;
         if conditions_hold(alloc, session, &at, &list.conditions)? {
             return Ok(true);
         }
@@ -157,8 +157,8 @@ fn one_holds<R: Rng>(
 
 /// Whether an `If` holds for a request for the path `here`: whether all conditions of one of its lists do (RFC 4918 sections 10.4.3 and 10.4.4). A state
 /// token holds where a lock with it covers the resource and has not expired, whoever asks; an entity tag where the resource is a file with an equal one,
-/// by strong comparison. A resource tag is for all lists up to the next one; one that names no path of the server stands for a resource that has neither
-/// locks nor tags.
+/// by strong comparison. A resource tag is for all lists up to the next one. It names a path where it has the scheme, the host and the port of `base`, and
+/// stands behind the prefix of `here`; else it stands for a resource that has neither locks nor tags.
 ///
 /// `InsufficientStorage` where there is no memory for it, and never else. Nothing changes, but locks that have expired may be gone.
 pub fn evaluate<R: Rng>(
@@ -166,9 +166,9 @@ pub fn evaluate<R: Rng>(
     session: &mut Session<R>,
     header: &If,
     here: &DavPath,
-    base: &Base,
+    base: &Url,
 ) -> Result<bool, Fault>
-    ensures ok { IfOk result (IfIs (live (spec.caller session.old).now (spec.state R.stream session.old)) base.now (segments here.now.bytes) (map located header.now.0.items)) }
+    ensures ok { IfOk result (IfIs (live (spec.caller session.old).now (spec.state R.stream session.old)) (base_of base.now here.now) (segments here.now.bytes) (map located header.now.0.items)) }
     ensures err { IfErr result (λ e. e ≡ fault.InsufficientStorage) }
     ensures run { RunBy (spec.caller session.old) (spec.state R.stream session.old) (spec.state R.stream session.new) }
     ensures live { SameLive (spec.caller session.old).now (spec.state R.stream session.old) (spec.state R.stream session.new) }

@@ -8,7 +8,7 @@ ghost use Rattle.dav_locks_core.specs.Lock.{Lock};
 ghost use Rattle.dav_locks_core.specs.Locks.{covers};
 ghost use Rattle.dav_resource_core.specs.Step.{State};
 ghost use Rattle.dav_handler_core.specs.Conditions.{IfIs, Production, ProductionsAre, conditions_hold, lists_of};
-ghost use Rattle.dav_handler_core.specs.declared.conditions.tagged.Base.{Base};
+ghost use Rattle.dav_handler_core.specs.TaggedLists.{Base};
 
 /// The law that an `If` either holds or doesn't. It does nothing.
 pub fn one_truth()

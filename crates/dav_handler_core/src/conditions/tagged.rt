@@ -5,22 +5,13 @@ ghost use Rattle.url.specs.Parts.{Parts};
 ghost use Rattle.dav_path_core.specs.declared.davpath.ParseError.TheVariants as parse;
 ghost use Rattle.dav_path_core.specs.Fronts.{Path};
 ghost use Rattle.dav_path_core.specs.PathText.{PathText};
-ghost use Rattle.dav_handler_core.specs.TaggedLists.{IsPathOf, IsSameServer, Names, SpeaksOf, spoken};
+ghost use Rattle.dav_handler_core.specs.TaggedLists.{IsPathOf, IsSameServer, Names, SpeaksOf, base_of, spoken};
 ghost use Rattle.dav_handler_core.specs.declared.faults.Fault.TheVariants as fault;
 
 use crate::faults::Fault;
 use dav_resource_core::davpath::{DavPath, ParseError};
 use std::alloc::Global;
 use url::Url;
-
-/// Where a server's URLs begin.
-#[derive(Debug, Drop)]
-pub struct Base {
-    /// A URL with the server's scheme, host and port; its other parts don't count.
-    pub url: Url,
-    /// The path that its URLs stand behind; empty for none.
-    pub prefix: String,
-}
 
 // Whether the scheme, the host and the port are the same.
 fn is_same_server(url: &Url, other: &Url) -> bool
@@ -60,14 +51,14 @@ fn path_of(alloc: Global, text: &str, prefix: &str) -> Result<Option<DavPath>, F
 }
 
 // The path that a URL names on the server, where it names one.
-fn named(alloc: Global, url: &Url, base: &Base) -> Result<Option<DavPath>, Fault>
-    ensures ok { IfOk result (λ at. Names base.now url.now (spoken at)) }
+fn named(alloc: Global, url: &Url, base: &Url, here: &DavPath) -> Result<Option<DavPath>, Fault>
+    ensures ok { IfOk result (λ at. Names (base_of base.now here.now) url.now (spoken at)) }
     ensures err { IfErr result (λ e. e ≡ fault.InsufficientStorage) }
 {
-    if !is_same_server(url, &base.url) {
+    if !is_same_server(url, base) {
         return Ok(None);
     }
-    path_of(alloc, url.path(), &base.prefix)
+    path_of(alloc, url.path(), here.prefix())
 }
 
 /// The path that a list speaks of, if it is one of the server: that of its tag, and without one the path that the list before it speaks of.
@@ -75,14 +66,15 @@ pub(super) fn spoken_of(
     alloc: Global,
     tag: &Option<Url>,
     before: Option<DavPath>,
-    base: &Base,
+    base: &Url,
+    here: &DavPath,
 ) -> Result<Option<DavPath>, Fault>
-    ensures ok { IfOk result (λ at. (here : Path) (last : Option Parts) → SpeaksOf base.now here last (spoken before)
-        → SpeaksOf base.now here (option_or tag.now last) (spoken at)) }
+    ensures ok { IfOk result (λ at. (p : Path) (last : Option Parts) → SpeaksOf (base_of base.now here.now) p last (spoken before)
+        → SpeaksOf (base_of base.now here.now) p (option_or tag.now last) (spoken at)) }
     ensures err { IfErr result (λ e. e ≡ fault.InsufficientStorage) }
 {
     match tag {
-        Some(url) => named(alloc, url, base),
+        Some(url) => named(alloc, url, base, here),
         None => Ok(before),
     }
 }

@@ -36,7 +36,7 @@ loop-condition-preserved g c =
     let conditions = c.args.conditions.now in
     let i = c.loop-condition.condition-index in
     let holds : condition_holds s at item ≡ true =
-    ap (λ (x : State). condition_holds x at item) (sym (same_state who start mid m c.loop-condition.invariant.looks)) ∙ sym c.in_ok-condition_holds.ensures.ok ∙ c.if-not-branch.false in
+    ap (λ (x : State). condition_holds x at item) (sym (same_state who start mid m c.loop-condition.invariant.looks)) ∙ sym {b = condition_holds (live mid.now m) at item} c.in_ok-condition_holds.ensures.ok ∙ c.if-not-branch.false in
     record {
       looks = looks_on who start mid m (spec.caller c.condition_holds.new.session) (spec.state g.R.Rng.stream c.condition_holds.new.session)
           c.loop-condition.invariant.looks c.condition_holds.ensures.run c.condition_holds.ensures.live c.condition_holds.ensures.caller;

@@ -4,9 +4,11 @@ pub mod CallerLaws
 pub mod Collecting
 pub mod ConditionLaws
 pub mod ConditionLemmas
+mod ConditionRows
 pub mod FileTagLemmas
 pub mod GetLemmas
 pub mod ListedTagLemmas
+mod PreconditionRows
 pub mod PutLemmas
 pub mod TaggedLemmas
 pub mod TokenLemmas

@@ -27,7 +27,7 @@ fn no_path(error: ParseError) -> Result<Option<DavPath>, Fault>
     ensures { MatchResult result (λ found. (found ≡ None) × (error ≢ parse.OutOfMemory)) (λ e. e ≡ fault.InsufficientStorage) }
 {
     match error {
-        ParseError::OutOfMemory => Err(Fault::InsufficientStorage),
+        ParseError::OutOfMemory => Err(Fault::from(error)),
         ParseError::InvalidPath => Ok(None),
         ParseError::PrefixMismatch => Ok(None),
         ParseError::ForbiddenPath => Ok(None),

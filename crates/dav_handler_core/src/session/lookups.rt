@@ -47,8 +47,7 @@ impl<R: Rng> Session<R> {
     {
         match self.ask(Command::Discover { path }) {
             Ok(Reply::Locks(locks)) => Ok(locks),
-            Ok(_) => Err(Fault::InsufficientStorage),
-            Err(_) => Err(Fault::InsufficientStorage),
+            _ => Err(Fault::InsufficientStorage),
         }
     }
 }

@@ -23,7 +23,8 @@ use Rattle.dav_locks_core.specs.Lock.{Lock}
 use Rattle.dav_locks_core.specs.Locks.{covers}
 use Rattle.dav_resource_core.specs.Step.{State}
 use Rattle.dav_handler_core.specs.Conditions.{IfIs, ListsAre, OneHolds, NoneHolds, Production, ProductionIs, ProductionsAre, conditions_hold, has_token, lists_of, untagged}
-use Rattle.dav_handler_core.specs.TaggedLists.{Base, IsNamed, IsPathOf, SpeaksOf, spread, spread_from}
+use Rattle.dav_handler_core.specs.Targets.{IsPathOf}
+use Rattle.dav_handler_core.specs.TaggedLists.{Base, IsNamed, SpeaksOf, spread, spread_from}
 use Rattle.dav_handler_core.proofs.ConditionLemmas.{goes_on, holds_here}
 
 -- ---- a token

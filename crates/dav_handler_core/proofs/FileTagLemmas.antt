@@ -1,21 +1,24 @@
 -- What the tag of a file holds, and what it tells.
-use Rattle.std.proofs.Common.{◌≡◌, ℕ, ◌^◌, ◌<◌, Bool, false, List, [], ◌∷◌, ◌++◌, get_or, Option, Some, Result, Ok, Err, refl, sym, ap, ◌∙◌, arith}
+use Rattle.std.proofs.Common.{◌≡◌, ℕ, ◌^◌, ◌<◌, Bool, true, false, not, List, [], ◌∷◌, ◌++◌, get_or, Option, Some, Result, Ok, Err, refl, sym, ap, ◌∙◌, arith}
 use Rattle.std.specs.Prelude.{decimal, ◌==◌, IfOk, IfErr}
 use Rattle.std.specs.Int.{IsInRange}
-use Rattle.std.specs.List.{All, slice_split}
-use Rattle.std.proofs.lemmas.Bool.{ne_eqb}
+use Rattle.std.specs.List.{All, AllPass, slice_split}
+use Rattle.std.proofs.lemmas.Bool.{and_from, lt-ltb, ne_eqb}
 use Rattle.std.proofs.lemmas.Fmt.{decimal_injective}
-use Rattle.std.proofs.lemmas.List.Elements.{All-append, All-cons, All-get_or, All-from_get_or}
+use Rattle.std.proofs.lemmas.List.Elements.{All-append, All-cons, All-nil, All-get_or, All-from_get_or}
 use Rattle.std.proofs.lemmas.List.Folds.{list_any_none}
+use Rattle.std.proofs.lemmas.List.Sums.{list_all-from_AllPass}
 use Rattle.std.proofs.lemmas.List.Splits.{slice_split_at}
 use Rattle.dav_headers_core.specs.declared.davheaders.errors.HeaderError.{HeaderError}
 use Rattle.dav_headers_core.specs.declared.davheaders.errors.HeaderError.TheVariants as header
 use Rattle.dav_headers_core.specs.Gives.{GivesFirst}
-use Rattle.dav_headers_core.specs.Tags.{quote, new_tag}
+use Rattle.dav_headers_core.specs.Tags.{quote, new_tag, is_weak}
+use Rattle.dav_headers_core.proofs.tags.TagLemmas.{spelled_is_tag}
 use Rattle.dav_headers_core.specs.UpdateRanges.{is_dash, two}
 use Rattle.dav_headers_core.proofs.numbers.DashLemmas.{NoDash, just_two}
 use Rattle.dav_headers_core.proofs.numbers.NumberLemmas.{decimal_in}
 use Rattle.dav_handler_core.specs.FileTags.{tag_text, file_tag}
+use Rattle.dav_handler_core.specs.ListedTags.{is_visible, is_entity_tag}
 
 abbrev is_quote : ℕ → Bool
 is_quote b = b == quote
@@ -49,6 +52,24 @@ pub told_err : {A : Type 0} (result : Result A HeaderError) (view : A → List �
 told_err (Ok x) view expected tag h made = tt
 told_err (Err header.OutOfMemory) view expected tag h made = refl
 told_err (Err header.Invalid) view expected tag h made = absurd (cc)
+
+-- ---- it is read as a tag
+
+digits_seen : (digits : List ℕ) → All (IsInRange 48 57) digits → AllPass is_visible digits
+digits_seen digits h = All-from_get_or (λ b. is_visible b ≡ true) digits 0 (λ i lt.
+    let digit = All-get_or (IsInRange 48 57) digits i 0 lt h in
+    and_from _ _ (lt-ltb 32 (get_or digits i 0) (omega arith)) (ap not (ne_eqb (get_or digits i 0) 127 (omega arith))))
+
+pub is_read : (m n : ℕ) → m < 2 ^ 64 → n < 2 ^ 64 → (is_entity_tag (file_tag m n) ≡ true) × (is_weak (file_tag m n) ≡ false)
+is_read m n small fits =
+    let P : ℕ → Type 0 = λ b. is_visible b ≡ true in
+    let text = All-append P (decimal m) (45 ∷ decimal n) (digits_seen (decimal m) (decimal_in m small))
+    (All-cons P 45 (decimal n) refl (digits_seen (decimal n) (decimal_in n fits))) in
+    let seen = All-cons P quote (tag_text m n ++ quote ∷ []) refl (All-append P (tag_text m n) (quote ∷ []) text (All-cons P quote [] refl (All-nil P))) in (
+      and_from _ _ (spelled_is_tag false (tag_text m n) (list_any_none is_quote (tag_text m n) (no_quote m n small fits)))
+          (list_all-from_AllPass is_visible (file_tag m n) seen),
+      refl,
+    )
 
 -- ---- equal tags have equal numbers
 

@@ -7,7 +7,9 @@ pub mod ConditionLemmas
 mod ConditionRows
 pub mod FileTagLemmas
 pub mod GetLemmas
+pub mod IfTokenLaws
 pub mod ListedTagLemmas
+pub mod PreconditionLaws
 mod PreconditionRows
 pub mod PutLemmas
 pub mod TaggedLemmas

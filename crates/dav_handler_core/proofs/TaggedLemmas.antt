@@ -7,7 +7,8 @@ use Rattle.dav_path_core.specs.declared.davpath.ParseError.TheVariants as parse
 use Rattle.dav_path_core.specs.PathText.{PathText}
 use Rattle.dav_handler_core.specs.declared.faults.Fault.{Fault}
 use Rattle.dav_handler_core.specs.declared.faults.Fault.TheVariants as fault
-use Rattle.dav_handler_core.specs.TaggedLists.{Base, IsPathOf, IsSameServer, Names, spoken}
+use Rattle.dav_handler_core.specs.Targets.{IsPathOf}
+use Rattle.dav_handler_core.specs.TaggedLists.{Base, IsSameServer, Names, spoken}
 
 -- what is answered of a text
 abbrev pub Found : List ℕ → List ℕ → Option PathText → Type 0

@@ -4,11 +4,10 @@ use Rattle.std.specs.Option.{option_or}
 use Rattle.url.specs.Host.{host_text}
 use Rattle.url.specs.Parts.{Parts, nonempty_host}
 use Rattle.dav_path_core.specs.Fronts.{Path}
-use Rattle.dav_path_core.specs.PathText.{PathText, full}
-use Rattle.dav_path_core.specs.Prefix.{SetsPrefix}
-use Rattle.dav_path_core.specs.Reading.{Read}
+use Rattle.dav_path_core.specs.PathText.{PathText}
 use Rattle.dav_path_core.specs.Segments.{segments}
 use Rattle.dav_headers_core.specs.IfValues.{Located}
+use Rattle.dav_handler_core.specs.Targets.{IsPathOf}
 
 -- A resource tag is for all lists up to the next one. Each list with the tag that counts for it, where this one counts for the first.
 abbrev pub spread_from : Option Parts → List Located → List Located
@@ -33,12 +32,6 @@ pub record IsSameServer (a b : Parts) : Type 0 where
   pub scheme : a.scheme ≡ b.scheme
   pub host : option_map host_text (nonempty_host a) ≡ option_map host_text (nonempty_host b)
   pub port : a.port ≡ b.port
-
--- the text is read as the path, behind the prefix
-pub record IsPathOf (prefix text : List ℕ) (path : PathText) : Type 0 where
-  pub whole : List ℕ
-  pub read : Read text whole
-  pub sets : SetsPrefix whole prefix (full path) path.prefix
 
 -- the URL is that of a path on the server
 pub record IsNamed (base : Base) (url : Parts) (p : Path) : Type 0 where

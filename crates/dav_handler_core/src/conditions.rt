@@ -26,7 +26,7 @@ use dav_resource_core::davpath::DavPath;
 use dav_resource_core::ls::DavLock;
 pub use laws::{
     held_token_shows_a_lock, not_of_no_lock_holds, one_truth, tagged_lists_are_of_their_tags,
-    untagged_lists_are_of_the_request,
+    tokens_stand_once, untagged_lists_are_of_the_request,
 };
 use rand_core::Rng;
 pub use state_tokens::tokens;

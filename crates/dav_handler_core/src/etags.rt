@@ -1,8 +1,9 @@
 //! Entity tags of files.
-ghost use Rattle.std.specs.Prelude.{◌≡◌, ◌<◌, ◌^◌, ℕ, false, IfOk, IfErr, Some, string_bytes};
-ghost use Rattle.dav_headers_core.specs.Tags.{new_tag};
+ghost use Rattle.std.specs.Prelude.{◌≡◌, ◌<◌, ◌^◌, ℕ, true, false, IfOk, IfErr, Some, string_bytes};
+ghost use Rattle.dav_headers_core.specs.Tags.{is_weak, new_tag};
 ghost use Rattle.dav_headers_core.specs.declared.davheaders.errors.HeaderError.TheVariants as header;
 ghost use Rattle.dav_handler_core.specs.FileTags as spec;
+ghost use Rattle.dav_handler_core.specs.ListedTags.{is_entity_tag};
 
 use dav_resource_core::davheaders::{ETag, HeaderError};
 use dav_resource_core::fs::Moment;
@@ -47,4 +48,9 @@ fn tag_text(alloc: Global, modified: u64, length: u64) -> Result<String, AllocEr
 pub fn file_tags_tell()
     ensures { (m n other_m other_n : ℕ) → m < 2 ^ 64 → n < 2 ^ 64 → other_m < 2 ^ 64 → other_n < 2 ^ 64
         → spec.file_tag m n ≡ spec.file_tag other_m other_n → (m ≡ other_m) × (n ≡ other_n) }
+{}
+
+/// The law that the tag of a file is strong, and spelled as the lists of conditions spell one: a client that sends it back is read. It does nothing.
+pub fn file_tags_are_read()
+    ensures { (m n : ℕ) → m < 2 ^ 64 → n < 2 ^ 64 → (is_entity_tag (spec.file_tag m n) ≡ true) × (is_weak (spec.file_tag m n) ≡ false) }
 {}

@@ -6,6 +6,8 @@ ghost use Rattle.dav_handler_core.specs.ListedTags as listed;
 ghost use Rattle.dav_handler_core.specs.Preconditions.{or_bad_request};
 ghost use Rattle.dav_handler_core.specs.Preconditions as spec;
 
+mod laws;
+
 use crate::etags::Standing;
 use crate::faults::Fault;
 use crate::listed_tags::{
@@ -14,6 +16,7 @@ use crate::listed_tags::{
 use dav_resource_core::util::DavMethod;
 use http_header::{GetAll, HeaderMap, HeaderValue};
 use httpdate::HttpDate;
+pub use laws::{nothing_asked_goes_on, parts_alone_become_whole, reads_alone_are_not_modified};
 use std::convert::AsStr;
 
 /// What follows from the conditions of a request.

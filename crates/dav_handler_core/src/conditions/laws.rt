@@ -1,6 +1,6 @@
 //! Laws of conditions, for callers.
-ghost use Rattle.std.specs.Prelude.{◌≡◌, ◌≢◌, ℕ, Bool, true, false, List, [], ◌∷◌, None, Option, Some, Contains};
-ghost use Rattle.std.specs.List.{AllByRecursion, flat_map, list_any};
+ghost use Rattle.std.specs.Prelude.{◌≡◌, ◌≢◌, ℕ, Bool, true, false, List, [], ◌∷◌, None, Option, Some, Contains, bytes_eq};
+ghost use Rattle.std.specs.List.{AllByRecursion, IsDistinct, flat_map, list_any};
 ghost use Rattle.dav_path_core.specs.Fronts.{Path};
 ghost use Rattle.dav_headers_core.specs.IfBytes.{Token};
 ghost use Rattle.dav_headers_core.specs.IfValues.{Located};
@@ -8,6 +8,7 @@ ghost use Rattle.dav_locks_core.specs.Lock.{Lock};
 ghost use Rattle.dav_locks_core.specs.Locks.{covers};
 ghost use Rattle.dav_resource_core.specs.Step.{State};
 ghost use Rattle.dav_handler_core.specs.Conditions.{IfIs, Production, ProductionsAre, conditions_hold, lists_of};
+ghost use Rattle.dav_handler_core.specs.IfTokens.{is_among, tokens_in, tokens_of};
 ghost use Rattle.dav_handler_core.specs.TaggedLists.{Base};
 
 /// The law that an `If` either holds or doesn't. It does nothing.
@@ -40,4 +41,10 @@ pub fn untagged_lists_are_of_the_request()
 pub fn tagged_lists_are_of_their_tags()
     ensures { (s : State) (base : Base) (here : Path) (productions : List Production) (holds : Bool) → ProductionsAre s base here productions holds
         → IfIs s base here (flat_map lists_of productions) holds }
+{}
+
+/// The law that the state tokens of an `If` are those of its conditions, and that none stands twice. It does nothing.
+pub fn tokens_stand_once()
+    ensures { (lists : List Located) → IsDistinct bytes_eq (tokens_of lists) × ((token : List ℕ) → is_among (tokens_of lists) token
+        ≡ is_among (flat_map (λ l. tokens_in l.conditions) lists) token) }
 {}

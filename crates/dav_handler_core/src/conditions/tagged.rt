@@ -5,7 +5,8 @@ ghost use Rattle.url.specs.Parts.{Parts};
 ghost use Rattle.dav_path_core.specs.declared.davpath.ParseError.TheVariants as parse;
 ghost use Rattle.dav_path_core.specs.Fronts.{Path};
 ghost use Rattle.dav_path_core.specs.PathText.{PathText};
-ghost use Rattle.dav_handler_core.specs.TaggedLists.{IsPathOf, IsSameServer, Names, SpeaksOf, base_of, spoken};
+ghost use Rattle.dav_handler_core.specs.Targets.{IsPathOf};
+ghost use Rattle.dav_handler_core.specs.TaggedLists.{IsSameServer, Names, SpeaksOf, base_of, spoken};
 ghost use Rattle.dav_handler_core.specs.declared.faults.Fault.TheVariants as fault;
 
 use crate::faults::Fault;

@@ -2,8 +2,18 @@ pub mod AnswerLemmas
 pub mod Asking
 pub mod CallerLaws
 pub mod Collecting
+pub mod ConditionLaws
+pub mod ConditionLemmas
+mod ConditionRows
+pub mod FileTagLemmas
 pub mod FrameLemmas
 pub mod GetLemmas
+pub mod IfTokenLaws
+pub mod ListedTagLemmas
+pub mod PreconditionLaws
+mod PreconditionRows
 pub mod PutLemmas
 pub mod RefusalLemmas
+pub mod TaggedLemmas
+pub mod TokenLemmas
 pub mod TypeLemmas

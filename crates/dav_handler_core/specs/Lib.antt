@@ -1,7 +1,12 @@
 pub mod Answers
 pub mod Callers
+pub mod Conditions
 pub mod ContentTypes
 pub mod Faults
+pub mod FileTags
+pub mod IfTokens
+pub mod ListedTags
+pub mod Preconditions
 pub mod Private
 pub mod Putting
 pub mod Refusals
@@ -9,4 +14,5 @@ pub mod Senders
 pub mod Servers
 pub mod Serving
 pub mod Sessions
+pub mod TaggedLists
 pub mod Targets

@@ -1,28 +1,15 @@
 -- Who sends a request, by its headers: the principal whom the server's settings take from one of them, and the tokens that it submits.
 use Rattle.std.specs.Prelude.{◌≡◌, ◌⊎◌, ℕ, List, [], ◌∷◌, Option, None, Some, codes}
-use Rattle.std.specs.List.{flat_map}
 use Rattle.http_header.specs.FieldValue.{FieldValue}
 use Rattle.http_header.specs.HeaderMap.{Entries, get_all}
-use Rattle.dav_headers_core.specs.IfBytes.{Token, Tag, Condition}
 use Rattle.dav_headers_core.specs.IfValues.{Located, ReadsAs}
 use Rattle.dav_handler_core.specs.Callers.{Caller}
+use Rattle.dav_handler_core.specs.IfTokens.{tokens_of}
 
 -- nobody is named where no header is set; else the header has one value, which is the principal (own)
 abbrev pub NamesPrincipal : Option (List ℕ) → Entries FieldValue → Option (List ℕ) → Type 0
 NamesPrincipal None headers principal = principal ≡ None
 NamesPrincipal (Some name) headers principal = (value : FieldValue) × (get_all headers name ≡ value ∷ []) × (principal ≡ Some value.bytes)
-
--- the state token of a condition, where it has one
-abbrev pub token_of : Condition → List (List ℕ)
-token_of condition = elim condition.item [ Token text ↦ text ∷ [] | Tag text ↦ [] ]
-
--- those of some conditions, in order, those behind `Not` too
-abbrev pub tokens_in : List Condition → List (List ℕ)
-tokens_in conditions = flat_map token_of conditions
-
--- those of some lists, in order
-abbrev pub tokens_of : List Located → List (List ℕ)
-tokens_of lists = flat_map (λ l. tokens_in l.conditions) lists
 
 -- the tokens that a request submits are those of its `If`; without one it submits none (RFC 4918 section 10.4)
 abbrev pub Submits : Entries FieldValue → List (List ℕ) → Type 0

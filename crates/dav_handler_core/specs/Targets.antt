@@ -6,7 +6,11 @@ use Rattle.dav_path_core.specs.PathText.{PathText, full}
 use Rattle.dav_path_core.specs.Reading.{Read}
 use Rattle.dav_path_core.specs.Prefix.{SetsPrefix}
 
-pub record IsTargetOf (prefix : List ℕ) (uri : Uri) (path : PathText) : Type 0 where
+-- the text is read as the path, behind the prefix
+pub record IsPathOf (prefix text : List ℕ) (path : PathText) : Type 0 where
   pub whole : List ℕ
-  pub read : Read (uri_path uri) whole
+  pub read : Read text whole
   pub sets : SetsPrefix whole prefix (full path) path.prefix
+
+abbrev pub IsTargetOf : List ℕ → Uri → PathText → Type 0
+IsTargetOf prefix uri path = IsPathOf prefix (uri_path uri) path

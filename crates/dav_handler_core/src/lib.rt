@@ -1,11 +1,15 @@
 //! A WebDAV server over the stores of `dav_resource_core`, as a service of the kit's `http_server`.
 #![tactic(auto)]
 
+pub mod conditions;
 mod content_types;
 pub mod dav;
+pub mod etags;
 pub mod faults;
+mod listed_tags;
 mod methods;
 mod pages;
+pub mod preconditions;
 mod senders;
 pub mod serving;
 pub mod session;

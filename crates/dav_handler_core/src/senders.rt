@@ -1,15 +1,15 @@
 //! Who sends a request, by its headers.
-ghost use Rattle.std.specs.Prelude.{◌≡◌, ◌++◌, ◌<◌, ◌⊎◌, [], length, map, option_map, string_bytes, IfErr, IfOk, OnOk, codes, option_copied, option_to_list};
+ghost use Rattle.std.specs.Prelude.{◌≡◌, ◌<◌, ◌⊎◌, [], length, map, option_map, string_bytes, IfErr, IfOk, codes, option_copied, option_to_list};
 ghost use Rattle.http_header.specs.HeaderMap.{get_all};
-ghost use Rattle.dav_headers_core.specs.IfValues.{located, condition_of, conditions_of};
 ghost use Rattle.dav_handler_core.specs.Refusals.{RefusesPrincipal, HasBadIf};
-ghost use Rattle.dav_handler_core.specs.Senders.{NamesPrincipal, Submits, token_of, tokens_in, tokens_of};
+ghost use Rattle.dav_handler_core.specs.Senders.{NamesPrincipal, Submits};
 ghost use Rattle.dav_handler_core.specs.declared.faults.Fault.TheVariants as fault;
 
+use crate::conditions::tokens;
 use crate::faults::Fault;
-use dav_resource_core::davheaders::{If, IfCondition, IfItem, IfList};
+use dav_resource_core::davheaders::If;
 use http_header::{HeaderMap, HeaderName, HeaderValue};
-use std::alloc::{AllocError, Global};
+use std::alloc::Global;
 use std::slice;
 
 /// The principal whom a header names: none without such a header among the server's settings; else the one value, as text.
@@ -38,7 +38,7 @@ pub(crate) fn principal_of(
     Ok(Some(String::from_str(alloc, text)?))
 }
 
-/// The tokens that a request submits: those of its `If`, in order. `BadRequest` where its `If` can't be read.
+/// The tokens that a request submits: those of its `If`, in order, each once. `BadRequest` where its `If` can't be read.
 pub(crate) fn tokens_of(
     alloc: Global,
     headers: &HeaderMap<HeaderValue>,
@@ -50,7 +50,7 @@ pub(crate) fn tokens_of(
         return Ok(Vec::new(alloc));
     };
     let header = If::decode(alloc, slice::from_ref(value))?;
-    Ok(tokens_of_lists(alloc, &header.0)?)
+    Ok(tokens(alloc, &header)?)
 }
 
 // The value under a name, where there is one. `BadRequest` where there are more.
@@ -67,37 +67,4 @@ fn value_of<'a>(
         return Err(Fault::BadRequest);
     }
     Ok(value)
-}
-
-// The state tokens of some lists.
-fn tokens_of_lists(alloc: Global, lists: &[IfList]) -> Result<Vec<String>, AllocError>
-    ensures { IfOk result (λ tokens. map string_bytes tokens.items ≡ tokens_of (map located lists.now)) }
-{
-    let mut tokens = Vec::new(alloc);
-    for list in lists {
-        add_tokens(&mut tokens, &list.conditions)?;
-    }
-    Ok(tokens)
-}
-
-// Adds the state tokens of some conditions.
-fn add_tokens(tokens: &mut Vec<String>, conditions: &[IfCondition]) -> Result<(), AllocError>
-    ensures { OnOk result (map string_bytes tokens.new.items
-        ≡ map string_bytes tokens.old.items ++ tokens_in (conditions_of conditions.now)) }
-{
-    for condition in conditions {
-        add_token(tokens, condition)?;
-    }
-    Ok(())
-}
-
-// Adds the state token of a condition, where it has one.
-fn add_token(tokens: &mut Vec<String>, condition: &IfCondition) -> Result<(), AllocError>
-    ensures { OnOk result (map string_bytes tokens.new.items
-        ≡ map string_bytes tokens.old.items ++ token_of (condition_of condition.now)) }
-{
-    if let IfItem::StateToken(text) = &condition.item {
-        tokens.push(text.clone()?)?;
-    }
-    Ok(())
 }

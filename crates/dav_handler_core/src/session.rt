@@ -8,6 +8,7 @@ ghost use Rattle.dav_resource_core.specs.Stores.{state_of};
 ghost use Rattle.dav_handler_core.specs.Callers.{Caller, RunBy, KeepsApart, SameLive, asking, ends_or_refreshes, is_look};
 ghost use Rattle.dav_handler_core.specs.Sessions as spec;
 
+mod lookups;
 mod questions;
 
 use dav_resource_core::davpath::DavPath;

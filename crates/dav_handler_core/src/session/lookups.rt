@@ -1,0 +1,66 @@
+//! What conditions ask a session for.
+ghost use Rattle.std.specs.Prelude.{◌≡◌, ◌≢◌, [], IfOk, IfErr};
+ghost use Rattle.dav_path_core.specs.Segments.{segments};
+ghost use Rattle.dav_files_core.specs.Meta.{meta_of};
+ghost use Rattle.dav_files_core.specs.Resources.{at_path};
+ghost use Rattle.dav_locks_core.specs.Locks.{discovered};
+ghost use Rattle.dav_handler_core.specs.Callers.{RunBy, SameLive, live};
+ghost use Rattle.dav_handler_core.specs.FileTags.{standing_as, standing_of};
+ghost use Rattle.dav_handler_core.specs.Sessions as spec;
+ghost use Rattle.dav_handler_core.specs.declared.faults.Fault.TheVariants as fault;
+
+use super::Session;
+use crate::etags::{Standing, file_tag};
+use crate::faults::Fault;
+use dav_resource_core::davpath::DavPath;
+use dav_resource_core::fs::DavMetaData;
+use dav_resource_core::guarded::{Command, Reply};
+use dav_resource_core::ls::DavLock;
+use dav_resource_core::memfs::MemFsMeta;
+use rand_core::Rng;
+use std::alloc::Global;
+
+impl<R: Rng> Session<R> {
+    /// What stands at a path, as conditions see it. `InsufficientStorage` where there is no memory for a file's tag.
+    pub fn standing(&mut self, alloc: Global, path: DavPath) -> Result<Standing, Fault>
+        ensures ok { IfOk result (λ standing. standing ≡ standing_of (at_path (spec.state R.stream self.old).map (segments path.bytes))) }
+        ensures err { IfErr result (λ e. e ≡ fault.InsufficientStorage) }
+        ensures run { RunBy (spec.caller self.old) (spec.state R.stream self.old) (spec.state R.stream self.new) }
+        ensures live { SameLive (spec.caller self.old).now (spec.state R.stream self.old) (spec.state R.stream self.new) }
+        ensures caller { spec.caller self.new ≡ spec.caller self.old }
+    {
+        match self.meta(path) {
+            Some(meta) => standing_as(alloc, &meta),
+            None => Ok(Standing::Nothing),
+        }
+    }
+
+    /// The locks that cover a path, from the root down, but those that have expired (RFC 4918 section 6). `InsufficientStorage` where there is no memory to
+    /// show one.
+    pub fn locks_at(&mut self, path: DavPath) -> Result<Vec<DavLock>, Fault>
+        ensures ok { IfOk result (λ locks. locks.items ≡ discovered (live (spec.caller self.old).now (spec.state R.stream self.old)).locks (segments path.bytes)) }
+        ensures err { IfErr result (λ e. (e ≡ fault.InsufficientStorage)
+            × (discovered (live (spec.caller self.old).now (spec.state R.stream self.old)).locks (segments path.bytes) ≢ [])) }
+        ensures run { RunBy (spec.caller self.old) (spec.state R.stream self.old) (spec.state R.stream self.new) }
+        ensures live { SameLive (spec.caller self.old).now (spec.state R.stream self.old) (spec.state R.stream self.new) }
+        ensures caller { spec.caller self.new ≡ spec.caller self.old }
+    {
+        match self.ask(Command::Discover { path }) {
+            Ok(Reply::Locks(locks)) => Ok(locks),
+            _ => Err(Fault::InsufficientStorage),
+        }
+    }
+}
+
+// What is known of a folder or a file, as conditions see it.
+fn standing_as(alloc: Global, meta: &MemFsMeta) -> Result<Standing, Fault>
+    ensures ok { IfOk result (λ standing. standing ≡ standing_as (meta_of meta.now)) }
+    ensures err { IfErr result (λ e. e ≡ fault.InsufficientStorage) }
+{
+    if meta.is_dir() {
+        return Ok(Standing::Folder);
+    }
+    let modified = meta.modified().unwrap();
+    let tag = file_tag(alloc, modified, meta.len())?;
+    Ok(Standing::File { tag, modified })
+}

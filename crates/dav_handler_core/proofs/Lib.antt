@@ -12,5 +12,6 @@ pub mod ListedTagLemmas
 pub mod PreconditionLaws
 mod PreconditionRows
 pub mod PutLemmas
+pub mod TagGrammarLaws
 pub mod TaggedLemmas
 pub mod TokenLemmas

@@ -11,5 +11,6 @@ pub mod Putting
 pub mod Senders
 pub mod Servers
 pub mod Sessions
+pub mod TagGrammar
 pub mod TaggedLists
 pub mod Targets

@@ -14,6 +14,7 @@ pub mod PreconditionLaws
 mod PreconditionRows
 pub mod PutLemmas
 pub mod RefusalLemmas
+pub mod TagGrammarLaws
 pub mod TaggedLemmas
 pub mod TokenLemmas
 pub mod TypeLemmas

@@ -14,5 +14,6 @@ pub mod Senders
 pub mod Servers
 pub mod Serving
 pub mod Sessions
+pub mod TagGrammar
 pub mod TaggedLists
 pub mod Targets

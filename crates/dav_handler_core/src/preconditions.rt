@@ -16,7 +16,10 @@ use crate::listed_tags::{
 use dav_resource_core::util::DavMethod;
 use http_header::{GetAll, HeaderMap, HeaderValue};
 use httpdate::HttpDate;
-pub use laws::{nothing_asked_goes_on, parts_alone_become_whole, reads_alone_are_not_modified};
+pub use laws::{
+    nothing_asked_goes_on, parts_alone_become_whole, reads_alone_are_not_modified,
+    tags_are_read_by_their_grammar,
+};
 use std::convert::AsStr;
 
 /// What follows from the conditions of a request.

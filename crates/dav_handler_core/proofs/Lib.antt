@@ -1,3 +1,4 @@
+pub mod AdmitLemmas
 pub mod AnswerLemmas
 pub mod Asking
 pub mod CallerLaws

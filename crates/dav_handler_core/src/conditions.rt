@@ -1,9 +1,10 @@
 //! Whether the `If` of a request holds (RFC 4918 section 10.4).
-ghost use Rattle.std.specs.Prelude.{◌≡◌, IfOk, IfErr, bytes_eq, map};
+ghost use Rattle.std.specs.Prelude.{◌≡◌, IfOk, IfErr, OnOk, bytes_eq, map};
 ghost use Rattle.std.specs.List.{list_any};
 ghost use Rattle.dav_path_core.specs.Segments.{segments};
 ghost use Rattle.dav_files_core.specs.Resources.{at_path};
 ghost use Rattle.dav_headers_core.specs.IfValues.{condition_of, conditions_of, item_of, located};
+ghost use Rattle.dav_handler_core.specs.Admitting.{IsAdmitted, IsHeldOff};
 ghost use Rattle.dav_handler_core.specs.Callers.{RunBy, SameLive, live};
 ghost use Rattle.dav_handler_core.specs.Conditions.{IfIs, condition_holds, conditions_hold, has_item, has_token};
 ghost use Rattle.dav_handler_core.specs.FileTags.{standing_of};
@@ -13,6 +14,7 @@ ghost use Rattle.dav_handler_core.specs.TaggedLists.{base_of, spoken};
 ghost use Rattle.dav_handler_core.specs.declared.listed_tags.Comparison.TheVariants.{Strong};
 ghost use Rattle.dav_handler_core.specs.declared.faults.Fault.TheVariants as fault;
 
+mod bases;
 mod laws;
 mod state_tokens;
 mod tagged;
@@ -20,10 +22,13 @@ mod tagged;
 use crate::faults::Fault;
 use crate::listed_tags::Comparison;
 use crate::preconditions::has_tag;
+use crate::senders::if_of;
 use crate::session::{Session, copy_of};
+use bases::base_of;
 use dav_resource_core::davheaders::{ETag, If, IfCondition, IfItem, IfList};
 use dav_resource_core::davpath::DavPath;
 use dav_resource_core::ls::DavLock;
+use http_header::{HeaderMap, HeaderValue};
 pub use laws::{
     held_token_shows_a_lock, not_of_no_lock_holds, one_truth, tagged_lists_are_of_their_tags,
     tokens_stand_once, untagged_lists_are_of_the_request,
@@ -176,4 +181,30 @@ pub fn evaluate<R: Rng>(
 {
     let If(lists) = header;
     one_holds(alloc, session, lists, here, base)
+}
+
+/// Lets a request for the path `here` go on where it has no `If`, or its `If` holds, as `evaluate` says. Its resource tags are compared with `http` and its `Host`.
+///
+/// `BadRequest` where the `If` can't be read, or there is no `Host` that is a host; `PreconditionFailed` where the `If` doesn't hold (RFC 4918 section 10.4);
+/// `InsufficientStorage` where there is no memory for it. Nothing changes, but locks that have expired may be gone.
+pub fn admit<R: Rng>(
+    alloc: Global,
+    session: &mut Session<R>,
+    headers: &HeaderMap<HeaderValue>,
+    here: &DavPath,
+) -> Result<(), Fault>
+    ensures ok { OnOk result (IsAdmitted (live (spec.caller session.old).now (spec.state R.stream session.old)) headers.now here.now) }
+    ensures err { IfErr result (IsHeldOff (live (spec.caller session.old).now (spec.state R.stream session.old)) headers.now here.now) }
+    ensures run { RunBy (spec.caller session.old) (spec.state R.stream session.old) (spec.state R.stream session.new) }
+    ensures live { SameLive (spec.caller session.old).now (spec.state R.stream session.old) (spec.state R.stream session.new) }
+    ensures caller { spec.caller session.new ≡ spec.caller session.old }
+{
+    let Some(header) = if_of(alloc, headers)? else {
+        return Ok(());
+    };
+    let base = base_of(alloc, headers)?;
+    if !evaluate(alloc, session, &header, here, &base)? {
+        return Err(Fault::PreconditionFailed);
+    }
+    Ok(())
 }

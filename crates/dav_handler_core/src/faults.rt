@@ -22,6 +22,8 @@ pub enum Fault {
     MethodNotAllowed,
     /// 409: there is no folder in which the path could stand (RFC 4918 section 9.7.1).
     Conflict,
+    /// 412: a condition of the request doesn't hold (RFC 9110 section 15.5.13, RFC 4918 section 12.1).
+    PreconditionFailed,
     /// 423: a lock stands in the way (RFC 4918 section 11.3).
     Locked,
     /// 501: the method isn't served (RFC 9110 section 15.6.2).
@@ -44,6 +46,7 @@ impl Fault {
             Fault::NotFound => StatusCode::NOT_FOUND,
             Fault::MethodNotAllowed => StatusCode::METHOD_NOT_ALLOWED,
             Fault::Conflict => StatusCode::CONFLICT,
+            Fault::PreconditionFailed => StatusCode::PRECONDITION_FAILED,
             Fault::Locked => StatusCode::LOCKED,
             Fault::NotImplemented => StatusCode::NOT_IMPLEMENTED,
             Fault::ServiceUnavailable => StatusCode::SERVICE_UNAVAILABLE,

@@ -1,6 +1,7 @@
 //! Who sends a request, by its headers.
-ghost use Rattle.std.specs.Prelude.{◌≡◌, ◌<◌, ◌⊎◌, [], length, map, option_map, string_bytes, IfErr, IfOk, codes, option_copied, option_to_list};
+ghost use Rattle.std.specs.Prelude.{◌≡◌, ◌<◌, ◌⊎◌, [], length, map, option_map, string_bytes, IfErr, IfOk, MatchOption, codes, option_copied, option_to_list};
 ghost use Rattle.http_header.specs.HeaderMap.{get_all};
+ghost use Rattle.dav_headers_core.specs.IfValues.{ReadsAs, located};
 ghost use Rattle.dav_handler_core.specs.Refusals.{RefusesPrincipal, HasBadIf};
 ghost use Rattle.dav_handler_core.specs.Senders.{NamesPrincipal, Submits};
 ghost use Rattle.dav_handler_core.specs.declared.faults.Fault.TheVariants as fault;
@@ -46,15 +47,26 @@ pub(crate) fn tokens_of(
     ensures ok { IfOk result (λ tokens. Submits headers.now (map string_bytes tokens.items)) }
     ensures err { IfErr result (λ e. (e ≡ fault.InsufficientStorage) ⊎ ((e ≡ fault.BadRequest) × HasBadIf headers.now)) }
 {
-    let Some(value) = value_of(headers, &HeaderName::from_static("if"))? else {
-        return Ok(Vec::new(alloc));
-    };
-    let header = If::decode(alloc, slice::from_ref(value))?;
-    Ok(tokens(alloc, &header)?)
+    match if_of(alloc, headers)? {
+        Some(header) => Ok(tokens(alloc, &header)?),
+        None => Ok(Vec::new(alloc)),
+    }
 }
 
-// The value under a name, where there is one. `BadRequest` where there are more.
-fn value_of<'a>(
+/// The `If` of a request, where it has one (RFC 4918 section 10.4). `BadRequest` where it can't be read, as where it has several values.
+pub(crate) fn if_of(alloc: Global, headers: &HeaderMap<HeaderValue>) -> Result<Option<If>, Fault>
+    ensures ok { IfOk result (λ found. MatchOption found (get_all headers.now (codes "if") ≡ [])
+        (λ header. ReadsAs (get_all headers.now (codes "if")) (map located header.0.items))) }
+    ensures err { IfErr result (λ e. (e ≡ fault.InsufficientStorage) ⊎ ((e ≡ fault.BadRequest) × HasBadIf headers.now)) }
+{
+    let Some(value) = value_of(headers, &HeaderName::from_static("if"))? else {
+        return Ok(None);
+    };
+    Ok(Some(If::decode(alloc, slice::from_ref(value))?))
+}
+
+/// The value under a name, where there is one. `BadRequest` where there are more.
+pub(crate) fn value_of<'a>(
     headers: &'a HeaderMap<HeaderValue>,
     name: &HeaderName,
 ) -> Result<Option<&'a HeaderValue>, Fault>

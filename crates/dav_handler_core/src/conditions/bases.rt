@@ -1,0 +1,38 @@
+//! Where the URLs of a request begin.
+ghost use Rattle.std.specs.Prelude.{◌≡◌, ◌⊎◌, IfErr, IfOk, MatchResult, None, Some};
+ghost use Rattle.url.specs.Parts.{Parts};
+ghost use Rattle.dav_headers_core.specs.Urls.{url_of};
+ghost use Rattle.dav_handler_core.specs.Admitting.{IsBase};
+ghost use Rattle.dav_handler_core.specs.declared.faults.Fault.TheVariants as fault;
+
+use crate::faults::Fault;
+use crate::senders::value_of;
+use http_header::{HeaderMap, HeaderName, HeaderValue};
+use std::alloc::Global;
+use url::{ParseError, Url};
+
+/// `http`, and the host and port of the request's `Host` (RFC 9112 section 3.3). `BadRequest` where it has no `Host`, several, or one that is no host.
+pub(super) fn base_of(alloc: Global, headers: &HeaderMap<HeaderValue>) -> Result<Url, Fault>
+    ensures ok { IfOk result (λ base. IsBase headers.now base) }
+    ensures err { IfErr result (λ e. (e ≡ fault.InsufficientStorage) ⊎ ((e ≡ fault.BadRequest) × ((base : Parts) → ¬ IsBase headers.now base))) }
+{
+    let Some(value) = value_of(headers, &HeaderName::from_static("host"))? else {
+        return Err(Fault::BadRequest);
+    };
+    let Ok(host) = str::from_utf8(value.as_bytes()) else {
+        return Err(Fault::BadRequest);
+    };
+    let text = format!(in alloc; "http://{host}/")?;
+    url_of(alloc, &text)
+}
+
+// The URL that a text spells.
+fn url_of(alloc: Global, text: &str) -> Result<Url, Fault>
+    ensures { MatchResult result (λ url. url_of text.now ≡ Some url) (λ e. (e ≡ fault.InsufficientStorage) ⊎ ((e ≡ fault.BadRequest) × (url_of text.now ≡ None))) }
+{
+    match Url::parse(alloc, text) {
+        Ok(url) => Ok(url),
+        Err(ParseError::OutOfMemory) | Err(ParseError::Overflow) => Err(Fault::InsufficientStorage),
+        Err(_) => Err(Fault::BadRequest),
+    }
+}

@@ -16,6 +16,7 @@ mod PreconditionRows
 pub mod PutLemmas
 pub mod RefusalLemmas
 pub mod TagGrammarLaws
+pub mod TagLaws
 pub mod TaggedLemmas
 pub mod TokenLemmas
 pub mod TypeLemmas

@@ -17,6 +17,7 @@ pub mod PutLemmas
 pub mod RefusalLemmas
 pub mod TagGrammarLaws
 pub mod TagLaws
+mod TagRows
 pub mod TaggedLemmas
 pub mod TokenLemmas
 pub mod TypeLemmas

@@ -1,5 +1,5 @@
 -- Files over a run of a server: each one stood there before with its bytes, or was changed since; so equal tags have equal bytes.
-use Rattle.std.proofs.Common.{◌≡◌, ◌≢◌, ◌⊎◌, inl, inr, ℕ, ◌<◌, ◌≤◌, ◌^◌, List, [], ◌∷◌, length, Option, None, Some, Result, Ok, Err, refl, sym, ◌∙◌, ap, subst, arith}
+use Rattle.std.proofs.Common.{◌≡◌, ◌⊎◌, inl, inr, ℕ, ◌<◌, ◌≤◌, List, [], ◌∷◌, length, Option, Some, Result, Ok, Err, refl, sym, ◌∙◌, ap, subst, arith}
 use Rattle.std.specs.Prelude.{OnErr}
 use Rattle.std.specs.FinMap.{get, empty, get-empty}
 use Rattle.http.specs.declared.request.Request.{Request}
@@ -22,7 +22,7 @@ use Rattle.dav_handler_core.specs.Answers.{Answers, AnswersTo, Server}
 use Rattle.dav_handler_core.specs.Callers.{SameLive}
 use Rattle.dav_handler_core.specs.Putting.{Puts}
 use Rattle.dav_handler_core.specs.Serving.{Leads}
-use Rattle.dav_handler_core.specs.TagHistories.{HasFile, HasNoFiles, FitsTag, MomentsTell, TagsTell, Becomes, tag_of}
+use Rattle.dav_handler_core.specs.TagHistories.{HasFile, HasNoFiles, MomentsTell, TagsTell, Becomes}
 use Rattle.dav_handler_core.specs.TagHistories.Becomes.{itself, by_clock, by_answer}
 use Rattle.dav_handler_core.proofs.FileTagLemmas.{tells}
 

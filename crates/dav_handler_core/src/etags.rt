@@ -62,16 +62,17 @@ pub fn file_tags_are_read()
 {}
 
 /// The law of tags over a run (RFC 9110 section 8.8.3.1): from stores without files, a file at one moment of a server's run and a file at the same or a
-/// later moment that have equal tags have equal bytes. The invariant is that no file was changed after the last moment, and that files that were changed
-/// last at one moment have the same bytes: stores without files have it, and each answer keeps it. It does nothing.
+/// later moment that have equal tags have equal bytes, where their moments and lengths are below 2 ^ 64. The invariant is that no file was changed after
+/// the last moment, and that files that were changed last at one moment have the same bytes: stores without files have it, and each answer keeps it. It
+/// does nothing.
 pub fn tags_tell_bytes()
     ensures tags { (begun s s' : Server) → HasNoFiles begun.state.map → Becomes begun s → Becomes s s' → TagsTell s s' }
     ensures begins { (s : Server) → HasNoFiles s.state.map → MomentsTell s }
     ensures goes_on { (s s' : Server) → MomentsTell s → Becomes s s' → MomentsTell s' }
 {}
 
-/// The law of what `tags_tell_bytes` is over: new stores have no files, and a run is what the calls of a connection lead to, and what the turns of
-/// frames lead to. It does nothing.
+/// The law that `tags_tell_bytes` is of this server: new stores have no files, and what the calls of a connection lead to, or the turns of frames, is a
+/// run. It does nothing.
 pub fn calls_make_runs()
     ensures new_stores { (now : ℕ) → HasNoFiles (start now) }
     ensures calls { (s s' : Server) (calls : List Call) → Chain Answers s calls s' → Becomes s s' }

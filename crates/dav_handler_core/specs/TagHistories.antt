@@ -1,4 +1,4 @@
--- What the tags of files tell over a run of a server: equal tags have equal bytes (RFC 9110 section 8.8.3.1), since each change has a moment of its own (own).
+-- What the tags of files tell over a run of a server: equal tags have equal bytes (RFC 9110 section 8.8.1), since each change has a moment of its own (own).
 use Rattle.std.specs.Prelude.{◌≡◌, ℕ, ◌<◌, ◌≤◌, ◌^◌, List, length, Some}
 use Rattle.http.specs.declared.request.Request.{Request}
 use Rattle.http_server.specs.declared.response.Response.{Response}

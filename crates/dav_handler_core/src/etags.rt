@@ -61,7 +61,7 @@ pub fn file_tags_are_read()
     ensures { (m n : ℕ) → m < 2 ^ 64 → n < 2 ^ 64 → (is_entity_tag (spec.file_tag m n) ≡ true) × (is_weak (spec.file_tag m n) ≡ false) }
 {}
 
-/// The law of tags over a run (RFC 9110 section 8.8.3.1): from stores without files, a file at one moment of a server's run and a file at the same or a
+/// The law of tags over a run (RFC 9110 section 8.8.1): from stores without files, a file at one moment of a server's run and a file at the same or a
 /// later moment that have equal tags have equal bytes, where their moments and lengths are below 2 ^ 64. The invariant is that no file was changed after
 /// the last moment, and that files that were changed last at one moment have the same bytes: stores without files have it, and each answer keeps it. It
 /// does nothing.

@@ -16,6 +16,8 @@ mod PreconditionRows
 pub mod PutLemmas
 pub mod RefusalLemmas
 pub mod TagGrammarLaws
+pub mod TagLaws
+mod TagRows
 pub mod TaggedLemmas
 pub mod TokenLemmas
 pub mod TypeLemmas

@@ -22,11 +22,12 @@ use Rattle.dav_handler_core.specs.Private.Refusing.{put_fault, unputtable}
 use Rattle.dav_handler_core.specs.Putting.{Puts, RefusesPut}
 
 -- the entries after it, but for the locks
-record Found (m : ResourceMap) (p : Path) (bytes : List ℕ) (m' : ResourceMap) : Type 0 where
+record Found (m : ResourceMap) (p : Path) (bytes : List ℕ) (now : ℕ) (m' : ResourceMap) : Type 0 where
   file : Resource
   here : at_path m' p ≡ Some file
   kind : file.node.kind ≡ File
   bytes_are : file.node.bytes ≡ bytes
+  modified : file.node.modified ≡ now
   others : (q : Path) → q ≢ p → at_path m' q ≡ at_path m q
 
 abbrev done : ResourceMap → Outcome (Unit {0})
@@ -34,7 +35,7 @@ done n = Ok (tt, n)
 
 -- an entry that is written
 written : (m m' : ResourceMap) (p : Path) (number : ℕ) (node : Node) (next : ℕ) → node.kind ≡ File
-    → m' ≡ record { entries = insert m.entries p (record { number = number; node = node }); next = next } → Found m p node.bytes m'
+    → m' ≡ record { entries = insert m.entries p (record { number = number; node = node }); next = next } → Found m p node.bytes node.modified m'
 written m m' p number node next kind left =
     let file : Resource = record { number = number; node = node } in
     record {
@@ -42,10 +43,11 @@ written m m' p number node next kind left =
       here = ap (λ (m : ResourceMap). at_path m p) left ∙ get_same path_total path_exact m.entries p file;
       kind = kind;
       bytes_are = refl;
+      modified = refl;
       others = λ q apart. ap (λ (m : ResourceMap). at_path m q) left ∙ get_other path_total path_exact m.entries p file q apart;
     }
 
-put_found : (m m' : ResourceMap) (p : Path) (bytes : List ℕ) (now : ℕ) → put m p bytes now ≡ done m' → Found m p bytes m'
+put_found : (m m' : ResourceMap) (p : Path) (bytes : List ℕ) (now : ℕ) → put m p bytes now ≡ done m' → Found m p bytes now m'
 put_found m m' p bytes now h = by (at_path m p) h
   where
     left_by : (n : ResourceMap) → done n ≡ done m' → m' ≡ n
@@ -53,15 +55,15 @@ put_found m m' p bytes now h = by (at_path m p) h
         let pairs : (tt {0}, n) ≡ (tt {0}, m') = cc in ap (λ (x : Unit {0} × ResourceMap). x.1) (sym pairs)
 
     by_kind : (r : Resource) (k : Kind) → r.node.kind ≡ k
-        → (elim k [ Folder ↦ Err fs.Forbidden | File ↦ Ok r ] >>= λ r. done (changed m p r (record r.node { bytes = bytes; modified = now }))) ≡ done m' → Found m p bytes m'
+        → (elim k [ Folder ↦ Err fs.Forbidden | File ↦ Ok r ] >>= λ r. done (changed m p r (record r.node { bytes = bytes; modified = now }))) ≡ done m' → Found m p bytes now m'
     by_kind r Folder is h = absurd (cc)
     by_kind r File is h = written m m' p r.number (record r.node { bytes = bytes; modified = now }) m.next is (left_by _ h)
 
-    by_folder : (f : Result Resource FsError) → (f >>= λ _. done (added m p (new_file bytes now))) ≡ done m' → Found m p bytes m'
+    by_folder : (f : Result Resource FsError) → (f >>= λ _. done (added m p (new_file bytes now))) ≡ done m' → Found m p bytes now m'
     by_folder (Ok r) h = written m m' p m.next (new_file bytes now) (m.next + 1) refl (left_by _ h)
     by_folder (Err e) h = absurd (cc)
 
-    by : (o : Option Resource) → put_at m p bytes now o ≡ done m' → Found m p bytes m'
+    by : (o : Option Resource) → put_at m p bytes now o ≡ done m' → Found m p bytes now m'
     by (Some r) h = by_kind r r.node.kind refl h
     by None h = by_folder (find_folder m (parent p)) h
 
@@ -77,6 +79,7 @@ put_done who s s' p bytes reply h =
       here = found.here;
       kind = found.kind;
       bytes_are = found.bytes_are;
+      modified = found.modified;
       others = found.others;
       left = rebuilt (live who.now s) s' h.1.1;
     }

@@ -16,5 +16,6 @@ pub mod Servers
 pub mod Serving
 pub mod Sessions
 pub mod TagGrammar
+pub mod TagHistories
 pub mod TaggedLists
 pub mod Targets

@@ -21,12 +21,13 @@ in_the_way s who p bytes = conflicts (live who.now s) (asking who (Command.Put p
 abbrev pub put_status : ResourceMap → Path → ℕ
 put_status m p = if has m p then 204 else 201
 
--- after it the file has the bytes; each other path has what it had; and the locks that last stand
+-- after it the file has the bytes, and was changed last at the moment; each other path has what it had; and the locks that last stand
 pub record Puts (s : State) (now : ℕ) (p : Path) (bytes : List ℕ) (s' : State) : Type 0 where
   pub file : Resource
   pub here : at_path s'.map p ≡ Some file
   pub kind : file.node.kind ≡ File
   pub bytes_are : file.node.bytes ≡ bytes
+  pub modified : file.node.modified ≡ now
   pub others : (q : Path) → q ≢ p → at_path s'.map q ≡ at_path s.map q
   pub left : s' ≡ record (live now s) { map = s'.map }
 

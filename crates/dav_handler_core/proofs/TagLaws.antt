@@ -1,0 +1,176 @@
+-- Files over a run of a server: each one stood there before with its bytes, or was changed since; so equal tags have equal bytes.
+use Rattle.std.proofs.Common.{◌≡◌, ◌⊎◌, inl, inr, ℕ, ◌<◌, ◌≤◌, List, [], ◌∷◌, length, Option, Some, Result, Ok, Err, refl, sym, ◌∙◌, ap, subst, arith}
+use Rattle.std.specs.Prelude.{OnErr}
+use Rattle.std.specs.FinMap.{get, empty, get-empty}
+use Rattle.http.specs.declared.request.Request.{Request}
+use Rattle.http.specs.Request.{body_of}
+use Rattle.http_server.specs.declared.response.Response.{Response}
+use Rattle.http_server.specs.Exchange.{Call, Chain}
+use Rattle.http_frames.specs.Clients.{Turn}
+use Rattle.dav_path_core.specs.declared.util.DavMethod.{DavMethod}
+use Rattle.dav_path_core.specs.declared.util.DavMethod.TheVariants as method
+use Rattle.dav_path_core.specs.Fronts.{Path, path_cmp}
+use Rattle.dav_path_core.specs.Segments.{segments}
+use Rattle.dav_path_core.proofs.lists.FinMaps.{dec, inserted, one_some, none_some}
+use Rattle.dav_path_core.proofs.lists.Orders.{path_total, path_exact}
+use Rattle.dav_files_core.specs.declared.memfs.Kind.TheVariants.{Folder, File}
+use Rattle.dav_files_core.specs.Outcomes.{new_folder, start}
+use Rattle.dav_files_core.specs.Resources.{Resource, ResourceMap, at_path}
+use Rattle.dav_resource_core.specs.Step.{State}
+use Rattle.dav_handler_core.specs.declared.faults.Fault.{Fault}
+use Rattle.dav_handler_core.specs.Answers.{Answers, AnswersTo, Server}
+use Rattle.dav_handler_core.specs.Callers.{SameLive}
+use Rattle.dav_handler_core.specs.Putting.{Puts}
+use Rattle.dav_handler_core.specs.Serving.{Leads}
+use Rattle.dav_handler_core.specs.TagHistories.{HasFile, HasNoFiles, MomentsTell, TagsTell, Becomes}
+use Rattle.dav_handler_core.specs.TagHistories.Becomes.{itself, by_clock, by_answer}
+use Rattle.dav_handler_core.proofs.FileTagLemmas.{tells}
+
+-- ---- one answer
+
+-- the map has a file with these bytes that was changed last at this moment
+abbrev Had : ResourceMap → ℕ → List ℕ → Type 0
+Had m modified bytes = (old : Resource) × HasFile m old × (old.node.modified ≡ modified) × (old.node.bytes ≡ bytes)
+
+-- Each file after it stood there before with its bytes, or is new. The last moment is that of a new file, and later than any before; all new files
+-- have the same bytes.
+record Dates (before after : Server) : Type 0 where
+  bytes : List ℕ
+  moments : before.last ≤ after.last
+  files : (file : Resource) → HasFile after.state.map file
+      → Had before.state.map file.node.modified file.node.bytes ⊎ ((before.last < after.last) × (file.node.modified ≡ after.last) × (file.node.bytes ≡ bytes))
+
+same_map : (before after : Server) → before.last ≤ after.last → after.state.map ≡ before.state.map → Dates before after
+same_map before after later same = record {
+  bytes = [];
+  moments = later;
+  files = λ file has. inl (file, subst (λ m. HasFile m file) same has, refl, refl);
+}
+
+put_dates : (before after : Server) (p : Path) (bytes : List ℕ) → before.last < after.last → Puts before.state after.last p bytes after.state → Dates before after
+put_dates before after p bytes later h = record {
+  bytes = bytes;
+  moments = omega arith;
+  files = λ file has. elim (dec path_total path_exact has.0 p) [
+    | inl here ↦
+        let is = one_some (at_path after.state.map p) file h.file (subst (λ q. at_path after.state.map q ≡ Some file) here has.1) h.here in
+        inr (later, ap (λ (r : Resource). r.node.modified) is ∙ h.modified, ap (λ (r : Resource). r.node.bytes) is ∙ h.bytes_are)
+    | inr apart ↦ inl (file, (has.0, sym (h.others has.0 apart) ∙ has.1, has.2), refl, refl)
+  ];
+}
+
+live_map : (now : ℕ) (s s' : State) → SameLive now s s' → s'.map ≡ s.map
+live_map now s s' h = ap (λ (s : State). s.map) h
+
+method_dates : (m : Option DavMethod) (before after : Server) (request : Request (List ℕ)) (result : Result ℕ Fault) (body : List ℕ) → before.last ≤ after.last
+    → AnswersTo m before request result body after → OnErr result (SameLive after.last before.state after.state) → Dates before after
+method_dates (Some method.Get) before after request result body later h refused =
+    same_map before after later (live_map after.last before.state after.state h.1)
+method_dates (Some method.Head) before after request result body later h refused =
+    same_map before after later (live_map after.last before.state after.state h.1)
+method_dates (Some method.Put) before after request (Ok status) body later h refused =
+    put_dates before after (segments h.2.0.bytes) (body_of request) h.2.2 h.2.4
+method_dates (Some method.Put) before after request (Err e) body later h refused =
+    same_map before after later (live_map after.last before.state after.state refused)
+method_dates (Some method.Options) before after request (Ok status) body later h refused = same_map before after later (ap (λ (s : State). s.map) h.1)
+method_dates (Some method.Options) before after request (Err e) body later h refused = same_map before after later (ap (λ (s : State). s.map) h.1)
+method_dates _ before after request result body later h refused = same_map before after later (ap (λ (s : State). s.map) h.1)
+
+answer_dates : (before after : Server) (request : Request (List ℕ)) (response : Response) → Answers before request response after → Dates before after
+answer_dates before after request response h =
+    method_dates h.method before after request h.result response.body.items h.moves.moments h.done h.refused
+
+clock_dates : (s : Server) (now : ℕ) → Dates s (record s { clock = now })
+clock_dates s now = same_map s (record s { clock = now }) (omega arith) refl
+
+-- ---- moments go on to tell
+
+pub begins : (s : Server) → HasNoFiles s.state.map → MomentsTell s
+begins s none = record {
+  none_later = λ file has. absurd (none file has);
+  same_bytes = λ file other has also same. absurd (none file has);
+}
+
+dates_tell : (before after : Server) → MomentsTell before → Dates before after → MomentsTell after
+dates_tell before after tell h = record {
+  none_later = λ file has. elim (h.files file has) [
+    | inl had ↦ omega (arith, tell.none_later had.0 had.1, had.2, h.moments)
+    | inr new ↦ omega (arith, new.1)
+  ];
+  same_bytes = λ file other has also same. elim (h.files file has) [
+    | inl had ↦ elim (h.files other also) [
+      | inl had_other ↦
+          sym had.3 ∙ tell.same_bytes had.0 had_other.0 had.1 had_other.1 (had.2 ∙ same ∙ sym had_other.2) ∙ had_other.3
+      | inr new ↦ absurd (omega (arith, tell.none_later had.0 had.1, had.2, new.0, new.1, same))
+    ]
+    | inr new ↦ elim (h.files other also) [
+      | inl had ↦ absurd (omega (arith, tell.none_later had.0 had.1, had.2, new.0, new.1, same))
+      | inr new_other ↦ new.2 ∙ sym new_other.2
+    ]
+  ];
+}
+
+pub goes_on : (s s' : Server) → MomentsTell s → Becomes s s' → MomentsTell s'
+goes_on s s' tell itself = tell
+goes_on s s' tell (by_clock mid now h) = dates_tell mid (record mid { clock = now }) (goes_on s mid tell h) (clock_dates mid now)
+goes_on s s' tell (by_answer mid after request response h answer) =
+    dates_tell mid after (goes_on s mid tell h) (answer_dates mid after request response answer)
+
+-- ---- over a run
+
+-- each file of the later server stood in the earlier one with its bytes, or was changed since
+record Since (s s' : Server) : Type 0 where
+  moments : s.last ≤ s'.last
+  files : (file : Resource) → HasFile s'.state.map file → Had s.state.map file.node.modified file.node.bytes ⊎ (s.last < file.node.modified)
+
+since_more : (s mid after : Server) → Since s mid → Dates mid after → Since s after
+since_more s mid after x h = record {
+  moments = omega (arith, x.moments, h.moments);
+  files = λ file has. elim (h.files file has) [
+    | inl had ↦ elim (x.files had.0 had.1) [
+      | inl old ↦ inl (old.0, old.1, old.2 ∙ had.2, old.3 ∙ had.3)
+      | inr later ↦ inr (subst (λ n. s.last < n) had.2 later)
+    ]
+    | inr new ↦ inr (omega (arith, x.moments, new.0, new.1))
+  ];
+}
+
+since : (s s' : Server) → Becomes s s' → Since s s'
+since s s' itself = record { moments = omega arith; files = λ file has. inl (file, has, refl, refl) }
+since s s' (by_clock mid now h) = since_more s mid (record mid { clock = now }) (since s mid h) (clock_dates mid now)
+since s s' (by_answer mid after request response h answer) =
+    since_more s mid after (since s mid h) (answer_dates mid after request response answer)
+
+tags_tell : (s s' : Server) → MomentsTell s → Becomes s s' → TagsTell s s'
+tags_tell s s' tell h file other has also fits fits_other same =
+    let numbers = tells file.node.modified (length file.node.bytes) other.node.modified (length other.node.bytes) fits.0 fits.1 fits_other.0 fits_other.1 same in
+    elim ((since s s' h).files other also) [
+      | inl old ↦ tell.same_bytes file old.0 has old.1 (numbers.0 ∙ sym old.2) ∙ old.3
+      | inr later ↦ absurd (omega (arith, tell.none_later file has, numbers.0, later))
+    ]
+
+pub runs_tell : (begun s s' : Server) → HasNoFiles begun.state.map → Becomes begun s → Becomes s s' → TagsTell s s'
+runs_tell begun s s' none before after = tags_tell s s' (goes_on begun s (begins begun none) before) after
+
+-- ---- what begins and leads on
+
+pub new_stores : (now : ℕ) → HasNoFiles (start now)
+new_stores now file has = elim (inserted path_total path_exact empty [] (record { number = 1; node = new_folder now }) has.0 file has.1) [
+  | inl root ↦ let kinds : Folder ≡ File = ap (λ (r : Resource). r.node.kind) (sym root.1) ∙ has.2 in absurd (cc)
+  | inr other ↦ none_some (get empty has.0) file (get-empty path_cmp has.0) other.1
+]
+
+calls_on : (s mid s' : Server) (calls : List Call) → Becomes s mid → Chain Answers mid calls s' → Becomes s s'
+calls_on s mid s' [] h chain = subst (Becomes s) (sym chain) h
+calls_on s mid s' (c ∷ calls) h chain = calls_on s chain.0 s' calls (by_answer mid chain.0 c.0 c.1 h chain.1) chain.2
+
+pub calls_lead : (s s' : Server) (calls : List Call) → Chain Answers s calls s' → Becomes s s'
+calls_lead s s' calls chain = calls_on s s s' calls itself chain
+
+turns_on : (s mid s' : Server) (turns : List Turn) → Becomes s mid → Leads mid turns s' → Becomes s s'
+turns_on s mid s' [] h leads = subst (Becomes s) (sym leads.1) (by_clock mid leads.0 h)
+turns_on s mid s' (t ∷ turns) h leads =
+    turns_on s leads.1 s' turns (calls_on s (record mid { clock = leads.0 }) leads.1 t.made (by_clock mid leads.0 h) leads.2) leads.3
+
+pub turns_lead : (s s' : Server) (turns : List Turn) → Leads s turns s' → Becomes s s'
+turns_lead s s' turns leads = turns_on s s s' turns itself leads

@@ -1,5 +1,15 @@
+use Rattle.std.proofs.Common.{true, false, ap, ◌∙◌}
+use Rattle.dav_xml_core.specs.Optional.{◌>>=◌}
+use Rattle.dav_xml_core.specs.Reading.{content_of}
+use Rattle.dav_xml_core.specs.References.{value_of}
+use Rattle.dav_xml_core.proofs.BytesLemmas.{escaped_characters}
 use Rattle.dav_xml_core.proofs.EscapeLemmas.{text_again, value_again}
 use Rattle.dav_xml_core.proofs.davxml.writer.texts_round_trip.Goals as goal
 
 pub returns : goal.returns
-returns c = record { texts = text_again; values = value_again }
+returns c = record {
+  texts = text_again;
+  values = value_again;
+  text_bytes = λ text h. ap (λ o. o >>= content_of) (escaped_characters false text h) ∙ text_again text;
+  value_bytes = λ text h. ap (λ o. o >>= value_of) (escaped_characters true text h) ∙ value_again text;
+}

@@ -4,10 +4,12 @@ ghost use Rattle.std.specs.Fmt.{decimal};
 ghost use Rattle.std.specs.List.{list_all};
 ghost use Rattle.dav_xml_core.specs.Characters.{is_char};
 ghost use Rattle.dav_xml_core.specs.Documents as plain;
+ghost use Rattle.dav_xml_core.specs.Markup.{piece_at, Characters};
 ghost use Rattle.dav_xml_core.specs.Namespaces.{Binding, always_bound, bound, xml_namespace, xmlns_namespace};
 ghost use Rattle.dav_xml_core.specs.Readable.{is_start, HoldWritten, IsReadBack};
 ghost use Rattle.dav_xml_core.specs.Reading.{content_of, is_empty, text_in, value_in};
 ghost use Rattle.dav_xml_core.specs.References.{value_of};
+ghost use Rattle.dav_xml_core.specs.Scanning.{is_nil};
 ghost use Rattle.dav_xml_core.specs.Writing as spec;
 ghost use Rattle.dav_xml_core.specs.Views.{attribute_of, name_of, node_of, writing_of};
 
@@ -297,7 +299,8 @@ pub fn write_element(alloc: Global, nodes: &[Node]) -> Result<Vec<u8>, AllocErro
 }
 
 /// A law: what is written for a text or a value is read as the same. In `texts` and `values` it is about lists of characters, in
-/// `text_bytes` and `value_bytes` about the bytes that are written for the characters (XML 1.0 sections 2.2, 2.4 and 3.3.3).
+/// `text_bytes` and `value_bytes` about the bytes that are written for the characters, and by `pieces` a text is read up to the tag behind it
+/// (XML 1.0 sections 2.2, 2.4 and 3.3.3).
 pub fn texts_round_trip()
     ensures texts { (text : List ℕ) → content_of (flat_map (spec.escaped false) text) ≡ Some text }
     ensures values { (text : List ℕ) → value_of (flat_map (spec.escaped true) text) ≡ Some text }
@@ -305,6 +308,8 @@ pub fn texts_round_trip()
         → text_in (flat_map (spec.escaped false) (encode_utf8_all text)) ≡ Some text }
     ensures value_bytes { (text : List ℕ) → list_all is_char text ≡ true
         → value_in (flat_map (spec.escaped true) (encode_utf8_all text)) ≡ Some text }
+    ensures pieces { (text rest : List ℕ) → is_nil text ≡ false
+        → piece_at (flat_map (spec.escaped false) text ++ codes "<" ++ rest) ≡ Some (Characters (flat_map (spec.escaped false) text), codes "<" ++ rest) }
 {}
 
 /// A law (XML 1.0 section 3.1, Namespaces 1.0 sections 3 to 6): the characters that are written for an element's start and its end are read

@@ -13,6 +13,7 @@ pub mod SequenceLemmas
 pub mod StartLemmas
 pub mod StartTextLemmas
 pub mod StartedLemmas
+pub mod TagBytesLemmas
 pub mod TagLemmas
 pub mod Utf8Lemmas
 pub mod WriterLemmas

@@ -102,7 +102,7 @@ digit_char c low high =
     let d : between 48 57 c ≡ true = rw (le-leb 48 c low, le-leb c 57 high) refl in
     or_left _ (between 0x203F 0x2040 c) (or_left _ (between 0x300 0x36F c) (or_left _ (c == 0xB7) (or_right (is_name_start c || c == 45 || c == 46) (between 48 57 c) d)))
 
-numbered_name : (k : ℕ) → k < 2 ^ 64 → is_ncname (numbered k) ≡ true
+pub numbered_name : (k : ℕ) → k < 2 ^ 64 → is_ncname (numbered k) ≡ true
 numbered_name k h = all_of_get is_name_char (decimal k) (λ i lt. let d = digit_at (decimal k) i (decimal_is_IsNumeral k h).0.1 lt in digit_char _ d.0 d.1)
 
 prefix_is : (own : List ℕ) (name : Name) → is_ncname own ≡ true → is_prefix (prefix_of own name) ≡ true

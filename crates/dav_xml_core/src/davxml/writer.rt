@@ -2,11 +2,11 @@
 ghost use Rattle.std.specs.Prelude.{◌≡◌, ◌++◌, ◌∷◌, [], bytes_eq, codes, encode_utf8_all, flat_map, if◌then◌else◌, map, option_map, unwrap_or, ℕ, List, Some, true, false, IfOk, OnOk};
 ghost use Rattle.std.specs.Fmt.{decimal};
 ghost use Rattle.std.specs.List.{list_all};
-ghost use Rattle.dav_xml_core.specs.Characters.{is_char};
+ghost use Rattle.dav_xml_core.specs.Characters.{characters, is_char};
 ghost use Rattle.dav_xml_core.specs.Documents as plain;
 ghost use Rattle.dav_xml_core.specs.Markup.{piece_at, Characters};
 ghost use Rattle.dav_xml_core.specs.Namespaces.{Binding, always_bound, bound, xml_namespace, xmlns_namespace};
-ghost use Rattle.dav_xml_core.specs.Readable.{is_start, HoldWritten, IsReadBack};
+ghost use Rattle.dav_xml_core.specs.Readable.{is_start, name_bytes, attribute_bytes, HoldWritten, IsReadBack};
 ghost use Rattle.dav_xml_core.specs.Reading.{content_of, is_empty, text_in, value_in};
 ghost use Rattle.dav_xml_core.specs.References.{value_of};
 ghost use Rattle.dav_xml_core.specs.Scanning.{is_nil};
@@ -315,10 +315,17 @@ pub fn texts_round_trip()
 /// A law (XML 1.0 section 3.1, Namespaces 1.0 sections 3 to 6): the characters that are written for an element's start and its end are read
 /// as a start tag and its end tag, with the element's name and its attributes. That is so of the first element of a document
 /// (`first`), of the first element that `write_element` writes, whatever holds around it (`alone`), and of any inside these (`inside`).
+/// The bytes that are written for the start are read as these characters (XML 1.0 section 2.2).
 pub fn elements_round_trip()
     ensures first { (name : plain.Name) (attributes : List plain.Attribute) → is_start name attributes ≡ true → IsReadBack always_bound spec.in_document name attributes }
     ensures alone { (around : List Binding) (name : plain.Name) (attributes : List plain.Attribute) → bound (codes "xml") around ≡ Some xml_namespace
         → bound (codes "xmlns") around ≡ Some xmlns_namespace → is_start name attributes ≡ true → IsReadBack around spec.alone name attributes }
     ensures inside { (around : List Binding) (name : plain.Name) (attributes : List plain.Attribute) → HoldWritten around → is_start name attributes ≡ true
         → IsReadBack around [] name attributes }
+    ensures first_bytes { (name : plain.Name) (attributes : List plain.Attribute) → is_start name attributes ≡ true
+        → characters (spec.start_text spec.in_document (name_bytes name) (map attribute_bytes attributes)) ≡ Some (spec.start_text spec.in_document name attributes) }
+    ensures alone_bytes { (name : plain.Name) (attributes : List plain.Attribute) → is_start name attributes ≡ true
+        → characters (spec.start_text spec.alone (name_bytes name) (map attribute_bytes attributes)) ≡ Some (spec.start_text spec.alone name attributes) }
+    ensures inside_bytes { (name : plain.Name) (attributes : List plain.Attribute) → is_start name attributes ≡ true
+        → characters (spec.start_text [] (name_bytes name) (map attribute_bytes attributes)) ≡ Some (spec.start_text [] name attributes) }
 {}

@@ -84,7 +84,7 @@ unfolding expanded_at
 not_nil [] x e = absurd (none-some x e)
 not_nil (c ∷ text) x e = omega arith
 
-longer : (v : Bool) (xs : List ℕ) → length xs ≤ length (flat_map (escaped v) xs)
+pub longer : (v : Bool) (xs : List ℕ) → length xs ≤ length (flat_map (escaped v) xs)
 longer v [] = omega arith
 longer v (c ∷ xs) = omega (arith, longer v xs, length-append (escaped v c) (flat_map (escaped v) xs), not_nil (escaped v c ++ []) (c, []) (one v c []), length-append (escaped v c) [])
 
@@ -211,6 +211,10 @@ throughout : (k : ℕ) (v : Bool) → ((c : ℕ) → has k (escaped v c) ≡ fal
 unfolding has
 throughout k v each [] = refl
 throughout k v each (c ∷ xs) = list_any-append (λ x. x == k) (escaped v c) (flat_map (escaped v) xs) ∙ neither _ _ (each c) (throughout k v each xs)
+
+pub no_tag : (v : Bool) (text : List ℕ) → list_any (λ c. c == 60) (flat_map (escaped v) text) ≡ false
+unfolding has
+no_tag v text = throughout 60 v (no_less v) text
 
 -- ---- no `]]>` in a text
 

@@ -1,4 +1,6 @@
+pub mod BindingLemmas
 pub mod BuilderLemmas
+pub mod BytesLemmas
 pub mod DistinctLemmas
 pub mod ElementLemmas
 pub mod EscapeLemmas
@@ -8,5 +10,10 @@ pub mod ReaderLemmas
 pub mod Rows
 pub mod ScanLemmas
 pub mod SequenceLemmas
+pub mod StartLemmas
+pub mod StartTextLemmas
+pub mod StartedLemmas
+pub mod TagBytesLemmas
+pub mod TagLemmas
 pub mod Utf8Lemmas
 pub mod WriterLemmas

@@ -1,5 +1,5 @@
 -- Worked rows of the definitions, computed.
-use Rattle.std.proofs.Common.{◌≡◌, refl, ℕ, List, [], ◌∷◌, ◌++◌, None, Some}
+use Rattle.std.proofs.Common.{◌≡◌, refl, ℕ, true, false, List, [], ◌∷◌, ◌++◌, None, Some}
 use Rattle.std.specs.Prelude.{codes}
 use Rattle.std.specs.Str.{is_utf8, chars}
 use Rattle.std.specs.Char.{encode_utf8}
@@ -9,6 +9,7 @@ use Rattle.dav_xml_core.specs.Markup.{attribute_at, start_tag_at, end_tag_at, co
 use Rattle.dav_xml_core.specs.Names.{ncname_at, qname_at}
 use Rattle.dav_xml_core.specs.Namespaces.{bound, declares, may_bind, binding_of, with_binding, prefixed_name, element_name, attribute_name, attribute_of, are_distinct, started_of}
 use Rattle.dav_xml_core.specs.Reading.{started, ended, tagged, content_of, with_characters, with_cdata, nodes_of, content_nodes, document_of}
+use Rattle.dav_xml_core.specs.Readable.{is_name, is_attribute, is_start}
 use Rattle.dav_xml_core.specs.References.{referenced, expanded_at}
 use Rattle.dav_xml_core.specs.Sequences.{many, sequence}
 
@@ -150,3 +151,22 @@ overlong = refl
 not_a_char : document_of (codes "<a>" ++ 0xEF ∷ 0xBF ∷ 0xBE ∷ codes "</a>") ≡ None
 unfolding chars is_utf8 encode_utf8 document_of content_nodes after_declaration declaration_at fields_at are_fields is_version is_version_info is_utf8_declaration is_standalone nodes_of many sequence piece_at markup_at start_tag_at end_tag_at comment_at cdata_at instruction_at declared_at attribute_at characters_at qname_at ncname_at started ended tagged with_characters with_cdata content_of started_of with_binding element_name prefixed_name attribute_name attribute_of are_distinct declares bound binding_of may_bind expanded_at referenced
 not_a_char = refl
+
+-- ---- elements that could have been read
+
+could_be_read : is_start (name (codes "DAV:") (codes "href")) (record { name = name (codes "u:") (codes "a"); value = codes "<\"&" } ∷ record { name = name [] (codes "a"); value = [] } ∷ []) ≡ true
+unfolding are_distinct encode_utf8
+could_be_read = refl
+
+attribute_twice : is_start (name [] (codes "e")) (record { name = name [] (codes "a"); value = [] } ∷ record { name = name [] (codes "a"); value = [] } ∷ []) ≡ false
+unfolding are_distinct encode_utf8
+attribute_twice = refl
+
+colon_in_a_name : is_name (name [] (codes "a:b")) ≡ false
+colon_in_a_name = refl
+
+declaration : is_attribute (record { name = name [] (codes "xmlns"); value = codes "u" }) ≡ false
+declaration = refl
+
+namespace_of_declarations : is_name (name (codes "http://www.w3.org/2000/xmlns/") (codes "a")) ≡ false
+namespace_of_declarations = refl

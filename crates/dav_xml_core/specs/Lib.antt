@@ -6,6 +6,7 @@ pub mod Markup
 pub mod Names
 pub mod Namespaces
 pub mod Optional
+pub mod Readable
 pub mod Reading
 pub mod References
 pub mod Scanning

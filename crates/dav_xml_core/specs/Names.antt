@@ -1,6 +1,6 @@
 -- Names (XML 1.0 section 2.3, Namespaces 1.0 section 4).
-use Rattle.std.specs.Prelude.{ℕ, ◌==◌, ◌||◌, Bool, List, [], take, drop, Some}
-use Rattle.std.specs.List.{prefix_len}
+use Rattle.std.specs.Prelude.{ℕ, ◌==◌, ◌||◌, ◌&&◌, Bool, List, [], take, drop, Some}
+use Rattle.std.specs.List.{prefix_len, list_all}
 use Rattle.dav_xml_core.specs.Characters.{between}
 use Rattle.dav_xml_core.specs.Optional.{◌>>=◌, when, choose}
 use Rattle.dav_xml_core.specs.Scanning.{Found, begins, after_char}
@@ -23,6 +23,10 @@ unfoldable pub ncname_at : List ℕ → Found (List ℕ)
 ncname_at text =
     let len = prefix_len is_name_char text in
     when (begins is_name_start text) (take len text, drop len text)
+
+-- a whole name
+abbrev pub is_ncname : List ℕ → Bool
+is_ncname text = begins is_name_start text && list_all is_name_char text
 
 -- a name as it is written; without a prefix the prefix is empty
 pub record QName : Type 0 where

@@ -8,7 +8,7 @@ use Rattle.dav_xml_core.specs.Markup.{RawAttribute, Piece, Tag, EndTag, Characte
 use Rattle.dav_xml_core.specs.Names.{QName}
 use Rattle.dav_xml_core.specs.Namespaces.{Binding, always_bound, started_of}
 use Rattle.dav_xml_core.specs.Optional.{◌>>=◌, when, choose}
-use Rattle.dav_xml_core.specs.References.{expanded}
+use Rattle.dav_xml_core.specs.References.{expanded, value_of}
 use Rattle.dav_xml_core.specs.Scanning.{is_nil, until}
 use Rattle.dav_xml_core.specs.Sequences.{all_of}
 
@@ -74,6 +74,13 @@ tagged front name attributes empty = started front name attributes >>= λ begun.
 -- [14] CharData and references: no `]]>`
 unfoldable pub content_of : List ℕ → Option (List ℕ)
 content_of raw = when (is_none (until (codes "]]>") raw)) raw >>= expanded
+
+-- the text that bytes between tags stand for, and the value that bytes between quotes stand for
+abbrev pub text_in : List ℕ → Option (List ℕ)
+text_in bytes = characters bytes >>= content_of
+
+abbrev pub value_in : List ℕ → Option (List ℕ)
+value_in bytes = characters bytes >>= value_of
 
 -- text inside an element; outside there is only white space
 unfoldable pub with_characters : Front → List ℕ → Option Front

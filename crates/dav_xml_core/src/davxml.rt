@@ -15,4 +15,4 @@ mod writer;
 pub use documents::{Attribute, Document, Name, Node};
 pub use errors::XmlError;
 pub use reader::read;
-pub use writer::{Writer, texts_round_trip, write, write_element};
+pub use writer::{Writer, elements_round_trip, texts_round_trip, write, write_element};

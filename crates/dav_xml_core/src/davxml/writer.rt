@@ -1,9 +1,15 @@
 //! Documents written as bytes.
-ghost use Rattle.std.specs.Prelude.{◌≡◌, ◌++◌, ◌∷◌, [], bytes_eq, codes, flat_map, if◌then◌else◌, map, option_map, unwrap_or, ℕ, List, Some, true, false, IfOk, OnOk};
+ghost use Rattle.std.specs.Prelude.{◌≡◌, ◌++◌, ◌∷◌, [], bytes_eq, codes, encode_utf8_all, flat_map, if◌then◌else◌, map, option_map, unwrap_or, ℕ, List, Some, true, false, IfOk, OnOk};
 ghost use Rattle.std.specs.Fmt.{decimal};
-ghost use Rattle.dav_xml_core.specs.Namespaces.{xml_namespace};
-ghost use Rattle.dav_xml_core.specs.Reading.{content_of, is_empty};
+ghost use Rattle.std.specs.List.{list_all};
+ghost use Rattle.dav_xml_core.specs.Characters.{characters, is_char};
+ghost use Rattle.dav_xml_core.specs.Documents as plain;
+ghost use Rattle.dav_xml_core.specs.Markup.{piece_at, Characters};
+ghost use Rattle.dav_xml_core.specs.Namespaces.{Binding, always_bound, bound, xml_namespace, xmlns_namespace};
+ghost use Rattle.dav_xml_core.specs.Readable.{is_start, name_bytes, attribute_bytes, HoldWritten, IsReadBack};
+ghost use Rattle.dav_xml_core.specs.Reading.{content_of, is_empty, text_in, value_in};
 ghost use Rattle.dav_xml_core.specs.References.{value_of};
+ghost use Rattle.dav_xml_core.specs.Scanning.{is_nil};
 ghost use Rattle.dav_xml_core.specs.Writing as spec;
 ghost use Rattle.dav_xml_core.specs.Views.{attribute_of, name_of, node_of, writing_of};
 
@@ -292,8 +298,34 @@ pub fn write_element(alloc: Global, nodes: &[Node]) -> Result<Vec<u8>, AllocErro
     Ok(writer.into_bytes())
 }
 
-/// A law: what is written for a text or a value is read as the same.
+/// A law: what is written for a text or a value is read as the same. In `texts` and `values` it is about lists of characters, in
+/// `text_bytes` and `value_bytes` about the bytes that are written for the characters, and by `pieces` a text is read up to the tag behind it
+/// (XML 1.0 sections 2.2, 2.4 and 3.3.3).
 pub fn texts_round_trip()
     ensures texts { (text : List ℕ) → content_of (flat_map (spec.escaped false) text) ≡ Some text }
     ensures values { (text : List ℕ) → value_of (flat_map (spec.escaped true) text) ≡ Some text }
+    ensures text_bytes { (text : List ℕ) → list_all is_char text ≡ true
+        → text_in (flat_map (spec.escaped false) (encode_utf8_all text)) ≡ Some text }
+    ensures value_bytes { (text : List ℕ) → list_all is_char text ≡ true
+        → value_in (flat_map (spec.escaped true) (encode_utf8_all text)) ≡ Some text }
+    ensures pieces { (text rest : List ℕ) → is_nil text ≡ false
+        → piece_at (flat_map (spec.escaped false) text ++ codes "<" ++ rest) ≡ Some (Characters (flat_map (spec.escaped false) text), codes "<" ++ rest) }
+{}
+
+/// A law (XML 1.0 section 3.1, Namespaces 1.0 sections 3 to 6): the characters that are written for an element's start and its end are read
+/// as a start tag and its end tag, with the element's name and its attributes. That is so of the first element of a document
+/// (`first`), of the first element that `write_element` writes, whatever holds around it (`alone`), and of any inside these (`inside`).
+/// The bytes that are written for the start are read as these characters (XML 1.0 section 2.2).
+pub fn elements_round_trip()
+    ensures first { (name : plain.Name) (attributes : List plain.Attribute) → is_start name attributes ≡ true → IsReadBack always_bound spec.in_document name attributes }
+    ensures alone { (around : List Binding) (name : plain.Name) (attributes : List plain.Attribute) → bound (codes "xml") around ≡ Some xml_namespace
+        → bound (codes "xmlns") around ≡ Some xmlns_namespace → is_start name attributes ≡ true → IsReadBack around spec.alone name attributes }
+    ensures inside { (around : List Binding) (name : plain.Name) (attributes : List plain.Attribute) → HoldWritten around → is_start name attributes ≡ true
+        → IsReadBack around [] name attributes }
+    ensures first_bytes { (name : plain.Name) (attributes : List plain.Attribute) → is_start name attributes ≡ true
+        → characters (spec.start_text spec.in_document (name_bytes name) (map attribute_bytes attributes)) ≡ Some (spec.start_text spec.in_document name attributes) }
+    ensures alone_bytes { (name : plain.Name) (attributes : List plain.Attribute) → is_start name attributes ≡ true
+        → characters (spec.start_text spec.alone (name_bytes name) (map attribute_bytes attributes)) ≡ Some (spec.start_text spec.alone name attributes) }
+    ensures inside_bytes { (name : plain.Name) (attributes : List plain.Attribute) → is_start name attributes ≡ true
+        → characters (spec.start_text [] (name_bytes name) (map attribute_bytes attributes)) ≡ Some (spec.start_text [] name attributes) }
 {}

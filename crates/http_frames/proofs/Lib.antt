@@ -1,3 +1,4 @@
+pub mod Ending
 pub mod Places
 pub mod Sending
 pub mod Serving

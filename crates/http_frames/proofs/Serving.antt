@@ -1,10 +1,10 @@
 -- How the clients stand after one more piece.
-use Rattle.std.proofs.Common.{◌≡◌, ◌≢◌, ◌⊎◌, ℕ, ◌<◌, ◌≤◌, Bool, false, List, [], ◌∷◌, ◌++◌, Option, Some, None, unwrap_or, All, if◌then◌else◌, ◌==◌, refl, sym, ap, ◌∙◌, subst, arith, append_assoc, append-nil, inl, inr}
+use Rattle.std.proofs.Common.{◌≡◌, ◌≢◌, ◌⊎◌, ℕ, ◌<◌, ◌≤◌, Bool, false, List, [], ◌∷◌, ◌++◌, Option, Some, None, unwrap_or, All, Contains, IsTrue, IsFalse, length, if◌then◌else◌, ◌==◌, refl, sym, ap, ◌∙◌, subst, arith, append_assoc, append-nil, inl, inr}
 use Rattle.std.proofs.KnownBytes.{Appends-nil, Appends-trans}
-use Rattle.std.proofs.lemmas.Bool.{eq-eqb}
+use Rattle.std.proofs.lemmas.Bool.{eq-eqb, true≢false}
 use Rattle.std.proofs.lemmas.Bool.Decides.{eqb_tells}
 use Rattle.std.proofs.lemmas.Grind.{flat_map-append}
-use Rattle.std.proofs.lemmas.List.Elements.{All-nil, All-append, All-head, All-push, All-tail, All-weaker}
+use Rattle.std.proofs.lemmas.List.Elements.{Contains-append_left, Contains-push, All-nil, All-append, All-head, All-push, All-tail, All-weaker}
 use Rattle.std.proofs.lemmas.List.Folds.{concat-append}
 use Rattle.std.specs.Io.KnownBytes.{Appends}
 use Rattle.std.specs.List.{flat_map, concat}
@@ -52,12 +52,17 @@ module _ {A : Type 0} (part : Turn → List A) where
 
 -- ---- one connection
 
+-- the bytes of one piece more
+one_piece_more : (came : List (List ℕ)) (bytes : List ℕ) → concat (came ++ bytes ∷ []) ≡ concat came ++ bytes
+one_piece_more came bytes = concat-append came (bytes ∷ []) ∙ ap (λ (t : List ℕ). concat came ++ t) (append-nil bytes)
+
 -- a connection that goes on, and what came and went before
-record Going (k : Connection) (config : Config) (came : List ℕ) (made : List Call) (went : List (List ℕ)) : Type 0 where
+record Going (k : Connection) (config : Config) (came : List (List ℕ)) (made : List Call) (went : List (List ℕ)) : Type 0 where
   config_is : connection_config k ≡ config
   calls : (history k).calls ≡ made
   sent : (history k).sent ≡ concat went
   goes : GoesOn (history k) came went
+  unended : IsFalse (history k).ended
 
 going-new : (k : Connection) (config : Config) → connection_config k ≡ config → history k ≡ new_history → Going k config [] [] []
 going-new k config same new = record {
@@ -67,25 +72,28 @@ going-new k config same new = record {
   goes = record {
     open_is = ap (λ (h : History). h.state) new;
     received = sym (ap (λ (h : History). h.received) new);
+    unended = All-nil (λ (b : List ℕ). b ≢ []);
     full = All-nil (λ (b : List ℕ). b ≢ []);
   };
+  unended = ap (λ (h : History). h.ended) new;
 }
 
-going-on : (came : List ℕ) (went : List (List ℕ)) (h : History) → GoesOn h came went ⊎ IsOver h came went → h.state ≡ Open → GoesOn h came went
+going-on : (came : List (List ℕ)) (went : List (List ℕ)) (h : History) → GoesOn h came went ⊎ IsOver h came went → h.state ≡ Open → GoesOn h came went
 going-on came went h (inl goes) is = goes
 going-on came went h (inr over) is = absurd (over.closed is)
 
-going-at : (k : Connection) (config : Config) (came : List ℕ) (made : List Call) (went : List (List ℕ)) (s : Alone config came made went) → IsAt (Some k) config s.history
+going-at : (k : Connection) (config : Config) (came : List (List ℕ)) (made : List Call) (went : List (List ℕ)) (s : Alone config came made went) → IsAt (Some k) config s.history
     → Going k config came made went
 going-at k config came made went s at = record {
   config_is = at.0;
   calls = ap (λ (h : History). h.calls) at.1 ∙ s.calls;
   sent = ap (λ (h : History). h.sent) at.1 ∙ s.sent;
   goes = subst (λ h. GoesOn h came went) (sym at.1) (going-on came went s.history s.stands at.2);
+  unended = subst (λ (h : History). IsFalse h.ended) (sym at.1) (s.rests at.2 (subst (λ n. n ≤ config.max_pending) (sym (ap (λ (t : List ℕ). length t) s.written)) (omega arith))).0;
 }
 
 module _ {S : Type 0} (answers : S → Request (List ℕ) → Response → S → Type 0) (number : ℕ) (bytes : List ℕ) (k k' : Connection) (s s' : S) (held holds : Option (List ℕ))
-    (w : Works answers number bytes k k' s s' held holds) (config : Config) (came : List ℕ) (made : List Call) (went : List (List ℕ)) (g : Going k config came made went) where
+    (w : Works answers number bytes k k' s s' held holds) (config : Config) (came : List (List ℕ)) (made : List Call) (went : List (List ℕ)) (g : Going k config came made went) where
   same_config : connection_config k' ≡ config
   same_config = w.sends.config ∙ g.config_is
 
@@ -98,12 +106,12 @@ module _ {S : Type 0} (answers : S → Request (List ℕ) → Response → S →
   full_all : AreFull (went ++ w.sends.went)
   full_all = All-append (λ (b : List ℕ). b ≢ []) went w.sends.went g.goes.full w.sends.full
 
-  came_all : came ++ bytes ≡ (history k').received ++ w.late
+  came_all : concat (came ++ bytes ∷ []) ≡ (history k').received ++ w.late
   came_all =
-      ap (λ (t : List ℕ). came ++ t) w.bytes_are ∙ sym (append_assoc came w.taken w.late) ∙ ap (λ (t : List ℕ). (t ++ w.taken) ++ w.late) g.goes.received
+      one_piece_more came bytes ∙ ap (λ (t : List ℕ). concat came ++ t) w.bytes_are ∙ sym (append_assoc (concat came) w.taken w.late) ∙ ap (λ (t : List ℕ). (t ++ w.taken) ++ w.late) g.goes.received
       ∙ ap (λ (t : List ℕ). t ++ w.late) (sym w.received)
 
-  worked-on : (history k').state ≡ Open → Alone config (came ++ bytes) (made ++ w.sends.made) (went ++ w.sends.went)
+  worked-on : (history k').state ≡ Open → Alone config (came ++ bytes ∷ []) (made ++ w.sends.made) (went ++ w.sends.went)
   worked-on is = record {
     history = history k';
     served = subst (λ c. ∥ IsServed c (history k') ∥₁) same_config w.settles.served;
@@ -114,14 +122,21 @@ module _ {S : Type 0} (answers : S → Request (List ℕ) → Response → S →
     stands = inl (record {
       open_is = is;
       received = came_all ∙ ap (λ (t : List ℕ). (history k').received ++ t) (w.whole is) ∙ append-nil _;
+      unended = All-push (λ (b : List ℕ). b ≢ []) came bytes g.goes.unended (λ none. w.over none is);
       full = full_all;
     });
   }
 
+  ended_at : (IsTrue (history k').ended → IsTrue (history k).ended ⊎ (bytes ≡ [])) → IsFalse (history k).ended → IsTrue (history k').ended → Contains (came ++ bytes ∷ []) []
+  ended_at only unended ended = elim (only ended) [
+    | inl before ↦ absurd (true≢false (sym before ∙ unended))
+    | inr none ↦ subst (λ (b : List ℕ). Contains (came ++ bytes ∷ []) b) none (Contains-push came bytes)
+  ]
+
   told_last : (history k').sent ≡ concat (went ++ (w.sends.went ++ [] ∷ []))
   told_last = sent_all ∙ sym (append-nil _) ∙ sym (concat-append (went ++ w.sends.went) ([] ∷ [])) ∙ ap concat (append_assoc went w.sends.went ([] ∷ []))
 
-  worked-out : (history k').state ≢ Open → Alone config (came ++ bytes) (made ++ w.sends.made) (went ++ (w.sends.went ++ [] ∷ []))
+  worked-out : (history k').state ≢ Open → Alone config (came ++ bytes ∷ []) (made ++ w.sends.made) (went ++ (w.sends.went ++ [] ∷ []))
   worked-out closed = record {
     history = history k';
     served = subst (λ c. ∥ IsServed c (history k') ∥₁) same_config w.settles.served;
@@ -133,26 +148,28 @@ module _ {S : Type 0} (answers : S → Request (List ℕ) → Response → S →
       closed = closed;
       late = w.late;
       received = came_all;
+      ended = λ ended. ended_at w.ended g.unended ended;
       front = went ++ w.sends.went;
       full = full_all;
       told = sym (append_assoc went w.sends.went ([] ∷ []));
     });
   }
 
-over-still : (came : List ℕ) (went : List (List ℕ)) (h : History) (bytes : List ℕ) → GoesOn h came went ⊎ IsOver h came went → h.state ≢ Open → IsOver h (came ++ bytes) (went ++ [])
+over-still : (came : List (List ℕ)) (went : List (List ℕ)) (h : History) (bytes : List ℕ) → GoesOn h came went ⊎ IsOver h came went → h.state ≢ Open → IsOver h (came ++ bytes ∷ []) (went ++ [])
 over-still came went h bytes (inl goes) closed = absurd (closed goes.open_is)
 over-still came went h bytes (inr over) closed = record {
   closed = closed;
   late = over.late ++ bytes;
-  received = ap (λ (t : List ℕ). t ++ bytes) over.received ∙ append_assoc h.received over.late bytes;
+  received = one_piece_more came bytes ∙ ap (λ (t : List ℕ). t ++ bytes) over.received ∙ append_assoc h.received over.late bytes;
+  ended = λ ended. Contains-append_left came (bytes ∷ []) [] (over.ended ended);
   front = over.front;
   full = over.full;
   told = append-nil went ∙ over.told;
 }
 
 -- what comes later is dropped
-dropped : (config : Config) (came : List ℕ) (made : List Call) (went : List (List ℕ)) (bytes : List ℕ) (s : Alone config came made went) → s.history.state ≢ Open
-    → Alone config (came ++ bytes) (made ++ []) (went ++ [])
+dropped : (config : Config) (came : List (List ℕ)) (made : List Call) (went : List (List ℕ)) (bytes : List ℕ) (s : Alone config came made went) → s.history.state ≢ Open
+    → Alone config (came ++ bytes ∷ []) (made ++ []) (went ++ [])
 dropped config came made went bytes s closed = record {
   history = s.history;
   served = s.served;
@@ -166,10 +183,10 @@ dropped config came made went bytes s closed = record {
 -- ---- all of them
 
 -- the connection under a number is served so far, and stands so
-abbrev Stands : Option Connection → Config → List ℕ → List Call → List (List ℕ) → Type 0
+abbrev Stands : Option Connection → Config → List (List ℕ) → List Call → List (List ℕ) → Type 0
 Stands o config came made went = (s : Alone config came made went) × IsAt o config s.history
 
-stands-same : (o o' : Option Connection) (config config' : Config) (came came' : List ℕ) (made made' : List Call) (went went' : List (List ℕ)) → o' ≡ o → config' ≡ config → came' ≡ came
+stands-same : (o o' : Option Connection) (config config' : Config) (came came' : List (List ℕ)) (made made' : List Call) (went went' : List (List ℕ)) → o' ≡ o → config' ≡ config → came' ≡ came
     → made' ≡ made → went' ≡ went → Stands o config came made went → Stands o' config' came' made' went'
 stands-same o o' config config' came came' made made' went went' p q r t u x = rw (p, q, r, t, u) x
 
@@ -182,7 +199,7 @@ module _ (before after : Clients) (ts : List Turn) (t : Turn) (h : Has before ts
   another : (q : ℕ) → 0 < q → q ≤ begun after → (t.number ≡ q → ⊥) → (t.number == q) ≡ false → ServedAt after (ts ++ t ∷ []) q
   another q pos le ne test =
       stands-same (connection_at before q) (connection_at after q) (config_of before) (config_of after) (came_of q ts) (came_of q (ts ++ t ∷ [])) (made_of q ts) (made_of q (ts ++ t ∷ []))
-      (went_of q ts) (went_of q (ts ++ t ∷ [])) (others q test) same (of-other (λ t. t.came) q ts t test) (of-other (λ t. t.made) q ts t test) (of-other (λ t. t.went) q ts t test)
+      (went_of q ts) (went_of q (ts ++ t ∷ [])) (others q test) same (of-other (λ t. t.came ∷ []) q ts t test) (of-other (λ t. t.made) q ts t test) (of-other (λ t. t.went) q ts t test)
       (h.serves q pos (fewer q le (λ e. ne (sym e))))
 
   each : (q : ℕ) → 0 < q → q ≤ begun after → ServedAt after (ts ++ t ∷ []) q
@@ -199,7 +216,7 @@ module _ (before after : Clients) (ts : List Turn) (t : Turn) (h : Has before ts
     serves = each;
   }
 
-going-same : (k : Connection) (config config' : Config) (came came' : List ℕ) (made made' : List Call) (went went' : List (List ℕ)) → config' ≡ config → came' ≡ came → made' ≡ made
+going-same : (k : Connection) (config config' : Config) (came came' : List (List ℕ)) (made made' : List Call) (went went' : List (List ℕ)) → config' ≡ config → came' ≡ came → made' ≡ made
     → went' ≡ went → Going k config came made went → Going k config' came' made' went'
 going-same k config config' came came' made made' went went' p q r t x = rw (p, q, r, t) x
 
@@ -228,7 +245,7 @@ module _ (number : ℕ) (before mid : Clients) (ts : List Turn) (h : Has before 
   stood (inr x) k is =
       let itself : k ≡ x.1.connection = ap (λ (o : Option Connection). unwrap_or o k) (sym is ∙ at_itself (Some x.1.connection) x.1.puts) in
       let above : begun before < number = omega (arith, x.0) in
-      going-same k (config_of mid) (config_of mid) [] (came_of number ts) [] (made_of number ts) [] (went_of number ts) refl (of-none (λ t. t.came) number (begun before) ts above h.numbers)
+      going-same k (config_of mid) (config_of mid) [] (came_of number ts) [] (made_of number ts) [] (went_of number ts) refl (of-none (λ t. t.came ∷ []) number (begun before) ts above h.numbers)
       (of-none (λ t. t.made) number (begun before) ts above h.numbers) (of-none (λ t. t.went) number (begun before) ts above h.numbers)
       (going-new k (config_of mid) (ap connection_config itself ∙ x.1.config ∙ sym same) (ap history itself ∙ x.1.new))
 
@@ -261,9 +278,9 @@ module _ {S : Type 0} (answers : S → Request (List ℕ) → Response → S →
         wrote = subst (λ o. Appends held o []) (sym x.2) (Appends-nil held);
         keeps = keeps-with t refl (λ q test. ap (λ (c : Clients). connection_at c q) x.0) (λ ts h.
             let it = gone number before mid ts h same begins none in
-            stands-same None (connection_at after number) (config_of mid) (config_of after) (came_of number ts ++ bytes) (came_of number (ts ++ t ∷ [])) (made_of number ts ++ [])
+            stands-same None (connection_at after number) (config_of mid) (config_of after) (came_of number ts ++ bytes ∷ []) (came_of number (ts ++ t ∷ [])) (made_of number ts ++ [])
             (made_of number (ts ++ t ∷ [])) (went_of number ts ++ []) (went_of number (ts ++ t ∷ [])) (ap (λ (c : Clients). connection_at c number) x.0 ∙ none) same_config
-            (of-same (λ t. t.came) number ts t refl) (of-same (λ t. t.made) number ts t refl) (of-same (λ t. t.went) number ts t refl)
+            (of-same (λ t. t.came ∷ []) number ts t refl) (of-same (λ t. t.made) number ts t refl) (of-same (λ t. t.went) number ts t refl)
             (dropped (config_of mid) (came_of number ts) (made_of number ts) (went_of number ts) bytes it.0 it.1, it.1));
       }
 
@@ -287,9 +304,9 @@ module _ {S : Type 0} (answers : S → Request (List ℕ) → Response → S →
           wrote = subst (λ o. Appends held o (turn_text t)) (sym x.2) sends.wrote;
           keeps = keeps-with t refl (elsewhere (Some w.new) x.1) (λ ts h.
               let g = stood number before mid ts h same begins k some in
-              stands-same (Some w.new) (connection_at after number) (config_of mid) (config_of after) (came_of number ts ++ bytes) (came_of number (ts ++ t ∷ [])) (made_of number ts ++ sends.made)
+              stands-same (Some w.new) (connection_at after number) (config_of mid) (config_of after) (came_of number ts ++ bytes ∷ []) (came_of number (ts ++ t ∷ [])) (made_of number ts ++ sends.made)
               (made_of number (ts ++ t ∷ [])) (went_of number ts ++ sends.went) (went_of number (ts ++ t ∷ [])) (itself (Some w.new) x.1) same_config
-              (of-same (λ t. t.came) number ts t refl) (of-same (λ t. t.made) number ts t refl) (of-same (λ t. t.went) number ts t refl) (
+              (of-same (λ t. t.came ∷ []) number ts t refl) (of-same (λ t. t.made) number ts t refl) (of-same (λ t. t.went) number ts t refl) (
                 worked-on answers number bytes k w.new s s' held w.between w.works (config_of mid) (came_of number ts) (made_of number ts) (went_of number ts) g x.0,
                 (sends.config ∙ g.config_is, refl, x.0),
               ));
@@ -309,9 +326,9 @@ module _ {S : Type 0} (answers : S → Request (List ℕ) → Response → S →
               (Appends-trans held w.between holds (flat_map (piece_text number) sends.went) (piece_text number []) sends.wrote x.2);
           keeps = keeps-with t refl (elsewhere None x.1) (λ ts h.
               let g = stood number before mid ts h same begins k some in
-              stands-same None (connection_at after number) (config_of mid) (config_of after) (came_of number ts ++ bytes) (came_of number (ts ++ t ∷ [])) (made_of number ts ++ sends.made)
+              stands-same None (connection_at after number) (config_of mid) (config_of after) (came_of number ts ++ bytes ∷ []) (came_of number (ts ++ t ∷ [])) (made_of number ts ++ sends.made)
               (made_of number (ts ++ t ∷ [])) (went_of number ts ++ (sends.went ++ [] ∷ [])) (went_of number (ts ++ t ∷ [])) (itself None x.1) same_config
-              (of-same (λ t. t.came) number ts t refl) (of-same (λ t. t.made) number ts t refl) (of-same (λ t. t.went) number ts t refl)
+              (of-same (λ t. t.came ∷ []) number ts t refl) (of-same (λ t. t.made) number ts t refl) (of-same (λ t. t.went) number ts t refl)
               (worked-out answers number bytes k w.new s s' held w.between w.works (config_of mid) (came_of number ts) (made_of number ts) (went_of number ts) g x.0, x.0));
         }
 

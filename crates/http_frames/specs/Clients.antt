@@ -1,5 +1,5 @@
 -- Many connections of one server, each served as if it were alone (own).
-use Rattle.std.specs.Prelude.{◌≡◌, ◌≢◌, ◌⊎◌, ℕ, ◌<◌, ◌≤◌, List, [], ◌∷◌, ◌++◌, Option, Some, None, All, if◌then◌else◌, ◌==◌}
+use Rattle.std.specs.Prelude.{◌≡◌, ◌≢◌, ◌⊎◌, ℕ, ◌<◌, ◌≤◌, List, [], ◌∷◌, ◌++◌, Option, Some, None, All, Contains, IsTrue, if◌then◌else◌, ◌==◌}
 use Rattle.std.specs.List.{flat_map, concat}
 use Rattle.std.specs.Io.KnownBytes.{Appends}
 use Rattle.std.specs.Map.{lookup}
@@ -27,9 +27,9 @@ pub record Turn : Type 0 where
 abbrev pub of : {A : Type 0} → (Turn → List A) → ℕ → List Turn → List A
 of part number turns = flat_map (λ t. if t.number == number then part t else []) turns
 
--- the bytes that came of a connection, the calls that it made, and the pieces that went out to it
-abbrev pub came_of : ℕ → List Turn → List ℕ
-came_of = of (λ t. t.came)
+-- the pieces that came of a connection, the calls that it made, and the pieces that went out to it
+abbrev pub came_of : ℕ → List Turn → List (List ℕ)
+came_of = of (λ t. t.came ∷ [])
 
 abbrev pub made_of : ℕ → List Turn → List Call
 made_of = of (λ t. t.made)
@@ -46,23 +46,25 @@ turn_text t = flat_map (piece_text t.number) t.went
 abbrev pub AreFull : List (List ℕ) → Type 0
 AreFull pieces = All (λ b. b ≢ []) pieces
 
--- it goes on: all that came was received, and it was not told to be closed
-pub record GoesOn (h : History) (came : List ℕ) (went : List (List ℕ)) : Type 0 where
+-- it goes on: all that came was received, its client did not say that it will send no more, and it was not told to be closed
+pub record GoesOn (h : History) (came went : List (List ℕ)) : Type 0 where
   pub open_is : h.state ≡ Open
-  pub received : came ≡ h.received
+  pub received : concat came ≡ h.received
+  pub unended : AreFull came
   pub full : AreFull went
 
--- it is done: that was told, once and last, by a piece without bytes; what came later was dropped
-pub record IsOver (h : History) (came : List ℕ) (went : List (List ℕ)) : Type 0 where
+-- it is done: that was told, once and last, by a piece without bytes; what came later was dropped. Its input has ended only where its client said so.
+pub record IsOver (h : History) (came went : List (List ℕ)) : Type 0 where
   pub closed : h.state ≢ Open
   pub late : List ℕ
-  pub received : came ≡ h.received ++ late
+  pub received : concat came ≡ h.received ++ late
+  pub ended : IsTrue h.ended → Contains came []
   pub front : List (List ℕ)
   pub full : AreFull front
   pub told : went ≡ front ++ [] ∷ []
 
 -- One connection, as if it were alone: its history answers the requests that its bytes spell, one after another, and nothing of it waits.
-pub record Alone (config : Config) (came : List ℕ) (made : List Call) (went : List (List ℕ)) : Type 0 where
+pub record Alone (config : Config) (came : List (List ℕ)) (made : List Call) (went : List (List ℕ)) : Type 0 where
   pub history : History
   pub served : ∥ IsServed config history ∥₁
   pub rests : Rests config history

@@ -1,5 +1,5 @@
 -- What the steps do of which the taking of a piece is made.
-use Rattle.std.specs.Prelude.{◌≡◌, ◌≢◌, ◌⊎◌, ℕ, ◌<◌, ◌≤◌, ◌+◌, List, [], ◌++◌, length, take, Option, Some, None, if◌then◌else◌, ◌==◌}
+use Rattle.std.specs.Prelude.{◌≡◌, ◌≢◌, ◌⊎◌, ℕ, ◌<◌, ◌≤◌, ◌+◌, List, [], ◌++◌, length, take, Option, Some, None, IsTrue, if◌then◌else◌, ◌==◌}
 use Rattle.std.specs.List.{flat_map, concat}
 use Rattle.std.specs.Io.KnownBytes.{Appends}
 use Rattle.http.specs.declared.request.Request.{Request}
@@ -22,6 +22,12 @@ pub record AddsPiece (number : ℕ) (k : Connection) (count : ℕ) (held holds :
   pub wrote : count ≢ 0 → Appends held holds (piece_text number (take count (history k).pending))
   pub none : count ≡ 0 → Appends held holds []
 
+-- nothing waits any more
+pub record Settles (k : Connection) : Type 0 where
+  pub served : ∥ IsServed (connection_config k) (history k) ∥₁
+  pub rests : Rests (connection_config k) (history k)
+  pub written : (history k).pending ≡ []
+
 module _ {S : Type 0} (answers : S → Request (List ℕ) → Response → S → Type 0) (number : ℕ) where
   -- answers were made, and written in pieces
   pub record Sends (k k' : Connection) (s s' : S) (held holds : Option (List ℕ)) : Type 0 where
@@ -34,17 +40,12 @@ module _ {S : Type 0} (answers : S → Request (List ℕ) → Response → S →
     pub wrote : Appends held holds (flat_map (piece_text number) went)
     pub config : connection_config k' ≡ connection_config k
 
-  -- nothing waits any more
-  pub record Settles (k : Connection) : Type 0 where
-    pub served : ∥ IsServed (connection_config k) (history k) ∥₁
-    pub rests : Rests (connection_config k) (history k)
-    pub written : (history k).pending ≡ []
-
   -- nothing was read meanwhile
   pub record HandsOut (k k' : Connection) (s s' : S) (held holds : Option (List ℕ)) : Type 0 where
     pub sends : Sends k k' s s' held holds
     pub settles : Settles k'
     pub received : (history k').received ≡ (history k).received
+    pub ended : (history k').ended ≡ (history k).ended
 
   -- bytes were received, all of them where the connection goes on
   pub record Works (bytes : List ℕ) (k k' : Connection) (s s' : S) (held holds : Option (List ℕ)) : Type 0 where
@@ -55,6 +56,9 @@ module _ {S : Type 0} (answers : S → Request (List ℕ) → Response → S →
     pub bytes_are : bytes ≡ taken ++ late
     pub received : (history k').received ≡ (history k).received ++ taken
     pub whole : (history k').state ≡ Open → late ≡ []
+    -- no bytes are the end of its input, and nothing else is
+    pub over : bytes ≡ [] → (history k').state ≢ Open
+    pub ended : IsTrue (history k').ended → IsTrue (history k).ended ⊎ (bytes ≡ [])
 
 -- ---- among the others
 

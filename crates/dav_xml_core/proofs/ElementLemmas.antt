@@ -53,9 +53,9 @@ pushed nodes text m node rest begins =
     ap is_element (append_assoc (nodes ++ text_nodes text) (node ∷ []) rest ∙ append_assoc nodes (text_nodes text) (node ∷ rest))
     ∙ begins (text_nodes text ++ node ∷ rest) ∙ text_inside m text (node ∷ rest)
 
-some_pushed : (nodes : List Node) (node : Node) → is_empty (nodes ++ node ∷ []) ≡ false
-some_pushed [] node = refl
-some_pushed (x ∷ nodes) node = refl
+pub some_pushed : {A : Type 0} (xs : List A) (x : A) → is_empty (xs ++ x ∷ []) ≡ false
+some_pushed [] x = refl
+some_pushed (y ∷ xs) x = refl
 
 longer : {A : Type 0} (xs : List A) (x : A) → length (xs ++ x ∷ []) ≡ suc (length xs)
 longer xs x = length-append xs (x ∷ []) ∙ omega arith
@@ -106,11 +106,11 @@ text_keeps nodes text more (x ∷ elements) (inr inside) h = inr (record { begin
 
 -- ---- pieces
 
-bind_some : {A B : Type 0} (o : Option A) (f : A → Option B) (y : B) → (o >>= f) ≡ Some y → (x : A) × (o ≡ Some x) × (f x ≡ Some y)
+pub bind_some : {A B : Type 0} (o : Option A) (f : A → Option B) (y : B) → (o >>= f) ≡ Some y → (x : A) × (o ≡ Some x) × (f x ≡ Some y)
 bind_some None f y e = absurd (none-some y e)
 bind_some (Some x) f y e = (x, refl, e)
 
-when_some : {A : Type 0} (b : Bool) (x y : A) → when b x ≡ Some y → (b ≡ true) × (x ≡ y)
+pub when_some : {A : Type 0} (b : Bool) (x y : A) → when b x ≡ Some y → (b ≡ true) × (x ≡ y)
 when_some false x y e = absurd (none-some y e)
 when_some true x y e = (refl, same_Some x y e)
 
@@ -131,7 +131,7 @@ moved front more e state = subst IsFront e state
 abbrev some_front : Front → Option Front
 some_front front = Some front
 
-abbrev after : Front → QName → List Binding → Started → Front
+abbrev pub after : Front → QName → List Binding → Started → Front
 after front name around start = record {
   nodes = front.nodes ++ text_nodes front.text ++ Start start.name start.attributes ∷ [];
   text = [];

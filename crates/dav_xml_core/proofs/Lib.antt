@@ -6,6 +6,9 @@ pub mod ElementLemmas
 pub mod EscapeLemmas
 pub mod Fronts
 pub mod GivesLemmas
+pub mod NodesLemmas
+pub mod PlaceLemmas
+pub mod ProductionLemmas
 pub mod ReaderLemmas
 pub mod Rows
 pub mod ScanLemmas
@@ -17,3 +20,4 @@ pub mod TagBytesLemmas
 pub mod TagLemmas
 pub mod Utf8Lemmas
 pub mod WriterLemmas
+pub mod WrittenLemmas

@@ -27,7 +27,7 @@ named namespace local = record { namespace = namespace; local = local }
 some_name : Name → Option Name
 some_name name = Some name
 
-is_nil_is : (text : List ℕ) → is_nil text ≡ true → text ≡ []
+pub is_nil_is : (text : List ℕ) → is_nil text ≡ true → text ≡ []
 is_nil_is [] h = refl
 is_nil_is (c ∷ text) h = absurd (false≢true h)
 

@@ -105,7 +105,7 @@ digit_char c low high =
 pub numbered_name : (k : ℕ) → k < 2 ^ 64 → is_ncname (numbered k) ≡ true
 numbered_name k h = all_of_get is_name_char (decimal k) (λ i lt. let d = digit_at (decimal k) i (decimal_is_IsNumeral k h).0.1 lt in digit_char _ d.0 d.1)
 
-prefix_is : (own : List ℕ) (name : Name) → is_ncname own ≡ true → is_prefix (prefix_of own name) ≡ true
+pub prefix_is : (own : List ℕ) (name : Name) → is_ncname own ≡ true → is_prefix (prefix_of own name) ≡ true
 prefix_is own name h = go (is_nil name.namespace) (bytes_eq name.namespace dav_namespace) (bytes_eq name.namespace xml_namespace)
   where
     go : (a b d : Bool) → is_prefix (cond a [] (cond b (codes "D") (cond d (codes "xml") own))) ≡ true
@@ -116,7 +116,7 @@ prefix_is own name h = go (is_nil name.namespace) (bytes_eq name.namespace dav_n
 
 -- ---- the text of a start tag
 
-tag_name_is : (own : List ℕ) (name : Name) → IsOwn own → tag_name own name ≡ spelled (prefix_of own name) name.local
+pub tag_name_is : (own : List ℕ) (name : Name) → IsOwn own → tag_name own name ≡ spelled (prefix_of own name) name.local
 unfolding tag_name
 tag_name_is own name is = ap (λ (o : List ℕ). tag_name o name) is.1 ∙ go (is_nil name.namespace) (bytes_eq name.namespace dav_namespace) (bytes_eq name.namespace xml_namespace) ∙ ap (λ (o : List ℕ). spelled (prefix_of o name) name.local) (sym is.1)
   where
@@ -193,7 +193,7 @@ raw_append : (raws more : List RawAttribute) → AllRaw raws → AllRaw more →
 raw_append [] more h i = i
 raw_append (raw ∷ raws) more h i = (h.0, raw_append raws more h.1 i)
 
-name_local : (name : Name) → is_name name ≡ true → is_ncname name.local ≡ true
+pub name_local : (name : Name) → is_name name ≡ true → is_ncname name.local ≡ true
 name_local name h =
     (and_parts (is_ncname name.local) (list_all is_char name.namespace)
     (and_parts (is_ncname name.local && list_all is_char name.namespace) (not (bytes_eq name.namespace xmlns_namespace)) h).0).0

@@ -24,11 +24,11 @@ kept_char : (c : ℕ) → is_name_char c ≡ true → is_kept c ≡ true
 kept_char c h = grind (arith, nat_tests)
 
 -- the bytes are those of the characters, which are read as they are
-record Spells (bytes text : List ℕ) : Type 0 where
-  is : bytes ≡ encode_utf8_all text
-  kept : list_all is_kept text ≡ true
+pub record Spells (bytes text : List ℕ) : Type 0 where
+  pub is : bytes ≡ encode_utf8_all text
+  pub kept : list_all is_kept text ≡ true
 
-both : (a b x y : List ℕ) → Spells a x → Spells b y → Spells (a ++ b) (x ++ y)
+pub both : (a b x y : List ℕ) → Spells a x → Spells b y → Spells (a ++ b) (x ++ y)
 both a b x y f g = record {
   is = ap (λ (t : List ℕ). t ++ b) f.is ∙ ap (λ (t : List ℕ). encode_utf8_all x ++ t) g.is ∙ sym (encodes-append x y);
   kept = list_all-append is_kept x y ∙ rw (f.kept, g.kept) refl;
@@ -38,7 +38,7 @@ less : Spells (codes "<") (codes "<")
 unfolding encode_utf8
 less = record { is = refl; kept = refl }
 
-greater : Spells (codes ">") (codes ">")
+pub greater : Spells (codes ">") (codes ">")
 unfolding encode_utf8
 greater = record { is = refl; kept = refl }
 
@@ -70,18 +70,18 @@ xmlns : Spells (codes " xmlns:") (codes " xmlns:")
 unfolding encode_utf8
 xmlns = record { is = refl; kept = refl }
 
-own : Spells (codes "n") (codes "n")
+pub own : Spells (codes "n") (codes "n")
 unfolding encode_utf8
 own = record { is = refl; kept = refl }
 
-none : Spells [] []
+pub none : Spells [] []
 none = record { is = refl; kept = refl }
 
-whole : Spells in_document in_document
+pub whole : Spells in_document in_document
 unfolding encode_utf8
 whole = record { is = refl; kept = refl }
 
-lone : Spells alone alone
+pub lone : Spells alone alone
 unfolding encode_utf8
 lone = record { is = refl; kept = refl }
 
@@ -116,7 +116,7 @@ same_nil (c ∷ text) = nil_bytes (c ∷ text) refl
 name_parts : (name : Name) → is_name name ≡ true → (is_ncname name.local ≡ true) × (list_all is_char name.namespace ≡ true)
 name_parts name h = and_parts (is_ncname name.local) (list_all is_char name.namespace) (and_parts (is_ncname name.local && list_all is_char name.namespace) (not (bytes_eq name.namespace xmlns_namespace)) h).0
 
-tag_bytes : (prefix : List ℕ) (name : Name) → Spells prefix prefix → is_name name ≡ true → Spells (tag_name prefix (name_bytes name)) (tag_name prefix name)
+pub tag_bytes : (prefix : List ℕ) (name : Name) → Spells prefix prefix → is_name name ≡ true → Spells (tag_name prefix (name_bytes name)) (tag_name prefix name)
 unfolding tag_name
 tag_bytes prefix name s h =
     let l : Spells (encode_utf8_all name.local) name.local = record { is = refl; kept = local_kept name.local (name_parts name h).0 } in
@@ -157,7 +157,7 @@ attributes_spell k (attribute ∷ attributes) h lt =
     let p = and_parts (is_attribute attribute) (list_all is_attribute attributes) h in
     both _ _ _ _ (attribute_spells (numbered k) attribute (both _ _ _ _ own (number k (omega arith))) p.0) (attributes_spell (suc k) attributes p.1 (omega arith))
 
-start_spells : (first : List ℕ) (name : Name) (attributes : List Attribute) → Spells first first → is_start name attributes ≡ true
+pub start_spells : (first : List ℕ) (name : Name) (attributes : List Attribute) → Spells first first → is_start name attributes ≡ true
     → Spells (start_text first (name_bytes name) (map attribute_bytes attributes)) (start_text first name attributes)
 unfolding start_text
 start_spells first name attributes s h =
@@ -167,7 +167,7 @@ start_spells first name attributes s h =
     let lt : length attributes < 2 ^ 64 = ltb-true _ _ p.1 in
     both _ _ _ _ (both _ _ _ _ (both _ _ _ _ (both _ _ _ _ (both _ _ _ _ less (tag_bytes (codes "n") name own r.0)) s) (declared_bytes (codes "n") name own r.0)) (attributes_spell 0 attributes r.1 (omega arith))) greater
 
-read_as : (bytes text : List ℕ) → Spells bytes text → characters bytes ≡ Some text
+pub read_as : (bytes text : List ℕ) → Spells bytes text → characters bytes ≡ Some text
 read_as bytes text s = ap characters s.is ∙ characters_again text s.kept
 
 pub first_characters : (name : Name) (attributes : List Attribute) → is_start name attributes ≡ true

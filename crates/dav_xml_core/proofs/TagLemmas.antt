@@ -44,7 +44,7 @@ cut_at n l rest e =
     ∙ ap (λ (t : List ℕ). both l t) (drop_front l rest)
 
 -- a character that passes a test is none that doesn't
-differs : (p : ℕ → Bool) (x k : ℕ) → p x ≡ true → p k ≡ false → (x == k) ≡ false
+pub differs : (p : ℕ → Bool) (x k : ℕ) → p x ≡ true → p k ≡ false → (x == k) ≡ false
 differs p x k h e = go (x == k) refl
   where
     go : (b : Bool) → (x == k) ≡ b → b ≡ false

@@ -6,7 +6,9 @@ pub mod Markup
 pub mod Names
 pub mod Namespaces
 pub mod Optional
+pub mod Places
 pub mod Readable
+pub mod ReadableDocuments
 pub mod Reading
 pub mod References
 pub mod Scanning

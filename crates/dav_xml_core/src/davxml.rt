@@ -15,4 +15,6 @@ mod writer;
 pub use documents::{Attribute, Document, Name, Node};
 pub use errors::XmlError;
 pub use reader::read;
-pub use writer::{Writer, elements_round_trip, texts_round_trip, write, write_element};
+pub use writer::{
+    Writer, documents_round_trip, elements_round_trip, texts_round_trip, write, write_element,
+};

@@ -1,13 +1,15 @@
 //! Documents written as bytes.
-ghost use Rattle.std.specs.Prelude.{◌≡◌, ◌++◌, ◌∷◌, [], bytes_eq, codes, encode_utf8_all, flat_map, if◌then◌else◌, map, option_map, unwrap_or, ℕ, List, Some, true, false, IfOk, OnOk};
+ghost use Rattle.std.specs.Prelude.{◌≡◌, ◌<◌, ◌^◌, ◌++◌, ◌∷◌, [], bytes_eq, codes, encode_utf8_all, flat_map, if◌then◌else◌, length, map, option_map, unwrap_or, ℕ, List, Some, true, false, IfOk, OnOk};
 ghost use Rattle.std.specs.Fmt.{decimal};
 ghost use Rattle.std.specs.List.{list_all};
 ghost use Rattle.dav_xml_core.specs.Characters.{characters, is_char};
 ghost use Rattle.dav_xml_core.specs.Documents as plain;
 ghost use Rattle.dav_xml_core.specs.Markup.{piece_at, Characters};
 ghost use Rattle.dav_xml_core.specs.Namespaces.{Binding, always_bound, bound, xml_namespace, xmlns_namespace};
+ghost use Rattle.dav_xml_core.specs.Places.{MayBegin, read_on, with_element};
 ghost use Rattle.dav_xml_core.specs.Readable.{is_start, name_bytes, attribute_bytes, HoldWritten, IsReadBack};
-ghost use Rattle.dav_xml_core.specs.Reading.{content_of, is_empty, text_in, value_in};
+ghost use Rattle.dav_xml_core.specs.ReadableDocuments.{CouldBeRead, is_readable, node_bytes};
+ghost use Rattle.dav_xml_core.specs.Reading.{Front, content_of, document_of, is_empty, nodes_of, nothing, text_in, value_in};
 ghost use Rattle.dav_xml_core.specs.References.{value_of};
 ghost use Rattle.dav_xml_core.specs.Scanning.{is_nil};
 ghost use Rattle.dav_xml_core.specs.Writing as spec;
@@ -328,4 +330,18 @@ pub fn elements_round_trip()
         → characters (spec.start_text spec.alone (name_bytes name) (map attribute_bytes attributes)) ≡ Some (spec.start_text spec.alone name attributes) }
     ensures inside_bytes { (name : plain.Name) (attributes : List plain.Attribute) → is_start name attributes ≡ true
         → characters (spec.start_text [] (name_bytes name) (map attribute_bytes attributes)) ≡ Some (spec.start_text [] name attributes) }
+{}
+
+/// A law (XML 1.0 sections 2.1 and 3, Namespaces 1.0 section 6): the bytes that `write` writes for a document that could have been read are read as the
+/// same nodes (`whole`), and each document that is read is such (`read`), if its bytes fit memory. What `write_element` writes for such nodes
+/// is read as these wherever an element may begin: what is read there and behind it is what is read behind it after a front that has them,
+/// too (`alone`, in characters, as which its bytes are read, `alone_bytes`). A document is what is read behind no front (`document`).
+pub fn documents_round_trip()
+    ensures whole { (nodes : List plain.Node) → CouldBeRead nodes → document_of (spec.written nodes) ≡ Some nodes }
+    ensures read { (bytes : List ℕ) (nodes : List plain.Node) → length bytes < 2 ^ 64 → document_of bytes ≡ Some nodes → CouldBeRead nodes }
+    ensures alone { (front : Front) (nodes : List plain.Node) (rest : List ℕ) → MayBegin front → is_readable nodes ≡ true
+        → read_on front (spec.written_alone nodes ++ rest) ≡ read_on (with_element front (map node_bytes nodes)) rest }
+    ensures alone_bytes { (nodes : List plain.Node) → is_readable nodes ≡ true
+        → characters (spec.written_alone (map node_bytes nodes)) ≡ Some (spec.written_alone nodes) }
+    ensures document { (text : List ℕ) → nodes_of text ≡ read_on nothing text }
 {}

@@ -35,7 +35,7 @@ pub xml_bytes : encode_utf8_all xml_namespace ≡ xml_namespace
 unfolding encode_utf8
 xml_bytes = refl
 
-xmlns_bytes : encode_utf8_all xmlns_namespace ≡ xmlns_namespace
+pub xmlns_bytes : encode_utf8_all xmlns_namespace ≡ xmlns_namespace
 unfolding encode_utf8
 xmlns_bytes = refl
 

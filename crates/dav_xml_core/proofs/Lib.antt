@@ -9,6 +9,9 @@ pub mod GivesLemmas
 pub mod NodesLemmas
 pub mod PlaceLemmas
 pub mod ProductionLemmas
+pub mod ReadNamesLemmas
+pub mod ReadNodesLemmas
+pub mod ReadValuesLemmas
 pub mod ReaderLemmas
 pub mod Rows
 pub mod ScanLemmas

@@ -1,34 +1,34 @@
 -- The text that is written for an element is read as its nodes.
-use Rattle.std.proofs.Common.{◌≡◌, refl, sym, ap, ◌∙◌, ℕ, zero, suc, arith, Bool, true, false, ◌&&◌, ◌||◌, not, cond, nat_eq, List, [], ◌∷◌, ◌++◌, map, take, drop, length, Option, None, Some, append_assoc, append-nil}
-use Rattle.std.specs.Prelude.{codes, flat_map, ◌==◌, encode_utf8_all}
+use Rattle.std.proofs.Common.{◌≡◌, refl, sym, ap, ◌∙◌, ℕ, suc, arith, Bool, true, false, ◌&&◌, ◌||◌, not, cond, nat_eq, List, [], ◌∷◌, ◌++◌, map, take, drop, length, Option, None, Some, append_assoc, append-nil}
+use Rattle.std.specs.Prelude.{codes, flat_map, encode_utf8_all}
 use Rattle.std.specs.List.{list_all, starts_with}
 use Rattle.std.proofs.Math.Seq.{take-append_seam}
 use Rattle.std.proofs.lemmas.Bool.{and_parts, false≢true}
 use Rattle.std.proofs.lemmas.Cmp.{nat_eq_equiv}
-use Rattle.std.proofs.lemmas.Option.{none-some, same_Some}
+use Rattle.std.proofs.lemmas.Option.{same_Some}
 use Rattle.std.proofs.lemmas.Slice.Eq.{bytes_eq-Decides}
 use Rattle.dav_xml_core.specs.Characters.{characters, is_char, is_white}
 use Rattle.dav_xml_core.specs.Declarations.{declaration_at, fields_at, are_fields, after_declaration}
 use Rattle.dav_xml_core.specs.Documents.{Name, Attribute, Node, Start, Text, End, closes}
 use Rattle.dav_xml_core.specs.Markup.{RawAttribute, Piece, Tag, EndTag, Characters, piece_at}
 use Rattle.dav_xml_core.specs.Names.{QName, is_name_start}
-use Rattle.dav_xml_core.specs.Namespaces.{Binding, Started, always_bound, with_binding, with_bindings, element_name, names_of, are_distinct, attributes_of, binding_of, declares, started_of}
+use Rattle.dav_xml_core.specs.Namespaces.{Binding, Started, with_binding, with_bindings, element_name, names_of, are_distinct, attributes_of, binding_of, declares, started_of}
 use Rattle.dav_xml_core.specs.Optional.{◌>>=◌, when, choose}
 use Rattle.dav_xml_core.specs.Places.{read_on, MayBegin, with_element}
 use Rattle.dav_xml_core.specs.Readable.{HoldWritten as Holds, IsReadBack, is_start, name_bytes, attribute_bytes}
 use Rattle.dav_xml_core.specs.ReadableDocuments.{node_bytes, is_node, are_apart, is_readable, CouldBeRead}
-use Rattle.dav_xml_core.specs.Reading.{Front, Element, nothing, is_empty, text_nodes, same_qname, started, ended, tagged, content_of, with_characters, with_piece, finished, nodes_of, without_mark, content_nodes, document_of}
+use Rattle.dav_xml_core.specs.Reading.{Front, Element, nothing, is_empty, text_nodes, same_qname, started, tagged, content_of, with_characters, with_piece, finished, nodes_of, content_nodes, document_of}
 use Rattle.dav_xml_core.specs.Scanning.{begins, is_nil}
 use Rattle.dav_xml_core.specs.Sequences.{many, sequence}
-use Rattle.dav_xml_core.specs.Writing.{escaped, declared, attributes_text, tag_name, element_prefix, start_text, in_document, alone, unwritten, with_nodes, written, written_alone}
-use Rattle.dav_xml_core.proofs.BuilderLemmas.{after_end, ended_with}
-use Rattle.dav_xml_core.proofs.ElementLemmas.{bind_some, when_some, some_pushed, after}
+use Rattle.dav_xml_core.specs.Writing.{escaped, declared, attributes_text, element_prefix, start_text, in_document, alone, unwritten, with_nodes, written, written_alone}
+use Rattle.dav_xml_core.proofs.BuilderLemmas.{ended_with}
+use Rattle.dav_xml_core.proofs.ElementLemmas.{bind_some, some_pushed, after}
 use Rattle.dav_xml_core.proofs.EscapeLemmas.{text_again}
 use Rattle.dav_xml_core.proofs.PlaceLemmas.{step_on, whole_document}
 use Rattle.dav_xml_core.proofs.StartLemmas.{is_nil_is}
 use Rattle.dav_xml_core.proofs.StartTextLemmas.{read_back_first, read_back_alone, read_back_inside, tag_name_is, prefix_is, name_local}
-use Rattle.dav_xml_core.proofs.TagBytesLemmas.{Spells, whole, lone, read_as}
-use Rattle.dav_xml_core.proofs.TagLemmas.{Starts, spelled, spelled_starts, differs, text_piece_again}
+use Rattle.dav_xml_core.proofs.TagBytesLemmas.{whole, lone, read_as}
+use Rattle.dav_xml_core.proofs.TagLemmas.{spelled_starts, differs, text_piece_again}
 use Rattle.dav_xml_core.proofs.WrittenLemmas.{end_text, text_of, written_is, start_name, is_one, whole_spells}
 
 -- ---- the bindings inside an element extend those around it

@@ -1,8 +1,8 @@
 -- What productions find in a text whose characters pass a test, and what they leave of it.
-use Rattle.std.proofs.Common.{◌≡◌, refl, sym, ap, subst, ◌∙◌, ℕ, zero, suc, ◌+◌, ◌<◌, ◌≤◌, arith, Bool, true, false, ◌&&◌, ◌||◌, not, cond, eqb, nat_eq, List, [], ◌∷◌, take, drop, length, Option, None, Some}
+use Rattle.std.proofs.Common.{◌≡◌, refl, ap, subst, ◌∙◌, ℕ, zero, suc, ◌+◌, ◌<◌, ◌≤◌, arith, Bool, true, false, ◌||◌, not, cond, nat_eq, List, [], ◌∷◌, take, drop, length, Option, None, Some}
 use Rattle.std.specs.Prelude.{codes, ◌==◌}
 use Rattle.std.specs.List.{list_all, prefix_len, starts_with}
-use Rattle.std.proofs.lemmas.Bool.{and_parts, false≢true}
+use Rattle.std.proofs.lemmas.Bool.{and_parts}
 use Rattle.std.proofs.lemmas.Option.{none-some, same_Some}
 use Rattle.dav_xml_core.specs.Characters.{is_white}
 use Rattle.dav_xml_core.specs.Markup.{RawAttribute, Piece, Tag, EndTag, Characters, CData, Aside, eq_at, quoted_at, attribute_at, tag_end, start_tag_at, end_tag_at, comment_at, cdata_at, is_xml, instruction_at, declared_at, markup_at, is_text, characters_at, piece_at}
@@ -49,7 +49,7 @@ pub record Fine (q : ℕ → Bool) (n : ℕ) (text : List ℕ) : Type 0 where
   pub short : length text ≤ n
 
 module _ (q : ℕ → Bool) (n : ℕ) where
-  first_passes : (c : ℕ) (text : List ℕ) → Fine q n (c ∷ text) → q c ≡ true
+  pub first_passes : (c : ℕ) (text : List ℕ) → Fine q n (c ∷ text) → q c ≡ true
   first_passes c text f = (and_parts (q c) (list_all q text) f.chars).0
 
   pub others_pass : (c : ℕ) (text : List ℕ) → Fine q n (c ∷ text) → Fine q n text
@@ -73,7 +73,7 @@ module _ (q : ℕ → Bool) (n : ℕ) where
       go true g = g
       go false g = f
 
-  char : (k : ℕ) (text rest : List ℕ) → Fine q n text → after_char k text ≡ Some rest → Fine q n rest
+  pub char : (k : ℕ) (text rest : List ℕ) → Fine q n text → after_char k text ≡ Some rest → Fine q n rest
   char k [] rest f h = absurd (none-some rest h)
   char k (c ∷ text) rest f h = subst (Fine q n) (when_some (c == k) text rest h).1 (others_pass c text f)
 
@@ -83,7 +83,7 @@ module _ (q : ℕ → Bool) (n : ℕ) where
   abbrev Cut : List ℕ × List ℕ → Type 0
   Cut found = (list_all q found.0 ≡ true) × Fine q n found.1
 
-  searched : (word text : List ℕ) (found : List ℕ × List ℕ) → Fine q n text → until word text ≡ Some found → Cut found
+  pub searched : (word text : List ℕ) (found : List ℕ × List ℕ) → Fine q n text → until word text ≡ Some found → Cut found
   searched word [] found f h = absurd (none-some found h)
   searched word (c ∷ text) found f h = go (starts_with nat_eq (c ∷ text) word) h (λ other. searched word text other (others_pass c text f))
     where
@@ -184,7 +184,7 @@ module _ (q : ℕ → Bool) (n : ℕ) where
       let d = bind_some (eq_at b.0.1) _ found b.2 in
       let e = bind_some (quoted_at d.0) _ found d.2 in
       let value = quoted q n d.0 e.0 (equals q n b.0.1 d.0 name.1 d.1) e.1 in
-      subst FoundAt (same_Some (record { name = b.0.0; raw = e.0.0 }, e.0.1) found e.2) ((name.0, value.0), value.1)
+      subst FoundAt {x = (record { name = b.0.0; raw = e.0.0 }, e.0.1)} (same_Some (record { name = b.0.0; raw = e.0.0 }, e.0.1) found e.2) ((name.0, value.0), value.1)
 
   end_found : (text : List ℕ) (found : Bool × List ℕ) → Fine q n text → tag_end text ≡ Some found → Fine q n found.1
   end_found text found f h = go (after_char 62 text) (λ rest e. char q n 62 text rest f e) h
@@ -196,7 +196,7 @@ module _ (q : ℕ → Bool) (n : ℕ) where
           let a = bind_some (after_mark (codes "/>") text) _ found e in
           subst (λ (x : Bool × List ℕ). Fine q n x.1) (same_Some (true, a.0) found a.2) (marked q n (codes "/>") text a.0 f a.1)
 
-  pub PieceIs : Piece → Type 0
+  unfoldable pub PieceIs : Piece → Type 0
   PieceIs (Tag name attributes empty) = (is_ncname name.local ≡ true) × Each IsFound attributes × (length attributes ≤ n)
   PieceIs (EndTag name) = Unit {0}
   PieceIs (Characters raw) = list_all q raw ≡ true

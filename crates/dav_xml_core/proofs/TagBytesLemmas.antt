@@ -102,14 +102,14 @@ number k h = record {
 value : (text : List ℕ) → list_all is_char text ≡ true → Spells (flat_map (escaped true) (encode_utf8_all text)) (flat_map (escaped true) text)
 value text h = record { is = escaped_bytes true text; kept = escaped_kept true text h }
 
-same_test : (text other : List ℕ) → encode_utf8_all other ≡ other → bytes_eq (encode_utf8_all text) other ≡ bytes_eq text other
+pub same_test : (text other : List ℕ) → encode_utf8_all other ≡ other → bytes_eq (encode_utf8_all text) other ≡ bytes_eq text other
 same_test text other e = go (bytes_eq text other) refl
   where
     go : (b : Bool) → bytes_eq text other ≡ b → bytes_eq (encode_utf8_all text) other ≡ b
     go true is = (bytes_eq-Decides (encode_utf8_all text) other).1 (ap encode_utf8_all ((bytes_eq-Decides text other).0 is) ∙ e)
     go false is = bytes_not text other e is
 
-same_nil : (text : List ℕ) → is_nil (encode_utf8_all text) ≡ is_nil text
+pub same_nil : (text : List ℕ) → is_nil (encode_utf8_all text) ≡ is_nil text
 same_nil [] = refl
 same_nil (c ∷ text) = nil_bytes (c ∷ text) refl
 

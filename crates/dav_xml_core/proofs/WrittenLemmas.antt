@@ -1,5 +1,5 @@
 -- The text that is written for the nodes of an element, and its bytes.
-use Rattle.std.proofs.Common.{◌≡◌, refl, sym, ap, ◌∙◌, ℕ, zero, suc, ◌^◌, Bool, true, false, ◌&&◌, cond, List, [], ◌∷◌, ◌++◌, map, length, append_assoc, append-nil}
+use Rattle.std.proofs.Common.{◌≡◌, refl, sym, ap, ◌∙◌, ℕ, zero, suc, ◌^◌, true, false, ◌&&◌, cond, List, [], ◌∷◌, ◌++◌, map, length, append_assoc, append-nil}
 use Rattle.std.specs.Prelude.{codes, flat_map, nat_lt, encode_utf8_all}
 use Rattle.std.specs.Char.{encode_utf8}
 use Rattle.std.specs.List.{list_all}
@@ -9,9 +9,7 @@ use Rattle.dav_xml_core.specs.Documents.{Name, Attribute, Node, Start, Text, End
 use Rattle.dav_xml_core.specs.Namespaces.{are_distinct}
 use Rattle.dav_xml_core.specs.Readable.{is_name, is_attribute, is_start, name_bytes, attribute_bytes, names_bytes}
 use Rattle.dav_xml_core.specs.ReadableDocuments.{node_bytes, is_node, are_apart, is_readable}
-use Rattle.dav_xml_core.specs.Reading.{is_empty}
-use Rattle.dav_xml_core.specs.Scanning.{is_nil}
-use Rattle.dav_xml_core.specs.Writing.{Writing, escaped, tag_name, element_prefix, start_text, unwritten, with_start, with_text, with_end, with_node, with_nodes}
+use Rattle.dav_xml_core.specs.Writing.{Writing, escaped, tag_name, element_prefix, start_text, unwritten, with_start, with_text, with_nodes}
 use Rattle.dav_xml_core.proofs.BytesLemmas.{is_kept, escaped_bytes, escaped_kept}
 use Rattle.dav_xml_core.proofs.ElementLemmas.{some_pushed}
 use Rattle.dav_xml_core.proofs.TagBytesLemmas.{Spells, both, greater, none, tag_bytes, own, start_spells}

@@ -1,5 +1,5 @@
 -- Which documents could have been read (own).
-use Rattle.std.specs.Prelude.{◌≡◌, ℕ, Bool, true, false, ◌&&◌, not, List, [], ◌∷◌, map, encode_utf8_all}
+use Rattle.std.specs.Prelude.{◌≡◌, Bool, true, false, ◌&&◌, not, List, [], ◌∷◌, map, encode_utf8_all}
 use Rattle.std.specs.List.{list_all}
 use Rattle.dav_xml_core.specs.Characters.{is_char}
 use Rattle.dav_xml_core.specs.Documents.{Node, Start, Text, End, is_element}

@@ -9,6 +9,7 @@ ghost use Rattle.dav_xml_core.specs.declared.davxml.errors.Fault.TheVariants.{Ma
 ghost use Rattle.dav_xml_core.specs.declared.davxml.errors.Halt.TheVariants as halts;
 ghost use Rattle.dav_xml_core.specs.declared.davxml.errors.XmlError.TheVariants as errors;
 ghost use Rattle.dav_xml_core.specs.Reading as spec;
+ghost use Rattle.dav_xml_core.specs.ReadableDocuments.{CouldBeRead};
 ghost use Rattle.dav_xml_core.specs.Views.{front_of, node_of};
 
 use super::builder::{Builder, new_builder};
@@ -198,6 +199,8 @@ pub fn read(alloc: Global, bytes: &[u8]) -> Result<Document, XmlError>
     ensures document { IsReadAs (λ x. map node_of x.nodes.items) result (spec.document_of bytes.now) }
     // Each element that begins ends, and they are all inside the first.
     ensures element { IfOk result (λ x. is_element (map node_of x.nodes.items) ≡ true) }
+    // So what is written for it is read again as it is.
+    ensures readable { IfOk result (λ x. CouldBeRead (map node_of x.nodes.items)) }
 {
     let text = characters(alloc, bytes)?;
     match content_nodes(alloc, &text) {

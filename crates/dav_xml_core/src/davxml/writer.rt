@@ -282,7 +282,9 @@ impl Writer {
 /// other namespace a prefix of its own, which its element declares (own). Refused for memory alone.
 #[tactic(auto, unfolding(crate::specs::Writing::written))]
 pub fn write(alloc: Global, document: &Document) -> Result<Vec<u8>, AllocError>
-    ensures { IfOk result (λ x. x.items ≡ spec.written (map node_of document.now.nodes.items)) }
+    ensures bytes { IfOk result (λ x. x.items ≡ spec.written (map node_of document.now.nodes.items)) }
+    // A document that could have been read is read again as it is.
+    ensures again { IfOk result (λ x. CouldBeRead (map node_of document.now.nodes.items) → document_of x.items ≡ Some (map node_of document.now.nodes.items)) }
 {
     let mut writer = Writer::new(alloc);
     writer.nodes(&document.nodes)?;

@@ -1,10 +1,11 @@
-use Rattle.std.proofs.Common.{◌≡◌, sym, ap, ◌∙◌, ℕ, List, map, Option, Some}
+use Rattle.std.proofs.Common.{◌≡◌, sym, ap, ◌∙◌, ℕ, ◌<◌, ◌^◌, arith, List, length, map, Option, Some}
 use Rattle.dav_xml_core.specs.Documents.{Node}
 use Rattle.dav_xml_core.specs.Optional.{◌>>=◌}
 use Rattle.dav_xml_core.specs.Reading.{document_of, content_nodes}
 use Rattle.dav_xml_core.specs.Views.{node_of}
 use Rattle.dav_xml_core.proofs.ElementLemmas.{one_element}
 use Rattle.dav_xml_core.proofs.GivesLemmas.{refused_from}
+use Rattle.dav_xml_core.proofs.ReadNodesLemmas.{read_could}
 use Rattle.dav_xml_core.proofs.davxml.reader.read.Goals as goal
 
 abbrev nodes : Option (List ℕ) → Option (List Node)
@@ -21,3 +22,10 @@ unfolding document_of
 returns-in-Ok-clause-element c =
     let whole : document_of c.args.bytes.now ≡ Some (map node_of c.in-Ok.nodes.items) = ap nodes c.in_ok-text.ensures ∙ ap content_nodes (sym c.deref.ensures.value) ∙ c.in-Ok.ensures in
     one_element c.args.bytes.now (map node_of c.in-Ok.nodes.items) whole
+
+pub returns-in-Ok-clause-readable : goal.returns-in-Ok-clause-readable
+unfolding document_of
+returns-in-Ok-clause-readable c =
+    let whole : document_of c.args.bytes.now ≡ Some (map node_of c.in-Ok.nodes.items) = ap nodes c.in_ok-text.ensures ∙ ap content_nodes (sym c.deref.ensures.value) ∙ c.in-Ok.ensures in
+    let small : length c.args.bytes.now < 2 ^ 64 = omega arith in
+    read_could c.args.bytes.now (map node_of c.in-Ok.nodes.items) small whole

@@ -6,7 +6,9 @@ pub mod ElementLemmas
 pub mod EscapeLemmas
 pub mod Fronts
 pub mod GivesLemmas
+pub mod InsideLemmas
 pub mod NodesLemmas
+pub mod OpenedLemmas
 pub mod PlaceLemmas
 pub mod ProductionLemmas
 pub mod ReadNamesLemmas

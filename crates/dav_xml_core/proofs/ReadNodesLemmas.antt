@@ -20,7 +20,7 @@ use Rattle.dav_xml_core.proofs.ElementLemmas.{bind_some, when_some, after, one_e
 use Rattle.dav_xml_core.proofs.ProductionLemmas.{Each, Fine, PieceIs, IsFound, many_found, first_passes, others_pass, white, marked, attribute_found, piece_found}
 use Rattle.dav_xml_core.proofs.ReadNamesLemmas.{AreBindings, AreFound, always_are, start_is}
 use Rattle.dav_xml_core.proofs.ReadValuesLemmas.{content_chars, characters_read}
-use Rattle.dav_xml_core.proofs.WrittenLemmas.{closes_bytes}
+use Rattle.dav_xml_core.proofs.WrittenLemmas.{element_bytes}
 
 -- ---- a front
 
@@ -232,12 +232,6 @@ module _ (n : ℕ) (small : n < 2 ^ 64) where
       let a = bind_some (characters bytes) content_nodes nodes h in
       let b = bind_some (after_declaration (without_mark a.0)) nodes_of nodes a.2 in
       nodes_are b.0 nodes (undeclared (without_mark a.0) b.0 (unmarked a.0 (characters_read n bytes a.0 short a.1)) b.1) b.2
-
-element_bytes : (nodes : List Node) → is_element (map node_bytes nodes) ≡ is_element nodes
-element_bytes [] = refl
-element_bytes (Start name attributes ∷ nodes) = closes_bytes nodes 1
-element_bytes (Text text ∷ nodes) = refl
-element_bytes (End ∷ nodes) = refl
 
 -- each document that is read could have been read, where its bytes fit memory
 pub read_could : (bytes : List ℕ) (nodes : List Node) → length bytes < 2 ^ 64 → document_of bytes ≡ Some nodes → CouldBeRead nodes

@@ -6,6 +6,7 @@ pub mod Markup
 pub mod Names
 pub mod Namespaces
 pub mod Optional
+pub mod Parts
 pub mod Places
 pub mod Readable
 pub mod ReadableDocuments

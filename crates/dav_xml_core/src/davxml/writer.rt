@@ -6,6 +6,7 @@ ghost use Rattle.dav_xml_core.specs.Characters.{characters, is_char};
 ghost use Rattle.dav_xml_core.specs.Documents as plain;
 ghost use Rattle.dav_xml_core.specs.Markup.{piece_at, Characters};
 ghost use Rattle.dav_xml_core.specs.Namespaces.{Binding, always_bound, bound, xml_namespace, xmlns_namespace};
+ghost use Rattle.dav_xml_core.specs.Parts.{Part, PartsCouldBeRead, nodes_in, written_parts};
 ghost use Rattle.dav_xml_core.specs.Places.{MayBegin, read_on, with_element};
 ghost use Rattle.dav_xml_core.specs.Readable.{is_start, name_bytes, attribute_bytes, HoldWritten, IsReadBack};
 ghost use Rattle.dav_xml_core.specs.ReadableDocuments.{CouldBeRead, is_readable, node_bytes};
@@ -346,4 +347,5 @@ pub fn documents_round_trip()
     ensures alone_bytes { (nodes : List plain.Node) → is_readable nodes ≡ true
         → characters (spec.written_alone (map node_bytes nodes)) ≡ Some (spec.written_alone nodes) }
     ensures document { (text : List ℕ) → nodes_of text ≡ read_on nothing text }
+    ensures kept { (parts : List Part) → PartsCouldBeRead parts → document_of (written_parts parts) ≡ Some (nodes_in parts) }
 {}

@@ -1,4 +1,4 @@
-use Rattle.dav_xml_core.proofs.NodesLemmas.{alone_on, alone_bytes, written_again}
+use Rattle.dav_xml_core.proofs.NodesLemmas.{alone_on, alone_bytes, parts_again, written_again}
 use Rattle.dav_xml_core.proofs.PlaceLemmas.{whole_document}
 use Rattle.dav_xml_core.proofs.ReadNodesLemmas.{read_could}
 use Rattle.dav_xml_core.proofs.davxml.writer.documents_round_trip.Goals as goal
@@ -10,4 +10,5 @@ returns c = record {
   alone = alone_on;
   alone_bytes = alone_bytes;
   document = whole_document;
+  kept = parts_again;
 }

@@ -108,14 +108,14 @@ is_kept c = is_char c && not (c == 13)
 is_scalar : (c : ℕ) → is_char c ≡ true → scalar c ≡ true
 is_scalar c h = grind (arith, nat_tests)
 
-all_scalars : (text : List ℕ) → list_all is_kept text ≡ true → scalars text ≡ true
+pub all_scalars : (text : List ℕ) → list_all is_kept text ≡ true → scalars text ≡ true
 all_scalars [] h = refl
 all_scalars (c ∷ text) h =
     let p = and_parts _ _ h in
     let q = and_parts (is_char c) (not (c == 13)) p.0 in
     rw (is_scalar c q.0, all_scalars text p.1) refl
 
-all_chars : (text : List ℕ) → list_all is_kept text ≡ true → list_all is_char text ≡ true
+pub all_chars : (text : List ℕ) → list_all is_kept text ≡ true → list_all is_char text ≡ true
 all_chars [] h = refl
 all_chars (c ∷ text) h =
     let p = and_parts _ _ h in

@@ -1,3 +1,4 @@
+pub mod AroundLemmas
 pub mod BindingLemmas
 pub mod BuilderLemmas
 pub mod BytesLemmas

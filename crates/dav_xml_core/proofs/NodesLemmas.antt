@@ -21,6 +21,7 @@ use Rattle.dav_xml_core.specs.Scanning.{begins, is_nil}
 use Rattle.dav_xml_core.specs.Sequences.{many, sequence}
 use Rattle.dav_xml_core.specs.Writing.{Writing, escaped, declared, attributes_text, element_prefix, start_text, in_document, alone, unwritten, written, written_alone}
 use Rattle.dav_xml_core.proofs.ElementLemmas.{some_pushed}
+use Rattle.dav_xml_core.proofs.AroundLemmas.{characters_around}
 use Rattle.dav_xml_core.proofs.BindingLemmas.{not_true}
 use Rattle.dav_xml_core.proofs.BytesLemmas.{is_kept}
 use Rattle.dav_xml_core.proofs.InsideLemmas.{EachKept, made, nodes_made, with_made, bytes_made, nodes_bytes, part_made, each_made, each_kept, element_closes, element_apart, not_outside}
@@ -174,9 +175,6 @@ alone_spells (Start name attributes ∷ nodes) h =
     let bytes = alone_is (map node_bytes all) ∙ ap (λ (p : List Part). (with_parts (unwritten alone) p).bytes) (sym (bytes_made all)) in
     record { is = bytes ∙ s.is ∙ ap encode_utf8_all (sym (alone_is all)); kept = ap (list_all is_kept) (alone_is all) ∙ s.kept }
 
-pub alone_bytes : (nodes : List Node) → is_readable nodes ≡ true → characters (written_alone (map node_bytes nodes)) ≡ Some (written_alone nodes)
-alone_bytes nodes h = read_as _ _ (alone_spells nodes h)
-
 alone_tag : (nodes : List Node) → is_readable nodes ≡ true → (after : List ℕ) × (written_alone nodes ≡ 60 ∷ after)
 unfolding start_text
 alone_tag [] h = absurd (false≢true h)
@@ -185,6 +183,14 @@ alone_tag (End ∷ nodes) h = absurd (false≢true h)
 alone_tag (Start name attributes ∷ nodes) h =
     let one = one_made name attributes nodes h in
     (_, alone_is (Start name attributes ∷ nodes) ∙ written_is alone name attributes (made nodes) one.closed one.are)
+
+-- and its bytes are read as its characters, between any others
+pub alone_bytes : (before behind front rest : List ℕ) (nodes : List Node) → is_readable nodes ≡ true → characters before ≡ Some front → characters behind ≡ Some rest
+    → characters (before ++ written_alone (map node_bytes nodes) ++ behind) ≡ Some (front ++ written_alone nodes ++ rest)
+alone_bytes before behind front rest nodes h i j =
+    let s = alone_spells nodes h in
+    let tag = alone_tag nodes h in
+    ap (λ (b : List ℕ). characters (before ++ b ++ behind)) s.is ∙ characters_around before behind front rest (written_alone nodes) tag.0 tag.1 s.kept i j
 
 reads_alone : (nodes : List Node) → is_readable nodes ≡ true → ReadsAlone nodes
 reads_alone nodes h = record { read = λ front rest may. alone_on front nodes rest may h; tag = alone_tag nodes h }

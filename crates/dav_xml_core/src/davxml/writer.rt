@@ -344,8 +344,8 @@ pub fn documents_round_trip()
     ensures read { (bytes : List ℕ) (nodes : List plain.Node) → length bytes < 2 ^ 64 → document_of bytes ≡ Some nodes → CouldBeRead nodes }
     ensures alone { (front : Front) (nodes : List plain.Node) (rest : List ℕ) → MayBegin front → is_readable nodes ≡ true
         → read_on front (spec.written_alone nodes ++ rest) ≡ read_on (with_element front (map node_bytes nodes)) rest }
-    ensures alone_bytes { (nodes : List plain.Node) → is_readable nodes ≡ true
-        → characters (spec.written_alone (map node_bytes nodes)) ≡ Some (spec.written_alone nodes) }
+    ensures alone_bytes { (before behind front rest : List ℕ) (nodes : List plain.Node) → is_readable nodes ≡ true → characters before ≡ Some front → characters behind ≡ Some rest
+        → characters (before ++ spec.written_alone (map node_bytes nodes) ++ behind) ≡ Some (front ++ spec.written_alone nodes ++ rest) }
     ensures document { (text : List ℕ) → nodes_of text ≡ read_on nothing text }
     ensures kept { (parts : List Part) → PartsCouldBeRead parts → document_of (written_parts parts) ≡ Some (nodes_in parts) }
 {}

@@ -10,7 +10,7 @@ use Rattle.dav_xml_core.specs.Characters.{characters, is_char, is_white}
 use Rattle.dav_xml_core.specs.Declarations.{declaration_at, fields_at, are_fields, after_declaration}
 use Rattle.dav_xml_core.specs.Documents.{Name, Attribute, Node, Start, Text, End, closes, is_element}
 use Rattle.dav_xml_core.specs.Names.{is_name_start}
-use Rattle.dav_xml_core.specs.Namespaces.{Binding}
+use Rattle.dav_xml_core.specs.Namespaces.{Binding, always_bound, bound}
 use Rattle.dav_xml_core.specs.Optional.{◌>>=◌, when, choose}
 use Rattle.dav_xml_core.specs.Parts.{Part, Made, Kept, nodes_in, with_parts, written_parts, part_bytes, is_part, are_parts, PartsCouldBeRead}
 use Rattle.dav_xml_core.specs.Places.{read_on, MayBegin, with_element}
@@ -223,16 +223,15 @@ unfolding read_on sequence many
 at_last front = refl
 
 -- a document of parts, in characters
-written_text : (name : Name) (attributes : List Attribute) (parts : List Part) → IsOne name attributes parts → EachKept ReadsAlone parts
-    → content_nodes (written_parts (begun name attributes parts)) ≡ Some (map node_bytes (Start name attributes ∷ nodes_in parts))
-unfolding written_parts
-written_text name attributes parts one each =
-    let text = written_parts (begun name attributes parts) in
-    let first = start_first in_document name attributes (text_of (name ∷ []) parts) one.start in
-    let is = written_is in_document name attributes parts one.closed one.are ∙ first.3 in
-    ap content_nodes is ∙ no_declaration first.0 first.1 first.2 ∙ ap nodes_of (sym is)
+written_text : (first : List ℕ) (name : Name) (attributes : List Attribute) (parts : List Part) → IsReadBack always_bound first name attributes → IsOne name attributes parts → EachKept ReadsAlone parts
+    → content_nodes (with_parts (unwritten first) (begun name attributes parts)).bytes ≡ Some (map node_bytes (Start name attributes ∷ nodes_in parts))
+written_text first name attributes parts back one each =
+    let text = (with_parts (unwritten first) (begun name attributes parts)).bytes in
+    let start = start_first first name attributes (text_of (name ∷ []) parts) one.start in
+    let is = written_is first name attributes parts one.closed one.are ∙ start.3 in
+    ap content_nodes is ∙ no_declaration start.0 start.1 start.2 ∙ ap nodes_of (sym is)
     ∙ whole_document text ∙ ap (read_on nothing) (sym (append-nil text))
-    ∙ element_on nothing in_document name attributes parts [] refl (read_back_first name attributes one.start) one each
+    ∙ element_on nothing first name attributes parts [] refl back one each
     ∙ at_last (with_element nothing (map node_bytes (Start name attributes ∷ nodes_in parts)))
 
 parts_document : (parts : List Part) → is_readable (nodes_in parts) ≡ true → are_parts parts ≡ true → document_of (written_parts (map part_bytes parts)) ≡ Some (map node_bytes (nodes_in parts))
@@ -244,14 +243,13 @@ parts_document (Made End ∷ parts) h are = absurd (false≢true h)
 parts_document (Made (Start name attributes) ∷ parts) h are =
     let one = is_one name attributes parts h are in
     ap (λ (o : Option (List ℕ)). o >>= content_nodes) (read_as _ _ (whole_spells in_document name attributes parts whole one (each_kept SpellsAlone alone_spells parts false are one.each one.apart)))
-    ∙ written_text name attributes parts one (each_kept ReadsAlone reads_alone parts false are one.each one.apart)
+    ∙ written_text in_document name attributes parts (read_back_first name attributes one.start) one (each_kept ReadsAlone reads_alone parts false are one.each one.apart)
 
-some_nodes : List Node → Option (List Node)
+abbrev some_nodes : List Node → Option (List Node)
 some_nodes nodes = Some nodes
 
 -- what is written of parts that could have been read is read as their nodes
 pub parts_again : (parts : List Part) → PartsCouldBeRead parts → document_of (written_parts parts) ≡ Some (nodes_in parts)
-unfolding some_nodes
 parts_again parts could =
     ap (λ (p : List Part). document_of (written_parts p)) could.bytes ∙ parts_document could.characters could.readable could.kept
     ∙ ap some_nodes (sym (nodes_bytes could.characters) ∙ ap nodes_in (sym could.bytes))
@@ -262,7 +260,7 @@ made_parts (node ∷ nodes) h = part_made nodes
 
 -- and what is written for nodes that could have been read is read as they are
 pub written_again : (nodes : List Node) → CouldBeRead nodes → document_of (written nodes) ≡ Some nodes
-unfolding some_nodes written written_parts
+unfolding written written_parts
 written_again nodes could =
     let parts : PartsCouldBeRead (made nodes) = record {
       characters = made could.characters;
@@ -271,3 +269,20 @@ written_again nodes could =
       kept = made_parts could.characters could.readable;
     } in
     ap (λ (w : Writing). document_of w.bytes) (sym (with_made nodes (unwritten in_document))) ∙ parts_again (made nodes) parts ∙ ap some_nodes (nodes_made nodes)
+
+alone_document : (nodes : List Node) → is_readable nodes ≡ true → document_of (written_alone (map node_bytes nodes)) ≡ Some (map node_bytes nodes)
+unfolding document_of bound
+alone_document [] h = absurd (false≢true h)
+alone_document (Text text ∷ nodes) h = absurd (false≢true h)
+alone_document (End ∷ nodes) h = absurd (false≢true h)
+alone_document (Start name attributes ∷ nodes) h =
+    let all = Start name attributes ∷ nodes in
+    let one = one_made name attributes nodes h in
+    ap (λ (o : Option (List ℕ)). o >>= content_nodes) (read_as _ _ (alone_spells all h)) ∙ ap content_nodes (alone_is all)
+    ∙ written_text alone name attributes (made nodes) (read_back_alone always_bound name attributes refl refl one.start) one (each_made ReadsAlone nodes)
+    ∙ ap (λ (n : List Node). some_nodes (map node_bytes (Start name attributes ∷ n))) (nodes_made nodes)
+
+-- and what is written for an element that stands alone is read by itself as it is
+pub alone_again : (nodes : List Node) → CouldBeRead nodes → document_of (written_alone nodes) ≡ Some nodes
+alone_again nodes could =
+    ap (λ (n : List Node). document_of (written_alone n)) could.bytes ∙ alone_document could.characters could.readable ∙ ap some_nodes (sym could.bytes)

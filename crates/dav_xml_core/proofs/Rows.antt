@@ -4,10 +4,13 @@ use Rattle.std.specs.Prelude.{codes}
 use Rattle.std.specs.Str.{is_utf8, chars}
 use Rattle.std.specs.Char.{encode_utf8}
 use Rattle.dav_xml_core.specs.Declarations.{is_version, is_version_info, is_utf8_declaration, is_standalone, are_fields, fields_at, declaration_at, after_declaration}
-use Rattle.dav_xml_core.specs.Documents.{Start, Text, End, Name}
+use Rattle.dav_xml_core.specs.Documents.{Node, Start, Text, End, Name}
 use Rattle.dav_xml_core.specs.Markup.{attribute_at, start_tag_at, end_tag_at, comment_at, cdata_at, instruction_at, declared_at, markup_at, characters_at, piece_at}
 use Rattle.dav_xml_core.specs.Names.{ncname_at, qname_at}
 use Rattle.dav_xml_core.specs.Namespaces.{bound, declares, may_bind, binding_of, with_binding, prefixed_name, element_name, attribute_name, attribute_of, are_distinct, started_of}
+use Rattle.dav_xml_core.specs.Parts.{Made, Kept, written_parts}
+use Rattle.dav_xml_core.specs.ReadableDocuments.{is_readable}
+use Rattle.dav_xml_core.specs.Writing.{tag_name, declared as declared_text, start_text, with_start, with_end, written_alone}
 use Rattle.dav_xml_core.specs.Reading.{started, ended, tagged, content_of, with_characters, with_cdata, nodes_of, content_nodes, document_of}
 use Rattle.dav_xml_core.specs.Readable.{is_name, is_attribute, is_start}
 use Rattle.dav_xml_core.specs.References.{referenced, expanded_at}
@@ -170,3 +173,32 @@ declaration = refl
 
 namespace_of_declarations : is_name (name (codes "http://www.w3.org/2000/xmlns/") (codes "a")) ≡ false
 namespace_of_declarations = refl
+
+-- ---- documents that could have been read
+
+one : List Node
+one = Start (name [] (codes "a")) [] ∷ Text (codes "]]>" ++ 13 ∷ 0xE9 ∷ []) ∷ Start (name (codes "DAV:") (codes "b")) [] ∷ End ∷ Text (codes "x") ∷ End ∷ []
+
+readable : is_readable one ≡ true
+unfolding one are_distinct encode_utf8
+readable = refl
+
+texts_that_meet : is_readable (Start (name [] (codes "a")) [] ∷ Text (codes "x") ∷ Text (codes "y") ∷ End ∷ []) ≡ false
+unfolding are_distinct encode_utf8
+texts_that_meet = refl
+
+empty_text : is_readable (Start (name [] (codes "a")) [] ∷ Text [] ∷ End ∷ []) ≡ false
+unfolding are_distinct encode_utf8
+empty_text = refl
+
+no_char : is_readable (Start (name [] (codes "a")) [] ∷ Text (11 ∷ []) ∷ End ∷ []) ≡ false
+unfolding are_distinct encode_utf8
+no_char = refl
+
+not_ended_yet : is_readable (Start (name [] (codes "a")) [] ∷ []) ≡ false
+unfolding are_distinct encode_utf8
+not_ended_yet = refl
+
+kept_inside : written_parts (Made (Start (name [] (codes "a")) []) ∷ Kept (Start (name [] (codes "b")) [] ∷ End ∷ []) ∷ Made End ∷ []) ≡ codes "<a xmlns:D=\"DAV:\"><b xmlns:D=\"DAV:\" xmlns=\"\"></b></a>"
+unfolding written_parts with_start with_end start_text tag_name declared_text written_alone
+kept_inside = refl

@@ -296,7 +296,9 @@ pub fn write(alloc: Global, document: &Document) -> Result<Vec<u8>, AllocError>
 /// the first element declares that there is no default namespace, either. Refused for memory alone.
 #[tactic(auto, unfolding(crate::specs::Writing::written_alone))]
 pub fn write_element(alloc: Global, nodes: &[Node]) -> Result<Vec<u8>, AllocError>
-    ensures { IfOk result (λ x. x.items ≡ spec.written_alone (map node_of nodes.now)) }
+    ensures bytes { IfOk result (λ x. x.items ≡ spec.written_alone (map node_of nodes.now)) }
+    // Nodes that could have been read are read again as they are.
+    ensures again { IfOk result (λ x. CouldBeRead (map node_of nodes.now) → document_of x.items ≡ Some (map node_of nodes.now)) }
 {
     let mut writer = Writer::alone(alloc);
     writer.nodes(nodes)?;
@@ -335,17 +337,20 @@ pub fn elements_round_trip()
         → characters (spec.start_text [] (name_bytes name) (map attribute_bytes attributes)) ≡ Some (spec.start_text [] name attributes) }
 {}
 
-/// A law (XML 1.0 sections 2.1 and 3, Namespaces 1.0 section 6): the bytes that `write` writes for a document that could have been read are read as the
-/// same nodes (`whole`), and each document that is read is such (`read`), if its bytes fit memory. What `write_element` writes for such nodes
-/// is read as these wherever an element may begin: what is read there and behind it is what is read behind it after a front that has them,
-/// too (`alone`, in characters, as which its bytes are read, `alone_bytes`). A document is what is read behind no front (`document`).
+/// A law (XML 1.0 sections 2.1 and 3, Namespaces 1.0 section 6): the bytes that `write` writes for a document that could have been read are read as
+/// its nodes (`whole`), those that `write_element` writes for it, too (`element`), and each document that is read is such, if its bytes fit memory
+/// (`read`). Where `write_element`'s bytes stand inside a document that is written, this one is read as if its nodes had been written there
+/// (`kept`). In any other document, wherever an element may begin, they are read as its nodes: what is read there and behind it is what is read behind it
+/// after a front that has the nodes, too (`alone`, in characters; a document is what is read behind no front, `document`). Their characters stand between
+/// those of the bytes before and behind (`alone_bytes`).
 pub fn documents_round_trip()
     ensures whole { (nodes : List plain.Node) → CouldBeRead nodes → document_of (spec.written nodes) ≡ Some nodes }
+    ensures element { (nodes : List plain.Node) → CouldBeRead nodes → document_of (spec.written_alone nodes) ≡ Some nodes }
     ensures read { (bytes : List ℕ) (nodes : List plain.Node) → length bytes < 2 ^ 64 → document_of bytes ≡ Some nodes → CouldBeRead nodes }
+    ensures kept { (parts : List Part) → PartsCouldBeRead parts → document_of (written_parts parts) ≡ Some (nodes_in parts) }
     ensures alone { (front : Front) (nodes : List plain.Node) (rest : List ℕ) → MayBegin front → is_readable nodes ≡ true
         → read_on front (spec.written_alone nodes ++ rest) ≡ read_on (with_element front (map node_bytes nodes)) rest }
+    ensures document { (text : List ℕ) → nodes_of text ≡ read_on nothing text }
     ensures alone_bytes { (before behind front rest : List ℕ) (nodes : List plain.Node) → is_readable nodes ≡ true → characters before ≡ Some front → characters behind ≡ Some rest
         → characters (before ++ spec.written_alone (map node_bytes nodes) ++ behind) ≡ Some (front ++ spec.written_alone nodes ++ rest) }
-    ensures document { (text : List ℕ) → nodes_of text ≡ read_on nothing text }
-    ensures kept { (parts : List Part) → PartsCouldBeRead parts → document_of (written_parts parts) ≡ Some (nodes_in parts) }
 {}

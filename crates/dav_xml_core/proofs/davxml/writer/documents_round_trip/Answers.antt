@@ -1,4 +1,4 @@
-use Rattle.dav_xml_core.proofs.NodesLemmas.{alone_on, alone_bytes, parts_again, written_again}
+use Rattle.dav_xml_core.proofs.NodesLemmas.{alone_on, alone_bytes, alone_again, parts_again, written_again}
 use Rattle.dav_xml_core.proofs.PlaceLemmas.{whole_document}
 use Rattle.dav_xml_core.proofs.ReadNodesLemmas.{read_could}
 use Rattle.dav_xml_core.proofs.davxml.writer.documents_round_trip.Goals as goal
@@ -6,9 +6,10 @@ use Rattle.dav_xml_core.proofs.davxml.writer.documents_round_trip.Goals as goal
 pub returns : goal.returns
 returns c = record {
   whole = written_again;
+  element = alone_again;
   read = read_could;
-  alone = alone_on;
-  alone_bytes = alone_bytes;
-  document = whole_document;
   kept = parts_again;
+  alone = alone_on;
+  document = whole_document;
+  alone_bytes = alone_bytes;
 }

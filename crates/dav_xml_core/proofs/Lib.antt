@@ -1,4 +1,5 @@
 pub mod AroundLemmas
+pub mod BehindLemmas
 pub mod BindingLemmas
 pub mod BuilderLemmas
 pub mod BytesLemmas

@@ -1,4 +1,5 @@
 use Rattle.dav_xml_core.proofs.NodesLemmas.{alone_on, alone_bytes, alone_again, parts_again, written_again}
+use Rattle.dav_xml_core.proofs.BehindLemmas.{piece_longer, fields_longer}
 use Rattle.dav_xml_core.proofs.PlaceLemmas.{whole_document}
 use Rattle.dav_xml_core.proofs.ReadNodesLemmas.{read_could}
 use Rattle.dav_xml_core.proofs.davxml.writer.documents_round_trip.Goals as goal

@@ -1,5 +1,5 @@
 -- What productions find in a text, they find there where a tag stands behind it.
-use Rattle.std.proofs.Common.{◌≡◌, refl, sym, ap, ◌∙◌, ℕ, zero, suc, ◌+◌, ◌<◌, ◌≤◌, arith, Bool, true, false, ◌&&◌, ◌||◌, not, cond, eqb, nat_eq, List, [], ◌∷◌, ◌++◌, take, drop, length, length-append, Option, None, Some}
+use Rattle.std.proofs.Common.{◌≡◌, refl, ap, ◌∙◌, ℕ, zero, suc, ◌+◌, ◌≤◌, arith, Bool, true, false, ◌&&◌, ◌||◌, not, cond, eqb, nat_eq, List, [], ◌∷◌, ◌++◌, take, drop, length, length-append, Option, None, Some}
 use Rattle.std.specs.Prelude.{codes, ◌==◌, option_map}
 use Rattle.std.specs.List.{list_all, prefix_len, starts_with}
 use Rattle.std.proofs.lemmas.Bool.{and_parts, false≢true}
@@ -54,8 +54,8 @@ module _ (tag : List ℕ) where
   fits (m ∷ mark) [] h = absurd (false≢true h)
   fits (m ∷ mark) (c ∷ text) h = let r = fits mark text (and_parts (eqb m c) _ h).1 in omega (arith, r)
 
-  mark_longer : (mark text : List ℕ) → IsMark mark → after_mark mark (longer text) ≡ option_map longer (after_mark mark text)
-  mark_longer mark text h = ap (λ b. when b (drop (length mark) (longer text))) (starts mark text h) ∙ go (starts_with nat_eq text mark) refl
+  mark_by : (mark text : List ℕ) → starts_with nat_eq (longer text) mark ≡ starts_with nat_eq text mark → after_mark mark (longer text) ≡ option_map longer (after_mark mark text)
+  mark_by mark text same = ap (λ b. when b (drop (length mark) (longer text))) same ∙ go (starts_with nat_eq text mark) refl
     where
       go : (b : Bool) → starts_with nat_eq text mark ≡ b → when b (drop (length mark) (longer text)) ≡ option_map longer (when b (drop (length mark) text))
       go true e = ap (λ (t : List ℕ). some t) (drop-append-le (length mark) text (60 ∷ tag) (fits mark text e))
@@ -63,6 +63,13 @@ module _ (tag : List ℕ) where
           some : List ℕ → Option (List ℕ)
           some t = Some t
       go false e = refl
+
+  mark_longer : (mark text : List ℕ) → IsMark mark → after_mark mark (longer text) ≡ option_map longer (after_mark mark text)
+  mark_longer mark text h = mark_by mark text (starts mark text h)
+
+  -- a mark that begins with `<` itself
+  pub tag_mark_longer : (mark : List ℕ) (c : ℕ) (text : List ℕ) → IsMark mark → after_mark (60 ∷ mark) (longer (c ∷ text)) ≡ option_map longer (after_mark (60 ∷ mark) (c ∷ text))
+  tag_mark_longer mark c text h = mark_by (60 ∷ mark) (c ∷ text) (ap (λ b. eqb 60 c && b) (starts mark text h))
 
   char_longer : (k : ℕ) (text : List ℕ) → (60 == k) ≡ false → after_char k (longer text) ≡ option_map longer (after_char k text)
   char_longer k [] h = ap (λ b. when b tag) h
@@ -80,7 +87,7 @@ module _ (tag : List ℕ) where
       go true e = e
       go false e = refl
 
-  begins_longer : (test : ℕ → Bool) (text : List ℕ) → test 60 ≡ false → begins test (longer text) ≡ begins test text
+  pub begins_longer : (test : ℕ → Bool) (text : List ℕ) → test 60 ≡ false → begins test (longer text) ≡ begins test text
   begins_longer test [] h = h
   begins_longer test (c ∷ text) h = refl
 

@@ -118,7 +118,7 @@ pushed_view : {A : Type 0} (x : A) (xs : List A) → (ys : List A) × (z : A) ×
 pushed_view x [] = ([], x, refl)
 pushed_view {A} x (y ∷ xs) = let r = pushed_view y xs in (x ∷ r.0, r.1, ap (λ (l : List A). x ∷ l) r.2)
 
-last_is : {A : Type 0} (xs before : List A) (x : A) → last_of xs ≡ Some (before, x) → xs ≡ before ++ x ∷ []
+pub last_is : {A : Type 0} (xs before : List A) (x : A) → last_of xs ≡ Some (before, x) → xs ≡ before ++ x ∷ []
 last_is [] before x e = absurd (none-some _ e)
 last_is {A} (y ∷ xs) before x e =
     let r = pushed_view y xs in

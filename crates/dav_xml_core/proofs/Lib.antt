@@ -1,3 +1,4 @@
+pub mod AlwaysLemmas
 pub mod AroundLemmas
 pub mod BehindLemmas
 pub mod BindingLemmas
@@ -12,6 +13,7 @@ pub mod InsideLemmas
 pub mod NodesLemmas
 pub mod OpenedLemmas
 pub mod PlaceLemmas
+pub mod PlacedLemmas
 pub mod ProductionLemmas
 pub mod ReadNamesLemmas
 pub mod ReadNodesLemmas

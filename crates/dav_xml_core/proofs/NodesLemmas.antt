@@ -10,10 +10,10 @@ use Rattle.dav_xml_core.specs.Characters.{characters, is_char, is_white}
 use Rattle.dav_xml_core.specs.Declarations.{declaration_at, fields_at, are_fields, after_declaration}
 use Rattle.dav_xml_core.specs.Documents.{Name, Attribute, Node, Start, Text, End, closes, is_element}
 use Rattle.dav_xml_core.specs.Names.{is_name_start}
-use Rattle.dav_xml_core.specs.Namespaces.{Binding, always_bound, bound}
+use Rattle.dav_xml_core.specs.Namespaces.{Binding, always_bound, bound, xml_namespace, xmlns_namespace}
 use Rattle.dav_xml_core.specs.Optional.{◌>>=◌, when, choose}
 use Rattle.dav_xml_core.specs.Parts.{Part, Made, Kept, nodes_in, with_parts, written_parts, part_bytes, is_part, are_parts, PartsCouldBeRead}
-use Rattle.dav_xml_core.specs.Places.{read_on, MayBegin, with_element}
+use Rattle.dav_xml_core.specs.Places.{read_on, may_begin, with_element}
 use Rattle.dav_xml_core.specs.Readable.{IsReadBack, is_start}
 use Rattle.dav_xml_core.specs.ReadableDocuments.{node_bytes, is_node, are_apart, is_readable, CouldBeRead}
 use Rattle.dav_xml_core.specs.Reading.{Front, Element, nothing, is_empty, text_nodes, finished, nodes_of, content_nodes, document_of}
@@ -37,7 +37,8 @@ use Rattle.dav_xml_core.proofs.WrittenLemmas.{SpellsAlone, IsOne, begun, end_tex
 
 -- an element that is written to stand alone is read as it is wherever one may begin
 record ReadsAlone (nodes : List Node) : Type 0 where
-  read : (front : Front) (rest : List ℕ) → MayBegin front → read_on front (written_alone nodes ++ rest) ≡ read_on (with_element front (map node_bytes nodes)) rest
+  read : (front : Front) (rest : List ℕ) → may_begin front ≡ true → bound (codes "xml") front.bindings ≡ Some xml_namespace → bound (codes "xmlns") front.bindings ≡ Some xmlns_namespace
+      → read_on front (written_alone nodes ++ rest) ≡ read_on (with_element front (map node_bytes nodes)) rest
   tag : (after : List ℕ) × (written_alone nodes ≡ 60 ∷ after)
 
 one_of : (text : List ℕ) → is_nil text ≡ false → text_nodes text ≡ Text (encode_utf8_all text) ∷ []
@@ -117,13 +118,8 @@ inside_on (Kept inner ∷ parts) (last ∷ opened) base outer bindings before te
     let elements = elements_of base all in
     let behind = text_of (names all) parts in
     let bytes = map node_bytes inner in
-    let may : MayBegin (front_of before text elements bindings) = record {
-      allowed = ap (λ b. not b || is_empty before) (some_pushed (elements_of base opened) (element last));
-      xml = is.0.hold.xml;
-      xmlns = is.0.hold.xmlns;
-    } in
     ap (read_on (front_of before text elements bindings)) (append_assoc (written_alone inner) behind rest)
-    ∙ each.0.read (front_of before text elements bindings) (behind ++ rest) may
+    ∙ each.0.read (front_of before text elements bindings) (behind ++ rest) (ap (λ b. not b || is_empty before) (some_pushed (elements_of base opened) (element last))) is.0.hold.xml is.0.hold.xmlns
     ∙ inside_on parts all base outer bindings (before ++ text_nodes text ++ bytes) [] rest is (sym (element_closes inner (length opened) (nodes_in parts) p.0) ∙ h) q.1 r.1 p.1 each.1 (λ e. absurd (omega arith))
     ∙ ap (λ (n : List Node). read_on (front_of n [] base outer) rest)
     (rejoined (before ++ text_nodes text) bytes (map node_bytes (nodes_in parts)) ∙ ap (λ (n : List Node). before ++ text_nodes text ++ n) (sym (map-append node_bytes inner (nodes_in parts))))
@@ -131,7 +127,7 @@ inside_on (Kept inner ∷ parts) (last ∷ opened) base outer bindings before te
 -- ---- an element
 
 -- what is read at an element is what is read behind it
-element_on : (front : Front) (first : List ℕ) (name : Name) (attributes : List Attribute) (parts : List Part) (rest : List ℕ) → (not (is_empty front.elements) || is_empty front.nodes) ≡ true
+element_on : (front : Front) (first : List ℕ) (name : Name) (attributes : List Attribute) (parts : List Part) (rest : List ℕ) → may_begin front ≡ true
     → IsReadBack front.bindings first name attributes → IsOne name attributes parts → EachKept ReadsAlone parts
     → read_on front ((with_parts (unwritten first) (begun name attributes parts)).bytes ++ rest) ≡ read_on (with_element front (map node_bytes (Start name attributes ∷ nodes_in parts))) rest
 element_on front first name attributes parts rest allowed back one each =
@@ -154,15 +150,16 @@ alone_is nodes = sym (ap (λ (w : Writing). w.bytes) (with_made nodes (unwritten
 one_made : (name : Name) (attributes : List Attribute) (nodes : List Node) → is_readable (Start name attributes ∷ nodes) ≡ true → IsOne name attributes (made nodes)
 one_made name attributes nodes h = is_one name attributes (made nodes) (ap (λ (n : List Node). is_readable (Start name attributes ∷ n)) (nodes_made nodes) ∙ h) (part_made nodes)
 
-pub alone_on : (front : Front) (nodes : List Node) (rest : List ℕ) → MayBegin front → is_readable nodes ≡ true
+pub alone_on : (front : Front) (nodes : List Node) (rest : List ℕ) → may_begin front ≡ true → bound (codes "xml") front.bindings ≡ Some xml_namespace
+    → bound (codes "xmlns") front.bindings ≡ Some xmlns_namespace → is_readable nodes ≡ true
     → read_on front (written_alone nodes ++ rest) ≡ read_on (with_element front (map node_bytes nodes)) rest
-alone_on front [] rest may h = absurd (false≢true h)
-alone_on front (Text text ∷ nodes) rest may h = absurd (false≢true h)
-alone_on front (End ∷ nodes) rest may h = absurd (false≢true h)
-alone_on front (Start name attributes ∷ nodes) rest may h =
+alone_on front [] rest may xml xmlns h = absurd (false≢true h)
+alone_on front (Text text ∷ nodes) rest may xml xmlns h = absurd (false≢true h)
+alone_on front (End ∷ nodes) rest may xml xmlns h = absurd (false≢true h)
+alone_on front (Start name attributes ∷ nodes) rest may xml xmlns h =
     let one = one_made name attributes nodes h in
     ap (λ (t : List ℕ). read_on front (t ++ rest)) (alone_is (Start name attributes ∷ nodes))
-    ∙ element_on front alone name attributes (made nodes) rest may.allowed (read_back_alone front.bindings name attributes may.xml may.xmlns one.start) one (each_made ReadsAlone nodes)
+    ∙ element_on front alone name attributes (made nodes) rest may (read_back_alone front.bindings name attributes xml xmlns one.start) one (each_made ReadsAlone nodes)
     ∙ ap (λ (n : List Node). read_on (with_element front (map node_bytes (Start name attributes ∷ n))) rest) (nodes_made nodes)
 
 alone_spells : (nodes : List Node) → is_readable nodes ≡ true → SpellsAlone nodes
@@ -193,19 +190,23 @@ alone_bytes before behind front rest nodes h i j =
     ap (λ (b : List ℕ). characters (before ++ b ++ behind)) s.is ∙ characters_around before behind front rest (written_alone nodes) tag.0 tag.1 s.kept i j
 
 reads_alone : (nodes : List Node) → is_readable nodes ≡ true → ReadsAlone nodes
-reads_alone nodes h = record { read = λ front rest may. alone_on front nodes rest may h; tag = alone_tag nodes h }
+reads_alone nodes h = record { read = λ front rest may xml xmlns. alone_on front nodes rest may xml xmlns h; tag = alone_tag nodes h }
 
 -- ---- a document
 
 -- a text that begins with a tag has no declaration
-no_declaration : (first : ℕ) (others : List ℕ) → is_name_start first ≡ true → content_nodes (60 ∷ first ∷ others) ≡ nodes_of (60 ∷ first ∷ others)
-unfolding content_nodes after_declaration declaration_at
-no_declaration first others h =
-    ap (λ b. choose ((when (b && starts_with nat_eq others (codes "xml")) (drop (length (codes "<?xml")) text)) >>= λ rest. when (begins is_white rest) rest) (λ rest. fields_at rest >>= λ found. when (are_fields found.0) found.1) (Some text) >>= nodes_of)
+pub tag_undeclared : (first : ℕ) (others : List ℕ) → is_name_start first ≡ true → after_declaration (60 ∷ first ∷ others) ≡ Some (60 ∷ first ∷ others)
+unfolding after_declaration declaration_at
+tag_undeclared first others h =
+    ap (λ b. choose ((when (b && starts_with nat_eq others (codes "xml")) (drop (length (codes "<?xml")) text)) >>= λ rest. when (begins is_white rest) rest) (λ rest. fields_at rest >>= λ found. when (are_fields found.0) found.1) (Some text))
     (nat_eq_equiv.symm 63 first ∙ differs is_name_start first 63 h refl)
   where
     text : List ℕ
     text = 60 ∷ first ∷ others
+
+no_declaration : (first : ℕ) (others : List ℕ) → is_name_start first ≡ true → content_nodes (60 ∷ first ∷ others) ≡ nodes_of (60 ∷ first ∷ others)
+unfolding content_nodes
+no_declaration first others h = ap (λ (o : Option (List ℕ)). o >>= nodes_of) (tag_undeclared first others h)
 
 start_first : (first : List ℕ) (name : Name) (attributes : List Attribute) (rest : List ℕ) → is_start name attributes ≡ true
     → (c : ℕ) × (others : List ℕ) × (is_name_start c ≡ true) × (start_text first name attributes ++ rest ≡ 60 ∷ c ∷ others)
@@ -286,3 +287,20 @@ alone_document (Start name attributes ∷ nodes) h =
 pub alone_again : (nodes : List Node) → CouldBeRead nodes → document_of (written_alone nodes) ≡ Some nodes
 alone_again nodes could =
     ap (λ (n : List Node). document_of (written_alone n)) could.bytes ∙ alone_document could.characters could.readable ∙ ap some_nodes (sym could.bytes)
+
+-- its characters, and any behind them, begin with a tag
+pub alone_first : (nodes : List Node) (rest : List ℕ) → is_readable nodes ≡ true
+    → (c : ℕ) × (others : List ℕ) × (is_name_start c ≡ true) × (written_alone nodes ++ rest ≡ 60 ∷ c ∷ others)
+alone_first [] rest h = absurd (false≢true h)
+alone_first (Text text ∷ nodes) rest h = absurd (false≢true h)
+alone_first (End ∷ nodes) rest h = absurd (false≢true h)
+alone_first (Start name attributes ∷ nodes) rest h =
+    let one = one_made name attributes nodes h in
+    let behind = text_of (name ∷ []) (made nodes) in
+    let first = start_first alone name attributes (behind ++ rest) one.start in (
+      first.0,
+      first.1,
+      first.2,
+      ap (λ (t : List ℕ). t ++ rest) (alone_is (Start name attributes ∷ nodes) ∙ written_is alone name attributes (made nodes) one.closed one.are)
+          ∙ append_assoc (start_text alone name attributes) behind rest ∙ first.3,
+    )

@@ -1,6 +1,6 @@
 -- Worked rows of the definitions, computed.
 use Rattle.std.proofs.Common.{◌≡◌, refl, ℕ, true, false, List, [], ◌∷◌, ◌++◌, None, Some}
-use Rattle.std.specs.Prelude.{codes}
+use Rattle.std.specs.Prelude.{codes, option_map}
 use Rattle.std.specs.Str.{is_utf8, chars}
 use Rattle.std.specs.Char.{encode_utf8}
 use Rattle.dav_xml_core.specs.Declarations.{is_version, is_version_info, is_utf8_declaration, is_standalone, are_fields, fields_at, declaration_at, after_declaration}
@@ -9,6 +9,7 @@ use Rattle.dav_xml_core.specs.Markup.{attribute_at, start_tag_at, end_tag_at, co
 use Rattle.dav_xml_core.specs.Names.{ncname_at, qname_at}
 use Rattle.dav_xml_core.specs.Namespaces.{bound, declares, may_bind, binding_of, with_binding, prefixed_name, element_name, attribute_name, attribute_of, are_distinct, started_of}
 use Rattle.dav_xml_core.specs.Parts.{Made, Kept, written_parts}
+use Rattle.dav_xml_core.specs.Places.{front_at, may_begin}
 use Rattle.dav_xml_core.specs.ReadableDocuments.{is_readable}
 use Rattle.dav_xml_core.specs.Writing.{tag_name, declared as declared_text, start_text, with_start, with_end, written_alone}
 use Rattle.dav_xml_core.specs.Reading.{started, ended, tagged, content_of, with_characters, with_cdata, nodes_of, content_nodes, document_of}
@@ -202,3 +203,15 @@ not_ended_yet = refl
 kept_inside : written_parts (Made (Start (name [] (codes "a")) []) ∷ Kept (Start (name [] (codes "b")) [] ∷ End ∷ []) ∷ Made End ∷ []) ≡ codes "<a xmlns:D=\"DAV:\"><b xmlns:D=\"DAV:\" xmlns=\"\"></b></a>"
 unfolding written_parts with_start with_end start_text tag_name declared_text written_alone
 kept_inside = refl
+
+inside_another : option_map may_begin (front_at (codes "<?xml version='1.0'?> <a xmlns='u' xmlns:D='v'>x<b/>")) ≡ Some true
+unfolding front_at chars is_utf8 encode_utf8 after_declaration declaration_at fields_at are_fields is_version is_version_info is_utf8_declaration is_standalone many sequence piece_at markup_at start_tag_at end_tag_at comment_at cdata_at instruction_at declared_at attribute_at characters_at qname_at ncname_at started ended tagged with_characters with_cdata content_of started_of with_binding element_name prefixed_name attribute_name attribute_of are_distinct declares bound binding_of may_bind expanded_at referenced
+inside_another = refl
+
+behind_the_element : option_map may_begin (front_at (codes "<a/>")) ≡ Some false
+unfolding front_at chars is_utf8 encode_utf8 after_declaration declaration_at fields_at are_fields is_version is_version_info is_utf8_declaration is_standalone many sequence piece_at markup_at start_tag_at end_tag_at comment_at cdata_at instruction_at declared_at attribute_at characters_at qname_at ncname_at started ended tagged with_characters with_cdata content_of started_of with_binding element_name prefixed_name attribute_name attribute_of are_distinct declares bound binding_of may_bind expanded_at referenced
+behind_the_element = refl
+
+inside_a_tag : front_at (codes "<a b='") ≡ None
+unfolding front_at chars is_utf8 encode_utf8 after_declaration declaration_at fields_at are_fields is_version is_version_info is_utf8_declaration is_standalone many sequence piece_at markup_at start_tag_at end_tag_at comment_at cdata_at instruction_at declared_at attribute_at characters_at qname_at ncname_at started ended tagged with_characters with_cdata content_of started_of with_binding element_name prefixed_name attribute_name attribute_of are_distinct declares bound binding_of may_bind expanded_at referenced
+inside_a_tag = refl

@@ -7,10 +7,10 @@ ghost use Rattle.dav_xml_core.specs.Documents as plain;
 ghost use Rattle.dav_xml_core.specs.Markup.{piece_at, Characters};
 ghost use Rattle.dav_xml_core.specs.Namespaces.{Binding, always_bound, bound, xml_namespace, xmlns_namespace};
 ghost use Rattle.dav_xml_core.specs.Parts.{Part, PartsCouldBeRead, nodes_in, written_parts};
-ghost use Rattle.dav_xml_core.specs.Places.{MayBegin, read_on, with_element};
+ghost use Rattle.dav_xml_core.specs.Places.{front_at, may_begin, read_on, with_element};
 ghost use Rattle.dav_xml_core.specs.Readable.{is_start, name_bytes, attribute_bytes, HoldWritten, IsReadBack};
 ghost use Rattle.dav_xml_core.specs.ReadableDocuments.{CouldBeRead, is_readable, node_bytes};
-ghost use Rattle.dav_xml_core.specs.Reading.{Front, content_of, document_of, is_empty, nodes_of, nothing, text_in, value_in};
+ghost use Rattle.dav_xml_core.specs.Reading.{Front, content_of, document_of, is_empty, text_in, value_in};
 ghost use Rattle.dav_xml_core.specs.References.{value_of};
 ghost use Rattle.dav_xml_core.specs.Scanning.{is_nil};
 ghost use Rattle.dav_xml_core.specs.Writing as spec;
@@ -339,18 +339,18 @@ pub fn elements_round_trip()
 
 /// A law (XML 1.0 sections 2.1 and 3, Namespaces 1.0 section 6): the bytes that `write` writes for a document that could have been read are read as
 /// its nodes (`whole`), those that `write_element` writes for it, too (`element`), and each document that is read is such, if its bytes fit memory
-/// (`read`). Where `write_element`'s bytes stand inside a document that is written, this one is read as if its nodes had been written there
-/// (`kept`). In any other document, wherever an element may begin, they are read as its nodes: what is read there and behind it is what is read behind it
-/// after a front that has the nodes, too (`alone`, in characters; a document is what is read behind no front, `document`). Their characters stand between
-/// those of the bytes before and behind (`alone_bytes`).
+/// (`read`). Where the bytes of `write_element` stand inside a document that `write` writes, this is read as if the nodes of each had been written there
+/// (`kept`). Wherever an element may begin between other bytes, they are read as its nodes: the whole is read as what stands behind them, after a front that
+/// has the nodes, too (`placed`), and so it is in characters, whatever the prefixes are bound to there (`alone`).
 pub fn documents_round_trip()
     ensures whole { (nodes : List plain.Node) → CouldBeRead nodes → document_of (spec.written nodes) ≡ Some nodes }
     ensures element { (nodes : List plain.Node) → CouldBeRead nodes → document_of (spec.written_alone nodes) ≡ Some nodes }
     ensures read { (bytes : List ℕ) (nodes : List plain.Node) → length bytes < 2 ^ 64 → document_of bytes ≡ Some nodes → CouldBeRead nodes }
     ensures kept { (parts : List Part) → PartsCouldBeRead parts → document_of (written_parts parts) ≡ Some (nodes_in parts) }
-    ensures alone { (front : Front) (nodes : List plain.Node) (rest : List ℕ) → MayBegin front → is_readable nodes ≡ true
+    ensures placed { (before behind rest : List ℕ) (front : Front) (nodes : List plain.Node) → front_at before ≡ Some front → may_begin front ≡ true
+        → characters behind ≡ Some rest → is_readable nodes ≡ true
+        → document_of (before ++ spec.written_alone (map node_bytes nodes) ++ behind) ≡ read_on (with_element front (map node_bytes nodes)) rest }
+    ensures alone { (front : Front) (nodes : List plain.Node) (rest : List ℕ) → may_begin front ≡ true → bound (codes "xml") front.bindings ≡ Some xml_namespace
+        → bound (codes "xmlns") front.bindings ≡ Some xmlns_namespace → is_readable nodes ≡ true
         → read_on front (spec.written_alone nodes ++ rest) ≡ read_on (with_element front (map node_bytes nodes)) rest }
-    ensures document { (text : List ℕ) → nodes_of text ≡ read_on nothing text }
-    ensures alone_bytes { (before behind front rest : List ℕ) (nodes : List plain.Node) → is_readable nodes ≡ true → characters before ≡ Some front → characters behind ≡ Some rest
-        → characters (before ++ spec.written_alone (map node_bytes nodes) ++ behind) ≡ Some (front ++ spec.written_alone nodes ++ rest) }
 {}

@@ -1,6 +1,5 @@
-use Rattle.dav_xml_core.proofs.NodesLemmas.{alone_on, alone_bytes, alone_again, parts_again, written_again}
-use Rattle.dav_xml_core.proofs.BehindLemmas.{piece_longer, fields_longer}
-use Rattle.dav_xml_core.proofs.PlaceLemmas.{whole_document}
+use Rattle.dav_xml_core.proofs.NodesLemmas.{alone_on, alone_again, parts_again, written_again}
+use Rattle.dav_xml_core.proofs.PlacedLemmas.{placed}
 use Rattle.dav_xml_core.proofs.ReadNodesLemmas.{read_could}
 use Rattle.dav_xml_core.proofs.davxml.writer.documents_round_trip.Goals as goal
 
@@ -10,7 +9,6 @@ returns c = record {
   element = alone_again;
   read = read_could;
   kept = parts_again;
+  placed = placed;
   alone = alone_on;
-  document = whole_document;
-  alone_bytes = alone_bytes;
 }

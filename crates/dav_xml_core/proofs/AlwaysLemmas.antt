@@ -1,23 +1,21 @@
 -- In each front of a document `xml` and `xmlns` are bound as they always are.
-use Rattle.std.proofs.Common.{◌≡◌, refl, sym, ap, subst, ◌∙◌, ℕ, zero, suc, Bool, true, false, ◌&&◌, ◌||◌, not, cond, List, [], ◌∷◌, ◌++◌, take, length, Option, None, Some, append_assoc}
+use Rattle.std.proofs.Common.{◌≡◌, refl, sym, ap, subst, ◌∙◌, ℕ, suc, Bool, true, false, ◌&&◌, ◌||◌, not, cond, List, [], ◌∷◌, ◌++◌, take, length, Option, None, Some, append_assoc}
 use Rattle.std.specs.Prelude.{codes, bytes_eq, encode_utf8_all}
-use Rattle.std.specs.List.{list_all}
 use Rattle.std.proofs.lemmas.Bool.{and_parts, false≢true}
 use Rattle.std.proofs.lemmas.Option.{same_Some}
 use Rattle.std.proofs.lemmas.Slice.Eq.{bytes_eq-Decides}
-use Rattle.dav_xml_core.specs.Characters.{is_white}
-use Rattle.dav_xml_core.specs.Markup.{RawAttribute, Piece, Tag, EndTag, Characters, CData, Aside}
+use Rattle.dav_xml_core.specs.Markup.{RawAttribute, Piece}
 use Rattle.dav_xml_core.specs.Names.{QName}
 use Rattle.dav_xml_core.specs.Namespaces.{Binding, Started, always_bound, xml_namespace, xmlns_namespace, bound_from, bound, declares, may_bind, binding_of, with_binding, with_bindings, element_name, names_of, are_distinct, attributes_of, started_of}
 use Rattle.dav_xml_core.specs.Optional.{◌>>=◌, when, choose}
-use Rattle.dav_xml_core.specs.Reading.{Front, Element, nothing, is_empty, last_of, same_qname, started, ended, tagged, content_of, with_characters, with_cdata, with_piece, with_pieces}
+use Rattle.dav_xml_core.specs.Reading.{Front, Element, nothing, is_empty, last_of, same_qname, started, ended, with_pieces}
 use Rattle.dav_xml_core.specs.References.{value_of}
 use Rattle.dav_xml_core.specs.Scanning.{is_nil}
 use Rattle.dav_xml_core.proofs.BindingLemmas.{binding, lacks, bound_before, not_true}
 use Rattle.dav_xml_core.proofs.BuilderLemmas.{after_end}
+use Rattle.dav_xml_core.proofs.EachLemmas.{Each, each_append, each_split, each_take}
 use Rattle.dav_xml_core.proofs.ElementLemmas.{bind_some, when_some, after, last_is}
-use Rattle.dav_xml_core.proofs.ProductionLemmas.{Each}
-use Rattle.dav_xml_core.proofs.ReadNamesLemmas.{each_append}
+use Rattle.dav_xml_core.proofs.WalkLemmas.{with_text, by_pieces}
 
 -- ---- bindings
 
@@ -121,15 +119,6 @@ record FrontAlways (front : Front) : Type 0 where
   bindings : Always front.bindings
   elements : Each IsAround front.elements
 
-each_front : {A : Type 0} (R : A → Type 0) (xs ys : List A) → Each R (xs ++ ys) → Each R xs × Each R ys
-each_front R [] ys h = (tt, h)
-each_front R (x ∷ xs) ys h = let r = each_front R xs ys h.1 in ((h.0, r.0), r.1)
-
-each_take : {A : Type 0} (R : A → Type 0) (k : ℕ) (xs : List A) → Each R xs → Each R (take k xs)
-each_take R zero xs h = tt
-each_take R (suc k) [] h = tt
-each_take R (suc k) (x ∷ xs) h = (h.0, each_take R k xs h.1)
-
 length_around : (around : List Binding) → Always around → (k : ℕ) × (length around ≡ suc (suc k))
 length_around around always = (length always.more, ap length always.is)
 
@@ -161,48 +150,15 @@ unfolding ended
 by_end front more name always h =
     let a = bind_some (last_of front.elements) _ more h in
     let w = when_some (same_qname a.0.1.name name) (after_end front a.0.0 a.0.1.around) more a.2 in
-    let all = each_front IsAround a.0.0 (a.0.1 ∷ []) (subst (λ (e : List Element). Each IsAround e) (last_is front.elements a.0.0 a.0.1 a.1) always.elements) in
+    let all = each_split IsAround a.0.0 (a.0.1 ∷ []) (subst (λ (e : List Element). Each IsAround e) (last_is front.elements a.0.0 a.0.1 a.1) always.elements) in
     subst FrontAlways w.1 (record { bindings = taken a.0.1.around all.1.0.0 front.bindings all.1.0.1 always.bindings; elements = all.0 })
 
-by_tag : (front more : Front) (name : QName) (raws : List RawAttribute) (empty : Bool) → FrontAlways front → tagged front name raws empty ≡ Some more → FrontAlways more
-unfolding tagged
-by_tag front more name raws empty always h =
-    let a = bind_some (started front name raws) _ more h in
-    go empty a.0 (by_start front a.0 name raws always a.1) a.2
-  where
-    go : (b : Bool) (begun : Front) → FrontAlways begun → cond b (ended begun name) (Some begun) ≡ Some more → FrontAlways more
-    go true begun is e = by_end begun more name is e
-    go false begun is e = subst FrontAlways (same_Some begun more e) is
+by_text : (front : Front) (text : List ℕ) → Unit {0} → FrontAlways front → FrontAlways (with_text front text)
+by_text front text u always = record { bindings = always.bindings; elements = always.elements }
 
-with_text : (front : Front) (text : List ℕ) → FrontAlways front → FrontAlways (record front { text = front.text ++ text })
-with_text front text always = record { bindings = always.bindings; elements = always.elements }
-
-by_characters : (front more : Front) (raw : List ℕ) → FrontAlways front → with_characters front raw ≡ Some more → FrontAlways more
-unfolding with_characters
-by_characters front more raw always h = go (is_empty front.elements) h
-  where
-    go : (b : Bool) → cond b (when (list_all is_white raw) front) (content_of raw >>= λ text. Some (record front { text = front.text ++ text })) ≡ Some more → FrontAlways more
-    go true e = subst FrontAlways (when_some (list_all is_white raw) front more e).1 always
-    go false e =
-        let a = bind_some (content_of raw) _ more e in
-        subst FrontAlways (same_Some (record front { text = front.text ++ a.0 }) more a.2) (with_text front a.0 always)
-
-by_cdata : (front more : Front) (raw : List ℕ) → FrontAlways front → with_cdata front raw ≡ Some more → FrontAlways more
-unfolding with_cdata
-by_cdata front more raw always h = subst FrontAlways (when_some (not (is_empty front.elements)) (record front { text = front.text ++ raw }) more h).1 (with_text front raw always)
-
-by_piece : (front more : Front) (piece : Piece) → FrontAlways front → with_piece front piece ≡ Some more → FrontAlways more
-by_piece front more (Tag name raws empty) always h = by_tag front more name raws empty always h
-by_piece front more (EndTag name) always h = by_end front more name always h
-by_piece front more (Characters raw) always h = by_characters front more raw always h
-by_piece front more (CData raw) always h = by_cdata front more raw always h
-by_piece front more Aside always h = subst FrontAlways (same_Some front more h) always
-
-by_pieces : (pieces : List Piece) (front more : Front) → FrontAlways front → with_pieces front pieces ≡ Some more → FrontAlways more
-by_pieces [] front more always h = subst FrontAlways (same_Some front more h) always
-by_pieces (piece ∷ pieces) front more always h =
-    let a = bind_some (with_piece front piece) _ more h in
-    by_pieces pieces a.0 more (by_piece front a.0 piece always a.1) a.2
+any_pieces : (pieces : List Piece) → Each (λ (p : Piece). Unit {0}) pieces
+any_pieces [] = tt
+any_pieces (piece ∷ pieces) = (tt, any_pieces pieces)
 
 first_always : FrontAlways nothing
 first_always = record { bindings = record { more = []; is = refl; each = tt }; elements = tt }
@@ -210,5 +166,7 @@ first_always = record { bindings = record { more = []; is = refl; each = tt }; e
 pub always_bound_so : (pieces : List Piece) (front : Front) → with_pieces nothing pieces ≡ Some front
     → (bound (codes "xml") front.bindings ≡ Some xml_namespace) × (bound (codes "xmlns") front.bindings ≡ Some xmlns_namespace)
 always_bound_so pieces front h =
-    let always = by_pieces pieces nothing front first_always h in
+    let always : FrontAlways front =
+    by_pieces FrontAlways (λ (p : Piece). Unit {0}) (λ (text : List ℕ). Unit {0}) (λ front more name raws empty u always h. by_start front more name raws always h) by_end by_text (λ raw text u h. tt) (λ raw u. tt)
+    pieces nothing front (any_pieces pieces) first_always h in
     (xml_bound front.bindings always.bindings, xmlns_bound front.bindings always.bindings)

@@ -5,6 +5,7 @@ pub mod BindingLemmas
 pub mod BuilderLemmas
 pub mod BytesLemmas
 pub mod DistinctLemmas
+pub mod EachLemmas
 pub mod ElementLemmas
 pub mod EscapeLemmas
 pub mod Fronts
@@ -28,5 +29,6 @@ pub mod StartedLemmas
 pub mod TagBytesLemmas
 pub mod TagLemmas
 pub mod Utf8Lemmas
+pub mod WalkLemmas
 pub mod WriterLemmas
 pub mod WrittenLemmas

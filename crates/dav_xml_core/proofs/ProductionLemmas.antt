@@ -10,13 +10,10 @@ use Rattle.dav_xml_core.specs.Names.{QName, is_name_start, is_name_char, is_ncna
 use Rattle.dav_xml_core.specs.Optional.{◌>>=◌, when, choose}
 use Rattle.dav_xml_core.specs.Scanning.{Found, begins, after_char, skip_white, with_char, until, is_nil, after_mark}
 use Rattle.dav_xml_core.specs.Sequences.{many, sequence}
+use Rattle.dav_xml_core.proofs.EachLemmas.{Each}
 use Rattle.dav_xml_core.proofs.ElementLemmas.{bind_some, when_some}
 
 -- ---- sequences
-
-abbrev pub Each : {A : Type 0} → (A → Type 0) → List A → Type 0
-Each R [] = Unit {0}
-Each R (x ∷ xs) = R x × Each R xs
 
 module _ {A E : Type 0} (ending : List ℕ → Option E) (part : List ℕ → Found A) (P : List ℕ → Type 0) (Q : E → Type 0) (R : A → Type 0)
     (by_end : (text : List ℕ) (e : E) → P text → ending text ≡ Some e → Q e)

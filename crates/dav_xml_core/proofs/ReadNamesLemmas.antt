@@ -16,8 +16,9 @@ use Rattle.dav_xml_core.specs.Readable.{is_name, is_attribute, is_start, name_by
 use Rattle.dav_xml_core.specs.References.{value_of}
 use Rattle.dav_xml_core.specs.Scanning.{is_nil}
 use Rattle.dav_xml_core.proofs.BindingLemmas.{binding, xml_bytes, xmlns_bytes, not_true}
+use Rattle.dav_xml_core.proofs.EachLemmas.{Each, each_append}
 use Rattle.dav_xml_core.proofs.ElementLemmas.{bind_some, when_some}
-use Rattle.dav_xml_core.proofs.ProductionLemmas.{Each, IsFound}
+use Rattle.dav_xml_core.proofs.ProductionLemmas.{IsFound}
 use Rattle.dav_xml_core.proofs.ReadValuesLemmas.{value_chars}
 use Rattle.dav_xml_core.proofs.StartLemmas.{named}
 use Rattle.dav_xml_core.proofs.TagBytesLemmas.{same_test, same_nil}
@@ -94,10 +95,6 @@ binding_is prefix raw found all h =
     let a = bind_some (value_of raw) _ found h in
     let w = when_some (may_bind prefix (encode_utf8_all a.0)) (binding prefix (encode_utf8_all a.0)) found a.2 in
     subst IsBinding w.1 (may_is prefix a.0 (value_chars raw a.0 all a.1) w.0)
-
-pub each_append : {A : Type 0} (R : A → Type 0) (xs ys : List A) → Each R xs → Each R ys → Each R (xs ++ ys)
-each_append R [] ys h i = i
-each_append R (x ∷ xs) ys h i = (h.0, each_append R xs ys h.1 i)
 
 module _ (n : ℕ) where
   abbrev pub AreFound : List RawAttribute → Type 0

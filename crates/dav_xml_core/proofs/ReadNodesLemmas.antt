@@ -1,5 +1,5 @@
 -- The nodes that are read could have been read: they are those of characters.
-use Rattle.std.proofs.Common.{◌≡◌, refl, sym, ap, subst, ◌∙◌, ℕ, zero, suc, ◌<◌, ◌≤◌, ◌^◌, arith, Bool, true, false, ◌&&◌, ◌||◌, not, cond, eqb, List, [], ◌∷◌, ◌++◌, map, take, length, Option, None, Some, append_assoc, append-nil}
+use Rattle.std.proofs.Common.{◌≡◌, refl, sym, ap, subst, ◌∙◌, ℕ, suc, ◌<◌, ◌≤◌, ◌^◌, arith, Bool, true, false, ◌&&◌, ◌||◌, not, cond, eqb, List, [], ◌∷◌, ◌++◌, map, take, length, Option, None, Some, append_assoc, append-nil}
 use Rattle.std.specs.Prelude.{codes}
 use Rattle.std.specs.List.{list_all}
 use Rattle.std.proofs.lemmas.List.{map-append}
@@ -8,18 +8,20 @@ use Rattle.std.proofs.lemmas.Option.{none-some, same_Some}
 use Rattle.dav_xml_core.specs.Characters.{is_char, is_white, characters}
 use Rattle.dav_xml_core.specs.Declarations.{declaration_at, fields_at, are_fields, after_declaration}
 use Rattle.dav_xml_core.specs.Documents.{Name, Attribute, Node, Start, Text, End, is_element}
-use Rattle.dav_xml_core.specs.Markup.{RawAttribute, Piece, Tag, EndTag, Characters, CData, Aside, attribute_at, piece_at}
+use Rattle.dav_xml_core.specs.Markup.{RawAttribute, Piece, attribute_at, piece_at}
 use Rattle.dav_xml_core.specs.Names.{QName, is_ncname}
 use Rattle.dav_xml_core.specs.Namespaces.{Binding, Started, started_of}
 use Rattle.dav_xml_core.specs.Optional.{◌>>=◌, when, choose}
 use Rattle.dav_xml_core.specs.ReadableDocuments.{node_bytes, is_node, are_apart, CouldBeRead}
-use Rattle.dav_xml_core.specs.Reading.{Front, nothing, is_empty, last_of, text_nodes, same_qname, started, ended, tagged, content_of, with_characters, with_cdata, with_piece, with_pieces, finished, nodes_of, without_mark, content_nodes, document_of}
+use Rattle.dav_xml_core.specs.Reading.{Front, nothing, is_empty, last_of, text_nodes, same_qname, started, ended, with_pieces, finished, nodes_of, without_mark, content_nodes, document_of}
 use Rattle.dav_xml_core.specs.Scanning.{begins, skip_white, after_mark, is_nil}
 use Rattle.dav_xml_core.specs.Sequences.{sequence, at_end}
+use Rattle.dav_xml_core.proofs.EachLemmas.{Each, each_take}
 use Rattle.dav_xml_core.proofs.ElementLemmas.{bind_some, when_some, after, one_element}
-use Rattle.dav_xml_core.proofs.ProductionLemmas.{Each, Fine, PieceIs, IsFound, many_found, first_passes, others_pass, white, marked, attribute_found, piece_found}
-use Rattle.dav_xml_core.proofs.ReadNamesLemmas.{AreBindings, AreFound, always_are, start_is}
+use Rattle.dav_xml_core.proofs.ProductionLemmas.{Fine, PieceIs, IsFound, many_found, first_passes, others_pass, white, marked, attribute_found, piece_found}
+use Rattle.dav_xml_core.proofs.ReadNamesLemmas.{IsBinding, AreBindings, AreFound, always_are, start_is}
 use Rattle.dav_xml_core.proofs.ReadValuesLemmas.{content_chars, characters_read}
+use Rattle.dav_xml_core.proofs.WalkLemmas.{with_text, by_pieces}
 use Rattle.dav_xml_core.proofs.WrittenLemmas.{element_bytes}
 
 -- ---- a front
@@ -92,11 +94,6 @@ end_divides : Divides End
 unfolding Divides
 end_divides after_text more = refl
 
-each_taken : (k : ℕ) (bindings : List Binding) → AreBindings bindings → AreBindings (take k bindings)
-each_taken zero bindings are = tt
-each_taken (suc k) [] are = tt
-each_taken (suc k) (b ∷ bindings) are = (are.0, each_taken k bindings are.1)
-
 -- ---- one more piece
 
 module _ (n : ℕ) (small : n < 2 ^ 64) where
@@ -121,21 +118,10 @@ module _ (n : ℕ) (small : n < 2 ^ 64) where
   by_end front more name read h =
       let a = bind_some (last_of front.elements) _ more h in
       let same = when_some (same_qname a.0.1.name name) _ more a.2 in
-      moved _ more same.1 (pushed front.nodes front.text front.bindings (take a.0.1.around front.bindings) End End read refl refl end_divides (each_taken a.0.1.around front.bindings read.named))
+      moved _ more same.1 (pushed front.nodes front.text front.bindings (take a.0.1.around front.bindings) End End read refl refl end_divides (each_take IsBinding a.0.1.around front.bindings read.named))
 
-  by_tag : (front more : Front) (name : QName) (raws : List RawAttribute) (empty : Bool) → FrontIs front → is_ncname name.local ≡ true → AreFound n raws → length raws ≤ n
-      → tagged front name raws empty ≡ Some more → FrontIs more
-  unfolding tagged
-  by_tag front more name raws empty read local found few h =
-      let a = bind_some (started front name raws) _ more h in
-      go empty a.0 (by_start front a.0 name raws read local found few a.1) a.2
-    where
-      go : (b : Bool) (begun : Front) → FrontIs begun → cond b (ended begun name) (Some begun) ≡ Some more → FrontIs more
-      go true begun is e = by_end begun more name is e
-      go false begun is e = moved begun more (same_Some begun more e) is
-
-  with_text : (front : Front) (text : List ℕ) → FrontIs front → list_all is_char text ≡ true → FrontIs (record front { text = front.text ++ text })
-  with_text front text read h = record {
+  by_text : (front : Front) (text : List ℕ) → list_all is_char text ≡ true → FrontIs front → FrontIs (with_text front text)
+  by_text front text h read = record {
     characters = read.characters;
     bytes = read.bytes;
     each = read.each;
@@ -144,34 +130,11 @@ module _ (n : ℕ) (small : n < 2 ^ 64) where
     named = read.named;
   }
 
-  by_characters : (front more : Front) (raw : List ℕ) → FrontIs front → list_all is_char raw ≡ true → with_characters front raw ≡ Some more → FrontIs more
-  unfolding with_characters
-  by_characters front more raw read all h = go (is_empty front.elements) h
-    where
-      go : (b : Bool) → cond b (when (list_all is_white raw) front) (content_of raw >>= λ text. Some (record front { text = front.text ++ text })) ≡ Some more → FrontIs more
-      go true e = moved front more (when_some (list_all is_white raw) front more e).1 read
-      go false e =
-          let a = bind_some (content_of raw) _ more e in
-          moved (record front { text = front.text ++ a.0 }) more (same_Some (record front { text = front.text ++ a.0 }) more a.2) (with_text front a.0 read (content_chars raw a.0 all a.1))
-
-  by_cdata : (front more : Front) (raw : List ℕ) → FrontIs front → list_all is_char raw ≡ true → with_cdata front raw ≡ Some more → FrontIs more
-  unfolding with_cdata
-  by_cdata front more raw read all h =
-      moved (record front { text = front.text ++ raw }) more (when_some (not (is_empty front.elements)) (record front { text = front.text ++ raw }) more h).1 (with_text front raw read all)
-
-  by_piece : (front more : Front) (piece : Piece) → FrontIs front → PieceIs is_char n piece → with_piece front piece ≡ Some more → FrontIs more
+  all_pieces : (pieces : List Piece) (front more : Front) → Each (PieceIs is_char n) pieces → FrontIs front → with_pieces front pieces ≡ Some more → FrontIs more
   unfolding PieceIs
-  by_piece front more (Tag name raws empty) read is h = by_tag front more name raws empty read is.0 is.1 is.2 h
-  by_piece front more (EndTag name) read is h = by_end front more name read h
-  by_piece front more (Characters raw) read is h = by_characters front more raw read is h
-  by_piece front more (CData raw) read is h = by_cdata front more raw read is h
-  by_piece front more Aside read is h = moved front more (same_Some front more h) read
-
-  by_pieces : (pieces : List Piece) (front more : Front) → FrontIs front → Each (PieceIs is_char n) pieces → with_pieces front pieces ≡ Some more → FrontIs more
-  by_pieces [] front more read each h = moved front more (same_Some front more h) read
-  by_pieces (piece ∷ pieces) front more read each h =
-      let a = bind_some (with_piece front piece) _ more h in
-      by_pieces pieces a.0 more (by_piece front a.0 piece read each.0 a.1) each.1 a.2
+  all_pieces =
+      by_pieces FrontIs (PieceIs is_char n) (λ (text : List ℕ). list_all is_char text ≡ true) (λ front more name raws empty is read h. by_start front more name raws read is.0 is.1 is.2 h) by_end by_text
+      (λ raw text is h. content_chars raw text is h) (λ raw is. is)
 
   -- ---- the whole
 
@@ -196,7 +159,7 @@ module _ (n : ℕ) (small : n < 2 ^ 64) where
       let each = subst (λ (x : List Piece). Each (PieceIs is_char n) x) (same_Some p.0.0 a.0 p.2) (pieces_are text p.0 f p.1) in
       let b = bind_some (with_pieces nothing a.0) finished nodes a.2 in
       let w = when_some (is_empty b.0.elements && not (is_empty b.0.nodes)) b.0.nodes nodes b.2 in
-      let read = by_pieces a.0 nothing b.0 nothing_is each b.1 in
+      let read = all_pieces a.0 nothing b.0 each nothing_is b.1 in
       record { characters = read.characters; bytes = sym w.1 ∙ read.bytes; each = read.each; apart = read.apart; said = refl; named = tt }
 
   unmarked : (text : List ℕ) → Fine is_char n text → Fine is_char n (without_mark text)

@@ -13,8 +13,9 @@ use Rattle.dav_xml_core.specs.Reading.{content_of}
 use Rattle.dav_xml_core.specs.References.{named, digits_of, referenced, expanded_at, expanded, as_blank, value_of}
 use Rattle.dav_xml_core.specs.Scanning.{until}
 use Rattle.dav_xml_core.specs.Sequences.{many, sequence, at_end}
+use Rattle.dav_xml_core.proofs.EachLemmas.{Each}
 use Rattle.dav_xml_core.proofs.ElementLemmas.{bind_some, when_some}
-use Rattle.dav_xml_core.proofs.ProductionLemmas.{Each, Fine, many_found, first_passes, others_pass, searched}
+use Rattle.dav_xml_core.proofs.ProductionLemmas.{Fine, many_found, first_passes, others_pass, searched}
 
 abbrev AllChars : List ℕ → Type 0
 AllChars text = list_all is_char text ≡ true

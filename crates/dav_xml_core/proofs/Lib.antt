@@ -1,12 +1,15 @@
 pub mod BindingLemmas
 pub mod BuilderLemmas
 pub mod BytesLemmas
+pub mod CharacterLemmas
 pub mod DistinctLemmas
 pub mod ElementLemmas
 pub mod EscapeLemmas
 pub mod Fronts
 pub mod GivesLemmas
 pub mod ReaderLemmas
+pub mod RefusalLemmas
+pub mod RefusalRows
 pub mod Rows
 pub mod ScanLemmas
 pub mod SequenceLemmas

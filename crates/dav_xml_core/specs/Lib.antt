@@ -9,6 +9,7 @@ pub mod Optional
 pub mod Readable
 pub mod Reading
 pub mod References
+pub mod Refusals
 pub mod Scanning
 pub mod Sequences
 pub mod Views

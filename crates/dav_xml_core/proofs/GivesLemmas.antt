@@ -1,8 +1,10 @@
 -- From one kind of refusal to another.
-use Rattle.std.proofs.Common.{◌≡◌, refl, sym, ℕ, Option, None, Some, Result}
-use Rattle.std.specs.Prelude.{option_map}
+use Rattle.std.proofs.Common.{◌≡◌, sym, ap, ◌∙◌, Option, None, Some, Result, Err}
+use Rattle.std.specs.Prelude.{option_map, IfSome}
 use Rattle.std.specs.Option.{ok_or}
-use Rattle.dav_xml_core.specs.Gives.{Refuses, Stops, IsRefused, Yields}
+use Rattle.std.specs.Result.{result_ok}
+use Rattle.dav_xml_core.specs.Gives.{Refuses, Answers, IsRefused, fault_refusal, halt_refusal, error_refusal}
+use Rattle.dav_xml_core.specs.Refusals.{Refusal, NotWellFormed}
 use Rattle.dav_xml_core.specs.declared.davxml.errors.Fault.{Fault}
 use Rattle.dav_xml_core.specs.declared.davxml.errors.Fault.TheVariants.{Malformed, Memory}
 use Rattle.dav_xml_core.specs.declared.davxml.errors.Halt.{Halt}
@@ -10,34 +12,22 @@ use Rattle.dav_xml_core.specs.declared.davxml.errors.Halt.TheVariants as halts
 use Rattle.dav_xml_core.specs.declared.davxml.errors.XmlError.{XmlError}
 use Rattle.dav_xml_core.specs.declared.davxml.errors.XmlError.TheVariants as errors
 
-pub any_stop : {U : Type 0} (halt : Halt) (expected : Option U) → expected ≡ None → Stops halt expected
-any_stop (halts.Malformed left) expected h = h
-any_stop halts.DocumentType expected h = h
-any_stop halts.Encoding expected h = h
-any_stop halts.Memory expected h = tt
-
-pub any_refusal : {U : Type 0} (error : XmlError) (expected : Option U) → expected ≡ None → IsRefused error expected
-any_refusal (errors.NotWellFormed at) expected h = h
-any_refusal errors.DocumentType expected h = h
-any_refusal errors.Encoding expected h = h
-any_refusal errors.OutOfMemory expected h = tt
-
-pub stops_from : {U : Type 0} (fault : Fault) (halt : Halt) (expected : Option U) → (fault ≡ Memory → halt ≡ halts.Memory) → Refuses fault expected → Stops halt expected
-stops_from Malformed halt expected memory h = any_stop halt expected h
-stops_from Memory halt expected memory h = rw (memory refl) tt
-
-pub refused_from : {U : Type 0} (halt : Halt) (error : XmlError) (expected : Option U) → (halt ≡ halts.Memory → error ≡ errors.OutOfMemory) → Stops halt expected → IsRefused error expected
-refused_from (halts.Malformed left) error expected memory h = any_refusal error expected h
-refused_from halts.DocumentType error expected memory h = any_refusal error expected h
-refused_from halts.Encoding error expected memory h = any_refusal error expected h
-refused_from halts.Memory error expected memory h = rw (memory refl) tt
-
 -- a missing value is where the text ends too early
-pub yields_from : {T U : Type 0} (view : T → U) (o : Option T) (left : ℕ) (expected : Option U) (r : Result T Halt) → option_map view o ≡ expected → r ≡ ok_or o (halts.Malformed left) → Yields view r expected
-yields_from view (Some x) left expected r e is = rw is (sym e)
-yields_from view None left expected r e is = rw is (sym e)
+pub answers_at_end : {T U : Type 0} (view : T → U) (o : Option T) (expected : Option U) (r : Result T Halt) → option_map view o ≡ expected → r ≡ ok_or o (halts.Malformed 0)
+    → Answers view halt_refusal r (ok_or expected (NotWellFormed 0))
+answers_at_end view (Some x) expected r e is = rw is (ap (λ o. ok_or o (NotWellFormed 0)) (sym e))
+answers_at_end view None expected r e is = rw is (ap (λ o. ok_or o (NotWellFormed 0)) (sym e))
 
--- a fault in a part is one in the whole
-pub refuses_more : {U V : Type 0} (fault : Fault) (part : Option U) (whole : Option V) → (part ≡ None → whole ≡ None) → Refuses fault part → Refuses fault whole
-refuses_more Malformed part whole more h = more h
-refuses_more Memory part whole more h = tt
+-- a fault in a part stops the whole
+pub stops_at : {U V : Type 0} (fault : Fault) (halt : Halt) (refusal : Refusal) (part : Option U) (whole : Result V Refusal) → halt_refusal halt ≡ fault_refusal fault refusal
+    → Refuses fault part → (part ≡ None → whole ≡ Err refusal) → IfSome (halt_refusal halt) (λ reason. whole ≡ Err reason)
+stops_at Malformed halt refusal part whole e h stopped = rw e (stopped h)
+stops_at Memory halt refusal part whole e h stopped = rw e tt
+
+-- what is answered with a refusal is refused
+pub refused_as : {U : Type 0} (error : XmlError) (answer : Result U Refusal) (expected : Option U) → result_ok answer ≡ expected
+    → IfSome (error_refusal error) (λ refusal. answer ≡ Err refusal) → IsRefused error expected
+refused_as (errors.NotWellFormed at) answer expected e h = sym e ∙ ap result_ok h
+refused_as errors.DocumentType answer expected e h = sym e ∙ ap result_ok h
+refused_as errors.Encoding answer expected e h = sym e ∙ ap result_ok h
+refused_as errors.OutOfMemory answer expected e h = tt

@@ -4,6 +4,7 @@ pub mod BehindLemmas
 pub mod BindingLemmas
 pub mod BuilderLemmas
 pub mod BytesLemmas
+pub mod CharacterLemmas
 pub mod DistinctLemmas
 pub mod EachLemmas
 pub mod ElementLemmas
@@ -20,6 +21,8 @@ pub mod ReadNamesLemmas
 pub mod ReadNodesLemmas
 pub mod ReadValuesLemmas
 pub mod ReaderLemmas
+pub mod RefusalLemmas
+pub mod RefusalRows
 pub mod Rows
 pub mod ScanLemmas
 pub mod SequenceLemmas

@@ -12,6 +12,7 @@ pub mod Readable
 pub mod ReadableDocuments
 pub mod Reading
 pub mod References
+pub mod Refusals
 pub mod Scanning
 pub mod Sequences
 pub mod Views

@@ -1,6 +1,6 @@
 //! Characters.
-ghost use Rattle.std.specs.Prelude.{◌≡◌, ◌≤◌, length, IfOk, false, chars, string_bytes, encode_utf8_all};
-ghost use Rattle.std.specs.List.{list_all, prefix_len};
+ghost use Rattle.std.specs.Prelude.{◌≡◌, IfOk, false, chars, string_bytes, encode_utf8_all};
+ghost use Rattle.dav_xml_core.specs.Refusals.{no_char_at, bytes_before};
 ghost use Rattle.dav_xml_core.specs.Characters as spec;
 
 use std::alloc::{AllocError, Global};
@@ -23,34 +23,25 @@ pub(super) fn is_white(c: char) -> bool
     c == ' ' || c == '\t' || c == '\r' || c == '\n'
 }
 
-/// The characters of a text.
-pub(super) fn chars_of(alloc: Global, text: &str) -> Result<Vec<char>, AllocError>
-    ensures { IfOk result (λ x. x.items ≡ chars text.now) }
+/// Where the first character begins that no document may hold.
+pub(super) fn no_char_at(text: &str) -> Option<usize>
+    ensures { result ≡ no_char_at 0 (chars text.now) }
 {
-    text.chars().collect(alloc)
-}
-
-/// How many characters stand before the first that no document may hold.
-pub(super) fn valid_len(text: &[char]) -> usize
-    ensures len { result ≡ prefix_len spec.is_char text.now }
-    ensures within { result ≤ length text.now }
-{
-    for (i, c) in text.iter().enumerate() {
-        if !is_char(*c) {
-            return i;
+    for (at, c) in text.char_indices() {
+        if !is_char(c) {
+            return Some(at);
         }
     }
-    text.len()
+    None
 }
 
 /// The characters with one line feed at the end of each line.
-pub(super) fn lines_of(alloc: Global, text: &[char]) -> Result<Vec<char>, AllocError>
-    ensures { IfOk result (λ x. x.items ≡ spec.lines_from false text.now) }
+pub(super) fn lines_of(alloc: Global, text: &str) -> Result<Vec<char>, AllocError>
+    ensures { IfOk result (λ x. x.items ≡ spec.lines_from false (chars text.now)) }
 {
     let mut lines = Vec::new(alloc);
     let mut after_return = false;
-    for c in text {
-        let c = *c;
+    for c in text.chars() {
         if c == '\r' {
             lines.push('\n')?;
             after_return = true;
@@ -64,16 +55,28 @@ pub(super) fn lines_of(alloc: Global, text: &[char]) -> Result<Vec<char>, AllocE
     Ok(lines)
 }
 
+/// Where the character begins that so many stand before, where a carriage return and a line feed are one.
+pub(super) fn byte_at(text: &str, characters: usize) -> usize
+    ensures { result ≡ bytes_before false characters (chars text.now) }
+{
+    let mut before = characters;
+    let mut after_return = false;
+    for (at, c) in text.char_indices() {
+        if c == '\n' && after_return {
+            after_return = false;
+        } else if before == 0 {
+            return at;
+        } else {
+            before -= 1;
+            after_return = c == '\r';
+        }
+    }
+    text.len()
+}
+
 /// The characters as a text.
 pub(super) fn text_of(alloc: Global, chars: &[char]) -> Result<String, AllocError>
     ensures { IfOk result (λ text. string_bytes text ≡ encode_utf8_all chars.now) }
 {
     chars.iter().copied().collect(alloc)
-}
-
-/// Whether a document may hold each of the characters.
-pub(super) fn all_chars(text: &[char]) -> bool
-    ensures { result ≡ list_all spec.is_char text.now }
-{
-    text.iter().all(|c| is_char(*c))
 }

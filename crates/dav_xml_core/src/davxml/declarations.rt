@@ -3,6 +3,7 @@ ghost use Rattle.std.specs.Prelude.{◌≡◌, ◌≤◌, length, map, option_ma
 ghost use Rattle.std.specs.List.{list_all};
 ghost use Rattle.dav_xml_core.specs.Declarations as spec;
 ghost use Rattle.dav_xml_core.specs.Gives.{Gives};
+ghost use Rattle.dav_xml_core.specs.Refusals.{names_another_encoding};
 ghost use Rattle.dav_xml_core.specs.Views.{raw_attribute_of};
 
 use super::errors::Fault;
@@ -95,7 +96,9 @@ pub(super) fn are_fields(fields: &[RawAttribute]) -> bool
 }
 
 /// Whether the second field is of another encoding.
-pub(super) fn names_another_encoding(fields: &[RawAttribute]) -> bool {
+pub(super) fn names_another_encoding(fields: &[RawAttribute]) -> bool
+    ensures { result ≡ names_another_encoding (map raw_attribute_of fields.now) }
+{
     match fields {
         [_, field, ..] => is_encoding(field) && !is_utf8(field.raw),
         _ => false,

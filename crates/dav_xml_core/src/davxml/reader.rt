@@ -1,19 +1,15 @@
 //! Documents read from bytes.
-ghost use Rattle.std.specs.Prelude.{◌≡◌, ◌≢◌, ◌≤◌, length, map, option_map, true, IfOk};
+ghost use Rattle.std.specs.Prelude.{◌≡◌, chars, false, length, map, option_map, true, IfOk, Err};
+ghost use Rattle.dav_xml_core.specs.Characters.{lines_from};
 ghost use Rattle.dav_xml_core.specs.Documents.{is_element};
-ghost use Rattle.std.specs.List.{list_all};
-ghost use Rattle.dav_xml_core.specs.Characters as chars_spec;
-ghost use Rattle.dav_xml_core.specs.Declarations as declarations;
-ghost use Rattle.dav_xml_core.specs.Gives.{Gives, Yields, IsReadAs};
-ghost use Rattle.dav_xml_core.specs.declared.davxml.errors.Fault.TheVariants.{Malformed, Memory};
-ghost use Rattle.dav_xml_core.specs.declared.davxml.errors.Halt.TheVariants as halts;
-ghost use Rattle.dav_xml_core.specs.declared.davxml.errors.XmlError.TheVariants as errors;
+ghost use Rattle.dav_xml_core.specs.Gives.{Gives, Answers, IsReadAs, error_refusal, fault_refusal, halt_refusal};
 ghost use Rattle.dav_xml_core.specs.Reading as spec;
 ghost use Rattle.dav_xml_core.specs.ReadableDocuments.{CouldBeRead};
+ghost use Rattle.dav_xml_core.specs.Refusals as refusals;
 ghost use Rattle.dav_xml_core.specs.Views.{front_of, node_of};
 
 use super::builder::{Builder, new_builder};
-use super::characters::{all_chars, chars_of, lines_of, valid_len};
+use super::characters::{byte_at, lines_of, no_char_at};
 use super::declarations::{are_fields, declaration_at, fields_at, names_another_encoding};
 use super::documents::{Document, Node};
 use super::errors::{Fault, Halt, XmlError};
@@ -23,8 +19,7 @@ use std::alloc::Global;
 
 /// Why reading stops where this text is left.
 fn halt(fault: Fault, rest: &[char]) -> Halt
-    ensures memory { fault ≡ Memory → result ≡ halts.Memory }
-    ensures malformed { fault ≡ Malformed → result ≢ halts.Memory }
+    ensures { halt_refusal result ≡ fault_refusal fault (refusals.refusal_at rest.now) }
 {
     match fault {
         Fault::Memory => Halt::Memory,
@@ -66,7 +61,7 @@ fn finished(builder: Builder) -> Option<Vec<Node>>
 
 /// The nodes of a text behind its declaration. Each piece takes a character, so there are no more than characters.
 fn nodes_of(alloc: Global, text: &[char]) -> Result<Vec<Node>, Halt>
-    ensures { Yields (λ x. map node_of x.items) result (spec.nodes_of text.now) }
+    ensures { Answers (λ x. map node_of x.items) halt_refusal result (refusals.nodes_answer text.now) }
 {
     let mut builder = new_builder(alloc)?;
     let mut rest = text;
@@ -87,9 +82,9 @@ fn nodes_of(alloc: Global, text: &[char]) -> Result<Vec<Node>, Halt>
 }
 
 /// What follows the declaration, where there is one.
-#[tactic(auto, using(crate::proofs::GivesLemmas::stops_from), unfolding(crate::specs::Declarations::after_declaration))]
+#[tactic(auto, unfolding(crate::specs::Refusals::declaration_answer))]
 fn after_declaration(alloc: Global, text: &[char]) -> Result<&[char], Halt>
-    ensures { Yields (λ x. x.now) result (declarations.after_declaration text.now) }
+    ensures { Answers (λ x. x.now) halt_refusal result (refusals.declaration_answer text.now) }
 {
     let Some(rest) = declaration_at(text) else {
         return Ok(text);
@@ -103,7 +98,7 @@ fn after_declaration(alloc: Global, text: &[char]) -> Result<&[char], Halt>
             if names_another_encoding(&fields) {
                 return Err(Halt::Encoding);
             }
-            Err(Halt::Malformed { left: text.len() })
+            Err(halt(Fault::Malformed, text))
         }
     }
 }
@@ -117,75 +112,63 @@ fn without_mark(text: &[char]) -> &[char]
     }
 }
 
-#[tactic(auto, unfolding(crate::specs::Reading::content_nodes))]
+#[tactic(auto, unfolding(crate::specs::Refusals::content_answer))]
 fn content_nodes(alloc: Global, text: &[char]) -> Result<Vec<Node>, Halt>
-    ensures { Yields (λ x. map node_of x.items) result (spec.content_nodes text.now) }
+    ensures { Answers (λ x. map node_of x.items) halt_refusal result (refusals.content_answer text.now) }
 {
     let rest = after_declaration(alloc, without_mark(text))?;
     nodes_of(alloc, rest)
 }
 
-/// Where the character begins that so many stand before. With `lines` a carriage return and a line feed are one.
-fn byte_at(bytes: &[u8], characters: usize, lines: bool) -> usize
-    ensures { result ≤ length bytes.now }
+/// Whether a byte order mark of UTF-16 stands at the front.
+fn has_utf16_mark(bytes: &[u8]) -> bool
+    ensures { result ≡ refusals.has_utf16_mark bytes.now }
 {
-    let mut count = 0usize;
-    let mut after_return = false;
-    for (i, b) in bytes.iter().enumerate() {
-        let b = *b;
-        let goes_on = (128 <= b && b < 192) || (lines && after_return && b == b'\n');
-        if !goes_on {
-            if count == characters {
-                return i;
-            }
-            count = count.wrapping_add(1);
-        }
-        after_return = b == b'\r';
-    }
-    bytes.len()
+    matches!(bytes, [0xFE, 0xFF, ..] | [0xFF, 0xFE, ..])
 }
 
-/// Why bytes that are no UTF-8 are refused, the first so many of which are.
-fn not_utf8(bytes: &[u8], valid: usize) -> XmlError
-    ensures { result ≢ errors.OutOfMemory }
-{
-    match bytes {
-        [0xFE, 0xFF, ..] | [0xFF, 0xFE, ..] => XmlError::Encoding,
-        _ => XmlError::NotWellFormed { at: valid },
-    }
-}
-
-/// The characters of the bytes.
-#[tactic(auto, using(crate::proofs::GivesLemmas::any_refusal, crate::proofs::Utf8Lemmas::utf8_test, crate::proofs::Utf8Lemmas::utf8_fails))]
-fn characters(alloc: Global, bytes: &[u8]) -> Result<Vec<char>, XmlError>
-    ensures { IsReadAs (λ x. x.items) result (chars_spec.characters bytes.now) }
+/// The bytes as a text, of which a document may hold each character.
+#[tactic(auto, using(crate::proofs::Utf8Lemmas::utf8_test, crate::proofs::Utf8Lemmas::utf8_fails), unfolding(crate::specs::Refusals::characters_answer))]
+fn text_in(bytes: &[u8]) -> Result<&str, XmlError>
+    ensures { Answers (λ x. chars x.now) error_refusal result (refusals.characters_answer bytes.now) }
 {
     match std::str::from_utf8(bytes) {
-        Err(e) => Err(not_utf8(bytes, e.valid_up_to())),
-        Ok(text) => {
-            let chars = chars_of(alloc, text)?;
-            if !all_chars(&chars) {
-                let at = byte_at(bytes, valid_len(&chars), false);
-                return Err(XmlError::NotWellFormed { at });
-            }
-            let lines = lines_of(alloc, &chars)?;
-            Ok(lines)
-        }
+        Ok(text) => match no_char_at(text) {
+            Some(at) => Err(XmlError::NotWellFormed { at }),
+            None => Ok(text),
+        },
+        Err(_) if has_utf16_mark(bytes) => Err(XmlError::Encoding),
+        Err(e) => Err(XmlError::NotWellFormed {
+            at: e.valid_up_to(),
+        }),
     }
 }
 
-/// Why a text of so many characters isn't read.
-fn error_of(halt: Halt, bytes: &[u8], characters: usize) -> XmlError
-    ensures memory { halt ≡ halts.Memory → result ≡ errors.OutOfMemory }
-    ensures other { halt ≢ halts.Memory → result ≢ errors.OutOfMemory }
+/// Why a text isn't read whose lines have so many characters.
+fn error_of(halt: Halt, text: &str, characters: usize) -> XmlError
+    requires { characters ≡ length (lines_from false (chars text.now)) }
+    ensures { error_refusal result ≡ option_map (refusals.in_bytes (chars text.now)) (halt_refusal halt) }
 {
     match halt {
         Halt::Malformed { left } => XmlError::NotWellFormed {
-            at: byte_at(bytes, characters.saturating_sub(left), true),
+            at: byte_at(text, characters.saturating_sub(left)),
         },
         Halt::DocumentType => XmlError::DocumentType,
         Halt::Encoding => XmlError::Encoding,
         Halt::Memory => XmlError::OutOfMemory,
+    }
+}
+
+/// The nodes of the document that the bytes spell.
+#[tactic(auto, unfolding(crate::specs::Refusals::answer_of))]
+fn nodes_in(alloc: Global, bytes: &[u8]) -> Result<Vec<Node>, XmlError>
+    ensures { Answers (λ x. map node_of x.items) error_refusal result (refusals.answer_of bytes.now) }
+{
+    let text = text_in(bytes)?;
+    let lines = lines_of(alloc, text)?;
+    match content_nodes(alloc, &lines) {
+        Ok(nodes) => Ok(nodes),
+        Err(halt) => Err(error_of(halt, text, lines.len())),
     }
 }
 
@@ -194,17 +177,15 @@ fn error_of(halt: Halt, bytes: &[u8], characters: usize) -> XmlError
 /// wrong, or the length where the bytes end too early; `DocumentType` comes where `<!DOCTYPE` stands in such a place, and
 /// `Encoding` where a declaration names another encoding than UTF-8, or a byte order mark says UTF-16. It takes time in
 /// proportion to the bytes, and to the bindings of prefixes that hold at each name.
-#[tactic(auto, unfolding(crate::specs::Reading::document_of))]
 pub fn read(alloc: Global, bytes: &[u8]) -> Result<Document, XmlError>
     ensures document { IsReadAs (λ x. map node_of x.nodes.items) result (spec.document_of bytes.now) }
+    // Each refusal exactly where it is due, and with its place.
+    ensures answer { Answers (λ x. map node_of x.nodes.items) error_refusal result (refusals.answer_of bytes.now) }
     // Each element that begins ends, and they are all inside the first.
     ensures element { IfOk result (λ x. is_element (map node_of x.nodes.items) ≡ true) }
     // So what is written for it is read again as it is.
     ensures readable { IfOk result (λ x. CouldBeRead (map node_of x.nodes.items)) }
 {
-    let text = characters(alloc, bytes)?;
-    match content_nodes(alloc, &text) {
-        Ok(nodes) => Ok(Document { nodes }),
-        Err(halt) => Err(error_of(halt, bytes, text.len())),
-    }
+    let nodes = nodes_in(alloc, bytes)?;
+    Ok(Document { nodes })
 }

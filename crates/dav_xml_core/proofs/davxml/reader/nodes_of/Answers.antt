@@ -1,31 +1,32 @@
 use Rattle.std.proofs.Common.{◌≡◌, sym, ap, ◌∙◌, ◌<◌, ◌≤◌, ◌-◌, suc, arith, length, map, Vec, Global}
+use Rattle.std.specs.Option.{ok_or}
 use Rattle.std.proofs.lemmas.Bool.{eqb-true, eqb-false}
-use Rattle.dav_xml_core.specs.Gives.{Refuses}
-use Rattle.dav_xml_core.specs.Reading.{Front, step, nodes_of, finished}
+use Rattle.dav_xml_core.specs.Reading.{Front, step, finished}
+use Rattle.dav_xml_core.specs.Refusals.{NotWellFormed, read_on, nodes_answer}
 use Rattle.dav_xml_core.specs.Views.{front_of, node_of}
 use Rattle.dav_xml_core.specs.declared.davxml.documents.Node.{Node}
-use Rattle.dav_xml_core.proofs.GivesLemmas.{stops_from, yields_from, refuses_more}
-use Rattle.dav_xml_core.proofs.ReaderLemmas.{rest_of, starts, ends, goes_on, fails, exhausted}
+use Rattle.dav_xml_core.proofs.GivesLemmas.{answers_at_end, stops_at}
+use Rattle.dav_xml_core.proofs.RefusalLemmas.{begins, ends, goes_on, fails, exhausted}
 use Rattle.dav_xml_core.proofs.davxml.reader.nodes_of.Goals as goal
 
 pub loop-init : goal.loop-init
-loop-init c = ap (λ (front : Front). rest_of front (suc (length c.args.text.now) - 0) c.args.text.now) c.in_ok-builder.ensures ∙ starts c.args.text.now
+loop-init c = ap (λ (front : Front). read_on front (suc (length c.args.text.now) - 0) c.args.text.now) c.in_ok-builder.ensures ∙ begins c.args.text.now
 
 pub returns-then-is_empty : goal.returns-then-is_empty
 returns-then-is_empty c =
     let n = suc (length c.args.text.now) in
     let lt : c.loop.counter < n = omega arith in
     let empty : length c.loop.rest.now ≡ 0 = eqb-true _ 0 (sym c.is_empty.ensures ∙ c.if-is_empty.true) in
-    let whole : nodes_of c.args.text.now ≡ finished (front_of c.loop.builder) = ends (front_of c.loop.builder) n c.loop.counter c.loop.rest.now _ lt empty c.loop.invariant in
-    yields_from (λ (x : Vec Node Global). map node_of x.items) c.finished.result 0 _ c.ok_or.result (c.finished.ensures ∙ sym whole) c.ok_or.ensures.value
+    let whole : nodes_answer c.args.text.now ≡ ok_or (finished (front_of c.loop.builder)) (NotWellFormed 0) = ends (front_of c.loop.builder) n c.loop.counter c.loop.rest.now _ lt empty c.loop.invariant in
+    rw whole (answers_at_end (λ (x : Vec Node Global). map node_of x.items) c.finished.result _ c.ok_or.result c.finished.ensures c.ok_or.ensures.value)
 
 pub returns-in-Err : goal.returns-in-Err
 returns-in-Err c =
     let n = suc (length c.args.text.now) in
     let lt : c.loop.counter < n = omega arith in
     let more : length c.loop.rest.now ≡ 0 → ⊥ = eqb-false _ 0 (sym c.is_empty.ensures ∙ c.if-is_empty.false) in
-    let refused : Refuses c.in-Err.fault (nodes_of c.args.text.now) = refuses_more c.in-Err.fault (step (front_of c.loop.builder) c.loop.rest.now) _ (λ e. fails (front_of c.loop.builder) n c.loop.counter c.loop.rest.now _ lt more e c.loop.invariant) c.in-Err.ensures in
-    stops_from c.in-Err.fault c.halt.result _ c.halt.ensures.memory refused
+    stops_at c.in-Err.fault c.halt.result _ (step (front_of c.loop.builder) c.loop.rest.now) _ c.halt.ensures c.in-Err.ensures
+    (λ e. fails (front_of c.loop.builder) n c.loop.counter c.loop.rest.now _ lt more e c.loop.invariant)
 
 pub loop-preserved : goal.loop-preserved
 loop-preserved c =

@@ -3,10 +3,14 @@ use Rattle.std.proofs.Common.{◌≡◌, ◌⊎◌, ℕ, List, [], ◌∷◌, No
 use Rattle.http_header.specs.FieldValue.{FieldValue}
 use Rattle.http_header.specs.HeaderMap.{Entries, get_all}
 use Rattle.url.specs.Parts.{Parts}
+use Rattle.dav_path_core.specs.PathText.{PathText}
+use Rattle.dav_headers_core.specs.IfValues.{Located, ReadsAs}
 use Rattle.dav_headers_core.specs.Urls.{url_of}
+use Rattle.dav_resource_core.specs.Step.{State}
+use Rattle.dav_handler_core.specs.declared.conditions.bases.Scheme.{Scheme}
 use Rattle.dav_handler_core.specs.declared.faults.Fault.{Fault}
 use Rattle.dav_handler_core.specs.declared.faults.Fault.TheVariants as fault
-use Rattle.dav_handler_core.specs.Admitting.{IsBase, base_text}
+use Rattle.dav_handler_core.specs.Admitting.{IsBase, IsHeldOff, base_text}
 
 -- a text is what its bytes spell
 pub text_is : {E : Type 0} (bytes : List ℕ) (Q : E → Type 0) (r : Result (Bor (List ℕ)) E) (s : Bor (List ℕ)) → MatchResult r (λ s. (s.now ≡ bytes) × IsUtf8 bytes) Q → r ≡ Ok s
@@ -17,18 +21,24 @@ text_is bytes Q (Err e) s x is = cc
 abbrev UrlIs : List ℕ → Result Parts Fault → Type 0
 UrlIs text r = MatchResult r (λ url. url_of text ≡ Some url) (λ e. (e ≡ fault.InsufficientStorage) ⊎ ((e ≡ fault.BadRequest) × (url_of text ≡ None)))
 
-module _ (headers : Entries FieldValue) (value : FieldValue) (one : get_all headers (codes "host") ≡ value ∷ []) (utf8 : IsUtf8 value.bytes) (text : List ℕ)
-    (is : text ≡ base_text value.bytes) where
-  pub base_ok : (r : Result Parts Fault) → UrlIs text r → IfOk r (λ base. IsBase headers base)
+module _ (scheme : Scheme) (headers : Entries FieldValue) (value : FieldValue) (one : get_all headers (codes "host") ≡ value ∷ []) (utf8 : IsUtf8 value.bytes) (text : List ℕ)
+    (is : text ≡ base_text scheme value.bytes) where
+  pub base_ok : (r : Result Parts Fault) → UrlIs text r → IfOk r (λ base. IsBase scheme headers base)
   base_ok (Ok url) x = (value, one, utf8, subst (λ t. url_of t ≡ Some url) is x)
   base_ok (Err e) x = tt
 
-  no_base : url_of text ≡ None → (base : Parts) → IsBase headers base → ⊥
-  no_base none base b =
+  none_spelled : url_of text ≡ None → (base : Parts) → IsBase scheme headers base → ⊥
+  none_spelled none base b =
       let same : b.0 ≡ value = ap (λ (values : List FieldValue). get_or values 0 value) (sym b.1 ∙ one) in
-      let some = sym (subst (λ t. url_of t ≡ None) is none) ∙ ap (λ (v : FieldValue). url_of (base_text v.bytes)) (sym same) ∙ b.3 in cc
+      let some = sym (subst (λ t. url_of t ≡ None) is none) ∙ ap (λ (v : FieldValue). url_of (base_text scheme v.bytes)) (sym same) ∙ b.3 in cc
 
-  pub base_err : (r : Result Parts Fault) → UrlIs text r → IfErr r (λ e. (e ≡ fault.InsufficientStorage) ⊎ ((e ≡ fault.BadRequest) × ((base : Parts) → ¬ IsBase headers base)))
+  pub base_err : (r : Result Parts Fault) → UrlIs text r → IfErr r (λ e. (e ≡ fault.InsufficientStorage) ⊎ ((e ≡ fault.BadRequest) × ((base : Parts) → ¬ IsBase scheme headers base)))
   base_err (Ok url) x = tt
   base_err (Err e) (inl x) = inl x
-  base_err (Err e) (inr x) = inr (x.0, no_base x.1)
+  base_err (Err e) (inr x) = inr (x.0, none_spelled x.1)
+
+-- a request with an `If` that is read, and no base
+pub no_base : (scheme : Scheme) (s : State) (headers : Entries FieldValue) (here : PathText) (lists : List Located) (e : Fault) → ReadsAs (get_all headers (codes "if")) lists
+    → (e ≡ fault.InsufficientStorage) ⊎ ((e ≡ fault.BadRequest) × ((base : Parts) → ¬ IsBase scheme headers base)) → IsHeldOff scheme s headers here e
+no_base scheme s headers here lists e reads (inl short) = subst (IsHeldOff scheme s headers here) (sym short) tt
+no_base scheme s headers here lists e reads (inr none) = subst (IsHeldOff scheme s headers here) (sym none.0) (inr (lists, reads, none.1))

@@ -1,6 +1,6 @@
 -- How answers of methods are answers of the server.
-use Rattle.std.proofs.Common.{◌≡◌, ◌≢◌, ◌⊎◌, inl, inr, Bool, true, false, ℕ, ◌<◌, List, [], Option, None, Some, Result, Ok, Err, ◌∙◌, sym, subst}
-use Rattle.std.specs.Prelude.{IfOk, IfErr, IsTrue, MatchResult, ◌↔◌}
+use Rattle.std.proofs.Common.{◌≡◌, ◌⊎◌, inl, inr, Bool, true, false, ℕ, ◌<◌, ◌≤◌, List, [], ◌∷◌, length, Option, Some, Result, Ok, Err, ◌∙◌, sym, ap, subst}
+use Rattle.std.specs.Prelude.{IfOk, IfErr, OnOk, IsTrue, ◌↔◌}
 use Rattle.std.proofs.lemmas.Bool.{true≢false}
 use Rattle.http.specs.declared.request.Request.{Request}
 use Rattle.http.specs.Request.{head_of, body_of}
@@ -10,18 +10,28 @@ use Rattle.dav_path_core.specs.declared.util.DavMethod.{DavMethod}
 use Rattle.dav_path_core.specs.declared.util.DavMethod.TheVariants as method
 use Rattle.dav_path_core.specs.PathText.{PathText}
 use Rattle.dav_path_core.specs.Segments.{segments}
-use Rattle.dav_files_core.specs.Resources.{IsResourceMap, at_path}
+use Rattle.dav_path_core.specs.Fronts.{Path}
+use Rattle.dav_files_core.specs.Putting.{put}
+use Rattle.dav_files_core.specs.Resources.{IsResourceMap, ResourceMap, at_path}
 use Rattle.dav_locks_core.specs.Exclusive.{Exclusive}
-use Rattle.dav_resource_core.specs.Step.{State}
+use Rattle.dav_resource_core.specs.Requests.{Command}
+use Rattle.dav_resource_core.specs.Step.{State, conflicts}
+use Rattle.dav_handler_core.specs.declared.conditions.bases.Scheme.{Scheme}
 use Rattle.dav_handler_core.specs.declared.faults.Fault.{Fault}
 use Rattle.dav_handler_core.specs.declared.faults.Fault.TheVariants as fault
-use Rattle.dav_handler_core.specs.Answers.{Options, Server, Names, IsFrom, IsWhole, Unread, GetAnswers, PutAnswers, AnswersTo, Moves}
+use Rattle.dav_handler_core.specs.Admitting.{IsAdmitted, IsHeldOff}
+use Rattle.dav_handler_core.specs.Answers.{Admits, AnswersTo, Begins, Fails, GetAnswers, HoldsOff, IsFrom, IsWhole, Moves, Names, Options, PutAnswers, Server, Unread}
 use Rattle.dav_handler_core.specs.Answers.Unread.{memory, target, principal, tokens, moment}
-use Rattle.dav_handler_core.specs.Callers.{Caller}
-use Rattle.dav_handler_core.proofs.CallerLaws.{keeps_apart}
-use Rattle.dav_handler_core.specs.Putting.{Puts, RefusesPut, in_the_way, put_status}
+use Rattle.dav_handler_core.specs.Callers.{Caller, RunBy, asking, live}
+use Rattle.dav_handler_core.specs.Fields.{Sent}
+use Rattle.dav_handler_core.specs.FileTags.{file_tag}
+use Rattle.dav_handler_core.specs.Getting.{FailsToGet, Gets, tagged}
+use Rattle.dav_handler_core.specs.Private.Begun.{IsHeld}
+use Rattle.dav_handler_core.specs.Putting.{FailsToPut, Puts, in_the_way, put_course, put_status}
 use Rattle.dav_handler_core.specs.Refusals.{RefusesTarget, RefusesPrincipal, HasBadIf, HasPart, IsLastMoment}
 use Rattle.dav_handler_core.specs.Senders.{NamesPrincipal}
+use Rattle.dav_handler_core.proofs.Asking.{by_join}
+use Rattle.dav_handler_core.proofs.CallerLaws.{keeps_apart}
 
 -- ---- a request that asks for nothing
 
@@ -50,15 +60,77 @@ module _ (options : Options) (request : Request (List ℕ)) (last : ℕ) (change
   by_moment path who names from h =
       subst (λ (x : Fault). Unread options request last changes x) (sym h.0) (moment path who names from h.1 h.2)
 
--- ---- GET
+-- ---- a request that is begun
 
--- a GET that was begun, from a state that is that of the server before
-pub get_refused : (before : Server) (request : Request (List ℕ)) (path : PathText) (who : Caller) (s : State) (e : Fault) (body : List ℕ)
-    → Names before.options request path → IsFrom before.options request who → s ≡ before.state
-    → (e ≡ fault.InsufficientStorage) ⊎ ((e ≡ fault.NotFound) × (at_path s.map (segments path.bytes) ≡ None)) → GetAnswers before request (Err e) body
-get_refused before request path who s e body names from same (inl h) = inl (short before.options request before.last false e h)
-get_refused before request path who s e body names from same (inr h) =
-    inr ((who, from), (path, names, h.0, subst (λ (x : State). at_path x.map (segments path.bytes) ≡ None) same h.1))
+-- what holds of a request holds of it where its moment stays
+pub begins_on : (before mid after : Server) (request : Request (List ℕ)) (path : PathText) (who : Caller) → after.last ≡ mid.last
+    → Begins before request mid path who → Begins before request after path who
+begins_on before mid after request path who same h = record { names = h.names; from = h.from; now = h.now ∙ sym same }
+
+pub admits_on : (before mid after : Server) (request : Request (List ℕ)) (path : PathText) → after.last ≡ mid.last
+    → Admits before request mid path → Admits before request after path
+admits_on before mid after request path same h =
+    subst (λ n. IsAdmitted before.options.scheme (live n before.state) (head_of request).headers path) (sym same) h
+
+held_on : (before mid after : Server) (request : Request (List ℕ)) (path : PathText) (e : Fault) → after.last ≡ mid.last
+    → HoldsOff before request mid path e → HoldsOff before request after path e
+held_on before mid after request path e same h =
+    subst (λ n. IsHeldOff before.options.scheme (live n before.state) (head_of request).headers path e) (sym same) h
+
+-- what holds it off, by the stores and the headers before it
+pub held_there : (before : Server) (request : Request (List ℕ)) (headers : Entries FieldValue) (path : PathText) (e : Fault) (scheme : Scheme) (now later : ℕ) (s : State)
+    → scheme ≡ before.options.scheme → now ≡ later → s ≡ before.state → headers ≡ (head_of request).headers → IsHeldOff scheme (live now s) headers path e
+    → IsHeldOff before.options.scheme (live later before.state) (head_of request).headers path e
+held_there before request headers path e scheme now later s of at same is h =
+    let there = subst (λ h. IsHeldOff scheme (live now s) h path e) is h in
+    let schemes = subst (λ x. IsHeldOff x (live now s) (head_of request).headers path e) of there in
+    let stores = subst (λ (t : State). IsHeldOff before.options.scheme (live now t) (head_of request).headers path e) same schemes in
+    subst (λ n. IsHeldOff before.options.scheme (live n before.state) (head_of request).headers path e) at stores
+
+-- what the method does behind it is the caller's, too
+pub moves_on : (before mid after : Server) (request : Request (List ℕ)) (path : PathText) (who : Caller) → Begins before request mid path who → Moves before request mid
+    → RunBy who before.state mid.state → RunBy who mid.state after.state → after.last ≡ mid.last → after.options ≡ mid.options → after.clock ≡ mid.clock
+    → Moves before request after
+moves_on before mid after request path who begins moves first more last options clock = record {
+  by_caller = inr (who, begins.from, begins.now ∙ sym last, by_join who before.state mid.state after.state first more);
+  moments = subst (λ n. before.last ≤ n) (sym last) moves.moments;
+  options = options ∙ moves.options;
+  clock = clock ∙ moves.clock;
+}
+
+-- a request that its `If` holds off
+pub held_off : (before after : Server) (request : Request (List ℕ)) (e : Fault) (Refuses : Path → Caller → Type 0) → IsHeld before request after e
+    → Fails before request after e Refuses
+held_off before after request e Refuses h = record { path = h.0; who = h.1.0; begins = h.1.1; why = inl h.1.2 }
+
+-- one that is refused by its method
+module _ (before mid after : Server) (request : Request (List ℕ)) (path : PathText) (who : Caller) (same : after.last ≡ mid.last)
+    (begins : Begins before request mid path who) (admits : Admits before request mid path) where
+  pub refused_by : (e : Fault) (Refuses : Path → Caller → Type 0) → Refuses (segments path.bytes) who → Fails before request after e Refuses
+  refused_by e Refuses h = record {
+    path = path;
+    who = who;
+    begins = begins_on before mid after request path who same begins;
+    why = inr (admits_on before mid after request path same admits, h);
+  }
+
+  -- ---- GET
+
+  abbrev Headers : Entries FieldValue
+  Headers = (head_of request).headers
+
+  pub get_answered : (m : DavMethod) (map : ResourceMap) (result : Result ℕ Fault) (sent : Sent) → map ≡ before.state.map
+      → IfOk result (λ status. Gets m map (segments path.bytes) Headers status sent) → IfErr result (λ e. FailsToGet m map (segments path.bytes) Headers e)
+      → GetAnswers m before request result sent after
+  get_answered m map (Ok status) sent there done err = record {
+    path = path;
+    who = who;
+    begins = begins_on before mid after request path who same begins;
+    admits = admits_on before mid after request path same admits;
+    gets = subst (λ m'. Gets m m' (segments path.bytes) Headers status sent) there done;
+  }
+  get_answered m map (Err e) sent there done err =
+      inr (refused_by e (λ p who. FailsToGet m before.state.map p Headers e) (subst (λ m'. FailsToGet m m' (segments path.bytes) Headers e) there err))
 
 -- ---- PUT
 
@@ -69,44 +141,103 @@ whole_request request headers test same tests fails =
     let here = subst (λ (h : Entries FieldValue). HasPart h → IsTrue test) same tests.1 in
     λ part. absurd (true≢false (sym (here part) ∙ fails))
 
--- a PUT that wasn't begun
-pub put_unread : (before after : Server) (request : Request (List ℕ)) (e : Fault) → IsWhole request → Unread before.options request before.last true e
-    → PutAnswers before request (Err e) after
-put_unread before after request e whole h = inr (whole, inl h)
+-- a PUT that wasn't begun, or was held off
+pub put_unread : (before after : Server) (request : Request (List ℕ)) (e : Fault) (sent : Sent) → IsWhole request
+    → Unread before.options request before.last true e ⊎ IsHeld before request after e → PutAnswers before request (Err e) sent after
+put_unread before after request e sent whole (inl h) = inr (whole, inl h)
+put_unread before after request e sent whole (inr h) =
+    inr (whole, inr (held_off before after request e (λ p who. FailsToPut before.state who p (body_of request) (head_of request).headers e) h))
 
 -- a PUT whose body isn't shared
-pub put_short : (before after : Server) (request : Request (List ℕ)) (e : Fault) → IsWhole request → e ≡ fault.InsufficientStorage → PutAnswers before request (Err e) after
-put_short before after request e whole h = inr (whole, inl (short before.options request before.last true e h))
+pub put_short : (before after : Server) (request : Request (List ℕ)) (e : Fault) (sent : Sent) → IsWhole request → e ≡ fault.InsufficientStorage
+    → PutAnswers before request (Err e) sent after
+put_short before after request e sent whole h = inr (whole, inl (short before.options request before.last true e h))
 
--- a PUT that was begun, from a state that is that of the server before
-pub put_answers : (before after : Server) (request : Request (List ℕ)) (path : PathText) (who : Caller) (s : State) (bytes : List ℕ) (result : Result ℕ Fault)
-    → IsWhole request → Names before.options request path → IsFrom before.options request who → who.now ≡ after.last → before.last < who.now → s ≡ before.state → bytes ≡ body_of request
-    → IfOk result (λ code. (code ≡ put_status s.map (segments path.bytes)) × Puts s who.now (segments path.bytes) bytes after.state)
-    → IfErr result (λ e. RefusesPut s who (segments path.bytes) bytes e)
-    → (in_the_way s who (segments path.bytes) bytes ≢ [] → MatchResult result (λ _. ⊥) (λ e. (e ≡ fault.Locked) ⊎ (e ≡ fault.InsufficientStorage)))
-    → PutAnswers before request result after
-put_answers before after request path who s bytes (Ok code) whole names from now later same body done err off =
-    let p = segments path.bytes in
-    let at_start = subst (λ (s : State). (code ≡ put_status s.map p) × Puts s who.now p bytes after.state) same done in
-    let puts = subst (λ b. Puts before.state who.now p b after.state) body at_start.1 in
-    (whole, (who, from), (path, names, subst (λ n. before.last < n) now later, at_start.0, subst (λ n. Puts before.state n p (body_of request) after.state) now puts))
-put_answers before after request path who s bytes (Err e) whole names from now later same body done err off =
-    let p = segments path.bytes in
-    let refuses = subst (λ b. RefusesPut before.state who p b e) body (subst (λ (s : State). RefusesPut s who p bytes e) same err) in
-    let first = subst (λ b. in_the_way before.state who p b ≢ [] → (e ≡ fault.Locked) ⊎ (e ≡ fault.InsufficientStorage)) body
-    (subst (λ (s : State). in_the_way s who p bytes ≢ [] → (e ≡ fault.Locked) ⊎ (e ≡ fault.InsufficientStorage)) same off) in
-    inr (whole, inr (path, names, (who, from, now, refuses, first)))
+way : (s t : State) (who : Caller) (p : Path) (bytes : List ℕ) → live who.now s ≡ live who.now t → in_the_way s who p bytes ≡ in_the_way t who p bytes
+way s t who p bytes same = ap (λ (x : State). conflicts x (asking who (Command.Put p bytes))) same
+
+-- a refusal of a PUT looks at the map, and at the locks that last
+fails_alike : (s t : State) (who : Caller) (p : Path) (bytes : List ℕ) (headers : Entries FieldValue) (e : Fault) → s.map ≡ t.map → live who.now s ≡ live who.now t
+    → FailsToPut s who p bytes headers e → FailsToPut t who p bytes headers e
+fails_alike s t who p bytes headers fault.InsufficientStorage map locks h = tt
+fails_alike s t who p bytes headers fault.Locked map locks h = λ none. h (way s t who p bytes locks ∙ none)
+fails_alike s t who p bytes headers fault.MethodNotAllowed map locks h =
+    (sym (way s t who p bytes locks) ∙ h.0, (h.1.0, ap (λ m. at_path m p) (sym map) ∙ h.1.1, h.1.2))
+fails_alike s t who p bytes headers fault.Conflict map locks h =
+    (sym (way s t who p bytes locks) ∙ h.0, ap (λ m. at_path m p) (sym map) ∙ h.1, (h.2.0, ap (λ m. put m p bytes who.now) (sym map) ∙ h.2.1))
+fails_alike s t who p bytes headers _ map locks h = (
+  (sym (way s t who p bytes locks) ∙ h.0.0, (h.0.1.0, ap (λ m. put m p bytes who.now) (sym map) ∙ h.0.1.1)),
+  ap (λ m. put_course m p headers) (sym map) ∙ h.1,
+)
+
+-- A PUT that was begun, from stores that have what those of the server before have.
+module _ (before mid after : Server) (request : Request (List ℕ)) (path : PathText) (who : Caller) (same : after.last ≡ mid.last)
+    (begins : Begins before request mid path who) (admits : Admits before request mid path) (later : before.last < mid.last) (s : State)
+    (whole : IsWhole request) where
+  abbrev Here : Path
+  Here = segments path.bytes
+
+  pub put_done : (status : ℕ) (sent : Sent) → s.map ≡ before.state.map → live mid.last s ≡ live mid.last before.state → put_course s.map Here (head_of request).headers ≡ Ok tt
+      → status ≡ put_status s.map Here → Puts s who.now Here (body_of request) after.state
+      → sent.marks ≡ tagged (file_tag who.now (length (body_of request)) ∷ []) → PutAnswers before request (Ok status) sent after
+  put_done status sent there alike course is puts marks =
+      let now : who.now ≡ after.last = begins.now ∙ sym same in
+      let put : Puts before.state after.last Here (body_of request) after.state = record {
+        file = puts.file;
+        here = puts.here;
+        kind = puts.kind;
+        bytes_are = puts.bytes_are;
+        modified = puts.modified ∙ now;
+        others = λ q apart. puts.others q apart ∙ ap (λ m. at_path m q) there;
+        left = puts.left ∙ ap (λ (t : State). record t { map = after.state.map })
+            (ap (λ n. live n s) begins.now ∙ alike ∙ ap (λ n. live n before.state) (sym same));
+      } in (
+        whole,
+        record {
+          path = path;
+          who = who;
+          begins = begins_on before mid after request path who same begins;
+          later = subst (λ n. before.last < n) (sym same) later;
+          admits = admits_on before mid after request path same admits;
+          course = subst (λ m. put_course m Here (head_of request).headers ≡ Ok tt) there course;
+          status_is = is ∙ ap (λ m. put_status m Here) there;
+          puts = put;
+          marks = marks ∙ ap (λ n. tagged (file_tag n (length (body_of request)) ∷ [])) (sym puts.modified)
+              ∙ ap (λ bytes. tagged (file_tag puts.file.node.modified (length bytes) ∷ [])) (sym puts.bytes_are);
+        },
+      )
+
+  pub put_refused : (e : Fault) (sent : Sent) → s.map ≡ before.state.map → live who.now s ≡ live who.now before.state
+      → FailsToPut s who Here (body_of request) (head_of request).headers e → PutAnswers before request (Err e) sent after
+  put_refused e sent there alike h =
+      inr (
+        whole,
+        inr (refused_by before mid after request path who same begins admits e (λ p who. FailsToPut before.state who p (body_of request) (head_of request).headers e)
+            (fails_alike s before.state who Here (body_of request) (head_of request).headers e there alike h)),
+      )
+
+  pub put_answered : (result : Result ℕ Fault) (sent : Sent) (bytes : List ℕ) (headers : Entries FieldValue) → bytes ≡ body_of request → headers ≡ (head_of request).headers
+      → s.map ≡ before.state.map → live mid.last s ≡ live mid.last before.state
+      → IfOk result (λ code. (code ≡ put_status s.map Here) × Puts s who.now Here bytes after.state) → OnOk result (put_course s.map Here headers ≡ Ok tt)
+      → OnOk result (sent.marks ≡ tagged (file_tag who.now (length bytes) ∷ [])) → IfErr result (λ e. FailsToPut s who Here bytes headers e)
+      → PutAnswers before request result sent after
+  put_answered (Ok status) sent bytes headers body is there alike done course marks err =
+      put_done status sent there alike (subst (λ h. put_course s.map Here h ≡ Ok tt) is course) done.0
+      (subst (λ b. Puts s who.now Here b after.state) body done.1) (subst (λ b. sent.marks ≡ tagged (file_tag who.now (length b) ∷ [])) body marks)
+  put_answered (Err e) sent bytes headers body is there alike done course marks err =
+      put_refused e sent there (subst (λ n. live n s ≡ live n before.state) (sym begins.now) alike)
+      (subst (λ h. FailsToPut s who Here (body_of request) h e) is (subst (λ b. FailsToPut s who Here b headers e) body err))
 
 -- ---- refusals
 
--- a refusal's answer doesn't look at the body
-pub refused_alike : (m : Option DavMethod) (before after : Server) (request : Request (List ℕ)) (e : Fault) (body other : List ℕ)
-    → AnswersTo m before request (Err e) body after → AnswersTo m before request (Err e) other after
-refused_alike (Some method.Get) before after request e body other h = h
-refused_alike (Some method.Head) before after request e body other h = h
-refused_alike (Some method.Put) before after request e body other h = h
-refused_alike (Some method.Options) before after request e body other h = h
-refused_alike _ before after request e body other h = h
+-- a refusal's answer doesn't look at what is sent
+pub refused_alike : (m : Option DavMethod) (before after : Server) (request : Request (List ℕ)) (e : Fault) (sent other : Sent)
+    → AnswersTo m before request (Err e) sent after → AnswersTo m before request (Err e) other after
+refused_alike (Some method.Get) before after request e sent other h = h
+refused_alike (Some method.Head) before after request e sent other h = h
+refused_alike (Some method.Put) before after request e sent other h = h
+refused_alike (Some method.Options) before after request e sent other h = h
+refused_alike _ before after request e sent other h = h
 
 -- what every run of one caller's requests keeps
 pub moves_exclusive : (before after : Server) (request : Request (List ℕ)) → Moves before request after → Exclusive before.state.locks → Exclusive after.state.locks

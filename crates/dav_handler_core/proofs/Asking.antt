@@ -45,7 +45,15 @@ by_join who s mid s' h k = record {
   keeps = list_any-append ends_or_refreshes h.commands k.commands ∙ or_from _ _ h.keeps k.keeps;
 }
 
+-- the second by the same caller
+pub join_as : (who asker : Caller) (s mid s' : State) → asker ≡ who → RunBy who s mid → RunBy asker mid s' → RunBy who s s'
+join_as who asker s mid s' same h k = by_join who s mid s' h (subst (λ w. RunBy w mid s') same k)
+
 -- ---- what stays
+
+-- what stays in two steps of the same caller
+pub live_as : (who asker : Caller) (s mid s' : State) → asker ≡ who → SameLive who.now s mid → SameLive asker.now mid s' → SameLive who.now s s'
+live_as who asker s mid s' same h k = subst (λ (w : Caller). SameLive w.now mid s') same k ∙ h
 
 pub live_once : (now : ℕ) (s : State) → live now (live now s) ≡ live now s
 live_once now s = ap (λ locks. record s { locks = locks }) (stale_once now s.locks)

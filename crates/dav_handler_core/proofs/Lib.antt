@@ -6,6 +6,8 @@ pub mod Collecting
 pub mod ConditionLaws
 pub mod ConditionLemmas
 mod ConditionRows
+pub mod DecidingLaws
+pub mod FieldLemmas
 pub mod FileTagLemmas
 pub mod FrameLemmas
 pub mod GetLemmas

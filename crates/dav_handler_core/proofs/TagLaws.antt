@@ -20,6 +20,7 @@ use Rattle.dav_resource_core.specs.Step.{State}
 use Rattle.dav_handler_core.specs.declared.faults.Fault.{Fault}
 use Rattle.dav_handler_core.specs.Answers.{Answers, AnswersTo, Server}
 use Rattle.dav_handler_core.specs.Callers.{SameLive}
+use Rattle.dav_handler_core.specs.Fields.{Sent, sent_of}
 use Rattle.dav_handler_core.specs.Putting.{Puts}
 use Rattle.dav_handler_core.specs.Serving.{Leads}
 use Rattle.dav_handler_core.specs.TagHistories.{HasFile, HasNoFiles, MomentsTell, TagsTell, Becomes}
@@ -62,23 +63,23 @@ put_dates before after p bytes later h = record {
 live_map : (now : ℕ) (s s' : State) → SameLive now s s' → s'.map ≡ s.map
 live_map now s s' h = ap (λ (s : State). s.map) h
 
-method_dates : (m : Option DavMethod) (before after : Server) (request : Request (List ℕ)) (result : Result ℕ Fault) (body : List ℕ) → before.last ≤ after.last
-    → AnswersTo m before request result body after → OnErr result (SameLive after.last before.state after.state) → Dates before after
-method_dates (Some method.Get) before after request result body later h refused =
+method_dates : (m : Option DavMethod) (before after : Server) (request : Request (List ℕ)) (result : Result ℕ Fault) (sent : Sent) → before.last ≤ after.last
+    → AnswersTo m before request result sent after → OnErr result (SameLive after.last before.state after.state) → Dates before after
+method_dates (Some method.Get) before after request result sent later h refused =
     same_map before after later (live_map after.last before.state after.state h.1)
-method_dates (Some method.Head) before after request result body later h refused =
+method_dates (Some method.Head) before after request result sent later h refused =
     same_map before after later (live_map after.last before.state after.state h.1)
-method_dates (Some method.Put) before after request (Ok status) body later h refused =
-    put_dates before after (segments h.2.0.bytes) (body_of request) h.2.2 h.2.4
-method_dates (Some method.Put) before after request (Err e) body later h refused =
+method_dates (Some method.Put) before after request (Ok status) sent later h refused =
+    put_dates before after (segments h.1.path.bytes) (body_of request) h.1.later h.1.puts
+method_dates (Some method.Put) before after request (Err e) sent later h refused =
     same_map before after later (live_map after.last before.state after.state refused)
-method_dates (Some method.Options) before after request (Ok status) body later h refused = same_map before after later (ap (λ (s : State). s.map) h.1)
-method_dates (Some method.Options) before after request (Err e) body later h refused = same_map before after later (ap (λ (s : State). s.map) h.1)
-method_dates _ before after request result body later h refused = same_map before after later (ap (λ (s : State). s.map) h.1)
+method_dates (Some method.Options) before after request (Ok status) sent later h refused = same_map before after later (ap (λ (s : State). s.map) h.1)
+method_dates (Some method.Options) before after request (Err e) sent later h refused = same_map before after later (ap (λ (s : State). s.map) h.1)
+method_dates _ before after request result sent later h refused = same_map before after later (ap (λ (s : State). s.map) h.1)
 
 answer_dates : (before after : Server) (request : Request (List ℕ)) (response : Response) → Answers before request response after → Dates before after
 answer_dates before after request response h =
-    method_dates h.method before after request h.result response.body.items h.moves.moments h.done h.refused
+    method_dates h.method before after request h.result (sent_of response) h.moves.moments h.done h.refused
 
 clock_dates : (s : Server) (now : ℕ) → Dates s (record s { clock = now })
 clock_dates s now = same_map s (record s { clock = now }) (omega arith) refl

@@ -1,5 +1,5 @@
 -- How the server answers a request: what it promises of the answer, and of what it leaves (RFC 9110 section 9, RFC 4918 sections 6, 7 and 9).
-use Rattle.std.specs.Prelude.{◌≡◌, ◌≢◌, ◌⊎◌, Bool, true, false, ℕ, ◌<◌, ◌≤◌, List, [], Option, None, Some, Result, Ok, Err, OnErr}
+use Rattle.std.specs.Prelude.{◌≡◌, ◌≢◌, ◌⊎◌, Bool, true, false, ℕ, ◌<◌, ◌≤◌, List, [], ◌∷◌, Option, None, Some, Result, Ok, Err, OnErr}
 use Rattle.http.specs.declared.request.Request.{Request}
 use Rattle.http.specs.Request.{head_of, body_of}
 use Rattle.http_server.specs.declared.response.Response.{Response}
@@ -8,21 +8,27 @@ use Rattle.dav_path_core.specs.declared.util.DavMethod.TheVariants as method
 use Rattle.dav_path_core.specs.Methods.{word}
 use Rattle.dav_path_core.specs.PathText.{PathText}
 use Rattle.dav_path_core.specs.Segments.{segments}
-use Rattle.dav_files_core.specs.declared.memfs.Kind.TheVariants.{File}
-use Rattle.dav_files_core.specs.Resources.{Resource, IsResourceMap, at_path}
+use Rattle.dav_path_core.specs.Fronts.{Path}
+use Rattle.dav_files_core.specs.Resources.{IsResourceMap}
 use Rattle.dav_locks_core.specs.Exclusive.{Exclusive}
 use Rattle.dav_resource_core.specs.Step.{State}
+use Rattle.dav_handler_core.specs.declared.conditions.bases.Scheme.{Scheme}
 use Rattle.dav_handler_core.specs.declared.faults.Fault.{Fault}
 use Rattle.dav_handler_core.specs.declared.faults.Fault.TheVariants as fault
-use Rattle.dav_handler_core.specs.Callers.{Caller, RunBy, SameLive}
+use Rattle.dav_handler_core.specs.Admitting.{IsAdmitted, IsHeldOff}
+use Rattle.dav_handler_core.specs.Callers.{Caller, RunBy, SameLive, live}
 use Rattle.dav_handler_core.specs.Faults.{fault_status}
-use Rattle.dav_handler_core.specs.Putting.{Puts, RefusesPut, in_the_way, put_status}
+use Rattle.dav_handler_core.specs.Fields.{Sent, sent_of}
+use Rattle.dav_handler_core.specs.FileTags.{tag_of}
+use Rattle.dav_handler_core.specs.Getting.{FailsToGet, Gets, tagged}
+use Rattle.dav_handler_core.specs.Putting.{FailsToPut, Puts, put_course, put_status}
 use Rattle.dav_handler_core.specs.Refusals.{RefusesTarget, RefusesPrincipal, HasBadIf, HasPart, IsLastMoment}
 use Rattle.dav_handler_core.specs.Senders.{IsSender, NamesPrincipal}
 use Rattle.dav_handler_core.specs.Targets.{IsTargetOf}
 
--- the prefix that URLs stand behind, and the header that names the principal, where there is one
+-- the scheme of the server's URLs, the prefix that they stand behind, and the header that names the principal, where there is one
 pub record Options : Type 0 where
+  pub scheme : Scheme
   pub prefix : List ℕ
   pub user_header : Option (List ℕ)
 
@@ -71,35 +77,69 @@ pub data Unread (options : Options) (request : Request (List ℕ)) (last : ℕ) 
 
 -- ---- what is done, method by method
 
--- A GET or a HEAD of a file has its bytes; the connection leaves them out of the answer to a HEAD. 404 comes where nothing stands at the path.
-abbrev pub GetAnswers : Server → Request (List ℕ) → Result ℕ Fault → List ℕ → Type 0
-GetAnswers before request (Ok status) body =
-    (status ≡ 200) × HasSender before.options request × ((path : PathText) × Names before.options request path
-    × ((r : Resource) × (at_path before.state.map (segments path.bytes) ≡ Some r) × (r.node.kind ≡ File → body ≡ r.node.bytes)))
-GetAnswers before request (Err e) body =
+-- the request names the path, and it is the caller's, at its moment
+pub record Begins (before : Server) (request : Request (List ℕ)) (after : Server) (path : PathText) (who : Caller) : Type 0 where
+  pub names : Names before.options request path
+  pub from : IsFrom before.options request who
+  pub now : who.now ≡ after.last
+
+-- Its `If` lets it go on, or holds it off, by the locks that have not expired at its moment.
+abbrev pub Admits : Server → Request (List ℕ) → Server → PathText → Type 0
+Admits before request after path = IsAdmitted before.options.scheme (live after.last before.state) (head_of request).headers path
+
+abbrev pub HoldsOff : Server → Request (List ℕ) → Server → PathText → Fault → Type 0
+HoldsOff before request after path e = IsHeldOff before.options.scheme (live after.last before.state) (head_of request).headers path e
+
+-- A request that is read is refused: its `If` holds it off; or it doesn't, and its method refuses it.
+pub record Fails (before : Server) (request : Request (List ℕ)) (after : Server) (e : Fault) (Refuses : Path → Caller → Type 0) : Type 0 where
+  pub path : PathText
+  pub who : Caller
+  pub begins : Begins before request after path who
+  pub why : HoldsOff before request after path e ⊎ (Admits before request after path × Refuses (segments path.bytes) who)
+
+-- A GET or a HEAD that is done, of what stands at its path; the connection leaves the body out of the answer to a HEAD.
+pub record IsGotten (m : DavMethod) (before : Server) (request : Request (List ℕ)) (status : ℕ) (sent : Sent) (after : Server) : Type 0 where
+  pub path : PathText
+  pub who : Caller
+  pub begins : Begins before request after path who
+  pub admits : Admits before request after path
+  pub gets : Gets m before.state.map (segments path.bytes) (head_of request).headers status sent
+
+abbrev pub GetAnswers : DavMethod → Server → Request (List ℕ) → Result ℕ Fault → Sent → Server → Type 0
+GetAnswers m before request (Ok status) sent after = IsGotten m before request status sent after
+GetAnswers m before request (Err e) sent after =
     Unread before.options request before.last false e
-    ⊎ (HasSender before.options request × ((path : PathText) × Names before.options request path × (e ≡ fault.NotFound)
-    × (at_path before.state.map (segments path.bytes) ≡ None)))
+    ⊎ Fails before request after e (λ p who. FailsToGet m before.state.map p (head_of request).headers e)
 
--- A PUT that is done leaves the body at its path, and each other path what it had. Else it says why not: a part of a file comes before any other
--- reason; and behind what is wrong with the request itself, a lock in the way comes before any other but memory.
-abbrev pub PutAnswers : Server → Request (List ℕ) → Result ℕ Fault → Server → Type 0
-PutAnswers before request (Ok status) after =
-    IsWhole request × HasSender before.options request × ((path : PathText) × Names before.options request path × (before.last < after.last)
-    × (status ≡ put_status before.state.map (segments path.bytes)) × Puts before.state after.last (segments path.bytes) (body_of request) after.state)
-PutAnswers before request (Err e) after =
+-- A PUT that is done leaves the body at its path, and each other path what it had; its answer has the tag of that file.
+pub record IsPut (before : Server) (request : Request (List ℕ)) (status : ℕ) (sent : Sent) (after : Server) : Type 0 where
+  pub path : PathText
+  pub who : Caller
+  pub begins : Begins before request after path who
+  pub later : before.last < after.last
+  pub admits : Admits before request after path
+  pub course : put_course before.state.map (segments path.bytes) (head_of request).headers ≡ Ok tt
+  pub status_is : status ≡ put_status before.state.map (segments path.bytes)
+  pub puts : Puts before.state after.last (segments path.bytes) (body_of request) after.state
+  pub marks : sent.marks ≡ tagged (tag_of puts.file ∷ [])
+
+-- Else it says why not; a part of a file comes before any other reason.
+abbrev pub PutAnswers : Server → Request (List ℕ) → Result ℕ Fault → Sent → Server → Type 0
+PutAnswers before request (Ok status) sent after = IsWhole request × IsPut before request status sent after
+PutAnswers before request (Err e) sent after =
     (HasPart (head_of request).headers × (e ≡ fault.BadRequest))
-    ⊎ (IsWhole request × (Unread before.options request before.last true e ⊎ ((path : PathText) × Names before.options request path × ((who : Caller) × IsFrom before.options request who × (who.now ≡ after.last)
-    × RefusesPut before.state who (segments path.bytes) (body_of request) e
-    × (in_the_way before.state who (segments path.bytes) (body_of request) ≢ [] → (e ≡ fault.Locked) ⊎ (e ≡ fault.InsufficientStorage))))))
+    ⊎ (IsWhole request × (Unread before.options request before.last true e
+    ⊎ Fails before request after e (λ p who. FailsToPut before.state who p (body_of request) (head_of request).headers e)))
 
-abbrev pub AnswersTo : Option DavMethod → Server → Request (List ℕ) → Result ℕ Fault → List ℕ → Server → Type 0
-AnswersTo (Some method.Get) before request result body after = GetAnswers before request result body × SameLive after.last before.state after.state
-AnswersTo (Some method.Head) before request result body after = GetAnswers before request result body × SameLive after.last before.state after.state
-AnswersTo (Some method.Put) before request result body after = PutAnswers before request result after
-AnswersTo (Some method.Options) before request (Ok status) body after = (status ≡ 200) × (after.state ≡ before.state)
-AnswersTo (Some method.Options) before request (Err e) body after = (e ≡ fault.InsufficientStorage) × (after.state ≡ before.state)
-AnswersTo _ before request result body after = (result ≡ Err fault.NotImplemented) × (after.state ≡ before.state)
+abbrev pub AnswersTo : Option DavMethod → Server → Request (List ℕ) → Result ℕ Fault → Sent → Server → Type 0
+AnswersTo (Some method.Get) before request result sent after =
+    GetAnswers method.Get before request result sent after × SameLive after.last before.state after.state
+AnswersTo (Some method.Head) before request result sent after =
+    GetAnswers method.Head before request result sent after × SameLive after.last before.state after.state
+AnswersTo (Some method.Put) before request result sent after = PutAnswers before request result sent after
+AnswersTo (Some method.Options) before request (Ok status) sent after = (status ≡ 200) × (after.state ≡ before.state)
+AnswersTo (Some method.Options) before request (Err e) sent after = (e ≡ fault.InsufficientStorage) × (after.state ≡ before.state)
+AnswersTo _ before request result sent after = (result ≡ Err fault.NotImplemented) × (after.state ≡ before.state)
 
 -- ---- what every answer keeps to
 
@@ -128,7 +168,7 @@ pub record Answers (before : Server) (request : Request (List ℕ)) (response : 
   pub is_method : IsMethod method (head_of request).method
   pub result : Result ℕ Fault
   pub status : response.status ≡ status_of result
-  pub done : AnswersTo method before request result response.body.items after
+  pub done : AnswersTo method before request result (sent_of response) after
   -- what is refused has changed nothing
   pub refused : OnErr result (SameLive after.last before.state after.state)
   -- two locks that cover one path are both shared, and the map is a resource map

@@ -7,7 +7,7 @@ use Rattle.dav_files_core.specs.Resources.{IsResourceMap}
 use Rattle.dav_locks_core.specs.Ended.{StandIn}
 use Rattle.dav_locks_core.specs.Exclusive.{Exclusive}
 use Rattle.dav_locks_core.specs.Lock.{Lock}
-use Rattle.dav_locks_core.specs.Locks.{covers, held}
+use Rattle.dav_locks_core.specs.Locks.{Caller as LocksCaller, check_conflicts, covers, held}
 use Rattle.dav_locks_core.specs.Stale.{is_stale, without_stale}
 use Rattle.dav_resource_core.specs.Requests.{Command, Request, Answer}
 use Rattle.dav_resource_core.specs.Step.{State, Run}
@@ -46,9 +46,17 @@ pub record RunBy (who : Caller) (s s' : State) : Type 0 where
   pub run : Run s (map (asking who) commands) answers s'
   pub keeps : list_any ends_or_refreshes commands ≡ false
 
+-- as locks know the caller
+abbrev pub as_caller : Caller → LocksCaller
+as_caller who = record { principal = who.principal; ignore = false; tokens = who.tokens }
+
 -- the caller is the lock's principal and named its token
 abbrev pub holds : Caller → Lock → Bool
-holds who l = held l (record { principal = who.principal; ignore = false; tokens = who.tokens })
+holds who l = held l (as_caller who)
+
+-- the locks that refuse the caller a change at the path
+abbrev pub refusing_at : State → Caller → Path → List Lock
+refusing_at s who p = check_conflicts s.locks p false (as_caller who)
 
 -- what locks promise of a run of one caller's requests (RFC 4918 sections 6 and 7)
 pub record KeepsApart (who : Caller) (s s' : State) : Type 0 where

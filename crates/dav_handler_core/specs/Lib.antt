@@ -3,13 +3,17 @@ pub mod Answers
 pub mod Callers
 pub mod Conditions
 pub mod ContentTypes
+pub mod Deciding
 pub mod Faults
+pub mod Fields
 pub mod FileTags
+pub mod Getting
 pub mod IfTokens
 pub mod ListedTags
 pub mod Preconditions
 pub mod Private
 pub mod Putting
+pub mod Ranges
 pub mod Refusals
 pub mod Senders
 pub mod Servers

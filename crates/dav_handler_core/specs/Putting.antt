@@ -1,6 +1,9 @@
--- What a PUT leaves, and why it is refused (RFC 9110 section 9.3.4, RFC 4918 section 9.7).
-use Rattle.std.specs.Prelude.{◌≡◌, ◌≢◌, ℕ, List, [], None, Some, Err, if◌then◌else◌}
+-- What a PUT leaves, and why it is refused (RFC 9110 sections 9.3.4 and 13.2, RFC 4918 section 9.7).
+use Rattle.std.specs.Prelude.{◌≡◌, ◌≢◌, ℕ, List, [], Option, None, Some, Result, Ok, Err, if◌then◌else◌}
+use Rattle.http_header.specs.FieldValue.{FieldValue}
+use Rattle.http_header.specs.HeaderMap.{Entries}
 use Rattle.dav_path_core.specs.declared.errors.FsError.{FsError}
+use Rattle.dav_path_core.specs.declared.util.DavMethod.TheVariants as method
 use Rattle.dav_path_core.specs.Fronts.{Path}
 use Rattle.dav_files_core.specs.declared.memfs.Kind.TheVariants.{Folder, File}
 use Rattle.dav_files_core.specs.Putting.{put}
@@ -11,7 +14,11 @@ use Rattle.dav_resource_core.specs.Checks.{has}
 use Rattle.dav_resource_core.specs.Step.{State, conflicts}
 use Rattle.dav_handler_core.specs.declared.faults.Fault.{Fault}
 use Rattle.dav_handler_core.specs.declared.faults.Fault.TheVariants as fault
+use Rattle.dav_handler_core.specs.declared.preconditions.Course.{Course}
+use Rattle.dav_handler_core.specs.declared.preconditions.Course.TheVariants as course
 use Rattle.dav_handler_core.specs.Callers.{Caller, asking, live}
+use Rattle.dav_handler_core.specs.FileTags.{standing_of}
+use Rattle.dav_handler_core.specs.Preconditions.{course_of}
 
 -- the locks that refuse the PUT of a caller
 abbrev pub in_the_way : State → Caller → Path → List ℕ → List Lock
@@ -31,10 +38,32 @@ pub record Puts (s : State) (now : ℕ) (p : Path) (bytes : List ℕ) (s' : Stat
   pub others : (q : Path) → q ≢ p → at_path s'.map q ≡ at_path s.map q
   pub left : s' ≡ record (live now s) { map = s'.map }
 
--- each refusal of a PUT, and where it comes
-abbrev pub RefusesPut : State → Caller → Path → List ℕ → Fault → Type 0
-RefusesPut s who p bytes fault.Locked = in_the_way s who p bytes ≢ []
-RefusesPut s who p bytes fault.InsufficientStorage = Unit {0}
-RefusesPut s who p bytes fault.MethodNotAllowed = (r : Resource) × (at_path s.map p ≡ Some r) × (r.node.kind ≡ Folder)
-RefusesPut s who p bytes fault.Conflict = (at_path s.map p ≡ None) × ((e : FsError) × (put s.map p bytes who.now ≡ Err e))
-RefusesPut s who p bytes _ = ⊥
+-- ---- conditions
+
+-- a change is done, or refused, by what follows from the conditions of HTTP
+abbrev pub changes_by : Option Course → Result (Unit {0}) Fault
+changes_by None = Err fault.BadRequest
+changes_by (Some course.PreconditionFailed) = Err fault.PreconditionFailed
+changes_by (Some course.NotModified) = Err fault.PreconditionFailed
+changes_by (Some course.Whole) = Ok tt
+changes_by (Some course.Proceed) = Ok tt
+
+-- of a PUT at the path
+abbrev pub put_course : ResourceMap → Path → Entries FieldValue → Result (Unit {0}) Fault
+put_course m p headers = changes_by (course_of method.Put (standing_of (at_path m p)) headers)
+
+-- ---- refusals
+
+-- without conditions it would be done
+abbrev pub IsPuttable : State → Caller → Path → List ℕ → Type 0
+IsPuttable s who p bytes = (in_the_way s who p bytes ≡ []) × ((m : ResourceMap) × (put s.map p bytes who.now ≡ Ok (tt, m)))
+
+-- Each refusal of a PUT, and where it comes: first the locks in its way, then what the files refuse, and then the conditions (RFC 9110 section 13.2.1).
+abbrev pub FailsToPut : State → Caller → Path → List ℕ → Entries FieldValue → Fault → Type 0
+FailsToPut s who p bytes headers fault.InsufficientStorage = Unit {0}
+FailsToPut s who p bytes headers fault.Locked = in_the_way s who p bytes ≢ []
+FailsToPut s who p bytes headers fault.MethodNotAllowed =
+    (in_the_way s who p bytes ≡ []) × ((r : Resource) × (at_path s.map p ≡ Some r) × (r.node.kind ≡ Folder))
+FailsToPut s who p bytes headers fault.Conflict =
+    (in_the_way s who p bytes ≡ []) × (at_path s.map p ≡ None) × ((e : FsError) × (put s.map p bytes who.now ≡ Err e))
+FailsToPut s who p bytes headers e = IsPuttable s who p bytes × (put_course s.map p headers ≡ Err e)

@@ -6,7 +6,7 @@ use Rattle.dav_path_core.specs.Fronts.{Path}
 use Rattle.dav_files_core.specs.declared.memfs.Kind.TheVariants.{File}
 use Rattle.dav_files_core.specs.Resources.{Resource, ResourceMap, at_path}
 use Rattle.dav_handler_core.specs.Answers.{Answers, Server}
-use Rattle.dav_handler_core.specs.FileTags.{file_tag}
+use Rattle.dav_handler_core.specs.FileTags.{tag_of}
 
 -- ---- the files of a map
 
@@ -17,10 +17,6 @@ HasFile m file = (p : Path) × (at_path m p ≡ Some file) × (file.node.kind �
 -- there are folders alone
 abbrev pub HasNoFiles : ResourceMap → Type 0
 HasNoFiles m = (file : Resource) → ¬ HasFile m file
-
--- the tag of a file
-abbrev pub tag_of : Resource → List ℕ
-tag_of file = file_tag file.node.modified (length file.node.bytes)
 
 -- the numbers of its tag are below 2 ^ 64
 abbrev pub FitsTag : Resource → Type 0

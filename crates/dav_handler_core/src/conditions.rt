@@ -24,6 +24,7 @@ use crate::listed_tags::Comparison;
 use crate::preconditions::has_tag;
 use crate::senders::if_of;
 use crate::session::{Session, copy_of};
+pub use bases::Scheme;
 use bases::base_of;
 use dav_resource_core::davheaders::{ETag, If, IfCondition, IfItem, IfList};
 use dav_resource_core::davpath::DavPath;
@@ -183,18 +184,19 @@ pub fn evaluate<R: Rng>(
     one_holds(alloc, session, lists, here, base)
 }
 
-/// Lets a request for the path `here` go on where it has no `If`, or its `If` holds, as `evaluate` says. Its resource tags are compared with `http` and its `Host`.
+/// Lets a request for the path `here` go on where it has no `If`, or its `If` holds, as `evaluate` says. Its resource tags are compared with the scheme and its `Host`.
 ///
 /// `BadRequest` where the `If` can't be read, or there is no `Host` that is a host; `PreconditionFailed` where the `If` doesn't hold (RFC 4918 section 10.4);
 /// `InsufficientStorage` where there is no memory for it. Nothing changes, but locks that have expired may be gone.
 pub fn admit<R: Rng>(
     alloc: Global,
     session: &mut Session<R>,
+    scheme: Scheme,
     headers: &HeaderMap<HeaderValue>,
     here: &DavPath,
 ) -> Result<(), Fault>
-    ensures ok { OnOk result (IsAdmitted (live (spec.caller session.old).now (spec.state R.stream session.old)) headers.now here.now) }
-    ensures err { IfErr result (IsHeldOff (live (spec.caller session.old).now (spec.state R.stream session.old)) headers.now here.now) }
+    ensures ok { OnOk result (IsAdmitted scheme (live (spec.caller session.old).now (spec.state R.stream session.old)) headers.now here.now) }
+    ensures err { IfErr result (IsHeldOff scheme (live (spec.caller session.old).now (spec.state R.stream session.old)) headers.now here.now) }
     ensures run { RunBy (spec.caller session.old) (spec.state R.stream session.old) (spec.state R.stream session.new) }
     ensures live { SameLive (spec.caller session.old).now (spec.state R.stream session.old) (spec.state R.stream session.new) }
     ensures caller { spec.caller session.new ≡ spec.caller session.old }
@@ -202,7 +204,7 @@ pub fn admit<R: Rng>(
     let Some(header) = if_of(alloc, headers)? else {
         return Ok(());
     };
-    let base = base_of(alloc, headers)?;
+    let base = base_of(alloc, scheme, headers)?;
     if !evaluate(alloc, session, &header, here, &base)? {
         return Err(Fault::PreconditionFailed);
     }

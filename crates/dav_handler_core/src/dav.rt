@@ -4,14 +4,19 @@ ghost use Rattle.http.specs.Request.{head_of};
 ghost use Rattle.http_server.specs.Response.{IsBlank};
 ghost use Rattle.dav_path_core.specs.declared.util.DavMethod.{DavMethod};
 ghost use Rattle.dav_resource_core.specs.Stores.{state_of};
-ghost use Rattle.dav_handler_core.specs.Answers.{Answers, AnswersTo, GetAnswers, IsFrom, IsMethod, Moves, Names, PutAnswers, Unread};
-ghost use Rattle.dav_handler_core.specs.Callers.{SameLive};
+ghost use Rattle.dav_handler_core.specs.Answers.{Admits, Answers, AnswersTo, GetAnswers, IsFrom, IsMethod, Moves, Names, PutAnswers, Unread};
+ghost use Rattle.dav_handler_core.specs.Callers.{RunBy, SameLive};
 ghost use Rattle.dav_handler_core.specs.Faults.{fault_status};
+ghost use Rattle.dav_handler_core.specs.Fields.{sent_of};
+ghost use Rattle.dav_handler_core.specs.Private.Begun.{IsBegun, IsHeld};
 ghost use Rattle.dav_handler_core.specs.Refusals.{IsLastMoment};
 ghost use Rattle.dav_handler_core.specs.Servers.{options_of, server};
 ghost use Rattle.dav_handler_core.specs.Sessions.{caller};
 ghost use Rattle.dav_handler_core.specs.declared.faults.Fault.TheVariants as fault;
 
+mod laws;
+
+use crate::conditions::{Scheme, admit};
 use crate::faults::Fault;
 use crate::methods::{get, options, put};
 use crate::senders::{principal_of, tokens_of};
@@ -26,12 +31,15 @@ use dav_resource_core::util::DavMethod;
 use http::{Request, StatusCode};
 use http_header::HeaderName;
 use http_server::{Response, Service};
+pub use laws::conditions_decide;
 use rand_core::Rng;
 use std::alloc::{AllocError, Global};
 
 /// What whoever runs a server chooses.
 #[derive(Debug, Drop)]
 pub struct Settings {
+    /// The scheme of its URLs, with which the resource tags of an `If` are compared (own).
+    pub scheme: Scheme,
     /// The path that its URLs stand behind; empty for none (own).
     pub prefix: String,
     /// The header by which a proxy in front names the principal; none where nobody is named (own).
@@ -110,33 +118,73 @@ impl<R: Rng> Dav<R> {
         Ok(path)
     }
 
+    // Begins a request, and looks at its `If`.
+    fn begin_admitted(&mut self, request: &Request<Bytes>, changes: bool) -> Result<DavPath, Fault>
+        ensures ok { IfOk result (λ path. IsBegun (server R.stream self.old) request.now changes (server R.stream self.new) path (caller self.new.session)
+            × Admits (server R.stream self.old) request.now (server R.stream self.new) path) }
+        ensures err { IfErr result (λ e. Unread (server R.stream self.old).options request.now (server R.stream self.old).last changes e
+            ⊎ IsHeld (server R.stream self.old) request.now (server R.stream self.new) e) }
+        ensures run { RunBy (caller self.new.session) (server R.stream self.old).state (server R.stream self.new).state }
+        ensures live { SameLive (server R.stream self.new).last (server R.stream self.old).state (server R.stream self.new).state }
+        ensures moves { Moves (server R.stream self.old) request.now (server R.stream self.new) }
+    {
+        let path = self.begin(request, changes)?;
+        admit(
+            self.alloc,
+            &mut self.session,
+            self.settings.scheme,
+            request.headers(),
+            &path,
+        )?;
+        Ok(path)
+    }
+
     // GET and HEAD.
     fn serve_get(
+        &mut self,
+        method: DavMethod,
+        request: &Request<Bytes>,
+        response: &mut Response,
+    ) -> Result<StatusCode, Fault>
+        requires { IsBlank response.old }
+        ensures answers { GetAnswers method (server R.stream self.old) request.now result (sent_of response.new) (server R.stream self.new) }
+        ensures live { SameLive (server R.stream self.new).last (server R.stream self.old).state (server R.stream self.new).state }
+        ensures moves { Moves (server R.stream self.old) request.now (server R.stream self.new) }
+    {
+        let path = self.begin_admitted(request, false)?;
+        get::get(
+            self.alloc,
+            &mut self.session,
+            method,
+            request.headers(),
+            &path,
+            response,
+        )
+    }
+
+    // PUT. `BadRequest` for a part of a file (RFC 9110 section 14.5).
+    fn serve_put(
         &mut self,
         request: &Request<Bytes>,
         response: &mut Response,
     ) -> Result<StatusCode, Fault>
         requires { IsBlank response.old }
-        ensures answers { GetAnswers (server R.stream self.old) request.now result response.new.body.items }
-        ensures live { SameLive (server R.stream self.new).last (server R.stream self.old).state (server R.stream self.new).state }
-        ensures moves { Moves (server R.stream self.old) request.now (server R.stream self.new) }
-    {
-        let path = self.begin(request, false)?;
-        get::get(self.alloc, &mut self.session, &path, response)?;
-        Ok(StatusCode::OK)
-    }
-
-    // PUT. `BadRequest` for a part of a file (RFC 9110 section 14.5).
-    fn serve_put(&mut self, request: &Request<Bytes>) -> Result<StatusCode, Fault>
-        ensures answers { PutAnswers (server R.stream self.old) request.now result (server R.stream self.new) }
+        ensures answers { PutAnswers (server R.stream self.old) request.now result (sent_of response.new) (server R.stream self.new) }
         ensures refused { OnErr result (SameLive (server R.stream self.new).last (server R.stream self.old).state (server R.stream self.new).state) }
         ensures moves { Moves (server R.stream self.old) request.now (server R.stream self.new) }
     {
         if request.headers().contains_key("content-range") {
             return Err(Fault::BadRequest);
         }
-        let path = self.begin(request, true)?;
-        put::put(&mut self.session, path, request.body().clone()?)
+        let path = self.begin_admitted(request, true)?;
+        put::put(
+            self.alloc,
+            &mut self.session,
+            request.headers(),
+            path,
+            request.body().clone()?,
+            response,
+        )
     }
 
     // By the method; any other than these is `NotImplemented`.
@@ -147,14 +195,15 @@ impl<R: Rng> Dav<R> {
         response: &mut Response,
     ) -> Result<StatusCode, Fault>
         requires { IsBlank response.old }
-        ensures done { AnswersTo (Some method) (server R.stream self.old) request.now result response.new.body.items (server R.stream self.new) }
+        ensures done { AnswersTo (Some method) (server R.stream self.old) request.now result (sent_of response.new) (server R.stream self.new) }
         ensures refused { OnErr result (SameLive (server R.stream self.new).last (server R.stream self.old).state (server R.stream self.new).state) }
         ensures moves { Moves (server R.stream self.old) request.now (server R.stream self.new) }
     {
         match method {
             DavMethod::Options => return options::options(response),
-            DavMethod::Get | DavMethod::Head => return self.serve_get(request, response),
-            DavMethod::Put => return self.serve_put(request),
+            DavMethod::Get => return self.serve_get(DavMethod::Get, request, response),
+            DavMethod::Head => return self.serve_get(DavMethod::Head, request, response),
+            DavMethod::Put => return self.serve_put(request, response),
             _ => return Err(Fault::NotImplemented),
         }
     }
@@ -167,7 +216,7 @@ impl<R: Rng> Dav<R> {
     ) -> Result<StatusCode, Fault>
         requires { IsBlank response.old }
         ensures done { (method : Option DavMethod) × IsMethod method (head_of request.now).method
-            × AnswersTo method (server R.stream self.old) request.now result response.new.body.items (server R.stream self.new) }
+            × AnswersTo method (server R.stream self.old) request.now result (sent_of response.new) (server R.stream self.new) }
         ensures refused { OnErr result (SameLive (server R.stream self.new).last (server R.stream self.old).state (server R.stream self.new).state) }
         ensures moves { Moves (server R.stream self.old) request.now (server R.stream self.new) }
     {

@@ -1,6 +1,7 @@
 //! Entity tags of files.
 ghost use Rattle.std.specs.Prelude.{◌≡◌, ◌<◌, ◌^◌, ℕ, true, false, List, IfOk, IfErr, Some, string_bytes};
 ghost use Rattle.http_frames.specs.Clients.{Turn};
+ghost use Rattle.http_header.specs.FieldValue.{IsFieldValue};
 ghost use Rattle.http_server.specs.Exchange.{Call, Chain};
 ghost use Rattle.dav_files_core.specs.Outcomes.{start};
 ghost use Rattle.dav_headers_core.specs.Tags.{is_weak, new_tag};
@@ -36,6 +37,7 @@ pub enum Standing {
 /// `OutOfMemory` where there is no memory for it.
 pub fn file_tag(alloc: Global, modified: Moment, length: u64) -> Result<ETag, HeaderError>
     ensures ok { IfOk result (λ tag. tag ≡ spec.file_tag modified.0 length) }
+    ensures shown { IfOk result (λ tag. IsFieldValue tag) }
     ensures err { IfErr result (λ e. e ≡ header.OutOfMemory) }
 {
     let text = tag_text(alloc, modified.0, length)?;
@@ -45,7 +47,7 @@ pub fn file_tag(alloc: Global, modified: Moment, length: u64) -> Result<ETag, He
 // What stands between the quotes of a file's tag.
 fn tag_text(alloc: Global, modified: u64, length: u64) -> Result<String, AllocError>
     ensures { IfOk result (λ text. (string_bytes text ≡ spec.tag_text modified length)
-        × (new_tag false (string_bytes text) ≡ Some (spec.file_tag modified length))) }
+        × (new_tag false (string_bytes text) ≡ Some (spec.file_tag modified length)) × IsFieldValue (spec.file_tag modified length)) }
 {
     format!(in alloc; "{modified}-{length}")
 }

@@ -217,7 +217,8 @@ fn course_of_wanted(
     }
 }
 
-fn read_course(
+/// The same, with nothing where a condition that is looked at can't be read.
+pub(crate) fn read_course(
     method: DavMethod,
     standing: &Standing,
     headers: &HeaderMap<HeaderValue>,

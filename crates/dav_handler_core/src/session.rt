@@ -15,6 +15,7 @@ use dav_resource_core::davpath::DavPath;
 use dav_resource_core::errors::{FsError, FsResult};
 use dav_resource_core::fs::Moment;
 use dav_resource_core::guarded::{Command, Guarded, Refusal, Reply, Request};
+pub(crate) use lookups::standing_as;
 pub(crate) use questions::copy_of;
 use rand_core::Rng;
 use std::alloc::Global;

@@ -1,4 +1,5 @@
 //! The words behind the program's name.
+use dav_handler_core::conditions::Scheme;
 use dav_handler_core::dav::Settings;
 use http_header::HeaderName;
 use std::alloc::Global;
@@ -34,6 +35,7 @@ impl Choices {
         }
         let mut choices = Choices {
             settings: Settings {
+                scheme: Scheme::Http,
                 prefix: String::new(alloc),
                 user_header: None,
             },
@@ -51,6 +53,12 @@ impl Choices {
     fn set(&mut self, alloc: Global, name: &str, value: &str) -> Option<()> {
         if name == "--prefix" {
             self.settings.prefix = String::from_str(alloc, value).ok()?;
+        } else if name == "--scheme" {
+            self.settings.scheme = match value {
+                "http" => Scheme::Http,
+                "https" => Scheme::Https,
+                _ => return None,
+            };
         } else if name == "--user-header" {
             self.settings.user_header = Some(HeaderName::from_bytes(alloc, value.as_bytes()).ok()?);
         } else if name == "--max-body" {

@@ -2,6 +2,12 @@
 #![tactic(auto)]
 
 #[cfg(test)]
+mod conditions;
+#[cfg(test)]
+mod ifs;
+#[cfg(test)]
 mod playing;
+#[cfg(test)]
+mod ranges;
 #[cfg(test)]
 mod rows;

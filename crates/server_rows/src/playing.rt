@@ -1,24 +1,28 @@
 //! Plays the rows over bytes, in pieces of several sizes.
+use crate::conditions::CONDITIONS;
+use crate::ifs::IFS;
+use crate::ranges::RANGES;
 use crate::rows::ROWS;
+use dav_handler_core::conditions::Scheme;
 use dav_handler_core::dav::{Dav, Settings};
 use dav_path_core::davpath::DavPath;
 use dav_resource_core::fs::Moment;
-use dav_resource_core::guarded::{Command, Guarded, Reply, Request};
+use dav_resource_core::guarded::{Command, Guarded, Refusal, Reply, Request};
 use http_header::HeaderName;
 use http_server::{Config, Connection};
 use rand_core::SeedableRng;
 use rand_pcg::Pcg64;
-use std::alloc::{AllocError, Global};
+use std::alloc::Global;
 use std::hash::RandomState;
 use std::test::Fail;
 
-// The stores of a server, the token of the lock that was made last, what the server is sent, and what it is to answer.
+// The stores of a server, the tokens of its locks in the order in which they were made, what the server is sent, and what it is to answer.
 #[derive(Drop)]
 struct Scenario {
     alloc: Global,
     stores: Guarded,
     rng: Pcg64,
-    token: String,
+    tokens: Vec<String>,
     sent: String,
     wanted: String,
 }
@@ -37,81 +41,141 @@ impl Scenario {
             alloc,
             stores: Guarded::new(alloc, Moment(0))?,
             rng: Pcg64::seed_from_u64(1),
-            token: String::new(alloc),
+            tokens: Vec::new(alloc),
             sent: String::new(alloc),
             wanted: String::new(alloc),
         })
     }
 
-    // A lock, or a request with its answer.
+    // A request with its answer; or a lock or a folder that stands at first.
     fn add(&mut self, row: &str) -> Result<(), Fail> {
         match row.split_once(" = ") {
             Some((request, answer)) => {
-                add_lines(&mut self.sent, request, self.token.as_str())?;
-                add_lines(&mut self.wanted, answer, self.token.as_str())?;
+                add_lines(&mut self.sent, request, &self.tokens)?;
+                add_lines(&mut self.wanted, answer, &self.tokens)?;
             }
-            None => self.lock(row)?,
+            None => self.set_up(row)?,
         }
         Ok(())
     }
 
-    // An exclusive lock that goes deep and never ends.
-    fn lock(&mut self, row: &str) -> Result<(), Fail> {
-        let (who, path) = row
-            .strip_prefix("lock ")
-            .and_then(|words| words.split_once(' '))
-            .ok_or("no row")?;
+    fn set_up(&mut self, row: &str) -> Result<(), Fail> {
+        let mut words = row.split(' ');
+        match words.next() {
+            Some("lock") => {
+                let who = words.next().ok_or("no principal")?;
+                let shared = words.next().ok_or("no word")? == "shared";
+                let deep = words.next().ok_or("no depth")? == "deep";
+                self.lock(who, shared, deep, words.next().ok_or("no path")?)
+            }
+            Some("folder") => self.make_folder(words.next().ok_or("no path")?),
+            _ => Err(Fail::from("no row")),
+        }
+    }
+
+    // A lock that never ends.
+    fn lock(&mut self, who: &str, shared: bool, deep: bool, path: &str) -> Result<(), Fail> {
+        let command = Command::Lock {
+            path: DavPath::new(self.alloc, path)?,
+            owner: None,
+            timeout: None,
+            shared,
+            deep,
+        };
+        match self.ask(Some(String::from_str(self.alloc, who)?), command) {
+            Ok(Reply::Lock(lock)) => Ok(self.tokens.push(lock.token)?),
+            _ => Err(Fail::from("no lock")),
+        }
+    }
+
+    fn make_folder(&mut self, path: &str) -> Result<(), Fail> {
+        let path = DavPath::new(self.alloc, path)?;
+        match self.ask(None, Command::MkCol { path }) {
+            Ok(_) => Ok(()),
+            Err(_) => Err(Fail::from("no folder")),
+        }
+    }
+
+    fn ask(&mut self, principal: Option<String>, command: Command) -> Result<Reply, Refusal> {
         let request = Request {
-            principal: Some(String::from_str(self.alloc, who)?),
+            principal,
             tokens: Vec::new(self.alloc),
             now: Moment(0),
-            command: Command::Lock {
-                path: DavPath::new(self.alloc, path)?,
-                owner: None,
-                timeout: None,
-                shared: false,
-                deep: true,
-            },
+            command,
         };
-        match self.stores.apply(&request, &mut self.rng) {
-            Ok(Reply::Lock(lock)) => self.token = lock.token,
-            _ => return Err(Fail::from("no lock")),
-        }
-        Ok(())
+        self.stores.apply(&request, &mut self.rng)
     }
 
-    // Whether a server of this first line answers so, to bytes that come in pieces of this size.
-    fn is_answered(self, rt: &HostRuntime, first: &str, size: usize) -> Result<bool, Fail> {
+    // How a server of this first line answers otherwise, if it does, to bytes that come in pieces of this size.
+    fn difference(
+        self,
+        rt: &HostRuntime,
+        first: &str,
+        size: usize,
+    ) -> Result<Option<String>, Fail> {
         let Scenario {
             alloc,
             stores,
             rng,
-            token: _token,
+            tokens: _tokens,
             sent,
             wanted,
         } = self;
         let mut dav = server_of(alloc, first, stores, rng)?;
         let told = answers(rt, &mut dav, sent.as_bytes(), size)?;
-        Ok(told.as_slice() == wanted.as_bytes())
+        if told.as_slice() == wanted.as_bytes() {
+            return Ok(None);
+        }
+        let place = same_bytes(&told, wanted.as_bytes());
+        let (_, rest) = told.split_at(place.saturating_sub(200).min(told.len()));
+        let rest = str::from_utf8(rest).map_err(|_| "no text")?;
+        Ok(Some(format!(in alloc; "{first}, in pieces of {size}, at byte {place}: {rest}")?))
     }
 }
 
-// Adds a text, with the ends of its lines and the token.
-fn add_lines(text: &mut String, row: &str, token: &str) -> Result<(), AllocError> {
+// Adds a text, with the ends of its lines and the tokens of the locks.
+fn add_lines(text: &mut String, row: &str, tokens: &[String]) -> Result<(), Fail> {
     for (number, line) in row.split('|').enumerate() {
         if number > 0 {
             text.push_str("\r\n")?;
         }
-        match line.split_once("TOKEN") {
-            Some((before, after)) => {
-                text.push_str(before)?;
-                text.push_str(token)?;
-                text.push_str(after)?;
-            }
-            None => text.push_str(line)?,
+        add_line(text, line, tokens)?;
+    }
+    Ok(())
+}
+
+// Adds a line.
+fn add_line(text: &mut String, line: &str, tokens: &[String]) -> Result<(), Fail> {
+    for (number, piece) in line.split('{').enumerate() {
+        if number == 0 {
+            text.push_str(piece)?;
+        } else {
+            let (name, rest) = piece.split_once('}').ok_or("no name")?;
+            add_named(text, name, tokens)?;
+            text.push_str(rest)?;
         }
     }
     Ok(())
+}
+
+// Adds a line feed, or the token of a lock.
+fn add_named(text: &mut String, name: &str, tokens: &[String]) -> Result<(), Fail> {
+    if name == "n" {
+        return Ok(text.push('\n')?);
+    }
+    let number: usize = name.parse()?;
+    let token = tokens.get(number).ok_or("no such lock")?;
+    Ok(text.push_str(token.as_str())?)
+}
+
+// How many bytes are the same, from the first on.
+fn same_bytes(told: &[u8], wanted: &[u8]) -> usize {
+    for (place, byte) in told.iter().enumerate() {
+        if wanted.get(place) != Some(byte) {
+            return place;
+        }
+    }
+    told.len()
 }
 
 // The server of a first line, over the stores.
@@ -123,7 +187,13 @@ fn server_of(alloc: Global, line: &str, stores: Guarded, rng: Pcg64) -> Result<D
         name => Some(HeaderName::from_bytes(alloc, name.as_bytes())?),
     };
     let clock = words.next().ok_or("no clock")?.parse()?;
+    let scheme = match words.next() {
+        None => Scheme::Http,
+        Some("https") => Scheme::Https,
+        Some(_) => return Err(Fail::from("no such scheme")),
+    };
     let settings = Settings {
+        scheme,
         prefix: String::from_str(alloc, prefix)?,
         user_header,
     };
@@ -163,8 +233,7 @@ fn play(rt: &HostRuntime, texts: &str) -> Result<(), Fail> {
         let (first, rows) = text.split_once('\n').ok_or("no rows")?;
         for size in [1, 100, 8192] {
             let scenario = Scenario::of(rt.alloc(), rows)?;
-            if !scenario.is_answered(rt, first, size)? {
-                let fault = format!(in rt.alloc(); "{first}, in pieces of {size}")?;
+            if let Some(fault) = scenario.difference(rt, first, size)? {
                 return Err(Fail::from(fault));
             }
         }
@@ -175,4 +244,19 @@ fn play(rt: &HostRuntime, texts: &str) -> Result<(), Fail> {
 #[test]
 fn answers_each_row(rt: HostRuntime) -> Result<(), Fail> {
     play(&rt, ROWS)
+}
+
+#[test]
+fn looks_at_each_if(rt: HostRuntime) -> Result<(), Fail> {
+    play(&rt, IFS)
+}
+
+#[test]
+fn looks_at_each_condition(rt: HostRuntime) -> Result<(), Fail> {
+    play(&rt, CONDITIONS)
+}
+
+#[test]
+fn sends_each_range(rt: HostRuntime) -> Result<(), Fail> {
+    play(&rt, RANGES)
 }

@@ -1,14 +1,15 @@
-//! The rows. Each text without an empty line is played on a server of its own: its first line has the prefix, the header of the principal, and
-//! the clock; then come the locks that stand at first, each with its principal and path; then requests, each with its answer behind ` = `. A `|`
-//! is the end of a line, and `TOKEN` the token of the lock that was made last.
-pub(crate) const ROWS: &str = "at / - 1000000000
+//! The rows. Each text without an empty line is played on a server of its own: its first line has the prefix, the header of the principal,
+//! the clock, and `https` where that is the scheme; then come the locks and the folders that stand at first, a lock with its principal, whether it is `shared` or `exclusive`, `deep` or
+//! `shallow`, and its path; then requests, each with its answer behind ` = `. A `|` is the end of a line, `{0}` the token of the first lock, `{1}` that of
+//! the second, and `{n}` a line feed.
+pub(crate) const ROWS: &str = r#"at / - 1000000000
 OPTIONS * HTTP/1.1|Host: h|| = HTTP/1.1 200 OK|dav: 1, 2|allow: OPTIONS, GET, HEAD, PUT|ms-author-via: DAV|content-length: 0||
 GET /a.txt HTTP/1.1|Host: h|| = HTTP/1.1 404 Not Found|content-length: 0||
-PUT /a.txt HTTP/1.1|Host: h|Content-Length: 5||hello = HTTP/1.1 201 Created|content-length: 0||
-GET /a.txt HTTP/1.1|Host: h|| = HTTP/1.1 200 OK|content-type: text/plain|last-modified: Thu, 01 Jan 1970 00:00:01 GMT|content-length: 5||hello
-PUT /a.txt HTTP/1.1|Host: h|Content-Length: 26||a body that is cut in many = HTTP/1.1 204 No Content||
-HEAD /a.txt HTTP/1.1|Host: h|| = HTTP/1.1 200 OK|content-type: text/plain|last-modified: Thu, 01 Jan 1970 00:00:01 GMT|content-length: 26||
-GET /./b/../%61.txt?x HTTP/1.1|Host: h|| = HTTP/1.1 200 OK|content-type: text/plain|last-modified: Thu, 01 Jan 1970 00:00:01 GMT|content-length: 26||a body that is cut in many
+PUT /a.txt HTTP/1.1|Host: h|Content-Length: 5||hello = HTTP/1.1 201 Created|etag: "1000000001-5"|content-length: 0||
+GET /a.txt HTTP/1.1|Host: h|| = HTTP/1.1 200 OK|etag: "1000000001-5"|last-modified: Thu, 01 Jan 1970 00:00:01 GMT|content-type: text/plain|accept-ranges: bytes|content-length: 5||hello
+PUT /a.txt HTTP/1.1|Host: h|Content-Length: 26||a body that is cut in many = HTTP/1.1 204 No Content|etag: "1000000002-26"||
+HEAD /a.txt HTTP/1.1|Host: h|| = HTTP/1.1 200 OK|etag: "1000000002-26"|last-modified: Thu, 01 Jan 1970 00:00:01 GMT|content-type: text/plain|accept-ranges: bytes|content-length: 26||
+GET /./b/../%61.txt?x HTTP/1.1|Host: h|| = HTTP/1.1 200 OK|etag: "1000000002-26"|last-modified: Thu, 01 Jan 1970 00:00:01 GMT|content-type: text/plain|accept-ranges: bytes|content-length: 26||a body that is cut in many
 HEAD /no HTTP/1.1|Host: h|| = HTTP/1.1 404 Not Found||
 PUT / HTTP/1.1|Host: h|Content-Length: 1||x = HTTP/1.1 405 Method Not Allowed|allow: OPTIONS, GET, HEAD, PUT|content-length: 0||
 PUT /no/a HTTP/1.1|Host: h|Content-Length: 1||x = HTTP/1.1 409 Conflict|content-length: 0||
@@ -20,11 +21,11 @@ GET /a.txt HTTP/1.1|Host: h|If: (<a:b>)|If: (<a:b>)|| = HTTP/1.1 400 Bad Request
 PUT /a.txt HTTP/1.1|Host: h|Content-Range: bytes 0-0/5|Content-Length: 1||x = HTTP/1.1 400 Bad Request|content-length: 0||
 MKCOL /b HTTP/1.1|Host: h|| = HTTP/1.1 501 Not Implemented|content-length: 0||
 POST /a.txt HTTP/1.1|Host: h|Content-Length: 1||x = HTTP/1.1 501 Not Implemented|content-length: 0||
-GET /a.txt HTTP/1.1|Host: h|Connection: close|| = HTTP/1.1 200 OK|content-type: text/plain|last-modified: Thu, 01 Jan 1970 00:00:01 GMT|content-length: 26|connection: close||a body that is cut in many
+GET /a.txt HTTP/1.1|Host: h|Connection: close|| = HTTP/1.1 200 OK|etag: "1000000002-26"|last-modified: Thu, 01 Jan 1970 00:00:01 GMT|content-type: text/plain|accept-ranges: bytes|content-length: 26|connection: close||a body that is cut in many
 
 at /dav x-user 1000000000
-PUT /dav/a HTTP/1.1|Host: h|X-User: ann|Content-Length: 1||x = HTTP/1.1 201 Created|content-length: 0||
-GET /dav/a HTTP/1.1|Host: h|X-User: bob|| = HTTP/1.1 200 OK|content-type: application/octet-stream|last-modified: Thu, 01 Jan 1970 00:00:01 GMT|content-length: 1||x
+PUT /dav/a HTTP/1.1|Host: h|X-User: ann|Content-Length: 1||x = HTTP/1.1 201 Created|etag: "1000000000-1"|content-length: 0||
+GET /dav/a HTTP/1.1|Host: h|X-User: bob|| = HTTP/1.1 200 OK|etag: "1000000000-1"|last-modified: Thu, 01 Jan 1970 00:00:01 GMT|content-type: application/octet-stream|accept-ranges: bytes|content-length: 1||x
 GET /dav/a HTTP/1.1|Host: h|| = HTTP/1.1 401 Unauthorized|content-length: 0||
 GET /dav/a HTTP/1.1|Host: h|X-User: || = HTTP/1.1 401 Unauthorized|content-length: 0||
 GET /dav/a HTTP/1.1|Host: h|X-User: ann|X-User: bob|| = HTTP/1.1 400 Bad Request|content-length: 0||
@@ -36,21 +37,21 @@ GET /dav/../../a HTTP/1.1|Host: h|| = HTTP/1.1 403 Forbidden|content-length: 0||
 OPTIONS /a HTTP/1.1|Host: h|| = HTTP/1.1 200 OK|dav: 1, 2|allow: OPTIONS, GET, HEAD, PUT|ms-author-via: DAV|content-length: 0||
 
 at / x-user 1000000000
-lock ann /a
+lock ann exclusive deep /a
 PUT /a HTTP/1.1|Host: h|X-User: ann|Content-Length: 1||x = HTTP/1.1 423 Locked|content-length: 0||
-PUT /a HTTP/1.1|Host: h|X-User: bob|If: (<TOKEN>)|Content-Length: 1||x = HTTP/1.1 423 Locked|content-length: 0||
-PUT /a HTTP/1.1|Host: h|X-User: ann|If: (<a:b>)|Content-Length: 1||x = HTTP/1.1 423 Locked|content-length: 0||
+PUT /a HTTP/1.1|Host: h|X-User: bob|If: (<{0}>)|Content-Length: 1||x = HTTP/1.1 423 Locked|content-length: 0||
+PUT /a HTTP/1.1|Host: h|X-User: ann|If: (<a:b>)|Content-Length: 1||x = HTTP/1.1 412 Precondition Failed|content-length: 0||
 GET /a HTTP/1.1|Host: h|X-User: bob|| = HTTP/1.1 404 Not Found|content-length: 0||
-PUT /a HTTP/1.1|Host: h|X-User: ann|If: (<TOKEN>)|Content-Length: 1||x = HTTP/1.1 201 Created|content-length: 0||
-PUT /a HTTP/1.1|Host: h|X-User: ann|If: (<a:b>) (Not <TOKEN>)|Content-Length: 2||xy = HTTP/1.1 204 No Content||
+PUT /a HTTP/1.1|Host: h|X-User: ann|If: (<{0}>)|Content-Length: 1||x = HTTP/1.1 201 Created|etag: "1000000003-1"|content-length: 0||
+PUT /a HTTP/1.1|Host: h|X-User: ann|If: (<a:b>) (<{0}> Not <a:c>)|Content-Length: 2||xy = HTTP/1.1 204 No Content|etag: "1000000004-2"||
 PUT /a/b HTTP/1.1|Host: h|X-User: bob|Content-Length: 1||x = HTTP/1.1 423 Locked|content-length: 0||
-PUT /b HTTP/1.1|Host: h|X-User: bob|Content-Length: 1||x = HTTP/1.1 201 Created|content-length: 0||
-GET /a HTTP/1.1|Host: h|X-User: bob|| = HTTP/1.1 200 OK|content-type: application/octet-stream|last-modified: Thu, 01 Jan 1970 00:00:01 GMT|content-length: 2||xy
+PUT /b HTTP/1.1|Host: h|X-User: bob|Content-Length: 1||x = HTTP/1.1 201 Created|etag: "1000000006-1"|content-length: 0||
+GET /a HTTP/1.1|Host: h|X-User: bob|| = HTTP/1.1 200 OK|etag: "1000000004-2"|last-modified: Thu, 01 Jan 1970 00:00:01 GMT|content-type: application/octet-stream|accept-ranges: bytes|content-length: 2||xy
 
 at / - 18446744073709551615
-lock ann /a
-PUT /b HTTP/1.1|Host: h|Content-Length: 1||x = HTTP/1.1 201 Created|content-length: 0||
+lock ann exclusive deep /a
+PUT /b HTTP/1.1|Host: h|Content-Length: 1||x = HTTP/1.1 201 Created|etag: "18446744073709551615-1"|content-length: 0||
 PUT /b HTTP/1.1|Host: h|Content-Length: 1||y = HTTP/1.1 503 Service Unavailable|content-length: 0||
 PUT /a HTTP/1.1|Host: h|Content-Length: 1||y = HTTP/1.1 503 Service Unavailable|content-length: 0||
 PUT /b HTTP/1.1|Host: h|If: no list|Content-Length: 1||y = HTTP/1.1 400 Bad Request|content-length: 0||
-GET /b HTTP/1.1|Host: h|| = HTTP/1.1 200 OK|content-type: application/octet-stream|last-modified: Sun, 21 Jul 2554 23:34:33 GMT|content-length: 1||x";
+GET /b HTTP/1.1|Host: h|| = HTTP/1.1 200 OK|etag: "18446744073709551615-1"|last-modified: Sun, 21 Jul 2554 23:34:33 GMT|content-type: application/octet-stream|accept-ranges: bytes|content-length: 1||x"#;

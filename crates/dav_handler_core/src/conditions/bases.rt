@@ -2,7 +2,7 @@
 ghost use Rattle.std.specs.Prelude.{◌≡◌, ◌⊎◌, IfErr, IfOk, MatchResult, None, Some};
 ghost use Rattle.url.specs.Parts.{Parts};
 ghost use Rattle.dav_headers_core.specs.Urls.{url_of};
-ghost use Rattle.dav_handler_core.specs.Admitting.{IsBase};
+ghost use Rattle.dav_handler_core.specs.Admitting.{IsBase, front_of};
 ghost use Rattle.dav_handler_core.specs.declared.faults.Fault.TheVariants as fault;
 
 use crate::faults::Fault;
@@ -11,10 +11,33 @@ use http_header::{HeaderMap, HeaderName, HeaderValue};
 use std::alloc::Global;
 use url::{ParseError, Url};
 
-/// `http`, and the host and port of the request's `Host` (RFC 9112 section 3.3). `BadRequest` where it has no `Host`, several, or one that is no host.
-pub(super) fn base_of(alloc: Global, headers: &HeaderMap<HeaderValue>) -> Result<Url, Fault>
-    ensures ok { IfOk result (λ base. IsBase headers.now base) }
-    ensures err { IfErr result (λ e. (e ≡ fault.InsufficientStorage) ⊎ ((e ≡ fault.BadRequest) × ((base : Parts) → ¬ IsBase headers.now base))) }
+/// The scheme of the URLs of a server, as its clients see them.
+#[derive(Debug, Clone, Copy, PartialEq, Eq)]
+pub enum Scheme {
+    /// `http`.
+    Http,
+    /// `https`, by a proxy in front.
+    Https,
+}
+
+// What stands in front of the host in a URL.
+fn front_of(scheme: Scheme) -> &'static str
+    ensures { result.now ≡ front_of scheme }
+{
+    match scheme {
+        Scheme::Http => "http://",
+        Scheme::Https => "https://",
+    }
+}
+
+/// The scheme, and the host and port of the request's `Host` (RFC 9112 section 3.3). `BadRequest` where it has no `Host`, several, or one that is no host.
+pub(super) fn base_of(
+    alloc: Global,
+    scheme: Scheme,
+    headers: &HeaderMap<HeaderValue>,
+) -> Result<Url, Fault>
+    ensures ok { IfOk result (λ base. IsBase scheme headers.now base) }
+    ensures err { IfErr result (λ e. (e ≡ fault.InsufficientStorage) ⊎ ((e ≡ fault.BadRequest) × ((base : Parts) → ¬ IsBase scheme headers.now base))) }
 {
     let Some(value) = value_of(headers, &HeaderName::from_static("host"))? else {
         return Err(Fault::BadRequest);
@@ -22,7 +45,8 @@ pub(super) fn base_of(alloc: Global, headers: &HeaderMap<HeaderValue>) -> Result
     let Ok(host) = str::from_utf8(value.as_bytes()) else {
         return Err(Fault::BadRequest);
     };
-    let text = format!(in alloc; "http://{host}/")?;
+    let front = front_of(scheme);
+    let text = format!(in alloc; "{front}{host}/")?;
     url_of(alloc, &text)
 }
 

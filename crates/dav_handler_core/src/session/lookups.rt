@@ -1,11 +1,12 @@
 //! What conditions ask a session for.
-ghost use Rattle.std.specs.Prelude.{◌≡◌, ◌≢◌, [], IfOk, IfErr};
+ghost use Rattle.std.specs.Prelude.{◌≡◌, ◌≢◌, ◌⊎◌, [], IfOk, IfErr, OnOk};
 ghost use Rattle.dav_path_core.specs.Segments.{segments};
 ghost use Rattle.dav_files_core.specs.Meta.{meta_of};
 ghost use Rattle.dav_files_core.specs.Resources.{at_path};
 ghost use Rattle.dav_locks_core.specs.Locks.{discovered};
-ghost use Rattle.dav_handler_core.specs.Callers.{RunBy, SameLive, live};
+ghost use Rattle.dav_handler_core.specs.Callers.{RunBy, SameLive, live, refusing_at};
 ghost use Rattle.dav_handler_core.specs.FileTags.{standing_as, standing_of};
+ghost use Rattle.dav_handler_core.specs.Private.Marking.{HasShownTag};
 ghost use Rattle.dav_handler_core.specs.Sessions as spec;
 ghost use Rattle.dav_handler_core.specs.declared.faults.Fault.TheVariants as fault;
 
@@ -14,7 +15,7 @@ use crate::etags::{Standing, file_tag};
 use crate::faults::Fault;
 use dav_resource_core::davpath::DavPath;
 use dav_resource_core::fs::DavMetaData;
-use dav_resource_core::guarded::{Command, Reply};
+use dav_resource_core::guarded::{Command, Refusal, Reply};
 use dav_resource_core::ls::DavLock;
 use dav_resource_core::memfs::MemFsMeta;
 use rand_core::Rng;
@@ -35,6 +36,22 @@ impl<R: Rng> Session<R> {
         }
     }
 
+    /// Whether the locks let the caller change what stands at a path (RFC 4918 section 7). `Locked` where one stands in the way.
+    pub fn check(&mut self, path: DavPath) -> Result<(), Fault>
+        ensures ok { OnOk result (refusing_at (live (spec.caller self.old).now (spec.state R.stream self.old)) (spec.caller self.old) (segments path.bytes) ≡ []) }
+        ensures err { IfErr result (λ e. (e ≡ fault.InsufficientStorage) ⊎ ((e ≡ fault.Locked)
+            × (refusing_at (live (spec.caller self.old).now (spec.state R.stream self.old)) (spec.caller self.old) (segments path.bytes) ≢ []))) }
+        ensures run { RunBy (spec.caller self.old) (spec.state R.stream self.old) (spec.state R.stream self.new) }
+        ensures live { SameLive (spec.caller self.old).now (spec.state R.stream self.old) (spec.state R.stream self.new) }
+        ensures caller { spec.caller self.new ≡ spec.caller self.old }
+    {
+        match self.ask(Command::Check { path, deep: false }) {
+            Ok(_) => Ok(()),
+            Err(Refusal::Locked(_)) => Err(Fault::Locked),
+            Err(_) => Err(Fault::InsufficientStorage),
+        }
+    }
+
     /// The locks that cover a path, from the root down, but those that have expired (RFC 4918 section 6). `InsufficientStorage` where there is no memory to
     /// show one.
     pub fn locks_at(&mut self, path: DavPath) -> Result<Vec<DavLock>, Fault>
@@ -52,9 +69,10 @@ impl<R: Rng> Session<R> {
     }
 }
 
-// What is known of a folder or a file, as conditions see it.
-fn standing_as(alloc: Global, meta: &MemFsMeta) -> Result<Standing, Fault>
+/// What is known of a folder or a file, as conditions see it. `InsufficientStorage` where there is no memory for a file's tag.
+pub(crate) fn standing_as(alloc: Global, meta: &MemFsMeta) -> Result<Standing, Fault>
     ensures ok { IfOk result (λ standing. standing ≡ standing_as (meta_of meta.now)) }
+    ensures shown { IfOk result (λ standing. HasShownTag standing) }
     ensures err { IfErr result (λ e. e ≡ fault.InsufficientStorage) }
 {
     if meta.is_dir() {

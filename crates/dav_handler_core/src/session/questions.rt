@@ -1,5 +1,5 @@
 //! What methods ask a session for.
-ghost use Rattle.std.specs.Prelude.{◌≡◌, ◌⊎◌, Some, Ok, IfOk, IfErr, map, option_map, take};
+ghost use Rattle.std.specs.Prelude.{◌≡◌, ◌⊎◌, Some, Ok, IfOk, IfErr, map, option_map, take, drop};
 ghost use Rattle.dav_path_core.specs.Segments.{segments};
 ghost use Rattle.dav_files_core.specs.declared.memfs.Kind.TheVariants.{File, Folder};
 ghost use Rattle.dav_files_core.specs.Listing.{entry_of, read_dir};
@@ -37,17 +37,17 @@ impl<R: Rng> Session<R> {
         }
     }
 
-    /// The bytes of a file, so many at most. `NotFound` where no file stands there.
-    pub fn read(&mut self, path: DavPath, count: usize) -> Result<Bytes, Fault>
+    /// The bytes of a file from a place on, so many at most. `NotFound` where no file stands there.
+    pub fn read(&mut self, path: DavPath, at: usize, count: usize) -> Result<Bytes, Fault>
         ensures ok { IfOk result (λ bytes. (r : Resource) × (at_path (spec.state R.stream self.old).map (segments path.bytes) ≡ Some r)
-            × (r.node.kind ≡ File) × (bytes ≡ take count r.node.bytes)) }
+            × (r.node.kind ≡ File) × (bytes ≡ take count (drop at r.node.bytes))) }
         ensures err { IfErr result (λ e. (e ≡ fault.InsufficientStorage) ⊎ ((e ≡ fault.NotFound)
             × ((r : Resource) → at_path (spec.state R.stream self.old).map (segments path.bytes) ≡ Some r → ¬ (r.node.kind ≡ File)))) }
         ensures run { RunBy (spec.caller self.old) (spec.state R.stream self.old) (spec.state R.stream self.new) }
         ensures live { SameLive (spec.caller self.old).now (spec.state R.stream self.old) (spec.state R.stream self.new) }
         ensures caller { spec.caller self.new ≡ spec.caller self.old }
     {
-        match self.ask(Command::Read { path, at: 0, count }) {
+        match self.ask(Command::Read { path, at, count }) {
             Ok(Reply::Bytes(bytes)) => Ok(bytes),
             Err(Refusal::Fs(FsError::InsufficientStorage)) => Err(Fault::InsufficientStorage),
             _ => Err(Fault::NotFound),

@@ -1,4 +1,5 @@
 use Rattle.std.proofs.Common.{Ok, Err, refl}
+use Rattle.dav_handler_core.specs.Fields.{sent_of}
 use Rattle.dav_handler_core.specs.Servers.{server}
 use Rattle.dav_handler_core.proofs.AnswerLemmas.{refused_alike, moves_exclusive, moves_shape}
 use Rattle.dav_handler_core.proofs.dav.DavService.call.Goals as goal
@@ -31,7 +32,7 @@ returns-in-Err-clause-ok g c =
       is_method = told.1;
       result = Err c.in-Err.fault;
       status = c.refuse.ensures;
-      done = refused_alike told.0 before after c.args.request.now c.in-Err.fault c.answer.new.response.body.items c.refuse.new.response.body.items told.2;
+      done = refused_alike told.0 before after c.args.request.now c.in-Err.fault (sent_of c.answer.new.response) (sent_of c.refuse.new.response) told.2;
       refused = c.in-Err.ensures.refused;
       exclusive = moves_exclusive before after c.args.request.now c.answer.ensures.moves;
       shape = moves_shape before after c.args.request.now c.answer.ensures.moves;

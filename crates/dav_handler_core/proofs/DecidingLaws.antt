@@ -1,0 +1,292 @@
+-- What decides over a request, told of its answer.
+use Rattle.std.proofs.Common.{◌≡◌, ◌⊎◌, inl, inr, ℕ, ◌<◌, ◌≤◌, Bool, true, false, List, [], ◌∷◌, length, take, drop, ◌-◌, Option, None, Some, Result, Ok, Err, refl, sym, ◌∙◌, ap, subst, arith, if◌then◌else◌}
+use Rattle.std.specs.Prelude.{OnErr}
+use Rattle.std.proofs.lemmas.Bool.{false≢true}
+use Rattle.http.specs.declared.request.Request.{Request}
+use Rattle.http.specs.Request.{head_of, body_of}
+use Rattle.http_header.specs.FieldValue.{FieldValue}
+use Rattle.http_header.specs.HeaderMap.{Entries}
+use Rattle.dav_path_core.specs.declared.util.DavMethod.{DavMethod}
+use Rattle.dav_path_core.specs.declared.util.DavMethod.TheVariants as method
+use Rattle.dav_path_core.specs.Fronts.{Path}
+use Rattle.dav_path_core.specs.Segments.{segments}
+use Rattle.dav_files_core.specs.declared.memfs.Kind.TheVariants.{File}
+use Rattle.dav_files_core.specs.Resources.{Resource, at_path}
+use Rattle.dav_resource_core.specs.Checks.{has}
+use Rattle.dav_resource_core.specs.Step.{State}
+use Rattle.dav_handler_core.specs.declared.etags.Standing.{Standing}
+use Rattle.dav_handler_core.specs.declared.faults.Fault.{Fault}
+use Rattle.dav_handler_core.specs.declared.faults.Fault.TheVariants as fault
+use Rattle.dav_handler_core.specs.declared.preconditions.Course.{Course}
+use Rattle.dav_handler_core.specs.declared.preconditions.Course.TheVariants as course
+use Rattle.dav_handler_core.specs.declared.ranges.Extent.{Extent}
+use Rattle.dav_handler_core.specs.declared.ranges.Extent.TheVariants as extent
+use Rattle.dav_handler_core.specs.Answers.{AnswersTo, Fails, HoldsOff, IsGotten, Options, Server, Unread, status_of}
+use Rattle.dav_handler_core.specs.Answers.Unread.{memory, target, principal, tokens, moment}
+use Rattle.dav_handler_core.specs.Callers.{Caller, SameLive}
+use Rattle.dav_handler_core.specs.Deciding.{HeldOff, SendsPart, SendsTag, Stops, WentOn, looks}
+use Rattle.dav_handler_core.specs.Faults.{fault_status}
+use Rattle.dav_handler_core.specs.Fields.{Sent}
+use Rattle.dav_handler_core.specs.FileTags.{standing_by, standing_of, tag_of}
+use Rattle.dav_handler_core.specs.Getting.{FailsToGet, Tells, own_tags, tags_by, told_by, told_of}
+use Rattle.dav_handler_core.specs.Preconditions.{course_of}
+use Rattle.dav_handler_core.specs.Putting.{FailsToPut}
+use Rattle.dav_handler_core.specs.Ranges.{part_text}
+use Rattle.dav_handler_core.specs.Refusals.{RefusesPrincipal, RefusesTarget}
+
+-- ---- statuses of faults
+
+fault_high : (e : Fault) → 400 ≤ fault_status e
+fault_high fault.BadRequest = omega arith
+fault_high fault.Unauthorized = omega arith
+fault_high fault.Forbidden = omega arith
+fault_high fault.NotFound = omega arith
+fault_high fault.MethodNotAllowed = omega arith
+fault_high fault.Conflict = omega arith
+fault_high fault.PreconditionFailed = omega arith
+fault_high fault.Locked = omega arith
+fault_high fault.NotImplemented = omega arith
+fault_high fault.ServiceUnavailable = omega arith
+fault_high fault.InsufficientStorage = omega arith
+
+fault_failed : (e : Fault) → fault_status e ≡ 412 → e ≡ fault.PreconditionFailed
+fault_failed fault.BadRequest h = absurd (omega (arith, h))
+fault_failed fault.Unauthorized h = absurd (omega (arith, h))
+fault_failed fault.Forbidden h = absurd (omega (arith, h))
+fault_failed fault.NotFound h = absurd (omega (arith, h))
+fault_failed fault.MethodNotAllowed h = absurd (omega (arith, h))
+fault_failed fault.Conflict h = absurd (omega (arith, h))
+fault_failed fault.PreconditionFailed h = refl
+fault_failed fault.Locked h = absurd (omega (arith, h))
+fault_failed fault.NotImplemented h = absurd (omega (arith, h))
+fault_failed fault.ServiceUnavailable h = absurd (omega (arith, h))
+fault_failed fault.InsufficientStorage h = absurd (omega (arith, h))
+
+abbrev IsOff : ℕ → Type 0
+IsOff status = (status ≡ 304) ⊎ (status ≡ 412)
+
+-- a fault that holds a request off is that of a condition
+fault_off : (e : Fault) → IsOff (fault_status e) → e ≡ fault.PreconditionFailed
+fault_off e (inl h) = absurd (omega (arith, h, fault_high e))
+fault_off e (inr h) = fault_failed e h
+
+put_between : (b : Bool) → (200 < (if b then 204 else 201)) × ((if b then 204 else 201) < 205)
+put_between true = (omega arith, omega arith)
+put_between false = (omega arith, omega arith)
+
+-- what isn't read is not a condition that doesn't hold
+no_principal : (named : Option (List ℕ)) (headers : Entries FieldValue) → ¬ RefusesPrincipal named headers fault.PreconditionFailed
+no_principal (Some name) headers h = h
+no_principal None headers h = h
+
+not_unread : (options : Options) (request : Request (List ℕ)) (last : ℕ) (changes : Bool) (e : Fault) → e ≡ fault.PreconditionFailed
+    → ¬ Unread options request last changes e
+not_unread options request last changes _ is memory = cc
+not_unread options request last changes _ is (target e h) = subst (RefusesTarget options.prefix (head_of request).uri) is h
+not_unread options request last changes _ is (principal e path names h) =
+    no_principal options.user_header (head_of request).headers (subst (RefusesPrincipal options.user_header (head_of request).headers) is h)
+not_unread options request last changes _ is (tokens path named names sender h) = cc
+not_unread options request last changes _ is (moment path who names from h last_one) = cc
+
+abbrev refused_as : Fault → Result ℕ Fault
+refused_as e = Err e
+
+not_served : (e : Fault) → refused_as e ≡ refused_as fault.NotImplemented → e ≡ fault.NotImplemented
+not_served e h = cc
+
+-- ---- GET and HEAD
+
+module _ (before after : Server) (request : Request (List ℕ)) (sent : Sent) where
+  abbrev Headers : Entries FieldValue
+  Headers = (head_of request).headers
+
+  -- what is told where it is done
+  told_done : (m : DavMethod) (r : Resource) (status : ℕ) (x : Result (Option Extent) Fault) → told_of m r Headers ≡ x → Tells x r status sent → status < 300
+      → (e : Extent) × (told_of m r Headers ≡ Ok (Some e))
+  told_done m r status (Err e) is h low = absurd h
+  told_done m r status (Ok None) is h low = absurd (omega (arith, h.0))
+  told_done m r status (Ok (Some extent.Whole)) is h low = (extent.Whole, is)
+  told_done m r status (Ok (Some (extent.Part first end))) is h low = (extent.Part first end, is)
+  told_done m r status (Ok (Some extent.Unsatisfiable)) is h low = absurd (omega (arith, h.0))
+
+  told_off : (m : DavMethod) (r : Resource) (status : ℕ) (x : Result (Option Extent) Fault) → told_of m r Headers ≡ x → Tells x r status sent → IsOff status
+      → told_of m r Headers ≡ Ok None
+  told_off m r status (Err e) is h off = absurd h
+  told_off m r status (Ok None) is h off = is
+  told_off m r status (Ok (Some extent.Whole)) is h (inl off) = absurd (omega (arith, h.0, off))
+  told_off m r status (Ok (Some extent.Whole)) is h (inr off) = absurd (omega (arith, h.0, off))
+  told_off m r status (Ok (Some (extent.Part first end))) is h (inl off) = absurd (omega (arith, h.0, off))
+  told_off m r status (Ok (Some (extent.Part first end))) is h (inr off) = absurd (omega (arith, h.0, off))
+  told_off m r status (Ok (Some extent.Unsatisfiable)) is h (inl off) = absurd (omega (arith, h.0, off))
+  told_off m r status (Ok (Some extent.Unsatisfiable)) is h (inr off) = absurd (omega (arith, h.0, off))
+
+  told_tags : (r : Resource) (status : ℕ) (x : Result (Option Extent) Fault) → Tells x r status sent → status < 400 → sent.marks.tags ≡ own_tags r
+  told_tags r status (Err e) h low = absurd h
+  told_tags r status (Ok None) h low = ap (λ m. m.tags) h.1
+  told_tags r status (Ok (Some extent.Whole)) h low = ap (λ m. m.tags) h.1
+  told_tags r status (Ok (Some (extent.Part first end))) h low = ap (λ m. m.tags) h.1
+  told_tags r status (Ok (Some extent.Unsatisfiable)) h low = absurd (omega (arith, h.0))
+
+  get_on : (m : DavMethod) (status : ℕ) (h : IsGotten m before request status sent after) → status < 300
+      → (x : Extent) × ((r : Resource) × (at_path before.state.map (segments h.path.bytes) ≡ Some r) × (told_of m r Headers ≡ Ok (Some x)))
+  get_on m status h low =
+      let is = told_done m h.gets.resource status (told_of m h.gets.resource Headers) refl h.gets.tells low in
+      (is.0, (h.gets.resource, h.gets.here, is.1))
+
+  get_tag : (m : DavMethod) (status : ℕ) → IsGotten m before request status sent after → SameLive after.last before.state after.state → status < 400
+      → SendsTag before request sent after
+  get_tag m status h same low = record {
+    path = h.path;
+    who = h.who;
+    begins = h.begins;
+    tags = told_tags h.gets.resource status (told_of m h.gets.resource Headers) h.gets.tells low
+        ∙ ap (λ o. tags_by (standing_of o)) (sym (ap (λ (s : State). at_path s.map (segments h.path.bytes)) same ∙ h.gets.here));
+  }
+
+  -- a GET that is held off
+  get_off : (m : DavMethod) (status : ℕ) (h : IsGotten m before request status sent after) → IsOff status
+      → (r : Resource) × (at_path before.state.map (segments h.path.bytes) ≡ Some r) × (told_of m r Headers ≡ Ok None)
+  get_off m status h off =
+      (h.gets.resource, h.gets.here, told_off m h.gets.resource status (told_of m h.gets.resource Headers) refl h.gets.tells off)
+
+  -- ---- every method
+
+  pub went_on : (m : Option DavMethod) (result : Result ℕ Fault) → AnswersTo m before request result sent after → looks m ≡ true → status_of result < 300
+      → WentOn m before request after
+  went_on m (Err e) h look low = absurd (omega (arith, low, fault_high e))
+  went_on (Some method.Get) (Ok status) h look low =
+      record { path = h.0.path; who = h.0.who; begins = h.0.begins; admits = h.0.admits; lets = get_on method.Get status h.0 low }
+  went_on (Some method.Head) (Ok status) h look low =
+      record { path = h.0.path; who = h.0.who; begins = h.0.begins; admits = h.0.admits; lets = get_on method.Head status h.0 low }
+  went_on (Some method.Put) (Ok status) h look low =
+      record { path = h.1.path; who = h.1.who; begins = h.1.begins; admits = h.1.admits; lets = h.1.course }
+  went_on _ (Ok status) h look low = absurd (false≢true look)
+
+  -- a request that is refused for a condition
+  fails_off : (m : Option DavMethod) (changes : Bool) (e : Fault) (Refuses : Path → Caller → Type 0) → e ≡ fault.PreconditionFailed
+      → Unread before.options request before.last changes e ⊎ Fails before request after e Refuses
+      → ((p : Path) (who : Caller) → Refuses p who → Stops m before.state.map p Headers) → HeldOff m before request after
+  fails_off m changes e Refuses is (inl unread) stops = absurd (not_unread before.options request before.last changes e is unread)
+  fails_off m changes e Refuses is (inr h) stops = record {
+    path = h.path;
+    who = h.who;
+    begins = h.begins;
+    why = elim h.why [
+      | inl off ↦ inl (subst (HoldsOff before request after h.path) is off)
+      | inr own ↦ inr (own.0, stops (segments h.path.bytes) h.who own.1)
+    ];
+  }
+
+  pub held_off : (m : Option DavMethod) (result : Result ℕ Fault) → AnswersTo m before request result sent after → IsOff (status_of result)
+      → HeldOff m before request after
+  held_off (Some method.Get) (Ok status) h off = record {
+    path = h.0.path;
+    who = h.0.who;
+    begins = h.0.begins;
+    why = inr (h.0.admits, inl (get_off method.Get status h.0 off));
+  }
+  held_off (Some method.Head) (Ok status) h off = record {
+    path = h.0.path;
+    who = h.0.who;
+    begins = h.0.begins;
+    why = inr (h.0.admits, inl (get_off method.Head status h.0 off));
+  }
+  held_off (Some method.Put) (Ok status) h off =
+      let between = put_between (has before.state.map (segments h.1.path.bytes)) in
+      absurd (elim off [ inl off ↦ omega (arith, off, h.1.status_is, between) | inr off ↦ omega (arith, off, h.1.status_is, between) ])
+  held_off (Some method.Get) (Err e) h off =
+      let is = fault_off e off in
+      fails_off (Some method.Get) false e (λ p who. FailsToGet method.Get before.state.map p Headers e) is h.0
+      (λ p who refuses. inr (subst (FailsToGet method.Get before.state.map p Headers) is refuses))
+  held_off (Some method.Head) (Err e) h off =
+      let is = fault_off e off in
+      fails_off (Some method.Head) false e (λ p who. FailsToGet method.Head before.state.map p Headers e) is h.0
+      (λ p who refuses. inr (subst (FailsToGet method.Head before.state.map p Headers) is refuses))
+  held_off (Some method.Put) (Err e) (inl part) off =
+      let is : fault.BadRequest ≡ fault.PreconditionFailed = sym part.1 ∙ fault_off e off in absurd (cc)
+  held_off (Some method.Put) (Err e) (inr h) off =
+      let is = fault_off e off in
+      fails_off (Some method.Put) true e (λ p who. FailsToPut before.state who p (body_of request) Headers e) is h.1
+      (λ p who refuses. (subst (FailsToPut before.state who p (body_of request) Headers) is refuses).1)
+  held_off (Some method.Options) (Ok status) h (inl off) = absurd (omega (arith, h.0, off))
+  held_off (Some method.Options) (Ok status) h (inr off) = absurd (omega (arith, h.0, off))
+  held_off (Some method.Options) (Err e) h off =
+      let is : fault.InsufficientStorage ≡ fault.PreconditionFailed = sym h.0 ∙ fault_off e off in absurd (cc)
+  held_off _ (Ok status) h off = absurd (cc)
+  held_off _ (Err e) h off =
+      let unserved = not_served e h.0 in
+      let is : fault.NotImplemented ≡ fault.PreconditionFailed = sym unserved ∙ fault_off e off in absurd (cc)
+
+  -- nothing has changed
+  pub stays : (m : Option DavMethod) (result : Result ℕ Fault) → AnswersTo m before request result sent after
+      → OnErr result (SameLive after.last before.state after.state) → IsOff (status_of result) → SameLive after.last before.state after.state
+  stays m (Err e) h refused off = refused
+  stays (Some method.Get) (Ok status) h refused off = h.1
+  stays (Some method.Head) (Ok status) h refused off = h.1
+  stays (Some method.Put) (Ok status) h refused off =
+      let between = put_between (has before.state.map (segments h.1.path.bytes)) in
+      absurd (elim off [ inl off ↦ omega (arith, off, h.1.status_is, between) | inr off ↦ omega (arith, off, h.1.status_is, between) ])
+  stays (Some method.Options) (Ok status) h refused (inl off) = absurd (omega (arith, h.0, off))
+  stays (Some method.Options) (Ok status) h refused (inr off) = absurd (omega (arith, h.0, off))
+  stays _ (Ok status) h refused off = absurd (cc)
+
+  -- ---- parts and tags
+
+  told_part : (r : Resource) (status : ℕ) (x : Result (Option Extent) Fault) → told_of method.Get r Headers ≡ x → Tells x r status sent → status ≡ 206
+      → (first : ℕ) × ((end : ℕ) × (told_of method.Get r Headers ≡ Ok (Some (extent.Part first end))) × (sent.body ≡ take (end - first) (drop first r.node.bytes))
+      × (sent.marks.parts ≡ part_text first end (length r.node.bytes) ∷ []))
+  told_part r status (Err e) is h part = absurd h
+  told_part r status (Ok None) is h part = absurd (omega (arith, h.0, part))
+  told_part r status (Ok (Some extent.Whole)) is h part = absurd (omega (arith, h.0, part))
+  told_part r status (Ok (Some (extent.Part first end))) is h part = (first, (end, is, h.2, ap (λ m. m.parts) h.1))
+  told_part r status (Ok (Some extent.Unsatisfiable)) is h part = absurd (omega (arith, h.0, part))
+
+  -- a HEAD has no part
+  no_part : (standing : Standing) (size : ℕ) (o : Option Course) (status : ℕ) (r : Resource) → Tells (told_by method.Head standing size Headers o) r status sent → ¬ (status ≡ 206)
+  no_part standing size None status r h part = h
+  no_part standing size (Some course.PreconditionFailed) status r h part = h
+  no_part standing size (Some course.NotModified) status r h part = omega (arith, h.0, part)
+  no_part standing size (Some course.Whole) status r h part = omega (arith, h.0, part)
+  no_part standing size (Some course.Proceed) status r h part = omega (arith, h.0, part)
+
+  pub sends_part : (m : Option DavMethod) (result : Result ℕ Fault) → AnswersTo m before request result sent after → status_of result ≡ 206
+      → SendsPart before request sent after
+  sends_part m (Err e) h part = absurd (omega (arith, part, fault_high e))
+  sends_part (Some method.Get) (Ok status) h part =
+      let r = h.0.gets.resource in
+      let told = told_part r status (told_of method.Get r Headers) refl h.0.gets.tells part in
+      record {
+        path = h.0.path;
+        who = h.0.who;
+        begins = h.0.begins;
+        resource = r;
+        here = h.0.gets.here;
+        first = told.0;
+        end = told.1.0;
+        asked = told.1.1;
+        bytes = told.1.2;
+        says = told.1.3;
+      }
+  sends_part (Some method.Head) (Ok status) h part =
+      let r = h.0.gets.resource in
+      absurd (no_part (standing_of (Some r)) (length r.node.bytes) (course_of method.Head (standing_of (Some r)) Headers) status r h.0.gets.tells part)
+  sends_part (Some method.Put) (Ok status) h part =
+      absurd (omega (arith, part, h.1.status_is, put_between (has before.state.map (segments h.1.path.bytes))))
+  sends_part (Some method.Options) (Ok status) h part = absurd (omega (arith, h.0, part))
+  sends_part _ (Ok status) h part = absurd (cc)
+
+  file_tags : (file : Resource) → file.node.kind ≡ File → tag_of file ∷ [] ≡ tags_by (standing_of (Some file))
+  file_tags file kind = sym (ap (λ k. tags_by (standing_by k file.node.modified (length file.node.bytes))) kind)
+
+  pub sends_tag : (m : Option DavMethod) (result : Result ℕ Fault) → AnswersTo m before request result sent after → looks m ≡ true → status_of result < 400
+      → SendsTag before request sent after
+  sends_tag m (Err e) h look low = absurd (omega (arith, low, fault_high e))
+  sends_tag (Some method.Get) (Ok status) h look low = get_tag method.Get status h.0 h.1 low
+  sends_tag (Some method.Head) (Ok status) h look low = get_tag method.Head status h.0 h.1 low
+  sends_tag (Some method.Put) (Ok status) h look low = record {
+    path = h.1.path;
+    who = h.1.who;
+    begins = h.1.begins;
+    tags = ap (λ m. m.tags) h.1.marks ∙ file_tags h.1.puts.file h.1.puts.kind ∙ ap (λ o. tags_by (standing_of o)) (sym h.1.puts.here);
+  }
+  sends_tag _ (Ok status) h look low = absurd (false≢true look)

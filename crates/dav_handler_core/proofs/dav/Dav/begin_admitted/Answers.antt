@@ -1,0 +1,36 @@
+use Rattle.std.proofs.Common.{inr, refl, sym, ap, subst}
+use Rattle.std.proofs.lemmas.Result.{err_from_is_err_and}
+use Rattle.dav_resource_core.specs.Step.{State}
+use Rattle.dav_handler_core.specs.Answers.{IsFrom, Options}
+use Rattle.dav_handler_core.specs.Callers.{Caller, RunBy}
+use Rattle.dav_handler_core.specs.Servers.{server}
+use Rattle.dav_handler_core.specs.Sessions.{caller}
+use Rattle.dav_handler_core.proofs.AnswerLemmas.{held_there}
+use Rattle.dav_handler_core.proofs.CallerLaws.{by_none}
+use Rattle.dav_handler_core.proofs.dav.Dav.begin_admitted.Goals as goal
+
+pub returns-in_err-path-clause-run : goal.returns-in_err-path-clause-run
+returns-in_err-path-clause-run g c =
+    subst (λ (s : State). RunBy (caller c.begin.new.self.session) s (server g.R.Rng.stream c.begin.new.self).state) c.begin.ensures.state
+    (by_none (caller c.begin.new.self.session) (server g.R.Rng.stream c.begin.new.self).state)
+
+pub returns-in_err-admit-clause-err : goal.returns-in_err-admit-clause-err
+returns-in_err-admit-clause-err g c =
+    let p = err_from_is_err_and c.from_residual-in_err-admit.result c.from_residual-in_err-admit.ensures.1 in
+    let e = c.in_err-admit.field-0.0 in
+    let who = caller c.admit.new.session in
+    let begun = c.in_ok-path.ensures.ok in
+    let before = server g.R.Rng.stream c.args.self.now in
+    rw (p.1, p.2) (inr (
+      c.in_ok-path.path,
+      (
+        who,
+        record {
+          names = begun.0;
+          from = subst (IsFrom before.options c.args.request.now) (sym c.admit.ensures.caller) begun.1;
+          now = refl;
+        },
+        held_there before c.args.request.now c.headers.result.now c.in_ok-path.path e c.begin.new.self.settings.scheme (caller c.begin.new.self.session).now who.now (server g.R.Rng.stream c.begin.new.self).state
+            (ap (λ (o : Options). o.scheme) c.begin.ensures.options) (sym (ap (λ (w : Caller). w.now) c.admit.ensures.caller)) c.begin.ensures.state c.headers.ensures c.in_err-admit.ensures.err,
+      ),
+    ))

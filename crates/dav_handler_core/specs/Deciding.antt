@@ -1,0 +1,89 @@
+-- What decides over a request: its `If`, the conditions of HTTP and its range, told of its answer in one fact each (RFC 4918 section 10.4, RFC 9110
+-- sections 13 and 14).
+use Rattle.std.specs.Prelude.{◌≡◌, ◌⊎◌, ℕ, ◌-◌, Bool, true, false, List, [], ◌∷◌, length, take, drop, Option, None, Some, Ok, Err}
+use Rattle.http.specs.declared.request.Request.{Request}
+use Rattle.http.specs.Request.{head_of}
+use Rattle.http_header.specs.FieldValue.{FieldValue}
+use Rattle.http_header.specs.HeaderMap.{Entries}
+use Rattle.dav_path_core.specs.declared.util.DavMethod.{DavMethod}
+use Rattle.dav_path_core.specs.declared.util.DavMethod.TheVariants as method
+use Rattle.dav_path_core.specs.PathText.{PathText}
+use Rattle.dav_path_core.specs.Segments.{segments}
+use Rattle.dav_path_core.specs.Fronts.{Path}
+use Rattle.dav_files_core.specs.Resources.{Resource, ResourceMap, at_path}
+use Rattle.dav_handler_core.specs.declared.faults.Fault.TheVariants as fault
+use Rattle.dav_handler_core.specs.declared.ranges.Extent.{Extent}
+use Rattle.dav_handler_core.specs.declared.ranges.Extent.TheVariants as extent
+use Rattle.dav_handler_core.specs.Admitting.{Weighs}
+use Rattle.dav_handler_core.specs.Answers.{Admits, Begins, Server}
+use Rattle.dav_handler_core.specs.Callers.{Caller, live}
+use Rattle.dav_handler_core.specs.Fields.{Sent}
+use Rattle.dav_handler_core.specs.FileTags.{standing_of}
+use Rattle.dav_handler_core.specs.Getting.{tags_by, told_of}
+use Rattle.dav_handler_core.specs.Putting.{put_course}
+use Rattle.dav_handler_core.specs.Ranges.{part_text}
+
+-- a GET, a HEAD or a PUT, which look at conditions
+abbrev pub looks : Option DavMethod → Bool
+looks (Some method.Get) = true
+looks (Some method.Head) = true
+looks (Some method.Put) = true
+looks _ = false
+
+-- what stands at the path is told to a GET or a HEAD
+abbrev pub IsToldAs : DavMethod → ResourceMap → Path → Entries FieldValue → Option Extent → Type 0
+IsToldAs m map p headers told = (r : Resource) × (at_path map p ≡ Some r) × (told_of m r headers ≡ Ok told)
+
+-- one of its conditions doesn't hold there
+abbrev pub IsToldFailed : DavMethod → ResourceMap → Path → Entries FieldValue → Type 0
+IsToldFailed m map p headers = (r : Resource) × (at_path map p ≡ Some r) × (told_of m r headers ≡ Err fault.PreconditionFailed)
+
+-- the conditions of HTTP let the method be done at the path
+abbrev pub Lets : Option DavMethod → ResourceMap → Path → Entries FieldValue → Type 0
+Lets (Some method.Get) map p headers = (x : Extent) × IsToldAs method.Get map p headers (Some x)
+Lets (Some method.Head) map p headers = (x : Extent) × IsToldAs method.Head map p headers (Some x)
+Lets (Some method.Put) map p headers = put_course map p headers ≡ Ok tt
+Lets _ map p headers = Unit {0}
+
+-- they don't, and all of them are read
+abbrev pub Stops : Option DavMethod → ResourceMap → Path → Entries FieldValue → Type 0
+Stops (Some method.Get) map p headers = IsToldAs method.Get map p headers None ⊎ IsToldFailed method.Get map p headers
+Stops (Some method.Head) map p headers = IsToldAs method.Head map p headers None ⊎ IsToldFailed method.Head map p headers
+Stops (Some method.Put) map p headers = put_course map p headers ≡ Err fault.PreconditionFailed
+Stops _ map p headers = ⊥
+
+-- the request goes on: its `If` lets it, and so do the conditions
+pub record WentOn (m : Option DavMethod) (before : Server) (request : Request (List ℕ)) (after : Server) : Type 0 where
+  pub path : PathText
+  pub who : Caller
+  pub begins : Begins before request after path who
+  pub admits : Admits before request after path
+  pub lets : Lets m before.state.map (segments path.bytes) (head_of request).headers
+
+-- it is held off: its `If` doesn't hold, or a condition
+pub record HeldOff (m : Option DavMethod) (before : Server) (request : Request (List ℕ)) (after : Server) : Type 0 where
+  pub path : PathText
+  pub who : Caller
+  pub begins : Begins before request after path who
+  pub why : Weighs before.options.scheme (live after.last before.state) (head_of request).headers path false
+      ⊎ (Admits before request after path × Stops m before.state.map (segments path.bytes) (head_of request).headers)
+
+-- what is sent is the part of a file that is asked for, and says which
+pub record SendsPart (before : Server) (request : Request (List ℕ)) (sent : Sent) (after : Server) : Type 0 where
+  pub path : PathText
+  pub who : Caller
+  pub begins : Begins before request after path who
+  pub resource : Resource
+  pub here : at_path before.state.map (segments path.bytes) ≡ Some resource
+  pub first : ℕ
+  pub end : ℕ
+  pub asked : told_of method.Get resource (head_of request).headers ≡ Ok (Some (extent.Part first end))
+  pub bytes : sent.body ≡ take (end - first) (drop first resource.node.bytes)
+  pub says : sent.marks.parts ≡ part_text first end (length resource.node.bytes) ∷ []
+
+-- the tag that is sent is that of the file that stands at the path of the request behind it, if a file does
+pub record SendsTag (before : Server) (request : Request (List ℕ)) (sent : Sent) (after : Server) : Type 0 where
+  pub path : PathText
+  pub who : Caller
+  pub begins : Begins before request after path who
+  pub tags : sent.marks.tags ≡ tags_by (standing_of (at_path after.state.map (segments path.bytes)))

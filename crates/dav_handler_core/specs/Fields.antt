@@ -1,0 +1,31 @@
+-- What clients go by in an answer: its entity tag, which part it has, and its body (RFC 9110 sections 8.8.3 and 14.4).
+use Rattle.std.specs.Prelude.{ℕ, List, map, filter, bytes_eq, codes}
+use Rattle.http_server.specs.Response.{fields_of}
+use Rattle.http_server.specs.declared.response.Response.{Response}
+
+-- a name and a value
+abbrev pub Field : Type 0
+Field = List ℕ × List ℕ
+
+-- the values of the fields with a name, in order
+abbrev pub values_in : List Field → List ℕ → List (List ℕ)
+values_in fields name = map (λ h. h.1) (filter (λ h. bytes_eq h.0 name) fields)
+
+-- the values of `ETag` and of `Content-Range`
+pub record Marks : Type 0 where
+  pub tags : List (List ℕ)
+  pub parts : List (List ℕ)
+
+abbrev pub marks_in : List Field → Marks
+marks_in fields = record { tags = values_in fields (codes "etag"); parts = values_in fields (codes "content-range") }
+
+abbrev pub marks_of : Response → Marks
+marks_of response = marks_in (fields_of response)
+
+-- these, and the body
+pub record Sent : Type 0 where
+  pub marks : Marks
+  pub body : List ℕ
+
+abbrev pub sent_of : Response → Sent
+sent_of response = record { marks = marks_of response; body = response.body.items }

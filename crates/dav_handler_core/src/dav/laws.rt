@@ -1,0 +1,25 @@
+//! The laws of conditions over the answers of the server. They do nothing.
+ghost use Rattle.std.specs.Prelude.{◌≡◌, ◌<◌, ◌⊎◌, ℕ, true, List};
+ghost use Rattle.http.specs.declared.request.Request.{Request};
+ghost use Rattle.http_server.specs.declared.response.Response.{Response};
+ghost use Rattle.dav_handler_core.specs.Answers.{Answers, Server};
+ghost use Rattle.dav_handler_core.specs.Callers.{SameLive};
+ghost use Rattle.dav_handler_core.specs.Deciding.{HeldOff, SendsPart, SendsTag, WentOn, looks};
+ghost use Rattle.dav_handler_core.specs.Fields.{sent_of};
+
+/// The law of conditions (RFC 4918 section 10.4, RFC 9110 sections 13 and 14) over every answer of the server. It does nothing.
+///
+/// - A GET, a HEAD or a PUT is done only where its `If` holds and the conditions of HTTP let it.
+/// - 304 and 412 come only where one of them doesn't, and then nothing has changed, but that locks that have expired may be gone.
+/// - 206 comes with exactly the part of the file that is asked for, and `Content-Range` says which.
+/// - An answer below 400 to a GET, a HEAD or a PUT has the tag of the file that stands at its path behind it, and no tag where none does.
+pub fn conditions_decide()
+    ensures went_on { (before after : Server) (request : Request (List ℕ)) (response : Response) → (h : Answers before request response after)
+        → looks h.method ≡ true → response.status < 300 → WentOn h.method before request after }
+    ensures held_off { (before after : Server) (request : Request (List ℕ)) (response : Response) → (h : Answers before request response after)
+        → (response.status ≡ 304) ⊎ (response.status ≡ 412) → HeldOff h.method before request after × SameLive after.last before.state after.state }
+    ensures part { (before after : Server) (request : Request (List ℕ)) (response : Response) → Answers before request response after
+        → response.status ≡ 206 → SendsPart before request (sent_of response) after }
+    ensures tag { (before after : Server) (request : Request (List ℕ)) (response : Response) → (h : Answers before request response after)
+        → looks h.method ≡ true → response.status < 400 → SendsTag before request (sent_of response) after }
+{}

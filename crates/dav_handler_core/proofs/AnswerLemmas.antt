@@ -1,6 +1,6 @@
 -- How answers of methods are answers of the server.
 use Rattle.std.proofs.Common.{◌≡◌, ◌⊎◌, inl, inr, Bool, true, false, ℕ, ◌<◌, ◌≤◌, List, [], ◌∷◌, length, Option, Some, Result, Ok, Err, ◌∙◌, sym, ap, subst}
-use Rattle.std.specs.Prelude.{IfOk, IfErr, OnOk, IsTrue, ◌↔◌}
+use Rattle.std.specs.Prelude.{IfOk, IfErr, OnOk, OnErr, IsTrue, ◌↔◌}
 use Rattle.std.proofs.lemmas.Bool.{true≢false}
 use Rattle.http.specs.declared.request.Request.{Request}
 use Rattle.http.specs.Request.{head_of, body_of}
@@ -20,9 +20,9 @@ use Rattle.dav_handler_core.specs.declared.conditions.bases.Scheme.{Scheme}
 use Rattle.dav_handler_core.specs.declared.faults.Fault.{Fault}
 use Rattle.dav_handler_core.specs.declared.faults.Fault.TheVariants as fault
 use Rattle.dav_handler_core.specs.Admitting.{IsAdmitted, IsHeldOff}
-use Rattle.dav_handler_core.specs.Answers.{Admits, AnswersTo, Begins, Fails, GetAnswers, HoldsOff, IsFrom, IsWhole, Moves, Names, Options, PutAnswers, Server, Unread}
+use Rattle.dav_handler_core.specs.Answers.{Admits, AnswersTo, Begins, ChangeAnswers, EndsOne, Fails, GetAnswers, HoldsOff, IsFrom, IsWhole, Moves, Names, Options, PutAnswers, Server, Unread, as_found}
 use Rattle.dav_handler_core.specs.Answers.Unread.{memory, target, principal, tokens, moment}
-use Rattle.dav_handler_core.specs.Callers.{Caller, RunBy, asking, live}
+use Rattle.dav_handler_core.specs.Callers.{Asks, Caller, RunBy, asking, live}
 use Rattle.dav_handler_core.specs.Fields.{Sent}
 use Rattle.dav_handler_core.specs.FileTags.{file_tag}
 use Rattle.dav_handler_core.specs.Getting.{FailsToGet, Gets, tagged}
@@ -30,8 +30,9 @@ use Rattle.dav_handler_core.specs.Private.Begun.{IsHeld}
 use Rattle.dav_handler_core.specs.Putting.{FailsToPut, Puts, in_the_way, put_course, put_status}
 use Rattle.dav_handler_core.specs.Refusals.{RefusesTarget, RefusesPrincipal, HasBadIf, HasPart, IsLastMoment}
 use Rattle.dav_handler_core.specs.Senders.{NamesPrincipal}
-use Rattle.dav_handler_core.proofs.Asking.{by_join}
-use Rattle.dav_handler_core.proofs.CallerLaws.{keeps_apart}
+use Rattle.dav_handler_core.specs.Unlocking.{Unlocks}
+use Rattle.dav_handler_core.proofs.Asking.{asks_join, by_join}
+use Rattle.dav_handler_core.proofs.CallerLaws.{asks_exclusive, asks_of, asks_shape}
 
 -- ---- a request that asks for nothing
 
@@ -92,16 +93,48 @@ pub moves_on : (before mid after : Server) (request : Request (List ℕ)) (path 
     → RunBy who before.state mid.state → RunBy who mid.state after.state → after.last ≡ mid.last → after.options ≡ mid.options → after.clock ≡ mid.clock
     → Moves before request after
 moves_on before mid after request path who begins moves first more last options clock = record {
-  by_caller = inr (who, begins.from, begins.now ∙ sym last, by_join who before.state mid.state after.state first more);
+  by_caller = inr (who, begins.from, begins.now ∙ sym last, inl (by_join who before.state mid.state after.state first more));
   moments = subst (λ n. before.last ≤ n) (sym last) moves.moments;
   options = options ∙ moves.options;
   clock = clock ∙ moves.clock;
 }
 
+-- or it ends one of the caller's own locks
+pub moves_ended : (before mid after : Server) (request : Request (List ℕ)) (path : PathText) (who : Caller) (result : Result ℕ Fault)
+    → Begins before request mid path who → Moves before request mid → RunBy who before.state mid.state → Asks who mid.state after.state
+    → live mid.last mid.state ≡ live mid.last before.state
+    → IfOk result (λ status. Unlocks (head_of request).headers (live who.now mid.state) who (segments path.bytes) status after.state)
+    → OnErr result (RunBy who mid.state after.state) → after.last ≡ mid.last → after.options ≡ mid.options → after.clock ≡ mid.clock
+    → Moves before request after
+moves_ended before mid after request path who (Ok status) begins moves first more still done failed last options clock = record {
+  by_caller = inr (
+    who,
+    begins.from,
+    begins.now ∙ sym last,
+    inr (record {
+      asks = asks_join who before.state mid.state after.state (asks_of who before.state mid.state first) more;
+      path = segments path.bytes;
+      status = status;
+      unlocks = subst (λ (s : State). Unlocks (head_of request).headers s who (segments path.bytes) status after.state)
+          (ap (λ n. live n mid.state) begins.now ∙ still ∙ ap (λ n. live n before.state) (sym last)) done;
+    }),
+  );
+  moments = subst (λ n. before.last ≤ n) (sym last) moves.moments;
+  options = options ∙ moves.options;
+  clock = clock ∙ moves.clock;
+}
+moves_ended before mid after request path who (Err e) begins moves first more still done failed last options clock =
+    moves_on before mid after request path who begins moves first failed last options clock
+
 -- a request that its `If` holds off
 pub held_off : (before after : Server) (request : Request (List ℕ)) (e : Fault) (Refuses : Path → Caller → Type 0) → IsHeld before request after e
     → Fails before request after e Refuses
 held_off before after request e Refuses h = record { path = h.0; who = h.1.0; begins = h.1.1; why = inl h.1.2 }
+
+-- what a method finds is what the request finds
+found_as : (before mid after : Server) (who : Caller) (s : State) → after.last ≡ mid.last → who.now ≡ mid.last → live mid.last s ≡ live mid.last before.state
+    → live who.now s ≡ as_found before after
+found_as before mid after who s same now alike = ap (λ n. live n s) now ∙ alike ∙ ap (λ n. live n before.state) (sym same)
 
 -- one that is refused by its method
 module _ (before mid after : Server) (request : Request (List ℕ)) (path : PathText) (who : Caller) (same : after.last ≡ mid.last)
@@ -228,6 +261,35 @@ module _ (before mid after : Server) (request : Request (List ℕ)) (path : Path
       put_refused e sent there (subst (λ n. live n s ≡ live n before.state) (sym begins.now) alike)
       (subst (λ h. FailsToPut s who Here (body_of request) h e) is (subst (λ b. FailsToPut s who Here b headers e) body err))
 
+-- ---- a method that changes the stores
+
+-- one that wasn't begun, or was held off
+pub change_unread : (changes : Bool) (Does : State → Caller → Path → ℕ → State → Type 0) (Refuses : State → Caller → Path → Fault → Type 0) (before after : Server)
+    (request : Request (List ℕ)) (e : Fault) → Unread before.options request before.last changes e ⊎ IsHeld before request after e
+    → ChangeAnswers changes Does Refuses before request (Err e) after
+change_unread changes Does Refuses before after request e (inl h) = inl h
+change_unread changes Does Refuses before after request e (inr h) =
+    inr (held_off before after request e (λ p who. Refuses (as_found before after) who p e) h)
+
+-- one that was begun
+pub change_answered : (changes : Bool) (Does : State → Caller → Path → ℕ → State → Type 0) (Refuses : State → Caller → Path → Fault → Type 0)
+    (before mid after : Server) (request : Request (List ℕ)) (path : PathText) (who : Caller) (same : after.last ≡ mid.last)
+    (begins : Begins before request mid path who) (admits : Admits before request mid path) → (changes ≡ true → before.last < mid.last)
+    → (s : State) → live mid.last s ≡ live mid.last before.state → (result : Result ℕ Fault)
+    → IfOk result (λ status. Does (live who.now s) who (segments path.bytes) status after.state)
+    → IfErr result (λ e. Refuses (live who.now s) who (segments path.bytes) e) → ChangeAnswers changes Does Refuses before request result after
+change_answered changes Does Refuses before mid after request path who same begins admits later s alike (Ok status) done err = record {
+  path = path;
+  who = who;
+  begins = begins_on before mid after request path who same begins;
+  later = λ h. subst (λ n. before.last < n) (sym same) (later h);
+  admits = admits_on before mid after request path same admits;
+  does = subst (λ (t : State). Does t who (segments path.bytes) status after.state) (found_as before mid after who s same begins.now alike) done;
+}
+change_answered changes Does Refuses before mid after request path who same begins admits later s alike (Err e) done err =
+    inr (refused_by before mid after request path who same begins admits e (λ p who. Refuses (as_found before after) who p e)
+    (subst (λ (t : State). Refuses t who (segments path.bytes) e) (found_as before mid after who s same begins.now alike) err))
+
 -- ---- refusals
 
 -- a refusal's answer doesn't look at what is sent
@@ -236,19 +298,26 @@ pub refused_alike : (m : Option DavMethod) (before after : Server) (request : Re
 refused_alike (Some method.Get) before after request e sent other h = h
 refused_alike (Some method.Head) before after request e sent other h = h
 refused_alike (Some method.Put) before after request e sent other h = h
+refused_alike (Some method.MkCol) before after request e sent other h = h
+refused_alike (Some method.Unlock) before after request e sent other h = h
 refused_alike (Some method.Options) before after request e sent other h = h
 refused_alike _ before after request e sent other h = h
+
+asks_by : (before after : Server) (request : Request (List ℕ)) (who : Caller) → RunBy who before.state after.state ⊎ EndsOne before request after who
+    → Asks who before.state after.state
+asks_by before after request who (inl run) = asks_of who before.state after.state run
+asks_by before after request who (inr one) = one.asks
 
 -- what every run of one caller's requests keeps
 pub moves_exclusive : (before after : Server) (request : Request (List ℕ)) → Moves before request after → Exclusive before.state.locks → Exclusive after.state.locks
 moves_exclusive before after request h x = elim h.by_caller [
   | inl same ↦ subst (λ (s : State). Exclusive s.locks) (sym same) x
-  | inr run ↦ (keeps_apart run.0 before.state after.state x run.3).exclusive
+  | inr by ↦ asks_exclusive by.0 before.state after.state (asks_by before after request by.0 by.3) x
 ]
 
 pub moves_shape : (before after : Server) (request : Request (List ℕ)) → Moves before request after → Exclusive before.state.locks → IsResourceMap before.state.map
     → IsResourceMap after.state.map
 moves_shape before after request h x is_map = elim h.by_caller [
   | inl same ↦ subst (λ (s : State). IsResourceMap s.map) (sym same) is_map
-  | inr run ↦ (keeps_apart run.0 before.state after.state x run.3).shape is_map
+  | inr by ↦ asks_shape by.0 before.state after.state (asks_by before after request by.0 by.3) is_map
 ]

@@ -1,5 +1,5 @@
 -- What a caller's requests are answered, and what they leave.
-use Rattle.std.proofs.Common.{true, ◌≡◌, ◌⊎◌, inl, inr, ℕ, List, [], ◌++◌, map, take, drop, Option, Some, None, Result, Ok, Err, refl, sym, ◌∙◌, ap, subst}
+use Rattle.std.proofs.Common.{true, ◌≡◌, ◌⊎◌, inl, inr, ℕ, List, [], ◌∷◌, ◌++◌, map, take, drop, Option, Some, None, Result, Ok, Err, refl, sym, ◌∙◌, ap, subst}
 use Rattle.std.specs.Prelude.{ok_or, OnErr}
 use Rattle.std.specs.FinMap.{entries}
 use Rattle.std.proofs.lemmas.Bool.{false≢true, or_from}
@@ -28,11 +28,12 @@ use Rattle.dav_resource_core.specs.declared.guarded.requests.Refusal as served_r
 use Rattle.dav_resource_core.specs.Step.{State, Same, Effect, Step, Run}
 use Rattle.dav_resource_core.proofs.Frame.{told_left}
 use Rattle.dav_resource_core.proofs.RunLaws.{run_join}
-use Rattle.dav_resource_core.proofs.StepLaws.{Same-equal, outcome}
+use Rattle.dav_resource_core.proofs.StepLaws.{Same-equal, Same-refl, outcome}
 use Rattle.dav_handler_core.specs.declared.faults.Fault.{Fault}
 use Rattle.dav_handler_core.specs.declared.faults.Fault.TheVariants as fault
 use Rattle.dav_handler_core.specs.Private.Refusing.{list_fault}
-use Rattle.dav_handler_core.specs.Callers.{Caller, RunBy, asking, ends_or_refreshes, is_look, live, SameLive}
+use Rattle.dav_handler_core.specs.Callers.{Asks, Caller, RunBy, asking, ends_or_refreshes, is_look, live, SameLive}
+use Rattle.dav_handler_core.proofs.CallerLaws.{asks_of}
 
 -- ---- runs that follow one another
 
@@ -44,6 +45,19 @@ by_join who s mid s' h k = record {
       (run_join s mid s' (map (asking who) h.commands) (map (asking who) k.commands) h.answers k.answers h.run k.run);
   keeps = list_any-append ends_or_refreshes h.commands k.commands ∙ or_from _ _ h.keeps k.keeps;
 }
+
+pub asks_join : (who : Caller) (s mid s' : State) → Asks who s mid → Asks who mid s' → Asks who s s'
+asks_join who s mid s' h k = record {
+  commands = h.commands ++ k.commands;
+  answers = h.answers ++ k.answers;
+  run = subst (λ rs. Run s rs (h.answers ++ k.answers) s') (sym (map-append (asking who) h.commands k.commands))
+      (run_join s mid s' (map (asking who) h.commands) (map (asking who) k.commands) h.answers k.answers h.run k.run);
+}
+
+-- a run, and one request behind it
+pub asks_one : (who asker : Caller) (s mid s' : State) (c : Command) (a : Answer) → asker ≡ who → RunBy who s mid → Step mid (asking asker c) a s' → Asks who s s'
+asks_one who asker s mid s' c a same h step =
+    asks_join who s mid s' (asks_of who s mid h) (record { commands = c ∷ []; answers = a ∷ []; run = (s', subst (λ w. Step mid (asking w c) a s') same step, Same-refl s') })
 
 -- the second by the same caller
 pub join_as : (who asker : Caller) (s mid s' : State) → asker ≡ who → RunBy who s mid → RunBy asker mid s' → RunBy who s s'

@@ -5,6 +5,7 @@ use Rattle.std.specs.List.{list_any}
 use Rattle.std.proofs.lemmas.Bool.{cases_Bool, or_parts, not-true, true≢false}
 use Rattle.std.proofs.lemmas.List.Elements.{filter_agree}
 use Rattle.dav_path_core.proofs.lists.PlaceLemmas.{filter-filter}
+use Rattle.dav_files_core.specs.Resources.{IsResourceMap}
 use Rattle.dav_locks_core.specs.Ended.{StandIn}
 use Rattle.dav_locks_core.specs.Exclusive.{Exclusive}
 use Rattle.dav_locks_core.specs.Lock.{Lock}
@@ -15,7 +16,7 @@ use Rattle.dav_resource_core.specs.Requests.{Command, Request, Answer}
 use Rattle.dav_resource_core.specs.Step.{State, Step, Run}
 use Rattle.dav_resource_core.proofs.RunLaws.{keeps_locks, run_shape}
 use Rattle.dav_resource_core.proofs.StepLaws.{Same-refl, step_exclusive}
-use Rattle.dav_handler_core.specs.Callers.{Caller, RunBy, KeepsApart, asking, ends_or_refreshes, holds}
+use Rattle.dav_handler_core.specs.Callers.{Asks, Caller, RunBy, KeepsApart, asking, ends_or_refreshes, holds}
 
 -- ---- runs that go on
 
@@ -62,6 +63,15 @@ run_exclusive s s' [] [] x h = subst Exclusive (sym h.locks_are) x
 run_exclusive s s' [] (a ∷ answers) x h = absurd h
 run_exclusive s s' (r ∷ rs) [] x h = absurd h
 run_exclusive s s' (r ∷ rs) (a ∷ answers) x h = run_exclusive h.0 s' rs answers (step_exclusive s h.0 r a h.1 x) h.2
+
+pub asks_of : (who : Caller) (s s' : State) → RunBy who s s' → Asks who s s'
+asks_of who s s' h = record { commands = h.commands; answers = h.answers; run = h.run }
+
+pub asks_exclusive : (who : Caller) (s s' : State) → Asks who s s' → Exclusive s.locks → Exclusive s'.locks
+asks_exclusive who s s' h x = run_exclusive s s' (map (asking who) h.commands) h.answers x h.run
+
+pub asks_shape : (who : Caller) (s s' : State) → Asks who s s' → IsResourceMap s.map → IsResourceMap s'.map
+asks_shape who s s' h is_map = run_shape s s' (map (asking who) h.commands) h.answers is_map h.run
 
 -- a lock that lasts and is not held is touched by no request
 untouched_of : (who : Caller) (l : Lock) (cs : List Command) → list_any ends_or_refreshes cs ≡ false → not (is_stale who.now l || holds who l) ≡ true

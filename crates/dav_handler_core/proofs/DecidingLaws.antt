@@ -21,7 +21,7 @@ use Rattle.dav_handler_core.specs.declared.preconditions.Course.{Course}
 use Rattle.dav_handler_core.specs.declared.preconditions.Course.TheVariants as course
 use Rattle.dav_handler_core.specs.declared.ranges.Extent.{Extent}
 use Rattle.dav_handler_core.specs.declared.ranges.Extent.TheVariants as extent
-use Rattle.dav_handler_core.specs.Answers.{AnswersTo, Fails, HoldsOff, IsGotten, Options, Server, Unread, status_of}
+use Rattle.dav_handler_core.specs.Answers.{AnswersTo, Fails, HoldsOff, IsGotten, Options, Server, Unread, as_found, status_of}
 use Rattle.dav_handler_core.specs.Answers.Unread.{memory, target, principal, tokens, moment}
 use Rattle.dav_handler_core.specs.Callers.{Caller, SameLive}
 use Rattle.dav_handler_core.specs.Deciding.{HeldOff, SendsPart, SendsTag, Stops, WentOn, looks}
@@ -29,10 +29,12 @@ use Rattle.dav_handler_core.specs.Faults.{fault_status}
 use Rattle.dav_handler_core.specs.Fields.{Sent}
 use Rattle.dav_handler_core.specs.FileTags.{standing_by, standing_of, tag_of}
 use Rattle.dav_handler_core.specs.Getting.{FailsToGet, Tells, own_tags, tags_by, told_by, told_of}
+use Rattle.dav_handler_core.specs.Making.{FailsToMake}
 use Rattle.dav_handler_core.specs.Preconditions.{course_of}
 use Rattle.dav_handler_core.specs.Putting.{FailsToPut}
 use Rattle.dav_handler_core.specs.Ranges.{part_text}
 use Rattle.dav_handler_core.specs.Refusals.{RefusesPrincipal, RefusesTarget}
+use Rattle.dav_handler_core.specs.Unlocking.{FailsToUnlock}
 
 -- ---- statuses of faults
 
@@ -44,6 +46,7 @@ fault_high fault.NotFound = omega arith
 fault_high fault.MethodNotAllowed = omega arith
 fault_high fault.Conflict = omega arith
 fault_high fault.PreconditionFailed = omega arith
+fault_high fault.UnsupportedMediaType = omega arith
 fault_high fault.Locked = omega arith
 fault_high fault.NotImplemented = omega arith
 fault_high fault.ServiceUnavailable = omega arith
@@ -57,6 +60,7 @@ fault_failed fault.NotFound h = absurd (omega (arith, h))
 fault_failed fault.MethodNotAllowed h = absurd (omega (arith, h))
 fault_failed fault.Conflict h = absurd (omega (arith, h))
 fault_failed fault.PreconditionFailed h = refl
+fault_failed fault.UnsupportedMediaType h = absurd (omega (arith, h))
 fault_failed fault.Locked h = absurd (omega (arith, h))
 fault_failed fault.NotImplemented h = absurd (omega (arith, h))
 fault_failed fault.ServiceUnavailable h = absurd (omega (arith, h))
@@ -208,6 +212,16 @@ module _ (before after : Server) (request : Request (List ℕ)) (sent : Sent) wh
       let is = fault_off e off in
       fails_off (Some method.Put) true e (λ p who. FailsToPut before.state who p (body_of request) Headers e) is h.1
       (λ p who refuses. (subst (FailsToPut before.state who p (body_of request) Headers) is refuses).1)
+  held_off (Some method.MkCol) (Ok status) h off = absurd (elim off [ inl off ↦ omega (arith, off, h.does.status_is) | inr off ↦ omega (arith, off, h.does.status_is) ])
+  held_off (Some method.MkCol) (Err e) h off =
+      let is = fault_off e off in
+      fails_off (Some method.MkCol) true e (λ p who. FailsToMake (body_of request) (as_found before after) who p e) is h
+      (λ p who refuses. subst (FailsToMake (body_of request) (as_found before after) who p) is refuses)
+  held_off (Some method.Unlock) (Ok status) h off = absurd (elim off [ inl off ↦ omega (arith, off, h.does.status_is) | inr off ↦ omega (arith, off, h.does.status_is) ])
+  held_off (Some method.Unlock) (Err e) h off =
+      let is = fault_off e off in
+      fails_off (Some method.Unlock) false e (λ p who. FailsToUnlock Headers (as_found before after) who p e) is h
+      (λ p who refuses. absurd ((subst (FailsToUnlock Headers (as_found before after) who p) is refuses).2))
   held_off (Some method.Options) (Ok status) h (inl off) = absurd (omega (arith, h.0, off))
   held_off (Some method.Options) (Ok status) h (inr off) = absurd (omega (arith, h.0, off))
   held_off (Some method.Options) (Err e) h off =
@@ -226,6 +240,10 @@ module _ (before after : Server) (request : Request (List ℕ)) (sent : Sent) wh
   stays (Some method.Put) (Ok status) h refused off =
       let between = put_between (has before.state.map (segments h.1.path.bytes)) in
       absurd (elim off [ inl off ↦ omega (arith, off, h.1.status_is, between) | inr off ↦ omega (arith, off, h.1.status_is, between) ])
+  stays (Some method.MkCol) (Ok status) h refused off =
+      absurd (elim off [ inl off ↦ omega (arith, off, h.does.status_is) | inr off ↦ omega (arith, off, h.does.status_is) ])
+  stays (Some method.Unlock) (Ok status) h refused off =
+      absurd (elim off [ inl off ↦ omega (arith, off, h.does.status_is) | inr off ↦ omega (arith, off, h.does.status_is) ])
   stays (Some method.Options) (Ok status) h refused (inl off) = absurd (omega (arith, h.0, off))
   stays (Some method.Options) (Ok status) h refused (inr off) = absurd (omega (arith, h.0, off))
   stays _ (Ok status) h refused off = absurd (cc)
@@ -272,6 +290,8 @@ module _ (before after : Server) (request : Request (List ℕ)) (sent : Sent) wh
       absurd (no_part (standing_of (Some r)) (length r.node.bytes) (course_of method.Head (standing_of (Some r)) Headers) status r h.0.gets.tells part)
   sends_part (Some method.Put) (Ok status) h part =
       absurd (omega (arith, part, h.1.status_is, put_between (has before.state.map (segments h.1.path.bytes))))
+  sends_part (Some method.MkCol) (Ok status) h part = absurd (omega (arith, h.does.status_is, part))
+  sends_part (Some method.Unlock) (Ok status) h part = absurd (omega (arith, h.does.status_is, part))
   sends_part (Some method.Options) (Ok status) h part = absurd (omega (arith, h.0, part))
   sends_part _ (Ok status) h part = absurd (cc)
 

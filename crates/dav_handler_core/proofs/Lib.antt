@@ -12,14 +12,19 @@ pub mod FileTagLemmas
 pub mod FrameLemmas
 pub mod GetLemmas
 pub mod IfTokenLaws
+pub mod HoldingLaws
 pub mod ListedTagLemmas
+pub mod MakeLemmas
+pub mod OwnLemmas
 pub mod PreconditionLaws
 mod PreconditionRows
 pub mod PutLemmas
 pub mod RefusalLemmas
+pub mod SubtreeLemmas
 pub mod TagGrammarLaws
 pub mod TagLaws
 mod TagRows
 pub mod TaggedLemmas
 pub mod TokenLemmas
+pub mod TokenTexts
 pub mod TypeLemmas

@@ -84,7 +84,7 @@ put_found m m' p bytes now h = by (at_path m p) h
     by (Some r) h = by_kind r r.node.kind refl h
     by None h = by_folder (find_folder m (parent p)) h
 
-rebuilt : (s s' : State) → IsState s' s'.map s.locks s.rng → s' ≡ record s { map = s'.map }
+pub rebuilt : (s s' : State) → IsState s' s'.map s.locks s.rng → s' ≡ record s { map = s'.map }
 rebuilt s s' h = rw (sym h.locks_are, sym h.rng_is) refl
 
 pub put_done : (who : Caller) (s s' : State) (p : Path) (bytes : List ℕ) (reply : Reply) → Serves (live who.now s) (asking who (Command.Put p bytes)) (Ok reply) s'
@@ -103,7 +103,7 @@ put_done who s s' p bytes reply h =
 
 -- ---- refusals
 
-change_err : (f : Result (Unit {0} × ResourceMap) FsError) (e : FsError) → changes f ≡ Err e → f ≡ Err e
+pub change_err : (f : Result (Unit {0} × ResourceMap) FsError) (e : FsError) → changes f ≡ Err e → f ≡ Err e
 change_err (Ok x) e h = absurd (cc)
 change_err (Err d) e h = let same : d ≡ e = cc in ap Err same
 
@@ -138,6 +138,10 @@ known_there f g (Some x) (Some y) h = refl
 known_there f g (Some x) None h = absurd (cc)
 known_there f g None (Some y) h = absurd (cc)
 known_there f g None None h = refl
+
+-- what a look of the same caller leaves is what it found
+pub same_look : (who asker : Caller) (s mid : State) → asker ≡ who → SameLive who.now s mid → live asker.now mid ≡ live who.now s
+same_look who asker s mid same still = ap (λ (w : Caller). live w.now mid) same ∙ still
 
 -- a request of the same caller that follows a look starts from what the look started from
 pub after_look : (who asker : Caller) (s mid s' : State) (c : Command) (a : Answer) → asker ≡ who → SameLive who.now s mid → Step mid (asking asker c) a s'

@@ -9,18 +9,19 @@ use Rattle.http_server.specs.Exchange.{Call, Chain}
 use Rattle.http_frames.specs.Clients.{Turn}
 use Rattle.dav_path_core.specs.declared.util.DavMethod.{DavMethod}
 use Rattle.dav_path_core.specs.declared.util.DavMethod.TheVariants as method
-use Rattle.dav_path_core.specs.Fronts.{Path, path_cmp}
+use Rattle.dav_path_core.specs.Fronts.{Path, parent, path_cmp}
 use Rattle.dav_path_core.specs.Segments.{segments}
 use Rattle.dav_path_core.proofs.lists.FinMaps.{dec, inserted, one_some, none_some}
 use Rattle.dav_path_core.proofs.lists.Orders.{path_total, path_exact}
 use Rattle.dav_files_core.specs.declared.memfs.Kind.TheVariants.{Folder, File}
 use Rattle.dav_files_core.specs.Outcomes.{new_folder, start}
-use Rattle.dav_files_core.specs.Resources.{Resource, ResourceMap, at_path}
+use Rattle.dav_files_core.specs.Resources.{Node, Resource, ResourceMap, at_path}
 use Rattle.dav_resource_core.specs.Step.{State}
 use Rattle.dav_handler_core.specs.declared.faults.Fault.{Fault}
-use Rattle.dav_handler_core.specs.Answers.{Answers, AnswersTo, Server}
-use Rattle.dav_handler_core.specs.Callers.{SameLive}
+use Rattle.dav_handler_core.specs.Answers.{Answers, AnswersTo, Server, as_found}
+use Rattle.dav_handler_core.specs.Callers.{Caller, SameLive}
 use Rattle.dav_handler_core.specs.Fields.{Sent, sent_of}
+use Rattle.dav_handler_core.specs.Making.{Makes, changed_at}
 use Rattle.dav_handler_core.specs.Putting.{Puts}
 use Rattle.dav_handler_core.specs.Serving.{Leads}
 use Rattle.dav_handler_core.specs.TagHistories.{HasFile, HasNoFiles, MomentsTell, TagsTell, Becomes}
@@ -60,6 +61,27 @@ put_dates before after p bytes later h = record {
   ];
 }
 
+-- a new folder is no file, and neither is the one that it stands in
+make_dates : (before after : Server) (body : List ℕ) (who : Caller) (p : Path) (status : ℕ) → before.last ≤ after.last
+    → Makes body (as_found before after) who p status after.state → Dates before after
+make_dates before after body who p status later h = record {
+  bytes = [];
+  moments = later;
+  files = λ file has. elim (dec path_total path_exact has.0 p) [
+    | inl here ↦
+        let is = one_some (at_path after.state.map p) file h.folder (subst (λ q. at_path after.state.map q ≡ Some file) here has.1) h.here in
+        let kinds : File ≡ Folder = sym has.2 ∙ ap (λ (r : Resource). r.node.kind) is ∙ ap (λ (n : Node). n.kind) h.new in
+        absurd (cc)
+    | inr apart ↦ elim (dec path_total path_exact has.0 (parent p)) [
+      | inl above ↦
+          let is = one_some (at_path after.state.map (parent p)) file (changed_at who.now h.above) (subst (λ q. at_path after.state.map q ≡ Some file) above has.1) h.dated in
+          let kinds : File ≡ Folder = sym has.2 ∙ ap (λ (r : Resource). r.node.kind) is ∙ h.kind in
+          absurd (cc)
+      | inr below ↦ inl (file, (has.0, sym (h.others has.0 apart below) ∙ has.1, has.2), refl, refl)
+    ]
+  ];
+}
+
 live_map : (now : ℕ) (s s' : State) → SameLive now s s' → s'.map ≡ s.map
 live_map now s s' h = ap (λ (s : State). s.map) h
 
@@ -72,6 +94,14 @@ method_dates (Some method.Head) before after request result sent later h refused
 method_dates (Some method.Put) before after request (Ok status) sent later h refused =
     put_dates before after (segments h.1.path.bytes) (body_of request) h.1.later h.1.puts
 method_dates (Some method.Put) before after request (Err e) sent later h refused =
+    same_map before after later (live_map after.last before.state after.state refused)
+method_dates (Some method.MkCol) before after request (Ok status) sent later h refused =
+    make_dates before after (body_of request) h.who (segments h.path.bytes) status later h.does
+method_dates (Some method.MkCol) before after request (Err e) sent later h refused =
+    same_map before after later (live_map after.last before.state after.state refused)
+method_dates (Some method.Unlock) before after request (Ok status) sent later h refused =
+    same_map before after later (ap (λ (s : State). s.map) h.does.ends.left)
+method_dates (Some method.Unlock) before after request (Err e) sent later h refused =
     same_map before after later (live_map after.last before.state after.state refused)
 method_dates (Some method.Options) before after request (Ok status) sent later h refused = same_map before after later (ap (λ (s : State). s.map) h.1)
 method_dates (Some method.Options) before after request (Err e) sent later h refused = same_map before after later (ap (λ (s : State). s.map) h.1)

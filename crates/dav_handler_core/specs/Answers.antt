@@ -16,15 +16,17 @@ use Rattle.dav_handler_core.specs.declared.conditions.bases.Scheme.{Scheme}
 use Rattle.dav_handler_core.specs.declared.faults.Fault.{Fault}
 use Rattle.dav_handler_core.specs.declared.faults.Fault.TheVariants as fault
 use Rattle.dav_handler_core.specs.Admitting.{IsAdmitted, IsHeldOff}
-use Rattle.dav_handler_core.specs.Callers.{Caller, RunBy, SameLive, live}
+use Rattle.dav_handler_core.specs.Callers.{Asks, Caller, RunBy, SameLive, live}
 use Rattle.dav_handler_core.specs.Faults.{fault_status}
 use Rattle.dav_handler_core.specs.Fields.{Sent, sent_of}
 use Rattle.dav_handler_core.specs.FileTags.{tag_of}
 use Rattle.dav_handler_core.specs.Getting.{FailsToGet, Gets, tagged}
+use Rattle.dav_handler_core.specs.Making.{FailsToMake, Makes}
 use Rattle.dav_handler_core.specs.Putting.{FailsToPut, Puts, put_course, put_status}
 use Rattle.dav_handler_core.specs.Refusals.{RefusesTarget, RefusesPrincipal, HasBadIf, HasPart, IsLastMoment}
 use Rattle.dav_handler_core.specs.Senders.{IsSender, NamesPrincipal}
 use Rattle.dav_handler_core.specs.Targets.{IsTargetOf}
+use Rattle.dav_handler_core.specs.Unlocking.{FailsToUnlock, Unlocks}
 
 -- the scheme of the server's URLs, the prefix that they stand behind, and the header that names the principal, where there is one
 pub record Options : Type 0 where
@@ -131,22 +133,55 @@ PutAnswers before request (Err e) sent after =
     ⊎ (IsWhole request × (Unread before.options request before.last true e
     ⊎ Fails before request after e (λ p who. FailsToPut before.state who p (body_of request) (head_of request).headers e)))
 
+-- the stores as a request finds them: without the locks that have expired at its moment
+abbrev pub as_found : Server → Server → State
+as_found before after = live after.last before.state
+
+-- A method that changes the stores and was done, by what it does for a caller at a path, from what it finds.
+pub record IsDone (changes : Bool) (before : Server) (request : Request (List ℕ)) (after : Server) (Does : Caller → Path → Type 0) : Type 0 where
+  pub path : PathText
+  pub who : Caller
+  pub begins : Begins before request after path who
+  pub later : changes ≡ true → before.last < after.last
+  pub admits : Admits before request after path
+  pub does : Does who (segments path.bytes)
+
+-- It is done, or says why not. One that changes the map has a moment of its own.
+abbrev pub ChangeAnswers : Bool → (State → Caller → Path → ℕ → State → Type 0) → (State → Caller → Path → Fault → Type 0)
+    → Server → Request (List ℕ) → Result ℕ Fault → Server → Type 0
+ChangeAnswers changes Does Refuses before request (Ok status) after =
+    IsDone changes before request after (λ who p. Does (as_found before after) who p status after.state)
+ChangeAnswers changes Does Refuses before request (Err e) after =
+    Unread before.options request before.last changes e ⊎ Fails before request after e (λ p who. Refuses (as_found before after) who p e)
+
 abbrev pub AnswersTo : Option DavMethod → Server → Request (List ℕ) → Result ℕ Fault → Sent → Server → Type 0
 AnswersTo (Some method.Get) before request result sent after =
     GetAnswers method.Get before request result sent after × SameLive after.last before.state after.state
 AnswersTo (Some method.Head) before request result sent after =
     GetAnswers method.Head before request result sent after × SameLive after.last before.state after.state
 AnswersTo (Some method.Put) before request result sent after = PutAnswers before request result sent after
+AnswersTo (Some method.MkCol) before request result sent after =
+    ChangeAnswers true (Makes (body_of request)) (FailsToMake (body_of request)) before request result after
+AnswersTo (Some method.Unlock) before request result sent after =
+    ChangeAnswers false (Unlocks (head_of request).headers) (FailsToUnlock (head_of request).headers) before request result after
 AnswersTo (Some method.Options) before request (Ok status) sent after = (status ≡ 200) × (after.state ≡ before.state)
 AnswersTo (Some method.Options) before request (Err e) sent after = (e ≡ fault.InsufficientStorage) × (after.state ≡ before.state)
 AnswersTo _ before request result sent after = (result ≡ Err fault.NotImplemented) × (after.state ≡ before.state)
 
 -- ---- what every answer keeps to
 
--- nothing was asked of the stores, or a run of requests of the caller whose request it is
+-- one lock of the caller's own ends, and nothing else changes, by a run of the caller's requests
+pub record EndsOne (before : Server) (request : Request (List ℕ)) (after : Server) (who : Caller) : Type 0 where
+  pub asks : Asks who before.state after.state
+  pub path : Path
+  pub status : ℕ
+  pub unlocks : Unlocks (head_of request).headers (as_found before after) who path status after.state
+
+-- nothing was asked of the stores, or a run of requests of the caller whose request it is, none of which ends a lock but that of an UNLOCK
 abbrev pub ByCaller : Server → Request (List ℕ) → Server → Type 0
 ByCaller before request after =
-    (after.state ≡ before.state) ⊎ ((who : Caller) × IsFrom before.options request who × (who.now ≡ after.last) × RunBy who before.state after.state)
+    (after.state ≡ before.state) ⊎ ((who : Caller) × IsFrom before.options request who × (who.now ≡ after.last)
+    × (RunBy who before.state after.state ⊎ EndsOne before request after who))
 
 -- what a method may do to the server
 pub record Moves (before : Server) (request : Request (List ℕ)) (after : Server) : Type 0 where

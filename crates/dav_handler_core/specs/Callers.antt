@@ -7,7 +7,7 @@ use Rattle.dav_files_core.specs.Resources.{IsResourceMap}
 use Rattle.dav_locks_core.specs.Ended.{StandIn}
 use Rattle.dav_locks_core.specs.Exclusive.{Exclusive}
 use Rattle.dav_locks_core.specs.Lock.{Lock}
-use Rattle.dav_locks_core.specs.Locks.{Caller as LocksCaller, check_conflicts, covers, held}
+use Rattle.dav_locks_core.specs.Locks.{Caller as LocksCaller, check_conflicts, covers, held, same_text}
 use Rattle.dav_locks_core.specs.Stale.{is_stale, without_stale}
 use Rattle.dav_resource_core.specs.Requests.{Command, Request, Answer}
 use Rattle.dav_resource_core.specs.Step.{State, Run}
@@ -39,6 +39,12 @@ is_look (Command.Discover path) = true
 is_look (Command.Check path deep) = true
 is_look _ = false
 
+-- a run of requests leads from one state to the other, all of them the caller's
+pub record Asks (who : Caller) (s s' : State) : Type 0 where
+  pub commands : List Command
+  pub answers : List Answer
+  pub run : Run s (map (asking who) commands) answers s'
+
 -- a run of requests leads from one state to the other, all of them the caller's, and none ends or refreshes a lock
 pub record RunBy (who : Caller) (s s' : State) : Type 0 where
   pub commands : List Command
@@ -53,6 +59,10 @@ as_caller who = record { principal = who.principal; ignore = false; tokens = who
 -- the caller is the lock's principal and named its token
 abbrev pub holds : Caller → Lock → Bool
 holds who l = held l (as_caller who)
+
+-- the caller is the lock's principal
+abbrev pub is_own : Caller → Lock → Bool
+is_own who l = same_text l.principal who.principal
 
 -- the locks that refuse the caller a change at the path
 abbrev pub refusing_at : State → Caller → Path → List Lock

@@ -8,8 +8,10 @@ pub mod Faults
 pub mod Fields
 pub mod FileTags
 pub mod Getting
+pub mod Holding
 pub mod IfTokens
 pub mod ListedTags
+pub mod Making
 pub mod Preconditions
 pub mod Private
 pub mod Putting
@@ -19,7 +21,9 @@ pub mod Senders
 pub mod Servers
 pub mod Serving
 pub mod Sessions
+pub mod Subtrees
 pub mod TagGrammar
 pub mod TagHistories
 pub mod TaggedLists
 pub mod Targets
+pub mod Unlocking

@@ -48,8 +48,12 @@ fn any_has(locks: &[DavLock], token: &str) -> bool
     locks.iter().any(|lock| lock.token.as_str() == token)
 }
 
-// Whether a lock with the token covers the path.
-fn has_token<R: Rng>(session: &mut Session<R>, path: &DavPath, token: &str) -> Result<bool, Fault>
+/// Whether a lock with the token covers the path. `InsufficientStorage` alone.
+pub(crate) fn has_token<R: Rng>(
+    session: &mut Session<R>,
+    path: &DavPath,
+    token: &str,
+) -> Result<bool, Fault>
     ensures ok { IfOk result (λ has. has ≡ has_token (live (spec.caller session.old).now (spec.state R.stream session.old)) (segments path.now.bytes) token.now) }
     ensures err { IfErr result (λ e. e ≡ fault.InsufficientStorage) }
     ensures run { RunBy (spec.caller session.old) (spec.state R.stream session.old) (spec.state R.stream session.new) }

@@ -1,24 +1,26 @@
 //! The server: an HTTP service over the stores (RFC 4918 section 9, RFC 9110 section 9).
-ghost use Rattle.std.specs.Prelude.{◌≡◌, ◌<◌, ◌≤◌, ◌⊎◌, true, IfOk, IfErr, OnErr, Option, Some};
-ghost use Rattle.http.specs.Request.{head_of};
+ghost use Rattle.std.specs.Prelude.{◌≡◌, ◌<◌, ◌≤◌, ◌⊎◌, true, false, IfOk, IfErr, OnErr, Option, Some};
+ghost use Rattle.http.specs.Request.{body_of, head_of};
 ghost use Rattle.http_server.specs.Response.{IsBlank};
 ghost use Rattle.dav_path_core.specs.declared.util.DavMethod.{DavMethod};
 ghost use Rattle.dav_resource_core.specs.Stores.{state_of};
-ghost use Rattle.dav_handler_core.specs.Answers.{Admits, Answers, AnswersTo, GetAnswers, IsFrom, IsMethod, Moves, Names, PutAnswers, Unread};
+ghost use Rattle.dav_handler_core.specs.Answers.{Admits, Answers, AnswersTo, ChangeAnswers, GetAnswers, IsFrom, IsMethod, Moves, Names, PutAnswers, Unread};
 ghost use Rattle.dav_handler_core.specs.Callers.{RunBy, SameLive};
 ghost use Rattle.dav_handler_core.specs.Faults.{fault_status};
 ghost use Rattle.dav_handler_core.specs.Fields.{sent_of};
+ghost use Rattle.dav_handler_core.specs.Making.{FailsToMake, Makes};
 ghost use Rattle.dav_handler_core.specs.Private.Begun.{IsBegun, IsHeld};
 ghost use Rattle.dav_handler_core.specs.Refusals.{IsLastMoment};
 ghost use Rattle.dav_handler_core.specs.Servers.{options_of, server};
 ghost use Rattle.dav_handler_core.specs.Sessions.{caller};
+ghost use Rattle.dav_handler_core.specs.Unlocking.{FailsToUnlock, Unlocks};
 ghost use Rattle.dav_handler_core.specs.declared.faults.Fault.TheVariants as fault;
 
 mod laws;
 
 use crate::conditions::{Scheme, admit};
 use crate::faults::Fault;
-use crate::methods::{get, options, put};
+use crate::methods::{get, mkcol, options, put, unlock};
 use crate::senders::{principal_of, tokens_of};
 use crate::session::Session;
 use crate::targets::target_of;
@@ -31,7 +33,7 @@ use dav_resource_core::util::DavMethod;
 use http::{Request, StatusCode};
 use http_header::HeaderName;
 use http_server::{Response, Service};
-pub use laws::conditions_decide;
+pub use laws::{conditions_decide, locks_are_their_holders};
 use rand_core::Rng;
 use std::alloc::{AllocError, Global};
 
@@ -78,7 +80,8 @@ impl<R: Rng + Drop> Dav<R> {
 }
 
 impl<R: Rng> Dav<R> {
-    /// Sets the clock. Each request comes at the clock's moment, or at the last request's where that is later; a PUT at a later one than that.
+    /// Sets the clock. Each request comes at the clock's moment, or at the last request's where that is later; a PUT or a MKCOL at a later one
+    /// than that.
     pub fn set_clock(&mut self, now: Moment)
         ensures { server R.stream self.new ≡ record (server R.stream self.old) { clock = now.0 } }
     {
@@ -187,6 +190,28 @@ impl<R: Rng> Dav<R> {
         )
     }
 
+    // MKCOL.
+    fn serve_mkcol(&mut self, request: &Request<Bytes>) -> Result<StatusCode, Fault>
+        ensures answers { ChangeAnswers true (Makes (body_of request.now)) (FailsToMake (body_of request.now)) (server R.stream self.old) request.now result
+            (server R.stream self.new) }
+        ensures refused { OnErr result (SameLive (server R.stream self.new).last (server R.stream self.old).state (server R.stream self.new).state) }
+        ensures moves { Moves (server R.stream self.old) request.now (server R.stream self.new) }
+    {
+        let path = self.begin_admitted(request, true)?;
+        mkcol::mkcol(&mut self.session, path, request.body())
+    }
+
+    // UNLOCK.
+    fn serve_unlock(&mut self, request: &Request<Bytes>) -> Result<StatusCode, Fault>
+        ensures answers { ChangeAnswers false (Unlocks (head_of request.now).headers) (FailsToUnlock (head_of request.now).headers) (server R.stream self.old)
+            request.now result (server R.stream self.new) }
+        ensures refused { OnErr result (SameLive (server R.stream self.new).last (server R.stream self.old).state (server R.stream self.new).state) }
+        ensures moves { Moves (server R.stream self.old) request.now (server R.stream self.new) }
+    {
+        let path = self.begin_admitted(request, false)?;
+        unlock::unlock(self.alloc, &mut self.session, request.headers(), path)
+    }
+
     // By the method; any other than these is `NotImplemented`.
     fn answer_to(
         &mut self,
@@ -204,6 +229,8 @@ impl<R: Rng> Dav<R> {
             DavMethod::Get => return self.serve_get(DavMethod::Get, request, response),
             DavMethod::Head => return self.serve_get(DavMethod::Head, request, response),
             DavMethod::Put => return self.serve_put(request, response),
+            DavMethod::MkCol => return self.serve_mkcol(request),
+            DavMethod::Unlock => return self.serve_unlock(request),
             _ => return Err(Fault::NotImplemented),
         }
     }

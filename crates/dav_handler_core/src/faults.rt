@@ -24,6 +24,8 @@ pub enum Fault {
     Conflict,
     /// 412: a condition of the request doesn't hold (RFC 9110 section 15.5.13, RFC 4918 section 12.1).
     PreconditionFailed,
+    /// 415: the body is one that the method doesn't take (RFC 4918 section 9.3.1).
+    UnsupportedMediaType,
     /// 423: a lock stands in the way (RFC 4918 section 11.3).
     Locked,
     /// 501: the method isn't served (RFC 9110 section 15.6.2).
@@ -47,6 +49,7 @@ impl Fault {
             Fault::MethodNotAllowed => StatusCode::METHOD_NOT_ALLOWED,
             Fault::Conflict => StatusCode::CONFLICT,
             Fault::PreconditionFailed => StatusCode::PRECONDITION_FAILED,
+            Fault::UnsupportedMediaType => StatusCode::UNSUPPORTED_MEDIA_TYPE,
             Fault::Locked => StatusCode::LOCKED,
             Fault::NotImplemented => StatusCode::NOT_IMPLEMENTED,
             Fault::ServiceUnavailable => StatusCode::SERVICE_UNAVAILABLE,

@@ -10,6 +10,8 @@ ghost use Rattle.dav_handler_core.specs.Sessions as spec;
 
 mod lookups;
 mod questions;
+mod subtrees;
+mod unlocking;
 
 use dav_resource_core::davpath::DavPath;
 use dav_resource_core::errors::{FsError, FsResult};
@@ -19,6 +21,7 @@ pub(crate) use lookups::standing_as;
 pub(crate) use questions::copy_of;
 use rand_core::Rng;
 use std::alloc::Global;
+pub use subtrees::{last_place_is_bare, walk_without_its_last};
 
 /// The stores, a generator for the tokens of locks, and who asks. Requests reach the stores by `ask` alone.
 #[derive(Drop)]

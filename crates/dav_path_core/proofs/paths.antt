@@ -1,5 +1,6 @@
 pub mod ChildLemmas
 pub mod FrontLemmas
+pub mod JoinedLemmas
 pub mod KeptLemmas
 pub mod Laws
 pub mod NameLemmas
@@ -7,6 +8,7 @@ pub mod ParentLemmas
 pub mod PieceLemmas
 pub mod PrefixLemmas
 pub mod ReadLaws
+pub mod ReadableLemmas
 pub mod Rewriting
 pub mod SegmentLemmas
 pub mod SlashedLemmas

@@ -1,5 +1,5 @@
 -- A path as the list of its segments, and what stands above it (RFC 4918 section 5.1).
-use Rattle.std.specs.Prelude.{ℕ, Bool, List, [], ◌∷◌, ◌++◌, map, Option, Some, None, is_some, if◌then◌else◌}
+use Rattle.std.specs.Prelude.{ℕ, Bool, List, [], ◌∷◌, ◌++◌, map, Option, Some, None, is_some, option_map, if◌then◌else◌}
 use Rattle.std.specs.declared.cmp.Ordering.{Ordering}
 use Rattle.std.specs.Ordering.{nat_cmp, eq_by_cmp}
 use Rattle.std.specs.Cmp.Lexicographic.{slice_cmp}
@@ -39,6 +39,10 @@ abbrev pub behind : Path → Path → Option Path
 behind [] p = Some p
 behind (s ∷ front) [] = None
 behind (s ∷ front) (t ∷ p) = if eq_by_cmp segment_cmp s t then behind front p else None
+
+-- the path that stands to `to` as `p` to `from`, where `p` is `from` or stands below it
+abbrev pub rebased : Path → Path → Path → Option Path
+rebased from to p = option_map (λ rest. to ++ rest) (behind from p)
 
 -- whether `p` is `front` or stands below it
 abbrev pub is_front : Path → Path → Bool

@@ -8,3 +8,7 @@ pub record KeepsPath (text path : List ℕ) : Type 0 where
   pub read_again : (source : List ℕ) → Read source path → Read text path
   -- other bytes have another text
   pub once : (other : List ℕ) → All (λ b. b < 256) other → url other ≡ text → other ≡ path
+
+-- the URL text of a path is read as that path
+abbrev pub IsReadAsItself : List ℕ → Type 0
+IsReadAsItself path = Read (url path) path

@@ -1,18 +1,19 @@
 //! Paths of resources.
-ghost use Rattle.std.specs.Prelude.{◌++◌, if◌then◌else◌, take, false, ◌≡◌, ◌≤◌, ◌<◌, ◌^◌, ◌⊎◌, ◌↔◌, ℕ, List, [], ◌∷◌, length, string_bytes, IfOk, IfErr, OnOk, OnErr, IsSome, IfSome, MatchResult};
+ghost use Rattle.std.specs.Prelude.{◌++◌, if◌then◌else◌, take, false, ◌≡◌, ◌≤◌, ◌<◌, ◌^◌, ◌⊎◌, ◌↔◌, ℕ, List, [], ◌∷◌, length, string_bytes, IfOk, IfErr, OnOk, OnErr, IsSome, IfSome, MatchResult, option_map, true};
 ghost use Rattle.std.specs.Str.{IsUtf8};
 ghost use Rattle.http_uri.specs.Uri.{uri_path};
-ghost use Rattle.dav_path_core.specs.Reading.{CanBeSegment, Read, ends_in_slash};
+ghost use Rattle.dav_path_core.specs.Reading.{CanBeSegment, Read, ends_in_slash, path_of};
 ghost use Rattle.dav_path_core.specs.Fault.{Fault};
 ghost use Rattle.dav_path_core.specs.Segments.{segments};
-ghost use Rattle.dav_path_core.specs.Fronts.{parent};
+ghost use Rattle.dav_path_core.specs.Fronts.{parent, rebased as rebased_path, is_front};
 ghost use Rattle.dav_path_core.specs.PathText.{full, folder_bytes};
 ghost use Rattle.dav_path_core.specs.Prefix.{SetsPrefix, NeedsSlash};
 ghost use Rattle.dav_path_core.specs.Trimmed.{trimmed};
 ghost use Rattle.dav_path_core.specs.Url.{url};
-ghost use Rattle.dav_path_core.specs.Respelling.{KeepsPath};
+ghost use Rattle.dav_path_core.specs.Respelling.{KeepsPath, IsReadAsItself};
 ghost use Rattle.dav_path_core.specs.Normal.{IsNormal};
 ghost use Rattle.dav_path_core.specs.Names.{file_name as name_of, relative};
+ghost use Rattle.dav_path_core.specs.Private.Keeping.{slashed};
 
 mod iter;
 mod lent;
@@ -102,6 +103,7 @@ impl DavPath {
         // What can be read is read, unless memory runs out.
         ensures only { (bytes : List ℕ) → Read src.now bytes
             → MatchResult result (λ path. path.bytes ≡ bytes) (λ e. e ≡ ParseError.OutOfMemory) }
+        ensures readable { IfOk result (λ path. IsReadAsItself path.bytes) }
         ensures err { IfErr result (λ e. (e ≡ ParseError.OutOfMemory) ⊎ Fault src.now e) }
     {
         let raw = raw_path(src.as_bytes())?;
@@ -134,6 +136,7 @@ impl DavPath {
     pub fn set_prefix(&mut self, prefix: &str) -> Result<(), ParseError>
         ensures ok { OnOk result (SetsPrefix (full self.old) prefix.now (full self.new) self.new.prefix) }
         ensures begins { OnOk result ((rest : List ℕ) × (self.new.bytes ≡ 47 ∷ rest)) }
+        ensures readable { OnOk result (IsReadAsItself (full self.old) → IsReadAsItself self.new.bytes) }
         ensures err { IfErr result (λ e. ((e ≡ ParseError.OutOfMemory) × NeedsSlash (full self.old) prefix.now)
             ⊎ ((e ≡ ParseError.PrefixMismatch)
             × ((after q : List ℕ) → ¬ SetsPrefix (full self.old) prefix.now after q))) }
@@ -263,6 +266,7 @@ impl DavPath {
             × (path.bytes ≡ folder_bytes (parent (segments self.now.bytes)))) }
         // So its segments are those of the path without the last.
         ensures above { IfOk result (λ path. segments path.bytes ≡ parent (segments self.now.bytes)) }
+        ensures readable { IfOk result (λ path. IsReadAsItself self.now.bytes → IsReadAsItself path.bytes) }
         ensures err { IfErr result (λ e. e ≡ ParseError.OutOfMemory) }
     {
         let above = self.depth().saturating_sub(1);
@@ -282,6 +286,7 @@ impl DavPath {
         ensures ok { IfOk result (λ path. segments path.bytes ≡ segments self.now.bytes ++ (name.now ∷ [])) }
         ensures prefix { IfOk result (λ path. path.prefix ≡ self.now.prefix) }
         ensures no_slash { IfOk result (λ path. ends_in_slash path.bytes ≡ false) }
+        ensures readable { IfOk result (λ path. IsReadAsItself self.now.bytes → IsReadAsItself path.bytes) }
         ensures only { IfOk result (λ path. CanBeSegment name.now) }
         ensures err { IfErr result (λ e. ((e ≡ ParseError.InvalidPath) × ¬ CanBeSegment name.now)
             ⊎ ((e ≡ ParseError.OutOfMemory) × CanBeSegment name.now)) }
@@ -295,6 +300,36 @@ impl DavPath {
             fullpath,
             prefix_length: self.prefix_length,
         })
+    }
+
+    /// The path that stands to `to` as this one to `from`, with the same prefix: so a member of a folder that is copied
+    /// has its place in the copy. It ends in `/` where this one does, or where it is the root. None where this one
+    /// isn't at or below `from` (own). `OutOfMemory` alone.
+    pub fn rebased(
+        &self,
+        from: DavPathRef<'_>,
+        to: DavPathRef<'_>,
+    ) -> Result<Option<DavPath>, ParseError>
+        ensures ok { IfOk result (λ found. option_map (λ path. segments path.bytes) found
+            ≡ rebased_path (segments from.entry) (segments to.entry) (segments self.now.bytes)) }
+        ensures prefix { IfOk result (λ found. IfSome found (λ path. path.prefix ≡ self.now.prefix)) }
+        ensures bytes { IfOk result (λ found. IfSome found (λ path.
+            path.bytes ≡ path_of (segments path.bytes) (ends_in_slash self.now.bytes))) }
+        ensures readable { IfOk result (λ found. IfSome found (λ path.
+            IsReadAsItself self.now.bytes → IsReadAsItself to.entry → IsReadAsItself path.bytes)) }
+        ensures err { IfErr result (λ e. (e ≡ ParseError.OutOfMemory)
+            × (is_front (segments from.entry) (segments self.now.bytes) ≡ true)) }
+    {
+        let Some(rest) = self.segments().behind(from.segments()) else {
+            return Ok(None);
+        };
+        let alloc = *self.fullpath.allocator();
+        let prefix = &self.fullpath[..self.prefix_length];
+        let fullpath = joined(alloc, prefix, to.segments(), rest, self.is_collection())?;
+        Ok(Some(DavPath {
+            fullpath,
+            prefix_length: self.prefix_length,
+        }))
     }
 }
 
@@ -348,6 +383,37 @@ fn name_behind(
     }
     path.extend_from_slice(name)?;
     Ok(path)
+}
+
+// The bytes of a path behind a prefix, by the segments of two others, one after the other.
+fn joined(
+    alloc: Global,
+    prefix: &[u8],
+    front: Segments<'_>,
+    back: Segments<'_>,
+    slash: bool,
+) -> Result<Vec<u8>, AllocError>
+    ensures { IfOk result (λ path. path.items
+        ≡ prefix.now ++ path_of (segments front.entry ++ segments back.entry) slash) }
+{
+    let mut path = prefix.to_vec(alloc)?;
+    push_segments(&mut path, front)?;
+    push_segments(&mut path, back)?;
+    if slash || path.len() == prefix.len() {
+        path.push(b'/')?;
+    }
+    Ok(path)
+}
+
+// Each of the segments behind a slash.
+fn push_segments(path: &mut Vec<u8>, names: Segments<'_>) -> Result<(), AllocError>
+    ensures { OnOk result (path.new.items ≡ path.old.items ++ slashed (segments names.entry)) }
+{
+    for segment in names {
+        path.push(b'/')?;
+        path.extend_from_slice(segment)?;
+    }
+    Ok(())
 }
 
 /// Two paths are equal where their whole bytes are, each without one slash at its end where there are more bytes. Their

@@ -5,11 +5,10 @@ use Rattle.std.specs.List.{AllByRecursion}
 use Rattle.std.proofs.lemmas.Bool.{and_from, and_parts, cases_Bool, false≢true, true≢false, false_from_ne_true, or_left, or_right}
 use Rattle.std.proofs.lemmas.List.Elements.{filter_passes, recursion_from_All}
 use Rattle.dav_path_core.specs.Fronts.{Path, is_front, is_same_path}
-use Rattle.dav_path_core.proofs.paths.FrontLemmas.{is_front-refl}
+use Rattle.dav_path_core.proofs.paths.FrontLemmas.{is_front-refl, behind_append}
 use Rattle.dav_files_core.specs.Resources.{at_path}
 use Rattle.dav_files_core.specs.Below.{is_below, SameBelow, AgreeBelow}
 use Rattle.dav_files_core.proofs.laws.AgreeingLemmas.{not_front}
-use Rattle.dav_files_core.proofs.paths.FrontLemmas.{behind_append}
 use Rattle.dav_locks_core.specs.Lock.{Lock}
 use Rattle.dav_locks_core.specs.Locks.{lock_path, covers, discovered, is_at_or_below, without_below}
 use Rattle.dav_locks_core.specs.Stale.{is_stale, without_stale}

@@ -25,6 +25,7 @@ pub mod RefusalLemmas
 pub mod RefusalRows
 pub mod Rows
 pub mod ScanLemmas
+pub mod ScopeLemmas
 pub mod SequenceLemmas
 pub mod StartLemmas
 pub mod StartTextLemmas

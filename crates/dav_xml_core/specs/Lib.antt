@@ -14,6 +14,8 @@ pub mod Reading
 pub mod References
 pub mod Refusals
 pub mod Scanning
+pub mod ScopeTrees
+pub mod Scopes
 pub mod Sequences
 pub mod Views
 pub mod Writing

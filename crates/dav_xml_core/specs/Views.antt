@@ -5,7 +5,6 @@ use Rattle.dav_xml_core.specs.declared.davxml.documents.Name as code_name
 use Rattle.dav_xml_core.specs.declared.davxml.documents.Attribute as code_attribute
 use Rattle.dav_xml_core.specs.declared.davxml.documents.Node as code_node
 use Rattle.dav_xml_core.specs.declared.davxml.documents.Node.TheVariants.{Start, Text, End}
-use Rattle.dav_xml_core.specs.declared.davxml.namespaces.Binding as code_binding
 use Rattle.dav_xml_core.specs.declared.davxml.builder.Element as code_element
 use Rattle.dav_xml_core.specs.declared.davxml.builder.Builder as code_builder
 use Rattle.dav_xml_core.specs.Reading as reading
@@ -35,9 +34,6 @@ piece_of (Characters raw) = markup.Characters raw.now
 piece_of (CData raw) = markup.CData raw.now
 piece_of Aside = markup.Aside
 
-abbrev pub binding_of : code_binding.Binding → namespaces.Binding
-binding_of binding = record { prefix = binding.prefix.now; namespace = rc_str_bytes binding.namespace }
-
 abbrev pub name_of : code_name.Name → documents.Name
 name_of name = record { namespace = rc_str_bytes name.namespace; local = string_bytes name.local }
 
@@ -49,9 +45,9 @@ node_of (Start name attributes) = documents.Start (name_of name) (map attribute_
 node_of (Text text) = documents.Text (string_bytes text)
 node_of End = documents.End
 
-abbrev pub started_view : List code_binding.Binding → code_name.Name → Vec code_attribute.Attribute Global → namespaces.Started
+abbrev pub started_view : List namespaces.Binding → code_name.Name → Vec code_attribute.Attribute Global → namespaces.Started
 started_view bindings name attributes =
-    record { bindings = map binding_of bindings; name = name_of name; attributes = map attribute_of attributes.items }
+    record { bindings = bindings; name = name_of name; attributes = map attribute_of attributes.items }
 
 abbrev pub element_of : code_element.Element → reading.Element
 element_of element = record { name = qname_of element.name; around = element.around }
@@ -61,7 +57,7 @@ front_of builder = record {
   nodes = map node_of builder.nodes.items;
   text = builder.text.items;
   elements = map element_of builder.elements.items;
-  bindings = map binding_of builder.bindings.items;
+  bindings = builder.scope;
 }
 
 abbrev pub writing_of : code_writer.Writer → writing.Writing

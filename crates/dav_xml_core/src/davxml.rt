@@ -10,6 +10,7 @@ mod namespaces;
 mod reader;
 mod references;
 mod scan;
+mod scope;
 mod writer;
 
 pub use documents::{Attribute, Document, Name, Node};

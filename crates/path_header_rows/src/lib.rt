@@ -18,6 +18,8 @@ mod path_children;
 #[cfg(test)]
 mod path_clones;
 #[cfg(test)]
+mod path_places;
+#[cfg(test)]
 mod plenty;
 #[cfg(test)]
 mod trees;

@@ -4,6 +4,8 @@
 #[cfg(test)]
 mod conditions;
 #[cfg(test)]
+mod folders;
+#[cfg(test)]
 mod ifs;
 #[cfg(test)]
 mod playing;
@@ -11,3 +13,5 @@ mod playing;
 mod ranges;
 #[cfg(test)]
 mod rows;
+#[cfg(test)]
+mod unlocks;

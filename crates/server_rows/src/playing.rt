@@ -1,8 +1,10 @@
 //! Plays the rows over bytes, in pieces of several sizes.
 use crate::conditions::CONDITIONS;
+use crate::folders::FOLDERS;
 use crate::ifs::IFS;
 use crate::ranges::RANGES;
 use crate::rows::ROWS;
+use crate::unlocks::UNLOCKS;
 use dav_handler_core::conditions::Scheme;
 use dav_handler_core::dav::{Dav, Settings};
 use dav_path_core::davpath::DavPath;
@@ -259,4 +261,14 @@ fn looks_at_each_condition(rt: HostRuntime) -> Result<(), Fail> {
 #[test]
 fn sends_each_range(rt: HostRuntime) -> Result<(), Fail> {
     play(&rt, RANGES)
+}
+
+#[test]
+fn makes_each_folder(rt: HostRuntime) -> Result<(), Fail> {
+    play(&rt, FOLDERS)
+}
+
+#[test]
+fn ends_each_lock(rt: HostRuntime) -> Result<(), Fail> {
+    play(&rt, UNLOCKS)
 }

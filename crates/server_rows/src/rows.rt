@@ -3,7 +3,7 @@
 //! `shallow`, and its path; then requests, each with its answer behind ` = `. A `|` is the end of a line, `{0}` the token of the first lock, `{1}` that of
 //! the second, and `{n}` a line feed.
 pub(crate) const ROWS: &str = r#"at / - 1000000000
-OPTIONS * HTTP/1.1|Host: h|| = HTTP/1.1 200 OK|dav: 1, 2|allow: OPTIONS, GET, HEAD, PUT|ms-author-via: DAV|content-length: 0||
+OPTIONS * HTTP/1.1|Host: h|| = HTTP/1.1 200 OK|dav: 1, 2|allow: OPTIONS, GET, HEAD, PUT, MKCOL, UNLOCK|ms-author-via: DAV|content-length: 0||
 GET /a.txt HTTP/1.1|Host: h|| = HTTP/1.1 404 Not Found|content-length: 0||
 PUT /a.txt HTTP/1.1|Host: h|Content-Length: 5||hello = HTTP/1.1 201 Created|etag: "1000000001-5"|content-length: 0||
 GET /a.txt HTTP/1.1|Host: h|| = HTTP/1.1 200 OK|etag: "1000000001-5"|last-modified: Thu, 01 Jan 1970 00:00:01 GMT|content-type: text/plain|accept-ranges: bytes|content-length: 5||hello
@@ -11,7 +11,7 @@ PUT /a.txt HTTP/1.1|Host: h|Content-Length: 26||a body that is cut in many = HTT
 HEAD /a.txt HTTP/1.1|Host: h|| = HTTP/1.1 200 OK|etag: "1000000002-26"|last-modified: Thu, 01 Jan 1970 00:00:01 GMT|content-type: text/plain|accept-ranges: bytes|content-length: 26||
 GET /./b/../%61.txt?x HTTP/1.1|Host: h|| = HTTP/1.1 200 OK|etag: "1000000002-26"|last-modified: Thu, 01 Jan 1970 00:00:01 GMT|content-type: text/plain|accept-ranges: bytes|content-length: 26||a body that is cut in many
 HEAD /no HTTP/1.1|Host: h|| = HTTP/1.1 404 Not Found||
-PUT / HTTP/1.1|Host: h|Content-Length: 1||x = HTTP/1.1 405 Method Not Allowed|allow: OPTIONS, GET, HEAD, PUT|content-length: 0||
+PUT / HTTP/1.1|Host: h|Content-Length: 1||x = HTTP/1.1 405 Method Not Allowed|allow: OPTIONS, GET, HEAD, PUT, MKCOL, UNLOCK|content-length: 0||
 PUT /no/a HTTP/1.1|Host: h|Content-Length: 1||x = HTTP/1.1 409 Conflict|content-length: 0||
 PUT /a.txt/b HTTP/1.1|Host: h|Content-Length: 1||x = HTTP/1.1 409 Conflict|content-length: 0||
 GET /../a.txt HTTP/1.1|Host: h|| = HTTP/1.1 403 Forbidden|content-length: 0||
@@ -19,7 +19,7 @@ GET /%00 HTTP/1.1|Host: h|| = HTTP/1.1 400 Bad Request|content-length: 0||
 GET /a.txt HTTP/1.1|Host: h|If: no list|| = HTTP/1.1 400 Bad Request|content-length: 0||
 GET /a.txt HTTP/1.1|Host: h|If: (<a:b>)|If: (<a:b>)|| = HTTP/1.1 400 Bad Request|content-length: 0||
 PUT /a.txt HTTP/1.1|Host: h|Content-Range: bytes 0-0/5|Content-Length: 1||x = HTTP/1.1 400 Bad Request|content-length: 0||
-MKCOL /b HTTP/1.1|Host: h|| = HTTP/1.1 501 Not Implemented|content-length: 0||
+PROPFIND /b HTTP/1.1|Host: h|| = HTTP/1.1 501 Not Implemented|content-length: 0||
 POST /a.txt HTTP/1.1|Host: h|Content-Length: 1||x = HTTP/1.1 501 Not Implemented|content-length: 0||
 GET /a.txt HTTP/1.1|Host: h|Connection: close|| = HTTP/1.1 200 OK|etag: "1000000002-26"|last-modified: Thu, 01 Jan 1970 00:00:01 GMT|content-type: text/plain|accept-ranges: bytes|content-length: 26|connection: close||a body that is cut in many
 
@@ -34,7 +34,7 @@ GET /dav/b HTTP/1.1|Host: h|X-User: ann|| = HTTP/1.1 404 Not Found|content-lengt
 GET /a HTTP/1.1|Host: h|| = HTTP/1.1 404 Not Found|content-length: 0||
 GET /davx HTTP/1.1|Host: h|X-User: ann|| = HTTP/1.1 404 Not Found|content-length: 0||
 GET /dav/../../a HTTP/1.1|Host: h|| = HTTP/1.1 403 Forbidden|content-length: 0||
-OPTIONS /a HTTP/1.1|Host: h|| = HTTP/1.1 200 OK|dav: 1, 2|allow: OPTIONS, GET, HEAD, PUT|ms-author-via: DAV|content-length: 0||
+OPTIONS /a HTTP/1.1|Host: h|| = HTTP/1.1 200 OK|dav: 1, 2|allow: OPTIONS, GET, HEAD, PUT, MKCOL, UNLOCK|ms-author-via: DAV|content-length: 0||
 
 at / x-user 1000000000
 lock ann exclusive deep /a

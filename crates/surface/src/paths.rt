@@ -39,6 +39,14 @@ pub fn child(path: &DavPath, name: &[u8]) -> Result<DavPath, ParseError> {
     path.child(name)
 }
 
+pub fn rebased(
+    path: &DavPath,
+    from: DavPathRef<'_>,
+    to: DavPathRef<'_>,
+) -> Result<Option<DavPath>, ParseError> {
+    path.rebased(from, to)
+}
+
 pub fn as_bytes(path: &DavPath) -> &[u8] {
     path.as_bytes()
 }
@@ -89,6 +97,10 @@ pub fn next_segment<'a>(segments: &mut Segments<'a>) -> Option<&'a [u8]> {
 
 pub fn lent_is_collection(path: &DavPathRef<'_>) -> bool {
     path.is_collection()
+}
+
+pub fn lent_is_at_or_below(path: &DavPathRef<'_>, other: DavPathRef<'_>) -> bool {
+    path.is_at_or_below(other)
 }
 
 pub fn lent_parent<'a>(path: &DavPathRef<'a>) -> DavPathRef<'a> {

@@ -12,7 +12,7 @@ use Rattle.dav_files_core.specs.Outcomes.{added, touched, new_folder}
 use Rattle.dav_files_core.specs.Renaming.{rename, relocated}
 use Rattle.dav_files_core.specs.Resources.{Resource, ResourceMap, at_path, IsResourceMap}
 use Rattle.dav_files_core.proofs.walks.FoundLemmas.{parent-snoc}
-use Rattle.dav_files_core.proofs.paths.FrontLemmas.{behind_none}
+use Rattle.dav_path_core.proofs.paths.FrontLemmas.{behind_none}
 use Rattle.dav_files_core.proofs.walks.HasMembersLemmas.{has_member}
 use Rattle.dav_files_core.proofs.laws.DoneLemmas.{RenamedEntry, made_folder, renamed_entry, touched_other, touched_none}
 use Rattle.dav_files_core.proofs.laws.GrownLemmas.{create_dir_grows}

@@ -8,7 +8,7 @@ use Rattle.dav_path_core.specs.declared.errors.FsError.TheVariants.{Exists, Forb
 use Rattle.dav_path_core.specs.Fronts.{Segment, Path, parent, behind, is_front, is_same_path}
 use Rattle.dav_path_core.proofs.lists.Orders.{segment_total, segment_exact, path_total, path_exact}
 use Rattle.dav_path_core.proofs.lists.FinMaps.{get_same, get_other, get_left, get_gone, dec}
-use Rattle.dav_path_core.proofs.paths.FrontLemmas.{is_same_path-refl}
+use Rattle.dav_path_core.proofs.paths.FrontLemmas.{is_same_path-refl, behind_append, behind_is, behind_none}
 use Rattle.dav_files_core.specs.declared.fs.OpenOptions.{OpenOptions}
 use Rattle.dav_files_core.specs.Resources.{Node, Property, Resource, ResourceMap, at_path}
 use Rattle.dav_files_core.specs.Finding.{find, members, has_any, has_members}
@@ -27,7 +27,7 @@ use Rattle.dav_files_core.specs.Opening.{OpenFile, opened, opening, opening_at, 
 use Rattle.dav_files_core.specs.Properties.{patch_answers, patched, patch_props, shown, get_props, xml_of, get_prop}
 use Rattle.dav_files_core.specs.Renaming.{put_elsewhere, relocated, rename}
 use Rattle.dav_files_core.proofs.walks.FoundLemmas.{find_there, find_below, parent-append}
-use Rattle.dav_files_core.proofs.paths.FrontLemmas.{behind_append, behind_is, behind_none, after_cases}
+use Rattle.dav_files_core.proofs.paths.FrontLemmas.{after_cases}
 use Rattle.dav_files_core.proofs.listings.MemberLemmas.{get-members}
 use Rattle.dav_files_core.proofs.moves.MovedLemmas.{get-moved, moved_other}
 

@@ -6,7 +6,7 @@ use Rattle.dav_path_core.specs.Fronts.{Segment, Path, parent, behind, is_same_pa
 use Rattle.dav_path_core.proofs.lists.FinMaps.{none_some, get_same, dec, test_false}
 use Rattle.dav_path_core.proofs.lists.Orders.{path_total, path_exact}
 use Rattle.dav_path_core.proofs.lists.Snoc.{by_last}
-use Rattle.dav_path_core.proofs.paths.FrontLemmas.{is_same_path-refl}
+use Rattle.dav_path_core.proofs.paths.FrontLemmas.{is_same_path-refl, behind_append}
 use Rattle.dav_files_core.specs.Following.{TakesAlong, TakesPlace, OthersStay, dated, dated_folder}
 use Rattle.dav_files_core.specs.Folders.{is_root}
 use Rattle.dav_files_core.specs.Moved.{moved, path_after}
@@ -17,7 +17,7 @@ use Rattle.dav_files_core.proofs.walks.FoundLemmas.{parent-snoc}
 use Rattle.dav_files_core.proofs.walks.HasMembersLemmas.{has_member}
 use Rattle.dav_files_core.proofs.laws.DoneLemmas.{RenamedEntry, renamed_entry, touched_other}
 use Rattle.dav_files_core.proofs.laws.GrownLemmas.{rename_grows}
-use Rattle.dav_files_core.proofs.paths.FrontLemmas.{behind_append, after_back, after_gone}
+use Rattle.dav_files_core.proofs.paths.FrontLemmas.{after_back, after_gone}
 use Rattle.dav_files_core.proofs.paths.LengthLemmas.{no_longer}
 use Rattle.dav_files_core.proofs.moves.MovedLemmas.{get-moved, moved_other, moved_to}
 use Rattle.dav_files_core.proofs.moves.MovingLemmas.{front_there}

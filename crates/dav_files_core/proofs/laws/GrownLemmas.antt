@@ -33,7 +33,7 @@ use Rattle.dav_files_core.proofs.moves.MovedLemmas.{get-moved, moved-without}
 use Rattle.dav_files_core.proofs.moves.MovingLemmas.{IsResourceMap-moved}
 use Rattle.dav_files_core.proofs.opens.NumberedLemmas.{gone_number, number_gone}
 use Rattle.dav_files_core.proofs.opens.OpenedLemmas.{is_open}
-use Rattle.dav_files_core.proofs.paths.FrontLemmas.{behind_append}
+use Rattle.dav_path_core.proofs.paths.FrontLemmas.{behind_append}
 use Rattle.dav_files_core.proofs.paths.LengthLemmas.{no_longer}
 use Rattle.dav_files_core.proofs.walks.FoundLemmas.{folder_there, found_there, parent-snoc}
 use Rattle.dav_files_core.proofs.walks.HasMembersLemmas.{no_members}

@@ -10,7 +10,8 @@ use Rattle.dav_path_core.proofs.lists.Orders.{path_total, path_exact, eq_by_cmp_
 use Rattle.dav_files_core.specs.Moved.{path_after, moved_entry, moved}
 use Rattle.dav_files_core.specs.Outcomes.{without}
 use Rattle.dav_files_core.specs.Resources.{Resource, ResourceMap, at_path}
-use Rattle.dav_files_core.proofs.paths.FrontLemmas.{behind_append, after_from, after_other, after_gone, after_back}
+use Rattle.dav_path_core.proofs.paths.FrontLemmas.{behind_append}
+use Rattle.dav_files_core.proofs.paths.FrontLemmas.{after_from, after_other, after_gone, after_back}
 
 nothing : (o : Option Path) → ◌≡◌ {A = Option Resource} None (option_and_then (λ p. find path_cmp p []) o)
 nothing None = refl

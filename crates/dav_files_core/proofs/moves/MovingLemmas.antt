@@ -12,7 +12,8 @@ use Rattle.dav_files_core.specs.declared.memfs.Kind.TheVariants.{Folder}
 use Rattle.dav_files_core.specs.Moved.{path_after, moved}
 use Rattle.dav_files_core.specs.Private.Represents.{FileEntry, FileTree, PlaceFits, Shown, Represents}
 use Rattle.dav_files_core.specs.Resources.{Resource, ResourceMap, at_path, IsResourceMap}
-use Rattle.dav_files_core.proofs.paths.FrontLemmas.{behind_is, behind_none, none_behind, after_from, after_other, after_back, after_snoc}
+use Rattle.dav_path_core.proofs.paths.FrontLemmas.{behind_is, behind_none, none_behind}
+use Rattle.dav_files_core.proofs.paths.FrontLemmas.{after_from, after_other, after_back, after_snoc}
 use Rattle.dav_files_core.proofs.moves.MovedLemmas.{get-moved}
 
 some_then : {A B : Type 0} (o : Option A) (f : A → Option B) (y : B) → option_and_then f o ≡ Some y → (x : A) × (o ≡ Some x) × (f x ≡ Some y)

@@ -24,7 +24,7 @@ use Rattle.dav_files_core.specs.Private.Entries.{put_there as put_there_outcome}
 use Rattle.dav_files_core.specs.Private.Represents.{FileEntry, FileTree, Represents, resource_map}
 use Rattle.dav_files_core.specs.Private.TreeCalls.{IsMember}
 use Rattle.dav_files_core.specs.Resources.{Resource, ResourceMap, at_path}
-use Rattle.dav_files_core.proofs.paths.FrontLemmas.{behind_append, behind_is, none_behind}
+use Rattle.dav_path_core.proofs.paths.FrontLemmas.{behind_append, behind_is, none_behind}
 use Rattle.dav_files_core.proofs.walks.HasMembersLemmas.{has_none, has_child_is, no_members}
 use Rattle.dav_files_core.proofs.changes.LeavingLemmas.{not_root, root_number, known}
 use Rattle.dav_files_core.proofs.paths.LengthLemmas.{longer}

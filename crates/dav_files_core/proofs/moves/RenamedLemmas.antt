@@ -18,7 +18,7 @@ use Rattle.dav_files_core.specs.Private.TreeCalls.{number_of}
 use Rattle.dav_files_core.specs.Renaming.{rename, relocated, put_elsewhere}
 use Rattle.dav_files_core.specs.Resources.{Node, Resource, ResourceMap, at_path, IsResourceMap}
 use Rattle.dav_files_core.proofs.walks.FoundLemmas.{parent-snoc, folder_there}
-use Rattle.dav_files_core.proofs.paths.FrontLemmas.{behind_is, behind_none, none_behind}
+use Rattle.dav_path_core.proofs.paths.FrontLemmas.{behind_is, behind_none, none_behind}
 use Rattle.dav_files_core.proofs.walks.HasMembersLemmas.{has_member}
 use Rattle.dav_files_core.proofs.paths.LengthLemmas.{no_longer}
 use Rattle.dav_files_core.proofs.changes.MakingLemmas.{folder_found}

@@ -1,36 +1,11 @@
 -- Fronts of paths, and the path that a path has after a move.
 use Rattle.std.proofs.Common.{◌≡◌, ◌⊎◌, inl, inr, true, false, [], ◌∷◌, ◌++◌, Option, Some, None, refl, sym, ap, ◌∙◌, append_assoc, append-nil}
 use Rattle.std.specs.Prelude.{is_some, if◌then◌else◌}
-use Rattle.std.specs.Ordering.{eq_by_cmp}
-use Rattle.dav_path_core.specs.Fronts.{Segment, Path, segment_cmp, behind}
-use Rattle.dav_path_core.proofs.lists.FinMaps.{none_some, one_some}
-use Rattle.dav_path_core.proofs.lists.Orders.{segment_total, segment_exact, eq_by_cmp_same, eq_by_cmp_true}
+use Rattle.dav_path_core.specs.Fronts.{Segment, Path, behind}
+use Rattle.dav_path_core.proofs.lists.FinMaps.{one_some}
 use Rattle.dav_path_core.proofs.lists.Snoc.{by_last, snoc_front, snoc_last}
+use Rattle.dav_path_core.proofs.paths.FrontLemmas.{behind_append, behind_is, behind_none, none_behind}
 use Rattle.dav_files_core.specs.Moved.{path_after}
-
-pub behind_append : (a s : Path) → behind a (a ++ s) ≡ Some s
-behind_append [] s = refl
-behind_append (x ∷ a) s = ap (λ b. if b then behind a (a ++ s) else None) (eq_by_cmp_same segment_total x) ∙ behind_append a s
-
-pub behind_is : (a p s : Path) → behind a p ≡ Some s → p ≡ a ++ s
-behind_is [] p s h = cc
-behind_is (x ∷ a) [] s h = absurd (cc)
-behind_is (x ∷ a) (y ∷ p) s h =
-    elim (eq_by_cmp segment_cmp x y) as (λ b. eq_by_cmp segment_cmp x y ≡ b → (if b then behind a p else None) ≡ Some s → y ∷ p ≡ x ∷ (a ++ s)) [
-      | true ↦ λ e h. let same = eq_by_cmp_true segment_exact x y e in let rest = behind_is a p s h in cc
-      | false ↦ λ e h. absurd (cc)
-    ] refl h
-
--- whether it is a front, as an equation
-pub behind_none : (a p : Path) → ((s : Path) → ¬ (p ≡ a ++ s)) → behind a p ≡ None
-behind_none a p h = by (behind a p) refl
-  where
-    by : (o : Option Path) → behind a p ≡ o → o ≡ None
-    by None e = refl
-    by (Some s) e = absurd (h s (behind_is a p s e))
-
-pub none_behind : (a p : Path) → behind a p ≡ None → (s : Path) → ¬ (p ≡ a ++ s)
-none_behind a p e s h = none_some (behind a p) s e (ap (behind a) h ∙ behind_append a s)
 
 after_by : Option Path → Option Path → Path → Path → Option Path
 after_by None None to p = Some p

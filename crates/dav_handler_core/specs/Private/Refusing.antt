@@ -5,12 +5,12 @@ use Rattle.dav_resource_core.specs.Requests.{Refusal, Fs, Locked, NoLock, OutOfM
 use Rattle.dav_handler_core.specs.declared.faults.Fault.{Fault}
 use Rattle.dav_handler_core.specs.declared.faults.Fault.TheVariants as fault
 
--- of a PUT that the files refuse, at a path where something stands, or nothing
+-- of a PUT or a MKCOL that the files refuse, at a path where something stands, or nothing
 abbrev pub unputtable : Bool → Fault
 unputtable true = fault.MethodNotAllowed
 unputtable false = fault.Conflict
 
--- of a PUT
+-- of a PUT or a MKCOL
 abbrev pub put_fault : Bool → Refusal → Fault
 put_fault there (Fs InsufficientStorage) = fault.InsufficientStorage
 put_fault there (Fs _) = unputtable there

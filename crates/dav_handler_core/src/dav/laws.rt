@@ -1,4 +1,4 @@
-//! The laws of conditions over the answers of the server. They do nothing.
+//! The laws of conditions and of locks over the answers of the server. They do nothing.
 ghost use Rattle.std.specs.Prelude.{◌≡◌, ◌<◌, ◌⊎◌, ℕ, true, List};
 ghost use Rattle.http.specs.declared.request.Request.{Request};
 ghost use Rattle.http_server.specs.declared.response.Response.{Response};
@@ -6,6 +6,8 @@ ghost use Rattle.dav_handler_core.specs.Answers.{Answers, Server};
 ghost use Rattle.dav_handler_core.specs.Callers.{SameLive};
 ghost use Rattle.dav_handler_core.specs.Deciding.{HeldOff, SendsPart, SendsTag, WentOn, looks};
 ghost use Rattle.dav_handler_core.specs.Fields.{sent_of};
+ghost use Rattle.dav_handler_core.specs.Holding.{IsKeptUnlessHeld, StandsUnlessEnded};
+ghost use Rattle.dav_locks_core.specs.Exclusive.{Exclusive};
 
 /// The law of conditions (RFC 4918 section 10.4, RFC 9110 sections 13 and 14) over every answer of the server. It does nothing.
 ///
@@ -22,4 +24,15 @@ pub fn conditions_decide()
         → response.status ≡ 206 → SendsPart before request (sent_of response) after }
     ensures tag { (before after : Server) (request : Request (List ℕ)) (response : Response) → (h : Answers before request response after)
         → looks h.method ≡ true → response.status < 400 → SendsTag before request (sent_of response) after }
+{}
+
+/// The law of locks (RFC 4918 sections 6 and 7) over every answer of the server. It does nothing.
+///
+/// - A lock ends only where its moment has come, or by a request of its principal that names its token.
+/// - A path under an exclusive lock changes only by such a request.
+pub fn locks_are_their_holders()
+    ensures ended { (before after : Server) (request : Request (List ℕ)) (response : Response) → Answers before request response after
+        → Exclusive before.state.locks → StandsUnlessEnded before request after }
+    ensures changed { (before after : Server) (request : Request (List ℕ)) (response : Response) → Answers before request response after
+        → Exclusive before.state.locks → IsKeptUnlessHeld before request after }
 {}

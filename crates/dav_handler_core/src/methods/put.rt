@@ -8,7 +8,6 @@ ghost use Rattle.dav_files_core.specs.Meta.{meta_of};
 ghost use Rattle.dav_files_core.specs.Resources.{Resource, at_path};
 ghost use Rattle.http_server.specs.Response.{IsBlank};
 ghost use Rattle.dav_resource_core.specs.Checks.{refusing};
-ghost use Rattle.dav_resource_core.specs.Served.{refusal_of};
 ghost use Rattle.dav_handler_core.specs.Callers.{RunBy, SameLive, as_caller, live};
 ghost use Rattle.dav_handler_core.specs.Fields.{marks_of};
 ghost use Rattle.dav_handler_core.specs.FileTags.{file_tag};
@@ -16,11 +15,11 @@ ghost use Rattle.dav_handler_core.specs.Getting.{tagged};
 ghost use Rattle.dav_handler_core.specs.Putting.{FailsToPut, Puts, changes_by, put_course, put_status};
 ghost use Rattle.dav_handler_core.specs.Private.Placing.{HasPlace, LacksPlace, standing_known, target_by};
 ghost use Rattle.dav_handler_core.specs.Private.Marking.{IsNone, and_tags};
-ghost use Rattle.dav_handler_core.specs.Private.Refusing.{put_fault};
 ghost use Rattle.dav_handler_core.specs.Preconditions.{course_of};
 ghost use Rattle.dav_handler_core.specs.Sessions as spec;
 ghost use Rattle.dav_handler_core.specs.declared.faults.Fault.TheVariants as fault;
 
+use super::changes::refused;
 use crate::etags::{Standing, file_tag};
 use crate::faults::Fault;
 use crate::fields::add_tag;
@@ -28,9 +27,8 @@ use crate::preconditions::{Course, read_course};
 use crate::session::{Session, copy_of, standing_as};
 use bytes::Bytes;
 use dav_resource_core::davpath::DavPath;
-use dav_resource_core::errors::FsError;
 use dav_resource_core::fs::{DavMetaData, Moment};
-use dav_resource_core::guarded::{Command, Refusal};
+use dav_resource_core::guarded::Command;
 use dav_resource_core::memfs::MemFsMeta;
 use dav_resource_core::util::DavMethod;
 use http::StatusCode;
@@ -198,20 +196,5 @@ fn done(known: &Option<MemFsMeta>) -> StatusCode
     match known {
         Some(_) => StatusCode::NO_CONTENT,
         None => StatusCode::CREATED,
-    }
-}
-
-// Why the files or the locks refuse it, by what stands there.
-fn refused(known: &Option<MemFsMeta>, refusal: &Refusal) -> Fault
-    ensures { result ≡ put_fault (is_some known.now) (refusal_of refusal.now) }
-{
-    match refusal {
-        Refusal::Locked(_) => Fault::Locked,
-        Refusal::OutOfMemory | Refusal::Fs(FsError::InsufficientStorage) =>
-            Fault::InsufficientStorage,
-        Refusal::Fs(_) | Refusal::NoLock => match known {
-            Some(_) => Fault::MethodNotAllowed,
-            None => Fault::Conflict,
-        },
     }
 }

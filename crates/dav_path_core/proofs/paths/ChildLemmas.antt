@@ -1,12 +1,12 @@
 -- A path with a name behind it: its segments and its parts.
-use Rattle.std.proofs.Common.{◌≡◌, ℕ, ◌-◌, ◌<◌, ◌≤◌, Bool, true, false, cond, List, [], ◌∷◌, ◌++◌, length, take, drop, get_or, inl, inr, refl, sym, ap, ◌∙◌, subst, arith, append_assoc, length-append}
+use Rattle.std.proofs.Common.{◌≡◌, ℕ, ◌-◌, ◌<◌, ◌≤◌, Bool, true, false, cond, List, [], ◌∷◌, ◌++◌, length, take, drop, get_or, inl, inr, refl, sym, ap, ◌∙◌, subst, arith, append_assoc}
 use Rattle.std.specs.Prelude.{Contains}
 use Rattle.std.proofs.lemmas.Bool.{false_from_ne_true, eqb-true}
 use Rattle.std.proofs.lemmas.Bool.Decides.{Decides-eqb}
-use Rattle.std.proofs.lemmas.List.{drop-append-le, take-append-le}
+use Rattle.std.proofs.lemmas.List.{drop-append-le}
 use Rattle.std.proofs.lemmas.List.Elements.{Contains-append_right, Contains-get_or}
 use Rattle.std.proofs.lemmas.Slice.Eq.{ends_is}
-use Rattle.dav_path_core.specs.Segments.{segments, is_slash}
+use Rattle.dav_path_core.specs.Segments.{segments}
 use Rattle.dav_path_core.specs.Reading.{CanBeSegment, ends_in_slash}
 use Rattle.dav_path_core.proofs.lists.Snoc.{by_last, snoc_last}
 use Rattle.dav_path_core.proofs.paths.NameLemmas.{NoSlashFrom}

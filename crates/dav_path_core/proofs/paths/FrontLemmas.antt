@@ -1,11 +1,12 @@
 -- Fronts of paths, and equal paths.
-use Rattle.std.proofs.Common.{◌≡◌, ◌⊎◌, inl, inr, true, false, cond, [], ◌∷◌, None, is_some, refl, sym, ap, ◌∙◌, subst}
-use Rattle.std.specs.Prelude.{nat_eq}
+use Rattle.std.proofs.Common.{◌≡◌, ◌≢◌, ◌⊎◌, inl, inr, true, false, cond, [], ◌∷◌, ◌++◌, Option, Some, None, is_some, refl, sym, ap, ◌∙◌, subst}
+use Rattle.std.specs.Prelude.{nat_eq, not}
 use Rattle.std.specs.Ordering.{eq_by_cmp}
 use Rattle.std.specs.Map.{IsKeyTest}
 use Rattle.std.specs.Cmp.Lexicographic.{pointwise, bytes_decides, nat_list_eq_equiv}
-use Rattle.std.proofs.lemmas.Bool.{false≢true}
+use Rattle.std.proofs.lemmas.Bool.{false≢true, true≢false, false_from_ne_true, not-true, not-false}
 use Rattle.dav_path_core.specs.Fronts.{Segment, Path, segment_cmp, parent, behind, is_front, is_same_path}
+use Rattle.dav_path_core.proofs.lists.FinMaps.{none_some}
 use Rattle.dav_path_core.proofs.lists.Orders.{segment_total, segment_exact, path_total, path_exact, eq_by_cmp_same, eq_by_cmp_true}
 
 -- ---- equal paths
@@ -26,6 +27,46 @@ name_test s x y h = ap (pointwise nat_eq y) (sym ((bytes_decides x s).0 h)) ∙ 
 
 behind_same : (x : Segment) (a p : Path) → behind (x ∷ a) (x ∷ p) ≡ behind a p
 behind_same x a p = ap (λ b. cond b (behind a p) None) (eq_by_cmp_same segment_total x)
+
+behind_other : (x y : Segment) (a p : Path) → x ≢ y → behind (x ∷ a) (y ∷ p) ≡ None
+behind_other x y a p other =
+    ap (λ b. cond b (behind a p) None) (false_from_ne_true _ (λ h. other (eq_by_cmp_true segment_exact x y h)))
+
+-- one segment of each path, in the words of the code: the same one
+pub behind-turn : (front path front' path' : Path) (x y : Segment) → front ≡ x ∷ front' → path ≡ y ∷ path' → not (pointwise nat_eq y x) ≡ false → behind front' path' ≡ behind front path
+behind-turn front path front' path' x y e f test =
+    let same : y ≡ x = (bytes_decides y x).0 (not-false _ test) in
+    sym (ap (λ l. behind l path) e ∙ ap (λ l. behind (x ∷ front') l) (f ∙ ap (λ z. z ∷ path') same) ∙ behind_same x front' path')
+
+-- or another one
+pub behind-differs : (front path front' path' : Path) (x y : Segment) → front ≡ x ∷ front' → path ≡ y ∷ path' → not (pointwise nat_eq y x) ≡ true → behind front path ≡ None
+behind-differs front path front' path' x y e f test =
+    ap (λ l. behind l path) e ∙ ap (λ l. behind (x ∷ front') l) f
+    ∙ behind_other x y front' path' (λ h. true≢false (sym ((bytes_decides y x).1 (sym h)) ∙ not-true _ test))
+
+pub behind_append : (a s : Path) → behind a (a ++ s) ≡ Some s
+behind_append [] s = refl
+behind_append (x ∷ a) s = behind_same x a (a ++ s) ∙ behind_append a s
+
+pub behind_is : (a p s : Path) → behind a p ≡ Some s → p ≡ a ++ s
+behind_is [] p s h = cc
+behind_is (x ∷ a) [] s h = absurd (cc)
+behind_is (x ∷ a) (y ∷ p) s h =
+    elim (eq_by_cmp segment_cmp x y) as (λ b. eq_by_cmp segment_cmp x y ≡ b → cond b (behind a p) None ≡ Some s → y ∷ p ≡ x ∷ (a ++ s)) [
+      | true ↦ λ e h. let same = eq_by_cmp_true segment_exact x y e in let rest = behind_is a p s h in cc
+      | false ↦ λ e h. absurd (cc)
+    ] refl h
+
+-- whether it is a front, as an equation
+pub behind_none : (a p : Path) → ((s : Path) → ¬ (p ≡ a ++ s)) → behind a p ≡ None
+behind_none a p h = by (behind a p) refl
+  where
+    by : (o : Option Path) → behind a p ≡ o → o ≡ None
+    by None e = refl
+    by (Some s) e = absurd (h s (behind_is a p s e))
+
+pub none_behind : (a p : Path) → behind a p ≡ None → (s : Path) → ¬ (p ≡ a ++ s)
+none_behind a p e s h = none_some (behind a p) s e (ap (behind a) h ∙ behind_append a s)
 
 -- ---- fronts
 

@@ -22,7 +22,7 @@ use Rattle.dav_path_core.proofs.paths.KeptLemmas.{path_with_slash}
 use Rattle.dav_path_core.proofs.paths.SlashedLemmas.{nothing_in_none}
 use Rattle.dav_path_core.proofs.paths.Laws.{read_from}
 use Rattle.dav_path_core.proofs.lists.Snoc.{by_last, snoc_last}
-use Rattle.dav_path_core.proofs.paths.ParentLemmas.{HasNoSlash}
+use Rattle.dav_path_core.proofs.paths.ParentLemmas.{HasNoSlash, IsSegment}
 use Rattle.dav_path_core.proofs.paths.UrlLemmas.{IsSafe, safe_url}
 use Rattle.dav_path_core.proofs.paths.PieceLemmas.{first_piece, pieces-at_slash, pieces-All, HasNoSlash-from_lack, decoded_pieces-url, pieces-closed, IsTail, Cuts, cuts_of}
 use Rattle.dav_path_core.proofs.paths.PieceLemmas.IsTail.{closed, slashed}
@@ -30,15 +30,15 @@ use Rattle.dav_path_core.proofs.paths.PieceLemmas.IsTail.{closed, slashed}
 -- ---- rewriting drops pieces alone
 
 module _ (P : List ℕ → Type 0) where
-  All-front : (xs ys : List (List ℕ)) → AllByRecursion P (xs ++ ys) → AllByRecursion P xs
+  pub All-front : (xs ys : List (List ℕ)) → AllByRecursion P (xs ++ ys) → AllByRecursion P xs
   All-front [] ys h = tt
   All-front (x ∷ xs) ys h = (h.0, All-front xs ys h.1)
 
-  All-back : (xs ys : List (List ℕ)) → AllByRecursion P (xs ++ ys) → AllByRecursion P ys
+  pub All-back : (xs ys : List (List ℕ)) → AllByRecursion P (xs ++ ys) → AllByRecursion P ys
   All-back [] ys h = h
   All-back (x ∷ xs) ys h = All-back xs ys h.1
 
-  All-both : (xs ys : List (List ℕ)) → AllByRecursion P xs → AllByRecursion P ys → AllByRecursion P (xs ++ ys)
+  pub All-both : (xs ys : List (List ℕ)) → AllByRecursion P xs → AllByRecursion P ys → AllByRecursion P (xs ++ ys)
   All-both [] ys h k = k
   All-both (x ∷ xs) ys h k = (h.0, All-both xs ys h.1 k)
 
@@ -51,6 +51,10 @@ module _ (P : List ℕ → Type 0) where
   All-Rewrites : (xs ys : List (List ℕ)) → Rewrites xs ys → AllByRecursion P xs → AllByRecursion P ys
   All-Rewrites xs _ (none _) h = h
   All-Rewrites xs zs (more _ ys _ d r) h = All-Rewrites ys zs r (All-Drops xs ys d h)
+
+each : (P Q : List ℕ → Type 0) (kept : List (List ℕ)) → ((piece : List ℕ) → P piece → Q piece) → AllByRecursion P kept → AllByRecursion Q kept
+each P Q [] f h = tt
+each P Q (piece ∷ kept) f h = (f piece h.0, each P Q kept f h.1)
 
 -- ---- ordinary pieces
 
@@ -104,22 +108,38 @@ no_slashes : (kept : List (List ℕ)) → AllByRecursion IsKept kept → AllByRe
 no_slashes [] h = tt
 no_slashes (piece ∷ kept) h = (HasNoSlash-from_lack piece (λ c. h.0.clean (inr c)), no_slashes kept h.1)
 
-cuts : (text path : List ℕ) (r : Read text path) → Cuts path r.kept
-cuts text path r =
-    subst (λ p. Cuts p r.kept) (sym r.path_is) (cuts_of r.kept (ends_in_slash (raw text)) (no_slashes r.kept (kept_of text path r)))
+-- pieces that a reading keeps, and whether a slash stands behind them: the parts of a path that is read
+pub record Parts (path : List ℕ) : Type 0 where
+  pub kept : List (List ℕ)
+  pub slash : Bool
+  pub each : AllByRecursion IsKept kept
+  pub whole : path ≡ path_of kept slash
+
+pub parts_of : (text path : List ℕ) → Read text path → Parts path
+parts_of text path r = record { kept = r.kept; slash = ends_in_slash (raw text); each = kept_of text path r; whole = r.path_is }
+
+cuts : (path : List ℕ) (p : Parts path) → Cuts path p.kept
+cuts path p = subst (λ l. Cuts l p.kept) (sym p.whole) (cuts_of p.kept p.slash (no_slashes p.kept p.each))
 
 -- ---- what is read is normal
 
-kept_segments : (kept tail : List (List ℕ)) → AllByRecursion IsKept kept → IsTail tail → filter is_nonempty (kept ++ tail) ≡ kept
+segment_of : (piece : List ℕ) → IsKept piece → IsSegment piece
+segment_of piece k = record { nonempty = nonempty piece k.ordinary; clean = HasNoSlash-from_lack piece (λ c. k.clean (inr c)) }
+
+kept_segments : (kept tail : List (List ℕ)) → AllByRecursion IsSegment kept → IsTail tail → filter is_nonempty (kept ++ tail) ≡ kept
 kept_segments [] _ h closed = refl
 kept_segments [] _ h slashed = refl
-kept_segments (piece ∷ kept) tail h k = rw (nonempty piece h.0.ordinary) (ap (λ l. piece ∷ l) (kept_segments kept tail h.1 k))
+kept_segments (piece ∷ kept) tail h k = rw h.0.nonempty (ap (λ l. piece ∷ l) (kept_segments kept tail h.1 k))
 
-segments_read : (text path : List ℕ) (r : Read text path) → segments path ≡ r.kept
+-- the segments of a path, by its segments
+pub segments-path_of : (kept : List (List ℕ)) (slash : Bool) → AllByRecursion IsSegment kept → segments (path_of kept slash) ≡ kept
 unfolding segments
-segments_read text path r =
-    let c = cuts text path r in
-    ap (filter is_nonempty) c.pieces_are ∙ kept_segments r.kept c.tail (kept_of text path r) c.is_tail
+segments-path_of kept slash h =
+    let c = cuts_of kept slash (each IsSegment HasNoSlash kept (λ piece s. s.clean) h) in
+    ap (filter is_nonempty) c.pieces_are ∙ kept_segments kept c.tail h c.is_tail
+
+pub segments_read : (path : List ℕ) (p : Parts path) → segments path ≡ p.kept
+segments_read path p = ap segments p.whole ∙ segments-path_of p.kept p.slash (each IsKept IsSegment p.kept segment_of p.each)
 
 tail_short : (tail : List (List ℕ)) → IsTail tail → length tail ≤ 1
 tail_short _ closed = omega arith
@@ -132,32 +152,30 @@ no_gap (piece ∷ kept) tail [] q qs h short e = not_empty piece h.0.ordinary (c
 no_gap (piece ∷ kept) tail (f ∷ front) q qs h short e =
     let rest : kept ++ tail ≡ front ++ [] ∷ q ∷ qs = cc in no_gap kept tail front q qs h.1 short rest
 
-single : (text path : List ℕ) → Read text path → (front back : List ℕ) → path ≢ front ++ 47 ∷ 47 ∷ back
-single text path r front back e =
-    let c = cuts text path r in
+single : (path : List ℕ) → Parts path → (front back : List ℕ) → path ≢ front ++ 47 ∷ 47 ∷ back
+single path r front back e =
+    let c = cuts path r in
     let f = first_piece front in
     let b = first_piece back in
     let split : pieces path ≡ f.0 ∷ (f.1 ++ [] ∷ b.0 ∷ b.1) =
     ap pieces e ∙ pieces-at_slash front (47 ∷ back) ∙ ap (λ l. l ++ [] ∷ pieces back) f.2 ∙ ap (λ l. f.0 ∷ (f.1 ++ [] ∷ l)) b.2 in
     let whole : [] ∷ (r.kept ++ c.tail) ≡ f.0 ∷ (f.1 ++ [] ∷ b.0 ∷ b.1) = sym c.pieces_are ∙ split in
     let rest : r.kept ++ c.tail ≡ f.1 ++ [] ∷ b.0 ∷ b.1 = cc in
-    no_gap r.kept c.tail f.1 b.0 b.1 (kept_of text path r) (tail_short c.tail c.is_tail) rest
+    no_gap r.kept c.tail f.1 b.0 b.1 r.each (tail_short c.tail c.is_tail) rest
 
-each : (P : List ℕ → Type 0) (kept : List (List ℕ)) → ((piece : List ℕ) → IsKept piece → P piece) → AllByRecursion IsKept kept → AllByRecursion P kept
-each P [] f h = tt
-each P (piece ∷ kept) f h = (f piece h.0, each P kept f h.1)
-
-of_segments : (P : List ℕ → Type 0) (text path : List ℕ) → ((piece : List ℕ) → IsKept piece → P piece) → Read text path → All P (segments path)
-of_segments P text path f r = subst (All P) (sym (segments_read text path r)) (All-from_recursion P r.kept (each P r.kept f (kept_of text path r)))
+of_segments : (P : List ℕ → Type 0) (path : List ℕ) → ((piece : List ℕ) → IsKept piece → P piece) → Parts path → All P (segments path)
+of_segments P path f p = subst (All P) (sym (segments_read path p)) (All-from_recursion P p.kept (each IsKept P p.kept f p.each))
 
 pub read_is_normal : (text path : List ℕ) → Read text path → IsNormal path
-read_is_normal text path r = record {
-  rooted = (_, r.path_is);
-  single = single text path r;
-  no_dot = of_segments (λ s. s ≢ codes ".") text path (λ piece k. not_dot piece k.ordinary) r;
-  no_up = of_segments (λ s. s ≢ codes "..") text path (λ piece k. not_dots piece k.ordinary) r;
-  no_zero = of_segments (λ s. ¬ Contains s 0) text path (λ piece k c. k.clean (inl c)) r;
-}
+read_is_normal text path r =
+    let p = parts_of text path r in
+    record {
+      rooted = (_, r.path_is);
+      single = single path p;
+      no_dot = of_segments (λ s. s ≢ codes ".") path (λ piece k. not_dot piece k.ordinary) p;
+      no_up = of_segments (λ s. s ≢ codes "..") path (λ piece k. not_dots piece k.ordinary) p;
+      no_zero = of_segments (λ s. ¬ Contains s 0) path (λ piece k c. k.clean (inl c)) p;
+    }
 
 -- ---- and is read again from its URL spelling
 
@@ -193,13 +211,13 @@ tail_all P _ h closed = tt
 tail_all P _ h slashed = (h, tt)
 
 -- what holds of the empty piece and of each that is kept holds of each piece of the path
-all_pieces : (P : List ℕ → Type 0) (text path : List ℕ) (r : Read text path) → P [] → ((piece : List ℕ) → IsKept piece → P piece) → AllByRecursion P (pieces path)
-all_pieces P text path r h f =
-    let c = cuts text path r in
-    subst (AllByRecursion P) (sym c.pieces_are) (h, All-both P r.kept c.tail (each P r.kept f (kept_of text path r)) (tail_all P c.tail h c.is_tail))
+all_pieces : (P : List ℕ → Type 0) (path : List ℕ) (p : Parts path) → P [] → ((piece : List ℕ) → IsKept piece → P piece) → AllByRecursion P (pieces path)
+all_pieces P path p h f =
+    let c = cuts path p in
+    subst (AllByRecursion P) (sym c.pieces_are) (h, All-both P p.kept c.tail (each IsKept P p.kept f p.each) (tail_all P c.tail h c.is_tail))
 
-decoded_again : (text path : List ℕ) (r : Read text path) → decoded_pieces (url path) ≡ pieces path
-decoded_again text path r = decoded_pieces-url path (all_pieces (AllByRecursion IsByte) text path r tt (λ piece k. k.bytes))
+decoded_again : (path : List ℕ) (p : Parts path) → decoded_pieces (url path) ≡ pieces path
+decoded_again path p = decoded_pieces-url path (all_pieces (AllByRecursion IsByte) path p tt (λ piece k. k.bytes))
 
 same_ending : (kept : List (List ℕ)) (a b : Bool) → (0 < length kept → a ≡ b) → path_of kept a ≡ path_of kept b
 same_ending [] true true h = refl
@@ -243,21 +261,23 @@ ends_by kept false h long d =
     (λ (other : ends_in_slash spelled ≡ false). other)
     (cases_Bool (ends_in_slash spelled))
 
-pub read_again : (text path : List ℕ) → Read text path → Read (url path) path
-read_again text path r =
-    let kept = kept_of text path r in
-    let c = cuts text path r in
-    let slash = ends_in_slash (raw text) in
-    let decoded = decoded_again text path r in
-    let spelled : decoded_pieces (url path) ≡ [] ∷ (r.kept ++ c.tail) = decoded ∙ c.pieces_are in
-    let same : ends_in_slash (url (path_of r.kept slash)) ≡ ends_in_slash (url path) = ap (λ p. ends_in_slash (url p)) (sym r.path_is) in
-    read_from (url path) (url path) path r.kept
-    (subst (λ p. IsTarget (url p)) (sym r.path_is) (target_url _))
+-- a path of such parts is read from its URL spelling
+pub readable : (path : List ℕ) → Parts path → Read (url path) path
+readable path p =
+    let c = cuts path p in
+    let decoded = decoded_again path p in
+    let spelled : decoded_pieces (url path) ≡ [] ∷ (p.kept ++ c.tail) = decoded ∙ c.pieces_are in
+    let same : ends_in_slash (url (path_of p.kept p.slash)) ≡ ends_in_slash (url path) = ap (λ l. ends_in_slash (url l)) (sym p.whole) in
+    read_from (url path) (url path) path p.kept
+    (subst (λ l. IsTarget (url l)) (sym p.whole) (target_url _))
     (sym (raw_url path))
     (record {
-      clean = All-from_recursion (λ piece. ¬ IsForeign piece) (decoded_pieces (url path)) (subst (AllByRecursion (λ piece. ¬ IsForeign piece)) (sym decoded) (all_pieces (λ piece. ¬ IsForeign piece) text path r empty_clean (λ piece k. k.clean)));
-      rewrites = subst (λ l. Rewrites l r.kept) (sym spelled)
-          (more _ _ _ (record { front = []; gone = [] ∷ []; back = r.kept ++ c.tail; droppable = idle [] refl; before = refl; after = refl }) (rewritten r.kept c.tail c.is_tail));
-      ordinary = All-from_recursion (λ piece. IsTrue (is_ordinary piece)) r.kept (each (λ piece. IsTrue (is_ordinary piece)) r.kept (λ piece k. k.ordinary) kept);
+      clean = All-from_recursion (λ piece. ¬ IsForeign piece) (decoded_pieces (url path)) (subst (AllByRecursion (λ piece. ¬ IsForeign piece)) (sym decoded) (all_pieces (λ piece. ¬ IsForeign piece) path p empty_clean (λ piece k. k.clean)));
+      rewrites = subst (λ l. Rewrites l p.kept) (sym spelled)
+          (more _ _ _ (record { front = []; gone = [] ∷ []; back = p.kept ++ c.tail; droppable = idle [] refl; before = refl; after = refl }) (rewritten p.kept c.tail c.is_tail));
+      ordinary = All-from_recursion (λ piece. IsTrue (is_ordinary piece)) p.kept (each IsKept (λ piece. IsTrue (is_ordinary piece)) p.kept (λ piece k. k.ordinary) p.each);
     })
-    (r.path_is ∙ same_ending r.kept slash (ends_in_slash (url path)) (λ long. sym (ends_by r.kept slash kept long (subst (λ p. decoded_pieces (url p) ≡ pieces p) r.path_is decoded)) ∙ same))
+    (p.whole ∙ same_ending p.kept p.slash (ends_in_slash (url path)) (λ long. sym (ends_by p.kept p.slash p.each long (subst (λ l. decoded_pieces (url l) ≡ pieces l) p.whole decoded)) ∙ same))
+
+pub read_again : (text path : List ℕ) → Read text path → Read (url path) path
+read_again text path r = readable path (parts_of text path r)

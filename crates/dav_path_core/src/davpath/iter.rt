@@ -1,7 +1,8 @@
 //! The segments of a path, one after another.
-ghost use Rattle.std.specs.Prelude.{◌≡◌, ◌≤◌, not, length, drop};
+ghost use Rattle.std.specs.Prelude.{◌≡◌, ◌≤◌, not, length, drop, option_map};
 ghost use Rattle.std.specs.List.{position_or_len};
 ghost use Rattle.dav_path_core.specs.Segments.{segments, is_slash};
+ghost use Rattle.dav_path_core.specs.Fronts.{behind as behind_front};
 
 use std::marker::Model;
 
@@ -26,6 +27,19 @@ impl<'a> Segments<'a> {
         ensures few { length (segments result) ≤ length result }
     {
         Segments { rest: bytes }
+    }
+
+    /// The segments behind those of `front`. None where these don't stand in front.
+    pub(super) fn behind(self, front: Segments<'_>) -> Option<Segments<'a>>
+        ensures { option_map segments result ≡ behind_front (segments front.entry) (segments self.entry) }
+    {
+        let mut rest = self;
+        for segment in front {
+            if rest.next()? != segment {
+                return None;
+            }
+        }
+        Some(rest)
     }
 }
 

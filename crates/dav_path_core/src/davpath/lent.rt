@@ -3,7 +3,7 @@ ghost use Rattle.std.specs.Prelude.{◌≡◌, ◌≤◌, ◌<◌, ◌^◌, ◌�
 ghost use Rattle.std.specs.List.{before_last, list_any};
 ghost use Rattle.std.specs.Str.{IsUtf8};
 ghost use Rattle.dav_path_core.specs.Segments.{segments, is_slash};
-ghost use Rattle.dav_path_core.specs.Fronts.{parent};
+ghost use Rattle.dav_path_core.specs.Fronts.{parent, is_front};
 ghost use Rattle.dav_path_core.specs.Private.Trimming.{EndsInName};
 ghost use Rattle.dav_path_core.specs.Reading.{ends_in_slash};
 ghost use Rattle.dav_path_core.specs.Url.{url};
@@ -58,6 +58,14 @@ impl<'a> DavPathRef<'a> {
         ensures { result ≡ ends_in_slash self.now }
     {
         self.bytes.ends_with(b"/")
+    }
+
+    /// Whether it is the other path or stands below it, by segments: so `/ab` isn't below `/a`, and a slash at the end
+    /// plays no part. Takes no memory (own).
+    pub fn is_at_or_below(&self, other: DavPathRef<'_>) -> bool
+        ensures below { result ≡ is_front (segments other.entry) (segments self.now) }
+    {
+        self.segments().behind(other.segments()).is_some()
     }
 
     /// What stands before the last slash, but at least one byte. Without a slash it is empty.

@@ -12,9 +12,10 @@ use super::documents::Node;
 use super::errors::Fault;
 use super::markup::{Piece, RawAttribute};
 use super::names::QName;
-use super::namespaces::{Binding, always_bound, start_of};
+use super::namespaces::{always_bound, start_of};
 use super::references::expanded;
 use super::scan::until;
+use super::scope::Scope;
 use std::alloc::{AllocError, Global};
 
 /// An element that has begun.
@@ -33,18 +34,19 @@ pub(super) struct Builder<'a> {
     pub(super) text: Vec<char>,
     /// The elements that have begun and not ended.
     pub(super) elements: Vec<Element<'a>>,
-    pub(super) bindings: Vec<Binding<'a>>,
+    /// The bindings that hold.
+    pub(super) scope: Scope<'a>,
 }
 
 pub(super) fn new_builder<'a>(alloc: Global) -> Result<Builder<'a>, AllocError>
     ensures { IfOk result (λ x. front_of x ≡ spec.nothing) }
 {
-    let bindings = always_bound(alloc)?;
+    let scope = always_bound(alloc)?;
     Ok(Builder {
         nodes: Vec::new(alloc),
         text: Vec::new(alloc),
         elements: Vec::new(alloc),
-        bindings,
+        scope,
     })
 }
 
@@ -99,8 +101,8 @@ impl<'a> Builder<'a> {
         if self.elements.is_empty() && !self.nodes.is_empty() {
             return Err(Fault::Malformed);
         }
-        let around = self.bindings.len();
-        let (expanded, attributes) = start_of(alloc, &mut self.bindings, name, attributes)?;
+        let around = self.scope.len();
+        let (expanded, attributes) = start_of(alloc, &mut self.scope, name, attributes)?;
         end_text(alloc, &mut self.nodes, &mut self.text)?;
         self.nodes.push(Node::Start(expanded, attributes))?;
         self.elements.push(Element { name, around })?;
@@ -119,7 +121,7 @@ impl<'a> Builder<'a> {
         }
         end_text(alloc, &mut self.nodes, &mut self.text)?;
         self.nodes.push(Node::End)?;
-        self.bindings.truncate(element.around);
+        self.scope.end_to(element.around);
         Ok(())
     }
 

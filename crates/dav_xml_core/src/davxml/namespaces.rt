@@ -4,7 +4,8 @@ ghost use Rattle.std.specs.Rc.{rc_str_bytes};
 ghost use Rattle.dav_xml_core.specs.Gives.{Gives};
 ghost use Rattle.dav_xml_core.specs.declared.davxml.errors.Fault.TheVariants.{Memory};
 ghost use Rattle.dav_xml_core.specs.Namespaces as spec;
-ghost use Rattle.dav_xml_core.specs.Views.{qname_of, raw_attribute_of, binding_of, name_of};
+ghost use Rattle.dav_xml_core.specs.Scopes.{binding};
+ghost use Rattle.dav_xml_core.specs.Views.{qname_of, raw_attribute_of, name_of};
 ghost use Rattle.dav_xml_core.specs.Views as view;
 
 use super::characters::text_of;
@@ -13,6 +14,7 @@ use super::errors::Fault;
 use super::markup::RawAttribute;
 use super::names::QName;
 use super::references::value_of;
+use super::scope::Scope;
 use std::alloc::{AllocError, Global};
 use std::collections::BTreeSet;
 use std::rc::RcStr;
@@ -20,13 +22,6 @@ use std::rc::RcStr;
 const XML_NAMESPACE: &str = "http://www.w3.org/XML/1998/namespace";
 
 const XMLNS_NAMESPACE: &str = "http://www.w3.org/2000/xmlns/";
-
-/// A prefix, which is empty for the default namespace, and what it is bound to.
-#[derive(Debug, Drop)]
-pub(super) struct Binding<'a> {
-    pub(super) prefix: &'a [char],
-    pub(super) namespace: RcStr,
-}
 
 fn is_xmlns(name: &[char]) -> bool
     ensures { result ≡ bytes_eq name.now (codes "xmlns") }
@@ -38,20 +33,6 @@ fn is_xml(name: &[char]) -> bool
     ensures { result ≡ bytes_eq name.now (codes "xml") }
 {
     matches!(name, ['x', 'm', 'l'])
-}
-
-/// What a prefix is bound to.
-#[tactic(auto, unfolding(crate::specs::Namespaces::bound))]
-fn bound<'a>(bindings: &'a [Binding], prefix: &[char]) -> Option<&'a RcStr>
-    ensures { option_map (λ x. rc_str_bytes x.now) result ≡ spec.bound prefix.now (map binding_of bindings.now) }
-{
-    let mut found = None;
-    for binding in bindings {
-        if binding.prefix == prefix {
-            found = Some(&binding.namespace);
-        }
-    }
-    found
 }
 
 /// The prefix that an attribute of this name binds.
@@ -84,9 +65,10 @@ fn may_bind(prefix: &[char], namespace: &str) -> bool
     prefix.is_empty() || !namespace.is_empty()
 }
 
+/// The namespace that a declaration with this value binds a prefix to.
 #[tactic(auto, unfolding(crate::specs::Namespaces::binding_of))]
-fn new_binding<'a>(alloc: Global, prefix: &'a [char], raw: &[char]) -> Result<Binding<'a>, Fault>
-    ensures { Gives binding_of result (spec.binding_of prefix.now raw.now) }
+fn declared_namespace(alloc: Global, prefix: &[char], raw: &[char]) -> Result<RcStr, Fault>
+    ensures { Gives (λ x. binding prefix.now (rc_str_bytes x)) result (spec.binding_of prefix.now raw.now) }
 {
     let value = value_of(alloc, raw)?;
     let namespace = text_of(alloc, &value)?;
@@ -94,22 +76,17 @@ fn new_binding<'a>(alloc: Global, prefix: &'a [char], raw: &[char]) -> Result<Bi
         return Err(Fault::Malformed);
     }
     let namespace = RcStr::from_string(namespace)?;
-    Ok(Binding { prefix, namespace })
+    Ok(namespace)
 }
 
 /// Adds the binding that an attribute declares, if it declares one.
 #[tactic(auto, unfolding(crate::specs::Namespaces::with_binding))]
-fn bind<'a>(
-    alloc: Global,
-    bindings: &mut Vec<Binding<'a>>,
-    attribute: &RawAttribute<'a>,
-) -> Result<(), Fault>
-    ensures { Gives (λ _. map binding_of bindings.new.items) result
-        (spec.with_binding (map binding_of bindings.old.items) (raw_attribute_of attribute.now)) }
+fn bind<'a>(alloc: Global, scope: &mut Scope<'a>, attribute: &RawAttribute<'a>) -> Result<(), Fault>
+    ensures { Gives (λ _. scope.new) result (spec.with_binding scope.old (raw_attribute_of attribute.now)) }
 {
     if let Some(prefix) = declares(attribute.name) {
-        let binding = new_binding(alloc, prefix, attribute.raw)?;
-        bindings.push(binding)?;
+        let namespace = declared_namespace(alloc, prefix, attribute.raw)?;
+        scope.bind(prefix, namespace)?;
     }
     Ok(())
 }
@@ -117,23 +94,23 @@ fn bind<'a>(
 /// Adds the bindings that the attributes of an element declare.
 fn bind_all<'a>(
     alloc: Global,
-    bindings: &mut Vec<Binding<'a>>,
+    scope: &mut Scope<'a>,
     attributes: &[RawAttribute<'a>],
 ) -> Result<(), Fault>
-    ensures { Gives (λ _. map binding_of bindings.new.items) result
-        (spec.with_bindings (map binding_of bindings.old.items) (map raw_attribute_of attributes.now)) }
+    ensures { Gives (λ _. scope.new) result
+        (spec.with_bindings (scope.old) (map raw_attribute_of attributes.now)) }
 {
     for attribute in attributes {
-        bind(alloc, bindings, attribute)?;
+        bind(alloc, scope, attribute)?;
     }
     Ok(())
 }
 
 #[tactic(auto, unfolding(crate::specs::Namespaces::prefixed_name))]
-fn prefixed_name(alloc: Global, bindings: &[Binding], name: QName) -> Result<Name, Fault>
-    ensures { Gives name_of result (spec.prefixed_name (map binding_of bindings.now) (qname_of name.entry)) }
+fn prefixed_name(alloc: Global, scope: &Scope, name: QName) -> Result<Name, Fault>
+    ensures { Gives name_of result (spec.prefixed_name scope.now (qname_of name.entry)) }
 {
-    let Some(namespace) = bound(bindings, name.prefix) else {
+    let Some(namespace) = scope.bound(name.prefix) else {
         return Err(Fault::Malformed);
     };
     let namespace = namespace.clone()?;
@@ -141,51 +118,47 @@ fn prefixed_name(alloc: Global, bindings: &[Binding], name: QName) -> Result<Nam
     Ok(Name { namespace, local })
 }
 
-fn default_namespace(alloc: Global, bindings: &[Binding]) -> Result<RcStr, AllocError>
-    ensures { IfOk result (λ x. rc_str_bytes x ≡ unwrap_or (spec.bound [] (map binding_of bindings.now)) []) }
+fn default_namespace(alloc: Global, scope: &Scope) -> Result<RcStr, AllocError>
+    ensures { IfOk result (λ x. rc_str_bytes x ≡ unwrap_or (spec.bound [] scope.now) []) }
 {
-    match bound(bindings, &[]) {
+    match scope.bound(&[]) {
         Some(namespace) => namespace.clone(),
         None => RcStr::from_str(alloc, ""),
     }
 }
 
 #[tactic(auto, unfolding(crate::specs::Namespaces::element_name))]
-fn element_name(alloc: Global, bindings: &[Binding], name: QName) -> Result<Name, Fault>
-    ensures { Gives name_of result (spec.element_name (map binding_of bindings.now) (qname_of name.entry)) }
+fn element_name(alloc: Global, scope: &Scope, name: QName) -> Result<Name, Fault>
+    ensures { Gives name_of result (spec.element_name scope.now (qname_of name.entry)) }
 {
     if name.prefix.is_empty() {
-        let namespace = default_namespace(alloc, bindings)?;
+        let namespace = default_namespace(alloc, scope)?;
         let local = text_of(alloc, name.local)?;
         return Ok(Name { namespace, local });
     }
     if is_xmlns(name.prefix) {
         return Err(Fault::Malformed);
     }
-    prefixed_name(alloc, bindings, name)
+    prefixed_name(alloc, scope, name)
 }
 
 #[tactic(auto, unfolding(crate::specs::Namespaces::attribute_name))]
-fn attribute_name(alloc: Global, bindings: &[Binding], name: QName) -> Result<Name, Fault>
-    ensures { Gives name_of result (spec.attribute_name (map binding_of bindings.now) (qname_of name.entry)) }
+fn attribute_name(alloc: Global, scope: &Scope, name: QName) -> Result<Name, Fault>
+    ensures { Gives name_of result (spec.attribute_name scope.now (qname_of name.entry)) }
 {
     if name.prefix.is_empty() {
         let namespace = RcStr::from_str(alloc, "")?;
         let local = text_of(alloc, name.local)?;
         return Ok(Name { namespace, local });
     }
-    prefixed_name(alloc, bindings, name)
+    prefixed_name(alloc, scope, name)
 }
 
 #[tactic(auto, unfolding(crate::specs::Namespaces::attribute_of))]
-fn attribute_of(
-    alloc: Global,
-    bindings: &[Binding],
-    attribute: &RawAttribute,
-) -> Result<Attribute, Fault>
-    ensures { Gives view.attribute_of result (spec.attribute_of (map binding_of bindings.now) (raw_attribute_of attribute.now)) }
+fn attribute_of(alloc: Global, scope: &Scope, attribute: &RawAttribute) -> Result<Attribute, Fault>
+    ensures { Gives view.attribute_of result (spec.attribute_of scope.now (raw_attribute_of attribute.now)) }
 {
-    let name = attribute_name(alloc, bindings, attribute.name)?;
+    let name = attribute_name(alloc, scope, attribute.name)?;
     let value = value_of(alloc, attribute.raw)?;
     let value = text_of(alloc, &value)?;
     Ok(Attribute { name, value })
@@ -194,33 +167,29 @@ fn attribute_of(
 /// The attributes that declare nothing.
 fn attributes_of(
     alloc: Global,
-    bindings: &[Binding],
+    scope: &Scope,
     attributes: &[RawAttribute],
 ) -> Result<Vec<Attribute>, Fault>
     ensures { Gives (λ x. map view.attribute_of x.items) result
-        (spec.attributes_of (map binding_of bindings.now) (map raw_attribute_of attributes.now)) }
+        (spec.attributes_of scope.now (map raw_attribute_of attributes.now)) }
 {
     let mut all = Vec::new(alloc);
     for attribute in attributes {
         if declares(attribute.name).is_none() {
-            let one = attribute_of(alloc, bindings, attribute)?;
+            let one = attribute_of(alloc, scope, attribute)?;
             all.push(one)?;
         }
     }
     Ok(all)
 }
 
-fn names_of(
-    alloc: Global,
-    bindings: &[Binding],
-    attributes: &[RawAttribute],
-) -> Result<Vec<Name>, Fault>
+fn names_of(alloc: Global, scope: &Scope, attributes: &[RawAttribute]) -> Result<Vec<Name>, Fault>
     ensures { Gives (λ x. map name_of x.items) result
-        (spec.names_of (map binding_of bindings.now) (map raw_attribute_of attributes.now)) }
+        (spec.names_of scope.now (map raw_attribute_of attributes.now)) }
 {
     let mut names = Vec::new(alloc);
     for attribute in attributes {
-        let name = attribute_name(alloc, bindings, attribute.name)?;
+        let name = attribute_name(alloc, scope, attribute.name)?;
         names.push(name)?;
     }
     Ok(names)
@@ -243,13 +212,13 @@ fn are_distinct(alloc: Global, names: &[Name]) -> Result<bool, Fault>
 
 fn have_distinct_names(
     alloc: Global,
-    bindings: &[Binding],
+    scope: &Scope,
     attributes: &[RawAttribute],
 ) -> Result<bool, Fault>
     ensures { Gives (λ x. x) result
-        (option_map spec.are_distinct (spec.names_of (map binding_of bindings.now) (map raw_attribute_of attributes.now))) }
+        (option_map spec.are_distinct (spec.names_of scope.now (map raw_attribute_of attributes.now))) }
 {
-    let names = names_of(alloc, bindings, attributes)?;
+    let names = names_of(alloc, scope, attributes)?;
     are_distinct(alloc, &names)
 }
 
@@ -257,36 +226,31 @@ fn have_distinct_names(
 #[tactic(auto, unfolding(crate::specs::Namespaces::started_of))]
 pub(super) fn start_of<'a>(
     alloc: Global,
-    bindings: &mut Vec<Binding<'a>>,
+    scope: &mut Scope<'a>,
     name: QName<'a>,
     attributes: &[RawAttribute<'a>],
 ) -> Result<(Name, Vec<Attribute>), Fault>
-    ensures { Gives (λ x. view.started_view bindings.new.items x.0 x.1) result
-        (spec.started_of (map binding_of bindings.old.items) (qname_of name.entry) (map raw_attribute_of attributes.now)) }
+    ensures { Gives (λ x. view.started_view scope.new x.0 x.1) result
+        (spec.started_of (scope.old) (qname_of name.entry) (map raw_attribute_of attributes.now)) }
 {
-    bind_all(alloc, bindings, attributes)?;
-    let expanded = element_name(alloc, bindings, name)?;
-    if !have_distinct_names(alloc, bindings, attributes)? {
+    bind_all(alloc, scope, attributes)?;
+    let expanded = element_name(alloc, scope, name)?;
+    if !have_distinct_names(alloc, scope, attributes)? {
         return Err(Fault::Malformed);
     }
-    let attributes = attributes_of(alloc, bindings, attributes)?;
+    let attributes = attributes_of(alloc, scope, attributes)?;
     Ok((expanded, attributes))
 }
 
 /// The bindings that hold everywhere.
-pub(super) fn always_bound<'a>(alloc: Global) -> Result<Vec<Binding<'a>>, AllocError>
-    ensures { IfOk result (λ x. map binding_of x.items ≡ spec.always_bound) }
+pub(super) fn always_bound<'a>(alloc: Global) -> Result<Scope<'a>, AllocError>
+    ensures { IfOk result (λ x. x ≡ spec.always_bound) }
 {
-    let xml = RcStr::from_str(alloc, XML_NAMESPACE)?;
-    let xmlns = RcStr::from_str(alloc, XMLNS_NAMESPACE)?;
-    let mut bindings = Vec::new(alloc);
-    bindings.push(Binding {
-        prefix: &['x', 'm', 'l'],
-        namespace: xml,
-    })?;
-    bindings.push(Binding {
-        prefix: &['x', 'm', 'l', 'n', 's'],
-        namespace: xmlns,
-    })?;
-    Ok(bindings)
+    let mut scope = Scope::new(alloc);
+    scope.bind(&['x', 'm', 'l'], RcStr::from_str(alloc, XML_NAMESPACE)?)?;
+    scope.bind(
+        &['x', 'm', 'l', 'n', 's'],
+        RcStr::from_str(alloc, XMLNS_NAMESPACE)?,
+    )?;
+    Ok(scope)
 }

@@ -4,6 +4,7 @@ use Rattle.dav_path_core.specs.Reading.{decoded_pieces}
 use Rattle.dav_path_core.specs.Fault.{FirstFault}
 use Rattle.dav_path_core.specs.Fault.Fault.{no_target, first}
 use Rattle.dav_path_core.proofs.paths.Laws.{no_path, one_path, read_from}
+use Rattle.dav_path_core.proofs.paths.ReadLaws.{read_again}
 use Rattle.dav_path_core.proofs.davpath.DavPath.new.Goals as goal
 
 pub returns-in_err-raw-clause-err : goal.returns-in_err-raw-clause-err
@@ -44,3 +45,6 @@ returns-clause-only c = λ bytes r.
     one_path c.args.src.now _ bytes
     (read_from c.args.src.now c.in_ok-raw.raw.now _ kept.0 (rw c.as_bytes.ensures.value at target.0) (rw c.as_bytes.ensures.value at target.1) kept.1
     (rw c.ends_with.ensures.value at (c.in_ok-end_in_slash.ensures kept.0 kept.2))) r
+
+pub returns-clause-readable : goal.returns-clause-readable
+returns-clause-readable c = read_again c.args.src.now _ (returns-clause-ok c).1

@@ -3,6 +3,7 @@ use Rattle.std.specs.Str.{IsUtf8}
 use Rattle.dav_path_core.specs.Segments.{segments}
 use Rattle.dav_path_core.specs.PathText.{folder_bytes}
 use Rattle.dav_path_core.proofs.paths.ParentLemmas.{parent_parts, segments-parent}
+use Rattle.dav_path_core.proofs.paths.ReadableLemmas.{readable-parent}
 use Rattle.dav_path_core.proofs.davpath.DavPath.parent.Goals as goal
 
 pub invariant_of-result : goal.invariant_of-result
@@ -23,3 +24,6 @@ returns-clause-ok c =
 
 pub returns-clause-above : goal.returns-clause-above
 returns-clause-above c = ap segments (returns-clause-ok c).1 ∙ segments-parent c.args.self.now.bytes
+
+pub returns-clause-readable : goal.returns-clause-readable
+returns-clause-readable c = readable-parent c.args.self.now.bytes _ (returns-clause-ok c).1

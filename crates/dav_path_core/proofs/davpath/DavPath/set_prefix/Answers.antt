@@ -4,6 +4,7 @@ use Rattle.std.proofs.lemmas.Bool.Decides.{Decides-eqb}
 use Rattle.std.proofs.lemmas.Result.{err_from_is_err_and}
 use Rattle.std.proofs.lemmas.Slice.Eq.{strip_prefix_is, starts_is}
 use Rattle.dav_path_core.proofs.paths.PrefixLemmas.{mismatch, whole_is, set_cut, begins_cut, utf8_cut, set_whole, set_front, utf8_whole, utf8_front}
+use Rattle.dav_path_core.proofs.paths.ReadableLemmas.{readable-behind}
 use Rattle.dav_path_core.proofs.davpath.DavPath.set_prefix.Goals as goal
 use Rattle.dav_path_core.proofs.davpath.DavPath.set_prefix.Goals.{then-is_empty+in_ok-push, else-is_empty+else-not-starts_with}
 
@@ -27,6 +28,9 @@ returns-then-ends_with-clause-begins c =
     let f = strip_prefix_is Decides-eqb c.deref.result.now c.as_bytes-prefix.result.now (Some c.in-Some.rest) c.in-Some.ensures.cases in
     begins_cut _ c.as_bytes-prefix.result.now _ (sym c.deref.ensures.value ∙ f) (sym c.ends_with.ensures.value ∙ c.if-ends_with.true)
 
+pub returns-then-ends_with-clause-readable : goal.returns-then-ends_with-clause-readable
+returns-then-ends_with-clause-readable c = readable-behind _ _ _ _ _ (returns-then-ends_with-clause-ok c) refl
+
 pub invariant_of-self-2 : goal.invariant_of-self-2
 invariant_of-self-2 c =
     let f = strip_prefix_is Decides-eqb c.deref.result.now c.as_bytes-prefix.result.now (Some c.in-Some.rest) c.in-Some.ensures.cases in
@@ -44,6 +48,9 @@ returns-clause-ok c =
       | else-is_empty+else-not-starts_with w ↦ rw (w.self-inside-is, ← c.self.view_is, take-append-drop, ← c.as_bytes-prefix.ensures.value)
           (set_front _ c.as_bytes-prefix.result.now _ (sym c.deref.ensures.value ∙ f) (drop 1 c.in-Some.rest.now, (starts_is Decides-eqb c.in-Some.rest.now (47 ∷ []) w.starts_with.result w.starts_with.ensures.value).0 w.if-not-starts_with.false) (sym c.ends_with.ensures.value ∙ c.if-ends_with.false))
     ]
+
+pub returns-clause-readable : goal.returns-clause-readable
+returns-clause-readable c = readable-behind _ _ _ _ _ (returns-clause-ok c) refl
 
 pub returns-in_err-push-clause-err : goal.returns-in_err-push-clause-err
 returns-in_err-push-clause-err c =

@@ -1,7 +1,7 @@
 use Rattle.std.proofs.Common.{◌≡◌, drop, map}
 use Rattle.dav_xml_core.specs.Namespaces.{with_bindings}
-use Rattle.dav_xml_core.specs.Views.{binding_of, raw_attribute_of}
+use Rattle.dav_xml_core.specs.Views.{raw_attribute_of}
 use Rattle.dav_xml_core.proofs.davxml.namespaces.bind_all.Given as goal
 
 abbrev pub invariant-loop-attribute : goal.invariant-loop-attribute
-invariant-loop-attribute l = with_bindings (map binding_of l.bindings.items) (map raw_attribute_of (drop l.attribute-index l.attributes)) ≡ with_bindings (map binding_of l.fn.bindings.items) (map raw_attribute_of l.attributes)
+invariant-loop-attribute l = with_bindings l.scope (map raw_attribute_of (drop l.attribute-index l.attributes)) ≡ with_bindings l.fn.scope (map raw_attribute_of l.attributes)

@@ -13,6 +13,7 @@ pub mod Fronts
 pub mod GivesLemmas
 pub mod InsideLemmas
 pub mod NodesLemmas
+pub mod NumberLemmas
 pub mod OpenedLemmas
 pub mod PlaceLemmas
 pub mod PlacedLemmas

@@ -35,7 +35,7 @@ last_place-push prefix bindings b =
 
 -- ---- what is bound, by its place
 
-abbrev namespace_at : List Binding → ℕ → Option (List ℕ)
+abbrev pub namespace_at : List Binding → ℕ → Option (List ℕ)
 namespace_at all i = option_map (λ b. b.namespace) (slice_get all i)
 
 slice_get-drop : (all bindings : List Binding) (at : ℕ) (b : Binding) → drop at all ≡ b ∷ bindings → slice_get all at ≡ Some b

@@ -1,5 +1,6 @@
 -- What contracts see of the code's values.
-use Rattle.std.specs.Prelude.{map, string_bytes}
+use Rattle.std.specs.Prelude.{ℕ, encode_utf8_all, map, string_bytes}
+use Rattle.std.specs.Borrow.{Bor}
 use Rattle.std.specs.Rc.{rc_str_bytes}
 use Rattle.dav_xml_core.specs.declared.davxml.documents.Name as code_name
 use Rattle.dav_xml_core.specs.declared.davxml.documents.Attribute as code_attribute
@@ -36,6 +37,10 @@ piece_of Aside = markup.Aside
 
 abbrev pub name_of : code_name.Name → documents.Name
 name_of name = record { namespace = rc_str_bytes name.namespace; local = string_bytes name.local }
+
+-- the name of an attribute, by the number of its namespace
+abbrev pub key_of : ℕ × Bor (List ℕ) → ℕ × List ℕ
+key_of key = (key.0, encode_utf8_all key.1.now)
 
 abbrev pub attribute_of : code_attribute.Attribute → documents.Attribute
 attribute_of attribute = record { name = name_of attribute.name; value = string_bytes attribute.value }

@@ -4,8 +4,8 @@ ghost use Rattle.std.specs.Rc.{rc_str_bytes};
 ghost use Rattle.dav_xml_core.specs.Gives.{Gives};
 ghost use Rattle.dav_xml_core.specs.declared.davxml.errors.Fault.TheVariants.{Memory};
 ghost use Rattle.dav_xml_core.specs.Namespaces as spec;
-ghost use Rattle.dav_xml_core.specs.Scopes.{binding};
-ghost use Rattle.dav_xml_core.specs.Views.{qname_of, raw_attribute_of, name_of};
+ghost use Rattle.dav_xml_core.specs.Scopes.{binding, distinct_keys, numbered};
+ghost use Rattle.dav_xml_core.specs.Views.{key_of, qname_of, raw_attribute_of, name_of};
 ghost use Rattle.dav_xml_core.specs.Views as view;
 
 use super::characters::text_of;
@@ -110,20 +110,20 @@ fn bind_all<'a>(
 fn prefixed_name(alloc: Global, scope: &Scope, name: QName) -> Result<Name, Fault>
     ensures { Gives name_of result (spec.prefixed_name scope.now (qname_of name.entry)) }
 {
-    let Some(namespace) = scope.bound(name.prefix) else {
+    let Some(binding) = scope.bound(name.prefix) else {
         return Err(Fault::Malformed);
     };
-    let namespace = namespace.clone()?;
+    let namespace = binding.namespace.clone()?;
     let local = text_of(alloc, name.local)?;
     Ok(Name { namespace, local })
 }
 
-fn default_namespace(alloc: Global, scope: &Scope) -> Result<RcStr, AllocError>
+fn default_namespace(scope: &Scope) -> Result<RcStr, AllocError>
     ensures { IfOk result (λ x. rc_str_bytes x ≡ unwrap_or (spec.bound [] scope.now) []) }
 {
     match scope.bound(&[]) {
-        Some(namespace) => namespace.clone(),
-        None => RcStr::from_str(alloc, ""),
+        Some(binding) => binding.namespace.clone(),
+        None => scope.nothing().clone(),
     }
 }
 
@@ -132,7 +132,7 @@ fn element_name(alloc: Global, scope: &Scope, name: QName) -> Result<Name, Fault
     ensures { Gives name_of result (spec.element_name scope.now (qname_of name.entry)) }
 {
     if name.prefix.is_empty() {
-        let namespace = default_namespace(alloc, scope)?;
+        let namespace = default_namespace(scope)?;
         let local = text_of(alloc, name.local)?;
         return Ok(Name { namespace, local });
     }
@@ -147,7 +147,7 @@ fn attribute_name(alloc: Global, scope: &Scope, name: QName) -> Result<Name, Fau
     ensures { Gives name_of result (spec.attribute_name scope.now (qname_of name.entry)) }
 {
     if name.prefix.is_empty() {
-        let namespace = RcStr::from_str(alloc, "")?;
+        let namespace = scope.nothing().clone()?;
         let local = text_of(alloc, name.local)?;
         return Ok(Name { namespace, local });
     }
@@ -183,27 +183,44 @@ fn attributes_of(
     Ok(all)
 }
 
-fn names_of(alloc: Global, scope: &Scope, attributes: &[RawAttribute]) -> Result<Vec<Name>, Fault>
-    ensures { Gives (λ x. map name_of x.items) result
-        (spec.names_of scope.now (map raw_attribute_of attributes.now)) }
+/// The name of an attribute, by the number of its namespace, so that comparing two of them doesn't go over namespaces.
+#[tactic(auto, unfolding(crate::specs::Namespaces::attribute_name, crate::specs::Namespaces::prefixed_name))]
+fn attribute_key<'a>(scope: &Scope, name: QName<'a>) -> Option<(usize, &'a [char])>
+    ensures { option_map key_of result ≡ option_map (numbered scope.now) (spec.attribute_name scope.now (qname_of name.entry)) }
 {
-    let mut names = Vec::new(alloc);
-    for attribute in attributes {
-        let name = attribute_name(alloc, scope, attribute.name)?;
-        names.push(name)?;
+    if name.prefix.is_empty() {
+        return Some((scope.number(""), name.local));
     }
-    Ok(names)
+    let binding = scope.bound(name.prefix)?;
+    Some((binding.number, name.local))
+}
+
+fn keys_of<'a>(
+    alloc: Global,
+    scope: &Scope,
+    attributes: &[RawAttribute<'a>],
+) -> Result<Vec<(usize, &'a [char])>, Fault>
+    ensures { Gives (λ x. map key_of x.items) result
+        (option_map (map (numbered scope.now)) (spec.names_of scope.now (map raw_attribute_of attributes.now))) }
+{
+    let mut keys = Vec::new(alloc);
+    for attribute in attributes {
+        let Some(key) = attribute_key(scope, attribute.name) else {
+            return Err(Fault::Malformed);
+        };
+        keys.push(key)?;
+    }
+    Ok(keys)
 }
 
 /// Whether no two of the names are the same.
-#[tactic(auto, unfolding(crate::specs::Namespaces::are_distinct))]
-fn are_distinct(alloc: Global, names: &[Name]) -> Result<bool, Fault>
-    ensures value { IfOk result (λ x. x ≡ spec.are_distinct (map name_of names.now)) }
+fn are_distinct(alloc: Global, keys: &[(usize, &[char])]) -> Result<bool, Fault>
+    ensures value { IfOk result (λ x. x ≡ distinct_keys [] (map key_of keys.now)) }
     ensures refused { IfErr result (λ e. e ≡ Memory) }
 {
     let mut seen = BTreeSet::new(alloc);
-    for name in names {
-        if !seen.insert((name.local.as_str(), name.namespace.as_str()))? {
+    for key in keys {
+        if !seen.insert(*key)? {
             return Ok(false);
         }
     }
@@ -218,8 +235,8 @@ fn have_distinct_names(
     ensures { Gives (λ x. x) result
         (option_map spec.are_distinct (spec.names_of scope.now (map raw_attribute_of attributes.now))) }
 {
-    let names = names_of(alloc, scope, attributes)?;
-    are_distinct(alloc, &names)
+    let keys = keys_of(alloc, scope, attributes)?;
+    are_distinct(alloc, &keys)
 }
 
 /// The name and the attributes of an element, whose bindings are added.
@@ -246,7 +263,7 @@ pub(super) fn start_of<'a>(
 pub(super) fn always_bound<'a>(alloc: Global) -> Result<Scope<'a>, AllocError>
     ensures { IfOk result (λ x. x ≡ spec.always_bound) }
 {
-    let mut scope = Scope::new(alloc);
+    let mut scope = Scope::new(alloc)?;
     scope.bind(&['x', 'm', 'l'], RcStr::from_str(alloc, XML_NAMESPACE)?)?;
     scope.bind(
         &['x', 'm', 'l', 'n', 's'],

@@ -1,8 +1,8 @@
-//! The bindings that hold at a place, found by their prefixes.
-ghost use Rattle.std.specs.Prelude.{◌≡◌, ◌-◌, ◌++◌, ◌∷◌, [], length, option_map, take, List, ℕ, IfErr, IsSome, OnOk};
+//! The bindings that hold at a place, found by their prefixes, and numbers of their namespaces.
+ghost use Rattle.std.specs.Prelude.{◌≡◌, ◌-◌, ◌++◌, ◌∷◌, [], length, option_map, take, List, ℕ, IfErr, IfOk, IfSome, IsSome, OnOk};
 ghost use Rattle.std.specs.Rc.{rc_str_bytes};
 ghost use Rattle.dav_xml_core.specs.Namespaces as spec;
-ghost use Rattle.dav_xml_core.specs.Scopes.{binding, place_at, Puts};
+ghost use Rattle.dav_xml_core.specs.Scopes.{binding, number_at, number_of, place_at, Puts};
 
 use std::alloc::{AllocError, Global};
 use std::collections::BTreeMap;
@@ -11,9 +11,11 @@ use std::rc::RcStr;
 
 /// A prefix, which is empty for the default namespace, and what it is bound to.
 #[derive(Debug, Drop)]
-struct Binding<'a> {
+pub(super) struct Binding<'a> {
     prefix: &'a [char],
-    namespace: RcStr,
+    pub(super) namespace: RcStr,
+    /// How many bindings stand before the first one of the same namespace.
+    pub(super) number: usize,
     /// The place of the binding of the same prefix that holds around this one.
     covered: Option<usize>,
 }
@@ -24,6 +26,10 @@ pub(super) struct Scope<'a> {
     bindings: Vec<Binding<'a>>,
     /// The place of the last binding of each prefix.
     innermost: BTreeMap<&'a [char], usize>,
+    /// The number of each namespace that is bound. Those that are bound no longer stay, with any number.
+    numbers: BTreeMap<RcStr, usize>,
+    /// No namespace.
+    nothing: RcStr,
 }
 
 impl<'a> Model for Scope<'a> {
@@ -32,11 +38,11 @@ impl<'a> Model for Scope<'a> {
 
     ghost Value = { List Binding };
 
-    ghost use Rattle.dav_xml_core.specs.ScopeTrees.{binding_of, IsFound};
+    ghost use Rattle.dav_xml_core.specs.ScopeTrees.{binding_of, IsKept};
 
     ghost view = { λ s. map binding_of s.bindings.items };
 
-    ghost invariant = { λ s. IsFound s.bindings.items s.innermost };
+    ghost invariant = { λ s. IsKept s.bindings.items s.innermost s.numbers s.nothing };
 }
 
 /// The place of the last binding of a prefix.
@@ -44,6 +50,13 @@ fn place_of(innermost: &BTreeMap<&[char], usize>, prefix: &[char]) -> Option<usi
     ensures { result ≡ place_at innermost.now prefix.now }
 {
     innermost.get(prefix).copied()
+}
+
+/// The number that a tree has for a namespace.
+fn number_in(numbers: &BTreeMap<RcStr, usize>, namespace: &str) -> Option<usize>
+    ensures { result ≡ number_at numbers.now namespace.now }
+{
+    numbers.get(namespace).copied()
 }
 
 /// Sets the place of a prefix, which is in the tree, or takes it out.
@@ -68,13 +81,16 @@ fn put_back<'a>(
 
 impl<'a> Scope<'a> {
     /// Nothing is bound.
-    pub(super) fn new(alloc: Global) -> Scope<'a>
-        ensures { result ≡ [] }
+    pub(super) fn new(alloc: Global) -> Result<Scope<'a>, AllocError>
+        ensures { IfOk result (λ x. x ≡ []) }
     {
-        Scope {
+        let nothing = RcStr::from_str(alloc, "")?;
+        Ok(Scope {
             bindings: Vec::new(alloc),
             innermost: BTreeMap::new(alloc),
-        }
+            numbers: BTreeMap::new(alloc),
+            nothing,
+        })
     }
 
     /// How many bindings hold.
@@ -84,13 +100,33 @@ impl<'a> Scope<'a> {
         self.bindings.len()
     }
 
+    /// The text of no namespace, which all names without one share.
+    pub(super) fn nothing(&self) -> &RcStr
+        ensures { rc_str_bytes result.now ≡ [] }
+    {
+        &self.nothing
+    }
+
     /// What a prefix is bound to.
-    pub(super) fn bound(&self, prefix: &[char]) -> Option<&RcStr>
-        ensures { option_map (λ x. rc_str_bytes x.now) result ≡ spec.bound prefix.now self.now }
+    pub(super) fn bound(&self, prefix: &[char]) -> Option<&Binding<'a>>
+        ensures namespace { option_map (λ x. rc_str_bytes x.now.namespace) result ≡ spec.bound prefix.now self.now }
+        ensures number { IfSome result (λ x. x.now.number ≡ number_of (rc_str_bytes x.now.namespace) self.now) }
     {
         let place = place_of(&self.innermost, prefix)?;
         let binding = self.bindings.get(place)?;
-        Some(&binding.namespace)
+        Some(binding)
+    }
+
+    /// The number of a namespace: how many bindings stand before the first one of it. It costs comparisons of texts.
+    pub(super) fn number(&self, namespace: &str) -> usize
+        ensures { result ≡ number_of namespace.now self.now }
+    {
+        let last = self.bindings.len();
+        let place = number_in(&self.numbers, namespace).unwrap_or(last);
+        match self.bindings.get(place) {
+            Some(binding) if binding.namespace.as_str() == namespace => place,
+            _ => last,
+        }
     }
 
     /// Binds a prefix.
@@ -98,10 +134,14 @@ impl<'a> Scope<'a> {
         ensures { OnOk result (self.new ≡ self.old ++ binding prefix.now (rc_str_bytes namespace) ∷ []) }
     {
         let place = self.bindings.len();
+        let number = self.number(namespace.as_str());
+        let key = namespace.clone()?;
+        self.numbers.insert(key, number)?;
         let covered = place_of(&self.innermost, prefix);
         self.bindings.push(Binding {
             prefix,
             namespace,
+            number,
             covered,
         })?;
         match self.innermost.insert(prefix, place) {

@@ -30,4 +30,4 @@ pub record IsNumbered (bindings : List code.Binding) (numbers : Numbers) : Type 
 pub record IsKept (bindings : List code.Binding) (innermost : Places) (numbers : Numbers) (empty : RcStr Global) : Type 0 where
   pub found : IsFound bindings innermost
   pub numbered : IsNumbered bindings numbers
-  pub nothing : rc_str_bytes empty ≡ []
+  pub no_namespace : rc_str_bytes empty ≡ []

@@ -123,7 +123,7 @@ fn default_namespace(scope: &Scope) -> Result<RcStr, AllocError>
 {
     match scope.bound(&[]) {
         Some(binding) => binding.namespace.clone(),
-        None => scope.nothing().clone(),
+        None => scope.no_namespace().clone(),
     }
 }
 
@@ -147,7 +147,7 @@ fn attribute_name(alloc: Global, scope: &Scope, name: QName) -> Result<Name, Fau
     ensures { Gives name_of result (spec.attribute_name scope.now (qname_of name.entry)) }
 {
     if name.prefix.is_empty() {
-        let namespace = scope.nothing().clone()?;
+        let namespace = scope.no_namespace().clone()?;
         let local = text_of(alloc, name.local)?;
         return Ok(Name { namespace, local });
     }

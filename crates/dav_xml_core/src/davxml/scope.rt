@@ -26,10 +26,10 @@ pub(super) struct Scope<'a> {
     bindings: Vec<Binding<'a>>,
     /// The place of the last binding of each prefix.
     innermost: BTreeMap<&'a [char], usize>,
-    /// The number of each namespace that is bound. Those that are bound no longer stay, with any number.
+    /// The number of each namespace that is bound. Namespaces that are bound no longer stay, and their numbers say nothing.
     numbers: BTreeMap<RcStr, usize>,
-    /// No namespace.
-    nothing: RcStr,
+    /// The empty text, of which all names without a namespace have a clone.
+    no_namespace: RcStr,
 }
 
 impl<'a> Model for Scope<'a> {
@@ -42,7 +42,7 @@ impl<'a> Model for Scope<'a> {
 
     ghost view = { λ s. map binding_of s.bindings.items };
 
-    ghost invariant = { λ s. IsKept s.bindings.items s.innermost s.numbers s.nothing };
+    ghost invariant = { λ s. IsKept s.bindings.items s.innermost s.numbers s.no_namespace };
 }
 
 /// The place of the last binding of a prefix.
@@ -84,12 +84,12 @@ impl<'a> Scope<'a> {
     pub(super) fn new(alloc: Global) -> Result<Scope<'a>, AllocError>
         ensures { IfOk result (λ x. x ≡ []) }
     {
-        let nothing = RcStr::from_str(alloc, "")?;
+        let no_namespace = RcStr::from_str(alloc, "")?;
         Ok(Scope {
             bindings: Vec::new(alloc),
             innermost: BTreeMap::new(alloc),
             numbers: BTreeMap::new(alloc),
-            nothing,
+            no_namespace,
         })
     }
 
@@ -100,11 +100,11 @@ impl<'a> Scope<'a> {
         self.bindings.len()
     }
 
-    /// The text of no namespace, which all names without one share.
-    pub(super) fn nothing(&self) -> &RcStr
+    /// The text of no namespace.
+    pub(super) fn no_namespace(&self) -> &RcStr
         ensures { rc_str_bytes result.now ≡ [] }
     {
-        &self.nothing
+        &self.no_namespace
     }
 
     /// What a prefix is bound to.
@@ -117,7 +117,7 @@ impl<'a> Scope<'a> {
         Some(binding)
     }
 
-    /// The number of a namespace: how many bindings stand before the first one of it. It costs comparisons of texts.
+    /// How many bindings stand before the first one of a namespace: all of them, where none is of it.
     pub(super) fn number(&self, namespace: &str) -> usize
         ensures { result ≡ number_of namespace.now self.now }
     {

@@ -23,7 +23,7 @@ invariant_of-self-in-Ok c =
     rw c.in_ok-push.ensures.items (record {
       found = found_push items _ _ _ c.self.invariant.found c.place_of-covered.ensures (rw all at puts);
       numbered = numbered_push items _ _ numbered own put;
-      nothing = c.self.invariant.nothing;
+      no_namespace = c.self.invariant.no_namespace;
     })
 
 pub invariant_of-self-in_err-push : goal.invariant_of-self-in_err-push
@@ -33,7 +33,7 @@ invariant_of-self-in_err-push c =
     let own : c.number-number.result ≡ number_of (rc_str_bytes c.args.namespace) (map binding_of items) = rw (c.self.view_is, ← c.as_str.ensures.value) c.number-number.ensures in
     let numbered : IsNumbered items c.insert.new.self = numbered_put items c.in_ok-key.key c.self.inside.numbers c.insert.new.self c.number-number.result c.self.invariant.numbered (rw key own) c.in_ok-insert.ensures.updates in
     let same : c.push.new.self.items ≡ items = search rules in
-    rw same (record { found = c.self.invariant.found; numbered = numbered; nothing = c.self.invariant.nothing })
+    rw same (record { found = c.self.invariant.found; numbered = numbered; no_namespace = c.self.invariant.no_namespace })
 
 pub invariant_of-self-in-Err : goal.invariant_of-self-in-Err
 invariant_of-self-in-Err c =
@@ -42,4 +42,4 @@ invariant_of-self-in-Err c =
     let own : c.number-number.result ≡ number_of (rc_str_bytes c.args.namespace) (map binding_of items) = rw (c.self.view_is, ← c.as_str.ensures.value) c.number-number.ensures in
     let numbered : IsNumbered items c.insert.new.self = numbered_put items c.in_ok-key.key c.self.inside.numbers c.insert.new.self c.number-number.result c.self.invariant.numbered (rw key own) c.in_ok-insert.ensures.updates in
     let same : c.pop.new.self.items ≡ items = pop_back c.push.new.self.items c.pop.new.self.items items _ _ c.in_ok-push.ensures.items (omega (arith, c.in_ok-push.ensures.len)) c.pop.ensures.rest in
-    rw same (record { found = found_unchanged items c.self.inside.innermost c.insert-2.new.self c.in-Err.ensures.err c.self.invariant.found; numbered = numbered; nothing = c.self.invariant.nothing })
+    rw same (record { found = found_unchanged items c.self.inside.innermost c.insert-2.new.self c.in-Err.ensures.err c.self.invariant.found; numbered = numbered; no_namespace = c.self.invariant.no_namespace })

@@ -6,5 +6,5 @@ pub invariant_of-result : goal.invariant_of-result
 invariant_of-result c = rw c.new.ensures.items (record {
   found = found_none c.new-2.result c.new-2.ensures.empty;
   numbered = numbered_none c.new-3.result;
-  nothing = c.in_ok-nothing.ensures.ok;
+  no_namespace = c.in_ok-no_namespace.ensures.ok;
 })

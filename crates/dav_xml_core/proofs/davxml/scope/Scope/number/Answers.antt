@@ -30,9 +30,9 @@ returns-in_default c =
     let test : bytes_eq c.as_str.result.now t ≡ false = sym c.eq.ensures ∙ c.if-eq.false in
     last ∙ rw (← c.self.view_is) (number_other items c.self.inside.numbers c.self.invariant.numbered t c.unwrap_or-place.result is
     (λ b read same.
-        let is_b : b ≡ c.in-Some.binding.now = cc in
-        let text : c.as_str.result.now ≡ t = c.as_str.ensures.value ∙ ap (λ x. rc_str_bytes x.namespace) (sym is_b) ∙ same in
-        false≢true (sym test ∙ (bytes_eq-Decides c.as_str.result.now t).1 text)))
+    let is_b : b ≡ c.in-Some.binding.now = cc in
+    let text : c.as_str.result.now ≡ t = c.as_str.ensures.value ∙ ap (λ x. rc_str_bytes x.namespace) (sym is_b) ∙ same in
+    false≢true (sym test ∙ (bytes_eq-Decides c.as_str.result.now t).1 text)))
 
 pub returns-in_default-2 : goal.returns-in_default-2
 returns-in_default-2 c =

@@ -16,5 +16,5 @@ invariant_of-self c =
     record {
       found = found_pop c.pop.new.self.items c.in-Some.binding c.self.inside.innermost _ was c.put_back.ensures;
       numbered = numbered_pop c.pop.new.self.items c.in-Some.binding c.self.inside.numbers numbered;
-      nothing = c.self.invariant.nothing;
+      no_namespace = c.self.invariant.no_namespace;
     }

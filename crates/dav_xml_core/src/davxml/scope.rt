@@ -123,10 +123,13 @@ impl<'a> Scope<'a> {
     {
         let last = self.bindings.len();
         let place = number_in(&self.numbers, namespace).unwrap_or(last);
-        match self.bindings.get(place) {
-            Some(binding) if binding.namespace.as_str() == namespace => place,
-            _ => last,
+        let Some(binding) = self.bindings.get(place) else {
+            return last;
+        };
+        if binding.namespace.as_str() == namespace {
+            return place;
         }
+        last
     }
 
     /// Binds a prefix.

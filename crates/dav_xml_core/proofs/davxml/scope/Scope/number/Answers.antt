@@ -9,8 +9,8 @@ use Rattle.dav_xml_core.specs.Scopes.{number_at}
 use Rattle.dav_xml_core.proofs.NumberLemmas.{number_found, number_other}
 use Rattle.dav_xml_core.proofs.davxml.scope.Scope.number.Goals as goal
 
-pub returns-in-Some : goal.returns-in-Some
-returns-in-Some c =
+pub returns-then-eq : goal.returns-then-eq
+returns-then-eq c =
     let items = c.self.inside.bindings.items in
     let t = c.args.namespace.now in
     let is : c.unwrap_or-place.result ≡ unwrap_or (number_at c.self.inside.numbers t) (length items) = cc in
@@ -19,8 +19,8 @@ returns-in-Some c =
     let same : rc_str_bytes c.in-Some.binding.now.namespace ≡ t = sym c.as_str.ensures.value ∙ (bytes_eq-Decides c.as_str.result.now t).0 (sym c.eq.ensures ∙ c.if-eq.true) in
     rw (← c.self.view_is) (number_found items c.self.inside.numbers c.self.invariant.numbered t c.unwrap_or-place.result c.in-Some.binding.now is got same)
 
-pub returns-in_default : goal.returns-in_default
-returns-in_default c =
+pub returns : goal.returns
+returns c =
     let items = c.self.inside.bindings.items in
     let t = c.args.namespace.now in
     let is : c.unwrap_or-place.result ≡ unwrap_or (number_at c.self.inside.numbers t) (length items) = cc in
@@ -34,8 +34,8 @@ returns-in_default c =
     let text : c.as_str.result.now ≡ t = c.as_str.ensures.value ∙ ap (λ x. rc_str_bytes x.namespace) (sym is_b) ∙ same in
     false≢true (sym test ∙ (bytes_eq-Decides c.as_str.result.now t).1 text)))
 
-pub returns-in_default-2 : goal.returns-in_default-2
-returns-in_default-2 c =
+pub returns-in_default : goal.returns-in_default
+returns-in_default c =
     let items = c.self.inside.bindings.items in
     let t = c.args.namespace.now in
     let is : c.unwrap_or-place.result ≡ unwrap_or (number_at c.self.inside.numbers t) (length items) = cc in

@@ -14,6 +14,7 @@ use Rattle.dav_path_core.specs.Fronts.{Path}
 use Rattle.dav_files_core.specs.Putting.{put}
 use Rattle.dav_files_core.specs.Resources.{IsResourceMap, ResourceMap, at_path}
 use Rattle.dav_locks_core.specs.Exclusive.{Exclusive}
+use Rattle.dav_locks_core.specs.Lock.{Lock}
 use Rattle.dav_resource_core.specs.Requests.{Command}
 use Rattle.dav_resource_core.specs.Step.{State, conflicts}
 use Rattle.dav_handler_core.specs.declared.conditions.bases.Scheme.{Scheme}
@@ -26,6 +27,7 @@ use Rattle.dav_handler_core.specs.Callers.{Asks, Caller, RunBy, asking, live}
 use Rattle.dav_handler_core.specs.Fields.{Sent}
 use Rattle.dav_handler_core.specs.FileTags.{file_tag}
 use Rattle.dav_handler_core.specs.Getting.{FailsToGet, Gets, tagged}
+use Rattle.dav_handler_core.specs.LocksInTheWay.{IsPathOfOne}
 use Rattle.dav_handler_core.specs.Private.Begun.{IsHeld}
 use Rattle.dav_handler_core.specs.Putting.{FailsToPut, Puts, in_the_way, put_course, put_status}
 use Rattle.dav_handler_core.specs.Refusals.{RefusesTarget, RefusesPrincipal, HasBadIf, HasPart, IsLastMoment}
@@ -193,7 +195,7 @@ way s t who p bytes same = ap (λ (x : State). conflicts x (asking who (Command.
 fails_alike : (s t : State) (who : Caller) (p : Path) (bytes : List ℕ) (headers : Entries FieldValue) (e : Fault) → s.map ≡ t.map → live who.now s ≡ live who.now t
     → FailsToPut s who p bytes headers e → FailsToPut t who p bytes headers e
 fails_alike s t who p bytes headers fault.InsufficientStorage map locks h = tt
-fails_alike s t who p bytes headers fault.Locked map locks h = λ none. h (way s t who p bytes locks ∙ none)
+fails_alike s t who p bytes headers (fault.Locked path) map locks h = subst (λ (stand : List Lock). IsPathOfOne stand path) (way s t who p bytes locks) h
 fails_alike s t who p bytes headers fault.MethodNotAllowed map locks h =
     (sym (way s t who p bytes locks) ∙ h.0, (h.1.0, ap (λ m. at_path m p) (sym map) ∙ h.1.1, h.1.2))
 fails_alike s t who p bytes headers fault.Conflict map locks h =

@@ -1,5 +1,5 @@
 -- What decides over a request, told of its answer.
-use Rattle.std.proofs.Common.{◌≡◌, ◌⊎◌, inl, inr, ℕ, ◌<◌, ◌≤◌, Bool, true, false, List, [], ◌∷◌, length, take, drop, ◌-◌, Option, None, Some, Result, Ok, Err, refl, sym, ◌∙◌, ap, subst, arith, if◌then◌else◌}
+use Rattle.std.proofs.Common.{◌≡◌, ◌≢◌, ◌⊎◌, inl, inr, ℕ, ◌<◌, ◌≤◌, Bool, true, false, List, [], ◌∷◌, length, take, drop, ◌-◌, Option, None, Some, Result, Ok, Err, refl, sym, ◌∙◌, ap, subst, arith, if◌then◌else◌}
 use Rattle.std.specs.Prelude.{OnErr}
 use Rattle.std.proofs.lemmas.Bool.{false≢true}
 use Rattle.http.specs.declared.request.Request.{Request}
@@ -9,6 +9,7 @@ use Rattle.http_header.specs.HeaderMap.{Entries}
 use Rattle.dav_path_core.specs.declared.util.DavMethod.{DavMethod}
 use Rattle.dav_path_core.specs.declared.util.DavMethod.TheVariants as method
 use Rattle.dav_path_core.specs.Fronts.{Path}
+use Rattle.dav_path_core.specs.PathText.{PathText}
 use Rattle.dav_path_core.specs.Segments.{segments}
 use Rattle.dav_files_core.specs.declared.memfs.Kind.TheVariants.{File}
 use Rattle.dav_files_core.specs.Resources.{Resource, at_path}
@@ -31,47 +32,64 @@ use Rattle.dav_handler_core.specs.FileTags.{standing_by, standing_of, tag_of}
 use Rattle.dav_handler_core.specs.Getting.{FailsToGet, Tells, own_tags, tags_by, told_by, told_of}
 use Rattle.dav_handler_core.specs.Making.{FailsToMake}
 use Rattle.dav_handler_core.specs.Preconditions.{course_of}
-use Rattle.dav_handler_core.specs.Putting.{FailsToPut}
+use Rattle.dav_handler_core.specs.Putting.{FailsToPut, changes_by}
 use Rattle.dav_handler_core.specs.Ranges.{part_text}
 use Rattle.dav_handler_core.specs.Refusals.{RefusesPrincipal, RefusesTarget}
 use Rattle.dav_handler_core.specs.Unlocking.{FailsToUnlock}
 
 -- ---- statuses of faults
 
-fault_high : (e : Fault) → 400 ≤ fault_status e
-fault_high fault.BadRequest = omega arith
-fault_high fault.Unauthorized = omega arith
-fault_high fault.Forbidden = omega arith
-fault_high fault.NotFound = omega arith
-fault_high fault.MethodNotAllowed = omega arith
-fault_high fault.Conflict = omega arith
-fault_high fault.PreconditionFailed = omega arith
-fault_high fault.UnsupportedMediaType = omega arith
-fault_high fault.Locked = omega arith
-fault_high fault.NotImplemented = omega arith
-fault_high fault.ServiceUnavailable = omega arith
-fault_high fault.InsufficientStorage = omega arith
+abbrev IsOfMember : Fault → Type 0
+IsOfMember e = (path : PathText) × (e ≡ fault.MemberLocked path)
+
+-- the lock of a member is told with 207, and any other fault with 400 or more
+fault_high : (e : Fault) → IsOfMember e ⊎ (400 ≤ fault_status e)
+fault_high (fault.MemberLocked path) = inl (path, refl)
+fault_high fault.BadRequest = inr (omega arith)
+fault_high fault.Unauthorized = inr (omega arith)
+fault_high fault.Forbidden = inr (omega arith)
+fault_high fault.NotFound = inr (omega arith)
+fault_high fault.MethodNotAllowed = inr (omega arith)
+fault_high fault.Conflict = inr (omega arith)
+fault_high fault.NoSuchLock = inr (omega arith)
+fault_high fault.PreconditionFailed = inr (omega arith)
+fault_high fault.UnsupportedMediaType = inr (omega arith)
+fault_high (fault.Locked path) = inr (omega arith)
+fault_high fault.NotImplemented = inr (omega arith)
+fault_high fault.BadGateway = inr (omega arith)
+fault_high fault.ServiceUnavailable = inr (omega arith)
+fault_high fault.InsufficientStorage = inr (omega arith)
 
 fault_failed : (e : Fault) → fault_status e ≡ 412 → e ≡ fault.PreconditionFailed
+fault_failed (fault.MemberLocked path) h = absurd (omega (arith, h))
 fault_failed fault.BadRequest h = absurd (omega (arith, h))
 fault_failed fault.Unauthorized h = absurd (omega (arith, h))
 fault_failed fault.Forbidden h = absurd (omega (arith, h))
 fault_failed fault.NotFound h = absurd (omega (arith, h))
 fault_failed fault.MethodNotAllowed h = absurd (omega (arith, h))
 fault_failed fault.Conflict h = absurd (omega (arith, h))
+fault_failed fault.NoSuchLock h = absurd (omega (arith, h))
 fault_failed fault.PreconditionFailed h = refl
 fault_failed fault.UnsupportedMediaType h = absurd (omega (arith, h))
-fault_failed fault.Locked h = absurd (omega (arith, h))
+fault_failed (fault.Locked path) h = absurd (omega (arith, h))
 fault_failed fault.NotImplemented h = absurd (omega (arith, h))
+fault_failed fault.BadGateway h = absurd (omega (arith, h))
 fault_failed fault.ServiceUnavailable h = absurd (omega (arith, h))
 fault_failed fault.InsufficientStorage h = absurd (omega (arith, h))
+
+-- no fault has such a status
+no_fault : (e : Fault) (status : ℕ) → fault_status e ≡ status → status < 400 → status ≢ 207 → ⊥
+no_fault e status is low apart = elim (fault_high e) [
+  | inl member ↦ apart (sym is ∙ ap fault_status member.1)
+  | inr high ↦ omega (arith, is, low, high)
+]
 
 abbrev IsOff : ℕ → Type 0
 IsOff status = (status ≡ 304) ⊎ (status ≡ 412)
 
 -- a fault that holds a request off is that of a condition
 fault_off : (e : Fault) → IsOff (fault_status e) → e ≡ fault.PreconditionFailed
-fault_off e (inl h) = absurd (omega (arith, h, fault_high e))
+fault_off e (inl h) = absurd (no_fault e 304 h (omega arith) (λ same. omega (arith, same)))
 fault_off e (inr h) = fault_failed e h
 
 put_between : (b : Bool) → (200 < (if b then 204 else 201)) × ((if b then 204 else 201) < 205)
@@ -91,6 +109,34 @@ not_unread options request last changes _ is (principal e path names h) =
     no_principal options.user_header (head_of request).headers (subst (RefusesPrincipal options.user_header (head_of request).headers) is h)
 not_unread options request last changes _ is (tokens path named names sender h) = cc
 not_unread options request last changes _ is (moment path who names from h last_one) = cc
+
+-- and neither is it the lock of a member
+unread_alone : (options : Options) (request : Request (List ℕ)) (last : ℕ) (changes : Bool) (e : Fault) → IsOfMember e → ¬ Unread options request last changes e
+unread_alone options request last changes _ member memory = let is = member.1 in cc
+unread_alone options request last changes _ member (target e h) = subst (RefusesTarget options.prefix (head_of request).uri) member.1 h
+unread_alone options request last changes _ member (principal e path names h) =
+    named_alone options.user_header (head_of request).headers member.0 (subst (RefusesPrincipal options.user_header (head_of request).headers) member.1 h)
+  where
+    named_alone : (named : Option (List ℕ)) (headers : Entries FieldValue) (at : PathText) → ¬ RefusesPrincipal named headers (fault.MemberLocked at)
+    named_alone (Some name) headers at h = h
+    named_alone None headers at h = h
+unread_alone options request last changes _ member (tokens path named names sender h) = let is = member.1 in cc
+unread_alone options request last changes _ member (moment path who names from h last_one) = let is = member.1 in cc
+
+told_alone : (m : DavMethod) (at : Standing) (size : ℕ) (headers : Entries FieldValue) (o : Option Course) (path : PathText)
+    → told_by m at size headers o ≢ Err (fault.MemberLocked path)
+told_alone m at size headers None path h = cc
+told_alone m at size headers (Some course.PreconditionFailed) path h = cc
+told_alone m at size headers (Some course.NotModified) path h = cc
+told_alone m at size headers (Some course.Whole) path h = cc
+told_alone m at size headers (Some course.Proceed) path h = cc
+
+changed_alone : (o : Option Course) (path : PathText) → changes_by o ≢ Err (fault.MemberLocked path)
+changed_alone None path h = cc
+changed_alone (Some course.PreconditionFailed) path h = cc
+changed_alone (Some course.NotModified) path h = cc
+changed_alone (Some course.Whole) path h = cc
+changed_alone (Some course.Proceed) path h = cc
 
 abbrev refused_as : Fault → Result ℕ Fault
 refused_as e = Err e
@@ -155,9 +201,42 @@ module _ (before after : Server) (request : Request (List ℕ)) (sent : Sent) wh
 
   -- ---- every method
 
+  -- a request that is refused, but not for the lock of a member
+  fails_alone : (changes : Bool) (e : Fault) (Refuses : Path → Caller → Type 0) → IsOfMember e
+      → Unread before.options request before.last changes e ⊎ Fails before request after e Refuses → ((p : Path) (who : Caller) → ¬ Refuses p who) → ⊥
+  fails_alone changes e Refuses member (inl unread) none = unread_alone before.options request before.last changes e member unread
+  fails_alone changes e Refuses member (inr h) none = elim h.why [
+    | inl off ↦ subst (HoldsOff before request after h.path) member.1 off
+    | inr own ↦ none (segments h.path.bytes) h.who own.1
+  ]
+
+  get_alone : (m : DavMethod) (e : Fault) (p : Path) → IsOfMember e → ¬ FailsToGet m before.state.map p Headers e
+  get_alone m e p member h =
+      let told = subst (FailsToGet m before.state.map p Headers) member.1 h in
+      told_alone m (standing_of (Some told.0)) (length told.0.node.bytes) Headers (course_of m (standing_of (Some told.0)) Headers) member.0 told.2
+
+  put_alone : (e : Fault) (p : Path) (who : Caller) → IsOfMember e → ¬ FailsToPut before.state who p (body_of request) Headers e
+  put_alone e p who member h =
+      changed_alone (course_of method.Put (standing_of (at_path before.state.map p)) Headers) member.0
+      (subst (FailsToPut before.state who p (body_of request) Headers) member.1 h).1
+
+  looks_alone : (m : Option DavMethod) (e : Fault) → AnswersTo m before request (Err e) sent after → looks m ≡ true → ¬ IsOfMember e
+  looks_alone (Some method.Get) e h look member =
+      fails_alone false e (λ p who. FailsToGet method.Get before.state.map p Headers e) member h.0 (λ p who. get_alone method.Get e p member)
+  looks_alone (Some method.Head) e h look member =
+      fails_alone false e (λ p who. FailsToGet method.Head before.state.map p Headers e) member h.0 (λ p who. get_alone method.Head e p member)
+  looks_alone (Some method.Put) e (inl part) look member =
+      let is : fault.BadRequest ≡ fault.MemberLocked member.0 = sym part.1 ∙ member.1 in cc
+  looks_alone (Some method.Put) e (inr h) look member =
+      fails_alone true e (λ p who. FailsToPut before.state who p (body_of request) Headers e) member h.1 (λ p who. put_alone e p who member)
+  looks_alone _ e h look member = false≢true look
+
+  refused_high : (m : Option DavMethod) (e : Fault) → AnswersTo m before request (Err e) sent after → looks m ≡ true → 400 ≤ fault_status e
+  refused_high m e h look = elim (fault_high e) [ inl member ↦ absurd (looks_alone m e h look member) | inr high ↦ high ]
+
   pub went_on : (m : Option DavMethod) (result : Result ℕ Fault) → AnswersTo m before request result sent after → looks m ≡ true → status_of result < 300
       → WentOn m before request after
-  went_on m (Err e) h look low = absurd (omega (arith, low, fault_high e))
+  went_on m (Err e) h look low = absurd (omega (arith, low, refused_high m e h look))
   went_on (Some method.Get) (Ok status) h look low =
       record { path = h.0.path; who = h.0.who; begins = h.0.begins; admits = h.0.admits; lets = get_on method.Get status h.0 low }
   went_on (Some method.Head) (Ok status) h look low =
@@ -269,7 +348,7 @@ module _ (before after : Server) (request : Request (List ℕ)) (sent : Sent) wh
 
   pub sends_part : (m : Option DavMethod) (result : Result ℕ Fault) → AnswersTo m before request result sent after → status_of result ≡ 206
       → SendsPart before request sent after
-  sends_part m (Err e) h part = absurd (omega (arith, part, fault_high e))
+  sends_part m (Err e) h part = absurd (no_fault e 206 part (omega arith) (λ same. omega (arith, same)))
   sends_part (Some method.Get) (Ok status) h part =
       let r = h.0.gets.resource in
       let told = told_part r status (told_of method.Get r Headers) refl h.0.gets.tells part in
@@ -300,7 +379,7 @@ module _ (before after : Server) (request : Request (List ℕ)) (sent : Sent) wh
 
   pub sends_tag : (m : Option DavMethod) (result : Result ℕ Fault) → AnswersTo m before request result sent after → looks m ≡ true → status_of result < 400
       → SendsTag before request sent after
-  sends_tag m (Err e) h look low = absurd (omega (arith, low, fault_high e))
+  sends_tag m (Err e) h look low = absurd (omega (arith, low, refused_high m e h look))
   sends_tag (Some method.Get) (Ok status) h look low = get_tag method.Get status h.0 h.1 low
   sends_tag (Some method.Head) (Ok status) h look low = get_tag method.Head status h.0 h.1 low
   sends_tag (Some method.Put) (Ok status) h look low = record {

@@ -20,6 +20,7 @@ pub mod PreconditionLaws
 mod PreconditionRows
 pub mod PutLemmas
 pub mod RefusalLemmas
+pub mod RefusalReadingLaws
 pub mod SubtreeLemmas
 pub mod TagGrammarLaws
 pub mod TagLaws

@@ -5,7 +5,6 @@ use Rattle.dav_path_core.specs.declared.errors.FsError.{FsError}
 use Rattle.dav_path_core.specs.declared.errors.FsError.TheVariants as fs
 use Rattle.dav_path_core.specs.Fronts.{Path, parent}
 use Rattle.dav_path_core.proofs.lists.FinMaps.{get_same, get_other, none_some}
-use Rattle.dav_path_core.proofs.lists.MemberLemmas.{In-Contains}
 use Rattle.dav_path_core.proofs.lists.Orders.{path_total, path_exact}
 use Rattle.dav_files_core.specs.declared.memfs.Kind.{Kind}
 use Rattle.dav_files_core.specs.declared.memfs.Kind.TheVariants.{Folder, File}
@@ -129,6 +128,6 @@ not_made body who s s' p (Fs _) none h = elim h.0.2 [
   | inl lacks ↦ absurd (cc)
   | inr refused ↦ by_place body who s p _ (at_path s.map p) refl none h.0.1 (change_err (create_dir s.map p who.now) _ refused.0)
 ]
-not_made body who s s' p (Locked l) none h = (none, λ free. In-Contains [] l (subst (λ locks. Contains locks l) free h.0))
+not_made body who s s' p (Locked l) none h = (none, (l, h.0, refl))
 not_made body who s s' p NoLock none h = absurd h.0
 not_made body who s s' p OutOfMemory none h = tt

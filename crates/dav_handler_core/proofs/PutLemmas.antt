@@ -2,6 +2,7 @@
 use Rattle.std.proofs.Common.{Bool, true, false, ◌≡◌, ◌≢◌, ◌⊎◌, inl, inr, ℕ, ◌+◌, List, [], ◌∷◌, ◌++◌, Option, Some, None, Result, Ok, Err, refl, sym, ◌∙◌, ap, subst}
 use Rattle.std.specs.Prelude.{is_some, option_map, Contains, IfErr, OnOk}
 use Rattle.std.proofs.lemmas.List.{append-nil}
+use Rattle.std.proofs.lemmas.List.Elements.{Contains-append_left, Contains-append_right}
 use Rattle.http_header.specs.FieldValue.{FieldValue}
 use Rattle.http_header.specs.HeaderMap.{Entries}
 use Rattle.std.specs.FinMap.{insert}
@@ -10,7 +11,6 @@ use Rattle.dav_path_core.specs.declared.errors.FsError.TheVariants as fs
 use Rattle.dav_path_core.specs.declared.util.DavMethod.TheVariants as method
 use Rattle.dav_path_core.specs.Fronts.{Path, parent}
 use Rattle.dav_path_core.proofs.lists.FinMaps.{get_same, get_other, none_some, one_some}
-use Rattle.dav_path_core.proofs.lists.MemberLemmas.{In-Contains}
 use Rattle.dav_path_core.proofs.lists.Orders.{path_total, path_exact}
 use Rattle.dav_files_core.specs.declared.memfs.Kind.{Kind}
 use Rattle.dav_files_core.specs.declared.memfs.Kind.TheVariants.{Folder, File}
@@ -31,6 +31,7 @@ use Rattle.dav_handler_core.specs.declared.preconditions.Course.{Course}
 use Rattle.dav_handler_core.specs.declared.preconditions.Course.TheVariants as course
 use Rattle.dav_handler_core.specs.Callers.{Caller, SameLive, as_caller, asking, live, refusing_at}
 use Rattle.dav_handler_core.specs.FileTags.{standing_of}
+use Rattle.dav_handler_core.specs.LocksInTheWay.{IsRefusedBy}
 use Rattle.dav_handler_core.specs.Preconditions.{course_of}
 use Rattle.dav_handler_core.specs.Private.Marking.{IsNone}
 use Rattle.dav_handler_core.specs.Private.Placing.{HasPlace, LacksPlace, standing_known, target_by}
@@ -126,7 +127,7 @@ put_refused who s s' p bytes headers (Fs _) h = elim h.0.2 [
   | inl lacks ↦ absurd (cc)
   | inr refused ↦ files_refuse who s p bytes headers _ (at_path s.map p) refl h.0.1 (change_err (put s.map p bytes who.now) _ refused.0)
 ]
-put_refused who s s' p bytes headers (Locked l) h = λ none. In-Contains [] l (subst (λ locks. Contains locks l) none h.0)
+put_refused who s s' p bytes headers (Locked l) h = (l, h.0, refl)
 put_refused who s s' p bytes headers NoLock h = absurd h.0
 put_refused who s s' p bytes headers OutOfMemory h = tt
 
@@ -155,49 +156,45 @@ module _ {A : Type 0} where
   pub both_none : (front back : List A) → front ≡ [] → back ≡ [] → front ++ (back ++ []) ≡ []
   both_none front back h k = rw (h, k) refl
 
-  front_stands : (front back : List A) → front ≢ [] → front ++ back ≢ []
-  front_stands [] back h none = h refl
-  front_stands (x ∷ front) back h none = cc
-
-  back_stands : (front back : List A) → back ≢ [] → front ++ back ≢ []
-  back_stands [] back h none = h none
-  back_stands (x ∷ front) back h none = cc
-
 -- a check that is passed, and one that a lock refuses
 pub check_passed : (who : Caller) (s s' : State) (p : Path) (reply : Reply) → Step s (asking who (Command.Check p false)) (Ok reply) s'
     → refusing_at (live who.now s) who p ≡ []
 check_passed who s s' p reply h = sym (append-nil (refusing_at (live who.now s) who p)) ∙ h.0
 
 pub check_refused : (who : Caller) (s s' : State) (p : Path) (l : Lock) → Step s (asking who (Command.Check p false)) (Err (Locked l)) s'
-    → refusing_at (live who.now s) who p ≢ []
-check_refused who s s' p l h none =
-    In-Contains [] l (subst (λ locks. Contains locks l) (append-nil (refusing_at (live who.now s) who p) ∙ none) h.0)
-
-abbrev pub Refused : List Lock → Fault → Type 0
-Refused locks e = (e ≡ fault.InsufficientStorage) ⊎ ((e ≡ fault.Locked) × (locks ≢ []))
+    → IsRefusedBy (refusing_at (live who.now s) who p) (fault.Locked l.path)
+check_refused who s s' p l h = (l, subst (λ locks. Contains locks l) (append-nil (refusing_at (live who.now s) who p)) h.0, refl)
 
 -- what refuses a check refuses all of them
-pub first_refused : (who : Caller) (s : State) (p : Path) (there : Bool) (e : Fault) → Refused (refusing_at s who p) e
-    → Refused (refusing s.locks (as_caller who) (target_by there p)) e
-first_refused who s p there e (inl short) = inl short
-first_refused who s p true e (inr h) = inr (h.0, front_stands (refusing_at s who p) [] h.1)
-first_refused who s p false e (inr h) = inr (h.0, front_stands (refusing_at s who p) (refusing_at s who (parent p) ++ []) h.1)
+more_refused : (locks more : List Lock) (e : Fault) → ((l : Lock) → Contains locks l → Contains more l) → IsRefusedBy locks e → IsRefusedBy more e
+more_refused locks more fault.InsufficientStorage within h = tt
+more_refused locks more (fault.Locked path) within h = (h.0, within h.0 h.1, h.2)
+more_refused locks more _ within h = absurd h
 
-pub above_refused : (who : Caller) (s : State) (p : Path) (e : Fault) → Refused (refusing_at s who (parent p)) e
-    → Refused (refusing s.locks (as_caller who) (target_by false p)) e
-above_refused who s p e (inl short) = inl short
-above_refused who s p e (inr h) =
-    inr (h.0, back_stands (refusing_at s who p) (refusing_at s who (parent p) ++ []) (front_stands (refusing_at s who (parent p)) [] h.1))
+pub first_refused : (who : Caller) (s : State) (p : Path) (there : Bool) (e : Fault) → IsRefusedBy (refusing_at s who p) e
+    → IsRefusedBy (refusing s.locks (as_caller who) (target_by there p)) e
+first_refused who s p true e h =
+    more_refused (refusing_at s who p) (refusing_at s who p ++ []) e (Contains-append_left (refusing_at s who p) []) h
+first_refused who s p false e h =
+    more_refused (refusing_at s who p) (refusing_at s who p ++ (refusing_at s who (parent p) ++ [])) e
+    (Contains-append_left (refusing_at s who p) (refusing_at s who (parent p) ++ [])) h
+
+pub above_refused : (who : Caller) (s : State) (p : Path) (e : Fault) → IsRefusedBy (refusing_at s who (parent p)) e
+    → IsRefusedBy (refusing s.locks (as_caller who) (target_by false p)) e
+above_refused who s p e h =
+    more_refused (refusing_at s who (parent p)) (refusing_at s who p ++ (refusing_at s who (parent p) ++ [])) e
+    (λ l within. Contains-append_right (refusing_at s who p) (refusing_at s who (parent p) ++ []) l
+    (Contains-append_left (refusing_at s who (parent p)) [] l within)) h
 
 pub above_fails : {A : Type 0} (who asker : Caller) (s mid : State) (p q : Path) (there : Bool) (result : Result A Fault) → there ≡ false → asker ≡ who → SameLive who.now s mid
-    → q ≡ parent p → IfErr result (λ e. Refused (refusing_at (live asker.now mid) asker q) e)
-    → IfErr result (λ e. Refused (refusing (live who.now s).locks (as_caller who) (target_by there p)) e)
+    → q ≡ parent p → IfErr result (λ e. IsRefusedBy (refusing_at (live asker.now mid) asker q) e)
+    → IfErr result (λ e. IsRefusedBy (refusing (live who.now s).locks (as_caller who) (target_by there p)) e)
 above_fails who asker s mid p q there (Ok x) lacks same still is h = tt
 above_fails who asker s mid p q there (Err e) lacks same still is h =
-    let at_who = subst (λ (w : Caller). Refused (refusing_at (live w.now mid) w q) e) same h in
-    let at_start = subst (λ (t : State). Refused (refusing_at t who q) e) still at_who in
-    let above = subst (λ q. Refused (refusing_at (live who.now s) who q) e) is at_start in
-    subst (λ b. Refused (refusing (live who.now s).locks (as_caller who) (target_by b p)) e) (sym lacks) (above_refused who (live who.now s) p e above)
+    let at_who = subst (λ (w : Caller). IsRefusedBy (refusing_at (live w.now mid) w q) e) same h in
+    let at_start = subst (λ (t : State). IsRefusedBy (refusing_at t who q) e) still at_who in
+    let above = subst (λ q. IsRefusedBy (refusing_at (live who.now s) who q) e) is at_start in
+    subst (λ b. IsRefusedBy (refusing (live who.now s).locks (as_caller who) (target_by b p)) e) (sym lacks) (above_refused who (live who.now s) p e above)
 
 -- ---- what is known of the path
 
@@ -217,11 +214,19 @@ free_way who asker s mid p bytes there same still is h =
     let at_start = subst (λ (t : State). refusing t.locks (as_caller who) (target_by there p) ≡ []) still at_who in
     sym (ways who s p bytes there is) ∙ at_start
 
-pub locked : (who : Caller) (s : State) (p : Path) (bytes : List ℕ) (headers : Entries FieldValue) (there : Bool) (e : Fault) → there ≡ is_some (at_path s.map p)
-    → Refused (refusing (live who.now s).locks (as_caller who) (target_by there p)) e → FailsToPut s who p bytes headers e
-locked who s p bytes headers there e is (inl short) = subst (FailsToPut s who p bytes headers) (sym short) tt
-locked who s p bytes headers there e is (inr h) =
-    subst (FailsToPut s who p bytes headers) (sym h.0) (λ none. h.1 (ways who s p bytes there is ∙ none))
+fails_locked : (who : Caller) (s : State) (p : Path) (bytes : List ℕ) (headers : Entries FieldValue) (e : Fault) → IsRefusedBy (in_the_way s who p bytes) e
+    → FailsToPut s who p bytes headers e
+fails_locked who s p bytes headers fault.InsufficientStorage h = tt
+fails_locked who s p bytes headers (fault.Locked path) h = h
+fails_locked who s p bytes headers _ h = absurd h
+
+pub locked : (who asker : Caller) (s mid : State) (p : Path) (bytes : List ℕ) (headers : Entries FieldValue) (there : Bool) (e : Fault) → asker ≡ who
+    → SameLive who.now s mid → there ≡ is_some (at_path s.map p) → IsRefusedBy (refusing (live asker.now mid).locks (as_caller asker) (target_by there p)) e
+    → FailsToPut s who p bytes headers e
+locked who asker s mid p bytes headers there e same still is h =
+    let at_who = subst (λ (w : Caller). IsRefusedBy (refusing (live w.now mid).locks (as_caller w) (target_by there p)) e) same h in
+    let at_start = subst (λ (t : State). IsRefusedBy (refusing t.locks (as_caller who) (target_by there p)) e) still at_who in
+    fails_locked who s p bytes headers e (subst (λ locks. IsRefusedBy locks e) (ways who s p bytes there is) at_start)
 
 -- what is known of the path above
 pub above_stands : (m : ResourceMap) (p q : Path) (known : Meta) → q ≡ parent p → Some known ≡ known_at m q → known.kind ≡ Folder

@@ -1,5 +1,5 @@
 -- How the server answers a request: what it promises of the answer, and of what it leaves (RFC 9110 section 9, RFC 4918 sections 6, 7 and 9).
-use Rattle.std.specs.Prelude.{◌≡◌, ◌≢◌, ◌⊎◌, Bool, true, false, ℕ, ◌<◌, ◌≤◌, List, [], ◌∷◌, Option, None, Some, Result, Ok, Err, OnErr}
+use Rattle.std.specs.Prelude.{◌≡◌, ◌≢◌, ◌⊎◌, Bool, true, false, ℕ, ◌<◌, ◌≤◌, List, [], ◌∷◌, Option, None, Some, Result, Ok, Err, IfErr, OnErr}
 use Rattle.http.specs.declared.request.Request.{Request}
 use Rattle.http.specs.Request.{head_of, body_of}
 use Rattle.http_server.specs.declared.response.Response.{Response}
@@ -23,6 +23,7 @@ use Rattle.dav_handler_core.specs.FileTags.{tag_of}
 use Rattle.dav_handler_core.specs.Getting.{FailsToGet, Gets, tagged}
 use Rattle.dav_handler_core.specs.Making.{FailsToMake, Makes}
 use Rattle.dav_handler_core.specs.Putting.{FailsToPut, Puts, put_course, put_status}
+use Rattle.dav_handler_core.specs.RefusalBodies.{TellsWhy}
 use Rattle.dav_handler_core.specs.Refusals.{RefusesTarget, RefusesPrincipal, HasBadIf, HasPart, IsLastMoment}
 use Rattle.dav_handler_core.specs.Senders.{IsSender, NamesPrincipal}
 use Rattle.dav_handler_core.specs.Targets.{IsTargetOf}
@@ -204,6 +205,8 @@ pub record Answers (before : Server) (request : Request (List ℕ)) (response : 
   pub result : Result ℕ Fault
   pub status : response.status ≡ status_of result
   pub done : AnswersTo method before request result (sent_of response) after
+  -- a refusal is told by its document, or by nothing beside its status
+  pub told : IfErr result (λ e. TellsWhy before.options.prefix e response)
   -- what is refused has changed nothing
   pub refused : OnErr result (SameLive after.last before.state after.state)
   -- two locks that cover one path are both shared, and the map is a resource map

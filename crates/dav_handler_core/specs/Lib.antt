@@ -11,11 +11,14 @@ pub mod Getting
 pub mod Holding
 pub mod IfTokens
 pub mod ListedTags
+pub mod LocksInTheWay
 pub mod Making
 pub mod Preconditions
 pub mod Private
 pub mod Putting
 pub mod Ranges
+pub mod RefusalBodies
+pub mod RefusalReading
 pub mod Refusals
 pub mod Senders
 pub mod Servers

@@ -12,6 +12,7 @@ use Rattle.dav_resource_core.specs.Step.{State, conflicts}
 use Rattle.dav_handler_core.specs.declared.faults.Fault.{Fault}
 use Rattle.dav_handler_core.specs.declared.faults.Fault.TheVariants as fault
 use Rattle.dav_handler_core.specs.Callers.{Caller, asking}
+use Rattle.dav_handler_core.specs.LocksInTheWay.{IsPathOfOne}
 
 -- the resource, changed last at the moment
 abbrev pub changed_at : ℕ → Resource → Resource
@@ -41,11 +42,11 @@ pub record Makes (body : List ℕ) (s : State) (who : Caller) (p : Path) (status
 abbrev pub in_the_way : State → Caller → Path → List Lock
 in_the_way s who p = conflicts s (asking who (Command.MkCol p))
 
--- Each refusal of a MKCOL, and where it comes: first a body, then the locks in its way, then what stands there, and then what stands above.
+-- Each refusal of a MKCOL, and where it comes: first a body, then a lock in its way, whose path is told, then what stands there, and then what stands above.
 abbrev pub FailsToMake : List ℕ → State → Caller → Path → Fault → Type 0
 FailsToMake body s who p fault.InsufficientStorage = Unit {0}
 FailsToMake body s who p fault.UnsupportedMediaType = body ≢ []
-FailsToMake body s who p fault.Locked = (body ≡ []) × (in_the_way s who p ≢ [])
+FailsToMake body s who p (fault.Locked path) = (body ≡ []) × IsPathOfOne (in_the_way s who p) path
 FailsToMake body s who p fault.MethodNotAllowed = (body ≡ []) × (in_the_way s who p ≡ []) × ((r : Resource) × (at_path s.map p ≡ Some r))
 FailsToMake body s who p fault.Conflict =
     (body ≡ []) × (in_the_way s who p ≡ []) × (at_path s.map p ≡ None) × ((e : FsError) × (create_dir s.map p who.now ≡ Err e))

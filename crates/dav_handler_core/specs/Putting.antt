@@ -18,6 +18,7 @@ use Rattle.dav_handler_core.specs.declared.preconditions.Course.{Course}
 use Rattle.dav_handler_core.specs.declared.preconditions.Course.TheVariants as course
 use Rattle.dav_handler_core.specs.Callers.{Caller, asking, live}
 use Rattle.dav_handler_core.specs.FileTags.{standing_of}
+use Rattle.dav_handler_core.specs.LocksInTheWay.{IsPathOfOne}
 use Rattle.dav_handler_core.specs.Preconditions.{course_of}
 
 -- the locks that refuse the PUT of a caller
@@ -58,10 +59,10 @@ put_course m p headers = changes_by (course_of method.Put (standing_of (at_path 
 abbrev pub IsPuttable : State → Caller → Path → List ℕ → Type 0
 IsPuttable s who p bytes = (in_the_way s who p bytes ≡ []) × ((m : ResourceMap) × (put s.map p bytes who.now ≡ Ok (tt, m)))
 
--- Each refusal of a PUT, and where it comes: first the locks in its way, then what the files refuse, and then the conditions (RFC 9110 section 13.2.1).
+-- Each refusal of a PUT, and where it comes: first a lock in its way, whose path is told, then what the files refuse, and then the conditions (RFC 9110 section 13.2.1).
 abbrev pub FailsToPut : State → Caller → Path → List ℕ → Entries FieldValue → Fault → Type 0
 FailsToPut s who p bytes headers fault.InsufficientStorage = Unit {0}
-FailsToPut s who p bytes headers fault.Locked = in_the_way s who p bytes ≢ []
+FailsToPut s who p bytes headers (fault.Locked path) = IsPathOfOne (in_the_way s who p bytes) path
 FailsToPut s who p bytes headers fault.MethodNotAllowed =
     (in_the_way s who p bytes ≡ []) × ((r : Resource) × (at_path s.map p ≡ Some r) × (r.node.kind ≡ Folder))
 FailsToPut s who p bytes headers fault.Conflict =

@@ -33,7 +33,7 @@ pub record EndsOwn (s : State) (who : Caller) (p : Path) (token : List ℕ) (s' 
 -- why it doesn't end: no lock with the token covers the path; or one is another's
 abbrev pub KeepsLock : State → Caller → Path → List ℕ → Fault → Type 0
 KeepsLock s who p token fault.InsufficientStorage = Unit {0}
-KeepsLock s who p token fault.Conflict = has_token s p token ≡ false
+KeepsLock s who p token fault.NoSuchLock = has_token s p token ≡ false
 KeepsLock s who p token fault.Forbidden = (has_token s p token ≡ true) × IsAnothers s who p token
 KeepsLock s who p token e = ⊥
 

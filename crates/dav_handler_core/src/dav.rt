@@ -6,7 +6,6 @@ ghost use Rattle.dav_path_core.specs.declared.util.DavMethod.{DavMethod};
 ghost use Rattle.dav_resource_core.specs.Stores.{state_of};
 ghost use Rattle.dav_handler_core.specs.Answers.{Admits, Answers, AnswersTo, ChangeAnswers, GetAnswers, IsFrom, IsMethod, Moves, Names, PutAnswers, Unread};
 ghost use Rattle.dav_handler_core.specs.Callers.{RunBy, SameLive};
-ghost use Rattle.dav_handler_core.specs.Faults.{fault_status};
 ghost use Rattle.dav_handler_core.specs.Fields.{sent_of};
 ghost use Rattle.dav_handler_core.specs.Making.{FailsToMake, Makes};
 ghost use Rattle.dav_handler_core.specs.Private.Begun.{IsBegun, IsHeld};
@@ -21,6 +20,7 @@ mod laws;
 use crate::conditions::{Scheme, admit};
 use crate::faults::Fault;
 use crate::methods::{get, mkcol, options, put, unlock};
+use crate::refusals::refuse;
 use crate::senders::{principal_of, tokens_of};
 use crate::session::Session;
 use crate::targets::target_of;
@@ -33,7 +33,7 @@ use dav_resource_core::util::DavMethod;
 use http::{Request, StatusCode};
 use http_header::HeaderName;
 use http_server::{Response, Service};
-pub use laws::{conditions_decide, locks_are_their_holders};
+pub use laws::{conditions_decide, locks_are_their_holders, refusals_are_read};
 use rand_core::Rng;
 use std::alloc::{AllocError, Global};
 
@@ -264,20 +264,8 @@ impl<R: Rng> Service for Dav<R> {
     ) -> Result<(), AllocError> {
         match self.answer(request, response) {
             Ok(status) => response.status = status,
-            Err(fault) => refuse(response, fault),
+            Err(fault) => refuse(self.alloc, response, &self.settings.prefix, &fault),
         }
         Ok(())
-    }
-}
-
-// Tells a fault, with nothing but its status; with the methods that are served, where there is memory for it, if the path doesn't take this one
-// (RFC 9110 section 15.5.6).
-fn refuse(response: &mut Response, fault: Fault)
-    ensures { response.new.status ≡ fault_status fault }
-{
-    response.clear();
-    response.status = fault.status();
-    if fault == Fault::MethodNotAllowed {
-        let _ = options::allow(response);
     }
 }

@@ -3,13 +3,15 @@ ghost use Rattle.std.specs.Prelude.{◌≡◌};
 ghost use Rattle.dav_handler_core.specs.Faults.{fault_status};
 
 use dav_resource_core::davheaders::HeaderError;
-use dav_resource_core::davpath::ParseError;
+use dav_resource_core::davpath::{DavPath, ParseError};
 use http::StatusCode;
 use std::alloc::{AllocError, AllocFailed};
 
 /// Why an HTTP request is refused. Nothing was changed, but locks that have expired may be gone.
-#[derive(Debug, Clone, Copy, PartialEq, Eq)]
+#[derive(Debug, Drop)]
 pub enum Fault {
+    /// 207: a lock of a member stands in the way, at this path (RFC 4918 sections 9.6.1 and 13).
+    MemberLocked(DavPath),
     /// 400: the target is no path, or a header can't be read (RFC 9110 section 15.5.1).
     BadRequest,
     /// 401: nobody is named where somebody has to be (RFC 9110 section 15.5.2).
@@ -22,14 +24,18 @@ pub enum Fault {
     MethodNotAllowed,
     /// 409: there is no folder in which the path could stand (RFC 4918 section 9.7.1).
     Conflict,
+    /// 409: no lock with the token covers the path (RFC 4918 sections 9.11.1 and 16).
+    NoSuchLock,
     /// 412: a condition of the request doesn't hold (RFC 9110 section 15.5.13, RFC 4918 section 12.1).
     PreconditionFailed,
     /// 415: the body is one that the method doesn't take (RFC 4918 section 9.3.1).
     UnsupportedMediaType,
-    /// 423: a lock stands in the way (RFC 4918 section 11.3).
-    Locked,
+    /// 423: a lock stands in the way, at this path (RFC 4918 sections 11.3 and 16).
+    Locked(DavPath),
     /// 501: the method isn't served (RFC 9110 section 15.6.2).
     NotImplemented,
+    /// 502: the `Destination` is another server's (RFC 4918 section 9.8.5).
+    BadGateway,
     /// 503: no later moment is left for a change (own).
     ServiceUnavailable,
     /// 507: there is no memory for it (RFC 4918 section 11.5).
@@ -38,20 +44,23 @@ pub enum Fault {
 
 impl Fault {
     /// The status of the answer.
-    pub fn status(self) -> StatusCode
-        ensures { result ≡ fault_status self }
+    pub fn status(&self) -> StatusCode
+        ensures { result ≡ fault_status self.now }
     {
         match self {
+            Fault::MemberLocked(_) => StatusCode::MULTI_STATUS,
             Fault::BadRequest => StatusCode::BAD_REQUEST,
             Fault::Unauthorized => StatusCode::UNAUTHORIZED,
             Fault::Forbidden => StatusCode::FORBIDDEN,
             Fault::NotFound => StatusCode::NOT_FOUND,
             Fault::MethodNotAllowed => StatusCode::METHOD_NOT_ALLOWED,
             Fault::Conflict => StatusCode::CONFLICT,
+            Fault::NoSuchLock => StatusCode::CONFLICT,
             Fault::PreconditionFailed => StatusCode::PRECONDITION_FAILED,
             Fault::UnsupportedMediaType => StatusCode::UNSUPPORTED_MEDIA_TYPE,
-            Fault::Locked => StatusCode::LOCKED,
+            Fault::Locked(_) => StatusCode::LOCKED,
             Fault::NotImplemented => StatusCode::NOT_IMPLEMENTED,
+            Fault::BadGateway => StatusCode::BAD_GATEWAY,
             Fault::ServiceUnavailable => StatusCode::SERVICE_UNAVAILABLE,
             Fault::InsufficientStorage => StatusCode::INSUFFICIENT_STORAGE,
         }

@@ -12,6 +12,7 @@ mod methods;
 mod pages;
 pub mod preconditions;
 pub mod ranges;
+mod refusals;
 mod senders;
 pub mod serving;
 pub mod session;

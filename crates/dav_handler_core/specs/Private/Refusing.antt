@@ -14,7 +14,7 @@ unputtable false = fault.Conflict
 abbrev pub put_fault : Bool → Refusal → Fault
 put_fault there (Fs InsufficientStorage) = fault.InsufficientStorage
 put_fault there (Fs _) = unputtable there
-put_fault there (Locked l) = fault.Locked
+put_fault there (Locked l) = fault.Locked l.path
 put_fault there NoLock = unputtable there
 put_fault there OutOfMemory = fault.InsufficientStorage
 

@@ -6,7 +6,9 @@ ghost use Rattle.dav_handler_core.specs.Answers.{Answers, Server};
 ghost use Rattle.dav_handler_core.specs.Callers.{SameLive};
 ghost use Rattle.dav_handler_core.specs.Deciding.{HeldOff, SendsPart, SendsTag, WentOn, looks};
 ghost use Rattle.dav_handler_core.specs.Fields.{sent_of};
+ghost use Rattle.dav_handler_core.specs.declared.faults.Fault.{Fault};
 ghost use Rattle.dav_handler_core.specs.Holding.{IsKeptUnlessHeld, StandsUnlessEnded};
+ghost use Rattle.dav_handler_core.specs.RefusalReading.{HasPath, IsReadAsTold};
 ghost use Rattle.dav_locks_core.specs.Exclusive.{Exclusive};
 
 /// The law of conditions (RFC 4918 section 10.4, RFC 9110 sections 13 and 14) over every answer of the server. It does nothing.
@@ -35,4 +37,10 @@ pub fn locks_are_their_holders()
         → Exclusive before.state.locks → StandsUnlessEnded before request after }
     ensures changed { (before after : Server) (request : Request (List ℕ)) (response : Response) → Answers before request response after
         → Exclusive before.state.locks → IsKeptUnlessHeld before request after }
+{}
+
+/// The law of what a refusal tells (RFC 4918 section 16): its document, where it has one, is read from the bytes that are told of it, if the path that it
+/// tells begins with a slash, as each path that is read does. It does nothing.
+pub fn refusals_are_read()
+    ensures { (prefix : List ℕ) (e : Fault) → HasPath e → IsReadAsTold prefix e }
 {}

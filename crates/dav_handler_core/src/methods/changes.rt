@@ -9,11 +9,11 @@ use dav_resource_core::guarded::Refusal;
 use dav_resource_core::memfs::MemFsMeta;
 
 /// Why the files or the locks refuse to make something, by what stands there.
-pub(super) fn refused(known: &Option<MemFsMeta>, refusal: &Refusal) -> Fault
-    ensures { result ≡ put_fault (is_some known.now) (refusal_of refusal.now) }
+pub(super) fn refused(known: &Option<MemFsMeta>, refusal: Refusal) -> Fault
+    ensures { result ≡ put_fault (is_some known.now) (refusal_of refusal) }
 {
     match refusal {
-        Refusal::Locked(_) => Fault::Locked,
+        Refusal::Locked(lock) => Fault::Locked(lock.path),
         Refusal::OutOfMemory | Refusal::Fs(FsError::InsufficientStorage) =>
             Fault::InsufficientStorage,
         Refusal::Fs(_) | Refusal::NoLock => match known {

@@ -36,6 +36,6 @@ pub(crate) fn mkcol<R: Rng>(
     let known = session.meta(copy_of(&path)?);
     match session.ask(Command::MkCol { path }) {
         Ok(_) => Ok(StatusCode::CREATED),
-        Err(refusal) => Err(refused(&known, &refusal)),
+        Err(refusal) => Err(refused(&known, refusal)),
     }
 }

@@ -1,5 +1,6 @@
 //! OPTIONS.
 ghost use Rattle.std.specs.Prelude.{◌≡◌, MatchResult};
+ghost use Rattle.dav_handler_core.specs.RefusalBodies.{types_of};
 ghost use Rattle.dav_handler_core.specs.declared.faults.Fault.TheVariants as fault;
 
 use crate::faults::Fault;
@@ -27,6 +28,7 @@ pub(crate) fn options(response: &mut Response) -> Result<StatusCode, Fault>
 /// Lists the methods that are served (RFC 9110 section 10.2.1).
 pub(crate) fn allow(response: &mut Response) -> Result<(), AllocError>
     ensures status { response.new.status ≡ response.old.status }
+    ensures types { types_of response.new ≡ types_of response.old }
     ensures body { response.new.body ≡ response.old.body }
 {
     response.add_header(

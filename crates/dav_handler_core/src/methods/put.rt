@@ -1,5 +1,5 @@
 //! PUT.
-ghost use Rattle.std.specs.Prelude.{◌≡◌, ◌≢◌, ◌⊎◌, ◌∷◌, [], Ok, Err, Some, IfOk, IfErr, OnOk, OnErr, length, is_some, option_map, if◌then◌else◌};
+ghost use Rattle.std.specs.Prelude.{◌≡◌, ◌⊎◌, ◌∷◌, [], Ok, Err, Some, IfOk, IfErr, OnOk, OnErr, length, is_some, option_map, if◌then◌else◌};
 ghost use Rattle.dav_path_core.specs.declared.util.DavMethod.TheVariants as method;
 ghost use Rattle.dav_path_core.specs.Fronts.{parent};
 ghost use Rattle.dav_path_core.specs.Segments.{segments};
@@ -12,6 +12,7 @@ ghost use Rattle.dav_handler_core.specs.Callers.{RunBy, SameLive, as_caller, liv
 ghost use Rattle.dav_handler_core.specs.Fields.{marks_of};
 ghost use Rattle.dav_handler_core.specs.FileTags.{file_tag};
 ghost use Rattle.dav_handler_core.specs.Getting.{tagged};
+ghost use Rattle.dav_handler_core.specs.LocksInTheWay.{IsRefusedBy};
 ghost use Rattle.dav_handler_core.specs.Putting.{FailsToPut, Puts, changes_by, put_course, put_status};
 ghost use Rattle.dav_handler_core.specs.Private.Placing.{HasPlace, LacksPlace, standing_known, target_by};
 ghost use Rattle.dav_handler_core.specs.Private.Marking.{IsNone, and_tags};
@@ -67,15 +68,15 @@ pub(crate) fn put<R: Rng>(
     say_tag(alloc, response, session.now(), bytes.len() as u64)?;
     match session.ask(Command::Put { path, bytes }) {
         Ok(_) => Ok(done(&known)),
-        Err(refusal) => Err(refused(&known, &refusal)),
+        Err(refusal) => Err(refused(&known, refusal)),
     }
 }
 
 // Whether the locks let the caller put a file there: what is made changes its parent, too.
 fn check_locks<R: Rng>(session: &mut Session<R>, path: &DavPath, there: bool) -> Result<(), Fault>
     ensures ok { OnOk result (refusing (live (spec.caller session.old).now (spec.state R.stream session.old)).locks (as_caller (spec.caller session.old)) (target_by there (segments path.now.bytes)) ≡ []) }
-    ensures err { IfErr result (λ e. (e ≡ fault.InsufficientStorage) ⊎ ((e ≡ fault.Locked)
-        × (refusing (live (spec.caller session.old).now (spec.state R.stream session.old)).locks (as_caller (spec.caller session.old)) (target_by there (segments path.now.bytes)) ≢ []))) }
+    ensures err { IfErr result (λ e. IsRefusedBy (refusing (live (spec.caller session.old).now (spec.state R.stream session.old)).locks
+        (as_caller (spec.caller session.old)) (target_by there (segments path.now.bytes))) e) }
     ensures run { RunBy (spec.caller session.old) (spec.state R.stream session.old) (spec.state R.stream session.new) }
     ensures live { SameLive (spec.caller session.old).now (spec.state R.stream session.old) (spec.state R.stream session.new) }
     ensures caller { spec.caller session.new ≡ spec.caller session.old }

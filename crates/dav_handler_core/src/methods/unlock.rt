@@ -17,7 +17,7 @@ use std::alloc::Global;
 
 /// Ends the lock that `Lock-Token` names, and answers 204 (RFC 4918 section 9.11).
 ///
-/// `BadRequest` without such a token; `Conflict` where no lock with it covers the path; `Forbidden` where one with it at the path or above has
+/// `BadRequest` without such a token; `NoSuchLock` where no lock with it covers the path; `Forbidden` where one with it at the path or above has
 /// another principal.
 pub(crate) fn unlock<R: Rng>(
     alloc: Global,

@@ -6,6 +6,7 @@ ghost use Rattle.dav_files_core.specs.Resources.{at_path};
 ghost use Rattle.dav_locks_core.specs.Locks.{discovered};
 ghost use Rattle.dav_handler_core.specs.Callers.{RunBy, SameLive, live, refusing_at};
 ghost use Rattle.dav_handler_core.specs.FileTags.{standing_as, standing_of};
+ghost use Rattle.dav_handler_core.specs.LocksInTheWay.{IsRefusedBy};
 ghost use Rattle.dav_handler_core.specs.Private.Marking.{HasShownTag};
 ghost use Rattle.dav_handler_core.specs.Sessions as spec;
 ghost use Rattle.dav_handler_core.specs.declared.faults.Fault.TheVariants as fault;
@@ -36,18 +37,18 @@ impl<R: Rng> Session<R> {
         }
     }
 
-    /// Whether the locks let the caller change what stands at a path (RFC 4918 section 7). `Locked` where one stands in the way.
+    /// Whether the locks let the caller change what stands at a path (RFC 4918 section 7). `Locked` where one stands in the way, with its path.
     pub fn check(&mut self, path: DavPath) -> Result<(), Fault>
         ensures ok { OnOk result (refusing_at (live (spec.caller self.old).now (spec.state R.stream self.old)) (spec.caller self.old) (segments path.bytes) ≡ []) }
-        ensures err { IfErr result (λ e. (e ≡ fault.InsufficientStorage) ⊎ ((e ≡ fault.Locked)
-            × (refusing_at (live (spec.caller self.old).now (spec.state R.stream self.old)) (spec.caller self.old) (segments path.bytes) ≢ []))) }
+        ensures err { IfErr result (λ e. IsRefusedBy (refusing_at (live (spec.caller self.old).now (spec.state R.stream self.old)) (spec.caller self.old)
+            (segments path.bytes)) e) }
         ensures run { RunBy (spec.caller self.old) (spec.state R.stream self.old) (spec.state R.stream self.new) }
         ensures live { SameLive (spec.caller self.old).now (spec.state R.stream self.old) (spec.state R.stream self.new) }
         ensures caller { spec.caller self.new ≡ spec.caller self.old }
     {
         match self.ask(Command::Check { path, deep: false }) {
             Ok(_) => Ok(()),
-            Err(Refusal::Locked(_)) => Err(Fault::Locked),
+            Err(Refusal::Locked(lock)) => Err(Fault::Locked(lock.path)),
             Err(_) => Err(Fault::InsufficientStorage),
         }
     }

@@ -22,7 +22,7 @@ use rand_core::Rng;
 impl<R: Rng> Session<R> {
     /// Ends the caller's own lock with a token, which stands at the path or above (RFC 4918 section 9.11).
     ///
-    /// `Conflict` where no lock with the token covers the path; `Forbidden` where one with it at the path or above has another principal.
+    /// `NoSuchLock` where no lock with the token covers the path; `Forbidden` where one with it at the path or above has another principal.
     pub fn unlock(&mut self, path: DavPath, token: String) -> Result<(), Fault>
         ensures covered { OnOk result (has_token (live (spec.caller self.old).now (spec.state R.stream self.old)) (segments path.bytes) (string_bytes token) ≡ true) }
         ensures ok { OnOk result (EndsOwn (live (spec.caller self.old).now (spec.state R.stream self.old)) (spec.caller self.old) (segments path.bytes)
@@ -35,12 +35,12 @@ impl<R: Rng> Session<R> {
         ensures caller { spec.caller self.new ≡ spec.caller self.old }
     {
         if !has_token(self, &path, &token)? {
-            return Err(Fault::Conflict);
+            return Err(Fault::NoSuchLock);
         }
         self.check_own(&path, &token)?;
         match self.ask(Command::Unlock { path, token }) {
             Ok(_) => Ok(()),
-            Err(_) => Err(Fault::Conflict),
+            Err(_) => Err(Fault::NoSuchLock),
         }
     }
 

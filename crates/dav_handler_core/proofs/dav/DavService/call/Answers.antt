@@ -1,5 +1,7 @@
-use Rattle.std.proofs.Common.{Ok, Err, refl}
+use Rattle.std.proofs.Common.{Ok, Err, refl, ap, ◌∙◌, subst}
+use Rattle.dav_handler_core.specs.Answers.{Options}
 use Rattle.dav_handler_core.specs.Fields.{sent_of}
+use Rattle.dav_handler_core.specs.RefusalBodies.{TellsWhy}
 use Rattle.dav_handler_core.specs.Servers.{server}
 use Rattle.dav_handler_core.proofs.AnswerLemmas.{refused_alike, moves_exclusive, moves_shape}
 use Rattle.dav_handler_core.proofs.dav.DavService.call.Goals as goal
@@ -16,6 +18,7 @@ returns-in-Ok-clause-ok g c =
       result = Ok c.in-Ok.status;
       status = refl;
       done = told.2;
+      told = tt;
       refused = tt;
       exclusive = moves_exclusive before after c.args.request.now c.answer.ensures.moves;
       shape = moves_shape before after c.args.request.now c.answer.ensures.moves;
@@ -31,8 +34,9 @@ returns-in-Err-clause-ok g c =
       method = told.0;
       is_method = told.1;
       result = Err c.in-Err.fault;
-      status = c.refuse.ensures;
+      status = c.refuse.ensures.status;
       done = refused_alike told.0 before after c.args.request.now c.in-Err.fault (sent_of c.answer.new.response) (sent_of c.refuse.new.response) told.2;
+      told = subst (λ prefix. TellsWhy prefix c.in-Err.fault c.refuse.new.response) (c.deref.ensures ∙ ap (λ (o : Options). o.prefix) c.answer.ensures.moves.options) c.refuse.ensures.told;
       refused = c.in-Err.ensures.refused;
       exclusive = moves_exclusive before after c.args.request.now c.answer.ensures.moves;
       shape = moves_shape before after c.args.request.now c.answer.ensures.moves;

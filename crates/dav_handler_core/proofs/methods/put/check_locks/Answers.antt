@@ -2,10 +2,11 @@ use Rattle.std.proofs.Common.{subst}
 use Rattle.std.proofs.lemmas.Result.{err_from_is_err_and}
 use Rattle.dav_path_core.specs.Segments.{segments}
 use Rattle.dav_handler_core.specs.Callers.{live, refusing_at}
+use Rattle.dav_handler_core.specs.LocksInTheWay.{IsRefusedBy}
 use Rattle.dav_handler_core.specs.Sessions as spec
 use Rattle.dav_handler_core.proofs.Asking.{join_as}
 use Rattle.dav_handler_core.proofs.CallerLaws.{by_none}
-use Rattle.dav_handler_core.proofs.PutLemmas.{Refused, above_fails, first_refused}
+use Rattle.dav_handler_core.proofs.PutLemmas.{above_fails, first_refused}
 use Rattle.dav_handler_core.proofs.methods.put.check_locks.Goals as goal
 
 pub returns-in_err-copy_of-clause-run : goal.returns-in_err-copy_of-clause-run
@@ -18,7 +19,7 @@ returns-in_err-check-clause-err g c =
     let s = spec.state g.R.Rng.stream c.args.session.now in
     let e = c.in_err-check.field-0.0 in
     rw (p.1, p.2) (first_refused who (live who.now s) (segments c.args.path.now.bytes) c.args.there e
-    (subst (λ p. Refused (refusing_at (live who.now s) who (segments p.bytes)) e) c.in_ok-copy_of.ensures c.in_err-check.ensures.err))
+    (subst (λ p. IsRefusedBy (refusing_at (live who.now s) who (segments p.bytes)) e) c.in_ok-copy_of.ensures c.in_err-check.ensures.err))
 
 pub returns-clause-err : goal.returns-clause-err
 returns-clause-err g c =

@@ -13,7 +13,7 @@ use Rattle.dav_handler_core.specs.Private.Refusing.{put_fault}
 use Rattle.dav_handler_core.specs.Sessions as spec
 use Rattle.dav_handler_core.proofs.Asking.{join_as, live_as}
 use Rattle.dav_handler_core.proofs.CallerLaws.{by_none}
-use Rattle.dav_handler_core.proofs.PutLemmas.{after_look, course_there, free_way, known_at, known_there, lacks_place_at, put_done, put_refused, withheld}
+use Rattle.dav_handler_core.proofs.PutLemmas.{after_look, course_there, free_way, known_at, known_there, lacks_place_at, locked, put_done, put_refused, withheld}
 use Rattle.dav_handler_core.proofs.methods.put.put.Goals as goal
 
 pub returns-in_err-copy_of-clause-run : goal.returns-in_err-copy_of-clause-run
@@ -26,6 +26,19 @@ returns-in_err-check_locks-clause-run g c =
     let run = join_as who (spec.caller c.meta-known.new.self) s (spec.state g.R.Rng.stream c.meta-known.new.self) (spec.state g.R.Rng.stream c.check_locks.new.session)
     c.meta-known.ensures.caller c.meta-known.ensures.run c.check_locks.ensures.run in
     run
+
+pub returns-in_err-check_locks-clause-err : goal.returns-in_err-check_locks-clause-err
+returns-in_err-check_locks-clause-err g c =
+    let p = err_from_is_err_and c.from_residual-in_err-check_locks.result c.from_residual-in_err-check_locks.ensures.1 in
+    let who = spec.caller c.args.session.now in
+    let s = spec.state g.R.Rng.stream c.args.session.now in
+    let known = option_map meta_of c.meta-known.result in
+    let found : known ≡ known_at s.map (segments c.args.path.bytes) =
+    c.meta-known.ensures.found ∙ ap (λ p. known_at s.map (segments p.bytes)) c.in_ok-copy_of.ensures in
+    let there : c.is_some.result ≡ is_some (at_path s.map (segments c.args.path.bytes)) =
+    c.is_some.ensures ∙ known_there meta_of (λ (r : Resource). meta_at r.node) c.meta-known.result (at_path s.map (segments c.args.path.bytes)) found in
+    rw (p.1, p.2) (locked who (spec.caller c.meta-known.new.self) s (spec.state g.R.Rng.stream c.meta-known.new.self) (segments c.args.path.bytes) c.args.bytes c.args.headers.now
+    c.is_some.result c.in_err-check_locks.field-0.0 c.meta-known.ensures.caller c.meta-known.ensures.live there c.in_err-check_locks.ensures.err)
 
 pub returns-in_err-check_place-clause-err : goal.returns-in_err-check_place-clause-err
 returns-in_err-check_place-clause-err g c =

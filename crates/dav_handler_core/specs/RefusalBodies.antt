@@ -1,0 +1,78 @@
+-- What is told of a refusal beside its status: a document that says why (RFC 4918 sections 9.6.2, 13 and 16).
+use Rattle.std.specs.Prelude.{◌≡◌, ◌⊎◌, ℕ, ◌-◌, List, [], ◌∷◌, ◌++◌, length, take, codes, Option, None, Some, if◌then◌else◌}
+use Rattle.http_server.specs.Response.{fields_of}
+use Rattle.http_server.specs.declared.response.Response.{Response}
+use Rattle.dav_path_core.specs.PathText.{PathText}
+use Rattle.dav_path_core.specs.Reading.{ends_in_slash}
+use Rattle.dav_path_core.specs.Url.{url}
+use Rattle.dav_xml_core.specs.Documents.{Name, Node, Start, Text, End}
+use Rattle.dav_xml_core.specs.Writing.{dav_namespace, written}
+use Rattle.dav_handler_core.specs.declared.faults.Fault.{Fault}
+use Rattle.dav_handler_core.specs.declared.faults.Fault.TheVariants as fault
+use Rattle.dav_handler_core.specs.Fields.{values_in}
+
+-- ---- the documents
+
+-- the prefix as it stands before a path: without a slash at its end
+abbrev pub front : List ℕ → List ℕ
+front prefix = if ends_in_slash prefix then take (length prefix - 1) prefix else prefix
+
+-- the path of a URL that stands behind the prefix (RFC 4918 section 8.3)
+abbrev pub url_path : List ℕ → PathText → List ℕ
+url_path prefix path = url (front prefix) ++ url path.bytes
+
+abbrev pub dav_name : List ℕ → Name
+dav_name local = record { namespace = dav_namespace; local = local }
+
+-- an element of `DAV:` with these nodes in it
+abbrev pub element : List ℕ → List Node → List Node
+element local inside = Start (dav_name local) [] ∷ (inside ++ End ∷ [])
+
+abbrev pub href : List ℕ → PathText → List Node
+href prefix path = element (codes "href") (Text (url_path prefix path) ∷ [])
+
+-- a lock stands in the way, at the path
+abbrev pub lock_nodes : List ℕ → PathText → List Node
+lock_nodes prefix path = element (codes "error") (element (codes "lock-token-submitted") (href prefix path))
+
+-- a lock of a member does
+abbrev pub member_nodes : List ℕ → PathText → List Node
+member_nodes prefix path =
+    element (codes "multistatus") (element (codes "response") (href prefix path
+    ++ element (codes "status") (Text (codes "HTTP/1.1 423 Locked") ∷ []) ++ element (codes "error") (element (codes "lock-token-submitted") [])))
+
+-- no lock with the token covers the path
+abbrev pub no_lock_nodes : List Node
+no_lock_nodes = element (codes "error") (element (codes "lock-token-matches-request-uri") [])
+
+-- the document of a fault, where it has one; its paths stand behind the prefix
+abbrev pub refusal_nodes : List ℕ → Fault → Option (List Node)
+refusal_nodes prefix (fault.Locked path) = Some (lock_nodes prefix path)
+refusal_nodes prefix (fault.MemberLocked path) = Some (member_nodes prefix path)
+refusal_nodes prefix fault.NoSuchLock = Some no_lock_nodes
+refusal_nodes prefix _ = None
+
+-- ---- the answers that they are told by
+
+abbrev pub xml_type : List ℕ
+xml_type = codes "application/xml; charset=utf-8"
+
+-- the values of `Content-Type`
+abbrev pub types_of : Response → List (List ℕ)
+types_of response = values_in (fields_of response) (codes "content-type")
+
+-- the document of the fault, and that it is XML
+pub record TellsDocument (prefix : List ℕ) (e : Fault) (response : Response) : Type 0 where
+  pub nodes : List Node
+  pub are : refusal_nodes prefix e ≡ Some nodes
+  pub body : response.body.items ≡ written nodes
+  pub types : types_of response ≡ xml_type ∷ []
+
+-- no body, and no type of one
+pub record TellsNothing (response : Response) : Type 0 where
+  pub body : response.body.items ≡ []
+  pub types : types_of response ≡ []
+
+-- a refusal is told by its document, or by nothing beside its status
+abbrev pub TellsWhy : List ℕ → Fault → Response → Type 0
+TellsWhy prefix e response = TellsDocument prefix e response ⊎ TellsNothing response

@@ -1,0 +1,192 @@
+//! What is told of a refusal: its status, and a document that says why (RFC 4918 section 16).
+ghost use Rattle.std.specs.Prelude.{◌≡◌, ◌++◌, ◌∷◌, [], codes, option_map, string_bytes, IfOk, OnOk};
+ghost use Rattle.http_server.specs.Response.{IsResponse, fields_of};
+ghost use Rattle.dav_xml_core.specs.Views.{writing_of};
+ghost use Rattle.dav_xml_core.specs.Documents.{Text};
+ghost use Rattle.dav_xml_core.specs.Writing.{with_nodes, with_start, written};
+ghost use Rattle.dav_handler_core.specs.Faults.{fault_status};
+ghost use Rattle.dav_handler_core.specs.RefusalBodies.{TellsWhy, dav_name, element, front, lock_nodes, member_nodes, no_lock_nodes, refusal_nodes, url_path, xml_type};
+
+use crate::faults::Fault;
+use crate::methods::options;
+use bytes::Bytes;
+use dav_resource_core::davpath::{DavPath, escaped};
+use dav_xml_core::davxml::{Name, Writer};
+use http_header::{HeaderName, HeaderValue};
+use http_server::Response;
+use std::alloc::{AllocError, Global};
+use std::rc::RcStr;
+
+/// Tells a fault by its status; and where there is memory for it, why: by a document, and by the methods that are served, if the path doesn't take this
+/// one (RFC 9110 section 15.5.6). Paths stand behind the prefix in a document.
+pub(crate) fn refuse(alloc: Global, response: &mut Response, prefix: &str, fault: &Fault)
+    ensures status { response.new.status ≡ fault_status fault.now }
+    ensures told { TellsWhy prefix.now fault.now response.new }
+{
+    say_status(response, fault);
+    match say_why(alloc, response, prefix, fault) {
+        Ok(()) => (),
+        Err(_) => say_status(response, fault),
+    }
+}
+
+// The status alone.
+fn say_status(response: &mut Response, fault: &Fault)
+    ensures { IsResponse (fault_status fault.now) [] [] response.new }
+{
+    response.clear();
+    response.status = fault.status();
+}
+
+fn say_why(
+    alloc: Global,
+    response: &mut Response,
+    prefix: &str,
+    fault: &Fault,
+) -> Result<(), AllocError>
+    requires { IsResponse (fault_status fault.now) [] [] response.old }
+    ensures status { response.new.status ≡ response.old.status }
+    ensures told { OnOk result (TellsWhy prefix.now fault.now response.new) }
+{
+    if let Fault::MethodNotAllowed = fault {
+        return options::allow(response);
+    }
+    match document_of(alloc, prefix, fault)? {
+        Some(document) => {
+            say_document(response, document)?;
+            return Ok(());
+        }
+        None => return Ok(()),
+    }
+}
+
+// A document for a body, and that it is XML.
+fn say_document(response: &mut Response, document: Vec<u8>) -> Result<(), AllocError>
+    ensures status { response.new.status ≡ response.old.status }
+    ensures fields { OnOk result (fields_of response.new ≡ fields_of response.old ++ (codes "content-type", xml_type) ∷ []) }
+    ensures body { OnOk result (response.new.body.items ≡ response.old.body.items ++ document.items) }
+{
+    response.add_header(
+        HeaderName::from_static("content-type"),
+        HeaderValue::from_static("application/xml; charset=utf-8"),
+    )?;
+    response.body.push(Bytes::from_vec(document)?)?;
+    Ok(())
+}
+
+// The document of a fault, where it has one.
+fn document_of(alloc: Global, prefix: &str, fault: &Fault) -> Result<Option<Vec<u8>>, AllocError>
+    ensures { IfOk result (λ found. option_map (λ document. document.items) found ≡ option_map written (refusal_nodes prefix.now fault.now)) }
+{
+    match fault {
+        Fault::Locked(path) => Ok(Some(locked(alloc, prefix, path)?)),
+        Fault::MemberLocked(path) => Ok(Some(member_locked(alloc, prefix, path)?)),
+        Fault::NoSuchLock => Ok(Some(no_such_lock(alloc)?)),
+        _ => Ok(None),
+    }
+}
+
+// A lock stands in the way, at the path.
+fn locked(alloc: Global, prefix: &str, path: &DavPath) -> Result<Vec<u8>, AllocError>
+    ensures { IfOk result (λ document. document.items ≡ written (lock_nodes prefix.now path.now)) }
+{
+    let mut writer = Writer::new(alloc);
+    begin(alloc, &mut writer, "error")?;
+    begin(alloc, &mut writer, "lock-token-submitted")?;
+    write_href(alloc, &mut writer, prefix, path)?;
+    writer.end()?;
+    writer.end()?;
+    Ok(writer.into_bytes())
+}
+
+// A lock of a member stands in the way, at the path.
+fn member_locked(alloc: Global, prefix: &str, path: &DavPath) -> Result<Vec<u8>, AllocError>
+    ensures { IfOk result (λ document. document.items ≡ written (member_nodes prefix.now path.now)) }
+{
+    let mut writer = Writer::new(alloc);
+    begin(alloc, &mut writer, "multistatus")?;
+    begin(alloc, &mut writer, "response")?;
+    write_href(alloc, &mut writer, prefix, path)?;
+    write_text(alloc, &mut writer, "status", "HTTP/1.1 423 Locked")?;
+    begin(alloc, &mut writer, "error")?;
+    write_empty(alloc, &mut writer, "lock-token-submitted")?;
+    writer.end()?;
+    writer.end()?;
+    writer.end()?;
+    Ok(writer.into_bytes())
+}
+
+// No lock with the token covers the path.
+#[tactic(auto, unfolding(dav_xml_core::specs::Writing::written))]
+fn no_such_lock(alloc: Global) -> Result<Vec<u8>, AllocError>
+    ensures { IfOk result (λ document. document.items ≡ written no_lock_nodes) }
+{
+    let mut writer = Writer::new(alloc);
+    begin(alloc, &mut writer, "error")?;
+    write_empty(alloc, &mut writer, "lock-token-matches-request-uri")?;
+    writer.end()?;
+    Ok(writer.into_bytes())
+}
+
+// An element of `DAV:` begins.
+fn begin(alloc: Global, writer: &mut Writer, local: &str) -> Result<(), AllocError>
+    ensures { OnOk result (writing_of writer.new ≡ with_start (writing_of writer.old) (dav_name local.now) []) }
+{
+    let name = Name {
+        namespace: RcStr::from_str(alloc, "DAV:")?,
+        local: String::from_str(alloc, local)?,
+    };
+    writer.start(&name, &[])
+}
+
+// An element of `DAV:` with nothing in it.
+fn write_empty(alloc: Global, writer: &mut Writer, local: &str) -> Result<(), AllocError>
+    ensures { OnOk result (writing_of writer.new ≡ with_nodes (writing_of writer.old) (element local.now [])) }
+{
+    begin(alloc, writer, local)?;
+    writer.end()
+}
+
+// An element of `DAV:` with a text in it.
+fn write_text(alloc: Global, writer: &mut Writer, local: &str, text: &str) -> Result<(), AllocError>
+    ensures { OnOk result (writing_of writer.new ≡ with_nodes (writing_of writer.old) (element local.now (Text text.now ∷ []))) }
+{
+    begin(alloc, writer, local)?;
+    writer.text(text)?;
+    writer.end()
+}
+
+// The URL of a path behind the prefix.
+fn write_href(
+    alloc: Global,
+    writer: &mut Writer,
+    prefix: &str,
+    path: &DavPath,
+) -> Result<(), AllocError>
+    ensures { OnOk result (writing_of writer.new
+        ≡ with_nodes (writing_of writer.old) (element (codes "href") (Text (url_path prefix.now path.now) ∷ []))) }
+{
+    let text = url_text(alloc, prefix, path)?;
+    write_text(alloc, writer, "href", &text)
+}
+
+fn url_text(alloc: Global, prefix: &str, path: &DavPath) -> Result<String, AllocError>
+    ensures { IfOk result (λ text. string_bytes text ≡ url_path prefix.now path.now) }
+{
+    let mut text = String::new(alloc);
+    escaped(front_of(prefix)).append_to(&mut text)?;
+    escaped(path.as_bytes()).append_to(&mut text)?;
+    Ok(text)
+}
+
+// The prefix as it stands before a path: without a slash at its end.
+fn front_of(prefix: &str) -> &[u8]
+    ensures { result.now ≡ front prefix.now }
+{
+    let bytes = prefix.as_bytes();
+    if bytes.ends_with(b"/") {
+        &bytes[..bytes.len().saturating_sub(1)]
+    } else {
+        bytes
+    }
+}

@@ -182,12 +182,12 @@ GET /a.txt HTTP/1.1|Host: h|Connection: close|| = HTTP/1.1 200 OK|etag: "1000000
 
 at / x-user 1000000000
 lock ann exclusive deep /a
-PUT /a HTTP/1.1|Host: h|X-User: bob|If-Match: "x"|Content-Length: 1||x = HTTP/1.1 423 Locked|content-length: 0||
-PUT /a HTTP/1.1|Host: h|X-User: bob|If-None-Match: no tag|Content-Length: 1||x = HTTP/1.1 423 Locked|content-length: 0||
+PUT /a HTTP/1.1|Host: h|X-User: bob|If-Match: "x"|Content-Length: 1||x = {locked /a}
+PUT /a HTTP/1.1|Host: h|X-User: bob|If-None-Match: no tag|Content-Length: 1||x = {locked /a}
 PUT /a HTTP/1.1|Host: h|X-User: ann|If: (<{0}>)|If-Match: *|Content-Length: 1||x = HTTP/1.1 412 Precondition Failed|content-length: 0||
 PUT /a HTTP/1.1|Host: h|X-User: ann|If: (<{0}>)|If-Match: no tag|Content-Length: 1||x = HTTP/1.1 400 Bad Request|content-length: 0||
 PUT /a HTTP/1.1|Host: h|X-User: ann|If: (<{0}>)|If-None-Match: *|Content-Length: 1||x = HTTP/1.1 201 Created|etag: "1000000004-1"|content-length: 0||
 PUT /a HTTP/1.1|Host: h|X-User: ann|If: (<{0}>)|If-None-Match: *|Content-Length: 1||x = HTTP/1.1 412 Precondition Failed|content-length: 0||
-PUT /a HTTP/1.1|Host: h|X-User: ann|If-Match: "1000000004-1"|Content-Length: 1||x = HTTP/1.1 423 Locked|content-length: 0||
+PUT /a HTTP/1.1|Host: h|X-User: ann|If-Match: "1000000004-1"|Content-Length: 1||x = {locked /a}
 PUT /a HTTP/1.1|Host: h|X-User: ann|If: (<{0}> ["1000000004-1"])|If-Match: "1000000004-1"|Content-Length: 2||xy = HTTP/1.1 204 No Content|etag: "1000000007-2"||
 GET /a HTTP/1.1|Host: h|X-User: bob|If-None-Match: "1000000007-2"|| = HTTP/1.1 304 Not Modified|etag: "1000000007-2"||"#;

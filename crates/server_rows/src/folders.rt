@@ -24,18 +24,18 @@ lock ann exclusive shallow /d
 lock bob shared deep /s
 lock ann shared deep /s
 lock bob exclusive shallow /
-MKCOL /dav/d HTTP/1.1|Host: h|X-User: ann|| = HTTP/1.1 423 Locked|content-length: 0||
-MKCOL /dav/d HTTP/1.1|Host: h|X-User: ann|If: (<{0}>)|| = HTTP/1.1 423 Locked|content-length: 0||
-MKCOL /dav/d HTTP/1.1|Host: h|X-User: bob|If: <http://h/dav/d> (<{0}>) <http://h/dav/> (<{3}>)|| = HTTP/1.1 423 Locked|content-length: 0||
-MKCOL /dav/e HTTP/1.1|Host: h|X-User: ann|| = HTTP/1.1 423 Locked|content-length: 0||
+MKCOL /dav/d HTTP/1.1|Host: h|X-User: ann|| = {locked /dav/d}
+MKCOL /dav/d HTTP/1.1|Host: h|X-User: ann|If: (<{0}>)|| = {locked /dav/}
+MKCOL /dav/d HTTP/1.1|Host: h|X-User: bob|If: <http://h/dav/d> (<{0}>) <http://h/dav/> (<{3}>)|| = {locked /dav/d}
+MKCOL /dav/e HTTP/1.1|Host: h|X-User: ann|| = {locked /dav/}
 MKCOL /dav/e HTTP/1.1|Host: h|X-User: bob|If: <http://h/dav/> (<{3}>)|| = HTTP/1.1 201 Created|content-length: 0||
 MKCOL /dav/e/f HTTP/1.1|Host: h|X-User: ann|| = HTTP/1.1 201 Created|content-length: 0||
 MKCOL /dav/s HTTP/1.1|Host: h|X-User: bob|If: <http://h/dav/s> (<{1}>) <http://h/dav/> (<{3}>)|| = HTTP/1.1 201 Created|content-length: 0||
-MKCOL /dav/s/t HTTP/1.1|Host: h|X-User: ann|| = HTTP/1.1 423 Locked|content-length: 0||
-MKCOL /dav/s/t HTTP/1.1|Host: h|X-User: ann|If: (<{1}>)|| = HTTP/1.1 423 Locked|content-length: 0||
+MKCOL /dav/s/t HTTP/1.1|Host: h|X-User: ann|| = {locked /dav/s}
+MKCOL /dav/s/t HTTP/1.1|Host: h|X-User: ann|If: (<{1}>)|| = {locked /dav/s}
 MKCOL /dav/s/t HTTP/1.1|Host: h|X-User: ann|If: (<{2}>)|| = HTTP/1.1 201 Created|content-length: 0||
 MKCOL /dav/s/t HTTP/1.1|Host: h|X-User: ann|Content-Length: 1||x = HTTP/1.1 415 Unsupported Media Type|content-length: 0||
-MKCOL /dav/s/t HTTP/1.1|Host: h|X-User: bob|| = HTTP/1.1 423 Locked|content-length: 0||
+MKCOL /dav/s/t HTTP/1.1|Host: h|X-User: bob|| = {locked /dav/s}
 MKCOL /d HTTP/1.1|Host: h|X-User: ann|| = HTTP/1.1 404 Not Found|content-length: 0||
 MKCOL /dav/d HTTP/1.1|Host: h|| = HTTP/1.1 401 Unauthorized|content-length: 0||
 

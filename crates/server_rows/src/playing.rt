@@ -160,14 +160,42 @@ fn add_line(text: &mut String, line: &str, tokens: &[String]) -> Result<(), Fail
     Ok(())
 }
 
-// Adds a line feed, or the token of a lock.
+// Adds a line feed, an answer that tells why a request is refused, or the token of a lock.
 fn add_named(text: &mut String, name: &str, tokens: &[String]) -> Result<(), Fail> {
     if name == "n" {
         return Ok(text.push('\n')?);
     }
+    if let Some(path) = name.strip_prefix("locked ") {
+        let front = "<D:lock-token-submitted><D:href>";
+        return add_why(
+            text,
+            "423 Locked",
+            &[front, path, "</D:href></D:lock-token-submitted>"],
+        );
+    }
+    if name == "no lock" {
+        let element = "<D:lock-token-matches-request-uri></D:lock-token-matches-request-uri>";
+        return add_why(text, "409 Conflict", &[element]);
+    }
     let number: usize = name.parse()?;
     let token = tokens.get(number).ok_or("no such lock")?;
     Ok(text.push_str(token.as_str())?)
+}
+
+// An answer whose body is an `error` of `DAV:` with these texts in it.
+fn add_why(text: &mut String, status: &str, why: &[&str]) -> Result<(), Fail> {
+    let mut length = 34usize;
+    for piece in why {
+        length = length.saturating_add(piece.len());
+    }
+    write!(text, "HTTP/1.1 {status}\r\n")?;
+    text.push_str("content-type: application/xml; charset=utf-8\r\n")?;
+    write!(text, "content-length: {length}\r\n\r\n")?;
+    text.push_str("<D:error xmlns:D=\"DAV:\">")?;
+    for piece in why {
+        text.push_str(piece)?;
+    }
+    Ok(text.push_str("</D:error>")?)
 }
 
 // How many bytes are the same, from the first on.

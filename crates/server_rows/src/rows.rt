@@ -1,7 +1,8 @@
 //! The rows. Each text without an empty line is played on a server of its own: its first line has the prefix, the header of the principal,
 //! the clock, and `https` where that is the scheme; then come the locks and the folders that stand at first, a lock with its principal, whether it is `shared` or `exclusive`, `deep` or
 //! `shallow`, and its path; then requests, each with its answer behind ` = `. A `|` is the end of a line, `{0}` the token of the first lock, `{1}` that of
-//! the second, and `{n}` a line feed.
+//! the second, and `{n}` a line feed. `{locked /a}` is the answer 423 that tells a lock at `/a`, and `{no lock}` the answer 409 to an UNLOCK whose token is of
+//! no lock there; a row of each has them whole.
 pub(crate) const ROWS: &str = r#"at / - 1000000000
 OPTIONS * HTTP/1.1|Host: h|| = HTTP/1.1 200 OK|dav: 1, 2|allow: OPTIONS, GET, HEAD, PUT, MKCOL, UNLOCK|ms-author-via: DAV|content-length: 0||
 GET /a.txt HTTP/1.1|Host: h|| = HTTP/1.1 404 Not Found|content-length: 0||
@@ -38,15 +39,20 @@ OPTIONS /a HTTP/1.1|Host: h|| = HTTP/1.1 200 OK|dav: 1, 2|allow: OPTIONS, GET, H
 
 at / x-user 1000000000
 lock ann exclusive deep /a
-PUT /a HTTP/1.1|Host: h|X-User: ann|Content-Length: 1||x = HTTP/1.1 423 Locked|content-length: 0||
-PUT /a HTTP/1.1|Host: h|X-User: bob|If: (<{0}>)|Content-Length: 1||x = HTTP/1.1 423 Locked|content-length: 0||
+PUT /a HTTP/1.1|Host: h|X-User: ann|Content-Length: 1||x = HTTP/1.1 423 Locked|content-type: application/xml; charset=utf-8|content-length: 102||<D:error xmlns:D="DAV:"><D:lock-token-submitted><D:href>/a</D:href></D:lock-token-submitted></D:error>
+PUT /a HTTP/1.1|Host: h|X-User: bob|If: (<{0}>)|Content-Length: 1||x = {locked /a}
 PUT /a HTTP/1.1|Host: h|X-User: ann|If: (<a:b>)|Content-Length: 1||x = HTTP/1.1 412 Precondition Failed|content-length: 0||
 GET /a HTTP/1.1|Host: h|X-User: bob|| = HTTP/1.1 404 Not Found|content-length: 0||
 PUT /a HTTP/1.1|Host: h|X-User: ann|If: (<{0}>)|Content-Length: 1||x = HTTP/1.1 201 Created|etag: "1000000003-1"|content-length: 0||
 PUT /a HTTP/1.1|Host: h|X-User: ann|If: (<a:b>) (<{0}> Not <a:c>)|Content-Length: 2||xy = HTTP/1.1 204 No Content|etag: "1000000004-2"||
-PUT /a/b HTTP/1.1|Host: h|X-User: bob|Content-Length: 1||x = HTTP/1.1 423 Locked|content-length: 0||
+PUT /a/b HTTP/1.1|Host: h|X-User: bob|Content-Length: 1||x = {locked /a}
 PUT /b HTTP/1.1|Host: h|X-User: bob|Content-Length: 1||x = HTTP/1.1 201 Created|etag: "1000000006-1"|content-length: 0||
 GET /a HTTP/1.1|Host: h|X-User: bob|| = HTTP/1.1 200 OK|etag: "1000000004-2"|last-modified: Thu, 01 Jan 1970 00:00:01 GMT|content-type: application/octet-stream|accept-ranges: bytes|content-length: 2||xy
+
+at /ü/ x-user 1000000000
+lock ann exclusive deep /a%26b%3C%20c/
+PUT /%C3%BC/a&b%3C%20c HTTP/1.1|Host: h|X-User: bob|Content-Length: 1||x = {locked /%C3%BC/a%26b%3C%20c/}
+MKCOL /%C3%BC/a&b%3C%20c/d HTTP/1.1|Host: h|X-User: bob|| = {locked /%C3%BC/a%26b%3C%20c/}
 
 at / - 18446744073709551615
 lock ann exclusive deep /a

@@ -10,24 +10,24 @@ UNLOCK /a HTTP/1.1|Host: h|X-User: ann|Lock-Token: {0}|| = HTTP/1.1 400 Bad Requ
 UNLOCK /a HTTP/1.1|Host: h|X-User: ann|Lock-Token: <{0}|| = HTTP/1.1 400 Bad Request|content-length: 0||
 UNLOCK /a HTTP/1.1|Host: h|X-User: ann|Lock-Token: {0}>|| = HTTP/1.1 400 Bad Request|content-length: 0||
 UNLOCK /a HTTP/1.1|Host: h|X-User: ann|Lock-Token: <{0}>|Lock-Token: <{0}>|| = HTTP/1.1 400 Bad Request|content-length: 0||
-UNLOCK /a HTTP/1.1|Host: h|X-User: ann|Lock-Token: <>|| = HTTP/1.1 409 Conflict|content-length: 0||
-UNLOCK /a HTTP/1.1|Host: h|X-User: ann|Lock-Token: <a:b>|| = HTTP/1.1 409 Conflict|content-length: 0||
-UNLOCK /a HTTP/1.1|Host: h|X-User: ann|Lock-Token: <{1}>|| = HTTP/1.1 409 Conflict|content-length: 0||
-UNLOCK /ab HTTP/1.1|Host: h|X-User: ann|Lock-Token: <{0}>|| = HTTP/1.1 409 Conflict|content-length: 0||
-UNLOCK / HTTP/1.1|Host: h|X-User: ann|Lock-Token: <{0}>|| = HTTP/1.1 409 Conflict|content-length: 0||
-UNLOCK /c/d HTTP/1.1|Host: h|X-User: ann|Lock-Token: <{4}>|| = HTTP/1.1 409 Conflict|content-length: 0||
+UNLOCK /a HTTP/1.1|Host: h|X-User: ann|Lock-Token: <>|| = HTTP/1.1 409 Conflict|content-type: application/xml; charset=utf-8|content-length: 103||<D:error xmlns:D="DAV:"><D:lock-token-matches-request-uri></D:lock-token-matches-request-uri></D:error>
+UNLOCK /a HTTP/1.1|Host: h|X-User: ann|Lock-Token: <a:b>|| = {no lock}
+UNLOCK /a HTTP/1.1|Host: h|X-User: ann|Lock-Token: <{1}>|| = {no lock}
+UNLOCK /ab HTTP/1.1|Host: h|X-User: ann|Lock-Token: <{0}>|| = {no lock}
+UNLOCK / HTTP/1.1|Host: h|X-User: ann|Lock-Token: <{0}>|| = {no lock}
+UNLOCK /c/d HTTP/1.1|Host: h|X-User: ann|Lock-Token: <{4}>|| = {no lock}
 UNLOCK /a HTTP/1.1|Host: h|X-User: bob|Lock-Token: <{0}>|| = HTTP/1.1 403 Forbidden|content-length: 0||
 UNLOCK /a/x HTTP/1.1|Host: h|X-User: bob|Lock-Token: <{0}>|| = HTTP/1.1 403 Forbidden|content-length: 0||
 UNLOCK /a HTTP/1.1|Host: h|X-User: bob|If: (<{0}>)|Lock-Token: <{0}>|| = HTTP/1.1 403 Forbidden|content-length: 0||
 UNLOCK /a HTTP/1.1|Host: h|X-User: ann|If: (<a:b>)|Lock-Token: <{0}>|| = HTTP/1.1 412 Precondition Failed|content-length: 0||
 UNLOCK /a HTTP/1.1|Host: h|Lock-Token: <{0}>|| = HTTP/1.1 401 Unauthorized|content-length: 0||
-PUT /a HTTP/1.1|Host: h|X-User: bob|Content-Length: 1||x = HTTP/1.1 423 Locked|content-length: 0||
+PUT /a HTTP/1.1|Host: h|X-User: bob|Content-Length: 1||x = {locked /a}
 UNLOCK /a/x/y/ HTTP/1.1|Host: h|X-User: ann|Lock-Token: <{0}>|| = HTTP/1.1 204 No Content||
-UNLOCK /a HTTP/1.1|Host: h|X-User: ann|Lock-Token: <{0}>|| = HTTP/1.1 409 Conflict|content-length: 0||
+UNLOCK /a HTTP/1.1|Host: h|X-User: ann|Lock-Token: <{0}>|| = {no lock}
 PUT /a HTTP/1.1|Host: h|X-User: bob|Content-Length: 1||x = HTTP/1.1 201 Created|etag: "1000000002-1"|content-length: 0||
 UNLOCK /s HTTP/1.1|Host: h|X-User: ann|Lock-Token: <{3}>|| = HTTP/1.1 403 Forbidden|content-length: 0||
 UNLOCK /s HTTP/1.1|Host: h|X-User: ann|Lock-Token: <{2}>|| = HTTP/1.1 204 No Content||
-PUT /s HTTP/1.1|Host: h|X-User: ann|If: (<{3}>)|Content-Length: 1||x = HTTP/1.1 423 Locked|content-length: 0||
+PUT /s HTTP/1.1|Host: h|X-User: ann|If: (<{3}>)|Content-Length: 1||x = {locked /s}
 PUT /s HTTP/1.1|Host: h|X-User: bob|If: (<{3}>)|Content-Length: 1||x = HTTP/1.1 201 Created|etag: "1000000004-1"|content-length: 0||
 UNLOCK /c HTTP/1.1|Host: h|X-User: ann|Lock-Token: <{4}>|Content-Length: 1||x = HTTP/1.1 204 No Content||
 UNLOCK /b HTTP/1.1|Host: h|X-User: bob|Lock-Token: <{1}>|If: (<{1}>)|| = HTTP/1.1 204 No Content||
@@ -35,7 +35,7 @@ PUT /b HTTP/1.1|Host: h|X-User: ann|Content-Length: 1||x = HTTP/1.1 201 Created|
 
 at /dav - 18446744073709551615
 lock ann exclusive deep /
-PUT /dav/a HTTP/1.1|Host: h|Content-Length: 1||x = HTTP/1.1 423 Locked|content-length: 0||
+PUT /dav/a HTTP/1.1|Host: h|Content-Length: 1||x = {locked /dav/}
 UNLOCK /a HTTP/1.1|Host: h|Lock-Token: <{0}>|| = HTTP/1.1 404 Not Found|content-length: 0||
 UNLOCK /dav/a HTTP/1.1|Host: h|Lock-Token: <{0}>|| = HTTP/1.1 403 Forbidden|content-length: 0||
 UNLOCK /dav/%00 HTTP/1.1|Host: h|Lock-Token: <{0}>|| = HTTP/1.1 400 Bad Request|content-length: 0||"#;

@@ -1,4 +1,4 @@
-//! The laws of conditions and of locks over the answers of the server. They do nothing.
+//! The laws of conditions, of locks and of refusals over the answers of the server. They do nothing.
 ghost use Rattle.std.specs.Prelude.{◌≡◌, ◌<◌, ◌⊎◌, ℕ, true, List};
 ghost use Rattle.http.specs.declared.request.Request.{Request};
 ghost use Rattle.http_server.specs.declared.response.Response.{Response};

@@ -300,6 +300,7 @@ pub refused_alike : (m : Option DavMethod) (before after : Server) (request : Re
 refused_alike (Some method.Get) before after request e sent other h = h
 refused_alike (Some method.Head) before after request e sent other h = h
 refused_alike (Some method.Put) before after request e sent other h = h
+refused_alike (Some method.Delete) before after request e sent other h = h
 refused_alike (Some method.MkCol) before after request e sent other h = h
 refused_alike (Some method.Unlock) before after request e sent other h = h
 refused_alike (Some method.Options) before after request e sent other h = h

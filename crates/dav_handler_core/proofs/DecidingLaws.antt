@@ -35,6 +35,7 @@ use Rattle.dav_handler_core.specs.Preconditions.{course_of}
 use Rattle.dav_handler_core.specs.Putting.{FailsToPut, changes_by}
 use Rattle.dav_handler_core.specs.Ranges.{part_text}
 use Rattle.dav_handler_core.specs.Refusals.{RefusesPrincipal, RefusesTarget}
+use Rattle.dav_handler_core.specs.Removing.{FailsToRemove}
 use Rattle.dav_handler_core.specs.Unlocking.{FailsToUnlock}
 
 -- ---- statuses of faults
@@ -291,6 +292,11 @@ module _ (before after : Server) (request : Request (List ℕ)) (sent : Sent) wh
       let is = fault_off e off in
       fails_off (Some method.Put) true e (λ p who. FailsToPut before.state who p (body_of request) Headers e) is h.1
       (λ p who refuses. (subst (FailsToPut before.state who p (body_of request) Headers) is refuses).1)
+  held_off (Some method.Delete) (Ok status) h off = absurd (elim off [ inl off ↦ omega (arith, off, h.does.status_is) | inr off ↦ omega (arith, off, h.does.status_is) ])
+  held_off (Some method.Delete) (Err e) h off =
+      let is = fault_off e off in
+      fails_off (Some method.Delete) true e (λ p who. FailsToRemove Headers (as_found before after) who p e) is h
+      (λ p who refuses. subst (FailsToRemove Headers (as_found before after) who p) is refuses)
   held_off (Some method.MkCol) (Ok status) h off = absurd (elim off [ inl off ↦ omega (arith, off, h.does.status_is) | inr off ↦ omega (arith, off, h.does.status_is) ])
   held_off (Some method.MkCol) (Err e) h off =
       let is = fault_off e off in
@@ -319,6 +325,8 @@ module _ (before after : Server) (request : Request (List ℕ)) (sent : Sent) wh
   stays (Some method.Put) (Ok status) h refused off =
       let between = put_between (has before.state.map (segments h.1.path.bytes)) in
       absurd (elim off [ inl off ↦ omega (arith, off, h.1.status_is, between) | inr off ↦ omega (arith, off, h.1.status_is, between) ])
+  stays (Some method.Delete) (Ok status) h refused off =
+      absurd (elim off [ inl off ↦ omega (arith, off, h.does.status_is) | inr off ↦ omega (arith, off, h.does.status_is) ])
   stays (Some method.MkCol) (Ok status) h refused off =
       absurd (elim off [ inl off ↦ omega (arith, off, h.does.status_is) | inr off ↦ omega (arith, off, h.does.status_is) ])
   stays (Some method.Unlock) (Ok status) h refused off =
@@ -369,6 +377,7 @@ module _ (before after : Server) (request : Request (List ℕ)) (sent : Sent) wh
       absurd (no_part (standing_of (Some r)) (length r.node.bytes) (course_of method.Head (standing_of (Some r)) Headers) status r h.0.gets.tells part)
   sends_part (Some method.Put) (Ok status) h part =
       absurd (omega (arith, part, h.1.status_is, put_between (has before.state.map (segments h.1.path.bytes))))
+  sends_part (Some method.Delete) (Ok status) h part = absurd (omega (arith, h.does.status_is, part))
   sends_part (Some method.MkCol) (Ok status) h part = absurd (omega (arith, h.does.status_is, part))
   sends_part (Some method.Unlock) (Ok status) h part = absurd (omega (arith, h.does.status_is, part))
   sends_part (Some method.Options) (Ok status) h part = absurd (omega (arith, h.0, part))

@@ -21,6 +21,8 @@ mod PreconditionRows
 pub mod PutLemmas
 pub mod RefusalLemmas
 pub mod RefusalReadingLaws
+pub mod RemovalCheckLemmas
+pub mod RemovalLemmas
 pub mod SubtreeLemmas
 pub mod TagGrammarLaws
 pub mod TagLaws

@@ -1,6 +1,6 @@
 -- What a MKCOL leaves in a resource map, and why it is refused.
-use Rattle.std.proofs.Common.{◌≡◌, ◌≢◌, inl, inr, ℕ, cond, List, [], ◌∷◌, length, Option, Some, None, Ok, Err, refl, sym, ◌∙◌, ap, subst, arith}
-use Rattle.std.specs.Prelude.{is_some, ok_or, Contains}
+use Rattle.std.proofs.Common.{◌≡◌, ◌≢◌, inl, inr, ℕ, cond, List, [], ◌∷◌, length, Option, Some, None, Ok, Err, refl, sym, ◌∙◌, ap, arith}
+use Rattle.std.specs.Prelude.{is_some, ok_or}
 use Rattle.dav_path_core.specs.declared.errors.FsError.{FsError}
 use Rattle.dav_path_core.specs.declared.errors.FsError.TheVariants as fs
 use Rattle.dav_path_core.specs.Fronts.{Path, parent}
@@ -24,10 +24,10 @@ pub nothing_in : {A : Type 0} (xs : List A) → length xs ≡ 0 → xs ≡ []
 nothing_in [] h = refl
 nothing_in (x ∷ xs) h = absurd (omega (arith, h))
 
-abbrev done : ResourceMap → Outcome (Unit {0})
+abbrev pub done : ResourceMap → Outcome (Unit {0})
 done n = Ok (tt, n)
 
-left_by : (n m' : ResourceMap) → done n ≡ done m' → m' ≡ n
+pub left_by : (n m' : ResourceMap) → done n ≡ done m' → m' ≡ n
 left_by n m' h =
     let pairs : (tt {0}, n) ≡ (tt {0}, m') = cc in ap (λ (x : Unit {0} × ResourceMap). x.1) (sym pairs)
 

@@ -1,5 +1,5 @@
 -- What a PUT leaves in a resource map, and why it is refused.
-use Rattle.std.proofs.Common.{Bool, true, false, ◌≡◌, ◌≢◌, ◌⊎◌, inl, inr, ℕ, ◌+◌, List, [], ◌∷◌, ◌++◌, Option, Some, None, Result, Ok, Err, refl, sym, ◌∙◌, ap, subst}
+use Rattle.std.proofs.Common.{Bool, true, false, ◌≡◌, ◌≢◌, ◌⊎◌, inl, inr, ℕ, ◌+◌, List, [], ◌++◌, Option, Some, None, Result, Ok, Err, refl, sym, ◌∙◌, ap, subst}
 use Rattle.std.specs.Prelude.{is_some, option_map, Contains, IfErr, OnOk}
 use Rattle.std.proofs.lemmas.List.{append-nil}
 use Rattle.std.proofs.lemmas.List.Elements.{Contains-append_left, Contains-append_right}
@@ -20,6 +20,7 @@ use Rattle.dav_files_core.specs.Outcomes.{Outcome, ◌>>=◌, find_folder, added
 use Rattle.dav_files_core.specs.Putting.{put, put_at}
 use Rattle.dav_files_core.specs.Resources.{Node, Resource, ResourceMap, at_path}
 use Rattle.dav_locks_core.specs.Lock.{Lock}
+use Rattle.dav_locks_core.specs.Locks.{check_conflicts}
 use Rattle.dav_resource_core.specs.Checks.{refusing}
 use Rattle.dav_resource_core.specs.Requests.{Command, Answer, Reply, Refusal, Fs, Locked, NoLock, OutOfMemory}
 use Rattle.dav_resource_core.specs.ResourceStep.{changes}
@@ -156,17 +157,14 @@ module _ {A : Type 0} where
   pub both_none : (front back : List A) → front ≡ [] → back ≡ [] → front ++ (back ++ []) ≡ []
   both_none front back h k = rw (h, k) refl
 
--- a check that is passed, and one that a lock refuses
-pub check_passed : (who : Caller) (s s' : State) (p : Path) (reply : Reply) → Step s (asking who (Command.Check p false)) (Ok reply) s'
-    → refusing_at (live who.now s) who p ≡ []
-check_passed who s s' p reply h = sym (append-nil (refusing_at (live who.now s) who p)) ∙ h.0
-
-pub check_refused : (who : Caller) (s s' : State) (p : Path) (l : Lock) → Step s (asking who (Command.Check p false)) (Err (Locked l)) s'
-    → IsRefusedBy (refusing_at (live who.now s) who p) (fault.Locked l.path)
-check_refused who s s' p l h = (l, subst (λ locks. Contains locks l) (append-nil (refusing_at (live who.now s) who p)) h.0, refl)
+-- the lock that refuses a check
+pub check_refused : (who : Caller) (s s' : State) (p : Path) (deep : Bool) (l : Lock) → Step s (asking who (Command.Check p deep)) (Err (Locked l)) s'
+    → IsRefusedBy (check_conflicts (live who.now s).locks p deep (as_caller who)) (fault.Locked l.path)
+check_refused who s s' p deep l h =
+    (l, subst (λ locks. Contains locks l) (append-nil (check_conflicts (live who.now s).locks p deep (as_caller who))) h.0, refl)
 
 -- what refuses a check refuses all of them
-more_refused : (locks more : List Lock) (e : Fault) → ((l : Lock) → Contains locks l → Contains more l) → IsRefusedBy locks e → IsRefusedBy more e
+pub more_refused : (locks more : List Lock) (e : Fault) → ((l : Lock) → Contains locks l → Contains more l) → IsRefusedBy locks e → IsRefusedBy more e
 more_refused locks more fault.InsufficientStorage within h = tt
 more_refused locks more (fault.Locked path) within h = (h.0, within h.0 h.1, h.2)
 more_refused locks more _ within h = absurd h

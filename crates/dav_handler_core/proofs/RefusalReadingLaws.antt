@@ -1,5 +1,5 @@
 -- What a refusal tells could have been read, so it is read.
-use Rattle.std.proofs.Common.{◌≡◌, ℕ, zero, suc, Bool, true, false, List, [], ◌∷◌, ◌++◌, Some, codes, refl, sym, ◌∙◌, ap, subst, arith}
+use Rattle.std.proofs.Common.{◌≡◌, ℕ, zero, suc, true, false, List, [], ◌∷◌, ◌++◌, Some, codes, refl, sym, ap, subst, arith}
 use lib.Utf8.{encode}
 use Rattle.std.specs.Prelude.{IsAscii, encode_utf8_all}
 use Rattle.std.specs.List.{AllByRecursion, list_all}
@@ -12,14 +12,14 @@ use Rattle.dav_path_core.proofs.paths.UrlLemmas.{IsSafe, safe_url}
 use Rattle.dav_xml_core.specs.Characters.{is_char}
 use Rattle.dav_xml_core.specs.Documents.{Node, Text}
 use Rattle.dav_xml_core.specs.Namespaces.{are_distinct}
-use Rattle.dav_xml_core.specs.ReadableDocuments.{CouldBeRead, is_readable, node_bytes}
+use Rattle.dav_xml_core.specs.ReadableDocuments.{CouldBeRead}
 use Rattle.dav_xml_core.specs.Reading.{document_of}
 use Rattle.dav_xml_core.specs.Scanning.{is_nil}
 use Rattle.dav_xml_core.specs.Writing.{written}
 use Rattle.dav_xml_core.proofs.NodesLemmas.{written_again}
 use Rattle.dav_handler_core.specs.declared.faults.Fault.{Fault}
 use Rattle.dav_handler_core.specs.declared.faults.Fault.TheVariants as fault
-use Rattle.dav_handler_core.specs.RefusalBodies.{element, front, lock_nodes, member_nodes, no_lock_nodes, refusal_nodes, url_path}
+use Rattle.dav_handler_core.specs.RefusalBodies.{element, front, lock_nodes, member_nodes, no_lock_nodes, url_path}
 use Rattle.dav_handler_core.specs.RefusalReading.{HasPath, IsReadAsTold, IsRooted}
 
 -- ---- the texts of URLs

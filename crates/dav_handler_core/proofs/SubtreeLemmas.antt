@@ -49,15 +49,15 @@ module _ {A : Type 0} where
     | inr j ↦ elim (in_either x xs ys j) [ inl k ↦ inl (inr k) | inr k ↦ inr k ]
   ]
 
-  in_left : (x : A) (xs ys : List A) → In x xs → In x (xs ++ ys)
+  pub in_left : (x : A) (xs ys : List A) → In x xs → In x (xs ++ ys)
   in_left x [] ys i = absurd i
   in_left x (y ∷ xs) ys i = elim i [ inl e ↦ inl e | inr j ↦ inr (in_left x xs ys j) ]
 
-  in_right : (x : A) (xs ys : List A) → In x ys → In x (xs ++ ys)
+  pub in_right : (x : A) (xs ys : List A) → In x ys → In x (xs ++ ys)
   in_right x [] ys i = i
   in_right x (y ∷ xs) ys i = inr (in_right x xs ys i)
 
-  in_one : (x y : A) → In x (y ∷ []) → y ≡ x
+  pub in_one : (x y : A) → In x (y ∷ []) → y ≡ x
   in_one x y i = elim i [ inl e ↦ e | inr j ↦ absurd j ]
 
   -- what holds of each element and each later one
@@ -92,7 +92,7 @@ some_of : {A : Type 0} (o : Option A) → IsSome o → (x : A) × (o ≡ Some x)
 some_of (Some x) h = (x, refl)
 some_of None h = absurd (false≢true h)
 
-rest_of : (a q : Path) → is_front a q ≡ true → (s : Path) × (q ≡ a ++ s)
+pub rest_of : (a q : Path) → is_front a q ≡ true → (s : Path) × (q ≡ a ++ s)
 rest_of a q h = let s = some_of (behind a q) h in (s.0, behind_is a q s.0 s.1)
 
 front_of : (a s : Path) → is_front a (a ++ s) ≡ true
@@ -105,7 +105,7 @@ member_longer p s = false_from_ne_true _ (λ h.
     absurd (omega (arith, ap length r.1, length-append (p ++ (s ∷ [])) r.0, length-append p (s ∷ []))))
 
 -- what a member is at or below
-member_below : (x p : Path) (s : Segment) → is_front x (p ++ (s ∷ [])) ≡ true → (is_front x p ≡ true) ⊎ (x ≡ p ++ (s ∷ []))
+pub member_below : (x p : Path) (s : Segment) → is_front x (p ++ (s ∷ [])) ≡ true → (is_front x p ≡ true) ⊎ (x ≡ p ++ (s ∷ []))
 member_below x p s h =
     let r = rest_of x (p ++ (s ∷ [])) h in
     elim (by_last r.0) [
@@ -149,7 +149,7 @@ last_at : {A : Type 0} (xs : List A) (last d : A) → slice_index_or (xs ++ (las
 last_at [] last d = refl
 last_at (x ∷ xs) last d = last_at xs last d
 
-pair_at : {A : Type 0} (R : A → A → Type 0) (xs : List A) (last x : A) → AllPairs R (xs ++ (last ∷ [])) → In x xs → R x last
+pub pair_at : {A : Type 0} (R : A → A → Type 0) (xs : List A) (last x : A) → AllPairs R (xs ++ (last ∷ [])) → In x xs → R x last
 pair_at R [] last x all i = absurd i
 pair_at R (y ∷ xs) last x all i = elim i [
   | inl e ↦ subst (λ z. R z last) e (subst (R y) (last_at xs last y) (all 0 (suc (length xs)) y (omega arith) (omega (arith, length-append xs (last ∷ [])))))

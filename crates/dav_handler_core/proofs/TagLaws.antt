@@ -1,6 +1,7 @@
 -- Files over a run of a server: each one stood there before with its bytes, or was changed since; so equal tags have equal bytes.
-use Rattle.std.proofs.Common.{◌≡◌, ◌⊎◌, inl, inr, ℕ, ◌<◌, ◌≤◌, List, [], ◌∷◌, length, Option, Some, Result, Ok, Err, refl, sym, ◌∙◌, ap, subst, arith}
-use Rattle.std.specs.Prelude.{OnErr}
+use Rattle.std.proofs.Common.{◌≡◌, ◌⊎◌, inl, inr, ℕ, ◌<◌, ◌≤◌, List, [], ◌∷◌, length, Option, Some, None, Result, Ok, Err, refl, sym, ◌∙◌, ap, subst, arith}
+use Rattle.std.specs.Prelude.{OnErr, option_map}
+use Rattle.std.proofs.lemmas.Bool.{cases_Bool}
 use Rattle.std.specs.FinMap.{get, empty, get-empty}
 use Rattle.http.specs.declared.request.Request.{Request}
 use Rattle.http.specs.Request.{body_of}
@@ -9,7 +10,7 @@ use Rattle.http_server.specs.Exchange.{Call, Chain}
 use Rattle.http_frames.specs.Clients.{Turn}
 use Rattle.dav_path_core.specs.declared.util.DavMethod.{DavMethod}
 use Rattle.dav_path_core.specs.declared.util.DavMethod.TheVariants as method
-use Rattle.dav_path_core.specs.Fronts.{Path, parent, path_cmp}
+use Rattle.dav_path_core.specs.Fronts.{Path, is_front, parent, path_cmp}
 use Rattle.dav_path_core.specs.Segments.{segments}
 use Rattle.dav_path_core.proofs.lists.FinMaps.{dec, inserted, one_some, none_some}
 use Rattle.dav_path_core.proofs.lists.Orders.{path_total, path_exact}
@@ -23,6 +24,7 @@ use Rattle.dav_handler_core.specs.Callers.{Caller, SameLive}
 use Rattle.dav_handler_core.specs.Fields.{Sent, sent_of}
 use Rattle.dav_handler_core.specs.Making.{Makes, changed_at}
 use Rattle.dav_handler_core.specs.Putting.{Puts}
+use Rattle.dav_handler_core.specs.Removing.{IsRemoved}
 use Rattle.dav_handler_core.specs.Serving.{Leads}
 use Rattle.dav_handler_core.specs.TagHistories.{HasFile, HasNoFiles, MomentsTell, TagsTell, Becomes}
 use Rattle.dav_handler_core.specs.TagHistories.Becomes.{itself, by_clock, by_answer}
@@ -82,6 +84,32 @@ make_dates before after body who p status later h = record {
   ];
 }
 
+-- the files of a map, at a path where something stands or nothing
+abbrev bytes_of : Option Resource → List ℕ
+bytes_of None = []
+bytes_of (Some r) = r.node.bytes
+
+-- what is left elsewhere is as it was, but that a folder has another moment
+remove_dates : (before after : Server) (p : Path) → before.last < after.last → IsRemoved after.last p (as_found before after) after.state → Dates before after
+remove_dates before after p later h = record {
+  bytes = bytes_of (at_path before.state.map (parent p));
+  moments = omega (arith, later);
+  files = λ file has. elim (dec path_total path_exact has.0 (parent p)) [
+    | inl above ↦
+        let is = dated file (at_path before.state.map (parent p)) (sym (subst (λ q. at_path after.state.map q ≡ Some file) above has.1) ∙ h.above) in
+        inr (later, is.0, is.1)
+    | inr below ↦ elim (cases_Bool (is_front p has.0)) [
+      | inl inside ↦ none_some (at_path after.state.map has.0) file (h.gone has.0 inside) has.1
+      | inr out ↦ inl (file, (has.0, sym (h.others has.0 out below) ∙ has.1, has.2), refl, refl)
+    ]
+  ];
+}
+  where
+    dated : (file : Resource) (o : Option Resource) → Some file ≡ option_map (changed_at after.last) o → (file.node.modified ≡ after.last) × (file.node.bytes ≡ bytes_of o)
+    dated file None h = absurd (cc)
+    dated file (Some r) h =
+        let is : file ≡ changed_at after.last r = cc in (ap (λ (x : Resource). x.node.modified) is, ap (λ (x : Resource). x.node.bytes) is)
+
 live_map : (now : ℕ) (s s' : State) → SameLive now s s' → s'.map ≡ s.map
 live_map now s s' h = ap (λ (s : State). s.map) h
 
@@ -94,6 +122,11 @@ method_dates (Some method.Head) before after request result sent later h refused
 method_dates (Some method.Put) before after request (Ok status) sent later h refused =
     put_dates before after (segments h.1.path.bytes) (body_of request) h.1.later h.1.puts
 method_dates (Some method.Put) before after request (Err e) sent later h refused =
+    same_map before after later (live_map after.last before.state after.state refused)
+method_dates (Some method.Delete) before after request (Ok status) sent later h refused =
+    remove_dates before after (segments h.path.bytes) (h.later refl)
+    (subst (λ n. IsRemoved n (segments h.path.bytes) (as_found before after) after.state) h.begins.now h.does.removed)
+method_dates (Some method.Delete) before after request (Err e) sent later h refused =
     same_map before after later (live_map after.last before.state after.state refused)
 method_dates (Some method.MkCol) before after request (Ok status) sent later h refused =
     make_dates before after (body_of request) h.who (segments h.path.bytes) status later h.does

@@ -25,6 +25,7 @@ use Rattle.dav_handler_core.specs.Making.{FailsToMake, Makes}
 use Rattle.dav_handler_core.specs.Putting.{FailsToPut, Puts, put_course, put_status}
 use Rattle.dav_handler_core.specs.RefusalBodies.{TellsWhy}
 use Rattle.dav_handler_core.specs.Refusals.{RefusesTarget, RefusesPrincipal, HasBadIf, HasPart, IsLastMoment}
+use Rattle.dav_handler_core.specs.Removing.{FailsToRemove, Removes}
 use Rattle.dav_handler_core.specs.Senders.{IsSender, NamesPrincipal}
 use Rattle.dav_handler_core.specs.Targets.{IsTargetOf}
 use Rattle.dav_handler_core.specs.Unlocking.{FailsToUnlock, Unlocks}
@@ -161,6 +162,8 @@ AnswersTo (Some method.Get) before request result sent after =
 AnswersTo (Some method.Head) before request result sent after =
     GetAnswers method.Head before request result sent after × SameLive after.last before.state after.state
 AnswersTo (Some method.Put) before request result sent after = PutAnswers before request result sent after
+AnswersTo (Some method.Delete) before request result sent after =
+    ChangeAnswers true (Removes (head_of request).headers) (FailsToRemove (head_of request).headers) before request result after
 AnswersTo (Some method.MkCol) before request result sent after =
     ChangeAnswers true (Makes (body_of request)) (FailsToMake (body_of request)) before request result after
 AnswersTo (Some method.Unlock) before request result sent after =

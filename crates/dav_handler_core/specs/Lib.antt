@@ -4,6 +4,7 @@ pub mod Callers
 pub mod Conditions
 pub mod ContentTypes
 pub mod Deciding
+pub mod Depths
 pub mod Faults
 pub mod Fields
 pub mod FileTags
@@ -20,6 +21,7 @@ pub mod Ranges
 pub mod RefusalBodies
 pub mod RefusalReading
 pub mod Refusals
+pub mod Removing
 pub mod Senders
 pub mod Servers
 pub mod Serving

@@ -10,6 +10,7 @@ ghost use Rattle.dav_handler_core.specs.Fields.{sent_of};
 ghost use Rattle.dav_handler_core.specs.Making.{FailsToMake, Makes};
 ghost use Rattle.dav_handler_core.specs.Private.Begun.{IsBegun, IsHeld};
 ghost use Rattle.dav_handler_core.specs.Refusals.{IsLastMoment};
+ghost use Rattle.dav_handler_core.specs.Removing.{FailsToRemove, Removes};
 ghost use Rattle.dav_handler_core.specs.Servers.{options_of, server};
 ghost use Rattle.dav_handler_core.specs.Sessions.{caller};
 ghost use Rattle.dav_handler_core.specs.Unlocking.{FailsToUnlock, Unlocks};
@@ -19,7 +20,7 @@ mod laws;
 
 use crate::conditions::{Scheme, admit};
 use crate::faults::Fault;
-use crate::methods::{get, mkcol, options, put, unlock};
+use crate::methods::{delete, get, mkcol, options, put, unlock};
 use crate::refusals::refuse;
 use crate::senders::{principal_of, tokens_of};
 use crate::session::Session;
@@ -190,6 +191,17 @@ impl<R: Rng> Dav<R> {
         )
     }
 
+    // DELETE.
+    fn serve_delete(&mut self, request: &Request<Bytes>) -> Result<StatusCode, Fault>
+        ensures answers { ChangeAnswers true (Removes (head_of request.now).headers) (FailsToRemove (head_of request.now).headers) (server R.stream self.old)
+            request.now result (server R.stream self.new) }
+        ensures refused { OnErr result (SameLive (server R.stream self.new).last (server R.stream self.old).state (server R.stream self.new).state) }
+        ensures moves { Moves (server R.stream self.old) request.now (server R.stream self.new) }
+    {
+        let path = self.begin_admitted(request, true)?;
+        delete::delete(self.alloc, &mut self.session, request.headers(), path)
+    }
+
     // MKCOL.
     fn serve_mkcol(&mut self, request: &Request<Bytes>) -> Result<StatusCode, Fault>
         ensures answers { ChangeAnswers true (Makes (body_of request.now)) (FailsToMake (body_of request.now)) (server R.stream self.old) request.now result
@@ -229,6 +241,7 @@ impl<R: Rng> Dav<R> {
             DavMethod::Get => return self.serve_get(DavMethod::Get, request, response),
             DavMethod::Head => return self.serve_get(DavMethod::Head, request, response),
             DavMethod::Put => return self.serve_put(request, response),
+            DavMethod::Delete => return self.serve_delete(request),
             DavMethod::MkCol => return self.serve_mkcol(request),
             DavMethod::Unlock => return self.serve_unlock(request),
             _ => return Err(Fault::NotImplemented),

@@ -4,6 +4,7 @@
 pub mod conditions;
 mod content_types;
 pub mod dav;
+mod depths;
 pub mod etags;
 pub mod faults;
 mod fields;

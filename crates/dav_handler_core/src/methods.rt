@@ -1,5 +1,6 @@
 //! The methods, each on a session.
 mod changes;
+pub(crate) mod delete;
 pub(crate) mod get;
 pub(crate) mod mkcol;
 pub(crate) mod options;

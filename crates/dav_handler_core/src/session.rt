@@ -10,6 +10,7 @@ ghost use Rattle.dav_handler_core.specs.Sessions as spec;
 
 mod lookups;
 mod questions;
+mod removing;
 mod subtrees;
 mod unlocking;
 
@@ -66,6 +67,7 @@ impl<R: Rng> Session<R> {
             → SameLive (spec.caller self.old).now (spec.state R.stream self.old) (spec.state R.stream self.new) }
         ensures refused { OnErr result (SameLive (spec.caller self.old).now (spec.state R.stream self.old) (spec.state R.stream self.new)) }
         ensures caller { spec.caller self.new ≡ spec.caller self.old }
+        ensures shape { IsResourceMap (spec.state R.stream self.new).map }
     {
         self.request.command = command;
         self.stores.apply(&self.request, &mut self.rng)

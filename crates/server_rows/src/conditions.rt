@@ -171,13 +171,13 @@ PUT /a.txt HTTP/1.1|Host: h|If-Match: "1000000027-3"|If-None-Match: no tag|Conte
 PUT /a.txt HTTP/1.1|Host: h|If-Match: "1000000027-3"|If-None-Match: "1000000027-3"|Content-Length: 1||x = HTTP/1.1 412 Precondition Failed|content-length: 0||
 PUT /a.txt HTTP/1.1|Host: h|Range: bytes=0-0|If-Range: no tag|Content-Length: 5||whole = HTTP/1.1 204 No Content|etag: "1000000033-5"||
 GET /a.txt HTTP/1.1|Host: h|| = HTTP/1.1 200 OK|etag: "1000000033-5"|last-modified: Thu, 01 Jan 1970 00:00:01 GMT|content-type: text/plain|accept-ranges: bytes|content-length: 5||whole
-PUT /f HTTP/1.1|Host: h|If-Match: "x"|Content-Length: 1||x = HTTP/1.1 405 Method Not Allowed|allow: OPTIONS, GET, HEAD, PUT, MKCOL, UNLOCK|content-length: 0||
-PUT /f HTTP/1.1|Host: h|If-None-Match: *|Content-Length: 1||x = HTTP/1.1 405 Method Not Allowed|allow: OPTIONS, GET, HEAD, PUT, MKCOL, UNLOCK|content-length: 0||
-PUT /f HTTP/1.1|Host: h|If-Match: no tag|Content-Length: 1||x = HTTP/1.1 405 Method Not Allowed|allow: OPTIONS, GET, HEAD, PUT, MKCOL, UNLOCK|content-length: 0||
+PUT /f HTTP/1.1|Host: h|If-Match: "x"|Content-Length: 1||x = HTTP/1.1 405 Method Not Allowed|allow: OPTIONS, GET, HEAD, PUT, DELETE, MKCOL, UNLOCK|content-length: 0||
+PUT /f HTTP/1.1|Host: h|If-None-Match: *|Content-Length: 1||x = HTTP/1.1 405 Method Not Allowed|allow: OPTIONS, GET, HEAD, PUT, DELETE, MKCOL, UNLOCK|content-length: 0||
+PUT /f HTTP/1.1|Host: h|If-Match: no tag|Content-Length: 1||x = HTTP/1.1 405 Method Not Allowed|allow: OPTIONS, GET, HEAD, PUT, DELETE, MKCOL, UNLOCK|content-length: 0||
 PUT /no/a HTTP/1.1|Host: h|If-Match: "x"|Content-Length: 1||x = HTTP/1.1 409 Conflict|content-length: 0||
 PUT /no/a HTTP/1.1|Host: h|If-Match: no tag|Content-Length: 1||x = HTTP/1.1 409 Conflict|content-length: 0||
 PUT /a.txt/b HTTP/1.1|Host: h|If-Match: *|Content-Length: 1||x = HTTP/1.1 409 Conflict|content-length: 0||
-OPTIONS /a.txt HTTP/1.1|Host: h|If-Match: "x"|| = HTTP/1.1 200 OK|dav: 1, 2|allow: OPTIONS, GET, HEAD, PUT, MKCOL, UNLOCK|ms-author-via: DAV|content-length: 0||
+OPTIONS /a.txt HTTP/1.1|Host: h|If-Match: "x"|| = HTTP/1.1 200 OK|dav: 1, 2|allow: OPTIONS, GET, HEAD, PUT, DELETE, MKCOL, UNLOCK|ms-author-via: DAV|content-length: 0||
 GET /a.txt HTTP/1.1|Host: h|Connection: close|| = HTTP/1.1 200 OK|etag: "1000000033-5"|last-modified: Thu, 01 Jan 1970 00:00:01 GMT|content-type: text/plain|accept-ranges: bytes|content-length: 5|connection: close||whole
 
 at / x-user 1000000000

@@ -1,12 +1,12 @@
 //! The rows of MKCOL (RFC 4918 section 9.3), in the form of `rows`.
 pub(crate) const FOLDERS: &str = r#"at / - 1000000000
 MKCOL /d HTTP/1.1|Host: h|| = HTTP/1.1 201 Created|content-length: 0||
-MKCOL /d HTTP/1.1|Host: h|| = HTTP/1.1 405 Method Not Allowed|allow: OPTIONS, GET, HEAD, PUT, MKCOL, UNLOCK|content-length: 0||
-MKCOL /d/ HTTP/1.1|Host: h|| = HTTP/1.1 405 Method Not Allowed|allow: OPTIONS, GET, HEAD, PUT, MKCOL, UNLOCK|content-length: 0||
-MKCOL / HTTP/1.1|Host: h|| = HTTP/1.1 405 Method Not Allowed|allow: OPTIONS, GET, HEAD, PUT, MKCOL, UNLOCK|content-length: 0||
+MKCOL /d HTTP/1.1|Host: h|| = HTTP/1.1 405 Method Not Allowed|allow: OPTIONS, GET, HEAD, PUT, DELETE, MKCOL, UNLOCK|content-length: 0||
+MKCOL /d/ HTTP/1.1|Host: h|| = HTTP/1.1 405 Method Not Allowed|allow: OPTIONS, GET, HEAD, PUT, DELETE, MKCOL, UNLOCK|content-length: 0||
+MKCOL / HTTP/1.1|Host: h|| = HTTP/1.1 405 Method Not Allowed|allow: OPTIONS, GET, HEAD, PUT, DELETE, MKCOL, UNLOCK|content-length: 0||
 MKCOL /d/e/ HTTP/1.1|Host: h|| = HTTP/1.1 201 Created|content-length: 0||
 PUT /d/e/f HTTP/1.1|Host: h|Content-Length: 1||x = HTTP/1.1 201 Created|etag: "1000000005-1"|content-length: 0||
-MKCOL /d/e/f HTTP/1.1|Host: h|| = HTTP/1.1 405 Method Not Allowed|allow: OPTIONS, GET, HEAD, PUT, MKCOL, UNLOCK|content-length: 0||
+MKCOL /d/e/f HTTP/1.1|Host: h|| = HTTP/1.1 405 Method Not Allowed|allow: OPTIONS, GET, HEAD, PUT, DELETE, MKCOL, UNLOCK|content-length: 0||
 MKCOL /d/e/f/g HTTP/1.1|Host: h|| = HTTP/1.1 409 Conflict|content-length: 0||
 MKCOL /no/e HTTP/1.1|Host: h|| = HTTP/1.1 409 Conflict|content-length: 0||
 MKCOL /d/h HTTP/1.1|Host: h|Content-Length: 1||x = HTTP/1.1 415 Unsupported Media Type|content-length: 0||
@@ -17,7 +17,7 @@ MKCOL /%00 HTTP/1.1|Host: h|| = HTTP/1.1 400 Bad Request|content-length: 0||
 MKCOL /d/i HTTP/1.1|Host: h|If: (<a:b>)|| = HTTP/1.1 412 Precondition Failed|content-length: 0||
 MKCOL /d/i HTTP/1.1|Host: h|If: no list|| = HTTP/1.1 400 Bad Request|content-length: 0||
 MKCOL /d/i HTTP/1.1|Host: h|If: (Not <a:b>)|| = HTTP/1.1 201 Created|content-length: 0||
-PUT /d/i HTTP/1.1|Host: h|Content-Length: 1||x = HTTP/1.1 405 Method Not Allowed|allow: OPTIONS, GET, HEAD, PUT, MKCOL, UNLOCK|content-length: 0||
+PUT /d/i HTTP/1.1|Host: h|Content-Length: 1||x = HTTP/1.1 405 Method Not Allowed|allow: OPTIONS, GET, HEAD, PUT, DELETE, MKCOL, UNLOCK|content-length: 0||
 
 at /dav x-user 1000000000
 lock ann exclusive shallow /d

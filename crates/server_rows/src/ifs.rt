@@ -18,7 +18,7 @@ PUT /a HTTP/1.1|Host: h|X-User: bob|If: (["1000000004-3"])|Content-Length: 1||x 
 PUT /a HTTP/1.1|Host: h|X-User: bob|If: (["x"])|Content-Length: 1||x = HTTP/1.1 412 Precondition Failed|content-length: 0||
 PUT /a HTTP/1.1|Host: h|X-User: ann|If: (["x"])|Content-Length: 1||x = HTTP/1.1 412 Precondition Failed|content-length: 0||
 PUT / HTTP/1.1|Host: h|X-User: ann|If: (["x"])|Content-Length: 1||x = HTTP/1.1 412 Precondition Failed|content-length: 0||
-PUT / HTTP/1.1|Host: h|X-User: ann|If: (Not ["x"])|Content-Length: 1||x = HTTP/1.1 405 Method Not Allowed|allow: OPTIONS, GET, HEAD, PUT, MKCOL, UNLOCK|content-length: 0||
+PUT / HTTP/1.1|Host: h|X-User: ann|If: (Not ["x"])|Content-Length: 1||x = HTTP/1.1 405 Method Not Allowed|allow: OPTIONS, GET, HEAD, PUT, DELETE, MKCOL, UNLOCK|content-length: 0||
 PUT /no/a HTTP/1.1|Host: h|X-User: ann|If: (["x"])|Content-Length: 1||x = HTTP/1.1 412 Precondition Failed|content-length: 0||
 PUT /no/a HTTP/1.1|Host: h|X-User: ann|If: (Not ["x"])|Content-Length: 1||x = HTTP/1.1 409 Conflict|content-length: 0||
 PUT /a HTTP/1.1|Host: h|X-User: ann|If: (["x"|Content-Length: 1||x = HTTP/1.1 400 Bad Request|content-length: 0||
@@ -32,7 +32,7 @@ GET /a HTTP/1.1|Host: h|X-User: bob|If: (["1000000004-3"])|If-Match: "x"|| = HTT
 PUT /a HTTP/1.1|Host: h|X-User: bob|If: (["1000000004-3"])|If-Match: "x"|Content-Length: 1||x = {locked /a}
 PUT /a HTTP/1.1|Host: h|X-User: ann|If: (<{0}>)|If-Match: "x"|Content-Length: 1||x = HTTP/1.1 412 Precondition Failed|content-length: 0||
 PUT /a HTTP/1.1|Host: h|X-User: ann|If: (<{0}>)|If-Match: "1000000004-3"|Content-Length: 2||xy = HTTP/1.1 204 No Content|etag: "1000000016-2"||
-OPTIONS /a HTTP/1.1|Host: h|X-User: ann|If: (["x"])|| = HTTP/1.1 200 OK|dav: 1, 2|allow: OPTIONS, GET, HEAD, PUT, MKCOL, UNLOCK|ms-author-via: DAV|content-length: 0||
+OPTIONS /a HTTP/1.1|Host: h|X-User: ann|If: (["x"])|| = HTTP/1.1 200 OK|dav: 1, 2|allow: OPTIONS, GET, HEAD, PUT, DELETE, MKCOL, UNLOCK|ms-author-via: DAV|content-length: 0||
 PROPFIND /b HTTP/1.1|Host: h|X-User: ann|If: (["x"])|| = HTTP/1.1 501 Not Implemented|content-length: 0||
 GET /a HTTP/1.1|Host: h|X-User: bob|Connection: close|| = HTTP/1.1 200 OK|etag: "1000000016-2"|last-modified: Thu, 01 Jan 1970 00:00:01 GMT|content-type: application/octet-stream|accept-ranges: bytes|content-length: 2|connection: close||xy
 

@@ -12,6 +12,8 @@ mod playing;
 #[cfg(test)]
 mod ranges;
 #[cfg(test)]
+mod removals;
+#[cfg(test)]
 mod rows;
 #[cfg(test)]
 mod unlocks;

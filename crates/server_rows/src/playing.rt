@@ -3,6 +3,7 @@ use crate::conditions::CONDITIONS;
 use crate::folders::FOLDERS;
 use crate::ifs::IFS;
 use crate::ranges::RANGES;
+use crate::removals::REMOVALS;
 use crate::rows::ROWS;
 use crate::unlocks::UNLOCKS;
 use dav_handler_core::conditions::Scheme;
@@ -299,4 +300,9 @@ fn makes_each_folder(rt: HostRuntime) -> Result<(), Fail> {
 #[test]
 fn ends_each_lock(rt: HostRuntime) -> Result<(), Fail> {
     play(&rt, UNLOCKS)
+}
+
+#[test]
+fn removes_each_place(rt: HostRuntime) -> Result<(), Fail> {
+    play(&rt, REMOVALS)
 }

@@ -4,7 +4,7 @@
 //! the second, and `{n}` a line feed. `{locked /a}` is the answer 423 that tells a lock at `/a`, and `{no lock}` the answer 409 to an UNLOCK whose token is of
 //! no lock there; a row of each has them whole.
 pub(crate) const ROWS: &str = r#"at / - 1000000000
-OPTIONS * HTTP/1.1|Host: h|| = HTTP/1.1 200 OK|dav: 1, 2|allow: OPTIONS, GET, HEAD, PUT, MKCOL, UNLOCK|ms-author-via: DAV|content-length: 0||
+OPTIONS * HTTP/1.1|Host: h|| = HTTP/1.1 200 OK|dav: 1, 2|allow: OPTIONS, GET, HEAD, PUT, DELETE, MKCOL, UNLOCK|ms-author-via: DAV|content-length: 0||
 GET /a.txt HTTP/1.1|Host: h|| = HTTP/1.1 404 Not Found|content-length: 0||
 PUT /a.txt HTTP/1.1|Host: h|Content-Length: 5||hello = HTTP/1.1 201 Created|etag: "1000000001-5"|content-length: 0||
 GET /a.txt HTTP/1.1|Host: h|| = HTTP/1.1 200 OK|etag: "1000000001-5"|last-modified: Thu, 01 Jan 1970 00:00:01 GMT|content-type: text/plain|accept-ranges: bytes|content-length: 5||hello
@@ -12,7 +12,7 @@ PUT /a.txt HTTP/1.1|Host: h|Content-Length: 26||a body that is cut in many = HTT
 HEAD /a.txt HTTP/1.1|Host: h|| = HTTP/1.1 200 OK|etag: "1000000002-26"|last-modified: Thu, 01 Jan 1970 00:00:01 GMT|content-type: text/plain|accept-ranges: bytes|content-length: 26||
 GET /./b/../%61.txt?x HTTP/1.1|Host: h|| = HTTP/1.1 200 OK|etag: "1000000002-26"|last-modified: Thu, 01 Jan 1970 00:00:01 GMT|content-type: text/plain|accept-ranges: bytes|content-length: 26||a body that is cut in many
 HEAD /no HTTP/1.1|Host: h|| = HTTP/1.1 404 Not Found||
-PUT / HTTP/1.1|Host: h|Content-Length: 1||x = HTTP/1.1 405 Method Not Allowed|allow: OPTIONS, GET, HEAD, PUT, MKCOL, UNLOCK|content-length: 0||
+PUT / HTTP/1.1|Host: h|Content-Length: 1||x = HTTP/1.1 405 Method Not Allowed|allow: OPTIONS, GET, HEAD, PUT, DELETE, MKCOL, UNLOCK|content-length: 0||
 PUT /no/a HTTP/1.1|Host: h|Content-Length: 1||x = HTTP/1.1 409 Conflict|content-length: 0||
 PUT /a.txt/b HTTP/1.1|Host: h|Content-Length: 1||x = HTTP/1.1 409 Conflict|content-length: 0||
 GET /../a.txt HTTP/1.1|Host: h|| = HTTP/1.1 403 Forbidden|content-length: 0||
@@ -35,7 +35,7 @@ GET /dav/b HTTP/1.1|Host: h|X-User: ann|| = HTTP/1.1 404 Not Found|content-lengt
 GET /a HTTP/1.1|Host: h|| = HTTP/1.1 404 Not Found|content-length: 0||
 GET /davx HTTP/1.1|Host: h|X-User: ann|| = HTTP/1.1 404 Not Found|content-length: 0||
 GET /dav/../../a HTTP/1.1|Host: h|| = HTTP/1.1 403 Forbidden|content-length: 0||
-OPTIONS /a HTTP/1.1|Host: h|| = HTTP/1.1 200 OK|dav: 1, 2|allow: OPTIONS, GET, HEAD, PUT, MKCOL, UNLOCK|ms-author-via: DAV|content-length: 0||
+OPTIONS /a HTTP/1.1|Host: h|| = HTTP/1.1 200 OK|dav: 1, 2|allow: OPTIONS, GET, HEAD, PUT, DELETE, MKCOL, UNLOCK|ms-author-via: DAV|content-length: 0||
 
 at / x-user 1000000000
 lock ann exclusive deep /a

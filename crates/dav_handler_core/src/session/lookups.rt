@@ -3,8 +3,8 @@ ghost use Rattle.std.specs.Prelude.{◌≡◌, ◌≢◌, ◌⊎◌, [], IfOk, I
 ghost use Rattle.dav_path_core.specs.Segments.{segments};
 ghost use Rattle.dav_files_core.specs.Meta.{meta_of};
 ghost use Rattle.dav_files_core.specs.Resources.{at_path};
-ghost use Rattle.dav_locks_core.specs.Locks.{discovered};
-ghost use Rattle.dav_handler_core.specs.Callers.{RunBy, SameLive, live, refusing_at};
+ghost use Rattle.dav_locks_core.specs.Locks.{check_conflicts, discovered};
+ghost use Rattle.dav_handler_core.specs.Callers.{RunBy, SameLive, as_caller, live, refusing_at};
 ghost use Rattle.dav_handler_core.specs.FileTags.{standing_as, standing_of};
 ghost use Rattle.dav_handler_core.specs.LocksInTheWay.{IsRefusedBy};
 ghost use Rattle.dav_handler_core.specs.Private.Marking.{HasShownTag};
@@ -46,7 +46,21 @@ impl<R: Rng> Session<R> {
         ensures live { SameLive (spec.caller self.old).now (spec.state R.stream self.old) (spec.state R.stream self.new) }
         ensures caller { spec.caller self.new ≡ spec.caller self.old }
     {
-        match self.ask(Command::Check { path, deep: false }) {
+        self.check_reached(path, false)
+    }
+
+    /// Whether the locks let the caller change what stands at a path, and where it is deep all below it (RFC 4918 section 7). `Locked` where one stands in
+    /// the way, with its path.
+    pub fn check_reached(&mut self, path: DavPath, deep: bool) -> Result<(), Fault>
+        ensures ok { OnOk result (check_conflicts (live (spec.caller self.old).now (spec.state R.stream self.old)).locks (segments path.bytes) deep
+            (as_caller (spec.caller self.old)) ≡ []) }
+        ensures err { IfErr result (λ e. IsRefusedBy (check_conflicts (live (spec.caller self.old).now (spec.state R.stream self.old)).locks (segments path.bytes) deep
+            (as_caller (spec.caller self.old))) e) }
+        ensures run { RunBy (spec.caller self.old) (spec.state R.stream self.old) (spec.state R.stream self.new) }
+        ensures live { SameLive (spec.caller self.old).now (spec.state R.stream self.old) (spec.state R.stream self.new) }
+        ensures caller { spec.caller self.new ≡ spec.caller self.old }
+    {
+        match self.ask(Command::Check { path, deep }) {
             Ok(_) => Ok(()),
             Err(Refusal::Locked(lock)) => Err(Fault::Locked(lock.path)),
             Err(_) => Err(Fault::InsufficientStorage),

@@ -4,7 +4,7 @@ ghost use Rattle.dav_path_core.specs.Segments.{segments};
 ghost use Rattle.dav_files_core.specs.declared.memfs.Kind.TheVariants.{File, Folder};
 ghost use Rattle.dav_files_core.specs.Listing.{entry_of, read_dir};
 ghost use Rattle.dav_files_core.specs.Meta.{meta_at, meta_of};
-ghost use Rattle.dav_files_core.specs.Resources.{Resource, at_path};
+ghost use Rattle.dav_files_core.specs.Resources.{IsResourceMap, Resource, at_path};
 ghost use Rattle.dav_handler_core.specs.Callers.{RunBy, SameLive};
 ghost use Rattle.dav_handler_core.specs.Private.Refusing.{list_fault};
 ghost use Rattle.dav_handler_core.specs.Sessions as spec;
@@ -29,6 +29,7 @@ impl<R: Rng> Session<R> {
         ensures run { RunBy (spec.caller self.old) (spec.state R.stream self.old) (spec.state R.stream self.new) }
         ensures live { SameLive (spec.caller self.old).now (spec.state R.stream self.old) (spec.state R.stream self.new) }
         ensures caller { spec.caller self.new ≡ spec.caller self.old }
+        ensures shape { IsResourceMap (spec.state R.stream self.new).map }
     {
         match self.ask(Command::Meta { path }) {
             Ok(Reply::Meta(meta)) => Some(meta),

@@ -5,7 +5,7 @@ ghost use Rattle.dav_path_core.specs.Reading.{CanBeSegment};
 ghost use Rattle.dav_path_core.specs.Segments.{segments};
 ghost use Rattle.dav_files_core.specs.declared.memfs.listing.MemFsEntry.{MemFsEntry};
 ghost use Rattle.dav_files_core.specs.Finding.{has_members};
-ghost use Rattle.dav_files_core.specs.Resources.{IsResourceMap, ResourceMap, at_path};
+ghost use Rattle.dav_files_core.specs.Resources.{ResourceMap, at_path};
 ghost use Rattle.dav_handler_core.specs.Callers.{RunBy, SameLive};
 ghost use Rattle.dav_handler_core.specs.Private.Gathering.{HasOddMember, MembersAre, paths_in};
 ghost use Rattle.dav_handler_core.specs.Sessions as spec;
@@ -28,8 +28,8 @@ impl<R: Rng> Session<R> {
     /// `NotFound` where nothing stands there; `BadRequest` where a name below it is one that no path has which is read, as only calls past path reading
     /// can make one.
     pub fn walk(&mut self, alloc: Global, path: DavPath) -> Result<Vec<DavPath>, Fault>
-        ensures ok { IfOk result (λ places. IsResourceMap (spec.state R.stream self.old).map
-            → IsWalk (spec.state R.stream self.old).map (segments path.bytes) (map (λ p. segments p.bytes) places.items)) }
+        ensures ok { IfOk result (λ places.
+            IsWalk (spec.state R.stream self.old).map (segments path.bytes) (map (λ p. segments p.bytes) places.items)) }
         ensures found { OnOk result (IsSome (at_path (spec.state R.stream self.old).map (segments path.bytes))) }
         ensures err { IfErr result (λ e. (e ≡ fault.InsufficientStorage)
             ⊎ ((e ≡ fault.NotFound) × (at_path (spec.state R.stream self.old).map (segments path.bytes) ≡ None))

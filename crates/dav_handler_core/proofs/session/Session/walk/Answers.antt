@@ -1,10 +1,11 @@
-use Rattle.std.proofs.Common.{ap, ◌∙◌}
+use Rattle.std.proofs.Common.{ap, ◌∙◌, subst}
 use Rattle.std.specs.Prelude.{not, option_map}
 use Rattle.std.proofs.lemmas.Result.{err_from_is_err_and}
 use Rattle.dav_path_core.specs.PathText.{PathText}
 use Rattle.dav_path_core.specs.Segments.{segments}
 use Rattle.dav_files_core.specs.Meta.{meta_at}
-use Rattle.dav_files_core.specs.Resources.{Resource, at_path}
+use Rattle.dav_files_core.specs.Resources.{IsResourceMap, Resource, at_path}
+use Rattle.dav_resource_core.specs.Step.{State}
 use Rattle.dav_handler_core.specs.Sessions as spec
 use Rattle.dav_handler_core.proofs.CallerLaws.{by_none}
 use Rattle.dav_handler_core.proofs.ConditionLemmas.{looks_none, looks_on}
@@ -70,6 +71,7 @@ loop-place-preserved g c =
     }
 
 pub returns-clause-ok : goal.returns-clause-ok
-returns-clause-ok g c = λ is_map.
+returns-clause-ok g c =
+    let is_map = subst IsResourceMap (ap (λ (s : State). s.map) c.meta.ensures.live) c.meta.ensures.shape in
     ended (λ p. segments p.bytes) (spec.state g.R.Rng.stream c.args.self.now).map (segments c.args.path.bytes) c.loop-place.places.items c.loop-place.waiting.items
     (nothing_left c.loop-place.waiting.items c.loop-place.waiting.len c.loop-place.waiting.ok.0 c.in_default.ensures.cases.0) c.loop-place.invariant.walking is_map

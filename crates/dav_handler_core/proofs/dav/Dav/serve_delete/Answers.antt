@@ -1,0 +1,28 @@
+use Rattle.std.proofs.Common.{true, refl, ap, subst}
+use Rattle.std.specs.Prelude.{IfOk, IfErr}
+use Rattle.http.specs.Request.{head_of}
+use Rattle.dav_path_core.specs.Segments.{segments}
+use Rattle.dav_handler_core.specs.Callers.{Caller, live}
+use Rattle.dav_handler_core.specs.Removing.{FailsToRemove, Removes}
+use Rattle.dav_handler_core.specs.Servers.{server}
+use Rattle.dav_handler_core.specs.Sessions.{caller, state}
+use Rattle.dav_handler_core.proofs.AnswerLemmas.{change_answered, moves_on}
+use Rattle.dav_handler_core.proofs.dav.Dav.serve_delete.Goals as goal
+
+pub returns-clause-answers : goal.returns-clause-answers
+returns-clause-answers g c =
+    let before = server g.R.Rng.stream c.args.self.now in
+    let mid = server g.R.Rng.stream c.begin_admitted.new.self in
+    let after = server g.R.Rng.stream (record c.begin_admitted.new.self { session = c.delete.new.session }) in
+    let who = caller c.begin_admitted.new.self.session in
+    let s = state g.R.Rng.stream c.begin_admitted.new.self.session in
+    let begun = c.in_ok-path.ensures.ok in
+    change_answered true (Removes (head_of c.args.request.now).headers) (FailsToRemove (head_of c.args.request.now).headers) before mid after c.args.request.now c.in_ok-path.path who
+    (ap (λ (w : Caller). w.now) c.delete.ensures.caller) begun.0.0 begun.1 (λ h. begun.0.1 refl) s c.begin_admitted.ensures.live c.delete.result
+    (subst (λ headers. IfOk c.delete.result (λ status. Removes headers (live who.now s) who (segments c.in_ok-path.path.bytes) status after.state)) c.headers.ensures c.delete.ensures.done)
+    (subst (λ headers. IfErr c.delete.result (λ e. FailsToRemove headers (live who.now s) who (segments c.in_ok-path.path.bytes) e)) c.headers.ensures c.delete.ensures.err)
+
+pub returns-clause-moves : goal.returns-clause-moves
+returns-clause-moves g c =
+    moves_on (server g.R.Rng.stream c.args.self.now) (server g.R.Rng.stream c.begin_admitted.new.self) _ c.args.request.now c.in_ok-path.path (caller c.begin_admitted.new.self.session)
+    c.in_ok-path.ensures.ok.0.0 c.begin_admitted.ensures.moves c.begin_admitted.ensures.run c.delete.ensures.run (ap (λ (w : Caller). w.now) c.delete.ensures.caller) refl refl

@@ -1,0 +1,77 @@
+//! DELETE.
+ghost use Rattle.std.specs.Prelude.{◌≡◌, IfErr, IfOk, OnErr};
+ghost use Rattle.dav_path_core.specs.Segments.{segments};
+ghost use Rattle.dav_files_core.specs.Folders.{is_root};
+ghost use Rattle.dav_handler_core.specs.Callers.{RunBy, SameLive, live};
+ghost use Rattle.dav_handler_core.specs.Private.Members.{by_place};
+ghost use Rattle.dav_handler_core.specs.Removing.{FailsToRemove, Removes, is_below};
+ghost use Rattle.dav_handler_core.specs.Sessions as spec;
+
+use crate::depths::check_whole;
+use crate::faults::Fault;
+use crate::session::{Session, copy_of};
+use dav_resource_core::davpath::DavPath;
+use http::StatusCode;
+use http_header::{HeaderMap, HeaderValue};
+use rand_core::Rng;
+use std::alloc::Global;
+
+/// Takes away what stands at a path, with all below it, and answers 204 (RFC 4918 section 9.6).
+///
+/// `BadRequest` for a depth that doesn't reach all the way down; `Forbidden` for the root; `NotFound` where nothing stands there; `Locked` where a lock
+/// at the path or above it refuses that any of it goes, and `MemberLocked` where one below it does; with the path of that lock.
+pub(crate) fn delete<R: Rng>(
+    alloc: Global,
+    session: &mut Session<R>,
+    headers: &HeaderMap<HeaderValue>,
+    path: DavPath,
+) -> Result<StatusCode, Fault>
+    ensures done { IfOk result (λ code. Removes headers.now (live (spec.caller session.old).now (spec.state R.stream session.old)) (spec.caller session.old)
+        (segments path.bytes) code (spec.state R.stream session.new)) }
+    ensures err { IfErr result (λ e. FailsToRemove headers.now (live (spec.caller session.old).now (spec.state R.stream session.old)) (spec.caller session.old)
+        (segments path.bytes) e) }
+    ensures refused { OnErr result (SameLive (spec.caller session.old).now (spec.state R.stream session.old) (spec.state R.stream session.new)) }
+    ensures run { RunBy (spec.caller session.old) (spec.state R.stream session.old) (spec.state R.stream session.new) }
+    ensures caller { spec.caller session.new ≡ spec.caller session.old }
+{
+    check_whole(headers)?;
+    if is_root(&path) {
+        return Err(Fault::Forbidden);
+    }
+    let places = session.walk(alloc, copy_of(&path)?)?;
+    match session.check_removal(&places) {
+        Ok(()) => (),
+        Err(fault) => return Err(by_place(&path, fault)),
+    }
+    session.remove_all(places);
+    Ok(StatusCode::NO_CONTENT)
+}
+
+// A lock that stands below the path is told as a member's.
+fn by_place(path: &DavPath, fault: Fault) -> Fault
+    ensures { result ≡ by_place (segments path.now.bytes) fault }
+{
+    match fault {
+        Fault::Locked(at) => if is_below(path, &at) {
+            Fault::MemberLocked(at)
+        } else {
+            Fault::Locked(at)
+        },
+        fault => fault,
+    }
+}
+
+// Whether the second path stands below the first.
+fn is_below(path: &DavPath, other: &DavPath) -> bool
+    ensures { result ≡ is_below (segments path.now.bytes) other.now }
+{
+    other.behind_prefix().is_at_or_below(path.behind_prefix())
+        && !path.behind_prefix().is_at_or_below(other.behind_prefix())
+}
+
+// Whether the path is that of the root.
+fn is_root(path: &DavPath) -> bool
+    ensures { result ≡ is_root (segments path.now.bytes) }
+{
+    path.segments().next().is_none()
+}

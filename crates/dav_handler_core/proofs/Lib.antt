@@ -7,6 +7,7 @@ pub mod ConditionLaws
 pub mod ConditionLemmas
 mod ConditionRows
 pub mod DecidingLaws
+pub mod DestinationLemmas
 pub mod FieldLemmas
 pub mod FileTagLemmas
 pub mod FrameLemmas

@@ -5,6 +5,7 @@ pub mod Conditions
 pub mod ContentTypes
 pub mod Deciding
 pub mod Depths
+pub mod Destinations
 pub mod Faults
 pub mod Fields
 pub mod FileTags

@@ -14,10 +14,10 @@ ghost use Rattle.dav_handler_core.specs.TaggedLists.{base_of, spoken};
 ghost use Rattle.dav_handler_core.specs.declared.listed_tags.Comparison.TheVariants.{Strong};
 ghost use Rattle.dav_handler_core.specs.declared.faults.Fault.TheVariants as fault;
 
-mod bases;
+pub(crate) mod bases;
 mod laws;
 mod state_tokens;
-mod tagged;
+pub(crate) mod tagged;
 
 use crate::faults::Fault;
 use crate::listed_tags::Comparison;

@@ -34,7 +34,7 @@ pub enum Fault {
     Locked(DavPath),
     /// 501: the method isn't served (RFC 9110 section 15.6.2).
     NotImplemented,
-    /// 502: the `Destination` is another server's (RFC 4918 section 9.8.5).
+    /// 502: the `Destination` is another server's, or not behind the prefix (RFC 4918 section 9.8.5).
     BadGateway,
     /// 503: no later moment is left for a change (own).
     ServiceUnavailable,

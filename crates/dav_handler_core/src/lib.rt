@@ -5,6 +5,7 @@ pub mod conditions;
 mod content_types;
 pub mod dav;
 mod depths;
+mod destinations;
 pub mod etags;
 pub mod faults;
 mod fields;

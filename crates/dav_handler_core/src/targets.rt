@@ -1,11 +1,13 @@
 //! The path that the target of a request names.
 ghost use Rattle.std.specs.Prelude.{◌≡◌, ◌⊎◌, IfErr, IfOk};
+ghost use Rattle.dav_path_core.specs.declared.davpath.ParseError.TheVariants as parse;
+ghost use Rattle.dav_path_core.specs.PathText.{PathText};
 ghost use Rattle.dav_handler_core.specs.Refusals.{RefusesTarget};
-ghost use Rattle.dav_handler_core.specs.Targets.{IsTargetOf};
+ghost use Rattle.dav_handler_core.specs.Targets.{IsPathOf, IsTargetOf, RefusesPath};
 ghost use Rattle.dav_handler_core.specs.declared.faults.Fault.TheVariants as fault;
 
 use crate::faults::Fault;
-use dav_resource_core::davpath::DavPath;
+use dav_resource_core::davpath::{DavPath, ParseError};
 use http::Uri;
 use std::alloc::Global;
 
@@ -16,7 +18,19 @@ pub(crate) fn target_of(alloc: Global, uri: &Uri, prefix: &str) -> Result<DavPat
     ensures ok { IfOk result (λ path. IsTargetOf prefix.now uri.now path) }
     ensures err { IfErr result (λ e. (e ≡ fault.InsufficientStorage) ⊎ RefusesTarget prefix.now uri.now e) }
 {
-    let mut path = DavPath::new(alloc, uri.path())?;
-    path.set_prefix(prefix)?;
-    Ok(path)
+    Ok(path_behind(alloc, uri.path(), prefix)?)
+}
+
+/// The path that a text is read as, behind the prefix.
+pub(crate) fn path_behind(alloc: Global, text: &str, prefix: &str) -> Result<DavPath, ParseError>
+    ensures ok { IfOk result (λ path. IsPathOf prefix.now text.now path) }
+    // A text that has such a path is refused for memory alone.
+    ensures only { (path : PathText) → IsPathOf prefix.now text.now path → IfErr result (λ e. e ≡ parse.OutOfMemory) }
+    ensures err { IfErr result (λ e. RefusesPath prefix.now text.now e) }
+{
+    let mut path = DavPath::new(alloc, text)?;
+    match path.set_prefix(prefix) {
+        Ok(()) => Ok(path),
+        Err(error) => Err(error),
+    }
 }

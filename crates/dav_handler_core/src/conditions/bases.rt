@@ -31,7 +31,7 @@ fn front_of(scheme: Scheme) -> &'static str
 }
 
 /// The scheme, and the host and port of the request's `Host` (RFC 9112 section 3.3). `BadRequest` where it has no `Host`, several, or one that is no host.
-pub(super) fn base_of(
+pub(crate) fn base_of(
     alloc: Global,
     scheme: Scheme,
     headers: &HeaderMap<HeaderValue>,
@@ -51,7 +51,7 @@ pub(super) fn base_of(
 }
 
 // The URL that a text spells.
-fn url_of(alloc: Global, text: &str) -> Result<Url, Fault>
+pub(crate) fn url_of(alloc: Global, text: &str) -> Result<Url, Fault>
     ensures { MatchResult result (λ url. url_of text.now ≡ Some url) (λ e. (e ≡ fault.InsufficientStorage) ⊎ ((e ≡ fault.BadRequest) × (url_of text.now ≡ None))) }
 {
     match Url::parse(alloc, text) {

@@ -10,12 +10,13 @@ ghost use Rattle.dav_handler_core.specs.TaggedLists.{IsSameServer, Names, Speaks
 ghost use Rattle.dav_handler_core.specs.declared.faults.Fault.TheVariants as fault;
 
 use crate::faults::Fault;
+use crate::targets::path_behind;
 use dav_resource_core::davpath::{DavPath, ParseError};
 use std::alloc::Global;
 use url::Url;
 
 // Whether the scheme, the host and the port are the same.
-fn is_same_server(url: &Url, other: &Url) -> bool
+pub(crate) fn is_same_server(url: &Url, other: &Url) -> bool
     ensures { IsTrue result ↔ IsSameServer url.now other.now }
 {
     url.scheme() == other.scheme()
@@ -41,12 +42,8 @@ fn path_of(alloc: Global, text: &str, prefix: &str) -> Result<Option<DavPath>, F
         (λ path. IsPathOf prefix.now text.now path)) }
     ensures err { IfErr result (λ e. e ≡ fault.InsufficientStorage) }
 {
-    let mut path = match DavPath::new(alloc, text) {
-        Ok(path) => path,
-        Err(error) => return no_path(error),
-    };
-    match path.set_prefix(prefix) {
-        Ok(()) => Ok(Some(path)),
+    match path_behind(alloc, text, prefix) {
+        Ok(path) => Ok(Some(path)),
         Err(error) => no_path(error),
     }
 }

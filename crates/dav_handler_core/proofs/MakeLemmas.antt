@@ -10,13 +10,14 @@ use Rattle.dav_files_core.specs.declared.memfs.Kind.{Kind}
 use Rattle.dav_files_core.specs.declared.memfs.Kind.TheVariants.{Folder, File}
 use Rattle.dav_files_core.specs.Finding.{refusal_at}
 use Rattle.dav_files_core.specs.Folders.{create_dir}
+use Rattle.dav_files_core.specs.Following.{dated}
 use Rattle.dav_files_core.specs.Outcomes.{Outcome, ◌>>=◌, only_folder, added, changed, touched_at, touched, new_folder}
 use Rattle.dav_files_core.specs.Resources.{Resource, ResourceMap, at_path}
 use Rattle.dav_resource_core.specs.Requests.{Command, Reply, Refusal, Fs, Locked, NoLock, OutOfMemory}
 use Rattle.dav_resource_core.specs.Step.{State, Serves}
 use Rattle.dav_resource_core.proofs.Frame.{change_left}
 use Rattle.dav_handler_core.specs.Callers.{Caller, asking}
-use Rattle.dav_handler_core.specs.Making.{FailsToMake, Makes, changed_at, in_the_way}
+use Rattle.dav_handler_core.specs.Making.{FailsToMake, Makes, in_the_way}
 use Rattle.dav_handler_core.specs.Private.Refusing.{put_fault, unputtable}
 use Rattle.dav_handler_core.proofs.PutLemmas.{change_err, rebuilt}
 
@@ -76,23 +77,23 @@ module _ (m m' : ResourceMap) (p : Path) (now : ℕ) (h : Placed m p now m') whe
   still_above : at_path grown (parent p) ≡ Some h.above
   still_above = get_other path_total path_exact m.entries p folder (parent p) above_apart ∙ h.stands
 
-  abbrev dated : ResourceMap
-  dated = changed grown (parent p) h.above (record h.above.node { modified = now })
+  abbrev dated_map : ResourceMap
+  dated_map = changed grown (parent p) h.above (record h.above.node { modified = now })
 
-  is_dated : m' ≡ dated
+  is_dated : m' ≡ dated_map
   is_dated = h.left ∙ ap (touched_at grown (parent p) now) still_above
 
   made_here : at_path m' p ≡ Some folder
   made_here =
-      ap (λ (n : ResourceMap). at_path n p) is_dated ∙ get_other path_total path_exact grown.entries (parent p) (changed_at now h.above) p apart
+      ap (λ (n : ResourceMap). at_path n p) is_dated ∙ get_other path_total path_exact grown.entries (parent p) (dated now h.above) p apart
       ∙ get_same path_total path_exact m.entries p folder
 
-  made_above : at_path m' (parent p) ≡ Some (changed_at now h.above)
-  made_above = ap (λ (n : ResourceMap). at_path n (parent p)) is_dated ∙ get_same path_total path_exact grown.entries (parent p) (changed_at now h.above)
+  made_above : at_path m' (parent p) ≡ Some (dated now h.above)
+  made_above = ap (λ (n : ResourceMap). at_path n (parent p)) is_dated ∙ get_same path_total path_exact grown.entries (parent p) (dated now h.above)
 
   made_others : (q : Path) → q ≢ p → q ≢ parent p → at_path m' q ≡ at_path m q
   made_others q other below =
-      ap (λ (n : ResourceMap). at_path n q) is_dated ∙ get_other path_total path_exact grown.entries (parent p) (changed_at now h.above) q below
+      ap (λ (n : ResourceMap). at_path n q) is_dated ∙ get_other path_total path_exact grown.entries (parent p) (dated now h.above) q below
       ∙ get_other path_total path_exact m.entries p folder q other
 
 pub made : (body : List ℕ) (who : Caller) (s s' : State) (p : Path) (reply : Reply) → body ≡ [] → Serves s (asking who (Command.MkCol p)) (Ok reply) s'
@@ -109,7 +110,7 @@ made body who s s' p reply none h =
       folder = record { number = s.map.next; node = new_folder who.now };
       here = made_here s.map s'.map p who.now placed;
       new = refl;
-      dated = made_above s.map s'.map p who.now placed;
+      changed = made_above s.map s'.map p who.now placed;
       others = made_others s.map s'.map p who.now placed;
       left = rebuilt s s' h.1.1;
     }

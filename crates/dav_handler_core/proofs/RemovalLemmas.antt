@@ -17,6 +17,7 @@ use Rattle.dav_path_core.proofs.lists.Snoc.{by_last, snoc_not_empty}
 use Rattle.dav_path_core.proofs.paths.FrontLemmas.{is_front-refl, is_front-trans}
 use Rattle.dav_files_core.specs.Finding.{has_members, refusal_at}
 use Rattle.dav_files_core.specs.Folders.{is_root, remove}
+use Rattle.dav_files_core.specs.Following.{dated}
 use Rattle.dav_files_core.specs.Outcomes.{◌>>=◌, touched, touched_at, without}
 use Rattle.dav_files_core.specs.Resources.{Resource, ResourceMap, at_path}
 use Rattle.dav_files_core.proofs.laws.DoneLemmas.{touched_none, touched_other}
@@ -30,7 +31,6 @@ use Rattle.dav_resource_core.specs.ResourceStep.{MayLackOnMap, changes}
 use Rattle.dav_resource_core.specs.Step.{Serves, State, Step}
 use Rattle.dav_resource_core.proofs.Frame.{change_left}
 use Rattle.dav_handler_core.specs.Callers.{Caller, as_caller, asking, live}
-use Rattle.dav_handler_core.specs.Making.{changed_at}
 use Rattle.dav_handler_core.specs.Removing.{IsRemoved, refusing_removal}
 use Rattle.dav_handler_core.specs.Subtrees.{IsWalk}
 use Rattle.dav_handler_core.proofs.MakeLemmas.{done, left_by}
@@ -96,13 +96,13 @@ module _ (m : ResourceMap) (q : Path) (now : ℕ) where
   taken_other : (p : Path) → p ≢ q → p ≢ parent q → at_path taken p ≡ at_path m p
   taken_other p other above = touched_other bare (parent q) now p above ∙ get_left path_total path_exact m.entries q p other
 
-  taken_above : q ≢ [] → at_path taken (parent q) ≡ option_map (changed_at now) (at_path m (parent q))
+  taken_above : q ≢ [] → at_path taken (parent q) ≡ option_map (dated now) (at_path m (parent q))
   taken_above no_root =
-      by (at_path bare (parent q)) refl ∙ ap (option_map (changed_at now)) (get_left path_total path_exact m.entries q (parent q) (above_other q no_root))
+      by (at_path bare (parent q)) refl ∙ ap (option_map (dated now)) (get_left path_total path_exact m.entries q (parent q) (above_other q no_root))
     where
-      by : (o : Option Resource) → at_path bare (parent q) ≡ o → at_path (touched_at bare (parent q) now o) (parent q) ≡ option_map (changed_at now) o
+      by : (o : Option Resource) → at_path bare (parent q) ≡ o → at_path (touched_at bare (parent q) now o) (parent q) ≡ option_map (dated now) o
       by None here = here
-      by (Some r) here = get_same path_total path_exact bare.entries (parent q) (changed_at now r)
+      by (Some r) here = get_same path_total path_exact bare.entries (parent q) (dated now r)
 
   -- something stands elsewhere exactly where it stood
   taken_stands : q ≢ [] → (p : Path) → p ≢ q → IsSome (at_path taken p) ↔ IsSome (at_path m p)
@@ -115,7 +115,7 @@ module _ (m : ResourceMap) (q : Path) (now : ℕ) where
         let e = ap is_some (taken_other p other above) in ((λ h. sym e ∙ h), λ h. e ∙ h)
   ]
     where
-      still : (o : Option Resource) → is_some (option_map (changed_at now) o) ≡ is_some o
+      still : (o : Option Resource) → is_some (option_map (dated now) o) ≡ is_some o
       still None = refl
       still (Some r) = refl
 
@@ -256,7 +256,7 @@ module _ (who : Caller) (p : Path) (s t t' : State) (before : List Path) (last :
     gone_all same none = record {
       gone = gone;
       above = ap (λ x. at_path t'.map (parent x)) (sym same) ∙ ap (λ (n : ResourceMap). at_path n (parent last)) k.map_is ∙ taken_above t.map last who.now last_no_root
-          ∙ ap (λ x. option_map (changed_at who.now) (at_path t.map (parent x))) same ∙ ap (option_map (changed_at who.now)) h.above;
+          ∙ ap (λ x. option_map (dated who.now) (at_path t.map (parent x))) same ∙ ap (option_map (dated who.now)) h.above;
       others = λ q out above. elsewhere q (out_last q out) (λ e. above (e ∙ ap parent same)) ∙ h.others q out;
       locks = k.locks_are ∙ ap (λ x. without_below x locks) same ∙ h.locks;
       rng = k.rng_is ∙ h.rng;

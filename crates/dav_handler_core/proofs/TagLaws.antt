@@ -15,6 +15,7 @@ use Rattle.dav_path_core.specs.Segments.{segments}
 use Rattle.dav_path_core.proofs.lists.FinMaps.{dec, inserted, one_some, none_some}
 use Rattle.dav_path_core.proofs.lists.Orders.{path_total, path_exact}
 use Rattle.dav_files_core.specs.declared.memfs.Kind.TheVariants.{Folder, File}
+use Rattle.dav_files_core.specs.Following.{dated}
 use Rattle.dav_files_core.specs.Outcomes.{new_folder, start}
 use Rattle.dav_files_core.specs.Resources.{Node, Resource, ResourceMap, at_path}
 use Rattle.dav_resource_core.specs.Step.{State}
@@ -22,7 +23,7 @@ use Rattle.dav_handler_core.specs.declared.faults.Fault.{Fault}
 use Rattle.dav_handler_core.specs.Answers.{Answers, AnswersTo, Server, as_found}
 use Rattle.dav_handler_core.specs.Callers.{Caller, SameLive}
 use Rattle.dav_handler_core.specs.Fields.{Sent, sent_of}
-use Rattle.dav_handler_core.specs.Making.{Makes, changed_at}
+use Rattle.dav_handler_core.specs.Making.{Makes}
 use Rattle.dav_handler_core.specs.Putting.{Puts}
 use Rattle.dav_handler_core.specs.Removing.{IsRemoved}
 use Rattle.dav_handler_core.specs.Serving.{Leads}
@@ -76,7 +77,7 @@ make_dates before after body who p status later h = record {
         absurd (cc)
     | inr apart ↦ elim (dec path_total path_exact has.0 (parent p)) [
       | inl above ↦
-          let is = one_some (at_path after.state.map (parent p)) file (changed_at who.now h.above) (subst (λ q. at_path after.state.map q ≡ Some file) above has.1) h.dated in
+          let is = one_some (at_path after.state.map (parent p)) file (dated who.now h.above) (subst (λ q. at_path after.state.map q ≡ Some file) above has.1) h.changed in
           let kinds : File ≡ Folder = sym has.2 ∙ ap (λ (r : Resource). r.node.kind) is ∙ h.kind in
           absurd (cc)
       | inr below ↦ inl (file, (has.0, sym (h.others has.0 apart below) ∙ has.1, has.2), refl, refl)
@@ -96,7 +97,7 @@ remove_dates before after p later h = record {
   moments = omega (arith, later);
   files = λ file has. elim (dec path_total path_exact has.0 (parent p)) [
     | inl above ↦
-        let is = dated file (at_path before.state.map (parent p)) (sym (subst (λ q. at_path after.state.map q ≡ Some file) above has.1) ∙ h.above) in
+        let is = dated_file file (at_path before.state.map (parent p)) (sym (subst (λ q. at_path after.state.map q ≡ Some file) above has.1) ∙ h.above) in
         inr (later, is.0, is.1)
     | inr below ↦ elim (cases_Bool (is_front p has.0)) [
       | inl inside ↦ none_some (at_path after.state.map has.0) file (h.gone has.0 inside) has.1
@@ -105,10 +106,10 @@ remove_dates before after p later h = record {
   ];
 }
   where
-    dated : (file : Resource) (o : Option Resource) → Some file ≡ option_map (changed_at after.last) o → (file.node.modified ≡ after.last) × (file.node.bytes ≡ bytes_of o)
-    dated file None h = absurd (cc)
-    dated file (Some r) h =
-        let is : file ≡ changed_at after.last r = cc in (ap (λ (x : Resource). x.node.modified) is, ap (λ (x : Resource). x.node.bytes) is)
+    dated_file : (file : Resource) (o : Option Resource) → Some file ≡ option_map (dated after.last) o → (file.node.modified ≡ after.last) × (file.node.bytes ≡ bytes_of o)
+    dated_file file None h = absurd (cc)
+    dated_file file (Some r) h =
+        let is : file ≡ dated after.last r = cc in (ap (λ (x : Resource). x.node.modified) is, ap (λ (x : Resource). x.node.bytes) is)
 
 live_map : (now : ℕ) (s s' : State) → SameLive now s s' → s'.map ≡ s.map
 live_map now s s' h = ap (λ (s : State). s.map) h

@@ -4,6 +4,7 @@ use Rattle.dav_path_core.specs.declared.errors.FsError.{FsError}
 use Rattle.dav_path_core.specs.Fronts.{Path, parent}
 use Rattle.dav_files_core.specs.declared.memfs.Kind.TheVariants.{Folder}
 use Rattle.dav_files_core.specs.Folders.{create_dir}
+use Rattle.dav_files_core.specs.Following.{dated}
 use Rattle.dav_files_core.specs.Outcomes.{new_folder}
 use Rattle.dav_files_core.specs.Resources.{Resource, at_path}
 use Rattle.dav_locks_core.specs.Lock.{Lock}
@@ -13,10 +14,6 @@ use Rattle.dav_handler_core.specs.declared.faults.Fault.{Fault}
 use Rattle.dav_handler_core.specs.declared.faults.Fault.TheVariants as fault
 use Rattle.dav_handler_core.specs.Callers.{Caller, asking}
 use Rattle.dav_handler_core.specs.LocksInTheWay.{IsPathOfOne}
-
--- the resource, changed last at the moment
-abbrev pub changed_at : ℕ → Resource → Resource
-changed_at now r = record { number = r.number; node = record r.node { modified = now } }
 
 -- a folder without members or properties stands there, made at the moment
 abbrev pub IsNewFolder : ℕ → Resource → Type 0
@@ -34,7 +31,7 @@ pub record Makes (body : List ℕ) (s : State) (who : Caller) (p : Path) (status
   pub folder : Resource
   pub here : at_path s'.map p ≡ Some folder
   pub new : IsNewFolder who.now folder
-  pub dated : at_path s'.map (parent p) ≡ Some (changed_at who.now above)
+  pub changed : at_path s'.map (parent p) ≡ Some (dated who.now above)
   pub others : (q : Path) → q ≢ p → q ≢ parent p → at_path s'.map q ≡ at_path s.map q
   pub left : s' ≡ record s { map = s'.map }
 

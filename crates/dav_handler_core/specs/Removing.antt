@@ -6,6 +6,7 @@ use Rattle.http_header.specs.HeaderMap.{Entries}
 use Rattle.dav_path_core.specs.Fronts.{Path, is_front, parent}
 use Rattle.dav_path_core.specs.PathText.{PathText}
 use Rattle.dav_path_core.specs.Segments.{segments}
+use Rattle.dav_files_core.specs.Following.{dated}
 use Rattle.dav_files_core.specs.Resources.{at_path}
 use Rattle.dav_locks_core.specs.Lock.{Lock}
 use Rattle.dav_locks_core.specs.Locks.{without_below}
@@ -16,7 +17,6 @@ use Rattle.dav_handler_core.specs.declared.faults.Fault.TheVariants as fault
 use Rattle.dav_handler_core.specs.Callers.{Caller, as_caller}
 use Rattle.dav_handler_core.specs.Depths.{ReachesAll}
 use Rattle.dav_handler_core.specs.LocksInTheWay.{IsPathOfOne}
-use Rattle.dav_handler_core.specs.Making.{changed_at}
 use Rattle.dav_handler_core.specs.Subtrees.{HasOddName, IsWalk}
 
 -- the locks that refuse the caller to take away what stands at the places: at one of them, below it, or at the folder that it stands in
@@ -26,7 +26,7 @@ refusing_removal s who places = refusing s.locks (as_caller who) (flat_map (λ q
 -- All at or below the path is gone, with its locks, and the folder above was changed at the moment. Each other place is as it was.
 pub record IsRemoved (now : ℕ) (p : Path) (s s' : State) : Type 0 where
   pub gone : (q : Path) → is_front p q ≡ true → at_path s'.map q ≡ None
-  pub above : at_path s'.map (parent p) ≡ option_map (changed_at now) (at_path s.map (parent p))
+  pub above : at_path s'.map (parent p) ≡ option_map (dated now) (at_path s.map (parent p))
   pub others : (q : Path) → is_front p q ≡ false → q ≢ parent p → at_path s'.map q ≡ at_path s.map q
   pub locks : s'.locks ≡ without_below p s.locks
   pub rng : s'.rng ≡ s.rng
@@ -56,11 +56,11 @@ pub record Removes (headers : Entries FieldValue) (s : State) (who : Caller) (p 
   pub free : IsFree s who p
   pub removed : IsRemoved who.now p s s'
 
--- Each refusal of a DELETE, and where it comes: first a depth that it doesn't have, then the root, then that nothing stands there, and then the locks in
--- its way. A lock below the path is told as a member's.
+-- Each refusal of a DELETE, and where it comes: first a depth that doesn't reach all the way down, then the root, then that nothing stands there, or a name there that no
+-- path has which is read, and then the locks in its way. A lock below the path is told as a member's.
 abbrev pub FailsToRemove : Entries FieldValue → State → Caller → Path → Fault → Type 0
 FailsToRemove headers s who p fault.InsufficientStorage = Unit {0}
-FailsToRemove headers s who p fault.BadRequest = (¬ ReachesAll headers) ⊎ ((p ≢ []) × HasOddName s.map p)
+FailsToRemove headers s who p fault.BadRequest = (¬ ReachesAll headers) ⊎ (ReachesAll headers × (p ≢ []) × HasOddName s.map p)
 FailsToRemove headers s who p fault.Forbidden = ReachesAll headers × (p ≡ [])
 FailsToRemove headers s who p fault.NotFound = ReachesAll headers × (p ≢ []) × (at_path s.map p ≡ None)
 FailsToRemove headers s who p (fault.Locked path) = ReachesAll headers × (p ≢ []) × IsLockedIn s who p path × (is_below p path ≡ false)

@@ -81,7 +81,7 @@ impl<R: Rng + Drop> Dav<R> {
 }
 
 impl<R: Rng> Dav<R> {
-    /// Sets the clock. Each request comes at the clock's moment, or at the last request's where that is later; a PUT or a MKCOL at a later one
+    /// Sets the clock. Each request comes at the clock's moment, or at the last request's where that is later; a PUT, a DELETE or a MKCOL at a later one
     /// than that.
     pub fn set_clock(&mut self, now: Moment)
         ensures { server R.stream self.new ≡ record (server R.stream self.old) { clock = now.0 } }

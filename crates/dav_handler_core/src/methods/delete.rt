@@ -18,7 +18,8 @@ use std::alloc::Global;
 
 /// Takes away what stands at a path, with all below it, and answers 204 (RFC 4918 section 9.6).
 ///
-/// `BadRequest` for a depth that doesn't reach all the way down; `Forbidden` for the root; `NotFound` where nothing stands there; `Locked` where a lock
+/// `BadRequest` for a depth that doesn't reach all the way down; `Forbidden` for the root; `NotFound` where nothing stands there; `BadRequest` where a name below it
+/// is one that no path has which is read; `Locked` where a lock
 /// at the path or above it refuses that any of it goes, and `MemberLocked` where one below it does; with the path of that lock.
 pub(crate) fn delete<R: Rng>(
     alloc: Global,

@@ -134,7 +134,7 @@ pub held_off : (before after : Server) (request : Request (List ℕ)) (e : Fault
 held_off before after request e Refuses h = record { path = h.0; who = h.1.0; begins = h.1.1; why = inl h.1.2 }
 
 -- what a method finds is what the request finds
-found_as : (before mid after : Server) (who : Caller) (s : State) → after.last ≡ mid.last → who.now ≡ mid.last → live mid.last s ≡ live mid.last before.state
+pub found_as : (before mid after : Server) (who : Caller) (s : State) → after.last ≡ mid.last → who.now ≡ mid.last → live mid.last s ≡ live mid.last before.state
     → live who.now s ≡ as_found before after
 found_as before mid after who s same now alike = ap (λ n. live n s) now ∙ alike ∙ ap (λ n. live n before.state) (sym same)
 
@@ -301,6 +301,8 @@ refused_alike (Some method.Get) before after request e sent other h = h
 refused_alike (Some method.Head) before after request e sent other h = h
 refused_alike (Some method.Put) before after request e sent other h = h
 refused_alike (Some method.Delete) before after request e sent other h = h
+refused_alike (Some method.Copy) before after request e sent other h = h
+refused_alike (Some method.Move) before after request e sent other h = h
 refused_alike (Some method.MkCol) before after request e sent other h = h
 refused_alike (Some method.Unlock) before after request e sent other h = h
 refused_alike (Some method.Options) before after request e sent other h = h

@@ -1,6 +1,6 @@
 -- What decides over a request, told of its answer.
 use Rattle.std.proofs.Common.{◌≡◌, ◌≢◌, ◌⊎◌, inl, inr, ℕ, ◌<◌, ◌≤◌, Bool, true, false, List, [], ◌∷◌, length, take, drop, ◌-◌, Option, None, Some, Result, Ok, Err, refl, sym, ◌∙◌, ap, subst, arith, if◌then◌else◌}
-use Rattle.std.specs.Prelude.{OnErr}
+use Rattle.std.specs.Prelude.{IfErr}
 use Rattle.std.proofs.lemmas.Bool.{false≢true}
 use Rattle.http.specs.declared.request.Request.{Request}
 use Rattle.http.specs.Request.{head_of, body_of}
@@ -22,21 +22,24 @@ use Rattle.dav_handler_core.specs.declared.preconditions.Course.{Course}
 use Rattle.dav_handler_core.specs.declared.preconditions.Course.TheVariants as course
 use Rattle.dav_handler_core.specs.declared.ranges.Extent.{Extent}
 use Rattle.dav_handler_core.specs.declared.ranges.Extent.TheVariants as extent
-use Rattle.dav_handler_core.specs.Answers.{AnswersTo, Fails, HoldsOff, IsGotten, Options, Server, Unread, as_found, status_of}
+use Rattle.dav_handler_core.specs.Answers.{AnswersTo, Fails, HoldsOff, IsGotten, Leaves, Options, Server, Unread, as_found, status_of}
 use Rattle.dav_handler_core.specs.Answers.Unread.{memory, target, principal, tokens, moment}
 use Rattle.dav_handler_core.specs.Callers.{Caller, SameLive}
+use Rattle.dav_handler_core.specs.Copying.{FailsToCopy}
 use Rattle.dav_handler_core.specs.Deciding.{HeldOff, SendsPart, SendsTag, Stops, WentOn, looks}
 use Rattle.dav_handler_core.specs.Faults.{fault_status}
 use Rattle.dav_handler_core.specs.Fields.{Sent}
 use Rattle.dav_handler_core.specs.FileTags.{standing_by, standing_of, tag_of}
 use Rattle.dav_handler_core.specs.Getting.{FailsToGet, Tells, own_tags, tags_by, told_by, told_of}
 use Rattle.dav_handler_core.specs.Making.{FailsToMake}
+use Rattle.dav_handler_core.specs.Moving as moving
 use Rattle.dav_handler_core.specs.Preconditions.{course_of}
 use Rattle.dav_handler_core.specs.Putting.{FailsToPut, changes_by}
 use Rattle.dav_handler_core.specs.Ranges.{part_text}
 use Rattle.dav_handler_core.specs.Refusals.{RefusesPrincipal, RefusesTarget}
 use Rattle.dav_handler_core.specs.Removing.{FailsToRemove}
 use Rattle.dav_handler_core.specs.Unlocking.{FailsToUnlock}
+use Rattle.dav_handler_core.proofs.TransferLaws.{copy_kept, move_kept}
 
 -- ---- statuses of faults
 
@@ -96,6 +99,11 @@ fault_off e (inr h) = fault_failed e h
 put_between : (b : Bool) → (200 < (if b then 204 else 201)) × ((if b then 204 else 201) < 205)
 put_between true = (omega arith, omega arith)
 put_between false = (omega arith, omega arith)
+
+-- a COPY or a MOVE that is done isn't held off
+transfer_low : (b : Bool) (status : ℕ) → status ≡ (if b then 204 else 201) → ¬ IsOff status
+transfer_low b status is (inl off) = omega (arith, off, is, put_between b)
+transfer_low b status is (inr off) = omega (arith, off, is, put_between b)
 
 -- what isn't read is not a condition that doesn't hold
 no_principal : (named : Option (List ℕ)) (headers : Entries FieldValue) → ¬ RefusesPrincipal named headers fault.PreconditionFailed
@@ -297,6 +305,16 @@ module _ (before after : Server) (request : Request (List ℕ)) (sent : Sent) wh
       let is = fault_off e off in
       fails_off (Some method.Delete) true e (λ p who. FailsToRemove Headers (as_found before after) who p e) is h
       (λ p who refuses. subst (FailsToRemove Headers (as_found before after) who p) is refuses)
+  held_off (Some method.Copy) (Ok status) h off = absurd (transfer_low (has before.state.map (segments h.does.to.bytes)) status h.does.status_is off)
+  held_off (Some method.Copy) (Err e) h off =
+      let is = fault_off e off in
+      fails_off (Some method.Copy) true e (λ p who. FailsToCopy before.options.scheme before.options.prefix Headers (as_found before after) who p e) is h
+      (λ p who refuses. copy_kept before.options.scheme before.options.prefix Headers (as_found before after) who p e is refuses)
+  held_off (Some method.Move) (Ok status) h off = absurd (transfer_low (has before.state.map (segments h.does.to.bytes)) status h.does.status_is off)
+  held_off (Some method.Move) (Err e) h off =
+      let is = fault_off e off in
+      fails_off (Some method.Move) true e (λ p who. moving.FailsToMove before.options.scheme before.options.prefix Headers (as_found before after) who p e) is h
+      (λ p who refuses. move_kept before.options.scheme before.options.prefix Headers (as_found before after) who p e is refuses)
   held_off (Some method.MkCol) (Ok status) h off = absurd (elim off [ inl off ↦ omega (arith, off, h.does.status_is) | inr off ↦ omega (arith, off, h.does.status_is) ])
   held_off (Some method.MkCol) (Err e) h off =
       let is = fault_off e off in
@@ -316,10 +334,16 @@ module _ (before after : Server) (request : Request (List ℕ)) (sent : Sent) wh
       let unserved = not_served e h.0 in
       let is : fault.NotImplemented ≡ fault.PreconditionFailed = sym unserved ∙ fault_off e off in absurd (cc)
 
+  -- a condition that doesn't hold has changed nothing
+  leaves_all : (m : Option DavMethod) (e : Fault) → e ≡ fault.PreconditionFailed → Leaves m before request e after → SameLive after.last before.state after.state
+  leaves_all (Some method.Copy) e is h = subst (λ e. Leaves (Some method.Copy) before request e after) is h
+  leaves_all (Some method.Move) e is h = subst (λ e. Leaves (Some method.Move) before request e after) is h
+  leaves_all _ e is h = h
+
   -- nothing has changed
   pub stays : (m : Option DavMethod) (result : Result ℕ Fault) → AnswersTo m before request result sent after
-      → OnErr result (SameLive after.last before.state after.state) → IsOff (status_of result) → SameLive after.last before.state after.state
-  stays m (Err e) h refused off = refused
+      → IfErr result (λ e. Leaves m before request e after) → IsOff (status_of result) → SameLive after.last before.state after.state
+  stays m (Err e) h refused off = leaves_all m e (fault_off e off) refused
   stays (Some method.Get) (Ok status) h refused off = h.1
   stays (Some method.Head) (Ok status) h refused off = h.1
   stays (Some method.Put) (Ok status) h refused off =
@@ -327,6 +351,8 @@ module _ (before after : Server) (request : Request (List ℕ)) (sent : Sent) wh
       absurd (elim off [ inl off ↦ omega (arith, off, h.1.status_is, between) | inr off ↦ omega (arith, off, h.1.status_is, between) ])
   stays (Some method.Delete) (Ok status) h refused off =
       absurd (elim off [ inl off ↦ omega (arith, off, h.does.status_is) | inr off ↦ omega (arith, off, h.does.status_is) ])
+  stays (Some method.Copy) (Ok status) h refused off = absurd (transfer_low (has before.state.map (segments h.does.to.bytes)) status h.does.status_is off)
+  stays (Some method.Move) (Ok status) h refused off = absurd (transfer_low (has before.state.map (segments h.does.to.bytes)) status h.does.status_is off)
   stays (Some method.MkCol) (Ok status) h refused off =
       absurd (elim off [ inl off ↦ omega (arith, off, h.does.status_is) | inr off ↦ omega (arith, off, h.does.status_is) ])
   stays (Some method.Unlock) (Ok status) h refused off =
@@ -378,6 +404,10 @@ module _ (before after : Server) (request : Request (List ℕ)) (sent : Sent) wh
   sends_part (Some method.Put) (Ok status) h part =
       absurd (omega (arith, part, h.1.status_is, put_between (has before.state.map (segments h.1.path.bytes))))
   sends_part (Some method.Delete) (Ok status) h part = absurd (omega (arith, h.does.status_is, part))
+  sends_part (Some method.Copy) (Ok status) h part =
+      absurd (omega (arith, part, h.does.status_is, put_between (has before.state.map (segments h.does.to.bytes))))
+  sends_part (Some method.Move) (Ok status) h part =
+      absurd (omega (arith, part, h.does.status_is, put_between (has before.state.map (segments h.does.to.bytes))))
   sends_part (Some method.MkCol) (Ok status) h part = absurd (omega (arith, h.does.status_is, part))
   sends_part (Some method.Unlock) (Ok status) h part = absurd (omega (arith, h.does.status_is, part))
   sends_part (Some method.Options) (Ok status) h part = absurd (omega (arith, h.0, part))

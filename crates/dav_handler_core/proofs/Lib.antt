@@ -1,14 +1,24 @@
 pub mod AdmitLemmas
+pub mod AnewLemmas
 pub mod AnswerLemmas
 pub mod Asking
 pub mod CallerLaws
+pub mod ClearingLemmas
 pub mod Collecting
 pub mod ConditionLaws
 pub mod ConditionLemmas
 mod ConditionRows
+pub mod CopyCheckLemmas
+pub mod CopyMadeLemmas
+pub mod CopyMethodLemmas
+pub mod CopyPlanLemmas
+pub mod CopyReadyLemmas
+pub mod CopyingLemmas
 pub mod DecidingLaws
 pub mod DestinationLemmas
+pub mod EndsLemmas
 pub mod FieldLemmas
+pub mod FileHistoryLemmas
 pub mod FileTagLemmas
 pub mod FrameLemmas
 pub mod GetLemmas
@@ -16,6 +26,8 @@ pub mod IfTokenLaws
 pub mod HoldingLaws
 pub mod ListedTagLemmas
 pub mod MakeLemmas
+pub mod MoveCheckLemmas
+pub mod MoveLemmas
 pub mod OwnLemmas
 pub mod PreconditionLaws
 mod PreconditionRows
@@ -31,4 +43,7 @@ mod TagRows
 pub mod TaggedLemmas
 pub mod TokenLemmas
 pub mod TokenTexts
+pub mod TransferAnswerLemmas
+pub mod TransferLaws
+mod TransferRows
 pub mod TypeLemmas

@@ -16,9 +16,8 @@ use Rattle.dav_handler_core.specs.declared.faults.Fault.{Fault}
 use Rattle.dav_handler_core.specs.declared.faults.Fault.TheVariants as fault
 use Rattle.dav_handler_core.specs.Callers.{Caller, SameLive, as_caller, live}
 use Rattle.dav_handler_core.specs.Depths.{ReachesAll}
-use Rattle.dav_handler_core.specs.LocksInTheWay.{IsRefusedBy}
-use Rattle.dav_handler_core.specs.Private.Members.{by_place}
-use Rattle.dav_handler_core.specs.Removing.{FailsToRemove, IsLockedIn, is_below, refusing_removal}
+use Rattle.dav_handler_core.specs.LocksInTheWay.{IsRefusedBy, by_place, is_below}
+use Rattle.dav_handler_core.specs.Removing.{FailsToRemove, IsLockedIn, refusing_removal}
 use Rattle.dav_handler_core.specs.Subtrees.{IsWalk}
 use Rattle.dav_handler_core.proofs.ConditionLemmas.{Looks, drop_seen, same_state}
 use Rattle.dav_handler_core.proofs.PutLemmas.{both_none, more_refused}
@@ -58,7 +57,7 @@ both_passed who asker s mid p q same still is first second =
 
 -- ---- one place after another
 
-removal_split : (s : State) (who : Caller) (p : Path) (places : List Path)
+pub removal_split : (s : State) (who : Caller) (p : Path) (places : List Path)
     → refusing_removal s who (p ∷ places) ≡ refusing_removal s who (p ∷ []) ++ refusing_removal s who places
 removal_split s who p places =
     let first = below s who p in

@@ -47,7 +47,7 @@ above_other p no_root same = elim (by_last p) [
 ]
 
 -- the folder of a path isn't at or below it
-above_out : (p : Path) → p ≢ [] → is_front p (parent p) ≡ false
+pub above_out : (p : Path) → p ≢ [] → is_front p (parent p) ≡ false
 above_out p no_root = elim (by_last p) [
   | inl none ↦ absurd (no_root none)
   | inr last ↦ false_from_ne_true _ (λ h.
@@ -131,7 +131,7 @@ module _ (last : Path) (locks : List Lock) where
   held_stays q who out = any-filter_same (λ l. covers l q && held l who) (λ l. not (is_at_or_below l last)) true
       (λ l h. covering_stays q out l (and_parts (covers l q) (held l who) h).0) locks
 
-  free_stays : (q : Path) (deep : Bool) (who : LocksCaller) → is_front last q ≡ false → check_conflicts locks q deep who ≡ []
+  pub free_stays : (q : Path) (deep : Bool) (who : LocksCaller) → is_front last q ≡ false → check_conflicts locks q deep who ≡ []
       → check_conflicts (without_below last locks) q deep who ≡ []
   free_stays q deep who out free =
       filter_agree (refuses_change (without_below last locks) q deep who) (refuses_change locks q deep who)
@@ -139,7 +139,7 @@ module _ (last : Path) (locks : List Lock) where
       ∙ filter_none (refuses_change locks q deep who) (without_below last locks)
       (all_filter (λ l. refuses_change locks q deep who l ≡ false) (λ l. not (is_at_or_below l last)) locks (none_passes (refuses_change locks q deep who) locks free))
 
-  removal_stays : (who : LocksCaller) (places : List Path) → ((q : Path) → In q places → is_front last q ≡ false)
+  pub removal_stays : (who : LocksCaller) (places : List Path) → ((q : Path) → In q places → is_front last q ≡ false)
       → refusing locks who (flat_map (λ q. member q true) places) ≡ [] → refusing (without_below last locks) who (flat_map (λ q. member q true) places) ≡ []
   removal_stays who [] out free = refl
   removal_stays who (q ∷ places) out free =
@@ -161,7 +161,7 @@ removal_last locks who (q ∷ before) last free =
     ((rw (first.0, second.0) rest.0), rest.1)
 
 -- locks of which none has expired, without those there
-fresh_below : (now : ℕ) (p : Path) (locks : List Lock) → without_stale now (without_below p (without_stale now locks)) ≡ without_below p (without_stale now locks)
+pub fresh_below : (now : ℕ) (p : Path) (locks : List Lock) → without_stale now (without_below p (without_stale now locks)) ≡ without_below p (without_stale now locks)
 fresh_below now p locks = filter-again (λ l. not (is_stale now l)) (λ l. not (is_at_or_below l p)) locks
 
 -- those below a place that is itself below the path

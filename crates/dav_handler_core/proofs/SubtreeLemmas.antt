@@ -42,7 +42,7 @@ use Rattle.dav_handler_core.specs.Private.Gathering.{HasOddMember, MembersAre, p
 -- ---- elements of lists that are put together
 
 module _ {A : Type 0} where
-  in_either : (x : A) (xs ys : List A) → In x (xs ++ ys) → In x xs ⊎ In x ys
+  pub in_either : (x : A) (xs ys : List A) → In x (xs ++ ys) → In x xs ⊎ In x ys
   in_either x [] ys i = inr i
   in_either x (y ∷ xs) ys i = elim i [
     | inl e ↦ inl (inl e)
@@ -61,7 +61,7 @@ module _ {A : Type 0} where
   in_one x y i = elim i [ inl e ↦ e | inr j ↦ absurd j ]
 
   -- what holds of each element and each later one
-  abbrev Later : (A → A → Type 0) → List A → Type 0
+  abbrev pub Later : (A → A → Type 0) → List A → Type 0
   Later R [] = Unit {0}
   Later R (x ∷ xs) = ((y : A) → In y xs → R x y) × Later R xs
 
@@ -82,20 +82,20 @@ module _ {A : Type 0} where
       | inr k ↦ later_cross xs ys x y h.1 k j
     ]
 
-    later_pairs : (xs : List A) → Later R xs → AllPairs R xs
+    pub later_pairs : (xs : List A) → Later R xs → AllPairs R xs
     later_pairs [] h = λ i j d lt inside. absurd (omega arith)
     later_pairs (x ∷ xs) h = AllPairs-cons R x xs (λ i d inside. h.0 _ (In-Contains xs _ (All-contains_itself xs i d inside))) (later_pairs xs h.1)
 
 -- ---- paths at or below others
 
-some_of : {A : Type 0} (o : Option A) → IsSome o → (x : A) × (o ≡ Some x)
+pub some_of : {A : Type 0} (o : Option A) → IsSome o → (x : A) × (o ≡ Some x)
 some_of (Some x) h = (x, refl)
 some_of None h = absurd (false≢true h)
 
 pub rest_of : (a q : Path) → is_front a q ≡ true → (s : Path) × (q ≡ a ++ s)
 rest_of a q h = let s = some_of (behind a q) h in (s.0, behind_is a q s.0 s.1)
 
-front_of : (a s : Path) → is_front a (a ++ s) ≡ true
+pub front_of : (a s : Path) → is_front a (a ++ s) ≡ true
 front_of a s = ap is_some (behind_append a s)
 
 -- a member is not above its folder

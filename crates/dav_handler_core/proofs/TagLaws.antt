@@ -1,7 +1,7 @@
 -- Files over a run of a server: each one stood there before with its bytes, or was changed since; so equal tags have equal bytes.
-use Rattle.std.proofs.Common.{◌≡◌, ◌⊎◌, inl, inr, ℕ, ◌<◌, ◌≤◌, List, [], ◌∷◌, length, Option, Some, None, Result, Ok, Err, refl, sym, ◌∙◌, ap, subst, arith}
-use Rattle.std.specs.Prelude.{OnErr, option_map}
-use Rattle.std.proofs.lemmas.Bool.{cases_Bool}
+use Rattle.std.proofs.Common.{◌≡◌, ◌⊎◌, inl, inr, ℕ, ◌<◌, ◌≤◌, Bool, true, false, List, [], ◌∷◌, length, Option, Some, Result, Ok, Err, refl, sym, ◌∙◌, ap, subst, arith}
+use Rattle.std.specs.Prelude.{IfErr}
+use Rattle.std.proofs.lemmas.Bool.{false_from_ne_true, or_parts, true≢false}
 use Rattle.std.specs.FinMap.{get, empty, get-empty}
 use Rattle.http.specs.declared.request.Request.{Request}
 use Rattle.http.specs.Request.{body_of}
@@ -14,28 +14,33 @@ use Rattle.dav_path_core.specs.Fronts.{Path, is_front, parent, path_cmp}
 use Rattle.dav_path_core.specs.Segments.{segments}
 use Rattle.dav_path_core.proofs.lists.FinMaps.{dec, inserted, one_some, none_some}
 use Rattle.dav_path_core.proofs.lists.Orders.{path_total, path_exact}
+use Rattle.dav_path_core.proofs.paths.FrontLemmas.{is_front-trans}
 use Rattle.dav_files_core.specs.declared.memfs.Kind.TheVariants.{Folder, File}
 use Rattle.dav_files_core.specs.Following.{dated}
 use Rattle.dav_files_core.specs.Outcomes.{new_folder, start}
 use Rattle.dav_files_core.specs.Resources.{Node, Resource, ResourceMap, at_path}
 use Rattle.dav_resource_core.specs.Step.{State}
 use Rattle.dav_handler_core.specs.declared.faults.Fault.{Fault}
-use Rattle.dav_handler_core.specs.Answers.{Answers, AnswersTo, Server, as_found}
-use Rattle.dav_handler_core.specs.Callers.{Caller, SameLive}
+use Rattle.dav_handler_core.specs.declared.faults.Fault.TheVariants as fault
+use Rattle.dav_handler_core.specs.Answers.{Answers, AnswersTo, Leaves, Server, as_found}
+use Rattle.dav_handler_core.specs.Callers.{Caller, SameLive, live}
+use Rattle.dav_handler_core.specs.Clearing.{IsCleared}
+use Rattle.dav_handler_core.specs.Copying.{IsCopied, IsPartlyCopied}
+use Rattle.dav_handler_core.specs.Ends.{HasFolder}
 use Rattle.dav_handler_core.specs.Fields.{Sent, sent_of}
 use Rattle.dav_handler_core.specs.Making.{Makes}
+use Rattle.dav_handler_core.specs.Moving.{IsMoved}
 use Rattle.dav_handler_core.specs.Putting.{Puts}
 use Rattle.dav_handler_core.specs.Removing.{IsRemoved}
 use Rattle.dav_handler_core.specs.Serving.{Leads}
 use Rattle.dav_handler_core.specs.TagHistories.{HasFile, HasNoFiles, MomentsTell, TagsTell, Becomes}
 use Rattle.dav_handler_core.specs.TagHistories.Becomes.{itself, by_clock, by_answer}
+use Rattle.dav_handler_core.proofs.FileHistoryLemmas.{Come, Had, bytes_of, cleared_come, cleared_folder, copied_come, moved_come, removed_come}
 use Rattle.dav_handler_core.proofs.FileTagLemmas.{tells}
+use Rattle.dav_handler_core.proofs.OwnLemmas.{parent_front}
+use Rattle.dav_handler_core.proofs.RemovalLemmas.{above_out}
 
 -- ---- one answer
-
--- the map has a file with these bytes that was changed last at this moment
-abbrev Had : ResourceMap → ℕ → List ℕ → Type 0
-Had m modified bytes = (old : Resource) × HasFile m old × (old.node.modified ≡ modified) × (old.node.bytes ≡ bytes)
 
 -- Each file after it stood there before with its bytes, or is new. The last moment is that of a new file, and later than any before; all new files
 -- have the same bytes.
@@ -85,37 +90,70 @@ make_dates before after body who p status later h = record {
   ];
 }
 
--- the files of a map, at a path where something stands or nothing
-abbrev bytes_of : Option Resource → List ℕ
-bytes_of None = []
-bytes_of (Some r) = r.node.bytes
+-- what comes from a map at the last moment
+come_dates : (before after : Server) (bytes : List ℕ) → before.last < after.last → Come before.state.map after.last bytes after.state.map → Dates before after
+come_dates before after bytes later come = record {
+  bytes = bytes;
+  moments = omega (arith, later);
+  files = λ file has. elim (come file has) [
+    | inl had ↦ inl had
+    | inr new ↦ inr (later, new.0, new.1)
+  ];
+}
 
 -- what is left elsewhere is as it was, but that a folder has another moment
 remove_dates : (before after : Server) (p : Path) → before.last < after.last → IsRemoved after.last p (as_found before after) after.state → Dates before after
-remove_dates before after p later h = record {
-  bytes = bytes_of (at_path before.state.map (parent p));
-  moments = omega (arith, later);
-  files = λ file has. elim (dec path_total path_exact has.0 (parent p)) [
-    | inl above ↦
-        let is = dated_file file (at_path before.state.map (parent p)) (sym (subst (λ q. at_path after.state.map q ≡ Some file) above has.1) ∙ h.above) in
-        inr (later, is.0, is.1)
-    | inr below ↦ elim (cases_Bool (is_front p has.0)) [
-      | inl inside ↦ none_some (at_path after.state.map has.0) file (h.gone has.0 inside) has.1
-      | inr out ↦ inl (file, (has.0, sym (h.others has.0 out below) ∙ has.1, has.2), refl, refl)
-    ]
-  ];
-}
-  where
-    dated_file : (file : Resource) (o : Option Resource) → Some file ≡ option_map (dated after.last) o → (file.node.modified ≡ after.last) × (file.node.bytes ≡ bytes_of o)
-    dated_file file None h = absurd (cc)
-    dated_file file (Some r) h =
-        let is : file ≡ dated after.last r = cc in (ap (λ (x : Resource). x.node.modified) is, ap (λ (x : Resource). x.node.bytes) is)
+remove_dates before after p later h = come_dates before after _ later (removed_come after.last p (as_found before after) after.state h)
+
+-- a copy has the bytes and the moment of what it copies
+copy_dates : (before after : Server) (deep : Bool) (from to : Path) (mid : State) → before.last < after.last → IsCleared after.last to (as_found before after) mid
+    → IsPartlyCopied after.last deep from to mid (live after.last after.state) → Dates before after
+copy_dates before after deep from to mid later cleared copied =
+    let s = as_found before after in
+    let bytes = bytes_of (at_path s.map (parent to)) in
+    come_dates before after bytes later (copied_come s.map after.last bytes mid (live after.last after.state) (cleared_come after.last to s mid cleared) deep from to copied)
+
+-- and so has what is moved
+move_dates : (before after : Server) (from to : Path) (mid : State) → before.last < after.last → HasFolder (as_found before after).map (parent from)
+    → HasFolder (as_found before after).map (parent to) → is_front to (parent from) ≡ false → is_front to (parent to) ≡ false
+    → IsCleared after.last to (as_found before after) mid → IsMoved after.last from to mid after.state → Dates before after
+move_dates before after from to mid later above_from above_to out_from out_to cleared moved =
+    let s = as_found before after in
+    let bytes = bytes_of (at_path s.map (parent to)) in
+    come_dates before after bytes later (moved_come s.map after.last bytes mid after.state (cleared_come after.last to s mid cleared) from to
+    (cleared_folder after.last to (parent from) s mid cleared out_from above_from) (cleared_folder after.last to (parent to) s mid cleared out_to above_to) moved)
 
 live_map : (now : ℕ) (s s' : State) → SameLive now s s' → s'.map ≡ s.map
 live_map now s s' h = ap (λ (s : State). s.map) h
 
+whole_part : (now : ℕ) (deep : Bool) (from to : Path) (s s' : State) → IsCopied now deep from to s s' → IsPartlyCopied now deep from to s s'
+whole_part now deep from to s s' h = record { there = λ rest. inr (h.there rest); others = h.others; left = h.left }
+
+-- the folders of both ends are elsewhere
+parent_out : (to from : Path) → is_front to from ≡ false → is_front to (parent from) ≡ false
+parent_out to from out = false_from_ne_true _ (λ h. true≢false (sym (is_front-trans to (parent from) from h (parent_front from)) ∙ out))
+
+parent_out_own : (to from : Path) → is_front to from ≡ false → is_front to (parent to) ≡ false
+parent_out_own to from out = above_out to (λ none. true≢false (ap (λ t. is_front t from) (sym none) ∙ out))
+
+-- what a COPY or a MOVE leaves that is refused
+copy_left : (before after : Server) (request : Request (List ℕ)) (e : Fault) → before.last ≤ after.last → Leaves (Some method.Copy) before request e after → Dates before after
+copy_left before after request fault.InsufficientStorage later (inl same) = same_map before after later (live_map after.last before.state after.state same)
+copy_left before after request fault.InsufficientStorage later (inr h) =
+    let starts = h.1.2 in
+    copy_dates before after starts.deep (segments h.1.0.bytes) (segments starts.to.bytes) starts.mid h.0 starts.cleared starts.copied
+copy_left before after request _ later h = same_map before after later (live_map after.last before.state after.state h)
+
+move_left : (before after : Server) (request : Request (List ℕ)) (e : Fault) → before.last ≤ after.last → Leaves (Some method.Move) before request e after → Dates before after
+move_left before after request fault.InsufficientStorage later (inl same) = same_map before after later (live_map after.last before.state after.state same)
+move_left before after request fault.InsufficientStorage later (inr h) =
+    let to = segments h.1.to.bytes in
+    let s = as_found before after in
+    come_dates before after (bytes_of (at_path s.map (parent to))) h.0 (cleared_come after.last to s (live after.last after.state) h.1.cleared)
+move_left before after request _ later h = same_map before after later (live_map after.last before.state after.state h)
+
 method_dates : (m : Option DavMethod) (before after : Server) (request : Request (List ℕ)) (result : Result ℕ Fault) (sent : Sent) → before.last ≤ after.last
-    → AnswersTo m before request result sent after → OnErr result (SameLive after.last before.state after.state) → Dates before after
+    → AnswersTo m before request result sent after → IfErr result (λ e. Leaves m before request e after) → Dates before after
 method_dates (Some method.Get) before after request result sent later h refused =
     same_map before after later (live_map after.last before.state after.state h.1)
 method_dates (Some method.Head) before after request result sent later h refused =
@@ -129,6 +167,21 @@ method_dates (Some method.Delete) before after request (Ok status) sent later h 
     (subst (λ n. IsRemoved n (segments h.path.bytes) (as_found before after) after.state) h.begins.now h.does.removed)
 method_dates (Some method.Delete) before after request (Err e) sent later h refused =
     same_map before after later (live_map after.last before.state after.state refused)
+method_dates (Some method.Copy) before after request (Ok status) sent later h refused =
+    let now = h.begins.now in
+    let to = segments h.does.to.bytes in
+    let from = segments h.path.bytes in
+    copy_dates before after h.does.deep from to h.does.mid (h.later refl) (subst (λ n. IsCleared n to (as_found before after) h.does.mid) now h.does.cleared)
+    (subst (λ n. IsPartlyCopied n h.does.deep from to h.does.mid (live n after.state)) now (whole_part h.who.now h.does.deep from to h.does.mid (live h.who.now after.state) h.does.copied))
+method_dates (Some method.Copy) before after request (Err e) sent later h refused = copy_left before after request e later refused
+method_dates (Some method.Move) before after request (Ok status) sent later h refused =
+    let now = h.begins.now in
+    let to = segments h.does.to.bytes in
+    let from = segments h.path.bytes in
+    let apart = or_parts (is_front to from) (is_front from to) h.does.leads.apart in
+    move_dates before after from to h.does.mid (h.later refl) h.does.stood_in h.does.fit.above (parent_out to from apart.0) (parent_out_own to from apart.0)
+    (subst (λ n. IsCleared n to (as_found before after) h.does.mid) now h.does.cleared) (subst (λ n. IsMoved n from to h.does.mid after.state) now h.does.moved)
+method_dates (Some method.Move) before after request (Err e) sent later h refused = move_left before after request e later refused
 method_dates (Some method.MkCol) before after request (Ok status) sent later h refused =
     make_dates before after (body_of request) h.who (segments h.path.bytes) status later h.does
 method_dates (Some method.MkCol) before after request (Err e) sent later h refused =

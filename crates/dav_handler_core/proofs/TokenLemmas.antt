@@ -11,11 +11,11 @@ use Rattle.dav_locks_core.specs.Locks.{lock_path, covers, height, covering_at, c
 
 -- ---- tests of lists
 
-and_true : (b : Bool) → (b && true) ≡ b
+pub and_true : (b : Bool) → (b && true) ≡ b
 and_true true = refl
 and_true false = refl
 
-and_false : (b : Bool) → (b && false) ≡ false
+pub and_false : (b : Bool) → (b && false) ≡ false
 and_false true = refl
 and_false false = refl
 
@@ -23,7 +23,7 @@ or_true : (b : Bool) → (b || true) ≡ true
 or_true true = refl
 or_true false = refl
 
-any_filter : {A : Type 0} (test kept : A → Bool) (xs : List A) → list_any test (filter kept xs) ≡ list_any (λ x. test x && kept x) xs
+pub any_filter : {A : Type 0} (test kept : A → Bool) (xs : List A) → list_any test (filter kept xs) ≡ list_any (λ x. test x && kept x) xs
 any_filter test kept [] = refl
 any_filter test kept (x ∷ xs) = by (kept x) (any_filter test kept xs)
   where
@@ -42,7 +42,7 @@ any_or test other [] = refl
 any_or test other (x ∷ xs) =
     regrouped (test x) (list_any test xs) (other x) (list_any other xs) ∙ ap (λ b. (test x || other x) || b) (any_or test other xs)
 
-any_agree : {A : Type 0} (test other : A → Bool) → ((x : A) → test x ≡ other x) → (xs : List A) → list_any test xs ≡ list_any other xs
+pub any_agree : {A : Type 0} (test other : A → Bool) → ((x : A) → test x ≡ other x) → (xs : List A) → list_any test xs ≡ list_any other xs
 any_agree test other same [] = refl
 any_agree test other same (x ∷ xs) = ap (λ b. b || list_any test xs) (same x) ∙ ap (λ b. other x || b) (any_agree test other same xs)
 

@@ -1,5 +1,5 @@
 -- How the server answers a request: what it promises of the answer, and of what it leaves (RFC 9110 section 9, RFC 4918 sections 6, 7 and 9).
-use Rattle.std.specs.Prelude.{◌≡◌, ◌≢◌, ◌⊎◌, Bool, true, false, ℕ, ◌<◌, ◌≤◌, List, [], ◌∷◌, Option, None, Some, Result, Ok, Err, IfErr, OnErr}
+use Rattle.std.specs.Prelude.{◌≡◌, ◌≢◌, ◌⊎◌, Bool, true, false, ℕ, ◌<◌, ◌≤◌, List, [], ◌∷◌, Option, None, Some, Result, Ok, Err, IfErr}
 use Rattle.http.specs.declared.request.Request.{Request}
 use Rattle.http.specs.Request.{head_of, body_of}
 use Rattle.http_server.specs.declared.response.Response.{Response}
@@ -17,11 +17,13 @@ use Rattle.dav_handler_core.specs.declared.faults.Fault.{Fault}
 use Rattle.dav_handler_core.specs.declared.faults.Fault.TheVariants as fault
 use Rattle.dav_handler_core.specs.Admitting.{IsAdmitted, IsHeldOff}
 use Rattle.dav_handler_core.specs.Callers.{Asks, Caller, RunBy, SameLive, live}
+use Rattle.dav_handler_core.specs.Copying.{Copies, FailsToCopy, StartsToCopy}
 use Rattle.dav_handler_core.specs.Faults.{fault_status}
 use Rattle.dav_handler_core.specs.Fields.{Sent, sent_of}
 use Rattle.dav_handler_core.specs.FileTags.{tag_of}
 use Rattle.dav_handler_core.specs.Getting.{FailsToGet, Gets, tagged}
 use Rattle.dav_handler_core.specs.Making.{FailsToMake, Makes}
+use Rattle.dav_handler_core.specs.Moving as moving
 use Rattle.dav_handler_core.specs.Putting.{FailsToPut, Puts, put_course, put_status}
 use Rattle.dav_handler_core.specs.RefusalBodies.{TellsWhy}
 use Rattle.dav_handler_core.specs.Refusals.{RefusesTarget, RefusesPrincipal, HasBadIf, HasPart, IsLastMoment}
@@ -164,6 +166,12 @@ AnswersTo (Some method.Head) before request result sent after =
 AnswersTo (Some method.Put) before request result sent after = PutAnswers before request result sent after
 AnswersTo (Some method.Delete) before request result sent after =
     ChangeAnswers true (Removes (head_of request).headers) (FailsToRemove (head_of request).headers) before request result after
+AnswersTo (Some method.Copy) before request result sent after =
+    ChangeAnswers true (Copies before.options.scheme before.options.prefix (head_of request).headers)
+    (FailsToCopy before.options.scheme before.options.prefix (head_of request).headers) before request result after
+AnswersTo (Some method.Move) before request result sent after =
+    ChangeAnswers true (moving.Moves before.options.scheme before.options.prefix (head_of request).headers)
+    (moving.FailsToMove before.options.scheme before.options.prefix (head_of request).headers) before request result after
 AnswersTo (Some method.MkCol) before request result sent after =
     ChangeAnswers true (Makes (body_of request)) (FailsToMake (body_of request)) before request result after
 AnswersTo (Some method.Unlock) before request result sent after =
@@ -195,6 +203,18 @@ pub record Moves (before : Server) (request : Request (List ℕ)) (after : Serve
   pub options : after.options ≡ before.options
   pub clock : after.clock ≡ before.clock
 
+-- What a refusal leaves: all is as it was, but that locks that have expired may be gone. A COPY or a MOVE that lacked memory may have begun.
+abbrev pub Leaves : Option DavMethod → Server → Request (List ℕ) → Fault → Server → Type 0
+Leaves (Some method.Copy) before request fault.InsufficientStorage after =
+    SameLive after.last before.state after.state
+    ⊎ ((before.last < after.last) × ((path : PathText) × Names before.options request path
+    × StartsToCopy before.options.scheme before.options.prefix (head_of request).headers (as_found before after) after.last (segments path.bytes) after.state))
+Leaves (Some method.Move) before request fault.InsufficientStorage after =
+    SameLive after.last before.state after.state
+    ⊎ ((before.last < after.last)
+    × moving.StartsToMove before.options.scheme before.options.prefix (head_of request).headers (as_found before after) after.last after.state)
+Leaves _ before request e after = SameLive after.last before.state after.state
+
 -- the status that says how it ended
 abbrev pub status_of : Result ℕ Fault → ℕ
 status_of (Ok status) = status
@@ -210,8 +230,8 @@ pub record Answers (before : Server) (request : Request (List ℕ)) (response : 
   pub done : AnswersTo method before request result (sent_of response) after
   -- a refusal is told by its document, or by nothing beside its status
   pub told : IfErr result (λ e. TellsWhy before.options.prefix e response)
-  -- what is refused has changed nothing
-  pub refused : OnErr result (SameLive after.last before.state after.state)
+  -- what is refused has changed nothing, but that a COPY or a MOVE that lacks memory may have begun
+  pub refused : IfErr result (λ e. Leaves method before request e after)
   -- two locks that cover one path are both shared, and the map is a resource map
   pub exclusive : Exclusive before.state.locks → Exclusive after.state.locks
   pub shape : Exclusive before.state.locks → IsResourceMap before.state.map → IsResourceMap after.state.map

@@ -17,6 +17,7 @@ use Rattle.dav_handler_core.specs.declared.ranges.Extent.TheVariants as extent
 use Rattle.dav_handler_core.specs.Admitting.{Weighs}
 use Rattle.dav_handler_core.specs.Answers.{Admits, Begins, Server}
 use Rattle.dav_handler_core.specs.Callers.{Caller, live}
+use Rattle.dav_handler_core.specs.Destinations.{overwrites}
 use Rattle.dav_handler_core.specs.Fields.{Sent}
 use Rattle.dav_handler_core.specs.FileTags.{standing_of}
 use Rattle.dav_handler_core.specs.Getting.{tags_by, told_of}
@@ -45,11 +46,13 @@ Lets (Some method.Head) map p headers = (x : Extent) × IsToldAs method.Head map
 Lets (Some method.Put) map p headers = put_course map p headers ≡ Ok tt
 Lets _ map p headers = Unit {0}
 
--- they don't, and all of them are read
+-- They don't, and all of them are read. Of a COPY or a MOVE: what stands at the target may not be replaced.
 abbrev pub Stops : Option DavMethod → ResourceMap → Path → Entries FieldValue → Type 0
 Stops (Some method.Get) map p headers = IsToldAs method.Get map p headers None ⊎ IsToldFailed method.Get map p headers
 Stops (Some method.Head) map p headers = IsToldAs method.Head map p headers None ⊎ IsToldFailed method.Head map p headers
 Stops (Some method.Put) map p headers = put_course map p headers ≡ Err fault.PreconditionFailed
+Stops (Some method.Copy) map p headers = overwrites headers ≡ Some false
+Stops (Some method.Move) map p headers = overwrites headers ≡ Some false
 Stops _ map p headers = ⊥
 
 -- the request goes on: its `If` lets it, and so do the conditions

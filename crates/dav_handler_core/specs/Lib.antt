@@ -1,11 +1,14 @@
 pub mod Admitting
 pub mod Answers
 pub mod Callers
+pub mod Clearing
 pub mod Conditions
 pub mod ContentTypes
+pub mod Copying
 pub mod Deciding
 pub mod Depths
 pub mod Destinations
+pub mod Ends
 pub mod Faults
 pub mod Fields
 pub mod FileTags
@@ -15,6 +18,7 @@ pub mod IfTokens
 pub mod ListedTags
 pub mod LocksInTheWay
 pub mod Making
+pub mod Moving
 pub mod Preconditions
 pub mod Private
 pub mod Putting

@@ -1,11 +1,10 @@
 -- What a DELETE leaves, and why it is refused (RFC 4918 sections 7.1, 7.4 and 9.6).
-use Rattle.std.specs.Prelude.{◌≡◌, ◌≢◌, ◌⊎◌, Bool, true, false, not, ◌&&◌, ℕ, List, [], None, IsSome, option_map}
+use Rattle.std.specs.Prelude.{◌≡◌, ◌≢◌, ◌⊎◌, true, false, ℕ, List, [], None, IsSome, option_map}
 use Rattle.std.specs.List.{flat_map}
 use Rattle.http_header.specs.FieldValue.{FieldValue}
 use Rattle.http_header.specs.HeaderMap.{Entries}
 use Rattle.dav_path_core.specs.Fronts.{Path, is_front, parent}
 use Rattle.dav_path_core.specs.PathText.{PathText}
-use Rattle.dav_path_core.specs.Segments.{segments}
 use Rattle.dav_files_core.specs.Following.{dated}
 use Rattle.dav_files_core.specs.Resources.{at_path}
 use Rattle.dav_locks_core.specs.Lock.{Lock}
@@ -16,7 +15,7 @@ use Rattle.dav_handler_core.specs.declared.faults.Fault.{Fault}
 use Rattle.dav_handler_core.specs.declared.faults.Fault.TheVariants as fault
 use Rattle.dav_handler_core.specs.Callers.{Caller, as_caller}
 use Rattle.dav_handler_core.specs.Depths.{ReachesAll}
-use Rattle.dav_handler_core.specs.LocksInTheWay.{IsPathOfOne}
+use Rattle.dav_handler_core.specs.LocksInTheWay.{IsPathOfOne, is_below}
 use Rattle.dav_handler_core.specs.Subtrees.{HasOddName, IsWalk}
 
 -- the locks that refuse the caller to take away what stands at the places: at one of them, below it, or at the folder that it stands in
@@ -42,10 +41,6 @@ pub record IsLockedIn (s : State) (who : Caller) (p : Path) (path : PathText) : 
   pub places : List Path
   pub walk : IsWalk s.map p places
   pub refused : IsPathOfOne (refusing_removal s who places) path
-
--- the path of a lock stands below the other
-abbrev pub is_below : Path → PathText → Bool
-is_below p path = is_front p (segments path.bytes) && not (is_front (segments path.bytes) p)
 
 -- 204. It reaches all the way down; something stood at the path, which isn't the root; no lock refused to take away any of it; and it is gone.
 pub record Removes (headers : Entries FieldValue) (s : State) (who : Caller) (p : Path) (status : ℕ) (s' : State) : Type 0 where

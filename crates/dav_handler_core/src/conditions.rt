@@ -35,6 +35,7 @@ pub use laws::{
     tokens_stand_once, untagged_lists_are_of_the_request,
 };
 use rand_core::Rng;
+pub(crate) use state_tokens::is_among;
 pub use state_tokens::tokens;
 use std::alloc::Global;
 use std::convert::AsStr;

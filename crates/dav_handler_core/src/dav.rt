@@ -3,11 +3,14 @@ ghost use Rattle.std.specs.Prelude.{◌≡◌, ◌<◌, ◌≤◌, ◌⊎◌, tr
 ghost use Rattle.http.specs.Request.{body_of, head_of};
 ghost use Rattle.http_server.specs.Response.{IsBlank};
 ghost use Rattle.dav_path_core.specs.declared.util.DavMethod.{DavMethod};
+ghost use Rattle.dav_path_core.specs.declared.util.DavMethod.TheVariants as method;
 ghost use Rattle.dav_resource_core.specs.Stores.{state_of};
-ghost use Rattle.dav_handler_core.specs.Answers.{Admits, Answers, AnswersTo, ChangeAnswers, GetAnswers, IsFrom, IsMethod, Moves, Names, PutAnswers, Unread};
+ghost use Rattle.dav_handler_core.specs.Answers.{Admits, Answers, AnswersTo, ChangeAnswers, GetAnswers, IsFrom, IsMethod, Leaves, Moves, Names, PutAnswers, Unread};
 ghost use Rattle.dav_handler_core.specs.Callers.{RunBy, SameLive};
+ghost use Rattle.dav_handler_core.specs.Copying.{Copies, FailsToCopy};
 ghost use Rattle.dav_handler_core.specs.Fields.{sent_of};
 ghost use Rattle.dav_handler_core.specs.Making.{FailsToMake, Makes};
+ghost use Rattle.dav_handler_core.specs.Moving as moving;
 ghost use Rattle.dav_handler_core.specs.Private.Begun.{IsBegun, IsHeld};
 ghost use Rattle.dav_handler_core.specs.Refusals.{IsLastMoment};
 ghost use Rattle.dav_handler_core.specs.Removing.{FailsToRemove, Removes};
@@ -20,7 +23,7 @@ mod laws;
 
 use crate::conditions::{Scheme, admit};
 use crate::faults::Fault;
-use crate::methods::{delete, get, mkcol, options, put, unlock};
+use crate::methods::{copy, delete, get, mkcol, moving, options, put, unlock};
 use crate::refusals::refuse;
 use crate::senders::{principal_of, tokens_of};
 use crate::session::Session;
@@ -81,7 +84,7 @@ impl<R: Rng + Drop> Dav<R> {
 }
 
 impl<R: Rng> Dav<R> {
-    /// Sets the clock. Each request comes at the clock's moment, or at the last request's where that is later; a PUT, a DELETE or a MKCOL at a later one
+    /// Sets the clock. Each request comes at the clock's moment, or at the last request's where that is later; a PUT, a DELETE, a COPY, a MOVE or a MKCOL at a later one
     /// than that.
     pub fn set_clock(&mut self, now: Moment)
         ensures { server R.stream self.new ≡ record (server R.stream self.old) { clock = now.0 } }
@@ -202,6 +205,46 @@ impl<R: Rng> Dav<R> {
         delete::delete(self.alloc, &mut self.session, request.headers(), path)
     }
 
+    // COPY.
+    fn serve_copy(&mut self, request: &Request<Bytes>) -> Result<StatusCode, Fault>
+        ensures answers { ChangeAnswers true (Copies (server R.stream self.old).options.scheme (server R.stream self.old).options.prefix (head_of request.now).headers)
+            (FailsToCopy (server R.stream self.old).options.scheme (server R.stream self.old).options.prefix (head_of request.now).headers) (server R.stream self.old)
+            request.now result (server R.stream self.new) }
+        ensures refused { IfErr result (λ e. Leaves (Some method.Copy) (server R.stream self.old) request.now e (server R.stream self.new)) }
+        ensures moves { Moves (server R.stream self.old) request.now (server R.stream self.new) }
+    {
+        let path = self.begin_admitted(request, true)?;
+        let scheme = self.settings.scheme;
+        copy::copy(
+            self.alloc,
+            &mut self.session,
+            scheme,
+            &self.settings.prefix,
+            request.headers(),
+            &path,
+        )
+    }
+
+    // MOVE.
+    fn serve_move(&mut self, request: &Request<Bytes>) -> Result<StatusCode, Fault>
+        ensures answers { ChangeAnswers true (moving.Moves (server R.stream self.old).options.scheme (server R.stream self.old).options.prefix (head_of request.now).headers)
+            (moving.FailsToMove (server R.stream self.old).options.scheme (server R.stream self.old).options.prefix (head_of request.now).headers) (server R.stream self.old)
+            request.now result (server R.stream self.new) }
+        ensures refused { IfErr result (λ e. Leaves (Some method.Move) (server R.stream self.old) request.now e (server R.stream self.new)) }
+        ensures moves { Moves (server R.stream self.old) request.now (server R.stream self.new) }
+    {
+        let path = self.begin_admitted(request, true)?;
+        let scheme = self.settings.scheme;
+        moving::relocate(
+            self.alloc,
+            &mut self.session,
+            scheme,
+            &self.settings.prefix,
+            request.headers(),
+            path,
+        )
+    }
+
     // MKCOL.
     fn serve_mkcol(&mut self, request: &Request<Bytes>) -> Result<StatusCode, Fault>
         ensures answers { ChangeAnswers true (Makes (body_of request.now)) (FailsToMake (body_of request.now)) (server R.stream self.old) request.now result
@@ -233,7 +276,7 @@ impl<R: Rng> Dav<R> {
     ) -> Result<StatusCode, Fault>
         requires { IsBlank response.old }
         ensures done { AnswersTo (Some method) (server R.stream self.old) request.now result (sent_of response.new) (server R.stream self.new) }
-        ensures refused { OnErr result (SameLive (server R.stream self.new).last (server R.stream self.old).state (server R.stream self.new).state) }
+        ensures refused { IfErr result (λ e. Leaves (Some method) (server R.stream self.old) request.now e (server R.stream self.new)) }
         ensures moves { Moves (server R.stream self.old) request.now (server R.stream self.new) }
     {
         match method {
@@ -242,6 +285,8 @@ impl<R: Rng> Dav<R> {
             DavMethod::Head => return self.serve_get(DavMethod::Head, request, response),
             DavMethod::Put => return self.serve_put(request, response),
             DavMethod::Delete => return self.serve_delete(request),
+            DavMethod::Copy => return self.serve_copy(request),
+            DavMethod::Move => return self.serve_move(request),
             DavMethod::MkCol => return self.serve_mkcol(request),
             DavMethod::Unlock => return self.serve_unlock(request),
             _ => return Err(Fault::NotImplemented),
@@ -256,8 +301,8 @@ impl<R: Rng> Dav<R> {
     ) -> Result<StatusCode, Fault>
         requires { IsBlank response.old }
         ensures done { (method : Option DavMethod) × IsMethod method (head_of request.now).method
-            × AnswersTo method (server R.stream self.old) request.now result (sent_of response.new) (server R.stream self.new) }
-        ensures refused { OnErr result (SameLive (server R.stream self.new).last (server R.stream self.old).state (server R.stream self.new).state) }
+            × AnswersTo method (server R.stream self.old) request.now result (sent_of response.new) (server R.stream self.new)
+            × IfErr result (λ e. Leaves method (server R.stream self.old) request.now e (server R.stream self.new)) }
         ensures moves { Moves (server R.stream self.old) request.now (server R.stream self.new) }
     {
         let Ok(method) = DavMethod::try_from(request.method()) else {

@@ -1,6 +1,6 @@
 //! How far down a request reaches.
 ghost use Rattle.std.specs.Prelude.{◌≡◌, None, Some, IfErr, IfOk, OnOk};
-ghost use Rattle.dav_handler_core.specs.Depths.{ReachesAll, depth_in};
+ghost use Rattle.dav_handler_core.specs.Depths.{ReachesAll, copy_depth, depth_in};
 ghost use Rattle.dav_handler_core.specs.declared.faults.Fault.TheVariants as fault;
 
 use crate::faults::Fault;
@@ -29,5 +29,17 @@ pub(crate) fn check_whole(headers: &HeaderMap<HeaderValue>) -> Result<(), Fault>
     match depth_in(headers)? {
         Depth::Infinity => Ok(()),
         Depth::Default | Depth::Zero | Depth::One => Err(Fault::BadRequest),
+    }
+}
+
+/// Whether a COPY reaches all the way down, or to the one resource alone (RFC 4918 section 9.8.3). `BadRequest` for another depth, or where it can't be read.
+pub(crate) fn copy_depth(headers: &HeaderMap<HeaderValue>) -> Result<bool, Fault>
+    ensures ok { IfOk result (λ deep. copy_depth headers.now ≡ Some deep) }
+    ensures err { IfErr result (λ e. (e ≡ fault.BadRequest) × (copy_depth headers.now ≡ None)) }
+{
+    match depth_in(headers)? {
+        Depth::Infinity => Ok(true),
+        Depth::Zero => Ok(false),
+        Depth::Default | Depth::One => Err(Fault::BadRequest),
     }
 }

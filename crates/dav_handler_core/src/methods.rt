@@ -1,8 +1,11 @@
 //! The methods, each on a session.
 mod changes;
+pub(crate) mod copy;
 pub(crate) mod delete;
+mod ends;
 pub(crate) mod get;
 pub(crate) mod mkcol;
+pub(crate) mod moving;
 pub(crate) mod options;
 pub(crate) mod put;
 pub(crate) mod unlock;

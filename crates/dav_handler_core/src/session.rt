@@ -8,18 +8,22 @@ ghost use Rattle.dav_resource_core.specs.Stores.{state_of};
 ghost use Rattle.dav_handler_core.specs.Callers.{Caller, RunBy, KeepsApart, SameLive, asking, ends_or_refreshes, is_look};
 ghost use Rattle.dav_handler_core.specs.Sessions as spec;
 
+mod clearing;
+mod copying;
 mod lookups;
+mod moving;
 mod questions;
 mod removing;
 mod subtrees;
 mod unlocking;
 
+pub use copying::Transfer;
 use dav_resource_core::davpath::DavPath;
 use dav_resource_core::errors::{FsError, FsResult};
 use dav_resource_core::fs::Moment;
 use dav_resource_core::guarded::{Command, Guarded, Refusal, Reply, Request};
 pub(crate) use lookups::standing_as;
-pub(crate) use questions::copy_of;
+pub(crate) use questions::{copy_of, refused};
 use rand_core::Rng;
 use std::alloc::Global;
 pub use subtrees::{last_place_is_bare, walk_without_its_last};

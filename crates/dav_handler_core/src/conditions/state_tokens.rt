@@ -7,7 +7,7 @@ use dav_resource_core::davheaders::{If, IfCondition, IfItem, IfList};
 use std::alloc::{AllocError, Global};
 
 // Whether a token is among these.
-fn is_among(tokens: &[String], token: &str) -> bool
+pub(crate) fn is_among(tokens: &[String], token: &str) -> bool
     ensures { result ≡ spec.is_among (map string_bytes tokens.now) token.now }
 {
     tokens.iter().any(|t| t.as_str() == token)

@@ -3,10 +3,10 @@ ghost use Rattle.std.specs.Prelude.{◌≡◌, IfErr, IfOk, OnErr};
 ghost use Rattle.dav_path_core.specs.Segments.{segments};
 ghost use Rattle.dav_files_core.specs.Folders.{is_root};
 ghost use Rattle.dav_handler_core.specs.Callers.{RunBy, SameLive, live};
-ghost use Rattle.dav_handler_core.specs.Private.Members.{by_place};
-ghost use Rattle.dav_handler_core.specs.Removing.{FailsToRemove, Removes, is_below};
+ghost use Rattle.dav_handler_core.specs.Removing.{FailsToRemove, Removes};
 ghost use Rattle.dav_handler_core.specs.Sessions as spec;
 
+use super::changes::by_place;
 use crate::depths::check_whole;
 use crate::faults::Fault;
 use crate::session::{Session, copy_of};
@@ -46,28 +46,6 @@ pub(crate) fn delete<R: Rng>(
     }
     session.remove_all(places);
     Ok(StatusCode::NO_CONTENT)
-}
-
-// A lock that stands below the path is told as a member's.
-fn by_place(path: &DavPath, fault: Fault) -> Fault
-    ensures { result ≡ by_place (segments path.now.bytes) fault }
-{
-    match fault {
-        Fault::Locked(at) => if is_below(path, &at) {
-            Fault::MemberLocked(at)
-        } else {
-            Fault::Locked(at)
-        },
-        fault => fault,
-    }
-}
-
-// Whether the second path stands below the first.
-fn is_below(path: &DavPath, other: &DavPath) -> bool
-    ensures { result ≡ is_below (segments path.now.bytes) other.now }
-{
-    other.behind_prefix().is_at_or_below(path.behind_prefix())
-        && !path.behind_prefix().is_at_or_below(other.behind_prefix())
 }
 
 // Whether the path is that of the root.

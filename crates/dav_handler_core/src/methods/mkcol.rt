@@ -5,9 +5,8 @@ ghost use Rattle.dav_handler_core.specs.Callers.{RunBy, SameLive, live};
 ghost use Rattle.dav_handler_core.specs.Making.{FailsToMake, Makes};
 ghost use Rattle.dav_handler_core.specs.Sessions as spec;
 
-use super::changes::refused;
 use crate::faults::Fault;
-use crate::session::{Session, copy_of};
+use crate::session::{Session, copy_of, refused};
 use dav_resource_core::davpath::DavPath;
 use dav_resource_core::guarded::Command;
 use http::StatusCode;

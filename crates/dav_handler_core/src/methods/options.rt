@@ -33,6 +33,6 @@ pub(crate) fn allow(response: &mut Response) -> Result<(), AllocError>
 {
     response.add_header(
         HeaderName::from_static("allow"),
-        HeaderValue::from_static("OPTIONS, GET, HEAD, PUT, DELETE, MKCOL, UNLOCK"),
+        HeaderValue::from_static("OPTIONS, GET, HEAD, PUT, DELETE, COPY, MOVE, MKCOL, UNLOCK"),
     )
 }

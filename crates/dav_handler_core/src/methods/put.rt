@@ -1,31 +1,26 @@
 //! PUT.
-ghost use Rattle.std.specs.Prelude.{◌≡◌, ◌⊎◌, ◌∷◌, [], Ok, Err, Some, IfOk, IfErr, OnOk, OnErr, length, is_some, option_map, if◌then◌else◌};
+ghost use Rattle.std.specs.Prelude.{◌≡◌, ◌⊎◌, ◌∷◌, [], Ok, Err, IfOk, IfErr, OnOk, OnErr, length, option_map};
 ghost use Rattle.dav_path_core.specs.declared.util.DavMethod.TheVariants as method;
-ghost use Rattle.dav_path_core.specs.Fronts.{parent};
 ghost use Rattle.dav_path_core.specs.Segments.{segments};
-ghost use Rattle.dav_files_core.specs.declared.memfs.Kind.TheVariants.{Folder};
 ghost use Rattle.dav_files_core.specs.Meta.{meta_of};
-ghost use Rattle.dav_files_core.specs.Resources.{Resource, at_path};
 ghost use Rattle.http_server.specs.Response.{IsBlank};
-ghost use Rattle.dav_resource_core.specs.Checks.{refusing};
-ghost use Rattle.dav_handler_core.specs.Callers.{RunBy, SameLive, as_caller, live};
+ghost use Rattle.dav_handler_core.specs.Callers.{RunBy, SameLive};
 ghost use Rattle.dav_handler_core.specs.Fields.{marks_of};
 ghost use Rattle.dav_handler_core.specs.FileTags.{file_tag};
 ghost use Rattle.dav_handler_core.specs.Getting.{tagged};
-ghost use Rattle.dav_handler_core.specs.LocksInTheWay.{IsRefusedBy};
 ghost use Rattle.dav_handler_core.specs.Putting.{FailsToPut, Puts, changes_by, put_course, put_status};
-ghost use Rattle.dav_handler_core.specs.Private.Placing.{HasPlace, LacksPlace, standing_known, target_by};
-ghost use Rattle.dav_handler_core.specs.Private.Marking.{IsNone, and_tags};
+ghost use Rattle.dav_handler_core.specs.Private.Placing.{HasPlace, LacksPlace, standing_known};
+ghost use Rattle.dav_handler_core.specs.Private.Marking.{and_tags};
 ghost use Rattle.dav_handler_core.specs.Preconditions.{course_of};
 ghost use Rattle.dav_handler_core.specs.Sessions as spec;
 ghost use Rattle.dav_handler_core.specs.declared.faults.Fault.TheVariants as fault;
 
-use super::changes::refused;
+use super::changes::{check_above, check_locks, done};
 use crate::etags::{Standing, file_tag};
 use crate::faults::Fault;
 use crate::fields::add_tag;
 use crate::preconditions::{Course, read_course};
-use crate::session::{Session, copy_of, standing_as};
+use crate::session::{Session, copy_of, refused, standing_as};
 use bytes::Bytes;
 use dav_resource_core::davpath::DavPath;
 use dav_resource_core::fs::{DavMetaData, Moment};
@@ -72,22 +67,6 @@ pub(crate) fn put<R: Rng>(
     }
 }
 
-// Whether the locks let the caller put a file there: what is made changes its parent, too.
-fn check_locks<R: Rng>(session: &mut Session<R>, path: &DavPath, there: bool) -> Result<(), Fault>
-    ensures ok { OnOk result (refusing (live (spec.caller session.old).now (spec.state R.stream session.old)).locks (as_caller (spec.caller session.old)) (target_by there (segments path.now.bytes)) ≡ []) }
-    ensures err { IfErr result (λ e. IsRefusedBy (refusing (live (spec.caller session.old).now (spec.state R.stream session.old)).locks
-        (as_caller (spec.caller session.old)) (target_by there (segments path.now.bytes))) e) }
-    ensures run { RunBy (spec.caller session.old) (spec.state R.stream session.old) (spec.state R.stream session.new) }
-    ensures live { SameLive (spec.caller session.old).now (spec.state R.stream session.old) (spec.state R.stream session.new) }
-    ensures caller { spec.caller session.new ≡ spec.caller session.old }
-{
-    session.check(copy_of(path)?)?;
-    if there {
-        return Ok(());
-    }
-    session.check(parent_of(path)?)
-}
-
 // Whether a file can stand there: not in a folder's place, and not without a folder above.
 fn check_place<R: Rng>(
     session: &mut Session<R>,
@@ -108,33 +87,6 @@ fn check_place<R: Rng>(
         },
         None => check_above(session, path),
     }
-}
-
-// Whether a folder stands above.
-fn check_above<R: Rng>(session: &mut Session<R>, path: &DavPath) -> Result<(), Fault>
-    ensures ok { OnOk result ((r : Resource) × (at_path (spec.state R.stream session.old).map (parent (segments path.now.bytes)) ≡ Some r) × (r.node.kind ≡ Folder)) }
-    ensures err { IfErr result (λ e. (e ≡ fault.InsufficientStorage) ⊎ ((e ≡ fault.Conflict)
-        × IsNone (spec.state R.stream session.old).map (parent (segments path.now.bytes)) Folder)) }
-    ensures run { RunBy (spec.caller session.old) (spec.state R.stream session.old) (spec.state R.stream session.new) }
-    ensures live { SameLive (spec.caller session.old).now (spec.state R.stream session.old) (spec.state R.stream session.new) }
-    ensures caller { spec.caller session.new ≡ spec.caller session.old }
-{
-    match session.meta(parent_of(path)?) {
-        Some(above) => if above.is_dir() {
-            Ok(())
-        } else {
-            Err(Fault::Conflict)
-        },
-        None => Err(Fault::Conflict),
-    }
-}
-
-// The path above.
-fn parent_of(path: &DavPath) -> Result<DavPath, Fault>
-    ensures ok { IfOk result (λ above. segments above.bytes ≡ parent (segments path.now.bytes)) }
-    ensures err { IfErr result (λ e. e ≡ fault.InsufficientStorage) }
-{
-    Ok(path.parent()?)
 }
 
 // Whether the conditions of HTTP let a change be done, of what is known to stand there.
@@ -188,14 +140,4 @@ fn say_tag(
 {
     let tag = file_tag(alloc, modified, length)?;
     add_tag(alloc, response, &Standing::File { tag, modified })
-}
-
-// The status, by what stood there before.
-fn done(known: &Option<MemFsMeta>) -> StatusCode
-    ensures { result ≡ (if is_some known.now then 204 else 201) }
-{
-    match known {
-        Some(_) => StatusCode::NO_CONTENT,
-        None => StatusCode::CREATED,
-    }
 }

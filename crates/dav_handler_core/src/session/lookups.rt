@@ -2,7 +2,7 @@
 ghost use Rattle.std.specs.Prelude.{◌≡◌, ◌≢◌, ◌⊎◌, [], IfOk, IfErr, OnOk};
 ghost use Rattle.dav_path_core.specs.Segments.{segments};
 ghost use Rattle.dav_files_core.specs.Meta.{meta_of};
-ghost use Rattle.dav_files_core.specs.Resources.{at_path};
+ghost use Rattle.dav_files_core.specs.Resources.{IsResourceMap, at_path};
 ghost use Rattle.dav_locks_core.specs.Locks.{check_conflicts, discovered};
 ghost use Rattle.dav_handler_core.specs.Callers.{RunBy, SameLive, as_caller, live, refusing_at};
 ghost use Rattle.dav_handler_core.specs.FileTags.{standing_as, standing_of};
@@ -45,6 +45,7 @@ impl<R: Rng> Session<R> {
         ensures run { RunBy (spec.caller self.old) (spec.state R.stream self.old) (spec.state R.stream self.new) }
         ensures live { SameLive (spec.caller self.old).now (spec.state R.stream self.old) (spec.state R.stream self.new) }
         ensures caller { spec.caller self.new ≡ spec.caller self.old }
+        ensures shape { OnOk result (IsResourceMap (spec.state R.stream self.new).map) }
     {
         self.check_reached(path, false)
     }
@@ -59,6 +60,7 @@ impl<R: Rng> Session<R> {
         ensures run { RunBy (spec.caller self.old) (spec.state R.stream self.old) (spec.state R.stream self.new) }
         ensures live { SameLive (spec.caller self.old).now (spec.state R.stream self.old) (spec.state R.stream self.new) }
         ensures caller { spec.caller self.new ≡ spec.caller self.old }
+        ensures shape { OnOk result (IsResourceMap (spec.state R.stream self.new).map) }
     {
         match self.ask(Command::Check { path, deep }) {
             Ok(_) => Ok(()),

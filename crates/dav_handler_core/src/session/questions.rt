@@ -1,12 +1,12 @@
 //! What methods ask a session for.
-ghost use Rattle.std.specs.Prelude.{◌≡◌, ◌⊎◌, Some, Ok, IfOk, IfErr, map, option_map, take, drop};
+ghost use Rattle.std.specs.Prelude.{◌≡◌, ◌⊎◌, Some, Ok, IfOk, IfErr, is_some, map, option_map, take, drop};
 ghost use Rattle.dav_path_core.specs.Segments.{segments};
 ghost use Rattle.dav_files_core.specs.declared.memfs.Kind.TheVariants.{File, Folder};
 ghost use Rattle.dav_files_core.specs.Listing.{entry_of, read_dir};
 ghost use Rattle.dav_files_core.specs.Meta.{meta_at, meta_of};
 ghost use Rattle.dav_files_core.specs.Resources.{IsResourceMap, Resource, at_path};
 ghost use Rattle.dav_handler_core.specs.Callers.{RunBy, SameLive};
-ghost use Rattle.dav_handler_core.specs.Private.Refusing.{list_fault};
+ghost use Rattle.dav_handler_core.specs.Private.Refusing.{list_fault, put_fault};
 ghost use Rattle.dav_handler_core.specs.Sessions as spec;
 ghost use Rattle.dav_resource_core.specs.Served.{refusal_of};
 ghost use Rattle.dav_handler_core.specs.declared.faults.Fault.TheVariants as fault;
@@ -79,6 +79,21 @@ fn unlisted(refusal: &Refusal) -> Fault
     match refusal {
         Refusal::Fs(FsError::InsufficientStorage) => Fault::InsufficientStorage,
         _ => Fault::NotFound,
+    }
+}
+
+/// Why the files or the locks refuse to make something, by what stands there.
+pub(crate) fn refused(known: &Option<MemFsMeta>, refusal: Refusal) -> Fault
+    ensures { result ≡ put_fault (is_some known.now) (refusal_of refusal) }
+{
+    match refusal {
+        Refusal::Locked(lock) => Fault::Locked(lock.path),
+        Refusal::OutOfMemory | Refusal::Fs(FsError::InsufficientStorage) =>
+            Fault::InsufficientStorage,
+        Refusal::Fs(_) | Refusal::NoLock => match known {
+            Some(_) => Fault::MethodNotAllowed,
+            None => Fault::Conflict,
+        },
     }
 }
 

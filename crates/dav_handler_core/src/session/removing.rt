@@ -2,7 +2,7 @@
 ghost use Rattle.std.specs.Prelude.{◌≡◌, ◌≢◌, [], ◌∷◌, map, IfErr, IsSome, OnOk};
 ghost use Rattle.dav_path_core.specs.Fronts.{Path};
 ghost use Rattle.dav_path_core.specs.Segments.{segments};
-ghost use Rattle.dav_files_core.specs.Resources.{at_path};
+ghost use Rattle.dav_files_core.specs.Resources.{IsResourceMap, at_path};
 ghost use Rattle.dav_handler_core.specs.Callers.{RunBy, SameLive, live};
 ghost use Rattle.dav_handler_core.specs.LocksInTheWay.{IsRefusedBy};
 ghost use Rattle.dav_handler_core.specs.Removing.{IsRemoved, refusing_removal};
@@ -34,8 +34,8 @@ impl<R: Rng> Session<R> {
         Ok(())
     }
 
-    // Of one place.
-    fn check_one(&mut self, place: &DavPath) -> Result<(), Fault>
+    /// Of one place.
+    pub(crate) fn check_one(&mut self, place: &DavPath) -> Result<(), Fault>
         ensures ok { OnOk result (refusing_removal (live (spec.caller self.old).now (spec.state R.stream self.old)) (spec.caller self.old)
             (segments place.now.bytes ∷ []) ≡ []) }
         ensures err { IfErr result (λ e. IsRefusedBy (refusing_removal (live (spec.caller self.old).now (spec.state R.stream self.old)) (spec.caller self.old)
@@ -43,6 +43,7 @@ impl<R: Rng> Session<R> {
         ensures run { RunBy (spec.caller self.old) (spec.state R.stream self.old) (spec.state R.stream self.new) }
         ensures live { SameLive (spec.caller self.old).now (spec.state R.stream self.old) (spec.state R.stream self.new) }
         ensures caller { spec.caller self.new ≡ spec.caller self.old }
+        ensures shape { OnOk result (IsResourceMap (spec.state R.stream self.new).map) }
     {
         self.check_reached(copy_of(place)?, true)?;
         self.check(place.parent()?)

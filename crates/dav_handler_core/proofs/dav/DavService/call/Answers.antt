@@ -37,7 +37,7 @@ returns-in-Err-clause-ok g c =
       status = c.refuse.ensures.status;
       done = refused_alike told.0 before after c.args.request.now c.in-Err.fault (sent_of c.answer.new.response) (sent_of c.refuse.new.response) told.2;
       told = subst (λ prefix. TellsWhy prefix c.in-Err.fault c.refuse.new.response) (c.deref.ensures ∙ ap (λ (o : Options). o.prefix) c.answer.ensures.moves.options) c.refuse.ensures.told;
-      refused = c.in-Err.ensures.refused;
+      refused = told.3;
       exclusive = moves_exclusive before after c.args.request.now c.answer.ensures.moves;
       shape = moves_shape before after c.args.request.now c.answer.ensures.moves;
     }

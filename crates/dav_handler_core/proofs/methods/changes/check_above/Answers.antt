@@ -5,7 +5,7 @@ use Rattle.dav_files_core.specs.Meta.{meta_of}
 use Rattle.dav_handler_core.specs.Sessions as spec
 use Rattle.dav_handler_core.proofs.CallerLaws.{by_none}
 use Rattle.dav_handler_core.proofs.PutLemmas.{above_stands}
-use Rattle.dav_handler_core.proofs.methods.put.check_above.Goals as goal
+use Rattle.dav_handler_core.proofs.methods.changes.check_above.Goals as goal
 
 pub returns-in_err-parent_of-clause-run : goal.returns-in_err-parent_of-clause-run
 returns-in_err-parent_of-clause-run g c = by_none (spec.caller c.args.session.now) (spec.state g.R.Rng.stream c.args.session.now)

@@ -7,7 +7,7 @@ use Rattle.dav_handler_core.specs.Sessions as spec
 use Rattle.dav_handler_core.proofs.Asking.{join_as}
 use Rattle.dav_handler_core.proofs.CallerLaws.{by_none}
 use Rattle.dav_handler_core.proofs.PutLemmas.{above_fails, first_refused}
-use Rattle.dav_handler_core.proofs.methods.put.check_locks.Goals as goal
+use Rattle.dav_handler_core.proofs.methods.changes.check_locks.Goals as goal
 
 pub returns-in_err-copy_of-clause-run : goal.returns-in_err-copy_of-clause-run
 returns-in_err-copy_of-clause-run g c = by_none (spec.caller c.args.session.now) (spec.state g.R.Rng.stream c.args.session.now)

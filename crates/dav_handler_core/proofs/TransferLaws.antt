@@ -1,0 +1,72 @@
+-- When a COPY or a MOVE is held off: what stands at its target may not be replaced.
+use Rattle.std.proofs.Common.{◌≡◌, inl, inr, ℕ, Bool, true, false, cond, List, Some, subst}
+use Rattle.std.proofs.lemmas.Bool.{cases_Bool}
+use Rattle.http_header.specs.FieldValue.{FieldValue}
+use Rattle.http_header.specs.HeaderMap.{Entries}
+use Rattle.dav_path_core.specs.declared.davpath.ParseError.{ParseError}
+use Rattle.dav_path_core.specs.declared.davpath.ParseError.TheVariants as parse
+use Rattle.dav_path_core.specs.Fronts.{Path}
+use Rattle.dav_path_core.specs.Segments.{segments}
+use Rattle.dav_files_core.specs.Resources.{ResourceMap}
+use Rattle.dav_resource_core.specs.Step.{State}
+use Rattle.dav_handler_core.specs.declared.conditions.bases.Scheme.{Scheme}
+use Rattle.dav_handler_core.specs.declared.faults.Fault.{Fault}
+use Rattle.dav_handler_core.specs.declared.faults.Fault.TheVariants as fault
+use Rattle.dav_handler_core.specs.Callers.{Caller}
+use Rattle.dav_handler_core.specs.Copying.{FailsToCopy}
+use Rattle.dav_handler_core.specs.Destinations.{LeadsNowhere, fault_of, overwrites}
+use Rattle.dav_handler_core.specs.Destinations.LeadsNowhere.{memory, no_text, no_url, no_host, another, no_path}
+use Rattle.dav_handler_core.specs.Ends.{FailsAtEnds}
+use Rattle.dav_handler_core.specs.LocksInTheWay.{by_place, is_below}
+use Rattle.dav_handler_core.specs.Moving.{FailsToMove}
+
+-- a path that is refused is told otherwise
+path_told : (e : ParseError) → fault_of e ≡ fault.PreconditionFailed → ⊥
+path_told parse.InvalidPath is = cc
+path_told parse.PrefixMismatch is = cc
+path_told parse.ForbiddenPath is = cc
+path_told parse.OutOfMemory is = cc
+
+-- so is a lock
+lock_told : (p : Path) (e : Fault) → by_place p e ≡ fault.PreconditionFailed → e ≡ fault.PreconditionFailed
+lock_told p fault.PreconditionFailed is = is
+lock_told p (fault.Locked path) is = elim (cases_Bool (is_below p path)) [
+  | inl below ↦ let no : fault.MemberLocked path ≡ fault.PreconditionFailed = subst (λ b. cond b (fault.MemberLocked path) (fault.Locked path) ≡ fault.PreconditionFailed) below is in absurd (cc)
+  | inr here ↦ let no : fault.Locked path ≡ fault.PreconditionFailed = subst (λ b. cond b (fault.MemberLocked path) (fault.Locked path) ≡ fault.PreconditionFailed) here is in absurd (cc)
+]
+lock_told p _ is = is
+
+module _ (scheme : Scheme) (prefix : List ℕ) (headers : Entries FieldValue) where
+  nowhere_told : (e : Fault) → e ≡ fault.PreconditionFailed → LeadsNowhere scheme prefix headers e → ⊥
+  nowhere_told _ is memory = cc
+  nowhere_told _ is (no_text h) = cc
+  nowhere_told _ is (no_url text names rooted h) = cc
+  nowhere_told _ is (no_host text names rooted h) = cc
+  nowhere_told _ is (another text names leads) = cc
+  nowhere_told _ is (no_path text at e names leads h) = path_told e is
+
+  ends_kept : (m : ResourceMap) (from : Path) (within : Bool) (e : Fault) → e ≡ fault.PreconditionFailed → FailsAtEnds scheme prefix headers m from within e → overwrites headers ≡ Some false
+  ends_kept m from within _ is FailsAtEnds.memory = absurd (cc)
+  ends_kept m from within _ is (FailsAtEnds.unread h) = absurd (cc)
+  ends_kept m from within _ is (FailsAtEnds.nowhere replaces e h leads) = absurd (nowhere_told e is leads)
+  ends_kept m from within _ is (FailsAtEnds.related replaces to h leads relates) = absurd (cc)
+  ends_kept m from within _ is (FailsAtEnds.missing to replaces leads none) = absurd (cc)
+  ends_kept m from within _ is (FailsAtEnds.kept to leads stands there) = leads.overwrites_is
+  ends_kept m from within _ is (FailsAtEnds.nowhere_to_stand to replaces leads stands may none) = absurd (cc)
+  ends_kept m from within _ is (FailsAtEnds.odd to replaces leads fit name) = absurd (cc)
+
+  pub copy_kept : (s : State) (who : Caller) (from : Path) (e : Fault) → e ≡ fault.PreconditionFailed → FailsToCopy scheme prefix headers s who from e → overwrites headers ≡ Some false
+  copy_kept s who from _ is FailsToCopy.memory = absurd (cc)
+  copy_kept s who from _ is (FailsToCopy.depth h) = absurd (cc)
+  copy_kept s who from _ is (FailsToCopy.ends deep e reaches h) = ends_kept s.map from true e is h
+  copy_kept s who from _ is (FailsToCopy.odd to replaces reaches leads fit name) = absurd (cc)
+  copy_kept s who from _ is (FailsToCopy.locked deep to replaces gone rests path reaches leads fit goes are refused) =
+      absurd (let no : fault.Locked path ≡ fault.PreconditionFailed = lock_told (segments to.bytes) (fault.Locked path) is in cc)
+
+  pub move_kept : (s : State) (who : Caller) (from : Path) (e : Fault) → e ≡ fault.PreconditionFailed → FailsToMove scheme prefix headers s who from e → overwrites headers ≡ Some false
+  move_kept s who from _ is FailsToMove.memory = absurd (cc)
+  move_kept s who from _ is (FailsToMove.depth h) = absurd (cc)
+  move_kept s who from _ is (FailsToMove.ends e reaches h) = ends_kept s.map from false e is h
+  move_kept s who from _ is (FailsToMove.locked to replaces gone path reaches leads fit goes refused) =
+      absurd (let no : fault.Locked path ≡ fault.PreconditionFailed =
+      lock_told (segments to.bytes) (fault.Locked path) (lock_told from (by_place (segments to.bytes) (fault.Locked path)) is) in cc)

@@ -4,9 +4,13 @@
 #[cfg(test)]
 mod conditions;
 #[cfg(test)]
+mod copies;
+#[cfg(test)]
 mod folders;
 #[cfg(test)]
 mod ifs;
+#[cfg(test)]
+mod moves;
 #[cfg(test)]
 mod playing;
 #[cfg(test)]

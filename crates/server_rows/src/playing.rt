@@ -1,7 +1,9 @@
 //! Plays the rows over bytes, in pieces of several sizes.
 use crate::conditions::CONDITIONS;
+use crate::copies::COPIES;
 use crate::folders::FOLDERS;
 use crate::ifs::IFS;
+use crate::moves::MOVES;
 use crate::ranges::RANGES;
 use crate::removals::REMOVALS;
 use crate::rows::ROWS;
@@ -69,19 +71,31 @@ impl Scenario {
                 let who = words.next().ok_or("no principal")?;
                 let shared = words.next().ok_or("no word")? == "shared";
                 let deep = words.next().ok_or("no depth")? == "deep";
-                self.lock(who, shared, deep, words.next().ok_or("no path")?)
+                let path = words.next().ok_or("no path")?;
+                let timeout = match words.next() {
+                    None => None,
+                    Some(seconds) => Some(seconds.parse()?),
+                };
+                self.lock(who, shared, deep, path, timeout)
             }
             Some("folder") => self.make_folder(words.next().ok_or("no path")?),
             _ => Err(Fail::from("no row")),
         }
     }
 
-    // A lock that never ends.
-    fn lock(&mut self, who: &str, shared: bool, deep: bool, path: &str) -> Result<(), Fail> {
+    // A lock, of so many seconds or without an end.
+    fn lock(
+        &mut self,
+        who: &str,
+        shared: bool,
+        deep: bool,
+        path: &str,
+        timeout: Option<u64>,
+    ) -> Result<(), Fail> {
         let command = Command::Lock {
             path: DavPath::new(self.alloc, path)?,
             owner: None,
-            timeout: None,
+            timeout,
             shared,
             deep,
         };
@@ -161,10 +175,13 @@ fn add_line(text: &mut String, line: &str, tokens: &[String]) -> Result<(), Fail
     Ok(())
 }
 
-// Adds a line feed, an answer that tells why a request is refused, or the token of a lock.
+// Adds a line feed, one of the short forms, an answer that tells which lock refuses a request or that there is none, or the token of a lock.
 fn add_named(text: &mut String, name: &str, tokens: &[String]) -> Result<(), Fail> {
     if name == "n" {
         return Ok(text.push('\n')?);
+    }
+    if add_short(text, name)? {
+        return Ok(());
     }
     if let Some(path) = name.strip_prefix("locked ") {
         let front = "<D:lock-token-submitted><D:href>";
@@ -172,6 +189,18 @@ fn add_named(text: &mut String, name: &str, tokens: &[String]) -> Result<(), Fai
             text,
             "423 Locked",
             &[front, path, "</D:href></D:lock-token-submitted>"],
+        );
+    }
+    if let Some(path) = name.strip_prefix("member ") {
+        let front = "<D:response><D:href>";
+        let status = "</D:href><D:status>HTTP/1.1 423 Locked</D:status>";
+        let why =
+            "<D:error><D:lock-token-submitted></D:lock-token-submitted></D:error></D:response>";
+        return add_document(
+            text,
+            "207 Multi-Status",
+            "multistatus",
+            &[front, path, status, why],
         );
     }
     if name == "no lock" {
@@ -183,20 +212,63 @@ fn add_named(text: &mut String, name: &str, tokens: &[String]) -> Result<(), Fai
     Ok(text.push_str(token.as_str())?)
 }
 
+// Adds what a short form stands for: the end of a request's first line with its `Host`; an answer without fields of its own; or an answer with the tag of a file. Whether it is
+// such a form.
+fn add_short(text: &mut String, name: &str) -> Result<bool, Fail> {
+    if name == "h" {
+        text.push_str(" HTTP/1.1\r\nHost: h")?;
+        return Ok(true);
+    }
+    if let Some(status) = name.strip_prefix("bare ") {
+        write!(text, "HTTP/1.1 {status}\r\ncontent-length: 0\r\n\r\n")?;
+        return Ok(true);
+    }
+    if let Some(tag) = name.strip_prefix("made ") {
+        write!(
+            text,
+            "HTTP/1.1 201 Created\r\netag: \"{tag}\"\r\ncontent-length: 0\r\n\r\n"
+        )?;
+        return Ok(true);
+    }
+    if let Some(tag) = name.strip_prefix("kept ") {
+        write!(text, "HTTP/1.1 204 No Content\r\netag: \"{tag}\"\r\n\r\n")?;
+        return Ok(true);
+    }
+    if let Some(tag) = name.strip_prefix("file ") {
+        add_file(text, tag)?;
+        return Ok(true);
+    }
+    Ok(false)
+}
+
+// The head of an answer with a whole file of no known type, that was changed in the first second; its tag ends in its length.
+fn add_file(text: &mut String, tag: &str) -> Result<(), Fail> {
+    let (_, length) = tag.split_once('-').ok_or("no length")?;
+    write!(text, "HTTP/1.1 200 OK\r\netag: \"{tag}\"\r\n")?;
+    text.push_str("last-modified: Thu, 01 Jan 1970 00:00:01 GMT\r\n")?;
+    text.push_str("content-type: application/octet-stream\r\naccept-ranges: bytes\r\n")?;
+    Ok(write!(text, "content-length: {length}\r\n\r\n")?)
+}
+
 // An answer whose body is an `error` of `DAV:` with these texts in it.
 fn add_why(text: &mut String, status: &str, why: &[&str]) -> Result<(), Fail> {
-    let mut length = 34usize;
-    for piece in why {
+    add_document(text, status, "error", why)
+}
+
+// An answer whose body is this element of `DAV:` with these texts in it.
+fn add_document(text: &mut String, status: &str, name: &str, pieces: &[&str]) -> Result<(), Fail> {
+    let mut length = name.len().saturating_mul(2).saturating_add(24);
+    for piece in pieces {
         length = length.saturating_add(piece.len());
     }
     write!(text, "HTTP/1.1 {status}\r\n")?;
     text.push_str("content-type: application/xml; charset=utf-8\r\n")?;
     write!(text, "content-length: {length}\r\n\r\n")?;
-    text.push_str("<D:error xmlns:D=\"DAV:\">")?;
-    for piece in why {
+    write!(text, "<D:{name} xmlns:D=\"DAV:\">")?;
+    for piece in pieces {
         text.push_str(piece)?;
     }
-    Ok(text.push_str("</D:error>")?)
+    Ok(write!(text, "</D:{name}>")?)
 }
 
 // How many bytes are the same, from the first on.
@@ -305,4 +377,14 @@ fn ends_each_lock(rt: HostRuntime) -> Result<(), Fail> {
 #[test]
 fn removes_each_place(rt: HostRuntime) -> Result<(), Fail> {
     play(&rt, REMOVALS)
+}
+
+#[test]
+fn copies_each_place(rt: HostRuntime) -> Result<(), Fail> {
+    play(&rt, COPIES)
+}
+
+#[test]
+fn moves_each_place(rt: HostRuntime) -> Result<(), Fail> {
+    play(&rt, MOVES)
 }

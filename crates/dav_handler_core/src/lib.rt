@@ -6,6 +6,7 @@ mod content_types;
 pub mod dav;
 mod depths;
 mod destinations;
+mod documents;
 pub mod etags;
 pub mod faults;
 mod fields;

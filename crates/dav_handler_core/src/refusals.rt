@@ -1,21 +1,19 @@
 //! What is told of a refusal: its status, and a document that says why (RFC 4918 section 16).
-ghost use Rattle.std.specs.Prelude.{◌≡◌, ◌++◌, ◌∷◌, [], codes, option_map, string_bytes, IfOk, OnOk};
+ghost use Rattle.std.specs.Prelude.{◌≡◌, ◌++◌, ◌∷◌, [], codes, option_map, IfOk, OnOk};
 ghost use Rattle.http_server.specs.Response.{IsResponse, fields_of};
-ghost use Rattle.dav_xml_core.specs.Views.{writing_of};
-ghost use Rattle.dav_xml_core.specs.Documents.{Text};
-ghost use Rattle.dav_xml_core.specs.Writing.{with_nodes, with_start, written};
+ghost use Rattle.dav_xml_core.specs.Writing.{written};
 ghost use Rattle.dav_handler_core.specs.Faults.{fault_status};
-ghost use Rattle.dav_handler_core.specs.RefusalBodies.{TellsWhy, dav_name, element, front, lock_nodes, member_nodes, no_lock_nodes, refusal_nodes, url_path, xml_type};
+ghost use Rattle.dav_handler_core.specs.RefusalBodies.{TellsWhy, lock_nodes, member_nodes, no_lock_nodes, refusal_nodes, xml_type};
 
+use crate::documents::{begin, write_empty, write_href, write_text};
 use crate::faults::Fault;
 use crate::methods::options;
 use bytes::Bytes;
-use dav_resource_core::davpath::{DavPath, escaped};
-use dav_xml_core::davxml::{Name, Writer};
+use dav_resource_core::davpath::DavPath;
+use dav_xml_core::davxml::Writer;
 use http_header::{HeaderName, HeaderValue};
 use http_server::Response;
 use std::alloc::{AllocError, Global};
-use std::rc::RcStr;
 
 /// Tells a fault by its status; and where there is memory for it, why: by a document, and by the methods that are served, if the path doesn't take this
 /// one (RFC 9110 section 15.5.6). Paths stand behind the prefix in a document.
@@ -126,67 +124,4 @@ fn no_such_lock(alloc: Global) -> Result<Vec<u8>, AllocError>
     write_empty(alloc, &mut writer, "lock-token-matches-request-uri")?;
     writer.end()?;
     Ok(writer.into_bytes())
-}
-
-// An element of `DAV:` begins.
-fn begin(alloc: Global, writer: &mut Writer, local: &str) -> Result<(), AllocError>
-    ensures { OnOk result (writing_of writer.new ≡ with_start (writing_of writer.old) (dav_name local.now) []) }
-{
-    let name = Name {
-        namespace: RcStr::from_str(alloc, "DAV:")?,
-        local: String::from_str(alloc, local)?,
-    };
-    writer.start(&name, &[])
-}
-
-// An element of `DAV:` with nothing in it.
-fn write_empty(alloc: Global, writer: &mut Writer, local: &str) -> Result<(), AllocError>
-    ensures { OnOk result (writing_of writer.new ≡ with_nodes (writing_of writer.old) (element local.now [])) }
-{
-    begin(alloc, writer, local)?;
-    writer.end()
-}
-
-// An element of `DAV:` with a text in it.
-fn write_text(alloc: Global, writer: &mut Writer, local: &str, text: &str) -> Result<(), AllocError>
-    ensures { OnOk result (writing_of writer.new ≡ with_nodes (writing_of writer.old) (element local.now (Text text.now ∷ []))) }
-{
-    begin(alloc, writer, local)?;
-    writer.text(text)?;
-    writer.end()
-}
-
-// The URL of a path behind the prefix.
-fn write_href(
-    alloc: Global,
-    writer: &mut Writer,
-    prefix: &str,
-    path: &DavPath,
-) -> Result<(), AllocError>
-    ensures { OnOk result (writing_of writer.new
-        ≡ with_nodes (writing_of writer.old) (element (codes "href") (Text (url_path prefix.now path.now) ∷ []))) }
-{
-    let text = url_text(alloc, prefix, path)?;
-    write_text(alloc, writer, "href", &text)
-}
-
-fn url_text(alloc: Global, prefix: &str, path: &DavPath) -> Result<String, AllocError>
-    ensures { IfOk result (λ text. string_bytes text ≡ url_path prefix.now path.now) }
-{
-    let mut text = String::new(alloc);
-    escaped(front_of(prefix)).append_to(&mut text)?;
-    escaped(path.as_bytes()).append_to(&mut text)?;
-    Ok(text)
-}
-
-// The prefix as it stands before a path: without a slash at its end.
-fn front_of(prefix: &str) -> &[u8]
-    ensures { result.now ≡ front prefix.now }
-{
-    let bytes = prefix.as_bytes();
-    if bytes.ends_with(b"/") {
-        &bytes[..bytes.len().saturating_sub(1)]
-    } else {
-        bytes
-    }
 }

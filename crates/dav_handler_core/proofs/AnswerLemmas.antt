@@ -299,12 +299,14 @@ pub refused_alike : (m : Option DavMethod) (before after : Server) (request : Re
     → AnswersTo m before request (Err e) sent after → AnswersTo m before request (Err e) other after
 refused_alike (Some method.Get) before after request e sent other h = h
 refused_alike (Some method.Head) before after request e sent other h = h
+refused_alike (Some method.PropFind) before after request e sent other h = h
 refused_alike (Some method.Put) before after request e sent other h = h
 refused_alike (Some method.Delete) before after request e sent other h = h
 refused_alike (Some method.Copy) before after request e sent other h = h
 refused_alike (Some method.Move) before after request e sent other h = h
 refused_alike (Some method.MkCol) before after request e sent other h = h
 refused_alike (Some method.Unlock) before after request e sent other h = h
+refused_alike (Some method.PropPatch) before after request e sent other h = h
 refused_alike (Some method.Options) before after request e sent other h = h
 refused_alike _ before after request e sent other h = h
 

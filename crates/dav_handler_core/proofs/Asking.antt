@@ -1,7 +1,7 @@
 -- What a caller's requests are answered, and what they leave.
 use Rattle.std.proofs.Common.{true, ◌≡◌, ◌⊎◌, inl, inr, ℕ, List, [], ◌∷◌, ◌++◌, map, take, drop, Option, Some, None, Result, Ok, Err, refl, sym, ◌∙◌, ap, subst}
 use Rattle.std.specs.Prelude.{ok_or, OnErr}
-use Rattle.std.specs.FinMap.{entries}
+use Rattle.std.specs.FinMap.{entries, values}
 use Rattle.std.proofs.lemmas.Bool.{false≢true, or_from}
 use Rattle.std.proofs.lemmas.List.{map-append}
 use Rattle.std.proofs.lemmas.List.Folds.{list_any-append}
@@ -17,7 +17,7 @@ use Rattle.dav_files_core.specs.Listing.{listed, read_dir}
 use Rattle.dav_files_core.specs.Meta.{Meta as Known, meta_at}
 use Rattle.dav_files_core.specs.Outcomes.{◌>>=◌, only_file, only_folder}
 use Rattle.dav_files_core.specs.Parts.{read_at}
-use Rattle.dav_files_core.specs.Properties.{get_props, get_prop}
+use Rattle.dav_files_core.specs.Properties.{get_props, get_prop, shown}
 use Rattle.dav_files_core.specs.Resources.{Resource, ResourceMap, at_path}
 use Rattle.dav_locks_core.proofs.laws.StaleLemmas.{stale_once}
 use Rattle.dav_resource_core.specs.Requests.{Command, Reply, Meta, Bytes, Entries, Props, Value, Answer, Refusal, Fs, Locked, NoLock, OutOfMemory}
@@ -194,3 +194,23 @@ meta_refused who p s s' (Fs e) h = elim h.0.2 [
 meta_refused who p s s' (Locked l) h = absurd (In-Contains [] l h.0)
 meta_refused who p s s' NoLock h = absurd h.0
 meta_refused who p s s' OutOfMemory h = absurd (h.0 refl)
+
+-- ---- what a `GetProps` tells
+
+props_missing : (m : ResourceMap) (o : Option Resource) (e f : FsError) → tells m Props (ok_or o e >>= λ r. Ok (map (shown true) (values r.node.props))) ≡ Err f → o ≡ None
+props_missing m (Some r) e f h = absurd (cc)
+props_missing m None e f h = refl
+
+-- why properties aren't listed
+abbrev pub Unkept : ResourceMap → Path → Fault → Type 0
+Unkept m p e = (e ≡ fault.InsufficientStorage) ⊎ ((e ≡ fault.NotFound) × (at_path m p ≡ None))
+
+pub unkept : (who : Caller) (p : Path) (s s' : State) (e : Refusal) → Step s (asking who (Command.GetProps p true)) (Err e) s' → Unkept s.map p (list_fault e)
+unkept who p s s' (Fs InsufficientStorage) h = inl refl
+unkept who p s s' (Fs _) h = elim h.0.2 [
+  | inl lacks ↦ absurd (cc)
+  | inr refused ↦ inr (refl, props_missing s.map (at_path s.map p) (refusal_at s.map p) _ refused.0)
+]
+unkept who p s s' (Locked l) h = absurd (In-Contains [] l h.0)
+unkept who p s s' NoLock h = absurd h.0
+unkept who p s s' OutOfMemory h = absurd (h.0 refl)

@@ -30,6 +30,7 @@ use Rattle.dav_handler_core.specs.Deciding.{HeldOff, SendsPart, SendsTag, Stops,
 use Rattle.dav_handler_core.specs.Faults.{fault_status}
 use Rattle.dav_handler_core.specs.Fields.{Sent}
 use Rattle.dav_handler_core.specs.FileTags.{standing_by, standing_of, tag_of}
+use Rattle.dav_handler_core.specs.Finding.{FailsToTell}
 use Rattle.dav_handler_core.specs.Getting.{FailsToGet, Tells, own_tags, tags_by, told_by, told_of}
 use Rattle.dav_handler_core.specs.Making.{FailsToMake}
 use Rattle.dav_handler_core.specs.Moving as moving
@@ -38,17 +39,26 @@ use Rattle.dav_handler_core.specs.Putting.{FailsToPut, changes_by}
 use Rattle.dav_handler_core.specs.Ranges.{part_text}
 use Rattle.dav_handler_core.specs.Refusals.{RefusesPrincipal, RefusesTarget}
 use Rattle.dav_handler_core.specs.Removing.{FailsToRemove}
+use Rattle.dav_handler_core.specs.Patching.{FailsToPatch}
 use Rattle.dav_handler_core.specs.Unlocking.{FailsToUnlock}
 use Rattle.dav_handler_core.proofs.TransferLaws.{copy_kept, move_kept}
 
 -- ---- statuses of faults
 
 abbrev IsOfMember : Fault → Type 0
-IsOfMember e = (path : PathText) × (e ≡ fault.MemberLocked path)
+IsOfMember (fault.MemberLocked path) = Unit {0}
+IsOfMember (fault.ConflictingMember at path) = Unit {0}
+IsOfMember _ = ⊥
+
+member_status : (e : Fault) → IsOfMember e → fault_status e ≡ 207
+member_status (fault.MemberLocked path) h = refl
+member_status (fault.ConflictingMember at path) h = refl
+member_status _ h = absurd h
 
 -- the lock of a member is told with 207, and any other fault with 400 or more
 fault_high : (e : Fault) → IsOfMember e ⊎ (400 ≤ fault_status e)
-fault_high (fault.MemberLocked path) = inl (path, refl)
+fault_high (fault.MemberLocked path) = inl tt
+fault_high (fault.ConflictingMember at path) = inl tt
 fault_high fault.BadRequest = inr (omega arith)
 fault_high fault.Unauthorized = inr (omega arith)
 fault_high fault.Forbidden = inr (omega arith)
@@ -59,6 +69,7 @@ fault_high fault.NoSuchLock = inr (omega arith)
 fault_high fault.PreconditionFailed = inr (omega arith)
 fault_high fault.UnsupportedMediaType = inr (omega arith)
 fault_high (fault.Locked path) = inr (omega arith)
+fault_high (fault.ConflictingLock path) = inr (omega arith)
 fault_high fault.NotImplemented = inr (omega arith)
 fault_high fault.BadGateway = inr (omega arith)
 fault_high fault.ServiceUnavailable = inr (omega arith)
@@ -66,6 +77,7 @@ fault_high fault.InsufficientStorage = inr (omega arith)
 
 fault_failed : (e : Fault) → fault_status e ≡ 412 → e ≡ fault.PreconditionFailed
 fault_failed (fault.MemberLocked path) h = absurd (omega (arith, h))
+fault_failed (fault.ConflictingMember at path) h = absurd (omega (arith, h))
 fault_failed fault.BadRequest h = absurd (omega (arith, h))
 fault_failed fault.Unauthorized h = absurd (omega (arith, h))
 fault_failed fault.Forbidden h = absurd (omega (arith, h))
@@ -76,6 +88,7 @@ fault_failed fault.NoSuchLock h = absurd (omega (arith, h))
 fault_failed fault.PreconditionFailed h = refl
 fault_failed fault.UnsupportedMediaType h = absurd (omega (arith, h))
 fault_failed (fault.Locked path) h = absurd (omega (arith, h))
+fault_failed (fault.ConflictingLock path) h = absurd (omega (arith, h))
 fault_failed fault.NotImplemented h = absurd (omega (arith, h))
 fault_failed fault.BadGateway h = absurd (omega (arith, h))
 fault_failed fault.ServiceUnavailable h = absurd (omega (arith, h))
@@ -84,7 +97,7 @@ fault_failed fault.InsufficientStorage h = absurd (omega (arith, h))
 -- no fault has such a status
 no_fault : (e : Fault) (status : ℕ) → fault_status e ≡ status → status < 400 → status ≢ 207 → ⊥
 no_fault e status is low apart = elim (fault_high e) [
-  | inl member ↦ apart (sym is ∙ ap fault_status member.1)
+  | inl member ↦ apart (sym is ∙ member_status e member)
   | inr high ↦ omega (arith, is, low, high)
 ]
 
@@ -121,31 +134,37 @@ not_unread options request last changes _ is (moment path who names from h last_
 
 -- and neither is it the lock of a member
 unread_alone : (options : Options) (request : Request (List ℕ)) (last : ℕ) (changes : Bool) (e : Fault) → IsOfMember e → ¬ Unread options request last changes e
-unread_alone options request last changes _ member memory = let is = member.1 in cc
-unread_alone options request last changes _ member (target e h) = subst (RefusesTarget options.prefix (head_of request).uri) member.1 h
-unread_alone options request last changes _ member (principal e path names h) =
-    named_alone options.user_header (head_of request).headers member.0 (subst (RefusesPrincipal options.user_header (head_of request).headers) member.1 h)
+unread_alone options request last changes _ member memory = member
+unread_alone options request last changes _ member (target (fault.MemberLocked path) h) = h
+unread_alone options request last changes _ member (target (fault.ConflictingMember at path) h) = h
+unread_alone options request last changes _ member (target _ h) = member
+unread_alone options request last changes _ member (principal e path names h) = named_alone options.user_header (head_of request).headers e member h
   where
-    named_alone : (named : Option (List ℕ)) (headers : Entries FieldValue) (at : PathText) → ¬ RefusesPrincipal named headers (fault.MemberLocked at)
-    named_alone (Some name) headers at h = h
-    named_alone None headers at h = h
-unread_alone options request last changes _ member (tokens path named names sender h) = let is = member.1 in cc
-unread_alone options request last changes _ member (moment path who names from h last_one) = let is = member.1 in cc
+    named_alone : (named : Option (List ℕ)) (headers : Entries FieldValue) (e : Fault) → IsOfMember e → ¬ RefusesPrincipal named headers e
+    named_alone (Some name) headers (fault.MemberLocked path) member h = h
+    named_alone (Some name) headers (fault.ConflictingMember at path) member h = h
+    named_alone (Some name) headers _ member h = member
+    named_alone None headers e member h = h
+unread_alone options request last changes _ member (tokens path named names sender h) = member
+unread_alone options request last changes _ member (moment path who names from h last_one) = member
 
-told_alone : (m : DavMethod) (at : Standing) (size : ℕ) (headers : Entries FieldValue) (o : Option Course) (path : PathText)
-    → told_by m at size headers o ≢ Err (fault.MemberLocked path)
-told_alone m at size headers None path h = cc
-told_alone m at size headers (Some course.PreconditionFailed) path h = cc
-told_alone m at size headers (Some course.NotModified) path h = cc
-told_alone m at size headers (Some course.Whole) path h = cc
-told_alone m at size headers (Some course.Proceed) path h = cc
+other_fault : (e other : Fault) → IsOfMember e → (IsOfMember other → ⊥) → e ≡ other → ⊥
+other_fault e other member apart same = apart (subst IsOfMember same member)
 
-changed_alone : (o : Option Course) (path : PathText) → changes_by o ≢ Err (fault.MemberLocked path)
-changed_alone None path h = cc
-changed_alone (Some course.PreconditionFailed) path h = cc
-changed_alone (Some course.NotModified) path h = cc
-changed_alone (Some course.Whole) path h = cc
-changed_alone (Some course.Proceed) path h = cc
+told_alone : (m : DavMethod) (at : Standing) (size : ℕ) (headers : Entries FieldValue) (o : Option Course) (e : Fault) → IsOfMember e
+    → told_by m at size headers o ≢ Err e
+told_alone m at size headers None e member h = other_fault e fault.BadRequest member (λ x. x) (cc)
+told_alone m at size headers (Some course.PreconditionFailed) e member h = other_fault e fault.PreconditionFailed member (λ x. x) (cc)
+told_alone m at size headers (Some course.NotModified) e member h = cc
+told_alone m at size headers (Some course.Whole) e member h = cc
+told_alone m at size headers (Some course.Proceed) e member h = cc
+
+changed_alone : (o : Option Course) (e : Fault) → IsOfMember e → changes_by o ≢ Err e
+changed_alone None e member h = other_fault e fault.BadRequest member (λ x. x) (cc)
+changed_alone (Some course.PreconditionFailed) e member h = other_fault e fault.PreconditionFailed member (λ x. x) (cc)
+changed_alone (Some course.NotModified) e member h = other_fault e fault.PreconditionFailed member (λ x. x) (cc)
+changed_alone (Some course.Whole) e member h = cc
+changed_alone (Some course.Proceed) e member h = cc
 
 abbrev refused_as : Fault → Result ℕ Fault
 refused_as e = Err e
@@ -210,24 +229,33 @@ module _ (before after : Server) (request : Request (List ℕ)) (sent : Sent) wh
 
   -- ---- every method
 
+  held_alone : (e : Fault) (path : PathText) → IsOfMember e → ¬ HoldsOff before request after path e
+  held_alone (fault.MemberLocked at) path member h = h
+  held_alone (fault.ConflictingMember at other) path member h = h
+  held_alone _ path member h = member
+
   -- a request that is refused, but not for the lock of a member
   fails_alone : (changes : Bool) (e : Fault) (Refuses : Path → Caller → Type 0) → IsOfMember e
       → Unread before.options request before.last changes e ⊎ Fails before request after e Refuses → ((p : Path) (who : Caller) → ¬ Refuses p who) → ⊥
   fails_alone changes e Refuses member (inl unread) none = unread_alone before.options request before.last changes e member unread
   fails_alone changes e Refuses member (inr h) none = elim h.why [
-    | inl off ↦ subst (HoldsOff before request after h.path) member.1 off
+    | inl off ↦ held_alone e h.path member off
     | inr own ↦ none (segments h.path.bytes) h.who own.1
   ]
 
   get_alone : (m : DavMethod) (e : Fault) (p : Path) → IsOfMember e → ¬ FailsToGet m before.state.map p Headers e
-  get_alone m e p member h =
-      let told = subst (FailsToGet m before.state.map p Headers) member.1 h in
-      told_alone m (standing_of (Some told.0)) (length told.0.node.bytes) Headers (course_of m (standing_of (Some told.0)) Headers) member.0 told.2
+  get_alone m (fault.MemberLocked path) p member h =
+      told_alone m (standing_of (Some h.0)) (length h.0.node.bytes) Headers (course_of m (standing_of (Some h.0)) Headers) (fault.MemberLocked path) tt h.2
+  get_alone m (fault.ConflictingMember at path) p member h =
+      told_alone m (standing_of (Some h.0)) (length h.0.node.bytes) Headers (course_of m (standing_of (Some h.0)) Headers) (fault.ConflictingMember at path) tt h.2
+  get_alone m _ p member h = member
 
   put_alone : (e : Fault) (p : Path) (who : Caller) → IsOfMember e → ¬ FailsToPut before.state who p (body_of request) Headers e
-  put_alone e p who member h =
-      changed_alone (course_of method.Put (standing_of (at_path before.state.map p)) Headers) member.0
-      (subst (FailsToPut before.state who p (body_of request) Headers) member.1 h).1
+  put_alone (fault.MemberLocked path) p who member h =
+      changed_alone (course_of method.Put (standing_of (at_path before.state.map p)) Headers) (fault.MemberLocked path) tt h.1
+  put_alone (fault.ConflictingMember at path) p who member h =
+      changed_alone (course_of method.Put (standing_of (at_path before.state.map p)) Headers) (fault.ConflictingMember at path) tt h.1
+  put_alone _ p who member h = member
 
   looks_alone : (m : Option DavMethod) (e : Fault) → AnswersTo m before request (Err e) sent after → looks m ≡ true → ¬ IsOfMember e
   looks_alone (Some method.Get) e h look member =
@@ -235,7 +263,7 @@ module _ (before after : Server) (request : Request (List ℕ)) (sent : Sent) wh
   looks_alone (Some method.Head) e h look member =
       fails_alone false e (λ p who. FailsToGet method.Head before.state.map p Headers e) member h.0 (λ p who. get_alone method.Head e p member)
   looks_alone (Some method.Put) e (inl part) look member =
-      let is : fault.BadRequest ≡ fault.MemberLocked member.0 = sym part.1 ∙ member.1 in cc
+      other_fault e fault.BadRequest member (λ x. x) part.1
   looks_alone (Some method.Put) e (inr h) look member =
       fails_alone true e (λ p who. FailsToPut before.state who p (body_of request) Headers e) member h.1 (λ p who. put_alone e p who member)
   looks_alone _ e h look member = false≢true look
@@ -300,6 +328,11 @@ module _ (before after : Server) (request : Request (List ℕ)) (sent : Sent) wh
       let is = fault_off e off in
       fails_off (Some method.Put) true e (λ p who. FailsToPut before.state who p (body_of request) Headers e) is h.1
       (λ p who refuses. (subst (FailsToPut before.state who p (body_of request) Headers) is refuses).1)
+  held_off (Some method.PropFind) (Ok status) h off = absurd (elim off [ inl off ↦ omega (arith, off, h.0.does.0) | inr off ↦ omega (arith, off, h.0.does.0) ])
+  held_off (Some method.PropFind) (Err e) h off =
+      let is = fault_off e off in
+      fails_off (Some method.PropFind) false e (λ p who. FailsToTell Headers (body_of request) (as_found before after) who p e) is h.0
+      (λ p who refuses. subst (FailsToTell Headers (body_of request) (as_found before after) who p) is refuses)
   held_off (Some method.Delete) (Ok status) h off = absurd (elim off [ inl off ↦ omega (arith, off, h.does.status_is) | inr off ↦ omega (arith, off, h.does.status_is) ])
   held_off (Some method.Delete) (Err e) h off =
       let is = fault_off e off in
@@ -325,6 +358,12 @@ module _ (before after : Server) (request : Request (List ℕ)) (sent : Sent) wh
       let is = fault_off e off in
       fails_off (Some method.Unlock) false e (λ p who. FailsToUnlock Headers (as_found before after) who p e) is h
       (λ p who refuses. absurd ((subst (FailsToUnlock Headers (as_found before after) who p) is refuses).2))
+  held_off (Some method.PropPatch) (Ok status) h off =
+      absurd (elim off [ inl off ↦ omega (arith, off, h.patches.status_is) | inr off ↦ omega (arith, off, h.patches.status_is) ])
+  held_off (Some method.PropPatch) (Err e) h off =
+      let is = fault_off e off in
+      fails_off (Some method.PropPatch) false e (λ p who. FailsToPatch (body_of request) (as_found before after) who p e) is h
+      (λ p who refuses. subst (FailsToPatch (body_of request) (as_found before after) who p) is refuses)
   held_off (Some method.Options) (Ok status) h (inl off) = absurd (omega (arith, h.0, off))
   held_off (Some method.Options) (Ok status) h (inr off) = absurd (omega (arith, h.0, off))
   held_off (Some method.Options) (Err e) h off =
@@ -346,6 +385,7 @@ module _ (before after : Server) (request : Request (List ℕ)) (sent : Sent) wh
   stays m (Err e) h refused off = leaves_all m e (fault_off e off) refused
   stays (Some method.Get) (Ok status) h refused off = h.1
   stays (Some method.Head) (Ok status) h refused off = h.1
+  stays (Some method.PropFind) (Ok status) h refused off = h.1
   stays (Some method.Put) (Ok status) h refused off =
       let between = put_between (has before.state.map (segments h.1.path.bytes)) in
       absurd (elim off [ inl off ↦ omega (arith, off, h.1.status_is, between) | inr off ↦ omega (arith, off, h.1.status_is, between) ])
@@ -357,6 +397,8 @@ module _ (before after : Server) (request : Request (List ℕ)) (sent : Sent) wh
       absurd (elim off [ inl off ↦ omega (arith, off, h.does.status_is) | inr off ↦ omega (arith, off, h.does.status_is) ])
   stays (Some method.Unlock) (Ok status) h refused off =
       absurd (elim off [ inl off ↦ omega (arith, off, h.does.status_is) | inr off ↦ omega (arith, off, h.does.status_is) ])
+  stays (Some method.PropPatch) (Ok status) h refused off =
+      absurd (elim off [ inl off ↦ omega (arith, off, h.patches.status_is) | inr off ↦ omega (arith, off, h.patches.status_is) ])
   stays (Some method.Options) (Ok status) h refused (inl off) = absurd (omega (arith, h.0, off))
   stays (Some method.Options) (Ok status) h refused (inr off) = absurd (omega (arith, h.0, off))
   stays _ (Ok status) h refused off = absurd (cc)
@@ -403,6 +445,7 @@ module _ (before after : Server) (request : Request (List ℕ)) (sent : Sent) wh
       absurd (no_part (standing_of (Some r)) (length r.node.bytes) (course_of method.Head (standing_of (Some r)) Headers) status r h.0.gets.tells part)
   sends_part (Some method.Put) (Ok status) h part =
       absurd (omega (arith, part, h.1.status_is, put_between (has before.state.map (segments h.1.path.bytes))))
+  sends_part (Some method.PropFind) (Ok status) h part = absurd (omega (arith, h.0.does.0, part))
   sends_part (Some method.Delete) (Ok status) h part = absurd (omega (arith, h.does.status_is, part))
   sends_part (Some method.Copy) (Ok status) h part =
       absurd (omega (arith, part, h.does.status_is, put_between (has before.state.map (segments h.does.to.bytes))))
@@ -410,6 +453,7 @@ module _ (before after : Server) (request : Request (List ℕ)) (sent : Sent) wh
       absurd (omega (arith, part, h.does.status_is, put_between (has before.state.map (segments h.does.to.bytes))))
   sends_part (Some method.MkCol) (Ok status) h part = absurd (omega (arith, h.does.status_is, part))
   sends_part (Some method.Unlock) (Ok status) h part = absurd (omega (arith, h.does.status_is, part))
+  sends_part (Some method.PropPatch) (Ok status) h part = absurd (omega (arith, h.patches.status_is, part))
   sends_part (Some method.Options) (Ok status) h part = absurd (omega (arith, h.0, part))
   sends_part _ (Ok status) h part = absurd (cc)
 

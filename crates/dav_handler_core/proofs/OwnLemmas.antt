@@ -71,8 +71,15 @@ covers_here l p h = elim (cases_Bool (is_same_path (lock_path l) p)) [
   | inr other ↦ (and_parts l.deep (is_front (lock_path l) p) (subst (λ b. (b || (l.deep && is_front (lock_path l) p)) ≡ true) other h)).1
 ]
 
-at_covers : (l : Lock) (p : Path) → lock_path l ≡ p → covers l p ≡ true
+pub at_covers : (l : Lock) (p : Path) → lock_path l ≡ p → covers l p ≡ true
 at_covers l p h = ap (λ b. b || (l.deep && is_front (lock_path l) p)) (ap (is_same_path (lock_path l)) (sym h) ∙ is_same_path-refl (lock_path l))
+
+pub at_root : (l : Lock) → is_front (lock_path l) [] ≡ true → covers l [] ≡ true
+at_root l h = by (lock_path l) refl h
+  where
+    by : (q : Path) → lock_path l ≡ q → is_front q [] ≡ true → covers l [] ≡ true
+    by [] is h = at_covers l [] is
+    by (x ∷ q) is h = absurd (false≢true h)
 
 any_false : {A : Type 0} (test : A → Bool) (xs : List A) (x : A) → list_any test xs ≡ false → In x xs → test x ≡ false
 any_false test [] x h i = absurd i
@@ -111,13 +118,6 @@ module _ (s : State) (who : Caller) (p : Path) (token : List ℕ) where
       | inr up ↦ inr up
     ]
   ]
-
-  at_root : (l : Lock) → is_front (lock_path l) [] ≡ true → covers l [] ≡ true
-  at_root l h = by (lock_path l) refl h
-    where
-      by : (q : Path) → lock_path l ≡ q → is_front q [] ≡ true → covers l [] ≡ true
-      by [] is h = at_covers l [] is
-      by (x ∷ q) is h = absurd (false≢true h)
 
   pub all_own : (here : Path) → length here ≡ 0 → NoneAt here false → OwnSoFar here → AllOwn s who p token
   all_own [] none_left none so_far = λ l i h. elim (so_far l i h) [

@@ -1,5 +1,5 @@
 -- What a refusal tells could have been read, so it is read.
-use Rattle.std.proofs.Common.{◌≡◌, ℕ, zero, suc, true, false, List, [], ◌∷◌, ◌++◌, Some, codes, refl, sym, ap, subst, arith}
+use Rattle.std.proofs.Common.{◌≡◌, ℕ, zero, suc, true, false, List, [], ◌∷◌, ◌++◌, Some, codes, refl, sym, ap, ◌∙◌, subst, arith}
 use lib.Utf8.{encode}
 use Rattle.std.specs.Prelude.{IsAscii, encode_utf8_all}
 use Rattle.std.specs.List.{AllByRecursion, list_all}
@@ -19,7 +19,7 @@ use Rattle.dav_xml_core.specs.Writing.{written}
 use Rattle.dav_xml_core.proofs.NodesLemmas.{written_again}
 use Rattle.dav_handler_core.specs.declared.faults.Fault.{Fault}
 use Rattle.dav_handler_core.specs.declared.faults.Fault.TheVariants as fault
-use Rattle.dav_handler_core.specs.RefusalBodies.{element, front, lock_nodes, member_nodes, no_lock_nodes, url_path}
+use Rattle.dav_handler_core.specs.RefusalBodies.{conflict_below_nodes, conflict_nodes, element, front, lock_nodes, member_nodes, no_lock_nodes, url_path}
 use Rattle.dav_handler_core.specs.RefusalReading.{HasPath, IsReadAsTold, IsRooted}
 
 -- ---- the texts of URLs
@@ -67,10 +67,21 @@ url_text prefix path h =
 abbrev lock_of : List ℕ → List Node
 lock_of text = element (codes "error") (element (codes "lock-token-submitted") (element (codes "href") (Text text ∷ [])))
 
+abbrev conflict_of : List ℕ → List Node
+conflict_of text = element (codes "error") (element (codes "no-conflicting-lock") (element (codes "href") (Text text ∷ [])))
+
 abbrev member_of : List ℕ → List Node
 member_of text =
     element (codes "multistatus") (element (codes "response") (element (codes "href") (Text text ∷ [])
     ++ element (codes "status") (Text (codes "HTTP/1.1 423 Locked") ∷ []) ++ element (codes "error") (element (codes "lock-token-submitted") [])))
+
+abbrev told_of : List ℕ → List ℕ → List Node → List Node
+told_of text status why = element (codes "response") (element (codes "href") (Text text ∷ []) ++ (element (codes "status") (Text status ∷ []) ++ why))
+
+abbrev below_of : List ℕ → List ℕ → List Node
+below_of text other =
+    element (codes "multistatus") (told_of text (codes "HTTP/1.1 423 Locked") (element (codes "error") (element (codes "no-conflicting-lock") []))
+    ++ told_of other (codes "HTTP/1.1 424 Failed Dependency") [])
 
 lock_could : (text : List ℕ) → IsText text → CouldBeRead (lock_of text)
 unfolding encode are_distinct
@@ -80,12 +91,28 @@ lock_could text h = record {
   readable = rw (h.shown, h.chars) refl;
 }
 
+conflict_could : (text : List ℕ) → IsText text → CouldBeRead (conflict_of text)
+unfolding encode are_distinct
+conflict_could text h = record {
+  characters = conflict_of text;
+  bytes = ap conflict_of (sym h.same);
+  readable = rw (h.shown, h.chars) refl;
+}
+
 member_could : (text : List ℕ) → IsText text → CouldBeRead (member_of text)
 unfolding encode are_distinct
 member_could text h = record {
   characters = member_of text;
   bytes = ap member_of (sym h.same);
   readable = rw (h.shown, h.chars) refl;
+}
+
+below_could : (text other : List ℕ) → IsText text → IsText other → CouldBeRead (below_of text other)
+unfolding encode are_distinct
+below_could text other h k = record {
+  characters = below_of text other;
+  bytes = ap (λ t. below_of t other) (sym h.same) ∙ ap (λ t. below_of (encode_utf8_all text) t) (sym k.same);
+  readable = rw (h.shown, h.chars, k.shown, k.chars) refl;
 }
 
 no_lock_could : CouldBeRead no_lock_nodes
@@ -98,7 +125,12 @@ is_read told nodes could h =
 
 pub refusals_are_read : (prefix : List ℕ) (e : Fault) → HasPath e → IsReadAsTold prefix e
 refusals_are_read prefix (fault.Locked path) h nodes are = is_read (lock_nodes prefix path) nodes (lock_could (url_path prefix path) (url_text prefix path h)) are
+refusals_are_read prefix (fault.ConflictingLock path) h nodes are =
+    is_read (conflict_nodes prefix path) nodes (conflict_could (url_path prefix path) (url_text prefix path h)) are
 refusals_are_read prefix (fault.MemberLocked path) h nodes are =
     is_read (member_nodes prefix path) nodes (member_could (url_path prefix path) (url_text prefix path h)) are
+refusals_are_read prefix (fault.ConflictingMember at path) h nodes are =
+    is_read (conflict_below_nodes prefix at path) nodes
+    (below_could (url_path prefix at) (url_path prefix path) (url_text prefix at h.0) (url_text prefix path h.1)) are
 refusals_are_read prefix fault.NoSuchLock h nodes are = is_read no_lock_nodes nodes no_lock_could are
 refusals_are_read prefix _ h nodes are = absurd (cc)

@@ -546,3 +546,8 @@ module _ {A : Type 0} (f : A → Path) (m : ResourceMap) where
 
   pub ended : (p : Path) (done waiting : List A) → waiting ≡ [] → Walking m p (map f done) (map f waiting) → IsResourceMap m → IsWalk m p (map f done)
   ended p done waiting none w = walk_done m p (map f done) (subst (λ xs. Walking m p (map f done) (map f xs)) none w)
+
+-- ---- something stands at each member
+
+pub member_stands : (m : ResourceMap) (p : Path) (paths : List Path) → MembersAre m p paths → (q : Path) → In q paths → IsSome (at_path m q)
+member_stands m p paths are q i = ((gathered m p paths are).stand q i).2

@@ -30,6 +30,9 @@ use Rattle.dav_handler_core.specs.Ends.{HasFolder}
 use Rattle.dav_handler_core.specs.Fields.{Sent, sent_of}
 use Rattle.dav_handler_core.specs.Making.{Makes}
 use Rattle.dav_handler_core.specs.Moving.{IsMoved}
+use Rattle.dav_handler_core.specs.PatchBodies.{any_protected}
+use Rattle.dav_handler_core.specs.Patching.{Changes, IsPatched, with_updates}
+use Rattle.dav_handler_core.specs.PropertyUpdates.{Update}
 use Rattle.dav_handler_core.specs.Putting.{Puts}
 use Rattle.dav_handler_core.specs.Removing.{IsRemoved}
 use Rattle.dav_handler_core.specs.Serving.{Leads}
@@ -89,6 +92,25 @@ make_dates before after body who p status later h = record {
     ]
   ];
 }
+
+-- properties are no bytes, and their changes leave the moments
+patched_dates : (before after : Server) (p : Path) (updates : List Update) → before.last ≤ after.last → IsPatched p updates (as_found before after) after.state → Dates before after
+patched_dates before after p updates later h = record {
+  bytes = [];
+  moments = later;
+  files = λ file has. elim (dec path_total path_exact has.0 p) [
+    | inl here ↦
+        let is : file ≡ with_updates updates h.resource =
+        one_some (at_path after.state.map p) file (with_updates updates h.resource) (subst (λ q. at_path after.state.map q ≡ Some file) here has.1) h.stands in
+        inl (h.resource, (p, h.stood, sym (ap (λ (r : Resource). r.node.kind) is) ∙ has.2), sym (ap (λ (r : Resource). r.node.modified) is), sym (ap (λ (r : Resource). r.node.bytes) is))
+    | inr apart ↦ inl (file, (has.0, sym (h.others has.0 apart) ∙ has.1, has.2), refl, refl)
+  ];
+}
+
+patch_dates : (before after : Server) (protected : Bool) (p : Path) (updates : List Update) → before.last ≤ after.last
+    → Changes protected after.last p updates (as_found before after) after.state → Dates before after
+patch_dates before after true p updates later h = same_map before after later (ap (λ (s : State). s.map) h)
+patch_dates before after false p updates later h = patched_dates before after p updates later h
 
 -- what comes from a map at the last moment
 come_dates : (before after : Server) (bytes : List ℕ) → before.last < after.last → Come before.state.map after.last bytes after.state.map → Dates before after
@@ -158,6 +180,8 @@ method_dates (Some method.Get) before after request result sent later h refused 
     same_map before after later (live_map after.last before.state after.state h.1)
 method_dates (Some method.Head) before after request result sent later h refused =
     same_map before after later (live_map after.last before.state after.state h.1)
+method_dates (Some method.PropFind) before after request result sent later h refused =
+    same_map before after later (live_map after.last before.state after.state h.1)
 method_dates (Some method.Put) before after request (Ok status) sent later h refused =
     put_dates before after (segments h.1.path.bytes) (body_of request) h.1.later h.1.puts
 method_dates (Some method.Put) before after request (Err e) sent later h refused =
@@ -189,6 +213,13 @@ method_dates (Some method.MkCol) before after request (Err e) sent later h refus
 method_dates (Some method.Unlock) before after request (Ok status) sent later h refused =
     same_map before after later (ap (λ (s : State). s.map) h.does.ends.left)
 method_dates (Some method.Unlock) before after request (Err e) sent later h refused =
+    same_map before after later (live_map after.last before.state after.state refused)
+method_dates (Some method.PropPatch) before after request (Ok status) sent later h refused =
+    let updates = h.patches.updates in
+    let p = segments h.path.bytes in
+    patch_dates before after (any_protected updates) p updates later
+    (subst (λ n. Changes (any_protected updates) n p updates (as_found before after) after.state) h.begins.now h.patches.changes)
+method_dates (Some method.PropPatch) before after request (Err e) sent later h refused =
     same_map before after later (live_map after.last before.state after.state refused)
 method_dates (Some method.Options) before after request (Ok status) sent later h refused = same_map before after later (ap (λ (s : State). s.map) h.1)
 method_dates (Some method.Options) before after request (Err e) sent later h refused = same_map before after later (ap (λ (s : State). s.map) h.1)

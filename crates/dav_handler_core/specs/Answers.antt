@@ -21,9 +21,11 @@ use Rattle.dav_handler_core.specs.Copying.{Copies, FailsToCopy, StartsToCopy}
 use Rattle.dav_handler_core.specs.Faults.{fault_status}
 use Rattle.dav_handler_core.specs.Fields.{Sent, sent_of}
 use Rattle.dav_handler_core.specs.FileTags.{tag_of}
+use Rattle.dav_handler_core.specs.Finding.{FailsToTell, TellsFound}
 use Rattle.dav_handler_core.specs.Getting.{FailsToGet, Gets, tagged}
 use Rattle.dav_handler_core.specs.Making.{FailsToMake, Makes}
 use Rattle.dav_handler_core.specs.Moving as moving
+use Rattle.dav_handler_core.specs.Patching.{FailsToPatch, Patches}
 use Rattle.dav_handler_core.specs.Putting.{FailsToPut, Puts, put_course, put_status}
 use Rattle.dav_handler_core.specs.RefusalBodies.{TellsWhy}
 use Rattle.dav_handler_core.specs.Refusals.{RefusesTarget, RefusesPrincipal, HasBadIf, HasPart, IsLastMoment}
@@ -158,11 +160,27 @@ ChangeAnswers changes Does Refuses before request (Ok status) after =
 ChangeAnswers changes Does Refuses before request (Err e) after =
     Unread before.options request before.last changes e ⊎ Fails before request after e (λ p who. Refuses (as_found before after) who p e)
 
+-- A PROPPATCH that is done, as its answer tells.
+pub record IsPropPatched (before : Server) (request : Request (List ℕ)) (status : ℕ) (sent : Sent) (after : Server) : Type 0 where
+  pub path : PathText
+  pub who : Caller
+  pub begins : Begins before request after path who
+  pub admits : Admits before request after path
+  pub patches : Patches before.options.prefix (body_of request) (as_found before after) who path status sent after.state
+
+abbrev pub PatchAnswers : Server → Request (List ℕ) → Result ℕ Fault → Sent → Server → Type 0
+PatchAnswers before request (Ok status) sent after = IsPropPatched before request status sent after
+PatchAnswers before request (Err e) sent after =
+    Unread before.options request before.last false e ⊎ Fails before request after e (λ p who. FailsToPatch (body_of request) (as_found before after) who p e)
+
 abbrev pub AnswersTo : Option DavMethod → Server → Request (List ℕ) → Result ℕ Fault → Sent → Server → Type 0
 AnswersTo (Some method.Get) before request result sent after =
     GetAnswers method.Get before request result sent after × SameLive after.last before.state after.state
 AnswersTo (Some method.Head) before request result sent after =
     GetAnswers method.Head before request result sent after × SameLive after.last before.state after.state
+AnswersTo (Some method.PropFind) before request result sent after =
+    ChangeAnswers false (TellsFound before.options.prefix (head_of request).headers (body_of request) sent.body)
+    (FailsToTell (head_of request).headers (body_of request)) before request result after × SameLive after.last before.state after.state
 AnswersTo (Some method.Put) before request result sent after = PutAnswers before request result sent after
 AnswersTo (Some method.Delete) before request result sent after =
     ChangeAnswers true (Removes (head_of request).headers) (FailsToRemove (head_of request).headers) before request result after
@@ -176,6 +194,7 @@ AnswersTo (Some method.MkCol) before request result sent after =
     ChangeAnswers true (Makes (body_of request)) (FailsToMake (body_of request)) before request result after
 AnswersTo (Some method.Unlock) before request result sent after =
     ChangeAnswers false (Unlocks (head_of request).headers) (FailsToUnlock (head_of request).headers) before request result after
+AnswersTo (Some method.PropPatch) before request result sent after = PatchAnswers before request result sent after
 AnswersTo (Some method.Options) before request (Ok status) sent after = (status ≡ 200) × (after.state ≡ before.state)
 AnswersTo (Some method.Options) before request (Err e) sent after = (e ≡ fault.InsufficientStorage) × (after.state ≡ before.state)
 AnswersTo _ before request result sent after = (result ≡ Err fault.NotImplemented) × (after.state ≡ before.state)

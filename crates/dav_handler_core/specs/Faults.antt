@@ -5,10 +5,11 @@ use Rattle.dav_path_core.specs.declared.davpath.ParseError.TheVariants as parse
 use Rattle.dav_headers_core.specs.declared.davheaders.errors.HeaderError.{HeaderError}
 use Rattle.dav_headers_core.specs.declared.davheaders.errors.HeaderError.TheVariants as header
 use Rattle.dav_handler_core.specs.declared.faults.Fault.{Fault}
-use Rattle.dav_handler_core.specs.declared.faults.Fault.TheVariants.{MemberLocked, BadRequest, Unauthorized, Forbidden, NotFound, MethodNotAllowed, Conflict, NoSuchLock, PreconditionFailed, UnsupportedMediaType, Locked, NotImplemented, BadGateway, ServiceUnavailable, InsufficientStorage}
+use Rattle.dav_handler_core.specs.declared.faults.Fault.TheVariants.{MemberLocked, ConflictingMember, BadRequest, Unauthorized, Forbidden, NotFound, MethodNotAllowed, Conflict, NoSuchLock, PreconditionFailed, UnsupportedMediaType, Locked, ConflictingLock, NotImplemented, BadGateway, ServiceUnavailable, InsufficientStorage}
 
 abbrev pub fault_status : Fault → ℕ
 fault_status (MemberLocked path) = 207
+fault_status (ConflictingMember at path) = 207
 fault_status BadRequest = 400
 fault_status Unauthorized = 401
 fault_status Forbidden = 403
@@ -19,6 +20,7 @@ fault_status NoSuchLock = 409
 fault_status PreconditionFailed = 412
 fault_status UnsupportedMediaType = 415
 fault_status (Locked path) = 423
+fault_status (ConflictingLock path) = 423
 fault_status NotImplemented = 501
 fault_status BadGateway = 502
 fault_status ServiceUnavailable = 503

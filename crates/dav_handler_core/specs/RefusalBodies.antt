@@ -35,11 +35,25 @@ href prefix path = element (codes "href") (Text (url_path prefix path) ∷ [])
 abbrev pub lock_nodes : List ℕ → PathText → List Node
 lock_nodes prefix path = element (codes "error") (element (codes "lock-token-submitted") (href prefix path))
 
--- a lock of a member does
+-- another lock lets this one not be granted
+abbrev pub conflict_nodes : List ℕ → PathText → List Node
+conflict_nodes prefix path = element (codes "error") (element (codes "no-conflicting-lock") (href prefix path))
+
+-- a lock of a member stands in the way
 abbrev pub member_nodes : List ℕ → PathText → List Node
 member_nodes prefix path =
     element (codes "multistatus") (element (codes "response") (href prefix path
     ++ element (codes "status") (Text (codes "HTTP/1.1 423 Locked") ∷ []) ++ element (codes "error") (element (codes "lock-token-submitted") [])))
+
+-- a response that tells of a path by a status, and why (RFC 4918 section 14.24)
+abbrev pub told_response : List ℕ → PathText → List ℕ → List Node → List Node
+told_response prefix path status why = element (codes "response") (href prefix path ++ (element (codes "status") (Text status ∷ []) ++ why))
+
+-- a lock of a member lets none be granted at the path
+abbrev pub conflict_below_nodes : List ℕ → PathText → PathText → List Node
+conflict_below_nodes prefix at path =
+    element (codes "multistatus") (told_response prefix at (codes "HTTP/1.1 423 Locked") (element (codes "error") (element (codes "no-conflicting-lock") []))
+    ++ told_response prefix path (codes "HTTP/1.1 424 Failed Dependency") [])
 
 -- no lock with the token covers the path
 abbrev pub no_lock_nodes : List Node
@@ -48,7 +62,9 @@ no_lock_nodes = element (codes "error") (element (codes "lock-token-matches-requ
 -- the document of a fault, where it has one; its paths stand behind the prefix
 abbrev pub refusal_nodes : List ℕ → Fault → Option (List Node)
 refusal_nodes prefix (fault.Locked path) = Some (lock_nodes prefix path)
+refusal_nodes prefix (fault.ConflictingLock path) = Some (conflict_nodes prefix path)
 refusal_nodes prefix (fault.MemberLocked path) = Some (member_nodes prefix path)
+refusal_nodes prefix (fault.ConflictingMember at path) = Some (conflict_below_nodes prefix at path)
 refusal_nodes prefix fault.NoSuchLock = Some no_lock_nodes
 refusal_nodes prefix _ = None
 

@@ -14,7 +14,9 @@ IsRooted path = (rest : List ℕ) × (path.bytes ≡ 47 ∷ rest)
 
 abbrev pub HasPath : Fault → Type 0
 HasPath (fault.Locked path) = IsRooted path
+HasPath (fault.ConflictingLock path) = IsRooted path
 HasPath (fault.MemberLocked path) = IsRooted path
+HasPath (fault.ConflictingMember at path) = IsRooted at × IsRooted path
 HasPath _ = Unit {0}
 
 -- the bytes of its document are read as the document's nodes

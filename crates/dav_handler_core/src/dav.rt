@@ -5,10 +5,11 @@ ghost use Rattle.http_server.specs.Response.{IsBlank};
 ghost use Rattle.dav_path_core.specs.declared.util.DavMethod.{DavMethod};
 ghost use Rattle.dav_path_core.specs.declared.util.DavMethod.TheVariants as method;
 ghost use Rattle.dav_resource_core.specs.Stores.{state_of};
-ghost use Rattle.dav_handler_core.specs.Answers.{Admits, Answers, AnswersTo, ChangeAnswers, GetAnswers, IsFrom, IsMethod, Leaves, Moves, Names, PutAnswers, Unread};
+ghost use Rattle.dav_handler_core.specs.Answers.{Admits, Answers, AnswersTo, ChangeAnswers, GetAnswers, IsFrom, IsMethod, Leaves, Moves, Names, PatchAnswers, PutAnswers, Unread};
 ghost use Rattle.dav_handler_core.specs.Callers.{RunBy, SameLive};
 ghost use Rattle.dav_handler_core.specs.Copying.{Copies, FailsToCopy};
 ghost use Rattle.dav_handler_core.specs.Fields.{sent_of};
+ghost use Rattle.dav_handler_core.specs.Finding.{FailsToTell, TellsFound};
 ghost use Rattle.dav_handler_core.specs.Making.{FailsToMake, Makes};
 ghost use Rattle.dav_handler_core.specs.Moving as moving;
 ghost use Rattle.dav_handler_core.specs.Private.Begun.{IsBegun, IsHeld};
@@ -23,7 +24,7 @@ mod laws;
 
 use crate::conditions::{Scheme, admit};
 use crate::faults::Fault;
-use crate::methods::{copy, delete, get, mkcol, moving, options, put, unlock};
+use crate::methods::{copy, delete, get, mkcol, moving, options, propfind, proppatch, put, unlock};
 use crate::refusals::refuse;
 use crate::senders::{principal_of, tokens_of};
 use crate::session::Session;
@@ -37,7 +38,9 @@ use dav_resource_core::util::DavMethod;
 use http::{Request, StatusCode};
 use http_header::HeaderName;
 use http_server::{Response, Service};
-pub use laws::{conditions_decide, locks_are_their_holders, refusals_are_read};
+pub use laws::{
+    conditions_decide, kept_properties_are_read, locks_are_their_holders, refusals_are_read,
+};
 use rand_core::Rng;
 use std::alloc::{AllocError, Global};
 
@@ -169,6 +172,31 @@ impl<R: Rng> Dav<R> {
         )
     }
 
+    // PROPFIND.
+    fn serve_propfind(
+        &mut self,
+        request: &Request<Bytes>,
+        response: &mut Response,
+    ) -> Result<StatusCode, Fault>
+        requires { IsBlank response.old }
+        ensures answers { ChangeAnswers false
+            (TellsFound (server R.stream self.old).options.prefix (head_of request.now).headers (body_of request.now) response.new.body.items)
+            (FailsToTell (head_of request.now).headers (body_of request.now)) (server R.stream self.old) request.now result (server R.stream self.new) }
+        ensures live { SameLive (server R.stream self.new).last (server R.stream self.old).state (server R.stream self.new).state }
+        ensures moves { Moves (server R.stream self.old) request.now (server R.stream self.new) }
+    {
+        let path = self.begin_admitted(request, false)?;
+        propfind::propfind(
+            self.alloc,
+            &mut self.session,
+            &self.settings.prefix,
+            request.headers(),
+            request.body(),
+            path,
+            response,
+        )
+    }
+
     // PUT. `BadRequest` for a part of a file (RFC 9110 section 14.5).
     fn serve_put(
         &mut self,
@@ -256,6 +284,28 @@ impl<R: Rng> Dav<R> {
         mkcol::mkcol(&mut self.session, path, request.body())
     }
 
+    // PROPPATCH.
+    fn serve_proppatch(
+        &mut self,
+        request: &Request<Bytes>,
+        response: &mut Response,
+    ) -> Result<StatusCode, Fault>
+        requires { IsBlank response.old }
+        ensures answers { PatchAnswers (server R.stream self.old) request.now result (sent_of response.new) (server R.stream self.new) }
+        ensures refused { OnErr result (SameLive (server R.stream self.new).last (server R.stream self.old).state (server R.stream self.new).state) }
+        ensures moves { Moves (server R.stream self.old) request.now (server R.stream self.new) }
+    {
+        let path = self.begin_admitted(request, false)?;
+        proppatch::proppatch(
+            self.alloc,
+            &mut self.session,
+            &self.settings.prefix,
+            path,
+            request.body(),
+            response,
+        )
+    }
+
     // UNLOCK.
     fn serve_unlock(&mut self, request: &Request<Bytes>) -> Result<StatusCode, Fault>
         ensures answers { ChangeAnswers false (Unlocks (head_of request.now).headers) (FailsToUnlock (head_of request.now).headers) (server R.stream self.old)
@@ -283,11 +333,13 @@ impl<R: Rng> Dav<R> {
             DavMethod::Options => return options::options(response),
             DavMethod::Get => return self.serve_get(DavMethod::Get, request, response),
             DavMethod::Head => return self.serve_get(DavMethod::Head, request, response),
+            DavMethod::PropFind => return self.serve_propfind(request, response),
             DavMethod::Put => return self.serve_put(request, response),
             DavMethod::Delete => return self.serve_delete(request),
             DavMethod::Copy => return self.serve_copy(request),
             DavMethod::Move => return self.serve_move(request),
             DavMethod::MkCol => return self.serve_mkcol(request),
+            DavMethod::PropPatch => return self.serve_proppatch(request, response),
             DavMethod::Unlock => return self.serve_unlock(request),
             _ => return Err(Fault::NotImplemented),
         }

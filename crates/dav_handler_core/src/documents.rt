@@ -29,6 +29,20 @@ pub(crate) fn write_empty(alloc: Global, writer: &mut Writer, local: &str) -> Re
     writer.end()
 }
 
+/// An element of `DAV:` with an empty one in it.
+pub(crate) fn write_within(
+    alloc: Global,
+    writer: &mut Writer,
+    outer: &str,
+    inner: &str,
+) -> Result<(), AllocError>
+    ensures { OnOk result (writing_of writer.new ≡ with_nodes (writing_of writer.old) (element outer.now (element inner.now []))) }
+{
+    begin(alloc, writer, outer)?;
+    write_empty(alloc, writer, inner)?;
+    writer.end()
+}
+
 /// An element of `DAV:` with a text in it.
 pub(crate) fn write_text(
     alloc: Global,
@@ -67,8 +81,8 @@ pub(crate) fn url_text(alloc: Global, prefix: &str, path: &DavPath) -> Result<St
     Ok(text)
 }
 
-// The prefix as it stands before a path: without a slash at its end.
-fn front_of(prefix: &str) -> &[u8]
+/// The prefix as it stands before a path: without a slash at its end.
+pub(crate) fn front_of(prefix: &str) -> &[u8]
     ensures { result.now ≡ front prefix.now }
 {
     let bytes = prefix.as_bytes();

@@ -12,6 +12,8 @@ use std::alloc::{AllocError, AllocFailed};
 pub enum Fault {
     /// 207: a lock of a member stands in the way, at this path (RFC 4918 sections 9.6.1 and 13).
     MemberLocked(DavPath),
+    /// 207: a lock of a member, at the first path, lets none be granted at the second (RFC 4918 section 9.10.3).
+    ConflictingMember(DavPath, DavPath),
     /// 400: the target is no path, or a header can't be read (RFC 9110 section 15.5.1).
     BadRequest,
     /// 401: nobody is named where somebody has to be (RFC 9110 section 15.5.2).
@@ -32,6 +34,8 @@ pub enum Fault {
     UnsupportedMediaType,
     /// 423: a lock stands in the way, at this path (RFC 4918 sections 11.3 and 16).
     Locked(DavPath),
+    /// 423: another lock lets this one not be granted, at this path (RFC 4918 sections 9.10.5 and 16).
+    ConflictingLock(DavPath),
     /// 501: the method isn't served (RFC 9110 section 15.6.2).
     NotImplemented,
     /// 502: the `Destination` is another server's, or not behind the prefix (RFC 4918 section 9.8.5).
@@ -49,6 +53,7 @@ impl Fault {
     {
         match self {
             Fault::MemberLocked(_) => StatusCode::MULTI_STATUS,
+            Fault::ConflictingMember(_, _) => StatusCode::MULTI_STATUS,
             Fault::BadRequest => StatusCode::BAD_REQUEST,
             Fault::Unauthorized => StatusCode::UNAUTHORIZED,
             Fault::Forbidden => StatusCode::FORBIDDEN,
@@ -59,6 +64,7 @@ impl Fault {
             Fault::PreconditionFailed => StatusCode::PRECONDITION_FAILED,
             Fault::UnsupportedMediaType => StatusCode::UNSUPPORTED_MEDIA_TYPE,
             Fault::Locked(_) => StatusCode::LOCKED,
+            Fault::ConflictingLock(_) => StatusCode::LOCKED,
             Fault::NotImplemented => StatusCode::NOT_IMPLEMENTED,
             Fault::BadGateway => StatusCode::BAD_GATEWAY,
             Fault::ServiceUnavailable => StatusCode::SERVICE_UNAVAILABLE,

@@ -7,5 +7,7 @@ pub(crate) mod get;
 pub(crate) mod mkcol;
 pub(crate) mod moving;
 pub(crate) mod options;
+pub(crate) mod propfind;
+pub(crate) mod proppatch;
 pub(crate) mod put;
 pub(crate) mod unlock;

@@ -1,9 +1,10 @@
 //! What is told of a refusal: its status, and a document that says why (RFC 4918 section 16).
 ghost use Rattle.std.specs.Prelude.{◌≡◌, ◌++◌, ◌∷◌, [], codes, option_map, IfOk, OnOk};
 ghost use Rattle.http_server.specs.Response.{IsResponse, fields_of};
-ghost use Rattle.dav_xml_core.specs.Writing.{written};
+ghost use Rattle.dav_xml_core.specs.Writing.{with_nodes, written};
+ghost use Rattle.dav_xml_core.specs.Views.{writing_of};
 ghost use Rattle.dav_handler_core.specs.Faults.{fault_status};
-ghost use Rattle.dav_handler_core.specs.RefusalBodies.{TellsWhy, lock_nodes, member_nodes, no_lock_nodes, refusal_nodes, xml_type};
+ghost use Rattle.dav_handler_core.specs.RefusalBodies.{TellsWhy, conflict_below_nodes, conflict_nodes, element, lock_nodes, member_nodes, no_lock_nodes, refusal_nodes, told_response, xml_type};
 
 use crate::documents::{begin, write_empty, write_href, write_text};
 use crate::faults::Fault;
@@ -58,8 +59,8 @@ fn say_why(
     }
 }
 
-// A document for a body, and that it is XML.
-fn say_document(response: &mut Response, document: Vec<u8>) -> Result<(), AllocError>
+/// A document for a body, and that it is XML.
+pub(crate) fn say_document(response: &mut Response, document: Vec<u8>) -> Result<(), AllocError>
     ensures status { response.new.status ≡ response.old.status }
     ensures fields { OnOk result (fields_of response.new ≡ fields_of response.old ++ (codes "content-type", xml_type) ∷ []) }
     ensures body { OnOk result (response.new.body.items ≡ response.old.body.items ++ document.items) }
@@ -78,7 +79,9 @@ fn document_of(alloc: Global, prefix: &str, fault: &Fault) -> Result<Option<Vec<
 {
     match fault {
         Fault::Locked(path) => Ok(Some(locked(alloc, prefix, path)?)),
+        Fault::ConflictingLock(path) => Ok(Some(conflicting(alloc, prefix, path)?)),
         Fault::MemberLocked(path) => Ok(Some(member_locked(alloc, prefix, path)?)),
+        Fault::ConflictingMember(at, path) => Ok(Some(conflicting_below(alloc, prefix, at, path)?)),
         Fault::NoSuchLock => Ok(Some(no_such_lock(alloc)?)),
         _ => Ok(None),
     }
@@ -91,6 +94,19 @@ fn locked(alloc: Global, prefix: &str, path: &DavPath) -> Result<Vec<u8>, AllocE
     let mut writer = Writer::new(alloc);
     begin(alloc, &mut writer, "error")?;
     begin(alloc, &mut writer, "lock-token-submitted")?;
+    write_href(alloc, &mut writer, prefix, path)?;
+    writer.end()?;
+    writer.end()?;
+    Ok(writer.into_bytes())
+}
+
+// Another lock lets this one not be granted, at the path.
+fn conflicting(alloc: Global, prefix: &str, path: &DavPath) -> Result<Vec<u8>, AllocError>
+    ensures { IfOk result (λ document. document.items ≡ written (conflict_nodes prefix.now path.now)) }
+{
+    let mut writer = Writer::new(alloc);
+    begin(alloc, &mut writer, "error")?;
+    begin(alloc, &mut writer, "no-conflicting-lock")?;
     write_href(alloc, &mut writer, prefix, path)?;
     writer.end()?;
     writer.end()?;
@@ -112,6 +128,56 @@ fn member_locked(alloc: Global, prefix: &str, path: &DavPath) -> Result<Vec<u8>,
     writer.end()?;
     writer.end()?;
     Ok(writer.into_bytes())
+}
+
+// A lock of a member, at the first path, lets none be granted at the second.
+fn conflicting_below(
+    alloc: Global,
+    prefix: &str,
+    at: &DavPath,
+    path: &DavPath,
+) -> Result<Vec<u8>, AllocError>
+    ensures { IfOk result (λ document. document.items ≡ written (conflict_below_nodes prefix.now at.now path.now)) }
+{
+    let mut writer = Writer::new(alloc);
+    begin(alloc, &mut writer, "multistatus")?;
+    write_conflict(alloc, &mut writer, prefix, at)?;
+    write_dependent(alloc, &mut writer, prefix, path)?;
+    writer.end()?;
+    Ok(writer.into_bytes())
+}
+
+fn write_conflict(
+    alloc: Global,
+    writer: &mut Writer,
+    prefix: &str,
+    path: &DavPath,
+) -> Result<(), AllocError>
+    ensures { OnOk result (writing_of writer.new ≡ with_nodes (writing_of writer.old)
+        (told_response prefix.now path.now (codes "HTTP/1.1 423 Locked") (element (codes "error") (element (codes "no-conflicting-lock") [])))) }
+{
+    begin(alloc, writer, "response")?;
+    write_href(alloc, writer, prefix, path)?;
+    write_text(alloc, writer, "status", "HTTP/1.1 423 Locked")?;
+    begin(alloc, writer, "error")?;
+    write_empty(alloc, writer, "no-conflicting-lock")?;
+    writer.end()?;
+    writer.end()
+}
+
+fn write_dependent(
+    alloc: Global,
+    writer: &mut Writer,
+    prefix: &str,
+    path: &DavPath,
+) -> Result<(), AllocError>
+    ensures { OnOk result (writing_of writer.new ≡ with_nodes (writing_of writer.old)
+        (told_response prefix.now path.now (codes "HTTP/1.1 424 Failed Dependency") [])) }
+{
+    begin(alloc, writer, "response")?;
+    write_href(alloc, writer, prefix, path)?;
+    write_text(alloc, writer, "status", "HTTP/1.1 424 Failed Dependency")?;
+    writer.end()
 }
 
 // No lock with the token covers the path.

@@ -10,11 +10,15 @@ ghost use Rattle.dav_handler_core.specs.Sessions as spec;
 
 mod clearing;
 mod copying;
+mod granting;
 mod lookups;
 mod moving;
+mod patching;
+mod places;
 mod questions;
 mod removing;
 mod subtrees;
+mod tokens_above;
 mod unlocking;
 
 pub use copying::Transfer;
@@ -27,6 +31,7 @@ pub(crate) use questions::{copy_of, refused};
 use rand_core::Rng;
 use std::alloc::Global;
 pub use subtrees::{last_place_is_bare, walk_without_its_last};
+pub(crate) use unlocking::is_principal;
 
 /// The stores, a generator for the tokens of locks, and who asks. Requests reach the stores by `ask` alone.
 #[derive(Drop)]
@@ -85,6 +90,13 @@ impl<R: Rng> Session<R> {
         self.request.principal = principal;
         self.request.tokens = tokens;
         self.request.now = now;
+    }
+
+    /// The principal of the caller.
+    pub fn principal(&self) -> &Option<String>
+        ensures { option_map string_bytes result.now ≡ (spec.caller self.now).principal }
+    {
+        &self.request.principal
     }
 
     /// The moment of the caller.

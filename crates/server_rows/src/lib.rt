@@ -6,11 +6,15 @@ mod conditions;
 #[cfg(test)]
 mod copies;
 #[cfg(test)]
+mod finds;
+#[cfg(test)]
 mod folders;
 #[cfg(test)]
 mod ifs;
 #[cfg(test)]
 mod moves;
+#[cfg(test)]
+mod patches;
 #[cfg(test)]
 mod playing;
 #[cfg(test)]

@@ -1,9 +1,11 @@
 //! Plays the rows over bytes, in pieces of several sizes.
 use crate::conditions::CONDITIONS;
 use crate::copies::COPIES;
+use crate::finds::FINDS;
 use crate::folders::FOLDERS;
 use crate::ifs::IFS;
 use crate::moves::MOVES;
+use crate::patches::PATCHES;
 use crate::ranges::RANGES;
 use crate::removals::REMOVALS;
 use crate::rows::ROWS;
@@ -367,6 +369,16 @@ fn sends_each_range(rt: HostRuntime) -> Result<(), Fail> {
 #[test]
 fn makes_each_folder(rt: HostRuntime) -> Result<(), Fail> {
     play(&rt, FOLDERS)
+}
+
+#[test]
+fn finds_each_property(rt: HostRuntime) -> Result<(), Fail> {
+    play(&rt, FINDS)
+}
+
+#[test]
+fn patches_each_property(rt: HostRuntime) -> Result<(), Fail> {
+    play(&rt, PATCHES)
 }
 
 #[test]

@@ -5,7 +5,7 @@
 //! no lock there; a row of each has them whole. `{h}` is the end of a request's first line with the line `Host: h`, `{bare STATUS}` an answer of this status with a `content-length` of 0 and no
 //! other field, `{made TAG}` and `{kept TAG}` are 201 and 204 with the tag of a file, and `{file TAG}` is the head of a 200 with that file, of no known type, changed in the first second: its tag ends in its length.
 pub(crate) const ROWS: &str = r#"at / - 1000000000
-OPTIONS * HTTP/1.1|Host: h|| = HTTP/1.1 200 OK|dav: 1, 2|allow: OPTIONS, GET, HEAD, PUT, DELETE, COPY, MOVE, MKCOL, UNLOCK|ms-author-via: DAV|content-length: 0||
+OPTIONS * HTTP/1.1|Host: h|| = HTTP/1.1 200 OK|dav: 1, 2|allow: OPTIONS, GET, HEAD, PUT, DELETE, COPY, MOVE, MKCOL, PROPFIND, PROPPATCH, UNLOCK|ms-author-via: DAV|content-length: 0||
 GET /a.txt HTTP/1.1|Host: h|| = HTTP/1.1 404 Not Found|content-length: 0||
 PUT /a.txt HTTP/1.1|Host: h|Content-Length: 5||hello = HTTP/1.1 201 Created|etag: "1000000001-5"|content-length: 0||
 GET /a.txt HTTP/1.1|Host: h|| = HTTP/1.1 200 OK|etag: "1000000001-5"|last-modified: Thu, 01 Jan 1970 00:00:01 GMT|content-type: text/plain|accept-ranges: bytes|content-length: 5||hello
@@ -13,7 +13,7 @@ PUT /a.txt HTTP/1.1|Host: h|Content-Length: 26||a body that is cut in many = HTT
 HEAD /a.txt HTTP/1.1|Host: h|| = HTTP/1.1 200 OK|etag: "1000000002-26"|last-modified: Thu, 01 Jan 1970 00:00:01 GMT|content-type: text/plain|accept-ranges: bytes|content-length: 26||
 GET /./b/../%61.txt?x HTTP/1.1|Host: h|| = HTTP/1.1 200 OK|etag: "1000000002-26"|last-modified: Thu, 01 Jan 1970 00:00:01 GMT|content-type: text/plain|accept-ranges: bytes|content-length: 26||a body that is cut in many
 HEAD /no HTTP/1.1|Host: h|| = HTTP/1.1 404 Not Found||
-PUT / HTTP/1.1|Host: h|Content-Length: 1||x = HTTP/1.1 405 Method Not Allowed|allow: OPTIONS, GET, HEAD, PUT, DELETE, COPY, MOVE, MKCOL, UNLOCK|content-length: 0||
+PUT / HTTP/1.1|Host: h|Content-Length: 1||x = HTTP/1.1 405 Method Not Allowed|allow: OPTIONS, GET, HEAD, PUT, DELETE, COPY, MOVE, MKCOL, PROPFIND, PROPPATCH, UNLOCK|content-length: 0||
 PUT /no/a HTTP/1.1|Host: h|Content-Length: 1||x = HTTP/1.1 409 Conflict|content-length: 0||
 PUT /a.txt/b HTTP/1.1|Host: h|Content-Length: 1||x = HTTP/1.1 409 Conflict|content-length: 0||
 GET /../a.txt HTTP/1.1|Host: h|| = HTTP/1.1 403 Forbidden|content-length: 0||
@@ -21,7 +21,7 @@ GET /%00 HTTP/1.1|Host: h|| = HTTP/1.1 400 Bad Request|content-length: 0||
 GET /a.txt HTTP/1.1|Host: h|If: no list|| = HTTP/1.1 400 Bad Request|content-length: 0||
 GET /a.txt HTTP/1.1|Host: h|If: (<a:b>)|If: (<a:b>)|| = HTTP/1.1 400 Bad Request|content-length: 0||
 PUT /a.txt HTTP/1.1|Host: h|Content-Range: bytes 0-0/5|Content-Length: 1||x = HTTP/1.1 400 Bad Request|content-length: 0||
-PROPFIND /b HTTP/1.1|Host: h|| = HTTP/1.1 501 Not Implemented|content-length: 0||
+REPORT /b HTTP/1.1|Host: h|| = HTTP/1.1 501 Not Implemented|content-length: 0||
 POST /a.txt HTTP/1.1|Host: h|Content-Length: 1||x = HTTP/1.1 501 Not Implemented|content-length: 0||
 GET /a.txt HTTP/1.1|Host: h|Connection: close|| = HTTP/1.1 200 OK|etag: "1000000002-26"|last-modified: Thu, 01 Jan 1970 00:00:01 GMT|content-type: text/plain|accept-ranges: bytes|content-length: 26|connection: close||a body that is cut in many
 
@@ -36,7 +36,7 @@ GET /dav/b HTTP/1.1|Host: h|X-User: ann|| = HTTP/1.1 404 Not Found|content-lengt
 GET /a HTTP/1.1|Host: h|| = HTTP/1.1 404 Not Found|content-length: 0||
 GET /davx HTTP/1.1|Host: h|X-User: ann|| = HTTP/1.1 404 Not Found|content-length: 0||
 GET /dav/../../a HTTP/1.1|Host: h|| = HTTP/1.1 403 Forbidden|content-length: 0||
-OPTIONS /a HTTP/1.1|Host: h|| = HTTP/1.1 200 OK|dav: 1, 2|allow: OPTIONS, GET, HEAD, PUT, DELETE, COPY, MOVE, MKCOL, UNLOCK|ms-author-via: DAV|content-length: 0||
+OPTIONS /a HTTP/1.1|Host: h|| = HTTP/1.1 200 OK|dav: 1, 2|allow: OPTIONS, GET, HEAD, PUT, DELETE, COPY, MOVE, MKCOL, PROPFIND, PROPPATCH, UNLOCK|ms-author-via: DAV|content-length: 0||
 
 at / x-user 1000000000
 lock ann exclusive deep /a

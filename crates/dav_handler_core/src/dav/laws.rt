@@ -1,5 +1,6 @@
-//! The laws of conditions, of locks and of refusals over the answers of the server. They do nothing.
-ghost use Rattle.std.specs.Prelude.{◌≡◌, ◌<◌, ◌⊎◌, ℕ, true, List};
+//! The laws of conditions, of locks and of refusals over the answers of the server, and of what is kept of properties. They do nothing.
+ghost use Rattle.std.specs.Prelude.{◌≡◌, ◌<◌, ◌⊎◌, ◌^◌, ℕ, true, length, List, Some};
+ghost use Rattle.std.specs.List.{AllByRecursion};
 ghost use Rattle.http.specs.declared.request.Request.{Request};
 ghost use Rattle.http_server.specs.declared.response.Response.{Response};
 ghost use Rattle.dav_handler_core.specs.Answers.{Answers, Server};
@@ -8,6 +9,8 @@ ghost use Rattle.dav_handler_core.specs.Deciding.{HeldOff, SendsPart, SendsTag, 
 ghost use Rattle.dav_handler_core.specs.Fields.{sent_of};
 ghost use Rattle.dav_handler_core.specs.declared.faults.Fault.{Fault};
 ghost use Rattle.dav_handler_core.specs.Holding.{IsKeptUnlessHeld, StandsUnlessEnded};
+ghost use Rattle.dav_handler_core.specs.KeptReading.{IsReadAsSent};
+ghost use Rattle.dav_handler_core.specs.PropertyUpdates.{Update, updates_in};
 ghost use Rattle.dav_handler_core.specs.RefusalReading.{HasPath, IsReadAsTold};
 ghost use Rattle.dav_locks_core.specs.Exclusive.{Exclusive};
 
@@ -43,4 +46,10 @@ pub fn locks_are_their_holders()
 /// tells begins with a slash, as each path that is read does. It does nothing.
 pub fn refusals_are_read()
     ensures { (prefix : List ℕ) (e : Fault) → HasPath e → IsReadAsTold prefix e }
+{}
+
+/// The law of what is kept of properties (RFC 4918 section 4.4): what a body sets is kept as bytes that are read as the element that was sent, with the language
+/// that holds around it, if one more attribute fits memory with those of the element. It does nothing.
+pub fn kept_properties_are_read()
+    ensures { (body : List ℕ) (updates : List Update) → length body < 2 ^ 64 → updates_in body ≡ Some updates → AllByRecursion IsReadAsSent updates }
 {}

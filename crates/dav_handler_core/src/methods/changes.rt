@@ -61,7 +61,7 @@ pub(super) fn check_above<R: Rng>(session: &mut Session<R>, path: &DavPath) -> R
 }
 
 // The path above.
-fn parent_of(path: &DavPath) -> Result<DavPath, Fault>
+pub(super) fn parent_of(path: &DavPath) -> Result<DavPath, Fault>
     ensures ok { IfOk result (λ above. segments above.bytes ≡ parent (segments path.now.bytes)) }
     ensures err { IfErr result (λ e. e ≡ fault.InsufficientStorage) }
 {
@@ -93,7 +93,7 @@ pub(super) fn by_place(path: &DavPath, fault: Fault) -> Fault
 }
 
 // Whether the second path stands below the first.
-fn is_below(path: &DavPath, other: &DavPath) -> bool
+pub(super) fn is_below(path: &DavPath, other: &DavPath) -> bool
     ensures { result ≡ is_below (segments path.now.bytes) other.now }
 {
     other.behind_prefix().is_at_or_below(path.behind_prefix())

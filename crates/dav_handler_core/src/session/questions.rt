@@ -1,9 +1,10 @@
 //! What methods ask a session for.
-ghost use Rattle.std.specs.Prelude.{◌≡◌, ◌⊎◌, Some, Ok, IfOk, IfErr, is_some, map, option_map, take, drop};
+ghost use Rattle.std.specs.Prelude.{◌≡◌, ◌⊎◌, None, Some, Ok, true, IfOk, IfErr, is_some, map, option_map, take, drop};
 ghost use Rattle.dav_path_core.specs.Segments.{segments};
 ghost use Rattle.dav_files_core.specs.declared.memfs.Kind.TheVariants.{File, Folder};
 ghost use Rattle.dav_files_core.specs.Listing.{entry_of, read_dir};
 ghost use Rattle.dav_files_core.specs.Meta.{meta_at, meta_of};
+ghost use Rattle.dav_files_core.specs.Properties.{get_props, property_of};
 ghost use Rattle.dav_files_core.specs.Resources.{IsResourceMap, Resource, at_path};
 ghost use Rattle.dav_handler_core.specs.Callers.{RunBy, SameLive};
 ghost use Rattle.dav_handler_core.specs.Private.Refusing.{list_fault, put_fault};
@@ -16,6 +17,7 @@ use crate::faults::Fault;
 use bytes::Bytes;
 use dav_resource_core::davpath::DavPath;
 use dav_resource_core::errors::FsError;
+use dav_resource_core::fs::DavProp;
 use dav_resource_core::guarded::{Command, Refusal, Reply};
 use dav_resource_core::memfs::{MemFsEntry, MemFsMeta};
 use rand_core::Rng;
@@ -70,9 +72,28 @@ impl<R: Rng> Session<R> {
             Err(refusal) => Err(unlisted(&refusal)),
         }
     }
+
+    /// The properties that clients set of what stands at a path, by their namespaces and names (RFC 4918 section 4). `NotFound` where nothing stands there.
+    pub fn props(&mut self, path: DavPath) -> Result<Vec<DavProp>, Fault>
+        ensures ok { IfOk result (λ props. get_props (spec.state R.stream self.old).map (segments path.bytes) true ≡ Ok (map property_of props.items)) }
+        ensures err { IfErr result (λ e. (e ≡ fault.InsufficientStorage)
+            ⊎ ((e ≡ fault.NotFound) × (at_path (spec.state R.stream self.old).map (segments path.bytes) ≡ None))) }
+        ensures run { RunBy (spec.caller self.old) (spec.state R.stream self.old) (spec.state R.stream self.new) }
+        ensures live { SameLive (spec.caller self.old).now (spec.state R.stream self.old) (spec.state R.stream self.new) }
+        ensures caller { spec.caller self.new ≡ spec.caller self.old }
+    {
+        match self.ask(Command::GetProps {
+            path,
+            content: true,
+        }) {
+            Ok(Reply::Props(props)) => Ok(props),
+            Ok(_) => Err(Fault::NotFound),
+            Err(refusal) => Err(unlisted(&refusal)),
+        }
+    }
 }
 
-// Why a folder isn't listed.
+// Why a folder isn't listed, or properties aren't.
 fn unlisted(refusal: &Refusal) -> Fault
     ensures { result ≡ list_fault (refusal_of refusal.now) }
 {

@@ -53,7 +53,7 @@ impl<R: Rng> Session<R> {
     }
 
     // The paths of a folder's members; none where no folder stands at the path.
-    fn members(&mut self, alloc: Global, place: &DavPath) -> Result<Vec<DavPath>, Fault>
+    pub(super) fn members(&mut self, alloc: Global, place: &DavPath) -> Result<Vec<DavPath>, Fault>
         ensures ok { IfOk result (λ paths. MembersAre (spec.state R.stream self.old).map (segments place.now.bytes) (map (λ p. segments p.bytes) paths.items)) }
         ensures err { IfErr result (λ e. (e ≡ fault.InsufficientStorage)
             ⊎ ((e ≡ fault.BadRequest) × HasOddMember (spec.state R.stream self.old).map (segments place.now.bytes))) }

@@ -81,7 +81,7 @@ impl<R: Rng> Session<R> {
 }
 
 // How many segments a path has.
-fn depth_of(path: &DavPath) -> usize
+pub(super) fn depth_of(path: &DavPath) -> usize
     ensures { result ≡ length (segments path.now.bytes) }
 {
     path.segments().count()
@@ -94,7 +94,7 @@ fn any_anothers(locks: &[DavLock], token: &str, principal: &Option<String>) -> b
     locks.iter().any(|lock| lock.token.as_str() == token && !is_principal(lock, principal))
 }
 
-pub(super) fn is_principal(lock: &DavLock, principal: &Option<String>) -> bool
+pub(crate) fn is_principal(lock: &DavLock, principal: &Option<String>) -> bool
     ensures { result ≡ same_text lock.now.principal (option_map string_bytes principal.now) }
 {
     match (&lock.principal, principal) {

@@ -6,7 +6,7 @@ ghost use Rattle.dav_xml_core.specs.Characters.{characters, is_char};
 ghost use Rattle.dav_xml_core.specs.Documents as plain;
 ghost use Rattle.dav_xml_core.specs.Markup.{piece_at, Characters};
 ghost use Rattle.dav_xml_core.specs.Namespaces.{Binding, always_bound, bound, xml_namespace, xmlns_namespace};
-ghost use Rattle.dav_xml_core.specs.Parts.{Part, PartsCouldBeRead, nodes_in, written_parts};
+ghost use Rattle.dav_xml_core.specs.Parts.{Part, PartsCouldBeRead, nodes_in, with_raw, written_parts};
 ghost use Rattle.dav_xml_core.specs.Places.{front_at, may_begin, read_on, with_element};
 ghost use Rattle.dav_xml_core.specs.Readable.{is_start, name_bytes, attribute_bytes, HoldWritten, IsReadBack};
 ghost use Rattle.dav_xml_core.specs.ReadableDocuments.{CouldBeRead, is_readable, node_bytes};
@@ -249,6 +249,13 @@ impl Writer {
         push(&mut self.bytes, b"</")?;
         push(&mut self.bytes, &name)?;
         push(&mut self.bytes, b">")
+    }
+
+    /// An element that was written before to stand alone (own): its bytes as they are. It is inside the element that began last and hasn't ended.
+    pub fn kept(&mut self, element: &[u8]) -> Result<(), AllocError>
+        ensures { OnOk result (writing_of self.new ≡ with_raw (writing_of self.old) element.now) }
+    {
+        push(&mut self.bytes, element)
     }
 
     /// The bytes that are written.

@@ -1,0 +1,42 @@
+use Rattle.std.proofs.Common.{ℕ, List, false, refl, sym, ap, ◌∙◌, subst}
+use Rattle.std.specs.Prelude.{IfOk, IfErr}
+use Rattle.std.proofs.lemmas.Bool.{true≢false}
+use Rattle.http.specs.Request.{body_of, head_of}
+use Rattle.http_header.specs.FieldValue.{FieldValue}
+use Rattle.http_header.specs.HeaderMap.{Entries}
+use Rattle.dav_path_core.specs.Segments.{segments}
+use Rattle.dav_handler_core.specs.Answers.{Options}
+use Rattle.dav_handler_core.specs.Callers.{Caller, live}
+use Rattle.dav_handler_core.specs.Finding.{FailsToTell, TellsFound}
+use Rattle.dav_handler_core.specs.Servers.{server}
+use Rattle.dav_handler_core.specs.Sessions.{caller, state}
+use Rattle.dav_handler_core.proofs.AnswerLemmas.{change_answered, moves_on}
+use Rattle.dav_handler_core.proofs.dav.Dav.serve_propfind.Goals as goal
+
+pub returns-clause-answers : goal.returns-clause-answers
+returns-clause-answers g c =
+    let before = server g.R.Rng.stream c.args.self.now in
+    let mid = server g.R.Rng.stream c.begin_admitted.new.self in
+    let after = server g.R.Rng.stream (record c.begin_admitted.new.self { session = c.propfind.new.session }) in
+    let who = caller c.begin_admitted.new.self.session in
+    let s = state g.R.Rng.stream c.begin_admitted.new.self.session in
+    let begun = c.in_ok-path.ensures.ok in
+    let told = c.propfind.new.response.body.items in
+    let p = segments c.in_ok-path.path.bytes in
+    let result = c.propfind.result in
+    let headers = (head_of c.args.request.now).headers in
+    let body = body_of c.args.request.now in
+    let prefix_is = c.deref.ensures ∙ ap (λ (o : Options). o.prefix) c.begin_admitted.ensures.moves.options in
+    let body_is = c.deref-2.ensures ∙ c.body.ensures in
+    let does : List ℕ → Entries FieldValue → List ℕ → Type 0 = λ prefix h b. IfOk result (λ status. TellsFound prefix h b told (live who.now s) who p status after.state) in
+    let fails : Entries FieldValue → List ℕ → Type 0 = λ h b. IfErr result (λ e. FailsToTell h b (live who.now s) who p e) in
+    change_answered false (TellsFound before.options.prefix headers body told) (FailsToTell headers body) before mid after c.args.request.now c.in_ok-path.path who
+    (ap (λ (w : Caller). w.now) c.propfind.ensures.caller) begun.0.0 begun.1 (λ h. absurd (true≢false (sym h))) s c.begin_admitted.ensures.live result
+    (subst (λ b. does before.options.prefix headers b) body_is (subst (λ h. does before.options.prefix h c.deref-2.result.now) c.headers.ensures
+    (subst (λ prefix. does prefix c.headers.result.now c.deref-2.result.now) prefix_is c.propfind.ensures.done)))
+    (subst (λ b. fails headers b) body_is (subst (λ h. fails h c.deref-2.result.now) c.headers.ensures c.propfind.ensures.err))
+
+pub returns-clause-moves : goal.returns-clause-moves
+returns-clause-moves g c =
+    moves_on (server g.R.Rng.stream c.args.self.now) (server g.R.Rng.stream c.begin_admitted.new.self) _ c.args.request.now c.in_ok-path.path (caller c.begin_admitted.new.self.session)
+    c.in_ok-path.ensures.ok.0.0 c.begin_admitted.ensures.moves c.begin_admitted.ensures.run c.propfind.ensures.run (ap (λ (w : Caller). w.now) c.propfind.ensures.caller) refl refl

@@ -1,0 +1,42 @@
+use Rattle.std.proofs.Common.{ℕ, List, refl, ap, ◌∙◌, subst}
+use Rattle.std.specs.Prelude.{IfOk, IfErr}
+use Rattle.std.proofs.lemmas.Result.{err_from_is_err_and}
+use Rattle.http.specs.Request.{body_of}
+use Rattle.dav_path_core.specs.Segments.{segments}
+use Rattle.dav_handler_core.specs.Answers.{Options}
+use Rattle.dav_handler_core.specs.Callers.{Caller, live}
+use Rattle.dav_handler_core.specs.Fields.{sent_of}
+use Rattle.dav_handler_core.specs.Patching.{FailsToPatch, Patches}
+use Rattle.dav_handler_core.specs.Servers.{server}
+use Rattle.dav_handler_core.specs.Sessions.{caller, state}
+use Rattle.dav_handler_core.proofs.AnswerLemmas.{moves_on}
+use Rattle.dav_handler_core.proofs.PatchAnswerLemmas.{patch_answered, patch_unread}
+use Rattle.dav_handler_core.proofs.dav.Dav.serve_proppatch.Goals as goal
+
+pub returns-in_err-path-clause-answers : goal.returns-in_err-path-clause-answers
+returns-in_err-path-clause-answers g c =
+    let p = err_from_is_err_and c.from_residual.result c.from_residual.ensures.1 in
+    rw (p.1, p.2) (patch_unread (server g.R.Rng.stream c.args.self.now) (server g.R.Rng.stream c.begin_admitted.new.self) c.args.request.now c.in_err-path.field-0.0
+    (sent_of c.args.response.now) c.in_err-path.ensures.err)
+
+pub returns-clause-answers : goal.returns-clause-answers
+returns-clause-answers g c =
+    let before = server g.R.Rng.stream c.args.self.now in
+    let mid = server g.R.Rng.stream c.begin_admitted.new.self in
+    let after = server g.R.Rng.stream (record c.begin_admitted.new.self { session = c.proppatch.new.session }) in
+    let who = caller c.begin_admitted.new.self.session in
+    let s = state g.R.Rng.stream c.begin_admitted.new.self.session in
+    let begun = c.in_ok-path.ensures.ok in
+    let body = c.deref-2.ensures ∙ c.body.ensures in
+    let sent = sent_of c.proppatch.new.response in
+    let does : List ℕ → List ℕ → Type 0 = λ prefix body. IfOk c.proppatch.result (λ status. Patches prefix body (live who.now s) who c.in_ok-path.path status sent after.state) in
+    patch_answered before mid after c.args.request.now c.in_ok-path.path who (ap (λ (w : Caller). w.now) c.proppatch.ensures.caller) begun.0.0 begun.1 s
+    c.begin_admitted.ensures.live c.proppatch.result sent
+    (subst (λ (o : Options). does o.prefix (body_of c.args.request.now)) c.begin_admitted.ensures.moves.options
+    (subst (does mid.options.prefix) body (subst (λ prefix. does prefix c.deref-2.result.now) c.deref.ensures c.proppatch.ensures.done)))
+    (subst (λ body. IfErr c.proppatch.result (λ e. FailsToPatch body (live who.now s) who (segments c.in_ok-path.path.bytes) e)) body c.proppatch.ensures.err)
+
+pub returns-clause-moves : goal.returns-clause-moves
+returns-clause-moves g c =
+    moves_on (server g.R.Rng.stream c.args.self.now) (server g.R.Rng.stream c.begin_admitted.new.self) _ c.args.request.now c.in_ok-path.path (caller c.begin_admitted.new.self.session)
+    c.in_ok-path.ensures.ok.0.0 c.begin_admitted.ensures.moves c.begin_admitted.ensures.run c.proppatch.ensures.run (ap (λ (w : Caller). w.now) c.proppatch.ensures.caller) refl refl

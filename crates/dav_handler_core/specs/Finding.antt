@@ -1,0 +1,60 @@
+-- What a PROPFIND is told, and why it is refused (RFC 4918 sections 9.1 and 10.2).
+use Rattle.std.specs.Prelude.{◌≡◌, ◌⊎◌, ℕ, List, [], ◌∷◌, None, Some}
+use Rattle.http_header.specs.FieldValue.{FieldValue}
+use Rattle.http_header.specs.HeaderMap.{Entries}
+use Rattle.dav_path_core.specs.Fronts.{Path}
+use Rattle.dav_headers_core.specs.declared.davheaders.depths.Depth.{Depth}
+use Rattle.dav_headers_core.specs.declared.davheaders.depths.Depth.TheVariants as depth
+use Rattle.dav_files_core.specs.Resources.{ResourceMap, at_path}
+use Rattle.dav_resource_core.specs.Step.{State}
+use Rattle.dav_handler_core.specs.declared.faults.Fault.{Fault}
+use Rattle.dav_handler_core.specs.declared.faults.Fault.TheVariants as fault
+use Rattle.dav_handler_core.specs.Callers.{Caller}
+use Rattle.dav_handler_core.specs.Depths.{depth_in}
+use Rattle.dav_handler_core.specs.Pieces.{written_pieces}
+use Rattle.dav_handler_core.specs.Private.Gathering.{MembersAre}
+use Rattle.dav_handler_core.specs.PropertyAnswers.{Describes}
+use Rattle.dav_handler_core.specs.PropertyDocuments.{Description, multistatus}
+use Rattle.dav_handler_core.specs.PropertyQuestions.{Question, question_in}
+use Rattle.dav_handler_core.specs.Subtrees.{HasOddName, IsWalk}
+
+-- The places that are told of: the path alone, or with its members by the bytes of their names, or all that stands there and below.
+abbrev pub AreWithin : Depth → ResourceMap → Path → List Path → Type 0
+AreWithin depth.Zero m p places = places ≡ p ∷ []
+AreWithin depth.One m p places = (members : List Path) × (places ≡ p ∷ members) × MembersAre m p members
+AreWithin depth.Infinity m p places = IsWalk m p places
+AreWithin depth.Default m p places = ⊥
+
+-- what is told of each place, in order
+abbrev pub DescribesEach : List ℕ → State → List Path → List Description → Type 0
+DescribesEach prefix s [] [] = Unit {0}
+DescribesEach prefix s [] (d ∷ resources) = ⊥
+DescribesEach prefix s (p ∷ places) [] = ⊥
+DescribesEach prefix s (p ∷ places) (d ∷ resources) = Describes prefix s p d × DescribesEach prefix s places resources
+
+-- The body of the answer: of each place within the depth, what is asked for.
+pub record Finds (prefix : List ℕ) (headers : Entries FieldValue) (body : List ℕ) (s : State) (who : Caller) (p : Path) (told : List ℕ) : Type 0 where
+  pub depth : Depth
+  pub depth_is : depth_in headers ≡ Some depth
+  pub question : Question
+  pub question_is : question_in body ≡ Some question
+  pub places : List Path
+  pub within : AreWithin depth s.map p places
+  pub resources : List Description
+  pub described : DescribesEach prefix s places resources
+  pub told_is : told ≡ written_pieces (multistatus prefix who.principal question resources)
+
+-- 207, with that body
+abbrev pub TellsFound : List ℕ → Entries FieldValue → List ℕ → List ℕ → State → Caller → Path → ℕ → State → Type 0
+TellsFound prefix headers body told s who p status s' = (status ≡ 207) × Finds prefix headers body s who p told
+
+-- Each refusal, and where it comes: a depth or a body that can't be read, or a name below the path that no path has which is read; nothing stands there.
+abbrev pub FailsToFind : Entries FieldValue → List ℕ → ResourceMap → Path → Fault → Type 0
+FailsToFind headers body m p fault.InsufficientStorage = Unit {0}
+FailsToFind headers body m p fault.BadRequest =
+    (depth_in headers ≡ None) ⊎ ((depth_in headers ≡ Some depth.Default) ⊎ ((question_in body ≡ None) ⊎ HasOddName m p))
+FailsToFind headers body m p fault.NotFound = at_path m p ≡ None
+FailsToFind headers body m p e = ⊥
+
+abbrev pub FailsToTell : Entries FieldValue → List ℕ → State → Caller → Path → Fault → Type 0
+FailsToTell headers body s who p e = FailsToFind headers body s.map p e

@@ -1,0 +1,34 @@
+//! Bodies of requests that are documents.
+ghost use Rattle.std.specs.Prelude.{◌≡◌, ◌⊎◌, map, IfErr, IfOk, None, Some};
+ghost use Rattle.dav_xml_core.specs.Reading.{document_of};
+ghost use Rattle.dav_xml_core.specs.ReadableDocuments.{CouldBeRead};
+ghost use Rattle.dav_xml_core.specs.Views.{node_of};
+ghost use Rattle.dav_handler_core.specs.declared.faults.Fault.TheVariants as fault;
+
+use crate::faults::Fault;
+use dav_xml_core::davxml::{Document, XmlError, read};
+use std::alloc::Global;
+
+/// The document that a body spells (RFC 4918 section 8.2). `BadRequest` where it spells none.
+pub(crate) fn document_in(alloc: Global, body: &[u8]) -> Result<Document, Fault>
+    ensures ok { IfOk result (λ document. document_of body.now ≡ Some (map node_of document.nodes.items)) }
+    ensures err { IfErr result (λ e. (e ≡ fault.InsufficientStorage) ⊎ ((e ≡ fault.BadRequest) × (document_of body.now ≡ None))) }
+    // So each of its elements can be written and read again.
+    ensures readable { IfOk result (λ document. CouldBeRead (map node_of document.nodes.items)) }
+{
+    Ok(read(alloc, body)?)
+}
+
+impl From<XmlError> for Fault {
+    ghost use Rattle.dav_handler_core.specs.Bodies.{of_xml};
+
+    ghost from_gives = { λ error fault. fault ≡ of_xml error };
+
+    fn from(error: XmlError) -> Self {
+        match error {
+            XmlError::NotWellFormed { .. } | XmlError::DocumentType | XmlError::Encoding =>
+                Fault::BadRequest,
+            XmlError::OutOfMemory => Fault::InsufficientStorage,
+        }
+    }
+}

@@ -79,7 +79,7 @@ here false true true d = refl
 here false true false d = refl
 here false false w d = refl
 
-of_filter : {A : Type 0} (test : A → Bool) (xs : List A) (x : A) → In x (filter test xs) → In x xs × (test x ≡ true)
+pub of_filter : {A : Type 0} (test : A → Bool) (xs : List A) (x : A) → In x (filter test xs) → In x xs × (test x ≡ true)
 of_filter test [] x i = absurd i
 of_filter test (y ∷ xs) x i = elim (cases_Bool (test y)) [
   | inl t ↦ elim (subst (λ b. In x (cond b (y ∷ filter test xs) (filter test xs))) t i) [

@@ -21,9 +21,9 @@ use Rattle.dav_handler_core.specs.declared.conditions.bases.Scheme.{Scheme}
 use Rattle.dav_handler_core.specs.declared.faults.Fault.{Fault}
 use Rattle.dav_handler_core.specs.declared.faults.Fault.TheVariants as fault
 use Rattle.dav_handler_core.specs.Admitting.{IsAdmitted, IsHeldOff}
-use Rattle.dav_handler_core.specs.Answers.{Admits, AnswersTo, Begins, ChangeAnswers, EndsOne, Fails, GetAnswers, HoldsOff, IsFrom, IsWhole, Moves, Names, Options, PutAnswers, Server, Unread, as_found}
+use Rattle.dav_handler_core.specs.Answers.{Admits, AnswersTo, Begins, ChangeAnswers, EndsOne, Fails, GetAnswers, HoldsOff, IsFrom, IsWhole, Locks, Moves, Names, Options, PutAnswers, Server, Unread, as_found}
 use Rattle.dav_handler_core.specs.Answers.Unread.{memory, target, principal, tokens, moment}
-use Rattle.dav_handler_core.specs.Callers.{Asks, Caller, RunBy, asking, live}
+use Rattle.dav_handler_core.specs.Callers.{Asks, Caller, RunBy, Runs, asking, live}
 use Rattle.dav_handler_core.specs.Fields.{Sent}
 use Rattle.dav_handler_core.specs.FileTags.{file_tag}
 use Rattle.dav_handler_core.specs.Getting.{FailsToGet, Gets, tagged}
@@ -34,7 +34,7 @@ use Rattle.dav_handler_core.specs.Refusals.{RefusesTarget, RefusesPrincipal, Has
 use Rattle.dav_handler_core.specs.Senders.{NamesPrincipal}
 use Rattle.dav_handler_core.specs.Unlocking.{Unlocks}
 use Rattle.dav_handler_core.proofs.Asking.{asks_join, by_join}
-use Rattle.dav_handler_core.proofs.CallerLaws.{asks_exclusive, asks_of, asks_shape}
+use Rattle.dav_handler_core.proofs.CallerLaws.{asks_of, runs_by, runs_exclusive, runs_of, runs_shape}
 
 -- ---- a request that asks for nothing
 
@@ -113,13 +113,13 @@ moves_ended before mid after request path who (Ok status) begins moves first mor
     who,
     begins.from,
     begins.now ∙ sym last,
-    inr (record {
+    inr (inl (record {
       asks = asks_join who before.state mid.state after.state (asks_of who before.state mid.state first) more;
       path = segments path.bytes;
       status = status;
       unlocks = subst (λ (s : State). Unlocks (head_of request).headers s who (segments path.bytes) status after.state)
           (ap (λ n. live n mid.state) begins.now ∙ still ∙ ap (λ n. live n before.state) (sym last)) done;
-    }),
+    })),
   );
   moments = subst (λ n. before.last ≤ n) (sym last) moves.moments;
   options = options ∙ moves.options;
@@ -306,25 +306,27 @@ refused_alike (Some method.Copy) before after request e sent other h = h
 refused_alike (Some method.Move) before after request e sent other h = h
 refused_alike (Some method.MkCol) before after request e sent other h = h
 refused_alike (Some method.Unlock) before after request e sent other h = h
+refused_alike (Some method.Lock) before after request e sent other h = h
 refused_alike (Some method.PropPatch) before after request e sent other h = h
 refused_alike (Some method.Options) before after request e sent other h = h
 refused_alike _ before after request e sent other h = h
 
-asks_by : (before after : Server) (request : Request (List ℕ)) (who : Caller) → RunBy who before.state after.state ⊎ EndsOne before request after who
-    → Asks who before.state after.state
-asks_by before after request who (inl run) = asks_of who before.state after.state run
-asks_by before after request who (inr one) = one.asks
+runs_of_caller : (before after : Server) (request : Request (List ℕ)) (who : Caller)
+    → RunBy who before.state after.state ⊎ (EndsOne before request after who ⊎ Locks before after who) → Runs before.state after.state
+runs_of_caller before after request who (inl run) = runs_by who before.state after.state run
+runs_of_caller before after request who (inr (inl one)) = runs_of who before.state after.state one.asks
+runs_of_caller before after request who (inr (inr locks)) = locks.runs
 
--- what every run of one caller's requests keeps
+-- what every run of requests keeps
 pub moves_exclusive : (before after : Server) (request : Request (List ℕ)) → Moves before request after → Exclusive before.state.locks → Exclusive after.state.locks
 moves_exclusive before after request h x = elim h.by_caller [
   | inl same ↦ subst (λ (s : State). Exclusive s.locks) (sym same) x
-  | inr by ↦ asks_exclusive by.0 before.state after.state (asks_by before after request by.0 by.3) x
+  | inr by ↦ runs_exclusive before.state after.state (runs_of_caller before after request by.0 by.3) x
 ]
 
 pub moves_shape : (before after : Server) (request : Request (List ℕ)) → Moves before request after → Exclusive before.state.locks → IsResourceMap before.state.map
     → IsResourceMap after.state.map
 moves_shape before after request h x is_map = elim h.by_caller [
   | inl same ↦ subst (λ (s : State). IsResourceMap s.map) (sym same) is_map
-  | inr by ↦ asks_shape by.0 before.state after.state (asks_by before after request by.0 by.3) is_map
+  | inr by ↦ runs_shape before.state after.state (runs_of_caller before after request by.0 by.3) is_map
 ]

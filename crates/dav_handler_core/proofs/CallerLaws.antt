@@ -1,5 +1,5 @@
 -- Runs of one caller's requests: how they go on, and what locks promise of them.
-use Rattle.std.proofs.Common.{not, ℕ, Bool, true, false, ◌||◌, ◌&&◌, ◌≡◌, inl, inr, List, [], ◌∷◌, map, refl, sym, ◌∙◌, ap, subst}
+use Rattle.std.proofs.Common.{not, ℕ, Bool, true, false, ◌||◌, ◌&&◌, ◌≡◌, inl, inr, List, [], ◌∷◌, ◌++◌, map, refl, sym, ◌∙◌, ap, subst}
 use Rattle.std.specs.Prelude.{filter}
 use Rattle.std.specs.List.{list_any}
 use Rattle.std.proofs.lemmas.Bool.{cases_Bool, or_parts, not-true, true≢false}
@@ -14,9 +14,9 @@ use Rattle.dav_locks_core.proofs.laws.StandInLemmas.{StandIn-trans, StandIn-filt
 use Rattle.dav_resource_core.specs.Naming.{unlocks, refreshes, touched_in}
 use Rattle.dav_resource_core.specs.Requests.{Command, Request, Answer}
 use Rattle.dav_resource_core.specs.Step.{State, Step, Run}
-use Rattle.dav_resource_core.proofs.RunLaws.{keeps_locks, run_shape}
+use Rattle.dav_resource_core.proofs.RunLaws.{keeps_locks, run_join, run_shape}
 use Rattle.dav_resource_core.proofs.StepLaws.{Same-refl, step_exclusive}
-use Rattle.dav_handler_core.specs.Callers.{Asks, Caller, RunBy, KeepsApart, asking, ends_or_refreshes, holds}
+use Rattle.dav_handler_core.specs.Callers.{Asks, Caller, RunBy, Runs, KeepsApart, asking, ends_or_refreshes, holds}
 
 -- ---- runs that go on
 
@@ -66,6 +66,28 @@ run_exclusive s s' (r ∷ rs) (a ∷ answers) x h = run_exclusive h.0 s' rs answ
 
 pub asks_of : (who : Caller) (s s' : State) → RunBy who s s' → Asks who s s'
 asks_of who s s' h = record { commands = h.commands; answers = h.answers; run = h.run }
+
+pub runs_of : (who : Caller) (s s' : State) → Asks who s s' → Runs s s'
+runs_of who s s' h = record { requests = map (asking who) h.commands; answers = h.answers; run = h.run }
+
+pub runs_by : (who : Caller) (s s' : State) → RunBy who s s' → Runs s s'
+runs_by who s s' h = record { requests = map (asking who) h.commands; answers = h.answers; run = h.run }
+
+pub no_runs : (s : State) → Runs s s
+no_runs s = record { requests = []; answers = []; run = Same-refl s }
+
+pub runs_join : (s mid s' : State) → Runs s mid → Runs mid s' → Runs s s'
+runs_join s mid s' h k = record {
+  requests = h.requests ++ k.requests;
+  answers = h.answers ++ k.answers;
+  run = run_join s mid s' h.requests k.requests h.answers k.answers h.run k.run;
+}
+
+pub runs_exclusive : (s s' : State) → Runs s s' → Exclusive s.locks → Exclusive s'.locks
+runs_exclusive s s' h x = run_exclusive s s' h.requests h.answers x h.run
+
+pub runs_shape : (s s' : State) → Runs s s' → IsResourceMap s.map → IsResourceMap s'.map
+runs_shape s s' h is_map = run_shape s s' h.requests h.answers is_map h.run
 
 pub asks_exclusive : (who : Caller) (s s' : State) → Asks who s s' → Exclusive s.locks → Exclusive s'.locks
 asks_exclusive who s s' h x = run_exclusive s s' (map (asking who) h.commands) h.answers x h.run

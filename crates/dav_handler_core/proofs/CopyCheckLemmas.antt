@@ -8,7 +8,7 @@ use Rattle.dav_locks_core.specs.Locks.{Caller as LocksCaller, check_conflicts}
 use Rattle.dav_resource_core.specs.Checks.{Check, refusing}
 use Rattle.dav_resource_core.specs.Step.{State}
 use Rattle.dav_handler_core.specs.declared.faults.Fault.{Fault}
-use Rattle.dav_handler_core.specs.Callers.{Caller, SameLive, as_caller, live}
+use Rattle.dav_handler_core.specs.Callers.{Caller, live}
 use Rattle.dav_handler_core.specs.LocksInTheWay.{IsRefusedBy}
 use Rattle.dav_handler_core.proofs.ConditionLemmas.{Looks, drop_seen, same_state}
 use Rattle.dav_handler_core.proofs.PutLemmas.{more_refused}

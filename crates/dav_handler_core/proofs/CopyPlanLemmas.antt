@@ -1,9 +1,9 @@
 -- What is copied, by the walk of the source.
-use Rattle.std.proofs.Common.{◌≡◌, ◌≢◌, inl, inr, suc, Bool, true, false, cond, not, List, [], ◌∷◌, ◌++◌, append-nil, append_assoc, length, map, Option, Some, None, is_some, refl, sym, ap, ◌∙◌, subst, arith}
-use Rattle.std.specs.Prelude.{Contains, IsSome, filter_map, option_map}
+use Rattle.std.proofs.Common.{◌≡◌, ◌≢◌, inl, inr, suc, Bool, true, false, cond, not, List, [], ◌∷◌, ◌++◌, append-nil, append_assoc, map, Option, Some, None, refl, sym, ap, ◌∙◌, subst, arith}
+use Rattle.std.specs.Prelude.{IsSome, filter_map, option_map}
 use Rattle.std.specs.List.{AllPairs, cons_option}
-use Rattle.std.proofs.lemmas.Bool.{and_parts, cases_Bool, false≢true, not-true, true≢false, false_from_ne_true}
-use Rattle.dav_path_core.specs.Fronts.{Path, behind, is_front, rebased}
+use Rattle.std.proofs.lemmas.Bool.{cases_Bool, false≢true, not-true, true≢false, false_from_ne_true}
+use Rattle.dav_path_core.specs.Fronts.{Path, behind, is_front}
 use Rattle.dav_path_core.proofs.lists.MemberLemmas.{In, In-Contains, Contains-In}
 use Rattle.dav_path_core.proofs.paths.FrontLemmas.{behind_append, behind_is}
 use Rattle.dav_files_core.specs.Resources.{ResourceMap, at_path}

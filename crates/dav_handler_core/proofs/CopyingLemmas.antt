@@ -1,24 +1,23 @@
 -- How resources are copied one after another: what is done, and what is left.
-use Rattle.std.proofs.Common.{◌≡◌, ◌≢◌, ◌⊎◌, inl, inr, ℕ, suc, ◌<◌, Bool, true, false, cond, not, ◌&&◌, List, [], ◌∷◌, ◌++◌, append-nil, append_assoc, length, length-append, map, Option, Some, None, is_some, Ok, Err, refl, sym, ap, ◌∙◌, subst, arith}
-use Rattle.std.specs.Prelude.{Contains, IsSome, option_map, slice_index_or}
+use Rattle.std.proofs.Common.{◌≡◌, ◌≢◌, ◌⊎◌, inl, inr, ℕ, suc, Bool, true, false, cond, not, List, [], ◌∷◌, ◌++◌, append-nil, append_assoc, length, length-append, map, Option, Some, None, is_some, Ok, Err, refl, sym, ap, ◌∙◌, subst, arith}
+use Rattle.std.specs.Prelude.{IsSome, option_map}
 use Rattle.std.specs.List.{AllPairs}
-use Rattle.std.proofs.lemmas.Bool.{and_parts, cases_Bool, false≢true, not-true, true≢false, false_from_ne_true}
+use Rattle.std.proofs.lemmas.Bool.{and_parts, not-true, true≢false, false_from_ne_true}
 use Rattle.dav_path_core.specs.Fronts.{Path, behind, is_front, parent}
 use Rattle.dav_path_core.proofs.lists.FinMaps.{dec}
 use Rattle.dav_path_core.proofs.lists.MemberLemmas.{In, In-Contains, Contains-In, append_none}
 use Rattle.dav_path_core.proofs.lists.Orders.{path_exact, path_total}
 use Rattle.dav_path_core.proofs.lists.Snoc.{by_last}
 use Rattle.dav_path_core.proofs.paths.FrontLemmas.{behind_append, is_front-trans}
-use Rattle.dav_files_core.specs.declared.memfs.Kind.TheVariants.{Folder}
 use Rattle.dav_files_core.specs.Resources.{Node, Resource, ResourceMap, at_path}
 use Rattle.dav_files_core.proofs.walks.FoundLemmas.{parent-snoc}
 use Rattle.dav_locks_core.specs.Lock.{Lock}
 use Rattle.dav_locks_core.specs.Locks.{Caller as LocksCaller, check_conflicts}
-use Rattle.dav_resource_core.specs.Checks.{Check, has, member, reached, refusing, shallow, target}
+use Rattle.dav_resource_core.specs.Checks.{Check, has, member, refusing, shallow, target}
 use Rattle.dav_resource_core.specs.Requests.{Answer, Command, Reply}
-use Rattle.dav_resource_core.specs.Step.{Serves, State, Step}
+use Rattle.dav_resource_core.specs.Step.{State, Step}
 use Rattle.dav_handler_core.specs.Callers.{Caller, as_caller, asking, live}
-use Rattle.dav_handler_core.specs.Copying.{AreCopied, IsCopied, IsPartlyCopied, IsReady, between, copy_at, created_at, is_copied, node_at}
+use Rattle.dav_handler_core.specs.Copying.{IsCopied, IsPartlyCopied, IsReady, between, copy_at, created_at, is_copied, node_at}
 use Rattle.dav_handler_core.specs.Ends.{HasFolder}
 use Rattle.dav_handler_core.specs.Private.Refusing.{put_fault}
 use Rattle.dav_handler_core.specs.Private.Transferring.{NotCopied}

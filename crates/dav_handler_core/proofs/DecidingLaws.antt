@@ -12,7 +12,7 @@ use Rattle.dav_path_core.specs.Fronts.{Path}
 use Rattle.dav_path_core.specs.PathText.{PathText}
 use Rattle.dav_path_core.specs.Segments.{segments}
 use Rattle.dav_files_core.specs.declared.memfs.Kind.TheVariants.{File}
-use Rattle.dav_files_core.specs.Resources.{Resource, at_path}
+use Rattle.dav_files_core.specs.Resources.{Resource, ResourceMap, at_path}
 use Rattle.dav_resource_core.specs.Checks.{has}
 use Rattle.dav_resource_core.specs.Step.{State}
 use Rattle.dav_handler_core.specs.declared.etags.Standing.{Standing}
@@ -22,7 +22,7 @@ use Rattle.dav_handler_core.specs.declared.preconditions.Course.{Course}
 use Rattle.dav_handler_core.specs.declared.preconditions.Course.TheVariants as course
 use Rattle.dav_handler_core.specs.declared.ranges.Extent.{Extent}
 use Rattle.dav_handler_core.specs.declared.ranges.Extent.TheVariants as extent
-use Rattle.dav_handler_core.specs.Answers.{AnswersTo, Fails, HoldsOff, IsGotten, Leaves, Options, Server, Unread, as_found, status_of}
+use Rattle.dav_handler_core.specs.Answers.{AnswersTo, Fails, HoldsOff, IsGotten, IsLocked, Leaves, Options, Server, Unread, as_found, has_body, status_of}
 use Rattle.dav_handler_core.specs.Answers.Unread.{memory, target, principal, tokens, moment}
 use Rattle.dav_handler_core.specs.Callers.{Caller, SameLive}
 use Rattle.dav_handler_core.specs.Copying.{FailsToCopy}
@@ -30,13 +30,15 @@ use Rattle.dav_handler_core.specs.Deciding.{HeldOff, SendsPart, SendsTag, Stops,
 use Rattle.dav_handler_core.specs.Faults.{fault_status}
 use Rattle.dav_handler_core.specs.Fields.{Sent}
 use Rattle.dav_handler_core.specs.FileTags.{standing_by, standing_of, tag_of}
-use Rattle.dav_handler_core.specs.Finding.{FailsToTell}
+use Rattle.dav_handler_core.specs.Finding.{FailsToFind, FailsToTell}
 use Rattle.dav_handler_core.specs.Getting.{FailsToGet, Tells, own_tags, tags_by, told_by, told_of}
+use Rattle.dav_handler_core.specs.Locking.{FailsToLock}
 use Rattle.dav_handler_core.specs.Making.{FailsToMake}
 use Rattle.dav_handler_core.specs.Moving as moving
 use Rattle.dav_handler_core.specs.Preconditions.{course_of}
 use Rattle.dav_handler_core.specs.Putting.{FailsToPut, changes_by}
 use Rattle.dav_handler_core.specs.Ranges.{part_text}
+use Rattle.dav_handler_core.specs.Refreshing.{FailsToRefresh, named_there}
 use Rattle.dav_handler_core.specs.Refusals.{RefusesPrincipal, RefusesTarget}
 use Rattle.dav_handler_core.specs.Removing.{FailsToRemove}
 use Rattle.dav_handler_core.specs.Patching.{FailsToPatch}
@@ -62,6 +64,7 @@ fault_high (fault.ConflictingMember at path) = inl tt
 fault_high fault.BadRequest = inr (omega arith)
 fault_high fault.Unauthorized = inr (omega arith)
 fault_high fault.Forbidden = inr (omega arith)
+fault_high fault.InfiniteDepth = inr (omega arith)
 fault_high fault.NotFound = inr (omega arith)
 fault_high fault.MethodNotAllowed = inr (omega arith)
 fault_high fault.Conflict = inr (omega arith)
@@ -81,6 +84,7 @@ fault_failed (fault.ConflictingMember at path) h = absurd (omega (arith, h))
 fault_failed fault.BadRequest h = absurd (omega (arith, h))
 fault_failed fault.Unauthorized h = absurd (omega (arith, h))
 fault_failed fault.Forbidden h = absurd (omega (arith, h))
+fault_failed fault.InfiniteDepth h = absurd (omega (arith, h))
 fault_failed fault.NotFound h = absurd (omega (arith, h))
 fault_failed fault.MethodNotAllowed h = absurd (omega (arith, h))
 fault_failed fault.Conflict h = absurd (omega (arith, h))
@@ -117,6 +121,58 @@ put_between false = (omega arith, omega arith)
 transfer_low : (b : Bool) (status : ℕ) → status ≡ (if b then 204 else 201) → ¬ IsOff status
 transfer_low b status is (inl off) = omega (arith, off, is, put_between b)
 transfer_low b status is (inr off) = omega (arith, off, is, put_between b)
+
+locked_by : (b : Bool) → (199 < (if b then 200 else 201)) × ((if b then 200 else 201) < 202)
+locked_by true = (omega arith, omega arith)
+locked_by false = (omega arith, omega arith)
+
+-- a LOCK that is done is 200 or 201
+locked_between : (before : Server) (request : Request (List ℕ)) (status : ℕ) (sent : Sent) (after : Server) → IsLocked before request status sent after
+    → (199 < status) × (status < 202)
+locked_between before request status sent after h = elim h.locks [
+  | inl granted ↦
+      let between = locked_by (has before.state.map (segments h.path.bytes)) in
+      (omega (arith, granted.1.status_is, between), omega (arith, granted.1.status_is, between))
+  | inr refreshed ↦ (omega (arith, refreshed.1.status_is), omega (arith, refreshed.1.status_is))
+]
+
+lock_low : (before : Server) (request : Request (List ℕ)) (status : ℕ) (sent : Sent) (after : Server) → IsLocked before request status sent after → ¬ IsOff status
+lock_low before request status sent after h (inl off) = omega (arith, off, locked_between before request status sent after h)
+lock_low before request status sent after h (inr off) = omega (arith, off, locked_between before request status sent after h)
+
+finding_told : (finite : Bool) (headers : Entries FieldValue) (body : List ℕ) (m : ResourceMap) (p : Path) (e : Fault) → e ≡ fault.PreconditionFailed
+    → FailsToFind finite headers body m p e → ⊥
+finding_told finite headers body m p _ is FailsToFind.memory = cc
+finding_told finite headers body m p _ is (FailsToFind.unread h) = cc
+finding_told finite headers body m p _ is (FailsToFind.endless refuses h) = cc
+finding_told finite headers body m p _ is (FailsToFind.unasked d reaches h) = cc
+finding_told finite headers body m p _ is (FailsToFind.missing d q reaches asks h) = cc
+finding_told finite headers body m p _ is (FailsToFind.no_depth q reaches asks) = cc
+finding_told finite headers body m p _ is (FailsToFind.odd d q reaches asks h) = cc
+
+granting_told : (most : Option ℕ) (headers : Entries FieldValue) (body : List ℕ) (s : State) (who : Caller) (path : PathText) (e : Fault) → e ≡ fault.PreconditionFailed
+    → FailsToLock most headers body s who path e → ⊥
+granting_told most headers body s who path _ is FailsToLock.memory = cc
+granting_told most headers body s who path _ is (FailsToLock.unread h) = cc
+granting_told most headers body s who path _ is (FailsToLock.moment wanted wants h) = cc
+granting_told most headers body s who path _ is (FailsToLock.above wanted at wants none h) = cc
+granting_told most headers body s who path _ is (FailsToLock.nowhere wanted wants none free h) = cc
+granting_told most headers body s who path _ is (FailsToLock.conflict wanted at wants room h apart) = cc
+granting_told most headers body s who path _ is (FailsToLock.member wanted at wants room h below) = cc
+
+-- a LOCK for which no lock is named is one without a body
+unnamed : (most : Option ℕ) (headers : Entries FieldValue) (body : List ℕ) (s : State) (who : Caller) (path : PathText) (e : Fault) → e ≡ fault.PreconditionFailed
+    → ((body ≢ []) × FailsToLock most headers body s who path e) ⊎ ((body ≡ []) × FailsToRefresh headers s who (segments path.bytes) e)
+    → named_there s who (segments path.bytes) ≡ []
+unnamed most headers body s who path e is (inl h) = absurd (granting_told most headers body s who path e is h.1)
+unnamed most headers body s who path e is (inr h) = by e is h.1
+  where
+    by : (e : Fault) → e ≡ fault.PreconditionFailed → FailsToRefresh headers s who (segments path.bytes) e → named_there s who (segments path.bytes) ≡ []
+    by _ is FailsToRefresh.memory = absurd (cc)
+    by _ is (FailsToRefresh.unread h) = absurd (cc)
+    by _ is (FailsToRefresh.none timeouts read none) = none
+    by _ is (FailsToRefresh.several timeouts read several) = absurd (cc)
+    by _ is (FailsToRefresh.anothers timeouts token read named h) = absurd (cc)
 
 -- what isn't read is not a condition that doesn't hold
 no_principal : (named : Option (List ℕ)) (headers : Entries FieldValue) → ¬ RefusesPrincipal named headers fault.PreconditionFailed
@@ -285,7 +341,7 @@ module _ (before after : Server) (request : Request (List ℕ)) (sent : Sent) wh
   -- a request that is refused for a condition
   fails_off : (m : Option DavMethod) (changes : Bool) (e : Fault) (Refuses : Path → Caller → Type 0) → e ≡ fault.PreconditionFailed
       → Unread before.options request before.last changes e ⊎ Fails before request after e Refuses
-      → ((p : Path) (who : Caller) → Refuses p who → Stops m before.state.map p Headers) → HeldOff m before request after
+      → ((p : Path) (who : Caller) → Refuses p who → Stops m (as_found before after) who p Headers) → HeldOff m before request after
   fails_off m changes e Refuses is (inl unread) stops = absurd (not_unread before.options request before.last changes e is unread)
   fails_off m changes e Refuses is (inr h) stops = record {
     path = h.path;
@@ -331,8 +387,8 @@ module _ (before after : Server) (request : Request (List ℕ)) (sent : Sent) wh
   held_off (Some method.PropFind) (Ok status) h off = absurd (elim off [ inl off ↦ omega (arith, off, h.0.does.0) | inr off ↦ omega (arith, off, h.0.does.0) ])
   held_off (Some method.PropFind) (Err e) h off =
       let is = fault_off e off in
-      fails_off (Some method.PropFind) false e (λ p who. FailsToTell Headers (body_of request) (as_found before after) who p e) is h.0
-      (λ p who refuses. subst (FailsToTell Headers (body_of request) (as_found before after) who p) is refuses)
+      fails_off (Some method.PropFind) false e (λ p who. FailsToTell before.options.finite Headers (body_of request) (as_found before after) who p e) is h.0
+      (λ p who refuses. absurd (finding_told before.options.finite Headers (body_of request) before.state.map p e is refuses))
   held_off (Some method.Delete) (Ok status) h off = absurd (elim off [ inl off ↦ omega (arith, off, h.does.status_is) | inr off ↦ omega (arith, off, h.does.status_is) ])
   held_off (Some method.Delete) (Err e) h off =
       let is = fault_off e off in
@@ -358,6 +414,17 @@ module _ (before after : Server) (request : Request (List ℕ)) (sent : Sent) wh
       let is = fault_off e off in
       fails_off (Some method.Unlock) false e (λ p who. FailsToUnlock Headers (as_found before after) who p e) is h
       (λ p who refuses. absurd ((subst (FailsToUnlock Headers (as_found before after) who p) is refuses).2))
+  held_off (Some method.Lock) (Ok status) h off = absurd (lock_low before request status sent after h off)
+  held_off (Some method.Lock) (Err e) (inl unread) off = absurd (not_unread before.options request before.last (has_body request) e (fault_off e off) unread)
+  held_off (Some method.Lock) (Err e) (inr h) off = record {
+    path = h.path;
+    who = h.who;
+    begins = h.begins;
+    why = elim h.why [
+      | inl held ↦ inl (subst (HoldsOff before request after h.path) (fault_off e off) held)
+      | inr own ↦ inr (own.0, unnamed before.options.longest Headers (body_of request) (as_found before after) h.who h.path e (fault_off e off) own.1)
+    ];
+  }
   held_off (Some method.PropPatch) (Ok status) h off =
       absurd (elim off [ inl off ↦ omega (arith, off, h.patches.status_is) | inr off ↦ omega (arith, off, h.patches.status_is) ])
   held_off (Some method.PropPatch) (Err e) h off =
@@ -377,6 +444,7 @@ module _ (before after : Server) (request : Request (List ℕ)) (sent : Sent) wh
   leaves_all : (m : Option DavMethod) (e : Fault) → e ≡ fault.PreconditionFailed → Leaves m before request e after → SameLive after.last before.state after.state
   leaves_all (Some method.Copy) e is h = subst (λ e. Leaves (Some method.Copy) before request e after) is h
   leaves_all (Some method.Move) e is h = subst (λ e. Leaves (Some method.Move) before request e after) is h
+  leaves_all (Some method.Lock) e is h = subst (λ e. Leaves (Some method.Lock) before request e after) is h
   leaves_all _ e is h = h
 
   -- nothing has changed
@@ -397,6 +465,7 @@ module _ (before after : Server) (request : Request (List ℕ)) (sent : Sent) wh
       absurd (elim off [ inl off ↦ omega (arith, off, h.does.status_is) | inr off ↦ omega (arith, off, h.does.status_is) ])
   stays (Some method.Unlock) (Ok status) h refused off =
       absurd (elim off [ inl off ↦ omega (arith, off, h.does.status_is) | inr off ↦ omega (arith, off, h.does.status_is) ])
+  stays (Some method.Lock) (Ok status) h refused off = absurd (lock_low before request status sent after h off)
   stays (Some method.PropPatch) (Ok status) h refused off =
       absurd (elim off [ inl off ↦ omega (arith, off, h.patches.status_is) | inr off ↦ omega (arith, off, h.patches.status_is) ])
   stays (Some method.Options) (Ok status) h refused (inl off) = absurd (omega (arith, h.0, off))
@@ -453,6 +522,7 @@ module _ (before after : Server) (request : Request (List ℕ)) (sent : Sent) wh
       absurd (omega (arith, part, h.does.status_is, put_between (has before.state.map (segments h.does.to.bytes))))
   sends_part (Some method.MkCol) (Ok status) h part = absurd (omega (arith, h.does.status_is, part))
   sends_part (Some method.Unlock) (Ok status) h part = absurd (omega (arith, h.does.status_is, part))
+  sends_part (Some method.Lock) (Ok status) h part = absurd (omega (arith, locked_between before request status sent after h, part))
   sends_part (Some method.PropPatch) (Ok status) h part = absurd (omega (arith, h.patches.status_is, part))
   sends_part (Some method.Options) (Ok status) h part = absurd (omega (arith, h.0, part))
   sends_part _ (Ok status) h part = absurd (cc)

@@ -1,5 +1,5 @@
 -- How a field changes the marks of an answer, and which bytes a field can hold.
-use Rattle.std.proofs.Common.{◌≡◌, ◌⊎◌, inl, inr, ℕ, ◌^◌, ◌<◌, Bool, true, false, not, ◌&&◌, ◌||◌, List, [], ◌∷◌, ◌++◌, map, get_or, refl, ◌∙◌, Result, Ok, Err, ap, subst, arith}
+use Rattle.std.proofs.Common.{◌≡◌, ◌⊎◌, inl, inr, ℕ, ◌^◌, ◌<◌, Bool, true, false, not, ◌&&◌, ◌||◌, List, [], ◌∷◌, ◌++◌, map, get_or, refl, sym, ◌∙◌, Result, Ok, Err, ap, subst, arith}
 use Rattle.std.specs.Prelude.{filter, codes, bytes_eq, decimal, nat_le, ◌==◌, IsTrue, OnOk}
 use Rattle.std.specs.Int.{IsInRange}
 use Rattle.std.proofs.lemmas.Bool.{and_from, le-leb, ne_eqb}
@@ -101,3 +101,10 @@ pub part_added : {A E : Type 0} (result : Result A E) (old new : List Field) (na
 part_added (Ok x) old new name bytes text added named is held =
     part_field old new name text named (subst (λ b. IsFieldValue b → new ≡ old ++ field name b) is added held)
 part_added (Err e) old new name bytes text added named is held = tt
+
+-- a field that is added where a field can hold its value
+pub field_added : {A E : Type 0} (result : Result A E) (old new : List Field) (name bytes wanted value : List ℕ)
+    → OnOk result (IsFieldValue bytes → new ≡ old ++ field name bytes) → name ≡ wanted → bytes ≡ value → IsFieldValue value → OnOk result (new ≡ old ++ field wanted value)
+field_added (Ok x) old new name bytes wanted value added named is held =
+    added (subst IsFieldValue (sym is) held) ∙ ap (λ n. old ++ field n bytes) named ∙ ap (λ b. old ++ field wanted b) is
+field_added (Err e) old new name bytes wanted value added named is held = tt

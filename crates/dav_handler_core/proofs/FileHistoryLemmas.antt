@@ -3,7 +3,7 @@ use Rattle.std.proofs.Common.{◌≡◌, ◌⊎◌, inl, inr, ℕ, Bool, true, f
 use Rattle.std.specs.Prelude.{option_map}
 use Rattle.std.proofs.lemmas.Bool.{cases_Bool}
 use Rattle.dav_path_core.specs.Fronts.{Path, is_front, is_same_path, parent}
-use Rattle.dav_path_core.proofs.lists.FinMaps.{dec, none_some, one_some}
+use Rattle.dav_path_core.proofs.lists.FinMaps.{dec, none_some}
 use Rattle.dav_path_core.proofs.lists.Orders.{path_exact, path_total}
 use Rattle.dav_path_core.proofs.paths.FrontLemmas.{is_same_path-same}
 use Rattle.dav_files_core.specs.declared.memfs.Kind.TheVariants.{Folder, File}
@@ -16,7 +16,6 @@ use Rattle.dav_handler_core.specs.Ends.{HasFolder}
 use Rattle.dav_handler_core.specs.Moving.{IsMoved}
 use Rattle.dav_handler_core.specs.Removing.{IsRemoved}
 use Rattle.dav_handler_core.specs.TagHistories.{HasFile}
-use Rattle.dav_handler_core.proofs.RemovalLemmas.{above_out}
 use Rattle.dav_handler_core.proofs.SubtreeLemmas.{rest_of}
 
 -- the map has a file with these bytes that was changed last at this moment

@@ -1,5 +1,5 @@
 -- What is told of places one after another, and what the places of a depth are.
-use Rattle.std.proofs.Common.{◌≡◌, ◌⊎◌, inl, inr, ℕ, ◌+◌, ◌<◌, arith, List, [], ◌∷◌, length, map, drop, get_or, Option, Some, None, Result, Ok, Err, refl, sym, ap, ◌∙◌, subst}
+use Rattle.std.proofs.Common.{Bool, true, ◌≡◌, ◌⊎◌, inl, inr, ℕ, ◌+◌, ◌<◌, arith, List, [], ◌∷◌, length, map, drop, get_or, Option, Some, None, Result, Ok, Err, refl, sym, ap, ◌∙◌, subst}
 use Rattle.std.specs.Prelude.{Contains, IfOk, IsSome, OnOk, flat_map}
 use Rattle.std.proofs.lemmas.Bool.{false≢true}
 use Rattle.std.proofs.lemmas.List.{drop_more, get_or-map, length-map}
@@ -11,6 +11,7 @@ use Rattle.dav_path_core.specs.Fronts.{Path}
 use Rattle.dav_path_core.proofs.lists.MemberLemmas.{In-Contains}
 use Rattle.dav_path_core.proofs.paths.FrontLemmas.{is_front-refl}
 use Rattle.dav_headers_core.specs.declared.davheaders.depths.Depth.{Depth}
+use Rattle.dav_headers_core.specs.declared.davheaders.depths.Depth.TheVariants as reach
 use Rattle.dav_files_core.specs.Resources.{Resource, ResourceMap, at_path}
 use Rattle.dav_resource_core.specs.Step.{State}
 use Rattle.dav_handler_core.specs.declared.faults.Fault.{Fault}
@@ -86,26 +87,29 @@ short_of e None why some = absurd (false≢true some)
 
 -- ---- why nothing is told
 
-module _ (headers : Entries FieldValue) (body : List ℕ) (m : ResourceMap) (p : Path) where
-  told_as : (e other : Fault) → e ≡ other → FailsToFind headers body m p other → FailsToFind headers body m p e
-  told_as e other same h = subst (FailsToFind headers body m p) (sym same) h
+module _ (finite : Bool) (headers : Entries FieldValue) (body : List ℕ) (m : ResourceMap) (p : Path) where
+  told_as : (e other : Fault) → e ≡ other → FailsToFind finite headers body m p other → FailsToFind finite headers body m p e
+  told_as e other same h = subst (FailsToFind finite headers body m p) (sym same) h
 
-  pub by_memory : (e : Fault) → e ≡ fault.InsufficientStorage → FailsToFind headers body m p e
-  by_memory e same = told_as e fault.InsufficientStorage same tt
+  pub by_memory : (e : Fault) → e ≡ fault.InsufficientStorage → FailsToFind finite headers body m p e
+  by_memory e same = told_as e fault.InsufficientStorage same FailsToFind.memory
 
-  pub by_depth : (e : Fault) → (e ≡ fault.BadRequest) × (depth_in headers ≡ None) → FailsToFind headers body m p e
-  by_depth e h = told_as e fault.BadRequest h.0 (inl h.1)
+  pub by_depth : (e : Fault) → ((e ≡ fault.BadRequest) × (depth_in headers ≡ None)) ⊎ ((e ≡ fault.InfiniteDepth) × (finite ≡ true) × (depth_in headers ≡ Some reach.Infinity))
+      → FailsToFind finite headers body m p e
+  by_depth e (inl bad) = told_as e fault.BadRequest bad.0 (FailsToFind.unread bad.1)
+  by_depth e (inr deep) = told_as e fault.InfiniteDepth deep.0 (FailsToFind.endless deep.1 deep.2)
 
-  pub by_question : (e : Fault) → (e ≡ fault.InsufficientStorage) ⊎ ((e ≡ fault.BadRequest) × (question_in body ≡ None)) → FailsToFind headers body m p e
-  by_question e (inl short) = by_memory e short
-  by_question e (inr bad) = told_as e fault.BadRequest bad.0 (inr (inr (inl bad.1)))
+  pub by_question : (e : Fault) (d : Depth) → depth_in headers ≡ Some d → (e ≡ fault.InsufficientStorage) ⊎ ((e ≡ fault.BadRequest) × (question_in body ≡ None))
+      → FailsToFind finite headers body m p e
+  by_question e d is (inl short) = by_memory e short
+  by_question e d is (inr bad) = told_as e fault.BadRequest bad.0 (FailsToFind.unasked d is bad.1)
 
-  pub by_places : (e : Fault) (d : Depth) → depth_in headers ≡ Some d → IsNowhere d m p e → FailsToFind headers body m p e
-  by_places e d is (inl short) = by_memory e short
-  by_places e d is (inr (inl none)) = told_as e fault.NotFound none.0 none.1
-  by_places e d is (inr (inr bad)) = told_as e fault.BadRequest bad.0 (elim bad.1 [
-    | inl other ↦ inr (inl (is ∙ ap Some other))
-    | inr odd ↦ inr (inr (inr odd))
+  pub by_places : (e : Fault) (d : Depth) (q : Question) → depth_in headers ≡ Some d → question_in body ≡ Some q → IsNowhere d m p e → FailsToFind finite headers body m p e
+  by_places e d q is asks (inl short) = by_memory e short
+  by_places e d q is asks (inr (inl none)) = told_as e fault.NotFound none.0 (FailsToFind.missing d q is asks none.1)
+  by_places e d q is asks (inr (inr bad)) = told_as e fault.BadRequest bad.0 (elim bad.1 [
+    | inl other ↦ FailsToFind.no_depth q (is ∙ ap Some other) asks
+    | inr odd ↦ FailsToFind.odd d q is asks odd
   ])
 
 -- a name below the path that no path has which is read

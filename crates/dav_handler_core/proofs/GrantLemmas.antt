@@ -1,8 +1,8 @@
 -- What a lock that is granted leaves, and what is left where it is taken back.
-use Rattle.std.proofs.Common.{◌≡◌, ◌⊎◌, inl, inr, ℕ, ◌+◌, ◌-◌, Bool, true, false, ◌&&◌, ◌||◌, cond, List, [], ◌∷◌, ◌++◌, length, map, take, Option, Some, None, Result, Ok, Err, refl, sym, ◌∙◌, ap, subst, arith, add_assoc}
+use Rattle.std.proofs.Common.{◌≡◌, ◌⊎◌, inl, inr, ℕ, ◌+◌, ◌-◌, Bool, true, false, ◌&&◌, ◌||◌, cond, List, [], ◌∷◌, ◌++◌, length, map, take, Option, Some, None, Result, Ok, Err, refl, sym, ◌∙◌, ap, subst, arith}
 use Rattle.std.specs.Prelude.{bytes_eq, option_map, remove, Contains}
 use Rattle.std.specs.List.{list_any}
-use Rattle.std.proofs.lemmas.Bool.{and_parts, cases_Bool, or_parts, true≢false}
+use Rattle.std.proofs.lemmas.Bool.{and_from, and_parts, cases_Bool, or_parts, true≢false}
 use Rattle.std.proofs.lemmas.List.Edits.{remove-append_right}
 use Rattle.std.proofs.Math.Seq.{take-append_seam}
 use Rattle.std.proofs.lemmas.List.{append-nil, length-append, length-map, take-map}
@@ -12,19 +12,19 @@ use Rattle.dav_path_core.specs.Fronts.{Path, is_front, parent}
 use Rattle.dav_path_core.specs.PathText.{PathText}
 use Rattle.dav_path_core.specs.Segments.{segments}
 use Rattle.dav_path_core.proofs.lists.MemberLemmas.{In, In-Contains, Contains-In, find_any}
-use Rattle.dav_path_core.proofs.paths.FrontLemmas.{is_front-refl}
+use Rattle.dav_path_core.proofs.paths.FrontLemmas.{is_front-refl, is_front-trans}
 use Rattle.dav_locks_core.specs.Lock.{Lock}
 use Rattle.dav_locks_core.specs.Locks.{better, covers, discovered, found, found_from, found_here, height, lock_conflicts, lock_path}
 use Rattle.dav_resource_core.specs.Requests.{Command, Granted, Refusal, Reply}
 use Rattle.dav_resource_core.specs.Served.{answer_of, refusal_of, reply_of}
 use Rattle.dav_resource_core.specs.declared.guarded.requests.Reply as served
 use Rattle.dav_resource_core.specs.declared.guarded.requests.Refusal as served_refusal
-use Rattle.dav_resource_core.specs.Step.{IsState, Serves, State, Step}
+use Rattle.dav_resource_core.specs.Step.{Serves, State, Step}
 use Rattle.dav_handler_core.specs.declared.faults.Fault.TheVariants as fault
 use Rattle.dav_handler_core.specs.Callers.{Caller, asking, live}
 use Rattle.dav_handler_core.specs.IfTokens.{is_among}
-use Rattle.dav_handler_core.specs.Granting.{HaveTokens, IsConflictOf, also_naming, granted_lock, stands_above, with_lock, with_token_drawn}
-use Rattle.dav_handler_core.proofs.OwnLemmas.{above, at_covers, at_root, not_unlocked}
+use Rattle.dav_handler_core.specs.Granting.{AreAbove, HaveTokens, IsConflictOf, also_naming, granted_lock, stands_above, with_lock, with_token_drawn}
+use Rattle.dav_handler_core.proofs.OwnLemmas.{above, at_covers, at_root, covers_here, not_unlocked}
 use Rattle.dav_handler_core.proofs.TokenLemmas.{any_discovered}
 
 -- ---- a lock that is granted
@@ -164,6 +164,25 @@ module _ (s : State) (p : Path) where
         | inr up ↦ ap (λ texts. is_among texts l.token) is ∙ among_more tokens at l.token (inr (covering_among [] l i (at_root l up)))
       ]
   tokens_whole (x ∷ here) tokens more none_left is so_far l i front = absurd (omega (arith, none_left))
+
+  -- each of the tokens is that of a lock at the path or above
+  pub only_more : (here : Path) (tokens more : List (List ℕ)) → is_front here p ≡ true → more ≡ tokens ++ map (λ (l : Lock). l.token) (discovered s.locks here)
+      → AreAbove s p tokens → AreAbove s p more
+  only_more here tokens more front is so_far token among =
+      let at = map (λ (l : Lock). l.token) (discovered s.locks here) in
+      let either : (is_among tokens token || is_among at token) ≡ true =
+      sym (list_any-append (λ t. bytes_eq t token) tokens at) ∙ ap (λ texts. is_among texts token) (sym is) ∙ among in
+      elim (cases_Bool (is_among tokens token)) [
+        | inl first ↦ so_far token first
+        | inr none ↦
+            let here_named : is_among at token ≡ true = ap (λ b. b || is_among at token) (sym none) ∙ either in
+            let named : list_any (λ (l : Lock). bytes_eq l.token token && covers l here) s.locks ≡ true =
+            sym (any_discovered (λ (l : Lock). bytes_eq l.token token) s.locks here) ∙ sym (any_map (λ (l : Lock). l.token) (λ t. bytes_eq t token) (discovered s.locks here))
+            ∙ here_named in
+            let one = find_any (λ (l : Lock). bytes_eq l.token token && covers l here) s.locks named in
+            let parts = and_parts (bytes_eq one.0.token token) (covers one.0 here) one.2 in
+            any_of (found_here p token) s.locks one.0 one.1 (and_from _ _ parts.0 (is_front-trans (lock_path one.0) here p (covers_here one.0 here parts.1) front))
+      ]
 
 -- a token that no lock there has
 pub not_above : (s : State) (p : Path) (tokens : List (List ℕ)) (token : List ℕ) → HaveTokens s p tokens → is_among tokens token ≡ false → stands_above s p token ≡ false

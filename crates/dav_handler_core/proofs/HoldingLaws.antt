@@ -1,28 +1,38 @@
 -- What locks promise of each answer of the server.
-use Rattle.std.proofs.Common.{◌≡◌, ◌⊎◌, inl, inr, ℕ, true, false, not, ◌||◌, List, sym, ◌∙◌, ap, subst}
+use Rattle.std.proofs.Common.{◌≡◌, ◌⊎◌, inl, inr, ℕ, Bool, true, false, not, ◌||◌, List, [], ◌∷◌, ◌++◌, refl, sym, ◌∙◌, ap, subst}
 use Rattle.std.specs.Prelude.{bytes_eq, Contains, get_or}
 use Rattle.std.specs.List.{list_any}
-use Rattle.std.proofs.lemmas.Bool.{cases_Bool, and_parts}
+use Rattle.std.proofs.lemmas.Bool.{cases_Bool, and_parts, true≢false}
 use Rattle.std.proofs.lemmas.Slice.Eq.{bytes_eq-Decides}
 use Rattle.http.specs.declared.request.Request.{Request}
 use Rattle.http.specs.Request.{head_of}
 use Rattle.http_server.specs.declared.response.Response.{Response}
-use Rattle.dav_path_core.specs.Fronts.{Path}
-use Rattle.dav_path_core.proofs.lists.MemberLemmas.{In, In-Contains, Contains-In, In-filter, find_any}
+use Rattle.dav_path_core.specs.Fronts.{Path, parent}
+use Rattle.dav_path_core.specs.PathText.{PathText}
+use Rattle.dav_path_core.specs.Segments.{segments}
+use Rattle.dav_path_core.proofs.lists.EachLemmas.{none_passes}
+use Rattle.dav_path_core.proofs.lists.FinMaps.{dec}
+use Rattle.dav_path_core.proofs.lists.MemberLemmas.{In, In-Contains, Contains-In, In-filter, all_in, find_any}
+use Rattle.dav_path_core.proofs.lists.Orders.{path_total, path_exact}
 use Rattle.dav_files_core.specs.Finding.{place}
+use Rattle.dav_files_core.proofs.laws.PlaceLemmas.{put_places}
 use Rattle.dav_locks_core.specs.Exclusive.{Exclusive}
 use Rattle.dav_locks_core.specs.Lock.{Lock}
-use Rattle.dav_locks_core.specs.Locks.{covers}
+use Rattle.dav_locks_core.specs.Locks.{covers, lock_conflicts, refuses_change, refuses_lock}
 use Rattle.dav_locks_core.specs.Stale.{is_stale, without_stale}
 use Rattle.dav_locks_core.proofs.laws.EndedLemmas.{found_at}
 use Rattle.dav_locks_core.proofs.laws.StandInLemmas.{In-StandIn}
 use Rattle.dav_resource_core.specs.Step.{State}
-use Rattle.dav_handler_core.specs.Answers.{Answers, EndsOne, IsFrom, Server}
-use Rattle.dav_handler_core.specs.Callers.{Caller, RunBy, holds, is_own}
+use Rattle.dav_handler_core.specs.Answers.{Answers, EndsOne, IsFrom, LocksOne, Server, as_found}
+use Rattle.dav_handler_core.specs.Callers.{Caller, RunBy, as_caller, holds, is_own, refusing_at}
 use Rattle.dav_handler_core.specs.Holding.{IsHolders, IsKeptUnlessHeld, Lasts, StandsUnlessEnded}
+use Rattle.dav_handler_core.specs.Locking.{Grants, Wanted}
 use Rattle.dav_handler_core.specs.Unlocking.{NamesToken}
+use Rattle.dav_handler_core.proofs.AnewLemmas.{of_filter}
 use Rattle.dav_handler_core.proofs.CallerLaws.{keeps_apart}
 use Rattle.dav_handler_core.proofs.OwnLemmas.{left_or_gone}
+use Rattle.dav_handler_core.proofs.RefreshLemmas.{set_or_same}
+use Rattle.dav_handler_core.proofs.UnderLockLemmas.{in_front}
 
 module _ (before after : Server) (request : Request (List ℕ)) where
   by_holds : (who : Caller) (l : Lock) → IsFrom before.options request who → holds who l ≡ true → IsHolders before request l
@@ -79,13 +89,92 @@ module _ (before after : Server) (request : Request (List ℕ)) where
             })
       ]
 
+  -- ---- of a LOCK
+
+  by_names : (who : Caller) (l : Lock) → IsFrom before.options request who → is_own who l ≡ true → Contains who.tokens l.token → IsHolders before request l
+  by_names who l from own named = record { who = who; from = from; own = own; names = inl named }
+
+  -- the locks that are found are those that last
+  found_here_still : (l : Lock) → Lasts before after l → In l (as_found before after).locks
+  found_here_still l h = In-filter (λ l. not (is_stale after.last l)) before.state.locks l (In-Contains before.state.locks l h.stood) (ap not h.lasts)
+
+  -- a lock that is left once those that expire are dropped
+  left_live : (who : Caller) (l : Lock) (locks : List Lock) → without_stale who.now after.state.locks ≡ locks → In l locks → Contains after.state.locks l
+  left_live who l locks is i =
+      Contains-In after.state.locks l (of_filter (λ l. not (is_stale who.now l)) after.state.locks l (subst (In l) (sym is) i)).0
+
+  locks_stand : (who : Caller) (l : Lock) (path : PathText) → IsFrom before.options request who → LocksOne (as_found before after) who path after.state → Lasts before after l
+      → Contains after.state.locks l ⊎ IsHolders before request l
+  locks_stand who l path from (LocksOne.grants wanted lock g) h =
+      inl (left_live who l ((as_found before after).locks ++ lock ∷ []) (ap (λ (s : State). s.locks) g.left)
+      (in_front (as_found before after).locks (lock ∷ []) l (found_here_still l h)))
+  locks_stand who l path from (LocksOne.takes_back (inl left)) h = inl (left_live who l (as_found before after).locks (ap (λ (s : State). s.locks) left) (found_here_still l h))
+  locks_stand who l path from (LocksOne.takes_back (inr kept)) h =
+      inl (left_live who l ((as_found before after).locks ++ kept.0 ∷ []) (ap (λ (s : State). s.locks) kept.1)
+      (in_front (as_found before after).locks (kept.0 ∷ []) l (found_here_still l h)))
+  locks_stand who l path from (LocksOne.refreshes token timeout named r) h =
+      let locks = (as_found before after).locks in
+      elim (set_or_same locks r.place r.lock l (found_here_still l h)) [
+        | inl left ↦ inl (Contains-In after.state.locks l (subst (λ (s : State). In l s.locks) (sym r.left) left))
+        | inr gone ↦
+            let same = (bytes_eq-Decides (get_or locks r.place l).token token).0 (and_parts _ _ (found_at locks (segments path.bytes) token r.place r.found_there l)).0 in
+            inr (by_names who l from (subst (λ k. is_own who k ≡ true) (gone l) (r.own l))
+            (subst (Contains who.tokens) (sym same ∙ ap (λ (k : Lock). k.token) (gone l)) named))
+      ]
+
+  -- an exclusive lock that covers a path refuses every other there
+  no_other : (l : Lock) (p : Path) (shared deep : Bool) → lock_conflicts (as_found before after).locks p shared deep ≡ [] → Lasts before after l → l.shared ≡ false
+      → ¬ (covers l p ≡ true)
+  no_other l p shared deep free h exclusive covered =
+      let each = none_passes (refuses_lock p shared deep) (as_found before after).locks free in
+      let passes = all_in (λ l. refuses_lock p shared deep l ≡ false) (as_found before after).locks l each (found_here_still l h) in
+      let refused : refuses_lock p shared deep l ≡ true = rw (exclusive, covered) refl in
+      true≢false (sym refused ∙ passes)
+
+  -- an exclusive lock that covers a path and lets the caller change it is held
+  held_there : (who : Caller) (l : Lock) (p : Path) → refusing_at (as_found before after) who p ≡ [] → Lasts before after l → l.shared ≡ false → covers l p ≡ true
+      → holds who l ≡ true
+  held_there who l p free h exclusive covered = elim (cases_Bool (holds who l)) [
+    | inl held ↦ held
+    | inr other ↦
+        let each = none_passes (refuses_change (as_found before after).locks p false (as_caller who)) (as_found before after).locks free in
+        let passes = all_in (λ l. refuses_change (as_found before after).locks p false (as_caller who) l ≡ false) (as_found before after).locks l each (found_here_still l h) in
+        let refused : refuses_change (as_found before after).locks p false (as_caller who) l ≡ true = rw (other, exclusive, covered) refl in
+        absurd (true≢false (sym refused ∙ passes))
+  ]
+
+  -- what is made under a new lock changes its own path and its folder
+  grants_keep : (who : Caller) (l : Lock) (path : PathText) (wanted : Wanted) (lock : Lock) → IsFrom before.options request who
+      → Grants (as_found before after) who path wanted lock after.state → Lasts before after l → l.shared ≡ false → (q : Path) → covers l q ≡ true
+      → (place after.state.map q ≡ place before.state.map q) ⊎ IsHolders before request l
+  grants_keep who l path wanted lock from g h exclusive q covered = elim g.made [
+    | inl there ↦ inl (ap (λ m. place m q) there.1)
+    | inr made ↦
+        let p = segments path.bytes in
+        elim (dec path_total path_exact q p) [
+          | inl here ↦ absurd (no_other l p wanted.shared wanted.deep g.free h exclusive (subst (λ q. covers l q ≡ true) here covered))
+          | inr apart ↦ elim (dec path_total path_exact q (parent p)) [
+            | inl above ↦ inr (by_holds who l from (held_there who l (parent p) made.1 h exclusive (subst (λ q. covers l q ≡ true) above covered)))
+            | inr elsewhere ↦ inl (put_places before.state.map after.state.map p [] who.now made.2 q apart (λ none. elsewhere))
+          ]
+        ]
+  ]
+
+  locks_keep : (who : Caller) (l : Lock) (path : PathText) → IsFrom before.options request who → LocksOne (as_found before after) who path after.state → Lasts before after l
+      → l.shared ≡ false → (q : Path) → covers l q ≡ true → (place after.state.map q ≡ place before.state.map q) ⊎ IsHolders before request l
+  locks_keep who l path from (LocksOne.grants wanted lock g) h exclusive q covered = grants_keep who l path wanted lock from g h exclusive q covered
+  locks_keep who l path from (LocksOne.takes_back (inl left)) h exclusive q covered = inl (ap (λ (s : State). place s.map q) left)
+  locks_keep who l path from (LocksOne.takes_back (inr kept)) h exclusive q covered = inl (ap (λ (s : State). place s.map q) kept.1)
+  locks_keep who l path from (LocksOne.refreshes token timeout named r) h exclusive q covered = inl (ap (λ (s : State). place s.map q) r.left)
+
 pub stands_unless_ended : (before after : Server) (request : Request (List ℕ)) (response : Response) → Answers before request response after
     → Exclusive before.state.locks → StandsUnlessEnded before request after
 stands_unless_ended before after request response h x l lasts = elim h.moves.by_caller [
   | inl same ↦ inl (subst (λ (s : State). Contains s.locks l) (sym same) lasts.stood)
   | inr by ↦ elim by.3 [
     | inl run ↦ run_stands before after request by.0 l by.1 by.2 x run lasts
-    | inr one ↦ one_stands before after request by.0 l by.1 one lasts
+    | inr (inl one) ↦ one_stands before after request by.0 l by.1 one lasts
+    | inr (inr locks) ↦ locks_stand before after request by.0 l locks.path by.1 locks.does lasts
   ]
 ]
 
@@ -95,6 +184,7 @@ kept_unless_held before after request response h x l lasts exclusive p covered =
   | inl same ↦ inl (ap (λ (s : State). place s.map p) same)
   | inr by ↦ elim by.3 [
     | inl run ↦ run_keeps before after request by.0 l p by.1 by.2 x run lasts exclusive covered
-    | inr one ↦ inl (ap (λ (s : State). place s.map p) one.unlocks.ends.left)
+    | inr (inl one) ↦ inl (ap (λ (s : State). place s.map p) one.unlocks.ends.left)
+    | inr (inr locks) ↦ locks_keep before after request by.0 l locks.path by.1 locks.does lasts exclusive p covered
   ]
 ]

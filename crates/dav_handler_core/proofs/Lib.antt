@@ -31,7 +31,11 @@ pub mod HoldingLaws
 pub mod IfTokenLaws
 pub mod KeptReadingLaws
 pub mod ListedTagLemmas
+pub mod LockAnswerLemmas
 mod LockInfoRows
+pub mod LockLemmas
+pub mod LockMethodLemmas
+pub mod LockTokenLemmas
 pub mod MakeLemmas
 pub mod MoveCheckLemmas
 pub mod MoveLemmas
@@ -47,6 +51,7 @@ pub mod PropertyLemmas
 pub mod PutLemmas
 pub mod QuestionLemmas
 pub mod ReadChildLemmas
+pub mod RefreshLemmas
 pub mod RefusalLemmas
 pub mod RefusalReadingLaws
 pub mod RemovalCheckLemmas
@@ -62,5 +67,6 @@ pub mod TransferAnswerLemmas
 pub mod TransferLaws
 mod TransferRows
 pub mod TypeLemmas
+pub mod UnderLockLemmas
 pub mod WritingLemmas
 pub mod WrittenTextLemmas

@@ -2,7 +2,7 @@
 use Rattle.std.proofs.Common.{◌≡◌, refl, true, false, List, [], ◌∷◌, ◌++◌, None, Some, codes}
 use Rattle.dav_xml_core.specs.Documents.{Node, Start, Text, End}
 use Rattle.dav_handler_core.specs.LockInfos.{is_shared, is_write, lock_info_by, lock_info_of}
-use Rattle.dav_handler_core.specs.RefusalBodies.{dav_name, element}
+use Rattle.dav_handler_core.specs.RefusalBodies.{element}
 
 abbrev scope_of : List Node → List Node
 scope_of inside = element (codes "lockscope") inside

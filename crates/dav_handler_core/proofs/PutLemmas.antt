@@ -41,13 +41,13 @@ use Rattle.dav_handler_core.specs.Putting.{FailsToPut, IsPuttable, Puts, changes
 use Rattle.dav_handler_core.proofs.GetLemmas.{known_entry, nothing_known}
 
 -- the entries after it, but for the locks
-record Found (m : ResourceMap) (p : Path) (bytes : List ℕ) (now : ℕ) (m' : ResourceMap) : Type 0 where
-  file : Resource
-  here : at_path m' p ≡ Some file
-  kind : file.node.kind ≡ File
-  bytes_are : file.node.bytes ≡ bytes
-  modified : file.node.modified ≡ now
-  others : (q : Path) → q ≢ p → at_path m' q ≡ at_path m q
+pub record Found (m : ResourceMap) (p : Path) (bytes : List ℕ) (now : ℕ) (m' : ResourceMap) : Type 0 where
+  pub file : Resource
+  pub here : at_path m' p ≡ Some file
+  pub kind : file.node.kind ≡ File
+  pub bytes_are : file.node.bytes ≡ bytes
+  pub modified : file.node.modified ≡ now
+  pub others : (q : Path) → q ≢ p → at_path m' q ≡ at_path m q
 
 abbrev done : ResourceMap → Outcome (Unit {0})
 done n = Ok (tt, n)
@@ -66,7 +66,7 @@ written m m' p number node next kind left =
       others = λ q apart. ap (λ (m : ResourceMap). at_path m q) left ∙ get_other path_total path_exact m.entries p file q apart;
     }
 
-put_found : (m m' : ResourceMap) (p : Path) (bytes : List ℕ) (now : ℕ) → put m p bytes now ≡ done m' → Found m p bytes now m'
+pub put_found : (m m' : ResourceMap) (p : Path) (bytes : List ℕ) (now : ℕ) → put m p bytes now ≡ done m' → Found m p bytes now m'
 put_found m m' p bytes now h = by (at_path m p) h
   where
     left_by : (n : ResourceMap) → done n ≡ done m' → m' ≡ n

@@ -19,7 +19,7 @@ use Rattle.dav_xml_core.specs.Writing.{written}
 use Rattle.dav_xml_core.proofs.NodesLemmas.{written_again}
 use Rattle.dav_handler_core.specs.declared.faults.Fault.{Fault}
 use Rattle.dav_handler_core.specs.declared.faults.Fault.TheVariants as fault
-use Rattle.dav_handler_core.specs.RefusalBodies.{conflict_below_nodes, conflict_nodes, element, front, lock_nodes, member_nodes, no_lock_nodes, url_path}
+use Rattle.dav_handler_core.specs.RefusalBodies.{conflict_below_nodes, conflict_nodes, element, finite_nodes, front, lock_nodes, member_nodes, no_lock_nodes, url_path}
 use Rattle.dav_handler_core.specs.RefusalReading.{HasPath, IsReadAsTold, IsRooted}
 
 -- ---- the texts of URLs
@@ -119,6 +119,10 @@ no_lock_could : CouldBeRead no_lock_nodes
 unfolding encode are_distinct
 no_lock_could = record { characters = no_lock_nodes; bytes = refl; readable = refl }
 
+finite_could : CouldBeRead finite_nodes
+unfolding encode are_distinct
+finite_could = record { characters = finite_nodes; bytes = refl; readable = refl }
+
 is_read : (told nodes : List Node) → CouldBeRead told → Some told ≡ Some nodes → document_of (written nodes) ≡ Some nodes
 is_read told nodes could h =
     let same : told ≡ nodes = cc in subst (λ (ns : List Node). document_of (written ns) ≡ Some ns) same (written_again told could)
@@ -133,4 +137,5 @@ refusals_are_read prefix (fault.ConflictingMember at path) h nodes are =
     is_read (conflict_below_nodes prefix at path) nodes
     (below_could (url_path prefix at) (url_path prefix path) (url_text prefix at h.0) (url_text prefix path h.1)) are
 refusals_are_read prefix fault.NoSuchLock h nodes are = is_read no_lock_nodes nodes no_lock_could are
+refusals_are_read prefix fault.InfiniteDepth h nodes are = is_read finite_nodes nodes finite_could are
 refusals_are_read prefix _ h nodes are = absurd (cc)

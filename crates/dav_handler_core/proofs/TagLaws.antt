@@ -18,11 +18,12 @@ use Rattle.dav_path_core.proofs.paths.FrontLemmas.{is_front-trans}
 use Rattle.dav_files_core.specs.declared.memfs.Kind.TheVariants.{Folder, File}
 use Rattle.dav_files_core.specs.Following.{dated}
 use Rattle.dav_files_core.specs.Outcomes.{new_folder, start}
-use Rattle.dav_files_core.specs.Resources.{Node, Resource, ResourceMap, at_path}
+use Rattle.dav_files_core.specs.Putting.{put}
+use Rattle.dav_files_core.specs.Resources.{Node, Resource, at_path}
 use Rattle.dav_resource_core.specs.Step.{State}
 use Rattle.dav_handler_core.specs.declared.faults.Fault.{Fault}
 use Rattle.dav_handler_core.specs.declared.faults.Fault.TheVariants as fault
-use Rattle.dav_handler_core.specs.Answers.{Answers, AnswersTo, Leaves, Server, as_found}
+use Rattle.dav_handler_core.specs.Answers.{Answers, AnswersTo, IsLocked, Leaves, Server, as_found}
 use Rattle.dav_handler_core.specs.Callers.{Caller, SameLive, live}
 use Rattle.dav_handler_core.specs.Clearing.{IsCleared}
 use Rattle.dav_handler_core.specs.Copying.{IsCopied, IsPartlyCopied}
@@ -41,6 +42,7 @@ use Rattle.dav_handler_core.specs.TagHistories.Becomes.{itself, by_clock, by_ans
 use Rattle.dav_handler_core.proofs.FileHistoryLemmas.{Come, Had, bytes_of, cleared_come, cleared_folder, copied_come, moved_come, removed_come}
 use Rattle.dav_handler_core.proofs.FileTagLemmas.{tells}
 use Rattle.dav_handler_core.proofs.OwnLemmas.{parent_front}
+use Rattle.dav_handler_core.proofs.PutLemmas.{Found, put_found}
 use Rattle.dav_handler_core.proofs.RemovalLemmas.{above_out}
 
 -- ---- one answer
@@ -60,8 +62,8 @@ same_map before after later same = record {
   files = λ file has. inl (file, subst (λ m. HasFile m file) same has, refl, refl);
 }
 
-put_dates : (before after : Server) (p : Path) (bytes : List ℕ) → before.last < after.last → Puts before.state after.last p bytes after.state → Dates before after
-put_dates before after p bytes later h = record {
+file_dates : (before after : Server) (p : Path) (bytes : List ℕ) → before.last < after.last → Found before.state.map p bytes after.last after.state.map → Dates before after
+file_dates before after p bytes later h = record {
   bytes = bytes;
   moments = omega arith;
   files = λ file has. elim (dec path_total path_exact has.0 p) [
@@ -71,6 +73,28 @@ put_dates before after p bytes later h = record {
     | inr apart ↦ inl (file, (has.0, sym (h.others has.0 apart) ∙ has.1, has.2), refl, refl)
   ];
 }
+
+put_dates : (before after : Server) (p : Path) (bytes : List ℕ) → before.last < after.last → Puts before.state after.last p bytes after.state → Dates before after
+put_dates before after p bytes later h = file_dates before after p bytes later (record {
+  file = h.file;
+  here = h.here;
+  kind = h.kind;
+  bytes_are = h.bytes_are;
+  modified = h.modified;
+  others = h.others;
+})
+
+-- what a LOCK makes where nothing stands is an empty file
+lock_dates : (before after : Server) (request : Request (List ℕ)) (status : ℕ) (sent : Sent) → before.last ≤ after.last → IsLocked before request status sent after → Dates before after
+lock_dates before after request status sent later h = elim h.locks [
+  | inl granted ↦ elim granted.1.grants.made [
+    | inl there ↦ same_map before after later there.1
+    | inr made ↦
+        file_dates before after (segments h.path.bytes) [] granted.0 (put_found before.state.map after.state.map (segments h.path.bytes) [] after.last
+        (subst (λ n. put before.state.map (segments h.path.bytes) [] n ≡ Ok (tt, after.state.map)) h.begins.now made.2))
+  ]
+  | inr refreshed ↦ same_map before after later (ap (λ (s : State). s.map) refreshed.1.refreshes.left)
+]
 
 -- a new folder is no file, and neither is the one that it stands in
 make_dates : (before after : Server) (body : List ℕ) (who : Caller) (p : Path) (status : ℕ) → before.last ≤ after.last
@@ -174,6 +198,14 @@ move_left before after request fault.InsufficientStorage later (inr h) =
     come_dates before after (bytes_of (at_path s.map (parent to))) h.0 (cleared_come after.last to s (live after.last after.state) h.1.cleared)
 move_left before after request _ later h = same_map before after later (live_map after.last before.state after.state h)
 
+lock_left : (before after : Server) (request : Request (List ℕ)) (e : Fault) → before.last ≤ after.last → Leaves (Some method.Lock) before request e after → Dates before after
+lock_left before after request fault.InsufficientStorage later (inl same) = same_map before after later (live_map after.last before.state after.state same)
+lock_left before after request fault.InsufficientStorage later (inr h) = same_map before after later (elim h.3 [
+  | inl back ↦ ap (λ (s : State). s.map) back
+  | inr kept ↦ ap (λ (s : State). s.map) kept.1
+])
+lock_left before after request _ later h = same_map before after later (live_map after.last before.state after.state h)
+
 method_dates : (m : Option DavMethod) (before after : Server) (request : Request (List ℕ)) (result : Result ℕ Fault) (sent : Sent) → before.last ≤ after.last
     → AnswersTo m before request result sent after → IfErr result (λ e. Leaves m before request e after) → Dates before after
 method_dates (Some method.Get) before after request result sent later h refused =
@@ -214,6 +246,8 @@ method_dates (Some method.Unlock) before after request (Ok status) sent later h 
     same_map before after later (ap (λ (s : State). s.map) h.does.ends.left)
 method_dates (Some method.Unlock) before after request (Err e) sent later h refused =
     same_map before after later (live_map after.last before.state after.state refused)
+method_dates (Some method.Lock) before after request (Ok status) sent later h refused = lock_dates before after request status sent later h
+method_dates (Some method.Lock) before after request (Err e) sent later h refused = lock_left before after request e later refused
 method_dates (Some method.PropPatch) before after request (Ok status) sent later h refused =
     let updates = h.patches.updates in
     let p = segments h.path.bytes in

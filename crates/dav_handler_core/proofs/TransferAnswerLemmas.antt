@@ -24,6 +24,8 @@ leaves_same (Some method.Copy) before after request fault.InsufficientStorage h 
 leaves_same (Some method.Copy) before after request _ h = h
 leaves_same (Some method.Move) before after request fault.InsufficientStorage h = inl h
 leaves_same (Some method.Move) before after request _ h = h
+leaves_same (Some method.Lock) before after request fault.InsufficientStorage h = inl h
+leaves_same (Some method.Lock) before after request _ h = h
 leaves_same _ before after request e h = h
 
 pub all_same : {A : Type 0} (m : Option DavMethod) (before after : Server) (request : Request (List ℕ)) (result : Result A Fault)

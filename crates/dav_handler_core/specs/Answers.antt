@@ -1,5 +1,5 @@
 -- How the server answers a request: what it promises of the answer, and of what it leaves (RFC 9110 section 9, RFC 4918 sections 6, 7 and 9).
-use Rattle.std.specs.Prelude.{◌≡◌, ◌≢◌, ◌⊎◌, Bool, true, false, ℕ, ◌<◌, ◌≤◌, List, [], ◌∷◌, Option, None, Some, Result, Ok, Err, IfErr}
+use Rattle.std.specs.Prelude.{◌≡◌, ◌≢◌, ◌⊎◌, Bool, true, false, ℕ, ◌<◌, ◌≤◌, List, [], ◌∷◌, Option, None, Some, Result, Ok, Err, IfErr, Contains}
 use Rattle.http.specs.declared.request.Request.{Request}
 use Rattle.http.specs.Request.{head_of, body_of}
 use Rattle.http_server.specs.declared.response.Response.{Response}
@@ -9,36 +9,43 @@ use Rattle.dav_path_core.specs.Methods.{word}
 use Rattle.dav_path_core.specs.PathText.{PathText}
 use Rattle.dav_path_core.specs.Segments.{segments}
 use Rattle.dav_path_core.specs.Fronts.{Path}
+use Rattle.dav_files_core.specs.Finding.{has_any}
 use Rattle.dav_files_core.specs.Resources.{IsResourceMap}
 use Rattle.dav_locks_core.specs.Exclusive.{Exclusive}
+use Rattle.dav_locks_core.specs.Lock.{Lock}
 use Rattle.dav_resource_core.specs.Step.{State}
 use Rattle.dav_handler_core.specs.declared.conditions.bases.Scheme.{Scheme}
 use Rattle.dav_handler_core.specs.declared.faults.Fault.{Fault}
 use Rattle.dav_handler_core.specs.declared.faults.Fault.TheVariants as fault
 use Rattle.dav_handler_core.specs.Admitting.{IsAdmitted, IsHeldOff}
-use Rattle.dav_handler_core.specs.Callers.{Asks, Caller, RunBy, SameLive, live}
+use Rattle.dav_handler_core.specs.Callers.{Asks, Caller, RunBy, Runs, SameLive, live}
 use Rattle.dav_handler_core.specs.Copying.{Copies, FailsToCopy, StartsToCopy}
 use Rattle.dav_handler_core.specs.Faults.{fault_status}
 use Rattle.dav_handler_core.specs.Fields.{Sent, sent_of}
 use Rattle.dav_handler_core.specs.FileTags.{tag_of}
 use Rattle.dav_handler_core.specs.Finding.{FailsToTell, TellsFound}
 use Rattle.dav_handler_core.specs.Getting.{FailsToGet, Gets, tagged}
+use Rattle.dav_handler_core.specs.Locking.{FailsToLock, Grants, IsGranted, LeavesUntold, Wanted}
 use Rattle.dav_handler_core.specs.Making.{FailsToMake, Makes}
 use Rattle.dav_handler_core.specs.Moving as moving
 use Rattle.dav_handler_core.specs.Patching.{FailsToPatch, Patches}
 use Rattle.dav_handler_core.specs.Putting.{FailsToPut, Puts, put_course, put_status}
 use Rattle.dav_handler_core.specs.RefusalBodies.{TellsWhy}
+use Rattle.dav_handler_core.specs.Refreshing.{FailsToRefresh, Refreshes, RefreshesOwn}
 use Rattle.dav_handler_core.specs.Refusals.{RefusesTarget, RefusesPrincipal, HasBadIf, HasPart, IsLastMoment}
 use Rattle.dav_handler_core.specs.Removing.{FailsToRemove, Removes}
 use Rattle.dav_handler_core.specs.Senders.{IsSender, NamesPrincipal}
 use Rattle.dav_handler_core.specs.Targets.{IsTargetOf}
 use Rattle.dav_handler_core.specs.Unlocking.{FailsToUnlock, Unlocks}
 
--- the scheme of the server's URLs, the prefix that they stand behind, and the header that names the principal, where there is one
+-- the scheme of the server's URLs, the prefix that they stand behind, the header that names the principal, where there is one, the greatest timeout of a lock,
+-- and whether a PROPFIND all the way down is refused
 pub record Options : Type 0 where
   pub scheme : Scheme
   pub prefix : List ℕ
   pub user_header : Option (List ℕ)
+  pub longest : Option ℕ
+  pub finite : Bool
 
 -- what a server is: its options, the state of its stores, the moment of the last request, and what its clock says
 pub record Server : Type 0 where
@@ -173,14 +180,43 @@ PatchAnswers before request (Ok status) sent after = IsPropPatched before reques
 PatchAnswers before request (Err e) sent after =
     Unread before.options request before.last false e ⊎ Fails before request after e (λ p who. FailsToPatch (body_of request) (as_found before after) who p e)
 
+-- A LOCK that is done: with a body a lock is granted, at a moment of its own; without one a lock has another end.
+pub record IsLocked (before : Server) (request : Request (List ℕ)) (status : ℕ) (sent : Sent) (after : Server) : Type 0 where
+  pub path : PathText
+  pub who : Caller
+  pub begins : Begins before request after path who
+  pub admits : Admits before request after path
+  pub locks : ((before.last < after.last)
+      × IsGranted before.options.longest before.options.prefix (head_of request).headers (body_of request) (as_found before after) who path status sent after.state)
+      ⊎ ((body_of request ≡ [])
+      × Refreshes before.options.longest before.options.prefix (head_of request).headers (as_found before after) who (segments path.bytes) status sent after.state)
+
+-- A LOCK that is read is refused: its `If` holds it off; or it doesn't, and what it asks for is refused.
+pub record FailsLock (before : Server) (request : Request (List ℕ)) (after : Server) (e : Fault) : Type 0 where
+  pub path : PathText
+  pub who : Caller
+  pub begins : Begins before request after path who
+  pub why : HoldsOff before request after path e
+      ⊎ (Admits before request after path × (((body_of request ≢ [])
+      × FailsToLock before.options.longest (head_of request).headers (body_of request) (as_found before after) who path e)
+      ⊎ ((body_of request ≡ []) × FailsToRefresh (head_of request).headers (as_found before after) who (segments path.bytes) e)))
+
+-- a request with a body, which may change something
+abbrev pub has_body : Request (List ℕ) → Bool
+has_body request = has_any (body_of request)
+
+abbrev pub LockAnswers : Server → Request (List ℕ) → Result ℕ Fault → Sent → Server → Type 0
+LockAnswers before request (Ok status) sent after = IsLocked before request status sent after
+LockAnswers before request (Err e) sent after = Unread before.options request before.last (has_body request) e ⊎ FailsLock before request after e
+
 abbrev pub AnswersTo : Option DavMethod → Server → Request (List ℕ) → Result ℕ Fault → Sent → Server → Type 0
 AnswersTo (Some method.Get) before request result sent after =
     GetAnswers method.Get before request result sent after × SameLive after.last before.state after.state
 AnswersTo (Some method.Head) before request result sent after =
     GetAnswers method.Head before request result sent after × SameLive after.last before.state after.state
 AnswersTo (Some method.PropFind) before request result sent after =
-    ChangeAnswers false (TellsFound before.options.prefix (head_of request).headers (body_of request) sent.body)
-    (FailsToTell (head_of request).headers (body_of request)) before request result after × SameLive after.last before.state after.state
+    ChangeAnswers false (TellsFound before.options.finite before.options.prefix (head_of request).headers (body_of request) sent.body)
+    (FailsToTell before.options.finite (head_of request).headers (body_of request)) before request result after × SameLive after.last before.state after.state
 AnswersTo (Some method.Put) before request result sent after = PutAnswers before request result sent after
 AnswersTo (Some method.Delete) before request result sent after =
     ChangeAnswers true (Removes (head_of request).headers) (FailsToRemove (head_of request).headers) before request result after
@@ -194,6 +230,7 @@ AnswersTo (Some method.MkCol) before request result sent after =
     ChangeAnswers true (Makes (body_of request)) (FailsToMake (body_of request)) before request result after
 AnswersTo (Some method.Unlock) before request result sent after =
     ChangeAnswers false (Unlocks (head_of request).headers) (FailsToUnlock (head_of request).headers) before request result after
+AnswersTo (Some method.Lock) before request result sent after = LockAnswers before request result sent after
 AnswersTo (Some method.PropPatch) before request result sent after = PatchAnswers before request result sent after
 AnswersTo (Some method.Options) before request (Ok status) sent after = (status ≡ 200) × (after.state ≡ before.state)
 AnswersTo (Some method.Options) before request (Err e) sent after = (e ≡ fault.InsufficientStorage) × (after.state ≡ before.state)
@@ -208,11 +245,23 @@ pub record EndsOne (before : Server) (request : Request (List ℕ)) (after : Ser
   pub status : ℕ
   pub unlocks : Unlocks (head_of request).headers (as_found before after) who path status after.state
 
--- nothing was asked of the stores, or a run of requests of the caller whose request it is, none of which ends a lock but that of an UNLOCK
+-- What a LOCK does to the locks: one more is granted; or it was, and is taken back; or a lock of the caller's own, whose token it names, has another end.
+pub data LocksOne (s : State) (who : Caller) (path : PathText) (s' : State) : Type 0 where
+  grants : (wanted : Wanted) (lock : Lock) → Grants s who path wanted lock s' → LocksOne s who path s'
+  takes_back : LeavesUntold s who (segments path.bytes) s' → LocksOne s who path s'
+  refreshes : (token : List ℕ) (timeout : Option ℕ) → Contains who.tokens token → RefreshesOwn s who (segments path.bytes) token timeout s' → LocksOne s who path s'
+
+-- it is done by a run of requests, of the caller, or with the new lock's token beside the caller's
+pub record Locks (before after : Server) (who : Caller) : Type 0 where
+  pub runs : Runs before.state after.state
+  pub path : PathText
+  pub does : LocksOne (as_found before after) who path after.state
+
+-- Nothing was asked of the stores, or a run of requests of the caller whose request it is, none of which ends or refreshes a lock but that of an UNLOCK or a LOCK.
 abbrev pub ByCaller : Server → Request (List ℕ) → Server → Type 0
 ByCaller before request after =
     (after.state ≡ before.state) ⊎ ((who : Caller) × IsFrom before.options request who × (who.now ≡ after.last)
-    × (RunBy who before.state after.state ⊎ EndsOne before request after who))
+    × (RunBy who before.state after.state ⊎ (EndsOne before request after who ⊎ Locks before after who)))
 
 -- what a method may do to the server
 pub record Moves (before : Server) (request : Request (List ℕ)) (after : Server) : Type 0 where
@@ -222,7 +271,8 @@ pub record Moves (before : Server) (request : Request (List ℕ)) (after : Serve
   pub options : after.options ≡ before.options
   pub clock : after.clock ≡ before.clock
 
--- What a refusal leaves: all is as it was, but that locks that have expired may be gone. A COPY or a MOVE that lacked memory may have begun.
+-- What a refusal leaves: all is as it was, but that locks that have expired may be gone. A COPY or a MOVE that lacked memory may have begun; of a LOCK that lacked memory
+-- once it was granted, the generator has given a token.
 abbrev pub Leaves : Option DavMethod → Server → Request (List ℕ) → Fault → Server → Type 0
 Leaves (Some method.Copy) before request fault.InsufficientStorage after =
     SameLive after.last before.state after.state
@@ -232,6 +282,9 @@ Leaves (Some method.Move) before request fault.InsufficientStorage after =
     SameLive after.last before.state after.state
     ⊎ ((before.last < after.last)
     × moving.StartsToMove before.options.scheme before.options.prefix (head_of request).headers (as_found before after) after.last after.state)
+Leaves (Some method.Lock) before request fault.InsufficientStorage after =
+    SameLive after.last before.state after.state
+    ⊎ ((path : PathText) × (who : Caller) × Begins before request after path who × LeavesUntold (as_found before after) who (segments path.bytes) after.state)
 Leaves _ before request e after = SameLive after.last before.state after.state
 
 -- the status that says how it ended
@@ -249,7 +302,7 @@ pub record Answers (before : Server) (request : Request (List ℕ)) (response : 
   pub done : AnswersTo method before request result (sent_of response) after
   -- a refusal is told by its document, or by nothing beside its status
   pub told : IfErr result (λ e. TellsWhy before.options.prefix e response)
-  -- what is refused has changed nothing, but that a COPY or a MOVE that lacks memory may have begun
+  -- what is refused has changed nothing, but that a COPY or a MOVE that lacks memory may have begun, and a LOCK may have drawn a token
   pub refused : IfErr result (λ e. Leaves method before request e after)
   -- two locks that cover one path are both shared, and the map is a resource map
   pub exclusive : Exclusive before.state.locks → Exclusive after.state.locks

@@ -39,6 +39,12 @@ is_look (Command.Discover path) = true
 is_look (Command.Check path deep) = true
 is_look _ = false
 
+-- a run of requests leads from one state to the other
+pub record Runs (s s' : State) : Type 0 where
+  pub requests : List Request
+  pub answers : List Answer
+  pub run : Run s requests answers s'
+
 -- a run of requests leads from one state to the other, all of them the caller's
 pub record Asks (who : Caller) (s s' : State) : Type 0 where
   pub commands : List Command

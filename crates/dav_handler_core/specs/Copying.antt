@@ -6,7 +6,7 @@ use Rattle.http_header.specs.HeaderMap.{Entries}
 use Rattle.dav_path_core.specs.Fronts.{Path, is_front, parent}
 use Rattle.dav_path_core.specs.PathText.{PathText}
 use Rattle.dav_path_core.specs.Segments.{segments}
-use Rattle.dav_files_core.specs.Resources.{IsResourceMap, Node, Resource, ResourceMap, at_path}
+use Rattle.dav_files_core.specs.Resources.{IsResourceMap, Node, ResourceMap, at_path}
 use Rattle.dav_locks_core.specs.Lock.{Lock}
 use Rattle.dav_resource_core.specs.Checks.{refusing, shallow, target}
 use Rattle.dav_resource_core.specs.Step.{State}

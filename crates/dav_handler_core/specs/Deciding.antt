@@ -11,11 +11,12 @@ use Rattle.dav_path_core.specs.PathText.{PathText}
 use Rattle.dav_path_core.specs.Segments.{segments}
 use Rattle.dav_path_core.specs.Fronts.{Path}
 use Rattle.dav_files_core.specs.Resources.{Resource, ResourceMap, at_path}
+use Rattle.dav_resource_core.specs.Step.{State}
 use Rattle.dav_handler_core.specs.declared.faults.Fault.TheVariants as fault
 use Rattle.dav_handler_core.specs.declared.ranges.Extent.{Extent}
 use Rattle.dav_handler_core.specs.declared.ranges.Extent.TheVariants as extent
 use Rattle.dav_handler_core.specs.Admitting.{Weighs}
-use Rattle.dav_handler_core.specs.Answers.{Admits, Begins, Server}
+use Rattle.dav_handler_core.specs.Answers.{Admits, Begins, Server, as_found}
 use Rattle.dav_handler_core.specs.Callers.{Caller, live}
 use Rattle.dav_handler_core.specs.Destinations.{overwrites}
 use Rattle.dav_handler_core.specs.Fields.{Sent}
@@ -23,6 +24,7 @@ use Rattle.dav_handler_core.specs.FileTags.{standing_of}
 use Rattle.dav_handler_core.specs.Getting.{tags_by, told_of}
 use Rattle.dav_handler_core.specs.Putting.{put_course}
 use Rattle.dav_handler_core.specs.Ranges.{part_text}
+use Rattle.dav_handler_core.specs.Refreshing.{named_there}
 
 -- a GET, a HEAD or a PUT, which look at conditions
 abbrev pub looks : Option DavMethod → Bool
@@ -46,14 +48,16 @@ Lets (Some method.Head) map p headers = (x : Extent) × IsToldAs method.Head map
 Lets (Some method.Put) map p headers = put_course map p headers ≡ Ok tt
 Lets _ map p headers = Unit {0}
 
--- They don't, and all of them are read. Of a COPY or a MOVE: what stands at the target may not be replaced.
-abbrev pub Stops : Option DavMethod → ResourceMap → Path → Entries FieldValue → Type 0
-Stops (Some method.Get) map p headers = IsToldAs method.Get map p headers None ⊎ IsToldFailed method.Get map p headers
-Stops (Some method.Head) map p headers = IsToldAs method.Head map p headers None ⊎ IsToldFailed method.Head map p headers
-Stops (Some method.Put) map p headers = put_course map p headers ≡ Err fault.PreconditionFailed
-Stops (Some method.Copy) map p headers = overwrites headers ≡ Some false
-Stops (Some method.Move) map p headers = overwrites headers ≡ Some false
-Stops _ map p headers = ⊥
+-- They don't, and all of them are read. Of a COPY or a MOVE: what stands at the target may not be replaced. Of a LOCK: no token that the caller names is that of a lock which
+-- covers the path (RFC 4918 section 9.10.2).
+abbrev pub Stops : Option DavMethod → State → Caller → Path → Entries FieldValue → Type 0
+Stops (Some method.Get) s who p headers = IsToldAs method.Get s.map p headers None ⊎ IsToldFailed method.Get s.map p headers
+Stops (Some method.Head) s who p headers = IsToldAs method.Head s.map p headers None ⊎ IsToldFailed method.Head s.map p headers
+Stops (Some method.Put) s who p headers = put_course s.map p headers ≡ Err fault.PreconditionFailed
+Stops (Some method.Copy) s who p headers = overwrites headers ≡ Some false
+Stops (Some method.Move) s who p headers = overwrites headers ≡ Some false
+Stops (Some method.Lock) s who p headers = named_there s who p ≡ []
+Stops _ s who p headers = ⊥
 
 -- the request goes on: its `If` lets it, and so do the conditions
 pub record WentOn (m : Option DavMethod) (before : Server) (request : Request (List ℕ)) (after : Server) : Type 0 where
@@ -69,7 +73,7 @@ pub record HeldOff (m : Option DavMethod) (before : Server) (request : Request (
   pub who : Caller
   pub begins : Begins before request after path who
   pub why : Weighs before.options.scheme (live after.last before.state) (head_of request).headers path false
-      ⊎ (Admits before request after path × Stops m before.state.map (segments path.bytes) (head_of request).headers)
+      ⊎ (Admits before request after path × Stops m (as_found before after) who (segments path.bytes) (head_of request).headers)
 
 -- what is sent is the part of a file that is asked for, and says which
 pub record SendsPart (before : Server) (request : Request (List ℕ)) (sent : Sent) (after : Server) : Type 0 where

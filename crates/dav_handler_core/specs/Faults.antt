@@ -5,7 +5,7 @@ use Rattle.dav_path_core.specs.declared.davpath.ParseError.TheVariants as parse
 use Rattle.dav_headers_core.specs.declared.davheaders.errors.HeaderError.{HeaderError}
 use Rattle.dav_headers_core.specs.declared.davheaders.errors.HeaderError.TheVariants as header
 use Rattle.dav_handler_core.specs.declared.faults.Fault.{Fault}
-use Rattle.dav_handler_core.specs.declared.faults.Fault.TheVariants.{MemberLocked, ConflictingMember, BadRequest, Unauthorized, Forbidden, NotFound, MethodNotAllowed, Conflict, NoSuchLock, PreconditionFailed, UnsupportedMediaType, Locked, ConflictingLock, NotImplemented, BadGateway, ServiceUnavailable, InsufficientStorage}
+use Rattle.dav_handler_core.specs.declared.faults.Fault.TheVariants.{MemberLocked, ConflictingMember, BadRequest, Unauthorized, Forbidden, InfiniteDepth, NotFound, MethodNotAllowed, Conflict, NoSuchLock, PreconditionFailed, UnsupportedMediaType, Locked, ConflictingLock, NotImplemented, BadGateway, ServiceUnavailable, InsufficientStorage}
 
 abbrev pub fault_status : Fault → ℕ
 fault_status (MemberLocked path) = 207
@@ -13,6 +13,7 @@ fault_status (ConflictingMember at path) = 207
 fault_status BadRequest = 400
 fault_status Unauthorized = 401
 fault_status Forbidden = 403
+fault_status InfiniteDepth = 403
 fault_status NotFound = 404
 fault_status MethodNotAllowed = 405
 fault_status Conflict = 409

@@ -34,6 +34,10 @@ stands_above s p token = list_any (found_here p token) s.locks
 abbrev pub HaveTokens : State → Path → List (List ℕ) → Type 0
 HaveTokens s p tokens = (l : Lock) → Contains s.locks l → is_front (lock_path l) p ≡ true → is_among tokens l.token ≡ true
 
+-- each of these tokens is that of a lock at the path or above
+abbrev pub AreAbove : State → Path → List (List ℕ) → Type 0
+AreAbove s p tokens = (token : List ℕ) → is_among tokens token ≡ true → stands_above s p token ≡ true
+
 -- one of these locks lets no other be granted, and its path is told; or there is no memory
 abbrev pub IsConflictOf : List Lock → Fault → Type 0
 IsConflictOf locks fault.InsufficientStorage = Unit {0}

@@ -26,6 +26,7 @@ pub mod LockDocuments
 pub mod LockInfoViews
 pub mod LockInfos
 pub mod LockTimeouts
+pub mod Locking
 pub mod LocksInTheWay
 pub mod Making
 pub mod Moving
@@ -42,6 +43,7 @@ pub mod Putting
 pub mod Ranges
 pub mod RefusalBodies
 pub mod RefusalReading
+pub mod Refreshing
 pub mod Refusals
 pub mod Removing
 pub mod Senders

@@ -59,6 +59,10 @@ conflict_below_nodes prefix at path =
 abbrev pub no_lock_nodes : List Node
 no_lock_nodes = element (codes "error") (element (codes "lock-token-matches-request-uri") [])
 
+-- the server tells of no resources all the way down
+abbrev pub finite_nodes : List Node
+finite_nodes = element (codes "error") (element (codes "propfind-finite-depth") [])
+
 -- the document of a fault, where it has one; its paths stand behind the prefix
 abbrev pub refusal_nodes : List ℕ → Fault → Option (List Node)
 refusal_nodes prefix (fault.Locked path) = Some (lock_nodes prefix path)
@@ -66,6 +70,7 @@ refusal_nodes prefix (fault.ConflictingLock path) = Some (conflict_nodes prefix 
 refusal_nodes prefix (fault.MemberLocked path) = Some (member_nodes prefix path)
 refusal_nodes prefix (fault.ConflictingMember at path) = Some (conflict_below_nodes prefix at path)
 refusal_nodes prefix fault.NoSuchLock = Some no_lock_nodes
+refusal_nodes prefix fault.InfiniteDepth = Some finite_nodes
 refusal_nodes prefix _ = None
 
 -- ---- the answers that they are told by

@@ -7,7 +7,7 @@ use Rattle.dav_handler_core.specs.Answers.{Options, Server}
 use Rattle.dav_handler_core.specs.Sessions.{caller, state}
 
 abbrev pub options_of : Settings → Options
-options_of s = record { scheme = s.scheme; prefix = string_bytes s.prefix; user_header = s.user_header }
+options_of s = record { scheme = s.scheme; prefix = string_bytes s.prefix; user_header = s.user_header; longest = s.longest_timeout; finite = s.finite_depth }
 
 -- of what the generator still gives
 abbrev pub server : {R : Type 0} → (R → Stream) → Dav R → Server

@@ -42,8 +42,8 @@ use std::convert::AsStr;
 use tagged::spoken_of;
 use url::Url;
 
-// Whether a lock of these has the token.
-fn any_has(locks: &[DavLock], token: &str) -> bool
+/// Whether a lock of these has the token.
+pub(crate) fn any_has(locks: &[DavLock], token: &str) -> bool
     ensures { result ≡ list_any (λ l. bytes_eq l.token token.now) locks.now }
 {
     locks.iter().any(|lock| lock.token.as_str() == token)

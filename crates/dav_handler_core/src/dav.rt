@@ -1,11 +1,11 @@
 //! The server: an HTTP service over the stores (RFC 4918 section 9, RFC 9110 section 9).
-ghost use Rattle.std.specs.Prelude.{◌≡◌, ◌<◌, ◌≤◌, ◌⊎◌, true, false, IfOk, IfErr, OnErr, Option, Some};
+ghost use Rattle.std.specs.Prelude.{◌≡◌, ◌<◌, ◌≤◌, ◌⊎◌, [], true, false, IfOk, IfErr, OnErr, Option, Some};
 ghost use Rattle.http.specs.Request.{body_of, head_of};
 ghost use Rattle.http_server.specs.Response.{IsBlank};
 ghost use Rattle.dav_path_core.specs.declared.util.DavMethod.{DavMethod};
 ghost use Rattle.dav_path_core.specs.declared.util.DavMethod.TheVariants as method;
 ghost use Rattle.dav_resource_core.specs.Stores.{state_of};
-ghost use Rattle.dav_handler_core.specs.Answers.{Admits, Answers, AnswersTo, ChangeAnswers, GetAnswers, IsFrom, IsMethod, Leaves, Moves, Names, PatchAnswers, PutAnswers, Unread};
+ghost use Rattle.dav_handler_core.specs.Answers.{Admits, Answers, AnswersTo, ChangeAnswers, GetAnswers, IsFrom, IsMethod, Leaves, LockAnswers, Moves, Names, PatchAnswers, PutAnswers, Unread};
 ghost use Rattle.dav_handler_core.specs.Callers.{RunBy, SameLive};
 ghost use Rattle.dav_handler_core.specs.Copying.{Copies, FailsToCopy};
 ghost use Rattle.dav_handler_core.specs.Fields.{sent_of};
@@ -24,7 +24,9 @@ mod laws;
 
 use crate::conditions::{Scheme, admit};
 use crate::faults::Fault;
-use crate::methods::{copy, delete, get, mkcol, moving, options, propfind, proppatch, put, unlock};
+use crate::methods::{
+    copy, delete, get, lock, mkcol, moving, options, propfind, proppatch, put, refresh, unlock,
+};
 use crate::refusals::refuse;
 use crate::senders::{principal_of, tokens_of};
 use crate::session::Session;
@@ -53,6 +55,10 @@ pub struct Settings {
     pub prefix: String,
     /// The header by which a proxy in front names the principal; none where nobody is named (own).
     pub user_header: Option<HeaderName>,
+    /// The greatest timeout that a lock gets, in seconds; none where it may stand without an end (RFC 4918 section 6.6).
+    pub longest_timeout: Option<u32>,
+    /// Whether a PROPFIND all the way down is refused (RFC 4918 section 9.1).
+    pub finite_depth: bool,
 }
 
 /// A WebDAV server over stores of its own.
@@ -87,8 +93,8 @@ impl<R: Rng + Drop> Dav<R> {
 }
 
 impl<R: Rng> Dav<R> {
-    /// Sets the clock. Each request comes at the clock's moment, or at the last request's where that is later; a PUT, a DELETE, a COPY, a MOVE or a MKCOL at a later one
-    /// than that.
+    /// Sets the clock. Each request comes at the clock's moment, or at the last request's where that is later; a PUT, a DELETE, a COPY, a MOVE, a MKCOL or a LOCK with a body at
+    /// a later one than that.
     pub fn set_clock(&mut self, now: Moment)
         ensures { server R.stream self.new ≡ record (server R.stream self.old) { clock = now.0 } }
     {
@@ -180,8 +186,8 @@ impl<R: Rng> Dav<R> {
     ) -> Result<StatusCode, Fault>
         requires { IsBlank response.old }
         ensures answers { ChangeAnswers false
-            (TellsFound (server R.stream self.old).options.prefix (head_of request.now).headers (body_of request.now) response.new.body.items)
-            (FailsToTell (head_of request.now).headers (body_of request.now)) (server R.stream self.old) request.now result (server R.stream self.new) }
+            (TellsFound (server R.stream self.old).options.finite (server R.stream self.old).options.prefix (head_of request.now).headers (body_of request.now) response.new.body.items)
+            (FailsToTell (server R.stream self.old).options.finite (head_of request.now).headers (body_of request.now)) (server R.stream self.old) request.now result (server R.stream self.new) }
         ensures live { SameLive (server R.stream self.new).last (server R.stream self.old).state (server R.stream self.new).state }
         ensures moves { Moves (server R.stream self.old) request.now (server R.stream self.new) }
     {
@@ -190,6 +196,7 @@ impl<R: Rng> Dav<R> {
             self.alloc,
             &mut self.session,
             &self.settings.prefix,
+            self.settings.finite_depth,
             request.headers(),
             request.body(),
             path,
@@ -317,6 +324,57 @@ impl<R: Rng> Dav<R> {
         unlock::unlock(self.alloc, &mut self.session, request.headers(), path)
     }
 
+    // LOCK: with a body for a new lock, without one for another end of a lock.
+    fn serve_lock(
+        &mut self,
+        request: &Request<Bytes>,
+        response: &mut Response,
+    ) -> Result<StatusCode, Fault>
+        requires { IsBlank response.old }
+        ensures answers { LockAnswers (server R.stream self.old) request.now result (sent_of response.new) (server R.stream self.new) }
+        ensures refused { IfErr result (λ e. Leaves (Some method.Lock) (server R.stream self.old) request.now e (server R.stream self.new)) }
+        ensures moves { Moves (server R.stream self.old) request.now (server R.stream self.new) }
+    {
+        if request.body().is_empty() {
+            return self.serve_refresh(request, response);
+        }
+        let path = self.begin_admitted(request, true)?;
+        lock::lock(
+            self.alloc,
+            &mut self.session,
+            &self.settings.prefix,
+            self.settings.longest_timeout,
+            request.headers(),
+            request.body(),
+            path,
+            response,
+        )
+    }
+
+    // LOCK without a body.
+    fn serve_refresh(
+        &mut self,
+        request: &Request<Bytes>,
+        response: &mut Response,
+    ) -> Result<StatusCode, Fault>
+        requires blank { IsBlank response.old }
+        requires no_body { body_of request.now ≡ [] }
+        ensures answers { LockAnswers (server R.stream self.old) request.now result (sent_of response.new) (server R.stream self.new) }
+        ensures refused { OnErr result (SameLive (server R.stream self.new).last (server R.stream self.old).state (server R.stream self.new).state) }
+        ensures moves { Moves (server R.stream self.old) request.now (server R.stream self.new) }
+    {
+        let path = self.begin_admitted(request, false)?;
+        refresh::refresh(
+            self.alloc,
+            &mut self.session,
+            &self.settings.prefix,
+            self.settings.longest_timeout,
+            request.headers(),
+            path,
+            response,
+        )
+    }
+
     // By the method; any other than these is `NotImplemented`.
     fn answer_to(
         &mut self,
@@ -340,6 +398,7 @@ impl<R: Rng> Dav<R> {
             DavMethod::Move => return self.serve_move(request),
             DavMethod::MkCol => return self.serve_mkcol(request),
             DavMethod::PropPatch => return self.serve_proppatch(request, response),
+            DavMethod::Lock => return self.serve_lock(request, response),
             DavMethod::Unlock => return self.serve_unlock(request),
             _ => return Err(Fault::NotImplemented),
         }

@@ -20,6 +20,8 @@ pub enum Fault {
     Unauthorized,
     /// 403: the path leads out of the root (RFC 9110 section 15.5.4).
     Forbidden,
+    /// 403: a PROPFIND reaches all the way down, and the server refuses that (RFC 4918 sections 9.1 and 16).
+    InfiniteDepth,
     /// 404: there is nothing at the path, or it isn't behind the prefix (RFC 9110 section 15.5.5).
     NotFound,
     /// 405: what stands at the path doesn't take the method (RFC 9110 section 15.5.6).
@@ -57,6 +59,7 @@ impl Fault {
             Fault::BadRequest => StatusCode::BAD_REQUEST,
             Fault::Unauthorized => StatusCode::UNAUTHORIZED,
             Fault::Forbidden => StatusCode::FORBIDDEN,
+            Fault::InfiniteDepth => StatusCode::FORBIDDEN,
             Fault::NotFound => StatusCode::NOT_FOUND,
             Fault::MethodNotAllowed => StatusCode::METHOD_NOT_ALLOWED,
             Fault::Conflict => StatusCode::CONFLICT,

@@ -1,9 +1,10 @@
 //! The header fields of answers.
-ghost use Rattle.std.specs.Prelude.{◌≡◌, ◌++◌, ◌∷◌, [], ◌⊎◌, IfErr, OnOk};
+ghost use Rattle.std.specs.Prelude.{◌≡◌, ◌++◌, ◌∷◌, [], ◌⊎◌, codes, IfErr, OnOk};
 ghost use Rattle.http_header.specs.FieldValue.{IsFieldValue};
 ghost use Rattle.http_server.specs.Response.{fields_of};
 ghost use Rattle.dav_handler_core.specs.Fields.{marks_of};
 ghost use Rattle.dav_handler_core.specs.Getting.{tags_by};
+ghost use Rattle.dav_handler_core.specs.Locking.{bracketed};
 ghost use Rattle.dav_handler_core.specs.Private.Marking.{HasShownTag, and_part, and_tags};
 ghost use Rattle.dav_handler_core.specs.Ranges.{part_text, unsatisfied_text};
 ghost use Rattle.dav_handler_core.specs.declared.faults.Fault.TheVariants as fault;
@@ -107,6 +108,26 @@ pub(crate) fn add_tag(
         ),
         Standing::Nothing | Standing::Folder => Ok(()),
     }
+}
+
+/// Says the token of a lock that is granted (RFC 4918 section 10.5).
+pub(crate) fn add_lock_token(
+    alloc: Global,
+    response: &mut Response,
+    token: &str,
+) -> Result<(), Fault>
+    requires { IsFieldValue (bracketed token.now) }
+    ensures fields { OnOk result (fields_of response.new ≡ fields_of response.old ++ (codes "lock-token", bracketed token.now) ∷ []) }
+    ensures body { response.new.body ≡ response.old.body }
+    ensures err { IfErr result (λ e. e ≡ fault.InsufficientStorage) }
+{
+    let text = format!(in alloc; "<{token}>")?;
+    add_field(
+        alloc,
+        response,
+        HeaderName::from_static("lock-token"),
+        text.as_bytes(),
+    )
 }
 
 /// Says which part of a file of that size the body is (RFC 9110 section 14.4).

@@ -4,7 +4,7 @@ ghost use Rattle.http_server.specs.Response.{IsResponse, fields_of};
 ghost use Rattle.dav_xml_core.specs.Writing.{with_nodes, written};
 ghost use Rattle.dav_xml_core.specs.Views.{writing_of};
 ghost use Rattle.dav_handler_core.specs.Faults.{fault_status};
-ghost use Rattle.dav_handler_core.specs.RefusalBodies.{TellsWhy, conflict_below_nodes, conflict_nodes, element, lock_nodes, member_nodes, no_lock_nodes, refusal_nodes, told_response, xml_type};
+ghost use Rattle.dav_handler_core.specs.RefusalBodies.{TellsWhy, conflict_below_nodes, conflict_nodes, element, lock_nodes, member_nodes, refusal_nodes, told_response, xml_type};
 
 use crate::documents::{begin, write_empty, write_href, write_text};
 use crate::faults::Fault;
@@ -82,7 +82,8 @@ fn document_of(alloc: Global, prefix: &str, fault: &Fault) -> Result<Option<Vec<
         Fault::ConflictingLock(path) => Ok(Some(conflicting(alloc, prefix, path)?)),
         Fault::MemberLocked(path) => Ok(Some(member_locked(alloc, prefix, path)?)),
         Fault::ConflictingMember(at, path) => Ok(Some(conflicting_below(alloc, prefix, at, path)?)),
-        Fault::NoSuchLock => Ok(Some(no_such_lock(alloc)?)),
+        Fault::NoSuchLock => Ok(Some(failed_condition(alloc, "lock-token-matches-request-uri")?)),
+        Fault::InfiniteDepth => Ok(Some(failed_condition(alloc, "propfind-finite-depth")?)),
         _ => Ok(None),
     }
 }
@@ -180,14 +181,13 @@ fn write_dependent(
     writer.end()
 }
 
-// No lock with the token covers the path.
-#[tactic(auto, unfolding(dav_xml_core::specs::Writing::written))]
-fn no_such_lock(alloc: Global) -> Result<Vec<u8>, AllocError>
-    ensures { IfOk result (λ document. document.items ≡ written no_lock_nodes) }
+// A condition that doesn't hold, by its name (RFC 4918 section 16).
+fn failed_condition(alloc: Global, condition: &str) -> Result<Vec<u8>, AllocError>
+    ensures { IfOk result (λ document. document.items ≡ written (element (codes "error") (element condition.now []))) }
 {
     let mut writer = Writer::new(alloc);
     begin(alloc, &mut writer, "error")?;
-    write_empty(alloc, &mut writer, "lock-token-matches-request-uri")?;
+    write_empty(alloc, &mut writer, condition)?;
     writer.end()?;
     Ok(writer.into_bytes())
 }

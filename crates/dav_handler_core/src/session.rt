@@ -16,6 +16,7 @@ mod moving;
 mod patching;
 mod places;
 mod questions;
+mod refreshing;
 mod removing;
 mod subtrees;
 mod tokens_above;
@@ -97,6 +98,13 @@ impl<R: Rng> Session<R> {
         ensures { option_map string_bytes result.now ≡ (spec.caller self.now).principal }
     {
         &self.request.principal
+    }
+
+    /// The tokens that the caller submits.
+    pub fn tokens(&self) -> &[String]
+        ensures { map string_bytes result.now ≡ (spec.caller self.now).tokens }
+    {
+        &self.request.tokens
     }
 
     /// The moment of the caller.

@@ -10,7 +10,7 @@ const MAX_BODY: usize = 64 * 1024 * 1024;
 /// What the words choose.
 #[derive(Drop)]
 pub struct Choices {
-    /// The prefix, and the header that names the principal.
+    /// The prefix, the header that names the principal, and the greatest timeout of a lock.
     pub settings: Settings,
     /// A request's body has so many bytes at most.
     pub max_body: usize,
@@ -38,6 +38,8 @@ impl Choices {
                 scheme: Scheme::Http,
                 prefix: String::new(alloc),
                 user_header: None,
+                longest_timeout: None,
+                finite_depth: false,
             },
             max_body: MAX_BODY,
             seed: None,
@@ -61,6 +63,14 @@ impl Choices {
             };
         } else if name == "--user-header" {
             self.settings.user_header = Some(HeaderName::from_bytes(alloc, value.as_bytes()).ok()?);
+        } else if name == "--propfind-depth" {
+            self.settings.finite_depth = match value {
+                "finite" => true,
+                "infinite" => false,
+                _ => return None,
+            };
+        } else if name == "--longest-timeout" {
+            self.settings.longest_timeout = Some(value.parse().ok()?);
         } else if name == "--max-body" {
             self.max_body = value.parse().ok()?;
         } else if name == "--seed" {

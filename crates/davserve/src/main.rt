@@ -126,7 +126,7 @@ fn words(rt: &HostRuntime) -> io::Result<Vec<String>> {
 fn usage(rt: &HostRuntime) -> ExitCode {
     ended(
         rt,
-        "usage: davserve [--one] [--scheme http|https] [--prefix PATH] [--user-header NAME] [--max-body BYTES] [--seed NUMBER] [--clock NANOSECONDS|frames]\n",
+        "usage: davserve [--one] [--scheme http|https] [--prefix PATH] [--user-header NAME] [--longest-timeout SECONDS] [--propfind-depth finite|infinite] [--max-body BYTES] [--seed NUMBER] [--clock NANOSECONDS|frames]\n",
         2,
     )
 }

@@ -18,7 +18,7 @@ PUT /a{h}|X-User: bob|If: (["1000000004-3"])|Content-Length: 1||x = {locked /a}
 PUT /a{h}|X-User: bob|If: (["x"])|Content-Length: 1||x = {bare 412 Precondition Failed}
 PUT /a{h}|X-User: ann|If: (["x"])|Content-Length: 1||x = {bare 412 Precondition Failed}
 PUT /{h}|X-User: ann|If: (["x"])|Content-Length: 1||x = {bare 412 Precondition Failed}
-PUT /{h}|X-User: ann|If: (Not ["x"])|Content-Length: 1||x = HTTP/1.1 405 Method Not Allowed|allow: OPTIONS, GET, HEAD, PUT, DELETE, COPY, MOVE, MKCOL, PROPFIND, PROPPATCH, UNLOCK|content-length: 0||
+PUT /{h}|X-User: ann|If: (Not ["x"])|Content-Length: 1||x = HTTP/1.1 405 Method Not Allowed|allow: OPTIONS, GET, HEAD, PUT, DELETE, COPY, MOVE, MKCOL, PROPFIND, PROPPATCH, LOCK, UNLOCK|content-length: 0||
 PUT /no/a{h}|X-User: ann|If: (["x"])|Content-Length: 1||x = {bare 412 Precondition Failed}
 PUT /no/a{h}|X-User: ann|If: (Not ["x"])|Content-Length: 1||x = {bare 409 Conflict}
 PUT /a{h}|X-User: ann|If: (["x"|Content-Length: 1||x = {bare 400 Bad Request}
@@ -32,7 +32,7 @@ GET /a{h}|X-User: bob|If: (["1000000004-3"])|If-Match: "x"|| = {bare 412 Precond
 PUT /a{h}|X-User: bob|If: (["1000000004-3"])|If-Match: "x"|Content-Length: 1||x = {locked /a}
 PUT /a{h}|X-User: ann|If: (<{0}>)|If-Match: "x"|Content-Length: 1||x = {bare 412 Precondition Failed}
 PUT /a{h}|X-User: ann|If: (<{0}>)|If-Match: "1000000004-3"|Content-Length: 2||xy = {kept 1000000016-2}
-OPTIONS /a{h}|X-User: ann|If: (["x"])|| = HTTP/1.1 200 OK|dav: 1, 2|allow: OPTIONS, GET, HEAD, PUT, DELETE, COPY, MOVE, MKCOL, PROPFIND, PROPPATCH, UNLOCK|ms-author-via: DAV|content-length: 0||
+OPTIONS /a{h}|X-User: ann|If: (["x"])|| = HTTP/1.1 200 OK|dav: 1, 2|allow: OPTIONS, GET, HEAD, PUT, DELETE, COPY, MOVE, MKCOL, PROPFIND, PROPPATCH, LOCK, UNLOCK|ms-author-via: DAV|content-length: 0||
 REPORT /b{h}|X-User: ann|If: (["x"])|| = {bare 501 Not Implemented}
 GET /a{h}|X-User: bob|Connection: close|| = HTTP/1.1 200 OK|etag: "1000000016-2"|last-modified: Thu, 01 Jan 1970 00:00:01 GMT|content-type: application/octet-stream|accept-ranges: bytes|content-length: 2|connection: close||xy
 

@@ -12,6 +12,8 @@ mod folders;
 #[cfg(test)]
 mod ifs;
 #[cfg(test)]
+mod locks;
+#[cfg(test)]
 mod moves;
 #[cfg(test)]
 mod patches;

@@ -4,6 +4,7 @@ use crate::copies::COPIES;
 use crate::finds::FINDS;
 use crate::folders::FOLDERS;
 use crate::ifs::IFS;
+use crate::locks::LOCKS;
 use crate::moves::MOVES;
 use crate::patches::PATCHES;
 use crate::ranges::RANGES;
@@ -58,8 +59,8 @@ impl Scenario {
     fn add(&mut self, row: &str) -> Result<(), Fail> {
         match row.split_once(" = ") {
             Some((request, answer)) => {
-                add_lines(&mut self.sent, request, &self.tokens)?;
-                add_lines(&mut self.wanted, answer, &self.tokens)?;
+                add_lines(self.alloc, &mut self.sent, request, &self.tokens)?;
+                add_lines(self.alloc, &mut self.wanted, answer, &self.tokens)?;
             }
             None => self.set_up(row)?,
         }
@@ -81,6 +82,7 @@ impl Scenario {
                 self.lock(who, shared, deep, path, timeout)
             }
             Some("folder") => self.make_folder(words.next().ok_or("no path")?),
+            Some("grants") => self.foresee(words.next().ok_or("no count")?.parse()?),
             _ => Err(Fail::from("no row")),
         }
     }
@@ -105,6 +107,19 @@ impl Scenario {
             Ok(Reply::Lock(lock)) => Ok(self.tokens.push(lock.token)?),
             _ => Err(Fail::from("no lock")),
         }
+    }
+
+    // The tokens of so many locks that requests are granted: those that the generator gives next.
+    fn foresee(&mut self, count: usize) -> Result<(), Fail> {
+        let mut other = Scenario::new(self.alloc)?;
+        for _ in 0..self.tokens.len().saturating_add(count) {
+            other.lock("", true, false, "/", None)?;
+        }
+        for token in other.tokens.iter().skip(self.tokens.len()) {
+            self.tokens
+                .push(String::from_str(self.alloc, token.as_str())?)?;
+        }
+        Ok(())
     }
 
     fn make_folder(&mut self, path: &str) -> Result<(), Fail> {
@@ -153,24 +168,24 @@ impl Scenario {
 }
 
 // Adds a text, with the ends of its lines and the tokens of the locks.
-fn add_lines(text: &mut String, row: &str, tokens: &[String]) -> Result<(), Fail> {
+fn add_lines(alloc: Global, text: &mut String, row: &str, tokens: &[String]) -> Result<(), Fail> {
     for (number, line) in row.split('|').enumerate() {
         if number > 0 {
             text.push_str("\r\n")?;
         }
-        add_line(text, line, tokens)?;
+        add_line(alloc, text, line, tokens)?;
     }
     Ok(())
 }
 
 // Adds a line.
-fn add_line(text: &mut String, line: &str, tokens: &[String]) -> Result<(), Fail> {
+fn add_line(alloc: Global, text: &mut String, line: &str, tokens: &[String]) -> Result<(), Fail> {
     for (number, piece) in line.split('{').enumerate() {
         if number == 0 {
             text.push_str(piece)?;
         } else {
             let (name, rest) = piece.split_once('}').ok_or("no name")?;
-            add_named(text, name, tokens)?;
+            add_named(alloc, text, name, tokens)?;
             text.push_str(rest)?;
         }
     }
@@ -178,11 +193,11 @@ fn add_line(text: &mut String, line: &str, tokens: &[String]) -> Result<(), Fail
 }
 
 // Adds a line feed, one of the short forms, an answer that tells which lock refuses a request or that there is none, or the token of a lock.
-fn add_named(text: &mut String, name: &str, tokens: &[String]) -> Result<(), Fail> {
+fn add_named(alloc: Global, text: &mut String, name: &str, tokens: &[String]) -> Result<(), Fail> {
     if name == "n" {
         return Ok(text.push('\n')?);
     }
-    if add_short(text, name)? {
+    if add_short(text, name)? || add_of_lock(alloc, text, name, tokens)? {
         return Ok(());
     }
     if let Some(path) = name.strip_prefix("locked ") {
@@ -209,9 +224,138 @@ fn add_named(text: &mut String, name: &str, tokens: &[String]) -> Result<(), Fai
         let element = "<D:lock-token-matches-request-uri></D:lock-token-matches-request-uri>";
         return add_why(text, "409 Conflict", &[element]);
     }
-    let number: usize = name.parse()?;
+    Ok(text.push_str(token_of(tokens, name)?)?)
+}
+
+// The token of the lock with this number.
+fn token_of<'a>(tokens: &'a [String], number: &str) -> Result<&'a str, Fail> {
+    let number: usize = number.parse()?;
     let token = tokens.get(number).ok_or("no such lock")?;
-    Ok(text.push_str(token.as_str())?)
+    Ok(token.as_str())
+}
+
+// Adds what a short form of LOCK stands for: a body with its length; the answer that grants a lock, or gives it another end; or that another lock lets it not be granted, at the path or
+// below. Whether it is such a form.
+fn add_of_lock(
+    alloc: Global,
+    text: &mut String,
+    name: &str,
+    tokens: &[String],
+) -> Result<bool, Fail> {
+    if let Some(body) = name.strip_prefix("body ") {
+        add_body(text, body)?;
+        return Ok(true);
+    }
+    if let Some(wanted) = name.strip_prefix("ask ") {
+        add_info(alloc, text, wanted)?;
+        return Ok(true);
+    }
+    if let Some(told) = name.strip_prefix("granted ") {
+        let (head, locks) = told.split_once('~').ok_or("no lock")?;
+        let (number, status) = head.split_once(' ').ok_or("no status")?;
+        let token = token_of(tokens, number)?;
+        let head = format!(in alloc; "{status}\r\nlock-token: <{token}>")?;
+        add_locks(alloc, text, head.as_str(), locks, tokens)?;
+        return Ok(true);
+    }
+    if let Some(locks) = name.strip_prefix("refreshed ") {
+        add_locks(alloc, text, "200 OK", locks, tokens)?;
+        return Ok(true);
+    }
+    if let Some(path) = name.strip_prefix("conflict ") {
+        let front = "<D:no-conflicting-lock><D:href>";
+        let back = "</D:href></D:no-conflicting-lock>";
+        add_why(text, "423 Locked", &[front, path, back])?;
+        return Ok(true);
+    }
+    if let Some(paths) = name.strip_prefix("below ") {
+        let (at, path) = paths.split_once(' ').ok_or("no path")?;
+        add_conflict_below(text, at, path)?;
+        return Ok(true);
+    }
+    Ok(false)
+}
+
+// The answer that a lock below lets none be granted at the path.
+fn add_conflict_below(text: &mut String, at: &str, path: &str) -> Result<(), Fail> {
+    let front = "<D:response><D:href>";
+    let status = "</D:href><D:status>HTTP/1.1 423 Locked</D:status>";
+    let why = "<D:error><D:no-conflicting-lock></D:no-conflicting-lock></D:error></D:response>";
+    let failed = "</D:href><D:status>HTTP/1.1 424 Failed Dependency</D:status></D:response>";
+    let pieces = [front, at, status, why, front, path, failed];
+    add_document(text, "207 Multi-Status", "multistatus", &pieces)
+}
+
+// The end of a request: the length of its body, and the body.
+fn add_body(text: &mut String, body: &str) -> Result<(), Fail> {
+    let length = body.len();
+    Ok(write!(text, "Content-Length: {length}\r\n\r\n{body}")?)
+}
+
+// The body that asks for a lock of a scope, with an owner behind a blank where there is one.
+fn add_info(alloc: Global, text: &mut String, wanted: &str) -> Result<(), Fail> {
+    let (scope, owner) = match wanted.split_once(' ') {
+        Some(both) => both,
+        None => (wanted, ""),
+    };
+    let front = "<D:lockinfo xmlns:D=\"DAV:\"><D:lockscope><D:";
+    let kind = "/></D:lockscope><D:locktype><D:write/></D:locktype>";
+    let body = format!(in alloc; "{front}{scope}{kind}{owner}</D:lockinfo>")?;
+    add_body(text, body.as_str())
+}
+
+// An answer whose body tells locks: each with its scope, its depth, its timeout, the number of its token or `-` where that isn't told, its path, and its owner where it has one.
+fn add_locks(
+    alloc: Global,
+    text: &mut String,
+    head: &str,
+    locks: &str,
+    tokens: &[String],
+) -> Result<(), Fail> {
+    let mut told = String::new(alloc);
+    for lock in locks.split('~') {
+        add_active(&mut told, lock, tokens)?;
+    }
+    let front = "<D:lockdiscovery>";
+    add_document(
+        text,
+        head,
+        "prop",
+        &[front, told.as_str(), "</D:lockdiscovery>"],
+    )
+}
+
+fn add_active(text: &mut String, lock: &str, tokens: &[String]) -> Result<(), Fail> {
+    let (lock, owner) = match lock.split_once(" <") {
+        Some(both) => both,
+        None => (lock, ""),
+    };
+    let mut words = lock.split(' ');
+    let scope = words.next().ok_or("no scope")?;
+    let depth = words.next().ok_or("no depth")?;
+    let timeout = words.next().ok_or("no timeout")?;
+    let number = words.next().ok_or("no number")?;
+    let path = words.next().ok_or("no path")?;
+    write!(
+        text,
+        "<D:activelock><D:lockscope><D:{scope}></D:{scope}></D:lockscope>"
+    )?;
+    write!(
+        text,
+        "<D:locktype><D:write></D:write></D:locktype><D:depth>{depth}</D:depth>"
+    )?;
+    if !owner.is_empty() {
+        write!(text, "<{owner}")?;
+    }
+    write!(text, "<D:timeout>{timeout}</D:timeout>")?;
+    if number != "-" {
+        let token = token_of(tokens, number)?;
+        write!(text, "<D:locktoken><D:href>{token}</D:href></D:locktoken>")?;
+    }
+    Ok(write!(
+        text,
+        "<D:lockroot><D:href>{path}</D:href></D:lockroot></D:activelock>"
+    )?)
 }
 
 // Adds what a short form stands for: the end of a request's first line with its `Host`; an answer without fields of its own; or an answer with the tag of a file. Whether it is
@@ -293,14 +437,21 @@ fn server_of(alloc: Global, line: &str, stores: Guarded, rng: Pcg64) -> Result<D
     };
     let clock = words.next().ok_or("no clock")?.parse()?;
     let scheme = match words.next() {
-        None => Scheme::Http,
+        None | Some("http") => Scheme::Http,
         Some("https") => Scheme::Https,
         Some(_) => return Err(Fail::from("no such scheme")),
     };
+    let longest_timeout = match words.next() {
+        None => None,
+        Some(seconds) => Some(seconds.parse()?),
+    };
+    let finite_depth = words.next() == Some("finite");
     let settings = Settings {
         scheme,
         prefix: String::from_str(alloc, prefix)?,
         user_header,
+        longest_timeout,
+        finite_depth,
     };
     let mut dav = Dav::new(alloc, settings, stores, rng, Moment(0))?;
     dav.set_clock(Moment(clock));
@@ -379,6 +530,11 @@ fn finds_each_property(rt: HostRuntime) -> Result<(), Fail> {
 #[test]
 fn patches_each_property(rt: HostRuntime) -> Result<(), Fail> {
     play(&rt, PATCHES)
+}
+
+#[test]
+fn grants_each_lock(rt: HostRuntime) -> Result<(), Fail> {
+    play(&rt, LOCKS)
 }
 
 #[test]

@@ -34,7 +34,7 @@ pub(crate) fn allow(response: &mut Response) -> Result<(), AllocError>
     response.add_header(
         HeaderName::from_static("allow"),
         HeaderValue::from_static(
-            "OPTIONS, GET, HEAD, PUT, DELETE, COPY, MOVE, MKCOL, PROPFIND, PROPPATCH, UNLOCK",
+            "OPTIONS, GET, HEAD, PUT, DELETE, COPY, MOVE, MKCOL, PROPFIND, PROPPATCH, LOCK, UNLOCK",
         ),
     )
 }

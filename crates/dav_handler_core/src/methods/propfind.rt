@@ -1,9 +1,11 @@
 //! PROPFIND.
-ghost use Rattle.std.specs.Prelude.{◌≡◌, List, [], map, IfErr, IfOk, IsSome, OnOk};
+ghost use Rattle.std.specs.Prelude.{◌≡◌, ◌≢◌, ◌⊎◌, true, None, Some, List, [], map, IfErr, IfOk, IsSome, OnOk};
 ghost use Rattle.dav_path_core.specs.Segments.{segments};
+ghost use Rattle.dav_headers_core.specs.declared.davheaders.depths.Depth.TheVariants as reach;
 ghost use Rattle.dav_files_core.specs.Resources.{at_path};
 ghost use Rattle.dav_xml_core.specs.Views.{writing_of};
 ghost use Rattle.dav_handler_core.specs.Callers.{RunBy, SameLive, live};
+ghost use Rattle.dav_handler_core.specs.Depths.{depth_in};
 ghost use Rattle.dav_handler_core.specs.Finding.{DescribesEach, FailsToFind, Finds};
 ghost use Rattle.dav_handler_core.specs.Pieces.{written_pieces};
 ghost use Rattle.dav_handler_core.specs.Private.Asking.{question_of};
@@ -20,6 +22,7 @@ use crate::property_documents::write_response;
 use crate::property_questions::{Question, question_in};
 use crate::refusals::say_document;
 use crate::session::Session;
+use dav_resource_core::davheaders::Depth;
 use dav_resource_core::davpath::DavPath;
 use dav_xml_core::davxml::Writer;
 use http::StatusCode;
@@ -30,31 +33,49 @@ use std::alloc::Global;
 
 /// Tells of what stands at a path, and within the depth below it, and answers 207 (RFC 4918 section 9.1).
 ///
-/// `BadRequest` for a depth or a body that can't be read, or where a name below it is one that no path has which is read; `NotFound` where nothing
-/// stands there.
+/// `BadRequest` for a depth or a body that can't be read, or where a name below it is one that no path has which is read; `InfiniteDepth` for all the way down, where the
+/// server refuses that; `NotFound` where nothing stands there.
 pub(crate) fn propfind<R: Rng>(
     alloc: Global,
     session: &mut Session<R>,
     prefix: &str,
+    finite: bool,
     headers: &HeaderMap<HeaderValue>,
     body: &[u8],
     path: DavPath,
     response: &mut Response,
 ) -> Result<StatusCode, Fault>
     requires { response.old.body.items ≡ [] }
-    ensures done { IfOk result (λ status. (status ≡ 207) × Finds prefix.now headers.now body.now (live (spec.caller session.old).now (spec.state R.stream session.old))
+    ensures done { IfOk result (λ status. (status ≡ 207) × Finds finite prefix.now headers.now body.now (live (spec.caller session.old).now (spec.state R.stream session.old))
         (spec.caller session.old) (segments path.bytes) response.new.body.items) }
-    ensures err { IfErr result (λ e. FailsToFind headers.now body.now (spec.state R.stream session.old).map (segments path.bytes) e) }
+    ensures err { IfErr result (λ e. FailsToFind finite headers.now body.now (spec.state R.stream session.old).map (segments path.bytes) e) }
     ensures run { RunBy (spec.caller session.old) (spec.state R.stream session.old) (spec.state R.stream session.new) }
     ensures live { SameLive (spec.caller session.old).now (spec.state R.stream session.old) (spec.state R.stream session.new) }
     ensures caller { spec.caller session.new ≡ spec.caller session.old }
 {
-    let depth = depth_in(headers)?;
+    let depth = depth_of(finite, headers)?;
     let question = question_in(alloc, body)?;
     let places = session.places_within(alloc, path, depth)?;
     let document = tell(alloc, session, prefix, &question, &places)?;
     say_document(response, document)?;
     Ok(StatusCode::MULTI_STATUS)
+}
+
+// The depth of a PROPFIND. `InfiniteDepth` for all the way down, where that is refused.
+fn depth_of(finite: bool, headers: &HeaderMap<HeaderValue>) -> Result<Depth, Fault>
+    ensures ok { IfOk result (λ depth. depth_in headers.now ≡ Some depth) }
+    ensures allowed { IfOk result (λ depth. finite ≡ true → depth ≢ reach.Infinity) }
+    ensures err { IfErr result (λ e. ((e ≡ fault.BadRequest) × (depth_in headers.now ≡ None))
+        ⊎ ((e ≡ fault.InfiniteDepth) × (finite ≡ true) × (depth_in headers.now ≡ Some reach.Infinity))) }
+{
+    match depth_in(headers)? {
+        Depth::Infinity => if finite {
+            Err(Fault::InfiniteDepth)
+        } else {
+            Ok(Depth::Infinity)
+        },
+        depth => Ok(depth),
+    }
 }
 
 // The document that tells of each of the places, where something stands.

@@ -6,7 +6,7 @@ ghost use Rattle.dav_locks_core.specs.Locks.{lock_conflicts, lock_path};
 ghost use Rattle.dav_resource_core.specs.Requests as reply_of;
 ghost use Rattle.dav_resource_core.specs.Requests.{Command as command, Refusal as refusal};
 ghost use Rattle.dav_resource_core.specs.Step.{Serves, State};
-ghost use Rattle.dav_handler_core.specs.Callers.{Asks, RunBy, SameLive, asking, live};
+ghost use Rattle.dav_handler_core.specs.Callers.{Asks, RunBy, Runs, SameLive, asking, live};
 ghost use Rattle.dav_handler_core.specs.Granting.{IsConflictOf, also_naming, granted_lock, stands_above, with_lock, with_token_drawn};
 ghost use Rattle.dav_handler_core.specs.Private.Refusing.{put_fault};
 ghost use Rattle.dav_handler_core.specs.Sessions as spec;
@@ -76,6 +76,7 @@ impl<R: Rng> Session<R> {
             × Serves (live (spec.caller self.old).now (spec.state R.stream self.old))
             (asking (also_naming (spec.caller self.old) (string_bytes token)) (command.Put (segments path.bytes) [])) (Err r) (spec.state R.stream self.new))) }
         ensures refused { OnErr result (SameLive (spec.caller self.old).now (spec.state R.stream self.old) (spec.state R.stream self.new)) }
+        ensures run { Runs (spec.state R.stream self.old) (spec.state R.stream self.new) }
         ensures caller { spec.caller self.new ≡ spec.caller self.old }
     {
         self.request.tokens.push(token)?;

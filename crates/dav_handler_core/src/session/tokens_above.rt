@@ -3,7 +3,7 @@ ghost use Rattle.std.specs.Prelude.{◌≡◌, ◌++◌, map, string_bytes, IfEr
 ghost use Rattle.dav_path_core.specs.Segments.{segments};
 ghost use Rattle.dav_locks_core.specs.Locks.{discovered};
 ghost use Rattle.dav_handler_core.specs.Callers.{RunBy, SameLive, live};
-ghost use Rattle.dav_handler_core.specs.Granting.{HaveTokens};
+ghost use Rattle.dav_handler_core.specs.Granting.{AreAbove, HaveTokens};
 ghost use Rattle.dav_handler_core.specs.Sessions as spec;
 ghost use Rattle.dav_handler_core.specs.declared.faults.Fault.TheVariants as fault;
 
@@ -20,6 +20,8 @@ impl<R: Rng> Session<R> {
     /// The tokens of all locks that stand at a path or above it (RFC 4918 section 6.5). `InsufficientStorage` alone.
     pub fn tokens_above(&mut self, alloc: Global, path: &DavPath) -> Result<Vec<String>, Fault>
         ensures ok { IfOk result (λ tokens. HaveTokens (live (spec.caller self.old).now (spec.state R.stream self.old)) (segments path.now.bytes)
+            (map string_bytes tokens.items)) }
+        ensures only { IfOk result (λ tokens. AreAbove (live (spec.caller self.old).now (spec.state R.stream self.old)) (segments path.now.bytes)
             (map string_bytes tokens.items)) }
         ensures err { IfErr result (λ e. e ≡ fault.InsufficientStorage) }
         ensures run { RunBy (spec.caller self.old) (spec.state R.stream self.old) (spec.state R.stream self.new) }

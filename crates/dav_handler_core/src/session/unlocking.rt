@@ -45,7 +45,7 @@ impl<R: Rng> Session<R> {
     }
 
     // Whether each lock with the token at the path or above is the caller's own.
-    fn check_own(&mut self, path: &DavPath, token: &str) -> Result<(), Fault>
+    pub(super) fn check_own(&mut self, path: &DavPath, token: &str) -> Result<(), Fault>
         ensures ok { OnOk result (AllOwn (live (spec.caller self.old).now (spec.state R.stream self.old)) (spec.caller self.old) (segments path.now.bytes) token.now) }
         ensures err { IfErr result (λ e. (e ≡ fault.InsufficientStorage) ⊎ ((e ≡ fault.Forbidden)
             × IsAnothers (live (spec.caller self.old).now (spec.state R.stream self.old)) (spec.caller self.old) (segments path.now.bytes) token.now)) }

@@ -1,4 +1,4 @@
-use Rattle.std.proofs.Common.{[], ◌∷◌, codes, ap, ◌∙◌}
+use Rattle.std.proofs.Common.{[], codes, ap, ◌∙◌}
 use Rattle.dav_xml_core.specs.Writing.{Writing, with_end, with_nodes, with_start, written}
 use Rattle.dav_handler_core.specs.RefusalBodies.{dav_name, element, told_response}
 use Rattle.dav_handler_core.proofs.refusals.conflicting_below.Goals as goal

@@ -1,4 +1,4 @@
-use Rattle.std.proofs.Common.{true, refl, sym, ap, subst}
+use Rattle.std.proofs.Common.{true, refl, ap, subst}
 use Rattle.std.specs.Prelude.{IfOk, IfErr}
 use Rattle.http.specs.Request.{head_of}
 use Rattle.http_header.specs.FieldValue.{FieldValue}
@@ -10,7 +10,7 @@ use Rattle.dav_handler_core.specs.Copying.{Copies, CopyLeaves, FailsToCopy}
 use Rattle.dav_handler_core.specs.Servers.{server}
 use Rattle.dav_handler_core.specs.Sessions.{caller, state}
 use Rattle.dav_handler_core.proofs.AnswerLemmas.{change_answered, moves_on}
-use Rattle.dav_handler_core.proofs.TransferAnswerLemmas.{copy_leaves, leaves_same}
+use Rattle.dav_handler_core.proofs.TransferAnswerLemmas.{copy_leaves}
 use Rattle.dav_handler_core.proofs.dav.Dav.serve_copy.Goals as goal
 
 pub returns-clause-answers : goal.returns-clause-answers

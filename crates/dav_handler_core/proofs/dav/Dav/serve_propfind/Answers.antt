@@ -27,14 +27,17 @@ returns-clause-answers g c =
     let headers = (head_of c.args.request.now).headers in
     let body = body_of c.args.request.now in
     let prefix_is = c.deref.ensures ∙ ap (λ (o : Options). o.prefix) c.begin_admitted.ensures.moves.options in
+    let finite_is = ap (λ (o : Options). o.finite) c.begin_admitted.ensures.moves.options in
     let body_is = c.deref-2.ensures ∙ c.body.ensures in
-    let does : List ℕ → Entries FieldValue → List ℕ → Type 0 = λ prefix h b. IfOk result (λ status. TellsFound prefix h b told (live who.now s) who p status after.state) in
-    let fails : Entries FieldValue → List ℕ → Type 0 = λ h b. IfErr result (λ e. FailsToTell h b (live who.now s) who p e) in
-    change_answered false (TellsFound before.options.prefix headers body told) (FailsToTell headers body) before mid after c.args.request.now c.in_ok-path.path who
+    let does : List ℕ → Entries FieldValue → List ℕ → Type 0 = λ prefix h b. IfOk result (λ status. TellsFound before.options.finite prefix h b told (live who.now s) who p status after.state) in
+    let fails : Entries FieldValue → List ℕ → Type 0 = λ h b. IfErr result (λ e. FailsToTell before.options.finite h b (live who.now s) who p e) in
+    change_answered false (TellsFound before.options.finite before.options.prefix headers body told) (FailsToTell before.options.finite headers body) before mid after c.args.request.now c.in_ok-path.path who
     (ap (λ (w : Caller). w.now) c.propfind.ensures.caller) begun.0.0 begun.1 (λ h. absurd (true≢false (sym h))) s c.begin_admitted.ensures.live result
     (subst (λ b. does before.options.prefix headers b) body_is (subst (λ h. does before.options.prefix h c.deref-2.result.now) c.headers.ensures
-    (subst (λ prefix. does prefix c.headers.result.now c.deref-2.result.now) prefix_is c.propfind.ensures.done)))
-    (subst (λ b. fails headers b) body_is (subst (λ h. fails h c.deref-2.result.now) c.headers.ensures c.propfind.ensures.err))
+    (subst (λ prefix. does prefix c.headers.result.now c.deref-2.result.now) prefix_is
+    (subst (λ f. IfOk result (λ status. TellsFound f c.deref.result.now c.headers.result.now c.deref-2.result.now told (live who.now s) who p status after.state)) finite_is c.propfind.ensures.done))))
+    (subst (λ b. fails headers b) body_is (subst (λ h. fails h c.deref-2.result.now) c.headers.ensures
+    (subst (λ f. IfErr result (λ e. FailsToTell f c.headers.result.now c.deref-2.result.now (live who.now s) who p e)) finite_is c.propfind.ensures.err)))
 
 pub returns-clause-moves : goal.returns-clause-moves
 returns-clause-moves g c =

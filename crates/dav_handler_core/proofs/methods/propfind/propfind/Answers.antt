@@ -1,4 +1,5 @@
 use Rattle.std.proofs.Common.{ℕ, List, ◌++◌, map, Option, refl, sym, ap, ◌∙◌, subst}
+use Rattle.std.proofs.lemmas.Result.{err_from_is_err_and}
 use Rattle.dav_path_core.specs.PathText.{PathText}
 use Rattle.dav_path_core.specs.Segments.{segments}
 use Rattle.dav_resource_core.specs.Step.{State}
@@ -12,6 +13,7 @@ use Rattle.dav_handler_core.specs.Sessions as spec
 use Rattle.dav_handler_core.proofs.Asking.{join_as}
 use Rattle.dav_handler_core.proofs.CallerLaws.{by_none}
 use Rattle.dav_handler_core.proofs.ConditionLemmas.{looks_none, looks_on, same_state}
+use Rattle.dav_handler_core.proofs.FindingLemmas.{by_depth, by_memory, by_places, by_question}
 use Rattle.dav_handler_core.proofs.methods.propfind.propfind.Goals as goal
 
 pub returns-clause-done : goal.returns-clause-done
@@ -28,6 +30,7 @@ returns-clause-done g c =
       record {
         depth = c.in_ok-depth.depth;
         depth_is = c.in_ok-depth.ensures.ok;
+        allowed = c.in_ok-depth.ensures.allowed;
         question = question;
         question_is = c.in_ok-question.ensures.ok;
         places = map (λ p. segments p.bytes) c.in_ok-places.places.items;
@@ -67,3 +70,30 @@ returns-in_err-depth-clause-run g c = by_none (spec.caller c.args.session.now) (
 
 pub returns-in_err-question-clause-run : goal.returns-in_err-question-clause-run
 returns-in_err-question-clause-run g c = by_none (spec.caller c.args.session.now) (spec.state g.R.Rng.stream c.args.session.now)
+
+pub returns-in_err-depth-clause-err : goal.returns-in_err-depth-clause-err
+returns-in_err-depth-clause-err g c =
+    let p = err_from_is_err_and c.from_residual.result c.from_residual.ensures.1 in
+    rw (p.1, p.2) (by_depth c.args.finite c.args.headers.now c.args.body.now (spec.state g.R.Rng.stream c.args.session.now).map (segments c.args.path.bytes) c.in_err-depth.field-0.0 c.in_err-depth.ensures.err)
+
+pub returns-in_err-question-clause-err : goal.returns-in_err-question-clause-err
+returns-in_err-question-clause-err g c =
+    let p = err_from_is_err_and c.from_residual-in_err-question.result c.from_residual-in_err-question.ensures.1 in
+    rw (p.1, p.2) (by_question c.args.finite c.args.headers.now c.args.body.now (spec.state g.R.Rng.stream c.args.session.now).map (segments c.args.path.bytes) c.in_err-question.field-0.0 c.in_ok-depth.depth
+    c.in_ok-depth.ensures.ok c.in_err-question.ensures.err)
+
+pub returns-in_err-places-clause-err : goal.returns-in_err-places-clause-err
+returns-in_err-places-clause-err g c =
+    let p = err_from_is_err_and c.from_residual-in_err-places.result c.from_residual-in_err-places.ensures.1 in
+    rw (p.1, p.2) (by_places c.args.finite c.args.headers.now c.args.body.now (spec.state g.R.Rng.stream c.args.session.now).map (segments c.args.path.bytes) c.in_err-places.field-0.0 c.in_ok-depth.depth
+    (question_of c.in_ok-question.question) c.in_ok-depth.ensures.ok c.in_ok-question.ensures.ok c.in_err-places.ensures.err)
+
+pub returns-in_err-document-clause-err : goal.returns-in_err-document-clause-err
+returns-in_err-document-clause-err g c =
+    let p = err_from_is_err_and c.from_residual-in_err-document.result c.from_residual-in_err-document.ensures.1 in
+    rw (p.1, p.2) (by_memory c.args.finite c.args.headers.now c.args.body.now (spec.state g.R.Rng.stream c.args.session.now).map (segments c.args.path.bytes) c.in_err-document.field-0.0 c.in_err-document.ensures.err)
+
+pub returns-in_err-say_document-clause-err : goal.returns-in_err-say_document-clause-err
+returns-in_err-say_document-clause-err g c =
+    let p = err_from_is_err_and c.from_residual-in_err-say_document.result c.from_residual-in_err-say_document.ensures.1 in
+    rw (p.1, p.2) (by_memory c.args.finite c.args.headers.now c.args.body.now (spec.state g.R.Rng.stream c.args.session.now).map (segments c.args.path.bytes) _ refl)

@@ -1,13 +1,12 @@
-use Rattle.std.proofs.Common.{◌≡◌, ℕ, ◌-◌, List, [], ◌∷◌, map, take, Ok, string_bytes, ap, ◌∙◌, subst}
-use Rattle.std.specs.Prelude.{option_map}
+use Rattle.std.proofs.Common.{ℕ, ◌-◌, List, [], ◌∷◌, map, take, Ok, string_bytes, ap, ◌∙◌, subst}
 use Rattle.std.proofs.lemmas.List.{map-append}
 use Rattle.dav_path_core.specs.Segments.{segments}
 use Rattle.dav_resource_core.specs.Requests.{Command}
 use Rattle.dav_resource_core.specs.Served.{reply_of}
 use Rattle.dav_resource_core.specs.Step.{Serves}
 use Rattle.dav_handler_core.specs.Callers.{Caller, asking, live}
-use Rattle.dav_handler_core.specs.Granting.{also_naming}
 use Rattle.dav_handler_core.specs.Sessions as spec
+use Rattle.dav_handler_core.proofs.CallerLaws.{no_runs}
 use Rattle.dav_handler_core.proofs.GrantLemmas.{named_before, tokens_left}
 use Rattle.dav_handler_core.proofs.session.Session.make_under.Goals as goal
 
@@ -40,3 +39,6 @@ returns-in-Err-clause-caller g c =
     named_before who (spec.caller c.ask-answer.new.self) (string_bytes c.args.token) (map string_bytes c.pop.new.self.items) (c.ask-answer.ensures.caller ∙ named)
     (tokens_left string_bytes c.ask-answer.new.self.request.tokens.items c.pop.new.self.items
     (c.pop.ensures.rest ∙ ap (λ n. take (n - 1) c.ask-answer.new.self.request.tokens.items) c.ask-answer.new.self.request.tokens.ok.0))
+
+pub returns-in_err-push-clause-run : goal.returns-in_err-push-clause-run
+returns-in_err-push-clause-run g c = no_runs (spec.state g.R.Rng.stream c.args.self.now)

@@ -2,6 +2,7 @@ use Rattle.std.proofs.Common.{◌≡◌, ◌+◌, true, length, map, string_byte
 use Rattle.dav_path_core.specs.Fronts.{is_front}
 use Rattle.dav_path_core.specs.Segments.{segments}
 use Rattle.dav_handler_core.specs.Callers.{live}
+use Rattle.dav_handler_core.specs.Granting.{AreAbove}
 use Rattle.dav_handler_core.specs.Sessions as spec
 use Rattle.dav_handler_core.proofs.ConditionLemmas.{Looks}
 use Rattle.dav_handler_core.proofs.GrantLemmas.{TokensSoFar}
@@ -15,4 +16,6 @@ invariant-loop g l =
       looks : Looks who start (spec.caller l.self) (spec.state g.R.Rng.stream l.self);
       left : length (segments l.here.bytes) + l.counter ≡ length (segments l.path.bytes);
       tokens : TokensSoFar (live who.now start) (segments l.path.bytes) (segments l.here.bytes) (map string_bytes l.tokens.items);
+      front : is_front (segments l.here.bytes) (segments l.path.bytes) ≡ true;
+      only : AreAbove (live who.now start) (segments l.path.bytes) (map string_bytes l.tokens.items);
     }

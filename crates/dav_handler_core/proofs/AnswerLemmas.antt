@@ -29,7 +29,7 @@ use Rattle.dav_handler_core.specs.FileTags.{file_tag}
 use Rattle.dav_handler_core.specs.Getting.{FailsToGet, Gets, tagged}
 use Rattle.dav_handler_core.specs.LocksInTheWay.{IsPathOfOne}
 use Rattle.dav_handler_core.specs.Private.Begun.{IsHeld}
-use Rattle.dav_handler_core.specs.Putting.{FailsToPut, Puts, in_the_way, put_course, put_status}
+use Rattle.dav_handler_core.specs.Putting.{FailsToPut, Puts, in_the_way, props_of, put_course, put_status}
 use Rattle.dav_handler_core.specs.Refusals.{RefusesTarget, RefusesPrincipal, HasBadIf, HasPart, IsLastMoment}
 use Rattle.dav_handler_core.specs.Senders.{NamesPrincipal}
 use Rattle.dav_handler_core.specs.Unlocking.{Unlocks}
@@ -223,6 +223,7 @@ module _ (before mid after : Server) (request : Request (List ℕ)) (path : Path
         kind = puts.kind;
         bytes_are = puts.bytes_are;
         modified = puts.modified ∙ now;
+        props = puts.props ∙ ap (λ m. props_of (at_path m Here)) there;
         others = λ q apart. puts.others q apart ∙ ap (λ m. at_path m q) there;
         left = puts.left ∙ ap (λ (t : State). record t { map = after.state.map })
             (ap (λ n. live n s) begins.now ∙ alike ∙ ap (λ n. live n before.state) (sym same));

@@ -99,7 +99,7 @@ fault_failed fault.ServiceUnavailable h = absurd (omega (arith, h))
 fault_failed fault.InsufficientStorage h = absurd (omega (arith, h))
 
 -- no fault has such a status
-no_fault : (e : Fault) (status : ℕ) → fault_status e ≡ status → status < 400 → status ≢ 207 → ⊥
+pub no_fault : (e : Fault) (status : ℕ) → fault_status e ≡ status → status < 400 → status ≢ 207 → ⊥
 no_fault e status is low apart = elim (fault_high e) [
   | inl member ↦ apart (sym is ∙ member_status e member)
   | inr high ↦ omega (arith, is, low, high)

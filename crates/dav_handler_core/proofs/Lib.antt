@@ -1,6 +1,7 @@
 pub mod AdmitLemmas
 pub mod AnewLemmas
 pub mod AnswerLemmas
+pub mod AskedNameLemmas
 pub mod Asking
 pub mod CallerLaws
 pub mod ChildLemmas
@@ -17,6 +18,7 @@ pub mod CopyReadyLemmas
 pub mod CopyingLemmas
 pub mod DecidingLaws
 pub mod DescribingLemmas
+pub mod DescriptionTextLemmas
 pub mod DestinationLemmas
 mod ElementRows
 pub mod EndsLemmas
@@ -24,24 +26,29 @@ pub mod FieldLemmas
 pub mod FileHistoryLemmas
 pub mod FileTagLemmas
 pub mod FindingLemmas
+pub mod FragmentLemmas
 pub mod FrameLemmas
 pub mod GetLemmas
 pub mod GrantLemmas
 pub mod HoldingLaws
 pub mod IfTokenLaws
 pub mod KeptReadingLaws
+pub mod KeptStoreLaws
 pub mod ListedTagLemmas
 pub mod LockAnswerLemmas
 mod LockInfoRows
 pub mod LockLemmas
 pub mod LockMethodLemmas
+pub mod LockTextLemmas
 pub mod LockTokenLemmas
 pub mod MakeLemmas
+pub mod MapValueLemmas
 pub mod MoveCheckLemmas
 pub mod MoveLemmas
 pub mod NamedLemmas
 pub mod OwnLemmas
 pub mod PatchAnswerLemmas
+pub mod PatchDocumentLemmas
 pub mod PatchLemmas
 mod PatchRows
 pub mod PieceLemmas
@@ -56,6 +63,7 @@ pub mod RefusalLemmas
 pub mod RefusalReadingLaws
 pub mod RemovalCheckLemmas
 pub mod RemovalLemmas
+pub mod SentenceLaws
 pub mod SubtreeLemmas
 pub mod TagGrammarLaws
 pub mod TagLaws
@@ -63,10 +71,14 @@ mod TagRows
 pub mod TaggedLemmas
 pub mod TokenLemmas
 pub mod TokenTexts
+pub mod ToldDocumentLaws
+pub mod ToldDocumentLemmas
 pub mod TransferAnswerLemmas
 pub mod TransferLaws
 mod TransferRows
 pub mod TypeLemmas
 pub mod UnderLockLemmas
+pub mod VisibleTextLemmas
+pub mod WordLemmas
 pub mod WritingLemmas
 pub mod WrittenTextLemmas

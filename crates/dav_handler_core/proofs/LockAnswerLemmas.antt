@@ -16,13 +16,14 @@ use Rattle.dav_handler_core.specs.Answers.{Admits, Begins, Leaves, LockAnswers, 
 use Rattle.dav_handler_core.specs.Callers.{Asks, Caller, RunBy, Runs, SameLive, live}
 use Rattle.dav_handler_core.specs.Conditions.{has_token}
 use Rattle.dav_handler_core.specs.Fields.{Sent}
-use Rattle.dav_handler_core.specs.Locking.{FailsToLock, IsGranted, LeavesUntold}
+use Rattle.dav_handler_core.specs.Locking.{FailsToLock, IsAskedBy, IsGranted, LeavesUntold}
 use Rattle.dav_handler_core.specs.Private.Begun.{IsHeld}
 use Rattle.dav_handler_core.specs.Private.Rooms.{LeavesLock}
 use Rattle.dav_handler_core.specs.Refreshing.{FailsToRefresh, Refreshes}
 use Rattle.dav_handler_core.proofs.AnewLemmas.{of_filter}
 use Rattle.dav_handler_core.proofs.AnswerLemmas.{admits_on, begins_on, found_as, moves_on}
 use Rattle.dav_handler_core.proofs.CallerLaws.{runs_by, runs_join, runs_of}
+use Rattle.dav_handler_core.proofs.LockLemmas.{untold_by}
 
 -- ---- a request that wasn't begun, or was held off
 
@@ -88,10 +89,10 @@ module _ (before mid after : Server) (request : Request (List ℕ)) (path : Path
   })
 
   -- what is left where it is refused
-  pub lock_leaves : (e : Fault) → LeavesLock who (segments path.bytes) e s after.state → Leaves (Some method.Lock) before request e after
+  pub lock_leaves : (e : Fault) → LeavesLock (IsAskedBy (body_of request) (live who.now s) who path) who (segments path.bytes) e s after.state → Leaves (Some method.Lock) before request e after
   lock_leaves fault.InsufficientStorage (inl kept) = inl (subst (λ n. SameLive n before.state after.state) now (kept.1 ∙ found ∙ ap (λ n. live n before.state) (sym now)))
   lock_leaves fault.InsufficientStorage (inr untold) =
-      inr (path, who, begins_on before mid after request path who same begins, subst (λ (t : State). LeavesUntold t who (segments path.bytes) after.state) found untold.1)
+      inr (path, who, begins_on before mid after request path who same begins, subst (λ (t : State). LeavesUntold (IsAskedBy (body_of request) t who path) t who (segments path.bytes) after.state) found untold.1)
   lock_leaves _ (inl kept) = subst (λ n. SameLive n before.state after.state) now (kept.1 ∙ found ∙ ap (λ n. live n before.state) (sym now))
   lock_leaves _ (inr untold) = absurd (cc (untold.0))
 
@@ -117,11 +118,11 @@ module _ (before mid after : Server) (request : Request (List ℕ)) (path : Path
 
   pub moves_granted : (result : Result ℕ Fault) (sent : Sent) → s ≡ mid.state → Moves before request mid → RunBy who before.state mid.state → Runs mid.state after.state
       → IfOk result (λ status. IsGranted before.options.longest before.options.prefix (head_of request).headers (body_of request) (live who.now s) who path status sent after.state)
-      → IfErr result (λ e. LeavesLock who (segments path.bytes) e s after.state) → after.options ≡ mid.options → after.clock ≡ mid.clock → Moves before request after
+      → IfErr result (λ e. LeavesLock (IsAskedBy (body_of request) (live who.now s) who path) who (segments path.bytes) e s after.state) → after.options ≡ mid.options → after.clock ≡ mid.clock → Moves before request after
   moves_granted (Ok status) sent is moves first more done left options clock = moves_locked moves first more (LocksOne.grants done.wanted done.lock done.grants) options clock
   moves_granted (Err e) sent is moves first more done (inl kept) options clock =
       moves_on before mid after request path who begins moves first (subst (λ (t : State). RunBy who t after.state) is kept.0) same options clock
-  moves_granted (Err e) sent is moves first more done (inr untold) options clock = moves_locked moves first more (LocksOne.takes_back untold.1) options clock
+  moves_granted (Err e) sent is moves first more done (inr untold) options clock = moves_locked moves first more (LocksOne.takes_back (untold_by (live who.now s) after.state who (segments path.bytes) (λ l asked. tt) untold.1)) options clock
 
   pub moves_refreshed : (result : Result ℕ Fault) (sent : Sent) → s ≡ mid.state → Moves before request mid → RunBy who before.state mid.state → Asks who mid.state after.state
       → IfOk result (λ status. Refreshes before.options.longest before.options.prefix (head_of request).headers (live who.now s) who (segments path.bytes) status sent after.state)
@@ -131,7 +132,7 @@ module _ (before mid after : Server) (request : Request (List ℕ)) (path : Path
       moves_locked moves first (runs_of who mid.state after.state more) (LocksOne.refreshes done.token done.timeout (Contains-In who.tokens done.token named.0) done.refreshes) options clock
   moves_refreshed (Err e) sent is moves first more done looked options clock = moves_on before mid after request path who begins moves first looked same options clock
 
-  pub lock_leaves_by : (result : Result ℕ Fault) → IfErr result (λ e. LeavesLock who (segments path.bytes) e s after.state)
+  pub lock_leaves_by : (result : Result ℕ Fault) → IfErr result (λ e. LeavesLock (IsAskedBy (body_of request) (live who.now s) who path) who (segments path.bytes) e s after.state)
       → IfErr result (λ e. Leaves (Some method.Lock) before request e after)
   lock_leaves_by (Ok status) left = tt
   lock_leaves_by (Err e) left = lock_leaves e left

@@ -181,12 +181,16 @@ module _ (most : Option ℕ) (headers : Entries FieldValue) (body : List ℕ) (s
 -- ---- what is taken back
 
 module _ (s : State) (who : Caller) (p : Path) (once : live who.now s ≡ s) where
-  pub back : (s' : State) → s' ≡ with_token_drawn s → LeavesUntold s who p s'
+  pub back : {Is : Lock → Type 0} (s' : State) → s' ≡ with_token_drawn s → LeavesUntold Is s who p s'
   back s' is = inl (ap (live who.now) is ∙ ap with_token_drawn once)
 
   pub kept_there : (old : State) (l : Lock) (token : List ℕ) (above : List (List ℕ)) → live who.now old ≡ with_lock s l → l.token ≡ token → AreAbove s p above
-      → is_among above token ≡ true → LeavesUntold s who p old
-  kept_there old l token above is named only among = inr (l, is, ap (stands_above s p) named ∙ only token among)
+      → is_among above token ≡ true → LeavesUntold (λ k. k ≡ l) s who p old
+  kept_there old l token above is named only among = inr (l, is, ap (stands_above s p) named ∙ only token among, refl)
+
+pub untold_by : {P Q : Lock → Type 0} (s s' : State) (who : Caller) (p : Path) → ((l : Lock) → P l → Q l) → LeavesUntold P s who p s' → LeavesUntold Q s who p s'
+untold_by s s' who p weaker (inl left) = inl left
+untold_by s s' who p weaker (inr kept) = inr (kept.0, kept.1, kept.2, weaker kept.0 kept.3)
 
 -- ---- what stands there
 
@@ -261,14 +265,15 @@ module _ (s0 mid : State) (who asker : Caller) (path : PathText) (wanted : Wante
   -- it is taken back
   pub untold_left : (last : Caller) (fin after : State) (token : List ℕ) → last ≡ asker → SameLive asker.now mid fin → lock.token ≡ token
       → ((s : State) (l : Lock) → live last.now s ≡ s → live last.now fin ≡ with_lock s l → lock_path l ≡ segments path.bytes → l.token ≡ token
-      → HaveTokens s (segments path.bytes) above → AreAbove s (segments path.bytes) above → LeavesUntold s last (segments path.bytes) after)
-      → LeavesUntold (live who.now s0) who (segments path.bytes) after
+      → HaveTokens s (segments path.bytes) above → AreAbove s (segments path.bytes) above → LeavesUntold (λ k. k ≡ l) s last (segments path.bytes) after)
+      → LeavesUntold (λ k. k ≡ granted_lock (live who.now s0) who path wanted.owner wanted.timeout wanted.shared wanted.deep) (live who.now s0) who (segments path.bytes) after
   untold_left last fin after token by kept named h =
       let own : last ≡ who = by ∙ same in
       let there : live who.now fin ≡ with_lock (live who.now s0) lock = subst (λ (w : Caller). SameLive w.now mid fin) same kept ∙ still_there in
-      subst (λ w. LeavesUntold (live who.now s0) w (segments path.bytes) after) own
+      untold_by (live who.now s0) after who (segments path.bytes) (λ l same_lock. same_lock ∙ is)
+      (subst (λ w. LeavesUntold (λ k. k ≡ lock) (live who.now s0) w (segments path.bytes) after) own
       (h (live who.now s0) lock (ap (λ (w : Caller). live w.now (live who.now s0)) own ∙ live_once who.now s0) (ap (λ (w : Caller). live w.now fin) own ∙ there)
-      (ap (λ (l : Lock). lock_path l) is) named ready.have ready.only)
+      (ap (λ (l : Lock). lock_path l) is) named ready.have ready.only))
 
 -- no conflict is told where memory is lacking
 pub no_conflict_told : (locks : List Lock) (path : PathText) (e : Fault) → e ≡ fault.InsufficientStorage → IsConflictAt locks path e

@@ -1,5 +1,5 @@
 -- A LOCK with a body, from what it finds to what it grants.
-use Rattle.std.proofs.Common.{inl, inr, ℕ, ◌<◌, ◌-◌, ◌^◌, Bool, List, Option, Result, Ok, Err, sym, subst, ◌∙◌}
+use Rattle.std.proofs.Common.{inl, inr, ℕ, ◌<◌, ◌-◌, ◌^◌, Bool, List, Option, Result, Ok, Err, sym, subst, ap, ◌≡◌, ◌∙◌}
 use Rattle.std.specs.Prelude.{IfErr, IfOk}
 use Rattle.http_header.specs.FieldValue.{FieldValue}
 use Rattle.http_header.specs.HeaderMap.{Entries}
@@ -11,13 +11,13 @@ use Rattle.dav_resource_core.specs.Step.{State}
 use Rattle.dav_handler_core.specs.declared.faults.Fault.{Fault}
 use Rattle.dav_handler_core.specs.Callers.{Caller, RunBy, Runs, SameLive, live}
 use Rattle.dav_handler_core.specs.Fields.{Sent}
-use Rattle.dav_handler_core.specs.Granting.{AreAbove, HaveTokens}
-use Rattle.dav_handler_core.specs.Locking.{FailsToLock, IsGranted, LeavesUntold, Wanted, Wants}
+use Rattle.dav_handler_core.specs.Granting.{AreAbove, HaveTokens, granted_lock}
+use Rattle.dav_handler_core.specs.Locking.{FailsToLock, IsAskedBy, IsGranted, LeavesUntold, Wanted, Wants}
 use Rattle.dav_handler_core.specs.Private.Rooms.{FoundRoom, IsConflictAt, IsGrantedNow, IsReady, LeavesLock}
 use Rattle.dav_handler_core.proofs.Asking.{by_join}
 use Rattle.dav_handler_core.proofs.CallerLaws.{runs_by, runs_join}
 use Rattle.dav_handler_core.proofs.ConditionLemmas.{Looks, same_state}
-use Rattle.dav_handler_core.proofs.LockLemmas.{conflict_by, granted_by, lasts}
+use Rattle.dav_handler_core.proofs.LockLemmas.{conflict_by, granted_by, lasts, untold_by}
 
 -- what holds of a state that was looked at holds of the one before
 looked : (Q : State → Caller → Type 0) (who last : Caller) (s m : State) → Looks who s last m → Q (live last.now m) last → Q (live who.now s) who
@@ -54,13 +54,28 @@ module _ (most : Option ℕ) (headers : Entries FieldValue) (body : List ℕ) (p
         conflict_by most headers body (live who.now s) who path e wanted missing wants room
         (looked (λ t w. IsConflictAt (lock_conflicts t.locks (segments path.bytes) wanted.shared wanted.deep) path e) who last s m looks h)
 
-    pub leaves : (result : Result ℕ Fault) → IfErr result (λ e. LeavesLock last (segments path.bytes) e m s') → IfErr result (λ e. LeavesLock who (segments path.bytes) e s s')
+    pub leaves : (result : Result ℕ Fault)
+        → IfErr result (λ e. LeavesLock (λ l. l ≡ granted_lock (live last.now m) last path wanted.owner wanted.timeout wanted.shared wanted.deep) last (segments path.bytes) e m s')
+        → IfErr result (λ e. LeavesLock (IsAskedBy body (live who.now s) who path) who (segments path.bytes) e s s')
     leaves (Ok status) h = tt
     leaves (Err e) (inl kept) = inl (
       by_join who s m s' looks.run (subst (λ w. RunBy w m s') looks.caller kept.0),
       subst (λ (w : Caller). SameLive w.now m s') looks.caller kept.1 ∙ looks.live,
     )
-    leaves (Err e) (inr untold) = inr (untold.0, looked (λ t w. LeavesUntold t w (segments path.bytes) s') who last s m looks untold.1)
+    leaves (Err e) (inr untold) = inr (
+      untold.0,
+      untold_by (live who.now s) s' who (segments path.bytes) (λ l same. (
+          wants.info,
+          wants.asks,
+          (
+            wanted.timeout,
+            wanted.deep,
+            same ∙ ap (λ (owner : Option (List ℕ)). granted_lock (live who.now s) who path owner wanted.timeout wanted.shared wanted.deep) wants.owner_is
+                ∙ ap (λ shared. granted_lock (live who.now s) who path wants.info.owner wanted.timeout shared wanted.deep) wants.shared_is,
+          ),
+        ))
+        (looked (λ t w. LeavesUntold (λ l. l ≡ granted_lock t w path wanted.owner wanted.timeout wanted.shared wanted.deep) t w (segments path.bytes) s') who last s m looks untold.1),
+    )
 
     pub runs : Runs m s' → Runs s s'
     runs more = runs_join s m s' (runs_by who s m looks.run) more

@@ -54,7 +54,7 @@ passed_too : {X : Type 0} (P : X → Type 0) (test : X → Bool) (b : Bool) (x :
 passed_too P test true x xs h hs = (h, hs)
 passed_too P test false x xs h hs = hs
 
-passes_all : {X : Type 0} (P : X → Type 0) (test : X → Bool) (xs : List X) → AllByRecursion P xs → AllByRecursion P (filter test xs)
+pub passes_all : {X : Type 0} (P : X → Type 0) (test : X → Bool) (xs : List X) → AllByRecursion P xs → AllByRecursion P (filter test xs)
 passes_all P test [] h = tt
 passes_all P test (x ∷ xs) h = passed_too P test (test x) x xs h.0 (passes_all P test xs h.1)
 

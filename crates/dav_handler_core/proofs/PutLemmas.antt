@@ -37,7 +37,7 @@ use Rattle.dav_handler_core.specs.Preconditions.{course_of}
 use Rattle.dav_handler_core.specs.Private.Marking.{IsNone}
 use Rattle.dav_handler_core.specs.Private.Placing.{HasPlace, LacksPlace, standing_known, target_by}
 use Rattle.dav_handler_core.specs.Private.Refusing.{put_fault, unputtable}
-use Rattle.dav_handler_core.specs.Putting.{FailsToPut, IsPuttable, Puts, changes_by, in_the_way, put_course}
+use Rattle.dav_handler_core.specs.Putting.{FailsToPut, IsPuttable, Puts, changes_by, in_the_way, props_of, put_course}
 use Rattle.dav_handler_core.proofs.GetLemmas.{known_entry, nothing_known}
 
 -- the entries after it, but for the locks
@@ -47,15 +47,16 @@ pub record Found (m : ResourceMap) (p : Path) (bytes : List ℕ) (now : ℕ) (m'
   pub kind : file.node.kind ≡ File
   pub bytes_are : file.node.bytes ≡ bytes
   pub modified : file.node.modified ≡ now
+  pub props : file.node.props ≡ props_of (at_path m p)
   pub others : (q : Path) → q ≢ p → at_path m' q ≡ at_path m q
 
 abbrev done : ResourceMap → Outcome (Unit {0})
 done n = Ok (tt, n)
 
 -- an entry that is written
-written : (m m' : ResourceMap) (p : Path) (number : ℕ) (node : Node) (next : ℕ) → node.kind ≡ File
+written : (m m' : ResourceMap) (p : Path) (number : ℕ) (node : Node) (next : ℕ) → node.kind ≡ File → node.props ≡ props_of (at_path m p)
     → m' ≡ record { entries = insert m.entries p (record { number = number; node = node }); next = next } → Found m p node.bytes node.modified m'
-written m m' p number node next kind left =
+written m m' p number node next kind props left =
     let file : Resource = record { number = number; node = node } in
     record {
       file = file;
@@ -63,28 +64,29 @@ written m m' p number node next kind left =
       kind = kind;
       bytes_are = refl;
       modified = refl;
+      props = props;
       others = λ q apart. ap (λ (m : ResourceMap). at_path m q) left ∙ get_other path_total path_exact m.entries p file q apart;
     }
 
 pub put_found : (m m' : ResourceMap) (p : Path) (bytes : List ℕ) (now : ℕ) → put m p bytes now ≡ done m' → Found m p bytes now m'
-put_found m m' p bytes now h = by (at_path m p) h
+put_found m m' p bytes now h = by (at_path m p) refl h
   where
     left_by : (n : ResourceMap) → done n ≡ done m' → m' ≡ n
     left_by n h =
         let pairs : (tt {0}, n) ≡ (tt {0}, m') = cc in ap (λ (x : Unit {0} × ResourceMap). x.1) (sym pairs)
 
-    by_kind : (r : Resource) (k : Kind) → r.node.kind ≡ k
+    by_kind : (r : Resource) (k : Kind) → at_path m p ≡ Some r → r.node.kind ≡ k
         → (elim k [ Folder ↦ Err fs.Forbidden | File ↦ Ok r ] >>= λ r. done (changed m p r (record r.node { bytes = bytes; modified = now }))) ≡ done m' → Found m p bytes now m'
-    by_kind r Folder is h = absurd (cc)
-    by_kind r File is h = written m m' p r.number (record r.node { bytes = bytes; modified = now }) m.next is (left_by _ h)
+    by_kind r Folder there is h = absurd (cc)
+    by_kind r File there is h = written m m' p r.number (record r.node { bytes = bytes; modified = now }) m.next is (ap props_of (sym there)) (left_by _ h)
 
-    by_folder : (f : Result Resource FsError) → (f >>= λ _. done (added m p (new_file bytes now))) ≡ done m' → Found m p bytes now m'
-    by_folder (Ok r) h = written m m' p m.next (new_file bytes now) (m.next + 1) refl (left_by _ h)
-    by_folder (Err e) h = absurd (cc)
+    by_folder : (f : Result Resource FsError) → at_path m p ≡ None → (f >>= λ _. done (added m p (new_file bytes now))) ≡ done m' → Found m p bytes now m'
+    by_folder (Ok r) there h = written m m' p m.next (new_file bytes now) (m.next + 1) refl (ap props_of (sym there)) (left_by _ h)
+    by_folder (Err e) there h = absurd (cc)
 
-    by : (o : Option Resource) → put_at m p bytes now o ≡ done m' → Found m p bytes now m'
-    by (Some r) h = by_kind r r.node.kind refl h
-    by None h = by_folder (find_folder m (parent p)) h
+    by : (o : Option Resource) → at_path m p ≡ o → put_at m p bytes now o ≡ done m' → Found m p bytes now m'
+    by (Some r) there h = by_kind r r.node.kind there refl h
+    by None there h = by_folder (find_folder m (parent p)) there h
 
 pub rebuilt : (s s' : State) → IsState s' s'.map s.locks s.rng → s' ≡ record s { map = s'.map }
 rebuilt s s' h = rw (sym h.locks_are, sym h.rng_is) refl
@@ -99,6 +101,7 @@ put_done who s s' p bytes reply h =
       kind = found.kind;
       bytes_are = found.bytes_are;
       modified = found.modified;
+      props = found.props;
       others = found.others;
       left = rebuilt (live who.now s) s' h.1.1;
     }

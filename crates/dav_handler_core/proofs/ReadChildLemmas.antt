@@ -5,7 +5,7 @@ use Rattle.std.proofs.lemmas.Bool.{false≢true}
 use Rattle.std.proofs.lemmas.List.{append-nil, map_push}
 use Rattle.std.proofs.lemmas.List.Folds.{list_all-append}
 use Rattle.dav_xml_core.specs.Documents.{Node, Start, Text, End, Name, Attribute, closes, is_element}
-use Rattle.dav_xml_core.specs.ReadableDocuments.{CouldBeRead, are_apart, is_node, is_readable, node_bytes}
+use Rattle.dav_xml_core.specs.ReadableDocuments.{CouldBeRead, are_apart, has_room, is_node, is_readable, node_bytes}
 use Rattle.dav_handler_core.specs.Elements.{children, elements_from}
 
 -- ---- the same in bytes
@@ -122,3 +122,46 @@ pub children_could : (nodes : List Node) → CouldBeRead nodes → AllByRecursio
 children_could nodes h =
     let found : children nodes ≡ map bytes_of (children h.characters) = ap children h.bytes ∙ same_children h.characters in
     rw found (could_each (children h.characters) (children_readable h.characters h.readable))
+
+-- ---- what holds of each node
+
+grown_all : (p : Node → Bool) (so_far : List Node) (node : Node) → list_all p so_far ≡ true → p node ≡ true → list_all p (so_far ++ node ∷ []) ≡ true
+grown_all p so_far node h is = list_all-append p so_far (node ∷ []) ∙ rw (h, is) refl
+
+each_all : (p : Node → Bool) (nodes : List Node) (depth : ℕ) (so_far : List Node) → list_all p so_far ≡ true → list_all p nodes ≡ true
+    → AllByRecursion (λ element. list_all p element ≡ true) (elements_from depth so_far nodes)
+each_all p [] zero so_far h all = tt
+each_all p [] (suc n) so_far h all = tt
+each_all p (Start name attributes ∷ nodes) zero so_far h all =
+    let e = both _ _ all in each_all p nodes 1 (Start name attributes ∷ []) (ap (λ b. b && true) e.0) e.1
+each_all p (Text text ∷ nodes) zero so_far h all = each_all p nodes zero [] refl (both _ _ all).1
+each_all p (End ∷ nodes) zero so_far h all = each_all p nodes zero [] refl (both _ _ all).1
+each_all p (Start name attributes ∷ nodes) (suc n) so_far h all =
+    let e = both _ _ all in each_all p nodes (suc (suc n)) (so_far ++ Start name attributes ∷ []) (grown_all p so_far (Start name attributes) h e.0) e.1
+each_all p (Text text ∷ nodes) (suc n) so_far h all =
+    let e = both _ _ all in each_all p nodes (suc n) (so_far ++ Text text ∷ []) (grown_all p so_far (Text text) h e.0) e.1
+each_all p (End ∷ nodes) (suc zero) so_far h all =
+    let e = both _ _ all in (grown_all p so_far End h e.0, each_all p nodes zero [] refl e.1)
+each_all p (End ∷ nodes) (suc (suc n)) so_far h all =
+    let e = both _ _ all in each_all p nodes (suc n) (so_far ++ End ∷ []) (grown_all p so_far End h e.0) e.1
+
+children_all : (p : Node → Bool) (nodes : List Node) → list_all p nodes ≡ true → AllByRecursion (λ element. list_all p element ≡ true) (children nodes)
+children_all p [] h = tt
+children_all p (Start name attributes ∷ nodes) h = each_all p nodes 0 [] refl (both _ _ h).1
+children_all p (Text text ∷ nodes) h = tt
+children_all p (End ∷ nodes) h = tt
+
+-- ---- each was read
+
+-- nodes that could have been read, and memory holds one more attribute of each
+pub record WasRead (nodes : List Node) : Type 0 where
+  pub could : CouldBeRead nodes
+  pub room : list_all has_room nodes ≡ true
+
+each_read : (elements : List (List Node)) → AllByRecursion CouldBeRead elements → AllByRecursion (λ element. list_all has_room element ≡ true) elements
+    → AllByRecursion WasRead elements
+each_read [] h k = tt
+each_read (element ∷ elements) h k = (record { could = h.0; room = k.0 }, each_read elements h.1 k.1)
+
+pub children_read : (nodes : List Node) → WasRead nodes → AllByRecursion WasRead (children nodes)
+children_read nodes h = each_read (children nodes) (children_could nodes h.could) (children_all has_room nodes h.room)

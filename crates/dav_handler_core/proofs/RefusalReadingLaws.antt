@@ -1,141 +1,65 @@
 -- What a refusal tells could have been read, so it is read.
-use Rattle.std.proofs.Common.{◌≡◌, ℕ, zero, suc, true, false, List, [], ◌∷◌, ◌++◌, Some, codes, refl, sym, ap, ◌∙◌, subst, arith}
-use lib.Utf8.{encode}
-use Rattle.std.specs.Prelude.{IsAscii, encode_utf8_all}
-use Rattle.std.specs.List.{AllByRecursion, list_all}
-use Rattle.std.proofs.lemmas.Bool.Decides.{nat_tests}
-use Rattle.std.proofs.lemmas.List.Elements.{All-append, recursion_from_All}
-use Rattle.std.proofs.lemmas.Str.{encodes-IsAscii}
+use Rattle.std.proofs.Common.{◌≡◌, ℕ, List, [], ◌∷◌, ◌++◌, Some, codes, refl, subst}
 use Rattle.dav_path_core.specs.PathText.{PathText}
-use Rattle.dav_path_core.specs.Url.{url}
-use Rattle.dav_path_core.proofs.paths.UrlLemmas.{IsSafe, safe_url}
-use Rattle.dav_xml_core.specs.Characters.{is_char}
 use Rattle.dav_xml_core.specs.Documents.{Node, Text}
-use Rattle.dav_xml_core.specs.Namespaces.{are_distinct}
-use Rattle.dav_xml_core.specs.ReadableDocuments.{CouldBeRead}
 use Rattle.dav_xml_core.specs.Reading.{document_of}
-use Rattle.dav_xml_core.specs.Scanning.{is_nil}
 use Rattle.dav_xml_core.specs.Writing.{written}
-use Rattle.dav_xml_core.proofs.NodesLemmas.{written_again}
 use Rattle.dav_handler_core.specs.declared.faults.Fault.{Fault}
 use Rattle.dav_handler_core.specs.declared.faults.Fault.TheVariants as fault
-use Rattle.dav_handler_core.specs.RefusalBodies.{conflict_below_nodes, conflict_nodes, element, finite_nodes, front, lock_nodes, member_nodes, no_lock_nodes, url_path}
+use Rattle.dav_handler_core.specs.KeptDocuments.{IsVisible}
+use Rattle.dav_handler_core.specs.RefusalBodies.{element, href, told_response, url_path}
 use Rattle.dav_handler_core.specs.RefusalReading.{HasPath, IsReadAsTold, IsRooted}
+use Rattle.dav_handler_core.proofs.FragmentLemmas.{AreFineNodes, IsWord, document_again, nodes_both, nodes_within, none, text}
+use Rattle.dav_handler_core.proofs.ToldDocumentLemmas.{path_visible}
+use Rattle.dav_handler_core.proofs.WordLemmas as word
 
--- ---- the texts of URLs
+is_read : (local : List ℕ) (inside nodes : List Node) → IsWord local → AreFineNodes inside → Some (element local inside) ≡ Some nodes → document_of (written nodes) ≡ Some nodes
+is_read local inside nodes is fine are =
+    let same : element local inside ≡ nodes = cc in subst (λ (ns : List Node). document_of (written ns) ≡ Some ns) same (document_again local inside is fine)
 
-abbrev AllSafe : List ℕ → Type 0
-AllSafe bytes = AllByRecursion IsSafe bytes
+path_fine : (prefix : List ℕ) (path : PathText) → IsRooted path → AreFineNodes (href prefix path)
+path_fine prefix path h = text (codes "href") (url_path prefix path) word.href (path_visible prefix path h)
 
-ascii : (bytes : List ℕ) → AllSafe bytes → IsAscii bytes
-ascii [] h i = omega arith
-ascii (b ∷ bytes) h zero = omega (arith, h.0.high)
-ascii (b ∷ bytes) h (suc i) = ascii bytes h.1 i
+status_fine : (status : List ℕ) → IsVisible status → AreFineNodes (element (codes "status") (Text status ∷ []))
+status_fine status h = text (codes "status") status word.status h
 
-char : (b : ℕ) → IsSafe b → is_char b ≡ true
-char b h = grind (arith, nat_tests)
+empty : (local : List ℕ) → IsWord local → AreFineNodes (element local [])
+empty local is = nodes_within local [] is none
 
-all_chars : (bytes : List ℕ) → AllSafe bytes → list_all is_char bytes ≡ true
-all_chars [] h = refl
-all_chars (b ∷ bytes) h = rw (char b h.0) (all_chars bytes h.1)
+response_fine : (prefix : List ℕ) (path : PathText) (status : List ℕ) (why : List Node) → IsRooted path → IsVisible status → AreFineNodes why
+    → AreFineNodes (told_response prefix path status why)
+response_fine prefix path status why h is fine =
+    let told = element (codes "status") (Text status ∷ []) in
+    nodes_within (codes "response") (href prefix path ++ (told ++ why)) word.response
+    (nodes_both (href prefix path) (told ++ why) (path_fine prefix path h) (nodes_both told why (status_fine status is) fine))
 
-nil_behind : (before behind : List ℕ) → is_nil behind ≡ false → is_nil (before ++ behind) ≡ false
-nil_behind [] behind h = h
-nil_behind (b ∷ before) behind h = refl
+submitted : AreFineNodes (element (codes "error") (element (codes "lock-token-submitted") []))
+submitted = nodes_within (codes "error") (element (codes "lock-token-submitted") []) word.error (empty (codes "lock-token-submitted") word.lock_token_submitted)
 
-url_shown : (bytes rest : List ℕ) → bytes ≡ 47 ∷ rest → is_nil (url bytes) ≡ false
-unfolding url
-url_shown bytes rest h = ap (λ path. is_nil (url path)) h
-
--- a text of characters of XML, which is as long in bytes, and isn't empty
-record IsText (text : List ℕ) : Type 0 where
-  shown : is_nil text ≡ false
-  chars : list_all is_char text ≡ true
-  same : encode_utf8_all text ≡ text
-
-url_text : (prefix : List ℕ) (path : PathText) → IsRooted path → IsText (url_path prefix path)
-url_text prefix path h =
-    let safe = recursion_from_All IsSafe (url_path prefix path) (All-append IsSafe (url (front prefix)) (url path.bytes) (safe_url (front prefix)) (safe_url path.bytes)) in
-    record {
-      shown = nil_behind (url (front prefix)) (url path.bytes) (url_shown path.bytes h.0 h.1);
-      chars = all_chars (url_path prefix path) safe;
-      same = encodes-IsAscii (url_path prefix path) (ascii (url_path prefix path) safe);
-    }
-
--- ---- the documents
-
-abbrev lock_of : List ℕ → List Node
-lock_of text = element (codes "error") (element (codes "lock-token-submitted") (element (codes "href") (Text text ∷ [])))
-
-abbrev conflict_of : List ℕ → List Node
-conflict_of text = element (codes "error") (element (codes "no-conflicting-lock") (element (codes "href") (Text text ∷ [])))
-
-abbrev member_of : List ℕ → List Node
-member_of text =
-    element (codes "multistatus") (element (codes "response") (element (codes "href") (Text text ∷ [])
-    ++ element (codes "status") (Text (codes "HTTP/1.1 423 Locked") ∷ []) ++ element (codes "error") (element (codes "lock-token-submitted") [])))
-
-abbrev told_of : List ℕ → List ℕ → List Node → List Node
-told_of text status why = element (codes "response") (element (codes "href") (Text text ∷ []) ++ (element (codes "status") (Text status ∷ []) ++ why))
-
-abbrev below_of : List ℕ → List ℕ → List Node
-below_of text other =
-    element (codes "multistatus") (told_of text (codes "HTTP/1.1 423 Locked") (element (codes "error") (element (codes "no-conflicting-lock") []))
-    ++ told_of other (codes "HTTP/1.1 424 Failed Dependency") [])
-
-lock_could : (text : List ℕ) → IsText text → CouldBeRead (lock_of text)
-unfolding encode are_distinct
-lock_could text h = record {
-  characters = lock_of text;
-  bytes = ap lock_of (sym h.same);
-  readable = rw (h.shown, h.chars) refl;
-}
-
-conflict_could : (text : List ℕ) → IsText text → CouldBeRead (conflict_of text)
-unfolding encode are_distinct
-conflict_could text h = record {
-  characters = conflict_of text;
-  bytes = ap conflict_of (sym h.same);
-  readable = rw (h.shown, h.chars) refl;
-}
-
-member_could : (text : List ℕ) → IsText text → CouldBeRead (member_of text)
-unfolding encode are_distinct
-member_could text h = record {
-  characters = member_of text;
-  bytes = ap member_of (sym h.same);
-  readable = rw (h.shown, h.chars) refl;
-}
-
-below_could : (text other : List ℕ) → IsText text → IsText other → CouldBeRead (below_of text other)
-unfolding encode are_distinct
-below_could text other h k = record {
-  characters = below_of text other;
-  bytes = ap (λ t. below_of t other) (sym h.same) ∙ ap (λ t. below_of (encode_utf8_all text) t) (sym k.same);
-  readable = rw (h.shown, h.chars, k.shown, k.chars) refl;
-}
-
-no_lock_could : CouldBeRead no_lock_nodes
-unfolding encode are_distinct
-no_lock_could = record { characters = no_lock_nodes; bytes = refl; readable = refl }
-
-finite_could : CouldBeRead finite_nodes
-unfolding encode are_distinct
-finite_could = record { characters = finite_nodes; bytes = refl; readable = refl }
-
-is_read : (told nodes : List Node) → CouldBeRead told → Some told ≡ Some nodes → document_of (written nodes) ≡ Some nodes
-is_read told nodes could h =
-    let same : told ≡ nodes = cc in subst (λ (ns : List Node). document_of (written ns) ≡ Some ns) same (written_again told could)
+conflicting : AreFineNodes (element (codes "error") (element (codes "no-conflicting-lock") []))
+conflicting = nodes_within (codes "error") (element (codes "no-conflicting-lock") []) word.error (empty (codes "no-conflicting-lock") word.no_conflicting_lock)
 
 pub refusals_are_read : (prefix : List ℕ) (e : Fault) → HasPath e → IsReadAsTold prefix e
-refusals_are_read prefix (fault.Locked path) h nodes are = is_read (lock_nodes prefix path) nodes (lock_could (url_path prefix path) (url_text prefix path h)) are
+refusals_are_read prefix (fault.Locked path) h nodes are =
+    is_read (codes "error") (element (codes "lock-token-submitted") (href prefix path)) nodes word.error
+    (nodes_within (codes "lock-token-submitted") (href prefix path) word.lock_token_submitted (path_fine prefix path h)) are
 refusals_are_read prefix (fault.ConflictingLock path) h nodes are =
-    is_read (conflict_nodes prefix path) nodes (conflict_could (url_path prefix path) (url_text prefix path h)) are
+    is_read (codes "error") (element (codes "no-conflicting-lock") (href prefix path)) nodes word.error
+    (nodes_within (codes "no-conflicting-lock") (href prefix path) word.no_conflicting_lock (path_fine prefix path h)) are
 refusals_are_read prefix (fault.MemberLocked path) h nodes are =
-    is_read (member_nodes prefix path) nodes (member_could (url_path prefix path) (url_text prefix path h)) are
+    let why = element (codes "error") (element (codes "lock-token-submitted") []) in
+    is_read (codes "multistatus") (told_response prefix path (codes "HTTP/1.1 423 Locked") why) nodes word.multistatus
+    (response_fine prefix path (codes "HTTP/1.1 423 Locked") why h (record { some = refl; each = refl }) submitted) are
 refusals_are_read prefix (fault.ConflictingMember at path) h nodes are =
-    is_read (conflict_below_nodes prefix at path) nodes
-    (below_could (url_path prefix at) (url_path prefix path) (url_text prefix at h.0) (url_text prefix path h.1)) are
-refusals_are_read prefix fault.NoSuchLock h nodes are = is_read no_lock_nodes nodes no_lock_could are
-refusals_are_read prefix fault.InfiniteDepth h nodes are = is_read finite_nodes nodes finite_could are
+    let why = element (codes "error") (element (codes "no-conflicting-lock") []) in
+    let first = told_response prefix at (codes "HTTP/1.1 423 Locked") why in
+    let second = told_response prefix path (codes "HTTP/1.1 424 Failed Dependency") [] in
+    is_read (codes "multistatus") (first ++ second) nodes word.multistatus
+    (nodes_both first second (response_fine prefix at (codes "HTTP/1.1 423 Locked") why h.0 (record { some = refl; each = refl }) conflicting)
+    (response_fine prefix path (codes "HTTP/1.1 424 Failed Dependency") [] h.1 (record { some = refl; each = refl }) none)) are
+refusals_are_read prefix fault.NoSuchLock h nodes are =
+    is_read (codes "error") (element (codes "lock-token-matches-request-uri") []) nodes word.error
+    (empty (codes "lock-token-matches-request-uri") word.lock_token_matches_request_uri) are
+refusals_are_read prefix fault.InfiniteDepth h nodes are =
+    is_read (codes "error") (element (codes "propfind-finite-depth") []) nodes word.error (empty (codes "propfind-finite-depth") word.propfind_finite_depth) are
 refusals_are_read prefix _ h nodes are = absurd (cc)

@@ -81,6 +81,7 @@ put_dates before after p bytes later h = file_dates before after p bytes later (
   kind = h.kind;
   bytes_are = h.bytes_are;
   modified = h.modified;
+  props = h.props;
   others = h.others;
 })
 

@@ -1,5 +1,5 @@
 -- How the server answers a request: what it promises of the answer, and of what it leaves (RFC 9110 section 9, RFC 4918 sections 6, 7 and 9).
-use Rattle.std.specs.Prelude.{◌≡◌, ◌≢◌, ◌⊎◌, Bool, true, false, ℕ, ◌<◌, ◌≤◌, List, [], ◌∷◌, Option, None, Some, Result, Ok, Err, IfErr, Contains}
+use Rattle.std.specs.Prelude.{◌≡◌, ◌≢◌, ◌⊎◌, Bool, true, false, ℕ, ◌<◌, ◌≤◌, ◌^◌, length, List, [], ◌∷◌, Option, None, Some, Result, Ok, Err, IfErr, Contains}
 use Rattle.http.specs.declared.request.Request.{Request}
 use Rattle.http.specs.Request.{head_of, body_of}
 use Rattle.http_server.specs.declared.response.Response.{Response}
@@ -25,7 +25,7 @@ use Rattle.dav_handler_core.specs.Fields.{Sent, sent_of}
 use Rattle.dav_handler_core.specs.FileTags.{tag_of}
 use Rattle.dav_handler_core.specs.Finding.{FailsToTell, TellsFound}
 use Rattle.dav_handler_core.specs.Getting.{FailsToGet, Gets, tagged}
-use Rattle.dav_handler_core.specs.Locking.{FailsToLock, Grants, IsGranted, LeavesUntold, Wanted}
+use Rattle.dav_handler_core.specs.Locking.{FailsToLock, Grants, IsAskedBy, IsGranted, LeavesUntold, Wanted}
 use Rattle.dav_handler_core.specs.Making.{FailsToMake, Makes}
 use Rattle.dav_handler_core.specs.Moving as moving
 use Rattle.dav_handler_core.specs.Patching.{FailsToPatch, Patches}
@@ -248,7 +248,7 @@ pub record EndsOne (before : Server) (request : Request (List ℕ)) (after : Ser
 -- What a LOCK does to the locks: one more is granted; or it was, and is taken back; or a lock of the caller's own, whose token it names, has another end.
 pub data LocksOne (s : State) (who : Caller) (path : PathText) (s' : State) : Type 0 where
   grants : (wanted : Wanted) (lock : Lock) → Grants s who path wanted lock s' → LocksOne s who path s'
-  takes_back : LeavesUntold s who (segments path.bytes) s' → LocksOne s who path s'
+  takes_back : LeavesUntold (λ l. Unit {0}) s who (segments path.bytes) s' → LocksOne s who path s'
   refreshes : (token : List ℕ) (timeout : Option ℕ) → Contains who.tokens token → RefreshesOwn s who (segments path.bytes) token timeout s' → LocksOne s who path s'
 
 -- it is done by a run of requests, of the caller, or with the new lock's token beside the caller's
@@ -284,7 +284,8 @@ Leaves (Some method.Move) before request fault.InsufficientStorage after =
     × moving.StartsToMove before.options.scheme before.options.prefix (head_of request).headers (as_found before after) after.last after.state)
 Leaves (Some method.Lock) before request fault.InsufficientStorage after =
     SameLive after.last before.state after.state
-    ⊎ ((path : PathText) × (who : Caller) × Begins before request after path who × LeavesUntold (as_found before after) who (segments path.bytes) after.state)
+    ⊎ ((path : PathText) × (who : Caller) × Begins before request after path who
+    × LeavesUntold (IsAskedBy (body_of request) (as_found before after) who path) (as_found before after) who (segments path.bytes) after.state)
 Leaves _ before request e after = SameLive after.last before.state after.state
 
 -- the status that says how it ended
@@ -297,6 +298,8 @@ pub record Answers (before : Server) (request : Request (List ℕ)) (response : 
   -- the method, how it ended, and by which status
   pub method : Option DavMethod
   pub is_method : IsMethod method (head_of request).method
+  -- memory holds the body
+  pub fits : length (body_of request) < 2 ^ 64
   pub result : Result ℕ Fault
   pub status : response.status ≡ status_of result
   pub done : AnswersTo method before request result (sent_of response) after

@@ -19,6 +19,7 @@ pub mod Getting
 pub mod Granting
 pub mod Holding
 pub mod IfTokens
+pub mod KeptDocuments
 pub mod KeptReading
 pub mod ListedTags
 pub mod LiveProperties
@@ -41,12 +42,13 @@ pub mod PropertyQuestions
 pub mod PropertyUpdates
 pub mod Putting
 pub mod Ranges
+pub mod Refreshing
 pub mod RefusalBodies
 pub mod RefusalReading
-pub mod Refreshing
 pub mod Refusals
 pub mod Removing
 pub mod Senders
+pub mod Sentence
 pub mod Servers
 pub mod Serving
 pub mod Sessions

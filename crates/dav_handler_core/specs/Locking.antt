@@ -111,6 +111,11 @@ pub data FailsToLock (most : Option ℕ) (headers : Entries FieldValue) (body : 
 
 -- What is left where memory is lacking once the lock is granted: the lock is taken back, and the generator has given a token. But it stands, and nobody knows its token, where
 -- a lock there or above has the same token, as that one would end in its place.
-abbrev pub LeavesUntold : State → Caller → Path → State → Type 0
-LeavesUntold s who p s' =
-    (live who.now s' ≡ with_token_drawn s) ⊎ ((lock : Lock) × (live who.now s' ≡ with_lock s lock) × (stands_above s p lock.token ≡ true))
+abbrev pub LeavesUntold : (Lock → Type 0) → State → Caller → Path → State → Type 0
+LeavesUntold Is s who p s' =
+    (live who.now s' ≡ with_token_drawn s) ⊎ ((lock : Lock) × (live who.now s' ≡ with_lock s lock) × (stands_above s p lock.token ≡ true) × Is lock)
+
+-- it is one that the body asks for
+abbrev pub IsAskedBy : List ℕ → State → Caller → PathText → Lock → Type 0
+IsAskedBy body s who path lock =
+    (info : LockInfo) × (lock_info_in body ≡ Some info) × ((timeout : Option ℕ) × (deep : Bool) × (lock ≡ granted_lock s who path info.owner timeout info.shared deep))

@@ -1,5 +1,5 @@
 -- What may be told of what stands at a path (RFC 4918 sections 8.3, 9.1 and 15).
-use Rattle.std.specs.Prelude.{◌≡◌, ℕ, ◌*◌, ◌/◌, pos, Bool, true, false, List, [], ◌∷◌, ◌++◌, codes, flat_map, None, Some, if◌then◌else◌}
+use Rattle.std.specs.Prelude.{◌≡◌, ℕ, ◌*◌, ◌/◌, pos, Bool, true, false, List, [], ◌∷◌, ◌++◌, codes, flat_map, Some, if◌then◌else◌}
 use Rattle.std.specs.FinMap.{values}
 use Rattle.httpdate.specs.Date.{date_text, unix_secs}
 use Rattle.httpdate.specs.declared.date.HttpDate.{HttpDate}
@@ -29,7 +29,7 @@ IsHttpDate seconds text = (date : HttpDate) × (unix_secs date ≡ seconds) × (
 -- as RFC 3339 does, in UTC
 abbrev pub IsInternetDate : ℕ → List ℕ → Type 0
 IsInternetDate seconds text =
-    (date : DateTime) × (civil_nanos date ≡ pos (seconds * 1_000_000_000)) × (text ≡ datetime_text false 84 None date ++ zulu_text false)
+    (date : DateTime) × (civil_nanos date ≡ pos (seconds * 1_000_000_000)) × (text ≡ datetime_text false 84 (Some 0) date ++ zulu_text false)
 
 -- ---- a place
 

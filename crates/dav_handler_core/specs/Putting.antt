@@ -1,5 +1,6 @@
 -- What a PUT leaves, and why it is refused (RFC 9110 sections 9.3.4 and 13.2, RFC 4918 section 9.7).
 use Rattle.std.specs.Prelude.{◌≡◌, ◌≢◌, ℕ, List, [], Option, None, Some, Result, Ok, Err, if◌then◌else◌}
+use Rattle.std.specs.FinMap.{empty}
 use Rattle.http_header.specs.FieldValue.{FieldValue}
 use Rattle.http_header.specs.HeaderMap.{Entries}
 use Rattle.dav_path_core.specs.declared.errors.FsError.{FsError}
@@ -7,7 +8,7 @@ use Rattle.dav_path_core.specs.declared.util.DavMethod.TheVariants as method
 use Rattle.dav_path_core.specs.Fronts.{Path}
 use Rattle.dav_files_core.specs.declared.memfs.Kind.TheVariants.{Folder, File}
 use Rattle.dav_files_core.specs.Putting.{put}
-use Rattle.dav_files_core.specs.Resources.{Resource, ResourceMap, at_path}
+use Rattle.dav_files_core.specs.Resources.{Properties, Resource, ResourceMap, at_path}
 use Rattle.dav_locks_core.specs.Lock.{Lock}
 use Rattle.dav_resource_core.specs.Requests.{Command}
 use Rattle.dav_resource_core.specs.Checks.{has}
@@ -29,6 +30,11 @@ in_the_way s who p bytes = conflicts (live who.now s) (asking who (Command.Put p
 abbrev pub put_status : ResourceMap → Path → ℕ
 put_status m p = if has m p then 204 else 201
 
+-- the properties of what stood there; a new file has none
+abbrev pub props_of : Option Resource → Properties
+props_of None = empty
+props_of (Some r) = r.node.props
+
 -- after it the file has the bytes, and was changed last at the moment; each other path has what it had; and the locks that last stand
 pub record Puts (s : State) (now : ℕ) (p : Path) (bytes : List ℕ) (s' : State) : Type 0 where
   pub file : Resource
@@ -36,6 +42,7 @@ pub record Puts (s : State) (now : ℕ) (p : Path) (bytes : List ℕ) (s' : Stat
   pub kind : file.node.kind ≡ File
   pub bytes_are : file.node.bytes ≡ bytes
   pub modified : file.node.modified ≡ now
+  pub props : file.node.props ≡ props_of (at_path s.map p)
   pub others : (q : Path) → q ≢ p → at_path s'.map q ≡ at_path s.map q
   pub left : s' ≡ record (live now s) { map = s'.map }
 

@@ -1,5 +1,5 @@
 //! Bodies of requests that are documents.
-ghost use Rattle.std.specs.Prelude.{◌≡◌, ◌⊎◌, map, IfErr, IfOk, None, Some};
+ghost use Rattle.std.specs.Prelude.{◌≡◌, ◌⊎◌, ◌<◌, ◌^◌, length, map, IfErr, IfOk, None, Some};
 ghost use Rattle.dav_xml_core.specs.Reading.{document_of};
 ghost use Rattle.dav_xml_core.specs.ReadableDocuments.{CouldBeRead};
 ghost use Rattle.dav_xml_core.specs.Views.{node_of};
@@ -32,3 +32,8 @@ impl From<XmlError> for Fault {
         }
     }
 }
+
+/// Memory holds the bytes, so there are fewer than 2^64. It does nothing.
+pub(crate) fn fits(bytes: &[u8])
+    ensures { length bytes.now < 2 ^ 64 }
+{}

@@ -22,6 +22,7 @@ ghost use Rattle.dav_handler_core.specs.declared.faults.Fault.TheVariants as fau
 
 mod laws;
 
+use crate::bodies::fits;
 use crate::conditions::{Scheme, admit};
 use crate::faults::Fault;
 use crate::methods::{
@@ -431,6 +432,7 @@ impl<R: Rng> Service for Dav<R> {
         request: &Request<Bytes>,
         response: &mut Response,
     ) -> Result<(), AllocError> {
+        fits(request.body());
         match self.answer(request, response) {
             Ok(status) => response.status = status,
             Err(fault) => refuse(self.alloc, response, &self.settings.prefix, &fault),

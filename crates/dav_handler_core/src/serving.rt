@@ -1,12 +1,16 @@
 //! The connections of a server.
-ghost use Rattle.std.specs.Prelude.{◌≡◌, ℕ, List, [], ◌++◌, IfOk};
+ghost use Rattle.std.specs.Prelude.{◌≡◌, ℕ, List, [], ◌++◌, IfOk, Option};
 ghost use Rattle.std.specs.Io.KnownBytes.{Appends, Consumes};
 ghost use Rattle.http_server.specs.Connection.{config_of, history};
 ghost use Rattle.http_server.specs.Exchange.{Calls};
-ghost use Rattle.dav_handler_core.specs.Answers.{Answers};
+ghost use Rattle.dav_handler_core.specs.Answers.{Answers, Server};
+ghost use Rattle.dav_handler_core.specs.KeptDocuments.{IsNew};
+ghost use Rattle.dav_handler_core.specs.Sentence.{EachAnswer, KeepsTo};
 ghost use Rattle.dav_handler_core.specs.Servers.{server};
 ghost use Rattle.http_frames.specs.Clients.{Has};
-ghost use Rattle.dav_handler_core.specs.Serving.{AreServed};
+ghost use Rattle.http_frames.specs.declared.clients.Clients as held;
+ghost use Rattle.dav_handler_core.specs.Serving.{AreServed, turns_of};
+ghost use Rattle.dav_handler_core.specs.declared.serving.End as spec_end;
 ghost use Rattle.dav_handler_core.specs.Private.Steps.{Follows};
 
 use crate::dav::Dav;
@@ -57,6 +61,18 @@ pub fn serve_frames<R: Rng, C: Clock, I: BufRead, O: Write>(
     }
     Err(Fault::Io)
 }
+
+/// The law of a whole run (RFC 4918 sections 6 and 7, RFC 9110 section 9.3): whatever bytes any number of clients send, in whatever pieces, from new stores on, each answer
+/// keeps to this. It does nothing.
+///
+/// - A path under an exclusive lock changes only by a request that names its token under its principal.
+/// - A lock is ended by its holder, or by time alone.
+/// - A 200 to a GET of a file has the bytes that the last PUT, COPY or MOVE left there; a LOCK of a path where nothing stands leaves an empty file.
+/// - A refusal changes nothing, but that locks that have expired may be gone; a COPY, a MOVE or a LOCK that lacked memory may have begun.
+pub fn served_frames_keep_to_it()
+    ensures { (end : spec_end.End) (c c' : held.Clients) (begun after : Server) (input input' output output' : Option (List ℕ)) → IsNew begun
+        → (h : AreServed end c c' begun after input input' output output') → EachAnswer (KeepsTo begun) begun (turns_of h.done) after h.leads }
+{}
 
 // Serves one frame, and tells whether it is the last.
 fn serve_frame<R: Rng, C: Clock, I: BufRead, O: Write>(

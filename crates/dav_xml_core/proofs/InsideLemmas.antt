@@ -1,5 +1,5 @@
 -- The nodes of an element, with others behind them.
-use Rattle.std.proofs.Common.{◌≡◌, refl, sym, ap, ◌∙◌, ℕ, zero, suc, Bool, true, false, not, List, [], ◌∷◌, ◌++◌, map}
+use Rattle.std.proofs.Common.{◌≡◌, refl, sym, ap, ◌∙◌, ℕ, zero, suc, Bool, true, false, ◌&&◌, not, List, [], ◌∷◌, ◌++◌, map}
 use Rattle.std.proofs.lemmas.Bool.{and_parts, false≢true}
 use Rattle.std.specs.List.{list_all}
 use Rattle.std.proofs.lemmas.List.{map-append}
@@ -49,6 +49,24 @@ element_apart [] after_text rest h i = absurd (false≢true h)
 element_apart (Start name attributes ∷ nodes) after_text rest h i = apart_behind nodes zero false rest h i
 element_apart (Text text ∷ nodes) after_text rest h i = absurd (false≢true h)
 element_apart (End ∷ nodes) after_text rest h i = absurd (false≢true h)
+
+behind_apart : (nodes : List Node) (k : ℕ) (after_text : Bool) (rest : List Node) → closes (suc k) nodes ≡ true → are_apart after_text nodes ≡ true
+    → are_apart after_text (nodes ++ rest) ≡ are_apart false rest
+behind_apart [] k after_text rest h i = absurd (false≢true h)
+behind_apart (Start name attributes ∷ nodes) k after_text rest h i = behind_apart nodes (suc k) false rest h i
+behind_apart (Text text ∷ nodes) k after_text rest h i =
+    let p = and_parts (not after_text) (are_apart true nodes) i in
+    ap (λ b. b && are_apart true (nodes ++ rest)) p.0 ∙ behind_apart nodes k true rest h p.1
+behind_apart (End ∷ []) zero after_text rest h i = refl
+behind_apart (End ∷ node ∷ nodes) zero after_text rest h i = absurd (false≢true h)
+behind_apart (End ∷ nodes) (suc k) after_text rest h i = behind_apart nodes k false rest h i
+
+-- what stands right behind an element stands behind no text
+pub element_behind : (nodes rest : List Node) → is_element nodes ≡ true → are_apart false nodes ≡ true → are_apart false (nodes ++ rest) ≡ are_apart false rest
+element_behind [] rest h i = absurd (false≢true h)
+element_behind (Start name attributes ∷ nodes) rest h i = behind_apart nodes zero false rest h i
+element_behind (Text text ∷ nodes) rest h i = absurd (false≢true h)
+element_behind (End ∷ nodes) rest h i = absurd (false≢true h)
 
 pub not_outside : (nodes rest : List Node) → is_element nodes ≡ true → closes zero (nodes ++ rest) ≡ true → ⊥
 not_outside [] rest h i = false≢true h

@@ -284,9 +284,11 @@ module _ (n : ℕ) (inside : List Binding) (are : AreBindings inside) where
 
 -- ---- the start
 
-pub record StartIs (start : Started) : Type 0 where
+-- with at most so many attributes
+pub record StartIs (limit : ℕ) (start : Started) : Type 0 where
   pub name : Name
   pub attributes : List Attribute
+  pub few : length attributes ≤ limit
   pub name_is : start.name ≡ name_bytes name
   pub attributes_are : start.attributes ≡ map attribute_bytes attributes
   pub is : is_start name attributes ≡ true
@@ -297,7 +299,7 @@ unfolding Covered
 nothing_seen x h = refl
 
 pub start_is : (n : ℕ) (around : List Binding) (name : QName) (raws : List RawAttribute) (start : Started) → n < 2 ^ 64 → AreBindings around → is_ncname name.local ≡ true
-    → AreFound n raws → length raws ≤ n → started_of around name raws ≡ Some start → StartIs start
+    → AreFound n raws → length raws ≤ n → started_of around name raws ≡ Some start → StartIs n start
 unfolding started_of are_distinct
 start_is n around name raws start small are local found few h =
     let a = bind_some (with_bindings around raws) _ start h in
@@ -311,5 +313,5 @@ start_is n around name raws start small are local found few h =
     let all = kept n a.0 inside raws d.0 f.0 found d.1 f.1 in
     let size : nat_lt (length all.attributes) (2 ^ 64) ≡ true = lt-ltb (length all.attributes) (2 ^ 64) (omega (arith, all.few)) in
     let is : is_start read.name all.attributes ≡ true = rw (read.is, all.are, all.distinct [] [] nothing_seen w.0, size) refl in
-    subst StartIs (same_Some (record { bindings = a.0; name = b.0; attributes = f.0 }) start f.2)
-    (record { name = read.name; attributes = all.attributes; name_is = read.bytes; attributes_are = all.bytes; is = is; bindings = inside })
+    subst (StartIs n) (same_Some (record { bindings = a.0; name = b.0; attributes = f.0 }) start f.2)
+    (record { name = read.name; attributes = all.attributes; few = omega (arith, all.few, few); name_is = read.bytes; attributes_are = all.bytes; is = is; bindings = inside })

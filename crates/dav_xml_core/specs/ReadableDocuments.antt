@@ -1,5 +1,5 @@
 -- Which documents could have been read (own).
-use Rattle.std.specs.Prelude.{◌≡◌, Bool, true, false, ◌&&◌, not, List, [], ◌∷◌, map, encode_utf8_all}
+use Rattle.std.specs.Prelude.{◌≡◌, ◌+◌, ◌^◌, nat_lt, length, Bool, true, false, ◌&&◌, not, List, [], ◌∷◌, map, encode_utf8_all}
 use Rattle.std.specs.List.{list_all}
 use Rattle.dav_xml_core.specs.Characters.{is_char}
 use Rattle.dav_xml_core.specs.Documents.{Node, Start, Text, End, is_element}
@@ -17,6 +17,12 @@ abbrev pub is_node : Node → Bool
 is_node (Start name attributes) = is_start name attributes
 is_node (Text text) = not (is_nil text) && list_all is_char text
 is_node End = true
+
+-- memory holds one more attribute of a start
+abbrev pub has_room : Node → Bool
+has_room (Start name attributes) = nat_lt (length attributes + 1) (2 ^ 64)
+has_room (Text text) = true
+has_room End = true
 
 -- no text stands right behind another; the flag says whether one stands before
 abbrev pub are_apart : Bool → List Node → Bool

@@ -84,6 +84,6 @@ pub record IsGrantedNow (prefix : List ℕ) (s : State) (who : Caller) (path : P
   pub told : sent.body ≡ written_pieces (discovery_pieces prefix who.principal (discovered (s.locks ++ lock ∷ []) (segments path.bytes)))
 
 -- What a LOCK leaves that is refused: all is as it was; or memory was lacking once the lock was granted.
-abbrev pub LeavesLock : Caller → Path → Fault → State → State → Type 0
-LeavesLock who p e s s' =
-    (RunBy who s s' × SameLive who.now s s') ⊎ ((e ≡ fault.InsufficientStorage) × locking.LeavesUntold (live who.now s) who p s')
+abbrev pub LeavesLock : (Lock → Type 0) → Caller → Path → Fault → State → State → Type 0
+LeavesLock Is who p e s s' =
+    (RunBy who s s' × SameLive who.now s s') ⊎ ((e ≡ fault.InsufficientStorage) × locking.LeavesUntold Is (live who.now s) who p s')

@@ -1,17 +1,22 @@
 //! The laws of conditions, of locks and of refusals over the answers of the server, and of what is kept of properties. They do nothing.
-ghost use Rattle.std.specs.Prelude.{◌≡◌, ◌<◌, ◌⊎◌, ◌^◌, ℕ, true, length, List, Some};
+ghost use Rattle.std.specs.Prelude.{◌≡◌, ◌<◌, ◌⊎◌, ◌^◌, ℕ, true, length, List, Some, IfOk};
 ghost use Rattle.std.specs.List.{AllByRecursion};
 ghost use Rattle.http.specs.declared.request.Request.{Request};
 ghost use Rattle.http_server.specs.declared.response.Response.{Response};
-ghost use Rattle.dav_handler_core.specs.Answers.{Answers, Server};
+ghost use Rattle.http.specs.Request.{body_of};
+ghost use Rattle.dav_xml_core.specs.Reading.{document_of};
+ghost use Rattle.dav_handler_core.specs.Answers.{Answers, IsPropPatched, Server};
 ghost use Rattle.dav_handler_core.specs.Callers.{SameLive};
 ghost use Rattle.dav_handler_core.specs.Deciding.{HeldOff, SendsPart, SendsTag, WentOn, looks};
-ghost use Rattle.dav_handler_core.specs.Fields.{sent_of};
+ghost use Rattle.dav_handler_core.specs.Fields.{Sent, sent_of};
 ghost use Rattle.dav_handler_core.specs.declared.faults.Fault.{Fault};
 ghost use Rattle.dav_handler_core.specs.Holding.{IsKeptUnlessHeld, StandsUnlessEnded};
+ghost use Rattle.dav_handler_core.specs.KeptDocuments.{IsDocument, IsNew, KeepsElements, is_told_in_xml};
 ghost use Rattle.dav_handler_core.specs.KeptReading.{IsReadAsSent};
+ghost use Rattle.dav_handler_core.specs.PatchBodies.{patch_nodes};
 ghost use Rattle.dav_handler_core.specs.PropertyUpdates.{Update, updates_in};
 ghost use Rattle.dav_handler_core.specs.RefusalReading.{HasPath, IsReadAsTold};
+ghost use Rattle.dav_handler_core.specs.TagHistories.{Becomes};
 ghost use Rattle.dav_locks_core.specs.Exclusive.{Exclusive};
 
 /// The law of conditions (RFC 4918 section 10.4, RFC 9110 sections 13 and 14) over every answer of the server. It does nothing.
@@ -49,7 +54,20 @@ pub fn refusals_are_read()
 {}
 
 /// The law of what is kept of properties (RFC 4918 section 4.4): what a body sets is kept as bytes that are read as the element that was sent, with the language
-/// that holds around it, if one more attribute fits memory with those of the element. It does nothing.
+/// that holds around it. It does nothing.
 pub fn kept_properties_are_read()
     ensures { (body : List ℕ) (updates : List Update) → length body < 2 ^ 64 → updates_in body ≡ Some updates → AllByRecursion IsReadAsSent updates }
+{}
+
+/// The law of documents (XML 1.0 section 2.1, RFC 4918 section 8.2) over a run from new stores. It does nothing.
+///
+/// - What a PROPFIND, a PROPPATCH or a LOCK has done is told by bytes that are read as one document, whatever any client has set before.
+/// - What is told of a PROPPATCH is read as it was told.
+/// - What the stores keep of properties and locks are elements that could have been read.
+pub fn answers_are_documents()
+    ensures told { (begun before after : Server) (request : Request (List ℕ)) (response : Response) → IsNew begun → Becomes begun before
+        → (h : Answers before request response after) → is_told_in_xml h.method ≡ true → IfOk h.result (λ status. IsDocument response.body.items) }
+    ensures patched { (before after : Server) (request : Request (List ℕ)) (status : ℕ) (sent : Sent) → length (body_of request) < 2 ^ 64
+        → (h : IsPropPatched before request status sent after) → document_of sent.body ≡ Some (patch_nodes before.options.prefix h.path h.patches.updates) }
+    ensures kept { (begun s : Server) → IsNew begun → Becomes begun s → KeepsElements s }
 {}

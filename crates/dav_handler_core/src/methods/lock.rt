@@ -70,7 +70,8 @@ pub(crate) fn lock<R: Rng>(
         (spec.caller session.old) path code (sent_of response.new) (spec.state R.stream session.new)) }
     ensures err { IfErr result (λ e. locking.FailsToLock longest headers.now body.now (live (spec.caller session.old).now (spec.state R.stream session.old))
         (spec.caller session.old) path e) }
-    ensures left { IfErr result (λ e. LeavesLock (spec.caller session.old) (segments path.bytes) e (spec.state R.stream session.old) (spec.state R.stream session.new)) }
+    ensures left { IfErr result (λ e. LeavesLock (locking.IsAskedBy body.now (live (spec.caller session.old).now (spec.state R.stream session.old)) (spec.caller session.old) path)
+        (spec.caller session.old) (segments path.bytes) e (spec.state R.stream session.old) (spec.state R.stream session.new)) }
     ensures run { Runs (spec.state R.stream session.old) (spec.state R.stream session.new) }
     ensures caller { spec.caller session.new ≡ spec.caller session.old }
 {
@@ -152,7 +153,9 @@ fn grant<R: Rng>(
         (spec.caller session.old) path (wanted_of wanted) missing lock code (sent_of response.new) (spec.state R.stream session.new)) }
     ensures err { IfErr result (λ e. IsConflictAt (lock_conflicts (live (spec.caller session.old).now (spec.state R.stream session.old)).locks
         (segments path.bytes) wanted.shared wanted.deep) path e) }
-    ensures left { IfErr result (λ e. LeavesLock (spec.caller session.old) (segments path.bytes) e (spec.state R.stream session.old) (spec.state R.stream session.new)) }
+    ensures left { IfErr result (λ e. LeavesLock (λ l. l ≡ granted_lock (live (spec.caller session.old).now (spec.state R.stream session.old)) (spec.caller session.old) path
+        (wanted_of wanted).owner wanted.timeout wanted.shared wanted.deep)
+        (spec.caller session.old) (segments path.bytes) e (spec.state R.stream session.old) (spec.state R.stream session.new)) }
     ensures run { Runs (spec.state R.stream session.old) (spec.state R.stream session.new) }
     ensures caller { spec.caller session.new ≡ spec.caller session.old }
 {
@@ -270,7 +273,7 @@ fn forget<R: Rng>(session: &mut Session<R>, path: DavPath, token: String, above:
     ensures left { (s : State) (l : Lock) → live (spec.caller session.old).now s ≡ s
         → live (spec.caller session.old).now (spec.state R.stream session.old) ≡ with_lock s l → lock_path l ≡ segments path.bytes → l.token ≡ string_bytes token
         → HaveTokens s (segments path.bytes) (map string_bytes above.now) → AreAbove s (segments path.bytes) (map string_bytes above.now)
-        → locking.LeavesUntold s (spec.caller session.old) (segments path.bytes) (spec.state R.stream session.new) }
+        → locking.LeavesUntold (λ k. k ≡ l) s (spec.caller session.old) (segments path.bytes) (spec.state R.stream session.new) }
     ensures run { Asks (spec.caller session.old) (spec.state R.stream session.old) (spec.state R.stream session.new) }
     ensures caller { spec.caller session.new ≡ spec.caller session.old }
 {

@@ -9,7 +9,7 @@ ghost use Rattle.dav_xml_core.specs.Namespaces.{Binding, always_bound, bound, xm
 ghost use Rattle.dav_xml_core.specs.Parts.{Part, PartsCouldBeRead, nodes_in, with_raw, written_parts};
 ghost use Rattle.dav_xml_core.specs.Places.{front_at, may_begin, read_on, with_element};
 ghost use Rattle.dav_xml_core.specs.Readable.{is_start, name_bytes, attribute_bytes, HoldWritten, IsReadBack};
-ghost use Rattle.dav_xml_core.specs.ReadableDocuments.{CouldBeRead, is_readable, node_bytes};
+ghost use Rattle.dav_xml_core.specs.ReadableDocuments.{CouldBeRead, has_room, is_readable, node_bytes};
 ghost use Rattle.dav_xml_core.specs.Reading.{Front, content_of, document_of, is_empty, text_in, value_in};
 ghost use Rattle.dav_xml_core.specs.References.{value_of};
 ghost use Rattle.dav_xml_core.specs.Scanning.{is_nil};
@@ -346,13 +346,14 @@ pub fn elements_round_trip()
 
 /// A law (XML 1.0 sections 2.1 and 3, Namespaces 1.0 section 6): the bytes that `write` writes for a document that could have been read are read as
 /// its nodes (`whole`), those that `write_element` writes for it, too (`element`), and each document that is read is such, if its bytes fit memory
-/// (`read`). Where the bytes of `write_element` stand inside a document that `write` writes, this is read as if the nodes of each had been written there
+/// (`read`); memory then holds one more attribute of each of its elements (`room`). Where the bytes of `write_element` stand inside a document that `write` writes, this is read as if the nodes of each had been written there
 /// (`kept`). Wherever an element may begin between other bytes, they are read as its nodes: the whole is read as what stands behind them, after a front that
 /// has the nodes, too (`placed`), and so it is in characters, whatever the prefixes are bound to there (`alone`).
 pub fn documents_round_trip()
     ensures whole { (nodes : List plain.Node) → CouldBeRead nodes → document_of (spec.written nodes) ≡ Some nodes }
     ensures element { (nodes : List plain.Node) → CouldBeRead nodes → document_of (spec.written_alone nodes) ≡ Some nodes }
     ensures read { (bytes : List ℕ) (nodes : List plain.Node) → length bytes < 2 ^ 64 → document_of bytes ≡ Some nodes → CouldBeRead nodes }
+    ensures room { (bytes : List ℕ) (nodes : List plain.Node) → length bytes < 2 ^ 64 → document_of bytes ≡ Some nodes → list_all has_room nodes ≡ true }
     ensures kept { (parts : List Part) → PartsCouldBeRead parts → document_of (written_parts parts) ≡ Some (nodes_in parts) }
     ensures placed { (before behind rest : List ℕ) (front : Front) (nodes : List plain.Node) → front_at before ≡ Some front → may_begin front ≡ true
         → characters behind ≡ Some rest → is_readable nodes ≡ true

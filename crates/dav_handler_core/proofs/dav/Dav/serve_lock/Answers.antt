@@ -3,10 +3,12 @@ use Rattle.std.specs.Prelude.{◌==◌, length, IfOk, IfErr}
 use Rattle.std.proofs.lemmas.Result.{err_from_is_err_and}
 use Rattle.http.specs.Request.{body_of, head_of}
 use Rattle.dav_path_core.specs.declared.util.DavMethod.TheVariants as method
+use Rattle.dav_path_core.specs.Segments.{segments}
 use Rattle.dav_handler_core.specs.Answers.{Options}
 use Rattle.dav_handler_core.specs.Callers.{Caller, live}
 use Rattle.dav_handler_core.specs.Fields.{sent_of}
-use Rattle.dav_handler_core.specs.Locking.{FailsToLock, IsGranted}
+use Rattle.dav_handler_core.specs.Locking.{FailsToLock, IsAskedBy, IsGranted}
+use Rattle.dav_handler_core.specs.Private.Rooms.{LeavesLock}
 use Rattle.dav_handler_core.specs.Servers.{server}
 use Rattle.dav_handler_core.specs.Sessions.{caller, state}
 use Rattle.dav_handler_core.proofs.LockAnswerLemmas.{lock_answered, lock_leaves_by, lock_unread, moves_granted, some_body}
@@ -60,7 +62,9 @@ returns-clause-refused g c =
     let s = state g.R.Rng.stream c.begin_admitted.new.self.session in
     let begun = c.in_ok-path.ensures.ok in
     lock_leaves_by before mid after c.args.request.now c.in_ok-path.path who (ap (λ (w : Caller). w.now) c.lock.ensures.caller) begun.0.0 begun.1 s c.begin_admitted.ensures.live
-    c.lock.result c.lock.ensures.left
+    c.lock.result
+    (subst (λ b. IfErr c.lock.result (λ e. LeavesLock (IsAskedBy b (live who.now s) who c.in_ok-path.path) who (segments c.in_ok-path.path.bytes) e s after.state))
+    (c.deref-2.ensures ∙ c.body-2.ensures) c.lock.ensures.left)
 
 pub returns-clause-moves : goal.returns-clause-moves
 returns-clause-moves g c =
@@ -81,4 +85,5 @@ returns-clause-moves g c =
     (subst (λ h. IfOk c.lock.result (λ status. IsGranted mid.options.longest mid.options.prefix h c.deref-2.result.now (live who.now s) who path status sent after.state)) c.headers.ensures
     (subst (λ prefix. IfOk c.lock.result (λ status. IsGranted mid.options.longest prefix c.headers.result.now c.deref-2.result.now (live who.now s) who path status sent after.state)) c.deref.ensures
     c.lock.ensures.done))))
-    c.lock.ensures.left refl refl
+    (subst (λ b. IfErr c.lock.result (λ e. LeavesLock (IsAskedBy b (live who.now s) who path) who (segments path.bytes) e s after.state))
+    (c.deref-2.ensures ∙ c.body-2.ensures) c.lock.ensures.left) refl refl

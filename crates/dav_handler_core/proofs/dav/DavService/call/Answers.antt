@@ -1,4 +1,4 @@
-use Rattle.std.proofs.Common.{Ok, Err, refl, ap, ◌∙◌, subst}
+use Rattle.std.proofs.Common.{◌<◌, ◌^◌, length, Ok, Err, refl, ap, ◌∙◌, subst}
 use Rattle.dav_handler_core.specs.Answers.{Options}
 use Rattle.dav_handler_core.specs.Fields.{sent_of}
 use Rattle.dav_handler_core.specs.RefusalBodies.{TellsWhy}
@@ -15,6 +15,7 @@ returns-in-Ok-clause-ok g c =
       moves = c.answer.ensures.moves;
       method = told.0;
       is_method = told.1;
+      fits = subst (λ b. length b < 2 ^ 64) (c.deref.ensures ∙ c.body.ensures) c.fits.ensures;
       result = Ok c.in-Ok.status;
       status = refl;
       done = told.2;
@@ -33,10 +34,11 @@ returns-in-Err-clause-ok g c =
       moves = c.answer.ensures.moves;
       method = told.0;
       is_method = told.1;
+      fits = subst (λ b. length b < 2 ^ 64) (c.deref.ensures ∙ c.body.ensures) c.fits.ensures;
       result = Err c.in-Err.fault;
       status = c.refuse.ensures.status;
       done = refused_alike told.0 before after c.args.request.now c.in-Err.fault (sent_of c.answer.new.response) (sent_of c.refuse.new.response) told.2;
-      told = subst (λ prefix. TellsWhy prefix c.in-Err.fault c.refuse.new.response) (c.deref.ensures ∙ ap (λ (o : Options). o.prefix) c.answer.ensures.moves.options) c.refuse.ensures.told;
+      told = subst (λ prefix. TellsWhy prefix c.in-Err.fault c.refuse.new.response) (c.deref-in-Err.ensures ∙ ap (λ (o : Options). o.prefix) c.answer.ensures.moves.options) c.refuse.ensures.told;
       refused = told.3;
       exclusive = moves_exclusive before after c.args.request.now c.answer.ensures.moves;
       shape = moves_shape before after c.args.request.now c.answer.ensures.moves;

@@ -1,0 +1,208 @@
+-- The texts that describe a resource are visible: its URL, its type, its tag and its dates.
+use Rattle.std.proofs.Common.{◌≡◌, refl, sym, ap, subst, ◌∙◌, ℕ, zero, suc, ◌+◌, ◌/◌, ◌%◌, ◌-◌, ◌<◌, ◌≤◌, arith, Bool, true, false, cond, ◌&&◌, ◌||◌, List, [], ◌∷◌, ◌++◌, Option, Some, None, codes}
+use Rattle.std.specs.Prelude.{◌==◌, T, nat_le, bytes_eq, decimal, flat_map, map, ℤ, pos, negsuc, slice_index_or}
+use Rattle.std.specs.Char.{to_ascii_lowercase}
+use Rattle.std.specs.List.{AllByRecursion, list_all}
+use Rattle.std.proofs.lemmas.Bool.{and_parts, false≢true}
+use Rattle.std.proofs.lemmas.Bool.Decides.{nat_tests}
+use Rattle.httpdate.specs.declared.date.HttpDate.{HttpDate}
+use Rattle.httpdate.specs.declared.parts.Parts.{Parts}
+use Rattle.httpdate.specs.Calendar.{is_leap_year}
+use Rattle.httpdate.specs.Date.{date_text}
+use Rattle.httpdate.specs.Text.{day_name, four_digits, imf_fixdate, month_name, time_of_day, two_digits}
+use Rattle.jiff_core.specs.Calendar as calendar
+use Rattle.jiff_core.specs.declared.civil.date.Date.{Date}
+use Rattle.jiff_core.specs.declared.civil.time.Time.{Time}
+use Rattle.jiff_core.specs.declared.civil.datetime.DateTime.{DateTime}
+use Rattle.jiff_fmt.specs.Text as printed
+use Rattle.dav_path_core.specs.Fronts.{Path}
+use Rattle.dav_path_core.specs.Url.{url}
+use Rattle.dav_headers_core.specs.Tags.{spelled}
+use Rattle.dav_xml_core.specs.Scanning.{is_nil}
+use Rattle.dav_handler_core.specs.declared.content_types.TheConstants.{TYPES, OTHER}
+use Rattle.dav_handler_core.specs.ContentTypes.{Entry, content_type, extension, table, type_in}
+use Rattle.dav_handler_core.specs.FileTags.{file_tag, tag_text}
+use Rattle.dav_handler_core.specs.KeptDocuments.{IsVisible, is_visible}
+use Rattle.dav_handler_core.specs.PropertyAnswers.{IsHttpDate, IsInternetDate, place_url, segments_url}
+use Rattle.dav_handler_core.specs.RefusalBodies.{front}
+use Rattle.dav_handler_core.proofs.VisibleTextLemmas.{AreVisible, all_joined, decimal_visible, indexed, joined, one_more, some_before, some_behind, url_visible}
+
+-- ---- URLs
+
+slashed : (segment : List ℕ) → AreVisible (codes "/" ++ url segment)
+slashed segment = joined (codes "/") (url segment) refl (url_visible segment)
+
+tail : Bool → List ℕ
+tail folder = cond folder (codes "/") []
+
+tail_visible : (folder : Bool) → AreVisible (tail folder)
+unfolding tail
+tail_visible true = refl
+tail_visible false = refl
+
+url_is : (prefix : List ℕ) (p : Path) (folder : Bool) → AreVisible (place_url prefix p folder)
+unfolding tail
+url_is prefix p folder =
+    joined (url (front prefix) ++ segments_url p) (tail folder)
+    (joined (url (front prefix)) (segments_url p) (url_visible (front prefix)) (all_joined (λ (s : List ℕ). codes "/" ++ url s) p slashed)) (tail_visible folder)
+
+-- that of a folder, or of what stands in one
+pub folder_url : (prefix : List ℕ) (p : Path) → IsVisible (place_url prefix p true)
+folder_url prefix p = record {
+  some = some_behind (url (front prefix) ++ segments_url p) (codes "/") refl;
+  each = url_is prefix p true;
+}
+
+pub member_url : (prefix : List ℕ) (s : List ℕ) (p : Path) (folder : Bool) → IsVisible (place_url prefix (s ∷ p) folder)
+member_url prefix s p folder = record {
+  some = some_before (url (front prefix) ++ segments_url (s ∷ p)) (cond folder (codes "/") []) (some_behind (url (front prefix)) (segments_url (s ∷ p)) refl);
+  each = url_is prefix (s ∷ p) folder;
+}
+
+-- ---- types
+
+is_seen : List ℕ → Bool
+is_seen text = list_all is_visible text && (cond (is_nil text) false true)
+
+seen : (text : List ℕ) → is_seen text ≡ true → IsVisible text
+unfolding is_seen
+seen [] h = absurd (false≢true h)
+seen (b ∷ text) h = record { some = refl; each = (and_parts (list_all is_visible (b ∷ text)) true h).0 }
+
+type_found : (entries : List Entry) (text known : List ℕ) → list_all (λ e. is_seen e.1) entries ≡ true → type_in entries text ≡ Some known → IsVisible known
+type_found [] text known h is = absurd (cc)
+type_found (entry ∷ entries) text known h is =
+    let p = and_parts (is_seen entry.1) (list_all (λ e. is_seen e.1) entries) h in
+    by (bytes_eq (map to_ascii_lowercase text) (map to_ascii_lowercase entry.0)) p.0 (type_found entries text known p.1) is
+  where
+    by : (b : Bool) → is_seen entry.1 ≡ true → (type_in entries text ≡ Some known → IsVisible known) → cond b (Some entry.1) (type_in entries text) ≡ Some known → IsVisible known
+    by true one others found = let same : entry.1 ≡ known = cc in subst IsVisible same (seen entry.1 one)
+    by false one others found = others found
+
+table_seen : list_all (λ (e : Entry). is_seen e.1) table ≡ true
+unfolding is_seen
+table_seen = refl
+
+other_seen : IsVisible OTHER.now
+other_seen = record { some = refl; each = refl }
+
+pub type_visible : (name : List ℕ) → IsVisible (content_type name)
+type_visible name = by (extension name)
+  where
+    known : (o : Option (List ℕ)) → ((text : List ℕ) → o ≡ Some text → IsVisible text) → IsVisible (elim o [ None ↦ OTHER.now | Some text ↦ text ])
+    known None h = other_seen
+    known (Some text) h = h text refl
+
+    by : (o : Option (List ℕ)) → IsVisible (elim o [ None ↦ OTHER.now | Some text ↦ elim (type_in table text) [ None ↦ OTHER.now | Some known ↦ known ] ])
+    by None = other_seen
+    by (Some text) = known (type_in table text) (λ found is. type_found table text found table_seen is)
+
+-- ---- tags
+
+pub tag_visible : (modified size : ℕ) → IsVisible (file_tag modified size)
+tag_visible modified size =
+    let m = decimal_visible modified in
+    let n = decimal_visible size in
+    record {
+      some = refl;
+      each = one_more 34 (tag_text modified size ++ 34 ∷ []) (omega arith) (omega arith)
+          (joined (tag_text modified size) (34 ∷ []) (joined (decimal modified) (45 ∷ decimal size) m.each (one_more 45 (decimal size) (omega arith) (omega arith) n.each)) refl);
+    }
+
+-- ---- dates
+
+pair : (n : ℕ) (text : List ℕ) → n < 780 → AreVisible text → AreVisible ((48 + n / 10) ∷ (48 + n % 10) ∷ text)
+pair n text small h =
+    one_more (48 + n / 10) ((48 + n % 10) ∷ text) (omega arith) (omega arith) (one_more (48 + n % 10) text (omega arith) (omega arith) h)
+
+two : (n : ℕ) → n < 780 → AreVisible (two_digits n)
+two n small = pair n [] small refl
+
+four : (n : ℕ) → n < 10_000 → AreVisible (four_digits n)
+four n small = joined (two_digits (n / 100)) (two_digits (n % 100)) (two (n / 100) (omega arith)) (two (n % 100) (omega arith))
+
+day_seen : (day : ℕ) → AreVisible (day_name day)
+day_seen day =
+    indexed (codes "Mon" ∷ codes "Tue" ∷ codes "Wed" ∷ codes "Thu" ∷ codes "Fri" ∷ codes "Sat" ∷ codes "Sun" ∷ []) (day - 1) (refl, (refl, (refl, (refl, (refl, (refl, (refl, tt)))))))
+
+month_seen : (month : ℕ) → AreVisible (month_name month)
+month_seen month =
+    indexed
+    (codes "Jan" ∷ codes "Feb" ∷ codes "Mar" ∷ codes "Apr" ∷ codes "May" ∷ codes "Jun" ∷ codes "Jul" ∷ codes "Aug" ∷ codes "Sep" ∷ codes "Oct" ∷ codes "Nov" ∷ codes "Dec" ∷ [])
+    (month - 1) (refl, (refl, (refl, (refl, (refl, (refl, (refl, (refl, (refl, (refl, (refl, (refl, tt))))))))))))
+
+days_few : (february leap short : Bool) → cond february (cond leap 29 28) (cond short 30 31) ≤ 31
+days_few true true short = omega arith
+days_few true false short = omega arith
+days_few false leap true = omega arith
+days_few false leap false = omega arith
+
+time_seen : (p : Parts) → p.hour < 24 → p.min < 60 → p.sec < 60 → AreVisible (time_of_day p)
+time_seen p hour min sec =
+    let h = two_digits p.hour ++ codes ":" in
+    let m = h ++ two_digits p.min in
+    joined (m ++ codes ":") (two_digits p.sec)
+    (joined m (codes ":") (joined h (two_digits p.min) (joined (two_digits p.hour) (codes ":") (two p.hour (omega (arith, hour))) refl) (two p.min (omega (arith, min)))) refl)
+    (two p.sec (omega (arith, sec)))
+
+date_seen : (d : HttpDate) → AreVisible (date_text d)
+date_seen d =
+    let p = d.parts in
+    let name = day_name p.wday ++ codes ", " in
+    let day = name ++ two_digits p.day in
+    let month = (day ++ codes " ") ++ month_name p.mon in
+    let year = (month ++ codes " ") ++ four_digits p.year in
+    let time = (year ++ codes " ") ++ time_of_day p in
+    let day_is : p.day < 780 = omega (arith, d.civil.2.1, days_few (p.mon == 2) (is_leap_year p.year) ((p.mon == 4) || (p.mon == 6) || (p.mon == 9) || (p.mon == 11))) in
+    let named = joined (day_name p.wday) (codes ", ") (day_seen p.wday) refl in
+    let dayed = joined name (two_digits p.day) named (two p.day day_is) in
+    let monthed = joined (day ++ codes " ") (month_name p.mon) (joined day (codes " ") dayed refl) (month_seen p.mon) in
+    let yeared = joined (month ++ codes " ") (four_digits p.year) (joined month (codes " ") monthed refl) (four p.year (omega (arith, d.civil.0.1))) in
+    let timed = joined (year ++ codes " ") (time_of_day p) (joined year (codes " ") yeared refl) (time_seen p d.time.0 d.time.1 d.time.2) in
+    joined time (codes " GMT") timed refl
+
+fixdate_seen : (d : HttpDate) → IsVisible (date_text d)
+fixdate_seen d = record { some = some_behind _ (codes " GMT") refl; each = date_seen d }
+
+pub http_date_visible : (seconds : ℕ) (text : List ℕ) → IsHttpDate seconds text → IsVisible text
+http_date_visible seconds text h = subst IsVisible (sym h.2) (fixdate_seen h.0)
+
+pad_four : (n : ℕ) → n < 10_000 → AreVisible (printed.pad4 n)
+pad_four n small = joined (printed.pad2 (n / 100)) (printed.pad2 (n % 100)) (pair (n / 100) [] (omega arith) refl) (pair (n % 100) [] (omega arith) refl)
+
+test_true : (b : Bool) → T b → b ≡ true
+test_true true h = refl
+test_true false h = absurd h
+
+within : (n m : ℕ) → nat_le n m ≡ true → n ≤ m
+within n m h = grind (arith, nat_tests)
+
+year_seen : (year : ℤ) → calendar.IsYear year → AreVisible (printed.year_text year)
+year_seen (pos n) h = pad_four n (omega (arith, within n 9999 (test_true _ h.1.le)))
+year_seen (negsuc n) h = joined (codes "-00") (printed.pad4 (suc n)) refl (pad_four (suc n) (omega (arith, within n 9998 (test_true _ h.0.le))))
+
+day_text_seen : (d : Date) → AreVisible (printed.date_text d)
+day_text_seen d =
+    let year = printed.year_text d.year ++ 45 ∷ [] in
+    let month = year ++ printed.pad2 d.month in
+    let day_is : d.day < 780 = omega (arith, d.day_in.1, days_few (d.month == 2) (calendar.is_leap_year d.year) ((d.month == 4) || (d.month == 6) || (d.month == 9) || (d.month == 11))) in
+    let yeared = joined (printed.year_text d.year) (45 ∷ []) (year_seen d.year d.year_in) refl in
+    let monthed = joined year (printed.pad2 d.month) yeared (pair d.month [] (omega (arith, d.month_in.1)) refl) in
+    joined (month ++ 45 ∷ []) (printed.pad2 d.day) (joined month (45 ∷ []) monthed refl) (pair d.day [] day_is refl)
+
+clock_seen : (t : Time) → AreVisible (printed.time_text (Some 0) t)
+clock_seen t =
+    let second = printed.pad2 t.second in
+    let minute = printed.pad2 t.minute ++ 58 ∷ second in
+    joined (printed.pad2 t.hour) (58 ∷ minute) (pair t.hour [] (omega (arith, t.hour_in)) refl)
+    (one_more 58 minute (omega arith) (omega arith) (pair t.minute (58 ∷ second) (omega (arith, t.minute_in))
+    (one_more 58 second (omega arith) (omega arith) (pair t.second [] (omega (arith, t.second_in)) refl))))
+
+pub internet_date_visible : (seconds : ℕ) (text : List ℕ) → IsInternetDate seconds text → IsVisible text
+internet_date_visible seconds text h =
+    let d = h.0 in
+    let whole : AreVisible (printed.datetime_text false 84 (Some 0) d ++ printed.zulu_text false) =
+    joined (printed.datetime_text false 84 (Some 0) d) (printed.zulu_text false)
+    (joined (printed.date_text d.date) _ (day_text_seen d.date) (one_more 84 (printed.time_text (Some 0) d.time) (omega arith) (omega arith) (clock_seen d.time))) refl in
+    let some : is_nil (printed.datetime_text false 84 (Some 0) d ++ printed.zulu_text false) ≡ false = some_behind (printed.datetime_text false 84 (Some 0) d) (printed.zulu_text false) refl in
+    subst IsVisible (sym h.2) (record { some = some; each = whole })

@@ -1,0 +1,84 @@
+-- What holds of each answer of a server, from new stores on, whatever bytes any number of clients send, in whatever pieces (RFC 4918 sections 6 and 7, RFC 9110 section 9).
+use Rattle.std.specs.Prelude.{◌≡◌, ◌≢◌, ◌⊎◌, ℕ, List, [], ◌∷◌, ◌++◌, Option, None, Some, Ok, IfErr}
+use Rattle.http.specs.declared.request.Request.{Request}
+use Rattle.http.specs.Request.{body_of, head_of}
+use Rattle.http_server.specs.declared.response.Response.{Response}
+use Rattle.http_server.specs.Exchange.{Call, Chain}
+use Rattle.http_frames.specs.Clients.{Turn}
+use Rattle.dav_path_core.specs.declared.util.DavMethod.{DavMethod}
+use Rattle.dav_path_core.specs.declared.util.DavMethod.TheVariants as method
+use Rattle.dav_path_core.specs.Fronts.{Path}
+use Rattle.dav_path_core.specs.PathText.{PathText}
+use Rattle.dav_path_core.specs.Segments.{segments}
+use Rattle.dav_files_core.specs.declared.memfs.Kind.TheVariants.{File}
+use Rattle.dav_files_core.specs.Resources.{Resource, ResourceMap, at_path}
+use Rattle.dav_handler_core.specs.declared.faults.Fault.TheVariants as fault
+use Rattle.dav_handler_core.specs.Answers.{Answers, Names, Server}
+use Rattle.dav_handler_core.specs.Callers.{SameLive}
+use Rattle.dav_handler_core.specs.Destinations.{IsDestination}
+use Rattle.dav_handler_core.specs.Holding.{IsKeptUnlessHeld, StandsUnlessEnded}
+use Rattle.dav_handler_core.specs.Serving.{Leads}
+
+-- ---- which bytes stand at a path
+
+-- a file with these bytes stands there
+abbrev pub StandsAt : ResourceMap → Path → List ℕ → Type 0
+StandsAt m p bytes = (file : Resource) × (at_path m p ≡ Some file) × (file.node.kind ≡ File) × (file.node.bytes ≡ bytes)
+
+-- the path is at or below the target of the COPY or MOVE, and this one at or below its source, as far
+pub record Brings (before : Server) (request : Request (List ℕ)) (from to : Path) : Type 0 where
+  pub source : PathText
+  pub named : Names before.options request source
+  pub target : PathText
+  pub leads : IsDestination before.options.scheme before.options.prefix (head_of request).headers target
+  pub rest : Path
+  pub from_is : from ≡ segments source.bytes ++ rest
+  pub to_is : to ≡ segments target.bytes ++ rest
+
+-- the answer is to this method, and it was done
+abbrev pub IsDone : {before after : Server} {request : Request (List ℕ)} {response : Response} → Answers before request response after → DavMethod → Type 0
+IsDone h m = (h.method ≡ Some m) × ((status : ℕ) × (h.result ≡ Ok status))
+
+-- The bytes that were left at a path, by the last answer that did: they were put there; a COPY or a MOVE brought them from where they were left; or a LOCK made an empty file
+-- where nothing stood. Each other answer, and each moment that the clock tells, leaves the bytes that stand there.
+pub data IsLeft (begun : Server) : Server → Path → List ℕ → Type 0 where
+  by_put : (before after : Server) (request : Request (List ℕ)) (response : Response) (path : PathText) → (h : Answers before request response after) → IsDone h method.Put
+      → Names before.options request path → IsLeft begun after (segments path.bytes) (body_of request)
+  by_transfer : (before after : Server) (request : Request (List ℕ)) (response : Response) (from to : Path) (bytes : List ℕ) → (h : Answers before request response after)
+      → (h.method ≡ Some method.Copy) ⊎ (h.method ≡ Some method.Move) → Brings before request from to → IsLeft begun before from bytes → IsLeft begun after to bytes
+  by_lock : (before after : Server) (request : Request (List ℕ)) (response : Response) (path : PathText) → (h : Answers before request response after) → IsDone h method.Lock
+      → Names before.options request path → at_path before.state.map (segments path.bytes) ≡ None → IsLeft begun after (segments path.bytes) []
+  by_answer : (before after : Server) (request : Request (List ℕ)) (response : Response) (p : Path) (bytes : List ℕ) → Answers before request response after
+      → StandsAt before.state.map p bytes → IsLeft begun before p bytes → IsLeft begun after p bytes
+  by_clock : (before : Server) (now : ℕ) (p : Path) (bytes : List ℕ) → IsLeft begun before p bytes → IsLeft begun (record before { clock = now }) p bytes
+
+-- ---- each answer
+
+-- A GET that is answered 200, of a file, has the bytes that were left at its path.
+abbrev pub GetsWhatIsLeft : Server → Server → Request (List ℕ) → Response → Option DavMethod → Type 0
+GetsWhatIsLeft begun before request response (Some method.Get) =
+    response.status ≡ 200 → (path : PathText) × Names before.options request path
+    × ((file : Resource) → at_path before.state.map (segments path.bytes) ≡ Some file → file.node.kind ≡ File
+    → (response.body.items ≡ file.node.bytes) × IsLeft begun before (segments path.bytes) file.node.bytes)
+GetsWhatIsLeft begun before request response _ = Unit {0}
+
+pub record KeepsTo (begun before : Server) (request : Request (List ℕ)) (response : Response) (after : Server) : Type 0 where
+  -- a path under an exclusive lock changes only by a request that names its token under its principal
+  pub changed : IsKeptUnlessHeld before request after
+  -- a lock is ended by its holder, or by time alone
+  pub ended : StandsUnlessEnded before request after
+  pub answer : Answers before request response after
+  pub got : GetsWhatIsLeft begun before request response answer.method
+  -- a refusal changes nothing, but that locks that have expired may be gone; one that lacked memory may have begun
+  pub refused : IfErr answer.result (λ e. e ≢ fault.InsufficientStorage → SameLive after.last before.state after.state)
+
+-- ---- of all answers
+
+abbrev pub EachCall : (P : Server → Request (List ℕ) → Response → Server → Type 0) (s : Server) (calls : List Call) (s' : Server) → Chain Answers s calls s' → Type 0
+EachCall P s [] s' chain = Unit {0}
+EachCall P s (c ∷ calls) s' chain = P s c.0 c.1 chain.0 × EachCall P chain.0 calls s' chain.2
+
+-- of each request that the frames bring
+abbrev pub EachAnswer : (P : Server → Request (List ℕ) → Response → Server → Type 0) (s : Server) (turns : List Turn) (s' : Server) → Leads s turns s' → Type 0
+EachAnswer P s [] s' leads = Unit {0}
+EachAnswer P s (t ∷ turns) s' leads = EachCall P (record s { clock = leads.0 }) t.made leads.1 leads.2 × EachAnswer P leads.1 turns s' leads.3

@@ -37,10 +37,10 @@ class Played:
         os.remove(other)
         return ended
 
-    def counts(self, **environment):
+    def counts(self, input_file=None, **environment):
         """The requests for memory, the reads and the writes of a usual run."""
         path = f"{self.input}.counts"
-        self.play(self.input, COUNTS=path, **environment)
+        self.play(input_file or self.input, COUNTS=path, **environment)
         with open(path) as file:
             return map(int, file.read().split())
 

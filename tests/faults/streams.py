@@ -4,14 +4,12 @@ A line of a stream is one of these:
 
 - `NUMBER METHOD TARGET`, and perhaps ` | FIELD: VALUE`, as often as wanted, and ` < BODY`: a request of this connection. `NUMBER/PIECES` cuts its bytes in so many frames.
 - `+ METHOD TARGET`, and the same: a request that comes with the one before, in the same frame.
-- `= PLACES`, behind a COPY or MOVE: what it does, of which it may leave a part where it lacks memory: `clear` takes away the folder at its target, and each other word is a place
-  below its source that is copied, `.` the source itself.
 - `NUMBER RAW BYTES`: bytes that are no request. `NUMBER END`: the client sends no more. `later SECONDS`: so much time passes.
 
 In a body or a value `{red}` and the like stand for a document, and `{t1}` for the first token that is drawn. Connections with an odd number are of ann, the others of bob.
 """
 import collections
-import itertools
+import random
 
 from connections import LOCK_INFO, request
 
@@ -23,6 +21,8 @@ DOCUMENTS = {
     "red": "<D:propertyupdate xmlns:D='DAV:'><D:set><D:prop><x:color xmlns:x='urn:x' x:of='&lt;'>red</x:color><size/></D:prop></D:set></D:propertyupdate>",
     "bare": "<D:propertyupdate xmlns:D='DAV:'><D:remove><D:prop><x:color xmlns:x='urn:x'/></D:prop></D:remove></D:propertyupdate>",
     "dated": "<D:propertyupdate xmlns:D='DAV:'><D:set><D:prop><size>9</size><D:getetag>x</D:getetag></D:prop></D:set></D:propertyupdate>",
+    "medium": 3000 * "0123456789",
+    "large": 7000 * "0123456789",
     "names": "<D:propfind xmlns:D='DAV:'><D:propname/></D:propfind>",
     "some": "<D:propfind xmlns:D='DAV:'><D:prop><x:color xmlns:x='urn:x'/><D:getetag/><D:lockdiscovery/><none/></D:prop></D:propfind>",
 }
@@ -65,6 +65,7 @@ FILES = """\
 1 MKCOL /d/e
 1 PUT /d/e/g < 1
 1 PUT /d/e/h < 2
+2 GET /d/e
 1 DELETE /d | Depth: 0
 1 DELETE /
 1 DELETE /n
@@ -91,25 +92,25 @@ TRANSFERS = """\
 2 COPY /s | Destination: /s
 2 COPY /n | Destination: /t
 2 COPY /s | Destination: /n/t
+2 GET /f
 1 COPY /s | Destination: /t
-= . a b c c/d
-1 PUT /t/x < X
-2 COPY /s | Destination: /t
-= clear . a b c c/d
+1 MKCOL /v
+1 PUT /v/x < X
+1 GET /v/x
+2 COPY /s | Destination: /v
 2 COPY /s | Destination: /u | Depth: 0
 2 COPY /s | Destination: /s/c/k
-= . a b c c/d
 1 MOVE /s/c/k | Destination: /k
 1 MOVE /s/a | Destination: /f
 1 PUT /u/x < X
+1 GET /u/x
 1 MOVE /t | Destination: /u
-= clear
 1 MOVE /k | Destination: /k/c/z
 1 MOVE / | Destination: /z
 1 MOVE /k | Destination: /n/z
 1 MOVE /k | Destination: /f | Overwrite: F
 1 MOVE /k | Destination: /s | Depth: 0
-2 DELETE /u
+2 DELETE /s/c
 """
 
 # Locks of two users, and what they hold off.
@@ -142,6 +143,7 @@ LOCKS = """\
 1 UNLOCK /d/f | Lock-Token: <{t9}>
 1 UNLOCK /d/f
 1 COPY /d/e/g | Destination: /d/f | If: <http://h/d/f> (<{t1}>)
+2 GET /d/f
 2 LOCK /d/e | Timeout: Second-5 < {shared}
 1 LOCK /d/e < {shared}
 1 PUT /d/e/g | If: <http://h/d/e> (<{t5}>) < G
@@ -158,8 +160,7 @@ later 10
 2 LOCK /d < {owned}
 1 MKCOL /d/p
 1 COPY /m | Destination: /d/m
-2 COPY /m | Destination: /d | If: <http://h/d> (<{t8}>)
-= clear . g o
+2 COPY /m | Destination: /d | If: <http://h/d> (<{t8}>) (Not <urn:x>)
 """
 
 # Several requests at a time, requests in pieces, connections that end early, and a wide folder.
@@ -225,16 +226,29 @@ CHOICES = """\
 2 PUT /dav/d/g < x
 2 LOCK /dav/d/f | Timeout: Second-5 < {shared}
 1 LOCK /dav/d | If: (<{t1}>)
+2 PROPFIND /dav/d | Depth: 1 < {some}
 1 COPY /dav/d/f | Destination: http://h/dav/f
 1 COPY /dav/d/f | Destination: /f
 1 UNLOCK /dav/d | Lock-Token: <{t1}>
 """
 
-# What stands at the end: all resources, properties and locks, as both users see them, and the bytes of each file.
-LOOKS = "{ann} PROPFIND {top}\n{bob} PROPFIND {top}\n{ann} PROPFIND {top} | Depth: 1\n"
+# Answers that are longer than what waits on a connection at most.
+LARGE = """\
+1 PUT /l < {large}
+1 PUT /m < {medium}
+1 PUT /a < a
+2 GET /m
++ GET /m
++ GET /a
++ GET /m
++ PUT /b < b
++ GET /l
++ GET /a
++ PUT /c < c
+1/2 PUT /a < {medium}
+"""
 
-Asked = collections.namedtuple("Asked", "connection method text parts closes")
-# `parts` are what a COPY or MOVE may leave that lacked memory, each as a list of requests.
+Asked = collections.namedtuple("Asked", "connection method text closes")
 # What comes at one moment on one connection, cut in some frames; None says that no more comes.
 Turn = collections.namedtuple("Turn", "connection asked cuts later")
 
@@ -257,29 +271,8 @@ def asked(connection, line, names):
     body = body.format_map(names).encode().decode("unicode_escape").encode() if found else None
     method, _, target = head.partition(" ")
     if method == "RAW":
-        return Asked(connection, b"RAW", target.encode().decode("unicode_escape").encode(), [], True)
-    return Asked(connection, method.encode(), written(connection, head, body, fields), [], "Connection: close" in fields)
-
-
-def parts(whole, places):
-    """What a COPY or a MOVE may leave that lacked memory once it had begun, as requests that leave just that: its target is cleared, and some of its copies are made, a folder's
-    before those of its members."""
-    source = whole.text.split(b" ")[1].decode()
-    target = whole.text.partition(b"Destination: ")[2].partition(b"\r\n")[0].decode()
-    conditions = [field for field in whole.text.decode().split("\r\n") if field.startswith("If: ")]
-    clears = [written(whole.connection, f"DELETE {target}", None, conditions)] if "clear" in places else []
-    copied = [place for place in places if place != "clear"]
-    for some in itertools.chain(*(itertools.combinations(copied, count) for count in range(len(copied) or 1))):
-        if all(above(place) in some for place in some if place != "."):
-            yield clears + [part(whole.connection, source, target, "" if place == "." else f"/{place}") for place in some]
-
-
-def above(place):
-    return place.rpartition("/")[0] or "."
-
-
-def part(connection, source, target, below):
-    return written(connection, f"COPY {source}{below}", None, [f"Destination: {target}{below}", "Depth: 0"])
+        return Asked(connection, b"RAW", target.encode().decode("unicode_escape").encode(), True)
+    return Asked(connection, method.encode(), written(connection, head, body, fields), "Connection: close" in fields)
 
 
 def turns_of(lines, tokens):
@@ -290,8 +283,6 @@ def turns_of(lines, tokens):
             later = int(rest)
         elif first == "+":
             turns[-1].asked.append(asked(turns[-1].connection, rest, names))
-        elif first == "=":
-            turns[-1].asked[-1].parts.extend(filter(None, parts(turns[-1].asked[-1], rest.split())))
         else:
             number, _, cuts = first.partition("/")
             turns.append(Turn(int(number), None if rest == "END" else [asked(int(number), rest, names)], int(cuts or 1), later))
@@ -299,22 +290,58 @@ def turns_of(lines, tokens):
     return turns
 
 
-def with_looks(lines, top, files):
-    """A stream, and behind it looks at all that stands there."""
-    begun = [int(line.split()[0].partition("/")[0]) for line in lines if line[0].isdigit()]
-    ann = max(begun) + 1 if max(begun) % 2 == 0 else max(begun) + 2
-    bob = 2 * max(begun) + 3 - ann
-    first = min(ann, bob)
-    looks = [line for line in LOOKS.format(ann=ann, bob=bob, top=top).splitlines()]
-    looks += [f"{first} GET {file}" for file in files.split()]
-    return lines + [f"{first} OPTIONS *", *looks]
+def looks_at(lines, top, files):
+    """Looks at all that stands at the end of a stream, on two connections that begin then."""
+    first = 1 + max(int(line.split()[0].partition("/")[0]) for line in lines if line[0].isdigit())
+    looks = [f"{first} PROPFIND {top}", f"{first + 1} PROPFIND {top}", f"{first} PROPFIND {top} | Depth: 1 < {{some}}"]
+    return looks + [f"{first} GET {file}" for file in files.split()]
 
 
 def streams():
-    """Of each stream a name, the program's further words, and the lines."""
-    yield "files", [], with_looks(FILES.splitlines(), "/", "/d/f /d/a&b.html /d/e/g /d/e/h /x /n /m")
-    yield "transfers", [], with_looks(TRANSFERS.splitlines(), "/", "/s/a /s/b /s/c/d /f /t/a /u/a /u/x /k/a /k/d")
-    yield "locks", [], with_looks(LOCKS.splitlines(), "/", "/d/f /d/e/g /d/n /m/g /m/o /d/g")
-    yield "pipes", [], with_looks(PIPES.splitlines(), "/", "/a /b /c/a /c/x /c/y /e /g /i /w/7 /w/18")
+    """Of each stream a name, the program's further words, its lines, and looks at what it leaves."""
     choices = ["--prefix", "/dav", "--propfind-depth", "finite", "--longest-timeout", "60", "--scheme", "http"]
-    yield "choices", choices, with_looks(CHOICES.splitlines(), "/dav/d | Depth: 1", "/dav/d/f /dav/f")
+    for name, words, text, top, files in (
+        ("files", [], FILES, "/", "/d/f /d/a&b.html /d/e/g /d/e/h /x /n /m"),
+        ("transfers", [], TRANSFERS, "/", "/s/a /s/b /s/c/d /f /t/a /u/a /v/b /v/x /k/a /k/d"),
+        ("locks", [], LOCKS, "/", "/d/f /d/e/g /d/n /m/g /m/o /d/g"),
+        ("pipes", [], PIPES, "/", "/a /b /c/a /c/x /c/y /e /g /i /w/7 /w/18"),
+        ("large", [], LARGE, "/", "/l /m /a /b /c"),
+        ("choices", choices, CHOICES, "/dav/d | Depth: 1", "/dav/d/f /dav/f"),
+    ):
+        lines = text.splitlines()
+        yield name, words, lines, looks_at(lines, top, files)
+
+
+PLACES = "/d /d/f /d/g /e /e/f /f".split()
+TOKENS = "".join(f"(<{{t{number}}}>) " for number in range(1, 10))
+
+
+def random_line(chance):
+    """A request of any method on a few paths, perhaps with all tokens, by an `If` that holds."""
+    place, other = chance.choice(PLACES), chance.choice(PLACES)
+    method = chance.choice("PUT MKCOL DELETE COPY COPY MOVE MOVE GET HEAD PROPFIND PROPPATCH LOCK LOCK refresh UNLOCK".split())
+    held = chance.choice(["", f" | If: {TOKENS}(Not <urn:x>)"])
+    token, depth = f"{{t{chance.randint(1, 9)}}}", chance.choice(["0", "infinity"])
+    timeout, scope = chance.choice(["", " | Timeout: Second-5"]), chance.choice(["exclusive", "shared", "owned"])
+    return {
+        "PUT": f"PUT {place}{held} < {chance.choice(['', 'a', 200 * 'b'])}",
+        "COPY": f"COPY {place} | Destination: {other} | Depth: {depth}{held}",
+        "MOVE": f"MOVE {place} | Destination: {other}{held}",
+        "PROPFIND": f"PROPFIND {place} | Depth: 1 < {{some}}",
+        "PROPPATCH": f"PROPPATCH {place}{held} < {{{chance.choice(['red', 'bare', 'dated'])}}}",
+        "LOCK": f"LOCK {place} | Depth: {depth}{timeout}{held} < {{{scope}}}",
+        "refresh": f"LOCK {place}{timeout} | If: (<{token}>)",
+        "UNLOCK": f"UNLOCK {place} | Lock-Token: <{token}>",
+    }.get(method, f"{method} {place}{held}")
+
+
+def random_streams(seed, count):
+    """The same of streams that are made from these seeds."""
+    for each in range(seed, seed + count):
+        chance, lines = random.Random(each), ["1 MKCOL /d", "1 PUT /d/f < abc", "2 MKCOL /e", "2 PUT /f < 1"]
+        for _ in range(40):
+            line = random_line(chance)
+            is_behind = chance.random() < 0.2 and not line.startswith(("COPY", "MOVE"))
+            lines += ["later 10"] if chance.random() < 0.05 else []
+            lines.append(f"+ {line}" if is_behind and lines[-1][:5] != "later" else f"{chance.randint(1, 2)} {line}")
+        yield f"random {each}", [], lines, looks_at(lines, "/", " ".join(PLACES))

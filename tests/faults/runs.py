@@ -7,6 +7,8 @@ import tempfile
 
 # A read and a write of the runs in which these fail moves at most so many bytes, so that there are many.
 PIECE = 97
+# Of each kind so many wrong runs are told.
+MOST_TOLD = 50
 
 Ended = collections.namedtuple("Ended", "status answers faults")
 
@@ -85,7 +87,7 @@ class Tallies:
                 tally[0] += 1
                 tally[1] += ended.answers != played.usual.answers
                 tally[2] += why is not None
-                if why and tally[2] < 4:
+                if why and tally[2] <= MOST_TOLD:
                     print(f"{program}, {name}, {':'.join(map(str, fault))}: {why}", flush=True)
 
     def tell(self):

@@ -19,6 +19,7 @@ DOCUMENTS = {
     "shared": EXCLUSIVE.replace("exclusive", "shared"),
     "owned": EXCLUSIVE.replace("</D:lockinfo>", "<D:owner><n:name xmlns:n='urn:n'>Ann</n:name></D:owner></D:lockinfo>"),
     "red": "<D:propertyupdate xmlns:D='DAV:'><D:set><D:prop><x:color xmlns:x='urn:x' x:of='&lt;'>red</x:color><size/></D:prop></D:set></D:propertyupdate>",
+    "many": "<D:propertyupdate xmlns:D='DAV:'><D:set><D:prop>" + "".join(f"<p{number}/>" for number in range(24)) + "</D:prop></D:set></D:propertyupdate>",
     "bare": "<D:propertyupdate xmlns:D='DAV:'><D:remove><D:prop><x:color xmlns:x='urn:x'/></D:prop></D:remove></D:propertyupdate>",
     "dated": "<D:propertyupdate xmlns:D='DAV:'><D:set><D:prop><size>9</size><D:getetag>x</D:getetag></D:prop></D:set></D:propertyupdate>",
     "medium": 3000 * "0123456789",
@@ -65,6 +66,8 @@ FILES = """\
 1 MKCOL /d/e
 1 PUT /d/e/g < 1
 1 PUT /d/e/h < 2
+1 PROPPATCH /d/e < {many}
+2 PROPFIND /d/e | Depth: 0 < {names}
 2 GET /d/e
 1 DELETE /d | Depth: 0
 1 DELETE /

@@ -296,7 +296,7 @@ def turns_of(lines, tokens):
 def looks_at(lines, top, files):
     """Looks at all that stands at the end of a stream, on two connections that begin then."""
     first = 1 + max(int(line.split()[0].partition("/")[0]) for line in lines if line[0].isdigit())
-    looks = [f"{first} PROPFIND {top}", f"{first + 1} PROPFIND {top}", f"{first} PROPFIND {top} | Depth: 1 < {{some}}"]
+    looks = [f"{first} PROPFIND {top}", f"{first + 1} PROPFIND {top}", f"{first} PROPFIND {top.partition(' ')[0]} | Depth: 1 < {{some}}"]
     return looks + [f"{first} GET {file}" for file in files.split()]
 
 

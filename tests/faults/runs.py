@@ -1,6 +1,6 @@
 """Runs of a program in which one of its requests for memory, reads and writes fails, and how many of them went wrong. tests/faults/faults.c lets them fail."""
 import collections
-import concurrent.futures
+import multiprocessing
 import os
 import subprocess
 import tempfile
@@ -73,6 +73,20 @@ def built_library(folder):
     return library
 
 
+class Worker:
+    """What a process beside this one plays, so that as many runs go on at once as there are processors."""
+
+    played = None
+
+    @staticmethod
+    def begin(played):
+        Worker.played = played
+
+    @staticmethod
+    def run(fault):
+        return Worker.played.run(fault)
+
+
 class Tallies:
     """Counts by program and kind of fault the runs, those with an answer changed, and the wrong ones."""
 
@@ -81,8 +95,8 @@ class Tallies:
 
     def play_all(self, program, name, played, faults):
         """Plays an input with each of the faults, and tells the wrong runs."""
-        with concurrent.futures.ThreadPoolExecutor(os.cpu_count()) as pool:
-            for fault, ended in zip(faults, pool.map(played.run, faults)):
+        with multiprocessing.get_context("fork").Pool(os.cpu_count(), Worker.begin, [played]) as pool:
+            for fault, ended in zip(faults, pool.imap(Worker.run, faults, chunksize=8)):
                 why, tally = played.judge(fault, ended), self.counts[program, fault[0]]
                 tally[0] += 1
                 tally[1] += ended.answers != played.usual.answers

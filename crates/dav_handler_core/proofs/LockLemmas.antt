@@ -34,6 +34,7 @@ use Rattle.dav_handler_core.specs.Locking.{CantBeRead, FailsToLock, Grants, HasR
 use Rattle.dav_handler_core.specs.Pieces.{written_pieces}
 use Rattle.dav_handler_core.specs.Private.Refusing.{put_fault}
 use Rattle.dav_handler_core.specs.Private.Rooms.{FoundRoom, IsConflictAt, IsGrantedNow, IsMadeUnder, IsReady, IsUnmade, LacksRoom}
+use Rattle.dav_handler_core.specs.RefusalBodies.{xml_type}
 use Rattle.dav_handler_core.specs.Refusals.{IsLastMoment}
 use Rattle.dav_handler_core.proofs.Asking.{live_once}
 use Rattle.dav_handler_core.proofs.PutLemmas.{rebuilt}
@@ -176,6 +177,7 @@ module _ (most : Option ℕ) (headers : Entries FieldValue) (body : List ℕ) (s
     status_is = h.status_is ∙ status_by s (segments path.bytes) missing who room;
     named = h.named;
     told = h.told;
+    typed = h.typed;
   }
 
 -- ---- what is taken back
@@ -244,14 +246,15 @@ module _ (s0 mid : State) (who asker : Caller) (path : PathText) (wanted : Wante
   module _ (free : lock_conflicts (live who.now s0).locks (segments path.bytes) wanted.shared wanted.deep ≡ []) (token : List ℕ) (named : token ≡ lock.token) where
     pub granted_now : (prefix : List ℕ) (status : ℕ) (sent : Sent) (s' : State) → status ≡ (if missing then 201 else 200) → sent.tokens ≡ bracketed token ∷ []
         → sent.body ≡ written_pieces (discovery_pieces prefix asker.principal (discovered (live asker.now mid).locks (segments path.bytes)))
-        → IsMadeUnder mid asker token (segments path.bytes) missing s' → IsGrantedNow prefix (live who.now s0) who path wanted missing lock status sent s'
-    granted_now prefix status sent s' status_is shown told made =
+        → sent.types ≡ xml_type ∷ [] → IsMadeUnder mid asker token (segments path.bytes) missing s' → IsGrantedNow prefix (live who.now s0) who path wanted missing lock status sent s'
+    granted_now prefix status sent s' status_is shown told typed made =
         let made_by = subst (λ w. IsMadeUnder mid w lock.token (segments path.bytes) missing s') same
         (subst (λ t. IsMadeUnder mid asker t (segments path.bytes) missing s') named made) in
         record {
           grants = grants_by (live who.now s0) who path wanted lock (live_once who.now s0) is free fresh_now mid s' missing still_there ready.room made_by;
           status_is = status_is;
           named = shown ∙ ap (λ t. bracketed t ∷ []) named;
+          typed = typed;
           told = told ∙ ap (λ (w : Caller). written_pieces (discovery_pieces prefix w.principal (discovered (live w.now mid).locks (segments path.bytes)))) same
               ∙ ap (λ (t : State). written_pieces (discovery_pieces prefix who.principal (discovered t.locks (segments path.bytes)))) still_there;
         }

@@ -23,7 +23,7 @@ use Rattle.dav_handler_core.specs.declared.faults.Fault.{Fault}
 use Rattle.dav_handler_core.specs.Answers.{Answers, AnswersTo, IsLocked, IsPropPatched, Server, as_found}
 use Rattle.dav_handler_core.specs.Fields.{Sent, sent_of}
 use Rattle.dav_handler_core.specs.Finding.{DescribesEach}
-use Rattle.dav_handler_core.specs.KeptDocuments.{IsDocument, IsKeptLock, IsKeptProperty, IsNew, IsVisible, KeepsElements, is_told_in_xml}
+use Rattle.dav_handler_core.specs.KeptDocuments.{IsDocument, IsKeptLock, IsKeptProperty, IsNew, IsVisible, KeepsElements, TellsXml, is_told_in_xml}
 use Rattle.dav_handler_core.specs.PatchBodies.{patch_nodes}
 use Rattle.dav_handler_core.specs.PropertyAnswers.{Describes, is_folder, last_or, place_url}
 use Rattle.dav_handler_core.specs.PropertyDocuments.{Description}
@@ -84,21 +84,27 @@ module _ (before after : Server) (later : before.last ≤ after.last) (kept : Ke
       by true = record { token = h.0.token; rooted = h.0.rooted; owner = h.0.owner }
       by false = h.0
 
-  lock_told : (request : Request (List ℕ)) (status : ℕ) (sent : Sent) → length (body_of request) < 2 ^ 64 → IsLocked before request status sent after → IsDocument sent.body
+  lock_told : (request : Request (List ℕ)) (status : ℕ) (sent : Sent) → length (body_of request) < 2 ^ 64 → IsLocked before request status sent after → TellsXml sent
   lock_told request status sent fits h = elim h.locks [
     | inl granted ↦
         let g = granted.1 in
         let p = segments h.path.bytes in
         let lock = granted_lock_kept before after later kept request status sent fits h g in
-        subst IsDocument (sym g.told)
-        (locks_are_read before.options.prefix h.who.principal (discovered (s.locks ++ g.lock ∷ []) p)
-        (discovered_kept (s.locks ++ g.lock ∷ []) p (all_behind IsKeptLock s.locks (g.lock ∷ []) live_kept (lock, tt))))
+        record {
+          document = subst IsDocument (sym g.told)
+              (locks_are_read before.options.prefix h.who.principal (discovered (s.locks ++ g.lock ∷ []) p)
+              (discovered_kept (s.locks ++ g.lock ∷ []) p (all_behind IsKeptLock s.locks (g.lock ∷ []) live_kept (lock, tt))));
+          typed = g.typed;
+        }
     | inr refreshed ↦
         let r = refreshed.1 in
         let locks = discovered s.locks (segments h.path.bytes) in
-        subst IsDocument (sym r.told)
-        (locks_are_read before.options.prefix h.who.principal (retimed r.token r.timeout locks)
-        (retimed_kept r.token r.timeout locks (discovered_kept s.locks (segments h.path.bytes) live_kept)))
+        record {
+          document = subst IsDocument (sym r.told)
+              (locks_are_read before.options.prefix h.who.principal (retimed r.token r.timeout locks)
+              (retimed_kept r.token r.timeout locks (discovered_kept s.locks (segments h.path.bytes) live_kept)));
+          typed = r.typed;
+        }
   ]
 
 -- ---- a PROPPATCH
@@ -119,19 +125,25 @@ patch_told before after request status sent fits h =
 -- ---- an answer
 
 method_told : (m : Option DavMethod) (before after : Server) (request : Request (List ℕ)) (result : Result ℕ Fault) (sent : Sent) → before.last ≤ after.last → KeepsElements before
-    → length (body_of request) < 2 ^ 64 → AnswersTo m before request result sent after → is_told_in_xml m ≡ true → IfOk result (λ status. IsDocument sent.body)
+    → length (body_of request) < 2 ^ 64 → AnswersTo m before request result sent after → is_told_in_xml m ≡ true → IfOk result (λ status. TellsXml sent)
 method_told m before after request (Err e) sent later kept fits h is = tt
 method_told (Some method.PropFind) before after request (Ok status) sent later kept fits h is =
     let found = h.0.does.1 in
-    subst IsDocument (sym found.told_is)
-    (resources_are_read before.options.prefix h.0.who.principal found.question found.resources (question_names (body_of request) found.question fits found.question_is)
-    (each_tellable before after later kept before.options.prefix found.places found.resources found.described))
+    record {
+      document = subst IsDocument (sym found.told_is)
+          (resources_are_read before.options.prefix h.0.who.principal found.question found.resources (question_names (body_of request) found.question fits found.question_is)
+          (each_tellable before after later kept before.options.prefix found.places found.resources found.described));
+      typed = h.0.does.2;
+    }
 method_told (Some method.PropPatch) before after request (Ok status) sent later kept fits h is =
-    record { nodes = patch_nodes before.options.prefix h.path h.patches.updates; is = patch_told before after request status sent fits h }
+    record {
+      document = record { nodes = patch_nodes before.options.prefix h.path h.patches.updates; is = patch_told before after request status sent fits h };
+      typed = h.patches.typed;
+    }
 method_told (Some method.Lock) before after request (Ok status) sent later kept fits h is = lock_told before after later kept request status sent fits h
 method_told _ before after request (Ok status) sent later kept fits h is = absurd (false≢true is)
 
 pub answer_told : (begun before after : Server) (request : Request (List ℕ)) (response : Response) → IsNew begun → Becomes begun before → (h : Answers before request response after)
-    → is_told_in_xml h.method ≡ true → IfOk h.result (λ status. IsDocument response.body.items)
+    → is_told_in_xml h.method ≡ true → IfOk h.result (λ status. TellsXml (sent_of response))
 answer_told begun before after request response new run h is =
     method_told h.method before after request h.result (sent_of response) h.moves.moments (run_keeps begun before (begins_kept begun new) run) h.fits h.done is

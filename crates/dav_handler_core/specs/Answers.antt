@@ -215,7 +215,7 @@ AnswersTo (Some method.Get) before request result sent after =
 AnswersTo (Some method.Head) before request result sent after =
     GetAnswers method.Head before request result sent after × SameLive after.last before.state after.state
 AnswersTo (Some method.PropFind) before request result sent after =
-    ChangeAnswers false (TellsFound before.options.finite before.options.prefix (head_of request).headers (body_of request) sent.body)
+    ChangeAnswers false (TellsFound before.options.finite before.options.prefix (head_of request).headers (body_of request) sent)
     (FailsToTell before.options.finite (head_of request).headers (body_of request)) before request result after × SameLive after.last before.state after.state
 AnswersTo (Some method.Put) before request result sent after = PutAnswers before request result sent after
 AnswersTo (Some method.Delete) before request result sent after =

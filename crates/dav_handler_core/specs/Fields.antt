@@ -1,4 +1,4 @@
--- What clients go by in an answer: its entity tag, which part it has, the token of a lock, and its body (RFC 9110 sections 8.8.3 and 14.4, RFC 4918 section 10.5).
+-- What clients go by in an answer: its entity tag, which part it has, the token of a lock, its type, and its body (RFC 9110 sections 8.3, 8.8.3 and 14.4, RFC 4918 section 10.5).
 use Rattle.std.specs.Prelude.{ℕ, List, map, filter, bytes_eq, codes}
 use Rattle.http_server.specs.Response.{fields_of}
 use Rattle.http_server.specs.declared.response.Response.{Response}
@@ -22,11 +22,17 @@ marks_in fields = record { tags = values_in fields (codes "etag"); parts = value
 abbrev pub marks_of : Response → Marks
 marks_of response = marks_in (fields_of response)
 
--- these, the values of `Lock-Token`, and the body
+-- these, the values of `Lock-Token` and of `Content-Type`, and the body
 pub record Sent : Type 0 where
   pub marks : Marks
   pub tokens : List (List ℕ)
+  pub types : List (List ℕ)
   pub body : List ℕ
 
 abbrev pub sent_of : Response → Sent
-sent_of response = record { marks = marks_of response; tokens = values_in (fields_of response) (codes "lock-token"); body = response.body.items }
+sent_of response = record {
+  marks = marks_of response;
+  tokens = values_in (fields_of response) (codes "lock-token");
+  types = values_in (fields_of response) (codes "content-type");
+  body = response.body.items;
+}

@@ -11,11 +11,13 @@ use Rattle.dav_handler_core.specs.declared.faults.Fault.{Fault}
 use Rattle.dav_handler_core.specs.declared.faults.Fault.TheVariants as fault
 use Rattle.dav_handler_core.specs.Callers.{Caller}
 use Rattle.dav_handler_core.specs.Depths.{depth_in}
+use Rattle.dav_handler_core.specs.Fields.{Sent}
 use Rattle.dav_handler_core.specs.Pieces.{written_pieces}
 use Rattle.dav_handler_core.specs.Private.Gathering.{MembersAre}
 use Rattle.dav_handler_core.specs.PropertyAnswers.{Describes}
 use Rattle.dav_handler_core.specs.PropertyDocuments.{Description, multistatus}
 use Rattle.dav_handler_core.specs.PropertyQuestions.{Question, question_in}
+use Rattle.dav_handler_core.specs.RefusalBodies.{xml_type}
 use Rattle.dav_handler_core.specs.Subtrees.{HasOddName, IsWalk}
 
 -- The places that are told of: the path alone, or with its members by the bytes of their names, or all that stands there and below.
@@ -45,9 +47,10 @@ pub record Finds (finite : Bool) (prefix : List ℕ) (headers : Entries FieldVal
   pub described : DescribesEach prefix s places resources
   pub told_is : told ≡ written_pieces (multistatus prefix who.principal question resources)
 
--- 207, with that body
-abbrev pub TellsFound : Bool → List ℕ → Entries FieldValue → List ℕ → List ℕ → State → Caller → Path → ℕ → State → Type 0
-TellsFound finite prefix headers body told s who p status s' = (status ≡ 207) × Finds finite prefix headers body s who p told
+-- 207, with that body, which is told to be XML
+abbrev pub TellsFound : Bool → List ℕ → Entries FieldValue → List ℕ → Sent → State → Caller → Path → ℕ → State → Type 0
+TellsFound finite prefix headers body sent s who p status s' =
+    (status ≡ 207) × Finds finite prefix headers body s who p sent.body × (sent.types ≡ xml_type ∷ [])
 
 -- Each refusal, and where it comes: first a depth that can't be read; then all the way down, where the server refuses that; then a body that asks for nothing of the kind; then
 -- nothing stands there; or a depth that is none, or a name below the path that no path has which is read.

@@ -1,5 +1,5 @@
 -- What the stores keep of XML can be read, and so can each document that the server tells (XML 1.0 section 2.1, RFC 4918 sections 4.4 and 8.2).
-use Rattle.std.specs.Prelude.{◌≡◌, ℕ, Bool, true, false, ◌&&◌, nat_le, List, [], Option, None, Some}
+use Rattle.std.specs.Prelude.{◌≡◌, ℕ, Bool, true, false, ◌&&◌, nat_le, List, [], ◌∷◌, Option, None, Some}
 use Rattle.std.specs.FinMap.{get}
 use Rattle.std.specs.List.{AllByRecursion, list_all}
 use Rattle.dav_path_core.specs.declared.util.DavMethod.{DavMethod}
@@ -17,7 +17,9 @@ use Rattle.dav_locks_core.specs.Exclusive.{Exclusive}
 use Rattle.dav_locks_core.specs.Lock.{Lock}
 use Rattle.dav_locks_core.specs.Stale.{without_stale}
 use Rattle.dav_handler_core.specs.Answers.{Server}
+use Rattle.dav_handler_core.specs.Fields.{Sent}
 use Rattle.dav_handler_core.specs.PropertyDocuments.{name_of_property}
+use Rattle.dav_handler_core.specs.RefusalBodies.{xml_type}
 use Rattle.dav_handler_core.specs.RefusalReading.{IsRooted}
 
 -- ---- texts
@@ -82,7 +84,12 @@ pub record IsDocument (bytes : List ℕ) : Type 0 where
   pub nodes : List Node
   pub is : document_of bytes ≡ Some nodes
 
--- what was done by one of these methods is told by a document
+-- what is told is a document, and told to be XML
+pub record TellsXml (sent : Sent) : Type 0 where
+  pub document : IsDocument sent.body
+  pub typed : sent.types ≡ xml_type ∷ []
+
+-- what was done by one of these methods is told so
 abbrev pub is_told_in_xml : Option DavMethod → Bool
 is_told_in_xml (Some method.PropFind) = true
 is_told_in_xml (Some method.PropPatch) = true

@@ -24,6 +24,7 @@ use Rattle.dav_handler_core.specs.LockInfos.{LockInfo, lock_info_in}
 use Rattle.dav_handler_core.specs.LockTimeouts.{given_of, timeouts_in}
 use Rattle.dav_handler_core.specs.LocksInTheWay.{IsPathOfOne, is_below}
 use Rattle.dav_handler_core.specs.Pieces.{written_pieces}
+use Rattle.dav_handler_core.specs.RefusalBodies.{xml_type}
 use Rattle.dav_handler_core.specs.Refusals.{IsLastMoment}
 
 -- ---- what is asked for
@@ -87,6 +88,7 @@ pub record IsGranted (most : Option ℕ) (prefix : List ℕ) (headers : Entries 
   pub status_is : status ≡ lock_status s.map (segments path.bytes)
   pub named : sent.tokens ≡ bracketed lock.token ∷ []
   pub told : sent.body ≡ written_pieces (discovery_pieces prefix who.principal (discovered (s.locks ++ lock ∷ []) (segments path.bytes)))
+  pub typed : sent.types ≡ xml_type ∷ []
 
 -- ---- refusals
 

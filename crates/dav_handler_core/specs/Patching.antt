@@ -1,5 +1,5 @@
 -- What a PROPPATCH leaves and tells, and why it is refused (RFC 4918 section 9.2).
-use Rattle.std.specs.Prelude.{◌≡◌, ◌≢◌, ℕ, Bool, true, false, List, [], None, Some, IsSome}
+use Rattle.std.specs.Prelude.{◌≡◌, ◌≢◌, ℕ, Bool, true, false, List, [], ◌∷◌, None, Some, IsSome}
 use Rattle.dav_path_core.specs.Fronts.{Path}
 use Rattle.dav_path_core.specs.PathText.{PathText}
 use Rattle.dav_path_core.specs.Segments.{segments}
@@ -13,6 +13,7 @@ use Rattle.dav_handler_core.specs.Callers.{Caller, SameLive, refusing_at}
 use Rattle.dav_handler_core.specs.Fields.{Sent}
 use Rattle.dav_handler_core.specs.LocksInTheWay.{IsPathOfOne}
 use Rattle.dav_handler_core.specs.PatchBodies.{any_protected, patch_nodes}
+use Rattle.dav_handler_core.specs.RefusalBodies.{xml_type}
 use Rattle.dav_handler_core.specs.PropertyUpdates.{Update, updates_in}
 
 -- ---- what is changed
@@ -52,6 +53,7 @@ pub record Patches (prefix : List ℕ) (body : List ℕ) (s : State) (who : Call
   pub free : refusing_at s who (segments path.bytes) ≡ []
   pub changes : Changes (any_protected updates) who.now (segments path.bytes) updates s s'
   pub tells : sent.body ≡ written (patch_nodes prefix path updates)
+  pub typed : sent.types ≡ xml_type ∷ []
 
 -- Each refusal of a PROPPATCH, and where it comes: first a body that asks for nothing, then that nothing stands there, and then a lock in its way, whose path is told.
 abbrev pub FailsToPatch : List ℕ → State → Caller → Path → Fault → Type 0

@@ -15,6 +15,7 @@ use Rattle.dav_handler_core.specs.Fields.{Sent}
 use Rattle.dav_handler_core.specs.LockDocuments.{discovery_pieces}
 use Rattle.dav_handler_core.specs.LockTimeouts.{given_of, timeouts_in}
 use Rattle.dav_handler_core.specs.Pieces.{written_pieces}
+use Rattle.dav_handler_core.specs.RefusalBodies.{xml_type}
 use Rattle.dav_handler_core.specs.Unlocking.{IsAnothers}
 
 -- ---- what is asked for
@@ -62,6 +63,7 @@ pub record Refreshes (most : Option ℕ) (prefix : List ℕ) (headers : Entries 
   pub timeout_is : timeout ≡ next_timeout most timeouts token (discovered s.locks p)
   pub refreshes : RefreshesOwn s who p token timeout s'
   pub told : sent.body ≡ written_pieces (discovery_pieces prefix who.principal (retimed token timeout (discovered s.locks p)))
+  pub typed : sent.types ≡ xml_type ∷ []
 
 -- ---- refusals
 

@@ -187,7 +187,7 @@ impl<R: Rng> Dav<R> {
     ) -> Result<StatusCode, Fault>
         requires { IsBlank response.old }
         ensures answers { ChangeAnswers false
-            (TellsFound (server R.stream self.old).options.finite (server R.stream self.old).options.prefix (head_of request.now).headers (body_of request.now) response.new.body.items)
+            (TellsFound (server R.stream self.old).options.finite (server R.stream self.old).options.prefix (head_of request.now).headers (body_of request.now) (sent_of response.new))
             (FailsToTell (server R.stream self.old).options.finite (head_of request.now).headers (body_of request.now)) (server R.stream self.old) request.now result (server R.stream self.new) }
         ensures live { SameLive (server R.stream self.new).last (server R.stream self.old).state (server R.stream self.new).state }
         ensures moves { Moves (server R.stream self.old) request.now (server R.stream self.new) }

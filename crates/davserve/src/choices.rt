@@ -1,11 +1,42 @@
 //! The words behind the program's name.
 use dav_handler_core::conditions::Scheme;
 use dav_handler_core::dav::Settings;
-use http_header::HeaderName;
-use std::alloc::Global;
+use http_header::{HeaderName, HeaderNameError};
+use std::alloc::{AllocError, Global};
+use std::num::ParseIntError;
 
 // A body may have so many bytes, if nothing else is said.
 const MAX_BODY: usize = 64 * 1024 * 1024;
+
+/// Why the words choose nothing.
+#[derive(Clone, Copy)]
+pub enum Unread {
+    /// They aren't of the program's form.
+    Usage,
+    /// There is no memory for them.
+    OutOfMemory,
+}
+
+impl From<AllocError> for Unread {
+    fn from(_error: AllocError) -> Self {
+        Unread::OutOfMemory
+    }
+}
+
+impl From<HeaderNameError> for Unread {
+    fn from(error: HeaderNameError) -> Self {
+        match error {
+            HeaderNameError::Invalid => Unread::Usage,
+            HeaderNameError::OutOfMemory => Unread::OutOfMemory,
+        }
+    }
+}
+
+impl From<ParseIntError> for Unread {
+    fn from(_error: ParseIntError) -> Self {
+        Unread::Usage
+    }
+}
 
 /// What the words choose.
 #[derive(Drop)]
@@ -23,15 +54,15 @@ pub struct Choices {
 }
 
 impl Choices {
-    /// Perhaps `--one`, and behind it options, each with its value, in any order; of one that comes twice the last counts. None where a word is none
-    /// of these, a value is missing or isn't one, or there is no memory for it.
-    pub fn of(alloc: Global, words: &[String]) -> Option<Choices> {
+    /// Perhaps `--one`, and behind it options, each with its value, in any order; of one that comes twice the last counts. `Usage` where a word is none
+    /// of these, or a value is missing or isn't one; `OutOfMemory` where there is no memory for it.
+    pub fn of(alloc: Global, words: &[String]) -> Result<Choices, Unread> {
         let (one, rest) = match words {
             [first, rest @ ..] if first.as_str() == "--one" => (true, rest),
             _ => (false, words),
         };
         if rest.len() % 2 != 0 {
-            return None;
+            return Err(Unread::Usage);
         }
         let mut choices = Choices {
             settings: Settings {
@@ -49,40 +80,40 @@ impl Choices {
         for pair in rest.chunks_exact(2) {
             choices.set(alloc, pair[0].as_str(), pair[1].as_str())?;
         }
-        Some(choices)
+        Ok(choices)
     }
 
-    fn set(&mut self, alloc: Global, name: &str, value: &str) -> Option<()> {
+    fn set(&mut self, alloc: Global, name: &str, value: &str) -> Result<(), Unread> {
         if name == "--prefix" {
-            self.settings.prefix = String::from_str(alloc, value).ok()?;
+            self.settings.prefix = String::from_str(alloc, value)?;
         } else if name == "--scheme" {
             self.settings.scheme = match value {
                 "http" => Scheme::Http,
                 "https" => Scheme::Https,
-                _ => return None,
+                _ => return Err(Unread::Usage),
             };
         } else if name == "--user-header" {
-            self.settings.user_header = Some(HeaderName::from_bytes(alloc, value.as_bytes()).ok()?);
+            self.settings.user_header = Some(HeaderName::from_bytes(alloc, value.as_bytes())?);
         } else if name == "--propfind-depth" {
             self.settings.finite_depth = match value {
                 "finite" => true,
                 "infinite" => false,
-                _ => return None,
+                _ => return Err(Unread::Usage),
             };
         } else if name == "--longest-timeout" {
-            self.settings.longest_timeout = Some(value.parse().ok()?);
+            self.settings.longest_timeout = Some(value.parse()?);
         } else if name == "--max-body" {
-            self.max_body = value.parse().ok()?;
+            self.max_body = value.parse()?;
         } else if name == "--seed" {
-            self.seed = Some(value.parse().ok()?);
+            self.seed = Some(value.parse()?);
         } else if name == "--clock" {
             self.clock = Some(match value {
                 "frames" => 0,
-                _ => value.parse().ok()?,
+                _ => value.parse()?,
             });
         } else {
-            return None;
+            return Err(Unread::Usage);
         }
-        Some(())
+        Ok(())
     }
 }

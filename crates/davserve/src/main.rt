@@ -3,7 +3,7 @@
 
 mod choices;
 
-use choices::Choices;
+use choices::{Choices, Unread};
 use dav_handler_core::dav::Dav;
 use dav_handler_core::serving::{Clock, End, serve_frames, serve_one};
 use dav_resource_core::fs::Moment;
@@ -34,8 +34,10 @@ fn main(rt: HostRuntime) -> ExitCode {
         ),
         Err(_) => return usage(&rt),
     };
-    let Some(choices) = Choices::of(rt.alloc(), &words) else {
-        return usage(&rt);
+    let choices = match Choices::of(rt.alloc(), &words) {
+        Ok(choices) => choices,
+        Err(Unread::OutOfMemory) => return ended(&rt, "out of memory\n", 3),
+        Err(Unread::Usage) => return usage(&rt),
     };
     match run(&rt, choices) {
         Ok(End::Whole) => ExitCode::SUCCESS,

@@ -82,6 +82,7 @@ pub record IsGrantedNow (prefix : List ℕ) (s : State) (who : Caller) (path : P
   pub status_is : status ≡ (if missing then 201 else 200)
   pub named : sent.tokens ≡ locking.bracketed lock.token ∷ []
   pub told : sent.body ≡ written_pieces (discovery_pieces prefix who.principal (discovered (s.locks ++ lock ∷ []) (segments path.bytes)))
+  pub typed : sent.types ≡ xml_type ∷ []
 
 -- What a LOCK leaves that is refused: all is as it was; or memory was lacking once the lock was granted.
 abbrev pub LeavesLock : (Lock → Type 0) → Caller → Path → Fault → State → State → Type 0

@@ -11,7 +11,7 @@ ghost use Rattle.dav_handler_core.specs.Deciding.{HeldOff, SendsPart, SendsTag, 
 ghost use Rattle.dav_handler_core.specs.Fields.{Sent, sent_of};
 ghost use Rattle.dav_handler_core.specs.declared.faults.Fault.{Fault};
 ghost use Rattle.dav_handler_core.specs.Holding.{IsKeptUnlessHeld, StandsUnlessEnded};
-ghost use Rattle.dav_handler_core.specs.KeptDocuments.{IsDocument, IsNew, KeepsElements, is_told_in_xml};
+ghost use Rattle.dav_handler_core.specs.KeptDocuments.{IsNew, KeepsElements, TellsXml, is_told_in_xml};
 ghost use Rattle.dav_handler_core.specs.KeptReading.{IsReadAsSent};
 ghost use Rattle.dav_handler_core.specs.PatchBodies.{patch_nodes};
 ghost use Rattle.dav_handler_core.specs.PropertyUpdates.{Update, updates_in};
@@ -61,12 +61,12 @@ pub fn kept_properties_are_read()
 
 /// The law of documents (XML 1.0 section 2.1, RFC 4918 section 8.2) over a run from new stores. It does nothing.
 ///
-/// - What a PROPFIND, a PROPPATCH or a LOCK has done is told by bytes that are read as one document, whatever any client has set before.
+/// - What a PROPFIND, a PROPPATCH or a LOCK has done is told by bytes that are read as one document, and told to be XML, whatever any client has set before.
 /// - What is told of a PROPPATCH is read as it was told.
 /// - What the stores keep of properties and locks are elements that could have been read.
 pub fn answers_are_documents()
     ensures told { (begun before after : Server) (request : Request (List ℕ)) (response : Response) → IsNew begun → Becomes begun before
-        → (h : Answers before request response after) → is_told_in_xml h.method ≡ true → IfOk h.result (λ status. IsDocument response.body.items) }
+        → (h : Answers before request response after) → is_told_in_xml h.method ≡ true → IfOk h.result (λ status. TellsXml (sent_of response)) }
     ensures patched { (before after : Server) (request : Request (List ℕ)) (status : ℕ) (sent : Sent) → length (body_of request) < 2 ^ 64
         → (h : IsPropPatched before request status sent after) → document_of sent.body ≡ Some (patch_nodes before.options.prefix h.path h.patches.updates) }
     ensures kept { (begun s : Server) → IsNew begun → Becomes begun s → KeepsElements s }

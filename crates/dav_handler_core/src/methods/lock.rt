@@ -13,6 +13,7 @@ ghost use Rattle.dav_handler_core.specs.LockDocuments.{discovery_pieces};
 ghost use Rattle.dav_handler_core.specs.Locking as locking;
 ghost use Rattle.dav_handler_core.specs.Pieces.{written_pieces};
 ghost use Rattle.dav_handler_core.specs.Private.Rooms.{FoundRoom, IsConflictAt, IsGrantedNow, IsMadeUnder, IsReady, IsUnmade, LacksRoom, LeavesLock, conflict_at, wanted_of};
+ghost use Rattle.dav_handler_core.specs.RefusalBodies.{xml_type};
 ghost use Rattle.dav_handler_core.specs.Refusals.{IsLastMoment};
 ghost use Rattle.dav_handler_core.specs.Sessions as spec;
 ghost use Rattle.dav_handler_core.specs.declared.faults.Fault.TheVariants as fault;
@@ -237,6 +238,7 @@ fn finish<R: Rng>(
     ensures named { OnOk result ((sent_of response.new).tokens ≡ locking.bracketed token.now ∷ []) }
     ensures told { OnOk result ((sent_of response.new).body ≡ written_pieces (discovery_pieces prefix.now (spec.caller session.old).principal
         (discovered (live (spec.caller session.old).now (spec.state R.stream session.old)).locks (segments path.now.bytes)))) }
+    ensures typed { OnOk result ((sent_of response.new).types ≡ xml_type ∷ []) }
     ensures made { OnOk result (IsMadeUnder (spec.state R.stream session.old) (spec.caller session.old) token.now (segments path.now.bytes) missing
         (spec.state R.stream session.new)) }
     ensures err { IfErr result (λ e. IsUnmade (spec.state R.stream session.old) (spec.caller session.old) token.now (segments path.now.bytes) missing e
@@ -261,6 +263,7 @@ fn tell(alloc: Global, response: &mut Response, document: Vec<u8>, token: &str) 
     requires value { IsFieldValue (locking.bracketed token.now) }
     ensures named { OnOk result ((sent_of response.new).tokens ≡ locking.bracketed token.now ∷ []) }
     ensures told { OnOk result ((sent_of response.new).body ≡ document.items) }
+    ensures typed { OnOk result ((sent_of response.new).types ≡ xml_type ∷ []) }
     ensures err { IfErr result (λ e. e ≡ fault.InsufficientStorage) }
 {
     add_lock_token(alloc, response, token)?;

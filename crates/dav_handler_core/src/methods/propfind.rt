@@ -1,16 +1,19 @@
 //! PROPFIND.
-ghost use Rattle.std.specs.Prelude.{◌≡◌, ◌≢◌, ◌⊎◌, true, None, Some, List, [], map, IfErr, IfOk, IsSome, OnOk};
+ghost use Rattle.std.specs.Prelude.{◌≡◌, ◌≢◌, ◌⊎◌, true, None, Some, List, [], ◌∷◌, map, IfErr, IfOk, IsSome, OnOk};
+ghost use Rattle.http_server.specs.Response.{IsBlank};
 ghost use Rattle.dav_path_core.specs.Segments.{segments};
 ghost use Rattle.dav_headers_core.specs.declared.davheaders.depths.Depth.TheVariants as reach;
 ghost use Rattle.dav_files_core.specs.Resources.{at_path};
 ghost use Rattle.dav_xml_core.specs.Views.{writing_of};
 ghost use Rattle.dav_handler_core.specs.Callers.{RunBy, SameLive, live};
 ghost use Rattle.dav_handler_core.specs.Depths.{depth_in};
+ghost use Rattle.dav_handler_core.specs.Fields.{sent_of};
 ghost use Rattle.dav_handler_core.specs.Finding.{DescribesEach, FailsToFind, Finds};
 ghost use Rattle.dav_handler_core.specs.Pieces.{written_pieces};
 ghost use Rattle.dav_handler_core.specs.Private.Asking.{question_of};
 ghost use Rattle.dav_handler_core.specs.Private.Telling.{AllStand, TellsEach, TellsOne};
 ghost use Rattle.dav_handler_core.specs.PropertyDocuments.{Description, multistatus};
+ghost use Rattle.dav_handler_core.specs.RefusalBodies.{xml_type};
 ghost use Rattle.dav_handler_core.specs.Sessions as spec;
 ghost use Rattle.dav_handler_core.specs.declared.faults.Fault.TheVariants as fault;
 
@@ -45,9 +48,9 @@ pub(crate) fn propfind<R: Rng>(
     path: DavPath,
     response: &mut Response,
 ) -> Result<StatusCode, Fault>
-    requires { response.old.body.items ≡ [] }
+    requires { IsBlank response.old }
     ensures done { IfOk result (λ status. (status ≡ 207) × Finds finite prefix.now headers.now body.now (live (spec.caller session.old).now (spec.state R.stream session.old))
-        (spec.caller session.old) (segments path.bytes) response.new.body.items) }
+        (spec.caller session.old) (segments path.bytes) response.new.body.items × ((sent_of response.new).types ≡ xml_type ∷ [])) }
     ensures err { IfErr result (λ e. FailsToFind finite headers.now body.now (spec.state R.stream session.old).map (segments path.bytes) e) }
     ensures run { RunBy (spec.caller session.old) (spec.state R.stream session.old) (spec.state R.stream session.new) }
     ensures live { SameLive (spec.caller session.old).now (spec.state R.stream session.old) (spec.state R.stream session.new) }

@@ -7,6 +7,7 @@ use Rattle.http_header.specs.HeaderMap.{Entries}
 use Rattle.dav_path_core.specs.Segments.{segments}
 use Rattle.dav_handler_core.specs.Answers.{Options}
 use Rattle.dav_handler_core.specs.Callers.{Caller, live}
+use Rattle.dav_handler_core.specs.Fields.{sent_of}
 use Rattle.dav_handler_core.specs.Finding.{FailsToTell, TellsFound}
 use Rattle.dav_handler_core.specs.Servers.{server}
 use Rattle.dav_handler_core.specs.Sessions.{caller, state}
@@ -21,7 +22,7 @@ returns-clause-answers g c =
     let who = caller c.begin_admitted.new.self.session in
     let s = state g.R.Rng.stream c.begin_admitted.new.self.session in
     let begun = c.in_ok-path.ensures.ok in
-    let told = c.propfind.new.response.body.items in
+    let told = sent_of c.propfind.new.response in
     let p = segments c.in_ok-path.path.bytes in
     let result = c.propfind.result in
     let headers = (head_of c.args.request.now).headers in

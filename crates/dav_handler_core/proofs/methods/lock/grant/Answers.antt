@@ -24,7 +24,7 @@ returns-in-Ok-clause-done g c = (
   granted_now (spec.state g.R.Rng.stream c.args.session.now) (spec.state g.R.Rng.stream c.granted.new.session) (spec.caller c.args.session.now)
       (spec.caller c.granted.new.session) c.args.path (wanted_of c.args.wanted) c.args.missing (map string_bytes c.args.above.now) c.in_ok-lock.lock c.granted.ensures.caller
       c.requires.ready c.in_ok-lock.ensures.ok c.in_ok-lock.ensures.left c.in_ok-lock.ensures.free c.deref.result.now (c.deref.ensures ∙ ap (λ (l : Lock). l.token) c.lock.view_is)
-      c.args.prefix.now c.in-Ok.status (sent_of c.finish.new.response) (spec.state g.R.Rng.stream c.finish.new.session) c.in-Ok.ensures.ok c.in-Ok.ensures.named c.in-Ok.ensures.told
+      c.args.prefix.now c.in-Ok.status (sent_of c.finish.new.response) (spec.state g.R.Rng.stream c.finish.new.session) c.in-Ok.ensures.ok c.in-Ok.ensures.named c.in-Ok.ensures.told c.in-Ok.ensures.typed
       c.in-Ok.ensures.made,
 )
 

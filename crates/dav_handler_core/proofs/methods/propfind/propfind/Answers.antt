@@ -1,9 +1,11 @@
-use Rattle.std.proofs.Common.{ℕ, List, ◌++◌, map, Option, refl, sym, ap, ◌∙◌, subst}
+use Rattle.std.proofs.Common.{ℕ, List, [], ◌∷◌, codes, ◌++◌, map, Option, refl, sym, ap, ◌∙◌, subst}
 use Rattle.std.proofs.lemmas.Result.{err_from_is_err_and}
 use Rattle.dav_path_core.specs.PathText.{PathText}
 use Rattle.dav_path_core.specs.Segments.{segments}
 use Rattle.dav_resource_core.specs.Step.{State}
 use Rattle.dav_handler_core.specs.Callers.{Caller, live}
+use Rattle.dav_handler_core.specs.Fields.{values_in}
+use Rattle.dav_handler_core.specs.RefusalBodies.{xml_type}
 use Rattle.dav_handler_core.specs.Finding.{DescribesEach}
 use Rattle.dav_handler_core.specs.Pieces.{written_pieces}
 use Rattle.dav_handler_core.specs.Private.Asking.{question_of}
@@ -38,8 +40,10 @@ returns-clause-done g c =
         resources = told.0;
         described = subst (λ (s : State). DescribesEach c.args.prefix.now s (map (λ p. segments p.bytes) c.in_ok-places.places.items) told.0) (same_state who start asker mid looks)
             (subst (λ (places : List PathText). DescribesEach c.args.prefix.now (live asker.now mid) (map (λ p. segments p.bytes) places) told.0) c.deref.ensures.value told.1);
-        told_is = c.in_ok-say_document.ensures.body ∙ ap (λ (before : List ℕ). before ++ c.in_ok-document.document.items) c.requires ∙ told.2 ∙ named;
+        told_is = c.in_ok-say_document.ensures.body ∙ ap (λ (before : List ℕ). before ++ c.in_ok-document.document.items) c.requires.body ∙ told.2 ∙ named;
       },
+      ap (λ fields. values_in fields (codes "content-type"))
+          (c.in_ok-say_document.ensures.fields ∙ ap (λ front. front ++ (codes "content-type", xml_type) ∷ []) c.requires.headers),
     )
 
 pub tell-requires : goal.tell-requires

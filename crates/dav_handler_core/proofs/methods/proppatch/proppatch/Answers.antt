@@ -1,8 +1,10 @@
-use Rattle.std.proofs.Common.{◌≡◌, ◌∙◌, ◌++◌, List, ℕ, true, refl, sym, ap, subst, map}
+use Rattle.std.proofs.Common.{◌≡◌, ◌∙◌, ◌++◌, ◌∷◌, [], codes, List, ℕ, true, refl, sym, ap, subst, map}
 use Rattle.dav_path_core.specs.Segments.{segments}
 use Rattle.dav_files_core.specs.Properties.{entry_of}
 use Rattle.dav_xml_core.specs.Writing.{written}
 use Rattle.dav_handler_core.specs.Callers.{live}
+use Rattle.dav_handler_core.specs.Fields.{values_in}
+use Rattle.dav_handler_core.specs.RefusalBodies.{xml_type}
 use Rattle.dav_handler_core.specs.PatchBodies.{any_protected, patch_nodes}
 use Rattle.dav_handler_core.specs.Patching.{Changes}
 use Rattle.dav_handler_core.specs.Sessions as spec
@@ -31,6 +33,8 @@ returns-then-any_protected-clause-done g c =
       changes = subst (λ b. Changes b who.now p updates (live who.now s) after) (sym some) same;
       tells = c.in_ok-say_document.ensures.body ∙ ap (λ (front : List ℕ). front ++ c.in_ok-patch_document.field-0.items) c.requires.body
           ∙ c.in_ok-patch_document.ensures ∙ ap (λ us. written (patch_nodes c.args.prefix.now c.args.path (map entry_of us))) c.deref.ensures.value;
+      typed = ap (λ fields. values_in fields (codes "content-type"))
+          (c.in_ok-say_document.ensures.fields ∙ ap (λ front. front ++ (codes "content-type", xml_type) ∷ []) c.requires.headers);
     }
 
 pub returns-in_err-patch-clause-run : goal.returns-in_err-patch-clause-run

@@ -1,0 +1,340 @@
+/* Sends requests to a server over connections that are kept open, one request at a time in each.
+
+   load socket PORT         connects to 127.0.0.1
+   load frames IN OUT       speaks the frames of davserve: writes to one descriptor that it has got, and reads from another
+
+   Each line of the input is a command: CONNECTIONS SECONDS FILE. The file holds requests, each behind a line with its length. Every connection plays them
+   in turn, once where SECONDS is 0, else again and again until so much time has passed; it ends behind the last request. In a request @N@ is the number of the connection, from 0,
+   and @TOKEN@ the token of the last lock that it was granted. The answer to a command is a line: REQUESTS SECONDS WRONG, the last being how many answers
+   had a status other than 2xx. */
+#define _GNU_SOURCE
+#include <arpa/inet.h>
+#include <errno.h>
+#include <fcntl.h>
+#include <netinet/tcp.h>
+#include <poll.h>
+#include <stdio.h>
+#include <stdlib.h>
+#include <string.h>
+#include <strings.h>
+#include <sys/uio.h>
+#include <time.h>
+#include <unistd.h>
+
+enum { MOST = 64, HEAD = 64 * 1024, PIECE = 64 * 1024, TOKEN = 256 };
+enum part { IN_HEAD, IN_LENGTH, IN_CHUNK_SIZE, IN_CHUNK, IN_TRAILER };
+
+struct text { char *bytes; size_t length; };
+
+struct connection {
+    int fd;
+    unsigned long number;             /* of its frames */
+    size_t next;                      /* the request to be sent next */
+    int waits, closes, done;
+    char *out; size_t left;           /* what is still to be sent of the request */
+    char *filled;                     /* the request, where something was filled in */
+    enum part part;
+    char head[HEAD]; size_t in_head;
+    unsigned long long body;          /* how much of the body or the chunk is still to come */
+    size_t in_line;
+    char token[TOKEN];
+};
+
+static struct connection connections[MOST];
+static int count, port, to_server = -1, from_server = -1;
+static unsigned long begun;
+static struct text *requests;
+static size_t request_count;
+static unsigned long answered, wrong;
+static double ends;
+
+static void fail(const char *what) { perror(what); exit(1); }
+
+static double now(void) {
+    struct timespec at;
+    clock_gettime(CLOCK_MONOTONIC, &at);
+    return at.tv_sec + at.tv_nsec / 1e9;
+}
+
+static void *taken(void *memory) { if (!memory) fail("memory"); return memory; }
+
+/* ---- requests */
+
+static void read_requests(const char *name) {
+    FILE *file = fopen(name, "rb");
+    if (!file) fail(name);
+    for (size_t n = 0; n < request_count; n++) free(requests[n].bytes);
+    request_count = 0;
+    size_t length;
+    while (fscanf(file, "%zu", &length) == 1 && fgetc(file) == '\n') {
+        requests = taken(realloc(requests, (request_count + 1) * sizeof *requests));
+        struct text *request = &requests[request_count++];
+        request->bytes = taken(malloc(length + 1));
+        request->length = length;
+        if (fread(request->bytes, 1, length, file) != length) fail("a short file");
+        request->bytes[length] = 0;
+    }
+    fclose(file);
+}
+
+/* Only short requests have something to be filled in. */
+static void fill_in(struct connection *c, struct text *request) {
+    free(c->filled);
+    c->filled = NULL;
+    c->out = request->bytes;
+    c->left = request->length;
+    if (!memmem(request->bytes, request->length < 4096 ? request->length : 4096, "@", 1)) return;
+    char *to = c->filled = taken(malloc(request->length + 16 * TOKEN));
+    for (char *from = request->bytes, *end = from + request->length; from < end;) {
+        if (end - from >= 3 && !memcmp(from, "@N@", 3)) { to += sprintf(to, "%d", (int)(c - connections)); from += 3; }
+        else if (end - from >= 7 && !memcmp(from, "@TOKEN@", 7)) { to += sprintf(to, "%s", c->token); from += 7; }
+        else *to++ = *from++;
+    }
+    c->out = c->filled;
+    c->left = to - c->filled;
+}
+
+/* The next request of a connection that waits for no answer; none where its turn is over. */
+static void begin_next(struct connection *c) {
+    if (c->next == request_count) {
+        c->next = 0;
+        if (now() >= ends) { c->done = 1; return; }
+    }
+    fill_in(c, &requests[c->next++]);
+    c->waits = 1;
+    c->part = IN_HEAD;
+    c->in_head = 0;
+}
+
+/* ---- answers */
+
+static void answer_ends(struct connection *c) { c->waits = 0; answered++; }
+
+/* The value of a field of the head, or NULL. */
+static const char *field(const char *head, const char *name) {
+    size_t length = strlen(name);
+    for (const char *line = strstr(head, "\r\n"); line && line[2] != '\r'; line = strstr(line + 2, "\r\n"))
+        if (!strncasecmp(line + 2, name, length) && line[2 + length] == ':') {
+            line += 3 + length;
+            return line + strspn(line, " ");
+        }
+    return NULL;
+}
+
+static void head_ends(struct connection *c) {
+    int status = atoi(c->head + 9);
+    if (status / 100 != 2 && !wrong++) fprintf(stderr, "a wrong answer to %.40s: %.40s\n", c->filled ? c->filled : requests[c->next - 1].bytes, c->head);
+    const char *value;
+    if ((value = field(c->head, "connection")) && !strncasecmp(value, "close", 5)) c->closes = 1;
+    if ((value = field(c->head, "lock-token")) && *value == '<') sscanf(value, "<%250[^>]", c->token);
+    c->in_line = 0;
+    if (status == 204 || status == 304) answer_ends(c);
+    else if ((value = field(c->head, "transfer-encoding"))) { c->part = IN_CHUNK_SIZE; c->body = 0; }
+    else {
+        value = field(c->head, "content-length");
+        c->body = value ? strtoull(value, NULL, 10) : 0;
+        c->part = IN_LENGTH;
+        if (!c->body) answer_ends(c);
+    }
+}
+
+static size_t take_head(struct connection *c, const char *bytes, size_t length) {
+    size_t room = HEAD - 1 - c->in_head, old = c->in_head, part = length < room ? length : room;
+    if (!part) { fprintf(stderr, "a long head\n"); exit(1); }
+    memcpy(c->head + old, bytes, part);
+    c->head[old + part] = 0;
+    char *end = memmem(c->head + (old > 3 ? old - 3 : 0), old + part - (old > 3 ? old - 3 : 0), "\r\n\r\n", 4);
+    if (!end) { c->in_head += part; return part; }
+    end[4] = 0;
+    head_ends(c);
+    return end + 4 - (c->head + old);
+}
+
+static size_t take_chunk_line(struct connection *c, char byte) {
+    if (byte == '\n') {
+        if (c->part == IN_TRAILER) { if (!c->in_line) answer_ends(c); }
+        else if (c->in_line) c->part = c->body ? IN_CHUNK : IN_TRAILER;
+        c->in_line = 0;
+    } else if (byte != '\r') {
+        if (c->part == IN_CHUNK_SIZE) c->body = c->body * 16 + (byte <= '9' ? byte - '0' : (byte | 32) - 'a' + 10);
+        c->in_line++;
+    }
+    return 1;
+}
+
+static void take(struct connection *c, const char *bytes, size_t length) {
+    while (length) {
+        size_t part;
+        if (!c->waits) { fprintf(stderr, "an answer that nobody asked for\n"); exit(1); }
+        if (c->part == IN_HEAD) part = take_head(c, bytes, length);
+        else if (c->part == IN_CHUNK_SIZE || c->part == IN_TRAILER) part = take_chunk_line(c, *bytes);
+        else {
+            part = length < c->body ? length : c->body;
+            c->body -= part;
+            if (!c->body && c->part == IN_LENGTH) answer_ends(c);
+            else if (!c->body) c->part = IN_CHUNK_SIZE;
+        }
+        bytes += part;
+        length -= part;
+    }
+}
+
+/* ---- sockets */
+
+static void open_socket(struct connection *c) {
+    struct sockaddr_in at = {.sin_family = AF_INET, .sin_port = htons(port), .sin_addr.s_addr = htonl(INADDR_LOOPBACK)};
+    int one = 1;
+    c->fd = socket(AF_INET, SOCK_STREAM, 0);
+    if (c->fd < 0 || connect(c->fd, (struct sockaddr *)&at, sizeof at)) fail("connect");
+    setsockopt(c->fd, IPPROTO_TCP, TCP_NODELAY, &one, sizeof one);
+    fcntl(c->fd, F_SETFL, O_NONBLOCK);
+    c->closes = 0;
+}
+
+static void send_socket(struct connection *c) {
+    while (c->left) {
+        ssize_t sent = write(c->fd, c->out, c->left);
+        if (sent < 0) { if (errno == EAGAIN) return; fail("write"); }
+        c->out += sent;
+        c->left -= sent;
+    }
+}
+
+static void go_on(struct connection *c) {
+    if (c->waits || c->done) return;
+    begin_next(c);
+    if (c->done) return;
+    if (c->closes) { close(c->fd); open_socket(c); }
+    send_socket(c);
+}
+
+static void play_sockets(void) {
+    static char buffer[1 << 20];
+    for (int n = 0; n < count; n++) { open_socket(&connections[n]); go_on(&connections[n]); }
+    for (;;) {
+        struct pollfd waited[MOST];
+        int open = 0;
+        for (int n = 0; n < count; n++) {
+            struct connection *c = &connections[n];
+            waited[n] = (struct pollfd){.fd = c->done ? -1 : c->fd, .events = POLLIN | (c->left ? POLLOUT : 0)};
+            open += !c->done;
+        }
+        if (!open) break;
+        if (poll(waited, count, 60000) <= 0) fail("poll");
+        for (int n = 0; n < count; n++) {
+            struct connection *c = &connections[n];
+            if (waited[n].revents & POLLOUT) send_socket(c);
+            if (!(waited[n].revents & (POLLIN | POLLHUP | POLLERR))) continue;
+            ssize_t got = read(c->fd, buffer, sizeof buffer);
+            if (got < 0 && errno == EAGAIN) continue;
+            if (got <= 0) { fprintf(stderr, "closed in an answer\n"); exit(1); }
+            take(c, buffer, got);
+            go_on(c);
+        }
+    }
+    for (int n = 0; n < count; n++) close(connections[n].fd);
+}
+
+/* ---- frames */
+
+/* The frame that is being written: its head, and a piece of a connection. */
+static char frame_head[64];
+static size_t frame_head_left, frame_left;
+static struct connection *framed;
+static int turn;
+
+static void next_frame(void) {
+    for (int n = 0; n < count; n++) {
+        struct connection *c = &connections[(turn + n) % count];
+        if (!c->left) continue;
+        turn = (turn + n + 1) % count;
+        frame_left = c->left < PIECE ? c->left : PIECE;
+        frame_head_left = sprintf(frame_head, "%lu %zu\n", c->number, frame_left);
+        memmove(frame_head + sizeof frame_head - frame_head_left, frame_head, frame_head_left);
+        framed = c;
+        return;
+    }
+}
+
+/* Whether something is still to be written. */
+static int send_frames(void) {
+    for (;;) {
+        if (!frame_left) next_frame();
+        if (!frame_left) return 0;
+        struct iovec parts[2] = {{frame_head + sizeof frame_head - frame_head_left, frame_head_left}, {framed->out, frame_left}};
+        ssize_t sent = writev(to_server, parts, 2);
+        if (sent < 0) { if (errno == EAGAIN) return 1; fail("write"); }
+        size_t of_head = (size_t)sent < frame_head_left ? (size_t)sent : frame_head_left;
+        frame_head_left -= of_head;
+        sent -= of_head;
+        frame_left -= sent;
+        framed->out += sent;
+        framed->left -= sent;
+    }
+}
+
+static void take_frames(const char *bytes, size_t length) {
+    static char line[64];
+    static size_t in_line, piece;
+    static unsigned long number;
+    while (length) {
+        if (piece) {
+            size_t part = length < piece ? length : piece;
+            struct connection *c = &connections[number - connections[0].number];
+            take(c, bytes, part);
+            if (!c->waits && !c->done) begin_next(c);
+            piece -= part;
+            bytes += part;
+            length -= part;
+            continue;
+        }
+        line[in_line++] = *bytes++;
+        length--;
+        if (line[in_line - 1] != '\n') continue;
+        line[in_line - 1] = 0;
+        in_line = 0;
+        if (sscanf(line, "%lu %zu", &number, &piece) != 2 || number < connections[0].number || number > begun) { fprintf(stderr, "a wrong frame\n"); exit(1); }
+    }
+}
+
+static void play_frames(void) {
+    static char buffer[1 << 20];
+    /* Connections are numbered in the order of their first frames. */
+    turn = 0;
+    for (int n = 0; n < count; n++) { connections[n].number = ++begun; begin_next(&connections[n]); }
+    for (;;) {
+        int open = 0;
+        for (int n = 0; n < count; n++) open += !connections[n].done;
+        if (!open) return;
+        struct pollfd waited[2] = {{.fd = from_server, .events = POLLIN}, {.fd = to_server, .events = send_frames() ? POLLOUT : 0}};
+        if (poll(waited, 2, 60000) <= 0) fail("poll");
+        if (!(waited[0].revents & (POLLIN | POLLHUP))) continue;
+        ssize_t got = read(from_server, buffer, sizeof buffer);
+        if (got <= 0) { fprintf(stderr, "the program has ended\n"); exit(1); }
+        take_frames(buffer, got);
+    }
+}
+
+int main(int words, char **word) {
+    if (words == 3 && !strcmp(word[1], "socket")) port = atoi(word[2]);
+    else if (words == 4 && !strcmp(word[1], "frames")) {
+        to_server = atoi(word[2]);
+        from_server = atoi(word[3]);
+        fcntl(to_server, F_SETFL, O_NONBLOCK);
+        fcntl(to_server, F_SETPIPE_SZ, 1 << 20);
+        fcntl(from_server, F_SETPIPE_SZ, 1 << 20);
+    } else return 2;
+    char name[4096];
+    double seconds;
+    while (scanf("%d %lf %4095s", &count, &seconds, name) == 3 && count <= MOST) {
+        read_requests(name);
+        for (int n = 0; n < count; n++) { free(connections[n].filled); memset(&connections[n], 0, sizeof connections[n]); }
+        answered = wrong = 0;
+        double began = now();
+        ends = began + seconds;
+        if (port) play_sockets(); else play_frames();
+        printf("%lu %.6f %lu\n", answered, now() - began, wrong);
+        fflush(stdout);
+    }
+    return 0;
+}

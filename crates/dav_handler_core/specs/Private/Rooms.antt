@@ -23,6 +23,7 @@ use Rattle.dav_handler_core.specs.LocksInTheWay.{IsPathOfOne, is_below}
 use Rattle.dav_handler_core.specs.Pieces.{written_pieces}
 use Rattle.dav_handler_core.specs.Private.Marking.{IsNone}
 use Rattle.dav_handler_core.specs.Private.Refusing.{put_fault}
+use Rattle.dav_handler_core.specs.RefusalBodies.{xml_type}
 
 -- what the code wants, as plain data
 abbrev pub wanted_of : Wanted → locking.Wanted

@@ -1,12 +1,11 @@
 -- The names that the body of a PROPFIND gives are those of elements, and so is the owner that the body of a LOCK gives an element.
-use Rattle.std.proofs.Common.{◌≡◌, refl, sym, ap, subst, ◌∙◌, ℕ, ◌^◌, ◌<◌, Bool, true, false, cond, List, [], ◌∷◌, ◌++◌, length, Option, None, Some, codes}
+use Rattle.std.proofs.Common.{◌≡◌, refl, ap, subst, ℕ, ◌^◌, ◌<◌, Bool, true, false, cond, List, [], ◌∷◌, ◌++◌, length, Option, None, Some, codes}
 use Rattle.std.specs.Prelude.{option_and_then}
 use Rattle.std.specs.List.{AllByRecursion, list_any}
 use Rattle.dav_xml_core.specs.Documents.{Name, Node}
-use Rattle.dav_xml_core.specs.Optional.{◌>>=◌, when}
+use Rattle.dav_xml_core.specs.Optional.{when}
 use Rattle.dav_xml_core.specs.ReadableDocuments.{CouldBeRead}
 use Rattle.dav_xml_core.specs.Reading.{document_of}
-use Rattle.dav_xml_core.specs.Writing.{written_alone}
 use Rattle.dav_xml_core.proofs.ElementLemmas.{bind_some, when_some}
 use Rattle.dav_xml_core.proofs.ReadNodesLemmas.{read_could}
 use Rattle.dav_handler_core.specs.Elements.{at_most_one, children, element_name, is_dav, named, the_one}

@@ -1,25 +1,23 @@
 -- The texts that describe a resource are visible: its URL, its type, its tag and its dates.
-use Rattle.std.proofs.Common.{◌≡◌, refl, sym, ap, subst, ◌∙◌, ℕ, zero, suc, ◌+◌, ◌/◌, ◌%◌, ◌-◌, ◌<◌, ◌≤◌, arith, Bool, true, false, cond, ◌&&◌, ◌||◌, List, [], ◌∷◌, ◌++◌, Option, Some, None, codes}
-use Rattle.std.specs.Prelude.{◌==◌, T, nat_le, bytes_eq, decimal, flat_map, map, ℤ, pos, negsuc, slice_index_or}
+use Rattle.std.proofs.Common.{◌≡◌, refl, sym, subst, ℕ, suc, ◌+◌, ◌/◌, ◌%◌, ◌-◌, ◌<◌, ◌≤◌, arith, Bool, true, false, cond, ◌&&◌, ◌||◌, List, [], ◌∷◌, ◌++◌, Option, Some, None, codes}
+use Rattle.std.specs.Prelude.{◌==◌, T, nat_le, bytes_eq, decimal, map, ℤ, pos, negsuc}
 use Rattle.std.specs.Char.{to_ascii_lowercase}
-use Rattle.std.specs.List.{AllByRecursion, list_all}
+use Rattle.std.specs.List.{list_all}
 use Rattle.std.proofs.lemmas.Bool.{and_parts, false≢true}
 use Rattle.std.proofs.lemmas.Bool.Decides.{nat_tests}
 use Rattle.httpdate.specs.declared.date.HttpDate.{HttpDate}
 use Rattle.httpdate.specs.declared.parts.Parts.{Parts}
 use Rattle.httpdate.specs.Calendar.{is_leap_year}
 use Rattle.httpdate.specs.Date.{date_text}
-use Rattle.httpdate.specs.Text.{day_name, four_digits, imf_fixdate, month_name, time_of_day, two_digits}
+use Rattle.httpdate.specs.Text.{day_name, four_digits, month_name, time_of_day, two_digits}
 use Rattle.jiff_core.specs.Calendar as calendar
 use Rattle.jiff_core.specs.declared.civil.date.Date.{Date}
 use Rattle.jiff_core.specs.declared.civil.time.Time.{Time}
-use Rattle.jiff_core.specs.declared.civil.datetime.DateTime.{DateTime}
 use Rattle.jiff_fmt.specs.Text as printed
 use Rattle.dav_path_core.specs.Fronts.{Path}
 use Rattle.dav_path_core.specs.Url.{url}
-use Rattle.dav_headers_core.specs.Tags.{spelled}
 use Rattle.dav_xml_core.specs.Scanning.{is_nil}
-use Rattle.dav_handler_core.specs.declared.content_types.TheConstants.{TYPES, OTHER}
+use Rattle.dav_handler_core.specs.declared.content_types.TheConstants.{OTHER}
 use Rattle.dav_handler_core.specs.ContentTypes.{Entry, content_type, extension, table, type_in}
 use Rattle.dav_handler_core.specs.FileTags.{file_tag, tag_text}
 use Rattle.dav_handler_core.specs.KeptDocuments.{IsVisible, is_visible}

@@ -1,5 +1,5 @@
 -- Pieces that can stand inside an element, one behind another: a document of them is read.
-use Rattle.std.proofs.Common.{◌≡◌, refl, sym, ap, subst, ◌∙◌, ℕ, zero, suc, Bool, true, false, cond, ◌&&◌, List, [], ◌∷◌, ◌++◌, map, Some, append_assoc, append-nil}
+use Rattle.std.proofs.Common.{◌≡◌, refl, sym, ap, subst, ◌∙◌, ℕ, suc, Bool, true, false, cond, ◌&&◌, List, [], ◌∷◌, ◌++◌, map, Some, append_assoc, append-nil}
 use Rattle.std.specs.Prelude.{flat_map}
 use Rattle.std.specs.List.{AllByRecursion, list_all}
 use Rattle.std.proofs.lemmas.Bool.{and_parts}
@@ -10,12 +10,12 @@ use Rattle.dav_xml_core.specs.Namespaces.{are_distinct}
 use Rattle.dav_xml_core.specs.Parts as part
 use Rattle.dav_xml_core.specs.Parts.{Part, PartsCouldBeRead, are_parts, is_part, nodes_in, part_bytes, with_part, with_parts, written_parts}
 use Rattle.dav_xml_core.specs.Readable.{is_start, name_bytes}
-use Rattle.dav_xml_core.specs.ReadableDocuments.{are_apart, is_node, is_readable, node_bytes}
+use Rattle.dav_xml_core.specs.ReadableDocuments.{are_apart, is_node, node_bytes}
 use Rattle.dav_xml_core.specs.Reading.{document_of}
 use Rattle.dav_xml_core.specs.Writing.{Writing, in_document, unwritten, written, written_alone}
 use Rattle.dav_xml_core.proofs.InsideLemmas.{element_behind, element_closes}
 use Rattle.dav_xml_core.proofs.NodesLemmas.{parts_again}
-use Rattle.dav_handler_core.specs.KeptDocuments.{IsDocument, IsElementIn, IsElementName, IsElementText, IsVisible}
+use Rattle.dav_handler_core.specs.KeptDocuments.{IsDocument, IsElementName, IsElementText, IsVisible}
 use Rattle.dav_handler_core.specs.Pieces.{Piece, Made, Kept, enclosed, made, with_piece, with_pieces, written_pieces}
 use Rattle.dav_handler_core.specs.RefusalBodies.{dav_name, element}
 use Rattle.dav_handler_core.proofs.PieceLemmas.{of_nodes}

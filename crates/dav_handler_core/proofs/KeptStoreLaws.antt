@@ -1,10 +1,10 @@
 -- What the stores keep of XML can be read after each answer, if it could before.
-use Rattle.std.proofs.Common.{◌≡◌, ◌⊎◌, inl, inr, ℕ, zero, suc, ◌+◌, ◌<◌, ◌≤◌, ◌^◌, arith, Bool, true, false, cond, not, ◌&&◌, ◌||◌, List, [], ◌∷◌, ◌++◌, map, length, Option, Some, None, Result, Ok, Err, refl, sym, ◌∙◌, ap, subst}
-use Rattle.std.specs.Prelude.{IfErr, drop, get_or, nat_le, option_map, remove, set, take, ◌==◌}
+use Rattle.std.proofs.Common.{◌≡◌, inl, inr, ℕ, zero, suc, ◌+◌, ◌<◌, ◌≤◌, ◌^◌, arith, Bool, true, false, cond, not, ◌&&◌, ◌||◌, List, [], ◌∷◌, ◌++◌, length, Option, Some, None, Result, Ok, Err, refl, sym, ◌∙◌, ap, subst}
+use Rattle.std.specs.Prelude.{IfErr, drop, get_or, option_map, remove, set, take, ◌==◌}
 use Rattle.std.specs.FinMap as maps
 use Rattle.std.specs.FinMap.{empty, get, get-empty, insert}
 use Rattle.std.specs.List.{AllByRecursion}
-use Rattle.std.proofs.lemmas.Bool.{cases_Bool, false≢true, true≢false}
+use Rattle.std.proofs.lemmas.Bool.{cases_Bool, true≢false}
 use Rattle.std.proofs.lemmas.Bool.Decides.{nat_tests}
 use Rattle.http.specs.declared.request.Request.{Request}
 use Rattle.http.specs.Request.{body_of, head_of}
@@ -19,7 +19,6 @@ use Rattle.dav_path_core.proofs.lists.Orders.{path_exact, path_total}
 use Rattle.dav_files_core.specs.Following.{dated}
 use Rattle.dav_files_core.specs.Outcomes.{new_folder, start}
 use Rattle.dav_files_core.specs.Properties.{key_of, patched, patched_by}
-use Rattle.dav_files_core.specs.Putting as files
 use Rattle.dav_files_core.specs.Resources.{IsResourceMap, Node, Properties, Property, Resource, ResourceMap, at_path, key_cmp}
 use Rattle.dav_files_core.proofs.walks.StartLemmas.{IsResourceMap-start}
 use Rattle.dav_files_core.proofs.properties.PropertyMapLemmas.{key_exact, key_total}
@@ -33,10 +32,10 @@ use Rattle.dav_handler_core.specs.declared.faults.Fault.TheVariants as fault
 use Rattle.dav_handler_core.specs.Answers.{Answers, AnswersTo, IsLocked, Leaves, Server, as_found}
 use Rattle.dav_handler_core.specs.Callers.{Caller, SameLive, live}
 use Rattle.dav_handler_core.specs.Clearing.{IsCleared}
-use Rattle.dav_handler_core.specs.Copying.{IsPartlyCopied, copy_at, created_at, is_copied, node_at}
+use Rattle.dav_handler_core.specs.Copying.{IsPartlyCopied, created_at, is_copied}
 use Rattle.dav_handler_core.specs.Fields.{Sent, sent_of}
 use Rattle.dav_handler_core.specs.Granting.{granted_lock}
-use Rattle.dav_handler_core.specs.KeptDocuments.{AreKept, IsElementIn, IsKeptLock, IsKeptProperty, IsNew, KeepsElements}
+use Rattle.dav_handler_core.specs.KeptDocuments.{AreKept, IsKeptLock, IsKeptProperty, IsNew, KeepsElements}
 use Rattle.dav_handler_core.specs.LockInfos.{LockInfo, lock_info_in}
 use Rattle.dav_handler_core.specs.Locking.{IsGranted}
 use Rattle.dav_handler_core.specs.Making.{Makes}

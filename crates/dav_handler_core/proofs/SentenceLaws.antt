@@ -1,11 +1,9 @@
 -- Each answer in a run from new stores keeps to what is promised of it.
-use Rattle.std.proofs.Common.{◌≡◌, ◌≢◌, ◌⊎◌, inl, inr, ℕ, ◌+◌, ◌<◌, ◌≤◌, arith, Bool, true, false, cond, ◌||◌, List, [], ◌∷◌, ◌++◌, Option, Some, None, Result, Ok, Err, refl, sym, ◌∙◌, ap, subst}
+use Rattle.std.proofs.Common.{◌≡◌, ◌≢◌, ◌⊎◌, inl, inr, ℕ, arith, Bool, true, false, cond, ◌||◌, List, [], ◌∷◌, ◌++◌, Option, Some, None, Result, Ok, Err, refl, sym, ◌∙◌, ap, subst}
 use Rattle.std.specs.Prelude.{IfErr, option_map}
 use Rattle.std.proofs.lemmas.Bool.{cases_Bool}
 use Rattle.http.specs.declared.request.Request.{Request}
 use Rattle.http.specs.Request.{body_of, head_of}
-use Rattle.http_header.specs.FieldValue.{FieldValue}
-use Rattle.http_header.specs.HeaderMap.{Entries}
 use Rattle.http_server.specs.declared.response.Response.{Response}
 use Rattle.http_server.specs.Exchange.{Call, Chain}
 use Rattle.http_frames.specs.Clients.{Turn}
@@ -35,7 +33,7 @@ use Rattle.dav_handler_core.specs.KeptDocuments.{IsNew}
 use Rattle.dav_handler_core.specs.Making.{Makes}
 use Rattle.dav_handler_core.specs.Moving.{IsMoved}
 use Rattle.dav_handler_core.specs.PatchBodies.{any_protected}
-use Rattle.dav_handler_core.specs.Patching.{Changes, IsPatched, with_updates}
+use Rattle.dav_handler_core.specs.Patching.{Changes, with_updates}
 use Rattle.dav_handler_core.specs.PropertyUpdates.{Update}
 use Rattle.dav_handler_core.specs.Removing.{IsRemoved}
 use Rattle.dav_handler_core.specs.Sentence.{Brings, EachAnswer, EachCall, GetsWhatIsLeft, IsLeft, KeepsTo, StandsAt}
@@ -45,7 +43,7 @@ use Rattle.dav_handler_core.specs.TagHistories.Becomes.{itself, by_clock, by_ans
 use Rattle.dav_handler_core.proofs.DecidingLaws.{no_fault}
 use Rattle.dav_handler_core.proofs.HoldingLaws.{kept_unless_held, stands_unless_ended}
 use Rattle.dav_handler_core.proofs.KeptStoreLaws.{begins_kept, run_keeps}
-use Rattle.dav_handler_core.proofs.PutLemmas.{Found, put_found}
+use Rattle.dav_handler_core.proofs.PutLemmas.{put_found}
 use Rattle.dav_handler_core.proofs.SubtreeLemmas.{rest_of}
 use Rattle.dav_handler_core.proofs.TagLaws.{new_stores}
 

@@ -1,7 +1,6 @@
 -- What is done by a PROPFIND, a PROPPATCH or a LOCK is told by a document, over a run from new stores.
-use Rattle.std.proofs.Common.{◌≡◌, ◌⊎◌, inl, inr, ℕ, ◌+◌, ◌<◌, ◌≤◌, ◌^◌, Bool, true, false, cond, List, [], ◌∷◌, ◌++◌, map, length, Option, Some, None, Result, Ok, Err, refl, sym, ◌∙◌, ap, subst}
+use Rattle.std.proofs.Common.{◌≡◌, inl, inr, ℕ, ◌<◌, ◌≤◌, ◌^◌, Bool, true, false, cond, List, [], ◌∷◌, ◌++◌, length, Option, Some, Result, Ok, Err, sym, ◌∙◌, ap, subst}
 use Rattle.std.specs.Prelude.{IfOk, bytes_eq}
-use Rattle.std.specs.FinMap.{values}
 use Rattle.std.specs.List.{AllByRecursion}
 use Rattle.std.proofs.lemmas.Bool.{false≢true}
 use Rattle.http.specs.declared.request.Request.{Request}
@@ -12,7 +11,6 @@ use Rattle.dav_path_core.specs.declared.util.DavMethod.TheVariants as method
 use Rattle.dav_path_core.specs.Fronts.{Path}
 use Rattle.dav_path_core.specs.Segments.{segments}
 use Rattle.dav_path_core.proofs.lists.FinMaps.{one_some}
-use Rattle.dav_files_core.specs.declared.memfs.Kind.TheVariants.{Folder}
 use Rattle.dav_files_core.specs.Resources.{Resource, at_path}
 use Rattle.dav_files_core.proofs.properties.PropertyMapLemmas.{key_total}
 use Rattle.dav_locks_core.specs.Lock.{Lock}
@@ -28,7 +26,7 @@ use Rattle.dav_handler_core.specs.PatchBodies.{patch_nodes}
 use Rattle.dav_handler_core.specs.PropertyAnswers.{Describes, is_folder, last_or, place_url}
 use Rattle.dav_handler_core.specs.PropertyDocuments.{Description}
 use Rattle.dav_handler_core.specs.PropertyUpdates.{Update}
-use Rattle.dav_handler_core.specs.Refreshing.{retimed, told_with}
+use Rattle.dav_handler_core.specs.Refreshing.{retimed}
 use Rattle.dav_handler_core.specs.TagHistories.{Becomes}
 use Rattle.dav_handler_core.proofs.AskedNameLemmas.{question_names}
 use Rattle.dav_handler_core.proofs.DescriptionTextLemmas.{folder_url, http_date_visible, internet_date_visible, member_url, tag_visible, type_visible}

@@ -1,12 +1,10 @@
 -- The documents that tell of resources and of locks are read, where what is kept of them is.
-use Rattle.std.proofs.Common.{◌≡◌, refl, sym, ap, subst, ◌∙◌, ℕ, zero, suc, Bool, true, false, cond, ◌&&◌, ◌||◌, not, List, [], ◌∷◌, ◌++◌, Option, Some, None, codes, is_some}
-use Rattle.std.specs.Prelude.{bytes_eq, decimal, encode_utf8_all, filter, flat_map, unwrap_or, ◌==◌}
-use Rattle.std.specs.List.{AllByRecursion, list_all, list_any}
-use Rattle.dav_path_core.specs.Fronts.{Path}
+use Rattle.std.proofs.Common.{◌≡◌, refl, ap, ℕ, Bool, true, false, cond, List, [], ◌∷◌, ◌++◌, Option, Some, None, codes}
+use Rattle.std.specs.Prelude.{decimal, flat_map}
+use Rattle.std.specs.List.{AllByRecursion}
 use Rattle.dav_path_core.specs.PathText.{PathText}
 use Rattle.dav_path_core.specs.Url.{url}
-use Rattle.dav_xml_core.specs.Documents.{Name, Node, Start, Text, End}
-use Rattle.dav_xml_core.specs.Reading.{is_empty}
+use Rattle.dav_xml_core.specs.Documents.{Name, Text}
 use Rattle.dav_xml_core.specs.Scanning.{is_nil}
 use Rattle.dav_files_core.specs.Resources.{Property}
 use Rattle.dav_locks_core.specs.Lock.{Lock}
@@ -17,7 +15,7 @@ use Rattle.dav_handler_core.specs.declared.live_properties.TheConstants.{LIVE}
 use Rattle.dav_handler_core.specs.KeptDocuments.{IsDocument, IsElementIn, IsElementName, IsKeptLock, IsKeptProperty, IsVisible}
 use Rattle.dav_handler_core.specs.LiveProperties.{has_live, live_named, live_word}
 use Rattle.dav_handler_core.specs.LockDocuments.{active_lock, depth_word, discovery_pieces, kind_nodes, lock_discovery, names, owner_pieces, scope_word, supported_locks, terms, timeout_text, token_nodes}
-use Rattle.dav_handler_core.specs.Pieces.{Piece, Kept, enclosed, made, written_pieces}
+use Rattle.dav_handler_core.specs.Pieces.{Piece, enclosed, made, written_pieces}
 use Rattle.dav_handler_core.specs.PropertyDocuments.{Description, dead_name_nodes, dead_pieces, dead_value, finds, found_pieces, found_stat, has_value, is_dead, is_named, kept_pieces, lacks, live_pieces, missing_nodes, missing_of, multistatus, name_nodes, name_of_property, own_name_nodes, own_pieces, propstat, response_pieces, text_nodes, type_nodes, value_by, value_pieces}
 use Rattle.dav_handler_core.specs.PropertyQuestions.{Question, All, Names, Listed, asked_names}
 use Rattle.dav_handler_core.specs.RefusalBodies.{dav_name, element, front, href, url_path}

@@ -1,4 +1,4 @@
-use Rattle.std.proofs.Common.{◌<◌, arith}
+use Rattle.std.proofs.Common.{arith}
 use Rattle.dav_handler_core.proofs.bodies.fits.Goals as goal
 
 pub returns : goal.returns

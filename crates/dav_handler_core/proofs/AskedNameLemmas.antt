@@ -7,14 +7,16 @@ use Rattle.dav_xml_core.specs.Optional.{when}
 use Rattle.dav_xml_core.specs.ReadableDocuments.{CouldBeRead}
 use Rattle.dav_xml_core.specs.Reading.{document_of}
 use Rattle.dav_xml_core.proofs.ElementLemmas.{bind_some, when_some}
-use Rattle.dav_xml_core.proofs.ReadNodesLemmas.{read_could}
+use Rattle.dav_xml_core.proofs.ReadNodesLemmas.{read_could, read_room}
 use Rattle.dav_handler_core.specs.Elements.{at_most_one, children, element_name, is_dav, named, the_one}
 use Rattle.dav_handler_core.specs.KeptDocuments.{IsElementIn, IsElementName}
+use Rattle.dav_handler_core.specs.KeptReading.{IsLang, WasRead}
 use Rattle.dav_handler_core.specs.LockInfos.{LockInfo, is_shared, is_write, lock_info_by, lock_info_in, lock_info_of, owner_text}
 use Rattle.dav_handler_core.specs.PropertyQuestions.{Question, All, Names, Listed, and_name, and_names, and_new, and_within, asked, asked_by, asked_in, asked_names, has_part, names_within, question_in, same_name}
-use Rattle.dav_handler_core.proofs.KeptReadingLaws.{name_could}
+use Rattle.dav_handler_core.specs.PropertyUpdates.{own_lang, with_lang}
+use Rattle.dav_handler_core.proofs.KeptReadingLaws.{kept_could, name_could, own_text}
 use Rattle.dav_handler_core.proofs.NamedLemmas.{only_holds}
-use Rattle.dav_handler_core.proofs.ReadChildLemmas.{children_could}
+use Rattle.dav_handler_core.proofs.ReadChildLemmas.{children_could, children_read}
 
 abbrev AreNames : List Name → Type 0
 AreNames names = AllByRecursion IsElementName names
@@ -89,27 +91,29 @@ question_names (b ∷ bytes) question fits is = by (document_of (b ∷ bytes)) r
 
 -- ---- the owner
 
-owner_kept : (inside : List (List Node)) (owner : Option (List Node)) → AllByRecursion CouldBeRead inside → at_most_one (named (codes "owner") inside) ≡ Some owner
-    → IsElementIn (owner_text owner)
-owner_kept inside None could is = tt
-owner_kept inside (Some element) could is =
-    record { nodes = element; could = only_holds CouldBeRead (is_dav (codes "owner")) inside element is could; written = refl }
+owner_kept : (lang : Option (List ℕ)) (inside : List (List Node)) (owner : Option (List Node)) → IsLang lang → AllByRecursion WasRead inside
+    → at_most_one (named (codes "owner") inside) ≡ Some owner → IsElementIn (owner_text lang owner)
+owner_kept lang inside None text read is = tt
+owner_kept lang inside (Some element) text read is =
+    record { nodes = with_lang lang element; could = kept_could lang element text (only_holds WasRead (is_dav (codes "owner")) inside element is read); written = refl }
 
-owner_in : (inside : List (List Node)) (info : LockInfo) → AllByRecursion CouldBeRead inside → lock_info_by inside ≡ Some info → IsElementIn info.owner
+owner_in : (lang : Option (List ℕ)) (inside : List (List Node)) (info : LockInfo) → IsLang lang → AllByRecursion WasRead inside → lock_info_by lang inside ≡ Some info
+    → IsElementIn info.owner
 unfolding lock_info_by
-owner_in inside info could is =
+owner_in lang inside info text read is =
     let a = bind_some (the_one (named (codes "lockscope") inside)) _ info is in
     let b = bind_some (is_shared a.0) _ info a.2 in
     let d = bind_some (the_one (named (codes "locktype") inside)) _ info b.2 in
     let e = bind_some (when (is_write d.0) d.0) _ info d.2 in
     let f = bind_some (at_most_one (named (codes "owner") inside)) _ info e.2 in
-    let made : LockInfo = record { shared = b.0; owner = owner_text f.0 } in
+    let made : LockInfo = record { shared = b.0; owner = owner_text lang f.0 } in
     let same : made ≡ info = cc in
-    subst (λ (o : Option (List ℕ)). IsElementIn o) (ap (λ (i : LockInfo). i.owner) same) (owner_kept inside f.0 could f.1)
+    subst (λ (o : Option (List ℕ)). IsElementIn o) (ap (λ (i : LockInfo). i.owner) same) (owner_kept lang inside f.0 text read f.1)
 
 pub lock_owner : (body : List ℕ) (info : LockInfo) → length body < 2 ^ 64 → lock_info_in body ≡ Some info → IsElementIn info.owner
 lock_owner body info fits is =
     let a = bind_some (document_of body) lock_info_of info is in
-    let b = bind_some (when (is_dav (codes "lockinfo") a.0) (children a.0)) lock_info_by info a.2 in
+    let b = bind_some (when (is_dav (codes "lockinfo") a.0) (children a.0)) (lock_info_by (own_lang a.0)) info a.2 in
     let inside = (when_some (is_dav (codes "lockinfo") a.0) (children a.0) b.0 b.1).1 in
-    owner_in b.0 info (subst (λ (es : List (List Node)). AllByRecursion CouldBeRead es) inside (children_could a.0 (read_could body a.0 fits a.1))) b.2
+    let read : WasRead a.0 = record { could = read_could body a.0 fits a.1; room = read_room body a.0 fits a.1 } in
+    owner_in (own_lang a.0) b.0 info (own_text a.0 read.could) (subst (λ (es : List (List Node)). AllByRecursion WasRead es) inside (children_read a.0 read)) b.2

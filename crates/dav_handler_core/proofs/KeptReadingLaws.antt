@@ -23,10 +23,10 @@ use Rattle.dav_xml_core.proofs.NodesLemmas.{alone_again}
 use Rattle.dav_xml_core.proofs.ReadNodesLemmas.{read_could, read_room}
 use Rattle.dav_handler_core.specs.Elements.{at_most_one, children, element_name, is_dav, named, the_one}
 use Rattle.dav_handler_core.specs.KeptDocuments.{IsElementIn, IsElementName, IsKeptProperty}
-use Rattle.dav_handler_core.specs.KeptReading.{IsLang, IsReadAsSent, IsText}
+use Rattle.dav_handler_core.specs.KeptReading.{IsLang, IsReadAsSent, IsText, WasRead}
 use Rattle.dav_handler_core.specs.PropertyUpdates.{Update, first_lang, instructed, is_lang, kept, lang_attribute, lang_in, own_lang, sets, told_lang, update_of, updates_by, updates_in, updates_of, with_lang}
 use Rattle.dav_handler_core.proofs.NamedLemmas.{only_holds}
-use Rattle.dav_handler_core.proofs.ReadChildLemmas.{WasRead, children_read}
+use Rattle.dav_handler_core.proofs.ReadChildLemmas.{children_read}
 
 both : (a b : Bool) → (a && b) ≡ true → (a ≡ true) × (b ≡ true)
 both true b h = (refl, h)
@@ -174,7 +174,7 @@ own_text_of (Start name attributes ∷ nodes) h =
     let first = both (is_name name && list_all is_attribute attributes) (are_distinct (names_bytes attributes)) names.0 in
     lang_text attributes (both (is_name name) (list_all is_attribute attributes) first.0).1
 
-own_text : (element : List Node) → CouldBeRead element → IsLang (own_lang element)
+pub own_text : (element : List Node) → CouldBeRead element → IsLang (own_lang element)
 own_text element h = subst (λ (nodes : List Node). IsLang (own_lang nodes)) (sym h.bytes) (own_text_of h.characters h.readable)
 
 text_in : (around : Option (List ℕ)) (element : List Node) → IsLang around → CouldBeRead element → IsLang (lang_in around element)

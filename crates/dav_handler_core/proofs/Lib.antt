@@ -54,6 +54,7 @@ mod PatchRows
 pub mod PieceLemmas
 pub mod PreconditionLaws
 mod PreconditionRows
+pub mod PromiseLaws
 pub mod PropertyLemmas
 pub mod PutLemmas
 pub mod QuestionLemmas
@@ -63,7 +64,6 @@ pub mod RefusalLemmas
 pub mod RefusalReadingLaws
 pub mod RemovalCheckLemmas
 pub mod RemovalLemmas
-pub mod SentenceLaws
 pub mod SubtreeLemmas
 pub mod TagGrammarLaws
 pub mod TagLaws

@@ -1,8 +1,10 @@
 -- Worked rows of what a LOCK asks for.
-use Rattle.std.proofs.Common.{◌≡◌, refl, true, false, List, [], ◌∷◌, ◌++◌, None, Some, codes}
-use Rattle.dav_xml_core.specs.Documents.{Node, Start, Text, End}
+use Rattle.std.proofs.Common.{ℕ, ◌≡◌, refl, true, false, List, [], ◌∷◌, ◌++◌, None, Some, codes}
+use Rattle.dav_xml_core.specs.Documents.{Attribute, Node, Start, Text, End}
+use Rattle.dav_xml_core.specs.Writing.{written_alone}
 use Rattle.dav_handler_core.specs.LockInfos.{is_shared, is_write, lock_info_by, lock_info_of}
-use Rattle.dav_handler_core.specs.RefusalBodies.{element}
+use Rattle.dav_handler_core.specs.PropertyUpdates.{lang_attribute}
+use Rattle.dav_handler_core.specs.RefusalBodies.{dav_name, element}
 
 abbrev scope_of : List Node → List Node
 scope_of inside = element (codes "lockscope") inside
@@ -54,3 +56,20 @@ two_owners = refl
 no_lock_info : lock_info_of (element (codes "propfind") (exclusive ++ write)) ≡ None
 unfolding lock_info_by is_shared is_write
 no_lock_info = refl
+
+-- an owner has the language that holds around it, where it has none of its own (RFC 4918 section 4.3)
+abbrev in_language : List ℕ → List Node → List Node
+in_language lang inside = Start (dav_name (codes "lockinfo")) (lang_attribute lang ∷ []) ∷ (inside ++ End ∷ [])
+
+abbrev owner : List Attribute → List Node
+owner attributes = Start (dav_name (codes "owner")) attributes ∷ End ∷ []
+
+language_around : lock_info_of (in_language (codes "en") (exclusive ++ write ++ owner []))
+    ≡ Some (record { shared = false; owner = Some (written_alone (owner (lang_attribute (codes "en") ∷ []))) })
+unfolding lock_info_by is_shared is_write
+language_around = refl
+
+own_language : lock_info_of (in_language (codes "en") (exclusive ++ write ++ owner (lang_attribute (codes "fr") ∷ [])))
+    ≡ Some (record { shared = false; owner = Some (written_alone (owner (lang_attribute (codes "fr") ∷ []))) })
+unfolding lock_info_by is_shared is_write
+own_language = refl

@@ -7,6 +7,7 @@ use Rattle.std.proofs.lemmas.List.Folds.{list_all-append}
 use Rattle.dav_xml_core.specs.Documents.{Node, Start, Text, End, Name, Attribute, closes, is_element}
 use Rattle.dav_xml_core.specs.ReadableDocuments.{CouldBeRead, are_apart, has_room, is_node, is_readable, node_bytes}
 use Rattle.dav_handler_core.specs.Elements.{children, elements_from}
+use Rattle.dav_handler_core.specs.KeptReading.{WasRead}
 
 -- ---- the same in bytes
 
@@ -152,11 +153,6 @@ children_all p (Text text ∷ nodes) h = tt
 children_all p (End ∷ nodes) h = tt
 
 -- ---- each was read
-
--- nodes that could have been read, and memory holds one more attribute of each
-pub record WasRead (nodes : List Node) : Type 0 where
-  pub could : CouldBeRead nodes
-  pub room : list_all has_room nodes ≡ true
 
 each_read : (elements : List (List Node)) → AllByRecursion CouldBeRead elements → AllByRecursion (λ element. list_all has_room element ≡ true) elements
     → AllByRecursion WasRead elements

@@ -36,6 +36,7 @@ pub mod Patching
 pub mod Pieces
 pub mod Preconditions
 pub mod Private
+pub mod Promises
 pub mod PropertyAnswers
 pub mod PropertyDocuments
 pub mod PropertyQuestions
@@ -48,7 +49,6 @@ pub mod RefusalReading
 pub mod Refusals
 pub mod Removing
 pub mod Senders
-pub mod Sentence
 pub mod Servers
 pub mod Serving
 pub mod Sessions

@@ -5,6 +5,7 @@ use Rattle.dav_xml_core.specs.Optional.{◌>>=◌, when}
 use Rattle.dav_xml_core.specs.Reading.{document_of}
 use Rattle.dav_xml_core.specs.Writing.{written_alone}
 use Rattle.dav_handler_core.specs.Elements.{at_most_one, children, is_dav, named, the_one}
+use Rattle.dav_handler_core.specs.PropertyUpdates.{own_lang, with_lang}
 
 -- whether others may hold a lock there, too, and the XML that is kept of the owner
 pub record LockInfo : Type 0 where
@@ -27,20 +28,20 @@ is_shared scope =
 unfoldable pub is_write : List Node → Bool
 is_write type = is_some (the_one (named (codes "write") (children type)))
 
--- the owner as XML that means the same in any document (section 14.17)
-abbrev pub owner_text : Option (List Node) → Option (List ℕ)
-owner_text owner = option_map written_alone owner
+-- the owner as XML that means the same in any document (section 14.17), in the language around it (section 4.3)
+abbrev pub owner_text : Option (List ℕ) → Option (List Node) → Option (List ℕ)
+owner_text lang owner = option_map (λ element. written_alone (with_lang lang element)) owner
 
--- by the elements inside of a `lockinfo`; others are ignored (section 17)
-unfoldable pub lock_info_by : List (List Node) → Option LockInfo
-lock_info_by inside =
+-- by the elements inside of a `lockinfo` in a language; others are ignored (section 17)
+unfoldable pub lock_info_by : Option (List ℕ) → List (List Node) → Option LockInfo
+lock_info_by lang inside =
     the_one (named (codes "lockscope") inside) >>= λ scope. is_shared scope >>= λ shared.
     the_one (named (codes "locktype") inside) >>= λ type. when (is_write type) type >>= λ write.
-    at_most_one (named (codes "owner") inside) >>= λ owner. Some (record { shared = shared; owner = owner_text owner })
+    at_most_one (named (codes "owner") inside) >>= λ owner. Some (record { shared = shared; owner = owner_text lang owner })
 
 -- by the nodes of a document
 abbrev pub lock_info_of : List Node → Option LockInfo
-lock_info_of nodes = when (is_dav (codes "lockinfo") nodes) (children nodes) >>= lock_info_by
+lock_info_of nodes = when (is_dav (codes "lockinfo") nodes) (children nodes) >>= lock_info_by (own_lang nodes)
 
 -- by the bytes of a body
 abbrev pub lock_info_in : List ℕ → Option LockInfo

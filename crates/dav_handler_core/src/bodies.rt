@@ -1,8 +1,8 @@
 //! Bodies of requests that are documents.
 ghost use Rattle.std.specs.Prelude.{◌≡◌, ◌⊎◌, ◌<◌, ◌^◌, length, map, IfErr, IfOk, None, Some};
 ghost use Rattle.dav_xml_core.specs.Reading.{document_of};
-ghost use Rattle.dav_xml_core.specs.ReadableDocuments.{CouldBeRead};
 ghost use Rattle.dav_xml_core.specs.Views.{node_of};
+ghost use Rattle.dav_handler_core.specs.KeptReading.{WasRead};
 ghost use Rattle.dav_handler_core.specs.declared.faults.Fault.TheVariants as fault;
 
 use crate::faults::Fault;
@@ -13,8 +13,8 @@ use std::alloc::Global;
 pub(crate) fn document_in(alloc: Global, body: &[u8]) -> Result<Document, Fault>
     ensures ok { IfOk result (λ document. document_of body.now ≡ Some (map node_of document.nodes.items)) }
     ensures err { IfErr result (λ e. (e ≡ fault.InsufficientStorage) ⊎ ((e ≡ fault.BadRequest) × (document_of body.now ≡ None))) }
-    // So each of its elements can be written and read again.
-    ensures readable { IfOk result (λ document. CouldBeRead (map node_of document.nodes.items)) }
+    // So each of its elements can be written and read again, with one more attribute, too.
+    ensures readable { IfOk result (λ document. WasRead (map node_of document.nodes.items)) }
 {
     Ok(read(alloc, body)?)
 }

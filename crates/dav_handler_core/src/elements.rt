@@ -110,14 +110,3 @@ pub(crate) fn the_one<'a>(elements: &[&'a [Node]], local: &str) -> Result<&'a [N
 {
     at_most_one(elements, local)?.ok_or(Fault::BadRequest)
 }
-
-/// The XML of an element that could have been read, so that it means the same in any document (RFC 4918 section 4.3).
-pub(crate) fn element_text(alloc: Global, element: &[Node]) -> Result<String, AllocError>
-    requires { CouldBeRead (map node_of element.now) }
-    ensures { IfOk result (λ text. string_bytes text ≡ written_alone (map node_of element.now)) }
-{
-    match String::from_utf8(write_element(alloc, element)?) {
-        Ok(text) => Ok(text),
-        Err(_) => unreachable!(),
-    }
-}

@@ -1,17 +1,20 @@
 //! What the body of a LOCK asks for.
-ghost use Rattle.std.specs.Prelude.{◌≡◌, map, option_map, string_bytes, IfOk};
+ghost use Rattle.std.specs.Prelude.{◌≡◌, map, option_copied, option_map, string_bytes, IfOk};
 ghost use Rattle.std.specs.List.{AllByRecursion};
 ghost use Rattle.std.specs.Option.{ForSome};
-ghost use Rattle.dav_xml_core.specs.ReadableDocuments.{CouldBeRead};
 ghost use Rattle.dav_xml_core.specs.Views.{node_of};
+ghost use Rattle.dav_xml_core.specs.Writing.{written_alone};
 ghost use Rattle.dav_handler_core.specs.Bodies.{IsReadAs};
 ghost use Rattle.dav_handler_core.specs.Elements.{nodes_of};
+ghost use Rattle.dav_handler_core.specs.KeptReading.{IsLang, WasRead};
 ghost use Rattle.dav_handler_core.specs.LockInfos as spec;
 ghost use Rattle.dav_handler_core.specs.LockInfoViews.{info_of};
+ghost use Rattle.dav_handler_core.specs.PropertyUpdates.{with_lang};
 
 use crate::bodies::document_in;
-use crate::elements::{at_most_one, children, element_text, is_dav, the_one};
+use crate::elements::{at_most_one, children, is_dav, the_one};
 use crate::faults::Fault;
+use crate::property_updates::{kept_xml, own_lang};
 use dav_xml_core::davxml::Node;
 use std::alloc::{AllocError, Global};
 
@@ -34,14 +37,19 @@ pub(crate) fn lock_info(alloc: Global, body: &[u8]) -> Result<LockInfo, Fault>
         return Err(Fault::BadRequest);
     }
     let inside = children(alloc, &document.nodes)?;
-    lock_info_by(alloc, &inside)
+    lock_info_by(alloc, own_lang(&document.nodes), &inside)
 }
 
-// By the elements inside of a `lockinfo`.
+// By the elements inside of a `lockinfo` in a language.
 #[tactic(auto, unfolding(crate::specs::LockInfos::lock_info_by))]
-fn lock_info_by(alloc: Global, inside: &[&[Node]]) -> Result<LockInfo, Fault>
-    requires { AllByRecursion CouldBeRead (map nodes_of inside.now) }
-    ensures { IsReadAs info_of result (spec.lock_info_by (map nodes_of inside.now)) }
+fn lock_info_by(
+    alloc: Global,
+    lang: Option<&str>,
+    inside: &[&[Node]],
+) -> Result<LockInfo, Fault>
+    requires lang { IsLang (option_copied lang) }
+    requires read { AllByRecursion WasRead (map nodes_of inside.now) }
+    ensures { IsReadAs info_of result (spec.lock_info_by (option_copied lang.entry) (map nodes_of inside.now)) }
 {
     let scope = the_one(inside, "lockscope")?;
     let shared = is_shared(alloc, scope)?;
@@ -50,7 +58,7 @@ fn lock_info_by(alloc: Global, inside: &[&[Node]]) -> Result<LockInfo, Fault>
         return Err(Fault::BadRequest);
     }
     let owner = at_most_one(inside, "owner")?;
-    let owner = owner_text(alloc, owner)?;
+    let owner = owner_text(alloc, lang, owner)?;
     Ok(LockInfo { shared, owner })
 }
 
@@ -85,13 +93,29 @@ fn is_write(alloc: Global, kind: &[Node]) -> Result<bool, AllocError>
     Ok(the_one(&types, "write").is_ok())
 }
 
-// The owner's element as XML that means the same in any document.
-fn owner_text(alloc: Global, owner: Option<&[Node]>) -> Result<Option<String>, AllocError>
-    requires { ForSome owner (λ owner. CouldBeRead (nodes_of owner)) }
-    ensures { IfOk result (λ text. option_map string_bytes text ≡ spec.owner_text (option_map nodes_of owner.entry)) }
+// The owner's element as XML that means the same in any document, in the language around it.
+fn owner_text(
+    alloc: Global,
+    lang: Option<&str>,
+    owner: Option<&[Node]>,
+) -> Result<Option<String>, AllocError>
+    requires lang { IsLang (option_copied lang) }
+    requires read { ForSome owner (λ owner. WasRead (nodes_of owner)) }
+    ensures { IfOk result (λ text. option_map string_bytes text ≡ spec.owner_text (option_copied lang.entry) (option_map nodes_of owner.entry)) }
 {
     match owner {
-        Some(owner) => Ok(Some(element_text(alloc, owner)?)),
+        Some(owner) => Ok(Some(text_in(alloc, lang, owner)?)),
         None => Ok(None),
+    }
+}
+
+fn text_in(alloc: Global, lang: Option<&str>, owner: &[Node]) -> Result<String, AllocError>
+    requires lang { IsLang (option_copied lang) }
+    requires read { WasRead (map node_of owner.now) }
+    ensures { IfOk result (λ text. string_bytes text ≡ written_alone (with_lang (option_copied lang.entry) (map node_of owner.now))) }
+{
+    match String::from_utf8(kept_xml(alloc, lang, owner)?) {
+        Ok(text) => Ok(text),
+        Err(_) => unreachable!(),
     }
 }

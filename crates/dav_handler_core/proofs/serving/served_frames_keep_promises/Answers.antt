@@ -1,6 +1,6 @@
 use Rattle.dav_handler_core.specs.Serving.{turns_of}
-use Rattle.dav_handler_core.proofs.SentenceLaws.{each_answer}
-use Rattle.dav_handler_core.proofs.serving.served_frames_keep_to_it.Goals as goal
+use Rattle.dav_handler_core.proofs.PromiseLaws.{each_answer}
+use Rattle.dav_handler_core.proofs.serving.served_frames_keep_promises.Goals as goal
 
 pub returns : goal.returns
 returns c = λ end clients clients' begun after input input' output output' new h. each_answer begun after (turns_of h.done) new h.leads

@@ -36,7 +36,7 @@ use Rattle.dav_handler_core.specs.PatchBodies.{any_protected}
 use Rattle.dav_handler_core.specs.Patching.{Changes, with_updates}
 use Rattle.dav_handler_core.specs.PropertyUpdates.{Update}
 use Rattle.dav_handler_core.specs.Removing.{IsRemoved}
-use Rattle.dav_handler_core.specs.Sentence.{Brings, EachAnswer, EachCall, GetsWhatIsLeft, IsLeft, KeepsTo, StandsAt}
+use Rattle.dav_handler_core.specs.Promises.{Brings, EachAnswer, EachCall, GetsWhatIsLeft, IsLeft, KeepsTo, StandsAt}
 use Rattle.dav_handler_core.specs.Serving.{Leads}
 use Rattle.dav_handler_core.specs.TagHistories.{Becomes}
 use Rattle.dav_handler_core.specs.TagHistories.Becomes.{itself, by_clock, by_answer}

@@ -5,8 +5,9 @@ use Rattle.http_server.specs.declared.response.Response.{Response}
 use Rattle.dav_path_core.specs.PathText.{PathText}
 use Rattle.dav_path_core.specs.Reading.{ends_in_slash}
 use Rattle.dav_path_core.specs.Url.{url}
-use Rattle.dav_xml_core.specs.Documents.{Name, Node, Start, Text, End}
-use Rattle.dav_xml_core.specs.Writing.{dav_namespace, written}
+use Rattle.dav_xml_core.specs.Documents.{Node, Start, Text, End}
+pub use Rattle.dav_xml_core.specs.Writing.{dav_name}
+use Rattle.dav_xml_core.specs.Writing.{written}
 use Rattle.dav_handler_core.specs.declared.faults.Fault.{Fault}
 use Rattle.dav_handler_core.specs.declared.faults.Fault.TheVariants as fault
 use Rattle.dav_handler_core.specs.Fields.{values_in}
@@ -20,9 +21,6 @@ front prefix = if ends_in_slash prefix then take (length prefix - 1) prefix else
 -- the path of a URL that stands behind the prefix (RFC 4918 section 8.3)
 abbrev pub url_path : List ℕ → PathText → List ℕ
 url_path prefix path = url (front prefix) ++ url path.bytes
-
-abbrev pub dav_name : List ℕ → Name
-dav_name local = record { namespace = dav_namespace; local = local }
 
 -- an element of `DAV:` with these nodes in it
 abbrev pub element : List ℕ → List Node → List Node

@@ -6,53 +6,46 @@ ghost use Rattle.dav_xml_core.specs.Writing.{with_nodes, with_start};
 ghost use Rattle.dav_handler_core.specs.RefusalBodies.{dav_name, element, front, url_path};
 
 use dav_resource_core::davpath::{DavPath, escaped};
-use dav_xml_core::davxml::{Name, Writer};
+use dav_xml_core::davxml::Writer;
 use std::alloc::{AllocError, Global};
-use std::rc::RcStr;
 
 /// An element of `DAV:` begins.
-pub(crate) fn begin(alloc: Global, writer: &mut Writer, local: &str) -> Result<(), AllocError>
+pub(crate) fn begin(writer: &mut Writer, local: &str) -> Result<(), AllocError>
     ensures { OnOk result (writing_of writer.new ≡ with_start (writing_of writer.old) (dav_name local.now) []) }
 {
-    let name = Name {
-        namespace: RcStr::from_str(alloc, "DAV:")?,
-        local: String::from_str(alloc, local)?,
-    };
-    writer.start(&name, &[])
+    writer.start_dav(local)
 }
 
 /// An element of `DAV:` with nothing in it.
-pub(crate) fn write_empty(alloc: Global, writer: &mut Writer, local: &str) -> Result<(), AllocError>
+pub(crate) fn write_empty(writer: &mut Writer, local: &str) -> Result<(), AllocError>
     ensures { OnOk result (writing_of writer.new ≡ with_nodes (writing_of writer.old) (element local.now [])) }
 {
-    begin(alloc, writer, local)?;
+    begin(writer, local)?;
     writer.end()
 }
 
 /// An element of `DAV:` with an empty one in it.
 pub(crate) fn write_within(
-    alloc: Global,
     writer: &mut Writer,
     outer: &str,
     inner: &str,
 ) -> Result<(), AllocError>
     ensures { OnOk result (writing_of writer.new ≡ with_nodes (writing_of writer.old) (element outer.now (element inner.now []))) }
 {
-    begin(alloc, writer, outer)?;
-    write_empty(alloc, writer, inner)?;
+    begin(writer, outer)?;
+    write_empty(writer, inner)?;
     writer.end()
 }
 
 /// An element of `DAV:` with a text in it.
 pub(crate) fn write_text(
-    alloc: Global,
     writer: &mut Writer,
     local: &str,
     text: &str,
 ) -> Result<(), AllocError>
     ensures { OnOk result (writing_of writer.new ≡ with_nodes (writing_of writer.old) (element local.now (Text text.now ∷ []))) }
 {
-    begin(alloc, writer, local)?;
+    begin(writer, local)?;
     writer.text(text)?;
     writer.end()
 }
@@ -68,7 +61,7 @@ pub(crate) fn write_href(
         ≡ with_nodes (writing_of writer.old) (element (codes "href") (Text (url_path prefix.now path.now) ∷ []))) }
 {
     let text = url_text(alloc, prefix, path)?;
-    write_text(alloc, writer, "href", &text)
+    write_text(writer, "href", &text)
 }
 
 /// The URL of a path behind the prefix (RFC 4918 section 8.3).

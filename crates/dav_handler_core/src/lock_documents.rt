@@ -25,7 +25,7 @@ pub(crate) fn discovery_document(
         ≡ written_pieces (spec.discovery_pieces prefix.now (option_map string_bytes principal.now) locks.now)) }
 {
     let mut writer = Writer::new(alloc);
-    begin(alloc, &mut writer, "prop")?;
+    begin(&mut writer, "prop")?;
     write_discovery(alloc, &mut writer, prefix, principal, locks)?;
     writer.end()?;
     Ok(writer.into_bytes())
@@ -42,7 +42,7 @@ pub(crate) fn write_discovery(
     ensures { OnOk result (writing_of writer.new
         ≡ with_pieces (writing_of writer.old) (spec.lock_discovery prefix.now (option_map string_bytes principal.now) locks.now)) }
 {
-    begin(alloc, writer, "lockdiscovery")?;
+    begin(writer, "lockdiscovery")?;
     for lock in locks {
         write_active(alloc, writer, prefix, principal, lock)?;
     }
@@ -50,22 +50,22 @@ pub(crate) fn write_discovery(
 }
 
 /// The kinds of locks that can be asked for (RFC 4918 section 15.10).
-pub(crate) fn write_supported(alloc: Global, writer: &mut Writer) -> Result<(), AllocError>
+pub(crate) fn write_supported(writer: &mut Writer) -> Result<(), AllocError>
     ensures { OnOk result (writing_of writer.new ≡ with_nodes (writing_of writer.old) spec.supported_locks) }
 {
-    begin(alloc, writer, "supportedlock")?;
-    write_entry(alloc, writer, false)?;
-    write_entry(alloc, writer, true)?;
+    begin(writer, "supportedlock")?;
+    write_entry(writer, false)?;
+    write_entry(writer, true)?;
     writer.end()
 }
 
 // One of the kinds.
-fn write_entry(alloc: Global, writer: &mut Writer, shared: bool) -> Result<(), AllocError>
+fn write_entry(writer: &mut Writer, shared: bool) -> Result<(), AllocError>
     ensures { OnOk result (writing_of writer.new
         ≡ with_nodes (writing_of writer.old) (element (codes "lockentry") (spec.kind_nodes shared))) }
 {
-    begin(alloc, writer, "lockentry")?;
-    write_kind(alloc, writer, shared)?;
+    begin(writer, "lockentry")?;
+    write_kind(writer, shared)?;
     writer.end()
 }
 
@@ -80,18 +80,18 @@ fn write_active(
     ensures { OnOk result (writing_of writer.new
         ≡ with_pieces (writing_of writer.old) (spec.active_lock prefix.now (option_map string_bytes principal.now) lock.now)) }
 {
-    begin(alloc, writer, "activelock")?;
-    write_terms(alloc, writer, lock)?;
+    begin(writer, "activelock")?;
+    write_terms(writer, lock)?;
     write_names(alloc, writer, prefix, principal, lock)?;
     writer.end()
 }
 
 // What was asked for.
-fn write_terms(alloc: Global, writer: &mut Writer, lock: &DavLock) -> Result<(), AllocError>
+fn write_terms(writer: &mut Writer, lock: &DavLock) -> Result<(), AllocError>
     ensures { OnOk result (writing_of writer.new ≡ with_pieces (writing_of writer.old) (spec.terms lock.now)) }
 {
-    write_kind(alloc, writer, lock.shared)?;
-    write_text(alloc, writer, "depth", depth_word(lock.deep))?;
+    write_kind(writer, lock.shared)?;
+    write_text(writer, "depth", depth_word(lock.deep))?;
     write_owner(writer, &lock.owner)
 }
 
@@ -107,16 +107,16 @@ fn write_names(
         ≡ with_nodes (writing_of writer.old) (spec.names prefix.now (option_map string_bytes principal.now) lock.now)) }
 {
     write_timeout(alloc, writer, lock.timeout)?;
-    write_token(alloc, writer, principal, lock)?;
+    write_token(writer, principal, lock)?;
     write_root(alloc, writer, prefix, &lock.path)
 }
 
 // The scope and the type of a lock.
-fn write_kind(alloc: Global, writer: &mut Writer, shared: bool) -> Result<(), AllocError>
+fn write_kind(writer: &mut Writer, shared: bool) -> Result<(), AllocError>
     ensures { OnOk result (writing_of writer.new ≡ with_nodes (writing_of writer.old) (spec.kind_nodes shared)) }
 {
-    write_within(alloc, writer, "lockscope", scope_word(shared))?;
-    write_within(alloc, writer, "locktype", "write")
+    write_within(writer, "lockscope", scope_word(shared))?;
+    write_within(writer, "locktype", "write")
 }
 
 fn scope_word(shared: bool) -> &'static str
@@ -150,15 +150,14 @@ fn write_timeout(alloc: Global, writer: &mut Writer, timeout: Option<u64>) -> Re
     match timeout {
         Some(seconds) => {
             let text = format!(in alloc; "Second-{seconds}")?;
-            write_text(alloc, writer, "timeout", &text)
+            write_text(writer, "timeout", &text)
         }
-        None => write_text(alloc, writer, "timeout", "Infinite"),
+        None => write_text(writer, "timeout", "Infinite"),
     }
 }
 
 // The token, for the lock's principal.
 fn write_token(
-    alloc: Global,
     writer: &mut Writer,
     principal: &Option<String>,
     lock: &DavLock,
@@ -167,18 +166,18 @@ fn write_token(
         ≡ with_nodes (writing_of writer.old) (spec.token_nodes (option_map string_bytes principal.now) lock.now)) }
 {
     if is_principal(lock, principal) {
-        return write_named(alloc, writer, &lock.token);
+        return write_named(writer, &lock.token);
     }
     Ok(())
 }
 
 // A token.
-fn write_named(alloc: Global, writer: &mut Writer, token: &str) -> Result<(), AllocError>
+fn write_named(writer: &mut Writer, token: &str) -> Result<(), AllocError>
     ensures { OnOk result (writing_of writer.new
         ≡ with_nodes (writing_of writer.old) (element (codes "locktoken") (element (codes "href") (Text token.now ∷ [])))) }
 {
-    begin(alloc, writer, "locktoken")?;
-    write_text(alloc, writer, "href", token)?;
+    begin(writer, "locktoken")?;
+    write_text(writer, "href", token)?;
     writer.end()
 }
 
@@ -192,7 +191,7 @@ fn write_root(
     ensures { OnOk result (writing_of writer.new
         ≡ with_nodes (writing_of writer.old) (element (codes "lockroot") (href prefix.now path.now))) }
 {
-    begin(alloc, writer, "lockroot")?;
+    begin(writer, "lockroot")?;
     write_href(alloc, writer, prefix, path)?;
     writer.end()
 }

@@ -36,8 +36,8 @@ pub(crate) fn patch_document(
     ensures { IfOk result (λ document. document.items ≡ written (spec.patch_nodes prefix.now path.now (map entry_of updates.now))) }
 {
     let mut writer = Writer::new(alloc);
-    begin(alloc, &mut writer, "multistatus")?;
-    begin(alloc, &mut writer, "response")?;
+    begin(&mut writer, "multistatus")?;
+    begin(&mut writer, "response")?;
     write_href(alloc, &mut writer, prefix, path)?;
     write_propstats(alloc, &mut writer, updates)?;
     writer.end()?;
@@ -71,9 +71,9 @@ fn write_others(
 ) -> Result<(), AllocError>
     ensures { OnOk result (writing_of writer.new ≡ with_nodes (writing_of writer.old) (spec.others_nodes status.now (map entry_of updates.now))) }
 {
-    begin(alloc, writer, "propstat")?;
+    begin(writer, "propstat")?;
     write_prop(alloc, writer, false, updates)?;
-    write_text(alloc, writer, "status", status)?;
+    write_text(writer, "status", status)?;
     writer.end()
 }
 
@@ -85,11 +85,11 @@ fn write_protected(
 ) -> Result<(), AllocError>
     ensures { OnOk result (writing_of writer.new ≡ with_nodes (writing_of writer.old) (spec.protected_nodes (map entry_of updates.now))) }
 {
-    begin(alloc, writer, "propstat")?;
+    begin(writer, "propstat")?;
     write_prop(alloc, writer, true, updates)?;
-    write_text(alloc, writer, "status", "HTTP/1.1 403 Forbidden")?;
-    begin(alloc, writer, "error")?;
-    write_empty(alloc, writer, "cannot-modify-protected-property")?;
+    write_text(writer, "status", "HTTP/1.1 403 Forbidden")?;
+    begin(writer, "error")?;
+    write_empty(writer, "cannot-modify-protected-property")?;
     writer.end()?;
     writer.end()
 }
@@ -103,7 +103,7 @@ fn write_prop(
 ) -> Result<(), AllocError>
     ensures { OnOk result (writing_of writer.new ≡ with_nodes (writing_of writer.old) (spec.prop_nodes protected (map entry_of updates.now))) }
 {
-    begin(alloc, writer, "prop")?;
+    begin(writer, "prop")?;
     write_names(alloc, writer, protected, updates)?;
     writer.end()
 }

@@ -59,10 +59,10 @@ pub(crate) fn write_response(
     ensures { OnOk result (writing_of writer.new ≡ with_pieces (writing_of writer.old)
         (spec.response_pieces prefix.now (option_map string_bytes principal.now) (question_of question.now) (description_of description.now))) }
 {
-    begin(alloc, writer, "response")?;
-    write_text(alloc, writer, "href", &description.url)?;
+    begin(writer, "response")?;
+    write_text(writer, "href", &description.url)?;
     write_found_stat(alloc, writer, prefix, principal, question, description)?;
-    write_missing_stat(alloc, writer, names_asked(question), description)?;
+    write_missing_stat(writer, names_asked(question), description)?;
     writer.end()
 }
 
@@ -95,14 +95,13 @@ fn write_found_props(
     ensures { OnOk result (writing_of writer.new ≡ with_pieces (writing_of writer.old) (spec.propstat (codes "HTTP/1.1 200 OK")
         (spec.found_pieces prefix.now (option_map string_bytes principal.now) (description_of description.now) (question_of question.now)))) }
 {
-    begin_stat(alloc, writer)?;
+    begin_stat(writer)?;
     write_found(alloc, writer, prefix, principal, question, description)?;
-    end_stat(alloc, writer, "HTTP/1.1 200 OK")
+    end_stat(writer, "HTTP/1.1 200 OK")
 }
 
 // Which of these names the resource lacks.
 fn write_missing_stat(
-    alloc: Global,
     writer: &mut Writer,
     names: &[Name],
     description: &Description,
@@ -111,13 +110,12 @@ fn write_missing_stat(
         (spec.missing_of (map name_of names.now) (description_of description.now))) }
 {
     if lacks(description, names) {
-        return write_missing_props(alloc, writer, names, description);
+        return write_missing_props(writer, names, description);
     }
     Ok(())
 }
 
 fn write_missing_props(
-    alloc: Global,
     writer: &mut Writer,
     names: &[Name],
     description: &Description,
@@ -125,9 +123,9 @@ fn write_missing_props(
     ensures { OnOk result (writing_of writer.new ≡ with_pieces (writing_of writer.old) (spec.propstat (codes "HTTP/1.1 404 Not Found")
         (made (flat_map (spec.missing_nodes (description_of description.now)) (map name_of names.now))))) }
 {
-    begin_stat(alloc, writer)?;
+    begin_stat(writer)?;
     write_missing(writer, names, description)?;
-    end_stat(alloc, writer, "HTTP/1.1 404 Not Found")
+    end_stat(writer, "HTTP/1.1 404 Not Found")
 }
 
 // The names that a question gives.
@@ -154,18 +152,18 @@ fn lacks(description: &Description, names: &[Name]) -> bool
 }
 
 // Properties with one status begin (RFC 4918 section 14.22).
-fn begin_stat(alloc: Global, writer: &mut Writer) -> Result<(), AllocError>
+fn begin_stat(writer: &mut Writer) -> Result<(), AllocError>
     ensures { OnOk result (writing_of writer.new ≡ with_start (with_start (writing_of writer.old) (dav_name (codes "propstat")) []) (dav_name (codes "prop")) []) }
 {
-    begin(alloc, writer, "propstat")?;
-    begin(alloc, writer, "prop")
+    begin(writer, "propstat")?;
+    begin(writer, "prop")
 }
 
 // They end, with their status.
-fn end_stat(alloc: Global, writer: &mut Writer, status: &str) -> Result<(), AllocError>
+fn end_stat(writer: &mut Writer, status: &str) -> Result<(), AllocError>
     ensures { OnOk result (writing_of writer.new ≡ with_end (with_nodes (with_end (writing_of writer.old)) (spec.text_nodes (codes "status") status.now))) }
 {
     writer.end()?;
-    write_text(alloc, writer, "status", status)?;
+    write_text(writer, "status", status)?;
     writer.end()
 }

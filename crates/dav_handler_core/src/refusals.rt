@@ -93,8 +93,8 @@ fn locked(alloc: Global, prefix: &str, path: &DavPath) -> Result<Vec<u8>, AllocE
     ensures { IfOk result (λ document. document.items ≡ written (lock_nodes prefix.now path.now)) }
 {
     let mut writer = Writer::new(alloc);
-    begin(alloc, &mut writer, "error")?;
-    begin(alloc, &mut writer, "lock-token-submitted")?;
+    begin(&mut writer, "error")?;
+    begin(&mut writer, "lock-token-submitted")?;
     write_href(alloc, &mut writer, prefix, path)?;
     writer.end()?;
     writer.end()?;
@@ -106,8 +106,8 @@ fn conflicting(alloc: Global, prefix: &str, path: &DavPath) -> Result<Vec<u8>, A
     ensures { IfOk result (λ document. document.items ≡ written (conflict_nodes prefix.now path.now)) }
 {
     let mut writer = Writer::new(alloc);
-    begin(alloc, &mut writer, "error")?;
-    begin(alloc, &mut writer, "no-conflicting-lock")?;
+    begin(&mut writer, "error")?;
+    begin(&mut writer, "no-conflicting-lock")?;
     write_href(alloc, &mut writer, prefix, path)?;
     writer.end()?;
     writer.end()?;
@@ -119,12 +119,12 @@ fn member_locked(alloc: Global, prefix: &str, path: &DavPath) -> Result<Vec<u8>,
     ensures { IfOk result (λ document. document.items ≡ written (member_nodes prefix.now path.now)) }
 {
     let mut writer = Writer::new(alloc);
-    begin(alloc, &mut writer, "multistatus")?;
-    begin(alloc, &mut writer, "response")?;
+    begin(&mut writer, "multistatus")?;
+    begin(&mut writer, "response")?;
     write_href(alloc, &mut writer, prefix, path)?;
-    write_text(alloc, &mut writer, "status", "HTTP/1.1 423 Locked")?;
-    begin(alloc, &mut writer, "error")?;
-    write_empty(alloc, &mut writer, "lock-token-submitted")?;
+    write_text(&mut writer, "status", "HTTP/1.1 423 Locked")?;
+    begin(&mut writer, "error")?;
+    write_empty(&mut writer, "lock-token-submitted")?;
     writer.end()?;
     writer.end()?;
     writer.end()?;
@@ -141,7 +141,7 @@ fn conflicting_below(
     ensures { IfOk result (λ document. document.items ≡ written (conflict_below_nodes prefix.now at.now path.now)) }
 {
     let mut writer = Writer::new(alloc);
-    begin(alloc, &mut writer, "multistatus")?;
+    begin(&mut writer, "multistatus")?;
     write_conflict(alloc, &mut writer, prefix, at)?;
     write_dependent(alloc, &mut writer, prefix, path)?;
     writer.end()?;
@@ -157,11 +157,11 @@ fn write_conflict(
     ensures { OnOk result (writing_of writer.new ≡ with_nodes (writing_of writer.old)
         (told_response prefix.now path.now (codes "HTTP/1.1 423 Locked") (element (codes "error") (element (codes "no-conflicting-lock") [])))) }
 {
-    begin(alloc, writer, "response")?;
+    begin(writer, "response")?;
     write_href(alloc, writer, prefix, path)?;
-    write_text(alloc, writer, "status", "HTTP/1.1 423 Locked")?;
-    begin(alloc, writer, "error")?;
-    write_empty(alloc, writer, "no-conflicting-lock")?;
+    write_text(writer, "status", "HTTP/1.1 423 Locked")?;
+    begin(writer, "error")?;
+    write_empty(writer, "no-conflicting-lock")?;
     writer.end()?;
     writer.end()
 }
@@ -175,9 +175,9 @@ fn write_dependent(
     ensures { OnOk result (writing_of writer.new ≡ with_nodes (writing_of writer.old)
         (told_response prefix.now path.now (codes "HTTP/1.1 424 Failed Dependency") [])) }
 {
-    begin(alloc, writer, "response")?;
+    begin(writer, "response")?;
     write_href(alloc, writer, prefix, path)?;
-    write_text(alloc, writer, "status", "HTTP/1.1 424 Failed Dependency")?;
+    write_text(writer, "status", "HTTP/1.1 424 Failed Dependency")?;
     writer.end()
 }
 
@@ -186,8 +186,8 @@ fn failed_condition(alloc: Global, condition: &str) -> Result<Vec<u8>, AllocErro
     ensures { IfOk result (λ document. document.items ≡ written (element (codes "error") (element condition.now []))) }
 {
     let mut writer = Writer::new(alloc);
-    begin(alloc, &mut writer, "error")?;
-    write_empty(alloc, &mut writer, condition)?;
+    begin(&mut writer, "error")?;
+    write_empty(&mut writer, condition)?;
     writer.end()?;
     Ok(writer.into_bytes())
 }

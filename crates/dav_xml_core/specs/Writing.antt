@@ -22,6 +22,9 @@ escaped in_value b =
 abbrev pub dav_namespace : List ℕ
 dav_namespace = codes "DAV:"
 
+abbrev pub dav_name : List ℕ → Name
+dav_name local = record { namespace = dav_namespace; local = local }
+
 -- a name with the prefix of its namespace, which is the given one where it is none of the known
 unfoldable pub tag_name : List ℕ → Name → List ℕ
 tag_name prefix name =

@@ -68,17 +68,23 @@ pub fn read_frame<I: BufRead>(
 ) -> Result<Next, Fault>
     ensures { IfOk result (λ next. IsNext (I.remaining input.old) next bytes.new.items (I.remaining input.new)) }
 {
-    bytes.clear();
     if !read_head(input, line)? {
+        bytes.clear();
         return Ok(Next::End);
     }
     match Head::of(line) {
         Some(Head::Piece { number, length }) => {
             read_bytes(input, length, bytes)?;
-            Ok(Next::Piece(number))
+            return Ok(Next::Piece(number));
         }
-        Some(Head::Clock(moment)) => Ok(Next::Clock(moment)),
-        None => Ok(Next::Malformed),
+        Some(Head::Clock(moment)) => {
+            bytes.clear();
+            return Ok(Next::Clock(moment));
+        }
+        None => {
+            bytes.clear();
+            return Ok(Next::Malformed);
+        }
     }
 }
 
@@ -97,7 +103,7 @@ fn read_head<I: BufRead>(input: &mut I, line: &mut Vec<u8>) -> Result<bool, Faul
     Ok(true)
 }
 
-// The next bytes, so many.
+// The next bytes, so many, in place of those that are there.
 fn read_bytes<I: BufRead>(input: &mut I, count: u64, bytes: &mut Vec<u8>) -> Result<(), Fault>
     ensures { OnOk result ((length bytes.new.items ≡ count) × Consumes (I.remaining input.old) (I.remaining input.new) bytes.new.items) }
 {

@@ -99,7 +99,7 @@ fn tell<R: Rng>(
     ensures caller { spec.caller session.new ≡ spec.caller session.old }
 {
     let mut writer = Writer::new(alloc);
-    begin(alloc, &mut writer, "multistatus")?;
+    begin(&mut writer, "multistatus")?;
     tell_each(alloc, session, &mut writer, prefix, question, places)?;
     writer.end()?;
     Ok(writer.into_bytes())

@@ -93,6 +93,6 @@ fn write_names(
         (flat_map (spec.own_name_nodes (description_of description.now)) LIVE
         ++ flat_map spec.dead_name_nodes (description_of description.now).props)) }
 {
-    write_live_names(alloc, writer, description)?;
+    write_live_names(writer, description)?;
     write_dead_names(alloc, writer, &description.props)
 }

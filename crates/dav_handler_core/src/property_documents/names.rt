@@ -113,7 +113,6 @@ fn write_name(writer: &mut Writer, name: &Name) -> Result<(), AllocError>
 /// The names of the properties that the server makes of a resource.
 #[tactic(auto, using(crate::proofs::PieceLemmas::nodes_in_turn))]
 pub(super) fn write_live_names(
-    alloc: Global,
     writer: &mut Writer,
     description: &Description,
 ) -> Result<(), AllocError>
@@ -121,13 +120,12 @@ pub(super) fn write_live_names(
         (flat_map (spec.own_name_nodes (description_of description.now)) LIVE)) }
 {
     for live in &LIVE {
-        write_live_name(alloc, writer, description, *live)?;
+        write_live_name(writer, description, *live)?;
     }
     Ok(())
 }
 
 fn write_live_name(
-    alloc: Global,
     writer: &mut Writer,
     description: &Description,
     live: Live,
@@ -136,7 +134,7 @@ fn write_live_name(
         (spec.own_name_nodes (description_of description.now) live)) }
 {
     if has_live(description.folder, live) {
-        return write_empty(alloc, writer, live_word(live));
+        return write_empty(writer, live_word(live));
     }
     Ok(())
 }

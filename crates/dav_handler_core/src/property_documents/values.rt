@@ -103,28 +103,25 @@ fn write_live(
 {
     match live {
         Live::CreationDate => return write_text(
-            alloc,
             writer,
             "creationdate",
             &description.created,
         ),
         Live::ContentLength => return write_size(alloc, writer, description.size),
         Live::ContentType => return write_text(
-            alloc,
             writer,
             "getcontenttype",
             description.content_type,
         ),
-        Live::Tag => return write_text(alloc, writer, "getetag", &description.tag),
+        Live::Tag => return write_text(writer, "getetag", &description.tag),
         Live::LastModified => return write_text(
-            alloc,
             writer,
             "getlastmodified",
             &description.modified,
         ),
         Live::Locks => return write_discovery(alloc, writer, prefix, principal, &description.locks),
-        Live::ResourceType => return write_type(alloc, writer, description.folder),
-        Live::SupportedLocks => return write_supported(alloc, writer),
+        Live::ResourceType => return write_type(writer, description.folder),
+        Live::SupportedLocks => return write_supported(writer),
     }
 }
 
@@ -134,17 +131,17 @@ fn write_size(alloc: Global, writer: &mut Writer, size: u64) -> Result<(), Alloc
         ≡ with_nodes (writing_of writer.old) (spec.text_nodes (codes "getcontentlength") (decimal size))) }
 {
     let text = format!(in alloc; "{size}")?;
-    write_text(alloc, writer, "getcontentlength", &text)
+    write_text(writer, "getcontentlength", &text)
 }
 
 // Whether it is a folder.
-fn write_type(alloc: Global, writer: &mut Writer, folder: bool) -> Result<(), AllocError>
+fn write_type(writer: &mut Writer, folder: bool) -> Result<(), AllocError>
     ensures { OnOk result (writing_of writer.new ≡ with_nodes (writing_of writer.old) (spec.type_nodes folder)) }
 {
     if folder {
-        return write_within(alloc, writer, "resourcetype", "collection");
+        return write_within(writer, "resourcetype", "collection");
     }
-    write_empty(alloc, writer, "resourcetype")
+    write_empty(writer, "resourcetype")
 }
 
 /// The properties that clients set.

@@ -14,6 +14,7 @@ ghost use Rattle.dav_xml_core.specs.Reading.{Front, content_of, document_of, is_
 ghost use Rattle.dav_xml_core.specs.References.{value_of};
 ghost use Rattle.dav_xml_core.specs.Scanning.{is_nil};
 ghost use Rattle.dav_xml_core.specs.Writing as spec;
+ghost use Rattle.dav_xml_core.specs.Writing.{dav_name};
 ghost use Rattle.dav_xml_core.specs.Views.{attribute_of, name_of, node_of, writing_of};
 
 use super::documents::{Attribute, Document, Name, Node};
@@ -182,6 +183,34 @@ fn tag_name(alloc: Global, name: &Name) -> Result<Vec<u8>, AllocError>
     Ok(out)
 }
 
+// The name of an element of `DAV:`, with its prefix.
+#[tactic(auto, unfolding(crate::specs::Writing::tag_name))]
+fn dav_tag(alloc: Global, local: &str) -> Result<Vec<u8>, AllocError>
+    ensures { IfOk result (λ x. x.items ≡ spec.tag_name spec.element_prefix (dav_name local.now)) }
+{
+    let mut out = Vec::new(alloc);
+    push(&mut out, b"D:")?;
+    push(&mut out, local.as_bytes())?;
+    Ok(out)
+}
+
+// The start of an element of `DAV:` without attributes, by its name with the prefix.
+#[tactic(auto, using(std::proofs::lemmas::List::append_assoc), unfolding(crate::specs::Writing::start_text, crate::specs::Writing::declared))]
+fn push_dav_start(
+    out: &mut Vec<u8>,
+    first: &[u8],
+    tag: &[u8],
+    local: &str,
+) -> Result<(), AllocError>
+    requires { tag.now ≡ spec.tag_name spec.element_prefix (dav_name local.now) }
+    ensures { OnOk result (out.new.items ≡ out.old.items ++ spec.start_text first.now (dav_name local.now) []) }
+{
+    push(out, b"<")?;
+    push(out, tag)?;
+    push(out, first)?;
+    push(out, b">")
+}
+
 impl Writer {
     /// Nothing is written yet.
     pub fn new(alloc: Global) -> Writer
@@ -226,6 +255,18 @@ impl Writer {
         let begun = tag_name(self.alloc, name)?;
         let first = self.declarations();
         push_start(self.alloc, &mut self.bytes, first, name, attributes)?;
+        self.begun.push(begun)?;
+        Ok(())
+    }
+
+    /// An element of `DAV:` without attributes begins, as `start` begins it, without a `Name` for it (own).
+    #[tactic(auto, unfolding(crate::specs::Writing::with_start))]
+    pub fn start_dav(&mut self, local: &str) -> Result<(), AllocError>
+        ensures { OnOk result (writing_of self.new ≡ spec.with_start (writing_of self.old) (dav_name local.now) []) }
+    {
+        let begun = dav_tag(self.alloc, local)?;
+        let first = self.declarations();
+        push_dav_start(&mut self.bytes, first, &begun, local)?;
         self.begun.push(begun)?;
         Ok(())
     }

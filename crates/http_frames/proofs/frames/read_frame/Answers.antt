@@ -5,8 +5,8 @@ use Rattle.http_frames.specs.declared.frames.Head.TheVariants.{Piece}
 use Rattle.http_frames.specs.Frames.{head}
 use Rattle.http_frames.proofs.frames.read_frame.Goals as goal
 
-pub returns-in_ok-read_bytes-in-Some-Piece : goal.returns-in_ok-read_bytes-in-Some-Piece
-returns-in_ok-read_bytes-in-Some-Piece g c =
+pub returns-in-Some-Piece : goal.returns-in-Some-Piece
+returns-in-Some-Piece g c =
     let first = c.in_ok-read_head.ensures.one (ap (λ (b : Bool). Ok b) c.if-not-branch.false) in
     let bytes = c.read_bytes.new.bytes.items in (
       first.0 ++ bytes,

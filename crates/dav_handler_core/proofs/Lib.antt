@@ -46,6 +46,7 @@ pub mod MapValueLemmas
 pub mod MoveCheckLemmas
 pub mod MoveLemmas
 pub mod NamedLemmas
+pub mod NamingLemmas
 pub mod OwnLemmas
 pub mod PatchAnswerLemmas
 pub mod PatchDocumentLemmas

@@ -1,13 +1,22 @@
 //! The names of properties that a body gives, each once.
-ghost use Rattle.std.specs.Prelude.{◌≡◌, ◌++◌, ◌∷◌, [], map, IfOk, OnOk};
-ghost use Rattle.std.specs.List.{list_any};
+ghost use Rattle.std.specs.Prelude.{◌≡◌, [], map, IfOk, OnOk};
 ghost use Rattle.dav_xml_core.specs.Views.{name_of, node_of};
 ghost use Rattle.dav_handler_core.specs.Elements.{children, element_name};
+ghost use Rattle.dav_handler_core.specs.Private.Naming.{AreSeen, name_at};
 ghost use Rattle.dav_handler_core.specs.PropertyQuestions as spec;
 
 use crate::elements::{children, element_name, is_dav};
 use dav_xml_core::davxml::{Name, Node};
 use std::alloc::{AllocError, Global};
+use std::collections::BTreeSet;
+
+/// The names that were found so far, each once.
+#[derive(Drop)]
+struct Found<'a> {
+    names: Vec<Name>,
+    /// Of each its local name and its namespace, in this order, since the local names of most differ.
+    seen: BTreeSet<(&'a str, &'a str)>,
+}
 
 /// The names of the elements inside those of `DAV:` with this local name.
 pub(super) fn names_within(
@@ -17,68 +26,93 @@ pub(super) fn names_within(
 ) -> Result<Vec<Name>, AllocError>
     ensures { IfOk result (λ names. map name_of names.items ≡ spec.names_within local.now [] (map (λ part. map node_of part.now) parts.now)) }
 {
-    let mut names = Vec::new(alloc);
+    let mut found = none_found(alloc);
     for part in parts {
-        add_within(alloc, &mut names, part, local)?;
+        add_within(alloc, &mut found, part, local)?;
     }
+    let Found { names, seen: _ } = found;
     Ok(names)
 }
 
-fn add_within(
+fn none_found<'a>(alloc: Global) -> Found<'a>
+    ensures names { map name_of result.names.items ≡ [] }
+    ensures seen { AreSeen result }
+{
+    Found {
+        names: Vec::new(alloc),
+        seen: BTreeSet::new(alloc),
+    }
+}
+
+fn add_within<'a>(
     alloc: Global,
-    names: &mut Vec<Name>,
-    part: &[Node],
+    found: &mut Found<'a>,
+    part: &'a [Node],
     local: &str,
 ) -> Result<(), AllocError>
-    ensures { OnOk result (map name_of names.new.items ≡ spec.and_within local.now (map name_of names.old.items) (map node_of part.now)) }
+    requires { AreSeen found.old }
+    ensures names { OnOk result (map name_of found.new.names.items ≡ spec.and_within local.now (map name_of found.old.names.items) (map node_of part.now)) }
+    ensures seen { OnOk result (AreSeen found.new) }
 {
     if is_dav(part, local) {
-        return add_children(alloc, names, part);
+        return add_children(alloc, found, part);
     }
     Ok(())
 }
 
-fn add_children(alloc: Global, names: &mut Vec<Name>, part: &[Node]) -> Result<(), AllocError>
-    ensures { OnOk result (map name_of names.new.items ≡ spec.and_names (map name_of names.old.items) (children (map node_of part.now))) }
+fn add_children<'a>(
+    alloc: Global,
+    found: &mut Found<'a>,
+    part: &'a [Node],
+) -> Result<(), AllocError>
+    requires { AreSeen found.old }
+    ensures names { OnOk result (map name_of found.new.names.items ≡ spec.and_names (map name_of found.old.names.items) (children (map node_of part.now))) }
+    ensures seen { OnOk result (AreSeen found.new) }
 {
     let elements = children(alloc, part)?;
-    add_names(names, &elements)
+    add_names(found, &elements)
 }
 
-fn add_names(names: &mut Vec<Name>, elements: &[&[Node]]) -> Result<(), AllocError>
-    ensures { OnOk result (map name_of names.new.items
-        ≡ spec.and_names (map name_of names.old.items) (map (λ element. map node_of element.now) elements.now)) }
+fn add_names<'a>(found: &mut Found<'a>, elements: &[&'a [Node]]) -> Result<(), AllocError>
+    requires { AreSeen found.old }
+    ensures names { OnOk result (map name_of found.new.names.items
+        ≡ spec.and_names (map name_of found.old.names.items) (map (λ element. map node_of element.now) elements.now)) }
+    ensures seen { OnOk result (AreSeen found.new) }
 {
     for element in elements {
-        add_name(names, element)?;
+        add_name(found, element)?;
     }
     Ok(())
 }
 
-fn add_name(names: &mut Vec<Name>, element: &[Node]) -> Result<(), AllocError>
-    ensures { OnOk result (map name_of names.new.items ≡ spec.and_name (map name_of names.old.items) (element_name (map node_of element.now))) }
+fn add_name<'a>(found: &mut Found<'a>, element: &'a [Node]) -> Result<(), AllocError>
+    requires { AreSeen found.old }
+    ensures names { OnOk result (map name_of found.new.names.items ≡ spec.and_name (map name_of found.old.names.items) (element_name (map node_of element.now))) }
+    ensures seen { OnOk result (AreSeen found.new) }
 {
     match element_name(element) {
-        Some(name) => return add_new(names, name),
+        Some(name) => return add_new(found, name),
         None => return Ok(()),
     }
 }
 
-fn add_new(names: &mut Vec<Name>, name: &Name) -> Result<(), AllocError>
-    ensures { OnOk result (map name_of names.new.items ≡ spec.and_new (map name_of names.old.items) (name_of name.now)) }
+fn add_new<'a>(found: &mut Found<'a>, name: &'a Name) -> Result<(), AllocError>
+    requires { AreSeen found.old }
+    ensures names { OnOk result (map name_of found.new.names.items ≡ spec.and_new (map name_of found.old.names.items) (name_of name.now)) }
+    ensures seen { OnOk result (AreSeen found.new) }
 {
-    if is_among(names, name) {
-        return Ok(());
+    let is_new = found.seen.insert(texts_of(name))?;
+    if is_new {
+        let copy = copy_of(name)?;
+        found.names.push(copy)?;
     }
-    push_copy(names, name)
+    Ok(())
 }
 
-fn push_copy(names: &mut Vec<Name>, name: &Name) -> Result<(), AllocError>
-    ensures { OnOk result (map name_of names.new.items ≡ map name_of names.old.items ++ name_of name.now ∷ []) }
+fn texts_of<'a>(name: &'a Name) -> (&'a str, &'a str)
+    ensures { name_at result ≡ name_of name.now }
 {
-    let copy = copy_of(name)?;
-    names.push(copy)?;
-    Ok(())
+    (name.local.as_str(), name.namespace.as_str())
 }
 
 fn copy_of(name: &Name) -> Result<Name, AllocError>
@@ -88,22 +122,4 @@ fn copy_of(name: &Name) -> Result<Name, AllocError>
         namespace: name.namespace.clone()?,
         local: name.local.clone()?,
     })
-}
-
-// Whether the name is among those.
-fn is_among(names: &[Name], name: &Name) -> bool
-    ensures { result ≡ list_any (spec.same_name (name_of name.now)) (map name_of names.now) }
-{
-    for other in names {
-        if is_same(name, other) {
-            return true;
-        }
-    }
-    false
-}
-
-fn is_same(a: &Name, b: &Name) -> bool
-    ensures { result ≡ spec.same_name (name_of a.now) (name_of b.now) }
-{
-    a.namespace.as_str() == b.namespace.as_str() && a.local.as_str() == b.local.as_str()
 }

@@ -261,14 +261,14 @@ module _ (before after : Server) (later : before.last ≤ after.last) (kept : Ke
   put_keeps : (p : Path) (bytes : List ℕ) → Puts before.state after.last p bytes after.state → Keeps after
   put_keeps p bytes h = record {
     properties = found_kept before.state.map after.state.map p bytes after.last (record {
-          file = h.file;
-          here = h.here;
-          kind = h.kind;
-          bytes_are = h.bytes_are;
-          modified = h.modified;
-          props = h.props;
-          others = h.others;
-        }) kept.properties;
+      file = h.file;
+      here = h.here;
+      kind = h.kind;
+      bytes_are = h.bytes_are;
+      modified = h.modified;
+      props = h.props;
+      others = h.others;
+    }) kept.properties;
     locks = from_locks (as_found before after).locks (ap (λ (s : State). s.locks) h.left) found_locks;
   }
 

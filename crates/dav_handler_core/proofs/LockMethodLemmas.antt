@@ -65,16 +65,16 @@ module _ (most : Option ℕ) (headers : Entries FieldValue) (body : List ℕ) (p
     leaves (Err e) (inr untold) = inr (
       untold.0,
       untold_by (live who.now s) s' who (segments path.bytes) (λ l same. (
-          wants.info,
-          wants.asks,
-          (
-            wanted.timeout,
-            wanted.deep,
-            same ∙ ap (λ (owner : Option (List ℕ)). granted_lock (live who.now s) who path owner wanted.timeout wanted.shared wanted.deep) wants.owner_is
-                ∙ ap (λ shared. granted_lock (live who.now s) who path wants.info.owner wanted.timeout shared wanted.deep) wants.shared_is,
-          ),
-        ))
-        (looked (λ t w. LeavesUntold (λ l. l ≡ granted_lock t w path wanted.owner wanted.timeout wanted.shared wanted.deep) t w (segments path.bytes) s') who last s m looks untold.1),
+        wants.info,
+        wants.asks,
+        (
+          wanted.timeout,
+          wanted.deep,
+          same ∙ ap (λ (owner : Option (List ℕ)). granted_lock (live who.now s) who path owner wanted.timeout wanted.shared wanted.deep) wants.owner_is
+              ∙ ap (λ shared. granted_lock (live who.now s) who path wants.info.owner wanted.timeout shared wanted.deep) wants.shared_is,
+        ),
+      ))
+          (looked (λ t w. LeavesUntold (λ l. l ≡ granted_lock t w path wanted.owner wanted.timeout wanted.shared wanted.deep) t w (segments path.bytes) s') who last s m looks untold.1),
     )
 
     pub runs : Runs m s' → Runs s s'

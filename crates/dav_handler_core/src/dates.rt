@@ -20,7 +20,9 @@ pub(crate) fn http_date(alloc: Global, moment: Moment) -> Result<String, AllocEr
 pub(crate) fn internet_date(alloc: Global, moment: Moment) -> Result<String, AllocError>
     ensures { IfOk result (λ text. IsInternetDate (moment.0 / 1_000_000_000) (string_bytes text)) }
 {
-    let text = DateTimePrinter::new().precision(Some(0)).timestamp_text(timestamp_of(moment));
+    let text = DateTimePrinter::new()
+        .precision(Some(0))
+        .timestamp_text(timestamp_of(moment));
     String::from_str(alloc, text.as_str())
 }
 

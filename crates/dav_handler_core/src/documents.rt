@@ -25,11 +25,7 @@ pub(crate) fn write_empty(writer: &mut Writer, local: &str) -> Result<(), AllocE
 }
 
 /// An element of `DAV:` with an empty one in it.
-pub(crate) fn write_within(
-    writer: &mut Writer,
-    outer: &str,
-    inner: &str,
-) -> Result<(), AllocError>
+pub(crate) fn write_within(writer: &mut Writer, outer: &str, inner: &str) -> Result<(), AllocError>
     ensures { OnOk result (writing_of writer.new ≡ with_nodes (writing_of writer.old) (element outer.now (element inner.now []))) }
 {
     begin(writer, outer)?;
@@ -38,11 +34,7 @@ pub(crate) fn write_within(
 }
 
 /// An element of `DAV:` with a text in it.
-pub(crate) fn write_text(
-    writer: &mut Writer,
-    local: &str,
-    text: &str,
-) -> Result<(), AllocError>
+pub(crate) fn write_text(writer: &mut Writer, local: &str, text: &str) -> Result<(), AllocError>
     ensures { OnOk result (writing_of writer.new ≡ with_nodes (writing_of writer.old) (element local.now (Text text.now ∷ []))) }
 {
     begin(writer, local)?;

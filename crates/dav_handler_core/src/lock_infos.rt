@@ -42,11 +42,7 @@ pub(crate) fn lock_info(alloc: Global, body: &[u8]) -> Result<LockInfo, Fault>
 
 // By the elements inside of a `lockinfo` in a language.
 #[tactic(auto, unfolding(crate::specs::LockInfos::lock_info_by))]
-fn lock_info_by(
-    alloc: Global,
-    lang: Option<&str>,
-    inside: &[&[Node]],
-) -> Result<LockInfo, Fault>
+fn lock_info_by(alloc: Global, lang: Option<&str>, inside: &[&[Node]]) -> Result<LockInfo, Fault>
     requires lang { IsLang (option_copied lang) }
     requires read { AllByRecursion WasRead (map nodes_of inside.now) }
     ensures { IsReadAs info_of result (spec.lock_info_by (option_copied lang.entry) (map nodes_of inside.now)) }

@@ -181,7 +181,11 @@ fn lang_in<'a>(around: Option<&'a str>, element: &'a [Node]) -> Option<&'a str>
 }
 
 // The XML of a property that means the same in any document, in the language around it (RFC 4918 section 4.3).
-pub(crate) fn kept_xml(alloc: Global, lang: Option<&str>, property: &[Node]) -> Result<Vec<u8>, AllocError>
+pub(crate) fn kept_xml(
+    alloc: Global,
+    lang: Option<&str>,
+    property: &[Node],
+) -> Result<Vec<u8>, AllocError>
     ensures { IfOk result (λ xml. xml.items ≡ written_alone (spec.with_lang (option_copied lang.entry) (map node_of property.now))) }
 {
     let Some(lang) = lang else {

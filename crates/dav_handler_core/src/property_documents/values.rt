@@ -102,23 +102,11 @@ fn write_live(
         (spec.live_pieces prefix.now (option_map string_bytes principal.now) (description_of description.now) live)) }
 {
     match live {
-        Live::CreationDate => return write_text(
-            writer,
-            "creationdate",
-            &description.created,
-        ),
+        Live::CreationDate => return write_text(writer, "creationdate", &description.created),
         Live::ContentLength => return write_size(alloc, writer, description.size),
-        Live::ContentType => return write_text(
-            writer,
-            "getcontenttype",
-            description.content_type,
-        ),
+        Live::ContentType => return write_text(writer, "getcontenttype", description.content_type),
         Live::Tag => return write_text(writer, "getetag", &description.tag),
-        Live::LastModified => return write_text(
-            writer,
-            "getlastmodified",
-            &description.modified,
-        ),
+        Live::LastModified => return write_text(writer, "getlastmodified", &description.modified),
         Live::Locks => return write_discovery(alloc, writer, prefix, principal, &description.locks),
         Live::ResourceType => return write_type(writer, description.folder),
         Live::SupportedLocks => return write_supported(writer),

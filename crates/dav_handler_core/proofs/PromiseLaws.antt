@@ -294,17 +294,23 @@ module _ (begun : Server) (new : IsNew begun) where
   left s (by_clock mid now run) p bytes stands = IsLeft.by_clock mid now p bytes (left mid run p bytes stands)
   left s (by_answer mid after request response run h) p bytes stands =
       let come = comes mid after request p stands.0 stands.1 stands.2 h.method h.result (sent_of response) h.done h.refused in
-      subst (IsLeft begun after p) stands.3 (of (left mid run) stands.0.node.bytes come)
+      subst (IsLeft begun after p) stands.3 (of (left mid run) stands.0.node.bytes (stands.0, stands.1, stands.2, refl) come)
     where
-      of : ((q : Path) (content : List ℕ) → StandsAt mid.state.map q content → IsLeft begun mid q content) → (content : List ℕ) → Comes mid request h.method h.result p content → IsLeft begun after p content
-      of earlier content (stood there) = IsLeft.by_answer mid after request response p content h there (earlier p content there)
-      of earlier content (put_there path status is done named at_path_is bytes_are) =
+      of : ((q : Path) (content : List ℕ) → StandsAt mid.state.map q content → IsLeft begun mid q content) → (content : List ℕ) → StandsAt after.state.map p content
+          → Comes mid request h.method h.result p content → IsLeft begun after p content
+      of earlier content now (stood there) = IsLeft.by_answer mid after request response p content h (earlier p content there) now
+      of earlier content now (put_there path status is done named at_path_is bytes_are) =
           subst (λ q. IsLeft begun after q content) (sym at_path_is)
-          (subst (IsLeft begun after (segments path.bytes)) (sym bytes_are) (IsLeft.by_put mid after request response path h (is, (status, done)) named))
-      of earlier content (brought from is brings there) = IsLeft.by_transfer mid after request response from p content h is brings (earlier from content there)
-      of earlier content (made path status is done named at_path_is nothing empty) =
+          (subst (IsLeft begun after (segments path.bytes)) (sym bytes_are)
+          (IsLeft.by_put mid after request response path run h (is, (status, done)) named
+          (subst (StandsAt after.state.map (segments path.bytes)) bytes_are (subst (λ q. StandsAt after.state.map q content) at_path_is now))))
+      of earlier content now (brought from is brings there) =
+          IsLeft.by_transfer mid after request response from p content run h is brings (earlier from content there) now
+      of earlier content now (made path status is done named at_path_is nothing empty) =
           subst (λ q. IsLeft begun after q content) (sym at_path_is)
-          (subst (IsLeft begun after (segments path.bytes)) (sym empty) (IsLeft.by_lock mid after request response path h (is, (status, done)) named nothing))
+          (subst (IsLeft begun after (segments path.bytes)) (sym empty)
+          (IsLeft.by_lock mid after request response path run h (is, (status, done)) named nothing
+          (subst (StandsAt after.state.map (segments path.bytes)) empty (subst (λ q. StandsAt after.state.map q content) at_path_is now))))
 
   -- what a GET tells that is answered 200
   whole_file : (told : Result (Option Extent) Fault) (r : Resource) (status : ℕ) (sent : Sent) → Tells told r status sent → status ≡ 200 → r.node.kind ≡ File → sent.body ≡ r.node.bytes
@@ -372,3 +378,11 @@ module _ (begun : Server) (new : IsNew begun) where
 -- each answer of the turns, from new stores on
 pub each_answer : (begun after : Server) (turns : List Turn) → IsNew begun → (leads : Leads begun turns after) → EachAnswer (KeepsTo begun) begun turns after leads
 each_answer begun after turns new leads = each_from begun new begun turns after itself leads
+
+-- the bytes that were left stand there
+pub left_stand : (begun s : Server) (p : Path) (bytes : List ℕ) → IsLeft begun s p bytes → StandsAt s.state.map p bytes
+left_stand begun s p bytes (IsLeft.by_put before after request response path run h done named stands) = stands
+left_stand begun s p bytes (IsLeft.by_transfer before after request response from to content run h is brings old stands) = stands
+left_stand begun s p bytes (IsLeft.by_lock before after request response path run h done named nothing stands) = stands
+left_stand begun s p bytes (IsLeft.by_answer before after request response q content h old stands) = stands
+left_stand begun s p bytes (IsLeft.by_clock before now q content old) = left_stand begun before q content old

@@ -3,9 +3,10 @@ ghost use Rattle.std.specs.Prelude.{◌≡◌, ℕ, List, [], ◌++◌, IfOk, Op
 ghost use Rattle.std.specs.Io.KnownBytes.{Appends, Consumes};
 ghost use Rattle.http_server.specs.Connection.{config_of, history};
 ghost use Rattle.http_server.specs.Exchange.{Calls};
+ghost use Rattle.dav_path_core.specs.Fronts.{Path};
 ghost use Rattle.dav_handler_core.specs.Answers.{Answers, Server};
 ghost use Rattle.dav_handler_core.specs.KeptDocuments.{IsNew};
-ghost use Rattle.dav_handler_core.specs.Promises.{EachAnswer, KeepsTo};
+ghost use Rattle.dav_handler_core.specs.Promises.{EachAnswer, IsLeft, KeepsTo, StandsAt};
 ghost use Rattle.dav_handler_core.specs.Servers.{server};
 ghost use Rattle.http_frames.specs.Clients.{Has};
 ghost use Rattle.http_frames.specs.declared.clients.Clients as held;
@@ -70,8 +71,10 @@ pub fn serve_frames<R: Rng, C: Clock, I: BufRead, O: Write>(
 /// - A 200 to a GET of a file has the bytes that the last PUT, COPY or MOVE left there; a LOCK of a path where nothing stands leaves an empty file.
 /// - A refusal changes nothing, but that locks that have expired may be gone; a COPY, a MOVE or a LOCK that lacked memory may have begun.
 pub fn served_frames_keep_promises()
-    ensures { (end : spec_end.End) (c c' : held.Clients) (begun after : Server) (input input' output output' : Option (List ℕ)) → IsNew begun
+    ensures each { (end : spec_end.End) (c c' : held.Clients) (begun after : Server) (input input' output output' : Option (List ℕ)) → IsNew begun
         → (h : AreServed end c c' begun after input input' output output') → EachAnswer (KeepsTo begun) begun (turns_of h.done) after h.leads }
+    // The bytes that were left at a path are those that stand there.
+    ensures exact { (begun s : Server) (p : Path) (bytes : List ℕ) → IsLeft begun s p bytes → StandsAt s.state.map p bytes }
 {}
 
 // Serves one frame, and tells whether it is the last.

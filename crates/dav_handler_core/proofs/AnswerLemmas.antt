@@ -17,24 +17,24 @@ use Rattle.dav_locks_core.specs.Exclusive.{Exclusive}
 use Rattle.dav_locks_core.specs.Lock.{Lock}
 use Rattle.dav_resource_core.specs.Requests.{Command}
 use Rattle.dav_resource_core.specs.Step.{State, conflicts}
-use Rattle.dav_handler_core.specs.declared.conditions.bases.Scheme.{Scheme}
-use Rattle.dav_handler_core.specs.declared.faults.Fault.{Fault}
-use Rattle.dav_handler_core.specs.declared.faults.Fault.TheVariants as fault
-use Rattle.dav_handler_core.specs.Admitting.{IsAdmitted, IsHeldOff}
+use Rattle.dav_fields_core.specs.declared.bases.Scheme.{Scheme}
+use Rattle.dav_faults_core.specs.declared.faults.Fault.{Fault}
+use Rattle.dav_faults_core.specs.declared.faults.Fault.TheVariants as fault
+use Rattle.dav_methods_core.specs.Admitting.{IsAdmitted, IsHeldOff}
 use Rattle.dav_handler_core.specs.Answers.{Admits, AnswersTo, Begins, ChangeAnswers, EndsOne, Fails, GetAnswers, HoldsOff, IsFrom, IsWhole, Locks, Moves, Names, Options, PutAnswers, Server, Unread, as_found}
 use Rattle.dav_handler_core.specs.Answers.Unread.{memory, target, principal, tokens, moment}
-use Rattle.dav_handler_core.specs.Callers.{Asks, Caller, RunBy, Runs, asking, live}
-use Rattle.dav_handler_core.specs.Fields.{Sent}
-use Rattle.dav_handler_core.specs.FileTags.{file_tag}
-use Rattle.dav_handler_core.specs.Getting.{FailsToGet, Gets, tagged}
-use Rattle.dav_handler_core.specs.LocksInTheWay.{IsPathOfOne}
+use Rattle.dav_session_core.specs.Callers.{Asks, Caller, RunBy, Runs, asking, live}
+use Rattle.dav_fields_core.specs.Fields.{Sent}
+use Rattle.dav_fields_core.specs.FileTags.{file_tag}
+use Rattle.dav_fields_core.specs.Getting.{FailsToGet, Gets, tagged}
+use Rattle.dav_session_core.specs.LocksInTheWay.{IsPathOfOne}
 use Rattle.dav_handler_core.specs.Private.Begun.{IsHeld}
-use Rattle.dav_handler_core.specs.Putting.{FailsToPut, Puts, in_the_way, props_of, put_course, put_status}
-use Rattle.dav_handler_core.specs.Refusals.{RefusesTarget, RefusesPrincipal, HasBadIf, HasPart, IsLastMoment}
-use Rattle.dav_handler_core.specs.Senders.{NamesPrincipal}
-use Rattle.dav_handler_core.specs.Unlocking.{Unlocks}
-use Rattle.dav_handler_core.proofs.Asking.{asks_join, by_join}
-use Rattle.dav_handler_core.proofs.CallerLaws.{asks_of, runs_by, runs_exclusive, runs_of, runs_shape}
+use Rattle.dav_session_core.specs.Putting.{FailsToPut, Puts, in_the_way, props_of, put_course, put_status}
+use Rattle.dav_fields_core.specs.Refusals.{RefusesTarget, RefusesPrincipal, HasBadIf, HasPart, IsLastMoment}
+use Rattle.dav_fields_core.specs.Senders.{NamesPrincipal}
+use Rattle.dav_session_core.specs.Unlocking.{Unlocks}
+use Rattle.dav_session_core.proofs.Asking.{asks_join, by_join}
+use Rattle.dav_session_core.proofs.CallerLaws.{asks_of, runs_by, runs_exclusive, runs_of, runs_shape}
 
 -- ---- a request that asks for nothing
 

@@ -15,34 +15,34 @@ use Rattle.dav_files_core.specs.declared.memfs.Kind.TheVariants.{File}
 use Rattle.dav_files_core.specs.Resources.{Resource, ResourceMap, at_path}
 use Rattle.dav_resource_core.specs.Checks.{has}
 use Rattle.dav_resource_core.specs.Step.{State}
-use Rattle.dav_handler_core.specs.declared.etags.Standing.{Standing}
-use Rattle.dav_handler_core.specs.declared.faults.Fault.{Fault}
-use Rattle.dav_handler_core.specs.declared.faults.Fault.TheVariants as fault
-use Rattle.dav_handler_core.specs.declared.preconditions.Course.{Course}
-use Rattle.dav_handler_core.specs.declared.preconditions.Course.TheVariants as course
-use Rattle.dav_handler_core.specs.declared.ranges.Extent.{Extent}
-use Rattle.dav_handler_core.specs.declared.ranges.Extent.TheVariants as extent
+use Rattle.dav_fields_core.specs.declared.etags.Standing.{Standing}
+use Rattle.dav_faults_core.specs.declared.faults.Fault.{Fault}
+use Rattle.dav_faults_core.specs.declared.faults.Fault.TheVariants as fault
+use Rattle.dav_fields_core.specs.declared.preconditions.Course.{Course}
+use Rattle.dav_fields_core.specs.declared.preconditions.Course.TheVariants as course
+use Rattle.dav_fields_core.specs.declared.ranges.Extent.{Extent}
+use Rattle.dav_fields_core.specs.declared.ranges.Extent.TheVariants as extent
 use Rattle.dav_handler_core.specs.Answers.{AnswersTo, Fails, HoldsOff, IsGotten, IsLocked, Leaves, Options, Server, Unread, as_found, has_body, status_of}
 use Rattle.dav_handler_core.specs.Answers.Unread.{memory, target, principal, tokens, moment}
-use Rattle.dav_handler_core.specs.Callers.{Caller, SameLive}
-use Rattle.dav_handler_core.specs.Copying.{FailsToCopy}
+use Rattle.dav_session_core.specs.Callers.{Caller, SameLive}
+use Rattle.dav_session_core.specs.Copying.{FailsToCopy}
 use Rattle.dav_handler_core.specs.Deciding.{HeldOff, SendsPart, SendsTag, Stops, WentOn, looks}
-use Rattle.dav_handler_core.specs.Faults.{fault_status}
-use Rattle.dav_handler_core.specs.Fields.{Sent}
-use Rattle.dav_handler_core.specs.FileTags.{standing_by, standing_of, tag_of}
-use Rattle.dav_handler_core.specs.Finding.{FailsToFind, FailsToTell}
-use Rattle.dav_handler_core.specs.Getting.{FailsToGet, Tells, own_tags, tags_by, told_by, told_of}
-use Rattle.dav_handler_core.specs.Locking.{FailsToLock}
-use Rattle.dav_handler_core.specs.Making.{FailsToMake}
-use Rattle.dav_handler_core.specs.Moving as moving
-use Rattle.dav_handler_core.specs.Preconditions.{course_of}
-use Rattle.dav_handler_core.specs.Putting.{FailsToPut, changes_by}
-use Rattle.dav_handler_core.specs.Ranges.{part_text}
-use Rattle.dav_handler_core.specs.Refreshing.{FailsToRefresh, named_there}
-use Rattle.dav_handler_core.specs.Refusals.{RefusesPrincipal, RefusesTarget}
-use Rattle.dav_handler_core.specs.Removing.{FailsToRemove}
-use Rattle.dav_handler_core.specs.Patching.{FailsToPatch}
-use Rattle.dav_handler_core.specs.Unlocking.{FailsToUnlock}
+use Rattle.dav_faults_core.specs.Faults.{fault_status}
+use Rattle.dav_fields_core.specs.Fields.{Sent}
+use Rattle.dav_fields_core.specs.FileTags.{standing_by, standing_of, tag_of}
+use Rattle.dav_methods_core.specs.Finding.{FailsToFind, FailsToTell}
+use Rattle.dav_fields_core.specs.Getting.{FailsToGet, Tells, own_tags, tags_by, told_by, told_of}
+use Rattle.dav_methods_core.specs.Locking.{FailsToLock}
+use Rattle.dav_session_core.specs.Making.{FailsToMake}
+use Rattle.dav_session_core.specs.Moving as moving
+use Rattle.dav_fields_core.specs.Preconditions.{course_of}
+use Rattle.dav_session_core.specs.Putting.{FailsToPut, changes_by}
+use Rattle.dav_fields_core.specs.Ranges.{part_text}
+use Rattle.dav_session_core.specs.Refreshing.{FailsToRefresh, named_there}
+use Rattle.dav_fields_core.specs.Refusals.{RefusesPrincipal, RefusesTarget}
+use Rattle.dav_session_core.specs.Removing.{FailsToRemove}
+use Rattle.dav_session_core.specs.Patching.{FailsToPatch}
+use Rattle.dav_session_core.specs.Unlocking.{FailsToUnlock}
 use Rattle.dav_handler_core.proofs.TransferLaws.{copy_kept, move_kept}
 
 -- ---- statuses of faults

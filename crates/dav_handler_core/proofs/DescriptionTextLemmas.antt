@@ -17,13 +17,13 @@ use Rattle.jiff_fmt.specs.Text as printed
 use Rattle.dav_path_core.specs.Fronts.{Path}
 use Rattle.dav_path_core.specs.Url.{url}
 use Rattle.dav_xml_core.specs.Scanning.{is_nil}
-use Rattle.dav_handler_core.specs.declared.content_types.TheConstants.{OTHER}
-use Rattle.dav_handler_core.specs.ContentTypes.{Entry, content_type, extension, table, type_in}
-use Rattle.dav_handler_core.specs.FileTags.{file_tag, tag_text}
-use Rattle.dav_handler_core.specs.KeptDocuments.{IsVisible, is_visible}
-use Rattle.dav_handler_core.specs.PropertyAnswers.{IsHttpDate, IsInternetDate, place_url, segments_url}
-use Rattle.dav_handler_core.specs.RefusalBodies.{front}
-use Rattle.dav_handler_core.proofs.VisibleTextLemmas.{AreVisible, all_joined, decimal_visible, indexed, joined, one_more, some_before, some_behind, url_visible}
+use Rattle.dav_fields_core.specs.ContentTypes.{Entry, content_type, extension, other_type, table, type_in}
+use Rattle.dav_fields_core.specs.FileTags.{file_tag, tag_text}
+use Rattle.dav_documents_core.specs.KeptElements.{IsVisible, is_visible}
+use Rattle.dav_methods_core.specs.PropertyAnswers.{place_url, segments_url}
+use Rattle.dav_fields_core.specs.Dates.{IsHttpDate, IsInternetDate}
+use Rattle.dav_documents_core.specs.RefusalBodies.{front}
+use Rattle.dav_documents_core.proofs.VisibleTextLemmas.{AreVisible, all_joined, decimal_visible, indexed, joined, one_more, some_before, some_behind, url_visible}
 
 -- ---- URLs
 
@@ -81,17 +81,17 @@ table_seen : list_all (λ (e : Entry). is_seen e.1) table ≡ true
 unfolding is_seen
 table_seen = refl
 
-other_seen : IsVisible OTHER.now
+other_seen : IsVisible other_type
 other_seen = record { some = refl; each = refl }
 
 pub type_visible : (name : List ℕ) → IsVisible (content_type name)
 type_visible name = by (extension name)
   where
-    known : (o : Option (List ℕ)) → ((text : List ℕ) → o ≡ Some text → IsVisible text) → IsVisible (elim o [ None ↦ OTHER.now | Some text ↦ text ])
+    known : (o : Option (List ℕ)) → ((text : List ℕ) → o ≡ Some text → IsVisible text) → IsVisible (elim o [ None ↦ other_type | Some text ↦ text ])
     known None h = other_seen
     known (Some text) h = h text refl
 
-    by : (o : Option (List ℕ)) → IsVisible (elim o [ None ↦ OTHER.now | Some text ↦ elim (type_in table text) [ None ↦ OTHER.now | Some known ↦ known ] ])
+    by : (o : Option (List ℕ)) → IsVisible (elim o [ None ↦ other_type | Some text ↦ elim (type_in table text) [ None ↦ other_type | Some known ↦ known ] ])
     by None = other_seen
     by (Some text) = known (type_in table text) (λ found is. type_found table text found table_seen is)
 

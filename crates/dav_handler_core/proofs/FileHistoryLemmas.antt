@@ -10,13 +10,13 @@ use Rattle.dav_files_core.specs.declared.memfs.Kind.TheVariants.{Folder, File}
 use Rattle.dav_files_core.specs.Following.{dated}
 use Rattle.dav_files_core.specs.Resources.{Node, Resource, ResourceMap, at_path}
 use Rattle.dav_resource_core.specs.Step.{State}
-use Rattle.dav_handler_core.specs.Clearing.{IsCleared}
-use Rattle.dav_handler_core.specs.Copying.{IsPartlyCopied, copy_at, created_at, is_copied, node_at}
-use Rattle.dav_handler_core.specs.Ends.{HasFolder}
-use Rattle.dav_handler_core.specs.Moving.{IsMoved}
-use Rattle.dav_handler_core.specs.Removing.{IsRemoved}
+use Rattle.dav_session_core.specs.Clearing.{IsCleared}
+use Rattle.dav_session_core.specs.Copying.{IsPartlyCopied, copy_at, created_at, is_copied, node_at}
+use Rattle.dav_session_core.specs.Ends.{HasFolder}
+use Rattle.dav_session_core.specs.Moving.{IsMoved}
+use Rattle.dav_session_core.specs.Removing.{IsRemoved}
 use Rattle.dav_handler_core.specs.TagHistories.{HasFile}
-use Rattle.dav_handler_core.proofs.SubtreeLemmas.{rest_of}
+use Rattle.dav_session_core.proofs.SubtreeLemmas.{rest_of}
 
 -- the map has a file with these bytes that was changed last at this moment
 abbrev pub Had : ResourceMap → ℕ → List ℕ → Type 0

@@ -27,34 +27,35 @@ use Rattle.dav_locks_core.specs.Lock.{Lock}
 use Rattle.dav_locks_core.specs.Locks.{covering_at, covering_from, covers, discovered, height, is_at_or_below, refreshed, without_below}
 use Rattle.dav_locks_core.specs.Stale.{has_come, is_stale, without_stale}
 use Rattle.dav_resource_core.specs.Step.{State}
-use Rattle.dav_handler_core.specs.declared.faults.Fault.{Fault}
-use Rattle.dav_handler_core.specs.declared.faults.Fault.TheVariants as fault
+use Rattle.dav_faults_core.specs.declared.faults.Fault.{Fault}
+use Rattle.dav_faults_core.specs.declared.faults.Fault.TheVariants as fault
 use Rattle.dav_handler_core.specs.Answers.{Answers, AnswersTo, IsLocked, Leaves, Server, as_found}
-use Rattle.dav_handler_core.specs.Callers.{Caller, SameLive, live}
-use Rattle.dav_handler_core.specs.Clearing.{IsCleared}
-use Rattle.dav_handler_core.specs.Copying.{IsPartlyCopied, created_at, is_copied}
-use Rattle.dav_handler_core.specs.Fields.{Sent, sent_of}
-use Rattle.dav_handler_core.specs.Granting.{granted_lock}
-use Rattle.dav_handler_core.specs.KeptDocuments.{AreKept, IsKeptLock, IsKeptProperty, IsNew, KeepsElements}
-use Rattle.dav_handler_core.specs.LockInfos.{LockInfo, lock_info_in}
-use Rattle.dav_handler_core.specs.Locking.{IsGranted}
-use Rattle.dav_handler_core.specs.Making.{Makes}
-use Rattle.dav_handler_core.specs.Moving.{IsMoved}
-use Rattle.dav_handler_core.specs.PatchBodies.{any_protected}
-use Rattle.dav_handler_core.specs.Patching.{Changes, IsPatched, with_updates}
-use Rattle.dav_handler_core.specs.PropertyUpdates.{Update}
-use Rattle.dav_handler_core.specs.Putting.{Puts, props_of}
-use Rattle.dav_handler_core.specs.RefusalReading.{IsRooted}
-use Rattle.dav_handler_core.specs.Removing.{IsRemoved}
+use Rattle.dav_session_core.specs.Callers.{Caller, SameLive, live}
+use Rattle.dav_session_core.specs.Clearing.{IsCleared}
+use Rattle.dav_session_core.specs.Copying.{IsPartlyCopied, created_at, is_copied}
+use Rattle.dav_fields_core.specs.Fields.{Sent, sent_of}
+use Rattle.dav_session_core.specs.Granting.{granted_lock}
+use Rattle.dav_handler_core.specs.KeptDocuments.{IsNew, KeepsElements}
+use Rattle.dav_documents_core.specs.KeptElements.{AreKept, IsKeptLock, IsKeptProperty}
+use Rattle.dav_documents_core.specs.LockInfos.{LockInfo, lock_info_in}
+use Rattle.dav_methods_core.specs.Locking.{IsGranted}
+use Rattle.dav_session_core.specs.Making.{Makes}
+use Rattle.dav_session_core.specs.Moving.{IsMoved}
+use Rattle.dav_documents_core.specs.PatchBodies.{any_protected}
+use Rattle.dav_session_core.specs.Patching.{Changes, IsPatched, with_updates}
+use Rattle.dav_documents_core.specs.PropertyUpdates.{Update}
+use Rattle.dav_session_core.specs.Putting.{Puts, props_of}
+use Rattle.dav_documents_core.specs.RefusalReading.{IsRooted}
+use Rattle.dav_session_core.specs.Removing.{IsRemoved}
 use Rattle.dav_handler_core.specs.TagHistories.{Becomes}
 use Rattle.dav_handler_core.specs.TagHistories.Becomes.{itself, by_clock, by_answer}
-use Rattle.dav_handler_core.proofs.Asking.{live_once}
-use Rattle.dav_handler_core.proofs.AskedNameLemmas.{lock_owner}
-use Rattle.dav_handler_core.proofs.KeptReadingLaws.{IsKeptAsSent, updates_are_kept}
+use Rattle.dav_session_core.proofs.Asking.{live_once}
+use Rattle.dav_documents_core.proofs.AskedNameLemmas.{lock_owner}
+use Rattle.dav_documents_core.proofs.KeptReadingLaws.{IsKeptAsSent, updates_are_kept}
 use Rattle.dav_handler_core.proofs.LockTextLemmas.{target_rooted, token_visible}
-use Rattle.dav_handler_core.proofs.NamedLemmas.{passes_all}
-use Rattle.dav_handler_core.proofs.PutLemmas.{Found, put_found}
-use Rattle.dav_handler_core.proofs.SubtreeLemmas.{rest_of}
+use Rattle.dav_documents_core.proofs.NamedLemmas.{passes_all}
+use Rattle.dav_session_core.proofs.PutLemmas.{Found, put_found}
+use Rattle.dav_session_core.proofs.SubtreeLemmas.{rest_of}
 
 -- ---- locks
 

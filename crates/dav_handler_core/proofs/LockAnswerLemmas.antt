@@ -10,20 +10,20 @@ use Rattle.dav_path_core.specs.Segments.{segments}
 use Rattle.dav_files_core.specs.Finding.{has_any}
 use Rattle.dav_path_core.proofs.lists.MemberLemmas.{In, Contains-In}
 use Rattle.dav_resource_core.specs.Step.{State}
-use Rattle.dav_handler_core.specs.declared.faults.Fault.{Fault}
-use Rattle.dav_handler_core.specs.declared.faults.Fault.TheVariants as fault
+use Rattle.dav_faults_core.specs.declared.faults.Fault.{Fault}
+use Rattle.dav_faults_core.specs.declared.faults.Fault.TheVariants as fault
 use Rattle.dav_handler_core.specs.Answers.{Admits, Begins, Leaves, LockAnswers, LocksOne, Moves, Server, Unread, as_found, has_body}
-use Rattle.dav_handler_core.specs.Callers.{Asks, Caller, RunBy, Runs, SameLive, live}
-use Rattle.dav_handler_core.specs.Conditions.{has_token}
-use Rattle.dav_handler_core.specs.Fields.{Sent}
-use Rattle.dav_handler_core.specs.Locking.{FailsToLock, IsAskedBy, IsGranted, LeavesUntold}
+use Rattle.dav_session_core.specs.Callers.{Asks, Caller, RunBy, Runs, SameLive, live}
+use Rattle.dav_session_core.specs.Conditions.{has_token}
+use Rattle.dav_fields_core.specs.Fields.{Sent}
+use Rattle.dav_methods_core.specs.Locking.{FailsToLock, IsAskedBy, IsGranted, LeavesUntold}
 use Rattle.dav_handler_core.specs.Private.Begun.{IsHeld}
-use Rattle.dav_handler_core.specs.Private.Rooms.{LeavesLock}
-use Rattle.dav_handler_core.specs.Refreshing.{FailsToRefresh, Refreshes}
-use Rattle.dav_handler_core.proofs.AnewLemmas.{of_filter}
+use Rattle.dav_methods_core.specs.Private.Rooms.{LeavesLock}
+use Rattle.dav_session_core.specs.Refreshing.{FailsToRefresh, Refreshes}
+use Rattle.dav_session_core.proofs.AnewLemmas.{of_filter}
 use Rattle.dav_handler_core.proofs.AnswerLemmas.{admits_on, begins_on, found_as, moves_on}
-use Rattle.dav_handler_core.proofs.CallerLaws.{runs_by, runs_join, runs_of}
-use Rattle.dav_handler_core.proofs.LockLemmas.{untold_by}
+use Rattle.dav_session_core.proofs.CallerLaws.{runs_by, runs_join, runs_of}
+use Rattle.dav_methods_core.proofs.LockLemmas.{untold_by}
 
 -- ---- a request that wasn't begun, or was held off
 

@@ -11,10 +11,10 @@ use Rattle.dav_path_core.specs.PathText.{PathText, full}
 use Rattle.dav_path_core.specs.Prefix.{SetsPrefix}
 use Rattle.dav_path_core.specs.Prefix.SetsPrefix.{cut, whole, front}
 use Rattle.dav_locks_core.specs.Tokens.{token_from}
-use Rattle.dav_handler_core.specs.KeptDocuments.{IsVisible, is_visible}
-use Rattle.dav_handler_core.specs.RefusalReading.{IsRooted}
-use Rattle.dav_handler_core.specs.Targets.{IsTargetOf}
-use Rattle.dav_handler_core.proofs.VisibleTextLemmas.{AreVisible, joined}
+use Rattle.dav_documents_core.specs.KeptElements.{IsVisible, is_visible}
+use Rattle.dav_documents_core.specs.RefusalReading.{IsRooted}
+use Rattle.dav_fields_core.specs.Targets.{IsTargetOf}
+use Rattle.dav_documents_core.proofs.VisibleTextLemmas.{AreVisible, joined}
 
 -- ---- tokens
 

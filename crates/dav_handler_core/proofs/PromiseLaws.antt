@@ -18,24 +18,24 @@ use Rattle.dav_files_core.specs.declared.memfs.Kind.TheVariants.{Folder, File}
 use Rattle.dav_files_core.specs.Following.{dated}
 use Rattle.dav_files_core.specs.Resources.{Node, Resource, ResourceMap, at_path}
 use Rattle.dav_resource_core.specs.Step.{State}
-use Rattle.dav_handler_core.specs.declared.faults.Fault.{Fault}
-use Rattle.dav_handler_core.specs.declared.faults.Fault.TheVariants as fault
-use Rattle.dav_handler_core.specs.declared.ranges.Extent.{Extent}
-use Rattle.dav_handler_core.specs.declared.ranges.Extent.TheVariants as extent
+use Rattle.dav_faults_core.specs.declared.faults.Fault.{Fault}
+use Rattle.dav_faults_core.specs.declared.faults.Fault.TheVariants as fault
+use Rattle.dav_fields_core.specs.declared.ranges.Extent.{Extent}
+use Rattle.dav_fields_core.specs.declared.ranges.Extent.TheVariants as extent
 use Rattle.dav_handler_core.specs.Answers.{Answers, AnswersTo, Leaves, Names, Server, as_found, status_of}
-use Rattle.dav_handler_core.specs.Callers.{Caller, SameLive, live}
-use Rattle.dav_handler_core.specs.Clearing.{IsCleared}
-use Rattle.dav_handler_core.specs.Copying.{IsPartlyCopied, created_at, is_copied}
-use Rattle.dav_handler_core.specs.Destinations.{IsDestination}
-use Rattle.dav_handler_core.specs.Fields.{Sent, sent_of}
-use Rattle.dav_handler_core.specs.Getting.{Tells, told_of}
+use Rattle.dav_session_core.specs.Callers.{Caller, SameLive, live}
+use Rattle.dav_session_core.specs.Clearing.{IsCleared}
+use Rattle.dav_session_core.specs.Copying.{IsPartlyCopied, created_at, is_copied}
+use Rattle.dav_fields_core.specs.Destinations.{IsDestination}
+use Rattle.dav_fields_core.specs.Fields.{Sent, sent_of}
+use Rattle.dav_fields_core.specs.Getting.{Tells, told_of}
 use Rattle.dav_handler_core.specs.KeptDocuments.{IsNew}
-use Rattle.dav_handler_core.specs.Making.{Makes}
-use Rattle.dav_handler_core.specs.Moving.{IsMoved}
-use Rattle.dav_handler_core.specs.PatchBodies.{any_protected}
-use Rattle.dav_handler_core.specs.Patching.{Changes, with_updates}
-use Rattle.dav_handler_core.specs.PropertyUpdates.{Update}
-use Rattle.dav_handler_core.specs.Removing.{IsRemoved}
+use Rattle.dav_session_core.specs.Making.{Makes}
+use Rattle.dav_session_core.specs.Moving.{IsMoved}
+use Rattle.dav_documents_core.specs.PatchBodies.{any_protected}
+use Rattle.dav_session_core.specs.Patching.{Changes, with_updates}
+use Rattle.dav_documents_core.specs.PropertyUpdates.{Update}
+use Rattle.dav_session_core.specs.Removing.{IsRemoved}
 use Rattle.dav_handler_core.specs.Promises.{Brings, EachAnswer, EachCall, GetsWhatIsLeft, IsLeft, KeepsTo, StandsAt}
 use Rattle.dav_handler_core.specs.Serving.{Leads}
 use Rattle.dav_handler_core.specs.TagHistories.{Becomes}
@@ -43,8 +43,8 @@ use Rattle.dav_handler_core.specs.TagHistories.Becomes.{itself, by_clock, by_ans
 use Rattle.dav_handler_core.proofs.DecidingLaws.{no_fault}
 use Rattle.dav_handler_core.proofs.HoldingLaws.{kept_unless_held, stands_unless_ended}
 use Rattle.dav_handler_core.proofs.KeptStoreLaws.{begins_kept, run_keeps}
-use Rattle.dav_handler_core.proofs.PutLemmas.{put_found}
-use Rattle.dav_handler_core.proofs.SubtreeLemmas.{rest_of}
+use Rattle.dav_session_core.proofs.PutLemmas.{put_found}
+use Rattle.dav_session_core.proofs.SubtreeLemmas.{rest_of}
 use Rattle.dav_handler_core.proofs.TagLaws.{new_stores}
 
 -- ---- where the bytes at a path come from

@@ -21,29 +21,29 @@ use Rattle.dav_files_core.specs.Outcomes.{new_folder, start}
 use Rattle.dav_files_core.specs.Putting.{put}
 use Rattle.dav_files_core.specs.Resources.{Node, Resource, at_path}
 use Rattle.dav_resource_core.specs.Step.{State}
-use Rattle.dav_handler_core.specs.declared.faults.Fault.{Fault}
-use Rattle.dav_handler_core.specs.declared.faults.Fault.TheVariants as fault
+use Rattle.dav_faults_core.specs.declared.faults.Fault.{Fault}
+use Rattle.dav_faults_core.specs.declared.faults.Fault.TheVariants as fault
 use Rattle.dav_handler_core.specs.Answers.{Answers, AnswersTo, IsLocked, Leaves, Server, as_found}
-use Rattle.dav_handler_core.specs.Callers.{Caller, SameLive, live}
-use Rattle.dav_handler_core.specs.Clearing.{IsCleared}
-use Rattle.dav_handler_core.specs.Copying.{IsCopied, IsPartlyCopied}
-use Rattle.dav_handler_core.specs.Ends.{HasFolder}
-use Rattle.dav_handler_core.specs.Fields.{Sent, sent_of}
-use Rattle.dav_handler_core.specs.Making.{Makes}
-use Rattle.dav_handler_core.specs.Moving.{IsMoved}
-use Rattle.dav_handler_core.specs.PatchBodies.{any_protected}
-use Rattle.dav_handler_core.specs.Patching.{Changes, IsPatched, with_updates}
-use Rattle.dav_handler_core.specs.PropertyUpdates.{Update}
-use Rattle.dav_handler_core.specs.Putting.{Puts}
-use Rattle.dav_handler_core.specs.Removing.{IsRemoved}
+use Rattle.dav_session_core.specs.Callers.{Caller, SameLive, live}
+use Rattle.dav_session_core.specs.Clearing.{IsCleared}
+use Rattle.dav_session_core.specs.Copying.{IsCopied, IsPartlyCopied}
+use Rattle.dav_session_core.specs.Ends.{HasFolder}
+use Rattle.dav_fields_core.specs.Fields.{Sent, sent_of}
+use Rattle.dav_session_core.specs.Making.{Makes}
+use Rattle.dav_session_core.specs.Moving.{IsMoved}
+use Rattle.dav_documents_core.specs.PatchBodies.{any_protected}
+use Rattle.dav_session_core.specs.Patching.{Changes, IsPatched, with_updates}
+use Rattle.dav_documents_core.specs.PropertyUpdates.{Update}
+use Rattle.dav_session_core.specs.Putting.{Puts}
+use Rattle.dav_session_core.specs.Removing.{IsRemoved}
 use Rattle.dav_handler_core.specs.Serving.{Leads}
 use Rattle.dav_handler_core.specs.TagHistories.{HasFile, HasNoFiles, MomentsTell, TagsTell, Becomes}
 use Rattle.dav_handler_core.specs.TagHistories.Becomes.{itself, by_clock, by_answer}
 use Rattle.dav_handler_core.proofs.FileHistoryLemmas.{Come, Had, bytes_of, cleared_come, cleared_folder, copied_come, moved_come, removed_come}
-use Rattle.dav_handler_core.proofs.FileTagLemmas.{tells}
-use Rattle.dav_handler_core.proofs.OwnLemmas.{parent_front}
-use Rattle.dav_handler_core.proofs.PutLemmas.{Found, put_found}
-use Rattle.dav_handler_core.proofs.RemovalLemmas.{above_out}
+use Rattle.dav_fields_core.proofs.FileTagLemmas.{tells}
+use Rattle.dav_session_core.proofs.OwnLemmas.{parent_front}
+use Rattle.dav_session_core.proofs.PutLemmas.{Found, put_found}
+use Rattle.dav_session_core.proofs.RemovalLemmas.{above_out}
 
 -- ---- one answer
 

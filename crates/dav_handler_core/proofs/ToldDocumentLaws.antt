@@ -17,25 +17,26 @@ use Rattle.dav_locks_core.specs.Lock.{Lock}
 use Rattle.dav_locks_core.specs.Locks.{discovered}
 use Rattle.dav_resource_core.specs.Step.{State}
 use Rattle.dav_xml_core.specs.Reading.{document_of}
-use Rattle.dav_handler_core.specs.declared.faults.Fault.{Fault}
+use Rattle.dav_faults_core.specs.declared.faults.Fault.{Fault}
 use Rattle.dav_handler_core.specs.Answers.{Answers, AnswersTo, IsLocked, IsPropPatched, Server, as_found}
-use Rattle.dav_handler_core.specs.Fields.{Sent, sent_of}
-use Rattle.dav_handler_core.specs.Finding.{DescribesEach}
-use Rattle.dav_handler_core.specs.KeptDocuments.{IsDocument, IsKeptLock, IsKeptProperty, IsNew, IsVisible, KeepsElements, TellsXml, is_told_in_xml}
-use Rattle.dav_handler_core.specs.PatchBodies.{patch_nodes}
-use Rattle.dav_handler_core.specs.PropertyAnswers.{Describes, is_folder, last_or, place_url}
-use Rattle.dav_handler_core.specs.PropertyDocuments.{Description}
-use Rattle.dav_handler_core.specs.PropertyUpdates.{Update}
-use Rattle.dav_handler_core.specs.Refreshing.{retimed}
+use Rattle.dav_fields_core.specs.Fields.{Sent, sent_of}
+use Rattle.dav_methods_core.specs.Finding.{DescribesEach}
+use Rattle.dav_handler_core.specs.KeptDocuments.{IsNew, KeepsElements, TellsXml, is_told_in_xml}
+use Rattle.dav_documents_core.specs.KeptElements.{IsDocument, IsKeptLock, IsKeptProperty, IsVisible}
+use Rattle.dav_documents_core.specs.PatchBodies.{patch_nodes}
+use Rattle.dav_methods_core.specs.PropertyAnswers.{Describes, is_folder, last_or, place_url}
+use Rattle.dav_documents_core.specs.PropertyDocuments.{Description}
+use Rattle.dav_documents_core.specs.PropertyUpdates.{Update}
+use Rattle.dav_session_core.specs.Refreshing.{retimed}
 use Rattle.dav_handler_core.specs.TagHistories.{Becomes}
-use Rattle.dav_handler_core.proofs.AskedNameLemmas.{question_names}
+use Rattle.dav_documents_core.proofs.AskedNameLemmas.{question_names}
 use Rattle.dav_handler_core.proofs.DescriptionTextLemmas.{folder_url, http_date_visible, internet_date_visible, member_url, tag_visible, type_visible}
-use Rattle.dav_handler_core.proofs.KeptReadingLaws.{IsKeptAsSent, updates_are_kept}
+use Rattle.dav_documents_core.proofs.KeptReadingLaws.{IsKeptAsSent, updates_are_kept}
 use Rattle.dav_handler_core.proofs.KeptStoreLaws.{AreKeptLocks, all_behind, begins_kept, discovered_kept, granted_lock_kept, kept_later, run_keeps}
 use Rattle.dav_handler_core.proofs.LockTextLemmas.{target_rooted}
-use Rattle.dav_handler_core.proofs.MapValueLemmas.{in_values}
-use Rattle.dav_handler_core.proofs.PatchDocumentLemmas.{patch_is_read}
-use Rattle.dav_handler_core.proofs.ToldDocumentLemmas.{IsTellable, locks_are_read, resources_are_read}
+use Rattle.dav_documents_core.proofs.MapValueLemmas.{in_values}
+use Rattle.dav_documents_core.proofs.PatchDocumentLemmas.{patch_is_read}
+use Rattle.dav_documents_core.proofs.ToldDocumentLemmas.{IsTellable, locks_are_read, resources_are_read}
 
 -- ---- what is told of places
 

@@ -10,12 +10,12 @@ use Rattle.dav_path_core.specs.declared.util.DavMethod.TheVariants as method
 use Rattle.dav_path_core.specs.PathText.{PathText}
 use Rattle.dav_path_core.specs.Segments.{segments}
 use Rattle.dav_resource_core.specs.Step.{State}
-use Rattle.dav_handler_core.specs.declared.faults.Fault.{Fault}
-use Rattle.dav_handler_core.specs.declared.faults.Fault.TheVariants as fault
+use Rattle.dav_faults_core.specs.declared.faults.Fault.{Fault}
+use Rattle.dav_faults_core.specs.declared.faults.Fault.TheVariants as fault
 use Rattle.dav_handler_core.specs.Answers.{Begins, Leaves, Server, as_found}
-use Rattle.dav_handler_core.specs.Callers.{Caller, SameLive, live}
-use Rattle.dav_handler_core.specs.Copying.{CopyLeaves, StartsToCopy}
-use Rattle.dav_handler_core.specs.Moving.{MoveLeaves, StartsToMove}
+use Rattle.dav_session_core.specs.Callers.{Caller, SameLive, live}
+use Rattle.dav_session_core.specs.Copying.{CopyLeaves, StartsToCopy}
+use Rattle.dav_session_core.specs.Moving.{MoveLeaves, StartsToMove}
 use Rattle.dav_handler_core.proofs.AnswerLemmas.{found_as}
 
 -- where nothing has changed, any refusal may have come

@@ -9,16 +9,16 @@ use Rattle.dav_path_core.specs.Fronts.{Path}
 use Rattle.dav_path_core.specs.Segments.{segments}
 use Rattle.dav_files_core.specs.Resources.{ResourceMap}
 use Rattle.dav_resource_core.specs.Step.{State}
-use Rattle.dav_handler_core.specs.declared.conditions.bases.Scheme.{Scheme}
-use Rattle.dav_handler_core.specs.declared.faults.Fault.{Fault}
-use Rattle.dav_handler_core.specs.declared.faults.Fault.TheVariants as fault
-use Rattle.dav_handler_core.specs.Callers.{Caller}
-use Rattle.dav_handler_core.specs.Copying.{FailsToCopy}
-use Rattle.dav_handler_core.specs.Destinations.{LeadsNowhere, fault_of, overwrites}
-use Rattle.dav_handler_core.specs.Destinations.LeadsNowhere.{memory, no_text, no_url, no_host, another, no_path}
-use Rattle.dav_handler_core.specs.Ends.{FailsAtEnds}
-use Rattle.dav_handler_core.specs.LocksInTheWay.{by_place, is_below}
-use Rattle.dav_handler_core.specs.Moving.{FailsToMove}
+use Rattle.dav_fields_core.specs.declared.bases.Scheme.{Scheme}
+use Rattle.dav_faults_core.specs.declared.faults.Fault.{Fault}
+use Rattle.dav_faults_core.specs.declared.faults.Fault.TheVariants as fault
+use Rattle.dav_session_core.specs.Callers.{Caller}
+use Rattle.dav_session_core.specs.Copying.{FailsToCopy}
+use Rattle.dav_fields_core.specs.Destinations.{LeadsNowhere, fault_of, overwrites}
+use Rattle.dav_fields_core.specs.Destinations.LeadsNowhere.{memory, no_text, no_url, no_host, another, no_path}
+use Rattle.dav_session_core.specs.Ends.{FailsAtEnds}
+use Rattle.dav_session_core.specs.LocksInTheWay.{by_place, is_below}
+use Rattle.dav_session_core.specs.Moving.{FailsToMove}
 
 -- a path that is refused is told otherwise
 path_told : (e : ParseError) → fault_of e ≡ fault.PreconditionFailed → ⊥

@@ -14,29 +14,29 @@ use Rattle.dav_files_core.specs.Resources.{IsResourceMap}
 use Rattle.dav_locks_core.specs.Exclusive.{Exclusive}
 use Rattle.dav_locks_core.specs.Lock.{Lock}
 use Rattle.dav_resource_core.specs.Step.{State}
-use Rattle.dav_handler_core.specs.declared.conditions.bases.Scheme.{Scheme}
-use Rattle.dav_handler_core.specs.declared.faults.Fault.{Fault}
-use Rattle.dav_handler_core.specs.declared.faults.Fault.TheVariants as fault
-use Rattle.dav_handler_core.specs.Admitting.{IsAdmitted, IsHeldOff}
-use Rattle.dav_handler_core.specs.Callers.{Asks, Caller, RunBy, Runs, SameLive, live}
-use Rattle.dav_handler_core.specs.Copying.{Copies, FailsToCopy, StartsToCopy}
-use Rattle.dav_handler_core.specs.Faults.{fault_status}
-use Rattle.dav_handler_core.specs.Fields.{Sent, sent_of}
-use Rattle.dav_handler_core.specs.FileTags.{tag_of}
-use Rattle.dav_handler_core.specs.Finding.{FailsToTell, TellsFound}
-use Rattle.dav_handler_core.specs.Getting.{FailsToGet, Gets, tagged}
-use Rattle.dav_handler_core.specs.Locking.{FailsToLock, Grants, IsAskedBy, IsGranted, LeavesUntold, Wanted}
-use Rattle.dav_handler_core.specs.Making.{FailsToMake, Makes}
-use Rattle.dav_handler_core.specs.Moving as moving
-use Rattle.dav_handler_core.specs.Patching.{FailsToPatch, Patches}
-use Rattle.dav_handler_core.specs.Putting.{FailsToPut, Puts, put_course, put_status}
-use Rattle.dav_handler_core.specs.RefusalBodies.{TellsWhy}
-use Rattle.dav_handler_core.specs.Refreshing.{FailsToRefresh, Refreshes, RefreshesOwn}
-use Rattle.dav_handler_core.specs.Refusals.{RefusesTarget, RefusesPrincipal, HasBadIf, HasPart, IsLastMoment}
-use Rattle.dav_handler_core.specs.Removing.{FailsToRemove, Removes}
-use Rattle.dav_handler_core.specs.Senders.{IsSender, NamesPrincipal}
-use Rattle.dav_handler_core.specs.Targets.{IsTargetOf}
-use Rattle.dav_handler_core.specs.Unlocking.{FailsToUnlock, Unlocks}
+use Rattle.dav_fields_core.specs.declared.bases.Scheme.{Scheme}
+use Rattle.dav_faults_core.specs.declared.faults.Fault.{Fault}
+use Rattle.dav_faults_core.specs.declared.faults.Fault.TheVariants as fault
+use Rattle.dav_methods_core.specs.Admitting.{IsAdmitted, IsHeldOff}
+use Rattle.dav_session_core.specs.Callers.{Asks, Caller, RunBy, Runs, SameLive, live, IsSender}
+use Rattle.dav_session_core.specs.Copying.{Copies, FailsToCopy, StartsToCopy}
+use Rattle.dav_faults_core.specs.Faults.{fault_status}
+use Rattle.dav_fields_core.specs.Fields.{Sent, sent_of}
+use Rattle.dav_fields_core.specs.FileTags.{tag_of}
+use Rattle.dav_methods_core.specs.Finding.{FailsToTell, TellsFound}
+use Rattle.dav_fields_core.specs.Getting.{FailsToGet, Gets, tagged}
+use Rattle.dav_methods_core.specs.Locking.{FailsToLock, Grants, IsAskedBy, IsGranted, LeavesUntold, Wanted}
+use Rattle.dav_session_core.specs.Making.{FailsToMake, Makes}
+use Rattle.dav_session_core.specs.Moving as moving
+use Rattle.dav_session_core.specs.Patching.{FailsToPatch, Patches}
+use Rattle.dav_session_core.specs.Putting.{FailsToPut, Puts, put_course, put_status}
+use Rattle.dav_methods_core.specs.RefusalAnswers.{TellsWhy}
+use Rattle.dav_session_core.specs.Refreshing.{FailsToRefresh, Refreshes, RefreshesOwn}
+use Rattle.dav_fields_core.specs.Refusals.{RefusesTarget, RefusesPrincipal, HasBadIf, HasPart, IsLastMoment}
+use Rattle.dav_session_core.specs.Removing.{FailsToRemove, Removes}
+use Rattle.dav_fields_core.specs.Senders.{NamesPrincipal}
+use Rattle.dav_fields_core.specs.Targets.{IsTargetOf}
+use Rattle.dav_session_core.specs.Unlocking.{FailsToUnlock, Unlocks}
 
 -- the scheme of the server's URLs, the prefix that they stand behind, the header that names the principal, where there is one, the greatest timeout of a lock,
 -- and whether a PROPFIND all the way down is refused

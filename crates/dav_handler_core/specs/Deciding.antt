@@ -12,19 +12,19 @@ use Rattle.dav_path_core.specs.Segments.{segments}
 use Rattle.dav_path_core.specs.Fronts.{Path}
 use Rattle.dav_files_core.specs.Resources.{Resource, ResourceMap, at_path}
 use Rattle.dav_resource_core.specs.Step.{State}
-use Rattle.dav_handler_core.specs.declared.faults.Fault.TheVariants as fault
-use Rattle.dav_handler_core.specs.declared.ranges.Extent.{Extent}
-use Rattle.dav_handler_core.specs.declared.ranges.Extent.TheVariants as extent
-use Rattle.dav_handler_core.specs.Admitting.{Weighs}
+use Rattle.dav_faults_core.specs.declared.faults.Fault.TheVariants as fault
+use Rattle.dav_fields_core.specs.declared.ranges.Extent.{Extent}
+use Rattle.dav_fields_core.specs.declared.ranges.Extent.TheVariants as extent
+use Rattle.dav_methods_core.specs.Admitting.{Weighs}
 use Rattle.dav_handler_core.specs.Answers.{Admits, Begins, Server, as_found}
-use Rattle.dav_handler_core.specs.Callers.{Caller, live}
-use Rattle.dav_handler_core.specs.Destinations.{overwrites}
-use Rattle.dav_handler_core.specs.Fields.{Sent}
-use Rattle.dav_handler_core.specs.FileTags.{standing_of}
-use Rattle.dav_handler_core.specs.Getting.{tags_by, told_of}
-use Rattle.dav_handler_core.specs.Putting.{put_course}
-use Rattle.dav_handler_core.specs.Ranges.{part_text}
-use Rattle.dav_handler_core.specs.Refreshing.{named_there}
+use Rattle.dav_session_core.specs.Callers.{Caller, live}
+use Rattle.dav_fields_core.specs.Destinations.{overwrites}
+use Rattle.dav_fields_core.specs.Fields.{Sent}
+use Rattle.dav_fields_core.specs.FileTags.{standing_of}
+use Rattle.dav_fields_core.specs.Getting.{tags_by, told_of}
+use Rattle.dav_session_core.specs.Putting.{put_course}
+use Rattle.dav_fields_core.specs.Ranges.{part_text}
+use Rattle.dav_session_core.specs.Refreshing.{named_there}
 
 -- a GET, a HEAD or a PUT, which look at conditions
 abbrev pub looks : Option DavMethod → Bool

@@ -12,10 +12,10 @@ use Rattle.dav_path_core.specs.PathText.{PathText}
 use Rattle.dav_path_core.specs.Segments.{segments}
 use Rattle.dav_files_core.specs.declared.memfs.Kind.TheVariants.{File}
 use Rattle.dav_files_core.specs.Resources.{Resource, ResourceMap, at_path}
-use Rattle.dav_handler_core.specs.declared.faults.Fault.TheVariants as fault
+use Rattle.dav_faults_core.specs.declared.faults.Fault.TheVariants as fault
 use Rattle.dav_handler_core.specs.Answers.{Answers, Names, Server}
-use Rattle.dav_handler_core.specs.Callers.{SameLive}
-use Rattle.dav_handler_core.specs.Destinations.{IsDestination}
+use Rattle.dav_session_core.specs.Callers.{SameLive}
+use Rattle.dav_fields_core.specs.Destinations.{IsDestination}
 use Rattle.dav_handler_core.specs.Holding.{IsKeptUnlessHeld, StandsUnlessEnded}
 use Rattle.dav_handler_core.specs.Serving.{Leads}
 use Rattle.dav_handler_core.specs.TagHistories.{Becomes}

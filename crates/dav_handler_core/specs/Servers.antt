@@ -4,7 +4,7 @@ use Rattle.rand_core.specs.Stream.{Stream}
 use Rattle.dav_handler_core.specs.declared.dav.Dav.{Dav}
 use Rattle.dav_handler_core.specs.declared.dav.Settings.{Settings}
 use Rattle.dav_handler_core.specs.Answers.{Options, Server}
-use Rattle.dav_handler_core.specs.Sessions.{caller, state}
+use Rattle.dav_session_core.specs.Sessions.{caller, state}
 
 abbrev pub options_of : Settings → Options
 options_of s = record { scheme = s.scheme; prefix = string_bytes s.prefix; user_header = s.user_header; longest = s.longest_timeout; finite = s.finite_depth }

@@ -6,46 +6,48 @@ ghost use Rattle.dav_path_core.specs.declared.util.DavMethod.{DavMethod};
 ghost use Rattle.dav_path_core.specs.declared.util.DavMethod.TheVariants as method;
 ghost use Rattle.dav_resource_core.specs.Stores.{state_of};
 ghost use Rattle.dav_handler_core.specs.Answers.{Admits, Answers, AnswersTo, ChangeAnswers, GetAnswers, IsFrom, IsMethod, Leaves, LockAnswers, Moves, Names, PatchAnswers, PutAnswers, Unread};
-ghost use Rattle.dav_handler_core.specs.Callers.{RunBy, SameLive};
-ghost use Rattle.dav_handler_core.specs.Copying.{Copies, FailsToCopy};
-ghost use Rattle.dav_handler_core.specs.Fields.{sent_of};
-ghost use Rattle.dav_handler_core.specs.Finding.{FailsToTell, TellsFound};
-ghost use Rattle.dav_handler_core.specs.Making.{FailsToMake, Makes};
-ghost use Rattle.dav_handler_core.specs.Moving as moving;
+ghost use Rattle.dav_session_core.specs.Callers.{RunBy, SameLive};
+ghost use Rattle.dav_session_core.specs.Copying.{Copies, FailsToCopy};
+ghost use Rattle.dav_fields_core.specs.Fields.{sent_of};
+ghost use Rattle.dav_methods_core.specs.Finding.{FailsToTell, TellsFound};
+ghost use Rattle.dav_session_core.specs.Making.{FailsToMake, Makes};
+ghost use Rattle.dav_session_core.specs.Moving as moving;
 ghost use Rattle.dav_handler_core.specs.Private.Begun.{IsBegun, IsHeld};
-ghost use Rattle.dav_handler_core.specs.Refusals.{IsLastMoment};
-ghost use Rattle.dav_handler_core.specs.Removing.{FailsToRemove, Removes};
+ghost use Rattle.dav_fields_core.specs.Refusals.{IsLastMoment};
+ghost use Rattle.dav_session_core.specs.Removing.{FailsToRemove, Removes};
 ghost use Rattle.dav_handler_core.specs.Servers.{options_of, server};
-ghost use Rattle.dav_handler_core.specs.Sessions.{caller};
-ghost use Rattle.dav_handler_core.specs.Unlocking.{FailsToUnlock, Unlocks};
-ghost use Rattle.dav_handler_core.specs.declared.faults.Fault.TheVariants as fault;
+ghost use Rattle.dav_session_core.specs.Sessions.{caller};
+ghost use Rattle.dav_session_core.specs.Unlocking.{FailsToUnlock, Unlocks};
+ghost use Rattle.dav_faults_core.specs.declared.faults.Fault.TheVariants as fault;
 
 mod laws;
+mod tag_laws;
 
-use crate::bodies::fits;
-use crate::conditions::{Scheme, admit};
-use crate::faults::Fault;
-use crate::methods::{
+use bytes::Bytes;
+use dav_documents_core::bodies::fits;
+pub use dav_documents_core::laws::{kept_properties_are_read, refusals_are_read};
+use dav_faults_core::faults::Fault;
+use dav_fields_core::bases::Scheme;
+use dav_fields_core::senders::{principal_of, tokens_of};
+use dav_fields_core::targets::target_of;
+use dav_methods_core::conditions::admit;
+use dav_methods_core::methods::{
     copy, delete, get, lock, mkcol, moving, options, propfind, proppatch, put, refresh, unlock,
 };
-use crate::refusals::refuse;
-use crate::senders::{principal_of, tokens_of};
-use crate::session::Session;
-use crate::targets::target_of;
-use bytes::Bytes;
+use dav_methods_core::refusals::refuse;
 use dav_resource_core::davpath::DavPath;
 use dav_resource_core::errors::FsResult;
 use dav_resource_core::fs::Moment;
 use dav_resource_core::guarded::Guarded;
 use dav_resource_core::util::DavMethod;
+use dav_session_core::session::Session;
 use http::{Request, StatusCode};
 use http_header::HeaderName;
 use http_server::{Response, Service};
-pub use laws::{
-    conditions_decide, kept_properties_are_read, locks_are_their_holders, refusals_are_read,
-};
+pub use laws::{answers_are_documents, conditions_decide, locks_are_their_holders};
 use rand_core::Rng;
 use std::alloc::{AllocError, Global};
+pub use tag_laws::{calls_make_runs, tags_tell_bytes};
 
 /// What whoever runs a server chooses.
 #[derive(Debug, Drop)]

@@ -1,34 +1,11 @@
-//! A WebDAV server over the stores of `dav_resource_core`, as a service of the kit's `http_server`.
+//! A WebDAV server over the stores of `dav_resource_core`, as a service of the kit's `http_server`. The modules of the crates below whose items its callers name
+//! stand here too.
 #![tactic(auto)]
 
-mod bodies;
-pub mod conditions;
-mod content_types;
-mod dates;
 pub mod dav;
-mod depths;
-mod describing;
-mod destinations;
-mod documents;
-mod elements;
-pub mod etags;
-pub mod faults;
-mod fields;
-mod listed_tags;
-mod live_properties;
-mod lock_documents;
-mod lock_infos;
-mod lock_timeouts;
-mod methods;
-mod pages;
-mod patch_bodies;
-pub mod preconditions;
-mod property_documents;
-mod property_questions;
-mod property_updates;
-pub mod ranges;
-mod refusals;
-mod senders;
 pub mod serving;
-pub mod session;
-mod targets;
+
+pub use dav_faults_core::faults;
+pub use dav_fields_core::{etags, preconditions, ranges};
+pub use dav_methods_core::conditions;
+pub use dav_session_core::session;

@@ -1,21 +1,16 @@
-//! The laws of conditions, of locks and of refusals over the answers of the server, and of what is kept of properties. They do nothing.
+//! The laws of conditions, of locks and of documents over the answers of the server. They do nothing.
 ghost use Rattle.std.specs.Prelude.{◌≡◌, ◌<◌, ◌⊎◌, ◌^◌, ℕ, true, length, List, Some, IfOk};
-ghost use Rattle.std.specs.List.{AllByRecursion};
 ghost use Rattle.http.specs.declared.request.Request.{Request};
 ghost use Rattle.http_server.specs.declared.response.Response.{Response};
 ghost use Rattle.http.specs.Request.{body_of};
 ghost use Rattle.dav_xml_core.specs.Reading.{document_of};
 ghost use Rattle.dav_handler_core.specs.Answers.{Answers, IsPropPatched, Server};
-ghost use Rattle.dav_handler_core.specs.Callers.{SameLive};
+ghost use Rattle.dav_session_core.specs.Callers.{SameLive};
 ghost use Rattle.dav_handler_core.specs.Deciding.{HeldOff, SendsPart, SendsTag, WentOn, looks};
-ghost use Rattle.dav_handler_core.specs.Fields.{Sent, sent_of};
-ghost use Rattle.dav_handler_core.specs.declared.faults.Fault.{Fault};
+ghost use Rattle.dav_fields_core.specs.Fields.{Sent, sent_of};
 ghost use Rattle.dav_handler_core.specs.Holding.{IsKeptUnlessHeld, StandsUnlessEnded};
 ghost use Rattle.dav_handler_core.specs.KeptDocuments.{IsNew, KeepsElements, TellsXml, is_told_in_xml};
-ghost use Rattle.dav_handler_core.specs.KeptReading.{IsReadAsSent};
-ghost use Rattle.dav_handler_core.specs.PatchBodies.{patch_nodes};
-ghost use Rattle.dav_handler_core.specs.PropertyUpdates.{Update, updates_in};
-ghost use Rattle.dav_handler_core.specs.RefusalReading.{HasPath, IsReadAsTold};
+ghost use Rattle.dav_documents_core.specs.PatchBodies.{patch_nodes};
 ghost use Rattle.dav_handler_core.specs.TagHistories.{Becomes};
 ghost use Rattle.dav_locks_core.specs.Exclusive.{Exclusive};
 
@@ -45,18 +40,6 @@ pub fn locks_are_their_holders()
         → Exclusive before.state.locks → StandsUnlessEnded before request after }
     ensures changed { (before after : Server) (request : Request (List ℕ)) (response : Response) → Answers before request response after
         → Exclusive before.state.locks → IsKeptUnlessHeld before request after }
-{}
-
-/// The law of what a refusal tells (RFC 4918 section 16): its document, where it has one, is read from the bytes that are told of it, if the path that it
-/// tells begins with a slash, as each path that is read does. It does nothing.
-pub fn refusals_are_read()
-    ensures { (prefix : List ℕ) (e : Fault) → HasPath e → IsReadAsTold prefix e }
-{}
-
-/// The law of what is kept of properties (RFC 4918 section 4.4): what a body sets is kept as bytes that are read as the element that was sent, with the language
-/// that holds around it. It does nothing.
-pub fn kept_properties_are_read()
-    ensures { (body : List ℕ) (updates : List Update) → length body < 2 ^ 64 → updates_in body ≡ Some updates → AllByRecursion IsReadAsSent updates }
 {}
 
 /// The law of documents (XML 1.0 section 2.1, RFC 4918 section 8.2) over a run from new stores. It does nothing.

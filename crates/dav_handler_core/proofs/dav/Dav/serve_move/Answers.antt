@@ -5,10 +5,10 @@ use Rattle.http_header.specs.FieldValue.{FieldValue}
 use Rattle.http_header.specs.HeaderMap.{Entries}
 use Rattle.dav_path_core.specs.Segments.{segments}
 use Rattle.dav_handler_core.specs.Answers.{Options}
-use Rattle.dav_handler_core.specs.Callers.{Caller, live}
-use Rattle.dav_handler_core.specs.Moving.{Moves, MoveLeaves, FailsToMove}
+use Rattle.dav_session_core.specs.Callers.{Caller, live}
+use Rattle.dav_session_core.specs.Moving.{Moves, MoveLeaves, FailsToMove}
 use Rattle.dav_handler_core.specs.Servers.{server}
-use Rattle.dav_handler_core.specs.Sessions.{caller, state}
+use Rattle.dav_session_core.specs.Sessions.{caller, state}
 use Rattle.dav_handler_core.proofs.AnswerLemmas.{change_answered, moves_on}
 use Rattle.dav_handler_core.proofs.TransferAnswerLemmas.{move_leaves}
 use Rattle.dav_handler_core.proofs.dav.Dav.serve_move.Goals as goal

@@ -4,11 +4,11 @@ use Rattle.std.proofs.lemmas.Result.{err_from_is_err_and}
 use Rattle.http.specs.Request.{body_of}
 use Rattle.dav_path_core.specs.Segments.{segments}
 use Rattle.dav_handler_core.specs.Answers.{Options}
-use Rattle.dav_handler_core.specs.Callers.{Caller, live}
-use Rattle.dav_handler_core.specs.Fields.{sent_of}
-use Rattle.dav_handler_core.specs.Patching.{FailsToPatch, Patches}
+use Rattle.dav_session_core.specs.Callers.{Caller, live}
+use Rattle.dav_fields_core.specs.Fields.{sent_of}
+use Rattle.dav_session_core.specs.Patching.{FailsToPatch, Patches}
 use Rattle.dav_handler_core.specs.Servers.{server}
-use Rattle.dav_handler_core.specs.Sessions.{caller, state}
+use Rattle.dav_session_core.specs.Sessions.{caller, state}
 use Rattle.dav_handler_core.proofs.AnswerLemmas.{moves_on}
 use Rattle.dav_handler_core.proofs.PatchAnswerLemmas.{patch_answered, patch_unread}
 use Rattle.dav_handler_core.proofs.dav.Dav.serve_proppatch.Goals as goal

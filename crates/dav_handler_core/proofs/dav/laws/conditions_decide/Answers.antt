@@ -1,5 +1,5 @@
 use Rattle.std.proofs.Common.{◌≡◌, ◌<◌, ◌⊎◌, ◌∙◌, sym, subst}
-use Rattle.dav_handler_core.specs.Fields.{sent_of}
+use Rattle.dav_fields_core.specs.Fields.{sent_of}
 use Rattle.dav_handler_core.proofs.DecidingLaws.{held_off, sends_part, sends_tag, stays, went_on}
 use Rattle.dav_handler_core.proofs.dav.laws.conditions_decide.Goals as goal
 

@@ -1,0 +1,21 @@
+pub mod AskedNameLemmas
+pub mod ChildLemmas
+mod ElementRows
+pub mod FragmentLemmas
+pub mod KeptReadingLaws
+mod LockInfoRows
+pub mod MapValueLemmas
+pub mod NamedLemmas
+pub mod NamingLemmas
+pub mod PatchDocumentLemmas
+mod PatchRows
+pub mod PieceLemmas
+pub mod PropertyLemmas
+pub mod QuestionLemmas
+pub mod ReadChildLemmas
+pub mod RefusalReadingLaws
+pub mod ToldDocumentLemmas
+pub mod VisibleTextLemmas
+pub mod WordLemmas
+pub mod WritingLemmas
+pub mod WrittenTextLemmas

@@ -1,0 +1,17 @@
+use Rattle.std.proofs.Common.{[], ◌∷◌, codes, ap, ◌∙◌}
+use Rattle.dav_xml_core.specs.Documents.{Text}
+use Rattle.dav_xml_core.specs.Writing.{Writing, with_end, with_nodes, with_start, written}
+use Rattle.dav_documents_core.specs.RefusalBodies.{dav_name, element, href}
+use Rattle.dav_documents_core.proofs.refusal_documents.member_locked.Goals as goal
+
+pub returns : goal.returns
+unfolding written
+returns c =
+    let outer = c.in_ok-begin.ensures ∙ ap (λ (w : Writing). with_start w (dav_name (codes "multistatus")) []) c.new-writer.ensures in
+    let inner = c.in_ok-begin-2.ensures ∙ ap (λ (w : Writing). with_start w (dav_name (codes "response")) []) outer in
+    let told = c.in_ok-write_href.ensures ∙ ap (λ (w : Writing). with_nodes w (href c.args.prefix.now c.args.path.now)) inner in
+    let status = c.in_ok-write_text.ensures ∙ ap (λ (w : Writing). with_nodes w (element (codes "status") (Text (codes "HTTP/1.1 423 Locked") ∷ []))) told in
+    let error = c.in_ok-begin-3.ensures ∙ ap (λ (w : Writing). with_start w (dav_name (codes "error")) []) status in
+    let why = c.in_ok-write_empty.ensures ∙ ap (λ (w : Writing). with_nodes w (element (codes "lock-token-submitted") [])) error in
+    c.into_bytes.ensures ∙ ap (λ (w : Writing). w.bytes)
+    (c.in_ok-end-3.ensures ∙ ap with_end (c.in_ok-end-2.ensures ∙ ap with_end (c.in_ok-end.ensures ∙ ap with_end why)))

@@ -1,0 +1,16 @@
+pub mod Bodies
+pub mod Elements
+pub mod KeptElements
+pub mod KeptReading
+pub mod LiveProperties
+pub mod LockDocuments
+pub mod LockInfoViews
+pub mod LockInfos
+pub mod PatchBodies
+pub mod Pieces
+pub mod Private
+pub mod PropertyDocuments
+pub mod PropertyQuestions
+pub mod PropertyUpdates
+pub mod RefusalBodies
+pub mod RefusalReading

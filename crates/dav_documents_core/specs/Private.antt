@@ -1,0 +1,4 @@
+pub mod Asking
+pub mod Describing
+pub mod Naming
+pub mod Nesting

@@ -1,0 +1,19 @@
+//! The laws of what is told of refusals, and of what is kept of properties. They do nothing.
+ghost use Rattle.std.specs.Prelude.{◌≡◌, ◌<◌, ◌^◌, ℕ, length, List, Some};
+ghost use Rattle.std.specs.List.{AllByRecursion};
+ghost use Rattle.dav_faults_core.specs.declared.faults.Fault.{Fault};
+ghost use Rattle.dav_documents_core.specs.KeptReading.{IsReadAsSent};
+ghost use Rattle.dav_documents_core.specs.PropertyUpdates.{Update, updates_in};
+ghost use Rattle.dav_documents_core.specs.RefusalReading.{HasPath, IsReadAsTold};
+
+/// The law of what a refusal tells (RFC 4918 section 16): its document, where it has one, is read from the bytes that are told of it, if the path that it
+/// tells begins with a slash, as each path that is read does. It does nothing.
+pub fn refusals_are_read()
+    ensures { (prefix : List ℕ) (e : Fault) → HasPath e → IsReadAsTold prefix e }
+{}
+
+/// The law of what is kept of properties (RFC 4918 section 4.4): what a body sets is kept as bytes that are read as the element that was sent, with the language
+/// that holds around it. It does nothing.
+pub fn kept_properties_are_read()
+    ensures { (body : List ℕ) (updates : List Update) → length body < 2 ^ 64 → updates_in body ≡ Some updates → AllByRecursion IsReadAsSent updates }
+{}

@@ -1,0 +1,199 @@
+//! What is told of a PROPPATCH that is served.
+ghost use Rattle.std.specs.Prelude.{◌≡◌, codes, map, unwrap_or, bytes_eq, IfOk, OnOk};
+ghost use Rattle.std.specs.List.{list_any};
+ghost use Rattle.dav_files_core.specs.Properties.{entry_of, property_of};
+ghost use Rattle.dav_xml_core.specs.Views.{writing_of};
+ghost use Rattle.dav_xml_core.specs.Writing.{with_nodes, written};
+ghost use Rattle.dav_documents_core.specs.PatchBodies as spec;
+
+use crate::documents::{begin, write_empty, write_href, write_text};
+use dav_files_core::fs::DavProp;
+use dav_path_core::davpath::DavPath;
+use dav_xml_core::davxml::{Name, Writer};
+use std::alloc::{AllocError, Global};
+use std::rc::RcStr;
+
+// The properties of `DAV:` that the server keeps itself (RFC 4918 section 15).
+const LIVE: [&str; 8] = [
+    "creationdate",
+    "getcontentlength",
+    "getcontenttype",
+    "getetag",
+    "getlastmodified",
+    "lockdiscovery",
+    "resourcetype",
+    "supportedlock",
+];
+
+/// The document that tells of a PROPPATCH at a path (RFC 4918 section 9.2.1): that all is changed; or that some properties are protected, and so nothing is.
+#[tactic(auto, unfolding(dav_xml_core::specs::Writing::written))]
+pub fn patch_document(
+    alloc: Global,
+    prefix: &str,
+    path: &DavPath,
+    updates: &[(bool, DavProp)],
+) -> Result<Vec<u8>, AllocError>
+    ensures { IfOk result (λ document. document.items ≡ written (spec.patch_nodes prefix.now path.now (map entry_of updates.now))) }
+{
+    let mut writer = Writer::new(alloc);
+    begin(&mut writer, "multistatus")?;
+    begin(&mut writer, "response")?;
+    write_href(alloc, &mut writer, prefix, path)?;
+    write_propstats(alloc, &mut writer, updates)?;
+    writer.end()?;
+    writer.end()?;
+    Ok(writer.into_bytes())
+}
+
+fn write_propstats(
+    alloc: Global,
+    writer: &mut Writer,
+    updates: &[(bool, DavProp)],
+) -> Result<(), AllocError>
+    ensures { OnOk result (writing_of writer.new ≡ with_nodes (writing_of writer.old) (spec.propstats (map entry_of updates.now))) }
+{
+    if !any_protected(updates) {
+        return write_others(alloc, writer, "HTTP/1.1 200 OK", updates);
+    }
+    write_protected(alloc, writer, updates)?;
+    if all_protected(updates) {
+        return Ok(());
+    }
+    write_others(alloc, writer, "HTTP/1.1 424 Failed Dependency", updates)
+}
+
+// The properties that aren't protected, with a status.
+fn write_others(
+    alloc: Global,
+    writer: &mut Writer,
+    status: &str,
+    updates: &[(bool, DavProp)],
+) -> Result<(), AllocError>
+    ensures { OnOk result (writing_of writer.new ≡ with_nodes (writing_of writer.old) (spec.others_nodes status.now (map entry_of updates.now))) }
+{
+    begin(writer, "propstat")?;
+    write_prop(alloc, writer, false, updates)?;
+    write_text(writer, "status", status)?;
+    writer.end()
+}
+
+// The protected properties, and why they don't change.
+fn write_protected(
+    alloc: Global,
+    writer: &mut Writer,
+    updates: &[(bool, DavProp)],
+) -> Result<(), AllocError>
+    ensures { OnOk result (writing_of writer.new ≡ with_nodes (writing_of writer.old) (spec.protected_nodes (map entry_of updates.now))) }
+{
+    begin(writer, "propstat")?;
+    write_prop(alloc, writer, true, updates)?;
+    write_text(writer, "status", "HTTP/1.1 403 Forbidden")?;
+    begin(writer, "error")?;
+    write_empty(writer, "cannot-modify-protected-property")?;
+    writer.end()?;
+    writer.end()
+}
+
+// The names of the properties that are protected, or of those that aren't.
+fn write_prop(
+    alloc: Global,
+    writer: &mut Writer,
+    protected: bool,
+    updates: &[(bool, DavProp)],
+) -> Result<(), AllocError>
+    ensures { OnOk result (writing_of writer.new ≡ with_nodes (writing_of writer.old) (spec.prop_nodes protected (map entry_of updates.now))) }
+{
+    begin(writer, "prop")?;
+    write_names(alloc, writer, protected, updates)?;
+    writer.end()
+}
+
+fn write_names(
+    alloc: Global,
+    writer: &mut Writer,
+    protected: bool,
+    updates: &[(bool, DavProp)],
+) -> Result<(), AllocError>
+    ensures { OnOk result (writing_of writer.new ≡ with_nodes (writing_of writer.old) (spec.names_nodes protected (map entry_of updates.now))) }
+{
+    for update in updates {
+        if is_chosen(protected, update) {
+            write_name(alloc, writer, &update.1)?;
+        }
+    }
+    Ok(())
+}
+
+// An empty element with the name of a property.
+fn write_name(alloc: Global, writer: &mut Writer, prop: &DavProp) -> Result<(), AllocError>
+    ensures { OnOk result (writing_of writer.new ≡ with_nodes (writing_of writer.old) (spec.name_nodes (property_of prop.now))) }
+{
+    let name = Name {
+        namespace: RcStr::from_str(alloc, namespace_of(prop))?,
+        local: prop.name.clone()?,
+    };
+    writer.start(&name, &[])?;
+    writer.end()
+}
+
+// ---- which properties no request changes
+
+/// Whether one of the properties is protected (RFC 4918 section 15).
+pub fn any_protected(updates: &[(bool, DavProp)]) -> bool
+    ensures { result ≡ spec.any_protected (map entry_of updates.now) }
+{
+    for update in updates {
+        if is_protected(update) {
+            return true;
+        }
+    }
+    false
+}
+
+fn all_protected(updates: &[(bool, DavProp)]) -> bool
+    ensures { result ≡ spec.all_protected (map entry_of updates.now) }
+{
+    for update in updates {
+        if !is_protected(update) {
+            return false;
+        }
+    }
+    true
+}
+
+fn is_chosen(protected: bool, update: &(bool, DavProp)) -> bool
+    ensures { result ≡ spec.is_chosen protected (entry_of update.now) }
+{
+    if protected {
+        is_protected(update)
+    } else {
+        !is_protected(update)
+    }
+}
+
+fn is_protected(update: &(bool, DavProp)) -> bool
+    ensures { result ≡ spec.is_protected (entry_of update.now) }
+{
+    is_live(&update.1)
+}
+
+fn is_live(prop: &DavProp) -> bool
+    ensures { result ≡ spec.is_live (property_of prop.now) }
+{
+    namespace_of(prop) == "DAV:" && is_among(&LIVE, prop.name.as_str())
+}
+
+fn is_among(names: &[&str], name: &str) -> bool
+    ensures { result ≡ list_any (λ known. bytes_eq known.now name.now) names.now }
+{
+    names.iter().any(|known| *known == name)
+}
+
+fn namespace_of(prop: &DavProp) -> &str
+    ensures { result.now ≡ spec.namespace_of (property_of prop.now) }
+{
+    match &prop.namespace {
+        Some(namespace) => namespace.as_str(),
+        None => "",
+    }
+}

@@ -1,0 +1,169 @@
+//! What the answer to a PROPFIND tells of resources, one after another.
+ghost use Rattle.std.specs.Prelude.{◌≡◌, ◌∷◌, [], codes, map, option_map, string_bytes, OnOk};
+ghost use Rattle.std.specs.List.{flat_map};
+ghost use Rattle.dav_xml_core.specs.Views.{name_of, writing_of};
+ghost use Rattle.dav_xml_core.specs.Writing.{with_end, with_nodes, with_start};
+ghost use Rattle.dav_files_core.specs.Properties.{property_of};
+ghost use Rattle.dav_documents_core.specs.Pieces.{made, with_pieces};
+ghost use Rattle.dav_documents_core.specs.Private.Asking.{question_of};
+ghost use Rattle.dav_documents_core.specs.Private.Describing.{description_of};
+ghost use Rattle.dav_documents_core.specs.PropertyDocuments as spec;
+ghost use Rattle.dav_documents_core.specs.PropertyQuestions.{asked_names};
+ghost use Rattle.dav_documents_core.specs.RefusalBodies.{dav_name};
+
+mod found;
+mod names;
+mod values;
+
+use crate::documents::{begin, write_text};
+use crate::property_questions::Question;
+use dav_files_core::fs::DavProp;
+use dav_locks_core::ls::DavLock;
+use dav_xml_core::davxml::{Name, Writer};
+use found::{finds, write_found};
+use names::{has_value, write_missing};
+use std::alloc::{AllocError, Global};
+
+/// What may be told of a resource (own).
+#[derive(Debug, Drop)]
+pub struct Description {
+    /// Its URL. That of a folder ends in a slash.
+    pub url: String,
+    /// Whether it is a folder.
+    pub folder: bool,
+    /// How many bytes a file has.
+    pub size: u64,
+    /// The type of a file.
+    pub content_type: &'static str,
+    /// The tag of a file.
+    pub tag: String,
+    /// When it was made.
+    pub created: String,
+    /// When it was changed last.
+    pub modified: String,
+    /// What clients set.
+    pub props: Vec<DavProp>,
+    /// The locks that cover it.
+    pub locks: Vec<DavLock>,
+}
+
+/// The answer to a question about a resource, as a principal sees it (RFC 4918 section 14.24).
+pub fn write_response(
+    alloc: Global,
+    writer: &mut Writer,
+    prefix: &str,
+    principal: &Option<String>,
+    question: &Question,
+    description: &Description,
+) -> Result<(), AllocError>
+    ensures { OnOk result (writing_of writer.new ≡ with_pieces (writing_of writer.old)
+        (spec.response_pieces prefix.now (option_map string_bytes principal.now) (question_of question.now) (description_of description.now))) }
+{
+    begin(writer, "response")?;
+    write_text(writer, "href", &description.url)?;
+    write_found_stat(alloc, writer, prefix, principal, question, description)?;
+    write_missing_stat(writer, names_asked(question), description)?;
+    writer.end()
+}
+
+// What there is of what is asked for.
+fn write_found_stat(
+    alloc: Global,
+    writer: &mut Writer,
+    prefix: &str,
+    principal: &Option<String>,
+    question: &Question,
+    description: &Description,
+) -> Result<(), AllocError>
+    ensures { OnOk result (writing_of writer.new ≡ with_pieces (writing_of writer.old)
+        (spec.found_stat prefix.now (option_map string_bytes principal.now) (question_of question.now) (description_of description.now))) }
+{
+    if finds(description, question) {
+        return write_found_props(alloc, writer, prefix, principal, question, description);
+    }
+    Ok(())
+}
+
+fn write_found_props(
+    alloc: Global,
+    writer: &mut Writer,
+    prefix: &str,
+    principal: &Option<String>,
+    question: &Question,
+    description: &Description,
+) -> Result<(), AllocError>
+    ensures { OnOk result (writing_of writer.new ≡ with_pieces (writing_of writer.old) (spec.propstat (codes "HTTP/1.1 200 OK")
+        (spec.found_pieces prefix.now (option_map string_bytes principal.now) (description_of description.now) (question_of question.now)))) }
+{
+    begin_stat(writer)?;
+    write_found(alloc, writer, prefix, principal, question, description)?;
+    end_stat(writer, "HTTP/1.1 200 OK")
+}
+
+// Which of these names the resource lacks.
+fn write_missing_stat(
+    writer: &mut Writer,
+    names: &[Name],
+    description: &Description,
+) -> Result<(), AllocError>
+    ensures { OnOk result (writing_of writer.new ≡ with_pieces (writing_of writer.old)
+        (spec.missing_of (map name_of names.now) (description_of description.now))) }
+{
+    if lacks(description, names) {
+        return write_missing_props(writer, names, description);
+    }
+    Ok(())
+}
+
+fn write_missing_props(
+    writer: &mut Writer,
+    names: &[Name],
+    description: &Description,
+) -> Result<(), AllocError>
+    ensures { OnOk result (writing_of writer.new ≡ with_pieces (writing_of writer.old) (spec.propstat (codes "HTTP/1.1 404 Not Found")
+        (made (flat_map (spec.missing_nodes (description_of description.now)) (map name_of names.now))))) }
+{
+    begin_stat(writer)?;
+    write_missing(writer, names, description)?;
+    end_stat(writer, "HTTP/1.1 404 Not Found")
+}
+
+// The names that a question gives.
+fn names_asked(question: &Question) -> &[Name]
+    ensures { map name_of result.now ≡ asked_names (question_of question.now) }
+{
+    match question {
+        Question::All(included) => included.as_slice(),
+        Question::Names => &[],
+        Question::Listed(names) => names.as_slice(),
+    }
+}
+
+// Whether the resource lacks one of these.
+fn lacks(description: &Description, names: &[Name]) -> bool
+    ensures { result ≡ spec.lacks (description_of description.now) (map name_of names.now) }
+{
+    for name in names {
+        if !has_value(description, name) {
+            return true;
+        }
+    }
+    false
+}
+
+// Properties with one status begin (RFC 4918 section 14.22).
+fn begin_stat(writer: &mut Writer) -> Result<(), AllocError>
+    ensures { OnOk result (writing_of writer.new ≡ with_start (with_start (writing_of writer.old) (dav_name (codes "propstat")) []) (dav_name (codes "prop")) []) }
+{
+    begin(writer, "propstat")?;
+    begin(writer, "prop")
+}
+
+// They end, with their status.
+fn end_stat(writer: &mut Writer, status: &str) -> Result<(), AllocError>
+    ensures { OnOk result (writing_of writer.new ≡ with_end (with_nodes (with_end (writing_of writer.old)) (spec.text_nodes (codes "status") status.now))) }
+{
+    writer.end()?;
+    write_text(writer, "status", status)?;
+    writer.end()
+}

@@ -1,0 +1,98 @@
+//! What there is of what is asked for.
+ghost use Rattle.std.specs.Prelude.{◌≡◌, ◌++◌, map, option_map, string_bytes, OnOk};
+ghost use Rattle.std.specs.List.{flat_map, list_any};
+ghost use Rattle.dav_xml_core.specs.Views.{name_of, writing_of};
+ghost use Rattle.dav_xml_core.specs.Writing.{with_nodes};
+ghost use Rattle.dav_documents_core.specs.Pieces.{with_pieces};
+ghost use Rattle.dav_documents_core.specs.Private.Asking.{question_of};
+ghost use Rattle.dav_documents_core.specs.Private.Describing.{description_of};
+ghost use Rattle.dav_documents_core.specs.PropertyDocuments as spec;
+
+use super::Description;
+use super::names::{has_value, write_dead_names, write_live_names};
+use super::values::{write_all_dead, write_all_own, write_listed};
+use crate::live_properties::LIVE;
+use crate::property_questions::Question;
+use dav_xml_core::davxml::{Name, Writer};
+use std::alloc::{AllocError, Global};
+
+/// Whether a question finds something, or asks for nothing.
+pub(super) fn finds(description: &Description, question: &Question) -> bool
+    ensures { result ≡ spec.finds (description_of description.now) (question_of question.now) }
+{
+    match question {
+        Question::All(_) => true,
+        Question::Names => true,
+        Question::Listed(names) => names.is_empty() || has_one(description, names),
+    }
+}
+
+// Whether the resource has one of these.
+fn has_one(description: &Description, names: &[Name]) -> bool
+    ensures { result ≡ list_any (spec.has_value (description_of description.now)) (map name_of names.now) }
+{
+    for name in names {
+        if has_value(description, name) {
+            return true;
+        }
+    }
+    false
+}
+
+/// What a question finds of a resource, as a principal sees it.
+pub(super) fn write_found(
+    alloc: Global,
+    writer: &mut Writer,
+    prefix: &str,
+    principal: &Option<String>,
+    question: &Question,
+    description: &Description,
+) -> Result<(), AllocError>
+    ensures { OnOk result (writing_of writer.new ≡ with_pieces (writing_of writer.old)
+        (spec.found_pieces prefix.now (option_map string_bytes principal.now) (description_of description.now) (question_of question.now))) }
+{
+    match question {
+        Question::All(_) => return write_all(alloc, writer, prefix, principal, description),
+        Question::Names => return write_names(alloc, writer, description),
+        Question::Listed(names) => return write_listed(
+            alloc,
+            writer,
+            prefix,
+            principal,
+            description,
+            names,
+        ),
+    }
+}
+
+// All that stands there.
+#[tactic(auto, using(crate::proofs::PieceLemmas::in_turn))]
+fn write_all(
+    alloc: Global,
+    writer: &mut Writer,
+    prefix: &str,
+    principal: &Option<String>,
+    description: &Description,
+) -> Result<(), AllocError>
+    ensures { OnOk result (writing_of writer.new ≡ with_pieces (writing_of writer.old)
+        (flat_map (spec.own_pieces prefix.now (option_map string_bytes principal.now) (description_of description.now)) LIVE
+        ++ flat_map spec.dead_pieces (description_of description.now).props)) }
+{
+    write_all_own(alloc, writer, prefix, principal, description)?;
+    write_all_dead(alloc, writer, &description.props)
+}
+
+// The names of what stands there.
+#[tactic(auto, using(crate::proofs::PieceLemmas::nodes_in_turn))]
+fn write_names(
+    alloc: Global,
+    writer: &mut Writer,
+    description: &Description,
+) -> Result<(), AllocError>
+    ensures { OnOk result (writing_of writer.new ≡ with_nodes (writing_of writer.old)
+        (flat_map (spec.own_name_nodes (description_of description.now)) LIVE
+        ++ flat_map spec.dead_name_nodes (description_of description.now).props)) }
+{
+    write_live_names(writer, description)?;
+    write_dead_names(alloc, writer, &description.props)
+}

@@ -1,0 +1,12 @@
+pub mod BaseLemmas
+pub mod Collecting
+pub mod DestinationLemmas
+pub mod FieldLemmas
+pub mod FileTagLemmas
+pub mod ListedTagLemmas
+pub mod PreconditionLaws
+mod PreconditionRows
+pub mod RefusalLemmas
+pub mod TagGrammarLaws
+pub mod TaggedLemmas
+pub mod TypeLemmas

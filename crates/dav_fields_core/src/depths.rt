@@ -1,0 +1,45 @@
+//! How far down a request reaches.
+ghost use Rattle.std.specs.Prelude.{◌≡◌, None, Some, IfErr, IfOk, OnOk};
+ghost use Rattle.dav_fields_core.specs.Depths.{ReachesAll, copy_depth, depth_in};
+ghost use Rattle.dav_faults_core.specs.declared.faults.Fault.TheVariants as fault;
+
+use crate::senders::value_of;
+use dav_faults_core::faults::Fault;
+use dav_headers_core::davheaders::Depth;
+use http_header::{HeaderMap, HeaderName, HeaderValue};
+use std::slice;
+
+/// The depth of a request: all the way down where it has no `Depth` (RFC 4918 section 10.2). `BadRequest` where it can't be read, as where it has
+/// several values.
+pub fn depth_in(headers: &HeaderMap<HeaderValue>) -> Result<Depth, Fault>
+    ensures ok { IfOk result (λ depth. depth_in headers.now ≡ Some depth) }
+    ensures err { IfErr result (λ e. (e ≡ fault.BadRequest) × (depth_in headers.now ≡ None)) }
+{
+    let Some(value) = value_of(headers, &HeaderName::from_static("depth"))? else {
+        return Ok(Depth::Infinity);
+    };
+    Ok(Depth::decode(slice::from_ref(value))?)
+}
+
+/// Whether a request reaches all the way down. `BadRequest` where it doesn't, or where its depth can't be read.
+pub fn check_whole(headers: &HeaderMap<HeaderValue>) -> Result<(), Fault>
+    ensures ok { OnOk result (ReachesAll headers.now) }
+    ensures err { IfErr result (λ e. (e ≡ fault.BadRequest) × ¬ ReachesAll headers.now) }
+{
+    match depth_in(headers)? {
+        Depth::Infinity => Ok(()),
+        Depth::Default | Depth::Zero | Depth::One => Err(Fault::BadRequest),
+    }
+}
+
+/// Whether a COPY reaches all the way down, or to the one resource alone (RFC 4918 section 9.8.3). `BadRequest` for another depth, or where it can't be read.
+pub fn copy_depth(headers: &HeaderMap<HeaderValue>) -> Result<bool, Fault>
+    ensures ok { IfOk result (λ deep. copy_depth headers.now ≡ Some deep) }
+    ensures err { IfErr result (λ e. (e ≡ fault.BadRequest) × (copy_depth headers.now ≡ None)) }
+{
+    match depth_in(headers)? {
+        Depth::Infinity => Ok(true),
+        Depth::Zero => Ok(false),
+        Depth::Default | Depth::One => Err(Fault::BadRequest),
+    }
+}

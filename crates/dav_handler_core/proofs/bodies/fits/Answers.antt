@@ -1,5 +1,0 @@
-use Rattle.std.proofs.Common.{arith}
-use Rattle.dav_handler_core.proofs.bodies.fits.Goals as goal
-
-pub returns : goal.returns
-returns c = omega arith

@@ -1,5 +1,0 @@
-use Rattle.dav_handler_core.proofs.IfTokenLaws.{once}
-use Rattle.dav_handler_core.proofs.conditions.laws.tokens_stand_once.Goals as goal
-
-pub returns : goal.returns
-returns c = once

@@ -1,5 +1,0 @@
-use Rattle.dav_handler_core.proofs.FileTagLemmas.{tells}
-use Rattle.dav_handler_core.proofs.etags.file_tags_tell.Goals as goal
-
-pub returns : goal.returns
-returns c = tells

@@ -1,5 +1,0 @@
-use Rattle.dav_handler_core.proofs.PreconditionLaws.{parts_alone}
-use Rattle.dav_handler_core.proofs.preconditions.laws.parts_alone_become_whole.Goals as goal
-
-pub returns : goal.returns
-returns c = parts_alone

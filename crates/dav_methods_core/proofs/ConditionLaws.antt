@@ -1,0 +1,186 @@
+-- Laws of conditions.
+use Rattle.std.proofs.Common.{◌≡◌, ◌≢◌, inl, inr, ℕ, ◌-◌, Bool, true, false, not, ◌&&◌, ◌||◌, List, [], ◌∷◌, ◌++◌, length, take, drop, get_or, map, Option, Some, None, refl, sym, ap, subst, ◌∙◌, arith, length-append}
+use Rattle.std.specs.Prelude.{Contains, bytes_eq}
+use Rattle.std.specs.List.{AllByRecursion, flat_map, list_any}
+use Rattle.std.specs.Option.{option_or}
+use Rattle.std.proofs.lemmas.Bool.{cases_Bool, and_parts, or_parts, false≢true, false_from_ne_true}
+use Rattle.std.proofs.lemmas.Bool.Decides.{Decides-eqb}
+use Rattle.std.proofs.lemmas.List.{get_or_default}
+use Rattle.std.proofs.lemmas.List.Folds.{Any-from_list_any, list_any_none}
+use Rattle.std.proofs.lemmas.Slice.Eq.{bytes_eq-Decides, ends_is}
+use Rattle.std.proofs.Math.Seq.{take-append_seam, drop-append_seam}
+use Rattle.url.specs.Parts.{Parts}
+use Rattle.dav_path_core.specs.Fronts.{Path}
+use Rattle.dav_path_core.specs.PathText.{PathText, full}
+use Rattle.dav_path_core.specs.Prefix.{SetsPrefix}
+use Rattle.dav_path_core.specs.Prefix.SetsPrefix.{cut, whole, front}
+use Rattle.dav_path_core.specs.Reading.{ends_in_slash}
+use Rattle.dav_path_core.specs.Segments.{segments}
+use Rattle.dav_path_core.proofs.paths.Laws.{one_path}
+use Rattle.dav_headers_core.specs.IfBytes.{Condition, Token}
+use Rattle.dav_headers_core.specs.IfValues.{Located}
+use Rattle.dav_locks_core.specs.Lock.{Lock}
+use Rattle.dav_locks_core.specs.Locks.{covers}
+use Rattle.dav_resource_core.specs.Step.{State}
+use Rattle.dav_session_core.specs.Conditions.{IfIs, ListsAre, OneHolds, NoneHolds, Production, ProductionIs, ProductionsAre, conditions_hold, has_token, lists_of, untagged}
+use Rattle.dav_fields_core.specs.Targets.{IsPathOf}
+use Rattle.dav_fields_core.specs.TaggedLists.{Base, IsNamed, SpeaksOf, spread, spread_from}
+use Rattle.dav_session_core.proofs.ConditionLemmas.{goes_on, holds_here}
+
+-- ---- a token
+
+pub shows_lock : (s : State) (p : Path) (token : List ℕ) → conditions_hold s (Some p) (record { negated = false; item = Token token } ∷ []) ≡ true
+    → (l : Lock) × Contains s.locks l × (l.token ≡ token) × (covers l p ≡ true)
+shows_lock s p token h =
+    let test : Lock → Bool = λ l. bytes_eq l.token token && covers l p in
+    let found = Any-from_list_any test s.locks (and_parts (has_token s p token) true h).0 in
+    let parts = and_parts (bytes_eq found.1.token token) (covers found.1 p) found.4 in
+    (found.1, (found.0, found.2, found.3), (bytes_eq-Decides found.1.token token).0 parts.0, parts.1)
+
+no_lock : (s : State) (p : Path) (token : List ℕ) → ((l : Lock) → Contains s.locks l → l.token ≢ token) → has_token s p token ≡ false
+no_lock s p token none = list_any_none (λ l. bytes_eq l.token token && covers l p) s.locks (λ k d lt.
+    let l = get_or s.locks k d in
+    false_from_ne_true (bytes_eq l.token token && covers l p) (λ passes.
+    none l (k, lt, get_or_default s.locks k l d lt) ((bytes_eq-Decides l.token token).0 (and_parts (bytes_eq l.token token) (covers l p) passes).0)))
+
+pub not_holds : (s : State) (at : Option Path) (token : List ℕ) → ((l : Lock) → Contains s.locks l → l.token ≢ token)
+    → conditions_hold s at (record { negated = true; item = Token token } ∷ []) ≡ true
+not_holds s None token none = refl
+not_holds s (Some p) token none = ap (λ b. not b && true) (no_lock s p token none)
+
+-- ---- lists without tags
+
+module _ (s : State) (base : Base) (here : Path) where
+  abbrev of_request : Located → Bool
+  of_request l = conditions_hold s (Some here) l.conditions
+
+  -- a list without a tag, in front of such lists
+  untagged_on : (l : Located) (lists : List Located) (rest t : Bool) → l.tag ≡ None → ListsAre s base here (spread_from None lists) rest → of_request l ≡ t
+      → ListsAre s base here (spread_from None (l ∷ lists)) (t || rest)
+  untagged_on l lists rest t bare later e = by t e
+    where
+      speaks : SpeaksOf base here (option_or l.tag None) (Some here)
+      speaks = subst (λ t. SpeaksOf base here (option_or t None) (Some here)) (sym bare) refl
+
+      then : ListsAre s base here (spread_from (option_or l.tag None) lists) rest
+      then = subst (λ t. ListsAre s base here (spread_from (option_or t None) lists) rest) (sym bare) later
+
+      by : (t : Bool) → of_request l ≡ t → ListsAre s base here (spread_from None (l ∷ lists)) (t || rest)
+      by true e = holds_here s base here None l lists (Some here) speaks e
+      by false e = goes_on s base here None l lists (Some here) speaks e rest then
+
+  pub untagged_are : (lists : List Located) → AllByRecursion (λ l. l.tag ≡ None) lists
+      → ListsAre s base here (spread_from None lists) (list_any (λ l. conditions_hold s (Some here) l.conditions) lists)
+  untagged_are [] h = tt
+  untagged_are (l ∷ lists) h = untagged_on l lists (list_any of_request lists) (of_request l) h.0 (untagged_are lists h.1) refl
+
+  -- ---- lists behind a tag
+
+  module _ (url : Parts) (at : Option Path) (speaks : SpeaksOf base here (Some url) at) where
+    one_behind : (more : List (List Condition)) (rest : List Located) → list_any (conditions_hold s at) more ≡ true
+        → ListsAre s base here (spread_from (Some url) (map untagged more ++ rest)) true
+    one_behind [] rest h = absurd (false≢true h)
+    one_behind (c ∷ more) rest h = elim (cases_Bool (conditions_hold s at c)) [
+      | inl e ↦ holds_here s base here (Some url) (untagged c) (map untagged more ++ rest) at speaks e
+      | inr e ↦ goes_on s base here (Some url) (untagged c) (map untagged more ++ rest) at speaks e true
+          (one_behind more rest (sym (ap (λ b. b || list_any (conditions_hold s at) more) e) ∙ h))
+    ]
+
+    none_behind : (more : List (List Condition)) (rest : List Located) (holds : Bool) → list_any (conditions_hold s at) more ≡ false
+        → ListsAre s base here (spread_from (Some url) rest) holds → ListsAre s base here (spread_from (Some url) (map untagged more ++ rest)) holds
+    none_behind [] rest holds h later = later
+    none_behind (c ∷ more) rest holds h later =
+        let parts = or_parts (conditions_hold s at c) (list_any (conditions_hold s at) more) h in
+        goes_on s base here (Some url) (untagged c) (map untagged more ++ rest) at speaks parts.0 holds (none_behind more rest holds parts.1 later)
+
+  -- ---- productions
+
+  -- the tag in front does not count
+  any_last : (url : Parts) (productions : List Production) (holds : Bool) → ListsAre s base here (spread_from None (flat_map lists_of productions)) holds
+      → ListsAre s base here (spread_from (Some url) (flat_map lists_of productions)) holds
+  any_last url [] true h = absurd h
+  any_last url [] false h = tt
+  any_last url (p ∷ productions) holds h = h
+
+  one_here : (p : Production) (rest : List Located) → ProductionIs s base here true p → ListsAre s base here (spread_from None (lists_of p ++ rest)) true
+  one_here p rest (at, speaks, h) = elim (cases_Bool (conditions_hold s at p.first)) [
+    | inl e ↦ holds_here s base here None (record { tag = Some p.tag; conditions = p.first }) (map untagged p.more ++ rest) at speaks e
+    | inr e ↦ goes_on s base here None (record { tag = Some p.tag; conditions = p.first }) (map untagged p.more ++ rest) at speaks e true
+        (one_behind p.tag at speaks p.more rest (sym (ap (λ b. b || list_any (conditions_hold s at) p.more) e) ∙ h))
+  ]
+
+  none_here : (p : Production) (rest : List Located) (holds : Bool) → ProductionIs s base here false p → ListsAre s base here (spread_from (Some p.tag) rest) holds
+      → ListsAre s base here (spread_from None (lists_of p ++ rest)) holds
+  none_here p rest holds (at, speaks, h) later =
+      let parts = or_parts (conditions_hold s at p.first) (list_any (conditions_hold s at) p.more) h in
+      goes_on s base here None (record { tag = Some p.tag; conditions = p.first }) (map untagged p.more ++ rest) at speaks parts.0 holds
+      (none_behind p.tag at speaks p.more rest holds parts.1 later)
+
+  -- a later one holds, whatever the first comes to
+  later_holds : (p : Production) (rest : List Located) → OneHolds s base here (spread_from (Some p.tag) rest) → OneHolds s base here (spread_from None (lists_of p ++ rest))
+  later_holds p rest h = inr (behind p.more)
+    where
+      behind : (more : List (List Condition)) → OneHolds s base here (spread_from (Some p.tag) (map untagged more ++ rest))
+      behind [] = h
+      behind (c ∷ more) = inr (behind more)
+
+  pub productions_are : (productions : List Production) (holds : Bool) → ProductionsAre s base here productions holds
+      → ListsAre s base here (spread_from None (flat_map lists_of productions)) holds
+  productions_are [] true h = absurd h
+  productions_are [] false h = tt
+  productions_are (p ∷ productions) true (inl h) = one_here p (flat_map lists_of productions) h
+  productions_are (p ∷ productions) true (inr h) =
+      later_holds p (flat_map lists_of productions) (any_last p.tag productions true (productions_are productions true h))
+  productions_are (p ∷ productions) false h =
+      none_here p (flat_map lists_of productions) false h.0 (any_last p.tag productions false (productions_are productions false h.1))
+
+-- ---- one truth
+
+in_slash : (p : List ℕ) → ends_in_slash (p ++ 47 ∷ []) ≡ true
+in_slash p = (ends_is Decides-eqb (p ++ 47 ∷ []) (47 ∷ []) (ends_in_slash (p ++ 47 ∷ [])) refl).1 p refl
+
+stem : (asked p : List ℕ) → asked ≡ p ++ 47 ∷ [] → p ≡ take (length asked - 1) asked
+stem asked p e =
+    let long : length p ≡ length asked - 1 = omega (arith, ap length e, length-append p (47 ∷ [])) in
+    sym (ap (λ n. take n asked) (sym long) ∙ ap (take (length p)) e ∙ take-append_seam p (47 ∷ []))
+
+-- a prefix is set in one way
+one_set : (f asked after other p q : List ℕ) → SetsPrefix f asked after p → SetsPrefix f asked other q → (after ≡ other) × (p ≡ q)
+one_set f asked after other p q (cut r a b c) (cut t d e g) = (c ∙ sym g, stem asked p b ∙ sym (stem asked q e))
+one_set f asked after other p q (cut r a b c) (whole d e g h) = absurd (false≢true (sym e ∙ ap ends_in_slash b ∙ in_slash p))
+one_set f asked after other p q (cut r a b c) (front t d e g h) = absurd (false≢true (sym e ∙ ap ends_in_slash b ∙ in_slash p))
+one_set f asked after other p q (whole d e g h) (cut r a b c) = absurd (false≢true (sym e ∙ ap ends_in_slash b ∙ in_slash q))
+one_set f asked after other p q (whole d e g h) (whole i j k l) = (h ∙ sym l, g ∙ sym k)
+one_set f asked after other p q (whole d e g h) (front t i j k l) = absurd (omega (arith, ap length d, ap length i, length-append asked (47 ∷ t)))
+one_set f asked after other p q (front t d e g h) (cut r a b c) = absurd (false≢true (sym e ∙ ap ends_in_slash b ∙ in_slash q))
+one_set f asked after other p q (front t d e g h) (whole i j k l) = absurd (omega (arith, ap length d, ap length i, length-append asked (47 ∷ t)))
+one_set f asked after other p q (front t d e g h) (front r i j k l) = (h ∙ sym l, g ∙ sym k)
+
+-- a text is read as one path behind a prefix
+one_path_of : (prefix text : List ℕ) (a b : PathText) → IsPathOf prefix text a → IsPathOf prefix text b → a.bytes ≡ b.bytes
+one_path_of prefix text a b h k =
+    let set = one_set k.whole prefix (full a) (full b) a.prefix b.prefix
+    (subst (λ w. SetsPrefix w prefix (full a) a.prefix) (one_path text h.whole k.whole h.read k.read) h.sets) k.sets in
+    sym (drop-append_seam a.prefix a.bytes) ∙ ap (drop (length a.prefix)) set.0 ∙ ap (λ p. drop (length p) (full b)) set.1 ∙ drop-append_seam b.prefix b.bytes
+
+one_named : (base : Base) (url : Parts) (p q : Path) → IsNamed base url p → IsNamed base url q → p ≡ q
+one_named base url p q h k = h.at ∙ ap segments (one_path_of _ _ h.path k.path h.path_of k.path_of) ∙ sym k.at
+
+one_spoken : (base : Base) (here : Path) (tag : Option Parts) (a b : Option Path) → SpeaksOf base here tag a → SpeaksOf base here tag b → a ≡ b
+one_spoken base here None a b h k = h ∙ sym k
+one_spoken base here (Some url) None None h k = refl
+one_spoken base here (Some url) None (Some q) h k = absurd (h q k)
+one_spoken base here (Some url) (Some p) None h k = absurd (k p h)
+one_spoken base here (Some url) (Some p) (Some q) h k = ap Some (one_named base url p q h k)
+
+not_both : (s : State) (base : Base) (here : Path) (lists : List Located) → OneHolds s base here lists → NoneHolds s base here lists → ⊥
+not_both s base here [] h k = h
+not_both s base here (l ∷ lists) (inl h) k =
+    false≢true (sym k.0.2 ∙ ap (λ at. conditions_hold s at l.conditions) (one_spoken base here l.tag k.0.0 h.0 k.0.1 h.1) ∙ h.2)
+not_both s base here (l ∷ lists) (inr h) k = not_both s base here lists h k.1
+
+pub one_truth : (s : State) (base : Base) (here : Path) (lists : List Located) (holds also : Bool) → IfIs s base here lists holds → IfIs s base here lists also → holds ≡ also
+one_truth s base here lists true true h k = refl
+one_truth s base here lists true false h k = absurd (not_both s base here (spread lists) h k)
+one_truth s base here lists false true h k = absurd (not_both s base here (spread lists) k h)
+one_truth s base here lists false false h k = refl

@@ -1,0 +1,146 @@
+-- What is copied, by the walk of the source.
+use Rattle.std.proofs.Common.{◌≡◌, ◌≢◌, inl, inr, suc, Bool, true, false, cond, not, List, [], ◌∷◌, ◌++◌, append-nil, append_assoc, map, Option, Some, None, refl, sym, ap, ◌∙◌, subst, arith}
+use Rattle.std.specs.Prelude.{IsSome, filter_map, option_map}
+use Rattle.std.specs.List.{AllPairs, cons_option}
+use Rattle.std.proofs.lemmas.Bool.{cases_Bool, false≢true, not-true, true≢false, false_from_ne_true}
+use Rattle.dav_path_core.specs.Fronts.{Path, behind, is_front}
+use Rattle.dav_path_core.proofs.lists.MemberLemmas.{In, In-Contains, Contains-In}
+use Rattle.dav_path_core.proofs.paths.FrontLemmas.{behind_append, behind_is}
+use Rattle.dav_files_core.specs.Resources.{ResourceMap, at_path}
+use Rattle.dav_session_core.specs.Copying.{AreCopied, between, is_copied}
+use Rattle.dav_session_core.specs.Private.Transferring.{ArePlaces, copies_of, copy_target}
+use Rattle.dav_session_core.specs.Subtrees.{IsWalk}
+use Rattle.dav_session_core.proofs.CopyingLemmas.{cross_at}
+use Rattle.dav_session_core.proofs.SubtreeLemmas.{Later, front_of, later_pairs, rest_of}
+
+-- ---- lists of which some elements are taken over
+
+module _ {A B : Type 0} (f : A → Option B) where
+  kept_in : (x : A) (y : B) (xs : List A) → In x xs → f x ≡ Some y → In y (filter_map f xs)
+  kept_in x y [] i is = absurd i
+  kept_in x y (z ∷ xs) (inl e) is = subst (λ o. In y (cons_option o (filter_map f xs))) (sym (ap f e ∙ is)) (inl refl)
+  kept_in x y (z ∷ xs) (inr i) is = by (f z) (kept_in x y xs i is)
+    where
+      by : (o : Option B) → In y (filter_map f xs) → In y (cons_option o (filter_map f xs))
+      by None j = j
+      by (Some b) j = inr j
+
+  came_from : (y : B) (xs : List A) → In y (filter_map f xs) → (x : A) × In x xs × (f x ≡ Some y)
+  came_from y [] i = absurd i
+  came_from y (z ∷ xs) i = by (f z) refl (came_from y xs) i
+    where
+      by : (o : Option B) → f z ≡ o → (In y (filter_map f xs) → (x : A) × In x xs × (f x ≡ Some y)) → In y (cons_option o (filter_map f xs))
+          → (x : A) × In x (z ∷ xs) × (f x ≡ Some y)
+      by None is rest i = let r = rest i in (r.0, inr r.1, r.2)
+      by (Some b) is rest (inl e) = (z, inl refl, is ∙ ap Some e)
+      by (Some b) is rest (inr i) = let r = rest i in (r.0, inr r.1, r.2)
+
+  later_kept : (R : A → A → Type 0) (Q : B → B → Type 0) → ((x z : A) (y b : B) → f x ≡ Some y → f z ≡ Some b → R x z → Q y b) → (xs : List A) → Later R xs → Later Q (filter_map f xs)
+  later_kept R Q step [] h = tt
+  later_kept R Q step (x ∷ xs) h = by (f x) refl (later_kept R Q step xs h.1)
+    where
+      by : (o : Option B) → f x ≡ o → Later Q (filter_map f xs) → Later Q (cons_option o (filter_map f xs))
+      by None is rest = rest
+      by (Some y) is rest = ((λ b i. let r = came_from b xs i in step x r.0 y b is r.2 (h.0 r.0 r.1)), rest)
+
+pairs_later : {A : Type 0} (R : A → A → Type 0) (xs : List A) → AllPairs R xs → Later R xs
+pairs_later R [] all = tt
+pairs_later R (x ∷ xs) all =
+    ((λ y i. cross_at R [] x xs y all i), pairs_later R xs (λ i j d lt inside. all (suc i) (suc j) d (omega (arith, lt)) (omega (arith, inside))))
+
+-- ---- what is copied
+
+module _ (from to : Path) where
+  -- the path below the source, of what isn't at or below the target
+  abbrev pub rest_at : Path → Option Path
+  rest_at q = cond (is_front to q) None (behind from q)
+
+  abbrev pub rests_of : List Path → List Path
+  rests_of places = filter_map rest_at places
+
+  pair_of : (q : Path) → option_map (λ t. (q, t)) (copy_target from to q) ≡ option_map (between from to) (rest_at q)
+  pair_of q = by (is_front to q) (behind from q) refl
+    where
+      by : (b : Bool) (o : Option Path) → behind from q ≡ o
+          → option_map (λ t. (q, t)) (cond b None (option_map (λ rest. to ++ rest) o)) ≡ option_map (between from to) (cond b None o)
+      by true o is = refl
+      by false None is = refl
+      by false (Some rest) is = ap (λ p. Some (p, to ++ rest)) (behind_is from q rest is)
+
+  pub pairs_are : (places : List Path) → copies_of from to places ≡ map (between from to) (rests_of places)
+  pairs_are [] = refl
+  pairs_are (q ∷ places) =
+      ap (λ o. cons_option o (copies_of from to places)) (pair_of q) ∙ ap (cons_option (option_map (between from to) (rest_at q))) (pairs_are places) ∙ by (rest_at q)
+    where
+      by : (o : Option Path) → cons_option (option_map (between from to) o) (map (between from to) (rests_of places)) ≡ map (between from to) (cons_option o (rests_of places))
+      by None = refl
+      by (Some rest) = refl
+
+  -- the path of one that is taken over
+  taken : (q rest : Path) → rest_at q ≡ Some rest → (is_front to q ≡ false) × (q ≡ from ++ rest)
+  taken q rest h = elim (cases_Bool (is_front to q)) [
+    | inl inside ↦ let no_rest : None ≡ Some rest = subst (λ b. cond b None (behind from q) ≡ Some rest) inside h in absurd (cc)
+    | inr out ↦ (out, behind_is from q rest (subst (λ b. cond b None (behind from q) ≡ Some rest) out h))
+  ]
+
+  takes : (rest : Path) → is_front to (from ++ rest) ≡ false → rest_at (from ++ rest) ≡ Some rest
+  takes rest out = ap (λ b. cond b None (behind from (from ++ rest))) out ∙ behind_append from rest
+
+  -- all the way down
+  module _ (m : ResourceMap) (places : List Path) (walk : IsWalk m from places) (apart : is_front to from ≡ false) where
+    copied_so : (rest : Path) → is_front to (from ++ rest) ≡ false → is_copied true from to rest ≡ true
+    copied_so [] out = refl
+    copied_so (x ∷ rest) out = ap not out
+
+    out_so : (rest : Path) → is_copied true from to rest ≡ true → is_front to (from ++ rest) ≡ false
+    out_so [] h = ap (is_front to) (append-nil from) ∙ apart
+    out_so (x ∷ rest) h = not-true _ h
+
+    all_copied : AreCopied true from to m (rests_of places)
+    all_copied = record {
+      members = λ rest. (
+        (λ c.
+            let r = came_from rest_at rest places (In-Contains _ _ c) in
+            let t = taken r.0 rest r.2 in
+            let there = (walk.members r.0).0 (Contains-In _ _ r.1) in
+            (copied_so rest (subst (λ q. is_front to q ≡ false) t.1 t.0), subst (λ q. IsSome (at_path m q)) t.1 there.1)),
+        (λ h.
+            Contains-In _ _ (kept_in rest_at (from ++ rest) rest places (In-Contains _ _ ((walk.members (from ++ rest)).1 (front_of from rest, h.1))) (takes rest (out_so rest h.0)))),
+      );
+      once = later_pairs (λ q r. q ≢ r) (rests_of places) (later_kept rest_at (λ q r. q ≢ r) (λ q r. q ≢ r)
+          (λ q z rest other at also apart same. apart ((taken q rest at).1 ∙ ap (λ r. from ++ r) same ∙ sym (taken z other also).1)) places (pairs_later (λ q r. q ≢ r) places walk.once));
+      order = later_pairs (λ q r. is_front r q ≡ false) (rests_of places) (later_kept rest_at (λ q r. is_front r q ≡ false) (λ q r. is_front r q ≡ false)
+          (λ q z rest other at also apart. false_from_ne_true _ (λ below.
+          let s = rest_of other rest below in
+          let split : q ≡ z ++ s.0 = (taken q rest at).1 ∙ ap (λ r. from ++ r) s.1 ∙ sym (append_assoc from other s.0) ∙ ap (λ p. p ++ s.0) (sym (taken z other also).1) in
+          true≢false (sym (ap (is_front z) split ∙ front_of z s.0) ∙ apart)))
+          places (pairs_later (λ q r. is_front r q ≡ false) places walk.order));
+    }
+
+  -- the source alone
+  module _ (m : ResourceMap) (stands : IsSome (at_path m from)) (apart : is_front to from ≡ false) where
+    one_copied : AreCopied false from to m ([] ∷ [])
+    one_copied = record {
+      members = λ rest. (
+        (λ c. elim (In-Contains ([] ∷ []) rest c) [
+          | inl e ↦ subst (λ r. (is_copied false from to r ≡ true) × IsSome (at_path m (from ++ r))) e (refl, subst (λ q. IsSome (at_path m q)) (sym (append-nil from)) stands)
+          | inr i ↦ absurd i
+        ]),
+        (λ h. Contains-In ([] ∷ []) rest (itself rest h.0)),
+      );
+      once = λ i j d lt inside. absurd (omega (arith, lt, inside));
+      order = λ i j d lt inside. absurd (omega (arith, lt, inside));
+    }
+      where
+        itself : (rest : Path) → is_copied false from to rest ≡ true → In rest ([] ∷ [])
+        itself [] h = inl refl
+        itself (x ∷ rest) h = absurd (false≢true h)
+
+    one_rest : rests_of (from ∷ []) ≡ [] ∷ []
+    one_rest = ap (λ o. cons_option o []) (ap (λ b. cond b None (behind from from)) apart ∙ ap (behind from) (sym (append-nil from)) ∙ behind_append from [])
+
+  pub are_copied : (m : ResourceMap) (deep : Bool) (places : List Path) → ArePlaces m deep from places → IsSome (at_path m from) → is_front to from ≡ false
+      → AreCopied deep from to m (rests_of places)
+  are_copied m true places are stands apart = all_copied m places are apart
+  are_copied m false places are stands apart =
+      subst (AreCopied false from to m) (sym (ap rests_of are ∙ one_rest m stands apart)) (one_copied m stands apart)

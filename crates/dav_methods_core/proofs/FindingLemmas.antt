@@ -1,0 +1,73 @@
+-- What is told of places one after another, and why nothing is told.
+use Rattle.std.proofs.Common.{Bool, true, ◌≡◌, ◌⊎◌, inl, inr, ℕ, ◌+◌, ◌<◌, List, [], ◌∷◌, length, map, drop, get_or, Option, Some, None, refl, sym, ap, ◌∙◌, subst}
+use Rattle.std.specs.Prelude.{flat_map}
+use Rattle.std.proofs.lemmas.List.{drop_more}
+use Rattle.dav_xml_core.specs.Writing.{Writing}
+use Rattle.http_header.specs.FieldValue.{FieldValue}
+use Rattle.http_header.specs.HeaderMap.{Entries}
+use Rattle.dav_path_core.specs.Fronts.{Path}
+use Rattle.dav_headers_core.specs.declared.davheaders.depths.Depth.{Depth}
+use Rattle.dav_headers_core.specs.declared.davheaders.depths.Depth.TheVariants as reach
+use Rattle.dav_files_core.specs.Resources.{ResourceMap}
+use Rattle.dav_resource_core.specs.Step.{State}
+use Rattle.dav_faults_core.specs.declared.faults.Fault.{Fault}
+use Rattle.dav_faults_core.specs.declared.faults.Fault.TheVariants as fault
+use Rattle.dav_fields_core.specs.Depths.{depth_in}
+use Rattle.dav_methods_core.specs.Finding.{FailsToFind}
+use Rattle.dav_documents_core.specs.Pieces.{with_pieces}
+use Rattle.dav_methods_core.specs.Private.Telling.{TellsEach, TellsOne}
+use Rattle.dav_session_core.specs.Private.Placed.{IsNowhere}
+use Rattle.dav_documents_core.specs.PropertyDocuments.{response_pieces}
+use Rattle.dav_documents_core.specs.PropertyQuestions.{Question, question_in}
+use Rattle.dav_documents_core.proofs.PieceLemmas.{in_turn}
+
+-- ---- one place, and those behind it
+
+module _ (prefix : List ℕ) (s : State) (principal : Option (List ℕ)) (question : Question) where
+  pub tells_none : (w : Writing) → TellsEach prefix s principal question [] w w
+  tells_none w = record { resources = []; described = tt; written = refl }
+
+  tells_more : (p : Path) (places : List Path) (was mid now : Writing) → TellsOne prefix s principal question p was mid → TellsEach prefix s principal question places mid now
+      → TellsEach prefix s principal question (p ∷ places) was now
+  tells_more p places was mid now one rest = record {
+    resources = one.resource ∷ rest.resources;
+    described = (one.described, rest.described);
+    written = rest.written ∙ ap (λ (w : Writing). with_pieces w (flat_map (response_pieces prefix principal question) rest.resources)) one.written
+        ∙ sym (in_turn was (response_pieces prefix principal question one.resource) (flat_map (response_pieces prefix principal question) rest.resources));
+  }
+
+  -- in a list that code goes over
+  pub tells_on : {A : Type 0} (view : A → Path) (xs : List A) (i : ℕ) (x : A) (was mid now whole : Writing) → i < length xs → x ≡ get_or xs i x
+      → TellsOne prefix s principal question (view x) was mid
+      → (TellsEach prefix s principal question (map view (drop i xs)) was now → TellsEach prefix s principal question (map view xs) whole now)
+      → TellsEach prefix s principal question (map view (drop (i + 1) xs)) mid now → TellsEach prefix s principal question (map view xs) whole now
+  tells_on view xs i x was mid now whole lt is one all rest =
+      all (subst (λ ys. TellsEach prefix s principal question (map view ys) was now) (sym (drop_more xs i x lt ∙ ap (λ y. y ∷ drop (i + 1) xs) (sym is)))
+      (tells_more (view x) (map view (drop (i + 1) xs)) was mid now one rest))
+
+-- ---- why nothing is told
+
+module _ (finite : Bool) (headers : Entries FieldValue) (body : List ℕ) (m : ResourceMap) (p : Path) where
+  told_as : (e other : Fault) → e ≡ other → FailsToFind finite headers body m p other → FailsToFind finite headers body m p e
+  told_as e other same h = subst (FailsToFind finite headers body m p) (sym same) h
+
+  pub by_memory : (e : Fault) → e ≡ fault.InsufficientStorage → FailsToFind finite headers body m p e
+  by_memory e same = told_as e fault.InsufficientStorage same FailsToFind.memory
+
+  pub by_depth : (e : Fault) → ((e ≡ fault.BadRequest) × (depth_in headers ≡ None)) ⊎ ((e ≡ fault.InfiniteDepth) × (finite ≡ true) × (depth_in headers ≡ Some reach.Infinity))
+      → FailsToFind finite headers body m p e
+  by_depth e (inl bad) = told_as e fault.BadRequest bad.0 (FailsToFind.unread bad.1)
+  by_depth e (inr deep) = told_as e fault.InfiniteDepth deep.0 (FailsToFind.endless deep.1 deep.2)
+
+  pub by_question : (e : Fault) (d : Depth) → depth_in headers ≡ Some d → (e ≡ fault.InsufficientStorage) ⊎ ((e ≡ fault.BadRequest) × (question_in body ≡ None))
+      → FailsToFind finite headers body m p e
+  by_question e d is (inl short) = by_memory e short
+  by_question e d is (inr bad) = told_as e fault.BadRequest bad.0 (FailsToFind.unasked d is bad.1)
+
+  pub by_places : (e : Fault) (d : Depth) (q : Question) → depth_in headers ≡ Some d → question_in body ≡ Some q → IsNowhere d m p e → FailsToFind finite headers body m p e
+  by_places e d q is asks (inl short) = by_memory e short
+  by_places e d q is asks (inr (inl none)) = told_as e fault.NotFound none.0 (FailsToFind.missing d q is asks none.1)
+  by_places e d q is asks (inr (inr bad)) = told_as e fault.BadRequest bad.0 (elim bad.1 [
+    | inl other ↦ FailsToFind.no_depth q (is ∙ ap Some other) asks
+    | inr odd ↦ FailsToFind.odd d q is asks odd
+  ])

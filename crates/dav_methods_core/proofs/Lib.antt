@@ -1,0 +1,16 @@
+pub mod AdmitLemmas
+pub mod ConditionLaws
+pub mod CopyCheckLemmas
+pub mod CopyMethodLemmas
+pub mod CopyPlanLemmas
+pub mod CopyReadyLemmas
+pub mod DescribingLemmas
+pub mod EndsLemmas
+pub mod FindingLemmas
+pub mod IfTokenLaws
+pub mod LockLemmas
+pub mod LockMethodLemmas
+pub mod LockTokenLemmas
+pub mod MoveCheckLemmas
+pub mod TokenTexts
+pub mod UnderLockLemmas

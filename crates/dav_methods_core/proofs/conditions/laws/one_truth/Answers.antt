@@ -1,0 +1,5 @@
+use Rattle.dav_methods_core.proofs.ConditionLaws.{one_truth}
+use Rattle.dav_methods_core.proofs.conditions.laws.one_truth.Goals as goal
+
+pub returns : goal.returns
+returns c = one_truth

@@ -1,0 +1,5 @@
+use Rattle.dav_methods_core.proofs.IfTokenLaws.{once}
+use Rattle.dav_methods_core.proofs.conditions.laws.tokens_stand_once.Goals as goal
+
+pub returns : goal.returns
+returns c = once

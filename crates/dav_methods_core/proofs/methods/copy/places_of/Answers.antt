@@ -1,0 +1,15 @@
+use Rattle.dav_session_core.specs.Sessions as spec
+use Rattle.dav_session_core.proofs.CallerLaws.{by_none}
+use Rattle.dav_methods_core.proofs.methods.copy.places_of.Goals as goal
+
+pub returns-in_err-copy_of-clause-run : goal.returns-in_err-copy_of-clause-run
+returns-in_err-copy_of-clause-run g c = by_none (spec.caller c.args.session.now) (spec.state g.R.Rng.stream c.args.session.now)
+
+pub returns-in_err-copy_of-2-clause-run : goal.returns-in_err-copy_of-2-clause-run
+returns-in_err-copy_of-2-clause-run g c = by_none (spec.caller c.args.session.now) (spec.state g.R.Rng.stream c.args.session.now)
+
+pub returns-in_err-push-clause-run : goal.returns-in_err-push-clause-run
+returns-in_err-push-clause-run g c = by_none (spec.caller c.args.session.now) (spec.state g.R.Rng.stream c.args.session.now)
+
+pub returns-clause-run : goal.returns-clause-run
+returns-clause-run g c = by_none (spec.caller c.args.session.now) (spec.state g.R.Rng.stream c.args.session.now)

@@ -1,0 +1,20 @@
+use Rattle.std.proofs.Common.{◌∙◌, ◌++◌, sym, ap}
+use Rattle.dav_path_core.specs.Segments.{segments}
+use Rattle.dav_files_core.specs.Resources.{at_path}
+use Rattle.dav_session_core.specs.Sessions as spec
+use Rattle.dav_session_core.proofs.CallerLaws.{by_none}
+use Rattle.dav_methods_core.proofs.methods.get.tell_bytes.Goals as goal
+
+pub returns-in_err-copy_of-clause-run : goal.returns-in_err-copy_of-clause-run
+returns-in_err-copy_of-clause-run g c = by_none (spec.caller c.args.session.now) (spec.state g.R.Rng.stream c.args.session.now)
+
+pub returns-clause-bytes : goal.returns-clause-bytes
+returns-clause-bytes g c =
+    let read = c.in_ok-bytes.ensures.ok in
+    let kept = c.add_accept_ranges.ensures.body ∙ c.add_content_type.ensures.body ∙ c.add_last_modified.ensures.body ∙ c.add_tag.ensures.body in
+    let empty = ap (λ b. b.items) kept ∙ c.requires.empty in (
+      read.0,
+      ap (λ p. at_path c.args.session.now.stores.map (segments p.bytes)) (sym c.in_ok-copy_of.ensures) ∙ read.1,
+      read.2,
+      c.in_ok-push.ensures ∙ ap (λ old. old ++ c.in_ok-bytes.bytes) empty ∙ read.3,
+    )

@@ -1,0 +1,10 @@
+use Rattle.std.proofs.Common.{subst}
+use Rattle.dav_path_core.specs.Segments.{segments}
+use Rattle.dav_fields_core.specs.Private.Marking.{IsRead}
+use Rattle.dav_session_core.proofs.GetLemmas.{on_ok}
+use Rattle.dav_methods_core.proofs.methods.get.tell_whole.Goals as goal
+
+pub returns-clause-bytes : goal.returns-clause-bytes
+returns-clause-bytes g c = on_ok c.tell_bytes.result _ _
+    (λ read kind. subst (λ n. IsRead c.args.session.now.stores.map (segments c.args.path.now.bytes) 0 n c.tell_bytes.new.response.body.items) c.len-count.ensures read)
+    c.tell_bytes.ensures.bytes

@@ -1,0 +1,103 @@
+use Rattle.std.proofs.Common.{ℕ, List, [], ◌∷◌, codes, ◌++◌, map, Option, refl, sym, ap, ◌∙◌, subst}
+use Rattle.std.proofs.lemmas.Result.{err_from_is_err_and}
+use Rattle.dav_path_core.specs.PathText.{PathText}
+use Rattle.dav_path_core.specs.Segments.{segments}
+use Rattle.dav_resource_core.specs.Step.{State}
+use Rattle.dav_session_core.specs.Callers.{Caller, live}
+use Rattle.dav_fields_core.specs.Fields.{values_in}
+use Rattle.dav_documents_core.specs.RefusalBodies.{xml_type}
+use Rattle.dav_methods_core.specs.Finding.{DescribesEach}
+use Rattle.dav_documents_core.specs.Pieces.{written_pieces}
+use Rattle.dav_documents_core.specs.Private.Asking.{question_of}
+use Rattle.dav_session_core.specs.Private.Placed.{AllStand}
+use Rattle.dav_documents_core.specs.PropertyDocuments.{multistatus}
+use Rattle.dav_session_core.specs.Sessions as spec
+use Rattle.dav_session_core.proofs.Asking.{join_as}
+use Rattle.dav_session_core.proofs.CallerLaws.{by_none}
+use Rattle.dav_session_core.proofs.ConditionLemmas.{looks_none, looks_on, same_state}
+use Rattle.dav_methods_core.proofs.FindingLemmas.{by_depth, by_memory, by_places, by_question}
+use Rattle.dav_methods_core.proofs.methods.propfind.propfind.Goals as goal
+
+pub returns-clause-done : goal.returns-clause-done
+returns-clause-done g c =
+    let who = spec.caller c.args.session.now in
+    let start = spec.state g.R.Rng.stream c.args.session.now in
+    let asker = spec.caller c.places_within.new.self in
+    let mid = spec.state g.R.Rng.stream c.places_within.new.self in
+    let question = question_of c.in_ok-question.question in
+    let looks = looks_on who start who start asker mid (looks_none who start) c.places_within.ensures.run c.places_within.ensures.live c.places_within.ensures.caller in
+    let told = c.in_ok-document.ensures.ok in
+    let named = ap (λ (principal : Option (List ℕ)). written_pieces (multistatus c.args.prefix.now principal question told.0)) (ap (λ (w : Caller). w.principal) looks.caller) in (
+      refl,
+      record {
+        depth = c.in_ok-depth.depth;
+        depth_is = c.in_ok-depth.ensures.ok;
+        allowed = c.in_ok-depth.ensures.allowed;
+        question = question;
+        question_is = c.in_ok-question.ensures.ok;
+        places = map (λ p. segments p.bytes) c.in_ok-places.places.items;
+        within = c.in_ok-places.ensures.ok;
+        resources = told.0;
+        described = subst (λ (s : State). DescribesEach c.args.prefix.now s (map (λ p. segments p.bytes) c.in_ok-places.places.items) told.0) (same_state who start asker mid looks)
+            (subst (λ (places : List PathText). DescribesEach c.args.prefix.now (live asker.now mid) (map (λ p. segments p.bytes) places) told.0) c.deref.ensures.value told.1);
+        told_is = c.in_ok-say_document.ensures.body ∙ ap (λ (before : List ℕ). before ++ c.in_ok-document.document.items) c.requires.body ∙ told.2 ∙ named;
+      },
+      ap (λ fields. values_in fields (codes "content-type"))
+          (c.in_ok-say_document.ensures.fields ∙ ap (λ front. front ++ (codes "content-type", xml_type) ∷ []) c.requires.headers),
+    )
+
+pub tell-requires : goal.tell-requires
+tell-requires g c =
+    subst (λ (places : List PathText). AllStand (spec.state g.R.Rng.stream c.places_within.new.self).map (map (λ p. segments p.bytes) places)) (sym c.deref.ensures.value)
+    (subst (λ m. AllStand m (map (λ p. segments p.bytes) c.in_ok-places.places.items)) (sym (ap (λ (s : State). s.map) c.places_within.ensures.live)) c.in_ok-places.ensures.stand)
+
+pub returns-clause-run : goal.returns-clause-run
+returns-clause-run g c =
+    join_as (spec.caller c.args.session.now) (spec.caller c.places_within.new.self) (spec.state g.R.Rng.stream c.args.session.now)
+    (spec.state g.R.Rng.stream c.places_within.new.self) (spec.state g.R.Rng.stream c.tell.new.session) c.places_within.ensures.caller
+    c.places_within.ensures.run c.tell.ensures.run
+
+pub returns-in_err-document-clause-run : goal.returns-in_err-document-clause-run
+returns-in_err-document-clause-run g c =
+    join_as (spec.caller c.args.session.now) (spec.caller c.places_within.new.self) (spec.state g.R.Rng.stream c.args.session.now)
+    (spec.state g.R.Rng.stream c.places_within.new.self) (spec.state g.R.Rng.stream c.tell.new.session) c.places_within.ensures.caller
+    c.places_within.ensures.run c.tell.ensures.run
+
+pub returns-in_err-say_document-clause-run : goal.returns-in_err-say_document-clause-run
+returns-in_err-say_document-clause-run g c =
+    join_as (spec.caller c.args.session.now) (spec.caller c.places_within.new.self) (spec.state g.R.Rng.stream c.args.session.now)
+    (spec.state g.R.Rng.stream c.places_within.new.self) (spec.state g.R.Rng.stream c.tell.new.session) c.places_within.ensures.caller
+    c.places_within.ensures.run c.tell.ensures.run
+
+pub returns-in_err-depth-clause-run : goal.returns-in_err-depth-clause-run
+returns-in_err-depth-clause-run g c = by_none (spec.caller c.args.session.now) (spec.state g.R.Rng.stream c.args.session.now)
+
+pub returns-in_err-question-clause-run : goal.returns-in_err-question-clause-run
+returns-in_err-question-clause-run g c = by_none (spec.caller c.args.session.now) (spec.state g.R.Rng.stream c.args.session.now)
+
+pub returns-in_err-depth-clause-err : goal.returns-in_err-depth-clause-err
+returns-in_err-depth-clause-err g c =
+    let p = err_from_is_err_and c.from_residual.result c.from_residual.ensures.1 in
+    rw (p.1, p.2) (by_depth c.args.finite c.args.headers.now c.args.body.now (spec.state g.R.Rng.stream c.args.session.now).map (segments c.args.path.bytes) c.in_err-depth.field-0.0 c.in_err-depth.ensures.err)
+
+pub returns-in_err-question-clause-err : goal.returns-in_err-question-clause-err
+returns-in_err-question-clause-err g c =
+    let p = err_from_is_err_and c.from_residual-in_err-question.result c.from_residual-in_err-question.ensures.1 in
+    rw (p.1, p.2) (by_question c.args.finite c.args.headers.now c.args.body.now (spec.state g.R.Rng.stream c.args.session.now).map (segments c.args.path.bytes) c.in_err-question.field-0.0 c.in_ok-depth.depth
+    c.in_ok-depth.ensures.ok c.in_err-question.ensures.err)
+
+pub returns-in_err-places-clause-err : goal.returns-in_err-places-clause-err
+returns-in_err-places-clause-err g c =
+    let p = err_from_is_err_and c.from_residual-in_err-places.result c.from_residual-in_err-places.ensures.1 in
+    rw (p.1, p.2) (by_places c.args.finite c.args.headers.now c.args.body.now (spec.state g.R.Rng.stream c.args.session.now).map (segments c.args.path.bytes) c.in_err-places.field-0.0 c.in_ok-depth.depth
+    (question_of c.in_ok-question.question) c.in_ok-depth.ensures.ok c.in_ok-question.ensures.ok c.in_err-places.ensures.err)
+
+pub returns-in_err-document-clause-err : goal.returns-in_err-document-clause-err
+returns-in_err-document-clause-err g c =
+    let p = err_from_is_err_and c.from_residual-in_err-document.result c.from_residual-in_err-document.ensures.1 in
+    rw (p.1, p.2) (by_memory c.args.finite c.args.headers.now c.args.body.now (spec.state g.R.Rng.stream c.args.session.now).map (segments c.args.path.bytes) c.in_err-document.field-0.0 c.in_err-document.ensures.err)
+
+pub returns-in_err-say_document-clause-err : goal.returns-in_err-say_document-clause-err
+returns-in_err-say_document-clause-err g c =
+    let p = err_from_is_err_and c.from_residual-in_err-say_document.result c.from_residual-in_err-say_document.ensures.1 in
+    rw (p.1, p.2) (by_memory c.args.finite c.args.headers.now c.args.body.now (spec.state g.R.Rng.stream c.args.session.now).map (segments c.args.path.bytes) _ refl)

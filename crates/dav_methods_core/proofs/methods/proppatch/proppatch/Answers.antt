@@ -1,0 +1,50 @@
+use Rattle.std.proofs.Common.{◌≡◌, ◌∙◌, ◌++◌, ◌∷◌, [], codes, List, ℕ, true, refl, sym, ap, subst, map}
+use Rattle.dav_path_core.specs.Segments.{segments}
+use Rattle.dav_files_core.specs.Properties.{entry_of}
+use Rattle.dav_xml_core.specs.Writing.{written}
+use Rattle.dav_session_core.specs.Callers.{live}
+use Rattle.dav_fields_core.specs.Fields.{values_in}
+use Rattle.dav_documents_core.specs.RefusalBodies.{xml_type}
+use Rattle.dav_documents_core.specs.PatchBodies.{any_protected, patch_nodes}
+use Rattle.dav_session_core.specs.Patching.{Changes}
+use Rattle.dav_session_core.specs.Sessions as spec
+use Rattle.dav_session_core.proofs.Asking.{join_as, live_once}
+use Rattle.dav_session_core.proofs.CallerLaws.{by_none}
+use Rattle.dav_methods_core.proofs.methods.proppatch.proppatch.Goals as goal
+
+pub returns-in_err-updates-clause-run : goal.returns-in_err-updates-clause-run
+returns-in_err-updates-clause-run g c = by_none (spec.caller c.args.session.now) (spec.state g.R.Rng.stream c.args.session.now)
+
+pub returns-then-any_protected-clause-done : goal.returns-then-any_protected-clause-done
+returns-then-any_protected-clause-done g c =
+    let who = spec.caller c.args.session.now in
+    let s = spec.state g.R.Rng.stream c.args.session.now in
+    let after = spec.state g.R.Rng.stream c.check_standing.new.session in
+    let p = segments c.args.path.bytes in
+    let updates = map entry_of c.in_ok-updates.updates.items in
+    let some : any_protected updates ≡ true = ap (λ us. any_protected (map entry_of us)) (sym c.deref-2.ensures.value) ∙ sym c.any_protected.ensures ∙ c.if-any_protected.true in
+    let same : Changes true who.now p updates (live who.now s) after = c.check_standing.ensures.live ∙ sym (live_once who.now s) in
+    record {
+      status_is = refl;
+      updates = updates;
+      asks = c.in_ok-updates.ensures;
+      stood = c.in_ok-check_standing.ensures.ok.0;
+      free = c.in_ok-check_standing.ensures.ok.1;
+      changes = subst (λ b. Changes b who.now p updates (live who.now s) after) (sym some) same;
+      tells = c.in_ok-say_document.ensures.body ∙ ap (λ (front : List ℕ). front ++ c.in_ok-patch_document.field-0.items) c.requires.body
+          ∙ c.in_ok-patch_document.ensures ∙ ap (λ us. written (patch_nodes c.args.prefix.now c.args.path (map entry_of us))) c.deref.ensures.value;
+      typed = ap (λ fields. values_in fields (codes "content-type"))
+          (c.in_ok-say_document.ensures.fields ∙ ap (λ front. front ++ (codes "content-type", xml_type) ∷ []) c.requires.headers);
+    }
+
+pub returns-in_err-patch-clause-run : goal.returns-in_err-patch-clause-run
+returns-in_err-patch-clause-run g c =
+    join_as (spec.caller c.args.session.now) (spec.caller c.check_standing.new.session) (spec.state g.R.Rng.stream c.args.session.now)
+    (spec.state g.R.Rng.stream c.check_standing.new.session) (spec.state g.R.Rng.stream c.patch.new.self) c.check_standing.ensures.caller c.check_standing.ensures.run
+    c.patch.ensures.run
+
+pub returns-clause-run : goal.returns-clause-run
+returns-clause-run g c =
+    join_as (spec.caller c.args.session.now) (spec.caller c.check_standing.new.session) (spec.state g.R.Rng.stream c.args.session.now)
+    (spec.state g.R.Rng.stream c.check_standing.new.session) (spec.state g.R.Rng.stream c.patch.new.self) c.check_standing.ensures.caller c.check_standing.ensures.run
+    c.patch.ensures.run

@@ -1,0 +1,24 @@
+use Rattle.std.proofs.Common.{◌<◌, length, sym, ap, ◌∙◌, arith}
+use Rattle.std.specs.Prelude.{bytes_eq}
+use Rattle.dav_session_core.specs.Refreshing.{told_with}
+use Rattle.dav_session_core.proofs.RefreshLemmas.{replaced_more, told_one, told_other}
+use Rattle.dav_methods_core.proofs.methods.refresh.retime.Goals as goal
+use Rattle.dav_methods_core.proofs.methods.refresh.retime.Goals.{then-eq, else-eq}
+
+pub loop-lock-preserved : goal.loop-lock-preserved
+loop-lock-preserved c =
+    let token = c.args.token.now in
+    let timeout = c.args.timeout in
+    let locks = c.loop-lock.lock-items in
+    let i = c.loop-lock.lock-index in
+    let within : i < length locks = omega arith in
+    let same = c.lock.view_is ∙ sym c.lock-item.is in
+    let tested = ap (λ t. bytes_eq t token) (sym c.as_str.ensures.value) ∙ sym c.eq.ensures in
+    elim c.if-eq.branch [
+      | then-eq w ↦
+          rw w.lock-items-is (replaced_more (told_with token timeout) locks i c.lock-item.result _ within c.lock-item.is
+          (told_one token timeout _ c.lock-item.result same (tested ∙ w.if-eq.true)) ∙ c.loop-lock.invariant)
+      | else-eq w ↦
+          rw w.lock-items-is (replaced_more (told_with token timeout) locks i c.lock-item.result _ within c.lock-item.is
+          (sym c.lock.view_is ∙ told_other token timeout _ c.lock-item.result same (tested ∙ w.if-eq.false)) ∙ c.loop-lock.invariant)
+    ]

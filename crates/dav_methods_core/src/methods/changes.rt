@@ -1,0 +1,101 @@
+//! What methods that make something share.
+ghost use Rattle.std.specs.Prelude.{◌≡◌, ◌⊎◌, [], Some, IfErr, IfOk, OnOk, is_some, if◌then◌else◌};
+ghost use Rattle.dav_path_core.specs.Fronts.{parent};
+ghost use Rattle.dav_path_core.specs.Segments.{segments};
+ghost use Rattle.dav_files_core.specs.declared.memfs.Kind.TheVariants.{Folder};
+ghost use Rattle.dav_files_core.specs.Resources.{IsResourceMap, Resource, at_path};
+ghost use Rattle.dav_session_core.specs.Callers.{RunBy, SameLive, as_caller, live};
+ghost use Rattle.dav_session_core.specs.LocksInTheWay.{IsRefusedBy, by_place, is_below};
+ghost use Rattle.dav_fields_core.specs.Private.Marking.{IsNone};
+ghost use Rattle.dav_session_core.specs.Private.Placing.{target_by};
+ghost use Rattle.dav_session_core.specs.Sessions as spec;
+ghost use Rattle.dav_faults_core.specs.declared.faults.Fault.TheVariants as fault;
+ghost use Rattle.dav_resource_core.specs.Checks.{refusing};
+
+use dav_faults_core::faults::Fault;
+use dav_resource_core::davpath::DavPath;
+use dav_resource_core::fs::DavMetaData;
+use dav_resource_core::memfs::MemFsMeta;
+use dav_session_core::session::{Session, copy_of};
+use http::StatusCode;
+use rand_core::Rng;
+
+/// Whether the locks let the caller put a file there: what is made changes its parent, too.
+pub(super) fn check_locks<R: Rng>(
+    session: &mut Session<R>,
+    path: &DavPath,
+    there: bool,
+) -> Result<(), Fault>
+    ensures ok { OnOk result (refusing (live (spec.caller session.old).now (spec.state R.stream session.old)).locks (as_caller (spec.caller session.old)) (target_by there (segments path.now.bytes)) ≡ []) }
+    ensures err { IfErr result (λ e. IsRefusedBy (refusing (live (spec.caller session.old).now (spec.state R.stream session.old)).locks
+        (as_caller (spec.caller session.old)) (target_by there (segments path.now.bytes))) e) }
+    ensures run { RunBy (spec.caller session.old) (spec.state R.stream session.old) (spec.state R.stream session.new) }
+    ensures live { SameLive (spec.caller session.old).now (spec.state R.stream session.old) (spec.state R.stream session.new) }
+    ensures caller { spec.caller session.new ≡ spec.caller session.old }
+    ensures shape { OnOk result (IsResourceMap (spec.state R.stream session.new).map) }
+{
+    session.check(copy_of(path)?)?;
+    if there {
+        return Ok(());
+    }
+    session.check(parent_of(path)?)
+}
+
+/// Whether a folder stands above. `Conflict` where none does.
+pub(super) fn check_above<R: Rng>(session: &mut Session<R>, path: &DavPath) -> Result<(), Fault>
+    ensures ok { OnOk result ((r : Resource) × (at_path (spec.state R.stream session.old).map (parent (segments path.now.bytes)) ≡ Some r) × (r.node.kind ≡ Folder)) }
+    ensures err { IfErr result (λ e. (e ≡ fault.InsufficientStorage) ⊎ ((e ≡ fault.Conflict)
+        × IsNone (spec.state R.stream session.old).map (parent (segments path.now.bytes)) Folder)) }
+    ensures run { RunBy (spec.caller session.old) (spec.state R.stream session.old) (spec.state R.stream session.new) }
+    ensures live { SameLive (spec.caller session.old).now (spec.state R.stream session.old) (spec.state R.stream session.new) }
+    ensures caller { spec.caller session.new ≡ spec.caller session.old }
+{
+    match session.meta(parent_of(path)?) {
+        Some(above) => if above.is_dir() {
+            Ok(())
+        } else {
+            Err(Fault::Conflict)
+        },
+        None => Err(Fault::Conflict),
+    }
+}
+
+// The path above.
+pub(super) fn parent_of(path: &DavPath) -> Result<DavPath, Fault>
+    ensures ok { IfOk result (λ above. segments above.bytes ≡ parent (segments path.now.bytes)) }
+    ensures err { IfErr result (λ e. e ≡ fault.InsufficientStorage) }
+{
+    Ok(path.parent()?)
+}
+
+/// The status, by what stood there before.
+pub(super) fn done(known: &Option<MemFsMeta>) -> StatusCode
+    ensures { result ≡ (if is_some known.now then 204 else 201) }
+{
+    match known {
+        Some(_) => StatusCode::NO_CONTENT,
+        None => StatusCode::CREATED,
+    }
+}
+
+/// A lock that stands below the path is told as a member's.
+pub(super) fn by_place(path: &DavPath, fault: Fault) -> Fault
+    ensures { result ≡ by_place (segments path.now.bytes) fault }
+{
+    match fault {
+        Fault::Locked(at) => if is_below(path, &at) {
+            Fault::MemberLocked(at)
+        } else {
+            Fault::Locked(at)
+        },
+        fault => fault,
+    }
+}
+
+// Whether the second path stands below the first.
+pub(super) fn is_below(path: &DavPath, other: &DavPath) -> bool
+    ensures { result ≡ is_below (segments path.now.bytes) other.now }
+{
+    other.behind_prefix().is_at_or_below(path.behind_prefix())
+        && !path.behind_prefix().is_at_or_below(other.behind_prefix())
+}

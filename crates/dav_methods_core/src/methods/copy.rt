@@ -1,0 +1,214 @@
+//! COPY.
+ghost use Rattle.std.specs.Prelude.{◌≡◌, ◌∷◌, ◌++◌, [], map, option_map, IfErr, IfOk, OnOk};
+ghost use Rattle.dav_path_core.specs.Segments.{segments};
+ghost use Rattle.dav_files_core.specs.Meta.{meta_of};
+ghost use Rattle.dav_files_core.specs.Resources.{IsResourceMap};
+ghost use Rattle.dav_resource_core.specs.Checks.{refusing, shallow};
+ghost use Rattle.dav_session_core.specs.Callers.{RunBy, SameLive, as_caller, live};
+ghost use Rattle.dav_session_core.specs.Clearing.{refusing_clearing};
+ghost use Rattle.dav_session_core.specs.Copying.{Copies, CopyLeaves, FailsToCopy};
+ghost use Rattle.dav_session_core.specs.LocksInTheWay.{IsRefusedBy};
+ghost use Rattle.dav_session_core.specs.Private.Placing.{target_by};
+ghost use Rattle.dav_session_core.specs.Private.Transferring.{ArePlaces, IsPlanned, LacksPlaces, copies_of, copy_target};
+ghost use Rattle.dav_session_core.specs.Sessions as spec;
+ghost use Rattle.dav_faults_core.specs.declared.faults.Fault.TheVariants as fault;
+
+use super::changes::{by_place, check_locks, done};
+use super::ends::{Ends, ends_of};
+use dav_faults_core::faults::Fault;
+use dav_fields_core::bases::Scheme;
+use dav_fields_core::depths::copy_depth;
+use dav_resource_core::davpath::DavPath;
+use dav_resource_core::memfs::MemFsMeta;
+use dav_session_core::session::{Session, Transfer, copy_of};
+use http::StatusCode;
+use http_header::{HeaderMap, HeaderValue};
+use rand_core::Rng;
+use std::alloc::Global;
+
+/// Copies what stands at a path, with all below it or alone, to where the request leads, and answers 201, or 204 where something stood there (RFC 4918 section 9.8).
+///
+/// `BadRequest` for a depth that it can't have; then what `ends_of` gives; `BadRequest` where a name below the path is one that no path has which is read; `Locked` where a lock
+/// stands in the way, and `MemberLocked` where one below the target does; with the path of that lock. `InsufficientStorage` may come once some resources are copied.
+pub fn copy<R: Rng>(
+    alloc: Global,
+    session: &mut Session<R>,
+    scheme: Scheme,
+    prefix: &str,
+    headers: &HeaderMap<HeaderValue>,
+    path: &DavPath,
+) -> Result<StatusCode, Fault>
+    ensures done { IfOk result (λ code. Copies scheme prefix.now headers.now (live (spec.caller session.old).now (spec.state R.stream session.old)) (spec.caller session.old)
+        (segments path.now.bytes) code (spec.state R.stream session.new)) }
+    ensures err { IfErr result (λ e. FailsToCopy scheme prefix.now headers.now (live (spec.caller session.old).now (spec.state R.stream session.old)) (spec.caller session.old)
+        (segments path.now.bytes) e) }
+    ensures left { IfErr result (λ e. CopyLeaves scheme prefix.now headers.now (spec.state R.stream session.old) (spec.caller session.old).now (segments path.now.bytes) e
+        (spec.state R.stream session.new)) }
+    ensures run { RunBy (spec.caller session.old) (spec.state R.stream session.old) (spec.state R.stream session.new) }
+    ensures caller { spec.caller session.new ≡ spec.caller session.old }
+{
+    let Plan {
+        known,
+        gone,
+        transfers,
+    } = planned(alloc, session, scheme, prefix, headers, path)?;
+    session.clear(gone);
+    session.copy_all(&transfers)?;
+    Ok(done(&known))
+}
+
+// What a COPY does once nothing refuses it: what stands at its target, what goes from there, and what is copied.
+#[derive(Drop)]
+struct Plan {
+    known: Option<MemFsMeta>,
+    gone: Vec<DavPath>,
+    transfers: Vec<Transfer>,
+}
+
+fn planned<R: Rng>(
+    alloc: Global,
+    session: &mut Session<R>,
+    scheme: Scheme,
+    prefix: &str,
+    headers: &HeaderMap<HeaderValue>,
+    path: &DavPath,
+) -> Result<Plan, Fault>
+    ensures ok { IfOk result (λ plan. IsPlanned scheme prefix.now headers.now (live (spec.caller session.old).now (spec.state R.stream session.old)) (spec.caller session.old)
+        (segments path.now.bytes) (option_map meta_of plan.known) (map (λ p. segments p.bytes) plan.gone.items)
+        (map (λ t. (segments t.from.bytes, segments t.to.bytes)) plan.transfers.items)) }
+    ensures err { IfErr result (λ e. FailsToCopy scheme prefix.now headers.now (live (spec.caller session.old).now (spec.state R.stream session.old)) (spec.caller session.old)
+        (segments path.now.bytes) e) }
+    ensures run { RunBy (spec.caller session.old) (spec.state R.stream session.old) (spec.state R.stream session.new) }
+    ensures live { SameLive (spec.caller session.old).now (spec.state R.stream session.old) (spec.state R.stream session.new) }
+    ensures caller { spec.caller session.new ≡ spec.caller session.old }
+{
+    let deep = copy_depth(headers)?;
+    let Ends {
+        target,
+        known,
+        gone,
+    } = ends_of(alloc, session, scheme, prefix, headers, path, true)?;
+    let places = places_of(alloc, session, path, deep)?;
+    let transfers = transfers_of(alloc, &places, path, &target)?;
+    match check_copy(session, &target, known.is_some(), &gone, &transfers) {
+        Ok(()) => Ok(Plan {
+            known,
+            gone,
+            transfers,
+        }),
+        Err(fault) => Err(by_place(&target, fault)),
+    }
+}
+
+// The paths of all that stands at a path and below it, each folder before its members, or the path alone.
+fn places_of<R: Rng>(
+    alloc: Global,
+    session: &mut Session<R>,
+    path: &DavPath,
+    deep: bool,
+) -> Result<Vec<DavPath>, Fault>
+    ensures ok { IfOk result (λ places. ArePlaces (spec.state R.stream session.old).map deep (segments path.now.bytes) (map (λ p. segments p.bytes) places.items)) }
+    ensures err { IfErr result (λ e. LacksPlaces (spec.state R.stream session.old).map deep (segments path.now.bytes) e) }
+    ensures run { RunBy (spec.caller session.old) (spec.state R.stream session.old) (spec.state R.stream session.new) }
+    ensures live { SameLive (spec.caller session.old).now (spec.state R.stream session.old) (spec.state R.stream session.new) }
+    ensures caller { spec.caller session.new ≡ spec.caller session.old }
+{
+    if deep {
+        return session.walk(alloc, copy_of(path)?);
+    }
+    let mut places = Vec::new(alloc);
+    places.push(copy_of(path)?)?;
+    Ok(places)
+}
+
+// Each place that isn't at or below the target, with its place there.
+fn transfers_of(
+    alloc: Global,
+    places: &[DavPath],
+    from: &DavPath,
+    to: &DavPath,
+) -> Result<Vec<Transfer>, Fault>
+    ensures ok { IfOk result (λ transfers. map (λ t. (segments t.from.bytes, segments t.to.bytes)) transfers.items
+        ≡ copies_of (segments from.now.bytes) (segments to.now.bytes) (map (λ p. segments p.bytes) places.now)) }
+    ensures err { IfErr result (λ e. e ≡ fault.InsufficientStorage) }
+{
+    let mut transfers = Vec::new(alloc);
+    for place in places {
+        add_transfer(&mut transfers, place, from, to)?;
+    }
+    Ok(transfers)
+}
+
+// Adds a place with where it is copied to; nothing where it is at or below the target.
+fn add_transfer(
+    transfers: &mut Vec<Transfer>,
+    place: &DavPath,
+    from: &DavPath,
+    to: &DavPath,
+) -> Result<(), Fault>
+    ensures ok { OnOk result (map (λ t. (segments t.from.bytes, segments t.to.bytes)) transfers.new.items
+        ≡ map (λ t. (segments t.from.bytes, segments t.to.bytes)) transfers.old.items
+        ++ copies_of (segments from.now.bytes) (segments to.now.bytes) (segments place.now.bytes ∷ [])) }
+    ensures err { IfErr result (λ e. e ≡ fault.InsufficientStorage) }
+{
+    let Some(target) = target_of(place, from, to)? else {
+        return Ok(());
+    };
+    let from = copy_of(place)?;
+    transfers.push(Transfer { from, to: target })?;
+    Ok(())
+}
+
+// Where a place is copied to; nowhere where it is at or below the target.
+fn target_of(place: &DavPath, from: &DavPath, to: &DavPath) -> Result<Option<DavPath>, Fault>
+    ensures ok { IfOk result (λ target. option_map (λ p. segments p.bytes) target
+        ≡ copy_target (segments from.now.bytes) (segments to.now.bytes) (segments place.now.bytes)) }
+    ensures err { IfErr result (λ e. e ≡ fault.InsufficientStorage) }
+{
+    if place.behind_prefix().is_at_or_below(to.behind_prefix()) {
+        return Ok(None);
+    }
+    Ok(place.rebased(from.behind_prefix(), to.behind_prefix())?)
+}
+
+// Whether the locks let the caller clear the target and write each copy.
+fn check_copy<R: Rng>(
+    session: &mut Session<R>,
+    to: &DavPath,
+    there: bool,
+    gone: &[DavPath],
+    transfers: &[Transfer],
+) -> Result<(), Fault>
+    ensures ok { OnOk result (refusing_clearing (live (spec.caller session.old).now (spec.state R.stream session.old)) (spec.caller session.old) (segments to.now.bytes)
+        (map (λ p. segments p.bytes) gone.now)
+        ++ refusing (live (spec.caller session.old).now (spec.state R.stream session.old)).locks (as_caller (spec.caller session.old))
+        (target_by there (segments to.now.bytes) ++ map (λ t. shallow (segments t.to.bytes)) transfers.now) ≡ []) }
+    ensures err { IfErr result (λ e. IsRefusedBy (refusing_clearing (live (spec.caller session.old).now (spec.state R.stream session.old)) (spec.caller session.old)
+        (segments to.now.bytes) (map (λ p. segments p.bytes) gone.now)
+        ++ refusing (live (spec.caller session.old).now (spec.state R.stream session.old)).locks (as_caller (spec.caller session.old))
+        (target_by there (segments to.now.bytes) ++ map (λ t. shallow (segments t.to.bytes)) transfers.now)) e) }
+    ensures run { RunBy (spec.caller session.old) (spec.state R.stream session.old) (spec.state R.stream session.new) }
+    ensures live { SameLive (spec.caller session.old).now (spec.state R.stream session.old) (spec.state R.stream session.new) }
+    ensures caller { spec.caller session.new ≡ spec.caller session.old }
+    ensures shape { OnOk result (IsResourceMap (spec.state R.stream session.new).map) }
+{
+    session.check_clearing(to, gone)?;
+    check_locks(session, to, there)?;
+    check_each(session, transfers)
+}
+
+// Whether they let the caller write each copy.
+fn check_each<R: Rng>(session: &mut Session<R>, transfers: &[Transfer]) -> Result<(), Fault>
+    ensures ok { OnOk result (refusing (live (spec.caller session.old).now (spec.state R.stream session.old)).locks (as_caller (spec.caller session.old))
+        (map (λ t. shallow (segments t.to.bytes)) transfers.now) ≡ []) }
+    ensures err { IfErr result (λ e. IsRefusedBy (refusing (live (spec.caller session.old).now (spec.state R.stream session.old)).locks (as_caller (spec.caller session.old))
+        (map (λ t. shallow (segments t.to.bytes)) transfers.now)) e) }
+    ensures run { RunBy (spec.caller session.old) (spec.state R.stream session.old) (spec.state R.stream session.new) }
+    ensures live { SameLive (spec.caller session.old).now (spec.state R.stream session.old) (spec.state R.stream session.new) }
+    ensures caller { spec.caller session.new ≡ spec.caller session.old }
+{
+    for transfer in transfers {
+        session.check(copy_of(&transfer.to)?)?;
+    }
+    Ok(())
+}

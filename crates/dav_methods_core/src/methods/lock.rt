@@ -1,0 +1,286 @@
+//! LOCK with a body, which asks for a new lock.
+ghost use Rattle.std.specs.Prelude.{◌≡◌, ◌⊎◌, ◌-◌, ◌^◌, ◌<◌, ◌∷◌, [], false, true, ℕ, codes, map, string_bytes, IfErr, IfOk, OnErr, OnOk, if◌then◌else◌};
+ghost use Rattle.http_header.specs.FieldValue.{IsFieldValue};
+ghost use Rattle.http_server.specs.Response.{IsBlank, fields_of};
+ghost use Rattle.dav_path_core.specs.Segments.{segments};
+ghost use Rattle.dav_locks_core.specs.Lock.{Lock};
+ghost use Rattle.dav_locks_core.specs.Locks.{discovered, lock_conflicts, lock_path};
+ghost use Rattle.dav_resource_core.specs.Step.{State};
+ghost use Rattle.dav_session_core.specs.Callers.{Asks, RunBy, Runs, SameLive, live};
+ghost use Rattle.dav_fields_core.specs.Fields.{sent_of, values_in, bracketed};
+ghost use Rattle.dav_session_core.specs.Granting.{AreAbove, HaveTokens, granted_lock, with_lock};
+ghost use Rattle.dav_documents_core.specs.LockDocuments.{discovery_pieces};
+ghost use Rattle.dav_methods_core.specs.Locking as locking;
+ghost use Rattle.dav_documents_core.specs.Pieces.{written_pieces};
+ghost use Rattle.dav_methods_core.specs.Private.Rooms.{FoundRoom, IsConflictAt, IsGrantedNow, IsMadeUnder, IsReady, IsUnmade, LacksRoom, LeavesLock, conflict_at, wanted_of};
+ghost use Rattle.dav_documents_core.specs.RefusalBodies.{xml_type};
+ghost use Rattle.dav_fields_core.specs.Refusals.{IsLastMoment};
+ghost use Rattle.dav_session_core.specs.Sessions as spec;
+ghost use Rattle.dav_faults_core.specs.declared.faults.Fault.TheVariants as fault;
+
+use super::changes::{check_above, is_below, parent_of};
+use crate::refusals::say_document;
+use dav_documents_core::lock_documents::discovery_document;
+use dav_documents_core::lock_infos::{LockInfo, lock_info};
+use dav_faults_core::faults::Fault;
+use dav_fields_core::depths::copy_depth;
+use dav_fields_core::fields::add_lock_token;
+use dav_fields_core::lock_timeouts::{given_of, timeouts_in};
+use dav_fields_core::state_tokens::is_among;
+use dav_resource_core::davpath::DavPath;
+use dav_resource_core::fs::Moment;
+use dav_resource_core::ls::DavLock;
+use dav_session_core::session::{Session, copy_of};
+use http::StatusCode;
+use http_header::{HeaderMap, HeaderValue};
+use http_server::Response;
+use rand_core::Rng;
+use std::alloc::{AllocError, Global};
+
+/// What a LOCK asks for.
+#[derive(Debug, Drop)]
+pub struct Wanted {
+    /// The owner's element, as it is kept.
+    pub owner: Option<String>,
+    /// In seconds; none without an end.
+    pub timeout: Option<u64>,
+    /// Others may hold it too.
+    pub shared: bool,
+    /// It covers every path below, too.
+    pub deep: bool,
+}
+
+/// Grants a lock of a path, makes an empty file there where nothing stands, and answers 200, or 201 for a new file, with the lock's token and all locks that cover the
+/// path (RFC 4918 sections 7.3 and 9.10).
+///
+/// `BadRequest` where what is asked for can't be read; `ServiceUnavailable` at the last moment; where nothing stands, `Locked` where a lock lets the caller make no file,
+/// with its path, and `Conflict` where no folder stands above; `ConflictingLock` where another lock lets this one not be granted, with its path, and `ConflictingMember`
+/// where that is a member's. Where there is no memory for the answer, the lock is taken back.
+pub fn lock<R: Rng>(
+    alloc: Global,
+    session: &mut Session<R>,
+    prefix: &str,
+    longest: Option<u32>,
+    headers: &HeaderMap<HeaderValue>,
+    body: &[u8],
+    path: DavPath,
+    response: &mut Response,
+) -> Result<StatusCode, Fault>
+    requires { IsBlank response.old }
+    ensures done { IfOk result (λ code. locking.IsGranted longest prefix.now headers.now body.now (live (spec.caller session.old).now (spec.state R.stream session.old))
+        (spec.caller session.old) path code (sent_of response.new) (spec.state R.stream session.new)) }
+    ensures err { IfErr result (λ e. locking.FailsToLock longest headers.now body.now (live (spec.caller session.old).now (spec.state R.stream session.old))
+        (spec.caller session.old) path e) }
+    ensures left { IfErr result (λ e. LeavesLock (locking.IsAskedBy body.now (live (spec.caller session.old).now (spec.state R.stream session.old)) (spec.caller session.old) path)
+        (spec.caller session.old) (segments path.bytes) e (spec.state R.stream session.old) (spec.state R.stream session.new)) }
+    ensures run { Runs (spec.state R.stream session.old) (spec.state R.stream session.new) }
+    ensures caller { spec.caller session.new ≡ spec.caller session.old }
+{
+    let wanted = wanted_in(alloc, longest, headers, body)?;
+    check_moment(session.now())?;
+    let missing = find_room(session, &path)?;
+    let above = session.tokens_above(alloc, &path)?;
+    grant(
+        alloc, session, prefix, path, wanted, missing, &above, response,
+    )
+}
+
+// What is asked for. `BadRequest` where it can't be read.
+fn wanted_in(
+    alloc: Global,
+    longest: Option<u32>,
+    headers: &HeaderMap<HeaderValue>,
+    body: &[u8],
+) -> Result<Wanted, Fault>
+    ensures ok { IfOk result (λ wanted. locking.Wants longest headers.now body.now (wanted_of wanted)) }
+    ensures err { IfErr result (λ e. (e ≡ fault.InsufficientStorage) ⊎ ((e ≡ fault.BadRequest) × locking.CantBeRead headers.now body.now)) }
+{
+    let deep = copy_depth(headers)?;
+    let timeouts = timeouts_in(alloc, headers)?;
+    let LockInfo { shared, owner } = lock_info(alloc, body)?;
+    Ok(Wanted {
+        owner,
+        timeout: given_of(longest, &timeouts),
+        shared,
+        deep,
+    })
+}
+
+// A lock of the last moment would end at once.
+fn check_moment(now: Moment) -> Result<(), Fault>
+    ensures ok { OnOk result (now.0 < 2 ^ 64 - 1) }
+    ensures err { IfErr result (λ e. (e ≡ fault.ServiceUnavailable) × IsLastMoment now.0) }
+{
+    if now.0 == u64::MAX {
+        return Err(Fault::ServiceUnavailable);
+    }
+    Ok(())
+}
+
+// Whether nothing stands there; then a file can be made.
+fn find_room<R: Rng>(session: &mut Session<R>, path: &DavPath) -> Result<bool, Fault>
+    ensures ok { IfOk result (λ missing. FoundRoom (live (spec.caller session.old).now (spec.state R.stream session.old)) (spec.caller session.old)
+        (segments path.now.bytes) missing) }
+    ensures err { IfErr result (λ e. LacksRoom (live (spec.caller session.old).now (spec.state R.stream session.old)) (spec.caller session.old)
+        (segments path.now.bytes) e) }
+    ensures run { RunBy (spec.caller session.old) (spec.state R.stream session.old) (spec.state R.stream session.new) }
+    ensures live { SameLive (spec.caller session.old).now (spec.state R.stream session.old) (spec.state R.stream session.new) }
+    ensures caller { spec.caller session.new ≡ spec.caller session.old }
+{
+    let known = session.meta(copy_of(path)?);
+    if known.is_some() {
+        return Ok(false);
+    }
+    session.check(parent_of(path)?)?;
+    check_above(session, path)?;
+    Ok(true)
+}
+
+// Grants the lock, and tells of it; where that lacks memory, the lock is taken back.
+fn grant<R: Rng>(
+    alloc: Global,
+    session: &mut Session<R>,
+    prefix: &str,
+    path: DavPath,
+    wanted: Wanted,
+    missing: bool,
+    above: &[String],
+    response: &mut Response,
+) -> Result<StatusCode, Fault>
+    requires blank { IsBlank response.old }
+    requires ready { IsReady (live (spec.caller session.old).now (spec.state R.stream session.old)) (spec.caller session.old) path (wanted_of wanted) missing
+        (map string_bytes above.now) }
+    ensures done { IfOk result (λ code. (lock : Lock) × IsGrantedNow prefix.now (live (spec.caller session.old).now (spec.state R.stream session.old))
+        (spec.caller session.old) path (wanted_of wanted) missing lock code (sent_of response.new) (spec.state R.stream session.new)) }
+    ensures err { IfErr result (λ e. IsConflictAt (lock_conflicts (live (spec.caller session.old).now (spec.state R.stream session.old)).locks
+        (segments path.bytes) wanted.shared wanted.deep) path e) }
+    ensures left { IfErr result (λ e. LeavesLock (λ l. l ≡ granted_lock (live (spec.caller session.old).now (spec.state R.stream session.old)) (spec.caller session.old) path
+        (wanted_of wanted).owner wanted.timeout wanted.shared wanted.deep)
+        (spec.caller session.old) (segments path.bytes) e (spec.state R.stream session.old) (spec.state R.stream session.new)) }
+    ensures run { Runs (spec.state R.stream session.old) (spec.state R.stream session.new) }
+    ensures caller { spec.caller session.new ≡ spec.caller session.old }
+{
+    let lock = granted(session, &path, wanted)?;
+    match finish(
+        alloc,
+        session,
+        prefix,
+        &path,
+        missing,
+        &lock.token,
+        response,
+    ) {
+        Ok(status) => Ok(status),
+        Err(fault) => {
+            forget(session, path, lock.token, above);
+            Err(fault)
+        },
+    }
+}
+
+// Grants the lock. `ConflictingLock` where another one stands in the way at the path or above, and `ConflictingMember` where it stands below.
+fn granted<R: Rng>(
+    session: &mut Session<R>,
+    path: &DavPath,
+    wanted: Wanted,
+) -> Result<DavLock, Fault>
+    ensures ok { IfOk result (λ lock. lock ≡ granted_lock (live (spec.caller session.old).now (spec.state R.stream session.old)) (spec.caller session.old) path.now
+        (wanted_of wanted).owner wanted.timeout wanted.shared wanted.deep) }
+    ensures left { IfOk result (λ lock. spec.state R.stream session.new ≡ with_lock (live (spec.caller session.old).now (spec.state R.stream session.old)) lock) }
+    ensures free { OnOk result (lock_conflicts (live (spec.caller session.old).now (spec.state R.stream session.old)).locks (segments path.now.bytes)
+        wanted.shared wanted.deep ≡ []) }
+    ensures err { IfErr result (λ e. IsConflictAt (lock_conflicts (live (spec.caller session.old).now (spec.state R.stream session.old)).locks
+        (segments path.now.bytes) wanted.shared wanted.deep) path.now e) }
+    ensures refused { OnErr result (SameLive (spec.caller session.old).now (spec.state R.stream session.old) (spec.state R.stream session.new)) }
+    ensures run { RunBy (spec.caller session.old) (spec.state R.stream session.old) (spec.state R.stream session.new) }
+    ensures caller { spec.caller session.new ≡ spec.caller session.old }
+{
+    let place = copy_of(path)?;
+    match session.grant(
+        place,
+        wanted.owner,
+        wanted.timeout,
+        wanted.shared,
+        wanted.deep,
+    ) {
+        Ok(lock) => Ok(lock),
+        Err(fault) => Err(by_place(path, fault)?),
+    }
+}
+
+// A lock that stands below the path is told as a member's.
+fn by_place(path: &DavPath, fault: Fault) -> Result<Fault, AllocError>
+    ensures { IfOk result (λ told. told ≡ conflict_at path.now fault) }
+{
+    match fault {
+        Fault::ConflictingLock(at) => if is_below(path, &at) {
+            Ok(Fault::ConflictingMember(at, copy_of(path)?))
+        } else {
+            Ok(Fault::ConflictingLock(at))
+        },
+        fault => Ok(fault),
+    }
+}
+
+// Tells of the lock with the token, and makes an empty file under it where nothing stands.
+fn finish<R: Rng>(
+    alloc: Global,
+    session: &mut Session<R>,
+    prefix: &str,
+    path: &DavPath,
+    missing: bool,
+    token: &str,
+    response: &mut Response,
+) -> Result<StatusCode, Fault>
+    requires blank { IsBlank response.old }
+    requires value { IsFieldValue (bracketed token.now) }
+    ensures ok { IfOk result (λ status. status ≡ (if missing then 201 else 200)) }
+    ensures named { OnOk result ((sent_of response.new).tokens ≡ bracketed token.now ∷ []) }
+    ensures told { OnOk result ((sent_of response.new).body ≡ written_pieces (discovery_pieces prefix.now (spec.caller session.old).principal
+        (discovered (live (spec.caller session.old).now (spec.state R.stream session.old)).locks (segments path.now.bytes)))) }
+    ensures typed { OnOk result ((sent_of response.new).types ≡ xml_type ∷ []) }
+    ensures made { OnOk result (IsMadeUnder (spec.state R.stream session.old) (spec.caller session.old) token.now (segments path.now.bytes) missing
+        (spec.state R.stream session.new)) }
+    ensures err { IfErr result (λ e. IsUnmade (spec.state R.stream session.old) (spec.caller session.old) token.now (segments path.now.bytes) missing e
+        (spec.state R.stream session.new)) }
+    ensures refused { OnErr result (SameLive (spec.caller session.old).now (spec.state R.stream session.old) (spec.state R.stream session.new)) }
+    ensures run { Runs (spec.state R.stream session.old) (spec.state R.stream session.new) }
+    ensures caller { spec.caller session.new ≡ spec.caller session.old }
+{
+    let locks = session.locks_at(copy_of(path)?)?;
+    let document = discovery_document(alloc, prefix, session.principal(), &locks)?;
+    tell(alloc, response, document, token)?;
+    if !missing {
+        return Ok(StatusCode::OK);
+    }
+    session.make_under(copy_of(path)?, String::from_str(alloc, token)?)?;
+    Ok(StatusCode::CREATED)
+}
+
+// Tells of a lock: its token in a header field, and a document.
+fn tell(alloc: Global, response: &mut Response, document: Vec<u8>, token: &str) -> Result<(), Fault>
+    requires blank { IsBlank response.old }
+    requires value { IsFieldValue (bracketed token.now) }
+    ensures named { OnOk result ((sent_of response.new).tokens ≡ bracketed token.now ∷ []) }
+    ensures told { OnOk result ((sent_of response.new).body ≡ document.items) }
+    ensures typed { OnOk result ((sent_of response.new).types ≡ xml_type ∷ []) }
+    ensures err { IfErr result (λ e. e ≡ fault.InsufficientStorage) }
+{
+    add_lock_token(alloc, response, token)?;
+    say_document(response, document)?;
+    Ok(())
+}
+
+// Takes the lock back that was granted right before; but not where another lock at the path or above has its token, as that one would end in its place.
+fn forget<R: Rng>(session: &mut Session<R>, path: DavPath, token: String, above: &[String])
+    ensures left { (s : State) (l : Lock) → live (spec.caller session.old).now s ≡ s
+        → live (spec.caller session.old).now (spec.state R.stream session.old) ≡ with_lock s l → lock_path l ≡ segments path.bytes → l.token ≡ string_bytes token
+        → HaveTokens s (segments path.bytes) (map string_bytes above.now) → AreAbove s (segments path.bytes) (map string_bytes above.now)
+        → locking.LeavesUntold (λ k. k ≡ l) s (spec.caller session.old) (segments path.bytes) (spec.state R.stream session.new) }
+    ensures run { Asks (spec.caller session.old) (spec.state R.stream session.old) (spec.state R.stream session.new) }
+    ensures caller { spec.caller session.new ≡ spec.caller session.old }
+{
+    if !is_among(above, &token) {
+        session.take_back(path, token);
+    }
+}

@@ -1,0 +1,79 @@
+//! MOVE.
+ghost use Rattle.std.specs.Prelude.{◌≡◌, [], map, IfErr, IfOk, OnOk};
+ghost use Rattle.dav_path_core.specs.Segments.{segments};
+ghost use Rattle.dav_files_core.specs.Resources.{IsResourceMap};
+ghost use Rattle.dav_session_core.specs.Callers.{RunBy, SameLive, live};
+ghost use Rattle.dav_session_core.specs.LocksInTheWay.{IsRefusedBy};
+ghost use Rattle.dav_session_core.specs.Moving.{FailsToMove, MoveLeaves, Moves, refusing_move};
+ghost use Rattle.dav_session_core.specs.Sessions as spec;
+
+use super::changes::{by_place, done};
+use super::ends::{Ends, ends_of};
+use dav_faults_core::faults::Fault;
+use dav_fields_core::bases::Scheme;
+use dav_fields_core::depths::check_whole;
+use dav_resource_core::davpath::DavPath;
+use dav_session_core::session::Session;
+use http::StatusCode;
+use http_header::{HeaderMap, HeaderValue};
+use rand_core::Rng;
+use std::alloc::Global;
+
+/// Moves what stands at a path, with all below it, to where the request leads, and answers 201, or 204 where something stood there (RFC 4918 section 9.9).
+///
+/// `BadRequest` for a depth that doesn't reach all the way down; then what `ends_of` gives; `Locked` where a lock stands in the way, and `MemberLocked` where one below the
+/// path or below the target does; with the path of that lock. `InsufficientStorage` may come once a folder at the target is gone.
+pub fn relocate<R: Rng>(
+    alloc: Global,
+    session: &mut Session<R>,
+    scheme: Scheme,
+    prefix: &str,
+    headers: &HeaderMap<HeaderValue>,
+    path: DavPath,
+) -> Result<StatusCode, Fault>
+    ensures done { IfOk result (λ code. Moves scheme prefix.now headers.now (live (spec.caller session.old).now (spec.state R.stream session.old)) (spec.caller session.old)
+        (segments path.bytes) code (spec.state R.stream session.new)) }
+    ensures err { IfErr result (λ e. FailsToMove scheme prefix.now headers.now (live (spec.caller session.old).now (spec.state R.stream session.old)) (spec.caller session.old)
+        (segments path.bytes) e) }
+    ensures left { IfErr result (λ e. MoveLeaves scheme prefix.now headers.now (spec.state R.stream session.old) (spec.caller session.old).now e
+        (spec.state R.stream session.new)) }
+    ensures run { RunBy (spec.caller session.old) (spec.state R.stream session.old) (spec.state R.stream session.new) }
+    ensures caller { spec.caller session.new ≡ spec.caller session.old }
+{
+    check_whole(headers)?;
+    let Ends {
+        target,
+        known,
+        gone,
+    } = ends_of(alloc, session, scheme, prefix, headers, &path, false)?;
+    match check_move(session, &path, &target, &gone) {
+        Ok(()) => (),
+        Err(fault) => return Err(by_place(&path, by_place(&target, fault))),
+    }
+    session.clear(gone);
+    session.relocate(path, target)?;
+    Ok(done(&known))
+}
+
+// Whether the locks let the caller take away the source, clear the target, and stand the source there.
+fn check_move<R: Rng>(
+    session: &mut Session<R>,
+    from: &DavPath,
+    to: &DavPath,
+    gone: &[DavPath],
+) -> Result<(), Fault>
+    ensures ok { OnOk result (refusing_move (live (spec.caller session.old).now (spec.state R.stream session.old)) (spec.caller session.old) (segments from.now.bytes)
+        (segments to.now.bytes) (map (λ p. segments p.bytes) gone.now) ≡ []) }
+    ensures err { IfErr result (λ e. IsRefusedBy (refusing_move (live (spec.caller session.old).now (spec.state R.stream session.old)) (spec.caller session.old)
+        (segments from.now.bytes) (segments to.now.bytes) (map (λ p. segments p.bytes) gone.now)) e) }
+    ensures run { RunBy (spec.caller session.old) (spec.state R.stream session.old) (spec.state R.stream session.new) }
+    ensures live { SameLive (spec.caller session.old).now (spec.state R.stream session.old) (spec.state R.stream session.new) }
+    ensures caller { spec.caller session.new ≡ spec.caller session.old }
+    ensures shape { OnOk result (IsResourceMap (spec.state R.stream session.new).map) }
+{
+    session.check_one(from)?;
+    if gone.is_empty() {
+        return session.check_one(to);
+    }
+    session.check_clearing(to, gone)
+}

@@ -1,0 +1,69 @@
+//! PROPPATCH.
+ghost use Rattle.std.specs.Prelude.{◌≡◌, [], IfErr, IfOk, IsSome, OnErr, OnOk};
+ghost use Rattle.http_server.specs.Response.{IsBlank};
+ghost use Rattle.dav_path_core.specs.Segments.{segments};
+ghost use Rattle.dav_files_core.specs.Resources.{at_path};
+ghost use Rattle.dav_session_core.specs.Callers.{RunBy, SameLive, live, refusing_at};
+ghost use Rattle.dav_fields_core.specs.Fields.{sent_of};
+ghost use Rattle.dav_session_core.specs.Patching.{FailsToPatch, Patches};
+ghost use Rattle.dav_session_core.specs.Private.Patching.{LacksStanding};
+ghost use Rattle.dav_session_core.specs.Sessions as spec;
+
+use crate::refusals::say_document;
+use dav_documents_core::patch_bodies::{any_protected, patch_document};
+use dav_documents_core::property_updates::property_updates;
+use dav_faults_core::faults::Fault;
+use dav_resource_core::davpath::DavPath;
+use dav_session_core::session::{Session, copy_of};
+use http::StatusCode;
+use http_server::Response;
+use rand_core::Rng;
+use std::alloc::Global;
+
+/// Sets and removes properties in the order of the body, all or none, and answers 207 with what became of each (RFC 4918 section 9.2).
+///
+/// `BadRequest` for a body that asks for no such thing; else `NotFound` where nothing stands at the path; else `Locked` where a lock stands in the way, with
+/// its path.
+pub fn proppatch<R: Rng>(
+    alloc: Global,
+    session: &mut Session<R>,
+    prefix: &str,
+    path: DavPath,
+    body: &[u8],
+    response: &mut Response,
+) -> Result<StatusCode, Fault>
+    requires { IsBlank response.old }
+    ensures done { IfOk result (λ code. Patches prefix.now body.now (live (spec.caller session.old).now (spec.state R.stream session.old)) (spec.caller session.old)
+        path code (sent_of response.new) (spec.state R.stream session.new)) }
+    ensures err { IfErr result (λ e. FailsToPatch body.now (live (spec.caller session.old).now (spec.state R.stream session.old)) (spec.caller session.old)
+        (segments path.bytes) e) }
+    ensures refused { OnErr result (SameLive (spec.caller session.old).now (spec.state R.stream session.old) (spec.state R.stream session.new)) }
+    ensures run { RunBy (spec.caller session.old) (spec.state R.stream session.old) (spec.state R.stream session.new) }
+    ensures caller { spec.caller session.new ≡ spec.caller session.old }
+{
+    let updates = property_updates(alloc, body)?;
+    check_standing(session, &path)?;
+    say_document(response, patch_document(alloc, prefix, &path, &updates)?)?;
+    if any_protected(&updates) {
+        return Ok(StatusCode::MULTI_STATUS);
+    }
+    session.patch(path, updates)?;
+    Ok(StatusCode::MULTI_STATUS)
+}
+
+// Whether something stands at a path, and the locks let the caller change it.
+fn check_standing<R: Rng>(session: &mut Session<R>, path: &DavPath) -> Result<(), Fault>
+    ensures ok { OnOk result (IsSome (at_path (spec.state R.stream session.old).map (segments path.now.bytes))
+        × (refusing_at (live (spec.caller session.old).now (spec.state R.stream session.old)) (spec.caller session.old) (segments path.now.bytes) ≡ [])) }
+    ensures err { IfErr result (λ e. LacksStanding (live (spec.caller session.old).now (spec.state R.stream session.old)) (spec.caller session.old)
+        (segments path.now.bytes) e) }
+    ensures run { RunBy (spec.caller session.old) (spec.state R.stream session.old) (spec.state R.stream session.new) }
+    ensures live { SameLive (spec.caller session.old).now (spec.state R.stream session.old) (spec.state R.stream session.new) }
+    ensures caller { spec.caller session.new ≡ spec.caller session.old }
+{
+    let known = session.meta(copy_of(path)?);
+    if known.is_none() {
+        return Err(Fault::NotFound);
+    }
+    session.check(copy_of(path)?)
+}

@@ -1,0 +1,143 @@
+//! PUT.
+ghost use Rattle.std.specs.Prelude.{◌≡◌, ◌⊎◌, ◌∷◌, [], Ok, Err, IfOk, IfErr, OnOk, OnErr, length, option_map};
+ghost use Rattle.dav_path_core.specs.declared.util.DavMethod.TheVariants as method;
+ghost use Rattle.dav_path_core.specs.Segments.{segments};
+ghost use Rattle.dav_files_core.specs.Meta.{meta_of};
+ghost use Rattle.http_server.specs.Response.{IsBlank};
+ghost use Rattle.dav_session_core.specs.Callers.{RunBy, SameLive};
+ghost use Rattle.dav_fields_core.specs.Fields.{marks_of};
+ghost use Rattle.dav_fields_core.specs.FileTags.{file_tag};
+ghost use Rattle.dav_fields_core.specs.Getting.{tagged};
+ghost use Rattle.dav_session_core.specs.Putting.{FailsToPut, Puts, changes_by, put_course, put_status};
+ghost use Rattle.dav_session_core.specs.Private.Placing.{HasPlace, LacksPlace, standing_known};
+ghost use Rattle.dav_fields_core.specs.Private.Marking.{and_tags};
+ghost use Rattle.dav_fields_core.specs.Preconditions.{course_of};
+ghost use Rattle.dav_session_core.specs.Sessions as spec;
+ghost use Rattle.dav_faults_core.specs.declared.faults.Fault.TheVariants as fault;
+
+use super::changes::{check_above, check_locks, done};
+use bytes::Bytes;
+use dav_faults_core::faults::Fault;
+use dav_fields_core::etags::{Standing, file_tag};
+use dav_fields_core::fields::add_tag;
+use dav_fields_core::preconditions::{Course, read_course};
+use dav_resource_core::davpath::DavPath;
+use dav_resource_core::fs::{DavMetaData, Moment};
+use dav_resource_core::guarded::Command;
+use dav_resource_core::memfs::MemFsMeta;
+use dav_resource_core::util::DavMethod;
+use dav_session_core::session::{Session, copy_of, refused, standing_as};
+use http::StatusCode;
+use http_header::{HeaderMap, HeaderValue};
+use http_server::Response;
+use rand_core::Rng;
+use std::alloc::Global;
+
+/// Makes the bytes of a file those of a request, and answers the status: 201 for a file that is made, 204 for one that was there. The answer gets the
+/// tag of the file.
+///
+/// `Locked` where a lock stands in the way; else `MethodNotAllowed` on a folder, and `Conflict` where there is no folder in which the file
+/// could stand; else `BadRequest` where a condition of HTTP can't be read, and `PreconditionFailed` where one doesn't hold.
+pub fn put<R: Rng>(
+    alloc: Global,
+    session: &mut Session<R>,
+    headers: &HeaderMap<HeaderValue>,
+    path: DavPath,
+    bytes: Bytes,
+    response: &mut Response,
+) -> Result<StatusCode, Fault>
+    requires { IsBlank response.old }
+    ensures done { IfOk result (λ code. (code ≡ put_status (spec.state R.stream session.old).map (segments path.bytes))
+        × Puts (spec.state R.stream session.old) (spec.caller session.old).now (segments path.bytes) bytes (spec.state R.stream session.new)) }
+    ensures course { OnOk result (put_course (spec.state R.stream session.old).map (segments path.bytes) headers.now ≡ Ok tt) }
+    ensures marks { OnOk result (marks_of response.new ≡ tagged (file_tag (spec.caller session.old).now (length bytes) ∷ [])) }
+    ensures err { IfErr result (λ e. FailsToPut (spec.state R.stream session.old) (spec.caller session.old) (segments path.bytes) bytes headers.now e) }
+    ensures refused { OnErr result (SameLive (spec.caller session.old).now (spec.state R.stream session.old) (spec.state R.stream session.new)) }
+    ensures run { RunBy (spec.caller session.old) (spec.state R.stream session.old) (spec.state R.stream session.new) }
+    ensures caller { spec.caller session.new ≡ spec.caller session.old }
+{
+    let known = session.meta(copy_of(&path)?);
+    check_locks(session, &path, known.is_some())?;
+    check_place(session, &path, &known)?;
+    check_conditions(alloc, headers, &known)?;
+    say_tag(alloc, response, session.now(), bytes.len() as u64)?;
+    match session.ask(Command::Put { path, bytes }) {
+        Ok(_) => Ok(done(&known)),
+        Err(refusal) => Err(refused(&known, refusal)),
+    }
+}
+
+// Whether a file can stand there: not in a folder's place, and not without a folder above.
+fn check_place<R: Rng>(
+    session: &mut Session<R>,
+    path: &DavPath,
+    known: &Option<MemFsMeta>,
+) -> Result<(), Fault>
+    ensures ok { OnOk result (HasPlace (spec.state R.stream session.old).map (segments path.now.bytes) (option_map meta_of known.now)) }
+    ensures err { IfErr result (λ e. (e ≡ fault.InsufficientStorage) ⊎ LacksPlace (spec.state R.stream session.old).map (segments path.now.bytes) (option_map meta_of known.now) e) }
+    ensures run { RunBy (spec.caller session.old) (spec.state R.stream session.old) (spec.state R.stream session.new) }
+    ensures live { SameLive (spec.caller session.old).now (spec.state R.stream session.old) (spec.state R.stream session.new) }
+    ensures caller { spec.caller session.new ≡ spec.caller session.old }
+{
+    match known {
+        Some(meta) => if meta.is_dir() {
+            Err(Fault::MethodNotAllowed)
+        } else {
+            Ok(())
+        },
+        None => check_above(session, path),
+    }
+}
+
+// Whether the conditions of HTTP let a change be done, of what is known to stand there.
+fn check_conditions(
+    alloc: Global,
+    headers: &HeaderMap<HeaderValue>,
+    known: &Option<MemFsMeta>,
+) -> Result<(), Fault>
+    ensures ok { OnOk result (changes_by (course_of method.Put (standing_known (option_map meta_of known.now)) headers.now) ≡ Ok tt) }
+    ensures err { IfErr result (λ e. (e ≡ fault.InsufficientStorage)
+        ⊎ (changes_by (course_of method.Put (standing_known (option_map meta_of known.now)) headers.now) ≡ Err e)) }
+{
+    let standing = standing_known(alloc, known)?;
+    changes_by(read_course(DavMethod::Put, &standing, headers))
+}
+
+// A change is done, or refused, by what follows from the conditions.
+fn changes_by(course: Option<Course>) -> Result<(), Fault>
+    ensures { result ≡ changes_by course }
+{
+    match course {
+        None => Err(Fault::BadRequest),
+        Some(Course::Proceed) | Some(Course::Whole) => Ok(()),
+        Some(Course::NotModified) | Some(Course::PreconditionFailed) => Err(
+            Fault::PreconditionFailed,
+        ),
+    }
+}
+
+// What is known of the path, as conditions see it.
+fn standing_known(alloc: Global, known: &Option<MemFsMeta>) -> Result<Standing, Fault>
+    ensures ok { IfOk result (λ standing. standing ≡ standing_known (option_map meta_of known.now)) }
+    ensures err { IfErr result (λ e. e ≡ fault.InsufficientStorage) }
+{
+    match known {
+        Some(meta) => standing_as(alloc, meta),
+        None => Ok(Standing::Nothing),
+    }
+}
+
+// Says the tag of a file that is changed at the moment and has such a length.
+fn say_tag(
+    alloc: Global,
+    response: &mut Response,
+    modified: Moment,
+    length: u64,
+) -> Result<(), Fault>
+    ensures marks { OnOk result (marks_of response.new ≡ and_tags (file_tag modified.0 length ∷ []) (marks_of response.old)) }
+    ensures body { response.new.body ≡ response.old.body }
+    ensures err { IfErr result (λ e. e ≡ fault.InsufficientStorage) }
+{
+    let tag = file_tag(alloc, modified, length)?;
+    add_tag(alloc, response, &Standing::File { tag, modified })
+}

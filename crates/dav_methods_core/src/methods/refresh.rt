@@ -1,0 +1,130 @@
+//! LOCK without a body, which gives a lock another end.
+ghost use Rattle.std.specs.Prelude.{◌≡◌, ◌∷◌, [], filter, map, string_bytes, IfErr, IfOk, OnErr};
+ghost use Rattle.http_server.specs.Response.{IsBlank};
+ghost use Rattle.dav_path_core.specs.Segments.{segments};
+ghost use Rattle.dav_session_core.specs.Callers.{Asks, RunBy, SameLive, live};
+ghost use Rattle.dav_fields_core.specs.Fields.{sent_of};
+ghost use Rattle.dav_session_core.specs.Refreshing as spec_of;
+ghost use Rattle.dav_session_core.specs.Private.Refreshing.{NotOne, is_token_of_one};
+ghost use Rattle.dav_session_core.specs.Sessions as spec;
+
+use crate::refusals::say_document;
+use dav_documents_core::lock_documents::discovery_document;
+use dav_faults_core::faults::Fault;
+use dav_fields_core::lock_timeouts::{given_of, timeouts_in};
+use dav_resource_core::davheaders::DavTimeout;
+use dav_resource_core::davpath::DavPath;
+use dav_resource_core::ls::DavLock;
+use dav_session_core::session::{Session, any_has, copy_of};
+use http::StatusCode;
+use http_header::{HeaderMap, HeaderValue};
+use http_server::Response;
+use rand_core::Rng;
+use std::alloc::Global;
+
+/// Gives the lock another end whose token is named and which covers the path, and answers 200 with the locks that cover it (RFC 4918 section 9.10.2). The timeout is
+/// the first that is asked for and that can be given; else it is the one that the lock has.
+///
+/// `BadRequest` for a `Timeout` that can't be read; `PreconditionFailed` where no named token is that of such a lock, and `BadRequest` where several are; `Forbidden`
+/// where a lock with the token at the path or above has another principal.
+pub fn refresh<R: Rng>(
+    alloc: Global,
+    session: &mut Session<R>,
+    prefix: &str,
+    longest: Option<u32>,
+    headers: &HeaderMap<HeaderValue>,
+    path: DavPath,
+    response: &mut Response,
+) -> Result<StatusCode, Fault>
+    requires { IsBlank response.old }
+    ensures done { IfOk result (λ code. spec_of.Refreshes longest prefix.now headers.now (live (spec.caller session.old).now (spec.state R.stream session.old))
+        (spec.caller session.old) (segments path.bytes) code (sent_of response.new) (spec.state R.stream session.new)) }
+    ensures err { IfErr result (λ e. spec_of.FailsToRefresh headers.now (live (spec.caller session.old).now (spec.state R.stream session.old))
+        (spec.caller session.old) (segments path.bytes) e) }
+    ensures refused { OnErr result (SameLive (spec.caller session.old).now (spec.state R.stream session.old) (spec.state R.stream session.new)) }
+    ensures run { Asks (spec.caller session.old) (spec.state R.stream session.old) (spec.state R.stream session.new) }
+    ensures looked { OnErr result (RunBy (spec.caller session.old) (spec.state R.stream session.old) (spec.state R.stream session.new)) }
+    ensures caller { spec.caller session.new ≡ spec.caller session.old }
+{
+    let timeouts = timeouts_in(alloc, headers)?;
+    let token = token_named(alloc, session, &path)?;
+    let mut locks = session.locks_at(copy_of(&path)?)?;
+    let timeout = next_timeout(longest, &timeouts, &token, &locks);
+    retime(&mut locks, &token, timeout);
+    say_document(
+        response,
+        discovery_document(alloc, prefix, session.principal(), &locks)?,
+    )?;
+    session.refresh(path, token, timeout)?;
+    Ok(StatusCode::OK)
+}
+
+// The one token that the caller names and that a lock has which covers the path.
+fn token_named<R: Rng>(
+    alloc: Global,
+    session: &mut Session<R>,
+    path: &DavPath,
+) -> Result<String, Fault>
+    ensures ok { IfOk result (λ token. spec_of.named_there (live (spec.caller session.old).now (spec.state R.stream session.old)) (spec.caller session.old)
+        (segments path.now.bytes) ≡ string_bytes token ∷ []) }
+    ensures err { IfErr result (λ e. NotOne (spec_of.named_there (live (spec.caller session.old).now (spec.state R.stream session.old)) (spec.caller session.old)
+        (segments path.now.bytes)) e) }
+    ensures run { RunBy (spec.caller session.old) (spec.state R.stream session.old) (spec.state R.stream session.new) }
+    ensures live { SameLive (spec.caller session.old).now (spec.state R.stream session.old) (spec.state R.stream session.new) }
+    ensures caller { spec.caller session.new ≡ spec.caller session.old }
+{
+    let locks = session.locks_at(copy_of(path)?)?;
+    one_of(alloc, session.tokens(), &locks)
+}
+
+// Of some tokens the one that a lock has. `PreconditionFailed` where none is, `BadRequest` where several are.
+fn one_of(alloc: Global, tokens: &[String], locks: &[DavLock]) -> Result<String, Fault>
+    ensures ok { IfOk result (λ token. filter (is_token_of_one locks.now) (map string_bytes tokens.now) ≡ string_bytes token ∷ []) }
+    ensures err { IfErr result (λ e. NotOne (filter (is_token_of_one locks.now) (map string_bytes tokens.now)) e) }
+{
+    let mut named = tokens.iter().filter(|token| any_has(locks, token));
+    let Some(token) = named.next() else {
+        return Err(Fault::PreconditionFailed);
+    };
+    if named.next().is_some() {
+        return Err(Fault::BadRequest);
+    }
+    Ok(String::from_str(alloc, token)?)
+}
+
+// What is asked for as a new lock would get it, else the timeout of the lock with the token.
+fn next_timeout(
+    longest: Option<u32>,
+    wanted: &[DavTimeout],
+    token: &str,
+    locks: &[DavLock],
+) -> Option<u64>
+    ensures { result ≡ spec_of.next_timeout longest wanted.now token.now locks.now }
+{
+    if wanted.is_empty() {
+        return timeout_among(token, locks);
+    }
+    given_of(longest, wanted)
+}
+
+fn timeout_among(token: &str, locks: &[DavLock]) -> Option<u64>
+    ensures { result ≡ spec_of.timeout_among token.now locks.now }
+{
+    for lock in locks {
+        if lock.token.as_str() == token {
+            return lock.timeout;
+        }
+    }
+    None
+}
+
+// Some locks as they are told once the one with the token has another timeout.
+fn retime(locks: &mut [DavLock], token: &str, timeout: Option<u64>)
+    ensures { locks.new ≡ spec_of.retimed token.now timeout locks.old }
+{
+    for lock in locks {
+        if lock.token.as_str() == token {
+            lock.timeout = timeout;
+        }
+    }
+}

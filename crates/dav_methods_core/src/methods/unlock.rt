@@ -1,0 +1,68 @@
+//! UNLOCK.
+ghost use Rattle.std.specs.Prelude.{◌≡◌, ◌⊎◌, ℕ, List, IfErr, IfOk, MatchOption, OnErr, string_bytes};
+ghost use Rattle.dav_path_core.specs.Segments.{segments};
+ghost use Rattle.dav_session_core.specs.Callers.{Asks, RunBy, SameLive, live};
+ghost use Rattle.dav_session_core.specs.Sessions as spec;
+ghost use Rattle.dav_session_core.specs.Unlocking.{FailsToUnlock, IsBracketed, NamesToken, Unlocks};
+ghost use Rattle.dav_faults_core.specs.declared.faults.Fault.TheVariants as fault;
+
+use dav_faults_core::faults::Fault;
+use dav_fields_core::senders::value_of;
+use dav_resource_core::davpath::DavPath;
+use dav_session_core::session::Session;
+use http::StatusCode;
+use http_header::{HeaderMap, HeaderName, HeaderValue};
+use rand_core::Rng;
+use std::alloc::Global;
+
+/// Ends the lock that `Lock-Token` names, and answers 204 (RFC 4918 section 9.11).
+///
+/// `BadRequest` without such a token; `NoSuchLock` where no lock with it covers the path; `Forbidden` where one with it at the path or above has
+/// another principal.
+pub fn unlock<R: Rng>(
+    alloc: Global,
+    session: &mut Session<R>,
+    headers: &HeaderMap<HeaderValue>,
+    path: DavPath,
+) -> Result<StatusCode, Fault>
+    ensures done { IfOk result (λ code. Unlocks headers.now (live (spec.caller session.old).now (spec.state R.stream session.old)) (spec.caller session.old)
+        (segments path.bytes) code (spec.state R.stream session.new)) }
+    ensures err { IfErr result (λ e. FailsToUnlock headers.now (live (spec.caller session.old).now (spec.state R.stream session.old)) (spec.caller session.old)
+        (segments path.bytes) e) }
+    ensures refused { OnErr result (SameLive (spec.caller session.old).now (spec.state R.stream session.old) (spec.state R.stream session.new)) }
+    ensures run { Asks (spec.caller session.old) (spec.state R.stream session.old) (spec.state R.stream session.new) }
+    ensures looked { OnErr result (RunBy (spec.caller session.old) (spec.state R.stream session.old) (spec.state R.stream session.new)) }
+    ensures caller { spec.caller session.new ≡ spec.caller session.old }
+{
+    let token = token_named(alloc, headers)?;
+    session.unlock(path, token)?;
+    Ok(StatusCode::NO_CONTENT)
+}
+
+// The token that `Lock-Token` names. `BadRequest` where it names none.
+fn token_named(alloc: Global, headers: &HeaderMap<HeaderValue>) -> Result<String, Fault>
+    ensures ok { IfOk result (λ token. NamesToken headers.now (string_bytes token)) }
+    ensures err { IfErr result (λ e. (e ≡ fault.InsufficientStorage)
+        ⊎ ((e ≡ fault.BadRequest) × ((token : List ℕ) → ¬ NamesToken headers.now token))) }
+{
+    let Some(value) = value_of(headers, &HeaderName::from_static("lock-token"))? else {
+        return Err(Fault::BadRequest);
+    };
+    let Some(token) = token_in(value) else {
+        return Err(Fault::BadRequest);
+    };
+    Ok(String::from_str(alloc, token)?)
+}
+
+// The token between the angle brackets of a value, where it has them.
+fn token_in(value: &HeaderValue) -> Option<&str>
+    ensures { MatchOption result ((token : List ℕ) → ¬ IsBracketed value.now.bytes token) (λ token. IsBracketed value.now.bytes token.now) }
+{
+    let Ok(text) = str::from_utf8(value.as_bytes()) else {
+        return None;
+    };
+    let Some(rest) = text.strip_prefix('<') else {
+        return None;
+    };
+    rest.strip_suffix('>')
+}

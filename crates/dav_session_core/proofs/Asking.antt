@@ -1,0 +1,216 @@
+-- What a caller's requests are answered, and what they leave.
+use Rattle.std.proofs.Common.{true, ◌≡◌, ◌⊎◌, inl, inr, ℕ, List, [], ◌∷◌, ◌++◌, map, take, drop, Option, Some, None, Result, Ok, Err, refl, sym, ◌∙◌, ap, subst}
+use Rattle.std.specs.Prelude.{ok_or, OnErr}
+use Rattle.std.specs.FinMap.{entries, values}
+use Rattle.std.proofs.lemmas.Bool.{false≢true, or_from}
+use Rattle.std.proofs.lemmas.List.{map-append}
+use Rattle.std.proofs.lemmas.List.Folds.{list_any-append}
+use Rattle.dav_path_core.specs.declared.errors.FsError.{FsError}
+use Rattle.dav_path_core.specs.declared.errors.FsError.TheVariants.{Forbidden, InsufficientStorage}
+use Rattle.dav_path_core.specs.Fronts.{Segment, Path}
+use Rattle.dav_path_core.proofs.lists.MemberLemmas.{In-Contains}
+use Rattle.dav_files_core.specs.declared.memfs.Kind.{Kind}
+use Rattle.dav_files_core.specs.declared.memfs.Kind.TheVariants.{Folder, File}
+use Rattle.dav_files_core.specs.Describing.{metadata}
+use Rattle.dav_files_core.specs.Finding.{refusal_at, members}
+use Rattle.dav_files_core.specs.Listing.{listed, read_dir}
+use Rattle.dav_files_core.specs.Meta.{Meta as Known, meta_at}
+use Rattle.dav_files_core.specs.Outcomes.{◌>>=◌, only_file, only_folder}
+use Rattle.dav_files_core.specs.Parts.{read_at}
+use Rattle.dav_files_core.specs.Properties.{get_props, get_prop, shown}
+use Rattle.dav_files_core.specs.Resources.{Resource, ResourceMap, at_path}
+use Rattle.dav_locks_core.proofs.laws.StaleLemmas.{stale_once}
+use Rattle.dav_resource_core.specs.Requests.{Command, Reply, Meta, Bytes, Entries, Props, Value, Answer, Refusal, Fs, Locked, NoLock, OutOfMemory}
+use Rattle.dav_resource_core.specs.ResourceStep.{tells, MayLackOnMap}
+use Rattle.dav_resource_core.specs.Served.{answer_of, refusal_of}
+use Rattle.dav_resource_core.specs.declared.guarded.requests.Reply as served
+use Rattle.dav_resource_core.specs.declared.guarded.requests.Refusal as served_refusal
+use Rattle.dav_resource_core.specs.Step.{State, Same, Effect, Step, Run}
+use Rattle.dav_resource_core.proofs.Frame.{told_left}
+use Rattle.dav_resource_core.proofs.RunLaws.{run_join}
+use Rattle.dav_resource_core.proofs.StepLaws.{Same-equal, Same-refl, outcome}
+use Rattle.dav_faults_core.specs.declared.faults.Fault.{Fault}
+use Rattle.dav_faults_core.specs.declared.faults.Fault.TheVariants as fault
+use Rattle.dav_session_core.specs.Private.Refusing.{list_fault}
+use Rattle.dav_session_core.specs.Callers.{Asks, Caller, RunBy, asking, ends_or_refreshes, is_look, live, SameLive}
+use Rattle.dav_session_core.proofs.CallerLaws.{asks_of}
+
+-- ---- runs that follow one another
+
+pub by_join : (who : Caller) (s mid s' : State) → RunBy who s mid → RunBy who mid s' → RunBy who s s'
+by_join who s mid s' h k = record {
+  commands = h.commands ++ k.commands;
+  answers = h.answers ++ k.answers;
+  run = subst (λ rs. Run s rs (h.answers ++ k.answers) s') (sym (map-append (asking who) h.commands k.commands))
+      (run_join s mid s' (map (asking who) h.commands) (map (asking who) k.commands) h.answers k.answers h.run k.run);
+  keeps = list_any-append ends_or_refreshes h.commands k.commands ∙ or_from _ _ h.keeps k.keeps;
+}
+
+pub asks_join : (who : Caller) (s mid s' : State) → Asks who s mid → Asks who mid s' → Asks who s s'
+asks_join who s mid s' h k = record {
+  commands = h.commands ++ k.commands;
+  answers = h.answers ++ k.answers;
+  run = subst (λ rs. Run s rs (h.answers ++ k.answers) s') (sym (map-append (asking who) h.commands k.commands))
+      (run_join s mid s' (map (asking who) h.commands) (map (asking who) k.commands) h.answers k.answers h.run k.run);
+}
+
+-- a run, and one request behind it
+pub asks_one : (who asker : Caller) (s mid s' : State) (c : Command) (a : Answer) → asker ≡ who → RunBy who s mid → Step mid (asking asker c) a s' → Asks who s s'
+asks_one who asker s mid s' c a same h step =
+    asks_join who s mid s' (asks_of who s mid h) (record { commands = c ∷ []; answers = a ∷ []; run = (s', subst (λ w. Step mid (asking w c) a s') same step, Same-refl s') })
+
+-- the second by the same caller
+pub join_as : (who asker : Caller) (s mid s' : State) → asker ≡ who → RunBy who s mid → RunBy asker mid s' → RunBy who s s'
+join_as who asker s mid s' same h k = by_join who s mid s' h (subst (λ w. RunBy w mid s') same k)
+
+-- ---- what stays
+
+-- what stays in two steps of the same caller
+pub live_as : (who asker : Caller) (s mid s' : State) → asker ≡ who → SameLive who.now s mid → SameLive asker.now mid s' → SameLive who.now s s'
+live_as who asker s mid s' same h k = subst (λ (w : Caller). SameLive w.now mid s') same k ∙ h
+
+pub live_once : (now : ℕ) (s : State) → live now (live now s) ≡ live now s
+live_once now s = ap (λ locks. record s { locks = locks }) (stale_once now s.locks)
+
+-- what leaves the state without the locks that have expired
+pub same_live : (now : ℕ) (s s' : State) → Same (live now s) s' → SameLive now s s'
+same_live now s s' h = ap (live now) (Same-equal (live now s) s' h) ∙ live_once now s
+
+-- a command that leaves the stores as they are
+asks_same : (who : Caller) (c : Command) (s s' : State) (a : Answer) → ((reply : Reply) → Effect c (live who.now s) (asking who c) reply s' → Same (live who.now s) s')
+    → Step s (asking who c) a s' → SameLive who.now s s'
+asks_same who c s s' a leaves h = same_live who.now s s' (elim (outcome (live who.now s) s' (asking who c) a h) [
+  | inl same ↦ same
+  | inr done ↦ leaves done.0 done.3
+])
+
+-- a look, told from the map
+looks_same : {A : Type 0} (who : Caller) (c : Command) (s s' : State) (a : Answer) (tell : A → Reply) (f : Result A FsError)
+    → ((reply : Reply) → Effect c (live who.now s) (asking who c) reply s' → tells s.map tell f ≡ Ok (reply, s'.map) × Same (record (live who.now s) { map = s'.map }) s')
+    → Step s (asking who c) a s' → SameLive who.now s s'
+looks_same who c s s' a tell f told h = same_live who.now s s' (elim (outcome (live who.now s) s' (asking who c) a h) [
+  | inl same ↦ same
+  | inr done ↦
+      let effect = told done.0 done.3 in
+      record {
+        map_is = told_left s.map tell f done.0 s'.map effect.0;
+        locks_are = effect.1.locks_are;
+        rng_is = effect.1.rng_is;
+      }
+])
+
+pub looks_live : (who : Caller) (c : Command) (s s' : State) (a : Answer) → is_look c ≡ true → Step s (asking who c) a s' → SameLive who.now s s'
+looks_live who (Command.Read path at count) s s' a look = looks_same who (Command.Read path at count) s s' a Bytes (read_at s.map path at count) (λ reply e. e)
+looks_live who (Command.List path) s s' a look = looks_same who (Command.List path) s s' a Entries (read_dir s.map path) (λ reply e. e)
+looks_live who (Command.Meta path) s s' a look = looks_same who (Command.Meta path) s s' a Meta (metadata s.map path) (λ reply e. e)
+looks_live who (Command.GetProps path content) s s' a look = looks_same who (Command.GetProps path content) s s' a Props (get_props s.map path content) (λ reply e. e)
+looks_live who (Command.GetProp path wanted) s s' a look = looks_same who (Command.GetProp path wanted) s s' a Value (get_prop s.map path wanted) (λ reply e. e)
+looks_live who (Command.Discover path) s s' a look = asks_same who (Command.Discover path) s s' a (λ reply e. e.1)
+looks_live who (Command.Check path deep) s s' a look = asks_same who (Command.Check path deep) s s' a (λ reply e. e.1)
+looks_live who _ s s' a look = absurd (false≢true look)
+
+pub refused_live : (who : Caller) (c : Command) (s s' : State) (e : Refusal) → Step s (asking who c) (Err e) s' → SameLive who.now s s'
+refused_live who c s s' (Fs e) h = same_live who.now s s' h.1
+refused_live who c s s' (Locked l) h = same_live who.now s s' h.1
+refused_live who c s s' NoLock h = same_live who.now s s' h.1
+refused_live who c s s' OutOfMemory h = same_live who.now s s' h.1
+
+pub refused_result : (who : Caller) (c : Command) (s s' : State) (result : Result served.Reply served_refusal.Refusal) → Step s (asking who c) (answer_of result) s'
+    → OnErr result (SameLive who.now s s')
+refused_result who c s s' (Ok reply) h = tt
+refused_result who c s s' (Err e) h = refused_live who c s s' (refusal_of e) h
+
+-- ---- what a `Read` tells
+
+told_ok : {A : Type 0} (m m' : ResourceMap) (tell : A → Reply) (x : A) (reply : Reply) → tells m tell (Ok x) ≡ Ok (reply, m') → reply ≡ tell x
+told_ok m m' tell x reply h =
+    let same : (tell x, m) ≡ (reply, m') = cc in
+    ap (λ (y : Reply × ResourceMap). y.0) (sym same)
+
+-- a file stands there, and these are its bytes
+abbrev pub IsRead : ResourceMap → Path → ℕ → ℕ → Reply → Type 0
+IsRead m p at count reply =
+    (r : Resource) × (at_path m p ≡ Some r) × (r.node.kind ≡ File) × (reply ≡ Bytes (take count (drop at r.node.bytes)))
+
+pub read_tells : (m m' : ResourceMap) (p : Path) (at count : ℕ) (reply : Reply) → tells m Bytes (read_at m p at count) ≡ Ok (reply, m') → IsRead m p at count reply
+read_tells m m' p at count reply h = by (at_path m p) refl h
+  where
+    part : Resource → Result (List ℕ) FsError
+    part r = Ok (take count (drop at r.node.bytes))
+
+    by_kind : (r : Resource) (k : Kind) → at_path m p ≡ Some r → r.node.kind ≡ k → tells m Bytes (elim k [ Folder ↦ Err Forbidden | File ↦ Ok r ] >>= part) ≡ Ok (reply, m')
+        → IsRead m p at count reply
+    by_kind r Folder here kind h = absurd (cc)
+    by_kind r File here kind h = (r, here, kind, told_ok m m' Bytes (take count (drop at r.node.bytes)) reply h)
+
+    by : (o : Option Resource) → at_path m p ≡ o → tells m Bytes (ok_or o (refusal_at m p) >>= λ r. only_file r >>= part) ≡ Ok (reply, m') → IsRead m p at count reply
+    by (Some r) here h = by_kind r r.node.kind here refl h
+    by None here h = absurd (cc)
+
+-- ---- what a `List` tells
+
+-- on a folder it is not refused
+list_refused : (m : ResourceMap) (p : Path) (r : Resource) (e : FsError) → at_path m p ≡ Some r → r.node.kind ≡ Folder → ¬ (tells m Entries (read_dir m p) ≡ Err e)
+list_refused m p r e here kind h = by (at_path m p) here h
+  where
+    tell : ResourceMap → List (Segment × Known)
+    tell m = map listed (entries (members m p))
+
+    by_kind : (q : Resource) (k : Kind) → k ≡ Folder → tells m Entries (elim k [ Folder ↦ Ok q | File ↦ Err Forbidden ] >>= λ (_ : Resource). Ok (tell m)) ≡ Err e → ⊥
+    by_kind q Folder is h = absurd (cc)
+    by_kind q File is h = absurd (cc)
+
+    by : (o : Option Resource) → o ≡ Some r → tells m Entries ((ok_or o (refusal_at m p) >>= only_folder) >>= λ (_ : Resource). Ok (tell m)) ≡ Err e → ⊥
+    by (Some q) same h = let one : q ≡ r = cc in by_kind q q.node.kind (ap (λ (x : Resource). x.node.kind) one ∙ kind) h
+    by None same h = absurd (cc)
+
+-- why a folder isn't listed
+abbrev pub Unlisted : ResourceMap → Path → Fault → Type 0
+Unlisted m p e = (e ≡ fault.InsufficientStorage) ⊎ ((e ≡ fault.NotFound) × ((r : Resource) → at_path m p ≡ Some r → ¬ (r.node.kind ≡ Folder)))
+
+pub unlisted : (who : Caller) (p : Path) (s s' : State) (e : Refusal) → Step s (asking who (Command.List p)) (Err e) s' → Unlisted s.map p (list_fault e)
+unlisted who p s s' (Fs InsufficientStorage) h = inl refl
+unlisted who p s s' (Fs _) h = elim h.0.2 [
+  | inl lacks ↦ absurd (cc)
+  | inr refused ↦ inr (refl, λ r here kind. list_refused s.map p r _ here kind refused.0)
+]
+unlisted who p s s' (Locked l) h = absurd (In-Contains [] l h.0)
+unlisted who p s s' NoLock h = absurd h.0
+unlisted who p s s' OutOfMemory h = absurd (h.0 refl)
+
+-- ---- what a `Meta` tells
+
+meta_missing : (m : ResourceMap) (o : Option Resource) (e f : FsError) → tells m Meta (ok_or o e >>= λ r. Ok (meta_at r.node)) ≡ Err f → o ≡ None
+meta_missing m (Some r) e f h = absurd (cc)
+meta_missing m None e f h = refl
+
+-- it is refused only where nothing is there
+pub meta_refused : (who : Caller) (p : Path) (s s' : State) (e : Refusal) → Step s (asking who (Command.Meta p)) (Err e) s' → at_path s.map p ≡ None
+unfolding MayLackOnMap
+meta_refused who p s s' (Fs e) h = elim h.0.2 [
+  | inl lacks ↦ absurd (false≢true lacks.1.0)
+  | inr refused ↦ meta_missing s.map (at_path s.map p) (refusal_at s.map p) e refused.0
+]
+meta_refused who p s s' (Locked l) h = absurd (In-Contains [] l h.0)
+meta_refused who p s s' NoLock h = absurd h.0
+meta_refused who p s s' OutOfMemory h = absurd (h.0 refl)
+
+-- ---- what a `GetProps` tells
+
+props_missing : (m : ResourceMap) (o : Option Resource) (e f : FsError) → tells m Props (ok_or o e >>= λ r. Ok (map (shown true) (values r.node.props))) ≡ Err f → o ≡ None
+props_missing m (Some r) e f h = absurd (cc)
+props_missing m None e f h = refl
+
+-- why properties aren't listed
+abbrev pub Unkept : ResourceMap → Path → Fault → Type 0
+Unkept m p e = (e ≡ fault.InsufficientStorage) ⊎ ((e ≡ fault.NotFound) × (at_path m p ≡ None))
+
+pub unkept : (who : Caller) (p : Path) (s s' : State) (e : Refusal) → Step s (asking who (Command.GetProps p true)) (Err e) s' → Unkept s.map p (list_fault e)
+unkept who p s s' (Fs InsufficientStorage) h = inl refl
+unkept who p s s' (Fs _) h = elim h.0.2 [
+  | inl lacks ↦ absurd (cc)
+  | inr refused ↦ inr (refl, props_missing s.map (at_path s.map p) (refusal_at s.map p) _ refused.0)
+]
+unkept who p s s' (Locked l) h = absurd (In-Contains [] l h.0)
+unkept who p s s' NoLock h = absurd h.0
+unkept who p s s' OutOfMemory h = absurd (h.0 refl)

@@ -1,0 +1,212 @@
+-- What a GET tells of what stands at its path.
+use Rattle.std.proofs.Common.{◌≡◌, ◌⊎◌, inl, inr, ℕ, ◌-◌, List, [], ◌∷◌, length, take, drop, Option, Some, None, Result, Ok, Err, refl, sym, ◌∙◌, ap, subst, arith}
+use Rattle.std.specs.Prelude.{option_map, IfOk, IfErr, OnOk}
+use Rattle.std.proofs.lemmas.List.{append-nil, take_all}
+use Rattle.http_header.specs.FieldValue.{FieldValue}
+use Rattle.http_header.specs.HeaderMap.{Entries}
+use Rattle.dav_path_core.specs.declared.util.DavMethod.{DavMethod}
+use Rattle.dav_path_core.specs.declared.util.DavMethod.TheVariants as method
+use Rattle.dav_path_core.specs.Fronts.{Path}
+use Rattle.dav_path_core.proofs.lists.FinMaps.{one_some}
+use Rattle.dav_files_core.specs.declared.memfs.Kind.{Kind}
+use Rattle.dav_files_core.specs.declared.memfs.Kind.TheVariants.{Folder, File}
+use Rattle.dav_files_core.specs.Meta.{Meta, meta_at}
+use Rattle.dav_files_core.specs.Resources.{Resource, ResourceMap, at_path}
+use Rattle.dav_fields_core.specs.declared.etags.Standing.{Standing}
+use Rattle.dav_fields_core.specs.declared.etags.Standing.TheVariants as stands
+use Rattle.dav_faults_core.specs.declared.faults.Fault.{Fault}
+use Rattle.dav_faults_core.specs.declared.faults.Fault.TheVariants as fault
+use Rattle.dav_fields_core.specs.declared.preconditions.Course.{Course}
+use Rattle.dav_fields_core.specs.declared.preconditions.Course.TheVariants as course
+use Rattle.dav_fields_core.specs.declared.ranges.Extent.{Extent}
+use Rattle.dav_fields_core.specs.declared.ranges.Extent.TheVariants as extent
+use Rattle.dav_fields_core.specs.Fields.{Marks, Sent}
+use Rattle.dav_fields_core.specs.FileTags.{standing_as, standing_by}
+use Rattle.dav_fields_core.specs.Getting.{FailsToGet, Gets, Tells, own_tags, tagged, tags_by, told, told_by, told_of}
+use Rattle.dav_fields_core.specs.Preconditions.{course_of}
+use Rattle.dav_fields_core.specs.Private.Marking.{IsNone, IsRead, and_part, and_tags}
+use Rattle.dav_fields_core.specs.Ranges.{part_text, unsatisfied_text}
+
+-- ---- what is known of the entry there
+
+abbrev pub IsKnown : ResourceMap → Path → Meta → Type 0
+IsKnown m p known = Some known ≡ option_map (λ (r : Resource). meta_at r.node) (at_path m p)
+
+known_as : (o : Option Resource) (known : Meta) → Some known ≡ option_map (λ r. meta_at r.node) o → (r : Resource) × (o ≡ Some r) × (known ≡ meta_at r.node)
+known_as (Some r) known h = let same : known ≡ meta_at r.node = cc in (r, refl, same)
+known_as None known h = absurd (cc)
+
+pub known_entry : (m : ResourceMap) (p : Path) (known : Meta) → IsKnown m p known → (r : Resource) × (at_path m p ≡ Some r) × (known ≡ meta_at r.node)
+known_entry m p known h = known_as (at_path m p) known h
+
+-- nothing is known
+pub nothing_known : (o : Option Resource) → None ≡ option_map (λ r. meta_at r.node) o → o ≡ None
+nothing_known (Some r) h = absurd (cc)
+nothing_known None h = refl
+
+abbrev pub told_known : DavMethod → Meta → Entries FieldValue → Result (Option Extent) Fault
+told_known m known headers = told m (standing_as known) known.length headers
+
+-- ---- what is told is of the entry
+
+pub gets : (m : DavMethod) (map : ResourceMap) (p : Path) (headers : Entries FieldValue) (known : Meta) (x : Result (Option Extent) Fault) (status : ℕ) (sent : Sent)
+    → IsKnown map p known → told_known m known headers ≡ x
+    → ((r : Resource) → at_path map p ≡ Some r → known ≡ meta_at r.node → Tells x r status sent) → Gets m map p headers status sent
+gets m map p headers known x status sent found is tells =
+    let entry = known_entry map p known found in
+    record {
+      resource = entry.0;
+      here = entry.1;
+      tells = subst (λ y. Tells y entry.0 status sent) (sym is ∙ ap (λ k. told_known m k headers) entry.2) (tells entry.0 entry.1 entry.2);
+    }
+
+pub fails : (m : DavMethod) (map : ResourceMap) (p : Path) (headers : Entries FieldValue) (known : Meta) (e : Fault) → IsKnown map p known
+    → told_known m known headers ≡ Err e → FailsToGet m map p headers e
+fails m map p headers known e found is = by (course_of m (standing_as known) headers) is
+  where
+    entry : (r : Resource) × (at_path map p ≡ Some r) × (known ≡ meta_at r.node)
+    entry = known_entry map p known found
+
+    of_entry : told_of m entry.0 headers ≡ Err e
+    of_entry = sym (ap (λ k. told_known m k headers) entry.2) ∙ is
+
+    refused : (f : Fault) → f ≡ e → told_of m entry.0 headers ≡ Err f
+    refused f same = of_entry ∙ ap Err (sym same)
+
+    by : (o : Option Course) → told_by m (standing_as known) known.length headers o ≡ Err e → FailsToGet m map p headers e
+    by None h =
+        let same : fault.BadRequest ≡ e = cc in subst (FailsToGet m map p headers) same (entry.0, entry.1, refused fault.BadRequest same)
+    by (Some course.PreconditionFailed) h =
+        let same : fault.PreconditionFailed ≡ e = cc in subst (FailsToGet m map p headers) same (entry.0, entry.1, refused fault.PreconditionFailed same)
+    by (Some course.NotModified) h = absurd (cc)
+    by (Some course.Whole) h = absurd (cc)
+    by (Some course.Proceed) h = absurd (cc)
+
+-- ---- marks
+
+abbrev blank : Marks
+blank = record { tags = []; parts = [] }
+
+pub tag_told : (r : Resource) (known : Meta) (old new : Marks) → old ≡ blank → new ≡ and_tags (tags_by (standing_as known)) old → known ≡ meta_at r.node
+    → new ≡ tagged (own_tags r)
+tag_told r known old new none more same = more ∙ ap (and_tags (tags_by (standing_as known))) none ∙ ap (λ k. tagged (tags_by (standing_as k))) same
+
+-- a folder has no tag
+pub folder_marks : (known : Meta) (standing : Standing) (old new : Marks) → standing ≡ standing_as known → known.kind ≡ Folder → new ≡ old
+    → new ≡ and_tags (tags_by standing) old
+folder_marks known standing old new at kind same =
+    let folder : standing ≡ stands.Folder = at ∙ ap (λ k. standing_by k known.modified known.length) kind in
+    same ∙ sym (ap (λ (t : Standing). and_tags (tags_by t) old) folder ∙ ap (λ tags. record { tags = tags; parts = old.parts }) (append-nil old.tags))
+
+abbrev part_marks : ℕ → ℕ → Meta → Marks
+part_marks first end known = record { tags = tags_by (standing_as known); parts = part_text first end known.length ∷ [] }
+
+pub part_told : (r : Resource) (known : Meta) (first end : ℕ) (old mid new : Marks) → old ≡ blank → mid ≡ and_part (part_text first end known.length) old
+    → new ≡ and_tags (tags_by (standing_as known)) mid → known ≡ meta_at r.node
+    → new ≡ record { tags = own_tags r; parts = part_text first end (length r.node.bytes) ∷ [] }
+part_told r known first end old mid new none part more same =
+    more ∙ ap (and_tags (tags_by (standing_as known))) (part ∙ ap (and_part (part_text first end known.length)) none) ∙ ap (part_marks first end) same
+
+pub unsatisfied_told : (r : Resource) (known : Meta) (old new : Marks) → old ≡ blank → new ≡ and_part (unsatisfied_text known.length) old → known ≡ meta_at r.node
+    → new ≡ record { tags = []; parts = unsatisfied_text (length r.node.bytes) ∷ [] }
+unsatisfied_told r known old new none more same =
+    more ∙ ap (and_part (unsatisfied_text known.length)) none ∙ ap (λ (k : Meta). and_part (unsatisfied_text k.length) blank) same
+
+-- ---- bytes
+
+read_of : (r : Resource) (map other : ResourceMap) (p : Path) (at count : ℕ) (bytes : List ℕ) → other ≡ map → IsRead other p at count bytes → at_path map p ≡ Some r
+    → bytes ≡ take count (drop at r.node.bytes)
+read_of r map other p at count bytes same h here =
+    let there : at_path map p ≡ Some h.0 = sym (ap (λ m. at_path m p) same) ∙ h.1 in
+    h.3 ∙ ap (λ (x : Resource). take count (drop at x.node.bytes)) (one_some (at_path map p) h.0 r there here)
+
+pub whole_read : (r : Resource) (known : Meta) (map other : ResourceMap) (p : Path) (bytes : List ℕ) → other ≡ map → at_path map p ≡ Some r → known ≡ meta_at r.node
+    → (known.kind ≡ File → IsRead other p 0 known.length bytes) → r.node.kind ≡ File → bytes ≡ r.node.bytes
+whole_read r known map other p bytes same here is h file =
+    let kind : known.kind ≡ File = ap (λ (k : Meta). k.kind) is ∙ file in
+    let long : length r.node.bytes ≡ known.length = sym (ap (λ (k : Meta). k.length) is) in
+    read_of r map other p 0 known.length bytes same (h kind) here ∙ take_all known.length r.node.bytes (omega (arith, long))
+
+-- ---- what can't be missing
+
+pub not_missing : (m : DavMethod) (map other : ResourceMap) (p : Path) (headers : Entries FieldValue) (known : Meta) (k : Kind) (e : Fault) → IsKnown map p known
+    → other ≡ map → known.kind ≡ k → (e ≡ fault.InsufficientStorage) ⊎ ((e ≡ fault.NotFound) × IsNone other p k) → FailsToGet m map p headers e
+not_missing m map other p headers known k e found same kind (inl short) = subst (FailsToGet m map p headers) (sym short) tt
+not_missing m map other p headers known k e found same kind (inr none) =
+    let entry = known_entry map p known found in
+    absurd (none.1 entry.0 (ap (λ m. at_path m p) same ∙ entry.1) (sym (ap (λ (k : Meta). k.kind) entry.2) ∙ kind))
+
+-- a part is of a file
+pub part_of_file : (m : DavMethod) (known : Meta) (headers : Entries FieldValue) (first end : ℕ) → told_known m known headers ≡ Ok (Some (extent.Part first end))
+    → known.kind ≡ File
+part_of_file m known headers first end h = by m known.kind refl (course_of m (standing_as known) headers) h
+  where
+    by : (m : DavMethod) (k : Kind) → known.kind ≡ k → (o : Option Course)
+        → told_by m (standing_by k known.modified known.length) known.length headers o ≡ Ok (Some (extent.Part first end)) → known.kind ≡ File
+    by m File is o h = is
+    by m Folder is None h = absurd (cc)
+    by m Folder is (Some course.PreconditionFailed) h = absurd (cc)
+    by m Folder is (Some course.NotModified) h = absurd (cc)
+    by m Folder is (Some course.Whole) h = absurd (cc)
+    by method.Get Folder is (Some course.Proceed) h = absurd (cc)
+    by _ Folder is (Some course.Proceed) h = absurd (cc)
+
+-- ---- what each answer is
+
+pub on_ok : {A E : Type 0} (result : Result A E) (P Q : Type 0) → (P → Q) → OnOk result P → OnOk result Q
+on_ok (Ok x) P Q f h = f h
+on_ok (Err e) P Q f h = tt
+
+pub told_is : (m : DavMethod) (known : Meta) (headers : Entries FieldValue) (standing : Standing) (size : ℕ) (x : Result (Option Extent) Fault) → standing ≡ standing_as known
+    → size ≡ known.length → x ≡ told m standing size headers → told_known m known headers ≡ x
+told_is m known headers standing size x at long is =
+    sym (is ∙ ap (λ t. told m t size headers) at ∙ ap (λ n. told m (standing_as known) n headers) long)
+
+module _ (m : DavMethod) (map other : ResourceMap) (p : Path) (headers : Entries FieldValue) (known : Meta) (standing : Standing) (old : Marks) (sent : Sent)
+    (found : IsKnown map p known) (at : standing ≡ standing_as known) (none : old ≡ blank) (same : other ≡ map) where
+  abbrev IsTold : Result (Option Extent) Fault → Type 0
+  IsTold x = told_known m known headers ≡ x
+
+  own : sent.marks ≡ and_tags (tags_by standing) old → sent.marks ≡ and_tags (tags_by (standing_as known)) old
+  own more = more ∙ ap (λ (t : Standing). and_tags (tags_by t) old) at
+
+  pub none_gotten : (result : Result ℕ Fault) → IsTold (Ok None) → sent.body ≡ []
+      → IfOk result (λ status. (status ≡ 304) × (sent.marks ≡ and_tags (tags_by standing) old)) → IfOk result (λ status. Gets m map p headers status sent)
+  none_gotten (Ok status) is empty h =
+      gets m map p headers known (Ok None) status sent found is (λ r here is. (h.0, tag_told r known old sent.marks none (own h.1) is, empty))
+  none_gotten (Err e) is empty h = tt
+
+  pub whole_gotten : (result : Result ℕ Fault) → IsTold (Ok (Some extent.Whole))
+      → IfOk result (λ status. (status ≡ 200) × (sent.marks ≡ and_tags (tags_by standing) old))
+      → OnOk result (known.kind ≡ File → IsRead other p 0 known.length sent.body) → IfOk result (λ status. Gets m map p headers status sent)
+  whole_gotten (Ok status) is h read =
+      gets m map p headers known (Ok (Some extent.Whole)) status sent found is (λ r here is.
+      (h.0, tag_told r known old sent.marks none (own h.1) is, whole_read r known map other p sent.body same here is read))
+  whole_gotten (Err e) is h read = tt
+
+  pub part_gotten : (first end : ℕ) (result : Result ℕ Fault) → IsTold (Ok (Some (extent.Part first end)))
+      → IfOk result (λ status. (status ≡ 206) × (sent.marks ≡ and_tags (tags_by standing) (and_part (part_text first end known.length) old)))
+      → OnOk result (IsRead other p first (end - first) sent.body) → IfOk result (λ status. Gets m map p headers status sent)
+  part_gotten first end (Ok status) is h read =
+      gets m map p headers known (Ok (Some (extent.Part first end))) status sent found is (λ r here is. (
+        h.0,
+        part_told r known first end old (and_part (part_text first end known.length) old) sent.marks none refl
+            (h.1 ∙ ap (λ (t : Standing). and_tags (tags_by t) (and_part (part_text first end known.length) old)) at) is,
+        read_of r map other p first (end - first) sent.body same read here,
+      ))
+  part_gotten first end (Err e) is h read = tt
+
+  pub unsatisfied_gotten : (size : ℕ) (result : Result ℕ Fault) → IsTold (Ok (Some extent.Unsatisfiable)) → size ≡ known.length → sent.body ≡ []
+      → IfOk result (λ status. (status ≡ 416) × (sent.marks ≡ and_part (unsatisfied_text size) old)) → IfOk result (λ status. Gets m map p headers status sent)
+  unsatisfied_gotten size (Ok status) is long empty h =
+      gets m map p headers known (Ok (Some extent.Unsatisfiable)) status sent found is (λ r here is. (
+        h.0,
+        unsatisfied_told r known old sent.marks none (h.1 ∙ ap (λ n. and_part (unsatisfied_text n) old) long) is,
+        empty,
+      ))
+  unsatisfied_gotten size (Err e) is long empty h = tt
+
+  pub part_fails : (first end : ℕ) (result : Result ℕ Fault) → IsTold (Ok (Some (extent.Part first end)))
+      → IfErr result (λ e. (e ≡ fault.InsufficientStorage) ⊎ ((e ≡ fault.NotFound) × IsNone other p File)) → IfErr result (λ e. FailsToGet m map p headers e)
+  part_fails first end (Ok status) is h = tt
+  part_fails first end (Err e) is h = not_missing m map other p headers known File e found same (part_of_file m known headers first end is) h

@@ -1,0 +1,553 @@
+-- How all that stands below a path is gathered: what is done, and what waits.
+use Rattle.std.proofs.Common.{◌≡◌, ◌≢◌, ◌⊎◌, inl, inr, ℕ, zero, suc, ◌↔◌, ◌<◌, ◌≤◌, Bool, true, false, cond, List, [], ◌∷◌, ◌++◌, length, map, Option, Some, None, is_some, Result, Ok, Err, refl, sym, ap, ◌∙◌, subst, append_assoc, append-nil, length-append, arith}
+use Rattle.std.specs.Prelude.{Contains, IsSome, T, option_map, slice_index_or}
+use Rattle.std.specs.List.{AllPairs, list_any}
+use Rattle.std.specs.declared.cmp.Ordering.{Ordering}
+use Rattle.std.specs.Cmp.{tied_itself}
+use Rattle.std.specs.Ordering.{eq_by_cmp, is_lt}
+use Rattle.std.specs.FinMap.{IsAntisymmetric, entries, entries_sorted, find, get-entries, is_sorted}
+use Rattle.std.specs.FinMap.Entries.{below_all}
+use Rattle.std.proofs.lemmas.Bool.{cases_Bool, false≢true, true≢false, false_from_ne_true, or_left, or_right}
+use Rattle.std.proofs.lemmas.List.{map-append}
+use Rattle.std.proofs.lemmas.List.Elements.{All-contains_itself}
+use Rattle.std.proofs.lemmas.Simd.{map-map}
+use Rattle.std.proofs.lemmas.List.Kept.{AllPairs-cons}
+use Rattle.dav_path_core.specs.Fronts.{Segment, Path, segment_cmp, behind, is_front}
+use Rattle.dav_path_core.proofs.lists.Every.{Every, first_so, second_so}
+use Rattle.dav_path_core.proofs.lists.MemberLemmas.{In, In-Contains, Contains-In, find_any}
+use Rattle.dav_path_core.proofs.lists.Orders.{path_exact, segment_exact, segment_total, eq_by_cmp_true}
+use Rattle.dav_path_core.proofs.lists.Snoc.{by_last, snoc_front, snoc_last}
+use Rattle.dav_path_core.proofs.paths.FrontLemmas.{behind_append, behind_is, is_front-refl, is_front-trans}
+use Rattle.dav_path_core.specs.declared.errors.FsError.{FsError}
+use Rattle.dav_path_core.specs.Reading.{CanBeSegment}
+use Rattle.dav_files_core.specs.declared.memfs.listing.MemFsEntry.{MemFsEntry}
+use Rattle.dav_files_core.specs.Listing.{entry_of, listed, read_dir}
+use Rattle.dav_files_core.specs.Meta.{Meta as Known, meta_at, meta_of}
+use Rattle.dav_files_core.specs.Outcomes.{◌>>=◌, find_folder}
+use Rattle.dav_files_core.specs.Finding.{members, has_members}
+use Rattle.dav_files_core.specs.Resources.{Resource, ResourceMap, at_path, IsResourceMap}
+use Rattle.dav_files_core.proofs.listings.DescribingLemmas.{all_stand}
+use Rattle.dav_files_core.proofs.listings.MemberLemmas.{get-members}
+use Rattle.dav_files_core.proofs.moves.MovingLemmas.{front_there}
+use Rattle.dav_files_core.proofs.walks.HasMembersLemmas.{has_none}
+use Rattle.dav_resource_core.specs.Step.{State}
+use Rattle.dav_faults_core.specs.declared.faults.Fault.{Fault}
+use Rattle.dav_faults_core.specs.declared.faults.Fault.TheVariants as fault
+use Rattle.dav_session_core.specs.Callers.{Caller}
+use Rattle.dav_files_core.specs.declared.memfs.MemFsMeta.{MemFsMeta}
+use Rattle.dav_session_core.proofs.ConditionLemmas.{Looks}
+use Rattle.dav_session_core.specs.Subtrees.{HasOddName, IsWalk}
+use Rattle.dav_session_core.specs.Private.Gathering.{HasOddMember, MembersAre, paths_in}
+
+-- ---- elements of lists that are put together
+
+module _ {A : Type 0} where
+  pub in_either : (x : A) (xs ys : List A) → In x (xs ++ ys) → In x xs ⊎ In x ys
+  in_either x [] ys i = inr i
+  in_either x (y ∷ xs) ys i = elim i [
+    | inl e ↦ inl (inl e)
+    | inr j ↦ elim (in_either x xs ys j) [ inl k ↦ inl (inr k) | inr k ↦ inr k ]
+  ]
+
+  pub in_left : (x : A) (xs ys : List A) → In x xs → In x (xs ++ ys)
+  in_left x [] ys i = absurd i
+  in_left x (y ∷ xs) ys i = elim i [ inl e ↦ inl e | inr j ↦ inr (in_left x xs ys j) ]
+
+  pub in_right : (x : A) (xs ys : List A) → In x ys → In x (xs ++ ys)
+  in_right x [] ys i = i
+  in_right x (y ∷ xs) ys i = inr (in_right x xs ys i)
+
+  pub in_one : (x y : A) → In x (y ∷ []) → y ≡ x
+  in_one x y i = elim i [ inl e ↦ e | inr j ↦ absurd j ]
+
+  -- what holds of each element and each later one
+  abbrev pub Later : (A → A → Type 0) → List A → Type 0
+  Later R [] = Unit {0}
+  Later R (x ∷ xs) = ((y : A) → In y xs → R x y) × Later R xs
+
+  module _ (R : A → A → Type 0) where
+    later_both : (xs ys : List A) → Later R xs → Later R ys → ((x y : A) → In x xs → In y ys → R x y) → Later R (xs ++ ys)
+    later_both [] ys h k cross = k
+    later_both (x ∷ xs) ys h k cross =
+        ((λ y i. elim (in_either y xs ys i) [ inl j ↦ h.0 y j | inr j ↦ cross x y (inl refl) j ]), later_both xs ys h.1 k (λ a b i j. cross a b (inr i) j))
+
+    later_front : (xs ys : List A) → Later R (xs ++ ys) → Later R xs
+    later_front [] ys h = tt
+    later_front (x ∷ xs) ys h = ((λ y i. h.0 y (in_left y xs ys i)), later_front xs ys h.1)
+
+    later_cross : (xs ys : List A) (x y : A) → Later R (xs ++ ys) → In x xs → In y ys → R x y
+    later_cross [] ys x y h i j = absurd i
+    later_cross (z ∷ xs) ys x y h i j = elim i [
+      | inl e ↦ subst (λ w. R w y) e (h.0 y (in_right y xs ys j))
+      | inr k ↦ later_cross xs ys x y h.1 k j
+    ]
+
+    pub later_pairs : (xs : List A) → Later R xs → AllPairs R xs
+    later_pairs [] h = λ i j d lt inside. absurd (omega arith)
+    later_pairs (x ∷ xs) h = AllPairs-cons R x xs (λ i d inside. h.0 _ (In-Contains xs _ (All-contains_itself xs i d inside))) (later_pairs xs h.1)
+
+-- ---- paths at or below others
+
+pub some_of : {A : Type 0} (o : Option A) → IsSome o → (x : A) × (o ≡ Some x)
+some_of (Some x) h = (x, refl)
+some_of None h = absurd (false≢true h)
+
+pub rest_of : (a q : Path) → is_front a q ≡ true → (s : Path) × (q ≡ a ++ s)
+rest_of a q h = let s = some_of (behind a q) h in (s.0, behind_is a q s.0 s.1)
+
+pub front_of : (a s : Path) → is_front a (a ++ s) ≡ true
+front_of a s = ap is_some (behind_append a s)
+
+-- a member is not above its folder
+member_longer : (p : Path) (s : Segment) → is_front (p ++ (s ∷ [])) p ≡ false
+member_longer p s = false_from_ne_true _ (λ h.
+    let r = rest_of (p ++ (s ∷ [])) p h in
+    absurd (omega (arith, ap length r.1, length-append (p ++ (s ∷ [])) r.0, length-append p (s ∷ []))))
+
+-- what a member is at or below
+pub member_below : (x p : Path) (s : Segment) → is_front x (p ++ (s ∷ [])) ≡ true → (is_front x p ≡ true) ⊎ (x ≡ p ++ (s ∷ []))
+member_below x p s h =
+    let r = rest_of x (p ++ (s ∷ [])) h in
+    elim (by_last r.0) [
+      | inl none ↦ inr (sym (append-nil x) ∙ ap (λ t. x ++ t) (sym none) ∙ sym r.1)
+      | inr l ↦
+          let split : p ++ (s ∷ []) ≡ (x ++ l.0) ++ (l.1 ∷ []) = r.1 ∙ ap (λ t. x ++ t) l.2 ∙ sym (append_assoc x l.0 (l.1 ∷ [])) in
+          inl (subst (λ q. is_front x q ≡ true) (sym (snoc_front p (x ++ l.0) s l.1 split)) (front_of x l.0))
+    ]
+
+-- neither is at or below the other
+abbrev Apart : Path → Path → Type 0
+Apart x y = (is_front x y ≡ false) × (is_front y x ≡ false)
+
+-- paths of which one is at or below the other are not apart
+not_front : (x y q : Path) → is_front x y ≡ false → is_front x q ≡ true → is_front q y ≡ true → ⊥
+not_front x y q apart h k = absurd (true≢false (sym (is_front-trans x q y h k) ∙ apart))
+
+-- a member is apart from what its folder is apart from
+apart_member : (x p : Path) (s : Segment) → Apart x p → Apart x (p ++ (s ∷ []))
+apart_member x p s apart = (
+  false_from_ne_true _ (λ h. elim (member_below x p s h) [
+    | inl k ↦ true≢false (sym k ∙ apart.0)
+    | inr e ↦ true≢false (sym (subst (λ y. is_front p y ≡ true) (sym e) (front_of p (s ∷ []))) ∙ apart.1)
+  ]),
+  false_from_ne_true _ (λ h. not_front p x (p ++ (s ∷ [])) apart.1 (front_of p (s ∷ [])) h),
+)
+
+-- two members are apart
+apart_members : (p : Path) (s t : Segment) → s ≢ t → Apart (p ++ (s ∷ [])) (p ++ (t ∷ []))
+apart_members p s t other = (one s t other, one t s (λ e. other (sym e)))
+  where
+    one : (s t : Segment) → s ≢ t → is_front (p ++ (s ∷ [])) (p ++ (t ∷ [])) ≡ false
+    one s t other = false_from_ne_true _ (λ h. elim (member_below (p ++ (s ∷ [])) p t h) [
+      | inl k ↦ true≢false (sym k ∙ member_longer p s)
+      | inr e ↦ other (snoc_last p p s t e)
+    ])
+
+-- ---- what stands last
+
+last_at : {A : Type 0} (xs : List A) (last d : A) → slice_index_or (xs ++ (last ∷ [])) (length xs) d ≡ last
+last_at [] last d = refl
+last_at (x ∷ xs) last d = last_at xs last d
+
+pub pair_at : {A : Type 0} (R : A → A → Type 0) (xs : List A) (last x : A) → AllPairs R (xs ++ (last ∷ [])) → In x xs → R x last
+pair_at R [] last x all i = absurd i
+pair_at R (y ∷ xs) last x all i = elim i [
+  | inl e ↦ subst (λ z. R z last) e (subst (R y) (last_at xs last y) (all 0 (suc (length xs)) y (omega arith) (omega (arith, length-append xs (last ∷ [])))))
+  | inr k ↦ pair_at R xs last x (λ i j d lt inside. all (suc i) (suc j) d (omega arith) (omega arith)) k
+]
+
+pub last_bare : (m : ResourceMap) (p last : Path) (before : List Path) → IsWalk m p (before ++ (last ∷ [])) → has_members m last ≡ false
+last_bare m p last before walk = has_none m last (λ s. by s (at_path m (last ++ (s ∷ []))) refl)
+  where
+    by : (s : Segment) (o : Option Resource) → at_path m (last ++ (s ∷ [])) ≡ o → o ≡ None
+    by s None e = refl
+    by s (Some r) e =
+        let child = last ++ (s ∷ []) in
+        let here = (walk.members last).0 (Contains-In _ _ (in_right last before (last ∷ []) (inl refl))) in
+        let there = (walk.members child).1 (is_front-trans p last child here.0 (front_of last (s ∷ [])), ap is_some e) in
+        absurd (elim (in_either child before (last ∷ []) (In-Contains _ _ there)) [
+          | inl i ↦ true≢false (sym (front_of last (s ∷ [])) ∙ pair_at (λ q r. is_front r q ≡ false) before last child walk.order i)
+          | inr i ↦ (let same : last ≡ child = in_one child last i in true≢false (sym (subst (λ q. is_front q last ≡ true) same (is_front-refl last)) ∙ member_longer last s))
+        ])
+
+get_front : {A : Type 0} (xs ys : List A) (i : ℕ) (d : A) → i < length xs → slice_index_or (xs ++ ys) i d ≡ slice_index_or xs i d
+get_front [] ys i d lt = absurd (omega (arith, lt))
+get_front (x ∷ xs) ys zero d lt = refl
+get_front (x ∷ xs) ys (suc i) d lt = get_front xs ys i d (omega (arith, lt))
+
+pairs_front : {A : Type 0} (R : A → A → Type 0) (xs ys : List A) → AllPairs R (xs ++ ys) → AllPairs R xs
+pairs_front R xs ys all = λ i j d lt inside.
+    subst (λ x. R x (slice_index_or xs j d)) (get_front xs ys i d (omega (arith, lt, inside)))
+    (subst (R (slice_index_or (xs ++ ys) i d)) (get_front xs ys j d inside) (all i j d lt (omega (arith, inside, length-append xs ys))))
+
+-- once it is gone, what stands before it is a walk of what is left
+pub walk_left : (m after : ResourceMap) (p last : Path) (before : List Path) → IsWalk m p (before ++ (last ∷ [])) → at_path after last ≡ None
+    → ((q : Path) → q ≢ last → IsSome (at_path after q) ↔ IsSome (at_path m q)) → IsWalk after p before
+walk_left m after p last before walk gone same = record {
+  members = λ q. (stands q, listed_before q);
+  once = pairs_front (λ q r. q ≢ r) before (last ∷ []) walk.once;
+  order = pairs_front (λ q r. is_front r q ≡ false) before (last ∷ []) walk.order;
+}
+  where
+    stands : (q : Path) → Contains before q → (is_front p q ≡ true) × IsSome (at_path after q)
+    stands q h =
+        let i = In-Contains before q h in
+        let here = (walk.members q).0 (Contains-In _ _ (in_left q before (last ∷ []) i)) in
+        (here.0, (same q (pair_at (λ q r. q ≢ r) before last q walk.once i)).1 here.1)
+
+    listed_before : (q : Path) → (is_front p q ≡ true) × IsSome (at_path after q) → Contains before q
+    listed_before q h =
+        let other : q ≢ last = λ e. true≢false (sym h.1 ∙ ap (λ x. is_some (at_path after x)) e ∙ ap is_some gone) in
+        elim (in_either q before (last ∷ []) (In-Contains _ _ ((walk.members q).1 (h.0, (same q other).0 h.1)))) [
+          | inl i ↦ Contains-In before q i
+          | inr i ↦ absurd (other (sym (in_one q last i)))
+        ]
+
+-- ---- keys of entries
+
+found_in : {K X : Type 0} {R : K → K → Ordering} → IsAntisymmetric R → (es : List (K × X)) (k : K) (v : X) → find R k es ≡ Some v → In k (map (λ (e : K × X). e.0) es)
+found_in exact [] k v h = absurd (cc)
+found_in {R = R} exact (e ∷ es) k v h = elim (cases_Bool (eq_by_cmp R k e.0)) [
+  | inl t ↦ inl (sym (eq_by_cmp_true exact k e.0 t))
+  | inr f ↦ inr (found_in exact es k v (subst (λ b. cond b (Some e.1) (find R k es) ≡ Some v) f h))
+]
+
+-- a name that is below others is none of them
+not_below_itself : (k s : Segment) (es : List (Segment × Resource)) → T (below_all segment_cmp k es) → In s (map (λ (e : Segment × Resource). e.0) es) → k ≢ s
+not_below_itself k s [] h i = absurd i
+not_below_itself k s (e ∷ es) h i = elim i [
+  | inl is ↦ λ same. subst T (ap is_lt (ap (segment_cmp k) (is ∙ sym same) ∙ tied_itself segment_total k)) (first_so _ _ h)
+  | inr j ↦ not_below_itself k s es (second_so _ _ h) j
+]
+
+-- ---- members
+
+paths_in_at : (p : Path) (s : Segment) (names : List Segment) → In s names → In (p ++ (s ∷ [])) (paths_in p names)
+paths_in_at p s [] i = absurd i
+paths_in_at p s (name ∷ names) i = elim i [
+  | inl e ↦ inl (ap (λ t. p ++ (t ∷ [])) e)
+  | inr j ↦ inr (paths_in_at p s names j)
+]
+
+name_in_path : (p : Path) (q : Path) (names : List Segment) → In q (paths_in p names) → (s : Segment) × In s names × (q ≡ p ++ (s ∷ []))
+name_in_path p q [] i = absurd i
+name_in_path p q (name ∷ names) i = elim i [
+  | inl e ↦ (name, inl refl, sym e)
+  | inr j ↦ (let r = name_in_path p q names j in (r.0, inr r.1, r.2))
+]
+
+-- paths of names that rise are apart
+paths_apart : (p : Path) (es : List (Segment × Resource)) → T (is_sorted segment_cmp es) → Later Apart (paths_in p (map (λ (e : Segment × Resource). e.0) es))
+paths_apart p [] h = tt
+paths_apart p (e ∷ es) h = (
+  (λ q i. let r = name_in_path p q _ i in subst (Apart (p ++ (e.0 ∷ []))) (sym r.2) (apart_members p e.0 r.0 (not_below_itself e.0 r.0 es (first_so _ _ h) r.1))),
+  paths_apart p es (second_so _ _ h),
+)
+
+-- something stands at the name of a member
+name_stands : (m : ResourceMap) (p : Path) (s : Segment) → In s (map (λ (e : Segment × Resource). e.0) (entries (members m p))) → IsSome (at_path m (p ++ (s ∷ [])))
+name_stands m p s i = by (entries (members m p)) (all_stand m p) i
+  where
+    by : (es : List (Segment × Resource)) → Every (λ (e : Segment × Resource). at_path m (p ++ (e.0 ∷ [])) ≡ Some e.1) es → In s (map (λ (e : Segment × Resource). e.0) es)
+        → IsSome (at_path m (p ++ (s ∷ [])))
+    by [] h i = absurd i
+    by (e ∷ es) h i = elim i [
+      | inl is ↦ subst (λ t. IsSome (at_path m (p ++ (t ∷ [])))) is (ap is_some h.0)
+      | inr j ↦ by es h.1 j
+    ]
+
+module _ (m : ResourceMap) (p : Path) where
+  -- what is known of gathered members
+  record Gathered (paths : List Path) : Type 0 where
+    stand : (q : Path) → In q paths → (s : Segment) × (q ≡ p ++ (s ∷ [])) × IsSome (at_path m q)
+    apart : Later Apart paths
+    all : IsResourceMap m → (s : Segment) → IsSome (at_path m (p ++ (s ∷ []))) → In (p ++ (s ∷ [])) paths
+
+  gathered : (paths : List Path) → MembersAre m p paths → Gathered paths
+  gathered paths (inl is) = subst Gathered (sym is) (record {
+    stand = λ q i. (let e = name_in_path p q (map (λ (e : Segment × Resource). e.0) (entries (members m p))) i in (e.0, e.2, subst (λ x. IsSome (at_path m x)) (sym e.2) (name_stands m p e.0 e.1)));
+    apart = paths_apart p (entries (members m p)) (entries_sorted (members m p));
+    all = λ is_map s there. (
+        let r = some_of _ there in
+        paths_in_at p s _ (found_in segment_exact (entries (members m p)) s r.0 (sym (get-entries (members m p) s) ∙ get-members m p s ∙ r.1)));
+  })
+  gathered paths (inr none) = subst Gathered (sym none.0) (record {
+    stand = λ q i. absurd i;
+    apart = tt;
+    all = λ is_map s there. (
+        let r = some_of _ there in
+        let folder = is_map.parents p s r.0 r.1 in
+        absurd (none.1 folder.0 folder.1 folder.2));
+  })
+
+-- ---- what is done, and what waits
+
+pub record Walking (m : ResourceMap) (p : Path) (done waiting : List Path) : Type 0 where
+  stand : (q : Path) → In q done ⊎ In q waiting → (is_front p q ≡ true) × IsSome (at_path m q)
+  all : IsResourceMap m → (q : Path) → is_front p q ≡ true → IsSome (at_path m q) → In q done ⊎ ((x : Path) × In x waiting × (is_front x q ≡ true))
+  order : Later (λ q r. is_front r q ≡ false) done
+  behind : (q x : Path) → In q done → In x waiting → is_front x q ≡ false
+  apart : Later Apart waiting
+
+module _ (m : ResourceMap) (p : Path) where
+  pub walk_begun : IsSome (at_path m p) → Walking m p [] (p ∷ [])
+  walk_begun here = record {
+    stand = λ q i. elim i [
+      | inl j ↦ absurd j
+      | inr j ↦ (let same = in_one q p j in (subst (λ x. is_front p x ≡ true) same (is_front-refl p), subst (λ x. IsSome (at_path m x)) same here))
+    ];
+    all = λ is_map q below there. inr (p, inl refl, below);
+    order = tt;
+    behind = λ q x i j. absurd i;
+    apart = ((λ y i. absurd i), tt);
+  }
+
+  -- all are done
+  pub walk_done : (done : List Path) → Walking m p done [] → IsResourceMap m → IsWalk m p done
+  walk_done done w is_map = record {
+    members = λ q. (
+      (λ h. w.stand q (inl (In-Contains done q h))),
+      (λ h. elim (w.all is_map q h.0 h.1) [ inl i ↦ Contains-In done q i | inr x ↦ absurd x.1 ]),
+    );
+    once = λ i j d lt inside e. true≢false (sym (subst (λ r. is_front r (slice_index_or done i d) ≡ true) e (is_front-refl (slice_index_or done i d))) ∙ later_pairs _ done w.order i j d lt inside);
+    order = later_pairs _ done w.order;
+  }
+
+  module _ (done rest paths : List Path) (place : Path) (w : Walking m p done (rest ++ (place ∷ []))) (g : Gathered m place paths) where
+    waits : In place (rest ++ (place ∷ []))
+    waits = in_right place rest (place ∷ []) (inl refl)
+
+    -- what waits besides is apart from the place
+    besides : (x : Path) → In x rest → Apart x place
+    besides x i = later_cross Apart rest (place ∷ []) x place w.apart i (inl refl)
+
+    stand_on : (q : Path) → In q (done ++ (place ∷ [])) ⊎ In q (rest ++ paths) → (is_front p q ≡ true) × IsSome (at_path m q)
+    stand_on q (inl i) = elim (in_either q done (place ∷ []) i) [
+      | inl j ↦ w.stand q (inl j)
+      | inr j ↦ w.stand q (inr (in_right q rest (place ∷ []) j))
+    ]
+    stand_on q (inr i) = elim (in_either q rest paths i) [
+      | inl j ↦ w.stand q (inr (in_left q rest (place ∷ []) j))
+      | inr j ↦
+          let s = g.stand q j in
+          (is_front-trans p place q (w.stand place (inr waits)).0 (subst (λ x. is_front place x ≡ true) (sym s.1) (front_of place (s.0 ∷ []))), s.2)
+    ]
+
+    -- what is at or below the place is the place, or at or below a member
+    below_on : IsResourceMap m → (q : Path) → is_front place q ≡ true → IsSome (at_path m q) → In q (done ++ (place ∷ [])) ⊎ ((x : Path) × In x (rest ++ paths) × (is_front x q ≡ true))
+    below_on is_map q below there = let r = rest_of place q below in by r.0 r.1
+      where
+        by : (t : Path) → q ≡ place ++ t → In q (done ++ (place ∷ [])) ⊎ ((x : Path) × In x (rest ++ paths) × (is_front x q ≡ true))
+        by [] e = inl (in_right q done (place ∷ []) (inl (sym (append-nil place) ∙ sym e)))
+        by (s ∷ t) e =
+            let split : q ≡ (place ++ (s ∷ [])) ++ t = e ∙ sym (append_assoc place (s ∷ []) t) in
+            let here = some_of (at_path m q) there in
+            let member = front_there m is_map (place ++ (s ∷ [])) t here.0 (ap (at_path m) (sym split) ∙ here.1) in
+            inr (place ++ (s ∷ []), in_right _ rest paths (g.all is_map s (ap is_some member.1)), subst (λ x. is_front (place ++ (s ∷ [])) x ≡ true) (sym split) (front_of (place ++ (s ∷ [])) t))
+
+    all_on : IsResourceMap m → (q : Path) → is_front p q ≡ true → IsSome (at_path m q) → In q (done ++ (place ∷ [])) ⊎ ((x : Path) × In x (rest ++ paths) × (is_front x q ≡ true))
+    all_on is_map q below there = elim (w.all is_map q below there) [
+      | inl i ↦ inl (in_left q done (place ∷ []) i)
+      | inr x ↦ elim (in_either x.0 rest (place ∷ []) x.1) [
+        | inl i ↦ inr (x.0, in_left x.0 rest paths i, x.2)
+        | inr i ↦ below_on is_map q (subst (λ y. is_front y q ≡ true) (sym (in_one x.0 place i)) x.2) there
+      ]
+    ]
+
+    behind_on : (q x : Path) → In q (done ++ (place ∷ [])) → In x (rest ++ paths) → is_front x q ≡ false
+    behind_on q x i j = elim (in_either q done (place ∷ []) i) [
+      | inl k ↦ elim (in_either x rest paths j) [
+        | inl l ↦ w.behind q x k (in_left x rest (place ∷ []) l)
+        | inr l ↦
+            let s = g.stand x l in
+            false_from_ne_true _ (λ h. not_front place q x (w.behind q place k waits) (subst (λ y. is_front place y ≡ true) (sym s.1) (front_of place (s.0 ∷ []))) h)
+      ]
+      | inr k ↦ subst (λ y. is_front x y ≡ false) (in_one q place k) (elim (in_either x rest paths j) [
+        | inl l ↦ (besides x l).0
+        | inr l ↦ (let s = g.stand x l in subst (λ y. is_front y place ≡ false) (sym s.1) (member_longer place s.0))
+      ])
+    ]
+
+    apart_on : (x y : Path) → In x rest → In y paths → Apart x y
+    apart_on x y i j = let s = g.stand y j in subst (Apart x) (sym s.1) (apart_member x place s.0 (besides x i))
+
+    walk_on : Walking m p (done ++ (place ∷ [])) (rest ++ paths)
+    walk_on = record {
+      stand = stand_on;
+      all = all_on;
+      order = later_both _ done (place ∷ []) w.order ((λ y i. absurd i), tt)
+          (λ q r i j. subst (λ y. is_front y q ≡ false) (in_one r place j) (w.behind q place i waits));
+      behind = behind_on;
+      apart = later_both Apart rest paths (later_front Apart rest (place ∷ []) w.apart) g.apart apart_on;
+    }
+
+-- ---- that it ends: fewer entries are at or below what waits
+
+counted : {A : Type 0} → (A → Bool) → List A → ℕ
+counted test [] = 0
+counted test (x ∷ xs) = cond (test x) (suc (counted test xs)) (counted test xs)
+
+module _ {A : Type 0} (less more : A → Bool) (weaker : (x : A) → less x ≡ true → more x ≡ true) where
+  no_more : (xs : List A) → counted less xs ≤ counted more xs
+  unfolding counted
+  no_more [] = omega arith
+  no_more (x ∷ xs) = let rest = no_more xs in elim (cases_Bool (less x)) [
+    | inl t ↦ rw (t, weaker x t) (omega (arith, rest))
+    | inr f ↦ rw f (elim (more x) as (λ b. counted less xs ≤ cond b (suc (counted more xs)) (counted more xs)) [ true ↦ omega (arith, rest) | false ↦ rest ])
+  ]
+
+  one_fewer : (xs : List A) (x : A) → In x xs → less x ≡ false → more x ≡ true → counted less xs < counted more xs
+  unfolding counted
+  one_fewer [] x i f t = absurd i
+  one_fewer (y ∷ xs) x i f t = elim i [
+    | inl e ↦ rw (ap less e ∙ f, ap more e ∙ t) (let rest = no_more xs in omega (arith, rest))
+    | inr j ↦ (let rest = one_fewer xs x j f t in elim (cases_Bool (less y)) [
+      | inl g ↦ rw (g, weaker y g) (omega (arith, rest))
+      | inr g ↦ rw g (elim (more y) as (λ b. counted less xs < cond b (suc (counted more xs)) (counted more xs)) [ true ↦ omega (arith, rest) | false ↦ rest ])
+    ])
+  ]
+
+-- how many entries are at or below one of the paths
+pub left_below : ResourceMap → List Path → ℕ
+left_below m waiting = counted (λ q. list_any (λ x. is_front x q) waiting) (map (λ (e : Path × Resource). e.0) (entries m.entries))
+
+any_of : {A : Type 0} (test : A → Bool) (xs : List A) (x : A) → In x xs → test x ≡ true → list_any test xs ≡ true
+any_of test [] x i h = absurd i
+any_of test (y ∷ xs) x i h = elim i [
+  | inl e ↦ or_left (test y) (list_any test xs) (ap test e ∙ h)
+  | inr j ↦ or_right (test y) (list_any test xs) (any_of test xs x j h)
+]
+
+pub fewer_left : (m : ResourceMap) (p : Path) (done rest paths : List Path) (place : Path) → Walking m p done (rest ++ (place ∷ [])) → MembersAre m place paths
+    → left_below m (rest ++ paths) < left_below m (rest ++ (place ∷ []))
+unfolding left_below
+fewer_left m p done rest paths place w are =
+    one_fewer (at (rest ++ paths)) (at (rest ++ (place ∷ []))) weaker _ place (found_in path_exact (entries m.entries) place here.0 (sym (get-entries m.entries place) ∙ here.1)) gone
+    (any_of (λ x. is_front x place) _ place waits (is_front-refl place))
+  where
+    at : List Path → Path → Bool
+    at waiting q = list_any (λ x. is_front x q) waiting
+
+    g : Gathered m place paths
+    g = gathered m place paths are
+
+    waits : In place (rest ++ (place ∷ []))
+    waits = in_right place rest (place ∷ []) (inl refl)
+
+    here : (r : Resource) × (at_path m place ≡ Some r)
+    here = some_of _ (w.stand place (inr waits)).1
+
+    weaker : (q : Path) → at (rest ++ paths) q ≡ true → at (rest ++ (place ∷ [])) q ≡ true
+    weaker q h =
+        let x = find_any (λ x. is_front x q) (rest ++ paths) h in
+        elim (in_either x.0 rest paths x.1) [
+          | inl i ↦ any_of (λ x. is_front x q) _ x.0 (in_left x.0 rest (place ∷ []) i) x.2
+          | inr i ↦
+              let s = g.stand x.0 i in
+              any_of (λ x. is_front x q) _ place waits (is_front-trans place x.0 q (subst (λ y. is_front place y ≡ true) (sym s.1) (front_of place (s.0 ∷ []))) x.2)
+        ]
+
+    gone : at (rest ++ paths) place ≡ false
+    gone = false_from_ne_true _ (λ h.
+        let x = find_any (λ x. is_front x place) (rest ++ paths) h in
+        elim (in_either x.0 rest paths x.1) [
+          | inl i ↦ true≢false (sym x.2 ∙ (later_cross Apart rest (place ∷ []) x.0 place w.apart i (inl refl)).0)
+          | inr i ↦ (let s = g.stand x.0 i in true≢false (sym x.2 ∙ subst (λ y. is_front y place ≡ false) (sym s.1) (member_longer place s.0)))
+        ])
+
+-- ---- what a listing tells of members
+
+-- the names that a listing has are those of the members
+listed_names : (m : ResourceMap) (p : Path) (told : List (Segment × Known)) → read_dir m p ≡ Ok told
+    → map (λ (e : Segment × Known). e.0) told ≡ map (λ (e : Segment × Resource). e.0) (entries (members m p))
+listed_names m p told h = by (find_folder m p) h
+  where
+    by : (r : Result Resource FsError) → (r >>= λ (_ : Resource). Ok (map listed (entries (members m p)))) ≡ Ok told
+        → map (λ (e : Segment × Known). e.0) told ≡ map (λ (e : Segment × Resource). e.0) (entries (members m p))
+    by (Ok r) e =
+        let same : map listed (entries (members m p)) ≡ told = cc in
+        ap (map (λ (e : Segment × Known). e.0)) (sym same) ∙ map-map (λ (e : Segment × Known). e.0) listed (entries (members m p))
+    by (Err x) e = absurd (cc)
+
+names_told : (m : ResourceMap) (p : Path) (items : List MemFsEntry) → read_dir m p ≡ Ok (map entry_of items)
+    → map (λ e. e.name) items ≡ map (λ (e : Segment × Resource). e.0) (entries (members m p))
+names_told m p items h = sym (map-map (λ (e : Segment × Known). e.0) entry_of items) ∙ listed_names m p (map entry_of items) h
+
+pub members_told : (m : ResourceMap) (p : Path) (items : List MemFsEntry) (paths : List Path) → read_dir m p ≡ Ok (map entry_of items)
+    → paths ≡ paths_in p (map (λ e. e.name) items) → MembersAre m p paths
+members_told m p items paths h is = inl (is ∙ ap (paths_in p) (names_told m p items h))
+
+pub odd_told : (m : ResourceMap) (p : Path) (items : List MemFsEntry) (entry : MemFsEntry) → read_dir m p ≡ Ok (map entry_of items)
+    → Contains items entry → ¬ CanBeSegment entry.name → HasOddMember m p
+odd_told m p items entry h there odd =
+    (entry.name, name_stands m p entry.name (subst (In entry.name) (names_told m p items h) (in_map items (In-Contains items entry there))), odd)
+  where
+    in_map : (es : List MemFsEntry) → In entry es → In entry.name (map (λ e. e.name) es)
+    in_map [] i = absurd i
+    in_map (e ∷ es) i = elim i [ inl is ↦ inl (ap (λ (x : MemFsEntry). x.name) is) | inr j ↦ inr (in_map es j) ]
+
+-- ---- in the words of the code
+
+pub same_map : (who : Caller) (s : State) (mid : Caller) (m : State) → Looks who s mid m → m.map ≡ s.map
+same_map who s mid m h = ap (λ (x : State). x.map) h.live
+
+-- something is known of what stands there
+pub stands_as : (result : Option MemFsMeta) (o : Option Resource) → option_map meta_of result ≡ option_map (λ (r : Resource). meta_at r.node) o → is_some result ≡ true → IsSome o
+stands_as (Some x) (Some r) h e = refl
+stands_as (Some x) None h e = absurd (cc)
+stands_as None o h e = absurd (false≢true e)
+
+pub nothing_left : {A : Type 0} (xs : List A) (n : ℕ) → n ≡ length xs → n ≡ 0 → xs ≡ []
+nothing_left [] n h e = refl
+nothing_left (x ∷ xs) n h e = absurd (omega arith)
+
+module _ {A : Type 0} (f : A → Path) (m : ResourceMap) where
+  pub begin : (place : A) (places none waiting : List A) → places ≡ [] → none ≡ [] → waiting ≡ none ++ (place ∷ []) → IsSome (at_path m (f place))
+      → Walking m (f place) (map f places) (map f waiting)
+  begin place places none waiting e n is here =
+      let one : map f waiting ≡ f place ∷ [] = ap (map f) (is ∙ ap (λ xs. xs ++ (place ∷ [])) n) in
+      subst (λ xs. Walking m (f place) (map f places) xs) (sym one) (subst (λ xs. Walking m (f place) xs (f place ∷ [])) (sym (ap (map f) e)) (walk_begun m (f place) here))
+
+  module _ (p : Path) (done waiting rest : List A) (place : A) (was : waiting ≡ rest ++ (place ∷ [])) (w : Walking m p (map f done) (map f waiting)) where
+    split : map f waiting ≡ map f rest ++ (f place ∷ [])
+    split = ap (map f) was ∙ map-append f rest (place ∷ [])
+
+    apart_now : Walking m p (map f done) (map f rest ++ (f place ∷ []))
+    apart_now = subst (Walking m p (map f done)) split w
+
+    pub refused_walk : (e : Fault) (m' : ResourceMap) → m' ≡ m → (e ≡ fault.InsufficientStorage) ⊎ ((e ≡ fault.BadRequest) × HasOddMember m' (f place))
+        → (e ≡ fault.InsufficientStorage) ⊎ ((e ≡ fault.NotFound) × (at_path m p ≡ None)) ⊎ ((e ≡ fault.BadRequest) × HasOddName m p)
+    refused_walk e m' same (inl h) = inl h
+    refused_walk e m' same (inr h) =
+        let odd = subst (λ n. HasOddMember n (f place)) same h.1 in
+        inr (inr (
+          h.0,
+          record {
+            folder = f place;
+            name = odd.0;
+            below = (apart_now.stand (f place) (inr (in_right (f place) (map f rest) (f place ∷ []) (inl refl)))).0;
+            stands = odd.1;
+            odd = odd.2;
+          },
+        ))
+
+    module _ (done' members waiting' : List A) (m' : ResourceMap) (same : m' ≡ m) (is : waiting' ≡ rest ++ members) (are : MembersAre m' (f place) (map f members)) where
+      pub goes_on : done' ≡ done ++ (place ∷ []) → Walking m p (map f done') (map f waiting')
+      goes_on more =
+          subst (λ xs. Walking m p (map f done') xs) (sym (ap (map f) is ∙ map-append f rest members))
+          (subst (λ xs. Walking m p xs (map f rest ++ map f members)) (sym (ap (map f) more ∙ map-append f done (place ∷ [])))
+          (walk_on m p (map f done) (map f rest) (map f members) (f place) apart_now (gathered m (f place) (map f members) (subst (λ n. MembersAre n (f place) (map f members)) same are))))
+
+      pub fewer : left_below m (map f waiting') < left_below m (map f waiting)
+      fewer =
+          subst (λ xs. left_below m (map f waiting') < left_below m xs) (sym split)
+          (subst (λ xs. left_below m xs < left_below m (map f rest ++ (f place ∷ []))) (sym (ap (map f) is ∙ map-append f rest members))
+          (fewer_left m p (map f done) (map f rest) (map f members) (f place) apart_now (subst (λ n. MembersAre n (f place) (map f members)) same are)))
+
+  pub ended : (p : Path) (done waiting : List A) → waiting ≡ [] → Walking m p (map f done) (map f waiting) → IsResourceMap m → IsWalk m p (map f done)
+  ended p done waiting none w = walk_done m p (map f done) (subst (λ xs. Walking m p (map f done) (map f xs)) none w)
+
+-- ---- something stands at each member
+
+pub member_stands : (m : ResourceMap) (p : Path) (paths : List Path) → MembersAre m p paths → (q : Path) → In q paths → IsSome (at_path m q)
+member_stands m p paths are q i = ((gathered m p paths are).stand q i).2

@@ -1,0 +1,32 @@
+use Rattle.std.proofs.Common.{◌≡◌, inl, inr, List, Ok, map, Contains, sym, ap, ◌∙◌, subst}
+use Rattle.std.proofs.lemmas.Result.{IfOk-weaker, IfErr-weaker}
+use Rattle.dav_path_core.specs.PathText.{PathText}
+use Rattle.dav_path_core.specs.Segments.{segments}
+use Rattle.dav_files_core.specs.Listing.{entry_of, read_dir}
+use Rattle.dav_files_core.specs.declared.memfs.listing.MemFsEntry.{MemFsEntry}
+use Rattle.dav_session_core.specs.Private.Gathering.{paths_in}
+use Rattle.dav_session_core.specs.Sessions as spec
+use Rattle.dav_session_core.proofs.CallerLaws.{by_none}
+use Rattle.dav_session_core.proofs.SubtreeLemmas.{members_told, odd_told}
+use Rattle.dav_session_core.proofs.session.Session.members.Goals as goal
+
+pub returns-in_err-copy_of-clause-run : goal.returns-in_err-copy_of-clause-run
+returns-in_err-copy_of-clause-run g c = by_none (spec.caller c.args.self.now) (spec.state g.R.Rng.stream c.args.self.now)
+
+pub returns-in-Ok-clause-ok : goal.returns-in-Ok-clause-ok
+returns-in-Ok-clause-ok g c =
+    let was : read_dir c.args.self.now.stores.map (segments c.args.place.now.bytes) ≡ Ok (map entry_of c.in-Ok.entries.items) =
+    ap (λ (q : PathText). read_dir c.args.self.now.stores.map (segments q.bytes)) (sym c.in_ok-copy_of.ensures) ∙ c.in-Ok.ensures.ok in
+    let p = segments c.args.place.now.bytes in
+    IfOk-weaker c.member_paths.result _ _
+    (λ paths h. members_told c.args.self.now.stores.map p c.in-Ok.entries.items _ was (h ∙ ap (λ (es : List MemFsEntry). paths_in p (map (λ e. e.name) es)) c.deref.ensures.value))
+    c.member_paths.ensures.ok
+
+pub returns-in-Ok-clause-err : goal.returns-in-Ok-clause-err
+returns-in-Ok-clause-err g c =
+    let was : read_dir c.args.self.now.stores.map (segments c.args.place.now.bytes) ≡ Ok (map entry_of c.in-Ok.entries.items) =
+    ap (λ (q : PathText). read_dir c.args.self.now.stores.map (segments q.bytes)) (sym c.in_ok-copy_of.ensures) ∙ c.in-Ok.ensures.ok in
+    IfErr-weaker c.member_paths.result _ _ (λ e h. elim h [
+      | inl lacks ↦ inl lacks
+      | inr odd ↦ inr (odd.0, odd_told c.args.self.now.stores.map (segments c.args.place.now.bytes) c.in-Ok.entries.items odd.1.0 was (subst (λ es. Contains es odd.1.0) c.deref.ensures.value odd.1.1) odd.1.2)
+    ]) c.member_paths.ensures.err

@@ -1,0 +1,12 @@
+use Rattle.std.proofs.Common.{sym, subst}
+use Rattle.dav_path_core.specs.Segments.{segments}
+use Rattle.dav_resource_core.specs.Served.{refusal_of}
+use Rattle.dav_session_core.specs.Sessions as spec
+use Rattle.dav_session_core.proofs.Asking.{Unkept, unkept}
+use Rattle.dav_session_core.proofs.session.Session.props.Goals as goal
+
+pub returns-clause-err : goal.returns-clause-err
+returns-clause-err g c =
+    subst (Unkept c.args.self.now.stores.map (segments c.args.path.bytes)) (sym c.unlisted.ensures)
+    (unkept (spec.caller c.args.self.now) (segments c.args.path.bytes) (spec.state g.R.Rng.stream c.args.self.now) (spec.state g.R.Rng.stream c.ask.new.self)
+    (refusal_of c.in-Err.refusal) c.in-Err.ensures.step)

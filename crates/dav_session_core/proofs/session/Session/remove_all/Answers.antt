@@ -1,0 +1,44 @@
+use Rattle.std.proofs.Common.{refl, map, ap, ◌∙◌, subst}
+use Rattle.dav_path_core.specs.Segments.{segments}
+use Rattle.dav_resource_core.specs.Served.{answer_of}
+use Rattle.dav_session_core.specs.Callers.{live}
+use Rattle.dav_session_core.specs.Sessions as spec
+use Rattle.dav_session_core.proofs.Asking.{join_as}
+use Rattle.dav_session_core.proofs.CallerLaws.{by_none}
+use Rattle.dav_session_core.proofs.RemovalLemmas.{Removing, removing_as, removing_begun, removing_ended}
+use Rattle.dav_session_core.proofs.SubtreeLemmas.{nothing_left}
+use Rattle.dav_session_core.proofs.session.Session.remove_all.Goals as goal
+
+pub loop-path-init : goal.loop-path-init
+loop-path-init g c =
+    let who = spec.caller c.args.self.now in
+    let start = spec.state g.R.Rng.stream c.args.self.now in
+    record {
+      run = by_none who start;
+      caller = refl;
+      removing = λ p no_root stood walk free. removing_begun who p start (map (λ q. segments q.bytes) c.args.places.items) stood walk free;
+    }
+
+pub loop-path-preserved : goal.loop-path-preserved
+loop-path-preserved g c =
+    let who = spec.caller c.args.self.now in
+    let start = spec.state g.R.Rng.stream c.args.self.now in
+    let mid = spec.state g.R.Rng.stream c.loop-path.self in
+    let after = spec.state g.R.Rng.stream c.ask.new.self in
+    record {
+      run = join_as who (spec.caller c.loop-path.self) start mid after c.loop-path.invariant.caller c.loop-path.invariant.run (c.ask.ensures.run refl);
+      caller = c.ask.ensures.caller ∙ c.loop-path.invariant.caller;
+      removing = λ p no_root stood walk free.
+          removing_as (λ q. segments q.bytes) who (spec.caller c.loop-path.self) p (live who.now start) mid after c.loop-path.places.items c.pop.new.self.items c.in-Some.path
+          (answer_of c.ask.result) no_root c.loop-path.invariant.caller c.in-Some.ensures.items (c.loop-path.invariant.removing p no_root stood walk free) c.ask.ensures.step;
+    }
+
+pub returns-clause-removed : goal.returns-clause-removed
+returns-clause-removed g c = λ p no_root stood walk free.
+    let who = spec.caller c.args.self.now in
+    let start = spec.state g.R.Rng.stream c.args.self.now in
+    let last = spec.state g.R.Rng.stream c.loop-path.self in
+    removing_ended who p (live who.now start) last
+    (subst (λ xs. Removing who p (live who.now start) xs last)
+    (ap (map (λ q. segments q.bytes)) (nothing_left c.loop-path.places.items c.loop-path.places.len c.loop-path.places.ok.0 c.in_default.ensures.cases.0))
+    (c.loop-path.invariant.removing p no_root stood walk free))

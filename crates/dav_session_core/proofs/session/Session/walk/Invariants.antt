@@ -1,0 +1,18 @@
+use Rattle.std.proofs.Common.{map}
+use Rattle.dav_path_core.specs.Segments.{segments}
+use Rattle.dav_session_core.specs.Sessions as spec
+use Rattle.dav_session_core.proofs.ConditionLemmas.{Looks}
+use Rattle.dav_session_core.proofs.SubtreeLemmas.{Walking, left_below}
+use Rattle.dav_session_core.proofs.session.Session.walk.Given as goal
+
+abbrev pub invariant-loop-place : goal.invariant-loop-place
+invariant-loop-place g l =
+    let start = spec.state g.R.Rng.stream l.fn.self in
+    record {
+      looks : Looks (spec.caller l.fn.self) start (spec.caller l.self) (spec.state g.R.Rng.stream l.self);
+      walking : Walking start.map (segments l.fn.path.bytes) (map (λ p. segments p.bytes) l.places.items) (map (λ p. segments p.bytes) l.waiting.items);
+    }
+
+-- with each place fewer entries are left
+abbrev pub decreases-loop-place : goal.decreases-loop-place
+decreases-loop-place g l = left_below (spec.state g.R.Rng.stream l.fn.self).map (map (λ p. segments p.bytes) l.waiting.items)

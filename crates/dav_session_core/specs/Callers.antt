@@ -1,0 +1,102 @@
+-- Who asks: the same for all requests that one HTTP request leads to (RFC 4918 sections 6.4 and 10.4).
+use Rattle.std.specs.Prelude.{◌≡◌, ◌⊎◌, ℕ, List, Bool, true, false, not, ◌||◌, map, filter, Option, Contains}
+use Rattle.std.specs.List.{list_any}
+use Rattle.http_header.specs.FieldValue.{FieldValue}
+use Rattle.http_header.specs.HeaderMap.{Entries}
+use Rattle.dav_path_core.specs.Fronts.{Path}
+use Rattle.dav_files_core.specs.Finding.{place}
+use Rattle.dav_files_core.specs.Resources.{IsResourceMap}
+use Rattle.dav_locks_core.specs.Ended.{StandIn}
+use Rattle.dav_locks_core.specs.Exclusive.{Exclusive}
+use Rattle.dav_locks_core.specs.Lock.{Lock}
+use Rattle.dav_locks_core.specs.Locks.{Caller as LocksCaller, check_conflicts, covers, held, same_text}
+use Rattle.dav_locks_core.specs.Stale.{is_stale, without_stale}
+use Rattle.dav_resource_core.specs.Requests.{Command, Request, Answer}
+use Rattle.dav_resource_core.specs.Step.{State, Run}
+use Rattle.dav_fields_core.specs.Senders.{NamesPrincipal, Submits}
+
+-- the principal, the tokens that are submitted, and the moment
+pub record Caller : Type 0 where
+  pub principal : Option (List ℕ)
+  pub tokens : List (List ℕ)
+  pub now : ℕ
+
+-- a request with these headers is the caller's
+pub record IsSender (user_header : Option (List ℕ)) (headers : Entries FieldValue) (who : Caller) : Type 0 where
+  pub principal : NamesPrincipal user_header headers who.principal
+  pub tokens : Submits headers who.tokens
+
+-- the request by which the caller asks for a command
+abbrev pub asking : Caller → Command → Request
+asking who command = record { principal = who.principal; tokens = who.tokens; now = who.now; command = command }
+
+-- the command ends a lock, or gives it another timeout
+abbrev pub ends_or_refreshes : Command → Bool
+ends_or_refreshes (Command.Unlock path token) = true
+ends_or_refreshes (Command.Refresh path token timeout) = true
+ends_or_refreshes _ = false
+
+-- the command changes nothing
+abbrev pub is_look : Command → Bool
+is_look (Command.Read path at count) = true
+is_look (Command.List path) = true
+is_look (Command.Meta path) = true
+is_look (Command.GetProps path content) = true
+is_look (Command.GetProp path wanted) = true
+is_look (Command.Discover path) = true
+is_look (Command.Check path deep) = true
+is_look _ = false
+
+-- a run of requests leads from one state to the other
+pub record Runs (s s' : State) : Type 0 where
+  pub requests : List Request
+  pub answers : List Answer
+  pub run : Run s requests answers s'
+
+-- a run of requests leads from one state to the other, all of them the caller's
+pub record Asks (who : Caller) (s s' : State) : Type 0 where
+  pub commands : List Command
+  pub answers : List Answer
+  pub run : Run s (map (asking who) commands) answers s'
+
+-- a run of requests leads from one state to the other, all of them the caller's, and none ends or refreshes a lock
+pub record RunBy (who : Caller) (s s' : State) : Type 0 where
+  pub commands : List Command
+  pub answers : List Answer
+  pub run : Run s (map (asking who) commands) answers s'
+  pub keeps : list_any ends_or_refreshes commands ≡ false
+
+-- as locks know the caller
+abbrev pub as_caller : Caller → LocksCaller
+as_caller who = record { principal = who.principal; ignore = false; tokens = who.tokens }
+
+-- the caller is the lock's principal and named its token
+abbrev pub holds : Caller → Lock → Bool
+holds who l = held l (as_caller who)
+
+-- the caller is the lock's principal
+abbrev pub is_own : Caller → Lock → Bool
+is_own who l = same_text l.principal who.principal
+
+-- the locks that refuse the caller a change at the path
+abbrev pub refusing_at : State → Caller → Path → List Lock
+refusing_at s who p = check_conflicts s.locks p false (as_caller who)
+
+-- what locks promise of a run of one caller's requests (RFC 4918 sections 6 and 7)
+pub record KeepsApart (who : Caller) (s s' : State) : Type 0 where
+  -- two locks that cover one path are both shared
+  pub exclusive : Exclusive s'.locks
+  -- a path under an exclusive lock that lasts is as it was, or the caller holds the lock
+  pub isolated : (l : Lock) → Contains s.locks l → l.shared ≡ false → is_stale who.now l ≡ false → (p : Path) → covers l p ≡ true
+      → (place s'.map p ≡ place s.map p) ⊎ (holds who l ≡ true)
+  -- the locks that last, and that the caller does not hold, stand as they were, in the same order
+  pub stand : StandIn (filter (λ l. not (is_stale who.now l || holds who l)) s.locks) s'.locks
+  pub shape : IsResourceMap s.map → IsResourceMap s'.map
+
+-- the state without the locks that have expired at the moment
+abbrev pub live : ℕ → State → State
+live now s = record s { locks = without_stale now s.locks }
+
+-- nothing has changed, but locks that have expired at the moment may be gone
+abbrev pub SameLive : ℕ → State → State → Type 0
+SameLive now s s' = live now s' ≡ live now s

@@ -1,0 +1,9 @@
+pub mod Anew
+pub mod Gathering
+pub mod Owning
+pub mod Patching
+pub mod Placed
+pub mod Placing
+pub mod Refreshing
+pub mod Refusing
+pub mod Transferring

@@ -1,0 +1,48 @@
+//! How properties are set and removed.
+ghost use Rattle.std.specs.Prelude.{◌≡◌, map, IfErr, OnErr, OnOk};
+ghost use Rattle.dav_path_core.specs.Segments.{segments};
+ghost use Rattle.dav_files_core.specs.Properties.{entry_of};
+ghost use Rattle.dav_session_core.specs.Callers.{RunBy, SameLive, live};
+ghost use Rattle.dav_session_core.specs.Patching.{IsPatched, KeepsProperties};
+ghost use Rattle.dav_session_core.specs.Private.Patching.{patch_fault};
+ghost use Rattle.dav_session_core.specs.Sessions as spec;
+ghost use Rattle.dav_resource_core.specs.Served.{refusal_of};
+
+use super::Session;
+use dav_faults_core::faults::Fault;
+use dav_resource_core::davpath::DavPath;
+use dav_resource_core::errors::FsError;
+use dav_resource_core::fs::DavProp;
+use dav_resource_core::guarded::{Command, Refusal};
+use rand_core::Rng;
+
+impl<R: Rng> Session<R> {
+    /// Sets and removes properties of what stands at a path, one after another, all or none (RFC 4918 section 9.2).
+    ///
+    /// `Locked` where a lock stands in the way, with its path; `NotFound` where nothing stands there.
+    pub fn patch(&mut self, path: DavPath, patch: Vec<(bool, DavProp)>) -> Result<(), Fault>
+        ensures ok { OnOk result (IsPatched (segments path.bytes) (map entry_of patch.items) (live (spec.caller self.old).now (spec.state R.stream self.old))
+            (spec.state R.stream self.new)) }
+        ensures err { IfErr result (λ e. KeepsProperties (live (spec.caller self.old).now (spec.state R.stream self.old)) (spec.caller self.old) (segments path.bytes) e) }
+        ensures refused { OnErr result (SameLive (spec.caller self.old).now (spec.state R.stream self.old) (spec.state R.stream self.new)) }
+        ensures run { RunBy (spec.caller self.old) (spec.state R.stream self.old) (spec.state R.stream self.new) }
+        ensures caller { spec.caller self.new ≡ spec.caller self.old }
+    {
+        match self.ask(Command::PatchProps { path, patch }) {
+            Ok(_) => Ok(()),
+            Err(refusal) => Err(unpatched(refusal)),
+        }
+    }
+}
+
+// Why properties aren't changed.
+fn unpatched(refusal: Refusal) -> Fault
+    ensures { result ≡ patch_fault (refusal_of refusal) }
+{
+    match refusal {
+        Refusal::Locked(lock) => Fault::Locked(lock.path),
+        Refusal::OutOfMemory | Refusal::Fs(FsError::InsufficientStorage) =>
+            Fault::InsufficientStorage,
+        Refusal::Fs(_) | Refusal::NoLock => Fault::NotFound,
+    }
+}

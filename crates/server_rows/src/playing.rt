@@ -11,6 +11,7 @@ use crate::ranges::RANGES;
 use crate::removals::REMOVALS;
 use crate::rows::ROWS;
 use crate::scenarios::{Scenario, Script};
+use crate::stores::{clock_of, settings_of};
 use crate::unlocks::UNLOCKS;
 use dav_handler_core::dav::Dav;
 use http_server::{Config, Connection};
@@ -110,8 +111,10 @@ fn play_script(
 }
 
 fn play_rows(rt: &HostRuntime, first: &str, rows: &str, size: usize) -> Result<(), Fail> {
+    let clock = clock_of(first)?;
+    let settings = settings_of(rt.alloc(), first)?;
     let Scenario { stores, script } = Scenario::of(rt.alloc(), rows)?;
-    let mut dav = stores.server(first)?;
+    let mut dav = stores.server(settings, clock)?;
     play_script(rt, &mut dav, &script, first, size)
 }
 

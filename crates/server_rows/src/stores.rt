@@ -1,4 +1,4 @@
-//! The stores of a server: what stands in them at first, and the server of a first line over them.
+//! The stores of a server: what stands in them at first, and a server over them, as a first line wants it.
 use crate::words::{first_word, word_and_rest};
 use dav_handler_core::conditions::Scheme;
 use dav_handler_core::dav::{Dav, Settings};
@@ -56,35 +56,22 @@ impl Stores {
         apply(&mut self.stores, &request, &mut self.rng)
     }
 
-    /// The server of a first line.
-    pub(crate) fn server(self, line: &str) -> Result<Dav<Pcg64>, Fail> {
+    /// A server over the stores.
+    pub(crate) fn server(self, settings: Settings, clock: Moment) -> FsResult<Dav<Pcg64>> {
         let Stores { alloc, stores, rng } = self;
-        let (_at, words) = word_and_rest(line)?;
-        let clock = clock_of(words)?;
-        let settings = settings_of(alloc, words)?;
-        Ok(server_of(alloc, settings, stores, rng, clock)?)
+        let mut dav = Dav::new(alloc, settings, stores, rng, Moment(0))?;
+        dav.set_clock(clock);
+        Ok(dav)
     }
 }
 
-// The calls of the stores and of the server stand in functions of their own: those above need none of what is proved of them.
+// The calls of the stores stand in functions of their own: those above need none of what is proved of them.
 fn no_stores(alloc: Global) -> FsResult<Guarded> {
     Guarded::new(alloc, Moment(0))
 }
 
 fn apply(stores: &mut Guarded, request: &Request, rng: &mut Pcg64) -> Result<Reply, Refusal> {
     stores.apply(request, rng)
-}
-
-fn server_of(
-    alloc: Global,
-    settings: Settings,
-    stores: Guarded,
-    rng: Pcg64,
-    clock: Moment,
-) -> FsResult<Dav<Pcg64>> {
-    let mut dav = Dav::new(alloc, settings, stores, rng, Moment(0))?;
-    dav.set_clock(clock);
-    Ok(dav)
 }
 
 // Its scope, its depth, its path, and its seconds where it ends.
@@ -116,16 +103,19 @@ fn token_of(answer: Result<Reply, Refusal>) -> Result<String, Fail> {
     }
 }
 
-// The third word.
-fn clock_of(words: &str) -> Result<Moment, Fail> {
-    let (_prefix, rest) = word_and_rest(words)?;
+/// The moment of a first line, its fourth word.
+pub(crate) fn clock_of(line: &str) -> Result<Moment, Fail> {
+    let (_at, rest) = word_and_rest(line)?;
+    let (_prefix, rest) = word_and_rest(rest)?;
     let (_header, rest) = word_and_rest(rest)?;
     let (clock, _rest) = first_word(rest);
     Ok(Moment(clock.parse()?))
 }
 
-fn settings_of(alloc: Global, words: &str) -> Result<Settings, Fail> {
-    let (prefix, rest) = word_and_rest(words)?;
+/// The settings of a first line.
+pub(crate) fn settings_of(alloc: Global, line: &str) -> Result<Settings, Fail> {
+    let (_at, rest) = word_and_rest(line)?;
+    let (prefix, rest) = word_and_rest(rest)?;
     let (header, rest) = word_and_rest(rest)?;
     let (_clock, rest) = first_word(rest);
     let (scheme, rest) = first_word(rest);

@@ -20,6 +20,8 @@ mod path_clones;
 #[cfg(test)]
 mod path_places;
 #[cfg(test)]
+mod paths;
+#[cfg(test)]
 mod plenty;
 #[cfg(test)]
 mod trees;

@@ -1,5 +1,7 @@
 //! Paths of members.
+use crate::paths::{prefixed, row_of, word_and_rest};
 use dav_path_core::davpath::{DavPath, ParseError};
+use std::alloc::Global;
 use std::test::Fail;
 
 /// A path, a prefix and a name, and the bytes behind the prefix of the member's path, or the refusal.
@@ -22,26 +24,26 @@ const ROWS: &str = "\
 /a / b/c = InvalidPath
 /a / b\0c = InvalidPath";
 
+// Whether the member's path has these bytes and the prefix of its folder, or the name is refused as is wanted.
+fn is_led(path: &DavPath, name: &str, wanted: &str) -> bool {
+    match path.child(name.as_bytes()) {
+        Ok(child) => child.as_bytes() == wanted.as_bytes() && child.prefix() == path.prefix(),
+        Err(error) => error == ParseError::InvalidPath && wanted == "InvalidPath",
+    }
+}
+
+fn leads(alloc: Global, asked: &str, wanted: &str) -> Result<bool, Fail> {
+    let (text, rest) = word_and_rest(asked)?;
+    let (prefix, name) = word_and_rest(rest)?;
+    let path = prefixed(alloc, text, prefix)?;
+    Ok(is_led(&path, name, wanted))
+}
+
 #[test]
 fn leads_to_members(rt: HostRuntime) -> Result<(), Fail> {
     for row in ROWS.split('\n') {
-        let (asked, wanted) = row.split_once(" = ").ok_or("a result")?;
-        let (text, rest) = asked.split_once(' ').ok_or("a path")?;
-        let (prefix, name) = rest.split_once(' ').ok_or("a prefix")?;
-        let mut path = DavPath::new(rt.alloc(), text)?;
-        path.set_prefix(prefix)?;
-        match path.child(name.as_bytes()) {
-            Ok(child) => {
-                assert!(rt; child.as_bytes() == wanted.as_bytes(), "{row}");
-                assert!(rt; child.prefix() == path.prefix(), "{row}");
-            }
-            Err(error) => {
-                assert!(rt;
-                    error == ParseError::InvalidPath && wanted == "InvalidPath",
-                    "{row}"
-                )
-            }
-        }
+        let (asked, wanted) = row_of(row)?;
+        assert!(rt; leads(rt.alloc(), asked, wanted)?, "{row}");
     }
     Ok(())
 }

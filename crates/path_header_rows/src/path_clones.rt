@@ -1,4 +1,5 @@
 //! Clones of paths.
+use crate::paths::{prefixed, word_and_rest};
 use dav_path_core::davpath::{DavPath, ParseError};
 use http_uri::Uri;
 use std::alloc::Global;
@@ -21,16 +22,22 @@ fn star(alloc: Global) -> Result<DavPath, Fail> {
     }
 }
 
+// Whether the clone of a path has its prefix, and these bytes.
+fn clones(path: &DavPath, bytes: &str) -> Result<bool, Fail> {
+    let copy = path.clone()?;
+    Ok(copy.prefix() == path.prefix() && copy.as_bytes() == bytes.as_bytes())
+}
+
+fn clones_row(alloc: Global, row: &str) -> Result<bool, Fail> {
+    let (text, rest) = word_and_rest(row)?;
+    let (prefix, bytes) = word_and_rest(rest)?;
+    clones(&prefixed(alloc, text, prefix)?, bytes)
+}
+
 #[test]
 fn clones_paths(rt: HostRuntime) -> Result<(), Fail> {
     for row in ROWS.split('\n') {
-        let (text, rest) = row.split_once(' ').ok_or("a path")?;
-        let (prefix, bytes) = rest.split_once(' ').ok_or("a prefix")?;
-        let mut path = DavPath::new(rt.alloc(), text)?;
-        path.set_prefix(prefix)?;
-        let copy = path.clone()?;
-        assert!(rt; copy.prefix() == path.prefix(), "{row}");
-        assert!(rt; copy.as_bytes() == bytes.as_bytes(), "{row}");
+        assert!(rt; clones_row(rt.alloc(), row)?, "{row}");
     }
     Ok(())
 }

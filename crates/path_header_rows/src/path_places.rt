@@ -1,5 +1,7 @@
 //! Where paths stand to each other: which is below which, and paths that are carried from one folder to another.
+use crate::paths::{path_of, prefixed, row_of, word_and_rest};
 use dav_path_core::davpath::DavPath;
+use std::alloc::Global;
 use std::test::Fail;
 
 /// A path, another one, and whether the first is the second or stands below it.
@@ -47,37 +49,50 @@ const REBASED: &str = "\
 /p/a/b/ /p/ /a /x/y/ = /x/y/b/
 /p/a/b /p /p/a /c = none";
 
+// Whether the first of two paths is the second, or stands below it.
+fn stands_below(alloc: Global, paths: &str) -> Result<bool, Fail> {
+    let (path, folder) = word_and_rest(paths)?;
+    let path = path_of(alloc, path)?;
+    let folder = path_of(alloc, folder)?;
+    Ok(path.behind_prefix().is_at_or_below(folder.behind_prefix()))
+}
+
 #[test]
 fn tells_what_stands_below(rt: HostRuntime) -> Result<(), Fail> {
     for row in BELOW.split('\n') {
-        let (asked, wanted) = row.split_once(" = ").ok_or("an answer")?;
-        let (text, folder) = asked.split_once(' ').ok_or("a folder")?;
-        let path = DavPath::new(rt.alloc(), text)?;
-        let folder = DavPath::new(rt.alloc(), folder)?;
-        let below = path.behind_prefix().is_at_or_below(folder.behind_prefix());
-        assert!(rt; below == (wanted == "yes"), "{row}");
+        let (paths, wanted) = row_of(row)?;
+        assert!(rt;
+            stands_below(rt.alloc(), paths)? == (wanted == "yes"),
+            "{row}"
+        );
     }
     Ok(())
+}
+
+// Whether a path is carried along to a path of these bytes with the same prefix, or nowhere.
+fn is_rebased(path: &DavPath, from: &DavPath, to: &DavPath, wanted: &str) -> Result<bool, Fail> {
+    match path.rebased(from.behind_prefix(), to.behind_prefix())? {
+        Some(moved) => {
+            Ok(moved.as_bytes() == wanted.as_bytes() && moved.prefix() == path.prefix())
+        }
+        None => Ok(wanted == "none"),
+    }
+}
+
+fn is_carried(alloc: Global, asked: &str, wanted: &str) -> Result<bool, Fail> {
+    let (text, rest) = word_and_rest(asked)?;
+    let (prefix, rest) = word_and_rest(rest)?;
+    let (from, to) = word_and_rest(rest)?;
+    let path = prefixed(alloc, text, prefix)?;
+    let (from, to) = (path_of(alloc, from)?, path_of(alloc, to)?);
+    is_rebased(&path, &from, &to, wanted)
 }
 
 #[test]
 fn carries_paths_along(rt: HostRuntime) -> Result<(), Fail> {
     for row in REBASED.split('\n') {
-        let (asked, wanted) = row.split_once(" = ").ok_or("a result")?;
-        let (text, rest) = asked.split_once(' ').ok_or("a path")?;
-        let (prefix, rest) = rest.split_once(' ').ok_or("a prefix")?;
-        let (from, to) = rest.split_once(' ').ok_or("a folder")?;
-        let mut path = DavPath::new(rt.alloc(), text)?;
-        path.set_prefix(prefix)?;
-        let from = DavPath::new(rt.alloc(), from)?;
-        let to = DavPath::new(rt.alloc(), to)?;
-        match path.rebased(from.behind_prefix(), to.behind_prefix())? {
-            Some(moved) => {
-                assert!(rt; moved.as_bytes() == wanted.as_bytes(), "{row}");
-                assert!(rt; moved.prefix() == path.prefix(), "{row}");
-            }
-            None => assert!(rt; wanted == "none", "{row}"),
-        }
+        let (asked, wanted) = row_of(row)?;
+        assert!(rt; is_carried(rt.alloc(), asked, wanted)?, "{row}");
     }
     Ok(())
 }

@@ -5,7 +5,6 @@ use dav_path_core::errors::FsResult;
 use dav_path_core::tree::{ROOT_ID, Tree};
 use http_header::HeaderValue;
 use std::alloc::Global;
-use std::process::Abort;
 use std::test::Fail;
 
 const MANY: usize = 10_000;
@@ -24,38 +23,32 @@ fn one_value(alloc: Global, text: &str) -> Result<Vec<HeaderValue>, Fail> {
     Ok(vec![in alloc; HeaderValue::from_str(alloc, text)?]?)
 }
 
-/// Holds where each was found as it was wanted.
-fn met<R: Abort>(rt: &R, pairs: &[(Option<u64>, Option<u64>)]) {
-    for (found, wanted) in pairs {
-        assert_eq!(rt; *found, *wanted);
-    }
-}
-
 fn count(number: usize) -> Option<u64> {
     Some(number as u64)
+}
+
+// The lengths of a path's forms: its segments, those of its clone and of its parent, and the bytes of its URL.
+fn lengths(alloc: Global, path: &DavPath) -> Result<[Option<u64>; 4], Fail> {
+    let copied = path.clone()?.segments().count();
+    let above = path.parent()?.segments().count();
+    let url = path.as_url_string(alloc)?.len();
+    Ok([
+        count(path.segments().count()),
+        count(copied),
+        count(above),
+        count(url),
+    ])
 }
 
 #[test]
 fn reads_paths_of_many_segments(rt: HostRuntime) -> Result<(), Fail> {
     let alloc = rt.alloc();
     let mut path = DavPath::new(alloc, &repeated(alloc, "", "/ab", "")?)?;
-    let (all, copied) = (path.segments().count(), path.clone()?.segments().count());
-    let (above, url) = (
-        path.parent()?.segments().count(),
-        path.as_url_string(alloc)?.len(),
-    );
+    let wanted = [count(MANY), count(MANY), count(MANY - 1), count(3 * MANY)];
+    assert!(rt; lengths(alloc, &path)? == wanted);
     assert!(rt; path.as_pathbuf(alloc)?.is_some());
     path.set_prefix("/ab")?;
-    met(
-        &rt,
-        &[
-            (count(all), count(MANY)),
-            (count(copied), count(MANY)),
-            (count(above), count(MANY - 1)),
-            (count(url), count(3 * MANY)),
-            (count(path.segments().count()), count(MANY - 1)),
-        ],
-    );
+    assert!(rt; path.segments().count() == MANY - 1);
     Ok(())
 }
 
@@ -73,34 +66,43 @@ fn wide(alloc: Global) -> FsResult<Tree<u64, u64>> {
     Ok(tree)
 }
 
+// What stands at the first and the last children of a wide tree.
+fn wide_ends(tree: &Tree<u64, u64>) -> FsResult<[Option<u64>; 6]> {
+    Ok([
+        tree.get_child(ROOT_ID, &0).ok(),
+        tree.find_child(ROOT_ID, |key| *key == 1).ok(),
+        tree.first_child(ROOT_ID)?,
+        tree.next_sibling(3)?,
+        tree.get_node(10_001).ok().copied(),
+        tree.parent_of(10_001)?,
+    ])
+}
+
+// Moves one child below another, and drops both; and the item that was moved, and the number of a further child.
+fn drop_two(tree: &mut Tree<u64, u64>) -> FsResult<[u64; 2]> {
+    tree.move_node(2, 3, 0, false)?;
+    let gone = tree.delete_node(2)?.item;
+    tree.delete_subtree(3)?;
+    let added = tree.add_child(ROOT_ID, 2, 7, true)?;
+    Ok([gone, added])
+}
+
 #[test]
 fn keeps_many_children(rt: HostRuntime) -> Result<(), Fail> {
     let mut tree = wide(rt.alloc())?;
     *tree.get_node_mut(10_001)? = 7;
-    met(
-        &rt,
-        &[
-            (children(rt.alloc(), &tree, ROOT_ID), count(MANY)),
-            (tree.get_child(ROOT_ID, &0).ok(), Some(2)),
-            (tree.find_child(ROOT_ID, |key| *key == 1).ok(), Some(3)),
-            (tree.first_child(ROOT_ID)?, Some(10_001)),
-            (tree.next_sibling(3)?, Some(2)),
-            (tree.get_node(10_001).ok().copied(), Some(7)),
-            (tree.parent_of(10_001)?, Some(ROOT_ID)),
-        ],
-    );
-    tree.move_node(2, 3, 0, false)?;
-    let gone = tree.delete_node(2)?.item;
-    tree.delete_subtree(3)?;
-    let added = tree.add_child(ROOT_ID, 2, 7, true).ok();
-    met(
-        &rt,
-        &[
-            (Some(gone), Some(0)),
-            (added, Some(10_002)),
-            (children(rt.alloc(), &tree, ROOT_ID), count(MANY - 2)),
-        ],
-    );
+    assert!(rt; children(rt.alloc(), &tree, ROOT_ID) == count(MANY));
+    let ends = [
+        Some(2),
+        Some(3),
+        Some(10_001),
+        Some(2),
+        Some(7),
+        Some(ROOT_ID),
+    ];
+    assert!(rt; wide_ends(&tree)? == ends);
+    assert!(rt; drop_two(&mut tree)? == [0, 10_002]);
+    assert!(rt; children(rt.alloc(), &tree, ROOT_ID) == count(MANY - 2));
     Ok(())
 }
 
@@ -114,49 +116,54 @@ fn deep(alloc: Global) -> FsResult<Tree<u64, u64>> {
     Ok(tree)
 }
 
-#[test]
-fn keeps_a_deep_chain(rt: HostRuntime) -> Result<(), Fail> {
-    let mut tree = deep(rt.alloc())?;
-    met(
-        &rt,
-        &[
-            (tree.get_node(10_001).ok().copied(), Some(9_999)),
-            (tree.get_child(10_000, &0).ok(), Some(10_001)),
-            (tree.find_child(10_000, |key| *key == 0).ok(), Some(10_001)),
-            (tree.first_child(10_000)?, Some(10_001)),
-            (tree.next_sibling(10_001)?, None),
-            (children(rt.alloc(), &tree, 10_000), Some(1)),
-        ],
-    );
+// What stands at the end of a deep chain.
+fn deep_end(tree: &Tree<u64, u64>) -> FsResult<[Option<u64>; 5]> {
+    Ok([
+        tree.get_node(10_001).ok().copied(),
+        tree.get_child(10_000, &0).ok(),
+        tree.find_child(10_000, |key| *key == 0).ok(),
+        tree.first_child(10_000)?,
+        tree.next_sibling(10_001)?,
+    ])
+}
+
+// Puts another node at the end, and carries the lower half to the root: the item that went, the number that came, and the parent of the half.
+fn carry_half(tree: &mut Tree<u64, u64>) -> FsResult<[Option<u64>; 3]> {
     *tree.get_node_mut(10_001)? = 7;
     let gone = tree.delete_node(10_001)?.item;
-    let added = tree.add_child(9_999, 0, 7, true).ok();
+    let added = tree.add_child(9_999, 0, 7, true)?;
     tree.move_node(5_000, ROOT_ID, 1, false)?;
-    let moved = tree.parent_of(5_000)?;
+    Ok([Some(gone), Some(added), tree.parent_of(5_000)?])
+}
+
+// Drops both halves: what is left of each, and below the root.
+fn drop_halves(tree: &mut Tree<u64, u64>) -> FsResult<[Option<u64>; 3]> {
     tree.delete_subtree(2)?;
     let cut = tree.get_node(4_999).ok().copied();
     tree.delete_subtree(5_000)?;
-    met(
-        &rt,
-        &[
-            (Some(gone), Some(7)),
-            (added, Some(10_002)),
-            (moved, Some(ROOT_ID)),
-            (cut, None),
-            (tree.get_node(10_002).ok().copied(), None),
-            (tree.first_child(ROOT_ID)?, None),
-        ],
-    );
+    let end = tree.get_node(10_002).ok().copied();
+    Ok([cut, end, tree.first_child(ROOT_ID)?])
+}
+
+#[test]
+fn keeps_a_deep_chain(rt: HostRuntime) -> Result<(), Fail> {
+    let mut tree = deep(rt.alloc())?;
+    let end = [Some(9_999), Some(10_001), Some(10_001), Some(10_001), None];
+    assert!(rt; deep_end(&tree)? == end);
+    assert!(rt; children(rt.alloc(), &tree, 10_000) == Some(1));
+    assert!(rt; carry_half(&mut tree)? == [Some(7), Some(10_002), Some(ROOT_ID)]);
+    assert!(rt; drop_halves(&mut tree)? == [None, None, None]);
     Ok(())
+}
+
+fn if_of(alloc: Global, text: &str) -> Result<If, Fail> {
+    Ok(If::decode(alloc, &one_value(alloc, text)?)?)
 }
 
 #[test]
 fn reads_many_conditions(rt: HostRuntime) -> Result<(), Fail> {
     let alloc = rt.alloc();
-    let header = If::decode(
-        alloc,
-        &one_value(alloc, &repeated(alloc, "(", "<a:b>", ")")?)?,
-    )?;
+    let header = if_of(alloc, &repeated(alloc, "(", "<a:b>", ")")?)?;
     assert_eq!(rt; header.0.len(), 1);
     assert_eq!(rt; header.0[0].conditions.len(), MANY);
     assert!(rt; header.clone()?.strong_eq(&header));
@@ -171,23 +178,30 @@ fn tags_of(header: &IfMatch) -> Option<u64> {
     }
 }
 
+// How many tags are read, and how long they are written.
+fn many_tags(alloc: Global) -> Result<[Option<u64>; 2], Fail> {
+    let text = repeated(alloc, "", "\"a\",", "\"b\"")?;
+    let tags = IfMatch::decode(alloc, &one_value(alloc, &text)?)?;
+    Ok([tags_of(&tags), count(tags.encode(alloc)?.len())])
+}
+
+fn many_languages(alloc: Global) -> Result<usize, Fail> {
+    let text = repeated(alloc, "", "en,", "de")?;
+    let languages = ContentLanguage::decode(alloc, &one_value(alloc, &text)?)?;
+    Ok(languages.iter_langs().len())
+}
+
+fn many_timeouts(alloc: Global) -> Result<usize, Fail> {
+    let text = repeated(alloc, "", "Second-7,", "Infinite")?;
+    let timeout = Timeout::decode(alloc, &one_value(alloc, &text)?)?;
+    Ok(timeout.0.len())
+}
+
 #[test]
 fn reads_long_lists(rt: HostRuntime) -> Result<(), Fail> {
     let alloc = rt.alloc();
-    let text = repeated(alloc, "", "\"a\",", "\"b\"")?;
-    let tags = IfMatch::decode(alloc, &one_value(alloc, &text)?)?;
-    let text = repeated(alloc, "", "en,", "de")?;
-    let languages = ContentLanguage::decode(alloc, &one_value(alloc, &text)?)?;
-    let text = repeated(alloc, "", "Second-7,", "Infinite")?;
-    let timeout = Timeout::decode(alloc, &one_value(alloc, &text)?)?;
-    met(
-        &rt,
-        &[
-            (tags_of(&tags), count(MANY + 1)),
-            (count(tags.encode(alloc)?.len()), count(5 * MANY + 3)),
-            (count(languages.iter_langs().len()), count(MANY + 1)),
-            (count(timeout.0.len()), count(MANY + 1)),
-        ],
-    );
+    assert!(rt; many_tags(alloc)? == [count(MANY + 1), count(5 * MANY + 3)]);
+    assert!(rt; many_languages(alloc)? == MANY + 1);
+    assert!(rt; many_timeouts(alloc)? == MANY + 1);
     Ok(())
 }

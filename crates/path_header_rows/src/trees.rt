@@ -2,9 +2,11 @@
 mod keys;
 mod playing;
 
+use dav_path_core::errors::FsResult;
 use dav_path_core::tree::{ROOT_ID, Tree};
 use keys::Dull;
 use playing::{lost, play};
+use std::alloc::Global;
 use std::test::Fail;
 
 // `add PARENT KEY ITEM` and `move ID PARENT KEY`, with `!` to overwrite; `lost N` counts unknown numbers up to N; `like` looks up by
@@ -273,17 +275,31 @@ fn plays_on_dull_keys(rt: HostRuntime) -> Result<(), Fail> {
     play::<Dull>(&rt, rt.alloc(), ROWS)
 }
 
-/// A chain of a thousand nodes is built, moved and deleted.
-#[test]
-fn chains_go_whole(rt: HostRuntime) -> Result<(), Fail> {
-    let mut tree: Tree<Dull, u32> = Tree::new(rt.alloc(), 0)?;
+/// A chain of a thousand nodes, and the last of them.
+fn chain(alloc: Global) -> FsResult<(Tree<Dull, u32>, u64)> {
+    let mut tree: Tree<Dull, u32> = Tree::new(alloc, 0)?;
     let mut at = ROOT_ID;
     for turn in 0..1000 {
         at = tree.add_child(at, Dull(1), turn, false)?;
     }
-    assert!(rt; at == 1001 && tree.move_node(500, 1, Dull(2), false).is_ok());
-    assert!(rt; tree.delete_subtree(500).is_ok() && lost(&tree, at) == 502);
-    assert!(rt; tree.add_child(1, Dull(1), 7, true)? == 1002 && lost(&tree, at) == 1000);
+    Ok((tree, at))
+}
+
+// Moves the lower half to the root, drops it, and puts a node in the place of the rest: its number, and how many numbers are unknown after the two.
+fn cut(tree: &mut Tree<Dull, u32>, end: u64) -> FsResult<[u64; 3]> {
+    tree.move_node(500, 1, Dull(2), false)?;
+    tree.delete_subtree(500)?;
+    let half = lost(tree, end);
+    let added = tree.add_child(1, Dull(1), 7, true)?;
+    Ok([half, added, lost(tree, end)])
+}
+
+/// It is built, moved and deleted.
+#[test]
+fn chains_go_whole(rt: HostRuntime) -> Result<(), Fail> {
+    let (mut tree, end) = chain(rt.alloc())?;
+    assert!(rt; end == 1001);
+    assert!(rt; cut(&mut tree, end)? == [502, 1002, 1000]);
     assert!(rt; tree.first_child(1)? == Some(1002) && tree.next_sibling(1002)? == None);
     Ok(())
 }

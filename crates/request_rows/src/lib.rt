@@ -7,3 +7,5 @@ mod plenty;
 mod requests;
 #[cfg(test)]
 mod scenarios;
+#[cfg(test)]
+mod stores;

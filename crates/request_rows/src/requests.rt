@@ -1,5 +1,6 @@
 //! Rows of requests: MOMENT WHO COMMAND ARGS, and behind ` = ` the answer. WHO names `TOKEN`, the token of the lock granted
 //! last, a URN of 45 bytes; `-` is nobody.
+use crate::stores::{Answer, apply, run};
 use bytes::Bytes;
 use dav_files_core::fs::{DavProp, Moment};
 use dav_locks_core::ls::DavLock;
@@ -67,27 +68,36 @@ impl Player {
 
     fn apply(&mut self, call: &str) -> Result<String, Fail> {
         let request = self.request(call)?;
-        let answer = self.stores.apply(&request, &mut self.rng);
+        let answer = apply(&mut self.stores, &request, &mut self.rng);
         self.shown(&answer)
     }
 
-    // The answers to the calls of a run, which stand before ` = `.
-    fn run(&mut self, rows: &str) -> Result<Vec<String>, Fail> {
+    // The requests of the calls of a run, which stand before ` = `.
+    fn requests(&self, rows: &str) -> Result<Vec<Request>, Fail> {
         let mut requests = Vec::new(self.alloc);
         for row in rows.split('\n') {
             let (call, _wanted) = row.split_once(" = ").ok_or("no answer")?;
             requests.push(self.request(call)?)?;
         }
-        let answers = self.stores.run(&requests, &mut self.rng)?;
+        Ok(requests)
+    }
+
+    fn run(&mut self, rows: &str) -> Result<Vec<String>, Fail> {
+        let requests = self.requests(rows)?;
+        let answers = run(&mut self.stores, &requests, &mut self.rng)?;
+        self.told(&answers)
+    }
+
+    fn told(&mut self, answers: &[Answer]) -> Result<Vec<String>, Fail> {
         let mut told = Vec::new(self.alloc);
-        for answer in &answers {
+        for answer in answers {
             told.push(self.shown(answer)?)?;
         }
         Ok(told)
     }
 
     // An answer as text; the token of a granted lock is kept.
-    fn shown(&mut self, answer: &Result<Reply, Refusal>) -> Result<String, Fail> {
+    fn shown(&mut self, answer: &Answer) -> Result<String, Fail> {
         if let Ok(Reply::Lock(lock)) = answer {
             self.token = lock.token.clone()?;
         }
@@ -108,7 +118,7 @@ fn runs_go_on_after_a_refusal(rt: HostRuntime) -> Result<(), Fail> {
             assert!(rt; answer.as_str() == wanted, "{row}, not {answer}");
         }
     }
-    assert!(rt; player.stores.run(&[], &mut player.rng)?.is_empty());
+    assert!(rt; run(&mut player.stores, &[], &mut player.rng)?.is_empty());
     Ok(())
 }
 
@@ -124,50 +134,63 @@ fn applies_each_request(rt: HostRuntime) -> Result<(), Fail> {
 }
 
 fn request_of(alloc: Global, call: &str, token: &str) -> Result<Request, Fail> {
-    let mut words = call.split(' ');
-    let mut word = || match words.next() {
-        Some(word) => word,
-        None => "",
-    };
-    let (now, who, command, path) = (word(), word(), word(), word());
-    let args = (word(), word());
+    let (now, rest) = first_word(call);
+    let (who, rest) = first_word(rest);
+    let now = Moment(now.parse()?);
+    let principal = principal_of(alloc, who)?;
+    let tokens = tokens_of(alloc, who, token)?;
+    let command = command_of(alloc, rest, token)?;
+    Ok(Request {
+        principal,
+        tokens,
+        now,
+        command,
+    })
+}
+
+// A word, and the words behind it.
+fn first_word(words: &str) -> (&str, &str) {
+    words.split_once(' ').unwrap_or((words, ""))
+}
+
+fn principal_of(alloc: Global, who: &str) -> Result<Option<String>, AllocError> {
+    if who == "-" {
+        return Ok(None);
+    }
+    Ok(Some(String::from_str(alloc, who)?))
+}
+
+fn tokens_of(alloc: Global, who: &str, token: &str) -> Result<Vec<String>, AllocError> {
     let mut tokens = Vec::new(alloc);
     if who != "-" {
         tokens.push(String::from_str(alloc, token)?)?;
     }
-    let path = DavPath::new(alloc, path)?;
-    Ok(Request {
-        principal: match who {
-            "-" => None,
-            who => Some(String::from_str(alloc, who)?),
-        },
-        tokens,
-        now: Moment(now.parse()?),
-        command: command_of(alloc, command, path, args, token)?,
-    })
+    Ok(tokens)
 }
 
-fn command_of(
-    alloc: Global,
-    command: &str,
-    path: DavPath,
-    args: (&str, &str),
-    token: &str,
-) -> Result<Command, Fail> {
+fn command_of(alloc: Global, words: &str, token: &str) -> Result<Command, Fail> {
+    let (command, rest) = first_word(words);
+    let (path, rest) = first_word(rest);
+    let path = DavPath::new(alloc, path)?;
+    let (first, second) = first_word(rest);
     match command {
-        "put" => put(alloc, path, args.0),
-        "read" => read(path, args.0, args.1),
+        "put" => put(alloc, path, first),
+        "read" => read(path, first, second),
         "mkcol" => Ok(Command::MkCol { path }),
-        "move" => move_to(alloc, path, args.0),
-        "lock" => lock(alloc, path, args.0, args.1),
+        "move" => move_to(alloc, path, first),
+        "lock" => lock(alloc, path, first, second),
         "unlock" => unlock(alloc, path, token),
         "discover" => Ok(Command::Discover { path }),
-        "patch" => patch(alloc, path, args.0),
-        "props" => Ok(Command::GetProps {
-            path,
-            content: true,
-        }),
+        "patch" => patch(alloc, path, first),
+        "props" => Ok(list(path)),
         _ => Err(Fail::from("no such request")),
+    }
+}
+
+fn list(path: DavPath) -> Command {
+    Command::GetProps {
+        path,
+        content: true,
     }
 }
 
@@ -220,51 +243,70 @@ fn unlock(alloc: Global, path: DavPath, token: &str) -> Result<Command, Fail> {
     Ok(Command::Unlock { path, token })
 }
 
-fn shown(alloc: Global, answer: &Result<Reply, Refusal>, token: &str) -> Result<String, Fail> {
+fn shown(alloc: Global, answer: &Answer, token: &str) -> Result<String, Fail> {
     match answer {
-        Ok(Reply::Done) => Ok(String::from_str(alloc, "done")?),
-        Ok(Reply::Bytes(bytes)) => {
-            let text = str::from_utf8(bytes.as_slice()).unwrap_or("?");
-            Ok(String::from_str(alloc, text)?)
-        }
-        Ok(Reply::Lock(lock)) => shown_lock(alloc, lock, token),
-        Ok(Reply::Locks(locks)) => match locks.as_slice() {
-            [lock] => shown_lock(alloc, lock, token),
-            _ => Err(Fail::from("not one lock")),
-        },
-        Ok(Reply::Patched(answers)) => shown_statuses(alloc, answers),
-        Ok(Reply::Props(props)) => shown_props(alloc, props),
-        Ok(_) => Err(Fail::from("another reply")),
-        Err(Refusal::Fs(error)) => Ok(format!(in alloc; "{error}")?),
-        Err(Refusal::Locked(lock)) => Ok(format!(in alloc; "locked {}", name(lock, token))?),
-        Err(Refusal::NoLock) => Ok(String::from_str(alloc, "no lock")?),
-        Err(Refusal::OutOfMemory) => Ok(String::from_str(alloc, "no memory")?),
+        Ok(reply) => shown_reply(alloc, reply, token),
+        Err(refusal) => Ok(shown_refusal(alloc, refusal, token)?),
+    }
+}
+
+fn shown_reply(alloc: Global, reply: &Reply, token: &str) -> Result<String, Fail> {
+    match reply {
+        Reply::Done => Ok(String::from_str(alloc, "done")?),
+        Reply::Bytes(bytes) => Ok(text_of_bytes(alloc, bytes.as_slice())?),
+        Reply::Lock(lock) => shown_lock(alloc, lock, token),
+        Reply::Locks(locks) => shown_lock(alloc, only(locks)?, token),
+        Reply::Patched(answers) => shown_statuses(alloc, answers),
+        Reply::Props(props) => shown_props(alloc, props),
+        _ => Err(Fail::from("another reply")),
+    }
+}
+
+fn text_of_bytes(alloc: Global, bytes: &[u8]) -> Result<String, AllocError> {
+    String::from_str(alloc, str::from_utf8(bytes).unwrap_or("?"))
+}
+
+fn only(locks: &[DavLock]) -> Result<&DavLock, Fail> {
+    match locks {
+        [lock] => Ok(lock),
+        _ => Err(Fail::from("not one lock")),
+    }
+}
+
+fn shown_refusal(alloc: Global, refusal: &Refusal, token: &str) -> Result<String, AllocError> {
+    match refusal {
+        Refusal::Fs(error) => format!(in alloc; "{error}"),
+        Refusal::Locked(lock) => format!(in alloc; "locked {}", name(lock, token)),
+        Refusal::NoLock => String::from_str(alloc, "no lock"),
+        Refusal::OutOfMemory => String::from_str(alloc, "no memory"),
     }
 }
 
 fn shown_statuses(alloc: Global, answers: &[(StatusCode, DavProp)]) -> Result<String, Fail> {
     let mut text = String::new(alloc);
     for (status, _prop) in answers {
-        add(
-            &mut text,
-            format!(in alloc; "{}", status.as_u16())?.as_str(),
-        )?;
+        add(&mut text, status_text(alloc, *status)?.as_str())?;
     }
     Ok(text)
 }
 
-// Names and xml.
+fn status_text(alloc: Global, status: StatusCode) -> Result<String, AllocError> {
+    format!(in alloc; "{}", status.as_u16())
+}
+
 fn shown_props(alloc: Global, props: &[DavProp]) -> Result<String, Fail> {
     let mut text = String::new(alloc);
     for prop in props {
-        let xml = prop.xml.as_deref().ok_or("no xml")?;
-        let xml = str::from_utf8(xml).unwrap_or("?");
-        add(
-            &mut text,
-            format!(in alloc; "{}|{xml}", prop.name)?.as_str(),
-        )?;
+        add(&mut text, shown_prop(alloc, prop)?.as_str())?;
     }
     Ok(text)
+}
+
+// Its name and its xml.
+fn shown_prop(alloc: Global, prop: &DavProp) -> Result<String, Fail> {
+    let xml = prop.xml.as_deref().ok_or("no xml")?;
+    let xml = str::from_utf8(xml).unwrap_or("?");
+    Ok(format!(in alloc; "{}|{xml}", prop.name)?)
 }
 
 fn add(text: &mut String, word: &str) -> Result<(), AllocError> {
@@ -276,13 +318,23 @@ fn add(text: &mut String, word: &str) -> Result<(), AllocError> {
 
 // Token, path, principal, owner, timeout, moment of the end, shared and deep.
 fn shown_lock(alloc: Global, lock: &DavLock, token: &str) -> Result<String, Fail> {
+    let whose = shown_holder(alloc, lock, token)?;
+    let ends = shown_ends(alloc, lock)?;
+    let (shared, deep) = (lock.shared, lock.deep);
+    Ok(format!(in alloc; "{whose} {ends} {shared} {deep}")?)
+}
+
+fn shown_holder(alloc: Global, lock: &DavLock, token: &str) -> Result<String, AllocError> {
     let token = name(lock, token);
     let path = str::from_utf8(lock.path.as_bytes()).unwrap_or("?");
     let (who, owner) = (text_of(&lock.principal), text_of(&lock.owner));
+    format!(in alloc; "{token} {path} {who} {owner}")
+}
+
+fn shown_ends(alloc: Global, lock: &DavLock) -> Result<String, Fail> {
     let timeout = lock.timeout.ok_or("no timeout")?;
     let end = lock.timeout_at.ok_or("no end")?.0;
-    let (shared, deep) = (lock.shared, lock.deep);
-    Ok(format!(in alloc; "{token} {path} {who} {owner} {timeout} {end} {shared} {deep}")?)
+    Ok(format!(in alloc; "{timeout} {end}")?)
 }
 
 fn name<'a>(lock: &'a DavLock, token: &str) -> &'a str {

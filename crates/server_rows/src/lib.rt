@@ -12,6 +12,8 @@ mod folders;
 #[cfg(test)]
 mod ifs;
 #[cfg(test)]
+mod lock_texts;
+#[cfg(test)]
 mod locks;
 #[cfg(test)]
 mod moves;
@@ -26,4 +28,12 @@ mod removals;
 #[cfg(test)]
 mod rows;
 #[cfg(test)]
+mod scenarios;
+#[cfg(test)]
+mod stores;
+#[cfg(test)]
+mod texts;
+#[cfg(test)]
 mod unlocks;
+#[cfg(test)]
+mod words;

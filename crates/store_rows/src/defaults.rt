@@ -9,6 +9,7 @@ use dav_files_core::fs::{
 use dav_files_core::memfs::{MemFs, MemFsEntry, MemFsFile, MemFsMeta};
 use dav_path_core::davpath::DavPath;
 use dav_path_core::errors::{FsError, FsResult};
+use std::alloc::Global;
 use std::io::SeekFrom;
 use std::test::Fail;
 
@@ -121,61 +122,100 @@ impl DavDirEntry for Sized {
     }
 }
 
+fn bare_files(alloc: Global) -> FsResult<Bare> {
+    let files = MemFs::new(alloc, Moment(1))?;
+    Ok(Bare { files })
+}
+
+// The answer to a call that changes files.
+fn answer_to(bare: &mut Bare, path: &DavPath, call: &str) -> FsResult<()> {
+    let now = Moment(2);
+    match call {
+        "create_dir" => bare.create_dir(path, now),
+        "remove_dir" => bare.remove_dir(path, now),
+        "remove_file" => bare.remove_file(path, now),
+        "rename" => bare.rename(path, path, now),
+        "copy" => bare.copy(path, path, now),
+        "set_accessed" => bare.set_accessed(path, now),
+        "set_modified" => bare.set_modified(path, now),
+        _ => Ok(()),
+    }
+}
+
+const CHANGES: &str = "create_dir remove_dir remove_file rename copy set_accessed set_modified";
+
+// Whether no properties are kept at a path, and it is no link.
+fn is_plain(bare: &Bare, path: &DavPath) -> FsResult<bool> {
+    let same = bare.symlink_metadata(path)? == bare.metadata(path)?;
+    Ok(same && !bare.have_props(path))
+}
+
 #[test]
 fn changes_nothing_by_default(rt: HostRuntime) -> Result<(), Fail> {
-    let alloc = rt.alloc();
-    let mut bare = Bare {
-        files: MemFs::new(alloc, Moment(1))?,
-    };
-    let path = DavPath::new(alloc, "/")?;
+    let mut bare = bare_files(rt.alloc())?;
+    let path = DavPath::new(rt.alloc(), "/")?;
     let refused = Err(FsError::NotImplemented);
-    for is_so in [
-        bare.create_dir(&path, Moment(2)) == refused,
-        bare.remove_dir(&path, Moment(2)) == refused,
-        bare.remove_file(&path, Moment(2)) == refused,
-        bare.rename(&path, &path, Moment(2)) == refused,
-        bare.copy(&path, &path, Moment(2)) == refused,
-        bare.set_accessed(&path, Moment(2)) == refused,
-        bare.set_modified(&path, Moment(2)) == refused,
-        !bare.have_props(&path),
-    ] {
-        assert!(rt; is_so);
+    for call in CHANGES.split(' ') {
+        assert!(rt; answer_to(&mut bare, &path, call) == refused, "{call}");
     }
-    assert!(rt; bare.symlink_metadata(&path)? == bare.metadata(&path)?);
+    assert!(rt; is_plain(&bare, &path)?);
     Ok(())
+}
+
+fn opened(bare: &mut Bare, path: &DavPath) -> FsResult<BareFile> {
+    bare.files.put(path, b"abc", Moment(2))?;
+    bare.open(path, OpenOptions::read(), Moment(3))
+}
+
+fn leads(file: &mut BareFile, bare: &Bare) -> FsResult<bool> {
+    Ok(file.redirect_url(bare)?.is_some())
+}
+
+fn reads(file: &mut BareFile, bare: &Bare, bytes: &[u8]) -> FsResult<bool> {
+    Ok(file.read_bytes(bare, 9)?.as_slice() == bytes)
 }
 
 #[test]
 fn leads_nowhere_by_default(rt: HostRuntime) -> Result<(), Fail> {
-    let alloc = rt.alloc();
-    let mut bare = Bare {
-        files: MemFs::new(alloc, Moment(1))?,
-    };
-    let path = DavPath::new(alloc, "/a")?;
-    bare.files.put(&path, b"abc", Moment(2))?;
-    let mut file = bare.open(&path, OpenOptions::read(), Moment(3))?;
-    assert!(rt; file.redirect_url(&bare)?.is_none());
-    assert!(rt; file.read_bytes(&bare, 9)?.as_slice() == b"abc".as_slice());
+    let mut bare = bare_files(rt.alloc())?;
+    let path = DavPath::new(rt.alloc(), "/a")?;
+    let mut file = opened(&mut bare, &path)?;
+    assert!(rt; !leads(&mut file, &bare)?);
+    assert!(rt; reads(&mut file, &bare, b"abc")?);
     Ok(())
+}
+
+// The error of a call on properties.
+fn error_of<T: Drop>(answer: FsResult<T>) -> Option<FsError> {
+    answer.err()
+}
+
+fn refusal_of(bare: &mut Bare, path: &DavPath, prop: &DavProp, call: &str) -> Option<FsError> {
+    match call {
+        "get_props" => error_of(bare.get_props(path, true)),
+        "get_prop" => error_of(bare.get_prop(path, prop)),
+        "get_quota" => error_of(bare.get_quota()),
+        _ => None,
+    }
+}
+
+fn patches(bare: &mut Bare, path: &DavPath, patch: Vec<(bool, DavProp)>) -> Option<FsError> {
+    error_of(bare.patch_props(path, patch))
 }
 
 #[test]
 fn keeps_no_properties_by_default(rt: HostRuntime) -> Result<(), Fail> {
-    let alloc = rt.alloc();
-    let mut bare = Bare {
-        files: MemFs::new(alloc, Moment(1))?,
-    };
-    let path = DavPath::new(alloc, "/")?;
-    let prop = DavProp::new(alloc, "a", "a", "a", "a")?;
-    assert!(rt;
-        matches!(
-            bare.patch_props(&path, Vec::new(alloc)),
-            Err(FsError::NotImplemented)
-        )
-    );
-    assert!(rt; matches!(bare.get_props(&path, true), Err(FsError::NotImplemented)));
-    assert!(rt; matches!(bare.get_prop(&path, &prop), Err(FsError::NotImplemented)));
-    assert!(rt; bare.get_quota() == Err(FsError::NotImplemented));
+    let mut bare = bare_files(rt.alloc())?;
+    let path = DavPath::new(rt.alloc(), "/")?;
+    let prop = DavProp::new(rt.alloc(), "a", "a", "a", "a")?;
+    let refused = Some(FsError::NotImplemented);
+    for call in "get_props get_prop get_quota".split(' ') {
+        assert!(rt;
+            refusal_of(&mut bare, &path, &prop, call) == refused,
+            "{call}"
+        );
+    }
+    assert!(rt; patches(&mut bare, &path, Vec::new(rt.alloc())) == refused);
     Ok(())
 }
 

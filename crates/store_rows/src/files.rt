@@ -4,6 +4,7 @@ mod player;
 mod properties;
 mod rows;
 
+use crate::words::row_of;
 use player::Player;
 use rows::{FILES, OPEN_FILES, PROPERTIES};
 use std::process::Abort;
@@ -12,7 +13,7 @@ use std::test::Fail;
 fn play<R: AllocGlobal + Abort>(rt: &R, rows: &str) -> Result<(), Fail> {
     let mut player = Player::new(rt.alloc())?;
     for row in rows.split('\n') {
-        let (call, wanted) = row.split_once(" = ").ok_or("no answer")?;
+        let (call, wanted) = row_of(row)?;
         let answer = player.answer_to(call)?;
         assert!(rt; answer.as_str() == wanted, "{row}, not {answer}");
     }

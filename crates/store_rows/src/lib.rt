@@ -4,7 +4,11 @@
 #[cfg(test)]
 mod defaults;
 #[cfg(test)]
+mod file_calls;
+#[cfg(test)]
 mod files;
+#[cfg(test)]
+mod lock_calls;
 #[cfg(test)]
 mod locks;
 #[cfg(test)]

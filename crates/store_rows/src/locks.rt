@@ -3,19 +3,24 @@ mod counter;
 mod player;
 mod rows;
 
+use crate::words::row_of;
 use dav_locks_core::ls::{LockError, NoLock, RefreshError};
 use player::Player;
 use rows::{DEEP_LOCKS, LOCKS};
 use std::process::Abort;
 use std::test::Fail;
 
+// A conflict is wanted with a lock, or with any.
+fn is_wanted(answer: &str, wanted: &str) -> bool {
+    answer == wanted || (wanted == "conflict" && answer.starts_with("conflict t"))
+}
+
 fn play<R: AllocGlobal + Abort>(rt: &R, rows: &str) -> Result<(), Fail> {
     let mut player = Player::new(rt.alloc())?;
     for row in rows.split('\n') {
-        let (call, wanted) = row.split_once(" = ").ok_or("no answer")?;
+        let (call, wanted) = row_of(row)?;
         let answer = player.answer_to(call)?;
-        let any = wanted == "conflict" && answer.starts_with("conflict t");
-        assert!(rt; any || answer.as_str() == wanted, "{row}, not {answer}");
+        assert!(rt; is_wanted(answer.as_str(), wanted), "{row}, not {answer}");
     }
     Ok(())
 }

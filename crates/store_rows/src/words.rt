@@ -1,20 +1,12 @@
 //! The words of a row: MOMENT CALL ARGS.
+use std::test::Fail;
 
-/// The words of a call; `""` for each that is missing.
-pub(super) fn words_of(call: &str) -> [&str; 8] {
-    let mut words = call.split(' ');
-    let mut word = || match words.next() {
-        Some(word) => word,
-        None => "",
-    };
-    [
-        word(),
-        word(),
-        word(),
-        word(),
-        word(),
-        word(),
-        word(),
-        word(),
-    ]
+/// A word, and what stands behind it and a blank; `""` for what is missing.
+pub(crate) fn first_word(words: &str) -> (&str, &str) {
+    words.split_once(' ').unwrap_or((words, ""))
+}
+
+/// A call, and the answer that is wanted.
+pub(crate) fn row_of(row: &str) -> Result<(&str, &str), Fail> {
+    Ok(row.split_once(" = ").ok_or("no answer")?)
 }

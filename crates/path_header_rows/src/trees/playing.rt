@@ -2,6 +2,7 @@
 ghost use Rattle.std.specs.Prelude.{◌≡◌, true};
 
 use super::keys::Key;
+use crate::paths::row_of;
 use dav_path_core::errors::{FsError, FsResult};
 use dav_path_core::tree::Tree;
 use std::alloc::{AllocError, Global};
@@ -14,32 +15,44 @@ pub(super) fn play<K: Key>(rt: &impl Abort, alloc: Global, rows: &str) -> Result
 {
     let mut tree: Tree<K, u32> = Tree::new(alloc, 0)?;
     for row in rows.split('\n') {
-        let (call, wanted) = row.split_once(" = ").ok_or("no answer")?;
-        let answer = match answer_to(alloc, &mut tree, call) {
-            Ok(text) => text,
-            Err(error) => format!(in alloc; "{error}")?,
-        };
+        let (call, wanted) = row_of(row)?;
+        let answer = told(alloc, answer_to(alloc, &mut tree, call))?;
         assert!(rt; answer.as_str() == wanted, "{row}, not {answer}");
     }
     Ok(())
 }
 
+// An answer, or the name of a refusal.
+fn told(alloc: Global, answer: FsResult<String>) -> Result<String, AllocError> {
+    match answer {
+        Ok(text) => Ok(text),
+        Err(error) => format!(in alloc; "{error}"),
+    }
+}
+
 fn answer_to<K: Key>(alloc: Global, tree: &mut Tree<K, u32>, call: &str) -> FsResult<String>
     requires clones_equal { (k l : K) → K.is_clone k l → K.eq k l ≡ true }
 {
-    let words: Vec<&str> = call.split(' ').collect(alloc)?;
-    match words.as_slice() {
-        ["new"] => {
-            *tree = Tree::new(alloc, 0)?;
-            done(alloc)
-        }
-        [name, id] => of_node(alloc, tree, name, number(id)?),
-        [name, id, word] => of_child(alloc, tree, name, number(id)?, word),
-        [name, first, second, third] => {
-            changed(alloc, tree, name, number(first)?, second, third)
-        }
-        _ => Err(FsError::NotImplemented),
+    if call == "new" {
+        *tree = Tree::new(alloc, 0)?;
+        return done(alloc);
     }
+    let (name, rest) = first_word(call);
+    let (id, rest) = first_word(rest);
+    let (second, third) = first_word(rest);
+    let id = number(id)?;
+    if second.is_empty() {
+        return of_node(alloc, tree, name, id);
+    }
+    if third.is_empty() {
+        return of_child(alloc, tree, name, id, second);
+    }
+    changed(alloc, tree, name, id, second, third)
+}
+
+// A word, and the words behind it.
+fn first_word(words: &str) -> (&str, &str) {
+    words.split_once(' ').unwrap_or((words, ""))
 }
 
 fn of_node<K: Key>(alloc: Global, tree: &mut Tree<K, u32>, name: &str, id: u64) -> FsResult<String>
@@ -73,13 +86,15 @@ fn of_child<K: Key>(
         return done(alloc);
     }
     let key = K::of_letter(alloc, word)?;
+    let found = found(tree, name, id, &key)?;
+    shown(alloc, found)
+}
+
+fn found<K: Key>(tree: &Tree<K, u32>, name: &str, id: u64, key: &K) -> FsResult<u64> {
     match name {
-        "get" => shown(alloc, tree.get_child(id, &key)?),
-        "find" => shown(alloc, tree.find_child(id, |other| *other == key)?),
-        "like" => shown(
-            alloc,
-            tree.find_child_like(id, &key, |other| *other == key)?,
-        ),
+        "get" => tree.get_child(id, key),
+        "find" => tree.find_child(id, |other| *other == *key),
+        "like" => tree.find_child_like(id, key, |other| *other == *key),
         _ => Err(FsError::NotImplemented),
     }
 }
@@ -93,40 +108,74 @@ fn changed<K: Key>(
     third: &str,
 ) -> FsResult<String> {
     match name {
-        "add" | "add!" => {
-            let key = K::of_letter(alloc, second)?;
-            shown(
-                alloc,
-                tree.add_child(id, key, item(third)?, name == "add!")?,
-            )
-        }
-        "move" | "move!" => {
-            let key = K::of_letter(alloc, third)?;
-            tree.move_node(id, number(second)?, key, name == "move!")?;
-            done(alloc)
-        }
+        "add" => add(alloc, tree, id, second, third, false),
+        "add!" => add(alloc, tree, id, second, third, true),
+        "move" => move_to(alloc, tree, id, second, third, false),
+        "move!" => move_to(alloc, tree, id, second, third, true),
         _ => Err(FsError::NotImplemented),
     }
 }
 
-// The children by their numbers, as `a:2 c:4`. A listing that has ended gives nothing more.
+fn add<K: Key>(
+    alloc: Global,
+    tree: &mut Tree<K, u32>,
+    parent: u64,
+    letter: &str,
+    word: &str,
+    overwrite: bool,
+) -> FsResult<String> {
+    let item = item(word)?;
+    let key = K::of_letter(alloc, letter)?;
+    shown(alloc, tree.add_child(parent, key, item, overwrite)?)
+}
+
+fn move_to<K: Key>(
+    alloc: Global,
+    tree: &mut Tree<K, u32>,
+    id: u64,
+    parent: &str,
+    letter: &str,
+    overwrite: bool,
+) -> FsResult<String> {
+    let parent = number(parent)?;
+    let key = K::of_letter(alloc, letter)?;
+    tree.move_node(id, parent, key, overwrite)?;
+    done(alloc)
+}
+
+// The children by their numbers, as `a:2 c:4`.
 fn children<K: Key>(alloc: Global, tree: &Tree<K, u32>, id: u64) -> FsResult<String>
     requires clones_equal { (k l : K) → K.is_clone k l → K.eq k l ≡ true }
 {
+    let mut pairs = pairs_of(alloc, tree, id)?;
+    pairs.sort_unstable_by_key(|pair| pair.1);
+    if pairs.is_empty() {
+        return Ok(String::from_str(alloc, "none")?);
+    }
+    shown_pairs(alloc, &pairs)
+}
+
+// The children with their numbers. A listing that has ended gives nothing more.
+fn pairs_of<K: Key>(alloc: Global, tree: &Tree<K, u32>, id: u64) -> FsResult<Vec<(K, u64)>>
+    requires clones_equal { (k l : K) → K.is_clone k l → K.eq k l ≡ true }
+{
     let mut children = tree.get_children(id)?;
-    let mut pairs: Vec<(K, u64)> = children.by_ref().collect(alloc)?;
+    let pairs: Vec<(K, u64)> = children.by_ref().collect(alloc)?;
     if children.next().is_some() {
         return Err(FsError::LoopDetected);
     }
-    pairs.sort_unstable_by_key(|pair| pair.1);
+    Ok(pairs)
+}
+
+fn shown_pairs<K: Key>(alloc: Global, pairs: &[(K, u64)]) -> FsResult<String> {
     let mut text = String::new(alloc);
-    for (key, id) in &pairs {
-        write!(text, " {}:{id}", key.letter(alloc)?)?;
+    for (key, id) in pairs {
+        if !text.is_empty() {
+            text.push(' ')?;
+        }
+        write!(text, "{}:{id}", key.letter(alloc)?)?;
     }
-    match text.strip_prefix(" ") {
-        Some(pairs) => Ok(String::from_str(alloc, pairs)?),
-        None => Ok(String::from_str(alloc, "none")?),
-    }
+    Ok(text)
 }
 
 /// How many numbers from 1 to another are unknown.

@@ -1,6 +1,7 @@
 //! Streams that fail.
+use super::plays;
 use dav_resource_core::davreplay::replay;
-use std::alloc::AllocError;
+use std::alloc::{AllocError, Global};
 use std::io::{self, ErrorKind, Read, Write};
 
 /// Gives its bytes, and then fails.
@@ -45,41 +46,46 @@ impl Write for FullOutput {
 
 #[test]
 fn ends_where_the_input_fails(rt: HostRuntime) {
-    let mut told = Vec::new(rt.alloc());
-    let mut faulted = Vec::new(rt.alloc());
     let input = BrokenInput {
         rest: b"1 - - put /a 61\n",
     };
-    assert_eq!(rt; replay(rt.alloc(), 1, input, &mut told, &mut faulted), 3);
-    assert!(rt; told.as_slice() == b"ok\n".as_slice());
-    assert!(rt; faulted.as_slice() == b"i/o error\n".as_slice());
+    assert!(rt; plays(rt.alloc(), input, "ok\n", "i/o error\n", 3));
+}
+
+// Whether there is no room for the second answer.
+fn fills(alloc: Global, input: &[u8]) -> bool {
+    let mut output = full(alloc);
+    output.room = 3;
+    let mut faulted = Vec::new(alloc);
+    let ended = replay(alloc, 1, input, &mut output, &mut faulted);
+    ended == 3
+        && output.told.as_slice() == b"ok\n".as_slice()
+        && faulted.as_slice() == b"i/o error\n".as_slice()
 }
 
 #[test]
 fn ends_where_the_output_fails(rt: HostRuntime) {
-    let mut output = FullOutput {
-        told: Vec::new(rt.alloc()),
-        room: 3,
-    };
-    let mut faulted = Vec::new(rt.alloc());
     let input = b"1 - - put /a 61\n2 - - put /b 61\n3 - - mkdir /d\n".as_slice();
-    assert_eq!(rt; replay(rt.alloc(), 1, input, &mut output, &mut faulted), 3);
-    assert!(rt; output.told.as_slice() == b"ok\n".as_slice());
-    assert!(rt; faulted.as_slice() == b"i/o error\n".as_slice());
+    assert!(rt; fills(rt.alloc(), input));
+}
+
+// The status where nothing can be told of faults.
+fn status<I: Read + Drop>(alloc: Global, input: I) -> u8 {
+    let mut told = Vec::new(alloc);
+    replay(alloc, 1, input, &mut told, full(alloc))
 }
 
 #[test]
 fn keeps_its_status_where_faults_fail(rt: HostRuntime) {
-    let mut told = Vec::new(rt.alloc());
     let input = b"1 - - mkdir /d\n".as_slice();
-    assert_eq!(rt; replay(rt.alloc(), 1, input, &mut told, full(&rt)), 2);
+    assert_eq!(rt; status(rt.alloc(), input), 2);
     let input = BrokenInput { rest: b"" };
-    assert_eq!(rt; replay(rt.alloc(), 1, input, &mut told, full(&rt)), 3);
+    assert_eq!(rt; status(rt.alloc(), input), 3);
 }
 
-fn full(rt: &HostRuntime) -> FullOutput {
+fn full(alloc: Global) -> FullOutput {
     FullOutput {
-        told: Vec::new(rt.alloc()),
+        told: Vec::new(alloc),
         room: 0,
     }
 }

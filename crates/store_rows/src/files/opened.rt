@@ -1,5 +1,7 @@
 //! Plays calls of an open file.
-use super::player::{number, shown, text_of};
+use super::player::{number, ok, shown, text_of};
+use crate::file_calls;
+use crate::words::first_word;
 use bytes::{Buf, Bytes};
 use dav_files_core::fs::DavFile;
 use dav_files_core::memfs::{MemFs, MemFsFile};
@@ -12,34 +14,47 @@ pub(super) fn answer_of_open(
     alloc: Global,
     file: &mut MemFsFile,
     files: &mut MemFs,
-    words: [&str; 3],
+    words: &str,
 ) -> FsResult<String> {
-    let [call, first, second] = words;
+    let (call, rest) = first_word(words);
     match call {
-        "read" => {
-            let bytes = file.read_bytes(files, number(first)? as usize)?;
-            text_of(alloc, bytes.as_slice())
-        }
-        "buf" => write_buf(alloc, file, files, first, second),
-        "seek" => {
-            let at = file.seek(files, place_of(first, second)?)?;
-            Ok(format!(in alloc; "{at}")?)
-        }
+        "read" => read(alloc, file, files, rest),
+        "buf" => write_buf(alloc, file, files, rest),
+        "seek" => seek(alloc, file, files, rest),
         "meta" => shown(alloc, &file.metadata(files)?),
-        "url" => match file.redirect_url(files)? {
-            Some(url) => Ok(url),
-            None => Ok(String::from_str(alloc, "none")?),
-        },
-        "write" => {
-            file.write_bytes(files, bytes_of(alloc, first)?)?;
-            Ok(String::from_str(alloc, "ok")?)
-        }
-        "flush" => {
-            file.flush(files)?;
-            Ok(String::from_str(alloc, "ok")?)
-        }
+        "url" => url(alloc, file, files),
+        "write" => write(alloc, file, files, rest),
+        "flush" => flush(alloc, file, files),
         _ => Err(FsError::GeneralFailure),
     }
+}
+
+fn read(alloc: Global, file: &mut MemFsFile, files: &MemFs, count: &str) -> FsResult<String> {
+    let bytes = file.read_bytes(files, number(count)? as usize)?;
+    text_of(alloc, bytes.as_slice())
+}
+
+fn seek(alloc: Global, file: &mut MemFsFile, files: &MemFs, words: &str) -> FsResult<String> {
+    let (from, offset) = first_word(words);
+    let at = file_calls::seek(file, files, place_of(from, offset)?)?;
+    Ok(format!(in alloc; "{at}")?)
+}
+
+fn url(alloc: Global, file: &mut MemFsFile, files: &MemFs) -> FsResult<String> {
+    match file.redirect_url(files)? {
+        Some(url) => Ok(url),
+        None => Ok(String::from_str(alloc, "none")?),
+    }
+}
+
+fn write(alloc: Global, file: &mut MemFsFile, files: &mut MemFs, text: &str) -> FsResult<String> {
+    file.write_bytes(files, bytes_of(alloc, text)?)?;
+    ok(alloc)
+}
+
+fn flush(alloc: Global, file: &mut MemFsFile, files: &mut MemFs) -> FsResult<String> {
+    file.flush(files)?;
+    ok(alloc)
 }
 
 // The answer, and what is left of the bytes.
@@ -47,17 +62,25 @@ fn write_buf(
     alloc: Global,
     file: &mut MemFsFile,
     files: &mut MemFs,
-    first: &str,
-    second: &str,
+    words: &str,
 ) -> FsResult<String> {
+    let (first, second) = first_word(words);
     let mut buf = bytes_of(alloc, first)?.chain(bytes_of(alloc, second)?);
-    let answer = match file.write_buf(files, &mut buf) {
-        Ok(()) => String::from_str(alloc, "ok")?,
-        Err(error) => format!(in alloc; "{error}")?,
-    };
+    let answer = told(alloc, write_from(file, files, &mut buf))?;
     let left = buf.copy_to_bytes(alloc, buf.remaining())?;
     let left = text_of(alloc, left.as_slice())?;
     Ok(format!(in alloc; "{answer} and {left} left")?)
+}
+
+fn write_from<B: Buf>(file: &mut MemFsFile, files: &mut MemFs, buf: &mut B) -> FsResult<()> {
+    file.write_buf(files, buf)
+}
+
+fn told(alloc: Global, answer: FsResult<()>) -> FsResult<String> {
+    match answer {
+        Ok(()) => ok(alloc),
+        Err(error) => Ok(format!(in alloc; "{error}")?),
+    }
 }
 
 fn place_of(from: &str, offset: &str) -> FsResult<SeekFrom> {

@@ -1,11 +1,12 @@
 //! Plays calls on files in memory.
 use super::opened::answer_of_open;
 use super::properties::{patch_of, prop_of, shown_props, shown_statuses, xml_of_new};
-use crate::words::words_of;
+use crate::file_calls;
+use crate::words::first_word;
 use dav_files_core::fs::{
     DavDirEntry, DavFile, DavFileSystem, DavMetaData, Moment, OpenOptions, ReadDirMeta,
 };
-use dav_files_core::memfs::{MemFs, MemFsFile};
+use dav_files_core::memfs::{MemFs, MemFsEntry, MemFsFile};
 use dav_path_core::davpath::DavPath;
 use dav_path_core::errors::{FsError, FsResult};
 use std::alloc::{AllocError, Global};
@@ -24,7 +25,7 @@ impl Player {
     pub(super) fn new(alloc: Global) -> FsResult<Player> {
         Ok(Player {
             alloc,
-            files: MemFs::new(alloc, Moment(1))?,
+            files: file_calls::new(alloc)?,
             file: None,
             old: None,
         })
@@ -32,107 +33,150 @@ impl Player {
 
     /// The answer to a call, or the name of its refusal.
     pub(super) fn answer_to(&mut self, call: &str) -> Result<String, AllocError> {
-        match self.answer(words_of(call)) {
+        match self.answer(call) {
             Ok(text) => Ok(text),
             Err(error) => format!(in self.alloc; "{error}"),
         }
     }
 
-    fn answer(&mut self, words: [&str; 8]) -> FsResult<String> {
-        let [now, call, first, second, third, ..] = words;
-        if call == "file" {
-            let file = self.file.as_mut().ok_or(FsError::GeneralFailure)?;
-            return answer_of_open(self.alloc, file, &mut self.files, [first, second, third]);
-        }
+    fn answer(&mut self, call: &str) -> FsResult<String> {
+        let (now, rest) = first_word(call);
+        let (call, rest) = first_word(rest);
         let now = Moment(number(now)?);
-        if self.change(now, call, first, second)? || self.change_two(now, call, first, second)? {
-            return Ok(String::from_str(self.alloc, "ok")?);
+        match call {
+            "new" => self.begin(),
+            "old" => self.take_old(),
+            "file" => answer_of_file(self.alloc, &mut self.file, &mut self.files, rest),
+            "quota" => shown_quota(self.alloc, &self.files),
+            "new-prop" => xml_of_new(self.alloc),
+            _ => self.answer_at(now, call, rest),
         }
-        self.told(call, first, second, third)
+    }
+
+    fn begin(&mut self) -> FsResult<String> {
+        self.files = file_calls::new(self.alloc)?;
+        self.file = None;
+        self.old = None;
+        ok(self.alloc)
+    }
+
+    fn take_old(&mut self) -> FsResult<String> {
+        self.file = self.old.take();
+        ok(self.alloc)
+    }
+
+    fn answer_at(&mut self, now: Moment, call: &str, words: &str) -> FsResult<String> {
+        let (path, rest) = first_word(words);
+        let path = path_of(self.alloc, path)?;
+        if self.change(now, call, &path, rest)? || self.change_two(now, call, &path, rest)? {
+            return ok(self.alloc);
+        }
+        self.told(call, &path, rest)
     }
 
     // Whether it is a call that changes what stands at one path, or opens it.
-    fn change(&mut self, now: Moment, call: &str, path: &str, word: &str) -> FsResult<bool> {
+    fn change(&mut self, now: Moment, call: &str, path: &DavPath, word: &str) -> FsResult<bool> {
+        let files = &mut self.files;
         match call {
-            "new" => *self = Player::new(self.alloc)?,
-            "put" => self
-                .files
-                .put(&path_of(self.alloc, path)?, bytes_of(word), now)?,
-            "mkdir" => self.files.create_dir(&path_of(self.alloc, path)?, now)?,
-            "rm" => self.files.remove_file(&path_of(self.alloc, path)?, now)?,
-            "rmdir" => self.files.remove_dir(&path_of(self.alloc, path)?, now)?,
+            "put" => file_calls::put(files, path, bytes_of(word), now)?,
+            "mkdir" => file_calls::create_dir(files, path, now)?,
+            "rm" => file_calls::remove_file(files, path, now)?,
+            "rmdir" => file_calls::remove_dir(files, path, now)?,
             "open" => self.open(now, path, word)?,
-            "old" => self.file = self.old.take(),
-            "accessed" => self.files.set_accessed(&path_of(self.alloc, path)?, now)?,
-            "modified" => self.files.set_modified(&path_of(self.alloc, path)?, now)?,
+            "accessed" => file_calls::set_accessed(files, path, now)?,
+            "modified" => file_calls::set_modified(files, path, now)?,
             _ => return Ok(false),
         }
         Ok(true)
     }
 
     // Whether it is a call that goes from one path to another.
-    fn change_two(&mut self, now: Moment, call: &str, from: &str, to: &str) -> FsResult<bool> {
+    fn change_two(&mut self, now: Moment, call: &str, from: &DavPath, to: &str) -> FsResult<bool> {
         if call != "rename" && call != "copy" {
             return Ok(false);
         }
-        let (from, to) = (path_of(self.alloc, from)?, path_of(self.alloc, to)?);
+        let to = path_of(self.alloc, to)?;
         if call == "rename" {
-            self.files.rename(&from, &to, now)?;
+            file_calls::rename(&mut self.files, from, &to, now)?;
         } else {
-            self.files.copy(&from, &to, now)?;
+            file_calls::copy(&mut self.files, from, &to, now)?;
         }
         Ok(true)
     }
 
-    fn open(&mut self, now: Moment, path: &str, how: &str) -> FsResult<()> {
-        let mut options = OpenOptions::write();
-        match how {
-            "append" => options.append = true,
-            "create" => options.create = true,
-            "new" => options.create_new = true,
-            "truncate" => options.truncate = true,
-            _ => {}
-        }
-        let file = self.files.open(&path_of(self.alloc, path)?, options, now)?;
+    fn open(&mut self, now: Moment, path: &DavPath, how: &str) -> FsResult<()> {
+        let file = file_calls::open(&mut self.files, path, options_of(how), now)?;
         self.old = self.file.replace(file);
         Ok(())
     }
 
-    fn told(&mut self, call: &str, path: &str, second: &str, third: &str) -> FsResult<String> {
+    fn told(&mut self, call: &str, path: &DavPath, words: &str) -> FsResult<String> {
         let (alloc, files) = (self.alloc, &mut self.files);
         match call {
-            "quota" => return shown_quota(alloc, files),
-            "new-prop" => return xml_of_new(alloc),
-            _ => {}
-        }
-        let path = path_of(alloc, path)?;
-        match call {
-            "read" => read(alloc, files, &path, second, third),
-            "bytes" => digits(alloc, files, &path),
-            "meta" => shown(alloc, &files.metadata(&path)?),
-            "meta-of-links" => shown(alloc, &files.symlink_metadata(&path)?),
-            "list" => list(alloc, files, &path),
-            _ => self.told_of_props(call, &path, second),
+            "read" => read(alloc, files, path, words),
+            "bytes" => digits(alloc, files, path),
+            "meta" => shown(alloc, &file_calls::metadata(files, path)?),
+            "meta-of-links" => shown(alloc, &file_calls::symlink_metadata(files, path)?),
+            "list" => list(alloc, files, path),
+            _ => told_of_props(alloc, files, call, path, words),
         }
     }
+}
 
-    fn told_of_props(&mut self, call: &str, path: &DavPath, word: &str) -> FsResult<String> {
-        let (alloc, files) = (self.alloc, &mut self.files);
-        match call {
-            "have-props" => Ok(format!(in alloc; "{}", files.have_props(path))?),
-            "props" => shown_props(alloc, files.get_props(path, true)?),
-            "names" => shown_props(alloc, files.get_props(path, false)?),
-            "prop" => {
-                let xml = files.get_prop(path, &prop_of(alloc, word)?)?;
-                text_of(alloc, &xml)
-            }
-            "patch" => {
-                let patch = patch_of(alloc, word)?;
-                shown_statuses(alloc, files.patch_props(path, patch)?)
-            }
-            _ => Err(FsError::GeneralFailure),
-        }
+fn answer_of_file(
+    alloc: Global,
+    file: &mut Option<MemFsFile>,
+    files: &mut MemFs,
+    words: &str,
+) -> FsResult<String> {
+    match file {
+        Some(file) => answer_of_open(alloc, file, files, words),
+        None => Err(FsError::GeneralFailure),
     }
+}
+
+fn options_of(how: &str) -> OpenOptions {
+    let mut options = OpenOptions::write();
+    match how {
+        "append" => options.append = true,
+        "create" => options.create = true,
+        "new" => options.create_new = true,
+        "truncate" => options.truncate = true,
+        _ => {}
+    }
+    options
+}
+
+fn told_of_props(
+    alloc: Global,
+    files: &mut MemFs,
+    call: &str,
+    path: &DavPath,
+    word: &str,
+) -> FsResult<String> {
+    match call {
+        "have-props" => Ok(format!(in alloc; "{}", file_calls::have_props(files, path))?),
+        "props" => shown_props_at(alloc, files, path, true),
+        "names" => shown_props_at(alloc, files, path, false),
+        "prop" => shown_prop_at(alloc, files, path, word),
+        "patch" => patch(alloc, files, path, word),
+        _ => Err(FsError::GeneralFailure),
+    }
+}
+
+fn shown_props_at(alloc: Global, files: &MemFs, path: &DavPath, content: bool) -> FsResult<String> {
+    shown_props(alloc, file_calls::get_props(files, path, content)?)
+}
+
+fn shown_prop_at(alloc: Global, files: &MemFs, path: &DavPath, word: &str) -> FsResult<String> {
+    let prop = prop_of(alloc, word)?;
+    let xml = file_calls::get_prop(files, path, &prop)?;
+    text_of(alloc, &xml)
+}
+
+fn patch(alloc: Global, files: &mut MemFs, path: &DavPath, word: &str) -> FsResult<String> {
+    let patch = patch_of(alloc, word)?;
+    shown_statuses(alloc, file_calls::patch_props(files, path, patch)?)
 }
 
 fn shown_quota(alloc: Global, files: &MemFs) -> FsResult<String> {
@@ -140,25 +184,26 @@ fn shown_quota(alloc: Global, files: &MemFs) -> FsResult<String> {
     Ok(format!(in alloc; "{used}")?)
 }
 
-fn read(
-    alloc: Global,
-    files: &mut MemFs,
-    path: &DavPath,
-    at: &str,
-    count: &str,
-) -> FsResult<String> {
-    let mut file = files.open(path, OpenOptions::read(), Moment(1))?;
-    file.seek(files, SeekFrom::Start(number(at)?))?;
-    let bytes = file.read_bytes(files, number(count)? as usize)?;
+fn read(alloc: Global, files: &mut MemFs, path: &DavPath, words: &str) -> FsResult<String> {
+    let (at, count) = first_word(words);
+    let (at, count) = (number(at)?, number(count)? as usize);
+    let mut file = file_calls::open(files, path, OpenOptions::read(), Moment(1))?;
+    file_calls::seek(&mut file, files, SeekFrom::Start(at))?;
+    let bytes = file.read_bytes(files, count)?;
     text_of(alloc, bytes.as_slice())
 }
 
 // The bytes of a file, two digits each.
 fn digits(alloc: Global, files: &mut MemFs, path: &DavPath) -> FsResult<String> {
-    let mut file = files.open(path, OpenOptions::read(), Moment(6))?;
+    let mut file = file_calls::open(files, path, OpenOptions::read(), Moment(6))?;
+    let bytes = file.read_bytes(files, 99)?;
+    shown_digits(alloc, bytes.as_slice())
+}
+
+fn shown_digits(alloc: Global, bytes: &[u8]) -> FsResult<String> {
     let mut text = String::new(alloc);
-    for byte in file.read_bytes(files, 99)?.as_slice() {
-        text.push_str(format!(in alloc; "{byte:02x}")?.as_str())?;
+    for byte in bytes {
+        write!(text, "{byte:02x}")?;
     }
     Ok(text)
 }
@@ -166,30 +211,40 @@ fn digits(alloc: Global, files: &mut MemFs, path: &DavPath) -> FsResult<String> 
 // The names of the members, as in a URL.
 fn list(alloc: Global, files: &MemFs, path: &DavPath) -> FsResult<String> {
     let members = files.read_dir(path, ReadDirMeta::Data)?;
+    if members.is_empty() {
+        return Ok(String::from_str(alloc, "-")?);
+    }
     let mut text = String::new(alloc);
     for member in &members {
         if !text.is_empty() {
             text.push(' ')?;
         }
-        add_escaped(alloc, &mut text, member.name())?;
-        if member.is_dir()? == member.is_file()? || member.is_symlink()? {
-            return Err(FsError::GeneralFailure);
-        }
-    }
-    if text.is_empty() {
-        text.push('-')?;
+        add_escaped(&mut text, member.name())?;
+        has_one_kind(member)?;
     }
     Ok(text)
 }
 
-fn add_escaped(alloc: Global, text: &mut String, name: &[u8]) -> FsResult<()> {
+// A member is a folder or a file, and no link.
+fn has_one_kind(member: &MemFsEntry) -> FsResult<()> {
+    if member.is_dir()? == member.is_file()? || member.is_symlink()? {
+        return Err(FsError::GeneralFailure);
+    }
+    Ok(())
+}
+
+fn add_escaped(text: &mut String, name: &[u8]) -> FsResult<()> {
     for byte in name {
         match *byte {
             b'!'..=b'~' => text.push(*byte as char)?,
-            byte => text.push_str(format!(in alloc; "%{byte:02x}")?.as_str())?,
+            byte => write!(text, "%{byte:02x}")?,
         }
     }
     Ok(())
+}
+
+pub(super) fn ok(alloc: Global) -> FsResult<String> {
+    Ok(String::from_str(alloc, "ok")?)
 }
 
 // The kind, the length, and when it was last changed and made.

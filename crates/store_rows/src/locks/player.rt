@@ -1,8 +1,9 @@
 //! Plays calls on locks in memory.
 use super::counter::Counter;
-use crate::words::words_of;
+use crate::lock_calls::{self, Asked};
+use crate::words::first_word;
 use dav_files_core::fs::Moment;
-use dav_locks_core::ls::{DavLock, DavLockSystem, LockError};
+use dav_locks_core::ls::{DavLock, LockError};
 use dav_locks_core::memls::MemLs;
 use dav_path_core::davpath::DavPath;
 use dav_path_core::errors::FsResult;
@@ -30,92 +31,94 @@ impl Player {
 
     /// The answer to a call.
     pub(super) fn answer_to(&mut self, call: &str) -> Result<String, Fail> {
-        let [now, call, path, first, second, third, scope, depth] = words_of(call);
+        let (now, rest) = first_word(call);
+        let (call, rest) = first_word(rest);
         let now = Moment(now.parse()?);
         match call {
-            "new" => {
-                *self = Player::new(self.alloc)?;
-                return Ok(self.text("ok")?);
-            }
-            "expire" => {
-                self.locks.expire(now);
-                return Ok(self.text("ok")?);
-            }
-            "count" => return Ok(format!(in self.alloc; "{}", self.locks.node_count())?),
-            "drawn" => return Ok(format!(in self.alloc; "{}", self.rng.0)?),
-            "granted" => return shown(self.alloc, self.granted.last().ok_or("no lock")?),
-            _ => {}
-        }
-        let path = path_of(self.alloc, path)?;
-        match call {
-            "lock" => self.lock(now, &path, [first, second, third, scope, depth]),
-            "check" => self.check(now, &path, false, [first, second, third]),
-            "check!" => self.check(now, &path, true, [first, second, third]),
-            _ => self.by_label(now, call, &path, first, second),
+            "new" => self.begin(),
+            "expire" => Ok(self.expire(now)?),
+            "count" => Ok(format!(in self.alloc; "{}", self.locks.node_count())?),
+            "drawn" => Ok(format!(in self.alloc; "{}", self.rng.0)?),
+            "granted" => shown(self.alloc, self.granted.last().ok_or("no lock")?),
+            _ => self.answer_at(now, call, rest),
         }
     }
 
-    fn by_label(
+    fn begin(&mut self) -> Result<String, Fail> {
+        *self = Player::new(self.alloc)?;
+        Ok(self.text("ok")?)
+    }
+
+    fn expire(&mut self, now: Moment) -> Result<String, AllocError> {
+        lock_calls::expire(&mut self.locks, now);
+        self.text("ok")
+    }
+
+    fn answer_at(&mut self, now: Moment, call: &str, words: &str) -> Result<String, Fail> {
+        let (path, rest) = first_word(words);
+        let path = path_of(self.alloc, path)?;
+        self.answer_of(now, call, &path, rest)
+    }
+
+    fn answer_of(
         &mut self,
         now: Moment,
         call: &str,
         path: &DavPath,
-        label: &str,
-        seconds: &str,
+        words: &str,
     ) -> Result<String, Fail> {
         match call {
-            "unlock" => self.unlock(now, path, label),
-            "refresh" => self.refresh(now, path, label, seconds),
+            "lock" => self.lock(now, path, words),
+            "check" => self.check(now, path, false, words),
+            "check!" => self.check(now, path, true, words),
+            "unlock" => self.unlock(now, path, words),
+            "refresh" => self.refresh(now, path, words),
             "discover" => self.discover(now, path),
-            "delete" => {
-                self.locks.delete(path, now);
-                Ok(self.text("ok")?)
-            }
+            "delete" => self.delete(now, path),
             _ => Err(Fail::from("no such call")),
         }
     }
 
-    // The words are the principal, the owner, the timeout, the scope and the depth.
-    fn lock(&mut self, now: Moment, path: &DavPath, words: [&str; 5]) -> Result<String, Fail> {
-        let [who, owner, timeout, scope, depth] = words;
-        let timeout = timeout.parse().ok();
-        let (shared, deep) = (scope == "shared", depth == "deep");
-        let (who, owner) = (given(who), given(owner));
-        match self.locks.lock(path, who, owner, timeout, shared, deep, now, &mut self.rng) {
-            Ok(lock) => {
-                self.granted.push(lock)?;
-                Ok(format!(in self.alloc; "t{}", self.granted.len())?)
-            }
+    fn delete(&mut self, now: Moment, path: &DavPath) -> Result<String, Fail> {
+        lock_calls::delete(&mut self.locks, path, now);
+        Ok(self.text("ok")?)
+    }
+
+    fn lock(&mut self, now: Moment, path: &DavPath, words: &str) -> Result<String, Fail> {
+        let asked = asked_of(words);
+        match lock_calls::lock(&mut self.locks, path, asked, now, &mut self.rng) {
+            Ok(lock) => self.granted(lock),
             Err(error) => Ok(self.refused(&error)?),
         }
     }
 
+    fn granted(&mut self, lock: DavLock) -> Result<String, Fail> {
+        self.granted.push(lock)?;
+        Ok(format!(in self.alloc; "t{}", self.granted.len())?)
+    }
+
     fn unlock(&mut self, now: Moment, path: &DavPath, label: &str) -> Result<String, Fail> {
         let token = self.token(label)?;
-        match self.locks.unlock(path, token.as_str(), now) {
+        match lock_calls::unlock(&mut self.locks, path, token.as_str(), now) {
             Ok(()) => Ok(self.text("ok")?),
             Err(error) => Ok(format!(in self.alloc; "{error}")?),
         }
     }
 
-    fn refresh(
-        &mut self,
-        now: Moment,
-        path: &DavPath,
-        label: &str,
-        seconds: &str,
-    ) -> Result<String, Fail> {
+    // The words are the label of a token, and the seconds.
+    fn refresh(&mut self, now: Moment, path: &DavPath, words: &str) -> Result<String, Fail> {
+        let (label, seconds) = first_word(words);
         let token = self.token(label)?;
-        match self
-            .locks
-            .refresh(path, token.as_str(), seconds.parse().ok(), now)
-        {
-            Ok(lock) => {
-                let end = number_or_none(self.alloc, lock.timeout_at.map(|end| end.0))?;
-                Ok(format!(in self.alloc; "{} {end}", self.label(&lock)?)?)
-            }
+        let timeout = seconds.parse().ok();
+        match lock_calls::refresh(&mut self.locks, path, token.as_str(), timeout, now) {
+            Ok(lock) => Ok(self.refreshed(&lock)?),
             Err(error) => Ok(format!(in self.alloc; "{error}")?),
         }
+    }
+
+    fn refreshed(&self, lock: &DavLock) -> Result<String, AllocError> {
+        let end = number_or_none(self.alloc, lock.timeout_at.map(|end| end.0))?;
+        format!(in self.alloc; "{} {end}", self.label(lock)?)
     }
 
     // The words are the principal, the labels of the tokens, and the depth.
@@ -124,32 +127,50 @@ impl Player {
         now: Moment,
         path: &DavPath,
         ignore_principal: bool,
-        words: [&str; 3],
+        words: &str,
     ) -> Result<String, Fail> {
-        let [who, labels, depth] = words;
-        let mut tokens = Vec::new(self.alloc);
-        if labels != "-" {
-            for label in labels.split(',') {
-                tokens.push(self.token(label)?)?;
-            }
-        }
-        let (who, deep) = (given(who), depth == "deep");
-        match self
-            .locks
-            .check(path, who, ignore_principal, deep, &tokens, now)
-        {
+        let (who, rest) = first_word(words);
+        let (labels, depth) = first_word(rest);
+        let tokens = self.tokens(labels)?;
+        let (who, deep, locks) = (given(who), depth == "deep", &mut self.locks);
+        let answer = if ignore_principal {
+            lock_calls::check_tokens(locks, path, who, deep, &tokens, now)
+        } else {
+            lock_calls::check(locks, path, who, deep, &tokens, now)
+        };
+        self.told(answer)
+    }
+
+    fn told(&self, answer: Result<(), LockError>) -> Result<String, Fail> {
+        match answer {
             Ok(()) => Ok(self.text("ok")?),
             Err(error) => Ok(self.refused(&error)?),
         }
     }
 
+    // The tokens of labels between commas.
+    fn tokens(&self, labels: &str) -> Result<Vec<String>, Fail> {
+        let mut tokens = Vec::new(self.alloc);
+        if labels == "-" {
+            return Ok(tokens);
+        }
+        for label in labels.split(',') {
+            tokens.push(self.token(label)?)?;
+        }
+        Ok(tokens)
+    }
+
     fn discover(&mut self, now: Moment, path: &DavPath) -> Result<String, Fail> {
-        let covering = self.locks.discover(path, now)?;
+        let covering = lock_calls::discover(&mut self.locks, path, now)?;
         if covering.is_empty() {
             return Ok(self.text("-")?);
         }
+        Ok(self.labels(&covering)?)
+    }
+
+    fn labels(&self, locks: &[DavLock]) -> Result<String, AllocError> {
         let mut text = String::new(self.alloc);
-        for lock in &covering {
+        for lock in locks {
             if !text.is_empty() {
                 text.push(' ')?;
             }
@@ -187,6 +208,21 @@ impl Player {
     }
 }
 
+// The words are the principal, the owner, the timeout, the scope and the depth.
+fn asked_of(words: &str) -> Asked<'_> {
+    let (who, rest) = first_word(words);
+    let (owner, rest) = first_word(rest);
+    let (timeout, rest) = first_word(rest);
+    let (scope, depth) = first_word(rest);
+    Asked {
+        principal: given(who),
+        owner: given(owner),
+        timeout: timeout.parse().ok(),
+        shared: scope == "shared",
+        deep: depth == "deep",
+    }
+}
+
 // `PREFIX|REST` is a path with a prefix.
 fn path_of(alloc: Global, word: &str) -> Result<DavPath, Fail> {
     let (prefix, rest) = word.split_once('|').unwrap_or(("", word));
@@ -199,12 +235,21 @@ fn path_of(alloc: Global, word: &str) -> Result<DavPath, Fail> {
 // Of a clone: token, path, principal, owner, timeout, moment of the end, shared and deep.
 fn shown(alloc: Global, lock: &DavLock) -> Result<String, Fail> {
     let lock = lock.clone()?;
-    let (token, ends) = (&lock.token, shown_ends(alloc, &lock)?);
+    Ok(shown_whole(alloc, &lock)?)
+}
+
+fn shown_whole(alloc: Global, lock: &DavLock) -> Result<String, AllocError> {
+    let (holder, ends) = (shown_holder(alloc, lock)?, shown_ends(alloc, lock)?);
+    let (shared, deep) = (lock.shared, lock.deep);
+    format!(in alloc; "{holder} {ends} {shared} {deep}")
+}
+
+fn shown_holder(alloc: Global, lock: &DavLock) -> Result<String, AllocError> {
+    let token = &lock.token;
     let path = str::from_utf8(lock.path.as_bytes()).unwrap_or("?");
     let who = lock.principal.as_deref().unwrap_or("-");
     let owner = lock.owner.as_deref().unwrap_or("-");
-    let (shared, deep) = (lock.shared, lock.deep);
-    Ok(format!(in alloc; "{token} {path} {who} {owner} {ends} {shared} {deep}")?)
+    format!(in alloc; "{token} {path} {who} {owner}")
 }
 
 // The timeout, and the moment of the end.

@@ -8,7 +8,7 @@ use Rattle.std.proofs.lemmas.List.Folds.{list_all-append}
 use Rattle.dav_xml_core.specs.Documents.{Name, Node, Start, Text, End, closes, is_element}
 use Rattle.dav_xml_core.specs.Namespaces.{are_distinct}
 use Rattle.dav_xml_core.specs.Parts as part
-use Rattle.dav_xml_core.specs.Parts.{Part, PartsCouldBeRead, are_parts, is_part, nodes_in, part_bytes, with_part, with_parts, written_parts}
+use Rattle.dav_xml_core.specs.Parts.{Part, PartsCouldBeRead, is_part, nodes_in, part_bytes, with_parts, written_parts}
 use Rattle.dav_xml_core.specs.Readable.{is_start, name_bytes}
 use Rattle.dav_xml_core.specs.ReadableDocuments.{are_apart, is_node, node_bytes}
 use Rattle.dav_xml_core.specs.Reading.{document_of}

@@ -1,6 +1,7 @@
 pub mod AskedNameLemmas
 pub mod ChildLemmas
 mod ElementRows
+pub mod FixedLemmas
 pub mod FragmentLemmas
 pub mod KeptReadingLaws
 mod LockInfoRows

@@ -14,6 +14,10 @@ use dav_path_core::davpath::DavPath;
 use dav_xml_core::davxml::Writer;
 use std::alloc::{AllocError, Global};
 
+// What `write_supported` writes inside an element: the same for each resource.
+const SUPPORTED_LOCKS: &[u8] =
+    b"<D:supportedlock><D:lockentry><D:lockscope><D:exclusive></D:exclusive></D:lockscope><D:locktype><D:write></D:write></D:locktype></D:lockentry><D:lockentry><D:lockscope><D:shared></D:shared></D:lockscope><D:locktype><D:write></D:write></D:locktype></D:lockentry></D:supportedlock>";
+
 /// The body of the answer to a LOCK: the locks in order, as a principal sees them (RFC 4918 section 9.10.1).
 pub fn discovery_document(
     alloc: Global,
@@ -53,6 +57,9 @@ pub fn write_discovery(
 pub fn write_supported(writer: &mut Writer) -> Result<(), AllocError>
     ensures { OnOk result (writing_of writer.new ≡ with_nodes (writing_of writer.old) spec.supported_locks) }
 {
+    if writer.is_inside() {
+        return writer.kept(SUPPORTED_LOCKS);
+    }
     begin(writer, "supportedlock")?;
     write_entry(writer, false)?;
     write_entry(writer, true)?;

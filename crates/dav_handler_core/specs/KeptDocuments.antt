@@ -1,5 +1,5 @@
 -- What the stores keep of XML can be read, and so can each document that the server tells (XML 1.0 section 2.1, RFC 4918 sections 4.4 and 8.2).
-use Rattle.std.specs.Prelude.{◌≡◌, ℕ, Bool, true, false, List, [], ◌∷◌, Option, Some}
+use Rattle.std.specs.Prelude.{◌≡◌, ℕ, Bool, true, false, [], ◌∷◌, Option, Some}
 use Rattle.std.specs.List.{AllByRecursion}
 use Rattle.dav_path_core.specs.declared.util.DavMethod.{DavMethod}
 use Rattle.dav_path_core.specs.declared.util.DavMethod.TheVariants as method

@@ -1,5 +1,5 @@
 -- What may be told of what stands at a path (RFC 4918 sections 8.3, 9.1 and 15).
-use Rattle.std.specs.Prelude.{◌≡◌, ℕ, ◌*◌, ◌/◌, pos, Bool, true, false, List, [], ◌∷◌, ◌++◌, codes, flat_map, Some, if◌then◌else◌}
+use Rattle.std.specs.Prelude.{◌≡◌, ℕ, ◌/◌, Bool, true, false, List, [], ◌∷◌, ◌++◌, codes, flat_map, Some, if◌then◌else◌}
 use Rattle.std.specs.FinMap.{values}
 use Rattle.dav_path_core.specs.Fronts.{Path}
 use Rattle.dav_path_core.specs.Url.{url}

@@ -13,11 +13,11 @@ use http_server::{Config, Connection};
 use line_streams::Fault;
 use rand::make_rng;
 use rand_chacha::ChaCha20Rng;
-use rand_core::SeedableRng;
-use std::alloc::AllocError;
+use rand_core::{Rng, SeedableRng};
+use std::alloc::{AllocError, Global};
 use std::env;
 use std::hash::RandomState;
-use std::io::{self, BufReader, BufWriter, ErrorKind, Write};
+use std::io::{self, BufRead, BufReader, BufWriter, ErrorKind, Write};
 use std::process::ExitCode;
 use std::time::{SystemTime, UNIX_EPOCH};
 
@@ -83,7 +83,7 @@ fn serve_all(
 ) -> Result<End, Fault> {
     let mut input = BufReader::with_capacity(rt.alloc(), BUFFER, rt.stdin())?;
     let mut output = BufWriter::with_capacity(rt.alloc(), BUFFER, rt.stdout())?;
-    serve_frames(
+    serve_streams(
         rt.alloc(),
         &mut clients,
         dav,
@@ -91,6 +91,18 @@ fn serve_all(
         &mut input,
         &mut output,
     )
+}
+
+// Serves them on any streams. What is proved of it stands on `serve_frames`; it is told here of no streams in particular, so that its check is short.
+fn serve_streams<R: Rng, C: Clock, I: BufRead, O: Write>(
+    alloc: Global,
+    clients: &mut Clients,
+    dav: &mut Dav<R>,
+    clock: &C,
+    input: &mut I,
+    output: &mut O,
+) -> Result<End, Fault> {
+    serve_frames(alloc, clients, dav, clock, input, output)
 }
 
 // The system's clock, where it is the one that counts.

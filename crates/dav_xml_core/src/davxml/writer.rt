@@ -1,5 +1,5 @@
 //! Documents written as bytes.
-ghost use Rattle.std.specs.Prelude.{◌≡◌, ◌<◌, ◌^◌, ◌++◌, ◌∷◌, [], bytes_eq, codes, encode_utf8_all, flat_map, if◌then◌else◌, length, map, option_map, unwrap_or, ℕ, List, Some, true, false, IfOk, OnOk};
+ghost use Rattle.std.specs.Prelude.{◌≡◌, ◌<◌, ◌^◌, ◌++◌, ◌∷◌, [], bytes_eq, codes, encode_utf8_all, flat_map, if◌then◌else◌, length, map, option_map, unwrap_or, ℕ, List, Some, true, false, not, IfOk, OnOk};
 ghost use Rattle.std.specs.Fmt.{decimal};
 ghost use Rattle.std.specs.List.{list_all};
 ghost use Rattle.dav_xml_core.specs.Characters.{characters, is_char};
@@ -63,9 +63,24 @@ fn push_byte(out: &mut Vec<u8>, in_value: bool, b: u8) -> Result<(), AllocError>
     }
 }
 
+/// Whether each byte stands for itself. Most texts are such, and are written at once.
+fn is_plain(in_value: bool, text: &[u8]) -> bool
+    ensures { result ≡ true → flat_map (spec.escaped in_value) text.now ≡ text.now }
+{
+    for b in text {
+        if reference_of(in_value, *b).is_some() {
+            return false;
+        }
+    }
+    true
+}
+
 fn push_escaped(out: &mut Vec<u8>, in_value: bool, text: &[u8]) -> Result<(), AllocError>
     ensures { OnOk result (out.new.items ≡ out.old.items ++ flat_map (spec.escaped in_value) text.now) }
 {
+    if is_plain(in_value, text) {
+        return push(out, text);
+    }
     for b in text {
         push_byte(out, in_value, *b)?;
     }
@@ -245,6 +260,13 @@ impl Writer {
         } else {
             &[]
         }
+    }
+
+    /// Whether an element has begun and hasn't ended.
+    pub fn is_inside(&self) -> bool
+        ensures { result ≡ not (is_empty (writing_of self.now).begun) }
+    {
+        !self.begun.is_empty()
     }
 
     /// An element begins. It is inside the one that began last and hasn't ended.

@@ -1,9 +1,20 @@
-use Rattle.std.proofs.Common.{codes, false, true, ap, ◌∙◌}
+use Rattle.std.proofs.Common.{Bool, not, ◌≡◌, codes, false, true, refl, sym, ap, ◌∙◌}
 use Rattle.std.proofs.lemmas.Result.{on_ok_weaker}
+use Rattle.dav_xml_core.specs.Views.{writing_of}
 use Rattle.dav_xml_core.specs.Writing.{Writing, with_end, with_nodes}
 use Rattle.dav_documents_core.specs.LockDocuments.{kind_nodes}
 use Rattle.dav_documents_core.specs.RefusalBodies.{element}
+use Rattle.dav_documents_core.proofs.FixedLemmas.{supported_fixed}
 use Rattle.dav_documents_core.proofs.lock_documents.write_supported.Goals as goal
+
+has_begun : (b : Bool) → not b ≡ true → b ≡ false
+has_begun false h = refl
+has_begun true h = cc
+
+pub returns-then-is_inside : goal.returns-then-is_inside
+returns-then-is_inside c =
+    let w = writing_of c.args.writer.now in
+    on_ok_weaker c.kept.result (λ told. told ∙ sym (supported_fixed w.first w.bytes w.begun (has_begun _ (sym c.is_inside.ensures ∙ c.if-is_inside.true)))) c.kept.ensures
 
 pub returns : goal.returns
 returns c =

@@ -1,4 +1,4 @@
-"""Runs of davreplay, and what they take."""
+"""Runs of davreplay, and what they take. What the tests share is found beside them."""
 import fcntl
 import os
 import shutil
@@ -6,6 +6,9 @@ import subprocess
 import sys
 import termios
 import time
+
+sys.path.insert(1, os.path.join(os.path.dirname(os.path.abspath(__file__)), "..", "tests"))
+from programs import memory_of
 
 
 def seconds_of(child):
@@ -32,11 +35,6 @@ def run_piped(program, lines, output):
         while any(fcntl.ioctl(reader, termios.FIONREAD, bytes(4))):
             time.sleep(0.001)
         os.close(reader)
-        peak = peak_of(child.pid)
+        peak = memory_of(child.pid)
     return seconds_of(child), peak
 
-
-def peak_of(pid):
-    """In kilobytes."""
-    with open(f"/proc/{pid}/status") as status:
-        return next(int(line.split()[1]) for line in status if line.startswith("VmHWM:"))

@@ -5,9 +5,9 @@ LOCK_INFO = b'<D:lockinfo xmlns:D="DAV:"><D:lockscope><D:exclusive/></D:lockscop
 INTERIM = b"HTTP/1.1 100 Continue\r\n\r\n"
 
 
-def request(line, body=None, more=b""):
+def request(line, body=None, more=b"", host=b"h"):
     length = b"" if body is None else b"Content-Length: %d\r\n" % len(body)
-    return line + b" HTTP/1.1\r\nHost: h\r\n" + more + length + b"\r\n" + (body or b"")
+    return line + b" HTTP/1.1\r\nHost: %b\r\n" % host + more + length + b"\r\n" + (body or b"")
 
 
 def frame(number, piece=b""):

@@ -5,6 +5,8 @@ import subprocess
 import threading
 from typing import NamedTuple
 
+from programs import memory_of
+
 # The clock stands at 0, and no frame moves it.
 WORDS = ["--seed", "1", "--clock", "frames"]
 
@@ -88,11 +90,6 @@ def pieces_of(stream):
         yield number, stream.read(length)
 
 
-def peak_of(pid):
-    with open(f"/proc/{pid}/status", encoding="ascii") as status:
-        return next(int(line.split()[1]) for line in status if line.startswith("VmHWM:")) / 1000
-
-
 def play(program, sent, wanted):
     """Sends pairs of a connection and its bytes, from the second connection on, and gives what is wrong with the answers, and what was taken.
 
@@ -107,7 +104,7 @@ def play(program, sent, wanted):
         wanted.setdefault(number, Exactly(b"")).take(piece)
         answers += number == OTHER
         if answers == 2 and number == OTHER:
-            peak = peak_of(child.pid)
+            peak = memory_of(child.pid) / 1000
             writer.join()
             child.stdin.close()
     writer.join()

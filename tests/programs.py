@@ -1,0 +1,54 @@
+"""What the tests and the benches share: the words that they are run with, the programs that they run, and what these take."""
+import os
+import shutil
+import sys
+
+
+def stop(why):
+    """Ends with status 2."""
+    print(why.strip(), file=sys.stderr)
+    sys.exit(2)
+
+
+def words(usage, *counts):
+    """The words of the command line, of which there are so many. Where they are others the usage is told, and where it is asked for."""
+    given = sys.argv[1:]
+    if given in (["-h"], ["--help"]):
+        print(usage.strip())
+        sys.exit()
+    if len(given) not in counts:
+        stop(usage)
+    return given
+
+
+def option(usage, name, *counts):
+    """Whether an option is among the words of the command line, and the other words, of which there are so many."""
+    is_given = name in sys.argv[1:]
+    sys.argv[1:] = [word for word in sys.argv[1:] if word != name]
+    return is_given, words(usage, *counts)
+
+
+def numbers(usage, given):
+    """Words that are numerals, as numbers."""
+    if not all(word.isdecimal() for word in given):
+        stop(usage)
+    return [int(word) for word in given]
+
+
+def program(path):
+    """The path of a program, from any folder."""
+    if not os.path.isfile(path) or not os.access(path, os.X_OK):
+        stop(f"There is no program {path}. bin/davserve, bin/davreplay and bin/davread build those in crates/NAME/out.")
+    return os.path.abspath(path)
+
+
+def need(name, *packages):
+    """A program that has to be there."""
+    if not shutil.which(name):
+        stop(f"{name} is needed: apt-get install {' '.join(packages or [name])}")
+
+
+def memory_of(pid, kind="VmHWM"):
+    """The memory of a process that runs, in kilobytes: the most that it had, or by `VmRSS` what it has."""
+    with open(f"/proc/{pid}/status", encoding="ascii") as status:
+        return next(int(line.split()[1]) for line in status if line.startswith(kind + ":"))

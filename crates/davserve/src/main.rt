@@ -24,6 +24,10 @@ use std::time::{SystemTime, UNIX_EPOCH};
 // How many bytes are read at once, and written.
 const BUFFER: usize = 64 * 1024;
 
+// The words that the program takes.
+const USAGE: &str =
+    "usage: davserve [--help] [--one] [--scheme http|https] [--prefix PATH] [--user-header NAME] [--longest-timeout SECONDS] [--propfind-depth finite|infinite] [--max-body BYTES] [--seed NUMBER] [--clock NANOSECONDS|frames]\n";
+
 fn main(rt: HostRuntime) -> ExitCode {
     let words = match words(&rt) {
         Ok(words) => words,
@@ -34,6 +38,9 @@ fn main(rt: HostRuntime) -> ExitCode {
         ),
         Err(_) => return usage(&rt),
     };
+    if asks_for_help(&words) {
+        return help(&rt);
+    }
     let choices = match Choices::of(rt.alloc(), &words) {
         Ok(choices) => choices,
         Err(Unread::OutOfMemory) => return ended(&rt, "out of memory\n", 3),
@@ -137,12 +144,26 @@ fn words(rt: &HostRuntime) -> io::Result<Vec<String>> {
     Ok(words)
 }
 
+// Whether one of the words is `--help`.
+fn asks_for_help(words: &[String]) -> bool {
+    for word in words {
+        if word.as_str() == "--help" {
+            return true;
+        }
+    }
+    false
+}
+
+// Tells the usage on standard output, with status 0; 1 where that fails.
+fn help(rt: &HostRuntime) -> ExitCode {
+    match rt.stdout().write_all(USAGE.as_bytes()) {
+        Ok(()) => ExitCode::SUCCESS,
+        Err(_) => ended(rt, "a stream failed\n", 1),
+    }
+}
+
 fn usage(rt: &HostRuntime) -> ExitCode {
-    ended(
-        rt,
-        "usage: davserve [--one] [--scheme http|https] [--prefix PATH] [--user-header NAME] [--longest-timeout SECONDS] [--propfind-depth finite|infinite] [--max-body BYTES] [--seed NUMBER] [--clock NANOSECONDS|frames]\n",
-        2,
-    )
+    ended(rt, USAGE, 2)
 }
 
 // A failed write changes no status.

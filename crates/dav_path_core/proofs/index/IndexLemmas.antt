@@ -8,7 +8,7 @@ use Rattle.std.specs.Prelude.{nat_eq}
 use Rattle.std.specs.FinMap.{get, insert, remove, empty, get-empty, get-insert, get-remove, nat_cmp-IsAntisymmetric}
 use Rattle.std.proofs.lemmas.Bool.{true≢false, cases_eq}
 use Rattle.dav_path_core.specs.Fronts.{Segment, segment_cmp}
-use Rattle.dav_path_core.specs.Keyed.{Entry, Keyed, IsTree, IsChild, IsKnown, child, add, without, placed, placed_at, with_item_at, entry, parent_and_key_of}
+use Rattle.dav_path_core.specs.Keyed.{Entry, Keyed, IsTree, IsChild, IsKnown, child, add, without, placed, placed_at, with_item, with_item_at, entry, parent_and_key_of}
 use Rattle.dav_path_core.specs.ChildIndex.{Names, Index, IsIndex, told, is_named, noted, noted_at, forgotten, forgotten_at}
 use Rattle.dav_path_core.proofs.lists.FinMaps.{dec, get_same, get_other, get_gone, get_left}
 use Rattle.dav_path_core.proofs.lists.Orders.{segment_total, segment_exact}
@@ -248,3 +248,6 @@ module _ {D : Type 0} where
     IsIndex-with_item_at ix = IsIndex-same t (with_item_at t n o d) ix (λ q s.
         same_child t (with_item_at t n o d) (λ p k l a b x y same. tree.distinct p k l a b (child-with_item-at t n d o at p a k x) (child-with_item-at t n d o at p b l y) same) q s
         (λ m x. item_there o at q m s x) (λ m x. child-with_item-at t n d o at q m s x))
+
+  pub IsIndex-with_item : (t : Keyed Segment D) → IsTree (pointwise nat_eq) t → (n : ℕ) (d : D) (ix : Index) → IsIndex t ix → IsIndex (with_item t n d) ix
+  IsIndex-with_item t tree n d ix = IsIndex-with_item_at t tree n (entry t n) refl d ix

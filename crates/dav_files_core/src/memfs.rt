@@ -24,6 +24,7 @@ mod properties;
 
 use crate::fs::Moment;
 use bytes::Bytes;
+use dav_path_core::child_index::ChildIndex;
 use dav_path_core::davpath::DavPath;
 use dav_path_core::errors::{FsError, FsResult};
 use dav_path_core::tree::{ROOT_ID, Tree};
@@ -69,12 +70,14 @@ enum Target<'a> {
 pub struct MemFs {
     alloc: Global,
     tree: Tree<Bytes, Node>,
+    // The names in its wide folders, beside the tree.
+    index: ChildIndex,
 }
 
 impl Model for MemFs {
     ghost use Rattle.dav_files_core.specs.Resources.{ResourceMap};
     ghost use Rattle.dav_files_core.specs.Codes.{coded_resources};
-    ghost use Rattle.dav_files_core.specs.Private.Represents.{resource_map, Represents};
+    ghost use Rattle.dav_files_core.specs.Private.Represents.{resource_map, IsStore};
 
     ghost Value = { ResourceMap };
 
@@ -82,7 +85,7 @@ impl Model for MemFs {
 
     ghost view = { λ a. resource_map a.tree.keyed };
 
-    ghost invariant = { λ a. Represents a.tree.keyed (resource_map a.tree.keyed) };
+    ghost invariant = { λ a. IsStore a.tree.keyed a.index };
 }
 
 impl MemFs {
@@ -92,7 +95,11 @@ impl MemFs {
         ensures shape { IfOk result IsResourceMap }
     {
         let tree = Tree::new(alloc, Node::new_folder(alloc, now))?;
-        Ok(MemFs { alloc, tree })
+        Ok(MemFs {
+            alloc,
+            tree,
+            index: ChildIndex::new(alloc),
+        })
     }
 
     // The number of what is at a path.
@@ -131,7 +138,7 @@ impl MemFs {
         if node_of(&self.tree, id)?.is_file() {
             return Err(FsError::Forbidden);
         }
-        match member_of(&self.tree, id, name) {
+        match member_of(&self.tree, &self.index, id, name) {
             Ok(member) => Ok(Target::Entry(member)),
             Err(_) => Ok(Target::Missing { folder: id, name }),
         }
@@ -222,12 +229,19 @@ mod tests {
     #[test]
     fn keeps_its_files_in_a_tree(rt: HostRuntime) -> Result<(), Fail> {
         let files = stored(rt.alloc())?;
-        let folder = member_of(&files.tree, ROOT_ID, b"e")?;
-        let id = member_of(&files.tree, folder, b"f")?;
+        let folder = files
+            .tree
+            .find_child(ROOT_ID, |name| name.as_slice() == b"e")?;
+        let id = files
+            .tree
+            .find_child(folder, |name| name.as_slice() == b"f")?;
         let node = node_of(&files.tree, id)?;
         assert!(rt; files.tree.parent_of(id)? == Some(folder));
         assert!(rt; node.content.as_slice() == b"abc\0\0z".as_slice());
-        let copy = node_of(&files.tree, member_of(&files.tree, ROOT_ID, b"q")?)?;
+        let copied = files
+            .tree
+            .find_child(ROOT_ID, |name| name.as_slice() == b"q")?;
+        let copy = node_of(&files.tree, copied)?;
         assert!(rt; !copy.is_file());
         assert!(rt; copy.props.list(rt.alloc(), true)?.len() == 1);
         Ok(())

@@ -1,11 +1,9 @@
 pub mod Chains
-pub mod ChildTables
 pub mod ChildRows
 pub mod Hanging
 pub mod Links
 pub mod Listings
 pub mod Placing
-pub mod Tabling
 pub mod Unlinking
 pub mod Views
 pub mod Walks

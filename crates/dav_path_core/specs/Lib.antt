@@ -1,4 +1,5 @@
 pub mod Answers
+pub mod ChildIndex
 pub mod Children
 pub mod DavErrors
 pub mod EndsAs

@@ -14,7 +14,6 @@ ghost use Rattle.dav_path_core.specs.TreeValue.{IsTreeValue, first, after, if_kn
 mod changing;
 mod links;
 mod listing;
-mod tables;
 
 use crate::errors::{FsError, FsResult};
 pub use listing::Children;
@@ -22,7 +21,6 @@ use std::alloc::Global;
 use std::collections::HashMap;
 use std::hash::Hash;
 use std::marker::Model;
-use tables::{Tables, drop_table, forget, hash_of, note};
 
 /// The number of the root.
 pub const ROOT_ID: u64 = 1;
@@ -43,7 +41,6 @@ pub struct Node<K, D> {
 #[derive(Debug, Drop)]
 pub struct Tree<K: Eq + Hash, D> {
     nodes: HashMap<u64, Node<K, D>>,
-    tables: Tables,
     next: u64,
     alloc: Global,
 }
@@ -56,11 +53,11 @@ impl<K: Eq + Hash, D> Model for Tree<K, D> {
     ghost coded = { tree_value_code K.code D.code };
 
     ghost use Rattle.dav_path_core.specs.View.{tree_value_of};
-    ghost use Rattle.dav_path_core.specs.Private.Holding.{IsHeld};
+    ghost use Rattle.dav_path_core.specs.Private.Nodes.{IsLinked};
 
     ghost view = { λ a. tree_value_of a.nodes.entries a.next };
 
-    ghost invariant = { λ a. IsHeld K.eq K.hash_input a.nodes.entries a.next a.tables.entries };
+    ghost invariant = { λ a. IsLinked K.eq a.nodes.entries a.next };
 }
 
 impl<K: Eq + Hash + Clone, D> Tree<K, D> {
@@ -71,7 +68,7 @@ impl<K: Eq + Hash + Clone, D> Tree<K, D> {
         ensures answer { result ≡ ok_or (child (K.eq key.now) self.now.keyed parent) FsError.NotFound }
         ensures shape { IsTreeValue K.eq self.now }
     {
-        self.find_child_like(parent, key, |name| key == name)
+        self.find_child(parent, |name| key == name)
     }
 
     /// The number of a child whose key passes the test; where several do, any of them. So a caller can look a key up by
@@ -105,7 +102,7 @@ impl<K: Eq + Hash + Clone, D> Tree<K, D> {
     }
 
     // The key of a child, and the sibling after it.
-    fn child_at(&self, id: u64) -> (&K, Option<u64>)
+    pub(crate) fn child_at(&self, id: u64) -> (&K, Option<u64>)
         requires { IsSome (parent_number self.now.keyed id) }
         ensures key { (p : ℕ) → parent_number self.now.keyed id ≡ Some p → IsChild self.now.keyed p result.0.now id }
         ensures after { result.1 ≡ after self.now id }
@@ -203,15 +200,13 @@ impl<K: Eq + Hash + Clone, D> Tree<K, D> {
         let Some(node) = self.nodes.get(&id) else {
             return Err(FsError::NotFound);
         };
-        let Some((above, name)) = &node.parent_and_key else {
+        let Some((above, _name)) = &node.parent_and_key else {
             return Err(FsError::Forbidden);
         };
         if node.first_child.is_some() {
             return Err(FsError::Forbidden);
         }
         let (parent, before, after) = (*above, node.previous_sibling, node.next_sibling);
-        forget(&mut self.tables, parent, hash_of(name));
-        drop_table(&mut self.tables, id);
         links::close_up(&mut self.nodes, parent, before, after);
         let Some(taken) = self.nodes.remove(&id) else {
             unreachable!()
@@ -219,7 +214,7 @@ impl<K: Eq + Hash + Clone, D> Tree<K, D> {
         Ok(taken)
     }
 
-    fn is_known(&self, id: u64) -> bool
+    pub(crate) fn is_known(&self, id: u64) -> bool
         ensures known { result ≡ is_some (entry self.now.keyed id) }
         ensures shape { IsTreeValue K.eq self.now }
     {
@@ -261,7 +256,7 @@ impl<K: Eq + Hash + Clone, D> Tree<K, D> {
         unreachable!()
     }
 
-    fn above(&self, id: u64) -> Option<u64>
+    pub(crate) fn above(&self, id: u64) -> Option<u64>
         ensures parent { result ≡ parent_number self.now.keyed id }
         ensures shape { IsTreeValue K.eq self.now }
     {
@@ -288,13 +283,32 @@ impl<K: Eq + Hash + Clone, D> Tree<K, D> {
             (λ e. move_refusal K.eq self.now.keyed id new_parent new_name.now overwrite ≡ Some e) }
         ensures shape { IsTreeValue K.eq self.now }
     {
+        let taken = self.get_child(new_parent, new_name).ok();
+        self.check_move_over(id, new_parent, new_name, taken, overwrite)?;
+        Ok(taken)
+    }
+
+    // Why a node can't be moved to a place where that node stands, if one does.
+    pub(crate) fn check_move_over(
+        &self,
+        id: u64,
+        new_parent: u64,
+        new_name: &K,
+        taken: Option<u64>,
+        overwrite: bool,
+    ) -> FsResult<()>
+        requires taken { taken ≡ child (K.eq new_name.now) self.now.keyed new_parent }
+        ensures answer { MatchResult result
+            (λ _. move_refusal K.eq self.now.keyed id new_parent new_name.now overwrite ≡ None)
+            (λ e. move_refusal K.eq self.now.keyed id new_parent new_name.now overwrite ≡ Some e) }
+        ensures shape { IsTreeValue K.eq self.now }
+    {
         if !self.is_known(id) {
             return Err(FsError::NotFound);
         }
         if !self.is_known(new_parent) {
             return Err(FsError::NotFound);
         }
-        let taken = self.get_child(new_parent, new_name).ok();
         if self.is_kept(overwrite, taken) {
             return Err(FsError::Exists);
         }
@@ -304,11 +318,65 @@ impl<K: Eq + Hash + Clone, D> Tree<K, D> {
         if self.is_below(id, new_parent) {
             return Err(FsError::Forbidden);
         }
-        Ok(taken)
+        Ok(())
+    }
+
+    // Why a node can't be moved to a place that is free.
+    pub(crate) fn check_move_to_free(&self, id: u64, new_parent: u64) -> FsResult<()>
+        ensures answer { (k : K) → child (K.eq k) self.now.keyed new_parent ≡ None → MatchResult result
+            (λ _. move_refusal K.eq self.now.keyed id new_parent k false ≡ None)
+            (λ e. move_refusal K.eq self.now.keyed id new_parent k false ≡ Some e) }
+        ensures shape { IsTreeValue K.eq self.now }
+    {
+        if !self.is_known(id) {
+            return Err(FsError::NotFound);
+        }
+        if !self.is_known(new_parent) {
+            return Err(FsError::NotFound);
+        }
+        if id == ROOT_ID || self.is_below(id, new_parent) {
+            return Err(FsError::Forbidden);
+        }
+        Ok(())
+    }
+
+    // The parent and the key of a node that may be deleted.
+    pub(crate) fn leaf_at(&self, id: u64) -> FsResult<(u64, &K)>
+        ensures answer { MatchResult result
+            (λ q. (delete_refusal self.now.keyed id ≡ None) × IsChild self.now.keyed q.0 q.1.now id)
+            (λ e. delete_refusal self.now.keyed id ≡ Some e) }
+        ensures shape { IsTreeValue K.eq self.now }
+    {
+        let Some(parent) = self.parent_of(id)? else {
+            return Err(FsError::Forbidden);
+        };
+        if self.has_child(id) {
+            return Err(FsError::Forbidden);
+        }
+        let (key, _after) = self.child_at(id);
+        Ok((parent, key))
+    }
+
+    /// Moves a node, and with it all below it, below another under a key that no child there has. It does not look for the
+    /// key, so its time does not grow with the number of children (own).
+    ///
+    /// `NotFound` for an unknown number, `Forbidden` for the root and for a new parent in the node's own subtree.
+    pub fn move_to_free(&mut self, id: u64, new_parent: u64, new_name: K) -> FsResult<()>
+        requires free { child (K.eq new_name) self.old.keyed new_parent ≡ None }
+        ensures answer { MatchResult result
+            (λ _. (move_refusal K.eq self.old.keyed id new_parent new_name false ≡ None)
+            × (self.new.keyed ≡ placed self.old.keyed id new_parent new_name))
+            (λ e. (move_refusal K.eq self.old.keyed id new_parent new_name false ≡ Some e)
+            × (self.new ≡ self.old)) }
+        ensures shape { IsTreeValue K.eq self.new }
+    {
+        self.check_move_to_free(id, new_parent)?;
+        self.put_below(id, new_parent, new_name);
+        Ok(())
     }
 
     // Puts a node below another, under a key that is free there.
-    fn put_below(&mut self, id: u64, new_parent: u64, new_name: K)
+    pub(crate) fn put_below(&mut self, id: u64, new_parent: u64, new_name: K)
         requires known { IsKnown self.old.keyed id }
         requires known_parent { IsKnown self.old.keyed new_parent }
         requires not_root { id ≢ 1 }
@@ -320,12 +388,10 @@ impl<K: Eq + Hash + Clone, D> Tree<K, D> {
         let Some(node) = self.nodes.get(&id) else {
             unreachable!()
         };
-        let Some((above, name)) = &node.parent_and_key else {
+        let Some((above, _name)) = &node.parent_and_key else {
             unreachable!()
         };
         let (parent, before, after) = (*above, node.previous_sibling, node.next_sibling);
-        forget(&mut self.tables, parent, hash_of(name));
-        note(&mut self.tables, new_parent, hash_of(&new_name), id);
         links::close_up(&mut self.nodes, parent, before, after);
         let first = links::first_of(&self.nodes, new_parent);
         links::set_parent_and_key(&mut self.nodes, id, new_parent, new_name, first);
@@ -344,7 +410,7 @@ impl<K: Eq + Hash + Clone, D> Tree<K, D> {
     }
 
     // A node without children, at or below a node.
-    fn leaf_below(&self, id: u64) -> u64
+    pub(crate) fn leaf_below(&self, id: u64) -> u64
         requires { IsKnown self.now.keyed id }
         ensures known { IsKnown self.now.keyed result }
         ensures under { Under (parent_number self.now.keyed) id result }

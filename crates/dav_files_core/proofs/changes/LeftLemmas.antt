@@ -3,10 +3,11 @@ use Rattle.std.proofs.Common.{◌≡◌, ℕ, List, [], ◌∷◌, ◌++◌, Som
 use Rattle.std.specs.FinMap.{get}
 use Rattle.dav_files_core.specs.declared.memfs.Kind.TheVariants.{Folder, File}
 use Rattle.dav_files_core.specs.Outcomes.{added, changed, new_file}
-use Rattle.dav_files_core.specs.Private.Represents.{FileEntry, FileTree, Represents, resource_map}
+use Rattle.dav_files_core.specs.Private.Represents.{IsStore, FileEntry, FileTree, Represents, resource_map}
 use Rattle.dav_files_core.specs.Resources.{Node, Resource, ResourceMap, at_path}
 use Rattle.dav_files_core.specs.Private.TreeCalls.{IsMember, IsMissing, IsThere, FindsMember, WritesFile}
 use Rattle.dav_path_core.specs.declared.errors.FsError.TheVariants.{NotFound}
+use Rattle.dav_path_core.specs.ChildIndex.{Index}
 use Rattle.dav_path_core.specs.Fronts.{Segment, Path, parent}
 use Rattle.dav_path_core.specs.Keyed.{add, with_item_at}
 use Rattle.dav_path_core.proofs.lists.FinMaps.{none_some, one_some}
@@ -17,8 +18,8 @@ use Rattle.dav_files_core.proofs.changes.ChangedLemmas.{Represents-changed}
 use Rattle.dav_files_core.proofs.walks.RecoverLemmas.{recovers}
 
 -- what a tree is seen as, it stands for
-pub stands_for : (t : FileTree) (m : ResourceMap) → resource_map t ≡ m → Represents t (resource_map t) → Represents t m
-stands_for t m seen rep = subst (λ m. Represents t m) seen rep
+pub stands_for : {ix : Index} (t : FileTree) (m : ResourceMap) → resource_map t ≡ m → IsStore t ix → Represents t m
+stands_for t m seen store = subst (λ m. Represents t m) seen store.represents
 
 -- what a tree stands for is what is computed from it
 pub stands_itself : (t : FileTree) (m : ResourceMap) → Represents t m → Represents t (resource_map t)

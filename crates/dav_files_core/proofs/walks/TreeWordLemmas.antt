@@ -12,11 +12,11 @@ use Rattle.dav_files_core.specs.Resources.{Node, Properties, Property}
 use Rattle.dav_files_core.specs.Private.Represents.{FileTree, FileEntry}
 use Rattle.dav_files_core.specs.Private.TreeCalls.{IsMember, FindsMember, FindsNode, WritesFile, SetsNode, IsThere}
 use Rattle.dav_path_core.specs.Answers.{Answers}
-use Rattle.dav_path_core.specs.Keyed.{entry, item, parent_and_key, parent_and_key_of, child, add, add_refusal, cleared, with_item, with_item_at}
+use Rattle.dav_path_core.specs.Keyed.{entry, item, parent_and_key, parent_and_key_of, child, add, add_refusal, with_item, with_item_at}
 use Rattle.dav_path_core.specs.TreeValue.{TreeValue}
 use Rattle.dav_path_core.specs.Fronts.{Segment}
 use Rattle.dav_files_core.proofs.properties.FinMapLemmas.{insert_same}
-use Rattle.dav_path_core.proofs.trees.Trees.{child-some, child-none, same_some, none≢some, refusal-none, cleared-free}
+use Rattle.dav_path_core.proofs.trees.Trees.{child-some, child-none, same_some, none≢some, refusal-none}
 
 module _ (t : FileTree) where
   -- a place, as an entry
@@ -52,7 +52,7 @@ module _ (old new : TreeValue Segment Node) (folder : ℕ) (name : Segment) (nod
   known : is_some (entry old.keyed folder) ≡ true
   known = ap is_some there.1
 
-  no_child : child (pointwise nat_eq name) old.keyed folder ≡ None
+  pub no_child : child (pointwise nat_eq name) old.keyed folder ≡ None
   no_child = by (child (pointwise nat_eq name) old.keyed folder) refl
     where
       by : (o : Option ℕ) → child (pointwise nat_eq name) old.keyed folder ≡ o → o ≡ None
@@ -63,10 +63,10 @@ module _ (old new : TreeValue Segment Node) (folder : ℕ) (name : Segment) (nod
 
   abbrev Added : Result ℕ FsError → Type 0
   Added r = Answers (add_refusal (pointwise nat_eq) old.keyed folder name false) r
-      (λ n. (n ≡ old.keyed.next) × (new.keyed ≡ add (cleared (pointwise nat_eq) old.keyed folder name) folder name node)) (new ≡ old)
+      (λ n. (n ≡ old.keyed.next) × (new.keyed ≡ add old.keyed folder name node)) (new ≡ old)
 
   pub added_ok : (r : Result ℕ FsError) → Added r → IfOk r (λ id. (id ≡ old.keyed.next) × (new.keyed ≡ add old.keyed folder name node))
-  added_ok (Ok n) a = (a.1.0, a.1.1 ∙ ap (λ (t : FileTree). add t folder name node) (cleared-free (pointwise nat_eq) old.keyed folder name no_child))
+  added_ok (Ok n) a = a.1
   added_ok (Err e) a = tt
 
   pub added_err : (r : Result ℕ FsError) → Added r → IfErr r (λ e. (e ≡ InsufficientStorage) × (new.keyed ≡ old.keyed))

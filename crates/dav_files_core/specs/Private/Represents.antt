@@ -3,6 +3,7 @@ use Rattle.std.specs.Prelude.{◌≡◌, ℕ, [], ◌∷◌, ◌++◌, map, Opti
 use Rattle.std.specs.Option.{option_map_or}
 use Rattle.std.specs.Ordering.{nat_cmp}
 use Rattle.std.specs.FinMap.{FinMap, get, entries, from_entries, len}
+use Rattle.dav_path_core.specs.ChildIndex.{Index, IsIndex}
 use Rattle.dav_path_core.specs.Fronts.{Segment, Path}
 use Rattle.dav_path_core.specs.Keyed.{Entry, Keyed}
 use Rattle.dav_files_core.specs.Resources.{Node, Resource, ResourceMap, at_path, IsResourceMap}
@@ -43,3 +44,8 @@ entry_of t e = (path_of t.nodes (len t.nodes) e.0, record { number = e.0; node =
 -- the map that a tree stands for
 abbrev pub resource_map : FileTree → ResourceMap
 resource_map t = record { entries = from_entries (map (entry_of t) (entries t.nodes)); next = t.next }
+
+-- what files in memory keep: a tree that stands for its map, and an index of its names
+pub record IsStore (t : FileTree) (ix : Index) : Type 0 where
+  pub represents : Represents t (resource_map t)
+  pub indexed : IsIndex t ix

@@ -52,7 +52,7 @@ impl MemFs {
         ensures shape { IsResourceMap self.new }
     {
         let name = Bytes::copy_from_slice(self.alloc, name)?;
-        let id = add_node(&mut self.tree, folder, name, node)?;
+        let id = add_node(&mut self.tree, &mut self.index, folder, name, node)?;
         Ok(id)
     }
 
@@ -129,7 +129,7 @@ impl MemFs {
             → AnswersExactly (λ _. tt) result (taken_out self.old p) self.old self.new }
         ensures shape { IsResourceMap self.new }
     {
-        delete_node(&mut self.tree, id)
+        delete_node(&mut self.tree, &mut self.index, id)
     }
 
     // Puts an entry, with all below it, into a folder under a name.
@@ -141,6 +141,6 @@ impl MemFs {
         ensures shape { IsResourceMap self.new }
     {
         let name = Bytes::copy_from_slice(self.alloc, name)?;
-        move_node(&mut self.tree, id, folder, name)
+        move_node(&mut self.tree, &mut self.index, id, folder, name)
     }
 }

@@ -2,6 +2,7 @@
 ghost use Rattle.std.specs.Prelude.{◌≡◌, ◌↔◌, ◌+◌, ◌<◌, ◌^◌, IsTrue, true, map, Some, None, Ok, [], length, IfOk, IfErr, OnOk, OnErr, MatchResult, nat_eq};
 ghost use Rattle.std.specs.Option.{ok_or};
 ghost use Rattle.std.specs.Cmp.Lexicographic.{pointwise};
+ghost use Rattle.dav_path_core.specs.ChildIndex.{Index, IsIndex};
 ghost use Rattle.dav_path_core.specs.Keyed.{child, add, delete_refusal, without, move_refusal, moved, parent, Under};
 ghost use Rattle.dav_files_core.specs.Outcomes.{new_file, new_folder};
 ghost use Rattle.dav_files_core.specs.Meta.{meta_of, meta_at};
@@ -13,6 +14,7 @@ use super::properties::Props;
 use super::{Kind, MemFsMeta};
 use crate::fs::{DavProp, Moment};
 use bytes::{Buf, Bytes};
+use dav_path_core::child_index::ChildIndex;
 use dav_path_core::errors::{FsError, FsResult};
 use dav_path_core::tree::Tree;
 use http::StatusCode;
@@ -113,16 +115,16 @@ impl Node {
 }
 
 /// The number of a folder's member with a name. `NotFound` where there is none.
-pub(super) fn member_of(tree: &Tree<Bytes, Node>, folder: u64, name: &[u8]) -> FsResult<u64>
+pub(super) fn member_of(
+    tree: &Tree<Bytes, Node>,
+    index: &ChildIndex,
+    folder: u64,
+    name: &[u8],
+) -> FsResult<u64>
+    requires { IsIndex tree.now.keyed index.now }
     ensures { FindsMember tree.now.keyed folder name.now result }
 {
-    look_up(tree, folder, name)
-}
-
-fn look_up(tree: &Tree<Bytes, Node>, folder: u64, name: &[u8]) -> FsResult<u64>
-    ensures { result ≡ ok_or (child (λ k. pointwise nat_eq k name.now) tree.now.keyed folder) FsError.NotFound }
-{
-    tree.find_child_like(folder, &name, |key| key.as_slice() == name)
+    index.find_child(tree, folder, name)
 }
 
 /// The node with a number. `NotFound` where there is none.
@@ -140,7 +142,8 @@ pub(super) fn write_file(
     content: Vec<u8>,
     now: Moment,
 ) -> FsResult<()>
-    ensures { WritesFile tree.old.keyed id content.items now.0 result tree.new.keyed }
+    ensures set { WritesFile tree.old.keyed id content.items now.0 result tree.new.keyed }
+    ensures indexed { (ix : Index) → IsIndex tree.old.keyed ix → IsIndex tree.new.keyed ix }
 {
     let node = tree.get_node_mut(id)?;
     node.content = content;
@@ -151,21 +154,25 @@ pub(super) fn write_file(
 /// Adds a member to a folder that has none of that name. `InsufficientStorage` where it is out of memory or numbers.
 pub(super) fn add_node(
     tree: &mut Tree<Bytes, Node>,
+    index: &mut ChildIndex,
     folder: u64,
     name: Bytes,
     node: Node,
 ) -> FsResult<u64>
     requires known { IsThere tree.old.keyed folder }
     requires free { FindsMember tree.old.keyed folder name (Err FsError.NotFound) }
+    requires indexed { IsIndex tree.old.keyed index.old }
     ensures ok { IfOk result (λ id. (id ≡ tree.old.keyed.next) × (tree.new.keyed ≡ add tree.old.keyed folder name node)) }
     ensures err { IfErr result (λ e. (e ≡ FsError.InsufficientStorage) × (tree.new.keyed ≡ tree.old.keyed)) }
+    ensures indexed { IsIndex tree.new.keyed index.new }
 {
-    tree.add_child(folder, name, node, false)
+    index.add_new_child(tree, folder, name, node)
 }
 
 /// Makes the modified time of a node that given. `NotFound` where there is no such node.
 pub(super) fn set_modified(tree: &mut Tree<Bytes, Node>, id: u64, now: Moment) -> FsResult<()>
-    ensures { SetsNode tree.old.keyed id (λ n. record n { modified = now.0 }) result tree.new.keyed }
+    ensures set { SetsNode tree.old.keyed id (λ n. record n { modified = now.0 }) result tree.new.keyed }
+    ensures indexed { (ix : Index) → IsIndex tree.old.keyed ix → IsIndex tree.new.keyed ix }
 {
     let node = tree.get_node_mut(id)?;
     node.modified = now;
@@ -174,7 +181,8 @@ pub(super) fn set_modified(tree: &mut Tree<Bytes, Node>, id: u64, now: Moment) -
 
 /// Puts another node in place of one. `NotFound` where there is no such node.
 pub(super) fn set_node(tree: &mut Tree<Bytes, Node>, id: u64, node: Node) -> FsResult<()>
-    ensures { SetsNode tree.old.keyed id (λ _. node) result tree.new.keyed }
+    ensures set { SetsNode tree.old.keyed id (λ _. node) result tree.new.keyed }
+    ensures indexed { (ix : Index) → IsIndex tree.old.keyed ix → IsIndex tree.new.keyed ix }
 {
     let old = tree.get_node_mut(id)?;
     *old = node;
@@ -192,6 +200,7 @@ pub(super) fn patch_props(
     ensures answer { IfOk result (λ v. map answer_of v.items ≡ patch_answers (map entry_of patch.items)) }
     ensures ok { OnOk result (SetsNode tree.old.keyed id (λ n. record n { props = patched n.props (map entry_of patch.items) }) (Ok tt) tree.new.keyed) }
     ensures err { IfErr result (λ e. (e ≡ FsError.InsufficientStorage) × (tree.new.keyed ≡ tree.old.keyed)) }
+    ensures indexed { (ix : Index) → IsIndex tree.old.keyed ix → IsIndex tree.new.keyed ix }
 {
     let node = tree.get_node_mut(id)?;
     node.props.patch(alloc, patch)
@@ -208,6 +217,7 @@ pub(super) fn overwrite<B: Buf>(
     requires fits { start + length (B.unread buf.old) < 2 ^ 64 }
     ensures ok { OnOk result (SetsNode tree.old.keyed id (λ n. record n { bytes = overwritten n.bytes start (B.unread buf.old) }) (Ok tt) tree.new.keyed) }
     ensures err { IfErr result (λ e. (e ≡ FsError.InsufficientStorage) × (tree.new.keyed ≡ tree.old.keyed)) }
+    ensures indexed { (ix : Index) → IsIndex tree.old.keyed ix → IsIndex tree.new.keyed ix }
     ensures spent { OnOk result (B.unread buf.new ≡ []) }
     ensures unread { OnErr result (buf.new ≡ buf.old) }
     ensures kept { B.kept buf.new ≡ B.kept buf.old }
@@ -218,28 +228,37 @@ pub(super) fn overwrite<B: Buf>(
 
 /// Takes a node out that has no child. `NotFound` where there is no such node, `Forbidden` for the root and for a node
 /// with children.
-pub(super) fn delete_node(tree: &mut Tree<Bytes, Node>, id: u64) -> FsResult<()>
-    ensures { MatchResult result
+pub(super) fn delete_node(
+    tree: &mut Tree<Bytes, Node>,
+    index: &mut ChildIndex,
+    id: u64,
+) -> FsResult<()>
+    requires { IsIndex tree.old.keyed index.old }
+    ensures answer { MatchResult result
         (λ _. (delete_refusal tree.old.keyed id ≡ None) × (tree.new.keyed ≡ without tree.old.keyed id))
         (λ e. (delete_refusal tree.old.keyed id ≡ Some e) × (tree.new.keyed ≡ tree.old.keyed)) }
+    ensures indexed { IsIndex tree.new.keyed index.new }
 {
-    tree.delete_node(id)?;
+    index.delete_node(tree, id)?;
     Ok(())
 }
 
 /// Puts a node, with all below it, below another under a name, in place of a node without children that stands there.
 pub(super) fn move_node(
     tree: &mut Tree<Bytes, Node>,
+    index: &mut ChildIndex,
     id: u64,
     folder: u64,
     name: Bytes,
 ) -> FsResult<()>
+    requires { IsIndex tree.old.keyed index.old }
     ensures answer { MatchResult result
         (λ _. (move_refusal (pointwise nat_eq) tree.old.keyed id folder name true ≡ None)
         × (tree.new.keyed ≡ moved (pointwise nat_eq) tree.old.keyed id folder name))
         (λ e. (move_refusal (pointwise nat_eq) tree.old.keyed id folder name true ≡ Some e) × (tree.new.keyed ≡ tree.old.keyed)) }
     ensures outside { IfOk result (λ _. ¬ Under (parent tree.old.keyed) id folder) }
     ensures below { IfErr result (λ e. e ≡ FsError.Forbidden → Under (parent tree.old.keyed) id folder) }
+    ensures indexed { IsIndex tree.new.keyed index.new }
 {
-    tree.move_node(id, folder, name, true)
+    index.move_node(tree, id, folder, name, true)
 }

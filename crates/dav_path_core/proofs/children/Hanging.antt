@@ -1,20 +1,18 @@
 -- What becomes of the links of a tree's nodes where a new child takes the place of another, which hangs below it.
-use Rattle.std.proofs.Common.{◌≡◌, ◌≢◌, ◌+◌, ℕ, Bool, IsSome, true, false, List, Some, None, Option, refl, ap, sym, ◌∙◌, subst, inl, inr}
+use Rattle.std.proofs.Common.{◌≡◌, ◌≢◌, ◌+◌, ℕ, Bool, IsSome, false, List, Some, None, Option, refl, ap, sym, ◌∙◌, subst, inl, inr}
 use Rattle.std.specs.Cmp.{IsEquivalence}
 use Rattle.std.specs.Option.{option_map}
 use Rattle.std.proofs.lemmas.Bool.{cases_eq}
 use Rattle.dav_path_core.specs.declared.tree.Node.{Node}
-use Rattle.dav_path_core.specs.Keyed.{Keyed, parent_and_key, parent_and_key_of, child, add, cut, is_under, placed, IsChild, IsKnown, IsTree}
+use Rattle.dav_path_core.specs.Keyed.{Keyed, parent_and_key, parent_and_key_of, child, add, cut, is_under, placed, IsKnown, IsTree}
 use Rattle.dav_path_core.specs.TreeValue.{TreeValue}
 use Rattle.dav_path_core.specs.View.{entry_of, keyed_of, tree_value_of}
 use Rattle.dav_path_core.specs.Private.Nodes.{node_at, first_in, IsLinked, new_node, with_node, put_before, with_parent_and_key, with_parent, closed_up, led_on}
-use Rattle.dav_path_core.specs.Private.ChildTables.{Forgot, Noted, IsTabled}
 use Rattle.dav_path_core.proofs.trees.Trees.{none≢some}
 use Rattle.dav_path_core.proofs.children.Views.{get-seen, known-view, changed-here, changed-other}
 use Rattle.dav_path_core.proofs.children.Links.{keyed-added, IsLinked-added, back_entry}
 use Rattle.dav_path_core.proofs.children.Unlinking.{on_entry}
 use Rattle.dav_path_core.proofs.children.Placing.{keyed-placed, IsLinked-placed}
-use Rattle.dav_path_core.proofs.children.Tabling.{tabled-over}
 use Rattle.dav_path_core.proofs.trees.Overwriting.{never, never-symm, child-never, IsTree-never, IsTree-over, over, cut-over, new_known, new_outside, old_not_root, old_known_over, old_parent_and_key_added, found}
 
 module _ {K D : Type 0} where
@@ -100,31 +98,23 @@ module _ {K D : Type 0} where
     linked2 : IsLinked never gs (next + 1)
     linked2 = IsLinked-placed never never-symm fs gs (next + 1) c next p l l node_old.0 linked1 known1 over_not_root outside1 (child-never l (keyed_of fs (next + 1)) next) node_old.1 node_old.2 (is_hung node_old.0 p l node_old.1 node_old.2)
 
-    keyed-hung : keyed_of gs (next + 1) ≡ over eq laws t p k d linked.tree known c taken
-    keyed-hung = keyed-placed never never-symm fs gs (next + 1) c next p l l node_old.0 linked1 known1 over_not_root outside1 (child-never l (keyed_of fs (next + 1)) next) node_old.1 node_old.2 (is_hung node_old.0 p l node_old.1 node_old.2)
+    keyed2 : keyed_of gs (next + 1) ≡ over eq laws t p k d linked.tree known c taken
+    keyed2 = keyed-placed never never-symm fs gs (next + 1) c next p l l node_old.0 linked1 known1 over_not_root outside1 (child-never l (keyed_of fs (next + 1)) next) node_old.1 node_old.2 (is_hung node_old.0 p l node_old.1 node_old.2)
         ∙ ap (λ u. placed u c next l) keyed1
 
     tree2 : IsTree never (over eq laws t p k d linked.tree known c taken)
-    tree2 = subst (IsTree never) keyed-hung linked2.tree
+    tree2 = subst (IsTree never) keyed2 linked2.tree
 
     pub IsLinked-over : IsLinked eq gs (next + 1)
     IsLinked-over = record {
-      tree = subst (IsTree eq) (sym keyed-hung) (IsTree-over eq laws t p k d linked.tree known c taken tree2);
+      tree = subst (IsTree eq) (sym keyed2) (IsTree-over eq laws t p k d linked.tree known c taken tree2);
       chained = linked2.chained;
       root_alone = linked2.root_alone;
     }
 
     pub known-over : IsKnown (keyed_of gs (next + 1)) c
-    known-over = subst (λ u. IsKnown u c) (sym keyed-hung) (old_known_over eq laws t p k d linked.tree known c taken tree2)
-
-    -- the tables, where the old child gives way to the new one, and is noted below it
-    pub tabled-hung : (hashed : K → ℕ) (ts us vs ws : ℕ → ℕ → Option (Option ℕ)) (h : ℕ) → ((a b : K) → eq a b ≡ true → hashed a ≡ hashed b) → hashed k ≡ h → IsTabled (IsChild t) hashed ts → Forgot ts us p h → Noted us vs p h next → Noted vs ws next h c
-        → IsTabled (IsChild (keyed_of gs (next + 1))) hashed ws
-    tabled-hung hashed ts us vs ws h respects same tabled forgets notes hangs =
-        let old = found eq laws t p k d linked.tree known c taken in
-        subst (λ u. IsTabled (IsChild u) hashed ws) (sym keyed-hung)
-        (tabled-over hashed t ts us tabled c p h l old.1 (sym (respects k l old.2) ∙ same) forgets vs ws k d same notes hangs)
+    known-over = subst (λ u. IsKnown u c) (sym keyed2) (old_known_over eq laws t p k d linked.tree known c taken tree2)
 
     -- what is left when the old one is cut
     pub keyed-over : cut (keyed_of gs (next + 1)) c ≡ add (cut s.keyed c) p k d
-    keyed-over = ap (λ u. cut u c) keyed-hung ∙ cut-over eq laws t p k d linked.tree known c taken tree2 ∙ ap (λ u. add (cut u.keyed c) p k d) view
+    keyed-over = ap (λ u. cut u c) keyed2 ∙ cut-over eq laws t p k d linked.tree known c taken tree2 ∙ ap (λ u. add (cut u.keyed c) p k d) view

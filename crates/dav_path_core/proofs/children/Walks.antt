@@ -1,5 +1,5 @@
 -- A walk along the children of a node.
-use Rattle.std.proofs.Common.{◌≡◌, ℕ, zero, suc, ◌<◌, ◌≤◌, Bool, true, false, List, [], ◌∷◌, ◌++◌, length, Some, None, Option, refl, ap, sym, ◌∙◌, subst, inl, inr, arith, eqb, Result, Ok, Err, IfOk, OnErr, IfErr}
+use Rattle.std.proofs.Common.{◌≡◌, ℕ, zero, suc, ◌<◌, ◌≤◌, Bool, true, false, List, [], ◌∷◌, ◌++◌, length, Some, None, Option, refl, ap, sym, ◌∙◌, subst, inl, inr, arith, eqb, Result, Ok, Err}
 use Rattle.std.specs.Option.{option_map, ok_or}
 use Rattle.std.specs.List.{list_any}
 use Rattle.std.specs.Map.{IsKeyTest}
@@ -121,18 +121,9 @@ module _ {K D : Type 0} where
     pub search-found : (n : ℕ) (k : K) → IsChild t p k n → Gives k true → ◌≡◌ {A = Result ℕ E} (Ok n) (ok_or (child test t p) error)
     search-found n k e says = ap (λ o. ok_or o error) (sym (child-only t test p eq tree one n k e (sym (pure k true says))))
 
-    -- looked for among the keys that are like it alone
-    module _ {Alike : K → Type 0} (alike : (k : K) → test k ≡ true → Alike k) where
-      pub search-none-alike : ((n : ℕ) (k : K) → IsChild t p k n → Alike k → Gives k false) → ◌≡◌ {A = Result ℕ E} (Err error) (ok_or (child test t p) error)
-      search-none-alike none =
-          elim (child test t p) as (λ o. child test t p ≡ o → ◌≡◌ {A = Result ℕ E} (Err error) (ok_or o error)) [
-            | None ↦ λ is. refl
-            | Some m ↦ λ is. let w = child-some t test p m is in absurd (true≢false (sym w.2 ∙ sym (pure w.0 false (none m w.0 w.1 (alike w.0 w.2)))))
-          ] refl
-
-      pub searched-alike : (r : Result ℕ E) → IfOk r (λ n. (k : K) × IsChild t p k n × Gives k true) → OnErr r ((n : ℕ) (k : K) → IsChild t p k n → Alike k → Gives k false) → IfErr r (λ e. e ≡ error) → r ≡ ok_or (child test t p) error
-      searched-alike (Ok n) found none same = search-found n found.0 found.1 found.2
-      searched-alike (Err e) found none same = ap (λ (x : E). let y : Result ℕ E = Err x in y) same ∙ search-none-alike none
-
     pub search-none : ((n : ℕ) (k : K) → IsChild t p k n → Gives k false) → ◌≡◌ {A = Result ℕ E} (Err error) (ok_or (child test t p) error)
-    search-none none = search-none-alike {Alike = λ _. Unit {0}} (λ _ _. tt) (λ n k child _. none n k child)
+    search-none none =
+        elim (child test t p) as (λ o. child test t p ≡ o → ◌≡◌ {A = Result ℕ E} (Err error) (ok_or o error)) [
+          | None ↦ λ is. refl
+          | Some m ↦ λ is. let w = child-some t test p m is in absurd (true≢false (sym w.2 ∙ sym (pure w.0 false (none m w.0 w.1))))
+        ] refl

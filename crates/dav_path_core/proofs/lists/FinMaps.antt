@@ -3,7 +3,7 @@ use Rattle.std.proofs.Common.{◌≡◌, ◌⊎◌, inl, inr, true, false, cond,
 use Rattle.std.specs.Ordering.{eq_by_cmp}
 use Rattle.std.specs.declared.cmp.Ordering.{Ordering}
 use Rattle.std.specs.Cmp.{IsTotalOrder}
-use Rattle.std.specs.FinMap.{FinMap, IsAntisymmetric, get, insert, remove, get-insert, get-remove}
+use Rattle.std.specs.FinMap.{FinMap, IsAntisymmetric, get, insert, remove, get-insert, get-remove, same_map}
 use Rattle.dav_path_core.proofs.lists.Orders.{eq_by_cmp_same, eq_by_cmp_true, eq_by_cmp_false}
 
 pub none_some : {A B : Type 0} (o : Option A) (x : A) → o ≡ None → o ≡ Some x → B
@@ -49,3 +49,10 @@ module _ {K X : Type 0} {R : K → K → Ordering} (o : IsTotalOrder R) (exact :
     | inl e ↦ none_some _ r (ap (get (remove m k)) e ∙ get_gone m k) h
     | inr ne ↦ (ne, sym (get_left m k q ne) ∙ h)
   ]
+
+  -- an entry that is there already
+  pub insert_same : (m : FinMap R X) (k : K) (v : X) → get m k ≡ Some v → insert m k v ≡ m
+  insert_same m k v h = same_map o exact (insert m k v) m (λ q. elim (dec o exact q k) [
+    | inl same ↦ ap (get (insert m k v)) same ∙ get_same m k v ∙ sym h ∙ ap (get m) (sym same)
+    | inr other ↦ get_other m k v q other
+  ])

@@ -32,9 +32,9 @@ module _ {K D : Type 0} (t : Keyed K D) where
     child-placed = placed-entry (entry t n) refl
 
   module _ (n : ℕ) (d : D) where
-    with_item-entry : (o : Option (Entry K D)) → entry t n ≡ o → (q m : ℕ) (l : K) → IsChild (with_item_at t n o d) q l m → IsChild t q l m
-    with_item-entry None at q m l h = h
-    with_item-entry (Some x) at q m l h =
+    pub child-with_item-at : (o : Option (Entry K D)) → entry t n ≡ o → (q m : ℕ) (l : K) → IsChild (with_item_at t n o d) q l m → IsChild t q l m
+    child-with_item-at None at q m l h = h
+    child-with_item-at (Some x) at q m l h =
         let e : Entry K D = record x { item = d } in
         elim (child_before t (with_item_at t n (Some x) d) n e (Sets-insert t.nodes n e) q l m h) [
           | inl here ↦ subst (λ v. IsChild t q l v) (sym here.0) (ap parent_and_key_of at ∙ here.1)
@@ -42,4 +42,4 @@ module _ {K D : Type 0} (t : Keyed K D) where
         ]
 
     pub child-with_item : (q m : ℕ) (l : K) → IsChild (with_item t n d) q l m → IsChild t q l m
-    child-with_item = with_item-entry (entry t n) refl
+    child-with_item = child-with_item-at (entry t n) refl

@@ -4,7 +4,6 @@ ghost use Rattle.dav_path_core.specs.Answers.{Answers};
 ghost use Rattle.dav_path_core.specs.Keyed.{parent as parent_number, child, lone, add, add_refusal, cleared, without, has_child as has_child_of, move_refusal, moved, Under, cut, cut_refusal, IsCut, IsKnown};
 ghost use Rattle.dav_path_core.specs.TreeValue.{IsTreeValue};
 
-use super::tables::{forget, hash_of, note};
 use super::{Node, ROOT_ID, Tree, links};
 use crate::errors::{FsError, FsResult};
 use std::alloc::Global;
@@ -28,7 +27,6 @@ impl<K: Eq + Hash + Clone, D: Drop> Tree<K, D> {
         match nodes.insert(ROOT_ID, root) {
             Ok(_) => Ok(Tree {
                 nodes,
-                tables: HashMap::new(alloc),
                 next: 2,
                 alloc,
             }),
@@ -68,13 +66,38 @@ impl<K: Eq + Hash + Clone, D: Drop> Tree<K, D> {
             return Err(FsError::InsufficientStorage);
         }
         match taken {
-            None => {
-                let id = self.add_new(parent, key, item)?;
-                self.keep_table(parent);
-                return Ok(id);
-            }
+            None => return self.add_new(parent, key, item),
             Some(old) => return self.add_over(parent, key, item, old),
         }
+    }
+
+    /// Adds a child to a node, under a key that no child of it has, and gives its number, which is the next one. It does not
+    /// look for the key, so its time does not grow with the number of children (own).
+    ///
+    /// `NotFound` for an unknown parent, `InsufficientStorage` where all numbers to 2^64 - 2 are used up and where it is
+    /// out of memory.
+    pub fn add_new_child(&mut self, parent: u64, key: K, item: D) -> FsResult<u64>
+        requires free { child (K.eq key) self.old.keyed parent ≡ None }
+        ensures answer { Answers (add_refusal K.eq self.old.keyed parent key false) result
+            (λ n. (n ≡ self.old.keyed.next) × (self.new.keyed ≡ add self.old.keyed parent key item))
+            (self.new ≡ self.old) }
+        // It is refused for memory or numbers only where nothing else refuses.
+        ensures room { IfErr result (λ e. e ≡ FsError.InsufficientStorage
+            → add_refusal K.eq self.old.keyed parent key false ≡ None) }
+        // No number above 2^64 - 2 is given, so a next number of 2^64 - 1 is always refused.
+        ensures number { IfOk result (λ n. n < 18446744073709551615) }
+        ensures next { self.new.keyed.next ≤ 18446744073709551615 }
+        // Before the call, and after it.
+        ensures shape_before { IsTreeValue K.eq self.old }
+        ensures shape { IsTreeValue K.eq self.new }
+    {
+        if !self.is_known(parent) {
+            return Err(FsError::NotFound);
+        }
+        if self.next == u64::MAX {
+            return Err(FsError::InsufficientStorage);
+        }
+        self.add_new(parent, key, item)
     }
 
     // Adds a child at a free key.
@@ -88,9 +111,7 @@ impl<K: Eq + Hash + Clone, D: Drop> Tree<K, D> {
         ensures shape { IsTreeValue K.eq self.new }
     {
         let id = self.next;
-        let hash = hash_of(&key);
         links::put_new(&mut self.nodes, id, parent, key, item)?;
-        note(&mut self.tables, parent, hash, id);
         self.next = id + 1;
         Ok(id)
     }
@@ -106,13 +127,9 @@ impl<K: Eq + Hash + Clone, D: Drop> Tree<K, D> {
         ensures shape { IsTreeValue K.eq self.new }
     {
         let new = self.next;
-        let hash = hash_of(&key);
         links::put_new(&mut self.nodes, new, parent, key, item)?;
         self.next = new + 1;
         links::hang(&mut self.nodes, old, parent, new);
-        forget(&mut self.tables, parent, hash);
-        note(&mut self.tables, parent, hash, new);
-        note(&mut self.tables, new, hash, old);
         self.cut_out(old);
         Ok(new)
     }
@@ -197,7 +214,6 @@ impl<K: Eq + Hash + Clone, D: Drop> Tree<K, D> {
             Err(error) => return Err(error),
             Ok(None) => {
                 self.put_below(id, new_parent, new_name);
-                self.keep_table(new_parent);
                 return Ok(());
             }
             Ok(Some(other)) => {

@@ -60,16 +60,6 @@ pub(super) fn first_of<K, D>(nodes: &HashMap<u64, Node<K, D>>, id: u64) -> Optio
     }
 }
 
-/// The sibling after a node, `None` for an unknown number too.
-pub(super) fn next_of<K, D>(nodes: &HashMap<u64, Node<K, D>>, id: u64) -> Option<u64>
-    ensures { result ≡ next_in (node_at nodes.now.entries) id }
-{
-    match nodes.get(&id) {
-        Some(node) => node.next_sibling,
-        None => None,
-    }
-}
-
 fn set_first<K, D>(nodes: &mut HashMap<u64, Node<K, D>>, id: u64, to: Option<u64>)
     ensures { node_at nodes.new.entries ≡ with_first (node_at nodes.old.entries) id to }
 {

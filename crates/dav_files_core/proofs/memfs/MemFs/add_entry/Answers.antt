@@ -16,9 +16,13 @@ add_node-requires-clause-free c =
 pub invariant_of-self-2 : goal.invariant_of-self-2
 invariant_of-self-2 c =
     let h = c.requires.free in
-    stands_itself c.add_node.new.tree.keyed (added c.args.self.now h.0 c.args.node)
-    (with_node c.self.inside.tree.keyed c.args.self.now (stands_for _ _ c.self.view_is c.self.invariant) h.0 c.args.folder _ h.1 c.in_ok-name.name c.in_ok-name.ensures
-    c.args.node c.requires.bare c.add_node.new.tree.keyed c.in_ok-id.ensures.ok.1)
+    record {
+      represents =
+          stands_itself c.add_node.new.tree.keyed (added c.args.self.now h.0 c.args.node)
+          (with_node c.self.inside.tree.keyed c.args.self.now (stands_for _ _ c.self.view_is c.self.invariant) h.0 c.args.folder _ h.1 c.in_ok-name.name c.in_ok-name.ensures
+          c.args.node c.requires.bare c.add_node.new.tree.keyed c.in_ok-id.ensures.ok.1);
+      indexed = c.in_ok-id.ensures.indexed;
+    }
 
 pub returns-clause-answer : goal.returns-clause-answer
 returns-clause-answer c = λ p h.
@@ -28,4 +32,4 @@ returns-clause-answer c = λ p h.
     ap (λ id. Ok (id, added c.args.self.now p c.args.node)) (rep.next ∙ sym c.in_ok-id.ensures.ok.0) ∙ ap (λ m. Ok (c.in_ok-id.id, m)) (is_view c.add_node.new.tree.keyed _ rep')
 
 pub returns-clause-shape : goal.returns-clause-shape
-returns-clause-shape c = (invariant_of-self-2 c).is_map
+returns-clause-shape c = (invariant_of-self-2 c).represents.is_map

@@ -14,9 +14,13 @@ invariant_of-self g c =
     let rep = stands_for _ _ c.self.view_is c.self.invariant in
     let h = c.requires.file in
     let unread = g.B.Buf.unread c.args.buf.now in
-    tried_left c.self.inside.tree.keyed c.args.self.now rep c.args.id (λ n. record n { bytes = overwritten n.bytes c.args.start unread })
-    (λ p r here number. overwritten_stands c.self.inside.tree.keyed c.args.self.now rep c.args.id h p r here number c.args.start unread)
-    (h.0, h.1, h.2, h.3) c.overwrite.result c.overwrite.new.tree.keyed c.overwrite.ensures.ok c.overwrite.ensures.err
+    record {
+      represents =
+          tried_left c.self.inside.tree.keyed c.args.self.now rep c.args.id (λ n. record n { bytes = overwritten n.bytes c.args.start unread })
+          (λ p r here number. overwritten_stands c.self.inside.tree.keyed c.args.self.now rep c.args.id h p r here number c.args.start unread)
+          (h.0, h.1, h.2, h.3) c.overwrite.result c.overwrite.new.tree.keyed c.overwrite.ensures.ok c.overwrite.ensures.err;
+      indexed = c.overwrite.ensures.indexed c.self.inside.index c.self.invariant.indexed;
+    }
 
 pub returns-clause-answer : goal.returns-clause-answer
 returns-clause-answer g c =
@@ -31,4 +35,4 @@ returns-clause-answer g c =
     done (Err e) = tt
 
 pub returns-clause-shape : goal.returns-clause-shape
-returns-clause-shape g c = (invariant_of-self g c).is_map
+returns-clause-shape g c = (invariant_of-self g c).represents.is_map

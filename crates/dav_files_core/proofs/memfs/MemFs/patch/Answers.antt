@@ -12,9 +12,13 @@ pub invariant_of-self : goal.invariant_of-self
 invariant_of-self c =
     let rep = stands_for _ _ c.self.view_is c.self.invariant in
     let patch = map entry_of c.args.patch.items in
-    tried_left c.self.inside.tree.keyed c.args.self.now rep c.args.id (λ n. record n { props = patched n.props patch })
-    (λ p r here number. patched_stands c.self.inside.tree.keyed c.args.self.now rep p r here c.args.id number patch)
-    c.requires c.patch_props.result c.patch_props.new.tree.keyed c.patch_props.ensures.ok c.patch_props.ensures.err
+    record {
+      represents =
+          tried_left c.self.inside.tree.keyed c.args.self.now rep c.args.id (λ n. record n { props = patched n.props patch })
+          (λ p r here number. patched_stands c.self.inside.tree.keyed c.args.self.now rep p r here c.args.id number patch)
+          c.requires c.patch_props.result c.patch_props.new.tree.keyed c.patch_props.ensures.ok c.patch_props.ensures.err;
+      indexed = c.patch_props.ensures.indexed c.self.inside.index c.self.invariant.indexed;
+    }
 
 pub returns-clause-answer : goal.returns-clause-answer
 returns-clause-answer c =
@@ -25,4 +29,4 @@ returns-clause-answer c =
     (λ v. map answer_of v.items) (patch_answers patch) c.patch_props.result c.patch_props.new.tree.keyed c.patch_props.ensures.ok c.patch_props.ensures.err c.patch_props.ensures.answer
 
 pub returns-clause-shape : goal.returns-clause-shape
-returns-clause-shape c = (invariant_of-self c).is_map
+returns-clause-shape c = (invariant_of-self c).represents.is_map

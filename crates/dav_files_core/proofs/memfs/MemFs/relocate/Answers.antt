@@ -13,8 +13,12 @@ pub invariant_of-self : goal.invariant_of-self
 invariant_of-self c =
     let k = c.requires.known in
     let h = c.requires.folder in
-    moved_stands c.self.inside.tree.keyed c.args.self.now (stands_for _ _ c.self.view_is c.self.invariant) k.0 k.1 k.2 c.args.id k.3 h.0 h.1 h.2 h.4 c.args.folder h.3
-    c.in_ok-name.name c.move_node.result c.move_node.new.tree.keyed c.move_node.ensures.answer c.move_node.ensures.outside
+    record {
+      represents =
+          moved_stands c.self.inside.tree.keyed c.args.self.now (stands_for _ _ c.self.view_is c.self.invariant) k.0 k.1 k.2 c.args.id k.3 h.0 h.1 h.2 h.4 c.args.folder h.3
+          c.in_ok-name.name c.move_node.result c.move_node.new.tree.keyed c.move_node.ensures.answer c.move_node.ensures.outside;
+      indexed = c.move_node.ensures.indexed;
+    }
 
 pub returns-clause-answer : goal.returns-clause-answer
 returns-clause-answer c = λ p q r f here number there into.
@@ -26,4 +30,4 @@ returns-clause-answer c = λ p q r f here number there into.
     c.in_ok-name.name c.move_node.result c.move_node.new.tree.keyed c.move_node.ensures.answer c.move_node.ensures.outside c.move_node.ensures.below)
 
 pub returns-clause-shape : goal.returns-clause-shape
-returns-clause-shape c = (invariant_of-self c).is_map
+returns-clause-shape c = (invariant_of-self c).represents.is_map

@@ -7,18 +7,22 @@ use Rattle.dav_files_core.proofs.memfs.MemFs.touch.Goals as goal
 pub unreachable-requires : goal.unreachable-requires
 unreachable-requires c =
     let h = c.requires in
-    lost c.self.inside.tree.keyed c.args.self.now (stands_for _ _ c.self.view_is c.self.invariant) h.0 h.1 h.2 c.args.id h.3 c.in-Err.ensures.1
+    lost c.self.inside.tree.keyed c.args.self.now (stands_for _ _ c.self.view_is c.self.invariant) h.0 h.1 h.2 c.args.id h.3 c.in-Err.ensures.set.1
 
 pub invariant_of-self : goal.invariant_of-self
 invariant_of-self c =
     let h = c.requires in
-    stands_itself c.set_modified.new.tree.keyed (touched c.args.self.now h.0 c.args.now.0)
-    (touched_stands c.self.inside.tree.keyed c.args.self.now (stands_for _ _ c.self.view_is c.self.invariant) h.0 h.1 h.2 c.args.id h.3 c.args.now.0 c.set_modified.new.tree.keyed c.in-Ok.ensures)
+    record {
+      represents =
+          stands_itself c.set_modified.new.tree.keyed (touched c.args.self.now h.0 c.args.now.0)
+          (touched_stands c.self.inside.tree.keyed c.args.self.now (stands_for _ _ c.self.view_is c.self.invariant) h.0 h.1 h.2 c.args.id h.3 c.args.now.0 c.set_modified.new.tree.keyed c.in-Ok.ensures.set);
+      indexed = c.set_modified.ensures.indexed c.self.inside.index c.self.invariant.indexed;
+    }
 
 pub returns-clause-change : goal.returns-clause-change
 returns-clause-change c = λ p r here number.
     sym (is_view c.set_modified.new.tree.keyed (touched c.args.self.now p c.args.now.0)
-    (touched_stands c.self.inside.tree.keyed c.args.self.now (stands_for _ _ c.self.view_is c.self.invariant) p r here c.args.id number c.args.now.0 c.set_modified.new.tree.keyed c.in-Ok.ensures))
+    (touched_stands c.self.inside.tree.keyed c.args.self.now (stands_for _ _ c.self.view_is c.self.invariant) p r here c.args.id number c.args.now.0 c.set_modified.new.tree.keyed c.in-Ok.ensures.set))
 
 pub returns-clause-shape : goal.returns-clause-shape
-returns-clause-shape c = (invariant_of-self c).is_map
+returns-clause-shape c = (invariant_of-self c).represents.is_map

@@ -15,10 +15,10 @@ pub returns-in-None-clause-parent : goal.returns-in-None-clause-parent
 returns-in-None-clause-parent g c = sym (ap (λ t. parent t.keyed c.args.id) (sym c.self.view_is) ∙ ap (λ o. option_map (λ q. q.0) (parent_and_key_of o)) (entry-view c.self.inside.nodes.entries c.self.inside.next c.args.id None c.in-None.ensures.value))
 
 pub returns-in-Some-parent_and_key-clause-shape : goal.returns-in-Some-parent_and_key-clause-shape
-returns-in-Some-parent_and_key-clause-shape g c = shape_of c.self.invariant.linked c.self.view_is
+returns-in-Some-parent_and_key-clause-shape g c = shape_of c.self.invariant c.self.view_is
 
 pub returns-in-None-parent_and_key-clause-shape : goal.returns-in-None-parent_and_key-clause-shape
-returns-in-None-parent_and_key-clause-shape g c = shape_of c.self.invariant.linked c.self.view_is
+returns-in-None-parent_and_key-clause-shape g c = shape_of c.self.invariant c.self.view_is
 
 pub returns-in-None-clause-shape : goal.returns-in-None-clause-shape
-returns-in-None-clause-shape g c = shape_of c.self.invariant.linked c.self.view_is
+returns-in-None-clause-shape g c = shape_of c.self.invariant c.self.view_is

@@ -1,9 +1,10 @@
 use Rattle.std.proofs.Common.{inl, inr, ap, ◌∙◌, None, is_some, ◌≡◌, ℕ, Some, IfOk, IfErr, Result, Ok, Err, sym, subst}
 use Rattle.dav_path_core.specs.Keyed.{add_refusal, IsCut, IsTree, cleared, cleared_at, child}
 use Rattle.dav_path_core.proofs.trees.Cutting.{IsCut-cut}
+use Rattle.std.specs.Result.{result_ok}
 use Rattle.std.proofs.lemmas.Bool.{false≢true}
 use Rattle.dav_path_core.specs.declared.errors.FsError.TheVariants.{InsufficientStorage}
-use Rattle.dav_path_core.proofs.trees.Trees.{refusal-over}
+use Rattle.dav_path_core.proofs.trees.Trees.{refusal-none, refusal-over, ok-ok_or}
 use Rattle.dav_path_core.proofs.tree.Tree.add_child.Goals as goal
 
 -- what holds anyway holds of an error
@@ -19,6 +20,12 @@ pub returns-in-Some-clause-replaced : goal.returns-in-Some-clause-replaced
 returns-in-Some-clause-replaced g c =
     let tree : IsTree g.K.PartialEq.eq c.args.self.now.keyed = (c.if-not-is_known.ensures.shape).tree in
     whenever {P = (old : ℕ) → child (g.K.PartialEq.eq c.args.key) c.args.self.now.keyed c.args.parent ≡ Some old → IsCut c.args.self.now.keyed (cleared g.K.PartialEq.eq c.args.self.now.keyed c.args.parent c.args.key) old} _ (λ old at. subst (λ o. IsCut c.args.self.now.keyed (cleared_at c.args.self.now.keyed o) old) (sym at) (IsCut-cut g.K.PartialEq.eq c.args.self.now.keyed tree old))
+
+pub returns-in-None-clause-room : goal.returns-in-None-clause-room
+returns-in-None-clause-room g c =
+    let taken = c.ok-taken.ensures.value ∙ ap result_ok c.get_child.ensures.answer ∙ ok-ok_or _ _ in
+    whenever_err {P = add_refusal g.K.PartialEq.eq c.args.self.now.keyed c.args.parent c.args.key c.args.overwrite ≡ None} (λ e. e ≡ InsufficientStorage) _
+    (refusal-none g.K.PartialEq.eq c.args.self.now.keyed c.args.parent c.args.key c.args.overwrite (sym c.if-not-is_known.ensures.known) (ap is_some (sym taken ∙ c.in-None.is)))
 
 pub returns-in-Some-clause-room : goal.returns-in-Some-clause-room
 returns-in-Some-clause-room g c =

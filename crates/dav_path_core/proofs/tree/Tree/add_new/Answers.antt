@@ -1,41 +1,33 @@
 use Rattle.std.proofs.Common.{◌≡◌, refl, subst, sym, ap, ◌∙◌, None}
-use Rattle.dav_path_core.specs.Keyed.{child, add, IsChild, IsKnown}
-use Rattle.dav_path_core.specs.View.{keyed_of, tree_value_of}
+use Rattle.dav_path_core.specs.Keyed.{child, add, IsKnown}
+use Rattle.dav_path_core.specs.View.{tree_value_of}
 use Rattle.dav_path_core.specs.Private.Nodes.{node_at, first_in, new_node}
-use Rattle.dav_path_core.specs.Private.ChildTables.{hash, told, Noted, IsTabled}
-use Rattle.dav_path_core.proofs.children.Tabling.{tabled-add}
 use Rattle.dav_path_core.proofs.children.Views.{known-view}
 use Rattle.dav_path_core.proofs.children.Links.{shape_of, keyed-added, IsLinked-added}
 use Rattle.dav_path_core.proofs.tree.Tree.add_new.Goals as goal
 
 pub returns-in_err-put_new-clause-shape : goal.returns-in_err-put_new-clause-shape
-returns-in_err-put_new-clause-shape g c = shape_of c.self.invariant.linked (ap (λ es. tree_value_of es c.self.inside.next) (sym c.in_err-put_new.ensures.err))
+returns-in_err-put_new-clause-shape g c = shape_of c.self.invariant (ap (λ es. tree_value_of es c.self.inside.next) (sym c.in_err-put_new.ensures.err))
 
 pub invariant_of-self-2 : goal.invariant_of-self-2
-invariant_of-self-2 g c = record {
-  linked = IsLinked-added g.K.PartialEq.eq g.met.K.Eq.laws.symm c.self.inside.nodes.entries c.put_new.new.nodes.entries c.self.inside.next c.args.parent c.args.key
-      (new_node c.args.parent c.args.key c.args.item (first_in (node_at c.self.inside.nodes.entries) c.args.parent)) c.self.invariant.linked
-      (sym (known-view c.self.inside.nodes.entries c.self.inside.next c.args.parent) ∙ subst (λ t. IsKnown t.keyed c.args.parent) (sym c.self.view_is) c.requires.known)
-      (subst (λ t. child (g.K.PartialEq.eq c.args.key) t.keyed c.args.parent ≡ None) (sym c.self.view_is) c.requires.free) refl refl refl refl c.in_ok-put_new.ensures.ok;
-  tabled = subst (λ t. IsTabled (IsChild t) (λ k. hash (g.K.Hash.hash_input k)) (told c.note.new.tables.entries)) (sym (keyed-added g.K.PartialEq.eq g.met.K.Eq.laws.symm c.self.inside.nodes.entries c.put_new.new.nodes.entries c.self.inside.next c.args.parent c.args.key
-      (new_node c.args.parent c.args.key c.args.item (first_in (node_at c.self.inside.nodes.entries) c.args.parent)) c.self.invariant.linked
-      (sym (known-view c.self.inside.nodes.entries c.self.inside.next c.args.parent) ∙ subst (λ t. IsKnown t.keyed c.args.parent) (sym c.self.view_is) c.requires.known)
-      (subst (λ t. child (g.K.PartialEq.eq c.args.key) t.keyed c.args.parent ≡ None) (sym c.self.view_is) c.requires.free) refl refl refl refl c.in_ok-put_new.ensures.ok))
-      (tabled-add (λ k. hash (g.K.Hash.hash_input k)) (keyed_of c.self.inside.nodes.entries c.self.inside.next) (told c.self.inside.tables.entries) (told c.note.new.tables.entries) c.self.invariant.tabled c.args.parent c.args.key c.args.item
-      (subst (λ h. Noted (told c.self.inside.tables.entries) (told c.note.new.tables.entries) c.args.parent h c.self.inside.next) c.hash_of-hash.ensures c.note.ensures));
-}
+invariant_of-self-2 g c =
+    IsLinked-added g.K.PartialEq.eq g.met.K.Eq.laws.symm c.self.inside.nodes.entries c.put_new.new.nodes.entries c.self.inside.next c.args.parent c.args.key
+    (new_node c.args.parent c.args.key c.args.item (first_in (node_at c.self.inside.nodes.entries) c.args.parent)) c.self.invariant
+    (sym (known-view c.self.inside.nodes.entries c.self.inside.next c.args.parent) ∙ subst (λ t. IsKnown t.keyed c.args.parent) (sym c.self.view_is) c.requires.known)
+    (subst (λ t. child (g.K.PartialEq.eq c.args.key) t.keyed c.args.parent ≡ None) (sym c.self.view_is) c.requires.free) refl refl refl refl c.in_ok-put_new.ensures.ok
 
 pub returns-clause-answer : goal.returns-clause-answer
 returns-clause-answer g c = (
   refl,
   (
     ap (λ t. t.keyed.next) c.self.view_is,
-    (keyed-added g.K.PartialEq.eq g.met.K.Eq.laws.symm c.self.inside.nodes.entries c.put_new.new.nodes.entries c.self.inside.next c.args.parent c.args.key
-        (new_node c.args.parent c.args.key c.args.item (first_in (node_at c.self.inside.nodes.entries) c.args.parent)) c.self.invariant.linked
+    keyed-added g.K.PartialEq.eq g.met.K.Eq.laws.symm c.self.inside.nodes.entries c.put_new.new.nodes.entries c.self.inside.next c.args.parent c.args.key
+        (new_node c.args.parent c.args.key c.args.item (first_in (node_at c.self.inside.nodes.entries) c.args.parent)) c.self.invariant
         (sym (known-view c.self.inside.nodes.entries c.self.inside.next c.args.parent) ∙ subst (λ t. IsKnown t.keyed c.args.parent) (sym c.self.view_is) c.requires.known)
-        (subst (λ t. child (g.K.PartialEq.eq c.args.key) t.keyed c.args.parent ≡ None) (sym c.self.view_is) c.requires.free) refl refl refl refl c.in_ok-put_new.ensures.ok) ∙ ap (λ t. add t.keyed c.args.parent c.args.key c.args.item) c.self.view_is,
+        (subst (λ t. child (g.K.PartialEq.eq c.args.key) t.keyed c.args.parent ≡ None) (sym c.self.view_is) c.requires.free) refl refl refl refl c.in_ok-put_new.ensures.ok
+        ∙ ap (λ t. add t.keyed c.args.parent c.args.key c.args.item) c.self.view_is,
   ),
 )
 
 pub returns-clause-shape : goal.returns-clause-shape
-returns-clause-shape g c = shape_of (invariant_of-self-2 g c).linked refl
+returns-clause-shape g c = shape_of (invariant_of-self-2 g c) refl

@@ -6,7 +6,7 @@ use Rattle.dav_path_core.proofs.tree.Tree.cut_out.Goals as goal
 
 pub loop-self-init : goal.loop-self-init
 loop-self-init g c =
-    (shape_of c.self.invariant.linked c.self.view_is, going c.requires.known c.requires.known here refl)
+    (shape_of c.self.invariant c.self.view_is, going c.requires.known c.requires.known here refl)
 
 pub leaf_below-leaf-requires : goal.leaf_below-leaf-requires
 leaf_below-leaf-requires g c = cutting_known c.loop-self.invariant.1 (sym c.loop-self-test.ensures.known)

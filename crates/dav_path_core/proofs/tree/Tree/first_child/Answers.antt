@@ -14,7 +14,7 @@ returns-in-None-clause-answer g c =
     told_nowhere c.self.inside.nodes.entries c.self.inside.next c.args.self.now c.self.view_is c.args.id c.in-None.ensures.value (first c.args.self.now c.args.id)
 
 pub returns-in-Some-clause-shape : goal.returns-in-Some-clause-shape
-returns-in-Some-clause-shape g c = shape_of c.self.invariant.linked c.self.view_is
+returns-in-Some-clause-shape g c = shape_of c.self.invariant c.self.view_is
 
 pub returns-in-None-clause-shape : goal.returns-in-None-clause-shape
-returns-in-None-clause-shape g c = shape_of c.self.invariant.linked c.self.view_is
+returns-in-None-clause-shape g c = shape_of c.self.invariant c.self.view_is

@@ -10,11 +10,11 @@ pub returns-in_default-clause-known : goal.returns-in_default-clause-known
 returns-in_default-clause-known g c = λ known. absurd (not_known c.self.inside.nodes.entries c.self.inside.next c.args.self.now c.self.view_is c.args.parent c.in_default.ensures.value known)
 
 pub returns-in_default-clause-shape : goal.returns-in_default-clause-shape
-returns-in_default-clause-shape g c = shape_of c.self.invariant.linked c.self.view_is
+returns-in_default-clause-shape g c = shape_of c.self.invariant c.self.view_is
 
 pub loop-at-init : goal.loop-at-init
 loop-at-init g c =
-    let shape : IsTreeValue g.K.PartialEq.eq c.args.self.now = shape_of c.self.invariant.linked c.self.view_is in
+    let shape : IsTreeValue g.K.PartialEq.eq c.args.self.now = shape_of c.self.invariant c.self.view_is in
     subst (Gathered g.K.PartialEq.eq c.args.self.now c.args.parent c.in-Some.top.now.first_child) (sym c.new-pairs.ensures.items)
     (subst (λ o. Gathered g.K.PartialEq.eq c.args.self.now c.args.parent o _)
     (first-told c.self.inside.nodes.entries c.self.inside.next c.args.self.now c.self.view_is c.args.parent c.in-Some.top.now c.in-Some.ensures.value)
@@ -42,15 +42,15 @@ child_at-after-requires g c =
     ap is_some (walk_here c.args.self.now c.args.parent c.in-Some-at.id (map (λ q. q.1) c.loop-at.pairs.items) w.walk)
 
 pub returns-in_err-clone-clause-shape : goal.returns-in_err-clone-clause-shape
-returns-in_err-clone-clause-shape g c = shape_of c.self.invariant.linked c.self.view_is
+returns-in_err-clone-clause-shape g c = shape_of c.self.invariant c.self.view_is
 
 pub returns-in_err-push-clause-shape : goal.returns-in_err-push-clause-shape
-returns-in_err-push-clause-shape g c = shape_of c.self.invariant.linked c.self.view_is
+returns-in_err-push-clause-shape g c = shape_of c.self.invariant c.self.view_is
 
 pub loop-at-smaller : goal.loop-at-smaller
 loop-at-smaller g c =
     let w : Gathered g.K.PartialEq.eq c.args.self.now c.args.parent (Some c.in-Some-at.id) c.loop-at.pairs.items = subst (λ o. Gathered g.K.PartialEq.eq c.args.self.now c.args.parent o c.loop-at.pairs.items) c.in-Some-at.is c.loop-at.invariant in
-    smaller c.args.self.now c.args.parent c.in-Some-at.id (map (λ q. q.1) c.loop-at.pairs.items) w.walk (shape_of c.self.invariant.linked c.self.view_is).tree _ _ c.in-Some-at.is (sym c.child_at-after.ensures.after)
+    smaller c.args.self.now c.args.parent c.in-Some-at.id (map (λ q. q.1) c.loop-at.pairs.items) w.walk (shape_of c.self.invariant c.self.view_is).tree _ _ c.in-Some-at.is (sym c.child_at-after.ensures.after)
 
 pub loop-at-preserved : goal.loop-at-preserved
 loop-at-preserved g c =
@@ -61,4 +61,4 @@ loop-at-preserved g c =
     (c.requires.clones_equal _ _ c.in_ok-clone.ensures.cases)))
 
 pub returns-clause-shape : goal.returns-clause-shape
-returns-clause-shape g c = shape_of c.self.invariant.linked c.self.view_is
+returns-clause-shape g c = shape_of c.self.invariant c.self.view_is

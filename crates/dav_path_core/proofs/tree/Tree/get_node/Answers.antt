@@ -18,7 +18,7 @@ returns-in-None-clause-answer g c = (
 )
 
 pub returns-in-Some-clause-shape : goal.returns-in-Some-clause-shape
-returns-in-Some-clause-shape g c = shape_of c.self.invariant.linked c.self.view_is
+returns-in-Some-clause-shape g c = shape_of c.self.invariant c.self.view_is
 
 pub returns-in-None-clause-shape : goal.returns-in-None-clause-shape
-returns-in-None-clause-shape g c = shape_of c.self.invariant.linked c.self.view_is
+returns-in-None-clause-shape g c = shape_of c.self.invariant c.self.view_is

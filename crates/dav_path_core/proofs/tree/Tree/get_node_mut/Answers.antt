@@ -1,11 +1,9 @@
 use Rattle.std.proofs.Common.{◌≡◌, subst, sym, ap, ◌∙◌, refl, Some, None, inl, inr, ◌⊎◌}
 use Rattle.std.specs.Option.{option_map}
-use Rattle.dav_path_core.specs.Keyed.{item, entry, with_item, with_item_at, IsChild}
+use Rattle.dav_path_core.specs.Keyed.{item, entry, with_item, with_item_at}
 use Rattle.dav_path_core.specs.TreeValue.{TreeValue, IsTreeValue}
-use Rattle.dav_path_core.specs.View.{keyed_of, tree_value_of}
-use Rattle.dav_path_core.specs.Private.ChildTables.{hash, told, IsTabled}
-use Rattle.dav_path_core.proofs.children.Views.{tree_value-write, view-write, entry-view}
-use Rattle.dav_path_core.proofs.children.Tabling.{tabled-with_item}
+use Rattle.dav_path_core.specs.View.{tree_value_of}
+use Rattle.dav_path_core.proofs.children.Views.{tree_value-write, entry-view}
 use Rattle.dav_path_core.proofs.children.Links.{IsLinked-write, shape_of}
 use Rattle.dav_path_core.proofs.tree.Tree.get_node_mut.Goals as goal
 
@@ -14,14 +12,8 @@ lent {n = n} e = λ i. inl (n, λ w. e w i)
 
 pub invariant_of-self-lent : goal.invariant_of-self-lent
 invariant_of-self-lent g c =
-    λ w. record {
-      linked = IsLinked-write g.K.PartialEq.eq c.self.inside.nodes (c.get_mut.follows.lender (record c.in-Some.node.now { item = w })) c.self.inside.next c.args.id c.in-Some.node.now w c.in-Some.ensures.value
-          (c.get_mut.follows.holds (record c.in-Some.node.now { item = w })) c.self.invariant.linked;
-      tabled = subst (λ t. IsTabled (IsChild t) (λ k. hash (g.K.Hash.hash_input k)) (told c.self.inside.tables.entries))
-          (sym (view-write c.self.inside.nodes (c.get_mut.follows.lender (record c.in-Some.node.now { item = w })) c.self.inside.next c.args.id c.in-Some.node.now w c.in-Some.ensures.value
-          (c.get_mut.follows.holds (record c.in-Some.node.now { item = w }))))
-          (tabled-with_item (λ k. hash (g.K.Hash.hash_input k)) (keyed_of c.self.inside.nodes.entries c.self.inside.next) (told c.self.inside.tables.entries) (told c.self.inside.tables.entries) c.self.invariant.tabled c.args.id w);
-    }
+    λ w. IsLinked-write g.K.PartialEq.eq c.self.inside.nodes (c.get_mut.follows.lender (record c.in-Some.node.now { item = w })) c.self.inside.next c.args.id c.in-Some.node.now w c.in-Some.ensures.value
+    (c.get_mut.follows.holds (record c.in-Some.node.now { item = w })) c.self.invariant
 
 pub returns-in-Some : goal.returns-in-Some
 returns-in-Some g c =
@@ -34,9 +26,9 @@ returns-in-Some g c =
         writes_back = tt;
         value = ap (λ t. item t.keyed c.args.id) (sym c.self.view_is)
             ∙ ap (option_map (λ e. e.item)) (entry-view c.self.inside.nodes.entries c.self.inside.next c.args.id (Some c.in-Some.node.now) c.in-Some.ensures.value);
-        shape = shape_of c.self.invariant.linked c.self.view_is;
+        shape = shape_of c.self.invariant c.self.view_is;
         shape_after = λ w. shape_of (IsLinked-write g.K.PartialEq.eq c.self.inside.nodes (c.get_mut.follows.lender (record c.in-Some.node.now { item = w })) c.self.inside.next c.args.id c.in-Some.node.now w c.in-Some.ensures.value
-            (c.get_mut.follows.holds (record c.in-Some.node.now { item = w })) c.self.invariant.linked) (written w);
+            (c.get_mut.follows.holds (record c.in-Some.node.now { item = w })) c.self.invariant) (written w);
       },
     )
 
@@ -50,9 +42,9 @@ returns-in-None g c = (
       ap (λ t. item t.keyed c.args.id) (sym c.self.view_is)
           ∙ ap (option_map (λ e. e.item)) (entry-view c.self.inside.nodes.entries c.self.inside.next c.args.id None c.in-None.ensures.value),
     );
-    shape = shape_of c.self.invariant.linked c.self.view_is;
+    shape = shape_of c.self.invariant c.self.view_is;
     shape_after = λ w.
         let gone : entry c.args.self.now.keyed c.args.id ≡ None = ap (λ t. entry t.keyed c.args.id) (sym c.self.view_is) ∙ entry-view c.self.inside.nodes.entries c.self.inside.next c.args.id None c.in-None.ensures.value in
-        subst (λ o. IsTreeValue g.K.PartialEq.eq (record c.args.self.now { keyed = with_item_at c.args.self.now.keyed c.args.id o w })) (sym gone) (shape_of c.self.invariant.linked c.self.view_is);
+        subst (λ o. IsTreeValue g.K.PartialEq.eq (record c.args.self.now { keyed = with_item_at c.args.self.now.keyed c.args.id o w })) (sym gone) (shape_of c.self.invariant c.self.view_is);
   },
 )

@@ -9,4 +9,4 @@ returns-clause-count g c =
     c.len.ensures.len ∙ sym (count-view c.self.inside.nodes.entries c.self.inside.next c.len.ensures.unique) ∙ ap (λ t. len t.keyed.nodes) c.self.view_is
 
 pub returns-clause-shape : goal.returns-clause-shape
-returns-clause-shape g c = shape_of c.self.invariant.linked c.self.view_is
+returns-clause-shape g c = shape_of c.self.invariant c.self.view_is

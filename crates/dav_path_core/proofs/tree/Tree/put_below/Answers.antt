@@ -1,10 +1,8 @@
 use Rattle.std.proofs.Common.{◌≡◌, refl, ap, sym, ◌∙◌, subst, is_some, Some, None, false, Option, ℕ}
 use Rattle.std.proofs.lemmas.Bool.{false≢true}
-use Rattle.dav_path_core.specs.Keyed.{child, parent_and_key_of, placed, is_under, IsChild, IsKnown}
+use Rattle.dav_path_core.specs.Keyed.{child, parent_and_key_of, placed, is_under, IsKnown}
 use Rattle.dav_path_core.specs.View.{keyed_of}
 use Rattle.dav_path_core.specs.Private.Nodes.{node_at, first_in, closed_up, with_parent_and_key, put_before}
-use Rattle.dav_path_core.specs.Private.ChildTables.{hash, told, Noted, IsTabled}
-use Rattle.dav_path_core.proofs.children.Tabling.{tabled-placed}
 use Rattle.dav_path_core.proofs.children.Views.{known-view, entry-view}
 use Rattle.dav_path_core.proofs.children.Links.{shape_of}
 use Rattle.dav_path_core.proofs.trees.Refusals.{no_parent_root}
@@ -20,7 +18,7 @@ unreachable-requires g c =
 pub unreachable-requires-in_default-parent_and_key : goal.unreachable-requires-in_default-parent_and_key
 unreachable-requires-in_default-parent_and_key g c =
     let known : IsKnown (keyed_of c.self.inside.nodes.entries c.self.inside.next) c.args.id = known-view c.self.inside.nodes.entries c.self.inside.next c.args.id ∙ sym (ap is_some c.in-Some.ensures.value) in
-    c.requires.not_root (no_parent_root (keyed_of c.self.inside.nodes.entries c.self.inside.next) g.K.PartialEq.eq c.self.invariant.linked.tree c.args.id known
+    c.requires.not_root (no_parent_root (keyed_of c.self.inside.nodes.entries c.self.inside.next) g.K.PartialEq.eq c.self.invariant.tree c.args.id known
     (ap parent_and_key_of (entry-view c.self.inside.nodes.entries c.self.inside.next c.args.id (Some c.in-Some.node.now) c.in-Some.ensures.value) ∙ c.in_default-parent_and_key.is))
 
 -- what the writes make of the nodes
@@ -35,33 +33,21 @@ made g c =
     ∙ ap (λ at. put_before (with_parent_and_key at c.args.id c.args.new_parent c.args.new_name (first_in at c.args.new_parent)) c.args.new_parent c.args.id (first_in at c.args.new_parent)) c.close_up.ensures
 
 pub invariant_of-self : goal.invariant_of-self
-invariant_of-self g c = record {
-  linked = IsLinked-placed g.K.PartialEq.eq g.met.K.Eq.laws.symm c.self.inside.nodes.entries c.put_before.new.nodes.entries c.self.inside.next c.args.id c.args.new_parent c.in-Some-parent_and_key.above c.args.new_name c.in-Some-parent_and_key.name
-      c.in-Some.node.now c.self.invariant.linked (subst (λ t. IsKnown t.keyed c.args.new_parent) (sym c.self.view_is) c.requires.known_parent) c.requires.not_root
-      (subst (λ t. is_under t.keyed c.args.id c.args.new_parent ≡ false) (sym c.self.view_is) c.requires.outside)
-      (subst (λ t. child (g.K.PartialEq.eq c.args.new_name) t.keyed c.args.new_parent ≡ None) (sym c.self.view_is) c.requires.free)
-      c.in-Some.ensures.value c.in-Some-parent_and_key.is (made g c);
-  tabled = subst (λ t. IsTabled (IsChild t) (λ k. hash (g.K.Hash.hash_input k)) (told c.note.new.tables.entries)) (sym (
-      keyed-placed g.K.PartialEq.eq g.met.K.Eq.laws.symm c.self.inside.nodes.entries c.put_before.new.nodes.entries c.self.inside.next c.args.id c.args.new_parent c.in-Some-parent_and_key.above c.args.new_name c.in-Some-parent_and_key.name
-      c.in-Some.node.now c.self.invariant.linked (subst (λ t. IsKnown t.keyed c.args.new_parent) (sym c.self.view_is) c.requires.known_parent) c.requires.not_root
-      (subst (λ t. is_under t.keyed c.args.id c.args.new_parent ≡ false) (sym c.self.view_is) c.requires.outside)
-      (subst (λ t. child (g.K.PartialEq.eq c.args.new_name) t.keyed c.args.new_parent ≡ None) (sym c.self.view_is) c.requires.free)
-      c.in-Some.ensures.value c.in-Some-parent_and_key.is (made g c)))
-      (tabled-placed (λ k. hash (g.K.Hash.hash_input k)) (keyed_of c.self.inside.nodes.entries c.self.inside.next) (told c.self.inside.tables.entries) (told c.forget.new.tables.entries) c.self.invariant.tabled
-      c.args.id c.in-Some-parent_and_key.above c.hash_of.result c.in-Some-parent_and_key.name
-      (ap parent_and_key_of (entry-view c.self.inside.nodes.entries c.self.inside.next c.args.id (Some c.in-Some.node.now) c.in-Some.ensures.value) ∙ c.in-Some-parent_and_key.is)
-      (sym c.hash_of.ensures) c.forget.ensures.kept (told c.note.new.tables.entries) c.args.new_parent c.args.new_name
-      (subst (λ h. Noted (told c.forget.new.tables.entries) (told c.note.new.tables.entries) c.args.new_parent h c.args.id) c.hash_of-2.ensures c.note.ensures));
-}
+invariant_of-self g c =
+    IsLinked-placed g.K.PartialEq.eq g.met.K.Eq.laws.symm c.self.inside.nodes.entries c.put_before.new.nodes.entries c.self.inside.next c.args.id c.args.new_parent c.in-Some-parent_and_key.above c.args.new_name c.in-Some-parent_and_key._name
+    c.in-Some.node.now c.self.invariant (subst (λ t. IsKnown t.keyed c.args.new_parent) (sym c.self.view_is) c.requires.known_parent) c.requires.not_root
+    (subst (λ t. is_under t.keyed c.args.id c.args.new_parent ≡ false) (sym c.self.view_is) c.requires.outside)
+    (subst (λ t. child (g.K.PartialEq.eq c.args.new_name) t.keyed c.args.new_parent ≡ None) (sym c.self.view_is) c.requires.free)
+    c.in-Some.ensures.value c.in-Some-parent_and_key.is (made g c)
 
 pub returns-clause-placed : goal.returns-clause-placed
 returns-clause-placed g c =
-    keyed-placed g.K.PartialEq.eq g.met.K.Eq.laws.symm c.self.inside.nodes.entries c.put_before.new.nodes.entries c.self.inside.next c.args.id c.args.new_parent c.in-Some-parent_and_key.above c.args.new_name c.in-Some-parent_and_key.name
-    c.in-Some.node.now c.self.invariant.linked (subst (λ t. IsKnown t.keyed c.args.new_parent) (sym c.self.view_is) c.requires.known_parent) c.requires.not_root
+    keyed-placed g.K.PartialEq.eq g.met.K.Eq.laws.symm c.self.inside.nodes.entries c.put_before.new.nodes.entries c.self.inside.next c.args.id c.args.new_parent c.in-Some-parent_and_key.above c.args.new_name c.in-Some-parent_and_key._name
+    c.in-Some.node.now c.self.invariant (subst (λ t. IsKnown t.keyed c.args.new_parent) (sym c.self.view_is) c.requires.known_parent) c.requires.not_root
     (subst (λ t. is_under t.keyed c.args.id c.args.new_parent ≡ false) (sym c.self.view_is) c.requires.outside)
     (subst (λ t. child (g.K.PartialEq.eq c.args.new_name) t.keyed c.args.new_parent ≡ None) (sym c.self.view_is) c.requires.free)
     c.in-Some.ensures.value c.in-Some-parent_and_key.is (made g c)
     ∙ ap (λ t. placed t.keyed c.args.id c.args.new_parent c.args.new_name) c.self.view_is
 
 pub returns-clause-shape : goal.returns-clause-shape
-returns-clause-shape g c = shape_of (invariant_of-self g c).linked refl
+returns-clause-shape g c = shape_of (invariant_of-self g c) refl

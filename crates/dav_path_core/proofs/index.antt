@@ -1,0 +1,5 @@
+pub mod IndexLemmas
+pub mod IndexMaps
+pub mod NameMaps
+pub mod Naming
+pub mod Steps

@@ -1,0 +1,55 @@
+-- What the calls of an index and of its tree, one after another, come to.
+use Rattle.std.proofs.Common.{◌≡◌, ◌≢◌, ◌⊎◌, inl, inr, ℕ, Bool, cond, Result, is_some, IsSome, Option, Some, None, refl, sym, ap, ◌∙◌, subst}
+use Rattle.std.specs.Option.{option_map, ok_or}
+use Rattle.std.specs.Result.{result_ok}
+use Rattle.std.proofs.lemmas.Bool.{ne_eqb}
+use Rattle.dav_path_core.specs.declared.errors.FsError.{FsError}
+use Rattle.dav_path_core.specs.declared.errors.FsError.TheVariants.{NotFound}
+use Rattle.dav_path_core.proofs.trees.Trees.{ok-ok_or}
+use Rattle.std.specs.Prelude.{nat_eq}
+use Rattle.std.specs.Cmp.Lexicographic.{pointwise, nat_list_eq_equiv}
+use Rattle.std.specs.FinMap.{remove}
+use Rattle.dav_path_core.specs.Fronts.{Segment}
+use Rattle.dav_path_core.specs.Keyed.{Keyed, IsChild, IsTree, IsKnown, parent_and_key, child, add, without, placed, moved, moved_over}
+use Rattle.dav_path_core.specs.ChildIndex.{Index, IsIndex, is_named, noted, forgotten}
+use Rattle.dav_path_core.proofs.index.IndexLemmas.{IsChild-added, IsIndex-added, IsIndex-placed}
+use Rattle.dav_path_core.proofs.trees.Refusals.{no_parent_root}
+
+-- ---- a look-up by a name
+module _ {D : Type 0} (t : Keyed Segment D) (p : ℕ) (s : Segment) where
+  -- by what compares with the name as by the name itself
+  pub found : (k : Segment) (taken : Option ℕ) (r : Result ℕ FsError) → taken ≡ result_ok r → r ≡ ok_or (child (is_named k) t p) NotFound → k ≡ s → child (pointwise nat_eq s) t p ≡ taken
+  found k taken r is answer same =
+      ap (λ (test : Segment → Bool). child test t p) (λ i l. nat_list_eq_equiv.symm s l i) ∙ ap (λ l. child (is_named l) t p) (sym same)
+      ∙ sym (ok-ok_or (child (is_named k) t p) NotFound) ∙ ap result_ok (sym answer) ∙ sym is
+
+  pub moved-over : (n c : ℕ) → child (pointwise nat_eq s) t p ≡ Some c → c ≢ n → moved (pointwise nat_eq) t n p s ≡ placed (without t c) n p s
+  moved-over n c at ne = ap (moved_over t n p s) at ∙ ap (λ b. cond b t (placed (without t c) n p s)) (ne_eqb c n ne)
+
+module _ {D : Type 0} (t u : Keyed Segment D) (tree : IsTree (pointwise nat_eq) t) (after : IsTree (pointwise nat_eq) u) (ix new : Index) (index : IsIndex t ix) where
+  -- a child is added and noted
+  module _ (p id : ℕ) (k : Segment) (d : D) (number : id ≡ t.next) (grown : u ≡ add t p k d) where
+    pub child_added : IsChild u p k id
+    child_added =
+        subst (λ v. IsChild v p k id) (sym grown) (subst (IsChild (add t p k d) p k) (sym number) (IsChild-added t tree p k d (subst (IsTree (pointwise nat_eq)) grown after) ix index))
+
+    pub has_parent : IsSome (option_map (λ q. q.0) (parent_and_key u id))
+    has_parent = ap is_some (ap (option_map (λ q. q.0)) child_added)
+
+    pub index_added : (new ≡ noted ix p k id) ⊎ (new ≡ remove ix p) → IsIndex u new
+    index_added how =
+        subst (λ v. IsIndex v new) (sym grown)
+        (IsIndex-added t tree p k d (subst (IsTree (pointwise nat_eq)) grown after) ix index new (subst (λ n. (new ≡ noted ix p k n) ⊎ (new ≡ remove ix p)) number how))
+
+  -- a node is moved, forgotten where it was and noted where it is
+  module _ (n r : ℕ) (l : Segment) (known : IsKnown t n) (not_root : n ≢ 1) (moved : u ≡ placed t n r l) where
+    place : (o : Option (ℕ × Segment)) → parent_and_key t n ≡ o → (p : ℕ) × (k : Segment) × IsChild t p k n
+    place (Some q) is = (q.0, q.1, is)
+    place None is = absurd (not_root (no_parent_root t (pointwise nat_eq) tree n known is))
+
+    pub index_moved : (kept : Index) → ((p : ℕ) (k : Segment) → IsChild t p k n → kept ≡ forgotten ix p k) → (new ≡ noted kept r l n) ⊎ (new ≡ remove kept r) → IsIndex u new
+    index_moved kept forgets how =
+        let w = place (parent_and_key t n) refl in
+        subst (λ v. IsIndex v new) (sym moved)
+        (IsIndex-placed t tree n w.0 r w.1 l w.2 (subst (IsTree (pointwise nat_eq)) moved after) ix new index
+        (subst (λ x. (new ≡ noted x r l n) ⊎ (new ≡ remove x r)) (forgets w.0 w.1 w.2) how))

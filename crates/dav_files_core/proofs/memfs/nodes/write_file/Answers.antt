@@ -5,4 +5,4 @@ use Rattle.dav_files_core.proofs.memfs.nodes.write_file.Goals as goal
 
 pub returns : goal.returns
 returns c =
-    written c.args.tree.now.keyed c.args.id c.in_ok-node.node.now _ c.args.content.items c.args.now.0 c.in_ok-node.ensures.value (ap (λ (n : Node). record n { bytes = c.args.content.items; modified = c.args.now.0 }) c.node.view_is)
+    written c.args.tree.now.keyed c.args.id c.in_ok-node.node.now _ c.args.content c.args.now.0 c.in_ok-node.ensures.value (ap (λ (n : Node). record n { bytes = c.args.content; modified = c.args.now.0 }) c.node.view_is)

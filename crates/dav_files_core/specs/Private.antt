@@ -1,4 +1,5 @@
 -- Words that private contracts alone name.
+pub mod Contents
 pub mod Entries
 pub mod Listed
 pub mod Numbered

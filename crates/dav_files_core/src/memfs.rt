@@ -13,6 +13,7 @@ ghost use Rattle.dav_files_core.specs.Private.Entries.{HasNumber};
 ghost use Rattle.dav_files_core.specs.Private.TreeCalls.{number_of, LeadsTo};
 ghost use Rattle.dav_path_core.specs.Fronts.{Path};
 
+mod contents;
 mod entries;
 mod files;
 mod listing;
@@ -24,6 +25,7 @@ mod properties;
 
 use crate::fs::Moment;
 use bytes::Bytes;
+use contents::Content;
 use dav_path_core::child_index::ChildIndex;
 use dav_path_core::davpath::DavPath;
 use dav_path_core::errors::{FsError, FsResult};
@@ -159,12 +161,12 @@ impl MemFs {
                 if !self.node_at(id).is_file() {
                     return Err(FsError::Forbidden);
                 }
-                let content = copy_of(self.alloc, bytes)?;
+                let content = Content::copy_of(self.alloc, bytes)?;
                 self.write(id, content, now);
                 Ok(())
             }
             Target::Missing { folder, name } => {
-                let content = copy_of(self.alloc, bytes)?;
+                let content = Content::copy_of(self.alloc, bytes)?;
                 let node = Node::new_file(self.alloc, content, now);
                 self.add_entry(folder, name, node)?;
                 Ok(())
@@ -184,12 +186,6 @@ impl MemFs {
         let id = self.number_of(path)?;
         Ok(self.node_at(id).meta())
     }
-}
-
-fn copy_of(alloc: Global, bytes: &[u8]) -> FsResult<Vec<u8>>
-    ensures { MatchResult result (λ v. v.items ≡ bytes.now) (λ e. e ≡ FsError.InsufficientStorage) }
-{
-    Ok(bytes.to_vec(alloc)?)
 }
 
 #[cfg(test)]
@@ -244,6 +240,32 @@ mod tests {
         let copy = node_of(&files.tree, copied)?;
         assert!(rt; !copy.is_file());
         assert!(rt; copy.props.list(rt.alloc(), true)?.len() == 1);
+        Ok(())
+    }
+
+    // Nobody but who reads a part of a file, or its copy, owns any of its bytes.
+    #[test]
+    fn copies_and_parts_share_bytes(rt: HostRuntime) -> Result<(), Fail> {
+        let mut files = MemFs::new(rt.alloc(), Moment(1))?;
+        let (path, copy) = (
+            DavPath::new(rt.alloc(), "/f")?,
+            DavPath::new(rt.alloc(), "/g")?,
+        );
+        files.put(&path, b"abc", Moment(2))?;
+        files.copy(&path, &copy, Moment(3))?;
+        let mut file = files.open(&path, OpenOptions::write(), Moment(4))?;
+        let shared = file.read_bytes(&files, 9)?;
+        assert!(rt; !shared.is_unique());
+        file.seek(&files, SeekFrom::Start(1))?;
+        file.write_bytes(&mut files, Bytes::from_static(b"xyz"))?;
+        assert!(rt; !shared.is_unique());
+        files.remove_file(&copy, Moment(5))?;
+        assert!(rt; shared.is_unique());
+        assert!(rt; shared.as_slice() == b"abc".as_slice());
+        let id = files
+            .tree
+            .find_child(ROOT_ID, |name| name.as_slice() == b"f")?;
+        assert!(rt; node_of(&files.tree, id)?.content.as_slice() == b"axyz".as_slice());
         Ok(())
     }
 }

@@ -56,17 +56,14 @@ module _ (bytes new : List ℕ) (at : ℕ) where
       let rest : drop k (drop at (filled n)) ≡ drop end bytes = drop-drop k at (filled n) ∙ ap (λ k. drop (at + k) (filled n)) long ∙ back n is in
       (λ i. front n (omega arith) (omega arith) i ++ (new ++ rest i)) ∙ sym (append_assoc (take at bytes ++ replicate (at - length bytes) 0) new (drop end bytes))
 
-  -- with the lengths as the code counts them
-  module _ (xs dst : List ℕ) (len k rem n : ℕ) (len_is : len ≡ length bytes) (k_is : k ≡ length bytes) (rem_is : rem ≡ length new) (n_is : n ≡ max len (at + rem))
-      (xs_is : xs ≡ take n bytes ++ replicate (n - k) 0) (dst_is : dst ≡ take (length (take (at + rem - at) (drop at xs))) new) where
+  -- with the lengths as the code counts them, and what lies behind the bytes in their memory
+  module _ (xs dst : List ℕ) (n stop : ℕ) (stop_is : stop ≡ end) (n_is : n ≡ max (length bytes) stop) (xs_is : xs ≡ filled n)
+      (dst_is : dst ≡ take (length (take (stop - at) (drop at xs))) new) where
     abbrev size : ℕ
-    size = at + rem - at
-
-    whole : xs ≡ filled n
-    whole = xs_is ∙ ap (λ k. take n bytes ++ replicate (n - k) 0) k_is
+    size = stop - at
 
     long : length xs ≡ n
-    long = ap length whole ∙ length-filled n (omega arith)
+    long = ap length xs_is ∙ length-filled n (omega arith)
 
     room : (k : ℕ) → k ≡ n - at → min size k ≡ length new
     room k is = omega arith
@@ -76,8 +73,8 @@ module _ (bytes new : List ℕ) (at : ℕ) where
         let slice : length (take size (drop at xs)) ≡ length new = length-take size (drop at xs) ∙ room (length (drop at xs)) (length-drop at xs ∙ ap (λ k. k - at) long) in
         dst_is ∙ ap (λ k. take k new) slice ∙ take_all (length new) new (omega arith)
 
-    pub stored : put_mid at size xs dst ≡ overwritten bytes at new
-    stored = (λ i. put_mid at size (whole i) (all i)) ∙ written_over n size (n_is ∙ (λ i. max (len_is i) (at + rem_is i))) (omega arith)
+    stored : put_mid at size xs dst ≡ overwritten bytes at new
+    stored = (λ i. put_mid at size (xs_is i) (all i)) ∙ written_over n size (n_is ∙ ap (λ k. max (length bytes) k) stop_is) (omega arith)
 
     in_all : (a b c : ℕ) → a ≡ at → b ≡ length new → c ≡ n - at - size → a + (b + c) ≡ n
     in_all a b c is_a is_b is_c = omega arith
@@ -85,8 +82,14 @@ module _ (bytes new : List ℕ) (at : ℕ) where
     front_length : length (take at xs) ≡ at
     front_length = length-take at xs ∙ ap (λ k. min at k) long ∙ (omega arith)
 
-    pub length-stored : length (put_mid at size xs dst) ≡ n
+    length-stored : length (put_mid at size xs dst) ≡ n
     length-stored =
         length-append (take at xs) (dst ++ drop size (drop at xs)) ∙ ap (λ k. length (take at xs) + k) (length-append dst (drop size (drop at xs)))
         ∙ in_all (length (take at xs)) (length dst) (length (drop size (drop at xs))) front_length (ap length all)
         (length-drop size (drop at xs) ∙ ap (λ k. k - size) (length-drop at xs ∙ ap (λ k. k - at) long))
+
+    pub stored_in : (ys zs : List ℕ) → ys ≡ xs → take (length ys) (put_mid at size xs dst ++ zs) ≡ overwritten bytes at new
+    stored_in ys zs is =
+        ap (λ k. take k (put_mid at size xs dst ++ zs)) (ap length is ∙ long ∙ sym length-stored)
+        ∙ take-append-le (length (put_mid at size xs dst)) (put_mid at size xs dst) zs (omega arith)
+        ∙ take_all (length (put_mid at size xs dst)) (put_mid at size xs dst) (omega arith) ∙ stored

@@ -11,6 +11,7 @@ ghost use Rattle.dav_files_core.specs.Private.TreeCalls.{IsMissing};
 ghost use Rattle.dav_files_core.specs.Private.Entries.{HasNumber, HasFile, HasFolder, StandsIn, IsBare, taken_out, put_there};
 
 use super::MemFs;
+use super::contents::Content;
 use super::nodes::{
     Node, add_node, delete_node, move_node, node_of, overwrite, patch_props, set_modified,
     set_node, write_file,
@@ -69,10 +70,10 @@ impl MemFs {
     }
 
     // Writes the bytes of a file and its modified time.
-    pub(super) fn write(&mut self, id: u64, content: Vec<u8>, now: Moment)
+    pub(super) fn write(&mut self, id: u64, content: Content, now: Moment)
         requires { HasFile self.old id }
         ensures change { (p : Path) (r : Resource) → at_path self.old p ≡ Some r → r.number ≡ id
-            → self.new ≡ changed self.old p r (record r.node { bytes = content.items; modified = now.0 }) }
+            → self.new ≡ changed self.old p r (record r.node { bytes = content; modified = now.0 }) }
         ensures shape { IsResourceMap self.new }
     {
         match write_file(&mut self.tree, id, content, now) {
@@ -119,7 +120,7 @@ impl MemFs {
         ensures kept { B.kept buf.new ≡ B.kept buf.old }
         ensures shape { IsResourceMap self.new }
     {
-        overwrite(&mut self.tree, id, start, buf)
+        overwrite(&mut self.tree, self.alloc, id, start, buf)
     }
 
     // Takes out an entry without members.

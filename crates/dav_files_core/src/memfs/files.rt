@@ -14,6 +14,7 @@ ghost use Rattle.dav_files_core.specs.Properties.{answer_of, entry_of, get_prop,
 ghost use Rattle.dav_files_core.specs.Renaming.{rename};
 ghost use Rattle.dav_files_core.specs.Resources.{IsResourceMap, at_path};
 
+use super::contents::Content;
 use super::listing::MemFsEntry;
 use super::nodes::Node;
 use super::opening::MemFsFile;
@@ -89,7 +90,7 @@ impl DavFileSystem for MemFs {
                     return Err(FsError::Forbidden);
                 }
                 if options.truncate {
-                    self.write(number, Vec::new(self.alloc), now);
+                    self.write(number, Content::new(), now);
                 }
                 return Ok(MemFsFile {
                     number,
@@ -101,7 +102,7 @@ impl DavFileSystem for MemFs {
                 if !options.create {
                     return Err(FsError::NotFound);
                 }
-                let node = Node::new_file(self.alloc, Vec::new(self.alloc), now);
+                let node = Node::new_file(self.alloc, Content::new(), now);
                 let number = self.add_entry(folder, name, node)?;
                 return Ok(MemFsFile {
                     number,

@@ -10,6 +10,7 @@ ghost use Rattle.dav_files_core.specs.OpenFiles.{overwritten};
 ghost use Rattle.dav_files_core.specs.Properties.{answer_of, entry_of, patch_answers, patched};
 ghost use Rattle.dav_files_core.specs.Private.TreeCalls.{FindsMember, FindsNode, WritesFile, SetsNode, IsThere};
 
+use super::contents::Content;
 use super::properties::Props;
 use super::{Kind, MemFsMeta};
 use crate::fs::{DavProp, Moment};
@@ -25,7 +26,7 @@ use std::marker::Model;
 #[derive(Debug, Drop)]
 pub(super) struct Node {
     pub(super) kind: Kind,
-    pub(super) content: Vec<u8>,
+    pub(super) content: Content,
     pub(super) created: Moment,
     pub(super) modified: Moment,
     pub(super) props: Props,
@@ -39,7 +40,7 @@ impl Model for Node {
 
     ghost coded = { coded_node };
 
-    ghost view = { λ n. record { kind = n.kind; bytes = n.content.items; props = n.props; created = n.created.0; modified = n.modified.0 } };
+    ghost view = { λ n. record { kind = n.kind; bytes = n.content; props = n.props; created = n.created.0; modified = n.modified.0 } };
 }
 
 impl Node {
@@ -48,15 +49,15 @@ impl Node {
     {
         Node {
             kind: Kind::Folder,
-            content: Vec::new(alloc),
+            content: Content::new(),
             created: now,
             modified: now,
             props: Props::new(alloc),
         }
     }
 
-    pub(super) fn new_file(alloc: Global, content: Vec<u8>, now: Moment) -> Node
-        ensures { result ≡ new_file content.items now.0 }
+    pub(super) fn new_file(alloc: Global, content: Content, now: Moment) -> Node
+        ensures { result ≡ new_file content now.0 }
     {
         Node {
             kind: Kind::File,
@@ -90,7 +91,7 @@ impl Node {
     {
         Ok(Node {
             kind: self.kind,
-            content: self.content.as_slice().to_vec(alloc)?,
+            content: self.content.again(alloc)?,
             created: now,
             modified: self.modified,
             props: self.props.clone()?,
@@ -98,7 +99,7 @@ impl Node {
     }
 
     // Puts bytes over its own from a place on, with zeros in a gap.
-    fn overwrite<B: Buf>(&mut self, start: usize, buf: &mut B) -> FsResult<()>
+    fn overwrite<B: Buf>(&mut self, alloc: Global, start: usize, buf: &mut B) -> FsResult<()>
         requires { start + length (B.unread buf.old) < 2 ^ 64 }
         ensures ok { OnOk result (self.new ≡ record self.old { bytes = overwritten self.old.bytes start (B.unread buf.old) }) }
         ensures err { IfErr result (λ e. (e ≡ FsError.InsufficientStorage) × (self.new ≡ self.old)) }
@@ -106,11 +107,7 @@ impl Node {
         ensures unread { OnErr result (buf.new ≡ buf.old) }
         ensures kept { B.kept buf.new ≡ B.kept buf.old }
     {
-        let end = start + buf.remaining();
-        let length = self.content.len().max(end);
-        self.content.resize(length, 0)?;
-        buf.copy_to_slice(&mut self.content[start..end]);
-        Ok(())
+        self.content.overwrite(alloc, start, buf)
     }
 }
 
@@ -139,10 +136,10 @@ pub(super) fn node_of(tree: &Tree<Bytes, Node>, id: u64) -> FsResult<&Node>
 pub(super) fn write_file(
     tree: &mut Tree<Bytes, Node>,
     id: u64,
-    content: Vec<u8>,
+    content: Content,
     now: Moment,
 ) -> FsResult<()>
-    ensures set { WritesFile tree.old.keyed id content.items now.0 result tree.new.keyed }
+    ensures set { WritesFile tree.old.keyed id content now.0 result tree.new.keyed }
     ensures indexed { (ix : Index) → IsIndex tree.old.keyed ix → IsIndex tree.new.keyed ix }
 {
     let node = tree.get_node_mut(id)?;
@@ -209,6 +206,7 @@ pub(super) fn patch_props(
 /// Puts bytes over those of a node from a place on, with zeros in a gap. `InsufficientStorage` where it is out of memory.
 pub(super) fn overwrite<B: Buf>(
     tree: &mut Tree<Bytes, Node>,
+    alloc: Global,
     id: u64,
     start: usize,
     buf: &mut B,
@@ -223,7 +221,7 @@ pub(super) fn overwrite<B: Buf>(
     ensures kept { B.kept buf.new ≡ B.kept buf.old }
 {
     let node = tree.get_node_mut(id)?;
-    node.overwrite(start, buf)
+    node.overwrite(alloc, start, buf)
 }
 
 /// Takes a node out that has no child. `NotFound` where there is no such node, `Forbidden` for the root and for a node

@@ -1,8 +1,7 @@
 //! What is open, by the number of its entry.
-ghost use Rattle.std.specs.Prelude.{◌≡◌, ◌+◌, ◌<◌, ◌^◌, length, IfOk, MatchResult};
+ghost use Rattle.std.specs.Prelude.{◌≡◌, ◌+◌, ◌<◌, ◌^◌, length, IfOk};
 ghost use Rattle.dav_path_core.specs.Answers.{Tells};
 ghost use Rattle.dav_files_core.specs.Exactly.{TellsExactly};
-ghost use Rattle.dav_files_core.specs.OpenFiles.{part};
 ghost use Rattle.dav_files_core.specs.Resources.{IsResourceMap};
 ghost use Rattle.dav_files_core.specs.Private.Numbered.{node_with, file_with, part_with, length_with};
 
@@ -10,7 +9,6 @@ use super::MemFs;
 use super::nodes::{Node, node_of};
 use bytes::Bytes;
 use dav_path_core::errors::{FsError, FsResult};
-use std::alloc::Global;
 
 impl MemFs {
     // The node of the entry with a number. `NotFound` where it is gone.
@@ -48,16 +46,6 @@ impl MemFs {
         ensures fits { IfOk result (λ b. at + length b < 2 ^ 64) }
     {
         let node = self.file_with(number)?;
-        part_of(self.alloc, &node.content, at, count)
+        node.content.part(self.alloc, at, count)
     }
-}
-
-// A copy of some bytes, `count` at most from `at` on.
-fn part_of(alloc: Global, content: &[u8], at: usize, count: usize) -> FsResult<Bytes>
-    ensures answer { MatchResult result (λ b. b ≡ part content.now at count) (λ e. e ≡ FsError.InsufficientStorage) }
-    ensures fits { IfOk result (λ b. at + length b < 2 ^ 64) }
-{
-    let rest = &content[at.min(content.len())..];
-    let part = &rest[..count.min(rest.len())];
-    Ok(Bytes::copy_from_slice(alloc, part)?)
 }

@@ -14,14 +14,14 @@ invariant_of-self c =
     record {
       represents =
           stands_itself c.write_file.new.tree.keyed _
-          (written_stands c.self.inside.tree.keyed c.args.self.now (stands_for _ _ c.self.view_is c.self.invariant) c.args.id h h.0 h.1 h.2 h.3 c.args.content.items c.args.now.0 c.write_file.new.tree.keyed c.in-Ok.ensures.set);
+          (written_stands c.self.inside.tree.keyed c.args.self.now (stands_for _ _ c.self.view_is c.self.invariant) c.args.id h h.0 h.1 h.2 h.3 c.args.content c.args.now.0 c.write_file.new.tree.keyed c.in-Ok.ensures.set);
       indexed = c.write_file.ensures.indexed c.self.inside.index c.self.invariant.indexed;
     }
 
 pub returns-clause-change : goal.returns-clause-change
 returns-clause-change c = λ p r here number.
     sym (is_view c.write_file.new.tree.keyed _
-    (written_stands c.self.inside.tree.keyed c.args.self.now (stands_for _ _ c.self.view_is c.self.invariant) c.args.id c.requires p r here number c.args.content.items c.args.now.0 c.write_file.new.tree.keyed c.in-Ok.ensures.set))
+    (written_stands c.self.inside.tree.keyed c.args.self.now (stands_for _ _ c.self.view_is c.self.invariant) c.args.id c.requires p r here number c.args.content c.args.now.0 c.write_file.new.tree.keyed c.in-Ok.ensures.set))
 
 pub returns-clause-shape : goal.returns-clause-shape
 returns-clause-shape c = (invariant_of-self c).represents.is_map

@@ -22,6 +22,7 @@ mod way;
 
 use crate::ls::{DavLock, DavLockSystem, LockError, NoLock, RefreshError};
 use bytes::Bytes;
+use dav_path_core::child_index::ChildIndex;
 use dav_path_core::davpath::{DavPath, DavPathRef};
 use dav_path_core::errors::{FsError, FsResult};
 use dav_path_core::tree::Tree;
@@ -53,6 +54,8 @@ impl Model for NodeLocks {
 pub struct MemLs {
     alloc: Global,
     tree: Tree<Bytes, NodeLocks>,
+    // The segments below its wide nodes, beside the tree.
+    index: ChildIndex,
     next: u64,
     ends: Ends,
 }
@@ -64,11 +67,11 @@ impl Model for MemLs {
     ghost Value = { List Lock };
 
     ghost use Rattle.dav_locks_core.specs.Private.LockTree.{lock_list};
-    ghost use Rattle.dav_locks_core.specs.Private.Ends.{IsKept};
+    ghost use Rattle.dav_locks_core.specs.Private.Ends.{IsStored};
 
     ghost view = { λ m. lock_list m.tree.keyed };
 
-    ghost invariant = { λ m. IsKept m.tree.keyed m.next m.ends };
+    ghost invariant = { λ m. IsStored m.tree.keyed m.next m.ends m.index };
 }
 
 impl MemLs {
@@ -85,6 +88,7 @@ impl MemLs {
         Ok(MemLs {
             alloc,
             tree,
+            index: ChildIndex::new(alloc),
             next: 1,
             ends: BTreeMap::new(alloc),
         })
@@ -130,7 +134,7 @@ impl DavLockSystem for MemLs {
     ghost locks = { λ m. m };
 
     fn expire(&mut self, now: Moment) {
-        end_stale(&mut self.tree, &mut self.ends, now);
+        end_stale(&mut self.tree, &mut self.index, &mut self.ends, now);
     }
 
     /// `OutOfMemory` also where all grant numbers to 2^64 - 2 are used up.

@@ -8,8 +8,8 @@ use Rattle.std.specs.FinMap.{FinMap, get, insert, same_map, nat_cmp-IsAntisymmet
 use Rattle.std.specs.Cmp.Lexicographic.{bytes_decides}
 use Rattle.std.proofs.lemmas.Bool.{cases_eq, true≢false}
 use Rattle.dav_path_core.specs.Fronts.{Segment, Path}
-use Rattle.dav_path_core.specs.Keyed.{Entry, Under, here, below, entry, item, parent, parent_and_key_of, child, IsKnown, IsTree, add, cleared, with_item, with_item_at}
-use Rattle.dav_path_core.proofs.trees.Trees.{Sets, Sets-insert, child-some, child-none, known_from_child, cleared-free, same_some}
+use Rattle.dav_path_core.specs.Keyed.{Entry, Under, here, below, entry, item, parent, parent_and_key_of, child, IsKnown, IsTree, add, with_item, with_item_at}
+use Rattle.dav_path_core.proofs.trees.Trees.{Sets, Sets-insert, child-some, child-none, known_from_child, same_some}
 use Rattle.dav_path_core.proofs.trees.KeyedCuts.{parent_child, Under-mono}
 use Rattle.dav_locks_core.specs.Private.LockTree.{NumberedLock, LockTree, is_segment, child_at, node_at, Grown}
 use Rattle.dav_locks_core.specs.Private.Pruning.{AllNeeded, NeededBut, SameLocks}
@@ -42,7 +42,7 @@ pub child_known : (t : LockTree) (n : ℕ) (s : Segment) (c : ℕ) → child_at 
 child_known t n s c h = known_from_child t n s c (child_at-is t n s c h)
 
 -- no child is in the way
-free_child : (t : LockTree) (n : ℕ) (s : Segment) → child_at t n s ≡ None → child (is_segment s) t n ≡ None
+pub free_child : (t : LockTree) (n : ℕ) (s : Segment) → child_at t n s ≡ None → child (is_segment s) t n ≡ None
 free_child t n s h = by (child (is_segment s) t n) refl
   where
     by : (o : Option ℕ) → child (is_segment s) t n ≡ o → o ≡ None
@@ -84,11 +84,10 @@ Grows-add t n s tree tree' =
     none None i = i
     none (Some x) i = absurd (omega (arith, (tree.numbered t.next (ap is_some i)).1))
 
-pub Grows-by : (t u : LockTree) (n : ℕ) (s key : Segment) (standing : List NumberedLock) → IsTree is_segment t → IsTree is_segment u → None ≡ child_at t n s → key ≡ s → standing ≡ []
-    → u ≡ add (cleared is_segment t n key) n key standing → Grows t u n s
-Grows-by t u n s key standing tree tree' free key_is standing_is is =
-    let same : u ≡ add t n s [] = is ∙ ap (λ (k : Segment). add (cleared is_segment t n k) n k standing) key_is
-    ∙ ap (λ (v : LockTree). add v n s standing) (cleared-free is_segment t n s (free_child t n s (sym free))) ∙ ap (add t n s) standing_is in
+pub Grows-by : (t u : LockTree) (n : ℕ) (s key : Segment) (standing : List NumberedLock) → IsTree is_segment t → IsTree is_segment u → key ≡ s → standing ≡ []
+    → u ≡ add t n key standing → Grows t u n s
+Grows-by t u n s key standing tree tree' key_is standing_is is =
+    let same : u ≡ add t n s [] = is ∙ ap (λ (k : Segment). add t n k standing) key_is ∙ ap (add t n s) standing_is in
     subst (λ v. Grows t v n s) (sym same) (Grows-add t n s tree (subst (IsTree is_segment) same tree'))
 
 -- ---- the way to a path, made node by node
@@ -162,11 +161,10 @@ IsMade-needed t u p rest n tree needed m k known = elim (m.on_way k known) [
 ]
 
 -- the one new node is the child
-pub alone-add : (t u : LockTree) (n : ℕ) (s key : Segment) (standing : List NumberedLock) (c : ℕ) → None ≡ child_at t n s → key ≡ s → c ≡ t.next
-    → u ≡ add (cleared is_segment t n key) n key standing → (k : ℕ) → IsKnown u k → IsKnown t k ⊎ (k ≡ c)
-alone-add t u n s key standing c free key_is number is k known =
-    let same : u ≡ add t n s standing = is ∙ ap (λ (k : Segment). add (cleared is_segment t n k) n k standing) key_is
-    ∙ ap (λ (v : LockTree). add v n s standing) (cleared-free is_segment t n s (free_child t n s (sym free))) in
+pub alone-add : (t u : LockTree) (n : ℕ) (s key : Segment) (standing : List NumberedLock) (c : ℕ) → key ≡ s → c ≡ t.next
+    → u ≡ add t n key standing → (k : ℕ) → IsKnown u k → IsKnown t k ⊎ (k ≡ c)
+alone-add t u n s key standing c key_is number is k known =
+    let same : u ≡ add t n s standing = is ∙ ap (λ (k : Segment). add t n k standing) key_is in
     let e : Entry Segment (List NumberedLock) = record { parent_and_key = Some (n, s); item = standing } in
     elim (cases_eq k t.next) [
       | inl i ↦ inr (i ∙ sym number)

@@ -4,6 +4,7 @@ use Rattle.std.specs.BTreeMap.{BTreeMap, get}
 use Rattle.std.specs.Ordering.{nat_cmp, ordering_then}
 use Rattle.std.specs.declared.cmp.Ordering.{Ordering}
 use Rattle.std.specs.FinMap.{find}
+use Rattle.dav_path_core.specs.ChildIndex.{Index, IsIndex}
 use Rattle.dav_locks_core.specs.Lock.{Lock}
 use Rattle.dav_locks_core.specs.Private.LockTree.{NumberedLock, LockTree, locks_at}
 use Rattle.dav_locks_core.specs.Private.Represents.{IsLockTree}
@@ -72,7 +73,13 @@ pub record AreEnds (t : LockTree) (ends : Ends) : Type 0 where
   pub noted : (e g n : ℕ) (l : Lock) → find nat_cmp g (locks_at t n) ≡ Some l → l.timeout_at ≡ Some e → node_of ends e g ≡ Some n
   pub only : (e g n : ℕ) → node_of ends e g ≡ Some n → (l : Lock) × (find nat_cmp g (locks_at t n) ≡ Some l) × (l.timeout_at ≡ Some e)
 
--- what locks in memory keep: a tree of locks, and when they end
+-- a tree of locks, and when they end
 pub record IsKept (t : LockTree) (next : ℕ) (ends : Ends) : Type 0 where
   pub tree : IsLockTree t next
   pub are_ends : AreEnds t ends
+
+-- what locks in memory keep: that, and an index of the segments of the tree
+pub record IsStored (t : LockTree) (next : ℕ) (ends : Ends) (ix : Index) : Type 0 where
+  pub tree : IsLockTree t next
+  pub are_ends : AreEnds t ends
+  pub indexed : IsIndex t ix

@@ -58,16 +58,16 @@ impl MemLs {
             shared,
             deep,
         };
-        check_locks_to_path(&self.tree, path, &request)?;
+        check_locks_to_path(&self.tree, &self.index, path, &request)?;
         if deep {
-            check_locks_from_path(&self.tree, path, &request)?;
+            check_locks_from_path(&self.tree, &self.index, path, &request)?;
         }
         if self.next == u64::MAX {
             return Err(LockError::OutOfMemory);
         }
-        let node = get_or_create_path_node(&mut self.tree, self.alloc, path)?;
+        let node = get_or_create_path_node(&mut self.tree, &mut self.index, self.alloc, path)?;
         if let Err(error) = note(&mut self.ends, request.timeout_at, self.next, node) {
-            prune(&mut self.tree, node);
+            prune(&mut self.tree, &mut self.index, node);
             return Err(LockError::from(error));
         }
         match grant(&mut self.tree, self.alloc, node, self.next, &request, rng) {
@@ -77,7 +77,7 @@ impl MemLs {
             }
             Err(error) => {
                 forget(&mut self.ends, request.timeout_at, self.next);
-                prune(&mut self.tree, node);
+                prune(&mut self.tree, &mut self.index, node);
                 Err(error)
             }
         }
@@ -91,13 +91,13 @@ impl MemLs {
             × (self.new ≡ self.old)) }
         ensures exclusive { Exclusive self.new }
     {
-        match lookup_lock(&self.tree, path, &WithToken { token }) {
+        match lookup_lock(&self.tree, &self.index, path, &WithToken { token }) {
             None => Err(NoLock),
             Some((node, place)) => {
                 let (number, end) = end_at(&self.tree, node, place);
                 forget(&mut self.ends, end, number);
                 end_lock(&mut self.tree, node, place);
-                prune(&mut self.tree, node);
+                prune(&mut self.tree, &mut self.index, node);
                 Ok(())
             }
         }
@@ -117,7 +117,7 @@ impl MemLs {
         ensures unchanged { OnErr result (self.new ≡ self.old) }
         ensures exclusive { Exclusive self.new }
     {
-        match lookup_lock(&self.tree, path, &WithToken { token }) {
+        match lookup_lock(&self.tree, &self.index, path, &WithToken { token }) {
             None => Err(RefreshError::NoLock),
             Some((node, place)) => {
                 let lock = refreshed_copy(&self.tree, node, place, timeout, now)?;
@@ -154,11 +154,11 @@ impl MemLs {
         };
         let unheld = Unheld { caller };
         // Two locks that cover one path are both shared, and beside a shared one it is enough to hold another.
-        if lookup_lock_ref(&self.tree, path, &caller).is_none() {
-            check_locks_to_path_ref(&self.tree, path, &unheld)?;
+        if lookup_lock_ref(&self.tree, &self.index, path, &caller).is_none() {
+            check_locks_to_path_ref(&self.tree, &self.index, path, &unheld)?;
         }
         if deep {
-            check_locks_from_path_ref(&self.tree, path, &unheld)?;
+            check_locks_from_path_ref(&self.tree, &self.index, path, &unheld)?;
         }
         Ok(())
     }
@@ -168,7 +168,7 @@ impl MemLs {
         ensures copies { IfOk result (λ v. v.items ≡ discovered self.now (segments path.now.bytes)) }
         ensures refused { OnErr result (discovered self.now (segments path.now.bytes) ≢ []) }
     {
-        covering_locks(&self.tree, self.alloc, path)
+        covering_locks(&self.tree, &self.index, self.alloc, path)
     }
 
     // Drops the locks at a path and below it.
@@ -176,10 +176,10 @@ impl MemLs {
         ensures left { self.new ≡ without_below (segments path.now.bytes) self.old }
         ensures exclusive { Exclusive self.new }
     {
-        if let Some(node) = lookup_node(&self.tree, path) {
+        if let Some(node) = lookup_node(&self.tree, &self.index, path) {
             forget_below(&self.tree, &mut self.ends, node);
-            clear(&mut self.tree, node);
-            prune(&mut self.tree, node);
+            clear(&mut self.tree, &mut self.index, node);
+            prune(&mut self.tree, &mut self.index, node);
         }
     }
 }

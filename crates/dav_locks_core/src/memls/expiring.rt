@@ -2,6 +2,7 @@
 ghost use Rattle.std.specs.Prelude.{◌≡◌, ℕ, T, not, is_some, filter};
 ghost use Rattle.std.specs.Ordering.{nat_cmp};
 ghost use Rattle.std.specs.FinMap.{find, is_sorted};
+ghost use Rattle.dav_path_core.specs.ChildIndex.{Index, IsIndex};
 ghost use Rattle.dav_path_core.specs.Keyed.{IsKnown, with_item};
 ghost use Rattle.dav_locks_core.specs.Stale.{is_stale};
 ghost use Rattle.dav_locks_core.specs.Private.LockTree as spec;
@@ -14,19 +15,27 @@ use super::pruning::prune;
 use super::way::locks_at;
 use crate::ls::DavLock;
 use bytes::Bytes;
+use dav_path_core::child_index::ChildIndex;
 use dav_path_core::tree::Tree;
 use dav_path_core::util::Moment;
 
 // Ends each lock whose end has come, and takes out the nodes that no other lock needs.
-pub(super) fn end_stale(tree: &mut Tree<Bytes, NodeLocks>, ends: &mut Ends, now: Moment)
-    requires { (next : ℕ) × IsKept tree.old.keyed next ends.old }
-    ensures { Expires tree.old.keyed tree.new.keyed ends.old ends.new now.0 }
+pub(super) fn end_stale(
+    tree: &mut Tree<Bytes, NodeLocks>,
+    index: &mut ChildIndex,
+    ends: &mut Ends,
+    now: Moment,
+)
+    requires kept { (next : ℕ) × IsKept tree.old.keyed next ends.old }
+    requires indexed { IsIndex tree.old.keyed index.old }
+    ensures expires { Expires tree.old.keyed tree.new.keyed ends.old ends.new now.0 }
+    ensures indexed { IsIndex tree.new.keyed index.new }
 {
     while let Some((number, node)) = take_ended(ends, now) {
         // The stale locks at a node go together.
         if stands_at(tree, node, number) {
             drop_stale(tree, node, now);
-            prune(tree, node);
+            prune(tree, index, node);
         }
     }
 }
@@ -44,8 +53,9 @@ fn stands_at(tree: &Tree<Bytes, NodeLocks>, node: u64, number: u64) -> bool
 // Ends the locks at a node whose end has come.
 fn drop_stale(tree: &mut Tree<Bytes, NodeLocks>, node: u64, now: Moment)
     requires { IsKnown tree.old.keyed node }
-    ensures { tree.new.keyed ≡ with_item tree.old.keyed node
+    ensures set { tree.new.keyed ≡ with_item tree.old.keyed node
         (filter (λ g. not (is_stale now.0 g.1)) (spec.locks_at tree.old.keyed node)) }
+    ensures indexed { (ix : Index) → IsIndex tree.old.keyed ix → IsIndex tree.new.keyed ix }
 {
     match tree.get_node_mut(node) {
         Ok(node_locks) => drop_stale_in(&mut node_locks.locks, now),

@@ -1,5 +1,6 @@
 //! Granting locks, and ending them.
 ghost use Rattle.std.specs.Prelude.{◌≡◌, ◌≤◌, ◌<◌, ◌+◌, ◌++◌, ◌∷◌, [], option_map, length, remove, IfOk, IfErr, OnOk, OnErr, string_bytes, string_len, string_capacity, slice_index_or, slice_set};
+ghost use Rattle.dav_path_core.specs.ChildIndex.{Index, IsIndex};
 ghost use Rattle.dav_path_core.specs.Keyed.{IsKnown, with_item};
 ghost use Rattle.dav_locks_core.specs.Locks.{end_of, refreshed};
 ghost use Rattle.dav_locks_core.specs.Tokens.{token_from};
@@ -48,6 +49,7 @@ pub(super) fn grant<R: Rng>(
     ensures error { IfErr result (λ e. e ≡ LockError.OutOfMemory) }
     ensures unchanged { OnErr result (tree.new.keyed ≡ tree.old.keyed) }
     ensures undrawn { OnErr result (R.stream rng.new ≡ R.stream rng.old) }
+    ensures indexed { (ix : Index) → IsIndex tree.old.keyed ix → IsIndex tree.new.keyed ix }
 {
     match tree.get_node_mut(node) {
         Ok(node_locks) => grant_in(&mut node_locks.locks, alloc, number, request, rng),
@@ -73,7 +75,8 @@ pub(super) fn end_at(
 // Ends the lock at a place among those at a node.
 pub(super) fn end_lock(tree: &mut Tree<Bytes, NodeLocks>, node: u64, place: usize)
     requires { place < length (spec.locks_at tree.old.keyed node) }
-    ensures { tree.new.keyed ≡ with_item tree.old.keyed node (remove (spec.locks_at tree.old.keyed node) place) }
+    ensures set { tree.new.keyed ≡ with_item tree.old.keyed node (remove (spec.locks_at tree.old.keyed node) place) }
+    ensures indexed { (ix : Index) → IsIndex tree.old.keyed ix → IsIndex tree.new.keyed ix }
 {
     match tree.get_node_mut(node) {
         Ok(node_locks) => {
@@ -109,11 +112,12 @@ pub(super) fn refresh_lock(
     now: Moment,
 )
     requires { place < length (spec.locks_at tree.old.keyed node) }
-    ensures { (d : spec.NumberedLock) → tree.new.keyed ≡ with_item tree.old.keyed node
+    ensures set { (d : spec.NumberedLock) → tree.new.keyed ≡ with_item tree.old.keyed node
         (slice_set (spec.locks_at tree.old.keyed node) place (
           (slice_index_or (spec.locks_at tree.old.keyed node) place d).0,
           refreshed now.0 timeout (slice_index_or (spec.locks_at tree.old.keyed node) place d).1,
         )) }
+    ensures indexed { (ix : Index) → IsIndex tree.old.keyed ix → IsIndex tree.new.keyed ix }
 {
     match tree.get_node_mut(node) {
         Ok(node_locks) => refresh_in(&mut node_locks.locks, place, timeout, now),

@@ -1,5 +1,6 @@
 //! Taking nodes that no lock needs out of the tree of locks.
 ghost use Rattle.std.specs.Prelude.{◌≡◌, ◌⊎◌, ◌≢◌, ℕ, [], true, false, Some, None, MatchOption};
+ghost use Rattle.dav_path_core.specs.ChildIndex.{Index, IsIndex};
 ghost use Rattle.dav_path_core.specs.Keyed.{IsKnown, IsTree, IsCut, parent, has_child, without, with_item};
 ghost use Rattle.dav_locks_core.specs.Private.LockTree.{is_segment};
 ghost use Rattle.dav_locks_core.specs.Private.LockTree as spec;
@@ -9,30 +10,35 @@ use super::NodeLocks;
 use super::subtree::{first_child, parent_of};
 use super::way::locks_at;
 use bytes::Bytes;
+use dav_path_core::child_index::ChildIndex;
 use dav_path_core::tree::Tree;
 
 // Takes a node out where no lock needs it, and then those above it.
-pub(super) fn prune(tree: &mut Tree<Bytes, NodeLocks>, from: u64)
+pub(super) fn prune(tree: &mut Tree<Bytes, NodeLocks>, index: &mut ChildIndex, from: u64)
     requires shape { IsTree is_segment tree.old.keyed }
     requires known { IsKnown tree.old.keyed from }
     requires needed { NeededBut tree.old.keyed from }
+    requires indexed { IsIndex tree.old.keyed index.old }
     ensures same { SameLocks tree.old.keyed tree.new.keyed }
     ensures needed { AllNeeded tree.new.keyed }
+    ensures indexed { IsIndex tree.new.keyed index.new }
 {
     let mut node = from;
-    while let Some(parent) = take_out(tree, node) {
+    while let Some(parent) = take_out(tree, index, node) {
         node = parent;
     }
 }
 
 // Takes out a node that has neither locks nor children, and gives its parent. Any other stays, and so does the root.
-fn take_out(tree: &mut Tree<Bytes, NodeLocks>, node: u64) -> Option<u64>
-    requires { IsKnown tree.old.keyed node }
-    ensures { MatchOption result
+fn take_out(tree: &mut Tree<Bytes, NodeLocks>, index: &mut ChildIndex, node: u64) -> Option<u64>
+    requires known { IsKnown tree.old.keyed node }
+    requires indexed { IsIndex tree.old.keyed index.old }
+    ensures taken { MatchOption result
         ((tree.new.keyed ≡ tree.old.keyed)
         × ((node ≡ 1) ⊎ ((spec.locks_at tree.old.keyed node ≢ []) ⊎ (has_child tree.old.keyed node ≡ true))))
         (λ p. (parent tree.old.keyed node ≡ Some p) × (spec.locks_at tree.old.keyed node ≡ [])
         × (has_child tree.old.keyed node ≡ false) × (tree.new.keyed ≡ without tree.old.keyed node)) }
+    ensures indexed { IsIndex tree.new.keyed index.new }
 {
     if !locks_at(tree, node).is_empty() {
         return None;
@@ -40,32 +46,36 @@ fn take_out(tree: &mut Tree<Bytes, NodeLocks>, node: u64) -> Option<u64>
     let Some(parent) = parent_of(tree, node) else {
         return None;
     };
-    match tree.delete_node(node) {
+    match index.delete_node(tree, node) {
         Ok(_) => Some(parent),
         Err(_) => None,
     }
 }
 
 // Takes out all that stands below a node, and the locks at it.
-pub(super) fn clear(tree: &mut Tree<Bytes, NodeLocks>, top: u64)
+pub(super) fn clear(tree: &mut Tree<Bytes, NodeLocks>, index: &mut ChildIndex, top: u64)
     requires shape { IsTree is_segment tree.old.keyed }
     requires known { IsKnown tree.old.keyed top }
-    ensures { Cleared tree.old.keyed tree.new.keyed top }
+    requires indexed { IsIndex tree.old.keyed index.old }
+    ensures cleared { Cleared tree.old.keyed tree.new.keyed top }
+    ensures indexed { IsIndex tree.new.keyed index.new }
 {
     while let Some(child) = first_child(tree, top) {
-        take_out_below(tree, child);
+        take_out_below(tree, index, child);
     }
     drop_locks(tree, top);
 }
 
 // Takes out a node, which isn't the root, with all below it.
-fn take_out_below(tree: &mut Tree<Bytes, NodeLocks>, node: u64)
+fn take_out_below(tree: &mut Tree<Bytes, NodeLocks>, index: &mut ChildIndex, node: u64)
     requires known { IsKnown tree.old.keyed node }
     requires not_root { node ≢ 1 }
+    requires indexed { IsIndex tree.old.keyed index.old }
     ensures shape { IsTree is_segment tree.new.keyed }
     ensures gone { IsCut tree.old.keyed tree.new.keyed node }
+    ensures indexed { IsIndex tree.new.keyed index.new }
 {
-    match tree.delete_subtree(node) {
+    match index.delete_subtree(tree, node) {
         Ok(()) => {}
         Err(_) => unreachable!(),
     }
@@ -73,7 +83,8 @@ fn take_out_below(tree: &mut Tree<Bytes, NodeLocks>, node: u64)
 
 fn drop_locks(tree: &mut Tree<Bytes, NodeLocks>, node: u64)
     requires { IsKnown tree.old.keyed node }
-    ensures { tree.new.keyed ≡ with_item tree.old.keyed node [] }
+    ensures set { tree.new.keyed ≡ with_item tree.old.keyed node [] }
+    ensures indexed { (ix : Index) → IsIndex tree.old.keyed ix → IsIndex tree.new.keyed ix }
 {
     match tree.get_node_mut(node) {
         Ok(node_locks) => node_locks.locks.clear(),

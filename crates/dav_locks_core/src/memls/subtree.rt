@@ -1,6 +1,7 @@
 //! What stands at a node of the tree of locks and below it.
 ghost use Rattle.std.specs.Prelude.{◌≡◌, true, MatchOption, OnOk, IfErr};
 ghost use Rattle.dav_path_core.specs.Segments.{segments};
+ghost use Rattle.dav_path_core.specs.ChildIndex.{IsIndex};
 ghost use Rattle.dav_path_core.specs.Keyed.{IsKnown, IsTree, Under, parent};
 ghost use Rattle.dav_path_core.specs.TreeValue.{IsTreeValue, first, after};
 ghost use Rattle.dav_locks_core.specs.Private.LockTree.{is_segment};
@@ -11,6 +12,7 @@ use super::holding::LockTest;
 use super::way::{copy_at, first_at, lookup_node_ref};
 use crate::ls::LockError;
 use bytes::Bytes;
+use dav_path_core::child_index::ChildIndex;
 use dav_path_core::davpath::{DavPath, DavPathRef};
 use dav_path_core::tree::Tree;
 
@@ -103,27 +105,31 @@ pub(super) fn find_below<T: LockTest>(
 // Refused where a lock at a path or below it passes the test. The first that is met is shown.
 pub(super) fn check_locks_from_path<T: LockTest>(
     tree: &Tree<Bytes, NodeLocks>,
+    index: &ChildIndex,
     path: &DavPath,
     test: &T,
 ) -> Result<(), LockError>
-    requires { IsTree is_segment tree.now.keyed }
+    requires shape { IsTree is_segment tree.now.keyed }
+    requires indexed { IsIndex tree.now.keyed index.now }
     ensures free { OnOk result (NoneBelow (T.test test.now true) tree.now.keyed (segments path.now.bytes)) }
     ensures shown { IfErr result (λ e. ShowsBelow (T.test test.now true) tree.now.keyed (segments path.now.bytes) e) }
 {
-    check_locks_from_path_ref(tree, &path.behind_prefix(), test)
+    check_locks_from_path_ref(tree, index, &path.behind_prefix(), test)
 }
 
 // The same of a lent path.
 pub(super) fn check_locks_from_path_ref<T: LockTest>(
     tree: &Tree<Bytes, NodeLocks>,
+    index: &ChildIndex,
     path: &DavPathRef<'_>,
     test: &T,
 ) -> Result<(), LockError>
-    requires { IsTree is_segment tree.now.keyed }
+    requires shape { IsTree is_segment tree.now.keyed }
+    requires indexed { IsIndex tree.now.keyed index.now }
     ensures free { OnOk result (NoneBelow (T.test test.now true) tree.now.keyed (segments path.now)) }
     ensures shown { IfErr result (λ e. ShowsBelow (T.test test.now true) tree.now.keyed (segments path.now) e) }
 {
-    let Some(top) = lookup_node_ref(tree, path) else {
+    let Some(top) = lookup_node_ref(tree, index, path) else {
         return Ok(());
     };
     match find_below(tree, top, test) {

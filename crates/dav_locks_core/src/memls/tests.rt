@@ -1,4 +1,4 @@
-use super::way::{child_of, locks_at};
+use super::way::locks_at;
 use super::*;
 use dav_path_core::tree::ROOT_ID;
 use rand_core::SeedableRng;
@@ -25,12 +25,13 @@ fn stands_alone(
 // The locks of /a and /a/b stand at the nodes of these paths, and none at the root.
 fn stand_at_their_nodes(rt: &impl Abort, locks: &MemLs) -> Result<(), Fail> {
     let tree = &locks.tree;
-    let a = child_of(tree, ROOT_ID, b"a").ok_or("no node")?;
-    let b = child_of(tree, a, b"b").ok_or("no node")?;
+    let a = tree.find_child(ROOT_ID, |name| name.as_slice() == b"a")?;
+    let b = tree.find_child(a, |name| name.as_slice() == b"b")?;
     stands_alone(rt, tree, a, 1, b"/a");
     stands_alone(rt, tree, b, 2, b"/a/b");
     assert_eq!(rt; locks_at(tree, ROOT_ID).len(), 0);
-    assert!(rt; child_of(tree, ROOT_ID, b"b").is_none());
+    let nothing = tree.find_child(ROOT_ID, |name| name.as_slice() == b"b");
+    assert!(rt; nothing.is_err());
     Ok(())
 }
 
@@ -56,6 +57,7 @@ fn near_the_end(alloc: Global) -> FsResult<MemLs> {
     Ok(MemLs {
         alloc,
         tree,
+        index: ChildIndex::new(alloc),
         next: u64::MAX - 1,
         ends: BTreeMap::new(alloc),
     })

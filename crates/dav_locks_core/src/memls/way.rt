@@ -1,6 +1,7 @@
 //! The way down a path in the tree of locks.
 ghost use Rattle.std.specs.Prelude.{◌≡◌, ◌≢◌, ◌⊎◌, ◌<◌, ◌++◌, ◌||◌, ℕ, Some, None, length, [], filter, IfOk, IfErr, OnOk, OnErr, MatchResult, slice_index_or};
 ghost use Rattle.dav_path_core.specs.Segments.{segments};
+ghost use Rattle.dav_path_core.specs.ChildIndex.{IsIndex};
 ghost use Rattle.dav_path_core.specs.Keyed.{IsKnown, IsTree};
 ghost use Rattle.dav_locks_core.specs.Private.LockTree.{NumberedLock, child_at, node_at, is_segment, ShowsAt, Grown};
 ghost use Rattle.dav_locks_core.specs.Private.LockTree as spec;
@@ -11,15 +12,22 @@ use super::holding::LockTest;
 use super::pruning::prune;
 use crate::ls::{DavLock, LockError};
 use bytes::Bytes;
+use dav_path_core::child_index::ChildIndex;
 use dav_path_core::davpath::{DavPath, DavPathRef};
 use dav_path_core::tree::{ROOT_ID, Tree};
 use std::alloc::{AllocError, Global};
 
 // The child of a node, by its segment.
-pub(super) fn child_of(tree: &Tree<Bytes, NodeLocks>, node: u64, segment: &[u8]) -> Option<u64>
+pub(super) fn child_of(
+    tree: &Tree<Bytes, NodeLocks>,
+    index: &ChildIndex,
+    node: u64,
+    segment: &[u8],
+) -> Option<u64>
+    requires { IsIndex tree.now.keyed index.now }
     ensures { result ≡ child_at tree.now.keyed node segment.now }
 {
-    match tree.find_child_like(node, &segment, |key| key.as_slice() == segment) {
+    match index.find_child(tree, node, segment) {
         Ok(child) => Some(child),
         Err(_) => None,
     }
@@ -50,19 +58,29 @@ pub(super) fn first_at<T: LockTest>(
 }
 
 // The node at a path.
-pub(super) fn lookup_node(tree: &Tree<Bytes, NodeLocks>, path: &DavPath) -> Option<u64>
+pub(super) fn lookup_node(
+    tree: &Tree<Bytes, NodeLocks>,
+    index: &ChildIndex,
+    path: &DavPath,
+) -> Option<u64>
+    requires { IsIndex tree.now.keyed index.now }
     ensures { result ≡ node_at tree.now.keyed 1 (segments path.now.bytes) }
 {
-    lookup_node_ref(tree, &path.behind_prefix())
+    lookup_node_ref(tree, index, &path.behind_prefix())
 }
 
 // The node at a lent path.
-pub(super) fn lookup_node_ref(tree: &Tree<Bytes, NodeLocks>, path: &DavPathRef<'_>) -> Option<u64>
+pub(super) fn lookup_node_ref(
+    tree: &Tree<Bytes, NodeLocks>,
+    index: &ChildIndex,
+    path: &DavPathRef<'_>,
+) -> Option<u64>
+    requires { IsIndex tree.now.keyed index.now }
     ensures { result ≡ node_at tree.now.keyed 1 (segments path.now) }
 {
     let mut node = ROOT_ID;
     for segment in path.segments() {
-        match child_of(tree, node, segment) {
+        match child_of(tree, index, node, segment) {
             Some(child) => node = child,
             None => return None,
         }
@@ -73,20 +91,24 @@ pub(super) fn lookup_node_ref(tree: &Tree<Bytes, NodeLocks>, path: &DavPathRef<'
 // The node, and the place there, of the first lock that passes on the way down to a path.
 pub(super) fn lookup_lock<T: LockTest>(
     tree: &Tree<Bytes, NodeLocks>,
+    index: &ChildIndex,
     path: &DavPath,
     test: &T,
 ) -> Option<(u64, usize)>
+    requires { IsIndex tree.now.keyed index.now }
     ensures { result ≡ spec.lookup_lock (T.test test.now) tree.now.keyed 1 (segments path.now.bytes) }
 {
-    lookup_lock_ref(tree, &path.behind_prefix(), test)
+    lookup_lock_ref(tree, index, &path.behind_prefix(), test)
 }
 
 // The same of a lent path.
 pub(super) fn lookup_lock_ref<T: LockTest>(
     tree: &Tree<Bytes, NodeLocks>,
+    index: &ChildIndex,
     path: &DavPathRef<'_>,
     test: &T,
 ) -> Option<(u64, usize)>
+    requires { IsIndex tree.now.keyed index.now }
     ensures { result ≡ spec.lookup_lock (T.test test.now) tree.now.keyed 1 (segments path.now) }
 {
     let mut node = ROOT_ID;
@@ -94,7 +116,7 @@ pub(super) fn lookup_lock_ref<T: LockTest>(
         if let Some(place) = first_at(tree, node, test, false) {
             return Some((node, place));
         }
-        match child_of(tree, node, segment) {
+        match child_of(tree, index, node, segment) {
             Some(child) => node = child,
             None => return None,
         }
@@ -128,27 +150,31 @@ fn copy_of(lock: &DavLock) -> Result<DavLock, AllocError>
 // Refused where a lock on the way down to a path passes the test. The first is shown.
 pub(super) fn check_locks_to_path<T: LockTest>(
     tree: &Tree<Bytes, NodeLocks>,
+    index: &ChildIndex,
     path: &DavPath,
     test: &T,
 ) -> Result<(), LockError>
+    requires { IsIndex tree.now.keyed index.now }
     ensures free { OnOk result (spec.lookup_lock (T.test test.now) tree.now.keyed 1 (segments path.now.bytes) ≡ None) }
     ensures shown { IfErr result (λ e. ShowsAt tree.now.keyed
         (spec.lookup_lock (T.test test.now) tree.now.keyed 1 (segments path.now.bytes)) e) }
 {
-    check_locks_to_path_ref(tree, &path.behind_prefix(), test)
+    check_locks_to_path_ref(tree, index, &path.behind_prefix(), test)
 }
 
 // The same of a lent path.
 pub(super) fn check_locks_to_path_ref<T: LockTest>(
     tree: &Tree<Bytes, NodeLocks>,
+    index: &ChildIndex,
     path: &DavPathRef<'_>,
     test: &T,
 ) -> Result<(), LockError>
+    requires { IsIndex tree.now.keyed index.now }
     ensures free { OnOk result (spec.lookup_lock (T.test test.now) tree.now.keyed 1 (segments path.now) ≡ None) }
     ensures shown { IfErr result (λ e. ShowsAt tree.now.keyed
         (spec.lookup_lock (T.test test.now) tree.now.keyed 1 (segments path.now)) e) }
 {
-    match lookup_lock_ref(tree, path, test) {
+    match lookup_lock_ref(tree, index, path, test) {
         None => Ok(()),
         Some((node, place)) => Err(LockError::Conflict(copy_at(tree, node, place)?)),
     }
@@ -157,9 +183,11 @@ pub(super) fn check_locks_to_path_ref<T: LockTest>(
 // Copies of the locks that cover a path, from the root down.
 pub(super) fn covering_locks(
     tree: &Tree<Bytes, NodeLocks>,
+    index: &ChildIndex,
     alloc: Global,
     path: &DavPath,
 ) -> Result<Vec<DavLock>, AllocError>
+    requires { IsIndex tree.now.keyed index.now }
     ensures copies { IfOk result (λ v. v.items ≡ spec.covering_down tree.now.keyed 1 (segments path.now.bytes)) }
     ensures refused { OnErr result (spec.covering_down tree.now.keyed 1 (segments path.now.bytes) ≢ []) }
 {
@@ -167,7 +195,7 @@ pub(super) fn covering_locks(
     let mut node = ROOT_ID;
     for segment in path.segments() {
         add_copies(&mut covering, locks_at(tree, node), false)?;
-        match child_of(tree, node, segment) {
+        match child_of(tree, index, node, segment) {
             Some(child) => node = child,
             None => return Ok(covering),
         }
@@ -197,27 +225,30 @@ fn add_copies(
 // The child of a node under a segment, which is added where it isn't there.
 fn get_or_create_child(
     tree: &mut Tree<Bytes, NodeLocks>,
+    index: &mut ChildIndex,
     alloc: Global,
     node: u64,
     segment: &[u8],
 ) -> Result<u64, LockError>
     requires shape { IsTree is_segment tree.old.keyed }
     requires known { IsKnown tree.old.keyed node }
+    requires indexed { IsIndex tree.old.keyed index.old }
     ensures grown { Grown tree.old.keyed tree.new.keyed }
     ensures shape { IsTree is_segment tree.new.keyed }
     ensures child { IfOk result (λ n. (child_at tree.new.keyed node segment.now ≡ Some n) × IsKnown tree.new.keyed n) }
     ensures alone { IfOk result (λ n. (k : ℕ) → IsKnown tree.new.keyed k → IsKnown tree.old.keyed k ⊎ (k ≡ n)) }
     ensures error { IfErr result (λ e. e ≡ LockError.OutOfMemory) }
     ensures unchanged { OnErr result (tree.new.keyed ≡ tree.old.keyed) }
+    ensures indexed { IsIndex tree.new.keyed index.new }
 {
-    if let Some(child) = child_of(tree, node, segment) {
+    if let Some(child) = child_of(tree, index, node, segment) {
         return Ok(child);
     }
     let key = Bytes::copy_from_slice(alloc, segment)?;
     let node_locks = NodeLocks {
         locks: Vec::new(alloc),
     };
-    match tree.add_child(node, key, node_locks, false) {
+    match index.add_new_child(tree, node, key, node_locks) {
         Ok(child) => Ok(child),
         Err(_) => Err(LockError::OutOfMemory),
     }
@@ -226,23 +257,26 @@ fn get_or_create_child(
 // The node at a path. The nodes on the way that aren't there are added; refused, they are taken away again.
 pub(super) fn get_or_create_path_node(
     tree: &mut Tree<Bytes, NodeLocks>,
+    index: &mut ChildIndex,
     alloc: Global,
     path: &DavPath,
 ) -> Result<u64, LockError>
     requires shape { IsTree is_segment tree.old.keyed }
     requires needed { AllNeeded tree.old.keyed }
+    requires indexed { IsIndex tree.old.keyed index.old }
     ensures same { SameLocks tree.old.keyed tree.new.keyed }
     ensures node { IfOk result (λ n. (node_at tree.new.keyed 1 (segments path.now.bytes) ≡ Some n)
         × IsKnown tree.new.keyed n) }
     ensures needed { MatchResult result (λ n. NeededBut tree.new.keyed n) (λ _. AllNeeded tree.new.keyed) }
     ensures error { IfErr result (λ e. e ≡ LockError.OutOfMemory) }
+    ensures indexed { IsIndex tree.new.keyed index.new }
 {
     let mut node = ROOT_ID;
     for segment in path.segments() {
-        match get_or_create_child(tree, alloc, node, segment) {
+        match get_or_create_child(tree, index, alloc, node, segment) {
             Ok(child) => node = child,
             Err(error) => {
-                prune(tree, node);
+                prune(tree, index, node);
                 return Err(error);
             }
         }

@@ -45,6 +45,7 @@ pub invariant_of-self : goal.invariant_of-self
 invariant_of-self g c = record {
   tree = (unmade g c).keeps;
   are_ends = ends-same c.self.inside.tree.keyed c.self.inside.next c.self.invariant.tree c.self.inside.ends c.self.invariant.are_ends c.get_or_create_path_node.new.tree.keyed c.self.inside.ends c.get_or_create_path_node.ensures.same (λ e g. refl);
+  indexed = c.get_or_create_path_node.ensures.indexed;
 }
 
 pub returns-in_err-node-clause-unchanged : goal.returns-in_err-node-clause-unchanged
@@ -64,6 +65,7 @@ pub invariant_of-self-in-Err : goal.invariant_of-self-in-Err
 invariant_of-self-in-Err g c = record {
   tree = (unnoted g c).keeps;
   are_ends = ends-same c.self.inside.tree.keyed c.self.inside.next c.self.invariant.tree c.self.inside.ends c.self.invariant.are_ends c.prune.new.tree.keyed c.note.new.ends (unnoted_tree g c) c.in-Err.ensures.left;
+  indexed = c.prune.ensures.indexed;
 }
 
 pub returns-in-Err-clause-unchanged : goal.returns-in-Err-clause-unchanged
@@ -86,6 +88,7 @@ invariant_of-self-in-Err-grant g c = record {
   tree = (ungranted g c).keeps;
   are_ends = ends-same c.self.inside.tree.keyed c.self.inside.next c.self.invariant.tree c.self.inside.ends c.self.invariant.are_ends c.prune-in-Err-grant.new.tree.keyed c.forget.new.ends (ungranted_tree g c)
       (undone c.self.inside.ends c.note.new.ends c.forget.new.ends c.self.inside.next c.in_ok-node.node (option_map (λ m. m.0) c.end_of_timeout.result) (none_for_next c.self.inside.tree.keyed c.self.inside.next c.self.invariant.tree c.self.inside.ends c.self.invariant.are_ends) c.in_default.ensures.noted c.forget.ensures);
+  indexed = c.prune-in-Err-grant.ensures.indexed;
 }
 
 pub returns-in-Err-grant-clause-unchanged : goal.returns-in-Err-grant-clause-unchanged
@@ -119,6 +122,7 @@ invariant_of-self-in-Ok g c = record {
   tree = (granted g c).keeps;
   are_ends = ends-grant c.self.inside.tree.keyed c.self.inside.next c.self.invariant.tree c.self.inside.ends c.self.invariant.are_ends c.get_or_create_path_node.new.tree.keyed c.grant.new.tree.keyed c.note.new.ends c.in_ok-node.node c.in-Ok.lock c.get_or_create_path_node.ensures.same c.in_ok-node.ensures.node.1 c.in-Ok.ensures.added
       (subst (λ end. Notes c.self.inside.ends c.note.new.ends end c.self.inside.next (Some c.in_ok-node.node)) (sym (ap (λ l. l.timeout_at) c.in-Ok.ensures.granted)) c.in_default.ensures.noted);
+  indexed = c.grant.ensures.indexed c.get_or_create_path_node.new.index c.get_or_create_path_node.ensures.indexed;
 }
 
 pub returns-in-Ok-clause-free : goal.returns-in-Ok-clause-free

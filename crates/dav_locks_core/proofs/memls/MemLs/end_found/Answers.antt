@@ -17,16 +17,16 @@ end_lock-requires c =
     place_within c.self.inside.tree.keyed c.self.inside.next c.in-Some.node c.in-Some.place (segments c.args.path.now.bytes) c.args.token.now c.self.invariant.tree.list (sym c.in-Some.ensures)
 
 pub prune-requires-clause-shape : goal.prune-requires-clause-shape
-prune-requires-clause-shape c = let e = seen-end c.self.inside.tree.keyed c.end_lock.new.tree.keyed c.self.inside.next c.in-Some.node c.in-Some.place (segments c.args.path.now.bytes) c.args.token.now c.self.invariant.tree (sym c.in-Some.ensures) c.end_lock.ensures in e.ends.after.keeps.represents.tree
+prune-requires-clause-shape c = let e = seen-end c.self.inside.tree.keyed c.end_lock.new.tree.keyed c.self.inside.next c.in-Some.node c.in-Some.place (segments c.args.path.now.bytes) c.args.token.now c.self.invariant.tree (sym c.in-Some.ensures) c.end_lock.ensures.set in e.ends.after.keeps.represents.tree
 
 pub prune-requires-clause-known : goal.prune-requires-clause-known
-prune-requires-clause-known c = let e = seen-end c.self.inside.tree.keyed c.end_lock.new.tree.keyed c.self.inside.next c.in-Some.node c.in-Some.place (segments c.args.path.now.bytes) c.args.token.now c.self.invariant.tree (sym c.in-Some.ensures) c.end_lock.ensures in e.ends.known
+prune-requires-clause-known c = let e = seen-end c.self.inside.tree.keyed c.end_lock.new.tree.keyed c.self.inside.next c.in-Some.node c.in-Some.place (segments c.args.path.now.bytes) c.args.token.now c.self.invariant.tree (sym c.in-Some.ensures) c.end_lock.ensures.set in e.ends.known
 
 pub prune-requires-clause-needed : goal.prune-requires-clause-needed
-prune-requires-clause-needed c = let e = seen-end c.self.inside.tree.keyed c.end_lock.new.tree.keyed c.self.inside.next c.in-Some.node c.in-Some.place (segments c.args.path.now.bytes) c.args.token.now c.self.invariant.tree (sym c.in-Some.ensures) c.end_lock.ensures in e.ends.needed
+prune-requires-clause-needed c = let e = seen-end c.self.inside.tree.keyed c.end_lock.new.tree.keyed c.self.inside.next c.in-Some.node c.in-Some.place (segments c.args.path.now.bytes) c.args.token.now c.self.invariant.tree (sym c.in-Some.ensures) c.end_lock.ensures.set in e.ends.needed
 
 ends : (c : goal.After-prune) → Ends c.self.inside.tree.keyed c.end_lock.new.tree.keyed c.self.inside.next c.in-Some.node (segments c.args.path.now.bytes) c.args.token.now
-ends c = seen-end c.self.inside.tree.keyed c.end_lock.new.tree.keyed c.self.inside.next c.in-Some.node c.in-Some.place (segments c.args.path.now.bytes) c.args.token.now c.self.invariant.tree (sym c.in-Some.ensures) c.end_lock.ensures
+ends c = seen-end c.self.inside.tree.keyed c.end_lock.new.tree.keyed c.self.inside.next c.in-Some.node c.in-Some.place (segments c.args.path.now.bytes) c.args.token.now c.self.invariant.tree (sym c.in-Some.ensures) c.end_lock.ensures.set
 
 ended : (c : goal.After-prune) → IsKeptAs c.prune.new.tree.keyed c.self.inside.next (remove (lock_list c.self.inside.tree.keyed) (ends c).at)
 ended c =
@@ -41,7 +41,8 @@ invariant_of-self c =
     (subst (λ number. Notes c.self.inside.ends c.forget.new.ends (option_map (λ m. m.0) c.end_at-number.result.1) number None) (c.end_at-number.ensures.number some_granted) c.forget.ensures) in
     record {
       tree = (ended c).keeps;
-      are_ends = ends-end c.self.inside.tree.keyed c.self.inside.next c.self.invariant.tree c.self.inside.ends c.self.invariant.are_ends c.end_lock.new.tree.keyed c.forget.new.ends c.in-Some.node c.in-Some.place some_granted within c.prune.new.tree.keyed c.end_lock.ensures c.prune.ensures.same forgotten;
+      are_ends = ends-end c.self.inside.tree.keyed c.self.inside.next c.self.invariant.tree c.self.inside.ends c.self.invariant.are_ends c.end_lock.new.tree.keyed c.forget.new.ends c.in-Some.node c.in-Some.place some_granted within c.prune.new.tree.keyed c.end_lock.ensures.set c.prune.ensures.same forgotten;
+      indexed = c.prune.ensures.indexed;
     }
 
 pub returns-in-None-clause-none : goal.returns-in-None-clause-none

@@ -58,12 +58,13 @@ pub invariant_of-self : goal.invariant_of-self
 invariant_of-self c = record {
   tree = c.self.invariant.tree;
   are_ends = ends-same c.self.inside.tree.keyed c.self.inside.next c.self.invariant.tree c.self.inside.ends c.self.invariant.are_ends c.self.inside.tree.keyed c.renote.new.ends (SameLocks-refl c.self.inside.tree.keyed c.self.invariant.tree.list.represents.tree) c.in_err-renote-in-Some.ensures.left;
+  indexed = c.self.invariant.indexed;
 }
 
 -- the lock is written as it is answered
 written : (c : After-refresh_lock) → c.refresh_lock.new.tree.keyed ≡ with_item c.self.inside.tree.keyed c.in-Some.node (set (locks_at c.self.inside.tree.keyed c.in-Some.node) c.in-Some.place ((get_or (locks_at c.self.inside.tree.keyed c.in-Some.node) c.in-Some.place some_granted).0, c.in_ok-lock-in-Some.lock))
 written c =
-    c.refresh_lock.ensures some_granted
+    c.refresh_lock.ensures.set some_granted
     ∙ ap (λ l. with_item c.self.inside.tree.keyed c.in-Some.node (set (locks_at c.self.inside.tree.keyed c.in-Some.node) c.in-Some.place ((get_or (locks_at c.self.inside.tree.keyed c.in-Some.node) c.in-Some.place some_granted).0, l))) (sym (c.in_ok-lock-in-Some.ensures some_granted))
 
 refreshes : (c : After-refresh_lock) → Refreshes c.self.inside.tree.keyed c.refresh_lock.new.tree.keyed c.self.inside.next (segments c.args.path.now.bytes) c.args.token.now c.args.now.0 c.args.timeout c.in_ok-lock-in-Some.lock
@@ -81,6 +82,7 @@ invariant_of-self-in-Some c =
       tree = (refreshed_list c).keeps;
       are_ends = ends-refresh c.self.inside.tree.keyed c.self.inside.next c.self.invariant.tree c.self.inside.ends c.self.invariant.are_ends c.refresh_lock.new.tree.keyed c.renote.new.ends c.in-Some.node c.in-Some.place some_granted (place_within c.self.inside.tree.keyed c.self.inside.next c.in-Some.node c.in-Some.place (segments c.args.path.now.bytes) c.args.token.now c.self.invariant.tree.list (sym c.in-Some.ensures)) l (written c)
           (subst (λ g. Renotes c.self.inside.ends c.renote.new.ends g l.timeout_at c.in-Some.node) (c.end_at-number.ensures.number some_granted) noted);
+      indexed = c.refresh_lock.ensures.indexed c.self.inside.index c.self.invariant.indexed;
     }
 
 pub returns-in_ok-renote-in-Some-clause-done : goal.returns-in_ok-renote-in-Some-clause-done

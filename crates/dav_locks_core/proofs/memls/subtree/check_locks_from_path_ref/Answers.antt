@@ -6,7 +6,7 @@ use Rattle.dav_locks_core.proofs.walks.SubtreeLemmas.{way_known}
 use Rattle.dav_locks_core.proofs.memls.subtree.check_locks_from_path_ref.Goals as goal
 
 pub find_below-requires : goal.find_below-requires
-find_below-requires g c = way_known c.args.tree.now.keyed 1 c.in-Some.top (segments c.args.path.now) c.requires.root.0 (sym c.in-Some.ensures)
+find_below-requires g c = way_known c.args.tree.now.keyed 1 c.in-Some.top (segments c.args.path.now) c.requires.shape.root.0 (sym c.in-Some.ensures)
 
 pub returns-in_err-copy_at-in-Some-find_below-clause-shown : goal.returns-in_err-copy_at-in-Some-find_below-clause-shown
 returns-in_err-copy_at-in-Some-find_below-clause-shown g c =

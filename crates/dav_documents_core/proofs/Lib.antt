@@ -15,6 +15,8 @@ pub mod PropertyLemmas
 pub mod QuestionLemmas
 pub mod ReadChildLemmas
 pub mod RefusalReadingLaws
+pub mod SearchLemmas
+pub mod SearchedLemmas
 pub mod ToldDocumentLemmas
 pub mod VisibleTextLemmas
 pub mod WordLemmas

@@ -1,5 +1,5 @@
 //! What the answer to a PROPFIND tells of resources, one after another.
-ghost use Rattle.std.specs.Prelude.{◌≡◌, ◌∷◌, [], codes, map, option_map, string_bytes, OnOk};
+ghost use Rattle.std.specs.Prelude.{◌≡◌, true, ◌∷◌, [], codes, map, option_map, string_bytes, OnOk};
 ghost use Rattle.std.specs.List.{flat_map};
 ghost use Rattle.dav_xml_core.specs.Views.{name_of, writing_of};
 ghost use Rattle.dav_xml_core.specs.Writing.{with_end, with_nodes, with_start};
@@ -7,6 +7,7 @@ ghost use Rattle.dav_files_core.specs.Properties.{property_of};
 ghost use Rattle.dav_documents_core.specs.Pieces.{made, with_pieces};
 ghost use Rattle.dav_documents_core.specs.Private.Asking.{question_of};
 ghost use Rattle.dav_documents_core.specs.Private.Describing.{description_of};
+ghost use Rattle.dav_documents_core.specs.Private.Rising.{Rise};
 ghost use Rattle.dav_documents_core.specs.PropertyDocuments as spec;
 ghost use Rattle.dav_documents_core.specs.PropertyQuestions.{asked_names};
 ghost use Rattle.dav_documents_core.specs.RefusalBodies.{dav_name};
@@ -21,7 +22,7 @@ use dav_files_core::fs::DavProp;
 use dav_locks_core::ls::DavLock;
 use dav_xml_core::davxml::{Name, Writer};
 use found::{finds, write_found};
-use names::{has_value, write_missing};
+use names::{has_value, rise, write_missing};
 use std::alloc::{AllocError, Global};
 
 /// What may be told of a resource (own).
@@ -61,8 +62,9 @@ pub fn write_response(
 {
     begin(writer, "response")?;
     write_text(writer, "href", &description.url)?;
-    write_found_stat(alloc, writer, prefix, principal, question, description)?;
-    write_missing_stat(writer, names_asked(question), description)?;
+    let risen = rise(&description.props);
+    write_found_stat(alloc, writer, prefix, principal, question, description, risen)?;
+    write_missing_stat(writer, names_asked(question), description, risen)?;
     writer.end()
 }
 
@@ -74,12 +76,14 @@ fn write_found_stat(
     principal: &Option<String>,
     question: &Question,
     description: &Description,
+    risen: bool,
 ) -> Result<(), AllocError>
+    requires { risen ≡ true → Rise description.now.props.items }
     ensures { OnOk result (writing_of writer.new ≡ with_pieces (writing_of writer.old)
         (spec.found_stat prefix.now (option_map string_bytes principal.now) (question_of question.now) (description_of description.now))) }
 {
-    if finds(description, question) {
-        return write_found_props(alloc, writer, prefix, principal, question, description);
+    if finds(description, risen, question) {
+        return write_found_props(alloc, writer, prefix, principal, question, description, risen);
     }
     Ok(())
 }
@@ -91,12 +95,14 @@ fn write_found_props(
     principal: &Option<String>,
     question: &Question,
     description: &Description,
+    risen: bool,
 ) -> Result<(), AllocError>
+    requires { risen ≡ true → Rise description.now.props.items }
     ensures { OnOk result (writing_of writer.new ≡ with_pieces (writing_of writer.old) (spec.propstat (codes "HTTP/1.1 200 OK")
         (spec.found_pieces prefix.now (option_map string_bytes principal.now) (description_of description.now) (question_of question.now)))) }
 {
     begin_stat(writer)?;
-    write_found(alloc, writer, prefix, principal, question, description)?;
+    write_found(alloc, writer, prefix, principal, question, description, risen)?;
     end_stat(writer, "HTTP/1.1 200 OK")
 }
 
@@ -105,12 +111,14 @@ fn write_missing_stat(
     writer: &mut Writer,
     names: &[Name],
     description: &Description,
+    risen: bool,
 ) -> Result<(), AllocError>
+    requires { risen ≡ true → Rise description.now.props.items }
     ensures { OnOk result (writing_of writer.new ≡ with_pieces (writing_of writer.old)
         (spec.missing_of (map name_of names.now) (description_of description.now))) }
 {
-    if lacks(description, names) {
-        return write_missing_props(writer, names, description);
+    if lacks(description, risen, names) {
+        return write_missing_props(writer, names, description, risen);
     }
     Ok(())
 }
@@ -119,12 +127,14 @@ fn write_missing_props(
     writer: &mut Writer,
     names: &[Name],
     description: &Description,
+    risen: bool,
 ) -> Result<(), AllocError>
+    requires { risen ≡ true → Rise description.now.props.items }
     ensures { OnOk result (writing_of writer.new ≡ with_pieces (writing_of writer.old) (spec.propstat (codes "HTTP/1.1 404 Not Found")
         (made (flat_map (spec.missing_nodes (description_of description.now)) (map name_of names.now))))) }
 {
     begin_stat(writer)?;
-    write_missing(writer, names, description)?;
+    write_missing(writer, names, description, risen)?;
     end_stat(writer, "HTTP/1.1 404 Not Found")
 }
 
@@ -140,11 +150,12 @@ fn names_asked(question: &Question) -> &[Name]
 }
 
 // Whether the resource lacks one of these.
-fn lacks(description: &Description, names: &[Name]) -> bool
+fn lacks(description: &Description, risen: bool, names: &[Name]) -> bool
+    requires { risen ≡ true → Rise description.now.props.items }
     ensures { result ≡ spec.lacks (description_of description.now) (map name_of names.now) }
 {
     for name in names {
-        if !has_value(description, name) {
+        if !has_value(description, risen, name) {
             return true;
         }
     }

@@ -7,6 +7,7 @@ pub mod Finding
 pub mod Folders
 pub mod Following
 pub mod Listing
+pub mod Mapped
 pub mod Meta
 pub mod Moved
 pub mod OpenFiles

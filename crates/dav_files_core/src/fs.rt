@@ -5,6 +5,7 @@ ghost use Rattle.dav_files_core.specs.Describing.{metadata};
 ghost use Rattle.dav_files_core.specs.Copying.{copy};
 ghost use Rattle.dav_files_core.specs.Folders.{create_dir, remove};
 ghost use Rattle.dav_files_core.specs.Listing.{read_dir};
+ghost use Rattle.dav_files_core.specs.Mapped.{AnswersOneOf};
 ghost use Rattle.dav_files_core.specs.Opening.{opening};
 ghost use Rattle.dav_files_core.specs.Properties.{answer_of, entry_of, get_prop, get_props, patch_props, property_of};
 ghost use Rattle.dav_files_core.specs.Refusing.{RefusesAs, RefusesAsOffered};
@@ -110,11 +111,17 @@ pub trait DavFileSystem {
     /// A member of a folder.
     type Entry: DavDirEntry + Drop;
 
-    ghost use Rattle.std.specs.Prelude.{Bool, false};
+    ghost use Rattle.std.specs.Prelude.{Bool, false, Result};
+    ghost use Rattle.dav_path_core.specs.declared.errors.FsError.{FsError};
+    ghost use Rattle.dav_path_core.specs.Fronts.{Path};
+    ghost use Rattle.dav_files_core.specs.Meta.{Meta};
     ghost use Rattle.dav_files_core.specs.Resources.{ResourceMap};
 
     /// What it holds.
     ghost contents: { Self → ResourceMap };
+
+    /// Which answers `metadata` may give for a path.
+    ghost metadata_answers: { Self → Path → Result Meta FsError → Type 0 };
 
     /// Whether it makes folders.
     ghost offers_create_dir: { Bool } = { false };
@@ -158,12 +165,16 @@ pub trait DavFileSystem {
 
     /// What is known of what is at a path.
     fn metadata(&self, path: &DavPath) -> FsResult<Self::Meta>
+        ensures answer { AnswersOneOf (metadata_answers self.now (segments path.now.bytes))
+            (λ meta known. Self.Meta.told known ≡ meta) result }
         ensures ok { IfOk result (λ meta. metadata (contents self.now) (segments path.now.bytes) ≡ Ok (Self.Meta.told meta)) }
         ensures refused { IfErr result (λ e. RefusesAs (metadata (contents self.now) (segments path.now.bytes)) e) }
         ensures shape { IsResourceMap (contents self.now) };
 
-    /// The same of a link itself. Unless it is told otherwise, there are no links.
+    /// The same of a link itself: one of the answers of `metadata`. Unless it is told otherwise, there are no links.
     fn symlink_metadata(&self, path: &DavPath) -> FsResult<Self::Meta>
+        ensures answer { AnswersOneOf (metadata_answers self.now (segments path.now.bytes))
+            (λ meta known. Self.Meta.told known ≡ meta) result }
         ensures ok { IfOk result (λ meta. metadata (contents self.now) (segments path.now.bytes) ≡ Ok (Self.Meta.told meta)) }
         ensures refused { IfErr result (λ e. RefusesAs (metadata (contents self.now) (segments path.now.bytes)) e) }
         ensures shape { IsResourceMap (contents self.now) }
@@ -288,16 +299,22 @@ pub trait DavFileSystem {
     ghost one_view: { (s : Self) → Self.File.contents s ≡ contents s };
 }
 
-/// A member of a folder. What the calls answer is told of one name and one `Meta`.
+/// A member of a folder. What the calls answer is told of one name and one `Meta`. The tests answer one of the answers of `metadata`: the same
+/// refusal, or what is said of the same value.
 pub trait DavDirEntry {
     /// What is known of it.
     type Meta: DavMetaData + Drop;
 
+    ghost use Rattle.std.specs.Prelude.{Result};
+    ghost use Rattle.dav_path_core.specs.declared.errors.FsError.{FsError};
     ghost use Rattle.dav_path_core.specs.Fronts.{Segment};
     ghost use Rattle.dav_files_core.specs.Meta.{Meta};
 
     /// Its name, and what is told of it.
     ghost listed: { Self → Segment × Meta };
+
+    /// Which answers `metadata` may give.
+    ghost metadata_answers: { Self → Result Meta FsError → Type 0 };
 
     /// Its name, the last segment of its path.
     fn name(&self) -> &[u8]
@@ -305,25 +322,32 @@ pub trait DavDirEntry {
 
     /// What is known of it.
     fn metadata(&self) -> FsResult<Self::Meta>
-        ensures { IfOk result (λ meta. Self.Meta.told meta ≡ (listed self.now).1) };
+        ensures told { IfOk result (λ meta. Self.Meta.told meta ≡ (listed self.now).1) }
+        ensures answer { AnswersOneOf (metadata_answers self.now) (λ meta known. Self.Meta.told known ≡ meta) result };
 
     /// Whether it is a folder.
     fn is_dir(&self) -> FsResult<bool>
-        ensures { IfOk result (λ b. IsTrue b ↔ ((listed self.now).1.kind ≡ Kind.Folder)) }
+        ensures told { IfOk result (λ b. IsTrue b ↔ ((listed self.now).1.kind ≡ Kind.Folder)) }
+        ensures answer { AnswersOneOf (metadata_answers self.now) (λ meta b. IsTrue b ↔ (meta.kind ≡ Kind.Folder)) result }
     {
         Ok(self.metadata()?.is_dir())
     }
 
     /// Whether it is a file.
     fn is_file(&self) -> FsResult<bool>
-        ensures { Self.Meta.offers_links ≡ false → IfOk result (λ b. IsTrue b ↔ ((listed self.now).1.kind ≡ Kind.File)) }
+        ensures told { Self.Meta.offers_links ≡ false
+            → IfOk result (λ b. IsTrue b ↔ ((listed self.now).1.kind ≡ Kind.File)) }
+        ensures answer { AnswersOneOf (metadata_answers self.now)
+            (λ meta b. Self.Meta.offers_links ≡ false → (IsTrue b ↔ (meta.kind ≡ Kind.File))) result }
     {
         Ok(self.metadata()?.is_file())
     }
 
     /// Whether it is a link.
     fn is_symlink(&self) -> FsResult<bool>
-        ensures { Self.Meta.offers_links ≡ false → IfOk result (λ b. b ≡ false) }
+        ensures told { Self.Meta.offers_links ≡ false → IfOk result (λ b. b ≡ false) }
+        ensures answer { AnswersOneOf (metadata_answers self.now)
+            (λ meta b. Self.Meta.offers_links ≡ false → b ≡ false) result }
     {
         Ok(self.metadata()?.is_symlink())
     }

@@ -1,6 +1,7 @@
 pub mod AloneLaws
 pub mod BelowLaws
 pub mod Frame
+pub mod LabelLemmas
 pub mod PlayingLaws
 pub mod RunLaws
 pub mod Serving

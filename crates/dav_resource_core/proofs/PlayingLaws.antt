@@ -1,5 +1,5 @@
 -- How the lines of an input are played, one after another.
-use Rattle.std.proofs.Common.{◌≡◌, ℕ, ◌+◌, ◌<◌, List, [], ◌∷◌, ◌++◌, Option, Some, None, length, refl, sym, ap, ◌∙◌, subst, append-nil, append_assoc, arith}
+use Rattle.std.proofs.Common.{◌≡◌, ℕ, ◌+◌, ◌<◌, List, [], ◌∷◌, ◌++◌, Option, Some, None, length, refl, sym, ap, ◌∙◌, subst, append-nil, append_assoc, arith, inl, inr, ◌⊎◌, take}
 use Rattle.std.specs.Prelude.{Bool, true, false, Ok, Err, IfSome, IsTrue, ◌↔◌, ◌==◌, if◌then◌else◌}
 use Rattle.std.specs.List.{concat}
 use Rattle.std.specs.Io.Buffered.{reader_remaining, reader_inner, reader_buffer, reader_capacity}
@@ -16,11 +16,10 @@ use Rattle.rand_pcg.specs.Lcg.{Lcg}
 use Rattle.rand_pcg.specs.Pcg.{pcg64, pcg64_of_seed}
 use Rattle.line_streams.specs.Lines.{lines}
 use Rattle.line_streams.proofs.LineLaws.{lines_step}
-use Rattle.dav_resource_core.specs.declared.davreplay.labels.Labels.{Labels}
 use Rattle.dav_resource_core.specs.declared.davreplay.lines.Unread.TheVariants.{Malformed, BadPath, OutOfMemory}
-use Rattle.dav_resource_core.specs.Private.Playing.{Played, LinePlayed, LinesPlayed, AreLines, InputPlayed}
-use Rattle.dav_resource_core.specs.Private.Reading.{LineIs, granted_tokens}
-use Rattle.dav_resource_core.specs.Replaying.{Replayed, generator}
+use Rattle.dav_resource_core.specs.Private.Playing.{Played, LinePlayed, LineStopped, LinesPlayed, AreLines, BeginWith, InputPlayed, PlayedPart, WroteNext}
+use Rattle.dav_resource_core.specs.Private.Reading.{LineIs}
+use Rattle.dav_resource_core.specs.Replaying.{ReplayedTo, generator}
 use Rattle.dav_resource_core.specs.Stores.{Stores, start_stores, state_of}
 
 -- ---- a chain of lines
@@ -34,7 +33,7 @@ lines_more p mid p' (l ∷ front) [] line text chain one = absurd chain
 lines_more p mid p' (l ∷ front) (t ∷ texts) line text chain one = (chain.0, chain.1, lines_more chain.0 mid p' front texts line text chain.2 one)
 
 -- a line that ends the run
-malformed : (p p' : Played) (line text : List ℕ) → LinePlayed p line false p' text → LineIs (granted_tokens p.1) line (Err Malformed) × (p' ≡ p) × (text ≡ [])
+malformed : (p p' : Played) (line text : List ℕ) → LinePlayed p line false p' text → LineIs p.1 line (Err Malformed) × (p' ≡ p) × (text ≡ [])
 malformed p p' line text (Ok (Some request), is, does) = absurd (false≢true does.0)
 malformed p p' line text (Ok None, is, does) = absurd (false≢true does.0)
 malformed p p' line text (Err Malformed, is, does) = (is, does.1, does.2)
@@ -95,7 +94,7 @@ kept (Some x) None c text same more = absurd same
 kept (Some x) (Some y) None text same more = absurd more
 kept (Some x) (Some y) (Some z) text same more = more ∙ ap (λ l. l ++ text) same
 
-kept_behind : (a b c : Option (List ℕ)) (text : List ℕ) → Appends a b text → Keeps b c → Appends a c text
+pub kept_behind : (a b c : Option (List ℕ)) (text : List ℕ) → Appends a b text → Keeps b c → Appends a c text
 kept_behind None b c text more same = tt
 kept_behind (Some x) None c text more same = absurd more
 kept_behind (Some x) (Some y) None text more same = absurd same
@@ -148,7 +147,7 @@ pub stopped : (p mid p' : Played) (input output left left' out out-read out' : O
     → PlayedTo p input output (Some number) p' out'
 stopped p mid p' input output left left' out out-read out' number line is_there on before gave there same one wrong =
     let bad = malformed mid p' line one.0 (subst (λ b. LinePlayed mid line b p' one.0) wrong one.1) in
-    let ends = subst (λ q. LinesPlayed p before.0 before.1 q × LineIs (granted_tokens q.1) line (Err Malformed)) (sym bad.1) (before.3, bad.0) in
+    let ends = subst (λ q. LinesPlayed p before.0 before.1 q × LineIs q.1 line (Err Malformed)) (sym bad.1) (before.3, bad.0) in
     let nothing = subst (Appends out-read out') bad.2 one.2 in
     let end = lines_left left' in (
       before.1,
@@ -159,6 +158,53 @@ stopped p mid p' input output left left' out out-read out' number line is_there 
       ),
       subst (Appends output out') (append-nil (concat before.1)) (Appends-trans output out out' (concat before.1) [] before.5 (kept out out-read out' [] same nothing)),
     )
+
+-- ---- a run that a fault stops
+
+begin_none : (input : Option (List ℕ)) → BeginWith [] input
+begin_none None = tt
+begin_none (Some bytes) = (lines bytes, refl)
+
+front_begins : (front : List (List ℕ)) (input left : Option (List ℕ)) → Front front input left → BeginWith front input
+front_begins front None left before = tt
+front_begins front (Some bytes) left before = (lines before.0, before.2)
+
+pub nothing_played : (p : Played) (input output : Option (List ℕ)) → PlayedPart p input output output
+nothing_played p input output = ([], [], p, [], begin_none input, refl, inl refl, Appends-nil output)
+
+-- before a line was read
+pub stopped_before : (p p' : Played) (input output left out out' : Option (List ℕ)) (number : ℕ) → PlayedFront p input output number p' left out → Keeps out out'
+    → PlayedPart p input output out'
+stopped_before p p' input output left out out' number before same = (
+  before.0,
+  before.1,
+  p',
+  [],
+  front_begins before.0 input left before.4,
+  before.3,
+  inl refl,
+  subst (Appends output out') (sym (append-nil (concat before.1))) (kept_behind output out out' (concat before.1) before.5 same),
+)
+
+-- within a line
+pub stopped_within : (p mid : Played) (input output left left' out out-read out' : Option (List ℕ)) (number : ℕ) (line : List ℕ) (is_there : Bool)
+    → PlayedFront p input output number mid left out → Gave left is_there line left' → is_there ≡ true → Keeps out out-read → LineStopped mid line out-read out'
+    → PlayedPart p input output out'
+stopped_within p mid input output left left' out out-read out' number line is_there before gave there same part =
+    let read = front_more before.0 line input left left' before.4 (subst (λ b. Gave left b line left') there gave) in (
+      before.0,
+      before.1,
+      mid,
+      part.0,
+      front_begins before.0 input left before.4,
+      before.3,
+      next part.2,
+      Appends-trans output out out' (concat before.1) part.0 before.5 (kept out out-read out' part.0 same part.1),
+    )
+  where
+    next : ((part.0 ≡ []) ⊎ ((on : Bool) × (p' : Played) × (text : List ℕ) × (count : ℕ) × LinePlayed mid line on p' text × (part.0 ≡ take count text))) → WroteNext mid before.0 input part.0
+    next (inl none) = inl none
+    next (inr some) = inr (line, some.0, some.1, some.2, some.3, front_begins (before.0 ++ line ∷ []) input left' (front_more before.0 line input left left' before.4 (subst (λ b. Gave left b line left') there gave)), some.4, some.5)
 
 -- ---- the reader
 
@@ -175,15 +221,17 @@ fresh remaining r input inner empty capacity =
 
 -- ---- the start
 
-pub replayed : (seed : ℕ) (stores : Stores) (rng : Lcg) (labels : Labels) (left input : Option (List ℕ)) (end : Option ℕ) (texts : List (List ℕ)) (p' : Played)
-    → stores ≡ start_stores 0 → rng ≡ pcg64_of_seed (pcg32_seed 32 seed) → granted_tokens labels ≡ [] → left ≡ input
-    → InputPlayed (state_of stores (stream_of (steps_u64_low pcg64) rng), labels) left end texts p' → Replayed seed input end
-replayed seed stores rng labels left input end texts p' stores_are rng_is none whole played = (
-  labels,
+pub replayed : (seed : ℕ) (stores : Stores) (rng : Lcg) (tokens : List (List ℕ)) (left input old new : Option (List ℕ)) (end : Option ℕ) (texts : List (List ℕ)) (p' : Played)
+    → stores ≡ start_stores 0 → rng ≡ pcg64_of_seed (pcg32_seed 32 seed) → tokens ≡ [] → left ≡ input
+    → InputPlayed (state_of stores (stream_of (steps_u64_low pcg64) rng), tokens) left end texts p' → Appends old new (concat texts) → ReplayedTo seed input end old new
+replayed seed stores rng tokens left input old new end texts p' stores_are rng_is none whole played more = (
   texts,
-  p',
-  none,
-  subst (λ s. InputPlayed (state_of s (generator seed), labels) input end texts p') stores_are
-      (subst (λ r. InputPlayed (state_of stores (stream_of (steps_u64_low pcg64) r), labels) input end texts p') rng_is
-      (subst (λ i. InputPlayed (state_of stores (stream_of (steps_u64_low pcg64) rng), labels) i end texts p') whole played)),
+  (
+    p',
+    subst (λ s. InputPlayed (state_of s (generator seed), []) input end texts p') stores_are
+        (subst (λ r. InputPlayed (state_of stores (stream_of (steps_u64_low pcg64) r), []) input end texts p') rng_is
+        (subst (λ i. InputPlayed (state_of stores (stream_of (steps_u64_low pcg64) rng), []) i end texts p') whole
+        (subst (λ ts. InputPlayed (state_of stores (stream_of (steps_u64_low pcg64) rng), ts) left end texts p') none played))),
+  ),
+  more,
 )

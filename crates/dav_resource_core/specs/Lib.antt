@@ -2,6 +2,7 @@ pub mod Alone
 pub mod AnswerTexts
 pub mod Checks
 pub mod Isolation
+pub mod Labels
 pub mod Lines
 pub mod Naming
 pub mod Private

@@ -1,10 +1,10 @@
 //! A player of scenarios: one request a line, one answer a line.
-ghost use Rattle.std.specs.Prelude.{◌≡◌, ◌⊎◌, ℕ, List, map, string_bytes, IfOk};
+ghost use Rattle.std.specs.Prelude.{◌≡◌, ◌⊎◌, ℕ, List, map, take, string_bytes, IfOk, OnErr, OnOk};
 ghost use Rattle.std.specs.Io.Buffered.{reader_remaining, writer_contents};
 ghost use Rattle.std.specs.Io.KnownBytes.{Appends};
 ghost use Rattle.std.specs.List.{concat};
-ghost use Rattle.dav_resource_core.specs.Private.Playing.{Follows, LinePlayed, InputPlayed};
-ghost use Rattle.dav_resource_core.specs.Replaying.{Replayed};
+ghost use Rattle.dav_resource_core.specs.Private.Playing.{Follows, LinePlayed, LineStopped, InputPlayed, PlayedPart};
+ghost use Rattle.dav_resource_core.specs.Replaying.{Replayed, ReplayedPart, ReplayedTo};
 ghost use Rattle.dav_resource_core.specs.Stores.{state_of};
 ghost use Rattle.dav_resource_core.specs.Seeds.{seed};
 
@@ -25,7 +25,7 @@ use playing::Player;
 use rand_core::{Rng, SeedableRng};
 use rand_pcg::Pcg64;
 use std::alloc::Global;
-use std::io::{BufReader, BufWriter, Read, Write};
+use std::io::{BufReader, BufWriter, ErrorKind, Read, Write};
 
 /// The answer to a line for which there is no memory.
 const OUT_OF_MEMORY: &[u8] = b"out of memory\n";
@@ -61,6 +61,33 @@ pub fn replay<I: Read + Drop, O: Write + Drop, E: Write + Drop>(
     ensures whole { result ≡ 0 → Replayed seed (I.remaining input) None }
     ensures malformed { result ≡ 2 → (number : ℕ) × Replayed seed (I.remaining input) (Some number) }
 {
+    match BufWriter::with_capacity(alloc, BUFFER, output) {
+        Ok(mut output) => replay_to(alloc, seed, input, &mut output, faults),
+        Err(error) => {
+            let _written = faults.write_all(Fault::from(error).text());
+            3
+        }
+    }
+}
+
+/// The same to an output that the caller keeps. Where the status is 0 or 2, the texts of the answers were appended to it, in order,
+/// each with the labels of its locks, and all of them are written out. Where it is 3, the lines in front of some one were played, and their
+/// texts were appended, and behind them at most a front of that line's (own).
+pub fn replay_to<I: Read + Drop, O: Write + Drop, E: Write + Drop>(
+    alloc: Global,
+    seed: u64,
+    input: I,
+    output: &mut BufWriter<O>,
+    mut faults: E,
+) -> u8
+    ensures status { (result ≡ 0) ⊎ (result ≡ 2) ⊎ (result ≡ 3) }
+    ensures whole { result ≡ 0 → ReplayedTo seed (I.remaining input) None
+        (writer_contents O.contents output.old) (writer_contents O.contents output.new) }
+    ensures malformed { result ≡ 2 → (number : ℕ) × ReplayedTo seed (I.remaining input) (Some number)
+        (writer_contents O.contents output.old) (writer_contents O.contents output.new) }
+    ensures stopped { result ≡ 3 → ReplayedPart seed (I.remaining input)
+        (writer_contents O.contents output.old) (writer_contents O.contents output.new) }
+{
     match play(alloc, seed, input, output) {
         Ok(None) => 0,
         Ok(Some(line)) => {
@@ -79,9 +106,12 @@ fn play<I: Read + Drop, O: Write + Drop>(
     alloc: Global,
     seed: u64,
     input: I,
-    output: O,
+    output: &mut BufWriter<O>,
 ) -> Result<Option<u64>, Fault>
-    ensures { IfOk result (λ end. Replayed seed (I.remaining input) end) }
+    ensures ok { IfOk result (λ end. ReplayedTo seed (I.remaining input) end
+        (writer_contents O.contents output.old) (writer_contents O.contents output.new)) }
+    ensures err { OnErr result (ReplayedPart seed (I.remaining input)
+        (writer_contents O.contents output.old) (writer_contents O.contents output.new)) }
 {
     let Ok(stores) = Guarded::new(alloc, Moment(0)) else {
         return Err(Fault::OutOfMemory);
@@ -92,8 +122,7 @@ fn play<I: Read + Drop, O: Write + Drop>(
         labels: Labels::new(alloc),
     };
     let mut input = BufReader::with_capacity(alloc, BUFFER, input)?;
-    let mut output = BufWriter::with_capacity(alloc, BUFFER, output)?;
-    let played = play_lines(alloc, &mut player, &mut input, &mut output);
+    let played = play_lines(alloc, &mut player, &mut input, output);
     output.flush()?;
     played
 }
@@ -105,46 +134,77 @@ fn play_lines<R: Rng + Drop, I: Read + Drop, O: Write + Drop>(
     input: &mut BufReader<I>,
     output: &mut BufWriter<O>,
 ) -> Result<Option<u64>, Fault>
-    ensures { IfOk result (λ end. (texts : List (List ℕ)) × InputPlayed (state_of player.old.stores (R.stream player.old.rng), player.old.labels)
+    ensures ok { IfOk result (λ end. (texts : List (List ℕ)) × InputPlayed (state_of player.old.stores (R.stream player.old.rng), player.old.labels)
         (reader_remaining I.remaining input.old) end texts (state_of player.new.stores (R.stream player.new.rng), player.new.labels)
         × Appends (writer_contents O.contents output.old) (writer_contents O.contents output.new) (concat texts)) }
+    ensures err { OnErr result (PlayedPart (state_of player.old.stores (R.stream player.old.rng), player.old.labels)
+        (reader_remaining I.remaining input.old) (writer_contents O.contents output.old) (writer_contents O.contents output.new)) }
 {
-    let mut line = Vec::new(alloc);
+    let (mut line, mut text) = (Vec::new(alloc), Vec::new(alloc));
     for number in 1..u64::MAX {
         if !read_line(input, &mut line, output)? {
             return Ok(None);
         }
-        if !play_line(alloc, player, &line, output)? {
+        if !play_line(alloc, player, &line, &mut text, output)? {
             return Ok(Some(number));
         }
     }
     Err(Fault::Io)
 }
 
-// Answers a line, and tells whether it has a right form.
+// Answers a line, and tells whether it has a right form. What is to be written is made whole in `text` first.
 fn play_line<R: Rng + Drop, O: Write + Drop>(
     alloc: Global,
     player: &mut Player<R>,
     line: &[u8],
+    text: &mut Vec<u8>,
     output: &mut BufWriter<O>,
 ) -> Result<bool, Fault>
-    ensures { IfOk result (λ right. (written : List ℕ) × LinePlayed (state_of player.old.stores (R.stream player.old.rng), player.old.labels) line.now right
+    ensures ok { IfOk result (λ right. (written : List ℕ) × LinePlayed (state_of player.old.stores (R.stream player.old.rng), player.old.labels) line.now right
         (state_of player.new.stores (R.stream player.new.rng), player.new.labels) written
         × Appends (writer_contents O.contents output.old) (writer_contents O.contents output.new) written) }
+    ensures err { OnErr result (LineStopped (state_of player.old.stores (R.stream player.old.rng), player.old.labels) line.now
+        (writer_contents O.contents output.old) (writer_contents O.contents output.new)) }
 {
     let said = request_of(alloc, &player.labels, line);
-    follow(player, said, output)
+    text.clear();
+    let right = follow(player, said, text)?;
+    write_text(text, output)?;
+    Ok(right)
 }
 
-// What follows what a line says.
-fn follow<R: Rng + Drop, O: Write + Drop>(
+// Writes a text, or a front of it where the output fails.
+fn write_text<O: Write>(text: &[u8], output: &mut O) -> Result<(), Fault>
+    ensures ok { OnOk result (Appends (O.contents output.old) (O.contents output.new) text.now) }
+    ensures err { OnErr result ((count : ℕ) × Appends (O.contents output.old) (O.contents output.new) (take count text.now)) }
+{
+    let mut rest = text;
+    for _turn in 0..u64::MAX {
+        if rest.is_empty() {
+            return Ok(());
+        }
+        match output.write(rest) {
+            Ok(0) => return Err(Fault::Io),
+            Ok(count) => rest = &rest[count..],
+            Err(error) => {
+                if error.kind() != ErrorKind::Interrupted {
+                    return Err(Fault::from(error));
+                }
+            }
+        }
+    }
+    Err(Fault::Io)
+}
+
+// What follows what a line says, and what is written for it.
+fn follow<R: Rng + Drop, O: Write>(
     player: &mut Player<R>,
     said: Result<Option<Request>, Unread>,
-    output: &mut BufWriter<O>,
+    output: &mut O,
 ) -> Result<bool, Fault>
     ensures { IfOk result (λ right. (written : List ℕ) × Follows (state_of player.old.stores (R.stream player.old.rng), player.old.labels) said right
         (state_of player.new.stores (R.stream player.new.rng), player.new.labels) written
-        × Appends (writer_contents O.contents output.old) (writer_contents O.contents output.new) written) }
+        × Appends (O.contents output.old) (O.contents output.new) written) }
 {
     match said {
         Ok(Some(request)) => {

@@ -66,6 +66,8 @@ impl DavFileSystem for Bare {
 
     ghost contents = { λ b. b.files };
 
+    ghost metadata_answers = { λ b path told. told ≡ metadata b.files path };
+
     ghost one_view = { λ b. refl };
 
     fn open(&mut self, path: &DavPath, options: OpenOptions, now: Moment) -> FsResult<BareFile> {
@@ -112,6 +114,8 @@ impl DavDirEntry for Sized {
     type Meta = Size;
 
     ghost listed = { λ s. (codes "a", record { kind = Kind.File; length = s.size; modified = 7; created = 7 }) };
+
+    ghost metadata_answers = { λ s told. told ≡ Ok (record { kind = Kind.File; length = s.size; modified = 7; created = 7 }) };
 
     fn name(&self) -> &[u8] {
         b"a"

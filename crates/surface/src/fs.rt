@@ -2,13 +2,17 @@
 use bytes::{Buf, Bytes};
 use dav_resource_core::davpath::DavPath;
 use dav_resource_core::fs::{
-    DavDirEntry, DavFile, DavFileSystem, DavMetaData, DavProp, FsResult, Moment, OpenOptions,
-    ReadDirMeta,
+    DavDirEntry, DavFile, DavFileSystem, DavMetaData, DavProp, FsError, FsResult, Moment,
+    OpenOptions, ReadDirMeta,
 };
 use dav_resource_core::memfs::{Kind, MemFs, MemFsEntry, MemFsFile, MemFsMeta};
 use http::StatusCode;
 use std::alloc::Global;
 use std::io::SeekFrom;
+
+pub fn error_of(refused: FsResult<()>) -> Option<FsError> {
+    refused.err()
+}
 
 pub fn start(alloc: Global, now: Moment) -> FsResult<MemFs> {
     MemFs::new(alloc, now)

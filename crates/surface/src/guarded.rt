@@ -11,7 +11,7 @@ use dav_resource_core::util::Moment;
 use http::StatusCode;
 use rand_core::Rng;
 use std::alloc::{AllocError, Global};
-use std::io::{Read, Write};
+use std::io::{BufWriter, Read, Write};
 
 pub fn new(alloc: Global, now: Moment) -> FsResult<Guarded> {
     Guarded::new(alloc, now)
@@ -45,6 +45,16 @@ pub fn replay<I: Read + Drop, O: Write + Drop, E: Write + Drop>(
     faults: E,
 ) -> u8 {
     davreplay::replay(alloc, seed, input, output, faults)
+}
+
+pub fn replay_to<I: Read + Drop, O: Write + Drop, E: Write + Drop>(
+    alloc: Global,
+    seed: u64,
+    input: I,
+    output: &mut BufWriter<O>,
+    faults: E,
+) -> u8 {
+    davreplay::replay_to(alloc, seed, input, output, faults)
 }
 
 pub fn parts(request: Request) -> (Option<String>, Vec<String>, Moment, Command) {

@@ -9,6 +9,7 @@ pub mod fs;
 pub mod guarded;
 pub mod header_names;
 pub mod headers;
+pub mod laws;
 pub mod locks;
 pub mod paths;
 pub mod tag_headers;

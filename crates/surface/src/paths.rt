@@ -1,6 +1,7 @@
 //! Of `davpath`.
-use dav_resource_core::davpath::{DavPath, DavPathRef, ParseError, Segments};
+use dav_resource_core::davpath::{DavPath, DavPathRef, ParseError, Segments, escaped};
 use http_uri::Uri;
+use percent_encoding::PercentEncode;
 use std::alloc::Global;
 
 pub fn new(alloc: Global, src: &str) -> Result<DavPath, ParseError> {
@@ -135,4 +136,8 @@ pub fn parse_error(error: ParseError) -> u8 {
         ParseError::ForbiddenPath => 2,
         ParseError::OutOfMemory => 3,
     }
+}
+
+pub fn escaped_bytes(bytes: &[u8]) -> PercentEncode<'_> {
+    escaped(bytes)
 }

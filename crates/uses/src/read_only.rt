@@ -88,6 +88,8 @@ impl DavFileSystem for ReadOnly {
 
     ghost contents = { λ view. view };
 
+    ghost metadata_answers = { λ view path told. told ≡ metadata view path };
+
     ghost one_view = { λ view. refl };
 
     fn open(

@@ -1,11 +1,12 @@
 //! What there is of what is asked for.
-ghost use Rattle.std.specs.Prelude.{◌≡◌, ◌++◌, map, option_map, string_bytes, OnOk};
+ghost use Rattle.std.specs.Prelude.{◌≡◌, ◌++◌, true, map, option_map, string_bytes, OnOk};
 ghost use Rattle.std.specs.List.{flat_map, list_any};
 ghost use Rattle.dav_xml_core.specs.Views.{name_of, writing_of};
 ghost use Rattle.dav_xml_core.specs.Writing.{with_nodes};
 ghost use Rattle.dav_documents_core.specs.Pieces.{with_pieces};
 ghost use Rattle.dav_documents_core.specs.Private.Asking.{question_of};
 ghost use Rattle.dav_documents_core.specs.Private.Describing.{description_of};
+ghost use Rattle.dav_documents_core.specs.Private.Rising.{Rise};
 ghost use Rattle.dav_documents_core.specs.PropertyDocuments as spec;
 
 use super::Description;
@@ -17,22 +18,24 @@ use dav_xml_core::davxml::{Name, Writer};
 use std::alloc::{AllocError, Global};
 
 /// Whether a question finds something, or asks for nothing.
-pub(super) fn finds(description: &Description, question: &Question) -> bool
+pub(super) fn finds(description: &Description, risen: bool, question: &Question) -> bool
+    requires { risen ≡ true → Rise description.now.props.items }
     ensures { result ≡ spec.finds (description_of description.now) (question_of question.now) }
 {
     match question {
         Question::All(_) => true,
         Question::Names => true,
-        Question::Listed(names) => names.is_empty() || has_one(description, names),
+        Question::Listed(names) => names.is_empty() || has_one(description, risen, names),
     }
 }
 
 // Whether the resource has one of these.
-fn has_one(description: &Description, names: &[Name]) -> bool
+fn has_one(description: &Description, risen: bool, names: &[Name]) -> bool
+    requires { risen ≡ true → Rise description.now.props.items }
     ensures { result ≡ list_any (spec.has_value (description_of description.now)) (map name_of names.now) }
 {
     for name in names {
-        if has_value(description, name) {
+        if has_value(description, risen, name) {
             return true;
         }
     }
@@ -47,7 +50,9 @@ pub(super) fn write_found(
     principal: &Option<String>,
     question: &Question,
     description: &Description,
+    risen: bool,
 ) -> Result<(), AllocError>
+    requires { risen ≡ true → Rise description.now.props.items }
     ensures { OnOk result (writing_of writer.new ≡ with_pieces (writing_of writer.old)
         (spec.found_pieces prefix.now (option_map string_bytes principal.now) (description_of description.now) (question_of question.now))) }
 {
@@ -60,6 +65,7 @@ pub(super) fn write_found(
             prefix,
             principal,
             description,
+            risen,
             names,
         ),
     }

@@ -1,10 +1,12 @@
 //! Names of properties, and which of them a resource has.
-ghost use Rattle.std.specs.Prelude.{◌≡◌, ◌∷◌, [], map, option_copied, option_map, unwrap_or, string_bytes, IfOk, OnOk};
+ghost use Rattle.std.specs.Prelude.{◌≡◌, true, ◌∷◌, [], map, option_copied, option_map, unwrap_or, string_bytes, IfOk, OnOk};
 ghost use Rattle.std.specs.List.{flat_map};
+ghost use Rattle.std.specs.Ordering.{is_lt};
 ghost use Rattle.dav_xml_core.specs.Views.{name_of, writing_of};
 ghost use Rattle.dav_xml_core.specs.Writing.{with_nodes};
 ghost use Rattle.dav_files_core.specs.Properties.{property_of};
 ghost use Rattle.dav_documents_core.specs.Private.Describing.{description_of};
+ghost use Rattle.dav_documents_core.specs.Private.Rising.{Rise, order, property_key};
 ghost use Rattle.dav_documents_core.specs.PropertyDocuments as spec;
 ghost use Rattle.dav_documents_core.specs.RefusalBodies.{dav_name, element};
 
@@ -14,20 +16,72 @@ use crate::live_properties::{LIVE, Live, has_live, live_named, live_word};
 use dav_files_core::fs::DavProp;
 use dav_xml_core::davxml::{Name, Writer};
 use std::alloc::{AllocError, Global};
+use std::cmp::Ordering;
 use std::rc::RcStr;
 
 /// Whether a resource has a property with the name.
-pub(super) fn has_value(description: &Description, name: &Name) -> bool
+pub(super) fn has_value(description: &Description, risen: bool, name: &Name) -> bool
+    requires { risen ≡ true → Rise description.now.props.items }
     ensures { result ≡ spec.has_value (description_of description.now) (name_of name.now) }
 {
     match live_named(name) {
         Some(live) => has_live(description.folder, live),
-        None => dead_value(&description.props, name).is_some(),
+        None => dead_value(&description.props, risen, name).is_some(),
     }
 }
 
-/// The element that a client set, with this name.
-pub(super) fn dead_value<'a>(props: &'a [DavProp], name: &Name) -> Option<&'a Vec<u8>>
+/// Whether the keys of properties rise, as a file system gives them (own).
+pub(super) fn rise(props: &[DavProp]) -> bool
+    ensures { result ≡ true → Rise props.now }
+{
+    for place in 1..props.len() {
+        if !is_before(&props[place - 1], &props[place]) {
+            return false;
+        }
+    }
+    true
+}
+
+// Whether one property has a lower key than another.
+fn is_before(one: &DavProp, other: &DavProp) -> bool
+    ensures { result ≡ is_lt (order one.now (property_key other.now)) }
+{
+    compared(one, namespace_of(other), other.name.as_str()).is_lt()
+}
+
+// How the key of a property stands to that of a namespace and a name.
+fn compared(prop: &DavProp, namespace: &str, name: &str) -> Ordering
+    ensures { result ≡ order prop.now (namespace.now, name.now) }
+{
+    match namespace_of(prop).cmp(namespace) {
+        Ordering::Equal => prop.name.as_str().cmp(name),
+        unequal => unequal,
+    }
+}
+
+/// The element that a client set, with this name: by a search in halves where the keys are known to rise, else one after another.
+pub(super) fn dead_value<'a>(props: &'a [DavProp], risen: bool, name: &Name) -> Option<&'a Vec<u8>>
+    requires { risen ≡ true → Rise props.now }
+    ensures { option_map (λ xml. xml.items) (option_copied result) ≡ spec.dead_value (map property_of props.now) (name_of name.now) }
+{
+    if risen {
+        return searched(props, name);
+    }
+    walked(props, name)
+}
+
+fn searched<'a>(props: &'a [DavProp], name: &Name) -> Option<&'a Vec<u8>>
+    requires { Rise props.now }
+    ensures { option_map (λ xml. xml.items) (option_copied result) ≡ spec.dead_value (map property_of props.now) (name_of name.now) }
+{
+    let (namespace, local) = (name.namespace.as_str(), name.local.as_str());
+    match props.binary_search_by(|prop| compared(prop, namespace, local)) {
+        Ok(place) => return props[place].xml.as_ref(),
+        Err(_) => return None,
+    }
+}
+
+fn walked<'a>(props: &'a [DavProp], name: &Name) -> Option<&'a Vec<u8>>
     ensures { option_map (λ xml. xml.items) (option_copied result) ≡ spec.dead_value (map property_of props.now) (name_of name.now) }
 {
     for prop in props {
@@ -78,12 +132,14 @@ pub(super) fn write_missing(
     writer: &mut Writer,
     names: &[Name],
     description: &Description,
+    risen: bool,
 ) -> Result<(), AllocError>
+    requires { risen ≡ true → Rise description.now.props.items }
     ensures { OnOk result (writing_of writer.new ≡ with_nodes (writing_of writer.old)
         (flat_map (spec.missing_nodes (description_of description.now)) (map name_of names.now))) }
 {
     for name in names {
-        write_if_missing(writer, name, description)?;
+        write_if_missing(writer, name, description, risen)?;
     }
     Ok(())
 }
@@ -92,11 +148,13 @@ fn write_if_missing(
     writer: &mut Writer,
     name: &Name,
     description: &Description,
+    risen: bool,
 ) -> Result<(), AllocError>
+    requires { risen ≡ true → Rise description.now.props.items }
     ensures { OnOk result (writing_of writer.new ≡ with_nodes (writing_of writer.old)
         (spec.missing_nodes (description_of description.now) (name_of name.now))) }
 {
-    if has_value(description, name) {
+    if has_value(description, risen, name) {
         return Ok(());
     }
     write_name(writer, name)

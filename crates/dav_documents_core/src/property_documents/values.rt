@@ -1,11 +1,12 @@
 //! Properties with their values.
-ghost use Rattle.std.specs.Prelude.{◌≡◌, codes, decimal, map, option_copied, option_map, string_bytes, OnOk};
+ghost use Rattle.std.specs.Prelude.{◌≡◌, true, codes, decimal, map, option_copied, option_map, string_bytes, OnOk};
 ghost use Rattle.std.specs.List.{flat_map};
 ghost use Rattle.dav_xml_core.specs.Views.{name_of, writing_of};
 ghost use Rattle.dav_xml_core.specs.Writing.{with_nodes};
 ghost use Rattle.dav_files_core.specs.Properties.{property_of};
 ghost use Rattle.dav_documents_core.specs.Pieces.{with_pieces};
 ghost use Rattle.dav_documents_core.specs.Private.Describing.{description_of};
+ghost use Rattle.dav_documents_core.specs.Private.Rising.{Rise};
 ghost use Rattle.dav_documents_core.specs.PropertyDocuments as spec;
 
 use super::Description;
@@ -25,13 +26,15 @@ pub(super) fn write_listed(
     prefix: &str,
     principal: &Option<String>,
     description: &Description,
+    risen: bool,
     names: &[Name],
 ) -> Result<(), AllocError>
+    requires { risen ≡ true → Rise description.now.props.items }
     ensures { OnOk result (writing_of writer.new ≡ with_pieces (writing_of writer.old)
         (flat_map (spec.value_pieces prefix.now (option_map string_bytes principal.now) (description_of description.now)) (map name_of names.now))) }
 {
     for name in names {
-        write_value(alloc, writer, prefix, principal, description, name)?;
+        write_value(alloc, writer, prefix, principal, description, risen, name)?;
     }
     Ok(())
 }
@@ -43,14 +46,16 @@ fn write_value(
     prefix: &str,
     principal: &Option<String>,
     description: &Description,
+    risen: bool,
     name: &Name,
 ) -> Result<(), AllocError>
+    requires { risen ≡ true → Rise description.now.props.items }
     ensures { OnOk result (writing_of writer.new ≡ with_pieces (writing_of writer.old)
         (spec.value_pieces prefix.now (option_map string_bytes principal.now) (description_of description.now) (name_of name.now))) }
 {
     match live_named(name) {
         Some(live) => return write_own(alloc, writer, prefix, principal, description, live),
-        None => return write_kept(writer, dead_value(&description.props, name)),
+        None => return write_kept(writer, dead_value(&description.props, risen, name)),
     }
 }
 

@@ -60,6 +60,8 @@ impl DavFileSystem for MemFs {
 
     ghost contents = { λ m. m };
 
+    ghost metadata_answers = { λ m path told. told ≡ metadata m path };
+
     ghost one_view = { λ m. refl };
 
     ghost offers_create_dir = { true };

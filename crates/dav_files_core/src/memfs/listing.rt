@@ -6,6 +6,7 @@ ghost use Rattle.dav_path_core.specs.Fronts.{Path};
 ghost use Rattle.dav_path_core.specs.Segments.{segments};
 ghost use Rattle.dav_files_core.specs.Finding.{members};
 ghost use Rattle.dav_files_core.specs.Listing.{entry_of, read_dir};
+ghost use Rattle.dav_files_core.specs.Meta.{meta_of};
 ghost use Rattle.dav_files_core.specs.Resources.{Resource, at_path};
 ghost use Rattle.dav_files_core.specs.Private.Entries.{HasNumber};
 ghost use Rattle.dav_files_core.specs.Private.Listed.{numbered, AllNumbers, Described};
@@ -28,6 +29,8 @@ impl DavDirEntry for MemFsEntry {
     type Meta = MemFsMeta;
 
     ghost listed = { entry_of };
+
+    ghost metadata_answers = { λ e told. told ≡ Ok (meta_of e.meta) };
 
     fn name(&self) -> &[u8]
         ensures { result.now ≡ self.now.name }

@@ -1,7 +1,6 @@
 -- What the readers of words answer.
 use Rattle.std.specs.Prelude.{ℕ, List, [], ◌∷◌, map, option_map, string_bytes, bytes_eq, unwrap_or, ◌≡◌, ◌⊎◌, Option, Some, None, Result, Ok, Err, IsUtf8}
 use Rattle.std.specs.Bool.{MatchBool}
-use Rattle.std.specs.Map.{lookup}
 use Rattle.dav_path_core.specs.Fault.{Fault}
 use Rattle.dav_path_core.specs.PathText.{PathText}
 use Rattle.dav_path_core.specs.Reading.{Read}
@@ -9,7 +8,6 @@ use Rattle.dav_path_core.specs.declared.davpath.ParseError.{ParseError}
 use Rattle.dav_path_core.specs.declared.davpath.ParseError.TheVariants.{OutOfMemory as NoRoom}
 use Rattle.dav_resource_core.specs.declared.guarded.requests.Command.{Command}
 use Rattle.dav_resource_core.specs.declared.guarded.requests.Request.{Request}
-use Rattle.dav_resource_core.specs.declared.davreplay.labels.Labels.{Labels}
 use Rattle.dav_resource_core.specs.declared.davreplay.lines.Unread.{Unread}
 use Rattle.dav_resource_core.specs.declared.davreplay.lines.Unread.TheVariants.{Malformed, BadPath, OutOfMemory}
 use Rattle.dav_resource_core.specs.Lines.{Form, form_alone, has_two_paths, form_of_ends, form_with_one, form_with_two, form_with_three, words, Head, head_form, asked}
@@ -18,12 +16,9 @@ use Rattle.dav_resource_core.specs.declared.guarded.requests.Reply.TheVariants.{
 use Rattle.dav_resource_core.specs.declared.guarded.requests.Refusal.{Refusal}
 use Rattle.dav_resource_core.specs.declared.guarded.requests.Refusal.TheVariants.{Fs, Locked, NoLock, OutOfMemory as NoMemory}
 use Rattle.dav_resource_core.specs.AnswerTexts.{error_line, locked_line, no_lock_line, out_of_memory_line}
+use Rattle.dav_resource_core.specs.Labels.{label_in}
 use Rattle.dav_resource_core.specs.Requests as plain
 use Rattle.dav_resource_core.specs.Served.{command_of, request_of}
-
--- the number of the label of a lock's token: that which is kept for it, or 0
-abbrev pub label_number : Labels → List ℕ → ℕ
-label_number labels token = unwrap_or (lookup (λ k. bytes_eq token (string_bytes k)) labels.numbers.entries) 0
 
 -- what a word says, or that it is malformed
 abbrev pub exactly : {U : Type 0} → Option U → Result U Unread
@@ -67,10 +62,6 @@ abbrev pub IsReadOrRoom : Result Command Unread → Result plain.Command Unread 
 IsReadOrRoom (Ok command) wanted = wanted ≡ Ok (command_of command)
 IsReadOrRoom (Err e) wanted = (e ≡ OutOfMemory) ⊎ (wanted ≡ Err e)
 
--- the tokens of the locks granted so far
-abbrev pub granted_tokens : Labels → List (List ℕ)
-granted_tokens labels = map string_bytes labels.tokens.items
-
 -- a command with one word behind its path, which is a second path of some commands
 abbrev pub IsWithOne : List (List ℕ) → List ℕ → Result PathText ParseError → List ℕ → Result Command Unread → Type 0
 IsWithOne tokens command path one result = MatchBool (has_two_paths command)
@@ -111,11 +102,11 @@ abbrev pub LineIs : List (List ℕ) → List ℕ → Result (Option Request) Unr
 LineIs tokens line result = (IsUtf8 line → (result ≡ Err OutOfMemory) ⊎ WordsAre tokens (words line) result) × (¬ IsUtf8 line → result ≡ Err Malformed)
 
 -- the line of a refusal
-abbrev pub refusal_line : Labels → Refusal → List ℕ
-refusal_line labels (Fs e) = error_line e
-refusal_line labels (Locked lock) = locked_line (label_number labels lock.token)
-refusal_line labels NoLock = no_lock_line
-refusal_line labels NoMemory = out_of_memory_line
+abbrev pub refusal_line : List (List ℕ) → Refusal → List ℕ
+refusal_line tokens (Fs e) = error_line e
+refusal_line tokens (Locked lock) = locked_line (label_in tokens lock.token)
+refusal_line tokens NoLock = no_lock_line
+refusal_line tokens NoMemory = out_of_memory_line
 
 -- a reply that shows no single lock
 abbrev pub IsNoLock : Reply → Type 0

@@ -2,13 +2,13 @@
 ghost use Rattle.std.specs.Prelude.{◌≡◌, ◌≤◌, ◌++◌, length, map, OnOk};
 ghost use Rattle.hex.specs.Hex.{encode_lower};
 ghost use Rattle.std.specs.List.{flat_map};
-ghost use Rattle.std.specs.Io.Buffered.{writer_contents};
 ghost use Rattle.std.specs.Io.KnownBytes.{Appends};
 ghost use Rattle.dav_files_core.specs.Listing.{entry_of};
 ghost use Rattle.dav_files_core.specs.Meta.{meta_of};
 ghost use Rattle.dav_files_core.specs.Properties.{answer_of, property_of};
 ghost use Rattle.dav_resource_core.specs.AnswerTexts.{error_line, ok_line, spaced, label_text, hex_text, meta_text, member_text, status_text, property_text, end_text};
-ghost use Rattle.dav_resource_core.specs.Private.Reading.{label_number, refusal_line};
+ghost use Rattle.dav_resource_core.specs.Labels.{label_in};
+ghost use Rattle.dav_resource_core.specs.Private.Reading.{refusal_line};
 
 use super::OUT_OF_MEMORY;
 use super::labels::Labels;
@@ -21,17 +21,17 @@ use dav_path_core::davpath::escaped;
 use dav_path_core::errors::FsError;
 use http::StatusCode;
 use line_streams::Fault;
-use std::io::{BufWriter, Write};
+use std::io::Write;
 
 // At most so many bytes are written at once.
 const CHUNK: usize = 64;
 
 /// The bytes in lower-case hexadecimal digits, `-` for none.
-pub(super) fn write_bytes<O: Write + Drop>(
+pub(super) fn write_bytes<O: Write>(
     bytes: &[u8],
-    output: &mut BufWriter<O>,
+    output: &mut O,
 ) -> Result<(), Fault>
-    ensures { OnOk result (Appends (writer_contents O.contents output.old) (writer_contents O.contents output.new) (ok_line (spaced (hex_text bytes.now)))) }
+    ensures { OnOk result (Appends (O.contents output.old) (O.contents output.new) (ok_line (spaced (hex_text bytes.now)))) }
 {
     if bytes.is_empty() {
         return Ok(output.write_all(b"ok -\n")?);
@@ -44,9 +44,9 @@ pub(super) fn write_bytes<O: Write + Drop>(
 }
 
 // So many bytes, at most `CHUNK`.
-fn write_chunk<O: Write + Drop>(chunk: &[u8], output: &mut BufWriter<O>) -> Result<(), Fault>
+fn write_chunk<O: Write>(chunk: &[u8], output: &mut O) -> Result<(), Fault>
     requires { length chunk.now ≤ 64 }
-    ensures { OnOk result (Appends (writer_contents O.contents output.old) (writer_contents O.contents output.new) (encode_lower chunk.now)) }
+    ensures { OnOk result (Appends (O.contents output.old) (O.contents output.new) (encode_lower chunk.now)) }
 {
     let mut digits = [0; 2 * CHUNK];
     let digits = &mut digits[..2 * chunk.len()];
@@ -57,11 +57,11 @@ fn write_chunk<O: Write + Drop>(chunk: &[u8], output: &mut BufWriter<O>) -> Resu
 }
 
 /// The names of members as URL texts, with `/` after a folder's.
-pub(super) fn write_entries<O: Write + Drop>(
+pub(super) fn write_entries<O: Write>(
     entries: &[MemFsEntry],
-    output: &mut BufWriter<O>,
+    output: &mut O,
 ) -> Result<(), Fault>
-    ensures { OnOk result (Appends (writer_contents O.contents output.old) (writer_contents O.contents output.new) (ok_line (flat_map member_text (map entry_of entries.now)))) }
+    ensures { OnOk result (Appends (O.contents output.old) (O.contents output.new) (ok_line (flat_map member_text (map entry_of entries.now)))) }
 {
     output.write_all(b"ok")?;
     for entry in entries {
@@ -70,8 +70,8 @@ pub(super) fn write_entries<O: Write + Drop>(
     Ok(output.write_all(b"\n")?)
 }
 
-fn write_entry<O: Write + Drop>(entry: &MemFsEntry, output: &mut BufWriter<O>) -> Result<(), Fault>
-    ensures { OnOk result (Appends (writer_contents O.contents output.old) (writer_contents O.contents output.new) (member_text (entry_of entry.now))) }
+fn write_entry<O: Write>(entry: &MemFsEntry, output: &mut O) -> Result<(), Fault>
+    ensures { OnOk result (Appends (O.contents output.old) (O.contents output.new) (member_text (entry_of entry.now))) }
 {
     write!(output, " {}", escaped(entry.name()))?;
     if entry.is_dir() == Ok(true) {
@@ -81,11 +81,11 @@ fn write_entry<O: Write + Drop>(entry: &MemFsEntry, output: &mut BufWriter<O>) -
 }
 
 /// The kind, the length and the times of a file or a folder.
-pub(super) fn write_meta<O: Write + Drop>(
+pub(super) fn write_meta<O: Write>(
     meta: &MemFsMeta,
-    output: &mut BufWriter<O>,
+    output: &mut O,
 ) -> Result<(), Fault>
-    ensures { OnOk result (Appends (writer_contents O.contents output.old) (writer_contents O.contents output.new) (ok_line (meta_text (meta_of meta.now)))) }
+    ensures { OnOk result (Appends (O.contents output.old) (O.contents output.new) (ok_line (meta_text (meta_of meta.now)))) }
 {
     let kind = match meta.kind {
         Kind::Folder => "folder",
@@ -96,11 +96,11 @@ pub(super) fn write_meta<O: Write + Drop>(
 }
 
 /// The status of each property that was set or removed.
-pub(super) fn write_statuses<O: Write + Drop>(
+pub(super) fn write_statuses<O: Write>(
     answers: &[(StatusCode, DavProp)],
-    output: &mut BufWriter<O>,
+    output: &mut O,
 ) -> Result<(), Fault>
-    ensures { OnOk result (Appends (writer_contents O.contents output.old) (writer_contents O.contents output.new) (ok_line (flat_map status_text (map answer_of answers.now)))) }
+    ensures { OnOk result (Appends (O.contents output.old) (O.contents output.new) (ok_line (flat_map status_text (map answer_of answers.now)))) }
 {
     output.write_all(b"ok")?;
     for answer in answers {
@@ -109,21 +109,21 @@ pub(super) fn write_statuses<O: Write + Drop>(
     Ok(output.write_all(b"\n")?)
 }
 
-fn write_status<O: Write + Drop>(
+fn write_status<O: Write>(
     answer: &(StatusCode, DavProp),
-    output: &mut BufWriter<O>,
+    output: &mut O,
 ) -> Result<(), Fault>
-    ensures { OnOk result (Appends (writer_contents O.contents output.old) (writer_contents O.contents output.new) (status_text (answer_of answer.now))) }
+    ensures { OnOk result (Appends (O.contents output.old) (O.contents output.new) (status_text (answer_of answer.now))) }
 {
     Ok(write!(output, " {}", answer.0.as_u16())?)
 }
 
 /// The namespaces and the names of properties, `-` for no namespace.
-pub(super) fn write_props<O: Write + Drop>(
+pub(super) fn write_props<O: Write>(
     props: &[DavProp],
-    output: &mut BufWriter<O>,
+    output: &mut O,
 ) -> Result<(), Fault>
-    ensures { OnOk result (Appends (writer_contents O.contents output.old) (writer_contents O.contents output.new) (ok_line (flat_map property_text (map property_of props.now)))) }
+    ensures { OnOk result (Appends (O.contents output.old) (O.contents output.new) (ok_line (flat_map property_text (map property_of props.now)))) }
 {
     output.write_all(b"ok")?;
     for prop in props {
@@ -132,8 +132,8 @@ pub(super) fn write_props<O: Write + Drop>(
     Ok(output.write_all(b"\n")?)
 }
 
-fn write_prop<O: Write + Drop>(prop: &DavProp, output: &mut BufWriter<O>) -> Result<(), Fault>
-    ensures { OnOk result (Appends (writer_contents O.contents output.old) (writer_contents O.contents output.new) (property_text (property_of prop.now))) }
+fn write_prop<O: Write>(prop: &DavProp, output: &mut O) -> Result<(), Fault>
+    ensures { OnOk result (Appends (O.contents output.old) (O.contents output.new) (property_text (property_of prop.now))) }
 {
     let namespace = match &prop.namespace {
         Some(namespace) => namespace.as_str(),
@@ -143,12 +143,12 @@ fn write_prop<O: Write + Drop>(prop: &DavProp, output: &mut BufWriter<O>) -> Res
 }
 
 /// The labels of locks.
-pub(super) fn write_locks<O: Write + Drop>(
+pub(super) fn write_locks<O: Write>(
     labels: &Labels,
     locks: &[DavLock],
-    output: &mut BufWriter<O>,
+    output: &mut O,
 ) -> Result<(), Fault>
-    ensures { OnOk result (Appends (writer_contents O.contents output.old) (writer_contents O.contents output.new) (ok_line (flat_map (λ token. spaced (label_text (label_number labels.now token))) (map (λ lock. lock.token) locks.now)))) }
+    ensures { OnOk result (Appends (O.contents output.old) (O.contents output.new) (ok_line (flat_map (λ token. spaced (label_text (label_in labels.now token))) (map (λ lock. lock.token) locks.now)))) }
 {
     output.write_all(b"ok")?;
     for lock in locks {
@@ -157,24 +157,24 @@ pub(super) fn write_locks<O: Write + Drop>(
     Ok(output.write_all(b"\n")?)
 }
 
-fn write_label<O: Write + Drop>(
+fn write_label<O: Write>(
     labels: &Labels,
     lock: &DavLock,
-    output: &mut BufWriter<O>,
+    output: &mut O,
 ) -> Result<(), Fault>
-    ensures { OnOk result (Appends (writer_contents O.contents output.old) (writer_contents O.contents output.new) (spaced (label_text (label_number labels.now lock.now.token)))) }
+    ensures { OnOk result (Appends (O.contents output.old) (O.contents output.new) (spaced (label_text (label_in labels.now lock.now.token)))) }
 {
     Ok(write!(output, " t{}", labels.number_of(&lock.token))?)
 }
 
 /// The label of a lock, and the moment at which its timeout ends, `-` for none.
-pub(super) fn write_refreshed<O: Write + Drop>(
+pub(super) fn write_refreshed<O: Write>(
     labels: &Labels,
     lock: &DavLock,
-    output: &mut BufWriter<O>,
+    output: &mut O,
 ) -> Result<(), Fault>
-    ensures { OnOk result (Appends (writer_contents O.contents output.old) (writer_contents O.contents output.new)
-        (ok_line (spaced (label_text (label_number labels.now lock.now.token)) ++ spaced (end_text lock.now.timeout_at)))) }
+    ensures { OnOk result (Appends (O.contents output.old) (O.contents output.new)
+        (ok_line (spaced (label_text (label_in labels.now lock.now.token)) ++ spaced (end_text lock.now.timeout_at)))) }
 {
     let number = labels.number_of(&lock.token);
     match lock.timeout_at {
@@ -184,12 +184,12 @@ pub(super) fn write_refreshed<O: Write + Drop>(
 }
 
 /// The name of a refusal, and the label of a lock in the way.
-pub(super) fn write_refusal<O: Write + Drop>(
+pub(super) fn write_refusal<O: Write>(
     labels: &Labels,
     refusal: &Refusal,
-    output: &mut BufWriter<O>,
+    output: &mut O,
 ) -> Result<(), Fault>
-    ensures { OnOk result (Appends (writer_contents O.contents output.old) (writer_contents O.contents output.new) (refusal_line labels.now refusal.now)) }
+    ensures { OnOk result (Appends (O.contents output.old) (O.contents output.new) (refusal_line labels.now refusal.now)) }
 {
     match refusal {
         Refusal::Fs(error) => write_file_error(*error, output),
@@ -199,8 +199,8 @@ pub(super) fn write_refusal<O: Write + Drop>(
     }
 }
 
-fn write_file_error<O: Write + Drop>(error: FsError, output: &mut BufWriter<O>) -> Result<(), Fault>
-    ensures { OnOk result (Appends (writer_contents O.contents output.old) (writer_contents O.contents output.new) (error_line error)) }
+fn write_file_error<O: Write>(error: FsError, output: &mut O) -> Result<(), Fault>
+    ensures { OnOk result (Appends (O.contents output.old) (O.contents output.new) (error_line error)) }
 {
     let status = error.status().as_u16();
     Ok(writeln!(output, "error {status} {}", file_error(error))?)

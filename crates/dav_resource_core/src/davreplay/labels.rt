@@ -1,13 +1,14 @@
 //! Labels of locks: `tN` stands for the token of the lock that was granted as the N-th.
-ghost use Rattle.std.specs.Prelude.{◌≡◌, [], ◌∷◌, ◌++◌, map, option_map, string_bytes, IfOk, OnOk};
+ghost use Rattle.std.specs.Prelude.{◌≡◌, [], ◌∷◌, ◌++◌, map, option_map, Some, None, string_bytes, IfOk, OnOk, OnErr};
+ghost use Rattle.dav_resource_core.specs.Labels.{label_in, smallest_label};
 ghost use Rattle.dav_resource_core.specs.Lines.{nth_token, token_at, token_of};
-ghost use Rattle.dav_resource_core.specs.Private.Reading.{granted_tokens, label_number};
 
 use line_streams::numbers::number;
 use std::alloc::{AllocError, Global};
 use std::collections::HashMap;
+use std::marker::Model;
 
-/// The locks granted so far, by their tokens.
+/// The locks granted so far, by their tokens. It is seen as the list of these, in the order of granting.
 #[derive(Drop)]
 pub(super) struct Labels {
     alloc: Global,
@@ -17,9 +18,23 @@ pub(super) struct Labels {
     numbers: HashMap<String, usize>,
 }
 
+impl Model for Labels {
+    ghost use Rattle.std.specs.Prelude.{ℕ, List, map, string_bytes};
+    ghost use Rattle.std.specs.HashMap.{get_by_text};
+    ghost use Rattle.dav_resource_core.specs.Private.Labels.{coded_tokens, AreSmallest};
+
+    ghost Value = { List (List ℕ) };
+
+    ghost coded = { coded_tokens };
+
+    ghost view = { λ labels. map string_bytes labels.tokens.items };
+
+    ghost invariant = { λ labels. AreSmallest (map string_bytes labels.tokens.items) (get_by_text labels.numbers) };
+}
+
 impl Labels {
     pub(super) fn new(alloc: Global) -> Labels
-        ensures { granted_tokens result ≡ [] }
+        ensures { result ≡ [] }
     {
         Labels {
             alloc,
@@ -29,26 +44,41 @@ impl Labels {
     }
 
     /// Keeps the token of a lock that was granted, and gives the number of its label.
-    #[tactic(auto, using(std::proofs::lemmas::List::map_push))]
     pub(super) fn add(&mut self, token: String) -> Result<usize, AllocError>
-        ensures tokens { OnOk result (granted_tokens self.new ≡ granted_tokens self.old ++ string_bytes token ∷ []) }
-        ensures number { IfOk result (λ number. number ≡ label_number self.new (string_bytes token)) }
+        ensures tokens { OnOk result (self.new ≡ self.old ++ string_bytes token ∷ []) }
+        ensures number { IfOk result (λ number. number ≡ label_in self.new (string_bytes token)) }
+        ensures err { OnErr result (self.new ≡ self.old) }
     {
-        let number = match self.numbers.get(token.as_str()) {
-            Some(number) => *number,
-            None => {
-                let number = self.tokens.len() + 1;
-                self.numbers.insert(token.clone()?, number)?;
-                number
+        match self.numbers.get(token.as_str()).copied() {
+            Some(number) => {
+                self.tokens.push(token)?;
+                Ok(number)
             }
-        };
-        self.tokens.push(token)?;
-        Ok(number)
+            None => self.add_first(token),
+        }
+    }
+
+    // The same, of a token that no lock was granted with before.
+    fn add_first(&mut self, token: String) -> Result<usize, AllocError>
+        requires { smallest_label self.old (string_bytes token) ≡ None }
+        ensures tokens { OnOk result (self.new ≡ self.old ++ string_bytes token ∷ []) }
+        ensures number { IfOk result (λ number. smallest_label self.new (string_bytes token) ≡ Some number) }
+        ensures err { OnErr result (self.new ≡ self.old) }
+    {
+        self.tokens.push(token.clone()?)?;
+        let number = self.tokens.len();
+        match self.numbers.insert(token, number) {
+            Ok(_) => return Ok(number),
+            Err(_) => {
+                let _undone = self.tokens.pop();
+                return Err(AllocError);
+            }
+        }
     }
 
     /// The number of a token's label. Every lock of the stores was granted here; one that wasn't would be 0.
     pub(super) fn number_of(&self, token: &str) -> usize
-        ensures { result ≡ label_number self.now token.now }
+        ensures { result ≡ label_in self.now token.now }
     {
         self.numbers.get(token).copied().unwrap_or(0)
     }
@@ -56,7 +86,7 @@ impl Labels {
     /// The tokens that labels stand for.
     pub(super) fn tokens_of(&self, labels: &[&str]) -> Result<Vec<String>, AllocError>
         ensures { IfOk result (λ tokens. map string_bytes tokens.items
-            ≡ map (λ label. token_of (granted_tokens self.now) label.now) labels.now) }
+            ≡ map (λ label. token_of self.now label.now) labels.now) }
     {
         let mut tokens = Vec::new(self.alloc);
         for label in labels {
@@ -67,7 +97,7 @@ impl Labels {
 
     /// The token that a label stands for; where no such lock was granted its own text, which is no token.
     pub(super) fn token_of(&self, label: &str) -> Result<String, AllocError>
-        ensures { IfOk result (λ token. string_bytes token ≡ token_of (granted_tokens self.now) label.now) }
+        ensures { IfOk result (λ token. string_bytes token ≡ token_of self.now label.now) }
     {
         match self.granted_at(label) {
             Some(token) => String::from_str(self.alloc, token),
@@ -78,7 +108,7 @@ impl Labels {
     // The token of the lock that a label names, if it was granted.
     #[tactic(auto, unfolding(crate::specs::Lines::token_at))]
     fn granted_at(&self, label: &str) -> Option<&str>
-        ensures { option_map (λ token. token.now) result ≡ token_at (granted_tokens self.now) label.now }
+        ensures { option_map (λ token. token.now) result ≡ token_at self.now label.now }
     {
         self.nth(number(label.strip_prefix("t")?)?)
     }
@@ -86,7 +116,7 @@ impl Labels {
     // The token of the lock that was granted as the N-th, from 1.
     #[tactic(auto, unfolding(crate::specs::Lines::nth_token))]
     fn nth(&self, number: u64) -> Option<&str>
-        ensures { option_map (λ token. token.now) result ≡ nth_token (granted_tokens self.now) number }
+        ensures { option_map (λ token. token.now) result ≡ nth_token (self.now) number }
     {
         if number == 0 {
             return None;

@@ -7,7 +7,7 @@ ghost use Rattle.dav_headers_core.specs.Pieces.{is_comma};
 ghost use Rattle.line_streams.specs.Numerals.{numeral};
 ghost use Rattle.dav_resource_core.specs.Lines.{words, depth_word, scope_word, timeout_word, place_word, number_or, head_form, text_word, hex_word, is_count, is_label, labels_word, put_form, write_form, read_form, move_form, copy_form, set_form, delete_form, props_form, prop_form, lock_form, check_form, unlock_form, refresh_form, form_alone, has_two_paths, form_of_ends, form_with_one, form_with_two, form_with_three};
 ghost use Rattle.dav_resource_core.specs.Requests.Command.{PatchProps};
-ghost use Rattle.dav_resource_core.specs.Private.Reading.{exactly, Gives, IsWithOne, CommandIs, both, reading, IsRead, IsReadOrRoom, IsAskedOrRoom, asking, WordsAre, LineIs, granted_tokens};
+ghost use Rattle.dav_resource_core.specs.Private.Reading.{exactly, Gives, IsWithOne, CommandIs, both, reading, IsRead, IsReadOrRoom, IsAskedOrRoom, asking, WordsAre, LineIs};
 
 use super::labels::Labels;
 use crate::guarded::{Command, Request};
@@ -68,7 +68,7 @@ pub(super) fn request_of(
     granted: &Labels,
     line: &[u8],
 ) -> Result<Option<Request>, Unread>
-    ensures { LineIs (granted_tokens granted.now) line.now result }
+    ensures { LineIs granted.now line.now result }
 {
     let Ok(text) = str::from_utf8(line) else {
         return Err(Unread::Malformed);
@@ -83,7 +83,7 @@ fn request_of_words(
     granted: &Labels,
     words: &[&str],
 ) -> Result<Option<Request>, Unread>
-    ensures { WordsAre (granted_tokens granted.now) (map (λ word. word.now) words.now) result }
+    ensures { WordsAre granted.now (map (λ word. word.now) words.now) result }
 {
     match words {
         [] => Ok(None),
@@ -105,7 +105,7 @@ fn with_head(
     labels: &str,
     command: Result<Command, Unread>,
 ) -> Result<Option<Request>, Unread>
-    ensures { IsAskedOrRoom result (asking (head_form (granted_tokens granted.now) moment.now principal.now labels.now) command) }
+    ensures { IsAskedOrRoom result (asking (head_form granted.now moment.now principal.now labels.now) command) }
 {
     let now = Moment(number_of(moment)?);
     let labels = labels_of(alloc, labels)?;
@@ -140,7 +140,7 @@ fn command_of(
     path: Path,
     args: &[&str],
 ) -> Result<Command, Unread>
-    ensures { CommandIs (granted_tokens granted.now) command.now path (map (λ arg. arg.now) args.now) result }
+    ensures { CommandIs granted.now command.now path (map (λ arg. arg.now) args.now) result }
 {
     match args {
         [] => with_no_words(command, path),
@@ -174,7 +174,7 @@ fn with_one_word(
     path: Path,
     one: &str,
 ) -> Result<Command, Unread>
-    ensures { IsWithOne (granted_tokens granted.now) command.now path one.now result }
+    ensures { IsWithOne granted.now command.now path one.now result }
 {
     if has_two_paths(command) {
         return with_two_paths(command, path, DavPath::new(alloc, one));
@@ -207,7 +207,7 @@ fn at_one_path(
     path: Path,
     one: &str,
 ) -> Result<Command, Unread>
-    ensures { IsReadOrRoom result (reading (form_with_one (granted_tokens granted.now) command.now one.now) path) }
+    ensures { IsReadOrRoom result (reading (form_with_one granted.now command.now one.now) path) }
 {
     match command {
         "put" => put(alloc, path, one),
@@ -226,7 +226,7 @@ fn with_two_words(
     one: &str,
     two: &str,
 ) -> Result<Command, Unread>
-    ensures { IsReadOrRoom result (reading (form_with_two (granted_tokens granted.now) command.now one.now two.now) path) }
+    ensures { IsReadOrRoom result (reading (form_with_two granted.now command.now one.now two.now) path) }
 {
     match command {
         "write" => write(alloc, path, one, two),
@@ -360,7 +360,7 @@ fn lock(path: Path, scope: &str, depth: &str, timeout: &str) -> Result<Command, 
 }
 
 fn unlock(granted: &Labels, path: Path, label: &str) -> Result<Command, Unread>
-    ensures { IsReadOrRoom result (reading (unlock_form (granted_tokens granted.now) label.now) path) }
+    ensures { IsReadOrRoom result (reading (unlock_form granted.now label.now) path) }
 {
     if !is_label(label) {
         return Err(Unread::Malformed);
@@ -371,7 +371,7 @@ fn unlock(granted: &Labels, path: Path, label: &str) -> Result<Command, Unread>
 }
 
 fn refresh(granted: &Labels, path: Path, label: &str, timeout: &str) -> Result<Command, Unread>
-    ensures { IsReadOrRoom result (reading (refresh_form (granted_tokens granted.now) label.now timeout.now) path) }
+    ensures { IsReadOrRoom result (reading (refresh_form granted.now label.now timeout.now) path) }
 {
     if !is_label(label) {
         return Err(Unread::Malformed);

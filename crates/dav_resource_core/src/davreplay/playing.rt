@@ -1,9 +1,9 @@
 //! Answers to the lines of a scenario.
 ghost use Rattle.std.specs.Prelude.{◌≡◌, ◌∷◌, ◌++◌, [], ℕ, List, Ok, OnOk, string_bytes};
-ghost use Rattle.std.specs.Io.Buffered.{writer_contents};
 ghost use Rattle.std.specs.Io.KnownBytes.{Appends};
 ghost use Rattle.dav_resource_core.specs.AnswerTexts.{answer_line, label_text, lock_line, ok_line, reply_line, spaced, tokens_after};
-ghost use Rattle.dav_resource_core.specs.Private.Reading.{granted_tokens, label_number, IsNoLock};
+ghost use Rattle.dav_resource_core.specs.Labels.{label_in};
+ghost use Rattle.dav_resource_core.specs.Private.Reading.{IsNoLock};
 ghost use Rattle.dav_resource_core.specs.Requests as plain;
 ghost use Rattle.dav_resource_core.specs.declared.guarded.requests.Reply.TheVariants.{Lock as Granted};
 ghost use Rattle.dav_resource_core.specs.Private.Playing.{Answered};
@@ -19,7 +19,7 @@ use crate::guarded::{Command, Guarded, Refusal, Reply, Request};
 use dav_locks_core::ls::DavLock;
 use line_streams::Fault;
 use rand_core::Rng;
-use std::io::{BufWriter, Write};
+use std::io::Write;
 
 /// The stores, the generator of lock tokens, and the labels of the locks granted so far.
 #[derive(Drop)]
@@ -31,14 +31,14 @@ pub(super) struct Player<R: Rng + Drop> {
 
 impl<R: Rng + Drop> Player<R> {
     /// Runs a request, and writes its answer.
-    pub(super) fn answer<O: Write + Drop>(
+    pub(super) fn answer<O: Write>(
         &mut self,
         request: &Request,
-        output: &mut BufWriter<O>,
+        output: &mut O,
     ) -> Result<(), Fault>
         ensures { OnOk result ((written : List ℕ) × Answered (state_of self.old.stores (R.stream self.old.rng), self.old.labels) (request_of request.entry.now)
             (state_of self.new.stores (R.stream self.new.rng), self.new.labels) written
-            × Appends (writer_contents O.contents output.old) (writer_contents O.contents output.new) written) }
+            × Appends (O.contents output.old) (O.contents output.new) written) }
     {
         let answer = self.stores.apply(request, &mut self.rng);
         write_answer(&mut self.labels, &request.command, answer, output)
@@ -46,15 +46,15 @@ impl<R: Rng + Drop> Player<R> {
 }
 
 // The line of the answer to a command. The token of a lock that was granted is kept.
-fn write_answer<O: Write + Drop>(
+fn write_answer<O: Write>(
     labels: &mut Labels,
     command: &Command,
     answer: Result<Reply, Refusal>,
-    output: &mut BufWriter<O>,
+    output: &mut O,
 ) -> Result<(), Fault>
-    ensures tokens { OnOk result (granted_tokens labels.new ≡ tokens_after (command_of command.now) (answer_of answer) (granted_tokens labels.old)) }
-    ensures line { OnOk result (Appends (writer_contents O.contents output.old) (writer_contents O.contents output.new)
-        (answer_line (label_number labels.new) (command_of command.now) (answer_of answer))) }
+    ensures tokens { OnOk result (labels.new ≡ tokens_after (command_of command.now) (answer_of answer) labels.old) }
+    ensures line { OnOk result (Appends (O.contents output.old) (O.contents output.new)
+        (answer_line (label_in labels.new) (command_of command.now) (answer_of answer))) }
 {
     match answer {
         Ok(Reply::Lock(lock)) => write_lock(labels, command, lock, output),
@@ -64,15 +64,15 @@ fn write_answer<O: Write + Drop>(
 }
 
 // The label of a lock: the token of one that was granted is kept, and of one that was refreshed its end is told.
-fn write_lock<O: Write + Drop>(
+fn write_lock<O: Write>(
     labels: &mut Labels,
     command: &Command,
     lock: DavLock,
-    output: &mut BufWriter<O>,
+    output: &mut O,
 ) -> Result<(), Fault>
-    ensures tokens { OnOk result (granted_tokens labels.new ≡ tokens_after (command_of command.now) (answer_of (Ok (Granted lock))) (granted_tokens labels.old)) }
-    ensures line { OnOk result (Appends (writer_contents O.contents output.old) (writer_contents O.contents output.new)
-        (lock_line (label_number labels.new) (command_of command.now) lock)) }
+    ensures tokens { OnOk result (labels.new ≡ tokens_after (command_of command.now) (answer_of (Ok (Granted lock))) labels.old) }
+    ensures line { OnOk result (Appends (O.contents output.old) (O.contents output.new)
+        (lock_line (label_in labels.new) (command_of command.now) lock)) }
 {
     match command {
         Command::Refresh { .. } => write_refreshed(labels, &lock, output),
@@ -81,28 +81,28 @@ fn write_lock<O: Write + Drop>(
 }
 
 // The label of a lock that was granted, whose token is kept.
-fn write_granted<O: Write + Drop>(
+fn write_granted<O: Write>(
     labels: &mut Labels,
     token: String,
-    output: &mut BufWriter<O>,
+    output: &mut O,
 ) -> Result<(), Fault>
-    ensures tokens { OnOk result (granted_tokens labels.new ≡ granted_tokens labels.old ++ string_bytes token ∷ []) }
-    ensures line { OnOk result (Appends (writer_contents O.contents output.old) (writer_contents O.contents output.new)
-        (ok_line (spaced (label_text (label_number labels.new (string_bytes token)))))) }
+    ensures tokens { OnOk result (labels.new ≡ labels.old ++ string_bytes token ∷ []) }
+    ensures line { OnOk result (Appends (O.contents output.old) (O.contents output.new)
+        (ok_line (spaced (label_text (label_in labels.new (string_bytes token)))))) }
 {
     let number = labels.add(token)?;
     Ok(writeln!(output, "ok t{number}")?)
 }
 
 // The line of a reply that shows no single lock.
-fn write_reply<O: Write + Drop>(
+fn write_reply<O: Write>(
     labels: &Labels,
     reply: &Reply,
-    output: &mut BufWriter<O>,
+    output: &mut O,
 ) -> Result<(), Fault>
     requires { IsNoLock reply.now }
-    ensures { (command : plain.Command) → OnOk result (Appends (writer_contents O.contents output.old) (writer_contents O.contents output.new)
-        (reply_line (label_number labels.now) command (reply_of reply.now))) }
+    ensures { (command : plain.Command) → OnOk result (Appends (O.contents output.old) (O.contents output.new)
+        (reply_line (label_in labels.now) command (reply_of reply.now))) }
 {
     match reply {
         Reply::Done => Ok(output.write_all(b"ok\n")?),

@@ -1,5 +1,4 @@
 use Rattle.std.proofs.Common.{◌≡◌}
-use Rattle.std.specs.Io.Buffered.{writer_contents}
 use Rattle.std.specs.Slice.Iter.{chunks_rest, chunks_size}
 use Rattle.dav_resource_core.proofs.Texts.{WroteFront}
 use Rattle.dav_resource_core.proofs.davreplay.answers.write_bytes.Given as goal
@@ -9,4 +8,4 @@ invariant-loop-chunk g l =
     (goal.iterator-loop-chunk g).can_next l.chunk-iterator
     × (goal.iterator-loop-chunk g).is_finite l.chunk-iterator
     × (chunks_size l.chunk-iterator ≡ 64)
-    × WroteFront (writer_contents g.O.Write.contents l.initial.output) (writer_contents g.O.Write.contents l.output) l.bytes (chunks_rest l.chunk-iterator)
+    × WroteFront (g.O.Write.contents l.initial.output) (g.O.Write.contents l.output) l.bytes (chunks_rest l.chunk-iterator)

@@ -1,5 +1,4 @@
 use Rattle.std.proofs.Common.{map, take}
-use Rattle.std.specs.Io.Buffered.{writer_contents}
 use Rattle.std.specs.Io.KnownBytes.{Appends}
 use Rattle.std.specs.List.{flat_map}
 use Rattle.dav_files_core.specs.Properties.{property_of}
@@ -7,4 +6,4 @@ use Rattle.dav_resource_core.specs.AnswerTexts.{property_text}
 use Rattle.dav_resource_core.proofs.davreplay.answers.write_props.Given as goal
 
 abbrev pub invariant-loop-prop : goal.invariant-loop-prop
-invariant-loop-prop g l = Appends (writer_contents g.O.Write.contents l.initial.output) (writer_contents g.O.Write.contents l.output) (flat_map property_text (map property_of (take l.prop-index l.props)))
+invariant-loop-prop g l = Appends (g.O.Write.contents l.initial.output) (g.O.Write.contents l.output) (flat_map property_text (map property_of (take l.prop-index l.props)))

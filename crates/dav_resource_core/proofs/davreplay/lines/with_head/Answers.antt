@@ -1,7 +1,7 @@
 use Rattle.std.proofs.Common.{◌≡◌, ℕ, List, [], ◌∷◌, Bor, Option, Some, None, Ok, map, option_map, string_bytes, refl, sym, ap, ◌∙◌}
 use Rattle.dav_headers_core.specs.Optional.{◌>>=◌}
 use Rattle.dav_resource_core.specs.Lines.{head_form, labels_word, text_word, token_of}
-use Rattle.dav_resource_core.specs.Private.Reading.{asking, exactly, granted_tokens}
+use Rattle.dav_resource_core.specs.Private.Reading.{asking, exactly}
 use Rattle.line_streams.specs.Numerals.{numeral}
 use Rattle.dav_resource_core.proofs.davreplay.lines.with_head.Goals as goal
 
@@ -17,7 +17,7 @@ pub returns : goal.returns
 returns c = read ∙ ap (λ tokens. asking (Some (record { now = c.in_ok-number_of.field-0; principal = option_map string_bytes c.in_ok-principal.principal; tokens = tokens })) (Ok c.in_ok-command.command)) tokens
   where
     granted : List (List ℕ)
-    granted = granted_tokens c.args.granted.now
+    granted = c.args.granted.now
 
     moment : numeral c.args.moment.now ≡ Some c.in_ok-number_of.field-0
     moment = said (numeral c.args.moment.now) c.in_ok-number_of.field-0 c.in_ok-number_of.ensures

@@ -2,7 +2,7 @@ use Rattle.std.proofs.Common.{◌≡◌, drop, map}
 use Rattle.dav_xml_core.specs.Views.{name_of}
 use Rattle.dav_files_core.specs.Properties.{property_of}
 use Rattle.dav_documents_core.specs.PropertyDocuments.{dead_value}
-use Rattle.dav_documents_core.proofs.property_documents.names.dead_value.Given as goal
+use Rattle.dav_documents_core.proofs.property_documents.names.walked.Given as goal
 
 -- the property with the name is not among those that are passed
 abbrev pub invariant-loop-prop : goal.invariant-loop-prop

@@ -35,7 +35,7 @@ module _ {K X : Type 0} {R : K → K → Ordering} (o : IsTotalOrder R) (key : X
       let n = i - (k + 1) in
       let there : k + suc n ≡ i = omega arith in
       let less : R (key (get_or xs k d)) (key (get_or xs i d)) ≡ Less =
-          subst (λ j. R (key (get_or xs k d)) (key (get_or xs j d)) ≡ Less) there (below_later n k d (omega arith)) in
+      subst (λ j. R (key (get_or xs k d)) (key (get_or xs j d)) ≡ Less) there (below_later n k d (omega arith)) in
       o.antisymm (key (get_or xs k d)) x ∙ ap ordering_reverse (sym (o.congr _ _ (key (get_or xs k d)) found)) ∙ sym (o.antisymm _ _) ∙ less
 
   -- where it finds none, no key is the one sought

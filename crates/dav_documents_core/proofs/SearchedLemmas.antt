@@ -73,7 +73,8 @@ found props name i d rise inside equal = value_at props name i d inside before (
         let same = named_equal (property_of (get_or props k d)) name is in
         let wrong : Less ≡ Equal = sym less ∙ same in cc)
 
-pub missing : (props : List DavProp) (name : Name) (i : ℕ) (d : DavProp) → Rise props → IsBinarySearchResult (λ p. order p (asked name)) props (Err i)
+pub missing : (props : List DavProp) (name : Name) (i : ℕ) → Rise props → IsBinarySearchResult (λ p. order p (asked name)) props (Err i)
     → dead_value (map property_of props) name ≡ None
-missing props name i d rise answer = no_value props name d (λ k lt. false_from_ne_true (is_named name (property_of (get_or props k d))) (λ is.
-    none_equal key_total property_key props rise (asked name) i k d answer lt (named_equal (property_of (get_or props k d)) name is)))
+missing [] name i rise answer = refl
+missing (p ∷ props) name i rise answer = no_value (p ∷ props) name p (λ k lt. false_from_ne_true (is_named name (property_of (get_or (p ∷ props) k p))) (λ is.
+    none_equal key_total property_key (p ∷ props) rise (asked name) i k p answer lt (named_equal (property_of (get_or (p ∷ props) k p)) name is)))

@@ -63,7 +63,15 @@ pub fn write_response(
     begin(writer, "response")?;
     write_text(writer, "href", &description.url)?;
     let risen = rise(&description.props);
-    write_found_stat(alloc, writer, prefix, principal, question, description, risen)?;
+    write_found_stat(
+        alloc,
+        writer,
+        prefix,
+        principal,
+        question,
+        description,
+        risen,
+    )?;
     write_missing_stat(writer, names_asked(question), description, risen)?;
     writer.end()
 }
@@ -83,7 +91,15 @@ fn write_found_stat(
         (spec.found_stat prefix.now (option_map string_bytes principal.now) (question_of question.now) (description_of description.now))) }
 {
     if finds(description, risen, question) {
-        return write_found_props(alloc, writer, prefix, principal, question, description, risen);
+        return write_found_props(
+            alloc,
+            writer,
+            prefix,
+            principal,
+            question,
+            description,
+            risen,
+        );
     }
     Ok(())
 }
@@ -102,7 +118,15 @@ fn write_found_props(
         (spec.found_pieces prefix.now (option_map string_bytes principal.now) (description_of description.now) (question_of question.now)))) }
 {
     begin_stat(writer)?;
-    write_found(alloc, writer, prefix, principal, question, description, risen)?;
+    write_found(
+        alloc,
+        writer,
+        prefix,
+        principal,
+        question,
+        description,
+        risen,
+    )?;
     end_stat(writer, "HTTP/1.1 200 OK")
 }
 

@@ -27,10 +27,7 @@ use std::io::Write;
 const CHUNK: usize = 64;
 
 /// The bytes in lower-case hexadecimal digits, `-` for none.
-pub(super) fn write_bytes<O: Write>(
-    bytes: &[u8],
-    output: &mut O,
-) -> Result<(), Fault>
+pub(super) fn write_bytes<O: Write>(bytes: &[u8], output: &mut O) -> Result<(), Fault>
     ensures { OnOk result (Appends (O.contents output.old) (O.contents output.new) (ok_line (spaced (hex_text bytes.now)))) }
 {
     if bytes.is_empty() {
@@ -57,10 +54,7 @@ fn write_chunk<O: Write>(chunk: &[u8], output: &mut O) -> Result<(), Fault>
 }
 
 /// The names of members as URL texts, with `/` after a folder's.
-pub(super) fn write_entries<O: Write>(
-    entries: &[MemFsEntry],
-    output: &mut O,
-) -> Result<(), Fault>
+pub(super) fn write_entries<O: Write>(entries: &[MemFsEntry], output: &mut O) -> Result<(), Fault>
     ensures { OnOk result (Appends (O.contents output.old) (O.contents output.new) (ok_line (flat_map member_text (map entry_of entries.now)))) }
 {
     output.write_all(b"ok")?;
@@ -81,10 +75,7 @@ fn write_entry<O: Write>(entry: &MemFsEntry, output: &mut O) -> Result<(), Fault
 }
 
 /// The kind, the length and the times of a file or a folder.
-pub(super) fn write_meta<O: Write>(
-    meta: &MemFsMeta,
-    output: &mut O,
-) -> Result<(), Fault>
+pub(super) fn write_meta<O: Write>(meta: &MemFsMeta, output: &mut O) -> Result<(), Fault>
     ensures { OnOk result (Appends (O.contents output.old) (O.contents output.new) (ok_line (meta_text (meta_of meta.now)))) }
 {
     let kind = match meta.kind {
@@ -109,20 +100,14 @@ pub(super) fn write_statuses<O: Write>(
     Ok(output.write_all(b"\n")?)
 }
 
-fn write_status<O: Write>(
-    answer: &(StatusCode, DavProp),
-    output: &mut O,
-) -> Result<(), Fault>
+fn write_status<O: Write>(answer: &(StatusCode, DavProp), output: &mut O) -> Result<(), Fault>
     ensures { OnOk result (Appends (O.contents output.old) (O.contents output.new) (status_text (answer_of answer.now))) }
 {
     Ok(write!(output, " {}", answer.0.as_u16())?)
 }
 
 /// The namespaces and the names of properties, `-` for no namespace.
-pub(super) fn write_props<O: Write>(
-    props: &[DavProp],
-    output: &mut O,
-) -> Result<(), Fault>
+pub(super) fn write_props<O: Write>(props: &[DavProp], output: &mut O) -> Result<(), Fault>
     ensures { OnOk result (Appends (O.contents output.old) (O.contents output.new) (ok_line (flat_map property_text (map property_of props.now)))) }
 {
     output.write_all(b"ok")?;
@@ -157,11 +142,7 @@ pub(super) fn write_locks<O: Write>(
     Ok(output.write_all(b"\n")?)
 }
 
-fn write_label<O: Write>(
-    labels: &Labels,
-    lock: &DavLock,
-    output: &mut O,
-) -> Result<(), Fault>
+fn write_label<O: Write>(labels: &Labels, lock: &DavLock, output: &mut O) -> Result<(), Fault>
     ensures { OnOk result (Appends (O.contents output.old) (O.contents output.new) (spaced (label_text (label_in labels.now lock.now.token)))) }
 {
     Ok(write!(output, " t{}", labels.number_of(&lock.token))?)

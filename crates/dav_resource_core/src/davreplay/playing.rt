@@ -81,11 +81,7 @@ fn write_lock<O: Write>(
 }
 
 // The label of a lock that was granted, whose token is kept.
-fn write_granted<O: Write>(
-    labels: &mut Labels,
-    token: String,
-    output: &mut O,
-) -> Result<(), Fault>
+fn write_granted<O: Write>(labels: &mut Labels, token: String, output: &mut O) -> Result<(), Fault>
     ensures tokens { OnOk result (labels.new ≡ labels.old ++ string_bytes token ∷ []) }
     ensures line { OnOk result (Appends (O.contents output.old) (O.contents output.new)
         (ok_line (spaced (label_text (label_in labels.new (string_bytes token)))))) }
@@ -95,11 +91,7 @@ fn write_granted<O: Write>(
 }
 
 // The line of a reply that shows no single lock.
-fn write_reply<O: Write>(
-    labels: &Labels,
-    reply: &Reply,
-    output: &mut O,
-) -> Result<(), Fault>
+fn write_reply<O: Write>(labels: &Labels, reply: &Reply, output: &mut O) -> Result<(), Fault>
     requires { IsNoLock reply.now }
     ensures { (command : plain.Command) → OnOk result (Appends (O.contents output.old) (O.contents output.new)
         (reply_line (label_in labels.now) command (reply_of reply.now))) }

@@ -14,10 +14,10 @@ invariant_of-self-in-Ok c =
     let token = string_bytes c.args.token in
     let kept' = get_by_text c.insert.new.self in
     let grown = ap (map string_bytes) c.in_ok-push.ensures.items ∙ map_push string_bytes tokens c.in_ok-clone.field-0
-        ∙ ap (λ t. map string_bytes tokens ++ t ∷ []) c.in_ok-clone.ensures.cases in
+    ∙ ap (λ t. map string_bytes tokens ++ t ∷ []) c.in_ok-clone.ensures.cases in
     let counted : vec_len c.push.new.self ≡ length c.push.new.self.items = search rules in
     let next : c.len-number.result ≡ length (map string_bytes tokens) + 1 =
-        c.len-number.ensures ∙ counted ∙ ap length c.in_ok-push.ensures.items ∙ length_push tokens c.in_ok-clone.field-0 ∙ ap (λ n. n + 1) (sym (length-map tokens string_bytes)) in
+    c.len-number.ensures ∙ counted ∙ ap length c.in_ok-push.ensures.items ∙ length_push tokens c.in_ok-clone.field-0 ∙ ap (λ n. n + 1) (sym (length-map tokens string_bytes)) in
     let missing = subst (λ ts. smallest_label ts token ≡ None) (sym c.self.view_is) c.requires in
     let updated = hash_map_updates_text token c.self.inside.numbers c.insert.new.self _ c.in-Ok.ensures.updates in
     subst (λ ts. AreSmallest ts kept') (sym grown)

@@ -1,5 +1,5 @@
 -- How the lines of an input are played, one after another.
-use Rattle.std.proofs.Common.{◌≡◌, ℕ, ◌+◌, ◌<◌, List, [], ◌∷◌, ◌++◌, Option, Some, None, length, refl, sym, ap, ◌∙◌, subst, append-nil, append_assoc, arith, inl, inr, ◌⊎◌, take}
+use Rattle.std.proofs.Common.{◌≡◌, ℕ, ◌+◌, ◌<◌, List, [], ◌∷◌, ◌++◌, Option, Some, None, length, refl, sym, ap, ◌∙◌, subst, append-nil, append_assoc, arith, inl, inr, ◌⊎◌, take, drop, Result, OnErr, IfOk}
 use Rattle.std.specs.Prelude.{Bool, true, false, Ok, Err, IfSome, IsTrue, ◌↔◌, ◌==◌, if◌then◌else◌}
 use Rattle.std.specs.List.{concat}
 use Rattle.std.specs.Io.Buffered.{reader_remaining, reader_inner, reader_buffer, reader_capacity}
@@ -8,7 +8,7 @@ use Rattle.std.specs.Io.KnownBytes.{Appends, Keeps, prepend_known}
 use Rattle.std.specs.declared.io.buffered.BufReader.{BufReader}
 use Rattle.std.proofs.KnownBytes.{Appends-nil, Appends-trans}
 use Rattle.std.proofs.lemmas.Bool.{false≢true}
-use Rattle.std.proofs.lemmas.List.{length_push}
+use Rattle.std.proofs.lemmas.List.{length_push, take-append-drop}
 use Rattle.std.proofs.lemmas.List.Folds.{concat-append}
 use Rattle.rand_core.specs.Pcg32Seed.{pcg32_seed}
 use Rattle.rand_core.specs.Steps.{steps_u64_low, stream_of}
@@ -16,10 +16,13 @@ use Rattle.rand_pcg.specs.Lcg.{Lcg}
 use Rattle.rand_pcg.specs.Pcg.{pcg64, pcg64_of_seed}
 use Rattle.line_streams.specs.Lines.{lines}
 use Rattle.line_streams.proofs.LineLaws.{lines_step}
+use Rattle.std.proofs.Math.Seq.{take-append_seam}
+use Rattle.dav_resource_core.specs.declared.guarded.requests.Request.{Request}
+use Rattle.dav_resource_core.specs.declared.davreplay.lines.Unread.{Unread}
 use Rattle.dav_resource_core.specs.declared.davreplay.lines.Unread.TheVariants.{Malformed, BadPath, OutOfMemory}
-use Rattle.dav_resource_core.specs.Private.Playing.{Played, LinePlayed, LineStopped, LinesPlayed, AreLines, BeginWith, InputPlayed, PlayedPart, WroteNext}
+use Rattle.dav_resource_core.specs.Private.Playing.{Played, Follows, LinePlayed, LineStopped, LinesPlayed, AreLines, BeginWith, InputPlayed, PlayedPart, WroteNext}
 use Rattle.dav_resource_core.specs.Private.Reading.{LineIs}
-use Rattle.dav_resource_core.specs.Replaying.{ReplayedTo, generator}
+use Rattle.dav_resource_core.specs.Replaying.{ReplayedPart, ReplayedTo, generator}
 use Rattle.dav_resource_core.specs.Stores.{Stores, start_stores, state_of}
 
 -- ---- a chain of lines
@@ -172,6 +175,105 @@ front_begins front (Some bytes) left before = (lines before.0, before.2)
 pub nothing_played : (p : Played) (input output : Option (List ℕ)) → PlayedPart p input output output
 nothing_played p input output = ([], [], p, [], begin_none input, refl, inl refl, Appends-nil output)
 
+-- what has stopped it, or not, and what was written then
+onerr : {A E : Type 0} (r : Result A E) (P : Type 0) → P → OnErr r P
+onerr (Ok x) P h = tt
+onerr (Err e) P h = h
+
+pub stopped_by : {A E : Type 0} (r : Result A E) (p : Played) (input old new : Option (List ℕ)) → PlayedPart p input old new → OnErr r (PlayedPart p input old new)
+stopped_by r p input old new part = onerr r (PlayedPart p input old new) part
+
+pub line_stopped_by : {A E : Type 0} (r : Result A E) (p : Played) (line : List ℕ) (old new : Option (List ℕ)) → LineStopped p line old new → OnErr r (LineStopped p line old new)
+line_stopped_by r p line old new part = onerr r (LineStopped p line old new) part
+
+pub wrote_by : {A E : Type 0} (r : Result A E) (text : List ℕ) (old new : Option (List ℕ)) → (count : ℕ) × Appends old new (take count text)
+    → OnErr r ((count : ℕ) × Appends old new (take count text))
+wrote_by r text old new part = onerr r _ part
+
+pub kept_same : (x : Option (List ℕ)) → Keeps x x
+kept_same None = tt
+kept_same (Some x) = refl
+
+kept_part : (p : Played) (input old new new' : Option (List ℕ)) → PlayedPart p input old new → Keeps new new' → PlayedPart p input old new'
+kept_part p input old new new' part same =
+    (part.0, part.1, part.2, part.3, part.4, part.5, part.6, kept_behind old new new' (concat part.1 ++ part.3) part.7 same)
+
+begin_with : (front rest all : List (List ℕ)) (input : Option (List ℕ)) → all ≡ front ++ rest → AreLines all input → BeginWith front input
+begin_with front rest all None split are = tt
+begin_with front rest all (Some bytes) split are = (rest, sym are ∙ split)
+
+-- one that nothing has stopped is such a part, too
+whole_part : (p p' : Played) (input old new : Option (List ℕ)) (end : Option ℕ) (texts : List (List ℕ)) → InputPlayed p input end texts p' → Appends old new (concat texts)
+    → PlayedPart p input old new
+whole_part p p' input old new None texts played more = (
+  played.0,
+  texts,
+  p',
+  [],
+  begin_with played.0 [] played.0 input (sym (append-nil played.0)) played.1,
+  played.2,
+  inl refl,
+  subst (Appends old new) (sym (append-nil (concat texts))) more,
+)
+whole_part p p' input old new (Some n) texts played more =
+    let stop = played.2 in (
+      stop.0,
+      texts,
+      p',
+      [],
+      begin_with stop.0 (stop.1 ∷ stop.2) played.0 input stop.3 played.1,
+      stop.5,
+      inl refl,
+      subst (Appends old new) (sym (append-nil (concat texts))) more,
+    )
+
+pub part_of : {E : Type 0} (r : Result (Option ℕ) E) (p p' : Played) (input old new new' : Option (List ℕ))
+    → IfOk r (λ end. (texts : List (List ℕ)) × InputPlayed p input end texts p' × Appends old new (concat texts)) → OnErr r (PlayedPart p input old new) → Keeps new new'
+    → PlayedPart p input old new'
+part_of (Ok end) p p' input old new new' ok err same = kept_part p input old new new' (whole_part p p' input old new end ok.0 ok.1 ok.2) same
+part_of (Err e) p p' input old new new' ok err same = kept_part p input old new new' err same
+
+-- of a line whose text was made, a front was written
+pub part_written : (p p' : Played) (line : List ℕ) (said : Result (Option Request) Unread) (on : Bool) (before after text written : List ℕ) (old new : Option (List ℕ)) (count : ℕ)
+    → LineIs p.1 line said → Follows p said on p' written → before ≡ [] → Appends (Some before) (Some after) written → text ≡ after → Appends old new (take count text)
+    → LineStopped p line old new
+part_written p p' line said on before after text written old new count is follows none grown same more =
+    let made : text ≡ written = same ∙ grown ∙ ap (λ l. l ++ written) none in
+    (take count text, more, inr (on, p', written, count, (said, is, follows), ap (take count) made))
+
+-- ---- a text that is written piece by piece
+
+pub all_written : (text done rest : List ℕ) (old new : Option (List ℕ)) → text ≡ done ++ rest → length rest ≡ 0 → Appends old new done → Appends old new text
+all_written text done [] old new split none more = subst (Appends old new) (sym (split ∙ append-nil done)) more
+all_written text done (b ∷ rest) old new split none more = absurd (omega arith)
+
+-- no bytes are what was there
+pub none_more : (old new : Option (List ℕ)) → Appends old new [] → Keeps old new
+none_more None new more = tt
+none_more (Some x) None more = absurd more
+none_more (Some x) (Some y) more = more ∙ append-nil x
+
+pub kept_none : (old new : Option (List ℕ)) → Keeps old new → Appends old new []
+kept_none None new same = tt
+kept_none (Some x) None same = absurd same
+kept_none (Some x) (Some y) same = same ∙ sym (append-nil x)
+
+-- one more piece
+pub more_written : (text done rest : List ℕ) (old out new : Option (List ℕ)) (count : ℕ) → text ≡ done ++ rest → Appends old out done → Appends out new (take count rest)
+    → (done' : List ℕ) × (text ≡ done' ++ drop count rest) × Appends old new done'
+more_written text done rest old out new count split before more = (
+  done ++ take count rest,
+  split ∙ ap (λ l. done ++ l) (sym (take-append-drop count rest)) ∙ sym (append_assoc done (take count rest) (drop count rest)),
+  Appends-trans old out new done (take count rest) before more,
+)
+
+pub front_written : (text done rest : List ℕ) (old out new : Option (List ℕ)) → text ≡ done ++ rest → Appends old out done → Keeps out new
+    → (count : ℕ) × Appends old new (take count text)
+front_written text done rest old out new split more same = (
+  length done,
+  subst (Appends old new) (sym (ap (take (length done)) split ∙ take-append_seam done rest)) (kept_behind old out new done more same),
+)
+
 -- before a line was read
 pub stopped_before : (p p' : Played) (input output left out out' : Option (List ℕ)) (number : ℕ) → PlayedFront p input output number p' left out → Keeps out out'
     → PlayedPart p input output out'
@@ -235,3 +337,12 @@ replayed seed stores rng tokens left input old new end texts p' stores_are rng_i
   ),
   more,
 )
+
+pub began : (seed : ℕ) (stores : Stores) (rng : Lcg) (tokens : List (List ℕ)) (left input old new : Option (List ℕ))
+    → stores ≡ start_stores 0 → rng ≡ pcg64_of_seed (pcg32_seed 32 seed) → tokens ≡ [] → left ≡ input
+    → PlayedPart (state_of stores (stream_of (steps_u64_low pcg64) rng), tokens) left old new → ReplayedPart seed input old new
+began seed stores rng tokens left input old new stores_are rng_is none whole part =
+    subst (λ s. PlayedPart (state_of s (generator seed), []) input old new) stores_are
+    (subst (λ r. PlayedPart (state_of stores (stream_of (steps_u64_low pcg64) r), []) input old new) rng_is
+    (subst (λ i. PlayedPart (state_of stores (stream_of (steps_u64_low pcg64) rng), []) i old new) whole
+    (subst (λ ts. PlayedPart (state_of stores (stream_of (steps_u64_low pcg64) rng), ts) left old new) none part)))

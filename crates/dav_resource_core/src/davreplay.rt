@@ -1,7 +1,7 @@
 //! A player of scenarios: one request a line, one answer a line.
-ghost use Rattle.std.specs.Prelude.{◌≡◌, ◌⊎◌, ℕ, List, map, take, string_bytes, IfOk, OnErr, OnOk};
+ghost use Rattle.std.specs.Prelude.{◌≡◌, ◌≤◌, ◌⊎◌, ℕ, List, length, map, take, string_bytes, IfOk, OnErr, OnOk};
 ghost use Rattle.std.specs.Io.Buffered.{reader_remaining, writer_contents};
-ghost use Rattle.std.specs.Io.KnownBytes.{Appends};
+ghost use Rattle.std.specs.Io.KnownBytes.{Appends, Keeps};
 ghost use Rattle.std.specs.List.{concat};
 ghost use Rattle.dav_resource_core.specs.Private.Playing.{Follows, LinePlayed, LineStopped, InputPlayed, PlayedPart};
 ghost use Rattle.dav_resource_core.specs.Replaying.{Replayed, ReplayedPart, ReplayedTo};
@@ -183,17 +183,28 @@ fn write_text<O: Write>(text: &[u8], output: &mut O) -> Result<(), Fault>
         if rest.is_empty() {
             return Ok(());
         }
-        match output.write(rest) {
-            Ok(0) => return Err(Fault::Io),
-            Ok(count) => rest = &rest[count..],
-            Err(error) => {
-                if error.kind() != ErrorKind::Interrupted {
-                    return Err(Fault::from(error));
-                }
-            }
-        }
+        let count = write_piece(rest, output)?;
+        rest = &rest[count..];
     }
     Err(Fault::Io)
+}
+
+// Writes a front of a text that is not empty, and tells how long it is: no byte where the write was interrupted. `Io` where no more is taken.
+fn write_piece<O: Write>(text: &[u8], output: &mut O) -> Result<usize, Fault>
+    ensures bound { IfOk result (λ count. count ≤ length text.now) }
+    ensures ok { IfOk result (λ count. Appends (O.contents output.old) (O.contents output.new) (take count text.now)) }
+    ensures err { OnErr result (Keeps (O.contents output.old) (O.contents output.new)) }
+{
+    match output.write(text) {
+        Ok(0) => return Err(Fault::Io),
+        Ok(count) => return Ok(count),
+        Err(error) => {
+            if error.kind() == ErrorKind::Interrupted {
+                return Ok(0);
+            }
+            return Err(Fault::from(error));
+        }
+    }
 }
 
 // What follows what a line says, and what is written for it.

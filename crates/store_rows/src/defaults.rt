@@ -1,5 +1,6 @@
 //! What the traits of files answer where an implementation says nothing of its own.
-ghost use Rattle.std.specs.Prelude.{refl, codes};
+ghost use Rattle.std.specs.Prelude.{◌≡◌, Ok, refl, codes};
+ghost use Rattle.dav_files_core.specs.Describing.{metadata};
 ghost use Rattle.dav_files_core.specs.declared.memfs.Kind.{Kind};
 
 use bytes::{Buf, Bytes};

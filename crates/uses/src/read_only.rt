@@ -1,5 +1,6 @@
 //! A file system in memory that is only read.
 ghost use Rattle.std.specs.Prelude.{◌≡◌, refl};
+ghost use Rattle.dav_files_core.specs.Describing.{metadata};
 ghost use Rattle.dav_files_core.specs.Resources.{IsResourceMap};
 
 use bytes::{Buf, Bytes};

@@ -3,5 +3,5 @@ use Rattle.std.specs.Io.KnownBytes.{Appends}
 use Rattle.dav_resource_core.proofs.davreplay.write_text.Given as goal
 
 -- a front was written, and the rest is left
-abbrev pub invariant-loop-_turn : goal.invariant-loop-_turn
-invariant-loop-_turn g l = (done : List ℕ) × (l.text ≡ done ++ l.rest) × Appends (g.O.Write.contents l.fn.output) (g.O.Write.contents l.output) done
+abbrev pub invariant-loop-turn : goal.invariant-loop-turn
+invariant-loop-turn g l = (done : List ℕ) × (l.text ≡ done ++ l.rest) × Appends (g.O.Write.contents l.fn.output) (g.O.Write.contents l.output) done

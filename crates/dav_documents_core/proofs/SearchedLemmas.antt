@@ -1,5 +1,5 @@
 -- The property with a name, where a binary search has looked for it.
-use Rattle.std.proofs.Common.{◌≡◌, ℕ, zero, suc, ◌+◌, ◌<◌, List, [], ◌∷◌, Option, Some, None, Result, Ok, Err, Bool, true, false, length, get_or, map, refl, sym, subst, ap, ◌∙◌, arith, rules, bytes_eq}
+use Rattle.std.proofs.Common.{◌≡◌, ℕ, zero, suc, ◌<◌, List, [], ◌∷◌, None, Err, Bool, true, false, length, get_or, map, refl, sym, subst, ap, ◌∙◌, arith, rules, bytes_eq}
 use Rattle.std.specs.Prelude.{unwrap_or, ◌&&◌, if◌then◌else◌}
 use Rattle.std.specs.declared.cmp.Ordering.TheVariants.{Less, Equal}
 use Rattle.std.specs.Cmp.{tied_itself}

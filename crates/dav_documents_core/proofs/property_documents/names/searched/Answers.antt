@@ -1,10 +1,7 @@
-use Rattle.std.proofs.Common.{◌≡◌, map, option_map, rules, sym, ap, ◌∙◌}
-use Rattle.std.specs.Prelude.{option_copied}
+use Rattle.std.proofs.Common.{option_map, rules, sym, ap, ◌∙◌}
 use Rattle.std.proofs.lemmas.Fn.{always_returns_same}
 use Rattle.dav_xml_core.specs.Views.{name_of}
-use Rattle.dav_files_core.specs.Properties.{property_of}
 use Rattle.dav_documents_core.specs.Private.Rising.{order}
-use Rattle.dav_documents_core.specs.PropertyDocuments.{dead_value}
 use Rattle.dav_documents_core.proofs.SearchedLemmas.{found, missing}
 use Rattle.dav_documents_core.proofs.property_documents.names.searched.Goals as goal
 

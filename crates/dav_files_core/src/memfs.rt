@@ -231,16 +231,16 @@ mod tests {
         let files = stored(rt.alloc())?;
         let folder = files
             .tree
-            .find_child(ROOT_ID, |name| name.as_slice() == b"e")?;
+            .find_child(ROOT_ID, |name| name.as_slice() == b"e".as_slice())?;
         let id = files
             .tree
-            .find_child(folder, |name| name.as_slice() == b"f")?;
+            .find_child(folder, |name| name.as_slice() == b"f".as_slice())?;
         let node = node_of(&files.tree, id)?;
         assert!(rt; files.tree.parent_of(id)? == Some(folder));
         assert!(rt; node.content.as_slice() == b"abc\0\0z".as_slice());
         let copied = files
             .tree
-            .find_child(ROOT_ID, |name| name.as_slice() == b"q")?;
+            .find_child(ROOT_ID, |name| name.as_slice() == b"q".as_slice())?;
         let copy = node_of(&files.tree, copied)?;
         assert!(rt; !copy.is_file());
         assert!(rt; copy.props.list(rt.alloc(), true)?.len() == 1);

@@ -25,12 +25,12 @@ fn stands_alone(
 // The locks of /a and /a/b stand at the nodes of these paths, and none at the root.
 fn stand_at_their_nodes(rt: &impl Abort, locks: &MemLs) -> Result<(), Fail> {
     let tree = &locks.tree;
-    let a = tree.find_child(ROOT_ID, |name| name.as_slice() == b"a")?;
-    let b = tree.find_child(a, |name| name.as_slice() == b"b")?;
+    let a = tree.find_child(ROOT_ID, |name| name.as_slice() == b"a".as_slice())?;
+    let b = tree.find_child(a, |name| name.as_slice() == b"b".as_slice())?;
     stands_alone(rt, tree, a, 1, b"/a");
     stands_alone(rt, tree, b, 2, b"/a/b");
     assert_eq!(rt; locks_at(tree, ROOT_ID).len(), 0);
-    let nothing = tree.find_child(ROOT_ID, |name| name.as_slice() == b"b");
+    let nothing = tree.find_child(ROOT_ID, |name| name.as_slice() == b"b".as_slice());
     assert!(rt; nothing.is_err());
     Ok(())
 }

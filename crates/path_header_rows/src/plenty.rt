@@ -9,6 +9,9 @@ use std::test::Fail;
 
 const MANY: usize = 10_000;
 
+// How many children a wide node has: to add one, a tree walks those that are there.
+const WIDE: usize = 1_000;
+
 /// So many copies of a text, one after another, between two others.
 fn repeated(alloc: Global, before: &str, text: &str, after: &str) -> Result<String, Fail> {
     let mut whole = String::from_str(alloc, before)?;
@@ -60,7 +63,7 @@ fn children(alloc: Global, tree: &Tree<u64, u64>, id: u64) -> Option<u64> {
 /// A tree whose root has so many children.
 fn wide(alloc: Global) -> FsResult<Tree<u64, u64>> {
     let mut tree: Tree<u64, u64> = Tree::new(alloc, 0)?;
-    for key in 0..MANY as u64 {
+    for key in 0..WIDE as u64 {
         tree.add_child(ROOT_ID, key, key, false)?;
     }
     Ok(tree)
@@ -73,8 +76,8 @@ fn wide_ends(tree: &Tree<u64, u64>) -> FsResult<[Option<u64>; 6]> {
         tree.find_child(ROOT_ID, |key| *key == 1).ok(),
         tree.first_child(ROOT_ID)?,
         tree.next_sibling(3)?,
-        tree.get_node(10_001).ok().copied(),
-        tree.parent_of(10_001)?,
+        tree.get_node(1_001).ok().copied(),
+        tree.parent_of(1_001)?,
     ])
 }
 
@@ -90,19 +93,19 @@ fn drop_two(tree: &mut Tree<u64, u64>) -> FsResult<[u64; 2]> {
 #[test]
 fn keeps_many_children(rt: HostRuntime) -> Result<(), Fail> {
     let mut tree = wide(rt.alloc())?;
-    *tree.get_node_mut(10_001)? = 7;
-    assert!(rt; children(rt.alloc(), &tree, ROOT_ID) == count(MANY));
+    *tree.get_node_mut(1_001)? = 7;
+    assert!(rt; children(rt.alloc(), &tree, ROOT_ID) == count(WIDE));
     let ends = [
         Some(2),
         Some(3),
-        Some(10_001),
+        Some(1_001),
         Some(2),
         Some(7),
         Some(ROOT_ID),
     ];
     assert!(rt; wide_ends(&tree)? == ends);
-    assert!(rt; drop_two(&mut tree)? == [0, 10_002]);
-    assert!(rt; children(rt.alloc(), &tree, ROOT_ID) == count(MANY - 2));
+    assert!(rt; drop_two(&mut tree)? == [0, 1_002]);
+    assert!(rt; children(rt.alloc(), &tree, ROOT_ID) == count(WIDE - 2));
     Ok(())
 }
 

@@ -9,8 +9,8 @@ use playing::{lost, play};
 use std::alloc::Global;
 use std::test::Fail;
 
-// `add PARENT KEY ITEM` and `move ID PARENT KEY`, with `!` to overwrite; `lost N` counts unknown numbers up to N; `like` looks up by
-// hash. The last two trees have wide nodes.
+// `add PARENT KEY ITEM` and `move ID PARENT KEY`, with `!` to overwrite; `lost N` counts unknown numbers up to N.
+// The last two trees have wide nodes.
 const ROWS: &str = "new = ok
 add 1 a 20 = 2
 add 2 b 30 = 3
@@ -190,9 +190,9 @@ add 1 s 1 = 20
 add 1 t 1 = 21
 get 1 a = 2
 get 1 p = 17
-like 1 q = 18
+find 1 q = 18
 get 1 t = 21
-like 1 z = NotFound
+find 1 z = NotFound
 get 2 a = NotFound
 get 9999 a = NotFound
 add 1 k 2 = Exists
@@ -200,7 +200,7 @@ delete 12 = 1
 get 1 k = NotFound
 add 1 k 5 = 22
 get 1 k = 22
-like 1 j = 11
+find 1 j = 11
 move 22 1 z = ok
 get 1 k = NotFound
 get 1 z = 22
@@ -223,9 +223,9 @@ get 26 a = NotFound
 add 26 z 1 = 27
 move! 27 1 k = ok
 get 26 z = NotFound
-like 1 k = 27
+find 1 k = 27
 delete-subtree 26 = ok
-like 1 z = NotFound
+find 1 z = NotFound
 get 1 s = 20
 parent 20 = 1
 set 20 7 = ok
@@ -250,7 +250,7 @@ add 2 o 1 = 17
 add 1 p 1 = 18
 move 18 2 p = ok
 get 2 p = 18
-like 2 a = 3
+find 2 a = 3
 get 2 q = NotFound
 add 2 q 1 = 19
 get 2 q = 19

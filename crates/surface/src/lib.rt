@@ -9,6 +9,7 @@ pub mod fs;
 pub mod guarded;
 pub mod header_names;
 pub mod headers;
+pub mod indexes;
 pub mod laws;
 pub mod locks;
 pub mod paths;

@@ -1,4 +1,7 @@
 //! Of `tree`, for one type of keys and one of data.
+ghost use Rattle.std.specs.Prelude.{◌≡◌, None, nat_eq};
+ghost use Rattle.dav_path_core.specs.Keyed.{child};
+
 use dav_resource_core::errors::FsResult;
 use dav_resource_core::tree::{Children, Node, ROOT_ID, Tree};
 use std::alloc::Global;
@@ -21,16 +24,18 @@ pub fn add_child(
     tree.add_child(parent, key, item, overwrite)
 }
 
+pub fn add_new_child(tree: &mut Tree<u64, u8>, parent: u64, key: u64, item: u8) -> FsResult<u64>
+    requires { child (nat_eq key) tree.old.keyed parent ≡ None }
+{
+    tree.add_new_child(parent, key, item)
+}
+
 pub fn get_child(tree: &Tree<u64, u8>, parent: u64, key: &u64) -> FsResult<u64> {
     tree.get_child(parent, key)
 }
 
 pub fn find_child(tree: &Tree<u64, u8>, parent: u64, wanted: u64) -> FsResult<u64> {
     tree.find_child(parent, |key| *key == wanted)
-}
-
-pub fn find_child_like(tree: &Tree<u64, u8>, parent: u64, wanted: u64) -> FsResult<u64> {
-    tree.find_child_like(parent, &wanted, |key| *key == wanted)
 }
 
 pub fn get_children(tree: &Tree<u64, u8>, parent: u64) -> FsResult<Children<u64>> {
@@ -69,6 +74,17 @@ pub fn move_node(
     overwrite: bool,
 ) -> FsResult<()> {
     tree.move_node(id, new_parent, new_name, overwrite)
+}
+
+pub fn move_to_free(
+    tree: &mut Tree<u64, u8>,
+    id: u64,
+    new_parent: u64,
+    new_name: u64,
+) -> FsResult<()>
+    requires { child (nat_eq new_name) tree.old.keyed new_parent ≡ None }
+{
+    tree.move_to_free(id, new_parent, new_name)
 }
 
 pub fn parent_of(tree: &Tree<u64, u8>, id: u64) -> FsResult<Option<u64>> {

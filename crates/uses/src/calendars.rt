@@ -25,7 +25,7 @@ pub fn event<'a>(events: &'a Calendar, name: &[u8]) -> FsResult<&'a str>
         (λ text. spec.event events.now name.now ≡ Some text.now)
         (λ e. (e ≡ FsError.NotFound) × (spec.event events.now name.now ≡ None)) }
 {
-    let id = events.find_child_like(ROOT_ID, &name, |key| key.as_slice() == name)?;
+    let id = events.find_child(ROOT_ID, |key| key.as_slice() == name)?;
     Ok(events.get_node(id)?.as_str())
 }
 

@@ -94,7 +94,6 @@ fn found<K: Key>(tree: &Tree<K, u32>, name: &str, id: u64, key: &K) -> FsResult<
     match name {
         "get" => tree.get_child(id, key),
         "find" => tree.find_child(id, |other| *other == *key),
-        "like" => tree.find_child_like(id, key, |other| *other == *key),
         _ => Err(FsError::NotImplemented),
     }
 }

@@ -48,11 +48,7 @@ pub fn delete_node(
     index.delete_node(tree, id)
 }
 
-pub fn delete_subtree(
-    index: &mut ChildIndex,
-    tree: &mut Tree<Bytes, u8>,
-    id: u64,
-) -> FsResult<()>
+pub fn delete_subtree(index: &mut ChildIndex, tree: &mut Tree<Bytes, u8>, id: u64) -> FsResult<()>
     requires { IsIndex tree.old.keyed index.old }
 {
     index.delete_subtree(tree, id)

@@ -4,4 +4,4 @@ use Rattle.dav_path_core.proofs.index.IndexLemmas.{IsIndex-empty}
 use Rattle.path_header_rows.proofs.indexes.made.Goals as goal
 
 pub returns : goal.returns
-returns c = subst (IsIndex c.in_ok-tree.tree.keyed) (sym c.new-2.ensures) (IsIndex-empty c.in_ok-tree.tree.keyed)
+returns c = subst (IsIndex c.in_ok-tree.tree.keyed) (sym c.new-index.ensures) (IsIndex-empty c.in_ok-tree.tree.keyed)

@@ -10,6 +10,8 @@ mod header_clones;
 #[cfg(test)]
 mod if_clones;
 #[cfg(test)]
+mod indexes;
+#[cfg(test)]
 mod long_paths;
 #[cfg(test)]
 mod method_sets;

@@ -26,7 +26,7 @@ loop-member-preserved g c = λ size.
           (ap (λ v. v.items) w.folders-is) w.in_ok-push.ensures.items w.in_ok-path_of_member.ensures w.name.ensures w.length-is c.loop-member.invariant
       | else-is_dir+in_ok-length w ↦
           length_counts m told p (λ p. segments p.bytes) c.loop-member.yielded c.in-Some.member c.loop-member.folders.items c.if-is_dir.folders.items meta c.loop-member.length c.if-is_dir.length size w.len.result
-          (ap (λ v. v.items) w.folders-is) c.in_ok-meta.ensures known (not_folder meta.kind c.is_dir.result c.is_dir.ensures w.if-is_dir.false) w.len.ensures (w.length-is ∙ w.in_ok-length.ensures) c.loop-member.invariant
+          (ap (λ v. v.items) w.folders-is) c.in_ok-meta.ensures.told known (not_folder meta.kind c.is_dir.result c.is_dir.ensures w.if-is_dir.false) w.len.ensures (w.length-is ∙ w.in_ok-length.ensures) c.loop-member.invariant
     ]
 
 pub returns : goal.returns

@@ -5,6 +5,7 @@ pub mod LeftLemmas
 pub mod MakingLemmas
 pub mod PuttingLemmas
 pub mod RemovingLemmas
+pub mod RestoredLemmas
 pub mod SettingLemmas
 pub mod TriedLemmas
 pub mod WithoutLemmas

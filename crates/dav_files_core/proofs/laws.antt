@@ -3,3 +3,4 @@ pub mod DoneLemmas
 pub mod FollowingLemmas
 pub mod GrownLemmas
 pub mod PlaceLemmas
+pub mod RestoredLaws

@@ -1,3 +1,4 @@
 pub mod FinMapLemmas
+pub mod FromLemmas
 pub mod PatchLemmas
 pub mod PropertyMapLemmas

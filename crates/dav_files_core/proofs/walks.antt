@@ -5,6 +5,7 @@ pub mod LeadLemmas
 pub mod RecoverLemmas
 pub mod StartLemmas
 pub mod StepLemmas
+pub mod StoredLemmas
 pub mod SubtreeLemmas
 pub mod TreeWordLemmas
 pub mod WalkLemmas

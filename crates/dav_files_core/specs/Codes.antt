@@ -7,6 +7,7 @@ use Rattle.dav_files_core.specs.declared.memfs.Kind.TheVariants.{Folder, File}
 use Rattle.dav_path_core.specs.Fronts.{path_cmp}
 use Rattle.dav_files_core.specs.Opening.{OpenFile}
 use Rattle.dav_files_core.specs.Resources.{Property, Properties, Node, Resource, ResourceMap}
+use Rattle.dav_files_core.specs.Walks.{Stored}
 
 abbrev pub coded_bytes : Coded (List ℕ)
 coded_bytes = coded_list coded_ℕ
@@ -52,3 +53,11 @@ coded_resources =
 
 abbrev pub coded_file : Coded OpenFile
 coded_file = code_by (ℕ × (ℕ × Bool)) (coded× coded_ℕ (coded× coded_ℕ coded_bool)) (λ f. (f.number, (f.position, f.append))) (λ t. record { number = t.0; position = t.1.0; append = t.1.1 }) (λ _. refl)
+
+abbrev pub coded_stored : Coded Stored
+coded_stored =
+    code_by (List (List ℕ) × (Resource × Option ℕ)) (coded× (coded_list coded_bytes) (coded× coded_resource (coded_option coded_ℕ)))
+    (λ s. (s.path, (s.resource, s.folder))) (λ t. record { path = t.0; resource = t.1.0; folder = t.1.1 }) (λ _. refl)
+
+abbrev pub coded_walk : Coded (List Stored)
+coded_walk = coded_list coded_stored

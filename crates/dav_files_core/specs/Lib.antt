@@ -21,3 +21,5 @@ pub mod Putting
 pub mod Refusing
 pub mod Renaming
 pub mod Resources
+pub mod Restoring
+pub mod Walks

@@ -28,9 +28,13 @@ only_file r = elim r.node.kind [ Folder ↦ Err Forbidden | File ↦ Ok r ]
 abbrev pub find_folder : ResourceMap → Path → Result Resource FsError
 find_folder m p = find m p >>= only_folder
 
--- the map with an entry at a path that had none; it takes the next number
+-- the map with an entry at a path that had none, with its number and a next one
+abbrev pub added_as : ResourceMap → Path → Node → ℕ → ℕ → ResourceMap
+added_as m p node number next = record { entries = insert m.entries p (record { number = number; node = node }); next = next }
+
+-- the same of an entry that takes the next number
 abbrev pub added : ResourceMap → Path → Node → ResourceMap
-added m p node = record { entries = insert m.entries p (record { number = m.next; node = node }); next = m.next + 1 }
+added m p node = added_as m p node m.next (m.next + 1)
 
 -- the map with another node at a path whose entry is given; the number stays
 abbrev pub changed : ResourceMap → Path → Resource → Node → ResourceMap

@@ -6,4 +6,5 @@ pub mod Numbered
 pub mod Patching
 pub mod PropertyMaps
 pub mod Represents
+pub mod Stored
 pub mod TreeCalls

@@ -41,11 +41,12 @@ pub record ResourceMap : Type 0 where
 abbrev pub at_path : ResourceMap → Path → Option Resource
 at_path m p = get m.entries p
 
--- the root is a folder with number 1; the parent of each other entry is a folder; numbers differ and are below the next;
--- a folder has no bytes
+-- the root is a folder with number 1; the parent of each other entry is a folder; numbers differ, are above 0 and below the
+-- next; a folder has no bytes
 pub record IsResourceMap (m : ResourceMap) : Type 0 where
   pub root : (r : Resource) × (at_path m [] ≡ Some r) × (r.number ≡ 1) × (r.node.kind ≡ Folder)
   pub parents : (p : Path) (s : Segment) (r : Resource) → at_path m (p ++ (s ∷ [])) ≡ Some r → (q : Resource) × (at_path m p ≡ Some q) × (q.node.kind ≡ Folder)
   pub apart : (p q : Path) (r s : Resource) → at_path m p ≡ Some r → at_path m q ≡ Some s → r.number ≡ s.number → p ≡ q
+  pub positive : (p : Path) (r : Resource) → at_path m p ≡ Some r → 0 < r.number
   pub below : (p : Path) (r : Resource) → at_path m p ≡ Some r → r.number < m.next
   pub bare : (p : Path) (r : Resource) → at_path m p ≡ Some r → r.node.kind ≡ Folder → r.node.bytes ≡ []

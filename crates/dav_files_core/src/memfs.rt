@@ -22,6 +22,8 @@ mod nodes;
 mod numbered;
 mod opening;
 mod properties;
+mod restoring;
+mod walking;
 
 use crate::fs::Moment;
 use bytes::Bytes;
@@ -33,8 +35,11 @@ use dav_path_core::tree::{ROOT_ID, Tree};
 pub use listing::MemFsEntry;
 use nodes::{Node, member_of, node_of};
 pub use opening::MemFsFile;
+pub use properties::MemFsProps;
+pub use restoring::{MemFsRestored, walked_files_are_restored};
 use std::alloc::Global;
 use std::marker::Model;
+pub use walking::{MemFsStored, MemFsWalk};
 
 /// What stands at a path (RFC 4918 section 5).
 #[derive(Clone, Copy, PartialEq, Eq, Debug)]

@@ -2,4 +2,6 @@ pub mod ConflictLemmas
 pub mod DeepConflictLemmas
 pub mod DiscoverLemmas
 pub mod FrontCountLemmas
+pub mod ListingLemmas
 pub mod LockListLemmas
+pub mod PlacingLemmas

@@ -1,3 +1,1 @@
-pub mod SiblingLemmas
 pub mod SubtreeLemmas
-pub mod WalkLemmas

@@ -14,10 +14,13 @@ mod ends;
 mod expiring;
 mod granting;
 mod holding;
+mod placing;
 mod pruning;
+mod restoring;
 mod subtree;
 #[cfg(test)]
 mod tests;
+mod walking;
 mod way;
 
 use crate::ls::{DavLock, DavLockSystem, LockError, NoLock, RefreshError};
@@ -30,9 +33,10 @@ use dav_path_core::util::Moment;
 use ends::Ends;
 use expiring::end_stale;
 use rand_core::Rng;
+pub use restoring::walked_locks_are_restored;
 use std::alloc::{AllocError, Global};
-use std::collections::BTreeMap;
 use std::marker::Model;
+pub use walking::MemLsLocks;
 
 /// The locks that stand at one path, each with its grant number, in the order of granting.
 #[derive(Debug, Drop)]
@@ -90,7 +94,7 @@ impl MemLs {
             tree,
             index: ChildIndex::new(alloc),
             next: 1,
-            ends: BTreeMap::new(alloc),
+            ends: Ends::new(alloc),
         })
     }
 
@@ -102,6 +106,13 @@ impl MemLs {
         ensures bound { result ≤ 1 + sum_by height self.now }
     {
         self.tree.node_count()
+    }
+
+    /// Its locks, in the order of granting, also those whose end has come (own). Takes no memory.
+    pub fn iter(&self) -> MemLsLocks<'_>
+        ensures { result ≡ self.now }
+    {
+        MemLsLocks::new(&self.tree, self.ends.nodes.iter())
     }
 
     /// As `check` of `DavLockSystem`, of a lent path (own).

@@ -5,3 +5,4 @@ pub mod index
 pub mod lists
 pub mod paths
 pub mod trees
+pub mod walks

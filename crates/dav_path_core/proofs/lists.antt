@@ -1,7 +1,9 @@
 pub mod EachLemmas
+pub mod EntryLemmas
 pub mod Every
 pub mod FinMaps
 pub mod MemberLemmas
 pub mod Orders
 pub mod PlaceLemmas
+pub mod SameMembers
 pub mod Snoc

@@ -1,5 +1,5 @@
 -- The keyed tree: a finite map from numbers to parent, key and item, and the next number. Number 1 is the root (own).
-use Rattle.std.specs.Prelude.{◌≡◌, ℕ, ◌+◌, ◌<◌, ◌==◌, ◌&&◌, ◌||◌, not, zero, suc, Bool, true, false, if◌then◌else◌, List, [], ◌∷◌, Option, Some, None, IsSome, is_some, refl}
+use Rattle.std.specs.Prelude.{◌≡◌, ℕ, ◌+◌, max, ◌<◌, ◌==◌, ◌&&◌, ◌||◌, not, zero, suc, Bool, true, false, if◌then◌else◌, List, [], ◌∷◌, Option, Some, None, IsSome, is_some, refl}
 use Rattle.std.specs.Option.{option_map}
 use Rattle.std.specs.Ordering.{nat_cmp}
 use Rattle.std.specs.Coded.{Coded, code_by, coded×, coded_ℕ, coded_option}
@@ -88,9 +88,29 @@ module _ {K D : Type 0} where
   abbrev pub lone : D → Keyed K D
   lone d = record { nodes = insert empty 1 (record { parent_and_key = None; item = d }); next = 2 }
 
+  -- t with a new node n below p at k, and with that next number
+  abbrev pub add_as : Keyed K D → ℕ → ℕ → ℕ → K → D → Keyed K D
+  add_as t n next p k d = record { nodes = insert t.nodes n (record { parent_and_key = Some (p, k); item = d }); next = next }
+
   -- t with a new node below p at k
   abbrev pub add : Keyed K D → ℕ → K → D → Keyed K D
-  add t p k d = record { nodes = insert t.nodes t.next (record { parent_and_key = Some (p, k); item = d }); next = t.next + 1 }
+  add t p k d = add_as t t.next (t.next + 1) p k d
+
+  -- no number below that is given any more
+  abbrev pub raised : Keyed K D → ℕ → Keyed K D
+  raised t next = record t { next = max t.next next }
+
+  -- t with a node below p at k that has its number already; the next one is above it
+  abbrev pub restored : Keyed K D → ℕ → K → D → ℕ → Keyed K D
+  restored t p k d n = add_as t n (max t.next (n + 1)) p k d
+
+  -- why such a node can't be added: numbers are from 1 to 2^64 - 2
+  abbrev pub restore_refusal : Keyed K D → ℕ → ℕ → Option FsError
+  restore_refusal t p n =
+      if is_some (entry t p)
+      then (if is_some (entry t n) then Some Exists
+      else (if (n == 0) || (n == 18446744073709551615) then Some Forbidden else None))
+      else Some NotFound
 
   -- t with another item at n
   abbrev pub with_item_at : Keyed K D → ℕ → Option (Entry K D) → D → Keyed K D

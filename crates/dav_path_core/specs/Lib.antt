@@ -24,3 +24,4 @@ pub mod TreeValue
 pub mod Trimmed
 pub mod Url
 pub mod View
+pub mod Walking

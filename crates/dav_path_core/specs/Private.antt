@@ -5,3 +5,4 @@ pub mod Keeping
 pub mod Nodes
 pub mod Tables
 pub mod Trimming
+pub mod Walked

@@ -7,7 +7,7 @@ ghost use Rattle.std.specs.FinMap.{empty, get, insert, remove};
 ghost use Rattle.dav_path_core.specs.Answers.{Answers};
 ghost use Rattle.dav_path_core.specs.ChildIndex.{IsIndex, told, is_named, noted, forgotten};
 ghost use Rattle.dav_path_core.specs.Fronts.{Segment};
-ghost use Rattle.dav_path_core.specs.Keyed.{IsChild, IsKnown, item, parent, child, is_under, add, add_refusal, delete_refusal, without, move_refusal, placed};
+ghost use Rattle.dav_path_core.specs.Keyed.{IsChild, IsKnown, item, parent, child, is_under, add, add_refusal, restored, restore_refusal, delete_refusal, without, move_refusal, placed};
 ghost use Rattle.dav_path_core.specs.TreeValue.{IsTreeValue};
 ghost use Rattle.dav_path_core.specs.Private.ChildNames.{index_of};
 
@@ -89,6 +89,32 @@ impl ChildIndex {
         Ok(id)
     }
 
+    /// As `restore_child` of the tree; and the index notes the child.
+    pub fn restore_child<D: Drop>(
+        &mut self,
+        tree: &mut Tree<Bytes, D>,
+        folder: u64,
+        name: Bytes,
+        item: D,
+        number: u64,
+    ) -> FsResult<()>
+        requires indexed { IsIndex tree.old.keyed self.old }
+        requires free { child (pointwise nat_eq name) tree.old.keyed folder ≡ None }
+        ensures answer { Answers (restore_refusal tree.old.keyed folder number) result
+            (λ _. tree.new.keyed ≡ restored tree.old.keyed folder name item number)
+            (tree.new ≡ tree.old) }
+        // It is refused for memory only where nothing else refuses.
+        ensures room { IfErr result (λ e. e ≡ FsError.InsufficientStorage
+            → restore_refusal tree.old.keyed folder number ≡ None) }
+        ensures shape { IsTreeValue (pointwise nat_eq) tree.new }
+        ensures indexed { IsIndex tree.new.keyed self.new }
+    {
+        tree.restore_child(folder, name, item, number)?;
+        self.note_child(tree, folder, number);
+        self.keep_if_wide(tree, folder);
+        Ok(())
+    }
+
     /// As `delete_node` of the tree; and the index forgets the child. Takes no memory.
     pub fn delete_node<D>(&mut self, tree: &mut Tree<Bytes, D>, id: u64) -> FsResult<Node<Bytes, D>>
         requires indexed { IsIndex tree.old.keyed self.old }
@@ -123,7 +149,7 @@ impl ChildIndex {
         ensures shape { IsTreeValue (pointwise nat_eq) tree.new }
         ensures indexed { IsIndex tree.new.keyed self.new }
     {
-        tree.check_move_to_free(id, folder)?;
+        tree.check_move_over(id, folder, &name, None, false)?;
         self.move_below(tree, id, folder, name);
         Ok(())
     }

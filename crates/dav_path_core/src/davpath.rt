@@ -128,6 +128,20 @@ impl DavPath {
         })
     }
 
+    /// The path that has that prefix and those bytes behind it, as another path had them: they are neither decoded nor
+    /// resolved (own). `OutOfMemory` alone.
+    pub fn from_parts(alloc: Global, prefix: &str, bytes: &[u8]) -> Result<DavPath, ParseError>
+        ensures ok { IfOk result (λ path. (path.prefix ≡ prefix.now) × (path.bytes ≡ bytes.now)) }
+        ensures err { IfErr result (λ e. e ≡ ParseError.OutOfMemory) }
+    {
+        let mut fullpath = prefix.as_bytes().to_vec(alloc)?;
+        fullpath.extend_from_slice(bytes)?;
+        Ok(DavPath {
+            fullpath,
+            prefix_length: prefix.len(),
+        })
+    }
+
     /// Sets another prefix, which has to be a front of the whole path and end at a slash. A slash at its end is left
     /// out; where the whole path is the prefix, a slash is put behind it.
     ///

@@ -3,17 +3,19 @@
 //! Read `add_child` and `find_child` first; the calls that may drop data stand in the module `changing`.
 ghost use Rattle.std.specs.Prelude.{◌≡◌, ◌≢◌, ◌<◌, ◌≤◌, ℕ, IsSome, is_some, Some, None, MatchOption, IfOk, IfErr, OnErr, MatchResult, Bool, true, false};
 ghost use Rattle.std.specs.Fn.{FnReturnsAt};
-ghost use Rattle.std.specs.Option.{ok_or};
+ghost use Rattle.std.specs.Option.{ok_or, option_map};
 ghost use Rattle.std.specs.Borrow.{sem};
 ghost use Rattle.std.specs.Map.{IsKeyTest};
 ghost use Rattle.std.specs.FinMap.{len};
 ghost use Rattle.dav_path_core.specs.Answers.{Answers};
-ghost use Rattle.dav_path_core.specs.Keyed.{item, parent as parent_number, IsChild, child, lone, add, add_refusal, cleared, with_item, delete_refusal, without, entry, has_child as has_child_of, is_kept as is_kept_in, is_under, move_refusal, placed, moved, Under, cut, cut_refusal, IsCut, IsKnown};
+ghost use Rattle.dav_path_core.specs.Keyed.{item, parent as parent_number, parent_and_key, IsChild, child, lone, add, add_refusal, cleared, with_item, delete_refusal, without, entry, has_child as has_child_of, is_kept as is_kept_in, is_under, move_refusal, placed, moved, Under, cut, cut_refusal, IsCut, IsKnown};
 ghost use Rattle.dav_path_core.specs.TreeValue.{IsTreeValue, first, after, if_known};
 
 mod changing;
 mod links;
 mod listing;
+mod restoring;
+mod walking;
 
 use crate::errors::{FsError, FsResult};
 pub use listing::Children;
@@ -21,6 +23,7 @@ use std::alloc::Global;
 use std::collections::HashMap;
 use std::hash::Hash;
 use std::marker::Model;
+pub use walking::Walk;
 
 /// The number of the root.
 pub const ROOT_ID: u64 = 1;
@@ -134,6 +137,16 @@ impl<K: Eq + Hash + Clone, D> Tree<K, D> {
             Ok(self.above(id))
         } else {
             Err(FsError::NotFound)
+        }
+    }
+
+    /// The number of a node's parent and the node's key there. `None` for the root and for an unknown number.
+    pub fn place_of(&self, id: u64) -> Option<(u64, &K)>
+        ensures { option_map (λ q. (q.0, q.1.now)) result ≡ parent_and_key self.now.keyed id }
+    {
+        match &self.nodes.get(&id)?.parent_and_key {
+            Some((parent, key)) => Some((*parent, key)),
+            None => None,
         }
     }
 
@@ -321,25 +334,6 @@ impl<K: Eq + Hash + Clone, D> Tree<K, D> {
         Ok(())
     }
 
-    // Why a node can't be moved to a place that is free.
-    pub(crate) fn check_move_to_free(&self, id: u64, new_parent: u64) -> FsResult<()>
-        ensures answer { (k : K) → child (K.eq k) self.now.keyed new_parent ≡ None → MatchResult result
-            (λ _. move_refusal K.eq self.now.keyed id new_parent k false ≡ None)
-            (λ e. move_refusal K.eq self.now.keyed id new_parent k false ≡ Some e) }
-        ensures shape { IsTreeValue K.eq self.now }
-    {
-        if !self.is_known(id) {
-            return Err(FsError::NotFound);
-        }
-        if !self.is_known(new_parent) {
-            return Err(FsError::NotFound);
-        }
-        if id == ROOT_ID || self.is_below(id, new_parent) {
-            return Err(FsError::Forbidden);
-        }
-        Ok(())
-    }
-
     // The parent and the key of a node that may be deleted.
     pub(crate) fn leaf_at(&self, id: u64) -> FsResult<(u64, &K)>
         ensures answer { MatchResult result
@@ -370,7 +364,7 @@ impl<K: Eq + Hash + Clone, D> Tree<K, D> {
             × (self.new ≡ self.old)) }
         ensures shape { IsTreeValue K.eq self.new }
     {
-        self.check_move_to_free(id, new_parent)?;
+        self.check_move_over(id, new_parent, &new_name, None, false)?;
         self.put_below(id, new_parent, new_name);
         Ok(())
     }

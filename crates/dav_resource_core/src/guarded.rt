@@ -18,6 +18,7 @@ mod files;
 mod laws;
 mod locks;
 mod requests;
+mod restoring;
 #[cfg(test)]
 mod tests;
 

@@ -56,6 +56,23 @@ fn main(rt: HostRuntime) -> ExitCode {
 
 // Answers the requests of the connections, with stores that are empty at first.
 fn run(rt: &HostRuntime, choices: Choices) -> Result<End, Fault> {
+    let mut config = Config::default();
+    config.max_body_len = choices.max_body;
+    let one = choices.one;
+    let clock = SystemClock {
+        rt,
+        runs: choices.clock.is_none(),
+    };
+    let mut dav = server(rt, choices)?;
+    if one {
+        serve_single(rt, config, &mut dav)
+    } else {
+        serve_all(rt, config, &mut dav, &clock)
+    }
+}
+
+// A server over stores that are empty.
+fn server(rt: &HostRuntime, choices: Choices) -> Result<Dav<ChaCha20Rng>, Fault> {
     let rng = match choices.seed {
         Some(seed) => ChaCha20Rng::seed_from_u64(seed),
         None => make_rng(rt)?,
@@ -65,29 +82,31 @@ fn run(rt: &HostRuntime, choices: Choices) -> Result<End, Fault> {
         None => now(rt)?,
     };
     let stores = Guarded::new(rt.alloc(), now).map_err(|_| AllocError)?;
-    let mut config = Config::default();
-    config.max_body_len = choices.max_body;
-    let mut dav = Dav::new(rt.alloc(), choices.settings, stores, rng, now).map_err(|_| AllocError)?;
-    if choices.one {
-        let mut connection = Connection::new(rt.alloc(), RandomState::new(rt)?, config);
-        serve_one(&mut connection, &mut dav, &mut rt.stdin(), &mut rt.stdout())?;
-        return Ok(End::Whole);
+    match Dav::new(rt.alloc(), choices.settings, stores, rng, now) {
+        Ok(dav) => Ok(dav),
+        Err(_) => Err(Fault::OutOfMemory),
     }
-    let clients = Clients::new(rt.alloc(), RandomState::new(rt)?, config);
-    let clock = SystemClock {
-        rt,
-        runs: choices.clock.is_none(),
-    };
-    serve_all(rt, clients, &mut dav, &clock)
+}
+
+// Serves the one connection that the standard streams are.
+fn serve_single(
+    rt: &HostRuntime,
+    config: Config,
+    dav: &mut Dav<ChaCha20Rng>,
+) -> Result<End, Fault> {
+    let mut connection = Connection::new(rt.alloc(), RandomState::new(rt)?, config);
+    serve_one(&mut connection, dav, &mut rt.stdin(), &mut rt.stdout())?;
+    Ok(End::Whole)
 }
 
 // Serves the connections that the frames on standard input are of.
 fn serve_all(
     rt: &HostRuntime,
-    mut clients: Clients,
+    config: Config,
     dav: &mut Dav<ChaCha20Rng>,
     clock: &SystemClock,
 ) -> Result<End, Fault> {
+    let mut clients = Clients::new(rt.alloc(), RandomState::new(rt)?, config);
     let mut input = BufReader::with_capacity(rt.alloc(), BUFFER, rt.stdin())?;
     let mut output = BufWriter::with_capacity(rt.alloc(), BUFFER, rt.stdout())?;
     serve_streams(

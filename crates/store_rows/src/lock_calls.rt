@@ -4,7 +4,7 @@ use dav_locks_core::ls::{DavLock, DavLockSystem, LockError, NoLock, RefreshError
 use dav_locks_core::memls::MemLs;
 use dav_path_core::davpath::DavPath;
 use rand_core::Rng;
-use std::alloc::AllocError;
+use std::alloc::{AllocError, Global};
 
 /// What a lock is asked for with.
 #[derive(Clone, Copy)]
@@ -90,4 +90,17 @@ pub(crate) fn delete(locks: &mut MemLs, path: &DavPath, now: Moment) {
 
 pub(crate) fn expire(locks: &mut MemLs, now: Moment) {
     locks.expire(now);
+}
+
+pub(crate) fn restore(locks: &mut MemLs, lock: DavLock) -> Result<(), LockError> {
+    locks.restore(lock)
+}
+
+/// Copies of all locks, in the order of granting.
+pub(crate) fn walk(locks: &MemLs, alloc: Global) -> Result<Vec<DavLock>, AllocError> {
+    let mut all = Vec::new(alloc);
+    for lock in locks.iter() {
+        all.push(lock.clone()?)?;
+    }
+    Ok(all)
 }

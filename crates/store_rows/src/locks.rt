@@ -6,7 +6,7 @@ mod rows;
 use crate::words::row_of;
 use dav_locks_core::ls::{LockError, NoLock, RefreshError};
 use player::Player;
-use rows::{DEEP_LOCKS, LOCKS};
+use rows::{DEEP_LOCKS, LOCKS, RESTORED_LOCKS};
 use std::process::Abort;
 use std::test::Fail;
 
@@ -33,6 +33,11 @@ fn plays_on_locks(rt: HostRuntime) -> Result<(), Fail> {
 #[test]
 fn plays_on_deep_locks(rt: HostRuntime) -> Result<(), Fail> {
     play(&rt, DEEP_LOCKS)
+}
+
+#[test]
+fn plays_on_restored_locks(rt: HostRuntime) -> Result<(), Fail> {
+    play(&rt, RESTORED_LOCKS)
 }
 
 #[test]

@@ -38,6 +38,20 @@ pub fn add_new_child(
     index.add_new_child(tree, folder, name, item)
 }
 
+pub fn restore_child(
+    index: &mut ChildIndex,
+    tree: &mut Tree<Bytes, u8>,
+    folder: u64,
+    name: Bytes,
+    item: u8,
+    number: u64,
+) -> FsResult<()>
+    requires indexed { IsIndex tree.old.keyed index.old }
+    requires free { child (pointwise nat_eq name) tree.old.keyed folder ≡ None }
+{
+    index.restore_child(tree, folder, name, item, number)
+}
+
 pub fn delete_node(
     index: &mut ChildIndex,
     tree: &mut Tree<Bytes, u8>,

@@ -9,6 +9,8 @@ use dav_resource_core::fs::{
 use dav_resource_core::guarded::{
     commands_keep_to_folders, holders_are_let_in, runs_join, runs_keep_locks, runs_keep_shape,
 };
+use dav_resource_core::memfs::walked_files_are_restored;
+use dav_resource_core::memls::walked_locks_are_restored;
 use dav_resource_core::util::DavMethodSet;
 
 pub fn of_paths() {
@@ -30,6 +32,11 @@ pub fn of_files() {
     commands_see_below();
     open_files_follow();
     numbers_are_given_once();
+    walked_files_are_restored();
+}
+
+pub fn of_locks() {
+    walked_locks_are_restored();
 }
 
 pub fn of_requests() {

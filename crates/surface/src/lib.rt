@@ -13,6 +13,7 @@ pub mod indexes;
 pub mod laws;
 pub mod locks;
 pub mod paths;
+pub mod restoring;
 pub mod tag_headers;
 pub mod trees;
 pub mod util;

@@ -12,6 +12,10 @@ pub fn from_uri(alloc: Global, uri: &Uri) -> Result<DavPath, ParseError> {
     DavPath::from_uri(alloc, uri)
 }
 
+pub fn from_parts(alloc: Global, prefix: &str, bytes: &[u8]) -> Result<DavPath, ParseError> {
+    DavPath::from_parts(alloc, prefix, bytes)
+}
+
 pub fn set_prefix(path: &mut DavPath, prefix: &str) -> Result<(), ParseError> {
     path.set_prefix(prefix)
 }

@@ -1,9 +1,9 @@
 //! Of `tree`, for one type of keys and one of data.
 ghost use Rattle.std.specs.Prelude.{◌≡◌, None, nat_eq};
-ghost use Rattle.dav_path_core.specs.Keyed.{child};
+ghost use Rattle.dav_path_core.specs.Keyed.{child, parent, IsKnown, Under};
 
 use dav_resource_core::errors::FsResult;
-use dav_resource_core::tree::{Children, Node, ROOT_ID, Tree};
+use dav_resource_core::tree::{Children, Node, ROOT_ID, Tree, Walk};
 use std::alloc::Global;
 
 pub fn root() -> u64 {
@@ -101,4 +101,39 @@ pub fn next_sibling(tree: &Tree<u64, u8>, id: u64) -> FsResult<Option<u64>> {
 
 pub fn node_count(tree: &Tree<u64, u8>) -> usize {
     tree.node_count()
+}
+
+pub fn next_number(tree: &Tree<u64, u8>) -> u64 {
+    tree.next_number()
+}
+
+pub fn raise_next_number(tree: &mut Tree<u64, u8>, next: u64) {
+    tree.raise_next_number(next);
+}
+
+pub fn restore_child(
+    tree: &mut Tree<u64, u8>,
+    parent: u64,
+    key: u64,
+    item: u8,
+    number: u64,
+) -> FsResult<()>
+    requires { child (nat_eq key) tree.old.keyed parent ≡ None }
+{
+    tree.restore_child(parent, key, item, number)
+}
+
+pub fn walk(tree: &Tree<u64, u8>) -> Walk<'_, u64, u8> {
+    tree.walk()
+}
+
+pub fn next_met(walk: &mut Walk<'_, u64, u8>) -> Option<u64> {
+    walk.next()
+}
+
+pub fn next_below(tree: &Tree<u64, u8>, top: u64, id: u64) -> Option<u64>
+    requires known { IsKnown tree.now.keyed id }
+    requires under { Under (parent tree.now.keyed) top id }
+{
+    tree.next_below(top, id)
 }

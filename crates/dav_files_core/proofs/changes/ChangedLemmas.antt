@@ -44,6 +44,7 @@ module _ (m : ResourceMap) (is_map : IsResourceMap m) (p : Path) (r : Resource) 
     root = let root = is_map.root in let k = changed_keeps [] root.0 root.1 in (k.0, k.1, k.2 ∙ root.2, k.3 root.3);
     parents = λ q s c h. let old = changed_from (q ++ (s ∷ [])) c h in let above = is_map.parents q s old.0 old.1 in let k = changed_keeps q above.0 above.1 in (k.0, k.1, k.3 above.2);
     apart = λ q q' x x' h h' e. let f = changed_from q x h in let f' = changed_from q' x' h' in is_map.apart q q' f.0 f'.0 f.1 f'.1 (f.2 ∙ e ∙ sym f'.2);
+    positive = λ q x h. let f = changed_from q x h in subst (λ n. 0 < n) f.2 (is_map.positive q f.0 f.1);
     below = λ q x h. let f = changed_from q x h in subst (λ n. n < m.next) f.2 (is_map.below q f.0 f.1);
     bare = λ q x h. elim (changed_cases q x h) [
       | inl new ↦ subst (λ (x : Resource). x.node.kind ≡ Folder → x.node.bytes ≡ []) (sym new.1) new_bare

@@ -1,19 +1,20 @@
 -- What a call of the tree leaves, as a map.
-use Rattle.std.proofs.Common.{◌≡◌, ℕ, List, [], ◌∷◌, ◌++◌, Some, None, Ok, Err, refl, sym, ap, ◌∙◌, subst}
+use Rattle.std.proofs.Common.{◌≡◌, ℕ, ◌+◌, ◌<◌, ◌≤◌, max, arith, List, [], ◌∷◌, ◌++◌, Some, None, Ok, Err, refl, sym, ap, ◌∙◌, subst}
 use Rattle.std.specs.FinMap.{get}
 use Rattle.dav_files_core.specs.declared.memfs.Kind.TheVariants.{Folder, File}
-use Rattle.dav_files_core.specs.Outcomes.{added, changed, new_file}
+use Rattle.dav_files_core.specs.Outcomes.{added, added_as, changed, new_file}
 use Rattle.dav_files_core.specs.Private.Represents.{IsStore, FileEntry, FileTree, Represents, resource_map}
 use Rattle.dav_files_core.specs.Resources.{Node, Resource, ResourceMap, at_path}
+use Rattle.dav_files_core.specs.Restoring.{restored as restored_entry}
 use Rattle.dav_files_core.specs.Private.TreeCalls.{IsMember, IsMissing, IsThere, FindsMember, WritesFile}
 use Rattle.dav_path_core.specs.declared.errors.FsError.TheVariants.{NotFound}
 use Rattle.dav_path_core.specs.ChildIndex.{Index}
 use Rattle.dav_path_core.specs.Fronts.{Segment, Path, parent}
-use Rattle.dav_path_core.specs.Keyed.{add, with_item_at}
+use Rattle.dav_path_core.specs.Keyed.{add, restored, with_item_at}
 use Rattle.dav_path_core.proofs.lists.FinMaps.{none_some, one_some}
 use Rattle.dav_files_core.proofs.walks.FoundLemmas.{folder_there, not_there}
 use Rattle.dav_files_core.proofs.walks.WalkLemmas.{child_at}
-use Rattle.dav_files_core.proofs.changes.AddedLemmas.{Represents-added}
+use Rattle.dav_files_core.proofs.changes.AddedLemmas.{Represents-added, Represents-added_as}
 use Rattle.dav_files_core.proofs.changes.ChangedLemmas.{Represents-changed}
 use Rattle.dav_files_core.proofs.walks.RecoverLemmas.{recovers}
 
@@ -75,6 +76,16 @@ module _ (t : FileTree) (m : ResourceMap) (rep : Represents t m) (path : Path) (
         let x = child_entry t m rep (parent path) h.2.0 folder.0 id h.2.2 name c (subst (λ key. IsMember t id key c) is there) in
         none_some _ x.0 free x.1,
   )
+
+  -- a node restored there
+  pub with_restored : (key : Segment) → key ≡ name → (node : Node) (number : ℕ) → get t.nodes number ≡ None → 0 < number → (node.kind ≡ Folder → node.bytes ≡ []) → (t' : FileTree) → t' ≡ restored t id key node number
+      → Represents t' (restored_entry m path (record { number = number; node = node }))
+  with_restored key is node number unused positive bare t' e =
+      let grows : m.next ≤ max t.next (number + 1) = let same = rep.next in omega (arith, same) in
+      let rep' = Represents-added_as t m rep (parent path) h.2.0 name node number (max t.next (number + 1)) unused positive (omega arith) grows folder.0 folder.1 free bare in
+      subst (λ p. Represents t' (restored_entry m p (record { number = number; node = node }))) (sym h.1)
+      (subst (λ n. Represents t' (added_as m (parent path ++ (name ∷ [])) node number (max n (number + 1)))) (sym rep.next)
+      (subst (λ t'. Represents t' (added_as m (parent path ++ (name ∷ [])) node number (max t.next (number + 1)))) (sym (e ∙ (λ j. restored t (sym h.2.2 j) (is j) node number))) rep'))
 
   -- a node added there
   pub with_node : (key : Segment) → key ≡ name → (node : Node) → (node.kind ≡ Folder → node.bytes ≡ []) → (t' : FileTree) → t' ≡ add t id key node → Represents t' (added m path node)

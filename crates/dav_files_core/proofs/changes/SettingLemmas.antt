@@ -40,6 +40,12 @@ same_entry m is_map id p r here number q s there other =
     let same : p ≡ q = is_map.apart p q r s here there (number ∙ sym other) in
     one_some (at_path m q) r s (ap (at_path m) (sym same) ∙ here) there
 
+-- what has a file's number is no folder
+pub no_folder : (m : ResourceMap) → IsResourceMap m → (id : ℕ) → HasFile m id → (p : Path) (r : Resource) → at_path m p ≡ Some r → r.number ≡ id → r.node.kind ≡ Folder → ⊥
+no_folder m is_map id file p r here number folder =
+    let both : Folder ≡ File = sym folder ∙ ap (λ (r : Resource). r.node.kind) (same_entry m is_map id p r here number file.0 file.1 file.2 file.3) ∙ file.4 in
+    absurd (cc)
+
 module _ (t : FileTree) (m : ResourceMap) (rep : Represents t m) (id : ℕ) (file : HasFile m id) (p : Path) (r : Resource) (here : at_path m p ≡ Some r) (number : r.number ≡ id) where
   is_file : r.node.kind ≡ File
   is_file = ap (λ (r : Resource). r.node.kind) (same_entry m rep.is_map id p r here number file.0 file.1 file.2 file.3) ∙ file.4
@@ -47,10 +53,6 @@ module _ (t : FileTree) (m : ResourceMap) (rep : Represents t m) (id : ℕ) (fil
   -- a file's bytes that were written
   pub written_stands : (bytes : List ℕ) (now : ℕ) (t' : FileTree) → WritesFile t id bytes now (Ok tt) t' → Represents t' (changed m p r (record r.node { bytes = bytes; modified = now }))
   written_stands bytes now t' h = written t m rep p r here is_file id number bytes now t' h
-
-  -- another node in place of a file's
-  pub replaced_stands : (node : Node) → IsBare node → (t' : FileTree) → SetsNode t id (λ _. node) (Ok tt) t' → Represents t' (changed m p r node)
-  replaced_stands node bare t' h = set_stands t m rep p r here id number (λ _. node) (λ f. let both : Folder ≡ File = sym f ∙ is_file in absurd (cc)) bare t' h
 
   -- bytes put over some of a file's
   pub overwritten_stands : (start : ℕ) (new : List ℕ) (t' : FileTree) → SetsNode t id (λ n. record n { bytes = overwritten n.bytes start new }) (Ok tt) t'

@@ -31,6 +31,7 @@ module _ (m : ResourceMap) (is_map : IsResourceMap m) (p : Path) (r : Resource)
     root = let root = is_map.root in (root.0, stays [] root.0 (λ e. not_root (sym e)) root.1, root.2, root.3);
     parents = λ q s c h. let old = left (q ++ (s ∷ [])) c h in let above = is_map.parents q s c old.1 in (above.0, above_stays q s c above.0 old.1 above.1, above.2);
     apart = λ q q' x x' h h' e. is_map.apart q q' x x' (left q x h).1 (left q' x' h').1 e;
+    positive = λ q x h. is_map.positive q x (left q x h).1;
     below = λ q x h. is_map.below q x (left q x h).1;
     bare = λ q x h. is_map.bare q x (left q x h).1;
   }

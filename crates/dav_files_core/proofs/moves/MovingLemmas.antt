@@ -93,6 +93,7 @@ module _ (m : ResourceMap) (is_map : IsResourceMap m) (from : Path) (r : Resourc
         let c' = came a' x' h' in
         let same = is_map.apart c.0 c'.0 x x' c.2 c'.2 e in
         one_some (path_after from to c'.0) a a' (ap (path_after from to) (sym same) ∙ after_back to from a c.0 c.1) (after_back to from a' c'.0 c'.1);
+    positive = λ a x h. let c = came a x h in is_map.positive c.0 x c.2;
     below = λ a x h. let c = came a x h in is_map.below c.0 x c.2;
     bare = λ a x h. let c = came a x h in is_map.bare c.0 x c.2;
   }

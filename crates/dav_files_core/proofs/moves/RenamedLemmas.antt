@@ -158,7 +158,7 @@ finds_folder m is_map p r here (Some folder) h =
     (h.0, h.1, h.2, h.3, folder_found m h.0 h.2 h.4 (ap (λ (r : Resource). r.node.kind) (sym same) ∙ above.2), h.5)
 
 -- ---- the whole call, with the target in its folder
-last_is : (o : Option Segment) (q : Path) (s : Segment) → last_or o (q ++ (s ∷ [])) ≡ Some s
+pub last_is : (o : Option Segment) (q : Path) (s : Segment) → last_or o (q ++ (s ∷ [])) ≡ Some s
 last_is o [] s = refl
 last_is o (x ∷ q) s = last_is (Some x) q s
 

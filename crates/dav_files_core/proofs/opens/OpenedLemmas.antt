@@ -1,6 +1,7 @@
 -- What is found by the number of an entry.
 use Rattle.std.proofs.Common.{◌≡◌, ℕ, Some, None, Result, Ok, Err, IfOk, IfErr, refl, sym, ap, ◌∙◌, subst, Bor}
 use Rattle.std.specs.Prelude.{ok_or, Option}
+use Rattle.std.specs.FinMap.{get}
 use Rattle.dav_path_core.specs.declared.errors.FsError.{FsError}
 use Rattle.dav_path_core.specs.declared.errors.FsError.TheVariants.{NotFound, Forbidden}
 use Rattle.dav_path_core.specs.Fronts.{Path}
@@ -11,9 +12,10 @@ use Rattle.dav_files_core.specs.OpenFiles.{open_file, with_number}
 use Rattle.dav_files_core.specs.Opening.{OpenFile}
 use Rattle.dav_files_core.specs.Outcomes.{◌>>=◌, only_file}
 use Rattle.dav_files_core.specs.Private.Numbered.{node_with}
-use Rattle.dav_files_core.specs.Private.Represents.{FileTree, Represents}
+use Rattle.dav_files_core.specs.Private.Represents.{FileEntry, FileTree, Represents}
 use Rattle.dav_files_core.specs.Private.TreeCalls.{FindsNode}
 use Rattle.dav_files_core.specs.Resources.{Node, Resource, ResourceMap, at_path}
+use Rattle.dav_path_core.proofs.lists.FinMaps.{none_some}
 use Rattle.dav_files_core.proofs.opens.NumberedLemmas.{number_is, number_gone, numbered_is}
 use Rattle.dav_files_core.proofs.changes.LeftLemmas.{item_is, lost}
 
@@ -27,6 +29,14 @@ node_found t m rep n (Ok d) h g =
 node_found t m rep n (Err e) h g =
     ap (λ (o : Option (Path × Resource)). ok_or o NotFound >>= λ (e : Path × Resource). Ok e.1.node) (number_gone m n (λ p r here number. lost t m rep p r here n number g.1))
     ∙ ap (λ (x : FsError). Err x) (sym g.0)
+
+-- and where no entry has the number, no node has
+pub no_node : (t : FileTree) (m : ResourceMap) → Represents t m → (n : ℕ) → with_number m n ≡ None → get t.nodes n ≡ None
+no_node t m rep n gone = by (get t.nodes n) refl
+  where
+    by : (o : Option FileEntry) → get t.nodes n ≡ o → o ≡ None
+    by None e = refl
+    by (Some x) e = let there = rep.all n x e in absurd (none_some (with_number m n) (there.0, there.1) gone (number_is m rep.is_map there.0 there.1 there.2 n there.3))
 
 -- a file that is open stands in the map
 pub record IsOpen (m : ResourceMap) (f : OpenFile) (e : Path × Resource) : Type 0 where

@@ -1,5 +1,5 @@
 -- An ordered map of the code, by its list of entries, as a finite map.
-use Rattle.std.proofs.Common.{◌≡◌, inl, inr, Bool, true, false, cond, List, [], ◌∷◌, Option, Some, None, map, refl, sym, ap, ◌∙◌, subst}
+use Rattle.std.proofs.Common.{◌≡◌, Bool, true, false, cond, List, [], ◌∷◌, Option, Some, None, map, refl, sym, ap, ◌∙◌, subst}
 use Rattle.std.specs.Prelude.{T, ◌&&◌}
 use Rattle.std.specs.Option.{option_map}
 use Rattle.std.specs.Ordering.{is_eq, is_lt}
@@ -11,15 +11,6 @@ use Rattle.std.specs.FinMap.Entries.{below_all, same_entries}
 use Rattle.std.specs.List.{AllByRecursion, AllZip}
 use Rattle.std.specs.List.Sorted.{IsStrictlySortedBy}
 use Rattle.std.specs.Map.{lookup, keys_of}
-use Rattle.dav_path_core.proofs.lists.FinMaps.{dec, get_same, get_other}
-
--- ---- an entry that is there already
-module _ {K X : Type 0} {R : K → K → Ordering} (o : IsTotalOrder R) (exact : IsAntisymmetric R) where
-  pub insert_same : (m : FinMap R X) (k : K) (v : X) → get m k ≡ Some v → insert m k v ≡ m
-  insert_same m k v h = same_map o exact (insert m k v) m (λ q. elim (dec o exact q k) [
-    | inl same ↦ ap (get (insert m k v)) same ∙ get_same o exact m k v ∙ sym h ∙ ap (get m) (sym same)
-    | inr other ↦ get_other o exact m k v q other
-  ])
 
 -- ---- a list of entries whose values are seen by a function
 module _ {K X Y : Type 0} (R : K → K → Ordering) (see : X → Y) where

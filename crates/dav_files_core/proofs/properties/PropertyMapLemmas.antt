@@ -51,6 +51,16 @@ listed f es props is up ps all =
     ∙ ap (λ (l : List ((List ℕ × List ℕ) × Property)). map f (map (λ (e : (List ℕ × List ℕ) × Property). e.1) l)) (sym (entries-as_map key_total key_exact property_of es up))
     ∙ ap (λ props. map f (values props)) is
 
+-- the same without references
+pub kept_values : (es : List Kept) (props : Properties) → properties_of es ≡ props → IsStrictlySortedBy key_cmp (keys_of es) → map property_of (map (λ (e : Kept). e.1) es) ≡ values props
+kept_values es props is up =
+    shown_values (λ p. p) es ∙ unmapped (map (λ (e : (List ℕ × List ℕ) × Property). e.1) (map kept es))
+    ∙ ap (map (λ (e : (List ℕ × List ℕ) × Property). e.1)) (sym (entries-as_map key_total key_exact property_of es up)) ∙ ap values is
+  where
+    unmapped : (ps : List Property) → map (λ p. p) ps ≡ ps
+    unmapped [] = refl
+    unmapped (p ∷ ps) = ap (λ l. p ∷ l) (unmapped ps)
+
 -- one that was looked up
 pub found_kept : (es : List Kept) (key : List ℕ × List ℕ) (r : Option (Bor DavProp)) → option_copied r ≡ lookup (λ k. is_eq (key_cmp key k)) es → option_map (λ (p : Bor DavProp). property_of p.now) r ≡ get (properties_of es) key
 found_kept es key r h = by r ∙ ap (option_map property_of) h ∙ sym (get-as_map key_total key_exact property_of es key)

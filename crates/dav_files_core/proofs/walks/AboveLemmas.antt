@@ -10,7 +10,7 @@ use Rattle.dav_files_core.specs.Private.Entries.{StandsIn}
 use Rattle.dav_files_core.specs.Private.Represents.{FileEntry, FileTree, PlaceFits, Represents}
 use Rattle.dav_files_core.specs.Resources.{Resource, ResourceMap, at_path}
 
-place_in : (m : ResourceMap) (p : Path) (place : Option (ℕ × Segment)) → PlaceFits m p place → StandsIn m p (option_map (λ q. q.0) place)
+pub place_in : (m : ResourceMap) (p : Path) (place : Option (ℕ × Segment)) → PlaceFits m p place → StandsIn m p (option_map (λ q. q.0) place)
 place_in m p None fits = fits
 place_in m p (Some place) fits = (fits.0, place.1, fits.1, fits.2, fits.3, fits.4)
 

@@ -69,7 +69,7 @@ module _ (t : FileTree) (m : ResourceMap) (rep : Represents t m) where
       let lt : length p < len t.nodes = room (length p) p r t.nodes h refl (λ q s x split at_q. let s = rep.shown q x at_q in (s.placed, s.stored)) in omega arith
 
   -- each node's entry in the list is an entry of the map
-  entry_is : (e : ℕ × FileEntry) → get t.nodes e.0 ≡ Some e.1 → at_path m (entry_of t e).0 ≡ Some (entry_of t e).1
+  pub entry_is : (e : ℕ × FileEntry) → get t.nodes e.0 ≡ Some e.1 → at_path m (entry_of t e).0 ≡ Some (entry_of t e).1
   entry_is e stored =
       let (p, here, fits) = entry_of_node t m rep e.0 e.1 stored in
       ap (at_path m) (path_at (len t.nodes) p (record { number = e.0; node = e.1.item }) here (enough p _ here)) ∙ here

@@ -16,13 +16,13 @@ module _ (now : ℕ) where
   abbrev root_entry : Resource
   root_entry = record { number = 1; node = new_folder now }
 
-  only_root : (p : Path) (r : Resource) → at_path (start now) p ≡ Some r → (p ≡ []) × (r ≡ root_entry)
+  pub only_root : (p : Path) (r : Resource) → at_path (start now) p ≡ Some r → (p ≡ []) × (r ≡ root_entry)
   only_root p r h = elim (inserted path_total path_exact empty [] root_entry p r h) [
     | inl new ↦ new
     | inr old ↦ none_some _ r (get-empty path_cmp p) old.1
   ]
 
-  root_there : at_path (start now) [] ≡ Some root_entry
+  pub root_there : at_path (start now) [] ≡ Some root_entry
   root_there = get_same path_total path_exact empty [] root_entry
 
   pub IsResourceMap-start : IsResourceMap (start now)
@@ -30,6 +30,7 @@ module _ (now : ℕ) where
     root = (root_entry, root_there, refl, refl);
     parents = λ p s r h. absurd (snoc_not_empty p s (only_root (p ++ (s ∷ [])) r h).0);
     apart = λ p q r s h g e. (only_root p r h).0 ∙ sym (only_root q s g).0;
+    positive = λ p r h. let number : r.number ≡ 1 = ap (λ (r : Resource). r.number) (only_root p r h).1 in omega arith;
     below = λ p r h. let number : r.number ≡ 1 = ap (λ (r : Resource). r.number) (only_root p r h).1 in omega arith;
     bare = λ p r h f. ap (λ (r : Resource). r.node.bytes) (only_root p r h).1;
   }

@@ -1,21 +1,21 @@
 -- What the tree's clauses say, in the words of walks.
-use Rattle.std.proofs.Common.{◌≡◌, inl, inr, ℕ, Bool, true, false, is_some, List, Option, Some, None, Result, Ok, Err, IfOk, IfErr, OnOk, OnErr, MatchResult, refl, sym, ap, ◌∙◌, subst, Bor, nat_eq}
+use Rattle.std.proofs.Common.{◌≡◌, ◌<◌, ◌==◌, ◌||◌, cond, arith, inl, inr, ℕ, Bool, true, false, is_some, List, Option, Some, None, Result, Ok, Err, IfOk, IfErr, OnOk, OnErr, MatchResult, refl, sym, ap, ◌∙◌, subst, Bor, nat_eq}
 use Rattle.std.specs.Option.{option_map, ok_or}
 use Rattle.std.specs.Cmp.{nat_cmp_total}
 use Rattle.std.specs.FinMap.{get, insert, nat_cmp-IsAntisymmetric}
 use Rattle.std.specs.Cmp.Lexicographic.{pointwise, bytes_decides}
-use Rattle.std.proofs.lemmas.Bool.{true≢false}
+use Rattle.std.proofs.lemmas.Bool.{true≢false, ne_eqb}
 use Rattle.dav_path_core.specs.declared.errors.FsError.{FsError}
-use Rattle.dav_path_core.specs.declared.errors.FsError.TheVariants.{NotFound, InsufficientStorage}
+use Rattle.dav_path_core.specs.declared.errors.FsError.TheVariants.{NotFound, Exists, Forbidden, InsufficientStorage}
 use Rattle.dav_files_core.specs.Properties.{patched}
 use Rattle.dav_files_core.specs.Resources.{Node, Properties, Property}
 use Rattle.dav_files_core.specs.Private.Represents.{FileTree, FileEntry}
 use Rattle.dav_files_core.specs.Private.TreeCalls.{IsMember, FindsMember, FindsNode, WritesFile, SetsNode, IsThere}
 use Rattle.dav_path_core.specs.Answers.{Answers}
-use Rattle.dav_path_core.specs.Keyed.{entry, item, parent_and_key, parent_and_key_of, child, add, add_refusal, with_item, with_item_at}
+use Rattle.dav_path_core.specs.Keyed.{entry, item, parent_and_key, parent_and_key_of, child, add, add_refusal, restored, restore_refusal, with_item, with_item_at}
 use Rattle.dav_path_core.specs.TreeValue.{TreeValue}
 use Rattle.dav_path_core.specs.Fronts.{Segment}
-use Rattle.dav_files_core.proofs.properties.FinMapLemmas.{insert_same}
+use Rattle.dav_path_core.proofs.lists.FinMaps.{insert_same}
 use Rattle.dav_path_core.proofs.trees.Trees.{child-some, child-none, same_some, none≢some, refusal-none}
 
 module _ (t : FileTree) where
@@ -75,6 +75,30 @@ module _ (old new : TreeValue Segment Node) (folder : ℕ) (name : Segment) (nod
     | inl is ↦ (is, ap (λ (t : TreeValue Segment Node). t.keyed) a.1)
     | inr is ↦ absurd (none≢some e (sym (refusal-none (pointwise nat_eq) old.keyed folder name false known (ap is_some no_child)) ∙ is))
   ]
+
+  -- the same of one that has its number
+  module _ (number : ℕ) where
+    abbrev Restored : Result (Unit {0}) FsError → Type 0
+    Restored r = Answers (restore_refusal old.keyed folder number) r (λ _. new.keyed ≡ restored old.keyed folder name node number) (new ≡ old)
+
+    pub restored_ok : (r : Result (Unit {0}) FsError) → Restored r → OnOk r (new.keyed ≡ restored old.keyed folder name node number)
+    restored_ok (Ok n) a = a.1
+    restored_ok (Err e) a = tt
+
+    module _ (unused : get old.keyed.nodes number ≡ None) (positive : 0 < number) (given : number < 18446744073709551615) where
+      none_refuses : restore_refusal old.keyed folder number ≡ None
+      none_refuses =
+          ap (λ b. cond b (cond (is_some (entry old.keyed number)) (Some Exists) (cond ((number == 0) || (number == 18446744073709551615)) (Some Forbidden) None)) (Some NotFound)) known
+          ∙ ap (λ o. cond (is_some o) (Some Exists) (cond ((number == 0) || (number == 18446744073709551615)) (Some Forbidden) None)) unused
+          ∙ ap (λ b. cond (b || (number == 18446744073709551615)) (Some Forbidden) None) (ne_eqb number 0 (λ e. omega (arith, e, positive)))
+          ∙ ap (λ b. cond b (Some Forbidden) None) (ne_eqb number 18446744073709551615 (λ e. omega (arith, e, given)))
+
+      pub restored_err : (r : Result (Unit {0}) FsError) → Restored r → IfErr r (λ e. (e ≡ InsufficientStorage) × (new.keyed ≡ old.keyed))
+      restored_err (Ok n) a = tt
+      restored_err (Err e) a = elim a.0 [
+        | inl is ↦ (is, ap (λ (t : TreeValue Segment Node). t.keyed) a.1)
+        | inr is ↦ absurd (none≢some e (sym none_refuses ∙ is))
+      ]
 
 module _ (t : FileTree) where
   pub written : (id : ℕ) (old new : Node) (bytes : List ℕ) (now : ℕ) → item t id ≡ Some old → new ≡ record old { bytes = bytes; modified = now } → WritesFile t id bytes now (Ok tt) (with_item t id new)

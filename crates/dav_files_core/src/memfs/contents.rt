@@ -39,9 +39,7 @@ impl Content {
     pub(super) fn new() -> Content
         ensures { result ≡ [] }
     {
-        Content {
-            held: Held::Shared(Bytes::new()),
-        }
+        Content::from(Bytes::new())
     }
 
     /// A copy of bytes, in memory of their size.
@@ -49,9 +47,16 @@ impl Content {
         ensures { MatchResult result (λ c. c ≡ bytes.now) (λ e. e ≡ FsError.InsufficientStorage) }
     {
         let bytes = Bytes::copy_from_slice(alloc, bytes)?;
-        Ok(Content {
+        Ok(Content::from(bytes))
+    }
+
+    /// Those bytes, shared.
+    pub(super) fn from(bytes: Bytes) -> Content
+        ensures { result ≡ bytes }
+    {
+        Content {
             held: Held::Shared(bytes),
-        })
+        }
     }
 
     // Bytes that nobody else owns, ready to be shared where there is memory for it.
@@ -85,13 +90,17 @@ impl Content {
     pub(super) fn again(&self, alloc: Global) -> FsResult<Content>
         ensures { MatchResult result (λ c. c ≡ self.now) (λ e. e ≡ FsError.InsufficientStorage) }
     {
-        let bytes = match &self.held {
-            Held::Shared(bytes) => bytes.clone()?,
-            Held::Alone(bytes) => Bytes::copy_from_slice(alloc, bytes.as_slice())?,
-        };
-        Ok(Content {
-            held: Held::Shared(bytes),
-        })
+        Ok(Content::from(self.shared(alloc)?))
+    }
+
+    /// The bytes alone, shared. They are copied where they can't be.
+    pub(super) fn shared(&self, alloc: Global) -> FsResult<Bytes>
+        ensures { MatchResult result (λ b. b ≡ self.now) (λ e. e ≡ FsError.InsufficientStorage) }
+    {
+        match &self.held {
+            Held::Shared(bytes) => Ok(bytes.clone()?),
+            Held::Alone(bytes) => Ok(Bytes::copy_from_slice(alloc, bytes.as_slice())?),
+        }
     }
 
     /// Some of the bytes, `count` at most from `at` on, shared.

@@ -1,21 +1,22 @@
 //! Single changes of the map of files, by the number of an entry.
-ghost use Rattle.std.specs.Prelude.{◌≡◌, ◌∷◌, ◌++◌, ◌+◌, ◌<◌, ◌^◌, [], length, map, Some, Ok, OnOk, OnErr};
+ghost use Rattle.std.specs.Prelude.{◌≡◌, ◌∷◌, ◌++◌, ◌+◌, ◌<◌, ◌^◌, [], length, map, Some, None, Ok, OnOk, OnErr};
 ghost use Rattle.dav_path_core.specs.Answers.{AnswersAs, AnswersWithRoom};
 ghost use Rattle.dav_path_core.specs.Fronts.{Path};
 ghost use Rattle.dav_files_core.specs.Exactly.{AnswersExactly};
-ghost use Rattle.dav_files_core.specs.OpenFiles.{overwritten};
+ghost use Rattle.dav_files_core.specs.OpenFiles.{overwritten, with_number};
 ghost use Rattle.dav_files_core.specs.Outcomes.{added, changed, touched};
 ghost use Rattle.dav_files_core.specs.Properties.{answer_of, entry_of, patch_answers, patched};
 ghost use Rattle.dav_files_core.specs.Resources.{Node, Resource, IsResourceMap, at_path};
+ghost use Rattle.dav_files_core.specs.Restoring.{restored};
 ghost use Rattle.dav_files_core.specs.Private.TreeCalls.{IsMissing};
 ghost use Rattle.dav_files_core.specs.Private.Entries.{HasNumber, HasFile, HasFolder, StandsIn, IsBare, taken_out, put_there};
 
-use super::MemFs;
 use super::contents::Content;
 use super::nodes::{
-    Node, add_node, delete_node, move_node, node_of, overwrite, patch_props, set_modified,
-    set_node, write_file,
+    Node, add_node, delete_node, move_node, node_of, overwrite, patch_props, restore_node,
+    set_modified, set_node, write_file,
 };
+use super::{Kind, MemFs};
 use crate::fs::{DavProp, Moment};
 use bytes::{Buf, Bytes};
 use dav_path_core::errors::{FsError, FsResult};
@@ -57,6 +58,28 @@ impl MemFs {
         Ok(id)
     }
 
+    // Restores a node where a path leads to no entry yet, under a number that no entry has.
+    pub(super) fn restore_entry(
+        &mut self,
+        folder: u64,
+        name: &[u8],
+        node: Node,
+        number: u64,
+    ) -> FsResult<()>
+        requires free { (p : Path) × IsMissing self.old p folder name.now }
+        requires unused { with_number self.old number ≡ None }
+        requires positive { 0 < number }
+        requires given { number < 18446744073709551615 }
+        requires bare { IsBare node }
+        ensures answer { (p : Path) → IsMissing self.old p folder name.now
+            → AnswersAs (λ x. x) result (Ok (tt, restored self.old p (record { number = number; node = node }))) self.old self.new }
+        ensures shape { IsResourceMap self.new }
+    {
+        let name = Bytes::copy_from_slice(self.alloc, name)?;
+        restore_node(&mut self.tree, &mut self.index, folder, name, node, number)?;
+        Ok(())
+    }
+
     // Sets the modified time of an entry.
     pub(super) fn touch(&mut self, id: u64, now: Moment)
         requires { HasNumber self.old id }
@@ -82,9 +105,10 @@ impl MemFs {
         }
     }
 
-    // Puts another node in place of a file's.
+    // Puts another node in place of an entry's; a folder stays one.
     pub(super) fn replace(&mut self, id: u64, node: Node)
-        requires file { HasFile self.old id }
+        requires known { HasNumber self.old id }
+        requires still { (p : Path) (r : Resource) → at_path self.old p ≡ Some r → r.number ≡ id → r.node.kind ≡ Kind.Folder → node.kind ≡ Kind.Folder }
         requires bare { IsBare node }
         ensures change { (p : Path) (r : Resource) → at_path self.old p ≡ Some r → r.number ≡ id → self.new ≡ changed self.old p r node }
         ensures shape { IsResourceMap self.new }

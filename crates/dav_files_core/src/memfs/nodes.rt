@@ -1,9 +1,10 @@
 //! The nodes of the tree of files, and the calls by which files meet the tree.
 ghost use Rattle.std.specs.Prelude.{◌≡◌, ◌↔◌, ◌+◌, ◌<◌, ◌^◌, IsTrue, true, map, Some, None, Ok, [], length, IfOk, IfErr, OnOk, OnErr, MatchResult, nat_eq};
+ghost use Rattle.std.specs.FinMap.{get};
 ghost use Rattle.std.specs.Option.{ok_or};
 ghost use Rattle.std.specs.Cmp.Lexicographic.{pointwise};
 ghost use Rattle.dav_path_core.specs.ChildIndex.{Index, IsIndex};
-ghost use Rattle.dav_path_core.specs.Keyed.{child, add, delete_refusal, without, move_refusal, moved, parent, Under};
+ghost use Rattle.dav_path_core.specs.Keyed.{child, add, restored, delete_refusal, without, move_refusal, moved, parent, Under};
 ghost use Rattle.dav_files_core.specs.Outcomes.{new_file, new_folder};
 ghost use Rattle.dav_files_core.specs.Meta.{meta_of, meta_at};
 ghost use Rattle.dav_files_core.specs.OpenFiles.{overwritten};
@@ -164,6 +165,29 @@ pub(super) fn add_node(
     ensures indexed { IsIndex tree.new.keyed index.new }
 {
     index.add_new_child(tree, folder, name, node)
+}
+
+/// Adds a member that stood before, with its number, to a folder that has none of that name. `InsufficientStorage` where it
+/// is out of memory.
+pub(super) fn restore_node(
+    tree: &mut Tree<Bytes, Node>,
+    index: &mut ChildIndex,
+    folder: u64,
+    name: Bytes,
+    node: Node,
+    number: u64,
+) -> FsResult<()>
+    requires known { IsThere tree.old.keyed folder }
+    requires free { FindsMember tree.old.keyed folder name (Err FsError.NotFound) }
+    requires unused { get tree.old.keyed.nodes number ≡ None }
+    requires positive { 0 < number }
+    requires given { number < 18446744073709551615 }
+    requires indexed { IsIndex tree.old.keyed index.old }
+    ensures ok { OnOk result (tree.new.keyed ≡ restored tree.old.keyed folder name node number) }
+    ensures err { IfErr result (λ e. (e ≡ FsError.InsufficientStorage) × (tree.new.keyed ≡ tree.old.keyed)) }
+    ensures indexed { IsIndex tree.new.keyed index.new }
+{
+    index.restore_child(tree, folder, name, node, number)
 }
 
 /// Makes the modified time of a node that given. `NotFound` where there is no such node.

@@ -8,6 +8,7 @@ ghost use Rattle.dav_path_core.specs.Answers.{AnswersAs, Tells};
 ghost use Rattle.dav_path_core.specs.Segments.{segments};
 ghost use Rattle.dav_files_core.specs.Properties.{property_of, entry_of, answer_of, key_of, patched_by, patched, patch_answers, patch_props, shown, get_props, xml_of, get_prop};
 ghost use Rattle.dav_files_core.specs.Resources.{IsResourceMap, key_cmp};
+ghost use Rattle.dav_files_core.specs.Restoring.{properties_from};
 
 mod patching;
 
@@ -18,6 +19,7 @@ use http::StatusCode;
 use patching::{make_changes, make_room, read_patch};
 use std::alloc::{AllocError, Global};
 use std::collections::BTreeMap;
+use std::collections::btree_map::Values;
 use std::marker::Model;
 
 /// The properties of a folder or a file, by namespace and name.
@@ -59,6 +61,18 @@ impl Props {
         }
     }
 
+    // Those, each at its namespace and name, in place of one before it there.
+    pub(super) fn from_list(alloc: Global, list: Vec<DavProp>) -> FsResult<Props>
+        ensures { MatchResult result (λ props. props ≡ properties_from (map property_of list.items)) (λ e. e ≡ FsError.InsufficientStorage) }
+    {
+        let mut map = BTreeMap::new(alloc);
+        for prop in list {
+            let key = key_of(alloc, &prop)?;
+            put_in(&mut map, key, prop)?;
+        }
+        Ok(Props { map })
+    }
+
     // Sets and removes, one after another, and answers for each, all or none.
     pub(super) fn patch(
         &mut self,
@@ -86,6 +100,15 @@ impl Props {
         Ok(listed)
     }
 
+    // All, lent, by the bytes of namespace and name.
+    pub(super) fn lent(&self) -> MemFsProps<'_>
+        ensures { result ≡ values self.now }
+    {
+        MemFsProps {
+            values: self.map.values(),
+        }
+    }
+
     // The xml of the one with the namespace and name of another.
     pub(super) fn xml_of(&self, alloc: Global, wanted: &DavProp) -> FsResult<Vec<u8>>
         ensures { Tells (λ v. v.items) result (ok_or (xml_of self.now (property_of wanted.now)) FsError.NotFound) }
@@ -94,6 +117,37 @@ impl Props {
             Ok(key) => copy_of_xml(alloc, found_in(&self.map, &key)),
             Err(_) => copy_of_xml(alloc, walked_to(&self.map, wanted)),
         }
+    }
+}
+
+/// The properties of an entry, lent, by the bytes of namespace and name.
+#[derive(Drop)]
+pub struct MemFsProps<'a> {
+    values: Values<'a, (Bytes, Bytes), DavProp>,
+}
+
+impl<'a> Model for MemFsProps<'a> {
+    ghost use Rattle.std.specs.Prelude.{List, map};
+    ghost use Rattle.dav_files_core.specs.Properties.{property_of};
+    ghost use Rattle.dav_files_core.specs.Resources.{Property};
+
+    ghost Value = { List Property };
+
+    ghost view = { λ p. map property_of p.values };
+}
+
+impl<'a> Iterator for MemFsProps<'a> {
+    ghost use Rattle.std.specs.Iterator.{YieldsFirstBy, item_count};
+    ghost use Rattle.dav_files_core.specs.Properties.{property_of};
+
+    type Item = &'a DavProp;
+
+    ghost next_gives = { YieldsFirstBy (λ p. property_of p.now) (λ p. p) };
+
+    ghost remaining = { item_count (λ p. p) };
+
+    fn next(&mut self) -> Option<&'a DavProp> {
+        self.values.next()
     }
 }
 

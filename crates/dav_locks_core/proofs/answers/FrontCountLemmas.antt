@@ -30,7 +30,8 @@ use Rattle.dav_locks_core.specs.Private.Represents.{Represents}
 use Rattle.dav_path_core.proofs.lists.MemberLemmas.{In}
 use Rattle.dav_locks_core.proofs.lists.NumberedLemmas.{place_of_found, found_at_place}
 use Rattle.dav_locks_core.proofs.trees.StandingLemmas.{locks_of_entry}
-use Rattle.dav_locks_core.proofs.walks.SubtreeLemmas.{known_above, way_to, through, front_of, node_at-here}
+use Rattle.dav_path_core.proofs.walks.AboveLemmas.{known_above}
+use Rattle.dav_locks_core.proofs.walks.SubtreeLemmas.{way_to, through, front_of, node_at-here}
 use Rattle.dav_locks_core.proofs.trees.WayLemmas.{one_path}
 
 -- ---- members of a list of paths

@@ -1,17 +1,17 @@
--- When locks end, as the tree of locks changes.
+-- What is noted of locks, as the tree of locks changes.
 use Rattle.std.proofs.Common.{◌≡◌, ◌≢◌, ◌⊎◌, inl, inr, ℕ, ◌<◌, ◌≤◌, ◌==◌, true, false, cond, List, [], ◌∷◌, ◌++◌, length, get_or, set, Option, Some, None, refl, sym, ap, ◌∙◌, subst, arith}
 use Rattle.std.specs.Prelude.{remove}
 use Rattle.std.specs.Ordering.{nat_cmp, ordering_then, is_gt, is_eq}
 use Rattle.std.specs.declared.cmp.Ordering.{Ordering}
 use Rattle.std.specs.declared.cmp.Ordering.TheVariants.{Less, Equal, Greater}
-use Rattle.std.specs.BTreeMap.{Updates}
+use Rattle.std.specs.BTreeMap.{Updates, get}
 use Rattle.std.specs.FinMap.{find, nat_cmp-IsAntisymmetric}
 use Rattle.std.proofs.lemmas.Bool.{cases_eq, cases_lt, eq-eqb, ne_eqb, eqb-true, le-ltb, true≢false, false_from_ne_true}
 use Rattle.dav_path_core.proofs.trees.Trees.{same_some, none≢some}
 use Rattle.dav_path_core.specs.Keyed.{Under, IsKnown, parent, with_item}
 use Rattle.dav_locks_core.specs.Lock.{Lock}
 use Rattle.dav_locks_core.specs.Locks.{lock_path}
-use Rattle.dav_locks_core.specs.Private.Ends.{Ends, end_cmp, node_of, same_end, SameEnds, NotesAt, Notes, Renotes, Forgets, AreEnds}
+use Rattle.dav_locks_core.specs.Private.Ends.{Ends, end_cmp, node_of, same_end, SameEnds, IsAlone, IsEndOf, IsKeyOf, NotesAt, NotesEnd, Notes, Renotes, Forgets, AreEnds}
 use Rattle.dav_locks_core.specs.Private.LockTree.{NumberedLock, LockTree, locks_at, node_at, all_granted}
 use Rattle.dav_locks_core.specs.Private.Pruning.{SameLocks, Cleared}
 use Rattle.dav_locks_core.specs.Private.Represents.{Represents, IsLockTree}
@@ -47,25 +47,109 @@ other_end k e g apart = false_from_ne_true _ (λ same. by (nat_cmp k.0 e) refl s
         second Greater j h = absurd (true≢false (sym h))
         second Equal j h = apart (sym (nat_cmp-IsAntisymmetric k.0 e i), sym (nat_cmp-IsAntisymmetric k.1 g j))
 
-pub updates_noted : (old new : Ends) (end number : ℕ) (at : Option ℕ) → Updates end_cmp old new (end, number) at → NotesAt old new end number at
-updates_noted old new end number at u = record { this = u.1; others = λ e g apart. u.2 (e, g) (other_end (end, number) e g apart) }
+-- ---- the keys
+
+pub cases_end : (end k : Option ℕ) → IsEndOf end k ⊎ (IsEndOf end k → ⊥)
+cases_end end None = inr (λ is. is)
+cases_end None (Some e) = inr (λ is. none≢some e is)
+cases_end (Some end) (Some e) = elim (cases_eq end e) [
+  | inl i ↦ inl (ap (λ (e : ℕ). Some e) i)
+  | inr ne ↦ inr (λ is. ne (same_some end e is))
+]
+
+pub cases_key : (end k : Option ℕ) → IsKeyOf end k ⊎ (IsKeyOf end k → ⊥)
+cases_key end None = inl tt
+cases_key end (Some e) = cases_end end (Some e)
+
+same_end-true : (was end : Option ℕ) → same_end was end ≡ true → (e : ℕ) → was ≡ Some e → end ≡ Some e
+same_end-true None end same e is = absurd (none≢some e is)
+same_end-true (Some w) None same e is = absurd (true≢false (sym same))
+same_end-true (Some w) (Some end) same e is = ap (λ (e : ℕ). Some e) (sym (eqb-true w end same)) ∙ is
+
+same_end-false : (was end : Option ℕ) → same_end was end ≡ false → (e : ℕ) → was ≡ Some e → end ≡ Some e → ⊥
+same_end-false None end apart e is i = none≢some e is
+same_end-false (Some w) None apart e is i = none≢some e i
+same_end-false (Some w) (Some end) apart e is i = true≢false (sym (eq-eqb w end (same_some w e is ∙ sym (same_some end e i))) ∙ apart)
+
+-- ---- the maps
+
+pub notes_alone : (old new : Ends) (number : ℕ) (at : Option ℕ) → Updates nat_cmp old.nodes new.nodes number at → new.by_end ≡ old.by_end → NotesAt old new IsAlone number at
+notes_alone old new number at u same = record { this = this; others = others }
+  where
+    this : (k : Option ℕ) → IsAlone k → node_of new k number ≡ at
+    this None is = u.1
+    this (Some e) is = absurd is
+
+    others : (k : Option ℕ) (g : ℕ) → (IsAlone k → g ≡ number → ⊥) → node_of new k g ≡ node_of old k g
+    others None g apart = u.2 g (false_from_ne_true _ (λ h. by (nat_cmp number g) refl h))
+      where
+        by : (o : Ordering) → nat_cmp number g ≡ o → is_eq o ≡ true → ⊥
+        by Less i h = true≢false (sym h)
+        by Greater i h = true≢false (sym h)
+        by Equal i h = apart tt (sym (nat_cmp-IsAntisymmetric number g i))
+    others (Some e) g apart = ap (λ m. get end_cmp m (e, g)) same
+
+pub notes_by_end : (old new : Ends) (end number : ℕ) (at : Option ℕ) → Updates end_cmp old.by_end new.by_end (end, number) at → new.nodes ≡ old.nodes → NotesEnd old new (Some end) number at
+notes_by_end old new end number at u same = record { this = this; others = others }
+  where
+    this : (k : Option ℕ) → IsEndOf (Some end) k → node_of new k number ≡ at
+    this None is = absurd is
+    this (Some e) is = ap (λ e. node_of new (Some e) number) (sym (same_some end e is)) ∙ u.1
+
+    others : (k : Option ℕ) (g : ℕ) → (IsEndOf (Some end) k → g ≡ number → ⊥) → node_of new k g ≡ node_of old k g
+    others None g apart = ap (λ m. get nat_cmp m g) same
+    others (Some e) g apart = u.2 (e, g) (other_end (end, number) e g (λ p. apart (ap (λ (e : ℕ). Some e) (sym p.0)) p.1))
+
+-- a lock that has no end
+pub notes_no_end : (ends : Ends) (number : ℕ) (at : Option ℕ) → NotesEnd ends ends None number at
+notes_no_end ends number at = record { this = this; others = λ k g apart. refl }
+  where
+    this : (k : Option ℕ) → IsEndOf None k → node_of ends k number ≡ at
+    this None is = absurd is
+    this (Some e) is = absurd (none≢some e is)
+
+pub notes_both : (old mid new : Ends) (end : Option ℕ) (number : ℕ) (at : Option ℕ) → NotesEnd old mid end number at → NotesAt mid new IsAlone number at → Notes old new end number at
+notes_both old mid new end number at a b = record { this = this; others = others }
+  where
+    this : (k : Option ℕ) → IsKeyOf end k → node_of new k number ≡ at
+    this None is = b.this None tt
+    this (Some e) is = b.others (Some e) number (λ is _. is) ∙ a.this (Some e) is
+
+    others : (k : Option ℕ) (g : ℕ) → (IsKeyOf end k → g ≡ number → ⊥) → node_of new k g ≡ node_of old k g
+    others None g apart = b.others None g (λ _ i. apart tt i) ∙ a.others None g (λ is _. is)
+    others (Some e) g apart = b.others (Some e) g (λ is _. is) ∙ a.others (Some e) g apart
+
+-- what was noted and then forgotten
+module _ (keys : Option ℕ → Type 0) (cases : (k : Option ℕ) → keys k ⊎ (keys k → ⊥)) where
+  pub undone : (old mid new : Ends) (number n : ℕ) → ((k : Option ℕ) (m : ℕ) → node_of old k number ≡ Some m → ⊥) → NotesAt old mid keys number (Some n) → NotesAt mid new keys number None → SameEnds old new
+  undone old mid new number n fresh notes forgets = λ k g. elim (cases_eq g number) [
+    | inl i ↦ elim (cases k) [
+      | inl is ↦ ap (node_of new k) i ∙ forgets.this k is ∙ sym (ap (node_of old k) i ∙ nothing k (node_of old k number) refl)
+      | inr other ↦ back k g (λ is _. other is)
+    ]
+    | inr ne ↦ back k g (λ _ i. ne i)
+  ]
+    where
+      nothing : (k : Option ℕ) (o : Option ℕ) → node_of old k number ≡ o → node_of old k number ≡ None
+      nothing k None h = h
+      nothing k (Some m) h = absurd (fresh k m h)
+
+      back : (k : Option ℕ) (g : ℕ) → (keys k → g ≡ number → ⊥) → node_of new k g ≡ node_of old k g
+      back k g apart = forgets.others k g apart ∙ notes.others k g apart
 
 -- ---- the same locks
 
 pub AreEnds-same : (t u : LockTree) (old new : Ends) → AreEnds t old → ((n : ℕ) → locks_at u n ≡ locks_at t n) → SameEnds old new → AreEnds u new
 AreEnds-same t u old new a locks ends = record {
-  noted = λ e g n l h end. ends e g ∙ a.noted e g n l (ap (find nat_cmp g) (sym (locks n)) ∙ h) end;
-  only = λ e g n h. let w = a.only e g n (sym (ends e g) ∙ h) in (w.0, ap (find nat_cmp g) (locks n) ∙ w.1, w.2);
+  noted = λ k g n l h key. ends k g ∙ a.noted k g n l (ap (find nat_cmp g) (sym (locks n)) ∙ h) key;
+  only = λ k g n h. let w = a.only k g n (sym (ends k g) ∙ h) in (w.0, ap (find nat_cmp g) (locks n) ∙ w.1, w.2);
 }
 
-pub AreEnds-none : (t : LockTree) (ends : Ends) → ((n : ℕ) → locks_at t n ≡ []) → ends.entries ≡ [] → AreEnds t ends
-AreEnds-none t ends none empty = record {
-  noted = λ e g n l h end. absurd (none≢some l (sym (ap (find nat_cmp g) (none n)) ∙ h));
-  only = λ e g n h. absurd (none≢some n (sym (nothing e g) ∙ h));
+pub AreEnds-none : (t : LockTree) (ends : Ends) → ((n : ℕ) → locks_at t n ≡ []) → ((k : Option ℕ) (g : ℕ) → node_of ends k g ≡ None) → AreEnds t ends
+AreEnds-none t ends none nothing = record {
+  noted = λ k g n l h key. absurd (none≢some l (sym (ap (find nat_cmp g) (none n)) ∙ h));
+  only = λ k g n h. absurd (none≢some n (sym (nothing k g) ∙ h));
 }
-  where
-    nothing : (e g : ℕ) → node_of ends e g ≡ None
-    nothing e g = rw empty refl
 
 -- ---- the lock with one number
 
@@ -75,118 +159,93 @@ pub record Restands (t u : LockTree) (number : ℕ) (lock : Option Lock) (n : �
   pub stands : (l : Lock) → lock ≡ Some l → find nat_cmp number (locks_at u n) ≡ Some l
   pub only : (m : ℕ) (l : Lock) → find nat_cmp number (locks_at u m) ≡ Some l → (lock ≡ Some l) × (m ≡ n)
 
-abbrev pub end_of_lock : Option Lock → Option ℕ
-end_of_lock None = None
-end_of_lock (Some l) = l.timeout_at
+-- the keys under which it is noted
+abbrev pub keys_of : Option Lock → Option ℕ → Type 0
+keys_of None k = ⊥
+keys_of (Some l) k = IsKeyOf l.timeout_at k
 
-pub AreEnds-on : (t u : LockTree) (old new : Ends) (number : ℕ) (lock : Option Lock) (n : ℕ) → AreEnds t old → Restands t u number lock n → Renotes old new number (end_of_lock lock) n → AreEnds u new
+pub AreEnds-on : (t u : LockTree) (old new : Ends) (number : ℕ) (lock : Option Lock) (n : ℕ) → AreEnds t old → Restands t u number lock n → Renotes old new number (keys_of lock) n → AreEnds u new
 AreEnds-on t u old new number lock n a r s = record {
-  noted = λ e g m l h end. elim (cases_eq g number) [
+  noted = λ k g m l h key. elim (cases_eq g number) [
     | inl i ↦
         let w = r.only m l (sym (ap (λ g. find nat_cmp g (locks_at u m)) i) ∙ h) in
-        ap (node_of new e) i ∙ s.noted e (ap end_of_lock w.0 ∙ end) ∙ ap (λ (m : ℕ). Some m) (sym w.1)
-    | inr ne ↦ s.others e g ne ∙ a.noted e g m l (sym (r.others g m ne) ∙ h) end
+        ap (node_of new k) i ∙ s.noted k (subst (λ o. keys_of o k) (sym w.0) key) ∙ ap (λ (m : ℕ). Some m) (sym w.1)
+    | inr ne ↦ s.others k g ne ∙ a.noted k g m l (sym (r.others g m ne) ∙ h) key
   ];
-  only = λ e g m h. elim (cases_eq g number) [
-    | inl i ↦ let w = s.only e m (sym (ap (node_of new e) i) ∙ h) in by lock refl e g m i w.0 w.1
-    | inr ne ↦ let w = a.only e g m (sym (s.others e g ne) ∙ h) in (w.0, r.others g m ne ∙ w.1, w.2)
+  only = λ k g m h. elim (cases_eq g number) [
+    | inl i ↦ let w = s.only k m (sym (ap (node_of new k) i) ∙ h) in by lock refl k g m i w.0 w.1
+    | inr ne ↦ let w = a.only k g m (sym (s.others k g ne) ∙ h) in (w.0, r.others g m ne ∙ w.1, w.2)
   ];
 }
   where
-    by : (o : Option Lock) → lock ≡ o → (e g m : ℕ) → g ≡ number → end_of_lock lock ≡ Some e → m ≡ n → (l : Lock) × (find nat_cmp g (locks_at u m) ≡ Some l) × (l.timeout_at ≡ Some e)
-    by None is e g m i end at = absurd (none≢some e (sym (ap end_of_lock is) ∙ end))
-    by (Some l) is e g m i end at = (l, ap (λ g. find nat_cmp g (locks_at u m)) i ∙ ap (λ m. find nat_cmp number (locks_at u m)) at ∙ r.stands l is, sym (ap end_of_lock is) ∙ end)
+    by : (o : Option Lock) → lock ≡ o → (k : Option ℕ) (g m : ℕ) → g ≡ number → keys_of lock k → m ≡ n → (l : Lock) × (find nat_cmp g (locks_at u m) ≡ Some l) × IsKeyOf l.timeout_at k
+    by None is k g m i key at = absurd (subst (λ o. keys_of o k) is key)
+    by (Some l) is k g m i key at = (l, ap (λ g. find nat_cmp g (locks_at u m)) i ∙ ap (λ m. find nat_cmp number (locks_at u m)) at ∙ r.stands l is, subst (λ o. keys_of o k) is key)
 
 -- ---- what is noted
 
--- the end of a lock that had none noted
-pub Renotes-new : (old new : Ends) (number : ℕ) (end : Option ℕ) (n : ℕ) → ((e m : ℕ) → node_of old e number ≡ Some m → ⊥) → Notes old new end number (Some n) → Renotes old new number end n
-Renotes-new old new number None n fresh notes = record {
-  others = λ e g ne. notes e g;
-  noted = λ e is. absurd (none≢some e is);
-  only = λ e m h. absurd (fresh e m (sym (notes e number) ∙ h));
-}
-Renotes-new old new number (Some end) n fresh notes = record {
-  others = λ e g ne. notes.others e g (λ p. ne p.1);
-  noted = λ e is. ap (λ e. node_of new e number) (sym (same_some end e is)) ∙ notes.this;
-  only = λ e m h. elim (cases_eq e end) [
-    | inl i ↦ (ap (λ (e : ℕ). Some e) (sym i), same_some m n (sym (ap (λ e. node_of new e number) (sym i) ∙ h) ∙ notes.this))
-    | inr ne ↦ absurd (fresh e m (sym (notes.others e number (λ p. ne p.0)) ∙ h))
+-- a lock of which nothing was noted
+pub Renotes-new : (old new : Ends) (number : ℕ) (end : Option ℕ) (n : ℕ) → ((k : Option ℕ) (m : ℕ) → node_of old k number ≡ Some m → ⊥) → Notes old new end number (Some n) → Renotes old new number (IsKeyOf end) n
+Renotes-new old new number end n fresh notes = record {
+  others = λ k g ne. notes.others k g (λ _ i. ne i);
+  noted = notes.this;
+  only = λ k m h. elim (cases_key end k) [
+    | inl is ↦ (is, same_some m n (sym h ∙ notes.this k is))
+    | inr other ↦ absurd (fresh k m (sym (notes.others k number (λ is _. other is)) ∙ h))
   ];
 }
 
--- the end of a lock is forgotten
-pub Renotes-none : (old new : Ends) (number : ℕ) (end : Option ℕ) (n : ℕ) → ((e m : ℕ) → node_of old e number ≡ Some m → end ≡ Some e) → Notes old new end number None → Renotes old new number None n
-Renotes-none old new number None n was notes = record {
-  others = λ e g ne. notes e g;
-  noted = λ e is. absurd (none≢some e is);
-  only = λ e m h. absurd (none≢some e (was e m (sym (notes e number) ∙ h)));
-}
-Renotes-none old new number (Some end) n was notes = record {
-  others = λ e g ne. notes.others e g (λ p. ne p.1);
-  noted = λ e is. absurd (none≢some e is);
-  only = λ e m h. elim (cases_eq e end) [
-    | inl i ↦ absurd (none≢some m (sym notes.this ∙ ap (λ e. node_of new e number) (sym i) ∙ h))
-    | inr ne ↦ absurd (ne (sym (same_some end e (was e m (sym (notes.others e number (λ p. ne p.0)) ∙ h)))))
+-- a lock that is forgotten
+pub Renotes-none : (old new : Ends) (number : ℕ) (end : Option ℕ) (n : ℕ) → ((k : Option ℕ) (m : ℕ) → node_of old k number ≡ Some m → IsKeyOf end k) → Notes old new end number None → Renotes old new number (λ k. ⊥) n
+Renotes-none old new number end n was notes = record {
+  others = λ k g ne. notes.others k g (λ _ i. ne i);
+  noted = λ k is. absurd is;
+  only = λ k m h. elim (cases_key end k) [
+    | inl is ↦ absurd (none≢some m (sym (notes.this k is) ∙ h))
+    | inr other ↦ absurd (other (was k m (sym (notes.others k number (λ is _. other is)) ∙ h)))
   ];
 }
 
 -- another end of a lock, or the same, is noted first
-module _ (old mid new : Ends) (number n : ℕ) where
-  pub noted_first : (was end : Option ℕ) → ((e m : ℕ) → node_of old e number ≡ Some m → was ≡ Some e) → Notes old mid end number (Some n) → (e m : ℕ) → node_of mid e number ≡ Some m → ((end ≡ Some e) × (m ≡ n)) ⊎ (was ≡ Some e)
-  noted_first was None only notes e m h = inr (only e m (sym (notes e number) ∙ h))
-  noted_first was (Some end) only notes e m h = elim (cases_eq e end) [
-    | inl i ↦ inl (ap (λ (e : ℕ). Some e) (sym i), same_some m n (sym (ap (λ e. node_of mid e number) (sym i) ∙ h) ∙ notes.this))
-    | inr ne ↦ inr (only e m (sym (notes.others e number (λ p. ne p.0)) ∙ h))
+module _ (old mid : Ends) (number n : ℕ) (was end : Option ℕ) (stands : node_of old None number ≡ Some n) (only : (k : Option ℕ) (m : ℕ) → node_of old k number ≡ Some m → IsKeyOf was k)
+    (notes : NotesEnd old mid end number (Some n)) where
+  mid_noted : (k : Option ℕ) → IsKeyOf end k → node_of mid k number ≡ Some n
+  mid_noted None is = notes.others None number (λ is _. is) ∙ stands
+  mid_noted (Some e) is = notes.this (Some e) is
+
+  mid_only : (k : Option ℕ) (m : ℕ) → node_of mid k number ≡ Some m → (IsKeyOf end k × (m ≡ n)) ⊎ IsEndOf was k
+  mid_only None m h = inl (tt, same_some m n (sym h ∙ mid_noted None tt))
+  mid_only (Some e) m h = elim (cases_end end (Some e)) [
+    | inl is ↦ inl (is, same_some m n (sym h ∙ notes.this (Some e) is))
+    | inr other ↦ inr (only (Some e) m (sym (notes.others (Some e) number (λ is _. other is)) ∙ h))
   ]
 
-  has_end : (end : Option ℕ) → Notes old mid end number (Some n) → (e : ℕ) → end ≡ Some e → node_of mid e number ≡ Some n
-  has_end None notes e is = absurd (none≢some e is)
-  has_end (Some end) notes e is = ap (λ e. node_of mid e number) (sym (same_some end e is)) ∙ notes.this
-
-  other_numbers : (a b : Ends) (end : Option ℕ) (at : Option ℕ) → Notes a b end number at → (e g : ℕ) → g ≢ number → node_of b e g ≡ node_of a e g
-  other_numbers a b None at notes e g ne = notes e g
-  other_numbers a b (Some end) at notes e g ne = notes.others e g (λ p. ne p.1)
-
   -- where it is the same
-  pub Renotes-same : (was end : Option ℕ) → same_end was end ≡ true → ((e m : ℕ) → node_of old e number ≡ Some m → was ≡ Some e) → Notes old mid end number (Some n) → Renotes old mid number end n
-  Renotes-same was end same only notes = record {
-    others = other_numbers old mid end (Some n) notes;
-    noted = has_end end notes;
-    only = λ e m h. elim (noted_first was end only notes e m h) [ inl w ↦ w | inr is ↦ again was end same notes e m is h ];
+  pub Renotes-same : same_end was end ≡ true → Renotes old mid number (IsKeyOf end) n
+  Renotes-same same = record {
+    others = λ k g ne. notes.others k g (λ _ i. ne i);
+    noted = mid_noted;
+    only = λ k m h. elim (mid_only k m h) [ inl w ↦ w | inr is ↦ again k m is h ];
   }
     where
-      again : (was end : Option ℕ) → same_end was end ≡ true → Notes old mid end number (Some n) → (e m : ℕ) → was ≡ Some e → node_of mid e number ≡ Some m → (end ≡ Some e) × (m ≡ n)
-      again None end same notes e m is h = absurd (none≢some e is)
-      again (Some w) None same notes e m is h = absurd (true≢false (sym same))
-      again (Some w) (Some end) same notes e m is h =
-          let i : end ≡ e = sym (eqb-true w end same) ∙ same_some w e is in
-          (ap (λ (e : ℕ). Some e) i, same_some m n (sym (ap (λ e. node_of mid e number) i ∙ h) ∙ notes.this))
+      again : (k : Option ℕ) (m : ℕ) → IsEndOf was k → node_of mid k number ≡ Some m → IsKeyOf end k × (m ≡ n)
+      again None m is h = absurd is
+      again (Some e) m is h = let i : end ≡ Some e = same_end-true was end same e is in (i, same_some m n (sym h ∙ notes.this (Some e) i))
 
   -- where it is another, the old one is forgotten then
-  pub Renotes-other : (was end : Option ℕ) → same_end was end ≡ false → ((e m : ℕ) → node_of old e number ≡ Some m → was ≡ Some e) → Notes old mid end number (Some n) → Notes mid new was number None → Renotes old new number end n
-  Renotes-other was end apart only notes forgets = record {
-    others = λ e g ne. other_numbers mid new was None forgets e g ne ∙ other_numbers old mid end (Some n) notes e g ne;
-    noted = λ e is. still was end apart forgets e is ∙ has_end end notes e is;
-    only = λ e m h. elim (noted_first was end only notes e m (left was forgets e m h)) [ inl w ↦ w | inr is ↦ absurd (gone was forgets e m is h) ];
+  pub Renotes-other : (new : Ends) → same_end was end ≡ false → NotesEnd mid new was number None → Renotes old new number (IsKeyOf end) n
+  Renotes-other new apart forgets = record {
+    others = λ k g ne. forgets.others k g (λ _ i. ne i) ∙ notes.others k g (λ _ i. ne i);
+    noted = λ k is. still k is ∙ mid_noted k is;
+    only = λ k m h. elim (cases_end was k) [
+      | inl w ↦ absurd (none≢some m (sym (forgets.this k w) ∙ h))
+      | inr other ↦ elim (mid_only k m (sym (forgets.others k number (λ w _. other w)) ∙ h)) [ inl w ↦ w | inr w ↦ absurd (other w) ]
+    ];
   }
     where
-      still : (was end : Option ℕ) → same_end was end ≡ false → Notes mid new was number None → (e : ℕ) → end ≡ Some e → node_of new e number ≡ node_of mid e number
-      still None end apart forgets e is = forgets e number
-      still (Some w) None apart forgets e is = absurd (none≢some e is)
-      still (Some w) (Some end) apart forgets e is =
-          forgets.others e number (λ p. true≢false (sym (eq-eqb w end (sym p.0 ∙ sym (same_some end e is))) ∙ apart))
-
-      left : (was : Option ℕ) → Notes mid new was number None → (e m : ℕ) → node_of new e number ≡ Some m → node_of mid e number ≡ Some m
-      left None forgets e m h = sym (forgets e number) ∙ h
-      left (Some w) forgets e m h = elim (cases_eq e w) [
-        | inl i ↦ absurd (none≢some m (sym forgets.this ∙ ap (λ e. node_of new e number) (sym i) ∙ h))
-        | inr ne ↦ sym (forgets.others e number (λ p. ne p.0)) ∙ h
-      ]
-
-      gone : (was : Option ℕ) → Notes mid new was number None → (e m : ℕ) → was ≡ Some e → node_of new e number ≡ Some m → ⊥
-      gone None forgets e m is h = none≢some e is
-      gone (Some w) forgets e m is h = none≢some m (sym forgets.this ∙ ap (λ e. node_of new e number) (same_some w e is) ∙ h)
+      still : (k : Option ℕ) → IsKeyOf end k → node_of new k number ≡ node_of mid k number
+      still None is = forgets.others None number (λ is _. is)
+      still (Some e) is = forgets.others (Some e) number (λ w _. same_end-false was end apart e w is)
 
 -- ---- what stands
 
@@ -262,49 +321,34 @@ module _ (t : LockTree) (granted : List NumberedLock) (next : ℕ) (r : Represen
           here : find nat_cmp number (locks_at u n) ≡ Some l
           here = ap (find nat_cmp number) c.at ∙ found number ∙ ap (λ b. cond b (Some l) (find nat_cmp number (locks_at t n))) (eq-eqb number number refl)
 
-      -- the ends that are noted for it
-      pub noted_for : (ends : Ends) → AreEnds t ends → (e m : ℕ) → node_of ends e (get_or (locks_at t n) k d).0 ≡ Some m → ((get_or (locks_at t n) k d).1.timeout_at ≡ Some e) × (m ≡ n)
-      noted_for ends a e m h =
-          let w = a.only e number m h in
+      -- what is noted of it
+      pub noted_for : (ends : Ends) → AreEnds t ends → (j : Option ℕ) (m : ℕ) → node_of ends j (get_or (locks_at t n) k d).0 ≡ Some m → IsKeyOf (get_or (locks_at t n) k d).1.timeout_at j × (m ≡ n)
+      noted_for ends a j m h =
+          let w = a.only j number m h in
           let one = one_node number m n w.0 _ w.1 was in
-          (ap (λ (l : Lock). l.timeout_at) (sym one.0) ∙ w.2, one.1)
+          (subst (λ l. IsKeyOf l.timeout_at j) one.0 w.2, one.1)
+
+      pub noted_alone : (ends : Ends) → AreEnds t ends → node_of ends None (get_or (locks_at t n) k d).0 ≡ Some n
+      noted_alone ends a = a.noted None number n _ was tt
 
 -- ---- what is cleared
 
 pub AreEnds-cleared : (t u : LockTree) (top : ℕ) (old new : Ends) → AreEnds t old → Cleared t u top → Forgets t old new (Under (parent t) top) → AreEnds u new
 AreEnds-cleared t u top old new a c f = record {
-  noted = λ e g n l h end.
+  noted = λ k g n l h key.
       let apart = outside_locked t u top c n (λ none. none≢some l (sym (ap (find nat_cmp g) none) ∙ h)) in
-      f.kept e g n (a.noted e g n l (sym (ap (find nat_cmp g) (locks_left t u top c n apart)) ∙ h) end) apart;
-  only = λ e g n h.
-      let w = a.only e g n (f.only e g n h) in
-      let apart : Under (parent t) top n → ⊥ = λ under. none≢some n (sym (f.gone e g n w.0 under w.1 w.2) ∙ h) in
+      f.kept k g n (a.noted k g n l (sym (ap (find nat_cmp g) (locks_left t u top c n apart)) ∙ h) key) apart;
+  only = λ k g n h.
+      let w = a.only k g n (f.only k g n h) in
+      let apart : Under (parent t) top n → ⊥ = λ under. none≢some n (sym (f.gone k g n w.0 under w.1 w.2) ∙ h) in
       (w.0, ap (find nat_cmp g) (locks_left t u top c n apart) ∙ w.1, w.2);
 }
 
 -- ---- whole calls
 
--- what was noted and then forgotten
-pub undone : (old mid new : Ends) (gone n : ℕ) (end : Option ℕ) → ((e m : ℕ) → node_of old e gone ≡ Some m → ⊥) → Notes old mid end gone (Some n) → Notes mid new end gone None → SameEnds old new
-undone old mid new gone n None fresh notes forgets = λ e g. forgets e g ∙ notes e g
-undone old mid new gone n (Some end) fresh notes forgets = λ e g. elim (cases_eq e end) [
-  | inl i ↦ elim (cases_eq g gone) [
-    | inl j ↦ ap (λ e. node_of new e g) i ∙ ap (node_of new end) j ∙ forgets.this ∙ sym (ap (λ e. node_of old e g) i ∙ ap (node_of old end) j ∙ nothing end)
-    | inr ne ↦ forgets.others e g (λ p. ne p.1) ∙ notes.others e g (λ p. ne p.1)
-  ]
-  | inr ne ↦ forgets.others e g (λ p. ne p.0) ∙ notes.others e g (λ p. ne p.0)
-]
-  where
-    nothing : (e : ℕ) → node_of old e gone ≡ None
-    nothing e = by (node_of old e gone) refl
-      where
-        by : (o : Option ℕ) → node_of old e gone ≡ o → node_of old e gone ≡ None
-        by None h = h
-        by (Some m) h = absurd (fresh e m h)
-
 module _ (t : LockTree) (next : ℕ) (keeps : IsLockTree t next) (old : Ends) (a : AreEnds t old) where
-  pub none_for_next : (e m : ℕ) → node_of old e next ≡ Some m → ⊥
-  none_for_next e m h = let w = a.only e next m h in no_next t (all_granted t) next keeps.list.represents m w.0 w.1
+  pub none_for_next : (k : Option ℕ) (m : ℕ) → node_of old k next ≡ Some m → ⊥
+  none_for_next k m h = let w = a.only k next m h in no_next t (all_granted t) next keeps.list.represents m w.0 w.1
 
   pub ends-same : (u : LockTree) (new : Ends) → SameLocks t u → SameEnds old new → AreEnds u new
   ends-same u new same ends = AreEnds-same t u old new a same.locks ends
@@ -314,26 +358,29 @@ module _ (t : LockTree) (next : ℕ) (keeps : IsLockTree t next) (old : Ends) (a
       let r = Represents-same t v (all_granted t) next keeps.list.represents same in
       let standing : List NumberedLock = locks_at v n ++ (next, l) ∷ [] in
       let changes : Changes v u n standing = subst (λ u. Changes v u n standing) (sym is) (Changes-with_item v n standing same.tree known) in
-      AreEnds-on v u old new next (Some l) n (ends-same v old same (λ e g. refl)) (Restands-push v (all_granted t) next r u n l changes) (Renotes-new old new next l.timeout_at n none_for_next notes)
+      AreEnds-on v u old new next (Some l) n (ends-same v old same (λ k g. refl)) (Restands-push v (all_granted t) next r u n l changes) (Renotes-new old new next l.timeout_at n none_for_next notes)
 
   module _ (u : LockTree) (new : Ends) (n k : ℕ) (d : NumberedLock) (within : k < length (locks_at t n)) where
     at_node : (standing : List NumberedLock) → u ≡ with_item t n standing → Changes t u n standing
     at_node standing is = subst (λ u. Changes t u n standing) (sym is) (Changes-with_item t n standing keeps.list.represents.tree (known_from_lock t n k within))
 
-    pub was_noted : (e m : ℕ) → node_of old e (get_or (locks_at t n) k d).0 ≡ Some m → (get_or (locks_at t n) k d).1.timeout_at ≡ Some e
-    was_noted e m h = (noted_for t (all_granted t) next keeps.list.represents u n k d within old a e m h).0
+    pub was_noted : (j : Option ℕ) (m : ℕ) → node_of old j (get_or (locks_at t n) k d).0 ≡ Some m → IsKeyOf (get_or (locks_at t n) k d).1.timeout_at j
+    was_noted j m h = (noted_for t (all_granted t) next keeps.list.represents u n k d within old a j m h).0
+
+    pub was_alone : node_of old None (get_or (locks_at t n) k d).0 ≡ Some n
+    was_alone = noted_alone t (all_granted t) next keeps.list.represents u n k d within old a
 
     pub ends-end : (v : LockTree) → u ≡ with_item t n (remove (locks_at t n) k) → SameLocks u v → Notes old new (get_or (locks_at t n) k d).1.timeout_at (get_or (locks_at t n) k d).0 None → AreEnds v new
     ends-end v is same notes =
         let g = get_or (locks_at t n) k d in
         AreEnds-same u v new new
         (AreEnds-on t u old new g.0 None n a (Restands-remove t (all_granted t) next keeps.list.represents u n k d within (at_node (remove (locks_at t n) k) is)) (Renotes-none old new g.0 g.1.timeout_at n was_noted notes))
-        same.locks (λ e g. refl)
+        same.locks (λ k g. refl)
 
-    pub ends-refresh : (l : Lock) → u ≡ with_item t n (set (locks_at t n) k ((get_or (locks_at t n) k d).0, l)) → Renotes old new (get_or (locks_at t n) k d).0 l.timeout_at n → AreEnds u new
+    pub ends-refresh : (l : Lock) → u ≡ with_item t n (set (locks_at t n) k ((get_or (locks_at t n) k d).0, l)) → Renotes old new (get_or (locks_at t n) k d).0 (IsKeyOf l.timeout_at) n → AreEnds u new
     ends-refresh l is renotes =
         let g = get_or (locks_at t n) k d in
         AreEnds-on t u old new g.0 (Some l) n a (Restands-set t (all_granted t) next keeps.list.represents u n k d within l (at_node (set (locks_at t n) k (g.0, l)) is)) renotes
 
   pub ends-delete : (u v : LockTree) (new : Ends) (top : ℕ) → Cleared t u top → Forgets t old new (Under (parent t) top) → SameLocks u v → AreEnds v new
-  ends-delete u v new top c f same = AreEnds-same u v new new (AreEnds-cleared t u top old new a c f) same.locks (λ e g. refl)
+  ends-delete u v new top c f same = AreEnds-same u v new new (AreEnds-cleared t u top old new a c f) same.locks (λ k g. refl)

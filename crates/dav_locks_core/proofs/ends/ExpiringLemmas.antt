@@ -13,12 +13,13 @@ use Rattle.dav_locks_core.specs.Lock.{Lock}
 use Rattle.dav_locks_core.specs.Locks.{lock_path}
 use Rattle.dav_locks_core.specs.Exclusive.{Exclusive}
 use Rattle.dav_locks_core.specs.Stale.{has_come, is_stale, without_stale}
-use Rattle.dav_locks_core.specs.Private.Ends.{Ends, node_of, SameEnds, NoneEnds, TakesEnded, AreEnds, IsKept}
+use Rattle.dav_locks_core.specs.Private.Ends.{Ends, node_of, IsKeyOf, SameEnds, NoneEnds, TakesEnded, AreEnds, IsKept}
 use Rattle.dav_locks_core.specs.Private.LockTree.{NumberedLock, LockTree, is_segment, locks_at, node_at, all_granted, locks_of, lock_list}
 use Rattle.dav_locks_core.specs.Private.Pruning.{AllNeeded, NeededBut, SameLocks}
 use Rattle.dav_locks_core.specs.Private.Represents.{Represents}
 use Rattle.dav_locks_core.proofs.answers.LockListLemmas.{IsSeenAs, seen_from, known_still}
 use Rattle.dav_locks_core.proofs.laws.ExclusiveLemmas.{Exclusive-filter}
+use Rattle.dav_locks_core.proofs.ends.EndLemmas.{cases_key, one_node}
 use Rattle.dav_locks_core.proofs.lists.NumberedLemmas.{InOrder, InOrder-filter, find-filter, kept_if, found_at_place}
 use Rattle.dav_locks_core.proofs.trees.PruningLemmas.{NeededBut-changes, needed_but}
 use Rattle.dav_locks_core.proofs.trees.StandingLemmas.{Changes, Changes-with_item, locks_of_entry}
@@ -31,14 +32,16 @@ lasts now g = not (is_stale now g.1)
 abbrev pub lasting_at : ℕ → LockTree → ℕ → List NumberedLock
 lasting_at now t n = filter (lasts now) (locks_at t n)
 
--- u is t without the stale locks of some nodes, and new has the ends of those that stand in it
+-- u is t without the stale locks of some nodes, and new has those that stand in it; of a lock all that old has is noted, or
+-- nothing
 pub record Thins (t u : LockTree) (old new : Ends) (now : ℕ) : Type 0 where
   pub tree : IsTree is_segment u
   pub needed : AllNeeded u
   pub locks : (n : ℕ) → (locks_at u n ≡ locks_at t n) ⊎ (locks_at u n ≡ lasting_at now t n)
   pub ways : (n : ℕ) (p : Path) → locks_at u n ≢ [] → node_at t 1 p ≡ Some n → node_at u 1 p ≡ Some n
-  pub noted : (e g n : ℕ) (l : Lock) → find nat_cmp g (locks_at u n) ≡ Some l → l.timeout_at ≡ Some e → node_of new e g ≡ Some n
-  pub only : (e g n : ℕ) → node_of new e g ≡ Some n → node_of old e g ≡ Some n
+  pub noted : (k : Option ℕ) (g n : ℕ) (l : Lock) → find nat_cmp g (locks_at u n) ≡ Some l → IsKeyOf l.timeout_at k → node_of new k g ≡ Some n
+  pub only : (k : Option ℕ) (g n : ℕ) → node_of new k g ≡ Some n → node_of old k g ≡ Some n
+  pub whole : (k j : Option ℕ) (g n : ℕ) → node_of new k g ≡ Some n → node_of old j g ≡ Some n → node_of new j g ≡ Some n
 
 -- ---- moments
 
@@ -92,7 +95,8 @@ module _ (t : LockTree) (next now : ℕ) (old : Ends) (keeps : IsKept t next old
     locks = λ n. inl refl;
     ways = λ n p some leads. leads;
     noted = keeps.are_ends.noted;
-    only = λ e g n h. h;
+    only = λ k g n h. h;
+    whole = λ k j g n h i. i;
   }
 
   module _ (u : LockTree) (new : Ends) (th : Thins t u old new now) where
@@ -102,22 +106,45 @@ module _ (t : LockTree) (next now : ℕ) (old : Ends) (keeps : IsKept t next old
       | inr e ↦ subst InOrder (sym e) (InOrder-filter (lasts now) (locks_at t n) (sorted n))
     ]
 
-    -- an end is taken out
-    module _ (mid : Ends) (number node : ℕ) (taken : TakesEnded new mid now number node) where
-      -- of a lock that isn't the one that was taken
-      others : (e g n : ℕ) → node_of new e g ≡ Some n → ((e ≡ taken.end) → g ≡ number → n ≡ node → ⊥) → node_of mid e g ≡ Some n
-      others e g n was apart = taken.gone.others e g (λ p. apart p.0 p.1 (one e g n p.0 p.1 was)) ∙ was
-        where
-          one : (e g n : ℕ) → e ≡ taken.end → g ≡ number → node_of new e g ≡ Some n → n ≡ node
-          one e g n i j was = same_some n node (sym was ∙ ap (λ e. node_of new e g) i ∙ ap (node_of new taken.end) j ∙ taken.was)
+    before : (g n : ℕ) (l : Lock) → find nat_cmp g (locks_at u n) ≡ Some l → find nat_cmp g (locks_at t n) ≡ Some l
+    before g n l h = elim (th.locks n) [
+      | inl e ↦ sym (ap (find nat_cmp g) e) ∙ h
+      | inr e ↦ (in_filter (lasts now) (locks_at t n) (sorted n) g l (sym (ap (find nat_cmp g) e) ∙ h)).0
+    ]
 
-      fewer : (e g n : ℕ) → node_of mid e g ≡ Some n → node_of old e g ≡ Some n
-      fewer e g n h = elim (cases_eq e taken.end) [
-        | inl i ↦ elim (cases_eq g number) [
-          | inl j ↦ absurd (none≢some n (sym taken.gone.this ∙ ap (node_of mid taken.end) (sym j) ∙ ap (λ e. node_of mid e g) (sym i) ∙ h))
-          | inr ne ↦ th.only e g n (sym (taken.gone.others e g (λ p. ne p.1)) ∙ h)
-        ]
-        | inr ne ↦ th.only e g n (sym (taken.gone.others e g (λ p. ne p.0)) ∙ h)
+    -- a lock is forgotten
+    module _ (mid : Ends) (number node : ℕ) (taken : TakesEnded new mid now number node) where
+      its : (l : Lock) × (find nat_cmp number (locks_at t node) ≡ Some l) × (l.timeout_at ≡ Some taken.end)
+      its = keeps.are_ends.only (Some taken.end) number node (th.only (Some taken.end) number node taken.was)
+
+      one : (n : ℕ) (l : Lock) → find nat_cmp number (locks_at t n) ≡ Some l → (l.timeout_at ≡ Some taken.end) × (n ≡ node)
+      one n l h =
+          let w = its in
+          let o = one_node t (all_granted t) next keeps.tree.list.represents number n node l w.0 h w.1 in
+          (ap (λ (l : Lock). l.timeout_at) o.0 ∙ w.2, o.1)
+
+      -- nothing is noted of it any more
+      none_left : (k : Option ℕ) (n : ℕ) → node_of mid k number ≡ Some n → ⊥
+      none_left k n h = elim (cases_key (Some taken.end) k) [
+        | inl is ↦ none≢some n (sym (taken.gone.this k is) ∙ h)
+        | inr other ↦
+            let w = keeps.are_ends.only k number n (th.only k number n (sym (taken.gone.others k number (λ is _. other is)) ∙ h)) in
+            other (subst (λ end. IsKeyOf end k) (one n w.0 w.1).0 w.2)
+      ]
+
+      others : (k : Option ℕ) (g : ℕ) → g ≢ number → node_of mid k g ≡ node_of new k g
+      others k g ne = taken.gone.others k g (λ _ i. ne i)
+
+      fewer : (k : Option ℕ) (g n : ℕ) → node_of mid k g ≡ Some n → node_of old k g ≡ Some n
+      fewer k g n h = elim (cases_eq g number) [
+        | inl i ↦ absurd (none_left k n (sym (ap (node_of mid k) i) ∙ h))
+        | inr ne ↦ th.only k g n (sym (others k g ne) ∙ h)
+      ]
+
+      whole_on : (k j : Option ℕ) (g n : ℕ) → node_of mid k g ≡ Some n → node_of old j g ≡ Some n → node_of mid j g ≡ Some n
+      whole_on k j g n h was = elim (cases_eq g number) [
+        | inl i ↦ absurd (none_left k n (sym (ap (node_of mid k) i) ∙ h))
+        | inr ne ↦ others j g ne ∙ th.whole k j g n (sym (others k g ne) ∙ h) was
       ]
 
       -- its lock has gone already
@@ -127,9 +154,15 @@ module _ (t : LockTree) (next now : ℕ) (old : Ends) (keeps : IsKept t next old
         needed = th.needed;
         locks = th.locks;
         ways = th.ways;
-        noted = λ e g n l h end. others e g n (th.noted e g n l h end) (λ i j at.
-            true≢false (sym (ap is_some (sym (ap (λ g. find nat_cmp g (locks_at u node)) j) ∙ sym (ap (λ n. find nat_cmp g (locks_at u n)) at) ∙ h)) ∙ none));
+        noted = λ k g n l h key. elim (cases_eq g number) [
+          | inl i ↦
+              let here : find nat_cmp number (locks_at u n) ≡ Some l = sym (ap (λ g. find nat_cmp g (locks_at u n)) i) ∙ h in
+              let at : n ≡ node = (one n l (before number n l here)).1 in
+              absurd (true≢false (sym (ap is_some (sym (ap (λ n. find nat_cmp number (locks_at u n)) at) ∙ here)) ∙ none))
+          | inr ne ↦ others k g ne ∙ th.noted k g n l h key
+        ];
         only = fewer;
+        whole = whole_on;
       }
 
       -- the stale locks at its node go
@@ -173,12 +206,27 @@ module _ (t : LockTree) (next now : ℕ) (old : Ends) (keeps : IsKept t next old
               ]) in
               same.ways n p (λ none. some (same.locks n ∙ none)) (way_stays u w changes.ways 1 n p (th.ways n p before leads))
 
-          noted_on : (e g n : ℕ) (l : Lock) → find nat_cmp g (locks_at v n) ≡ Some l → l.timeout_at ≡ Some e → node_of mid e g ≡ Some n
-          noted_on e g n l h end = elim (cases_eq n node) [
+          -- the lock that is forgotten stands nowhere
+          gone_on : (n : ℕ) (l : Lock) → find nat_cmp number (locks_at v n) ≡ Some l → ⊥
+          gone_on n l h = elim (cases_eq n node) [
             | inl i ↦
-                let w = in_filter (lasts now) (locks_at u node) (in_order node) g l (sym (ap (find nat_cmp g) (here n i)) ∙ h) in
-                others e g n (th.noted e g n l (ap (λ n. find nat_cmp g (locks_at u n)) i ∙ w.0) end) (λ same_end j at. ended_by now e l end (subst (λ e. e ≤ now) (sym same_end) taken.has_come) w.1)
-            | inr ne ↦ others e g n (th.noted e g n l (sym (ap (find nat_cmp g) (elsewhere n ne)) ∙ h) end) (λ same_end j at. ne at)
+                let w = in_filter (lasts now) (locks_at u node) (in_order node) number l (sym (ap (find nat_cmp number) (here n i)) ∙ h) in
+                ended_by now taken.end l (one node l (before number node l w.0)).0 taken.has_come w.1
+            | inr ne ↦ ne (one n l (before number n l (sym (ap (find nat_cmp number) (elsewhere n ne)) ∙ h))).1
+          ]
+
+          stood : (g n : ℕ) (l : Lock) → find nat_cmp g (locks_at v n) ≡ Some l → find nat_cmp g (locks_at u n) ≡ Some l
+          stood g n l h = elim (cases_eq n node) [
+            | inl i ↦
+                ap (λ n. find nat_cmp g (locks_at u n)) i
+                ∙ (in_filter (lasts now) (locks_at u node) (in_order node) g l (sym (ap (find nat_cmp g) (here n i)) ∙ h)).0
+            | inr ne ↦ sym (ap (find nat_cmp g) (elsewhere n ne)) ∙ h
+          ]
+
+          noted_on : (k : Option ℕ) (g n : ℕ) (l : Lock) → find nat_cmp g (locks_at v n) ≡ Some l → IsKeyOf l.timeout_at k → node_of mid k g ≡ Some n
+          noted_on k g n l h key = elim (cases_eq g number) [
+            | inl i ↦ absurd (gone_on n l (sym (ap (λ g. find nat_cmp g (locks_at v n)) i) ∙ h))
+            | inr ne ↦ others k g ne ∙ th.noted k g n l (stood g n l h) key
           ]
 
           pub thins_on : Thins t v old mid now
@@ -189,6 +237,7 @@ module _ (t : LockTree) (next now : ℕ) (old : Ends) (keeps : IsKept t next old
             ways = ways_on;
             noted = noted_on;
             only = fewer;
+            whole = whole_on;
           }
 
     pub thins_same : (mid : Ends) → SameEnds new mid → Thins t u old mid now
@@ -197,8 +246,9 @@ module _ (t : LockTree) (next now : ℕ) (old : Ends) (keeps : IsKept t next old
       needed = th.needed;
       locks = th.locks;
       ways = th.ways;
-      noted = λ e g n l h end. same e g ∙ th.noted e g n l h end;
-      only = λ e g n h. th.only e g n (sym (same e g) ∙ h);
+      noted = λ k g n l h key. same k g ∙ th.noted k g n l h key;
+      only = λ k g n h. th.only k g n (sym (same k g) ∙ h);
+      whole = λ k j g n h was. same j g ∙ th.whole k j g n (sym (same k g) ∙ h) was;
     }
 
     -- ---- none is left whose end has come
@@ -210,7 +260,7 @@ module _ (t : LockTree) (next now : ℕ) (old : Ends) (keeps : IsKept t next old
             e ∙ sym (filter_all_at (lasts now) (locks_at t n) (λ k d lt.
             let g = get_or (locks_at t n) k d in
             let found : find nat_cmp g.0 (locks_at u n) ≡ Some g.1 = ap (find nat_cmp g.0) e ∙ found_at_place (locks_at t n) k d (sorted n) lt in
-            last_by_end now g.1.timeout_at (λ end is. none end g.0 n (th.noted end g.0 n g.1 found is))))
+            last_by_end now g.1.timeout_at (λ end is. none end g.0 n (th.noted (Some end) g.0 n g.1 found is))))
         | inr e ↦ e
       ]
 
@@ -241,9 +291,9 @@ module _ (t : LockTree) (next now : ℕ) (old : Ends) (keeps : IsKept t next old
       ends_lasting : AreEnds u new
       ends_lasting = record {
         noted = th.noted;
-        only = λ e g n h.
-            let w = keeps.are_ends.only e g n (th.only e g n h) in
-            let lasting : not (is_stale now w.0) ≡ true = last_by_end now w.0.timeout_at (λ end is. subst (λ e. now < e) (same_some e end (sym w.2 ∙ is)) (none e g n h)) in
+        only = λ k g n h.
+            let w = keeps.are_ends.only k g n (th.only k g n h) in
+            let lasting : not (is_stale now w.0) ≡ true = last_by_end now w.0.timeout_at (λ end is. none end g n (th.whole k (Some end) g n h (keeps.are_ends.noted (Some end) g n w.0 w.1 is))) in
             (w.0, ap (find nat_cmp g) (all_lasting n) ∙ to_filter (lasts now) (locks_at t n) (sorted n) g w.0 w.1 lasting, w.2);
       }
 

@@ -1,12 +1,15 @@
 -- Lists of numbered values, in the order of their numbers: look-ups, places, a push and a removal.
-use Rattle.std.proofs.Common.{◌≡◌, ◌≢◌, inl, inr, ℕ, zero, suc, ◌<◌, ◌≤◌, ◌==◌, ◌&&◌, Bool, true, false, cond, not, T, List, [], ◌∷◌, ◌++◌, length, get_or, set, Option, Some, None, is_some, Result, Ok, Err, is_ok, refl, sym, ap, ◌∙◌, subst, arith, nat_lt}
-use Rattle.std.specs.Prelude.{remove, filter}
+use Rattle.std.proofs.Common.{◌≡◌, ◌≢◌, inl, inr, ℕ, zero, suc, ◌<◌, ◌≤◌, ◌==◌, ◌&&◌, Bool, true, false, cond, not, T, List, [], ◌∷◌, ◌++◌, length, get_or, set, Option, Some, None, Ok, Err, refl, sym, ap, ◌∙◌, subst, arith, nat_lt}
+use Rattle.std.specs.Prelude.{remove, filter, option_and_then}
+use Rattle.std.specs.BTreeMap.{is_at}
+use Rattle.std.specs.Map.{keys_of, lookup}
+use Rattle.std.specs.List.{AllByRecursion}
 use Rattle.std.specs.Ordering.{nat_cmp, is_lt, eq_by_cmp, ordering_index}
 use Rattle.std.specs.Cmp.{nat_cmp_total, unsigned_tied}
 use Rattle.std.specs.FinMap.{find, is_sorted, nat_cmp-IsAntisymmetric}
 use Rattle.std.specs.FinMap.Entries.{below_all, where_key, find-append, find-where_key, is_sorted-where_key}
 use Rattle.std.specs.declared.cmp.Ordering.TheVariants.{Less, Equal, Greater}
-use Rattle.std.specs.List.Sorted.{IsSearchInRange, IsBinarySearchResult, IsNonDecreasingBy}
+use Rattle.std.specs.List.Sorted.{IsStrictlySortedBy, IsSearchInRange, IsBinarySearchResult, IsNonDecreasingBy}
 use Rattle.std.proofs.lemmas.Bool.Decides.{nat_tests}
 use Rattle.std.proofs.lemmas.Cmp.{ranked}
 use Rattle.std.proofs.lemmas.List.Sorted.{IsNonDecreasingBy-from_default}
@@ -78,7 +81,7 @@ module _ {X : Type 0} where
       find-head (get_or es k d).0 e es ∙ ap (λ b. cond b (Some e.1) (find nat_cmp (get_or es k d).0 es)) (ne_eqb (get_or es k d).0 e.0 (λ q. omega (arith, up, q)))
       ∙ found_at_place es k d (second _ _ s) (omega arith)
 
-  -- a binary search by number answers whether it is there
+  -- a binary search by number finds what is there
   module _ (es : List (ℕ × X)) (d : ℕ × X) (s : InOrder es) (q : ℕ) where
     rises : IsNonDecreasingBy (λ e. ordering_index (nat_cmp e.0 q)) es
     rises = IsNonDecreasingBy-from_default (λ e. ordering_index (nat_cmp e.0 q)) es d (λ i j le lt.
@@ -93,11 +96,13 @@ module _ {X : Type 0} where
         later (e ∷ es) zero (suc j) d s lt in' = above_at e.0 es j d (first _ _ s) (omega (arith, in'))
         later (e ∷ es) (suc i) (suc j) d s lt in' = later es i j d (second _ _ s) (omega (arith, lt)) (omega (arith, in'))
 
-    pub searched : (r : Result ℕ ℕ) → IsSearchInRange r (length es) → IsBinarySearchResult (λ e. nat_cmp e.0 q) es r → is_ok r ≡ is_some (find nat_cmp q es)
-    searched (Ok at) lt equal =
+    pub searched_found : (at : ℕ) → IsSearchInRange (Ok at) (length es) → IsBinarySearchResult (λ e. nat_cmp e.0 q) es (Ok at) → find nat_cmp q es ≡ Some (get_or es at d).1
+    searched_found at lt equal =
         let same : (get_or es at d).0 ≡ q = ranked _ q _ (sym (equal d)) in
-        sym (ap (λ q. is_some (find nat_cmp q es)) (sym same) ∙ ap is_some (found_at_place es at d s lt))
-    searched (Err at) le parted = none (find nat_cmp q es) refl
+        ap (λ q. find nat_cmp q es) (sym same) ∙ found_at_place es at d s lt
+
+    pub searched_none : (at : ℕ) → IsSearchInRange (Err at) (length es) → IsBinarySearchResult (λ e. nat_cmp e.0 q) es (Err at) → find nat_cmp q es ≡ None
+    searched_none at le parted = none (find nat_cmp q es) refl
       where
         apart : (k : ℕ) → k < length es → (get_or es k d).0 ≡ q → ⊥
         apart k lt same = elim (cases_lt k at) [
@@ -105,8 +110,8 @@ module _ {X : Type 0} where
           | inr after ↦ (let more : q < (get_or es k d).0 = ranked _ q _ (sym ((parted rises).1 k d after lt)) in omega (arith, more, same))
         ]
 
-        none : (o : Option X) → find nat_cmp q es ≡ o → false ≡ is_some o
-        none None e = refl
+        none : (o : Option X) → find nat_cmp q es ≡ o → find nat_cmp q es ≡ None
+        none None e = e
         none (Some v) e = let w = place_of_found q v es e in absurd (apart w.0 w.1 (ap (λ (e : ℕ × X). e.0) (w.2 d)))
 
   -- a look-up in a longer list
@@ -277,3 +282,67 @@ module _ {X : Type 0} where
             ap (λ b. cond b (Some e.1) (cond (q == v) (Some y) (find nat_cmp q es))) apart
             ∙ ap (λ o. cond (q == v) (Some y) o) (sym (find-head q e es ∙ ap (λ b. cond b (Some e.1) (find nat_cmp q es)) apart))
       ]
+
+-- ---- other values under the same numbers, where there are some
+
+module _ {X Y : Type 0} (f : ℕ → X → Option Y) where
+  abbrev pub with_value : ℕ → Option Y → List (ℕ × Y) → List (ℕ × Y)
+  with_value g None es = es
+  with_value g (Some v) es = (g, v) ∷ es
+
+  unfoldable pub values_by : List (ℕ × X) → List (ℕ × Y)
+  values_by [] = []
+  values_by (e ∷ es) = with_value e.0 (f e.0 e.1) (values_by es)
+
+  below_values : (k : ℕ) (es : List (ℕ × X)) → T (below_all nat_cmp k es) → T (below_all nat_cmp k (values_by es))
+  unfolding values_by
+  below_values k [] h = tt
+  below_values k (e ∷ es) h = by (below_values k es (second _ _ h)) (f e.0 e.1)
+    where
+      by : T (below_all nat_cmp k (values_by es)) → (o : Option Y) → T (below_all nat_cmp k (with_value e.0 o (values_by es)))
+      by rest None = rest
+      by rest (Some v) = both _ _ (first _ _ h) rest
+
+  pub InOrder-values : (es : List (ℕ × X)) → InOrder es → InOrder (values_by es)
+  unfolding values_by
+  InOrder-values [] s = tt
+  InOrder-values (e ∷ es) s = by (InOrder-values es (second _ _ s)) (f e.0 e.1)
+    where
+      by : InOrder (values_by es) → (o : Option Y) → InOrder (with_value e.0 o (values_by es))
+      by rest None = rest
+      by rest (Some v) = both _ _ (below_values e.0 es (first _ _ s)) rest
+
+  pub find-values : (es : List (ℕ × X)) (q : ℕ) → InOrder es → find nat_cmp q (values_by es) ≡ option_and_then (f q) (find nat_cmp q es)
+  unfolding values_by
+  find-values [] q s = refl
+  find-values (e ∷ es) q s = elim (cases_eq q e.0) [
+    | inl i ↦
+        subst (λ q. find nat_cmp q (values_by (e ∷ es)) ≡ option_and_then (f q) (find nat_cmp q (e ∷ es))) (sym i)
+        (at_head (f e.0 e.1) refl ∙ sym (ap (option_and_then (f e.0)) (find-here e es)))
+    | inr ne ↦
+        past (f e.0 e.1) ne ∙ find-values es q (second _ _ s)
+        ∙ ap (option_and_then (f q)) (sym (find-head q e es ∙ ap (λ b. cond b (Some e.1) (find nat_cmp q es)) (ne_eqb q e.0 ne)))
+  ]
+    where
+      at_head : (o : Option Y) → f e.0 e.1 ≡ o → find nat_cmp e.0 (with_value e.0 o (values_by es)) ≡ f e.0 e.1
+      at_head None i = not_below e.0 (values_by es) (below_values e.0 es (first _ _ s)) ∙ sym i
+      at_head (Some v) i = find-here (e.0, v) (values_by es) ∙ sym i
+
+      past : (o : Option Y) → q ≢ e.0 → find nat_cmp q (with_value e.0 o (values_by es)) ≡ find nat_cmp q (values_by es)
+      past None ne = refl
+      past (Some v) ne = find-head q (e.0, v) (values_by es) ∙ ap (λ b. cond b (Some v) (find nat_cmp q (values_by es))) (ne_eqb q e.0 ne)
+
+-- ---- a map of the library
+
+pub found_in_map : {X : Type 0} (es : List (ℕ × X)) (q : ℕ) → lookup (is_at (nat_cmp q)) es ≡ find nat_cmp q es
+found_in_map [] q = refl
+found_in_map (e ∷ es) q = ap (λ o. cond (eq_by_cmp nat_cmp q e.0) (Some e.1) o) (found_in_map es q)
+
+pub InOrder-map : {X : Type 0} (es : List (ℕ × X)) → IsStrictlySortedBy nat_cmp (keys_of es) → InOrder es
+unfolding IsStrictlySortedBy
+InOrder-map [] s = tt
+InOrder-map (e ∷ es) s = both _ _ (below es s.0) (InOrder-map es s.1)
+  where
+    below : {X : Type 0} (es : List (ℕ × X)) → AllByRecursion (λ y. nat_cmp e.0 y ≡ Less) (keys_of es) → T (below_all nat_cmp e.0 es)
+    below [] h = tt
+    below (x ∷ es) h = both _ _ (subst (λ o. T (is_lt o)) (sym h.0) tt) (below es h.1)

@@ -18,9 +18,10 @@ use Rattle.dav_locks_core.specs.Private.SubtreeWalks.{LinkedLocks}
 use Rattle.dav_locks_core.specs.Private.Represents.{Represents}
 use Rattle.dav_locks_core.proofs.lists.NumberedLemmas.{InOrder, kept_if, find-filter, InOrder-filter}
 use Rattle.dav_locks_core.proofs.trees.PruningLemmas.{Under-kept, Under-before, way_kept}
-use Rattle.dav_locks_core.proofs.walks.SiblingLemmas.{no_first}
+use Rattle.dav_path_core.proofs.walks.SiblingLemmas.{no_first}
 use Rattle.dav_locks_core.proofs.trees.StandingLemmas.{locks_of_entry}
-use Rattle.dav_locks_core.proofs.walks.SubtreeLemmas.{one_above, not_below_child, through, front_of}
+use Rattle.dav_path_core.proofs.walks.AboveLemmas.{one_above, not_below_child}
+use Rattle.dav_locks_core.proofs.walks.SubtreeLemmas.{through, front_of}
 
 -- ---- child by child
 

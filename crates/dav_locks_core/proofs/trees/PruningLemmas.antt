@@ -12,7 +12,8 @@ use Rattle.dav_path_core.proofs.children.Walks.{parent_known}
 use Rattle.dav_locks_core.specs.Private.LockTree.{NumberedLock, LockTree, is_segment, locks_at, child_at, node_at}
 use Rattle.dav_locks_core.specs.Private.Pruning.{IsNeeded, AllNeeded, NeededBut, SameLocks}
 use Rattle.dav_locks_core.proofs.trees.StandingLemmas.{Changes, locks_of_entry}
-use Rattle.dav_locks_core.proofs.walks.SubtreeLemmas.{Under-up, not_below_child, root_top, not_root, node_at-step}
+use Rattle.dav_path_core.proofs.walks.AboveLemmas.{Under-up, not_below_child, root_top, not_root}
+use Rattle.dav_locks_core.proofs.walks.SubtreeLemmas.{node_at-step}
 use Rattle.dav_locks_core.proofs.trees.WayLemmas.{child_at-is, child_at-from}
 
 pub SameLocks-refl : (t : LockTree) → IsTree is_segment t → SameLocks t t

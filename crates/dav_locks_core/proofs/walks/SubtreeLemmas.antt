@@ -1,65 +1,17 @@
--- What stands at and below a node of a tree, and the paths that lead there.
-use Rattle.std.proofs.Common.{◌≡◌, ◌≢◌, ◌⊎◌, inl, inr, ℕ, Bool, true, [], ◌∷◌, ◌++◌, Option, Some, None, refl, sym, ap, ◌∙◌, subst}
+-- The paths that lead to what stands at and below a node of the tree of locks.
+use Rattle.std.proofs.Common.{◌≡◌, ℕ, true, [], ◌∷◌, ◌++◌, Option, Some, None, refl, sym, ap, ◌∙◌, subst}
 use Rattle.std.specs.Prelude.{option_and_then}
 use Rattle.std.specs.Option.{option_map}
-use Rattle.std.proofs.lemmas.Bool.{cases_eq, false≢true}
+use Rattle.std.proofs.lemmas.Bool.{false≢true}
 use Rattle.dav_path_core.specs.Fronts.{Segment, Path, is_front}
-use Rattle.dav_path_core.specs.Keyed.{Keyed, Under, here, below, Leads, root, up, entry, parent, IsKnown, IsTree}
+use Rattle.dav_path_core.specs.Keyed.{Under, here, below, entry, parent, IsKnown, IsTree}
 use Rattle.dav_path_core.proofs.paths.FrontLemmas.{is_front-parts, is_front-cons}
 use Rattle.dav_path_core.proofs.trees.Cutting.{Under-trans}
-use Rattle.dav_path_core.proofs.trees.KeyedDepth.{top, no_cycle}
 use Rattle.dav_path_core.proofs.trees.KeyedCuts.{parent_child}
 use Rattle.dav_path_core.proofs.trees.Trees.{none≢some, same_some, known_from_child}
-use Rattle.dav_path_core.proofs.children.Walks.{parent_known}
+use Rattle.dav_path_core.proofs.walks.AboveLemmas.{known_under}
 use Rattle.dav_locks_core.specs.Private.LockTree.{LockTree, is_segment, child_at, node_at}
 use Rattle.dav_locks_core.proofs.trees.WayLemmas.{child_at-is, child_at-from, one_path}
-
--- ---- numbers that lead to one
-
-module _ {f : ℕ → Option ℕ} where
-  -- one step up
-  pub Under-up : {n k p : ℕ} → Under f n k → n ≢ k → f k ≡ Some p → Under f n p
-  Under-up here ne e = absurd (ne refl)
-  Under-up {n = n} {p = p} (below {p = r} g u) ne e = subst (Under f n) (same_some r p (sym g ∙ e)) u
-
-  -- a number above another has a number above it
-  pub Under-step : {n k : ℕ} → Under f n k → k ≢ n → (p : ℕ) × (f k ≡ Some p) × Under f n p
-  Under-step here ne = absurd (ne refl)
-  Under-step (below {p = p} e u) ne = (p, e, u)
-
-  -- of two numbers above one, one is above the other
-  pub one_above : {a b k : ℕ} → Under f a k → Under f b k → Under f a b ⊎ Under f b a
-  one_above here v = inr v
-  one_above (below e u) here = inl (below e u)
-  one_above {b = b} (below {p = p} e u) (below {p = q} g v) = one_above u (subst (Under f b) (same_some q p (sym g ∙ e)) v)
-
-module _ {K D : Type 0} (eq : K → K → Bool) (t : Keyed K D) (tree : IsTree eq t) where
-  -- a number isn't below its own child
-  pub not_below_child : (n p : ℕ) → parent t n ≡ Some p → Under (parent t) n p → ⊥
-  not_below_child n p e u = no_cycle (parent t) (top eq t tree) e (tree.attached p (parent_known eq t tree n p e)) u
-
-  pub root_top : (n : ℕ) → Under (parent t) n 1 → n ≡ 1
-  root_top n u = elim (cases_eq 1 n) [
-    | inl is ↦ sym is
-    | inr ne ↦ let s = Under-step u ne in absurd (none≢some s.0 (sym (top eq t tree) ∙ s.1))
-  ]
-
-  pub known_above : (n k : ℕ) → Under (parent t) n k → IsKnown t k → IsKnown t n
-  known_above n k here known = known
-  known_above n k (below {p = p} e u) known = known_above n p u (parent_known eq t tree k p e)
-
-  pub not_root : (n p : ℕ) → parent t n ≡ Some p → n ≢ 1
-  not_root n p e is = none≢some p (sym (top eq t tree) ∙ sym (ap (parent t) is) ∙ e)
-
-  -- the root alone has no parent
-  pub no_parent : (n : ℕ) → IsKnown t n → parent t n ≡ None → n ≡ 1
-  no_parent n known none = by (tree.attached n known) none
-    where
-      by : {n : ℕ} → Leads (parent t) n → parent t n ≡ None → n ≡ 1
-      by root none = refl
-      by (up {p = p} e l) none = absurd (none≢some p (sym none ∙ e))
-
--- ---- ways
 
 pub is_front-append : (p q : Path) → is_front p (p ++ q) ≡ true
 is_front-append [] q = refl
@@ -151,13 +103,9 @@ module _ (t : LockTree) (tree : IsTree is_segment t) where
             ∙ node_at-step t r m k.0 [] (child_at-from t tree r k.0 m k.1) ∙ node_at-here t m,
       )
 
-  leads_under : (n : ℕ) → Leads (parent t) n → Under (parent t) 1 n
-  leads_under n root = here
-  leads_under n (up {p = p} e l) = below e (leads_under p l)
-
   -- so a way leads to each node from the root
   pub way_to : (n : ℕ) → IsKnown t n → (p : Path) × (node_at t 1 p ≡ Some n)
-  way_to n known = way_down 1 n (leads_under n (tree.attached n known))
+  way_to n known = way_down 1 n (known_under is_segment t tree n known)
 
   -- where the way to one path leads below that to another, this is a front of it
   pub front_of : (n m : ℕ) (p q : Path) → node_at t 1 p ≡ Some n → node_at t 1 q ≡ Some m → Under (parent t) n m → is_front p q ≡ true

@@ -1,6 +1,6 @@
--- When the locks of a tree end.
+-- Where the locks of a tree stand, by their numbers, and when they end.
 use Rattle.std.specs.Prelude.{◌≡◌, ◌≢◌, ℕ, ◌==◌, Bool, false, ◌<◌, ◌≤◌, List, Option, Some, None, slice_index_or}
-use Rattle.std.specs.BTreeMap.{BTreeMap, get}
+use Rattle.std.specs.BTreeMap.{get}
 use Rattle.std.specs.Ordering.{nat_cmp, ordering_then}
 use Rattle.std.specs.declared.cmp.Ordering.{Ordering}
 use Rattle.std.specs.FinMap.{find}
@@ -8,36 +8,53 @@ use Rattle.dav_path_core.specs.ChildIndex.{Index, IsIndex}
 use Rattle.dav_locks_core.specs.Lock.{Lock}
 use Rattle.dav_locks_core.specs.Private.LockTree.{NumberedLock, LockTree, locks_at}
 use Rattle.dav_locks_core.specs.Private.Represents.{IsLockTree}
-
--- by end and grant number, the node at which the lock stands
-abbrev pub Ends : Type 0
-Ends = BTreeMap (ℕ × ℕ) ℕ
+pub use Rattle.dav_locks_core.specs.declared.memls.ends.Ends.{Ends}
 
 -- by the end, then by the number
 abbrev pub end_cmp : ℕ × ℕ → ℕ × ℕ → Ordering
 end_cmp a b = ordering_then (nat_cmp a.0 b.0) (nat_cmp a.1 b.1)
 
-abbrev pub node_of : Ends → ℕ → ℕ → Option ℕ
-node_of ends end number = get end_cmp ends (end, number)
+-- the node that is noted for the lock with a number: under the number alone, or under an end and the number
+abbrev pub node_of : Ends → Option ℕ → ℕ → Option ℕ
+node_of ends None number = get nat_cmp ends.nodes number
+node_of ends (Some end) number = get end_cmp ends.by_end (end, number)
 
 abbrev pub SameEnds : Ends → Ends → Type 0
-SameEnds old new = (e g : ℕ) → node_of new e g ≡ node_of old e g
+SameEnds old new = (k : Option ℕ) (g : ℕ) → node_of new k g ≡ node_of old k g
 
--- new has this node, or none, for the lock with that end and number, and for each other what old has
-pub record NotesAt (old new : Ends) (end number : ℕ) (node : Option ℕ) : Type 0 where
-  pub this : node_of new end number ≡ node
-  pub others : (e g : ℕ) → ((e ≡ end) × (g ≡ number) → ⊥) → node_of new e g ≡ node_of old e g
+-- the number alone
+abbrev pub IsAlone : Option ℕ → Type 0
+IsAlone None = Unit {0}
+IsAlone (Some e) = ⊥
 
--- the same of a lock that may have no end
+-- the end of a lock, if it has one
+abbrev pub IsEndOf : Option ℕ → Option ℕ → Type 0
+IsEndOf end None = ⊥
+IsEndOf end (Some e) = end ≡ Some e
+
+-- either: a lock with that end is noted under these
+abbrev pub IsKeyOf : Option ℕ → Option ℕ → Type 0
+IsKeyOf end None = Unit {0}
+IsKeyOf end (Some e) = end ≡ Some e
+
+-- new has this node, or none, for the lock with that number under these keys, and else what old has
+pub record NotesAt (old new : Ends) (keys : Option ℕ → Type 0) (number : ℕ) (node : Option ℕ) : Type 0 where
+  pub this : (k : Option ℕ) → keys k → node_of new k number ≡ node
+  pub others : (k : Option ℕ) (g : ℕ) → (keys k → g ≡ number → ⊥) → node_of new k g ≡ node_of old k g
+
+-- the end of a lock is noted, or forgotten
+abbrev pub NotesEnd : Ends → Ends → Option ℕ → ℕ → Option ℕ → Type 0
+NotesEnd old new end = NotesAt old new (IsEndOf end)
+
+-- and so is where it stands
 abbrev pub Notes : Ends → Ends → Option ℕ → ℕ → Option ℕ → Type 0
-Notes old new None number at = SameEnds old new
-Notes old new (Some end) number at = NotesAt old new end number at
+Notes old new end = NotesAt old new (IsKeyOf end)
 
--- new is old, but for the lock with this number: only this end is noted for it, with n
-pub record Renotes (old new : Ends) (number : ℕ) (end : Option ℕ) (n : ℕ) : Type 0 where
-  pub others : (e g : ℕ) → g ≢ number → node_of new e g ≡ node_of old e g
-  pub noted : (e : ℕ) → end ≡ Some e → node_of new e number ≡ Some n
-  pub only : (e m : ℕ) → node_of new e number ≡ Some m → (end ≡ Some e) × (m ≡ n)
+-- new is old, but for the lock with this number: it is noted under these keys alone, with n
+pub record Renotes (old new : Ends) (number : ℕ) (keys : Option ℕ → Type 0) (n : ℕ) : Type 0 where
+  pub others : (k : Option ℕ) (g : ℕ) → g ≢ number → node_of new k g ≡ node_of old k g
+  pub noted : (k : Option ℕ) → keys k → node_of new k number ≡ Some n
+  pub only : (k : Option ℕ) (m : ℕ) → node_of new k number ≡ Some m → keys k × (m ≡ n)
 
 -- whether both are ends at one moment
 abbrev pub same_end : Option ℕ → Option ℕ → Bool
@@ -47,39 +64,38 @@ same_end (Some was) (Some end) = was == end
 
 -- no end has come
 abbrev pub NoneEnds : Ends → ℕ → Type 0
-NoneEnds ends now = (e g n : ℕ) → node_of ends e g ≡ Some n → now < e
+NoneEnds ends now = (e g n : ℕ) → node_of ends (Some e) g ≡ Some n → now < e
 
--- the lock with that number at that node is one whose end has come, and its end goes
+-- the lock with that number at that node is one whose end has come, and it is forgotten
 pub record TakesEnded (old new : Ends) (now number node : ℕ) : Type 0 where
   pub end : ℕ
   pub has_come : end ≤ now
-  pub was : node_of old end number ≡ Some node
-  pub gone : NotesAt old new end number None
+  pub was : node_of old (Some end) number ≡ Some node
+  pub gone : Notes old new (Some end) number None
 
--- new is old without the ends of the first so many of these locks
+-- new is old without the first so many of these locks
 pub record ForgetsFirst (granted : List NumberedLock) (count : ℕ) (old new : Ends) : Type 0 where
-  pub only : (e g n : ℕ) → node_of new e g ≡ Some n → node_of old e g ≡ Some n
-  pub gone : (k e : ℕ) (d : NumberedLock) → k < count → (slice_index_or granted k d).1.timeout_at ≡ Some e → node_of new e (slice_index_or granted k d).0 ≡ None
-  pub kept : (e g n : ℕ) → node_of old e g ≡ Some n → ((k : ℕ) (d : NumberedLock) → k < count → (slice_index_or granted k d).0 ≡ g → (slice_index_or granted k d).1.timeout_at ≡ Some e → ⊥) → node_of new e g ≡ Some n
+  pub only : (k : Option ℕ) (g n : ℕ) → node_of new k g ≡ Some n → node_of old k g ≡ Some n
+  pub gone : (i : ℕ) (k : Option ℕ) (d : NumberedLock) → i < count → IsKeyOf (slice_index_or granted i d).1.timeout_at k → node_of new k (slice_index_or granted i d).0 ≡ None
+  pub kept : (k : Option ℕ) (g n : ℕ) → node_of old k g ≡ Some n → ((i : ℕ) (d : NumberedLock) → i < count → (slice_index_or granted i d).0 ≡ g → IsKeyOf (slice_index_or granted i d).1.timeout_at k → ⊥) → node_of new k g ≡ Some n
 
--- new is old without the ends of locks at the nodes of which P holds
+-- new is old without the locks at the nodes of which P holds
 pub record Forgets (t : LockTree) (old new : Ends) (P : ℕ → Type 0) : Type 0 where
-  pub only : (e g n : ℕ) → node_of new e g ≡ Some n → node_of old e g ≡ Some n
-  pub gone : (e g n : ℕ) (l : Lock) → P n → find nat_cmp g (locks_at t n) ≡ Some l → l.timeout_at ≡ Some e → node_of new e g ≡ None
-  pub kept : (e g n : ℕ) → node_of old e g ≡ Some n → (P n → ⊥) → node_of new e g ≡ Some n
+  pub only : (k : Option ℕ) (g n : ℕ) → node_of new k g ≡ Some n → node_of old k g ≡ Some n
+  pub gone : (k : Option ℕ) (g n : ℕ) (l : Lock) → P n → find nat_cmp g (locks_at t n) ≡ Some l → IsKeyOf l.timeout_at k → node_of new k g ≡ None
+  pub kept : (k : Option ℕ) (g n : ℕ) → node_of old k g ≡ Some n → (P n → ⊥) → node_of new k g ≡ Some n
 
--- each lock that ends is noted with its node, and nothing else is
+-- each lock is noted with its node, and nothing else is
 pub record AreEnds (t : LockTree) (ends : Ends) : Type 0 where
-  pub noted : (e g n : ℕ) (l : Lock) → find nat_cmp g (locks_at t n) ≡ Some l → l.timeout_at ≡ Some e → node_of ends e g ≡ Some n
-  pub only : (e g n : ℕ) → node_of ends e g ≡ Some n → (l : Lock) × (find nat_cmp g (locks_at t n) ≡ Some l) × (l.timeout_at ≡ Some e)
+  pub noted : (k : Option ℕ) (g n : ℕ) (l : Lock) → find nat_cmp g (locks_at t n) ≡ Some l → IsKeyOf l.timeout_at k → node_of ends k g ≡ Some n
+  pub only : (k : Option ℕ) (g n : ℕ) → node_of ends k g ≡ Some n → (l : Lock) × (find nat_cmp g (locks_at t n) ≡ Some l) × IsKeyOf l.timeout_at k
 
--- a tree of locks, and when they end
+-- a tree of locks, and what is noted of them
 pub record IsKept (t : LockTree) (next : ℕ) (ends : Ends) : Type 0 where
   pub tree : IsLockTree t next
   pub are_ends : AreEnds t ends
 
 -- what locks in memory keep: that, and an index of the segments of the tree
 pub record IsStored (t : LockTree) (next : ℕ) (ends : Ends) (ix : Index) : Type 0 where
-  pub tree : IsLockTree t next
-  pub are_ends : AreEnds t ends
+  pub kept : IsKept t next ends
   pub indexed : IsIndex t ix

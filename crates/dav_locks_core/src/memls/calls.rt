@@ -9,16 +9,17 @@ ghost use Rattle.dav_locks_core.specs.Calls.{Shows, ShowsOnly, RefusesRefresh, l
 ghost use Rattle.dav_locks_core.specs.NewLock.{new_lock};
 
 use super::MemLs;
-use super::ends::{forget, forget_below, note, renote};
+use super::ends::{forget, forget_below, renote};
 use super::granting::{
     LockRequest, end_at, end_lock, end_of_timeout, grant, refresh_lock, refreshed_copy,
 };
-use super::holding::{Caller, Unheld, WithToken};
+use super::holding::{Caller, Unheld, Wanted, WithToken};
+use super::placing::{give_up_place, open_place};
 use super::pruning::{clear, prune};
 use super::subtree::{check_locks_from_path, check_locks_from_path_ref};
 use super::way::{
-    check_locks_to_path, check_locks_to_path_ref, covering_locks, get_or_create_path_node,
-    lookup_lock, lookup_lock_ref, lookup_node,
+    check_locks_to_path, check_locks_to_path_ref, covering_locks, lookup_lock, lookup_lock_ref,
+    lookup_node,
 };
 use crate::ls::{DavLock, LockError, NoLock, RefreshError};
 use dav_path_core::davpath::{DavPath, DavPathRef};
@@ -27,6 +28,24 @@ use rand_core::Rng;
 use std::alloc::AllocError;
 
 impl MemLs {
+    // Refused where a lock stands in the way of one at a path, which is shown.
+    pub(super) fn check_wanted(
+        &self,
+        path: &DavPath,
+        shared: bool,
+        deep: bool,
+    ) -> Result<(), LockError>
+        ensures free { OnOk result (lock_conflicts self.now (segments path.now.bytes) shared deep ≡ []) }
+        ensures shown { IfErr result (λ e. Shows (lock_conflicts self.now (segments path.now.bytes) shared deep) e) }
+    {
+        let wanted = Wanted { shared };
+        check_locks_to_path(&self.tree, &self.index, path, &wanted)?;
+        if deep {
+            check_locks_from_path(&self.tree, &self.index, path, &wanted)?;
+        }
+        Ok(())
+    }
+
     // Grants a lock of a path, unless one stands in the way, which is shown.
     pub(super) fn add_lock<R: Rng>(
         &mut self,
@@ -49,6 +68,7 @@ impl MemLs {
         ensures undrawn { OnErr result (R.stream rng.new ≡ R.stream rng.old) }
         ensures exclusive { Exclusive self.new }
     {
+        self.check_wanted(path, shared, deep)?;
         let request = LockRequest {
             path,
             principal,
@@ -58,26 +78,30 @@ impl MemLs {
             shared,
             deep,
         };
-        check_locks_to_path(&self.tree, &self.index, path, &request)?;
-        if deep {
-            check_locks_from_path(&self.tree, &self.index, path, &request)?;
-        }
-        if self.next == u64::MAX {
-            return Err(LockError::OutOfMemory);
-        }
-        let node = get_or_create_path_node(&mut self.tree, &mut self.index, self.alloc, path)?;
-        if let Err(error) = note(&mut self.ends, request.timeout_at, self.next, node) {
-            prune(&mut self.tree, &mut self.index, node);
-            return Err(LockError::from(error));
-        }
-        match grant(&mut self.tree, self.alloc, node, self.next, &request, rng) {
+        let (end, number) = (request.timeout_at, self.next);
+        let node = open_place(
+            &mut self.tree,
+            &mut self.index,
+            &mut self.ends,
+            self.alloc,
+            path,
+            end,
+            number,
+        )?;
+        match grant(&mut self.tree, self.alloc, node, number, &request, rng) {
             Ok(lock) => {
                 self.next += 1;
                 Ok(lock)
             }
             Err(error) => {
-                forget(&mut self.ends, request.timeout_at, self.next);
-                prune(&mut self.tree, &mut self.index, node);
+                give_up_place(
+                    &mut self.tree,
+                    &mut self.index,
+                    &mut self.ends,
+                    node,
+                    end,
+                    number,
+                );
                 Err(error)
             }
         }

@@ -1,47 +1,85 @@
-//! When locks end.
-ghost use Rattle.std.specs.Prelude.{◌≡◌, ◌<◌, ℕ, T, Some, None, option_map, IfSome, IfNone, length, OnOk, OnErr, MatchOption};
+//! Where locks stand, by their grant numbers, and when they end.
+ghost use Rattle.std.specs.Prelude.{◌≡◌, ◌<◌, ℕ, T, Option, Some, None, option_map, IfSome, IfNone, length, OnOk, OnErr, MatchOption};
 ghost use Rattle.std.specs.BTreeMap.{btree_map_len};
 ghost use Rattle.std.specs.FinMap.{is_sorted};
 ghost use Rattle.std.specs.Ordering.{nat_cmp};
 ghost use Rattle.dav_path_core.specs.Keyed.{IsKnown, Under, parent};
 ghost use Rattle.dav_locks_core.specs.Private.LockTree.{locks_at};
-ghost use Rattle.dav_locks_core.specs.Private.Ends.{AreEnds, Forgets, ForgetsFirst, NoneEnds, Notes, Renotes, SameEnds, TakesEnded, node_of, same_end};
+ghost use Rattle.dav_locks_core.specs.Private.Ends.{AreEnds, Forgets, ForgetsFirst, IsKeyOf, NoneEnds, Notes, NotesEnd, Renotes, SameEnds, TakesEnded, node_of, same_end};
 
 use super::NodeLocks;
-use super::subtree::next_below;
 use super::way::locks_at;
 use crate::ls::DavLock;
 use bytes::Bytes;
 use dav_path_core::tree::Tree;
 use dav_path_core::util::Moment;
-use std::alloc::AllocError;
+use std::alloc::{AllocError, Global};
 use std::collections::BTreeMap;
 
-/// The locks that end, in the order of their ends: by end and grant number, the node at which the lock stands.
-pub(super) type Ends = BTreeMap<(u64, u64), u64>;
+/// Where the locks stand, and when they end.
+#[derive(Debug, Drop)]
+pub(super) struct Ends {
+    // The node at which a lock stands, by its grant number.
+    pub(super) nodes: BTreeMap<u64, u64>,
+    // The same of the locks that end, by end and grant number: in the order of their ends.
+    pub(super) by_end: BTreeMap<(u64, u64), u64>,
+}
 
-// Notes when a lock ends, if it does, and at which node it stands.
+impl Ends {
+    pub(super) fn new(alloc: Global) -> Ends
+        ensures { (k : Option ℕ) (g : ℕ) → node_of result k g ≡ None }
+    {
+        Ends {
+            nodes: BTreeMap::new(alloc),
+            by_end: BTreeMap::new(alloc),
+        }
+    }
+}
+
+// Notes at which node a lock stands, and when it ends, if it does.
 pub(super) fn note(
     ends: &mut Ends,
     end: Option<Moment>,
     number: u64,
     node: u64,
 ) -> Result<(), AllocError>
+    requires { (k : Option ℕ) (n : ℕ) → node_of ends.old k number ≡ Some n → ⊥ }
     ensures noted { OnOk result (Notes ends.old ends.new (option_map (λ m. m.0) end) number (Some node)) }
     ensures left { OnErr result (SameEnds ends.old ends.new) }
 {
-    if let Some(end) = end {
-        ends.insert((end.0, number), node)?;
+    note_end(ends, end, number, node)?;
+    if let Err(error) = ends.nodes.insert(number, node) {
+        forget_end(ends, end, number);
+        return Err(AllocError::from(error));
     }
     Ok(())
 }
 
-// Forgets when a lock ends.
+// Notes when a lock ends, if it does.
+fn note_end(ends: &mut Ends, end: Option<Moment>, number: u64, node: u64) -> Result<(), AllocError>
+    ensures noted { OnOk result (NotesEnd ends.old ends.new (option_map (λ m. m.0) end) number (Some node)) }
+    ensures left { OnErr result (SameEnds ends.old ends.new) }
+{
+    if let Some(end) = end {
+        ends.by_end.insert((end.0, number), node)?;
+    }
+    Ok(())
+}
+
+// Forgets a lock, and when it ends.
 pub(super) fn forget(ends: &mut Ends, end: Option<Moment>, number: u64)
     ensures { Notes ends.old ends.new (option_map (λ m. m.0) end) number None }
 {
+    forget_end(ends, end, number);
+    let _node = ends.nodes.remove(&number);
+}
+
+// Forgets when a lock ends.
+fn forget_end(ends: &mut Ends, end: Option<Moment>, number: u64)
+    ensures { NotesEnd ends.old ends.new (option_map (λ m. m.0) end) number None }
+{
     if let Some(end) = end {
-        let _node = ends.remove(&(end.0, number));
+        let _node = ends.by_end.remove(&(end.0, number));
     }
 }
 
@@ -53,13 +91,15 @@ pub(super) fn renote(
     number: u64,
     node: u64,
 ) -> Result<(), AllocError>
-    requires { (e n : ℕ) → node_of ends.old e number ≡ Some n → option_map (λ m. m.0) was ≡ Some e }
-    ensures noted { OnOk result (Renotes ends.old ends.new number (option_map (λ m. m.0) end) node) }
+    requires stands { node_of ends.old None number ≡ Some node }
+    requires only { (k : Option ℕ) (n : ℕ) → node_of ends.old k number ≡ Some n
+        → IsKeyOf (option_map (λ m. m.0) was) k }
+    ensures noted { OnOk result (Renotes ends.old ends.new number (IsKeyOf (option_map (λ m. m.0) end)) node) }
     ensures left { OnErr result (SameEnds ends.old ends.new) }
 {
-    note(ends, end, number, node)?;
+    note_end(ends, end, number, node)?;
     if !same_end(was, end) {
-        forget(ends, was, number);
+        forget_end(ends, was, number);
     }
     Ok(())
 }
@@ -74,23 +114,26 @@ fn same_end(was: Option<Moment>, end: Option<Moment>) -> bool
     }
 }
 
-// Takes out the first end that has come, and gives the number and the node of its lock.
+// Forgets the first lock whose end has come, and gives its number and its node.
 pub(super) fn take_ended(ends: &mut Ends, now: Moment) -> Option<(u64, u64)>
     ensures taken { MatchOption result (NoneEnds ends.new now.0) (λ r. TakesEnded ends.old ends.new now.0 r.0 r.1) }
     ensures left { IfNone result (SameEnds ends.old ends.new) }
-    ensures fewer { IfSome result (λ _. btree_map_len ends.new < btree_map_len ends.old) }
+    ensures fewer { IfSome result (λ _. btree_map_len ends.new.by_end < btree_map_len ends.old.by_end) }
 {
-    match ends.first_key_value() {
+    match ends.by_end.first_key_value() {
         Some((key, _)) if key.0 <= now.0 => {}
         _ => return None,
     }
-    match ends.pop_first() {
-        Some((key, node)) => Some((key.1, node)),
+    match ends.by_end.pop_first() {
+        Some((key, node)) => {
+            let _node = ends.nodes.remove(&key.1);
+            Some((key.1, node))
+        }
         None => None,
     }
 }
 
-// Forgets when the locks at a node and below it end.
+// Forgets the locks at a node and below it.
 pub(super) fn forget_below(tree: &Tree<Bytes, NodeLocks>, ends: &mut Ends, top: u64)
     requires known { IsKnown tree.now.keyed top }
     requires ends { AreEnds tree.now.keyed ends.old }
@@ -101,7 +144,7 @@ pub(super) fn forget_below(tree: &Tree<Bytes, NodeLocks>, ends: &mut Ends, top: 
     // No walk is longer, since it meets each node once.
     for _turn in 0..tree.node_count() {
         forget_all(locks_at(tree, node), ends);
-        match next_below(tree, top, node) {
+        match tree.next_below(top, node) {
             Some(next) => node = next,
             None => return,
         }
@@ -109,7 +152,7 @@ pub(super) fn forget_below(tree: &Tree<Bytes, NodeLocks>, ends: &mut Ends, top: 
     unreachable!()
 }
 
-// Forgets when these locks end.
+// Forgets these locks.
 fn forget_all(locks: &[(u64, DavLock)], ends: &mut Ends)
     ensures { ForgetsFirst locks.now (length locks.now) ends.old ends.new }
 {

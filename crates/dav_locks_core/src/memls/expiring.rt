@@ -12,7 +12,7 @@ ghost use Rattle.dav_locks_core.specs.Private.Expiring.{Expires};
 use super::NodeLocks;
 use super::ends::{Ends, take_ended};
 use super::pruning::prune;
-use super::way::locks_at;
+use super::way::lock_at;
 use crate::ls::DavLock;
 use bytes::Bytes;
 use dav_path_core::child_index::ChildIndex;
@@ -45,9 +45,7 @@ fn stands_at(tree: &Tree<Bytes, NodeLocks>, node: u64, number: u64) -> bool
     requires { T (is_sorted nat_cmp (spec.locks_at tree.now.keyed node)) }
     ensures { result ≡ is_some (find nat_cmp number (spec.locks_at tree.now.keyed node)) }
 {
-    locks_at(tree, node)
-        .binary_search_by_key(&number, |granted| granted.0)
-        .is_ok()
+    lock_at(tree, node, number).is_some()
 }
 
 // Ends the locks at a node whose end has come.

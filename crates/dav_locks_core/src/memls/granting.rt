@@ -57,6 +57,35 @@ pub(super) fn grant<R: Rng>(
     }
 }
 
+// Adds a lock, as it is, to those at a node.
+pub(super) fn push_lock(
+    tree: &mut Tree<Bytes, NodeLocks>,
+    node: u64,
+    number: u64,
+    lock: DavLock,
+) -> Result<(), LockError>
+    requires { IsKnown tree.old.keyed node }
+    ensures added { OnOk result (tree.new.keyed ≡ with_item tree.old.keyed node
+        (spec.locks_at tree.old.keyed node ++ (number, lock) ∷ [])) }
+    ensures error { IfErr result (λ e. e ≡ LockError.OutOfMemory) }
+    ensures unchanged { OnErr result (tree.new.keyed ≡ tree.old.keyed) }
+    ensures indexed { (ix : Index) → IsIndex tree.old.keyed ix → IsIndex tree.new.keyed ix }
+{
+    match tree.get_node_mut(node) {
+        Ok(node_locks) => push_in(&mut node_locks.locks, number, lock),
+        Err(_) => unreachable!(),
+    }
+}
+
+fn push_in(locks: &mut Vec<(u64, DavLock)>, number: u64, lock: DavLock) -> Result<(), LockError>
+    ensures added { OnOk result (locks.new.items ≡ locks.old.items ++ (number, lock) ∷ []) }
+    ensures error { IfErr result (λ e. e ≡ LockError.OutOfMemory) }
+    ensures unchanged { OnErr result (locks.new.items ≡ locks.old.items) }
+{
+    locks.push((number, lock))?;
+    Ok(())
+}
+
 // The number, and the end, of the lock at a place among those at a node.
 pub(super) fn end_at(
     tree: &Tree<Bytes, NodeLocks>,

@@ -5,8 +5,13 @@ ghost use Rattle.dav_locks_core.specs.Lock.{Lock};
 ghost use Rattle.dav_locks_core.specs.Locks.{same_text, held};
 ghost use Rattle.dav_locks_core.specs.Calls.{lent_text, caller};
 
-use super::granting::LockRequest;
 use crate::ls::DavLock;
+
+/// A lock that is wanted at the path.
+#[derive(Clone, Copy)]
+pub(super) struct Wanted {
+    pub(super) shared: bool,
+}
 
 /// Who asks for a change.
 #[derive(Clone, Copy)]
@@ -37,8 +42,8 @@ pub(super) trait LockTest {
         ensures { result ≡ test self.now at_path lock.now };
 }
 
-/// The locks that refuse the one that is asked for.
-impl LockTest for LockRequest<'_> {
+/// The locks that refuse the one that is wanted.
+impl LockTest for Wanted {
     ghost use Rattle.dav_locks_core.specs.Private.WayTests.{refuses_wanted};
 
     ghost test = { λ w. refuses_wanted w.shared };

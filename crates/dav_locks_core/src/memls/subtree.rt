@@ -2,10 +2,10 @@
 ghost use Rattle.std.specs.Prelude.{◌≡◌, true, MatchOption, OnOk, IfErr};
 ghost use Rattle.dav_path_core.specs.Segments.{segments};
 ghost use Rattle.dav_path_core.specs.ChildIndex.{IsIndex};
-ghost use Rattle.dav_path_core.specs.Keyed.{IsKnown, IsTree, Under, parent};
-ghost use Rattle.dav_path_core.specs.TreeValue.{IsTreeValue, first, after};
+ghost use Rattle.dav_path_core.specs.Keyed.{IsKnown, IsTree, parent};
+ghost use Rattle.dav_path_core.specs.TreeValue.{IsTreeValue, first};
 ghost use Rattle.dav_locks_core.specs.Private.LockTree.{is_segment};
-ghost use Rattle.dav_locks_core.specs.Private.SubtreeWalks.{GoesOn, IsOver, NoneUnder, StandsUnder, NoneBelow, ShowsBelow};
+ghost use Rattle.dav_locks_core.specs.Private.SubtreeWalks.{NoneUnder, StandsUnder, NoneBelow, ShowsBelow};
 
 use super::NodeLocks;
 use super::holding::LockTest;
@@ -28,17 +28,6 @@ pub(super) fn first_child(tree: &Tree<Bytes, NodeLocks>, node: u64) -> Option<u6
     }
 }
 
-// The sibling after a node.
-fn next_sibling(tree: &Tree<Bytes, NodeLocks>, node: u64) -> Option<u64>
-    requires { IsKnown tree.now.keyed node }
-    ensures { result ≡ after tree.now node }
-{
-    match tree.next_sibling(node) {
-        Ok(sibling) => sibling,
-        Err(_) => unreachable!(),
-    }
-}
-
 // The parent of a node.
 pub(super) fn parent_of(tree: &Tree<Bytes, NodeLocks>, node: u64) -> Option<u64>
     requires { IsKnown tree.now.keyed node }
@@ -49,33 +38,6 @@ pub(super) fn parent_of(tree: &Tree<Bytes, NodeLocks>, node: u64) -> Option<u64>
         Ok(parent) => parent,
         Err(_) => unreachable!(),
     }
-}
-
-// The node after one in the walk of what stands at `top` and below it: its first child, else the next sibling of the node
-// or of the nearest above it that has one.
-pub(super) fn next_below(tree: &Tree<Bytes, NodeLocks>, top: u64, node: u64) -> Option<u64>
-    requires known { IsKnown tree.now.keyed node }
-    requires under { Under (parent tree.now.keyed) top node }
-    ensures { MatchOption result (IsOver tree.now top node) (λ n. GoesOn tree.now top node n) }
-{
-    if let Some(child) = first_child(tree, node) {
-        return Some(child);
-    }
-    let mut at = node;
-    // No way up is longer.
-    for _turn in 0..tree.node_count() {
-        if at == top {
-            return None;
-        }
-        if let Some(sibling) = next_sibling(tree, at) {
-            return Some(sibling);
-        }
-        match parent_of(tree, at) {
-            Some(parent) => at = parent,
-            None => unreachable!(),
-        }
-    }
-    unreachable!()
 }
 
 // The node, and the place there, of a lock that passes at `top` or below it.
@@ -94,7 +56,7 @@ pub(super) fn find_below<T: LockTest>(
         if let Some(place) = first_at(tree, node, test, true) {
             return Some((node, place));
         }
-        match next_below(tree, top, node) {
+        match tree.next_below(top, node) {
             Some(next) => node = next,
             None => return None,
         }

@@ -59,7 +59,7 @@ fn near_the_end(alloc: Global) -> FsResult<MemLs> {
         tree,
         index: ChildIndex::new(alloc),
         next: u64::MAX - 1,
-        ends: BTreeMap::new(alloc),
+        ends: Ends::new(alloc),
     })
 }
 
@@ -153,7 +153,7 @@ fn holds_what_its_locks_need(rt: HostRuntime) -> Result<(), Fail> {
         }
         assert_eq!(rt; locks.tree.node_count(), nodes.parse()?, "{row}");
         assert_eq!(rt; locks.node_count(), locks.tree.node_count());
-        assert_eq!(rt; locks.ends.len(), ends.parse()?, "{row}");
+        assert_eq!(rt; locks.ends.by_end.len(), ends.parse()?, "{row}");
     }
     Ok(())
 }

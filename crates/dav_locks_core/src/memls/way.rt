@@ -1,5 +1,7 @@
 //! The way down a path in the tree of locks.
-ghost use Rattle.std.specs.Prelude.{◌≡◌, ◌≢◌, ◌⊎◌, ◌<◌, ◌++◌, ◌||◌, ℕ, Some, None, length, [], filter, IfOk, IfErr, OnOk, OnErr, MatchResult, slice_index_or};
+ghost use Rattle.std.specs.Prelude.{◌≡◌, ◌≢◌, ◌⊎◌, ◌<◌, ◌++◌, ◌||◌, ℕ, T, Some, None, length, [], filter, option_map, IfOk, IfErr, OnOk, OnErr, MatchResult, slice_index_or};
+ghost use Rattle.std.specs.FinMap.{find, is_sorted};
+ghost use Rattle.std.specs.Ordering.{nat_cmp};
 ghost use Rattle.dav_path_core.specs.Segments.{segments};
 ghost use Rattle.dav_path_core.specs.ChildIndex.{IsIndex};
 ghost use Rattle.dav_path_core.specs.Keyed.{IsKnown, IsTree};
@@ -40,6 +42,18 @@ pub(super) fn locks_at(tree: &Tree<Bytes, NodeLocks>, node: u64) -> &[(u64, DavL
     match tree.get_node(node) {
         Ok(node_locks) => &node_locks.locks,
         Err(_) => &[],
+    }
+}
+
+// The lock with that number at a node.
+pub(super) fn lock_at(tree: &Tree<Bytes, NodeLocks>, node: u64, number: u64) -> Option<&DavLock>
+    requires { T (is_sorted nat_cmp (spec.locks_at tree.now.keyed node)) }
+    ensures { option_map (λ l. l.now) result ≡ find nat_cmp number (spec.locks_at tree.now.keyed node) }
+{
+    let granted = locks_at(tree, node);
+    match granted.binary_search_by_key(&number, |granted| granted.0) {
+        Ok(place) => Some(&granted[place].1),
+        Err(_) => None,
     }
 }
 

@@ -1,5 +1,5 @@
 -- What becomes of the links of a tree's nodes where a new child takes the place of another, which hangs below it.
-use Rattle.std.proofs.Common.{◌≡◌, ◌≢◌, ◌+◌, ℕ, Bool, IsSome, false, List, Some, None, Option, refl, ap, sym, ◌∙◌, subst, inl, inr}
+use Rattle.std.proofs.Common.{◌≡◌, ◌≢◌, ◌+◌, ◌<◌, ℕ, arith, Bool, IsSome, false, List, Some, None, Option, refl, ap, sym, ◌∙◌, subst, inl, inr}
 use Rattle.std.specs.Cmp.{IsEquivalence}
 use Rattle.std.specs.Option.{option_map}
 use Rattle.std.proofs.lemmas.Bool.{cases_eq}
@@ -8,9 +8,9 @@ use Rattle.dav_path_core.specs.Keyed.{Keyed, parent_and_key, parent_and_key_of, 
 use Rattle.dav_path_core.specs.TreeValue.{TreeValue}
 use Rattle.dav_path_core.specs.View.{entry_of, keyed_of, tree_value_of}
 use Rattle.dav_path_core.specs.Private.Nodes.{node_at, first_in, IsLinked, new_node, with_node, put_before, with_parent_and_key, with_parent, closed_up, led_on}
-use Rattle.dav_path_core.proofs.trees.Trees.{none≢some}
+use Rattle.dav_path_core.proofs.trees.Trees.{none≢some, next_positive}
 use Rattle.dav_path_core.proofs.children.Views.{get-seen, known-view, changed-here, changed-other}
-use Rattle.dav_path_core.proofs.children.Links.{keyed-added, IsLinked-added, back_entry}
+use Rattle.dav_path_core.proofs.children.Links.{next_unused, keyed-added, IsLinked-added, back_entry}
 use Rattle.dav_path_core.proofs.children.Unlinking.{on_entry}
 use Rattle.dav_path_core.proofs.children.Placing.{keyed-placed, IsLinked-placed}
 use Rattle.dav_path_core.proofs.trees.Overwriting.{never, never-symm, child-never, IsTree-never, IsTree-over, over, cut-over, new_known, new_outside, old_not_root, old_known_over, old_parent_and_key_added, found}
@@ -67,14 +67,20 @@ module _ {K D : Type 0} where
     loose : IsLinked never es next
     loose = record { tree = IsTree-never eq t linked.tree; chained = linked.chained; root_alone = linked.root_alone }
 
+    unused : node_at es next ≡ None
+    unused = next_unused never es next loose.tree
+
+    positive : 0 < next
+    positive = next_positive never t loose.tree
+
     known_node : IsSome (node_at es p)
     known_node = sym (known-view es next p) ∙ known
 
     linked1 : IsLinked never fs (next + 1)
-    linked1 = IsLinked-added never never-symm es fs next p k v loose known_node (child-never k t p) refl refl refl refl is_put
+    linked1 = IsLinked-added never never-symm es fs next next (next + 1) p k v loose unused positive (omega arith) (omega arith) known_node (child-never k t p) refl refl refl refl is_put
 
     keyed1 : keyed_of fs (next + 1) ≡ add t p k d
-    keyed1 = keyed-added never never-symm es fs next p k v loose known_node (child-never k t p) refl refl refl refl is_put
+    keyed1 = keyed-added never never-symm es fs next next (next + 1) p k v loose unused positive (omega arith) (omega arith) known_node (child-never k t p) refl refl refl refl is_put
 
     -- the key of the old child
     abbrev l : K

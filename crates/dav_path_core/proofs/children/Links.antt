@@ -1,16 +1,16 @@
 -- What the links of a tree's nodes tell, and what a change of the tree does to them.
-use Rattle.std.proofs.Common.{nat_eq, ◌≡◌, ◌≢◌, ◌+◌, ◌==◌, ℕ, Bool, is_some, IsSome, true, false, cond, List, [], ◌∷◌, Some, None, Option, Ok, Err, refl, ap, sym, ◌∙◌, subst, inl, inr, arith}
+use Rattle.std.proofs.Common.{nat_eq, ◌≡◌, ◌≢◌, ◌<◌, ◌≤◌, ◌==◌, ℕ, Bool, is_some, IsSome, true, false, cond, List, [], ◌∷◌, Some, None, Option, Ok, Err, refl, ap, sym, ◌∙◌, subst, inl, inr}
 use Rattle.std.specs.Option.{option_map, ok_or}
 use Rattle.std.specs.HashMap.{HashMap, Updates, WritesThrough}
 use Rattle.std.proofs.lemmas.Bool.{cases_eq, false≢true}
 use Rattle.dav_path_core.specs.declared.errors.FsError.TheVariants.{NotFound}
 use Rattle.dav_path_core.specs.declared.tree.Node.{Node}
-use Rattle.dav_path_core.specs.Keyed.{Entry, parent_and_key, parent_and_key_of, parent, child, add, IsKnown, IsTree}
+use Rattle.dav_path_core.specs.Keyed.{Entry, entry, parent_and_key, parent_and_key_of, parent, child, add_as, IsKnown, IsTree}
 use Rattle.dav_path_core.specs.TreeValue.{TreeValue, Siblings, done, more, IsTreeValue, if_known, first, after, links_first, links_after}
 use Rattle.dav_path_core.specs.Private.Chains.{Chain, Linked}
 use Rattle.dav_path_core.specs.View.{entry_of, links_of, keyed_of, tree_value_of}
 use Rattle.dav_path_core.specs.Private.Nodes.{node_at, parent_in, first_in, next_in, previous_in, previous_of, IsChained, IsLinked, with_node, changed, with_first, with_next, with_previous, led_back, put_before}
-use Rattle.dav_path_core.proofs.trees.Trees.{none≢some, same_some, known_from_parent, IsTree-add, IsTree-lone, IsTree-with_item}
+use Rattle.dav_path_core.proofs.trees.Trees.{none≢some, none_from_is_some, same_some, known_from_parent, no_next, IsTree-add_as, IsTree-lone, IsTree-with_item}
 use Rattle.dav_path_core.proofs.children.Chains.{no_distinct, Linked-put, first_child_of}
 use Rattle.dav_path_core.proofs.children.Views.{Hasher, with_node-here, with_node-other, get-seen, known-view, entry-view, changed-here, changed-other, changed-keeps, view-add, view-lone, node_at-updated, mapped-some, view-write, write-keeps}
 
@@ -60,6 +60,9 @@ module _ {K D : Type 0} where
     pub told_nowhere : None ≡ node_at es n → {X : Type 0} (y : X) → Err NotFound ≡ ok_or (if_known t n y) NotFound
     told_nowhere at y = ap (λ o. ok_or o NotFound) (tells_none at y)
 
+    pub nothing_there : entry t.keyed n ≡ None → node_at es n ≡ None
+    nothing_there h = none_from_is_some (node_at es n) (sym (known-view es next n) ∙ ap (λ t. is_some (entry t.keyed n)) view ∙ ap is_some h)
+
     module _ (x : Node K D) (at : Some x ≡ node_at es n) where
       pub known : {X : Type 0} (y : X) → Some y ≡ if_known t n y
       known y = sym (ap (λ t. if_known t n y) (sym view) ∙ ap (option_map (λ _. y)) (entry-view es next n (Some x) at))
@@ -76,6 +79,9 @@ module _ {K D : Type 0} where
 
       pub parent_and_key-told : parent_and_key t.keyed n ≡ x.parent_and_key
       parent_and_key-told = ap (λ t. parent_and_key t.keyed n) (sym view) ∙ ap parent_and_key_of (entry-view es next n (Some x) at)
+
+  pub next_unused : (eq : K → K → Bool) (es : List (ℕ × Node K D)) (next : ℕ) → IsTree eq (keyed_of es next) → node_at es next ≡ None
+  next_unused eq es next tree = nothing_there es next (tree_value_of es next) refl next (no_next eq (keyed_of es next) tree)
 
   pub root_known : (eq : K → K → Bool) (es : List (ℕ × Node K D)) (next : ℕ) → IsLinked eq es next → (n : ℕ) → n ≡ 1 → None ≡ node_at es n → ⊥
   root_known eq es next linked n e none = false≢true (ap is_some none ∙ sym (known-view es next n) ∙ subst (IsKnown (keyed_of es next)) (sym e) linked.tree.root.0)
@@ -206,53 +212,49 @@ module _ {K D : Type 0} where
     back_other (Some m) o q ne = with_previous-other at m o q (λ e. ne (ap (λ (x : ℕ). Some x) (sym e)))
 
   -- ---- a new first child
-  module _ (eq : K → K → Bool) (symm : (a b : K) → eq a b ≡ eq b a) (es fs : List (ℕ × Node K D)) (next p : ℕ) (k : K) (v : Node K D) (linked : IsLinked eq es next)
+  module _ (eq : K → K → Bool) (symm : (a b : K) → eq a b ≡ eq b a) (es fs : List (ℕ × Node K D)) (next id later p : ℕ) (k : K) (v : Node K D) (linked : IsLinked eq es next)
+      (none : node_at es id ≡ None) (positive : 0 < id) (small : id < later) (grows : next ≤ later)
       (known_p : IsSome (node_at es p)) (free : child (eq k) (keyed_of es next) p ≡ None) (parent_and_key_v : v.parent_and_key ≡ Some (p, k)) (first_v : v.first_child ≡ None)
       (after_v : v.next_sibling ≡ first_in (node_at es) p) (before_v : v.previous_sibling ≡ None)
-      (is : node_at fs ≡ put_before (with_node (node_at es) next (Some v)) p next (first_in (node_at es) p)) where
+      (is : node_at fs ≡ put_before (with_node (node_at es) id (Some v)) p id (first_in (node_at es) p)) where
     abbrev at0 : ℕ → Option (Node K D)
     at0 = node_at es
 
     abbrev at1 : ℕ → Option (Node K D)
-    at1 = with_node at0 next (Some v)
+    at1 = with_node at0 id (Some v)
 
-    kept_entry : (q : ℕ) → option_map entry_of (put_before at1 p next (first_in at0 p) q) ≡ option_map entry_of (at1 q)
-    kept_entry q = back_entry (with_first at1 p (Some next)) (first_in at0 p) (Some next) q ∙ entry_keeps at1 p (λ x. record x { first_child = Some next }) (λ x. refl) q
+    kept_entry : (q : ℕ) → option_map entry_of (put_before at1 p id (first_in at0 p) q) ≡ option_map entry_of (at1 q)
+    kept_entry q = back_entry (with_first at1 p (Some id)) (first_in at0 p) (Some id) q ∙ entry_keeps at1 p (λ x. record x { first_child = Some id }) (λ x. refl) q
 
-    pub keyed-added : keyed_of fs (next + 1) ≡ add (keyed_of es next) p k v.item
-    keyed-added = view-add es fs next p k v parent_and_key_v (λ q. ap (λ f. option_map entry_of (f q)) is ∙ kept_entry q)
+    pub keyed-added : keyed_of fs later ≡ add_as (keyed_of es next) id later p k v.item
+    keyed-added = view-add es fs next id later p k v parent_and_key_v (λ q. ap (λ f. option_map entry_of (f q)) is ∙ kept_entry q)
 
-    pub IsLinked-added : IsLinked eq fs (next + 1)
+    pub IsLinked-added : IsLinked eq fs later
     IsLinked-added =
-        let below : (q : ℕ) → IsSome (at0 q) → q ≢ next = λ q h e. omega (arith, (linked.tree.numbered q (known-view es next q ∙ h)).1, e) in
+        let below : (q : ℕ) → IsSome (at0 q) → q ≢ id = λ q h e. false≢true (sym (ap is_some none) ∙ subst (λ v. IsSome (at0 v)) e h) in
         let child_below : (q r : ℕ) → parent_in at0 q ≡ Some r → IsSome (at0 q) = λ q r e. sym (known-view es next q) ∙ known_from_parent (keyed_of es next) q r (ap (λ f. f q) (parent-view es next) ∙ e) in
-        let gone : at0 next ≡ None = nothing (at0 next) (λ h. below next h refl) in
-        let here1 : at1 next ≡ Some v = with_node-here at0 next (Some v) in
-        let other1 : (q : ℕ) → q ≢ next → at1 q ≡ at0 q = with_node-other at0 next (Some v) in
+        let here1 : at1 id ≡ Some v = with_node-here at0 id (Some v) in
+        let other1 : (q : ℕ) → q ≢ id → at1 q ≡ at0 q = with_node-other at0 id (Some v) in
         let head : (q : ℕ) → first_in at0 p ≡ Some q → IsSome (at0 q) = λ q e. child_below q p (first_child_of linked.chained p q e).0 in
-        let mid : ℕ → Option (Node K D) = with_first at1 p (Some next) in
+        let mid : ℕ → Option (Node K D) = with_first at1 p (Some id) in
         let known1 : (q : ℕ) → IsSome (at0 q) → IsSome (at1 q) = λ q h. ap is_some (other1 q (below q h)) ∙ h in
         record {
-          tree = subst (IsTree eq) (sym keyed-added) (IsTree-add eq symm (keyed_of es next) p k v.item linked.tree (known-view es next p ∙ known_p) free);
-          chained = subst IsChained (sym is) (Linked-put next p linked.chained
-              (λ q e. false≢true (sym (ap is_some gone) ∙ child_below next q e))
-              (ap (λ o. option_map (λ w. w.0) (parent_and_key_of o)) (kept_entry next ∙ ap (option_map entry_of) here1) ∙ ap (option_map (λ w. w.0)) parent_and_key_v)
+          tree = subst (IsTree eq) (sym keyed-added) (IsTree-add_as eq symm (keyed_of es next) id later p k v.item linked.tree (entry-view es next id None (sym none)) positive small grows (known-view es next p ∙ known_p) free);
+          chained = subst IsChained (sym is) (Linked-put id p linked.chained
+              (λ q e. false≢true (sym (ap is_some none) ∙ child_below id q e))
+              (ap (λ o. option_map (λ w. w.0) (parent_and_key_of o)) (kept_entry id ∙ ap (option_map entry_of) here1) ∙ ap (option_map (λ w. w.0)) parent_and_key_v)
               (λ q ne. ap (λ o. option_map (λ w. w.0) (parent_and_key_of o)) (kept_entry q ∙ ap (option_map entry_of) (other1 q ne)))
-              (back_first mid (first_in at0 p) (Some next) p ∙ with_first-here at1 p (Some next) (known1 p known_p))
-              (λ q ne. back_first mid (first_in at0 p) (Some next) q ∙ with_first-other at1 p (Some next) q ne
-              ∙ elim (cases_eq q next) [
-                | inl e ↦ subst (λ x. first_in at1 x ≡ first_in at0 x) (sym e) (ap (λ o. links_first (option_map links_of o)) here1 ∙ first_v ∙ sym (ap (λ o. links_first (option_map links_of o)) gone))
+              (back_first mid (first_in at0 p) (Some id) p ∙ with_first-here at1 p (Some id) (known1 p known_p))
+              (λ q ne. back_first mid (first_in at0 p) (Some id) q ∙ with_first-other at1 p (Some id) q ne
+              ∙ elim (cases_eq q id) [
+                | inl e ↦ subst (λ x. first_in at1 x ≡ first_in at0 x) (sym e) (ap (λ o. links_first (option_map links_of o)) here1 ∙ first_v ∙ sym (ap (λ o. links_first (option_map links_of o)) none))
                 | inr e ↦ ap (λ o. links_first (option_map links_of o)) (other1 q e)
               ])
-              (back_after mid (first_in at0 p) (Some next) next ∙ after_keeps at1 p (λ x. record x { first_child = Some next }) (λ x. refl) next ∙ ap (λ o. links_after (option_map links_of o)) here1 ∙ after_v)
-              (λ q ne. back_after mid (first_in at0 p) (Some next) q ∙ after_keeps at1 p (λ x. record x { first_child = Some next }) (λ x. refl) q ∙ ap (λ o. links_after (option_map links_of o)) (other1 q ne))
-              (back_other mid (first_in at0 p) (Some next) next (λ e. below next (head next e) refl) ∙ before_keeps at1 p (λ x. record x { first_child = Some next }) (λ x. refl) next ∙ ap previous_of here1 ∙ before_v)
-              (λ q ne e. back_here mid (first_in at0 p) (Some next) q e (some_node at1 p (λ x. record x { first_child = Some next }) q ∙ known1 q (head q e)))
-              (λ q ne e. back_other mid (first_in at0 p) (Some next) q e ∙ before_keeps at1 p (λ x. record x { first_child = Some next }) (λ x. refl) q ∙ ap previous_of (other1 q ne)));
-          root_alone = ap (λ f. next_in f 1) is ∙ back_after mid (first_in at0 p) (Some next) 1 ∙ after_keeps at1 p (λ x. record x { first_child = Some next }) (λ x. refl) 1
+              (back_after mid (first_in at0 p) (Some id) id ∙ after_keeps at1 p (λ x. record x { first_child = Some id }) (λ x. refl) id ∙ ap (λ o. links_after (option_map links_of o)) here1 ∙ after_v)
+              (λ q ne. back_after mid (first_in at0 p) (Some id) q ∙ after_keeps at1 p (λ x. record x { first_child = Some id }) (λ x. refl) q ∙ ap (λ o. links_after (option_map links_of o)) (other1 q ne))
+              (back_other mid (first_in at0 p) (Some id) id (λ e. below id (head id e) refl) ∙ before_keeps at1 p (λ x. record x { first_child = Some id }) (λ x. refl) id ∙ ap previous_of here1 ∙ before_v)
+              (λ q ne e. back_here mid (first_in at0 p) (Some id) q e (some_node at1 p (λ x. record x { first_child = Some id }) q ∙ known1 q (head q e)))
+              (λ q ne e. back_other mid (first_in at0 p) (Some id) q e ∙ before_keeps at1 p (λ x. record x { first_child = Some id }) (λ x. refl) q ∙ ap previous_of (other1 q ne)));
+          root_alone = ap (λ f. next_in f 1) is ∙ back_after mid (first_in at0 p) (Some id) 1 ∙ after_keeps at1 p (λ x. record x { first_child = Some id }) (λ x. refl) 1
               ∙ ap (λ o. links_after (option_map links_of o)) (other1 1 (below 1 (sym (known-view es next 1) ∙ linked.tree.root.0))) ∙ linked.root_alone;
         }
-      where
-        nothing : (o : Option (Node K D)) → (IsSome o → ⊥) → o ≡ None
-        nothing None h = refl
-        nothing (Some x) h = absurd (h refl)

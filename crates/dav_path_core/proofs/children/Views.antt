@@ -12,7 +12,7 @@ use Rattle.std.proofs.lemmas.Bool.{cases_eq, eq-eqb, ne_eqb}
 use Rattle.std.specs.FinMap.{FinMap, get, find, from_entries, insert, empty, get-insert, get-from_entries, same_map, nat_cmp-IsAntisymmetric}
 use Rattle.std.proofs.lemmas.Map.Made.{lookup-map_values}
 use Rattle.dav_path_core.specs.declared.tree.Node.{Node}
-use Rattle.dav_path_core.specs.Keyed.{Entry, Keyed, entry, lone, add, with_item, with_item_at}
+use Rattle.dav_path_core.specs.Keyed.{Entry, Keyed, entry, lone, add_as, with_item, with_item_at}
 use Rattle.dav_path_core.specs.View.{entry_of, links_of, seen, keyed_of, tree_value_of}
 use Rattle.dav_path_core.specs.Private.Nodes.{node_at, with_node, changed}
 
@@ -71,12 +71,13 @@ module _ {K D : Type 0} where
   pub known-view : (es : List (ℕ × Node K D)) (next q : ℕ) → is_some (entry (keyed_of es next) q) ≡ is_some (node_at es q)
   known-view es next q = ap is_some (get-seen entry_of es q) ∙ mapped-some entry_of (node_at es q)
 
-  pub view-add : (es fs : List (ℕ × Node K D)) (next p : ℕ) (k : K) (v : Node K D) → v.parent_and_key ≡ Some (p, k) → ((q : ℕ) → option_map entry_of (node_at fs q) ≡ option_map entry_of (with_node (node_at es) next (Some v) q))
-      → keyed_of fs (next + 1) ≡ add (keyed_of es next) p k v.item
-  view-add es fs next p k v at h =
-      ap (λ (f : FinMap nat_cmp (Entry K D)). let t : Keyed K D = record { nodes = f; next = next + 1 } in t)
-      (seen-insert entry_of es fs next v h
-      ∙ ap (λ (w : Option (ℕ × K)). let e : Entry K D = record { parent_and_key = w; item = v.item } in insert (from_entries {R = nat_cmp} (seen entry_of es)) next e) at)
+  pub view-add : (es fs : List (ℕ × Node K D)) (next id later p : ℕ) (k : K) (v : Node K D) → v.parent_and_key ≡ Some (p, k)
+      → ((q : ℕ) → option_map entry_of (node_at fs q) ≡ option_map entry_of (with_node (node_at es) id (Some v) q))
+      → keyed_of fs later ≡ add_as (keyed_of es next) id later p k v.item
+  view-add es fs next id later p k v at h =
+      ap (λ (f : FinMap nat_cmp (Entry K D)). let t : Keyed K D = record { nodes = f; next = later } in t)
+      (seen-insert entry_of es fs id v h
+      ∙ ap (λ (w : Option (ℕ × K)). let e : Entry K D = record { parent_and_key = w; item = v.item } in insert (from_entries {R = nat_cmp} (seen entry_of es)) id e) at)
 
   pub view-lone : (m n : HashMap ℕ (Node K D) Hasher) (v : Node K D) → m.entries ≡ [] → v.parent_and_key ≡ None → Updates nat_eq m n 1 (Some v) → keyed_of n.entries 2 ≡ lone v.item
   view-lone m n v nil at h =

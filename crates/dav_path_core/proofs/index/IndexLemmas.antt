@@ -1,5 +1,5 @@
 -- An index says what is so before and after each change of its tree.
-use Rattle.std.proofs.Common.{◌≡◌, ◌≢◌, ◌⊎◌, inl, inr, arith, ℕ, Bool, true, false, cond, Option, Some, None, refl, sym, ap, ◌∙◌, subst}
+use Rattle.std.proofs.Common.{◌≡◌, ◌≢◌, ◌⊎◌, inl, inr, ℕ, Bool, true, false, cond, Option, Some, None, refl, sym, ap, ◌∙◌, subst}
 use Rattle.std.specs.Option.{option_map}
 use Rattle.std.specs.Ordering.{nat_cmp, eq_by_cmp}
 use Rattle.std.specs.Cmp.{nat_cmp_total}
@@ -8,13 +8,13 @@ use Rattle.std.specs.Prelude.{nat_eq}
 use Rattle.std.specs.FinMap.{get, insert, remove, empty, get-empty, get-insert, get-remove, nat_cmp-IsAntisymmetric}
 use Rattle.std.proofs.lemmas.Bool.{true≢false, cases_eq}
 use Rattle.dav_path_core.specs.Fronts.{Segment, segment_cmp}
-use Rattle.dav_path_core.specs.Keyed.{Entry, Keyed, IsTree, IsChild, IsKnown, child, add, without, placed, placed_at, with_item, with_item_at, entry, parent_and_key_of}
+use Rattle.dav_path_core.specs.Keyed.{Entry, Keyed, IsTree, IsChild, child, add_as, without, placed, placed_at, with_item, with_item_at, entry, parent_and_key_of}
 use Rattle.dav_path_core.specs.ChildIndex.{Names, Index, IsIndex, told, is_named, noted, noted_at, forgotten, forgotten_at}
 use Rattle.dav_path_core.proofs.lists.FinMaps.{dec, get_same, get_other, get_gone, get_left}
 use Rattle.dav_path_core.proofs.lists.Orders.{segment_total, segment_exact}
 use Rattle.dav_path_core.proofs.trees.Trees.{same_some, none≢some, child-some, child-none, known_from_child, Sets, Sets-insert}
 use Rattle.dav_path_core.proofs.trees.KeyedCuts.{entry-without}
-use Rattle.dav_path_core.proofs.trees.ChildChanges.{child-without, child-add, child-placed, child-with_item-at}
+use Rattle.dav_path_core.proofs.trees.ChildChanges.{child-without, child-add_as, child-placed, child-with_item-at}
 
 same_name : (s k : Segment) → is_named s k ≡ true → k ≡ s
 same_name s k h = (bytes_decides k s).0 h
@@ -172,33 +172,37 @@ module _ {D : Type 0} where
   IsChild-old t u n o s q m l x ne = ap parent_and_key_of (s.other m ne) ∙ x
 
   module _ (t : Keyed Segment D) (tree : IsTree (pointwise nat_eq) t) where
-    -- an unknown number is no child
-    not_next : (q m : ℕ) (l : Segment) → IsChild t q l m → m ≢ t.next
-    not_next q m l x e = omega (arith, (tree.numbered m (known_from_child t q l m x)).1, e)
-
     pub IsIndex-without : (n p : ℕ) (k : Segment) (ix : Index) → IsChild t p k n → IsIndex t ix → IsIndex (without t n) (forgotten ix p k)
     IsIndex-without n p k ix is index = IsIndex-gone t (without t n) n p k is tree.distinct (IsChild-old t (without t n) n None (entry-without t n)) (λ q m l. child-without t n q m l) ix index
 
-    module _ (p : ℕ) (k : Segment) (d : D) (after : IsTree (pointwise nat_eq) (add t p k d)) (ix : Index) (index : IsIndex t ix) where
+    -- a node is added under a number that is free
+    module _ (n next p : ℕ) (k : Segment) (d : D) (unused : entry t n ≡ None) (after : IsTree (pointwise nat_eq) (add_as t n next p k d)) (ix : Index) (index : IsIndex t ix) where
+      abbrev more : Keyed Segment D
+      more = add_as t n next p k d
+
       abbrev e : Entry Segment D
       e = record { parent_and_key = Some (p, k); item = d }
 
-      sets : Sets (entry t) (entry (add t p k d)) t.next (Some e)
-      sets = Sets-insert t.nodes t.next e
+      sets : Sets (entry t) (entry more) n (Some e)
+      sets = Sets-insert t.nodes n e
 
-      there : (q m : ℕ) (l : Segment) → IsChild t q l m → IsChild (add t p k d) q l m
-      there q m l x = IsChild-old t (add t p k d) t.next (Some e) sets q m l x (not_next q m l x)
+      -- an unknown number is no child
+      not_new : (q m : ℕ) (l : Segment) → IsChild t q l m → m ≢ n
+      not_new q m l x is = none≢some (q, l) (ap parent_and_key_of (sym unused) ∙ subst (IsChild t q l) is x)
 
-      back : (q m : ℕ) (l : Segment) → IsChild (add t p k d) q l m → ((q ≡ p) × (l ≡ k) × (m ≡ t.next)) ⊎ IsChild t q l m
-      back q m l x = elim (child-add t p k d q m l x) [ inl new ↦ inl new | inr old ↦ inr old.1 ]
+      there : (q m : ℕ) (l : Segment) → IsChild t q l m → IsChild more q l m
+      there q m l x = IsChild-old t more n (Some e) sets q m l x (not_new q m l x)
 
-      pub IsChild-added : IsChild (add t p k d) p k t.next
-      IsChild-added = IsChild-new t (add t p k d) t.next p k e refl sets
+      back : (q m : ℕ) (l : Segment) → IsChild more q l m → ((q ≡ p) × (l ≡ k) × (m ≡ n)) ⊎ IsChild t q l m
+      back q m l x = elim (child-add_as t n next p k d q m l x) [ inl new ↦ inl new | inr old ↦ inr old.1 ]
 
-      pub IsIndex-added : (new : Index) → (new ≡ noted ix p k t.next) ⊎ (new ≡ remove ix p) → IsIndex (add t p k d) new
+      pub IsChild-added : IsChild more p k n
+      IsChild-added = IsChild-new t more n p k e refl sets
+
+      pub IsIndex-added : (new : Index) → (new ≡ noted ix p k n) ⊎ (new ≡ remove ix p) → IsIndex more new
       IsIndex-added new how = elim how [
-        | inl is ↦ subst (IsIndex (add t p k d)) (sym is) (IsIndex-come t (add t p k d) t.next p k IsChild-added after.distinct there back ix index)
-        | inr is ↦ subst (IsIndex (add t p k d)) (sym is) (IsIndex-lost t (add t p k d) t.next p k IsChild-added after.distinct there back ix index)
+        | inl is ↦ subst (IsIndex more) (sym is) (IsIndex-come t more n p k IsChild-added after.distinct there back ix index)
+        | inr is ↦ subst (IsIndex more) (sym is) (IsIndex-lost t more n p k IsChild-added after.distinct there back ix index)
       ]
 
     -- a node moves from p at k to r at l

@@ -27,7 +27,7 @@ second_so true b h = h
 second_so false b h = absurd h
 
 module _ {K : Type 0} {R : K → K → Ordering} (o : IsTotalOrder R) where
-  not_tied : (k q : K) → T (is_lt (R k q)) → eq_by_cmp R q k ≡ false
+  pub not_tied : (k q : K) → T (is_lt (R k q)) → eq_by_cmp R q k ≡ false
   not_tied k q h = (eq_by_cmp_equiv o).symm q k ∙ by (R k q) h
     where
       by : (r : Ordering) → T (is_lt r) → is_eq r ≡ false
@@ -36,7 +36,7 @@ module _ {K : Type 0} {R : K → K → Ordering} (o : IsTotalOrder R) where
       by Greater h = absurd h
 
 module _ {K X : Type 0} {R : K → K → Ordering} (o : IsTotalOrder R) where
-  below_each : (k : K) (es : List (K × X)) → T (below_all R k es) → Every (λ (e : K × X). T (is_lt (R k e.0))) es
+  pub below_each : (k : K) (es : List (K × X)) → T (below_all R k es) → Every (λ (e : K × X). T (is_lt (R k e.0))) es
   below_each k [] h = tt
   below_each k (e ∷ es) h = (first_so (is_lt (R k e.0)) (below_all R k es) h, below_each k es (second_so (is_lt (R k e.0)) (below_all R k es) h))
 

@@ -1,6 +1,6 @@
 -- Who is a child after each change of a keyed tree.
 use Rattle.std.proofs.Common.{◌≡◌, ◌≢◌, ℕ, Some, None, Option, refl, ap, sym, ◌∙◌, subst, inl, inr, ◌⊎◌}
-use Rattle.dav_path_core.specs.Keyed.{Entry, Keyed, entry, add, without, placed, placed_at, with_item, with_item_at, parent_and_key_of, IsChild}
+use Rattle.dav_path_core.specs.Keyed.{Entry, Keyed, entry, add_as, without, placed, placed_at, with_item, with_item_at, parent_and_key_of, IsChild}
 use Rattle.dav_path_core.proofs.trees.Trees.{none≢some, same_some, child_before, Sets, Sets-insert, known_from_child}
 use Rattle.dav_path_core.proofs.trees.KeyedCuts.{parent_and_key-without, apart}
 
@@ -16,10 +16,10 @@ module _ {K D : Type 0} (t : Keyed K D) where
   pub child-without : (n q m : ℕ) (l : K) → IsChild (without t n) q l m → IsChild t q l m × m ≢ n
   child-without n q m l h = (parent_and_key-without t n m (q, l) h, apart t n m (known_from_child (without t n) q l m h))
 
-  pub child-add : (p : ℕ) (k : K) (d : D) (q m : ℕ) (l : K) → IsChild (add t p k d) q l m → ((q ≡ p) × (l ≡ k) × (m ≡ t.next)) ⊎ ((m ≢ t.next) × IsChild t q l m)
-  child-add p k d q m l h =
+  pub child-add_as : (n next p : ℕ) (k : K) (d : D) (q m : ℕ) (l : K) → IsChild (add_as t n next p k d) q l m → ((q ≡ p) × (l ≡ k) × (m ≡ n)) ⊎ ((m ≢ n) × IsChild t q l m)
+  child-add_as n next p k d q m l h =
       let e : Entry K D = record { parent_and_key = Some (p, k); item = d } in
-      one_child t (add t p k d) t.next p k e refl (Sets-insert t.nodes t.next e) q m l h
+      one_child t (add_as t n next p k d) n p k e refl (Sets-insert t.nodes n e) q m l h
 
   module _ (n p : ℕ) (k : K) where
     placed-entry : (o : Option (Entry K D)) → entry t n ≡ o → (q m : ℕ) (l : K) → IsChild (placed_at t n p k o) q l m → ((q ≡ p) × (l ≡ k) × (m ≡ n)) ⊎ ((m ≢ n) × IsChild t q l m)

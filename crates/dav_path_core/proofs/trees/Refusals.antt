@@ -4,8 +4,8 @@ use Rattle.std.specs.Option.{option_map}
 use Rattle.std.proofs.lemmas.Bool.{cases_Bool, cases_eq, eq-eqb, ne_eqb, true≢false, and_parts, or_parts, or_right}
 use Rattle.dav_path_core.specs.declared.errors.FsError.{FsError}
 use Rattle.dav_path_core.specs.declared.errors.FsError.TheVariants.{Exists, NotFound, Forbidden}
-use Rattle.dav_path_core.specs.Keyed.{Keyed, Leads, root, up, Under, here, below, entry, parent_and_key, parent, child, has_child, delete_refusal, move_refusal, is_kept, is_under, IsKnown, IsTree}
-use Rattle.dav_path_core.proofs.trees.Trees.{none≢some, child-none, child-some}
+use Rattle.dav_path_core.specs.Keyed.{Keyed, Leads, root, up, Under, here, below, entry, parent_and_key, parent, child, has_child, delete_refusal, move_refusal, restore_refusal, is_kept, is_under, IsKnown, IsTree}
+use Rattle.dav_path_core.proofs.trees.Trees.{none≢some, none_from_is_some, child-none, child-some}
 use Rattle.dav_path_core.proofs.trees.KeyedDepth.{is_under-true}
 use Rattle.dav_path_core.proofs.trees.KeyedCuts.{parent_child}
 
@@ -28,6 +28,15 @@ module _ {K D : Type 0} (t : Keyed K D) where
 
   pub no_parent_root : (eq : K → K → Bool) → IsTree eq t → (n : ℕ) → IsKnown t n → parent_and_key t n ≡ None → n ≡ 1
   no_parent_root eq tree n known e = top_leads (tree.attached n known) e
+
+  -- a node is restored only under a free number
+  pub restore_unused : (p n : ℕ) → restore_refusal t p n ≡ None → entry t n ≡ None
+  restore_unused p n h = none_from_is_some (entry t n) (free (is_some (entry t p)) (is_some (entry t n)) _ h)
+    where
+      free : (a b : Bool) (o : Option FsError) → cond a (cond b (Some Exists) o) (Some NotFound) ≡ None → b ≡ false
+      free a false o h = refl
+      free true true o h = absurd (none≢some Exists (sym h))
+      free false true o h = absurd (none≢some NotFound (sym h))
 
   pub has_child-true : (n m : ℕ) → parent t m ≡ Some n → has_child t n ≡ true
   has_child-true n m e =

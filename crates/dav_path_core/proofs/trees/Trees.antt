@@ -1,5 +1,5 @@
 -- What a change does to a keyed tree, by what stands at each number.
-use Rattle.std.proofs.Common.{◌≡◌, ◌≢◌, ℕ, ◌<◌, ◌==◌, ◌&&◌, Bool, true, false, cond, T, ◌⊎◌, List, [], ◌∷◌, Some, None, Option, refl, ap, sym, ◌∙◌, subst, arith, IsSome, is_some, inl, inr, nat_lt}
+use Rattle.std.proofs.Common.{◌≡◌, ◌≢◌, ℕ, ◌+◌, ◌<◌, ◌≤◌, ◌==◌, ◌&&◌, Bool, true, false, cond, T, ◌⊎◌, List, [], ◌∷◌, Some, None, Option, refl, ap, sym, ◌∙◌, subst, arith, IsSome, is_some, inl, inr, nat_lt}
 use Rattle.std.specs.Cmp.{nat_cmp_total, unsigned_tied}
 use Rattle.std.specs.Ordering.{nat_cmp, is_lt}
 use Rattle.std.specs.Option.{option_map, unwrap_or, ok_or}
@@ -10,7 +10,7 @@ use Rattle.std.specs.FinMap.Entries.{below_all}
 use Rattle.std.proofs.lemmas.Bool.{cases_eq, eq-eqb, ne_eqb, eqb-true, true≢false, false≢true, ltb-true, and_parts, and_right}
 use Rattle.std.specs.Result.{result_ok}
 use Rattle.dav_path_core.proofs.lists.Every.{first_so, second_so}
-use Rattle.dav_path_core.specs.Keyed.{Entry, Keyed, Leads, root, up, entry, parent_and_key, parent_and_key_of, parent, IsKnown, IsChild, IsTree, matches_parent_and_key, child_in, child, lone, add, with_item, with_item_at, add_refusal, cleared, cleared_at}
+use Rattle.dav_path_core.specs.Keyed.{Entry, Keyed, Leads, root, up, entry, parent_and_key, parent_and_key_of, parent, IsKnown, IsChild, IsTree, matches_parent_and_key, child_in, child, lone, add, add_as, raised, with_item, with_item_at, add_refusal, cleared, cleared_at}
 use Rattle.std.proofs.Common.{not}
 use Rattle.dav_path_core.specs.declared.errors.FsError.TheVariants.{Exists, NotFound}
 
@@ -143,37 +143,61 @@ module _ {K D : Type 0} where
         | inr ne ↦ inr (ne, ap parent_and_key_of (sym (s.other m ne)) ∙ h)
       ]
 
+  -- the next number is free
+  pub no_next : (eq : K → K → Bool) (t : Keyed K D) → IsTree eq t → entry t t.next ≡ None
+  no_next eq t tree = elim (entry t t.next) as (λ o. entry t t.next ≡ o → o ≡ None) [
+    | None ↦ λ _. refl
+    | Some e ↦ λ is. absurd (below (tree.numbered t.next (ap is_some is)).1)
+  ] refl
+    where
+      below : t.next < t.next → ⊥
+      below h = omega (arith, h)
+
+  pub next_positive : (eq : K → K → Bool) (t : Keyed K D) → IsTree eq t → 0 < t.next
+  next_positive eq t tree = omega (arith, (tree.numbered 1 tree.root.0).1)
+
+  -- a tree whose next number is greater
+  pub IsTree-raised : (eq : K → K → Bool) (t : Keyed K D) (next : ℕ) → IsTree eq t → IsTree eq (raised t next)
+  IsTree-raised eq t next tree = record {
+    root = tree.root;
+    numbered = λ n h. let b = tree.numbered n h in (b.0, omega (arith, b.1));
+    attached = tree.attached;
+    distinct = tree.distinct;
+  }
+
   module _ (eq : K → K → Bool) (symm : (a b : K) → eq a b ≡ eq b a) where
-    pub IsTree-add : (t : Keyed K D) (p : ℕ) (k : K) (d : D) → IsTree eq t → IsKnown t p → child (eq k) t p ≡ None → IsTree eq (add t p k d)
-    IsTree-add t p k d tree known free =
-        let u : Keyed K D = add t p k d in
+    -- a node is added under any number that is free
+    pub IsTree-add_as : (t : Keyed K D) (id next p : ℕ) (k : K) (d : D) → IsTree eq t → entry t id ≡ None → 0 < id → id < next → t.next ≤ next → IsKnown t p → child (eq k) t p ≡ None
+        → IsTree eq (add_as t id next p k d)
+    IsTree-add_as t id next p k d tree none positive small grows known free =
+        let u : Keyed K D = add_as t id next p k d in
         let e : Entry K D = record { parent_and_key = Some (p, k); item = d } in
-        let s : Sets (entry t) (entry u) t.next (Some e) = Sets-insert t.nodes t.next e in
-        let new : (q : ℕ) → IsKnown t q → q ≢ t.next = λ q h e. omega (arith, (tree.numbered q h).1, e) in
+        let s : Sets (entry t) (entry u) id (Some e) = Sets-insert t.nodes id e in
+        let new : (q : ℕ) → IsKnown t q → q ≢ id = λ q h e. false≢true (sym (ap is_some none) ∙ subst (IsKnown t) e h) in
         let keeps : (q : ℕ) → IsKnown t q → entry u q ≡ entry t q = λ q h. s.other q (new q h) in
         let leads : (n : ℕ) → Leads (parent t) n → Leads (parent u) n =
         λ n. Leads-mono (λ q r e. ap (λ o. option_map (λ w. w.0) (parent_and_key_of o)) (keeps q (known_from_parent t q r e)) ∙ e) in
-        let was : (n : ℕ) → IsKnown u n → (n ≡ t.next) ⊎ IsKnown t n =
-        λ n h. elim (cases_eq n t.next) [ inl e ↦ inl e | inr ne ↦ inr (subst IsSome (s.other n ne) h) ] in
+        let was : (n : ℕ) → IsKnown u n → (n ≡ id) ⊎ IsKnown t n =
+        λ n h. elim (cases_eq n id) [ inl e ↦ inl e | inr ne ↦ inr (subst IsSome (s.other n ne) h) ] in
         let known1 : IsKnown t 1 = tree.root.0 in
         record {
           root = (subst IsSome (sym (keeps 1 known1)) known1, ap parent_and_key_of (keeps 1 known1) ∙ tree.root.1);
           numbered = λ n h. elim (was n h) [
-            | inl is ↦ (omega (arith, is, (tree.numbered 1 known1).1), omega (arith, is))
-            | inr before ↦ let b = tree.numbered n before in (b.0, omega (arith, b.1))
+            | inl is ↦ (omega (arith, is, positive), omega (arith, is, small))
+            | inr before ↦ let b = tree.numbered n before in (b.0, omega (arith, b.1, grows))
           ];
           attached = λ n h. elim (was n h) [
             | inl is ↦ up (subst (λ v. parent u v ≡ Some p) (sym is) (ap (λ o. option_map (λ w. w.0) (parent_and_key_of o)) s.here)) (leads p (tree.attached p known))
             | inr before ↦ leads n (tree.attached n before)
           ];
-          distinct = λ r a b m n x y same. elim (child_before t u t.next e s r a m x) [
-            | inl one ↦ elim (child_before t u t.next e s r b n y) [
+          distinct = λ r a b m n x y same. elim (child_before t u id e s r a m x) [
+            | inl one ↦ elim (child_before t u id e s r b n y) [
               | inl two ↦ one.0 ∙ sym two.0
               | inr two ↦
                   let w : (p, k) ≡ (r, a) = same_some _ _ one.1 in
                   absurd (true≢false (sym same ∙ ap (λ v. eq v b) (sym (ap (λ (v : ℕ × K). v.1) w)) ∙ child-none t (eq k) p free n b (subst (λ v. IsChild t v b n) (sym (ap (λ (v : ℕ × K). v.0) w)) two.1)))
             ]
-            | inr one ↦ elim (child_before t u t.next e s r b n y) [
+            | inr one ↦ elim (child_before t u id e s r b n y) [
               | inl two ↦
                   let w : (p, k) ≡ (r, b) = same_some _ _ two.1 in
                   absurd (true≢false (sym same ∙ symm a b ∙ ap (λ v. eq v a) (sym (ap (λ (v : ℕ × K). v.1) w)) ∙ child-none t (eq k) p free m a (subst (λ v. IsChild t v a m) (sym (ap (λ (v : ℕ × K). v.0) w)) one.1)))
@@ -181,6 +205,10 @@ module _ {K D : Type 0} where
             ]
           ];
         }
+
+    pub IsTree-add : (t : Keyed K D) (p : ℕ) (k : K) (d : D) → IsTree eq t → IsKnown t p → child (eq k) t p ≡ None → IsTree eq (add t p k d)
+    IsTree-add t p k d tree known free =
+        IsTree-add_as t t.next (t.next + 1) p k d tree (no_next eq t tree) (next_positive eq t tree) (omega arith) (omega arith) known free
 
   pub IsTree-lone : (eq : K → K → Bool) (d : D) → IsTree eq (lone d)
   IsTree-lone eq d =

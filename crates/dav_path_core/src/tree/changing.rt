@@ -1,7 +1,7 @@
 //! The calls of a tree that may drop data: a new tree, added children, cut subtrees and moves.
 ghost use Rattle.std.specs.Prelude.{◌≡◌, ◌≢◌, ◌<◌, ◌≤◌, ℕ, Some, None, false, IfOk, IfErr, MatchResult};
 ghost use Rattle.dav_path_core.specs.Answers.{Answers};
-ghost use Rattle.dav_path_core.specs.Keyed.{parent as parent_number, child, lone, add, add_refusal, cleared, without, has_child as has_child_of, move_refusal, moved, Under, cut, cut_refusal, IsCut, IsKnown};
+ghost use Rattle.dav_path_core.specs.Keyed.{parent as parent_number, child, lone, entry, add, add_as, add_refusal, cleared, without, has_child as has_child_of, move_refusal, moved, Under, cut, cut_refusal, IsCut, IsKnown};
 ghost use Rattle.dav_path_core.specs.TreeValue.{IsTreeValue};
 
 use super::{Node, ROOT_ID, Tree, links};
@@ -111,9 +111,33 @@ impl<K: Eq + Hash + Clone, D: Drop> Tree<K, D> {
         ensures shape { IsTreeValue K.eq self.new }
     {
         let id = self.next;
-        links::put_new(&mut self.nodes, id, parent, key, item)?;
-        self.next = id + 1;
+        self.add_as(id, id + 1, parent, key, item)?;
         Ok(id)
+    }
+
+    // Adds a child at a free key, under a number that is free, and makes the next number that given.
+    pub(super) fn add_as(
+        &mut self,
+        id: u64,
+        next: u64,
+        parent: u64,
+        key: K,
+        item: D,
+    ) -> FsResult<()>
+        requires known { IsKnown self.old.keyed parent }
+        requires free { child (K.eq key) self.old.keyed parent ≡ None }
+        requires unused { entry self.old.keyed id ≡ None }
+        requires positive { 0 < id }
+        requires below_next { id < next }
+        requires grows { self.old.keyed.next ≤ next }
+        ensures answer { Answers None result
+            (λ _. self.new.keyed ≡ add_as self.old.keyed id next parent key item)
+            (self.new ≡ self.old) }
+        ensures shape { IsTreeValue K.eq self.new }
+    {
+        links::put_new(&mut self.nodes, id, parent, key, item)?;
+        self.next = next;
+        Ok(())
     }
 
     // Adds a child instead of another, which hangs below it until it is taken out.

@@ -39,6 +39,8 @@ impl Player {
             "expire" => Ok(self.expire(now)?),
             "count" => Ok(format!(in self.alloc; "{}", self.locks.node_count())?),
             "drawn" => Ok(format!(in self.alloc; "{}", self.rng.0)?),
+            "restore" => self.restore(rest),
+            "walk" => Ok(self.walk()?),
             "granted" => shown(self.alloc, self.granted.last().ok_or("no lock")?),
             _ => self.answer_at(now, call, rest),
         }
@@ -95,6 +97,25 @@ impl Player {
     fn granted(&mut self, lock: DavLock) -> Result<String, Fail> {
         self.granted.push(lock)?;
         Ok(format!(in self.alloc; "t{}", self.granted.len())?)
+    }
+
+    // The lock that was granted under a label comes back.
+    fn restore(&mut self, label: &str) -> Result<String, Fail> {
+        let lock = self.lock_of(label)?.clone()?;
+        let answer = lock_calls::restore(&mut self.locks, lock);
+        self.told(answer)
+    }
+
+    // The labels of all locks, each with its end.
+    fn walk(&self) -> Result<String, AllocError> {
+        let mut text = String::new(self.alloc);
+        for lock in &lock_calls::walk(&self.locks, self.alloc)? {
+            if !text.is_empty() {
+                text.push(' ')?;
+            }
+            text.push_str(&self.refreshed(lock)?)?;
+        }
+        Ok(text)
     }
 
     fn unlock(&mut self, now: Moment, path: &DavPath, label: &str) -> Result<String, Fail> {
@@ -184,12 +205,16 @@ impl Player {
     }
 
     fn token(&self, label: &str) -> Result<String, Fail> {
+        Ok(self.lock_of(label)?.token.clone()?)
+    }
+
+    fn lock_of(&self, label: &str) -> Result<&DavLock, Fail> {
         let number: usize = label.strip_prefix('t').ok_or("no label")?.parse()?;
         let lock = self
             .granted
             .get(number.wrapping_sub(1))
             .ok_or("no such lock")?;
-        Ok(lock.token.clone()?)
+        Ok(lock)
     }
 
     fn label(&self, lock: &DavLock) -> Result<String, AllocError> {

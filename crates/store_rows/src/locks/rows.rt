@@ -159,3 +159,28 @@ pub(super) const DEEP_LOCKS: &str = "5 new = ok
 18446744073709551615 expire = ok
 6 discover /a/b = t4
 6 count = 3";
+
+// `restore LABEL` brings back a lock that was granted, and `walk` shows the locks in the order of granting, each with its end.
+pub(super) const RESTORED_LOCKS: &str = "5 new = ok
+5 walk = 
+5 lock /a ann <ann/> 2 exclusive shallow = t1
+5 lock /b - - - shared deep = t2
+5 lock /a/b - - 9 exclusive shallow = t3
+5 walk = t1 2000000005 t2 - t3 9000000005
+5 unlock /b t2 = ok
+5 walk = t1 2000000005 t3 9000000005
+5 restore t2 = ok
+5 walk = t1 2000000005 t3 9000000005 t2 -
+5 restore t1 = conflict t1
+5 restore t2 = ok
+5 delete / = ok
+5 lock /a - - - shared shallow = t4
+5 restore t1 = conflict t4
+5 unlock /a t4 = ok
+5 restore t3 = ok
+5 restore t1 = ok
+2000000005 walk = t3 9000000005 t1 2000000005
+5 drawn = 17
+2000000005 unlock /a t1 = NoLock
+2000000005 unlock /a/b t3 = ok
+2000000005 count = 1";

@@ -1,6 +1,6 @@
-use Rattle.std.proofs.Common.{◌≡◌, Some, None, sym, ap, ◌∙◌}
-use Rattle.std.specs.FinMap.{get, insert, remove}
-use Rattle.dav_path_core.specs.ChildIndex.{noted, noted_at}
+use Rattle.std.proofs.Common.{sym, ap, ◌∙◌}
+use Rattle.std.specs.FinMap.{insert}
+use Rattle.dav_path_core.specs.ChildIndex.{noted_at}
 use Rattle.dav_path_core.specs.Private.ChildNames.{index_of}
 use Rattle.dav_path_core.proofs.index.IndexMaps.{get-index, index-written}
 use Rattle.std.specs.Cmp.{nat_cmp_total}

@@ -1,6 +1,6 @@
-use Rattle.std.proofs.Common.{ap, arith}
+use Rattle.std.proofs.Common.{Some, None, ap, refl, arith}
 use Rattle.std.specs.Prelude.{is_some}
-use Rattle.dav_locks_core.proofs.ends.EndLemmas.{first_end, other_end}
+use Rattle.dav_locks_core.proofs.ends.EndLemmas.{first_end, notes_alone, notes_both, notes_by_end}
 use Rattle.dav_locks_core.proofs.memls.ends.take_ended.Goals as goal
 
 pub returns-in_default-clause-taken : goal.returns-in_default-clause-taken
@@ -17,8 +17,7 @@ returns-in-Some-pop_first-clause-taken c =
       end = key.0;
       has_come = omega (arith, sooner, c.if-key-now.true);
       was = c.in-Some-pop_first.ensures.value;
-      gone = record {
-        this = c.in-Some-pop_first.ensures.updates.1;
-        others = λ e g apart. c.in-Some-pop_first.ensures.updates.2 (e, g) (other_end key e g apart);
-      };
+      gone = notes_both c.args.ends.now (record { nodes = c.args.ends.now.nodes; by_end = c.pop_first.new.self }) _ (Some key.0) key.1 None
+          (notes_by_end c.args.ends.now (record { nodes = c.args.ends.now.nodes; by_end = c.pop_first.new.self }) key.0 key.1 None c.in-Some-pop_first.ensures.updates refl)
+          (notes_alone (record { nodes = c.args.ends.now.nodes; by_end = c.pop_first.new.self }) (record { nodes = c.remove-node.new.self; by_end = c.pop_first.new.self }) key.1 None c.remove-node.ensures.updates refl);
     }

@@ -7,4 +7,4 @@ abbrev pub invariant-loop-number : goal.invariant-loop-number
 invariant-loop-number l = Thins l.fn.tree.keyed l.tree.keyed l.fn.ends l.ends l.fn.now.0 × IsIndex l.tree.keyed l.index
 
 abbrev pub decreases-loop-number : goal.decreases-loop-number
-decreases-loop-number l = btree_map_len l.ends
+decreases-loop-number l = btree_map_len l.ends.by_end

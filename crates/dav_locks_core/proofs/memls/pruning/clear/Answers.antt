@@ -3,8 +3,8 @@ use Rattle.dav_path_core.proofs.trees.Trees.{known_from_parent}
 use Rattle.dav_locks_core.specs.Private.LockTree.{is_segment}
 use Rattle.dav_locks_core.specs.Private.Pruning.{Cleared}
 use Rattle.dav_locks_core.proofs.trees.ClearingLemmas.{clears_from, clears_on, clears_fewer, clears_end}
-use Rattle.dav_locks_core.proofs.walks.SiblingLemmas.{first_is_child}
-use Rattle.dav_locks_core.proofs.walks.SubtreeLemmas.{not_root}
+use Rattle.dav_path_core.proofs.walks.SiblingLemmas.{first_is_child}
+use Rattle.dav_path_core.proofs.walks.AboveLemmas.{not_root}
 use Rattle.dav_locks_core.proofs.memls.pruning.clear.Goals as goal
 
 pub loop-child-init : goal.loop-child-init

@@ -1,6 +1,6 @@
 use Rattle.std.proofs.Common.{refl, inl, sym, ◌∙◌}
 use Rattle.dav_locks_core.specs.Private.LockTree.{is_segment}
-use Rattle.dav_locks_core.proofs.walks.SubtreeLemmas.{no_parent}
+use Rattle.dav_path_core.proofs.walks.AboveLemmas.{no_parent}
 use Rattle.dav_locks_core.proofs.memls.pruning.take_out.Goals as goal
 
 pub returns-in_default-clause-taken : goal.returns-in_default-clause-taken

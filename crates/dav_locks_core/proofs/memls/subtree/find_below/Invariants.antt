@@ -1,6 +1,6 @@
 use Rattle.std.proofs.Common.{◌≡◌, None, true}
 use Rattle.dav_locks_core.specs.Private.LockTree.{first_at}
-use Rattle.dav_locks_core.proofs.walks.WalkLemmas.{Walked}
+use Rattle.dav_path_core.proofs.walks.WalkLemmas.{Walked}
 use Rattle.dav_locks_core.proofs.memls.subtree.find_below.Given as goal
 
 abbrev pub invariant-loop-turn : goal.invariant-loop-turn

@@ -19,7 +19,9 @@ empty c =
 
 pub invariant_of-result : goal.invariant_of-result
 invariant_of-result c = record {
-  tree = record { list = (empty c).keeps; needed = lone_needed c.in_ok-tree.tree.keyed c.new.result.items c.in_ok-tree.ensures.answer.1 };
-  are_ends = AreEnds-none c.in_ok-tree.tree.keyed c.new-4.result (nothing c) c.new-4.ensures.empty;
+  kept = record {
+    tree = record { list = (empty c).keeps; needed = lone_needed c.in_ok-tree.tree.keyed c.new.result.items c.in_ok-tree.ensures.answer.1 };
+    are_ends = AreEnds-none c.in_ok-tree.tree.keyed c.new-4.result (nothing c) c.new-4.ensures;
+  };
   indexed = subst (IsIndex c.in_ok-tree.tree.keyed) (sym c.new-3.ensures) (IsIndex-empty c.in_ok-tree.tree.keyed);
 }

@@ -1,7 +1,7 @@
-use Rattle.std.proofs.Common.{◌≡◌, Result, Ok, Err, MatchResult, None, Some, sym, ap, ◌∙◌, subst}
+use Rattle.std.proofs.Common.{Result, Ok, Err, MatchResult, sym, ap, ◌∙◌, subst}
 use Rattle.std.specs.FinMap.{remove}
 use Rattle.dav_path_core.specs.ChildIndex.{IsIndex, forgotten}
-use Rattle.dav_path_core.specs.Keyed.{without, delete_refusal}
+use Rattle.dav_path_core.specs.Keyed.{without}
 use Rattle.dav_path_core.proofs.trees.Trees.{none≢some}
 use Rattle.dav_path_core.proofs.index.IndexLemmas.{IsIndex-without, IsIndex-dropped}
 use Rattle.dav_path_core.proofs.child_index.ChildIndex.delete_node.Goals as goal

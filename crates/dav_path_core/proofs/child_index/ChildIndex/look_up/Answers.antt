@@ -1,4 +1,4 @@
-use Rattle.std.proofs.Common.{sym, ap, ◌∙◌, Some, None, ℕ, Option, ◌≡◌}
+use Rattle.std.proofs.Common.{sym, ap, ◌∙◌, Some, ℕ, Option}
 use Rattle.std.specs.Option.{option_map}
 use Rattle.std.specs.FinMap.{get}
 use Rattle.dav_path_core.specs.ChildIndex.{told}

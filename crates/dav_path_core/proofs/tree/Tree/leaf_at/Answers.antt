@@ -2,8 +2,8 @@ use Rattle.std.proofs.Common.{◌≡◌, ap, sym, ◌∙◌, Some, None, Option,
 use Rattle.std.specs.Option.{option_map, ok_or}
 use Rattle.std.specs.Result.{result_ok}
 use Rattle.dav_path_core.specs.declared.errors.FsError.{FsError}
-use Rattle.dav_path_core.specs.declared.errors.FsError.TheVariants.{NotFound, Forbidden}
-use Rattle.dav_path_core.specs.Keyed.{Entry, entry, parent_and_key_of, delete_refusal}
+use Rattle.dav_path_core.specs.declared.errors.FsError.TheVariants.{NotFound}
+use Rattle.dav_path_core.specs.Keyed.{Entry, entry, parent_and_key_of}
 use Rattle.dav_path_core.proofs.trees.Trees.{none≢some, same_some}
 use Rattle.dav_path_core.proofs.trees.Refusals.{no_parent_root, delete-root}
 use Rattle.dav_path_core.proofs.tree.Tree.leaf_at.Goals as goal

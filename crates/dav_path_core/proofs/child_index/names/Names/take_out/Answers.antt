@@ -1,4 +1,4 @@
-use Rattle.std.proofs.Common.{sym, ap, ◌∙◌}
+use Rattle.std.proofs.Common.{ap, ◌∙◌}
 use Rattle.std.specs.FinMap.{remove}
 use Rattle.dav_path_core.proofs.index.NameMaps.{names-remove}
 use Rattle.dav_path_core.proofs.child_index.names.Names.take_out.Goals as goal

@@ -1,0 +1,71 @@
+-- Entries that are made anew as they stood, with their numbers, times, contents and properties (own).
+use Rattle.std.specs.Prelude.{◌≡◌, ℕ, ◌+◌, max, ◌==◌, ◌||◌, ◌&&◌, not, Bool, true, false, List, [], ◌∷◌, map, Option, Some, None, is_some, Ok, Err, if◌then◌else◌}
+use Rattle.std.specs.List.{fold}
+use Rattle.std.specs.FinMap.{empty, insert}
+use Rattle.dav_path_core.specs.declared.errors.FsError.TheVariants.{Exists, Forbidden}
+use Rattle.dav_path_core.specs.Fronts.{Path, parent}
+use Rattle.dav_files_core.specs.declared.memfs.Kind.{Kind}
+use Rattle.dav_files_core.specs.declared.memfs.Kind.TheVariants.{Folder, File}
+use Rattle.dav_files_core.specs.declared.memfs.restoring.MemFsRestored.{MemFsRestored}
+use Rattle.dav_files_core.specs.Resources.{Property, Properties, Resource, ResourceMap, at_path}
+use Rattle.dav_files_core.specs.Folders.{is_root}
+use Rattle.dav_files_core.specs.OpenFiles.{with_number}
+use Rattle.dav_files_core.specs.Properties.{key_of, property_of}
+use Rattle.dav_files_core.specs.Outcomes.{Outcome, ◌>>=◌, find_folder, added_as, changed, start}
+
+-- a property at its key, in place of one that is there
+abbrev pub with_property : Properties → Property → Properties
+with_property props p = insert props (key_of p) p
+
+-- each at its key; of some with one key the last
+abbrev pub properties_from : List Property → Properties
+properties_from props = fold with_property empty props
+
+-- an entry as a call is given it, as plain data
+abbrev pub resource_of : MemFsRestored → Resource
+resource_of e = record {
+  number = e.number;
+  node = record { kind = e.kind; bytes = e.content; props = properties_from (map property_of e.props.items); created = e.created.0; modified = e.modified.0 };
+}
+
+abbrev pub is_folder : Kind → Bool
+is_folder Folder = true
+is_folder File = false
+
+abbrev pub is_none : List ℕ → Bool
+is_none [] = true
+is_none (b ∷ bytes) = false
+
+-- entries have numbers from 1 to 2^64 - 2, and a folder has no bytes
+abbrev pub can_stand : Resource → Bool
+can_stand r = not ((r.number == 0) || (r.number == 18446744073709551615)) && (not (is_folder r.node.kind) || is_none r.node.bytes)
+
+-- it is the folder that stands at the root
+abbrev pub is_root_folder : Path → Resource → Bool
+is_root_folder p r = is_root p && ((r.number == 1) && is_folder r.node.kind)
+
+-- the map with that entry at a path that had none; the next number is above its own
+abbrev pub restored : ResourceMap → Path → Resource → ResourceMap
+restored m p r = added_as m p r.node r.number (max m.next (r.number + 1))
+
+-- by what stands at the path: the root alone, which is always there, is restored where it stands
+abbrev pub restore_at : ResourceMap → Path → Resource → Option Resource → Outcome (Unit {0})
+restore_at m p r (Some x) = if is_root_folder p r then Ok (tt, changed m p x r.node) else Err Exists
+restore_at m p r None = find_folder m (parent p) >>= λ _. if is_some (with_number m r.number) then Err Exists else Ok (tt, restored m p r)
+
+-- an entry that can stand is put at its path, under its number
+abbrev pub restore : ResourceMap → Path → Resource → Outcome (Unit {0})
+restore m p r = if can_stand r then restore_at m p r (at_path m p) else Err Forbidden
+
+-- no number below that is given any more
+abbrev pub raised : ResourceMap → ℕ → ResourceMap
+raised m next = record { entries = m.entries; next = max m.next next }
+
+-- one entry after another; the first refusal ends it
+abbrev pub restore_all : ResourceMap → List (Path × Resource) → Outcome (Unit {0})
+restore_all m [] = Ok (tt, m)
+restore_all m (e ∷ es) = restore m e.0 e.1 >>= λ r. restore_all r.1 es
+
+-- the entries of a map, restored in the order of a walk to a store that is new, with the next number make that map
+abbrev pub IsRestoredFrom : ResourceMap → List (Path × Resource) → ℕ → Type 0
+IsRestoredFrom m es now = (n : ResourceMap) × (restore_all (start now) es ≡ Ok (tt, n)) × (raised n m.next ≡ m)

@@ -1,0 +1,4 @@
+pub mod AboveLemmas
+pub mod ListedLemmas
+pub mod SiblingLemmas
+pub mod WalkLemmas

@@ -12,6 +12,7 @@ OWNER = re.compile(r"^(?:pub )?(?:struct|enum|trait|impl)\b([^{;(]*)")
 MEMBER = re.compile(r"^    (?:pub )?(?:(?:fn|type|const) )?(\w+)(?:[:,(<{ ]|$)")
 DERIVED = {"Clone": "clone", "Default": "default"}
 WORD = re.compile(r"`([^`\n]+)`")
+PRIVATE = re.compile(r"Rattle\.(\w+)\.specs\.Private\.(\w+)")
 OF_PROOFS = re.compile(r"\w+(Lemmas|Laws|Rows)")
 
 # What pages name that stands elsewhere, and where.
@@ -190,3 +191,13 @@ def unlike_proofs(page, text):
             yield f"{page}: no list has {name} of {crate}"
         for name in sorted(each for each in listed.get(crate, set()) - there if OF_PROOFS.fullmatch(each)):
             yield f"{page}: {crate} has no {name}"
+
+
+def borrowed_words():
+    """Where a crate cites the words of another's private contracts, those of its `specs/Private`."""
+    for crate in libraries():
+        for path in sorted(glob(os.path.join(TOP, "crates", crate, "**", "*.*t"), recursive=True)):
+            if path.endswith((".rt", ".antt")) and "/out/" not in path:
+                for other, file in sorted(set(PRIVATE.findall(read(path)))):
+                    if other != crate:
+                        yield f"{os.path.relpath(path, TOP)}: it cites Private.{file} of {other}"

@@ -1,12 +1,13 @@
 -- Nodes that are written as the same bytes wherever an element has begun.
-use Rattle.std.proofs.Common.{◌≡◌, refl, ℕ, false, true, List, [], ◌∷◌, ◌++◌, codes, ap, sym, ◌∙◌, subst}
+use Rattle.std.proofs.Common.{◌≡◌, refl, ℕ, false, true, List, [], ◌∷◌, ◌++◌, codes, ap, sym, ◌∙◌, subst, append-nil, append_assoc}
 use Rattle.dav_xml_core.specs.Documents.{Node}
 use Rattle.dav_xml_core.specs.Reading.{is_empty}
 use Rattle.dav_xml_core.specs.Writing.{Writing, declared, element_prefix, start_text, tag_name, with_end, with_nodes, with_start}
 use Rattle.dav_xml_core.proofs.WriterLemmas.{end_of, writing}
 use Rattle.dav_documents_core.specs.LockDocuments.{kind_nodes, supported_locks}
 use Rattle.dav_documents_core.specs.RefusalBodies.{dav_name, element}
-use Rattle.dav_documents_core.proofs.WritingLemmas.{ends_behind, nodes_behind}
+use Rattle.dav_documents_core.proofs.PieceLemmas.{nodes_in_turn}
+use Rattle.dav_documents_core.proofs.WritingLemmas.{ends_behind}
 
 -- ---- any nodes
 
@@ -14,21 +15,13 @@ abbrev pub AreFixed : List Node → List ℕ → Type 0
 AreFixed nodes text =
     (first bytes : List ℕ) (begun : List (List ℕ)) → is_empty begun ≡ false → with_nodes (writing first bytes begun) nodes ≡ writing first (bytes ++ text) begun
 
-behind_nothing : (bytes : List ℕ) → bytes ≡ bytes ++ []
-behind_nothing [] = refl
-behind_nothing (b ∷ bytes) = ap (λ (rest : List ℕ). b ∷ rest) (behind_nothing bytes)
-
 nothing_fixed : AreFixed [] []
-nothing_fixed first bytes begun h = ap (λ text. writing first text begun) (behind_nothing bytes)
-
-both : (bytes one two : List ℕ) → (bytes ++ one) ++ two ≡ bytes ++ (one ++ two)
-both [] one two = refl
-both (b ∷ bytes) one two = ap (λ (rest : List ℕ). b ∷ rest) (both bytes one two)
+nothing_fixed first bytes begun h = ap (λ text. writing first text begun) (sym (append-nil bytes))
 
 in_turn_fixed : (xs ys : List Node) (one two : List ℕ) → AreFixed xs one → AreFixed ys two → AreFixed (xs ++ ys) (one ++ two)
 in_turn_fixed xs ys one two x y first bytes begun h =
-    nodes_behind xs ys (writing first bytes begun) ∙ ap (λ (w : Writing). with_nodes w ys) (x first bytes begun h) ∙ y first (bytes ++ one) begun h
-    ∙ ap (λ text. writing first text begun) (both bytes one two)
+    nodes_in_turn (writing first bytes begun) xs ys ∙ ap (λ (w : Writing). with_nodes w ys) (x first bytes begun h) ∙ y first (bytes ++ one) begun h
+    ∙ ap (λ text. writing first text begun) (append_assoc bytes one two)
 
 -- ---- an element of `DAV:` with some in it
 

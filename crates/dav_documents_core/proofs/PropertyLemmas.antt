@@ -9,10 +9,6 @@ use Rattle.dav_documents_core.specs.PropertyDocuments.{propstat, text_nodes}
 use Rattle.dav_documents_core.specs.RefusalBodies.{dav_name}
 use Rattle.dav_documents_core.proofs.PieceLemmas.{in_element, in_turn}
 
-pub any_seen : {A B : Type 0} (test : B → Bool) (view : A → B) (xs : List A) → list_any test (map view xs) ≡ list_any (λ x. test (view x)) xs
-any_seen test view [] = refl
-any_seen test view (x ∷ xs) = ap (λ b. test (view x) || b) (any_seen test view xs)
-
 -- what is told of one, before the others
 pub next_told : {A B : Type 0} (shown : B → List Piece) (view : A → B) (xs : List A) (i : ℕ) (x : A) (old new whole : Writing) → i < length xs → x ≡ get_or xs i x
     → new ≡ with_pieces old (shown (view x)) → with_pieces old (flat_map shown (map view (drop i xs))) ≡ whole

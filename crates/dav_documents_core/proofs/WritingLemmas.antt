@@ -3,19 +3,16 @@ use Rattle.std.proofs.Common.{◌≡◌, refl, ℕ, List, [], ◌∷◌, ◌++�
 use Rattle.dav_xml_core.specs.Documents.{Node, End}
 use Rattle.dav_xml_core.specs.Writing.{Writing, with_end, with_node, with_nodes, with_start}
 use Rattle.dav_documents_core.specs.RefusalBodies.{dav_name, element}
-
-pub nodes_behind : (xs ys : List Node) (w : Writing) → with_nodes w (xs ++ ys) ≡ with_nodes (with_nodes w xs) ys
-nodes_behind [] ys w = refl
-nodes_behind (x ∷ xs) ys w = nodes_behind xs ys (with_node w x)
+use Rattle.dav_documents_core.proofs.PieceLemmas.{nodes_in_turn}
 
 -- an element with these nodes in it
 pub ends_behind : (local : List ℕ) (inside : List Node) (w : Writing) → with_end (with_nodes (with_start w (dav_name local) []) inside) ≡ with_nodes w (element local inside)
-ends_behind local inside w = sym (nodes_behind inside (End ∷ []) (with_start w (dav_name local) []))
+ends_behind local inside w = sym (nodes_in_turn (with_start w (dav_name local) []) inside (End ∷ []))
 
 -- ---- by what calls leave, one after another
 
 pub one_after : (xs ys : List Node) (w a b : Writing) → a ≡ with_nodes w xs → b ≡ with_nodes a ys → b ≡ with_nodes w (xs ++ ys)
-one_after xs ys w a b first second = second ∙ ap (λ (v : Writing). with_nodes v ys) first ∙ sym (nodes_behind xs ys w)
+one_after xs ys w a b first second = second ∙ ap (λ (v : Writing). with_nodes v ys) first ∙ sym (nodes_in_turn w xs ys)
 
 pub in_element : (local : List ℕ) (inside : List Node) (w a b : Writing) → a ≡ with_start w (dav_name local) [] → b ≡ with_nodes a inside
     → with_end b ≡ with_nodes w (element local inside)

@@ -1,4 +1,5 @@
 pub mod Bodies
+pub mod DescriptionViews
 pub mod Elements
 pub mod KeptElements
 pub mod KeptReading
@@ -12,5 +13,6 @@ pub mod Private
 pub mod PropertyDocuments
 pub mod PropertyQuestions
 pub mod PropertyUpdates
+pub mod QuestionViews
 pub mod RefusalBodies
 pub mod RefusalReading

@@ -1,5 +1,3 @@
-pub mod Asking
-pub mod Describing
 pub mod Naming
 pub mod Nesting
 pub mod Rising

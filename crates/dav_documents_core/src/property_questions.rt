@@ -2,7 +2,7 @@
 ghost use Rattle.std.specs.Prelude.{◌≡◌, ◌⊎◌, None, Some, [], map, option_map, IfErr, IfOk, OnOk};
 ghost use Rattle.std.specs.List.{list_any};
 ghost use Rattle.dav_xml_core.specs.Views.{name_of, node_of};
-ghost use Rattle.dav_documents_core.specs.Private.Asking.{question_of};
+ghost use Rattle.dav_documents_core.specs.QuestionViews.{question_of};
 ghost use Rattle.dav_documents_core.specs.PropertyQuestions as spec;
 ghost use Rattle.dav_faults_core.specs.declared.faults.Fault.TheVariants as fault;
 

@@ -12,7 +12,7 @@ use Rattle.dav_headers_core.specs.Tags.{quote}
 use Rattle.dav_headers_core.proofs.numbers.NumberLemmas.{decimal_in}
 use Rattle.dav_fields_core.specs.Fields.{Field, Marks, marks_in, values_in}
 use Rattle.dav_fields_core.specs.FileTags.{file_tag, tag_text}
-use Rattle.dav_fields_core.specs.Private.Marking.{and_part, and_tags}
+use Rattle.dav_fields_core.specs.Marking.{and_part, and_tags}
 use Rattle.dav_fields_core.specs.Ranges.{unsatisfied_text}
 
 -- ---- marks
@@ -48,13 +48,6 @@ other_field old new name value no_tag no_part (inl same) = ap marks_in same
 other_field old new name value no_tag no_part (inr more) =
     ap marks_in more ∙ ap (λ tags. marks tags (values_in (old ++ field name value) (codes "content-range"))) (values_other old name value (codes "etag") no_tag)
     ∙ ap (marks (values_in old (codes "etag"))) (values_other old name value (codes "content-range") no_part)
-
-pub tag_field : (old new : List Field) (name value : List ℕ) → name ≡ codes "etag" → new ≡ old ++ field name value
-    → marks_in new ≡ and_tags (value ∷ []) (marks_in old)
-tag_field old new name value is more =
-    let named : new ≡ old ++ field (codes "etag") value = more ∙ ap (λ n. old ++ field n value) is in
-    ap marks_in named ∙ ap (λ tags. marks tags (values_in (old ++ field (codes "etag") value) (codes "content-range"))) (values_same old (codes "etag") value (codes "etag") refl)
-    ∙ ap (marks (values_in old (codes "etag") ++ value ∷ [])) (values_other old (codes "etag") value (codes "content-range") refl)
 
 pub part_field : (old new : List Field) (name value : List ℕ) → name ≡ codes "content-range" → new ≡ old ++ field name value
     → marks_in new ≡ and_part value (marks_in old)

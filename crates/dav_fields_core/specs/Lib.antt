@@ -9,6 +9,7 @@ pub mod Getting
 pub mod IfTokens
 pub mod ListedTags
 pub mod LockTimeouts
+pub mod Marking
 pub mod Preconditions
 pub mod Private
 pub mod Ranges

@@ -4,7 +4,7 @@ ghost use Rattle.http_header.specs.FieldValue.{IsFieldValue};
 ghost use Rattle.http_server.specs.Response.{fields_of};
 ghost use Rattle.dav_fields_core.specs.Fields.{marks_of, bracketed};
 ghost use Rattle.dav_fields_core.specs.Getting.{tags_by};
-ghost use Rattle.dav_fields_core.specs.Private.Marking.{HasShownTag, and_part, and_tags};
+ghost use Rattle.dav_fields_core.specs.Marking.{HasShownTag, and_part, and_tags};
 ghost use Rattle.dav_fields_core.specs.Ranges.{part_text, unsatisfied_text};
 ghost use Rattle.dav_faults_core.specs.declared.faults.Fault.TheVariants as fault;
 

@@ -1,4 +1,5 @@
 pub mod FinMapLemmas
 pub mod FromLemmas
+pub mod KeyedLemmas
 pub mod PatchLemmas
 pub mod PropertyMapLemmas

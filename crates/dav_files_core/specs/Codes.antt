@@ -6,7 +6,7 @@ use Rattle.dav_files_core.specs.declared.memfs.Kind.{Kind}
 use Rattle.dav_files_core.specs.declared.memfs.Kind.TheVariants.{Folder, File}
 use Rattle.dav_path_core.specs.Fronts.{path_cmp}
 use Rattle.dav_files_core.specs.Opening.{OpenFile}
-use Rattle.dav_files_core.specs.Resources.{Property, Properties, Node, Resource, ResourceMap}
+use Rattle.dav_files_core.specs.Resources.{is_folder, Property, Properties, Node, Resource, ResourceMap}
 use Rattle.dav_files_core.specs.Walks.{Stored}
 
 abbrev pub coded_bytes : Coded (List ℕ)
@@ -19,10 +19,6 @@ abbrev pub coded_property : Coded Property
 coded_property =
     code_by (List ℕ × (Option (List ℕ) × (Option (List ℕ) × Option (List ℕ)))) (coded× coded_bytes (coded× coded_text (coded× coded_text coded_text)))
     (λ p. (p.name, (p.prefix, (p.namespace, p.xml)))) (λ t. record { name = t.0; prefix = t.1.0; namespace = t.1.1.0; xml = t.1.1.1 }) (λ _. refl)
-
-abbrev is_folder : Kind → Bool
-is_folder Folder = true
-is_folder File = false
 
 abbrev kind_of : Bool → Kind
 kind_of true = Folder

@@ -1,11 +1,11 @@
 -- The resource map: from paths to resources, and the next number (RFC 4918 section 5).
-use Rattle.std.specs.Prelude.{◌≡◌, ℕ, ◌<◌, List, [], ◌∷◌, ◌++◌, Option, Some}
+use Rattle.std.specs.Prelude.{◌≡◌, ℕ, ◌<◌, Bool, true, false, List, [], ◌∷◌, ◌++◌, Option, Some}
 use Rattle.std.specs.declared.cmp.Ordering.{Ordering}
 use Rattle.std.specs.Ordering.{ordering_then}
 use Rattle.std.specs.FinMap.{FinMap, get}
 use Rattle.dav_path_core.specs.Fronts.{Segment, Path, segment_cmp, path_cmp}
 use Rattle.dav_files_core.specs.declared.memfs.Kind.{Kind}
-use Rattle.dav_files_core.specs.declared.memfs.Kind.TheVariants.{Folder}
+use Rattle.dav_files_core.specs.declared.memfs.Kind.TheVariants.{Folder, File}
 
 -- a property as it was set (RFC 4918 section 4)
 pub record Property : Type 0 where
@@ -13,6 +13,10 @@ pub record Property : Type 0 where
   pub prefix : Option (List ℕ)
   pub namespace : Option (List ℕ)
   pub xml : Option (List ℕ)
+
+abbrev pub is_folder : Kind → Bool
+is_folder Folder = true
+is_folder File = false
 
 -- by namespace, then name; no namespace and an empty one are one key
 abbrev pub key_cmp : List ℕ × List ℕ → List ℕ × List ℕ → Ordering

@@ -1,21 +1,23 @@
 -- Entries that are made anew as they stood, with their numbers, times, contents and properties (own).
 use Rattle.std.specs.Prelude.{◌≡◌, ℕ, ◌+◌, max, ◌==◌, ◌||◌, ◌&&◌, not, Bool, true, false, List, [], ◌∷◌, map, Option, Some, None, is_some, Ok, Err, if◌then◌else◌}
 use Rattle.std.specs.List.{fold}
-use Rattle.std.specs.FinMap.{empty, insert}
+use Rattle.std.specs.FinMap.{empty}
 use Rattle.dav_path_core.specs.declared.errors.FsError.TheVariants.{Exists, Forbidden}
 use Rattle.dav_path_core.specs.Fronts.{Path, parent}
+use Rattle.dav_path_core.specs.Keyed.{is_out_of_range}
 use Rattle.dav_files_core.specs.declared.memfs.Kind.{Kind}
 use Rattle.dav_files_core.specs.declared.memfs.Kind.TheVariants.{Folder, File}
 use Rattle.dav_files_core.specs.declared.memfs.restoring.MemFsRestored.{MemFsRestored}
-use Rattle.dav_files_core.specs.Resources.{Property, Properties, Resource, ResourceMap, at_path}
+use Rattle.dav_files_core.specs.Resources.{is_folder, Property, Properties, Resource, ResourceMap, at_path}
+use Rattle.dav_files_core.specs.Finding.{has_any}
 use Rattle.dav_files_core.specs.Folders.{is_root}
 use Rattle.dav_files_core.specs.OpenFiles.{with_number}
-use Rattle.dav_files_core.specs.Properties.{key_of, property_of}
+use Rattle.dav_files_core.specs.Properties.{patched_by, property_of}
 use Rattle.dav_files_core.specs.Outcomes.{Outcome, ◌>>=◌, find_folder, added_as, changed, start}
 
 -- a property at its key, in place of one that is there
 abbrev pub with_property : Properties → Property → Properties
-with_property props p = insert props (key_of p) p
+with_property props p = patched_by props (true, p)
 
 -- each at its key; of some with one key the last
 abbrev pub properties_from : List Property → Properties
@@ -28,17 +30,9 @@ resource_of e = record {
   node = record { kind = e.kind; bytes = e.content; props = properties_from (map property_of e.props.items); created = e.created.0; modified = e.modified.0 };
 }
 
-abbrev pub is_folder : Kind → Bool
-is_folder Folder = true
-is_folder File = false
-
-abbrev pub is_none : List ℕ → Bool
-is_none [] = true
-is_none (b ∷ bytes) = false
-
--- entries have numbers from 1 to 2^64 - 2, and a folder has no bytes
+-- a number may be its own, and a folder has no bytes
 abbrev pub can_stand : Resource → Bool
-can_stand r = not ((r.number == 0) || (r.number == 18446744073709551615)) && (not (is_folder r.node.kind) || is_none r.node.bytes)
+can_stand r = not (is_out_of_range r.number) && not (is_folder r.node.kind && has_any r.node.bytes)
 
 -- it is the folder that stands at the root
 abbrev pub is_root_folder : Path → Resource → Bool

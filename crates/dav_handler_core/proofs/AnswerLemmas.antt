@@ -75,11 +75,6 @@ pub admits_on : (before mid after : Server) (request : Request (List ℕ)) (path
 admits_on before mid after request path same h =
     subst (λ n. IsAdmitted before.options.scheme (live n before.state) (head_of request).headers path) (sym same) h
 
-held_on : (before mid after : Server) (request : Request (List ℕ)) (path : PathText) (e : Fault) → after.last ≡ mid.last
-    → HoldsOff before request mid path e → HoldsOff before request after path e
-held_on before mid after request path e same h =
-    subst (λ n. IsHeldOff before.options.scheme (live n before.state) (head_of request).headers path e) (sym same) h
-
 -- what holds it off, by the stores and the headers before it
 pub held_there : (before : Server) (request : Request (List ℕ)) (headers : Entries FieldValue) (path : PathText) (e : Fault) (scheme : Scheme) (now later : ℕ) (s : State)
     → scheme ≡ before.options.scheme → now ≡ later → s ≡ before.state → headers ≡ (head_of request).headers → IsHeldOff scheme (live now s) headers path e
@@ -265,14 +260,6 @@ module _ (before mid after : Server) (request : Request (List ℕ)) (path : Path
       (subst (λ h. FailsToPut s who Here (body_of request) h e) is (subst (λ b. FailsToPut s who Here b headers e) body err))
 
 -- ---- a method that changes the stores
-
--- one that wasn't begun, or was held off
-pub change_unread : (changes : Bool) (Does : State → Caller → Path → ℕ → State → Type 0) (Refuses : State → Caller → Path → Fault → Type 0) (before after : Server)
-    (request : Request (List ℕ)) (e : Fault) → Unread before.options request before.last changes e ⊎ IsHeld before request after e
-    → ChangeAnswers changes Does Refuses before request (Err e) after
-change_unread changes Does Refuses before after request e (inl h) = inl h
-change_unread changes Does Refuses before after request e (inr h) =
-    inr (held_off before after request e (λ p who. Refuses (as_found before after) who p e) h)
 
 -- one that was begun
 pub change_answered : (changes : Bool) (Does : State → Caller → Path → ℕ → State → Type 0) (Refuses : State → Caller → Path → Fault → Type 0)

@@ -18,7 +18,7 @@ use Rattle.dav_session_core.specs.Conditions.{has_token}
 use Rattle.dav_fields_core.specs.Fields.{Sent}
 use Rattle.dav_methods_core.specs.Locking.{FailsToLock, IsAskedBy, IsGranted, LeavesUntold}
 use Rattle.dav_handler_core.specs.Private.Begun.{IsHeld}
-use Rattle.dav_methods_core.specs.Private.Rooms.{LeavesLock}
+use Rattle.dav_methods_core.specs.Rooms.{LeavesLock}
 use Rattle.dav_session_core.specs.Refreshing.{FailsToRefresh, Refreshes}
 use Rattle.dav_session_core.proofs.AnewLemmas.{of_filter}
 use Rattle.dav_handler_core.proofs.AnswerLemmas.{admits_on, begins_on, found_as, moves_on}

@@ -11,7 +11,7 @@ use Rattle.dav_path_core.specs.declared.util.DavMethod.TheVariants as method
 use Rattle.dav_path_core.specs.Fronts.{Path}
 use Rattle.dav_path_core.specs.Segments.{segments}
 use Rattle.dav_path_core.proofs.lists.FinMaps.{one_some}
-use Rattle.dav_files_core.specs.Resources.{Resource, at_path}
+use Rattle.dav_files_core.specs.Resources.{Resource, at_path, is_folder}
 use Rattle.dav_files_core.proofs.properties.PropertyMapLemmas.{key_total}
 use Rattle.dav_locks_core.specs.Lock.{Lock}
 use Rattle.dav_locks_core.specs.Locks.{discovered}
@@ -24,7 +24,7 @@ use Rattle.dav_methods_core.specs.Finding.{DescribesEach}
 use Rattle.dav_handler_core.specs.KeptDocuments.{IsNew, KeepsElements, TellsXml, is_told_in_xml}
 use Rattle.dav_documents_core.specs.KeptElements.{IsDocument, IsKeptLock, IsKeptProperty, IsVisible}
 use Rattle.dav_documents_core.specs.PatchBodies.{patch_nodes}
-use Rattle.dav_methods_core.specs.PropertyAnswers.{Describes, is_folder, last_or, place_url}
+use Rattle.dav_methods_core.specs.PropertyAnswers.{Describes, last_or, place_url}
 use Rattle.dav_documents_core.specs.PropertyDocuments.{Description}
 use Rattle.dav_documents_core.specs.PropertyUpdates.{Update}
 use Rattle.dav_session_core.specs.Refreshing.{retimed}

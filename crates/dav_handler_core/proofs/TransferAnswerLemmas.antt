@@ -28,11 +28,6 @@ leaves_same (Some method.Lock) before after request fault.InsufficientStorage h 
 leaves_same (Some method.Lock) before after request _ h = h
 leaves_same _ before after request e h = h
 
-pub all_same : {A : Type 0} (m : Option DavMethod) (before after : Server) (request : Request (List ℕ)) (result : Result A Fault)
-    → OnErr result (SameLive after.last before.state after.state) → IfErr result (λ e. Leaves m before request e after)
-all_same m before after request (Ok x) h = tt
-all_same m before after request (Err e) h = leaves_same m before after request e h
-
 -- a request that was begun
 module _ (before mid after : Server) (request : Request (List ℕ)) (path : PathText) (who : Caller) (same : after.last ≡ mid.last) (begins : Begins before request mid path who)
     (later : before.last < mid.last) (s : State) (alike : live mid.last s ≡ live mid.last before.state) where

@@ -2,6 +2,7 @@ pub mod Answers
 pub mod Deciding
 pub mod Holding
 pub mod KeptDocuments
+pub mod MethodAnswers
 pub mod Private
 pub mod Promises
 pub mod Servers

@@ -1,23 +1,21 @@
 //! The server: an HTTP service over the stores (RFC 4918 section 9, RFC 9110 section 9).
-ghost use Rattle.std.specs.Prelude.{◌≡◌, ◌<◌, ◌≤◌, ◌⊎◌, [], true, false, IfOk, IfErr, OnErr, Option, Some};
+ghost use Rattle.std.specs.Prelude.{◌≡◌, ◌<◌, ◌≤◌, ◌⊎◌, [], true, IfOk, IfErr, OnErr, Option, Some};
 ghost use Rattle.http.specs.Request.{body_of, head_of};
 ghost use Rattle.http_server.specs.Response.{IsBlank};
 ghost use Rattle.dav_path_core.specs.declared.util.DavMethod.{DavMethod};
 ghost use Rattle.dav_path_core.specs.declared.util.DavMethod.TheVariants as method;
 ghost use Rattle.dav_resource_core.specs.Stores.{state_of};
-ghost use Rattle.dav_handler_core.specs.Answers.{Admits, Answers, AnswersTo, ChangeAnswers, GetAnswers, IsFrom, IsMethod, Leaves, LockAnswers, Moves, Names, PatchAnswers, PutAnswers, Unread};
-ghost use Rattle.dav_session_core.specs.Callers.{RunBy, SameLive};
-ghost use Rattle.dav_session_core.specs.Copying.{Copies, FailsToCopy};
-ghost use Rattle.dav_fields_core.specs.Fields.{sent_of};
-ghost use Rattle.dav_methods_core.specs.Finding.{FailsToTell, TellsFound};
-ghost use Rattle.dav_session_core.specs.Making.{FailsToMake, Makes};
-ghost use Rattle.dav_session_core.specs.Moving as moving;
+ghost use Rattle.dav_handler_core.specs.Answers.{Admits, Answers, AnswersTo, GetAnswers, IsFrom};
+ghost use Rattle.dav_handler_core.specs.Answers.{IsMethod, LockAnswers, Moves, Names, PatchAnswers};
+ghost use Rattle.dav_handler_core.specs.Answers.{PutAnswers, Unread};
+ghost use Rattle.dav_handler_core.specs.MethodAnswers.{CopyAnswers, FindAnswers, MakeAnswers};
+ghost use Rattle.dav_handler_core.specs.MethodAnswers.{MoveAnswers, RemoveAnswers, UnlockAnswers};
+ghost use Rattle.dav_session_core.specs.Callers.{RunBy};
 ghost use Rattle.dav_handler_core.specs.Private.Begun.{IsBegun, IsHeld};
 ghost use Rattle.dav_fields_core.specs.Refusals.{IsLastMoment};
-ghost use Rattle.dav_session_core.specs.Removing.{FailsToRemove, Removes};
+ghost use Rattle.dav_handler_core.specs.Servers.{Answered, Changed, LeftBy, Unchanged};
 ghost use Rattle.dav_handler_core.specs.Servers.{options_of, server};
 ghost use Rattle.dav_session_core.specs.Sessions.{caller};
-ghost use Rattle.dav_session_core.specs.Unlocking.{FailsToUnlock, Unlocks};
 ghost use Rattle.dav_faults_core.specs.declared.faults.Fault.TheVariants as fault;
 
 mod laws;
@@ -58,7 +56,8 @@ pub struct Settings {
     pub prefix: String,
     /// The header by which a proxy in front names the principal; none where nobody is named (own).
     pub user_header: Option<HeaderName>,
-    /// The greatest timeout that a lock gets, in seconds; none where it may stand without an end (RFC 4918 section 6.6).
+    /// The greatest timeout that a lock gets, in seconds; none where it may stand without an end
+    /// (RFC 4918 section 6.6).
     pub longest_timeout: Option<u32>,
     /// Whether a PROPFIND all the way down is refused (RFC 4918 section 9.1).
     pub finite_depth: bool,
@@ -82,8 +81,12 @@ impl<R: Rng + Drop> Dav<R> {
         rng: R,
         now: Moment,
     ) -> FsResult<Dav<R>>
-        ensures { IfOk result (λ dav. server R.stream dav
-            ≡ record { options = options_of settings; state = state_of stores (R.stream rng); last = now.0; clock = now.0 }) }
+        ensures { IfOk result (λ dav. server R.stream dav ≡ record {
+          options = options_of settings;
+          state = state_of stores (R.stream rng);
+          last = now.0;
+          clock = now.0;
+        }) }
     {
         let session = Session::new(alloc, stores, rng, now)?;
         Ok(Dav {
@@ -96,18 +99,22 @@ impl<R: Rng + Drop> Dav<R> {
 }
 
 impl<R: Rng> Dav<R> {
-    /// Sets the clock. Each request comes at the clock's moment, or at the last request's where that is later; a PUT, a DELETE, a COPY, a MOVE, a MKCOL or a LOCK with a body at
-    /// a later one than that.
+    /// Sets the clock. Each request comes at the clock's moment, or at the last request's where
+    /// that is later; a PUT, a DELETE, a COPY, a MOVE, a MKCOL or a LOCK with a body at a later one
+    /// than that.
     pub fn set_clock(&mut self, now: Moment)
         ensures { server R.stream self.new ≡ record (server R.stream self.old) { clock = now.0 } }
     {
         self.clock = now;
     }
 
-    // The moment of a request: the clock's, but not before the last one's, and behind it for a change.
+    // The moment of a request: the clock's, but not before the last one's, and behind it for a
+    // change.
     fn moment(&self, changes: bool) -> Result<Moment, Fault>
-        ensures ok { IfOk result (λ moment. ((server R.stream self.now).last ≤ moment.0) × (changes ≡ true → (server R.stream self.now).last < moment.0)) }
-        ensures err { IfErr result (λ e. (e ≡ fault.ServiceUnavailable) × (changes ≡ true) × IsLastMoment (server R.stream self.now).last) }
+        ensures ok { IfOk result (λ moment. ((server R.stream self.now).last ≤ moment.0)
+            × (changes ≡ true → (server R.stream self.now).last < moment.0)) }
+        ensures err { IfErr result (λ e. (e ≡ fault.ServiceUnavailable) × (changes ≡ true)
+            × IsLastMoment (server R.stream self.now).last) }
     {
         let last = self.session.now().0;
         let least = if changes {
@@ -122,8 +129,10 @@ impl<R: Rng> Dav<R> {
     fn begin(&mut self, request: &Request<Bytes>, changes: bool) -> Result<DavPath, Fault>
         ensures ok { IfOk result (λ path. Names (server R.stream self.old).options request.now path
             × IsFrom (server R.stream self.old).options request.now (caller self.new.session)
-            × (changes ≡ true → (server R.stream self.old).last < (server R.stream self.new).last)) }
-        ensures err { IfErr result (λ e. Unread (server R.stream self.old).options request.now (server R.stream self.old).last changes e) }
+            × (changes ≡ true
+            → (server R.stream self.old).last < (server R.stream self.new).last)) }
+        ensures err { IfErr result (λ e. Unread (server R.stream self.old).options request.now
+            (server R.stream self.old).last changes e) }
         ensures state { (server R.stream self.new).state ≡ (server R.stream self.old).state }
         ensures moments { (server R.stream self.old).last ≤ (server R.stream self.new).last }
         ensures options { (server R.stream self.new).options ≡ (server R.stream self.old).options }
@@ -139,12 +148,15 @@ impl<R: Rng> Dav<R> {
 
     // Begins a request, and looks at its `If`.
     fn begin_admitted(&mut self, request: &Request<Bytes>, changes: bool) -> Result<DavPath, Fault>
-        ensures ok { IfOk result (λ path. IsBegun (server R.stream self.old) request.now changes (server R.stream self.new) path (caller self.new.session)
+        ensures ok { IfOk result (λ path. IsBegun (server R.stream self.old) request.now changes
+            (server R.stream self.new) path (caller self.new.session)
             × Admits (server R.stream self.old) request.now (server R.stream self.new) path) }
-        ensures err { IfErr result (λ e. Unread (server R.stream self.old).options request.now (server R.stream self.old).last changes e
+        ensures err { IfErr result (λ e. Unread (server R.stream self.old).options request.now
+            (server R.stream self.old).last changes e
             ⊎ IsHeld (server R.stream self.old) request.now (server R.stream self.new) e) }
-        ensures run { RunBy (caller self.new.session) (server R.stream self.old).state (server R.stream self.new).state }
-        ensures live { SameLive (server R.stream self.new).last (server R.stream self.old).state (server R.stream self.new).state }
+        ensures run { RunBy (caller self.new.session) (server R.stream self.old).state
+            (server R.stream self.new).state }
+        ensures live { Unchanged R.stream self.old self.new }
         ensures moves { Moves (server R.stream self.old) request.now (server R.stream self.new) }
     {
         let path = self.begin(request, changes)?;
@@ -166,8 +178,9 @@ impl<R: Rng> Dav<R> {
         response: &mut Response,
     ) -> Result<StatusCode, Fault>
         requires { IsBlank response.old }
-        ensures answers { GetAnswers method (server R.stream self.old) request.now result (sent_of response.new) (server R.stream self.new) }
-        ensures live { SameLive (server R.stream self.new).last (server R.stream self.old).state (server R.stream self.new).state }
+        ensures answers { Answered R.stream (GetAnswers method) self.old request.now result
+            response.new self.new }
+        ensures live { Unchanged R.stream self.old self.new }
         ensures moves { Moves (server R.stream self.old) request.now (server R.stream self.new) }
     {
         let path = self.begin_admitted(request, false)?;
@@ -188,10 +201,9 @@ impl<R: Rng> Dav<R> {
         response: &mut Response,
     ) -> Result<StatusCode, Fault>
         requires { IsBlank response.old }
-        ensures answers { ChangeAnswers false
-            (TellsFound (server R.stream self.old).options.finite (server R.stream self.old).options.prefix (head_of request.now).headers (body_of request.now) (sent_of response.new))
-            (FailsToTell (server R.stream self.old).options.finite (head_of request.now).headers (body_of request.now)) (server R.stream self.old) request.now result (server R.stream self.new) }
-        ensures live { SameLive (server R.stream self.new).last (server R.stream self.old).state (server R.stream self.new).state }
+        ensures answers { Answered R.stream FindAnswers self.old request.now result response.new
+            self.new }
+        ensures live { Unchanged R.stream self.old self.new }
         ensures moves { Moves (server R.stream self.old) request.now (server R.stream self.new) }
     {
         let path = self.begin_admitted(request, false)?;
@@ -214,8 +226,9 @@ impl<R: Rng> Dav<R> {
         response: &mut Response,
     ) -> Result<StatusCode, Fault>
         requires { IsBlank response.old }
-        ensures answers { PutAnswers (server R.stream self.old) request.now result (sent_of response.new) (server R.stream self.new) }
-        ensures refused { OnErr result (SameLive (server R.stream self.new).last (server R.stream self.old).state (server R.stream self.new).state) }
+        ensures answers { Answered R.stream PutAnswers self.old request.now result response.new
+            self.new }
+        ensures refused { OnErr result (Unchanged R.stream self.old self.new) }
         ensures moves { Moves (server R.stream self.old) request.now (server R.stream self.new) }
     {
         if request.headers().contains_key("content-range") {
@@ -234,9 +247,8 @@ impl<R: Rng> Dav<R> {
 
     // DELETE.
     fn serve_delete(&mut self, request: &Request<Bytes>) -> Result<StatusCode, Fault>
-        ensures answers { ChangeAnswers true (Removes (head_of request.now).headers) (FailsToRemove (head_of request.now).headers) (server R.stream self.old)
-            request.now result (server R.stream self.new) }
-        ensures refused { OnErr result (SameLive (server R.stream self.new).last (server R.stream self.old).state (server R.stream self.new).state) }
+        ensures answers { Changed R.stream RemoveAnswers self.old request.now result self.new }
+        ensures refused { OnErr result (Unchanged R.stream self.old self.new) }
         ensures moves { Moves (server R.stream self.old) request.now (server R.stream self.new) }
     {
         let path = self.begin_admitted(request, true)?;
@@ -245,10 +257,9 @@ impl<R: Rng> Dav<R> {
 
     // COPY.
     fn serve_copy(&mut self, request: &Request<Bytes>) -> Result<StatusCode, Fault>
-        ensures answers { ChangeAnswers true (Copies (server R.stream self.old).options.scheme (server R.stream self.old).options.prefix (head_of request.now).headers)
-            (FailsToCopy (server R.stream self.old).options.scheme (server R.stream self.old).options.prefix (head_of request.now).headers) (server R.stream self.old)
-            request.now result (server R.stream self.new) }
-        ensures refused { IfErr result (λ e. Leaves (Some method.Copy) (server R.stream self.old) request.now e (server R.stream self.new)) }
+        ensures answers { Changed R.stream CopyAnswers self.old request.now result self.new }
+        ensures refused { IfErr result (LeftBy R.stream (Some method.Copy) self.old request.now
+            self.new) }
         ensures moves { Moves (server R.stream self.old) request.now (server R.stream self.new) }
     {
         let path = self.begin_admitted(request, true)?;
@@ -265,10 +276,9 @@ impl<R: Rng> Dav<R> {
 
     // MOVE.
     fn serve_move(&mut self, request: &Request<Bytes>) -> Result<StatusCode, Fault>
-        ensures answers { ChangeAnswers true (moving.Moves (server R.stream self.old).options.scheme (server R.stream self.old).options.prefix (head_of request.now).headers)
-            (moving.FailsToMove (server R.stream self.old).options.scheme (server R.stream self.old).options.prefix (head_of request.now).headers) (server R.stream self.old)
-            request.now result (server R.stream self.new) }
-        ensures refused { IfErr result (λ e. Leaves (Some method.Move) (server R.stream self.old) request.now e (server R.stream self.new)) }
+        ensures answers { Changed R.stream MoveAnswers self.old request.now result self.new }
+        ensures refused { IfErr result (LeftBy R.stream (Some method.Move) self.old request.now
+            self.new) }
         ensures moves { Moves (server R.stream self.old) request.now (server R.stream self.new) }
     {
         let path = self.begin_admitted(request, true)?;
@@ -285,9 +295,8 @@ impl<R: Rng> Dav<R> {
 
     // MKCOL.
     fn serve_mkcol(&mut self, request: &Request<Bytes>) -> Result<StatusCode, Fault>
-        ensures answers { ChangeAnswers true (Makes (body_of request.now)) (FailsToMake (body_of request.now)) (server R.stream self.old) request.now result
-            (server R.stream self.new) }
-        ensures refused { OnErr result (SameLive (server R.stream self.new).last (server R.stream self.old).state (server R.stream self.new).state) }
+        ensures answers { Changed R.stream MakeAnswers self.old request.now result self.new }
+        ensures refused { OnErr result (Unchanged R.stream self.old self.new) }
         ensures moves { Moves (server R.stream self.old) request.now (server R.stream self.new) }
     {
         let path = self.begin_admitted(request, true)?;
@@ -301,8 +310,9 @@ impl<R: Rng> Dav<R> {
         response: &mut Response,
     ) -> Result<StatusCode, Fault>
         requires { IsBlank response.old }
-        ensures answers { PatchAnswers (server R.stream self.old) request.now result (sent_of response.new) (server R.stream self.new) }
-        ensures refused { OnErr result (SameLive (server R.stream self.new).last (server R.stream self.old).state (server R.stream self.new).state) }
+        ensures answers { Answered R.stream PatchAnswers self.old request.now result response.new
+            self.new }
+        ensures refused { OnErr result (Unchanged R.stream self.old self.new) }
         ensures moves { Moves (server R.stream self.old) request.now (server R.stream self.new) }
     {
         let path = self.begin_admitted(request, false)?;
@@ -318,9 +328,8 @@ impl<R: Rng> Dav<R> {
 
     // UNLOCK.
     fn serve_unlock(&mut self, request: &Request<Bytes>) -> Result<StatusCode, Fault>
-        ensures answers { ChangeAnswers false (Unlocks (head_of request.now).headers) (FailsToUnlock (head_of request.now).headers) (server R.stream self.old)
-            request.now result (server R.stream self.new) }
-        ensures refused { OnErr result (SameLive (server R.stream self.new).last (server R.stream self.old).state (server R.stream self.new).state) }
+        ensures answers { Changed R.stream UnlockAnswers self.old request.now result self.new }
+        ensures refused { OnErr result (Unchanged R.stream self.old self.new) }
         ensures moves { Moves (server R.stream self.old) request.now (server R.stream self.new) }
     {
         let path = self.begin_admitted(request, false)?;
@@ -334,8 +343,10 @@ impl<R: Rng> Dav<R> {
         response: &mut Response,
     ) -> Result<StatusCode, Fault>
         requires { IsBlank response.old }
-        ensures answers { LockAnswers (server R.stream self.old) request.now result (sent_of response.new) (server R.stream self.new) }
-        ensures refused { IfErr result (λ e. Leaves (Some method.Lock) (server R.stream self.old) request.now e (server R.stream self.new)) }
+        ensures answers { Answered R.stream LockAnswers self.old request.now result response.new
+            self.new }
+        ensures refused { IfErr result (LeftBy R.stream (Some method.Lock) self.old request.now
+            self.new) }
         ensures moves { Moves (server R.stream self.old) request.now (server R.stream self.new) }
     {
         if request.body().is_empty() {
@@ -362,8 +373,9 @@ impl<R: Rng> Dav<R> {
     ) -> Result<StatusCode, Fault>
         requires blank { IsBlank response.old }
         requires no_body { body_of request.now ≡ [] }
-        ensures answers { LockAnswers (server R.stream self.old) request.now result (sent_of response.new) (server R.stream self.new) }
-        ensures refused { OnErr result (SameLive (server R.stream self.new).last (server R.stream self.old).state (server R.stream self.new).state) }
+        ensures answers { Answered R.stream LockAnswers self.old request.now result response.new
+            self.new }
+        ensures refused { OnErr result (Unchanged R.stream self.old self.new) }
         ensures moves { Moves (server R.stream self.old) request.now (server R.stream self.new) }
     {
         let path = self.begin_admitted(request, false)?;
@@ -386,8 +398,10 @@ impl<R: Rng> Dav<R> {
         response: &mut Response,
     ) -> Result<StatusCode, Fault>
         requires { IsBlank response.old }
-        ensures done { AnswersTo (Some method) (server R.stream self.old) request.now result (sent_of response.new) (server R.stream self.new) }
-        ensures refused { IfErr result (λ e. Leaves (Some method) (server R.stream self.old) request.now e (server R.stream self.new)) }
+        ensures done { Answered R.stream (AnswersTo (Some method)) self.old request.now result
+            response.new self.new }
+        ensures refused { IfErr result (LeftBy R.stream (Some method) self.old request.now
+            self.new) }
         ensures moves { Moves (server R.stream self.old) request.now (server R.stream self.new) }
     {
         match method {
@@ -415,8 +429,8 @@ impl<R: Rng> Dav<R> {
     ) -> Result<StatusCode, Fault>
         requires { IsBlank response.old }
         ensures done { (method : Option DavMethod) × IsMethod method (head_of request.now).method
-            × AnswersTo method (server R.stream self.old) request.now result (sent_of response.new) (server R.stream self.new)
-            × IfErr result (λ e. Leaves method (server R.stream self.old) request.now e (server R.stream self.new)) }
+            × Answered R.stream (AnswersTo method) self.old request.now result response.new self.new
+            × IfErr result (LeftBy R.stream method self.old request.now self.new) }
         ensures moves { Moves (server R.stream self.old) request.now (server R.stream self.new) }
     {
         let Ok(method) = DavMethod::try_from(request.method()) else {
@@ -427,7 +441,8 @@ impl<R: Rng> Dav<R> {
 }
 
 impl<R: Rng> Service for Dav<R> {
-    ghost answers = { λ before request response after. Answers (server R.stream before) request response (server R.stream after) };
+    ghost answers = { λ before request response after.
+        Answers (server R.stream before) request response (server R.stream after) };
 
     fn call(
         &mut self,

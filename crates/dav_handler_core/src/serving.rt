@@ -35,12 +35,15 @@ pub trait Clock {
 pub enum End {
     /// At the end of the input.
     Whole,
-    /// At a frame that is wrong: its first line is no head, or its number is neither that of a connection that has begun nor the next.
+    /// At a frame that is wrong: its first line is no head, or its number is neither that of a
+    /// connection that has begun nor the next.
     Wrong,
 }
 
-/// Serves the connections that the frames of the input are of, and writes their answers as frames, until the input ends or a frame is wrong. What is written
-/// is written out behind each frame. `Io` where a stream fails, or the input ends within a frame; `OutOfMemory` where there is no memory outside a request.
+/// Serves the connections that the frames of the input are of, and writes their answers as frames,
+/// until the input ends or a frame is wrong. What is written is written out behind each frame. `Io`
+/// where a stream fails, or the input ends within a frame; `OutOfMemory` where there is no memory
+/// outside a request.
 pub fn serve_frames<R: Rng, C: Clock, I: BufRead, O: Write>(
     alloc: Global,
     clients: &mut Clients,
@@ -49,8 +52,10 @@ pub fn serve_frames<R: Rng, C: Clock, I: BufRead, O: Write>(
     input: &mut I,
     output: &mut O,
 ) -> Result<End, Fault>
-    ensures served { Has clients.old [] → IfOk result (λ end. AreServed end clients.old clients.new (server R.stream dav.old) (server R.stream dav.new)
-        (I.remaining input.old) (I.remaining input.new) (O.contents output.old) (O.contents output.new)) }
+    ensures served { Has clients.old [] → IfOk result
+        (λ end. AreServed end clients.old clients.new (server R.stream dav.old)
+        (server R.stream dav.new) (I.remaining input.old) (I.remaining input.new)
+        (O.contents output.old) (O.contents output.new)) }
 {
     let mut line = Vec::new(alloc);
     let mut bytes = Vec::new(alloc);
@@ -63,18 +68,25 @@ pub fn serve_frames<R: Rng, C: Clock, I: BufRead, O: Write>(
     Err(Fault::Io)
 }
 
-/// The law of a whole run (RFC 4918 sections 6 and 7, RFC 9110 section 9.3): whatever bytes any number of clients send, in whatever pieces, from new stores on, each answer
-/// keeps to this. It does nothing.
+/// The law of a whole run (RFC 4918 sections 6 and 7, RFC 9110 section 9.3): whatever bytes any
+/// number of clients send, in whatever pieces, from new stores on, each answer keeps to this. It
+/// does nothing.
 ///
-/// - A path under an exclusive lock changes only by a request that names its token under its principal.
+/// - A path under an exclusive lock changes only by a request that names its token under its
+///   principal.
 /// - A lock is ended by its holder, or by time alone.
-/// - A 200 to a GET of a file has the bytes that the last PUT, COPY or MOVE left there; a LOCK of a path where nothing stands leaves an empty file.
-/// - A refusal changes nothing, but that locks that have expired may be gone; a COPY, a MOVE or a LOCK that lacked memory may have begun.
+/// - A 200 to a GET of a file has the bytes that the last PUT, COPY or MOVE left there; a LOCK of a
+///   path where nothing stands leaves an empty file.
+/// - A refusal changes nothing, but that locks that have expired may be gone; a COPY, a MOVE or a
+///   LOCK that lacked memory may have begun.
 pub fn served_frames_keep_promises()
-    ensures each { (end : spec_end.End) (c c' : held.Clients) (begun after : Server) (input input' output output' : Option (List ℕ)) → IsNew begun
-        → (h : AreServed end c c' begun after input input' output output') → EachAnswer (KeepsTo begun) begun (turns_of h.done) after h.leads }
+    ensures each { (end : spec_end.End) (c c' : held.Clients) (begun after : Server)
+        (input input' output output' : Option (List ℕ)) → IsNew begun
+        → (h : AreServed end c c' begun after input input' output output')
+        → EachAnswer (KeepsTo begun) begun (turns_of h.done) after h.leads }
     // The bytes that were left at a path are those that stand there.
-    ensures exact { (begun s : Server) (p : Path) (bytes : List ℕ) → IsLeft begun s p bytes → StandsAt s.state.map p bytes }
+    ensures exact { (begun s : Server) (p : Path) (bytes : List ℕ) → IsLeft begun s p bytes
+        → StandsAt s.state.map p bytes }
 {}
 
 // Serves one frame, and tells whether it is the last.
@@ -87,8 +99,9 @@ fn serve_frame<R: Rng, C: Clock, I: BufRead, O: Write>(
     bytes: &mut Vec<u8>,
     output: &mut O,
 ) -> Result<Option<End>, Fault>
-    ensures { IfOk result (λ end. Follows end clients.old clients.new (server R.stream dav.old) (server R.stream dav.new)
-        (I.remaining input.old) (I.remaining input.new) (O.contents output.old) (O.contents output.new)) }
+    ensures { IfOk result (λ end. Follows end clients.old clients.new (server R.stream dav.old)
+        (server R.stream dav.new) (I.remaining input.old) (I.remaining input.new)
+        (O.contents output.old) (O.contents output.new)) }
 {
     match read_frame(input, line, bytes)? {
         Next::End => Ok(Some(End::Whole)),
@@ -110,23 +123,27 @@ fn serve_frame<R: Rng, C: Clock, I: BufRead, O: Write>(
 
 // Sets the server's clock, where this one tells the moment.
 fn tick<R: Rng, C: Clock>(dav: &mut Dav<R>, clock: &C)
-    ensures { (now : ℕ) × (server R.stream dav.new ≡ record (server R.stream dav.old) { clock = now }) }
+    ensures { (now : ℕ) × (server R.stream dav.new
+        ≡ record (server R.stream dav.old) { clock = now }) }
 {
     if let Some(now) = clock.moment() {
         dav.set_clock(now);
     }
 }
 
-/// Reads, answers and writes until the connection is done. The bytes that are written are the answers, in order, to the requests that the bytes
-/// spell that were read (`always_served` of `http_server`), and each call is answered as `Answers` says, from the state that the call before it left.
+/// Reads, answers and writes until the connection is done. The bytes that are written are the
+/// answers, in order, to the requests that the bytes spell that were read (`always_served` of
+/// `http_server`), and each call is answered as `Answers` says, from the state that the call before
+/// it left.
 pub fn serve_one<R: Rng, I: Read, O: Write>(
     connection: &mut Connection,
     dav: &mut Dav<R>,
     input: &mut I,
     output: &mut O,
 ) -> io::Result<()>
-    ensures calls { Calls (λ before request response after. Answers (server R.stream before) request response (server R.stream after)) dav.old dav.new
-        (history connection.old).calls (history connection.new).calls }
+    ensures calls { Calls (λ before request response after. Answers (server R.stream before) request
+        response (server R.stream after)) dav.old dav.new (history connection.old).calls
+        (history connection.new).calls }
     ensures read { (more : List ℕ) × Consumes (I.remaining input.old) (I.remaining input.new) more
         × ((history connection.new).received ≡ (history connection.old).received ++ more) }
     ensures written { (more : List ℕ) × Appends (O.contents output.old) (O.contents output.new) more

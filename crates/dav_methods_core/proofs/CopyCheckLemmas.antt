@@ -1,16 +1,14 @@
 -- What is asked before resources are copied, one after another.
 use Rattle.std.proofs.Common.{◌≡◌, ℕ, ◌+◌, ◌<◌, ◌≤◌, List, [], ◌∷◌, ◌++◌, append_assoc, drop, get_or, length, map, Result, Ok, Err, refl, sym, ap, ◌∙◌, subst}
-use Rattle.std.specs.Prelude.{Contains, IfErr, OnOk}
+use Rattle.std.specs.Prelude.{Contains, IfErr}
 use Rattle.std.proofs.lemmas.List.{drop_all}
 use Rattle.std.proofs.lemmas.List.Elements.{Contains-append_left, Contains-append_right}
 use Rattle.dav_locks_core.specs.Lock.{Lock}
 use Rattle.dav_locks_core.specs.Locks.{Caller as LocksCaller, check_conflicts}
 use Rattle.dav_resource_core.specs.Checks.{Check, refusing}
-use Rattle.dav_resource_core.specs.Step.{State}
 use Rattle.dav_faults_core.specs.declared.faults.Fault.{Fault}
-use Rattle.dav_session_core.specs.Callers.{Caller, live}
 use Rattle.dav_session_core.specs.LocksInTheWay.{IsRefusedBy}
-use Rattle.dav_session_core.proofs.ConditionLemmas.{Looks, drop_seen, same_state}
+use Rattle.dav_session_core.proofs.ConditionLemmas.{drop_seen}
 use Rattle.dav_session_core.proofs.PutLemmas.{more_refused}
 
 -- ---- checks of a list, one after another
@@ -42,13 +40,7 @@ module _ {A : Type 0} (locks : List Lock) (who : LocksCaller) (view : A → Chec
   pub all_checked : length xs ≤ i → refusing locks who (map view xs) ≡ []
   all_checked le = sym left ∙ ap (λ ys. refusing locks who (map view ys)) (drop_all i xs le)
 
--- ---- two questions of one caller
-
--- the locks that a question behind others finds are those of the first
-pub asked_behind : (locks_of : State → Caller → List Lock) (who : Caller) (s : State) (asker : Caller) (mid : State) → Looks who s asker mid
-    → locks_of (live asker.now mid) asker ≡ locks_of (live who.now s) who
-asked_behind locks_of who s asker mid looks =
-    ap (λ t. locks_of t asker) (same_state who s asker mid looks) ∙ ap (λ w. locks_of (live who.now s) w) looks.caller
+-- ---- of two lists one after the other
 
 pub fails_first : (first rest : List Lock) (e : Fault) → IsRefusedBy first e → IsRefusedBy (first ++ rest) e
 fails_first first rest e h = more_refused first (first ++ rest) e (Contains-append_left first rest) h
@@ -59,7 +51,3 @@ fails_last first rest e h = more_refused rest (first ++ rest) e (Contains-append
 pub fails_behind : {A : Type 0} (first rest : List Lock) (result : Result A Fault) → IfErr result (λ e. IsRefusedBy rest e) → IfErr result (λ e. IsRefusedBy (first ++ rest) e)
 fails_behind first rest (Ok x) h = tt
 fails_behind first rest (Err e) h = fails_last first rest e h
-
-pub passes_behind : {A : Type 0} (first rest : List Lock) (result : Result A Fault) → first ≡ [] → OnOk result (rest ≡ []) → OnOk result (first ++ rest ≡ [])
-passes_behind first rest (Ok x) none h = ap (λ ls. ls ++ rest) none ∙ h
-passes_behind first rest (Err e) none h = tt

@@ -21,8 +21,8 @@ use Rattle.dav_session_core.specs.Copying.{AreCopied, Copies, CopyLeaves, FailsT
 use Rattle.dav_fields_core.specs.Depths.{copy_depth}
 use Rattle.dav_session_core.specs.Ends.{FailsAtEnds, GoesFrom}
 use Rattle.dav_session_core.specs.LocksInTheWay.{IsRefusedBy, by_place}
-use Rattle.dav_session_core.specs.Private.Placing.{target_by}
-use Rattle.dav_session_core.specs.Private.Transferring.{AreEnds, ArePlaces, IsPlanned, LacksPlaces, copies_of}
+use Rattle.dav_session_core.specs.Placing.{target_by}
+use Rattle.dav_session_core.specs.TransferEnds.{AreEnds, ArePlaces, IsPlanned, LacksPlaces, copies_of}
 use Rattle.dav_session_core.proofs.CallerLaws.{asks_of, asks_shape}
 use Rattle.dav_methods_core.proofs.CopyPlanLemmas.{are_copied, pairs_are, rests_of}
 use Rattle.dav_methods_core.proofs.CopyReadyLemmas.{copy_ready}

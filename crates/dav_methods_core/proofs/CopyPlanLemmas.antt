@@ -8,7 +8,7 @@ use Rattle.dav_path_core.proofs.lists.MemberLemmas.{In, In-Contains, Contains-In
 use Rattle.dav_path_core.proofs.paths.FrontLemmas.{behind_append, behind_is}
 use Rattle.dav_files_core.specs.Resources.{ResourceMap, at_path}
 use Rattle.dav_session_core.specs.Copying.{AreCopied, between, is_copied}
-use Rattle.dav_session_core.specs.Private.Transferring.{ArePlaces, copies_of, copy_target}
+use Rattle.dav_session_core.specs.TransferEnds.{ArePlaces, copies_of, copy_target}
 use Rattle.dav_session_core.specs.Subtrees.{IsWalk}
 use Rattle.dav_session_core.proofs.CopyingLemmas.{cross_at}
 use Rattle.dav_session_core.proofs.SubtreeLemmas.{Later, front_of, later_pairs, rest_of}

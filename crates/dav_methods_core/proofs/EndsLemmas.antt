@@ -13,7 +13,7 @@ use Rattle.dav_faults_core.specs.declared.faults.Fault.{Fault}
 use Rattle.dav_faults_core.specs.declared.faults.Fault.TheVariants as fault
 use Rattle.dav_fields_core.specs.Destinations.{overwrites}
 use Rattle.dav_session_core.specs.Ends.{EndsFit, FailsAtEnds, LeadsOn}
-use Rattle.dav_session_core.specs.Private.Transferring.{FailsToFit, FailsToLead}
+use Rattle.dav_session_core.specs.TransferEnds.{FailsToFit, FailsToLead}
 use Rattle.dav_session_core.specs.Subtrees.{HasOddName}
 
 -- what isn't known of the target isn't in the way

@@ -16,7 +16,7 @@ use Rattle.dav_fields_core.specs.Depths.{depth_in}
 use Rattle.dav_methods_core.specs.Finding.{FailsToFind}
 use Rattle.dav_documents_core.specs.Pieces.{with_pieces}
 use Rattle.dav_methods_core.specs.Private.Telling.{TellsEach, TellsOne}
-use Rattle.dav_session_core.specs.Private.Placed.{IsNowhere}
+use Rattle.dav_session_core.specs.Placed.{IsNowhere}
 use Rattle.dav_documents_core.specs.PropertyDocuments.{response_pieces}
 use Rattle.dav_documents_core.specs.PropertyQuestions.{Question, question_in}
 use Rattle.dav_documents_core.proofs.PieceLemmas.{in_turn}

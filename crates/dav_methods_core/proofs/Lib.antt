@@ -1,3 +1,4 @@
+pub mod Acting
 pub mod AdmitLemmas
 pub mod ConditionLaws
 pub mod CopyCheckLemmas

@@ -32,8 +32,8 @@ use Rattle.dav_documents_core.specs.LockDocuments.{discovery_pieces}
 use Rattle.dav_fields_core.specs.LockTimeouts.{can_be_given, given_of, seconds_of}
 use Rattle.dav_methods_core.specs.Locking.{CantBeRead, FailsToLock, Grants, HasRoom, IsGranted, LeavesUntold, Wanted, Wants, lock_status}
 use Rattle.dav_documents_core.specs.Pieces.{written_pieces}
-use Rattle.dav_session_core.specs.Private.Refusing.{put_fault}
-use Rattle.dav_methods_core.specs.Private.Rooms.{FoundRoom, IsConflictAt, IsGrantedNow, IsMadeUnder, IsReady, IsUnmade, LacksRoom}
+use Rattle.dav_session_core.specs.StoreRefusals.{put_fault}
+use Rattle.dav_methods_core.specs.Rooms.{FoundRoom, IsConflictAt, IsGrantedNow, IsMadeUnder, IsReady, IsUnmade, LacksRoom}
 use Rattle.dav_documents_core.specs.RefusalBodies.{xml_type}
 use Rattle.dav_fields_core.specs.Refusals.{IsLastMoment}
 use Rattle.dav_session_core.proofs.Asking.{live_once}

@@ -22,9 +22,9 @@ use Rattle.dav_session_core.specs.Ends.{FailsAtEnds, GoesFrom, HasFolder}
 use Rattle.dav_session_core.specs.LocksInTheWay.{IsRefusedBy, by_place}
 use Rattle.dav_session_core.specs.Moving.{CanMove, FailsToMove, IsMoved, MoveLeaves, Moves, refusing_move, refusing_place}
 use Rattle.dav_session_core.specs.Moving.FailsToMove.{memory, depth, ends, locked}
-use Rattle.dav_session_core.specs.Private.Transferring.{AreEnds}
+use Rattle.dav_session_core.specs.TransferEnds.{AreEnds}
 use Rattle.dav_session_core.specs.Removing.{refusing_removal}
-use Rattle.dav_session_core.proofs.Asking.{join_as, live_as}
+use Rattle.dav_session_core.proofs.Asking.{live_as}
 use Rattle.dav_session_core.proofs.CallerLaws.{asks_of, asks_shape}
 use Rattle.dav_session_core.proofs.MakeLemmas.{nothing_in}
 use Rattle.dav_session_core.proofs.MoveLemmas.{can_move_then, clearing_free, source_no_root, stands_in, target_no_root}
@@ -169,9 +169,3 @@ module _ (scheme : Scheme) (prefix : List ℕ) (headers : Entries FieldValue) (w
         leads = are.leads.leads;
         cleared = subst (λ t. IsCleared who.now target (live who.now s) t) (sym (subst (λ (w : Caller). SameLive w.now m s') same still)) ready.cleared;
       }))
-
--- its requests are a run of the one caller
-pub move_run : (who asker checker mover : Caller) (s a b m s' : State) → asker ≡ who → checker ≡ asker → mover ≡ checker → RunBy who s a → RunBy asker a b → RunBy checker b m
-    → RunBy mover m s' → RunBy who s s'
-move_run who asker checker mover s a b m s' first second third r1 r2 r3 r4 =
-    join_as who asker s a s' first r1 (join_as asker checker a b s' second r2 (join_as checker mover b m s' third r3 r4))

@@ -20,7 +20,7 @@ use Rattle.dav_faults_core.specs.declared.faults.Fault.TheVariants as fault
 use Rattle.dav_session_core.specs.Callers.{Caller, as_caller, asking, refusing_at}
 use Rattle.dav_session_core.specs.Ends.{HasFolder}
 use Rattle.dav_session_core.specs.Granting.{also_naming, with_lock}
-use Rattle.dav_session_core.specs.Private.Refusing.{put_fault}
+use Rattle.dav_session_core.specs.StoreRefusals.{put_fault}
 use Rattle.dav_session_core.proofs.GrantLemmas.{any_of, text_same}
 use Rattle.dav_session_core.proofs.OwnLemmas.{at_covers}
 use Rattle.dav_session_core.proofs.PutLemmas.{change_err, has_place}

@@ -16,7 +16,8 @@ use Rattle.dav_fields_core.specs.Refusals.{HasBadIf}
 use Rattle.dav_fields_core.specs.TaggedLists.{base_of}
 
 -- a reading of its `If` for a path, and whether it holds there
-pub record Weighs (scheme : Scheme) (s : State) (headers : Entries FieldValue) (here : PathText) (holds : Bool) : Type 0 where
+pub record Weighs (scheme : Scheme) (s : State) (headers : Entries FieldValue) (here : PathText)
+    (holds : Bool) : Type 0 where
   pub lists : List Located
   pub reads : ReadsAs (get_all headers (codes "if")) lists
   pub base : Parts
@@ -25,13 +26,15 @@ pub record Weighs (scheme : Scheme) (s : State) (headers : Entries FieldValue) (
 
 -- it has no `If`, or its `If` holds
 abbrev pub IsAdmitted : Scheme → State → Entries FieldValue → PathText → Type 0
-IsAdmitted scheme s headers here = (get_all headers (codes "if") ≡ []) ⊎ Weighs scheme s headers here true
+IsAdmitted scheme s headers here =
+    (get_all headers (codes "if") ≡ []) ⊎ Weighs scheme s headers here true
 
 -- its `If` doesn't hold; or it isn't read, or it is read and nothing tells where URLs begin
 abbrev pub IsHeldOff : Scheme → State → Entries FieldValue → PathText → Fault → Type 0
 IsHeldOff scheme s headers here fault.PreconditionFailed = Weighs scheme s headers here false
 IsHeldOff scheme s headers here fault.BadRequest =
     HasBadIf headers
-    ⊎ ((lists : List Located) × ReadsAs (get_all headers (codes "if")) lists × ((base : Parts) → ¬ IsBase scheme headers base))
+    ⊎ ((lists : List Located) × ReadsAs (get_all headers (codes "if")) lists
+    × ((base : Parts) → ¬ IsBase scheme headers base))
 IsHeldOff scheme s headers here fault.InsufficientStorage = Unit {0}
 IsHeldOff scheme s headers here _ = ⊥

@@ -1,2 +1,2 @@
-pub mod Rooms
 pub mod Telling
+pub mod Transfers

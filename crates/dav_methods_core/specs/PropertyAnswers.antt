@@ -1,12 +1,11 @@
 -- What may be told of what stands at a path (RFC 4918 sections 8.3, 9.1 and 15).
-use Rattle.std.specs.Prelude.{◌≡◌, ℕ, ◌/◌, Bool, true, false, List, [], ◌∷◌, ◌++◌, codes, flat_map, Some, if◌then◌else◌}
+use Rattle.std.specs.Prelude.{◌≡◌, ℕ, ◌/◌, Bool, List, [], ◌∷◌, ◌++◌, codes, flat_map, Some}
+use Rattle.std.specs.Prelude.{if◌then◌else◌}
 use Rattle.std.specs.FinMap.{values}
 use Rattle.dav_path_core.specs.Fronts.{Path}
 use Rattle.dav_path_core.specs.Url.{url}
-use Rattle.dav_files_core.specs.declared.memfs.Kind.{Kind}
-use Rattle.dav_files_core.specs.declared.memfs.Kind.TheVariants.{Folder, File}
 use Rattle.dav_files_core.specs.Meta.{Meta, meta_at}
-use Rattle.dav_files_core.specs.Resources.{Property, Resource, at_path}
+use Rattle.dav_files_core.specs.Resources.{Property, Resource, at_path, is_folder}
 use Rattle.dav_locks_core.specs.Lock.{Lock}
 use Rattle.dav_locks_core.specs.Locks.{discovered}
 use Rattle.dav_resource_core.specs.Step.{State}
@@ -18,16 +17,13 @@ use Rattle.dav_documents_core.specs.RefusalBodies.{front}
 
 -- ---- a place
 
-abbrev pub is_folder : Kind → Bool
-is_folder Folder = true
-is_folder File = false
-
 abbrev pub segments_url : Path → List ℕ
 segments_url p = flat_map (λ s. codes "/" ++ url s) p
 
 -- the URL of a place; that of a folder ends in a slash (RFC 4918 section 5.2)
 abbrev pub place_url : List ℕ → Path → Bool → List ℕ
-place_url prefix p folder = url (front prefix) ++ segments_url p ++ (if folder then codes "/" else [])
+place_url prefix p folder =
+    url (front prefix) ++ segments_url p ++ (if folder then codes "/" else [])
 
 -- the last segment
 abbrev pub last_or : List ℕ → Path → List ℕ
@@ -35,7 +31,8 @@ last_or name [] = name
 last_or name (s ∷ p) = last_or s p
 
 -- by what is known of it, its properties, and the locks that cover it
-pub record IsDescribed (prefix : List ℕ) (p : Path) (known : Meta) (props : List Property) (locks : List Lock) (d : Description) : Type 0 where
+pub record IsDescribed (prefix : List ℕ) (p : Path) (known : Meta) (props : List Property)
+    (locks : List Lock) (d : Description) : Type 0 where
   pub url_is : d.url ≡ place_url prefix p (is_folder known.kind)
   pub folder_is : d.folder ≡ is_folder known.kind
   pub size_is : d.size ≡ known.length
@@ -50,4 +47,5 @@ pub record IsDescribed (prefix : List ℕ) (p : Path) (known : Meta) (props : Li
 pub record Describes (prefix : List ℕ) (s : State) (p : Path) (d : Description) : Type 0 where
   pub resource : Resource
   pub here : at_path s.map p ≡ Some resource
-  pub described : IsDescribed prefix p (meta_at resource.node) (values resource.node.props) (discovered s.locks p) d
+  pub described : IsDescribed prefix p (meta_at resource.node) (values resource.node.props)
+      (discovered s.locks p) d

@@ -4,11 +4,11 @@ ghost use Rattle.dav_path_core.specs.Segments.{segments};
 ghost use Rattle.dav_files_core.specs.Resources.{at_path};
 ghost use Rattle.dav_headers_core.specs.IfValues.{condition_of, conditions_of, item_of, located};
 ghost use Rattle.dav_methods_core.specs.Admitting.{IsAdmitted, IsHeldOff};
-ghost use Rattle.dav_session_core.specs.Callers.{RunBy, SameLive, live};
-ghost use Rattle.dav_session_core.specs.Conditions.{IfIs, condition_holds, conditions_hold, has_item};
+ghost use Rattle.dav_session_core.specs.Conditions.{IfIs, condition_holds, conditions_hold};
+ghost use Rattle.dav_session_core.specs.Conditions.{has_item};
 ghost use Rattle.dav_fields_core.specs.FileTags.{standing_of};
 ghost use Rattle.dav_fields_core.specs.Preconditions.{has_tag};
-ghost use Rattle.dav_session_core.specs.Sessions as spec;
+ghost use Rattle.dav_session_core.specs.Sessions.{Looks, live_of, state};
 ghost use Rattle.dav_fields_core.specs.TaggedLists.{base_of, spoken};
 ghost use Rattle.dav_fields_core.specs.declared.listed_tags.Comparison.TheVariants.{Strong};
 ghost use Rattle.dav_faults_core.specs.declared.faults.Fault.TheVariants as fault;
@@ -43,11 +43,11 @@ fn has_file_tag<R: Rng>(
     path: &DavPath,
     tag: &ETag,
 ) -> Result<bool, Fault>
-    ensures ok { IfOk result (λ has. has ≡ has_tag Strong (standing_of (at_path (spec.state R.stream session.old).map (segments path.now.bytes))) tag.now) }
+    ensures ok { IfOk result (λ has. has
+        ≡ has_tag Strong (standing_of
+        (at_path (state R.stream session.old).map (segments path.now.bytes))) tag.now) }
     ensures err { IfErr result (λ e. e ≡ fault.InsufficientStorage) }
-    ensures run { RunBy (spec.caller session.old) (spec.state R.stream session.old) (spec.state R.stream session.new) }
-    ensures live { SameLive (spec.caller session.old).now (spec.state R.stream session.old) (spec.state R.stream session.new) }
-    ensures caller { spec.caller session.new ≡ spec.caller session.old }
+    ensures looks { Looks R.stream session.old session.new }
 {
     let standing = session.standing(alloc, copy_of(path)?)?;
     Ok(has_tag(Comparison::Strong, &standing, tag.as_str().as_bytes()))
@@ -60,11 +60,10 @@ fn has_item<R: Rng>(
     at: &Option<DavPath>,
     item: &IfItem,
 ) -> Result<bool, Fault>
-    ensures ok { IfOk result (λ has. has ≡ has_item (live (spec.caller session.old).now (spec.state R.stream session.old)) (spoken at.now) (item_of item.now)) }
+    ensures ok { IfOk result (λ has. has ≡ has_item (live_of R.stream session.old) (spoken at.now)
+        (item_of item.now)) }
     ensures err { IfErr result (λ e. e ≡ fault.InsufficientStorage) }
-    ensures run { RunBy (spec.caller session.old) (spec.state R.stream session.old) (spec.state R.stream session.new) }
-    ensures live { SameLive (spec.caller session.old).now (spec.state R.stream session.old) (spec.state R.stream session.new) }
-    ensures caller { spec.caller session.new ≡ spec.caller session.old }
+    ensures looks { Looks R.stream session.old session.new }
 {
     match at {
         None => return Ok(false),
@@ -82,11 +81,10 @@ fn condition_holds<R: Rng>(
     at: &Option<DavPath>,
     condition: &IfCondition,
 ) -> Result<bool, Fault>
-    ensures ok { IfOk result (λ holds. holds ≡ condition_holds (live (spec.caller session.old).now (spec.state R.stream session.old)) (spoken at.now) (condition_of condition.now)) }
+    ensures ok { IfOk result (λ holds. holds ≡ condition_holds (live_of R.stream session.old)
+        (spoken at.now) (condition_of condition.now)) }
     ensures err { IfErr result (λ e. e ≡ fault.InsufficientStorage) }
-    ensures run { RunBy (spec.caller session.old) (spec.state R.stream session.old) (spec.state R.stream session.new) }
-    ensures live { SameLive (spec.caller session.old).now (spec.state R.stream session.old) (spec.state R.stream session.new) }
-    ensures caller { spec.caller session.new ≡ spec.caller session.old }
+    ensures looks { Looks R.stream session.old session.new }
 {
     let has = has_item(alloc, session, at, &condition.item)?;
     Ok(if condition.not { !has } else { has })
@@ -99,11 +97,10 @@ fn conditions_hold<R: Rng>(
     at: &Option<DavPath>,
     conditions: &[IfCondition],
 ) -> Result<bool, Fault>
-    ensures ok { IfOk result (λ hold. hold ≡ conditions_hold (live (spec.caller session.old).now (spec.state R.stream session.old)) (spoken at.now) (conditions_of conditions.now)) }
+    ensures ok { IfOk result (λ hold. hold ≡ conditions_hold (live_of R.stream session.old)
+        (spoken at.now) (conditions_of conditions.now)) }
     ensures err { IfErr result (λ e. e ≡ fault.InsufficientStorage) }
-    ensures run { RunBy (spec.caller session.old) (spec.state R.stream session.old) (spec.state R.stream session.new) }
-    ensures live { SameLive (spec.caller session.old).now (spec.state R.stream session.old) (spec.state R.stream session.new) }
-    ensures caller { spec.caller session.new ≡ spec.caller session.old }
+    ensures looks { Looks R.stream session.old session.new }
 {
     for condition in conditions {
         if !condition_holds(alloc, session, at, condition)? {
@@ -121,11 +118,10 @@ fn one_holds<R: Rng>(
     here: &DavPath,
     base: &Url,
 ) -> Result<bool, Fault>
-    ensures ok { IfOk result (IfIs (live (spec.caller session.old).now (spec.state R.stream session.old)) (base_of base.now here.now) (segments here.now.bytes) (map located lists.now)) }
+    ensures ok { IfOk result (IfIs (live_of R.stream session.old) (base_of base.now here.now)
+        (segments here.now.bytes) (map located lists.now)) }
     ensures err { IfErr result (λ e. e ≡ fault.InsufficientStorage) }
-    ensures run { RunBy (spec.caller session.old) (spec.state R.stream session.old) (spec.state R.stream session.new) }
-    ensures live { SameLive (spec.caller session.old).now (spec.state R.stream session.old) (spec.state R.stream session.new) }
-    ensures caller { spec.caller session.new ≡ spec.caller session.old }
+    ensures looks { Looks R.stream session.old session.new }
 {
     let mut at = Some(copy_of(here)?);
     for list in lists {
@@ -137,12 +133,15 @@ fn one_holds<R: Rng>(
     Ok(false)
 }
 
-/// Whether an `If` holds for a request for the path `here`: whether all conditions of one of its lists do (RFC 4918 sections 10.4.3 and 10.4.4). A state
-/// token holds where a lock with it covers the resource and has not expired, whoever asks; an entity tag where the resource is a file with an equal one,
-/// by strong comparison. A resource tag is for all lists up to the next one. It names a path where it has the scheme, the host and the port of `base`, and
-/// stands behind the prefix of `here`; else it stands for a resource that has neither locks nor tags.
+/// Whether an `If` holds for a request for the path `here`: whether all conditions of one of its
+/// lists do (RFC 4918 sections 10.4.3 and 10.4.4). A state token holds where a lock with it covers
+/// the resource and has not expired, whoever asks; an entity tag where the resource is a file with
+/// an equal one, by strong comparison. A resource tag is for all lists up to the next one. It names
+/// a path where it has the scheme, the host and the port of `base`, and stands behind the prefix of
+/// `here`; else it stands for a resource that has neither locks nor tags.
 ///
-/// `InsufficientStorage` where there is no memory for it, and never else. Nothing changes, but locks that have expired may be gone.
+/// `InsufficientStorage` where there is no memory for it, and never else. Nothing changes, but
+/// locks that have expired may be gone.
 pub fn evaluate<R: Rng>(
     alloc: Global,
     session: &mut Session<R>,
@@ -150,20 +149,21 @@ pub fn evaluate<R: Rng>(
     here: &DavPath,
     base: &Url,
 ) -> Result<bool, Fault>
-    ensures ok { IfOk result (IfIs (live (spec.caller session.old).now (spec.state R.stream session.old)) (base_of base.now here.now) (segments here.now.bytes) (map located header.now.0.items)) }
+    ensures ok { IfOk result (IfIs (live_of R.stream session.old) (base_of base.now here.now)
+        (segments here.now.bytes) (map located header.now.0.items)) }
     ensures err { IfErr result (λ e. e ≡ fault.InsufficientStorage) }
-    ensures run { RunBy (spec.caller session.old) (spec.state R.stream session.old) (spec.state R.stream session.new) }
-    ensures live { SameLive (spec.caller session.old).now (spec.state R.stream session.old) (spec.state R.stream session.new) }
-    ensures caller { spec.caller session.new ≡ spec.caller session.old }
+    ensures looks { Looks R.stream session.old session.new }
 {
     let If(lists) = header;
     one_holds(alloc, session, lists, here, base)
 }
 
-/// Lets a request for the path `here` go on where it has no `If`, or its `If` holds, as `evaluate` says. Its resource tags are compared with the scheme and its `Host`.
+/// Lets a request for the path `here` go on where it has no `If`, or its `If` holds, as `evaluate`
+/// says. Its resource tags are compared with the scheme and its `Host`.
 ///
-/// `BadRequest` where the `If` can't be read, or there is no `Host` that is a host; `PreconditionFailed` where the `If` doesn't hold (RFC 4918 section 10.4);
-/// `InsufficientStorage` where there is no memory for it. Nothing changes, but locks that have expired may be gone.
+/// `BadRequest` where the `If` can't be read, or there is no `Host` that is a host;
+/// `PreconditionFailed` where the `If` doesn't hold (RFC 4918 section 10.4); `InsufficientStorage`
+/// where there is no memory for it. Nothing changes, but locks that have expired may be gone.
 pub fn admit<R: Rng>(
     alloc: Global,
     session: &mut Session<R>,
@@ -171,11 +171,11 @@ pub fn admit<R: Rng>(
     headers: &HeaderMap<HeaderValue>,
     here: &DavPath,
 ) -> Result<(), Fault>
-    ensures ok { OnOk result (IsAdmitted scheme (live (spec.caller session.old).now (spec.state R.stream session.old)) headers.now here.now) }
-    ensures err { IfErr result (IsHeldOff scheme (live (spec.caller session.old).now (spec.state R.stream session.old)) headers.now here.now) }
-    ensures run { RunBy (spec.caller session.old) (spec.state R.stream session.old) (spec.state R.stream session.new) }
-    ensures live { SameLive (spec.caller session.old).now (spec.state R.stream session.old) (spec.state R.stream session.new) }
-    ensures caller { spec.caller session.new ≡ spec.caller session.old }
+    ensures ok { OnOk result
+        (IsAdmitted scheme (live_of R.stream session.old) headers.now here.now) }
+    ensures err { IfErr result
+        (IsHeldOff scheme (live_of R.stream session.old) headers.now here.now) }
+    ensures looks { Looks R.stream session.old session.new }
 {
     let Some(header) = if_of(alloc, headers)? else {
         return Ok(());

@@ -1,14 +1,14 @@
 //! What may be told of what stands at a path.
-ghost use Rattle.std.specs.Prelude.{◌≡◌, ◌⊎◌, ◌++◌, [], codes, if◌then◌else◌, map, None, string_bytes, IfErr, IfOk, OnOk};
+ghost use Rattle.std.specs.Prelude.{◌≡◌, ◌⊎◌, ◌++◌, [], codes, if◌then◌else◌, map, None};
+ghost use Rattle.std.specs.Prelude.{string_bytes, IfErr, IfOk, OnOk};
 ghost use Rattle.dav_path_core.specs.Segments.{segments};
 ghost use Rattle.dav_files_core.specs.Meta.{meta_of};
 ghost use Rattle.dav_files_core.specs.Properties.{property_of};
-ghost use Rattle.dav_files_core.specs.Resources.{at_path};
+ghost use Rattle.dav_files_core.specs.Resources.{at_path, is_folder};
 ghost use Rattle.dav_fields_core.specs.FileTags.{file_tag};
-ghost use Rattle.dav_session_core.specs.Callers.{RunBy, SameLive, live};
 ghost use Rattle.dav_methods_core.specs.PropertyAnswers as spec_of;
-ghost use Rattle.dav_documents_core.specs.Private.Describing.{description_of};
-ghost use Rattle.dav_session_core.specs.Sessions as spec;
+ghost use Rattle.dav_documents_core.specs.DescriptionViews.{description_of};
+ghost use Rattle.dav_session_core.specs.Sessions.{Looks, live_of, state};
 ghost use Rattle.dav_faults_core.specs.declared.faults.Fault.TheVariants as fault;
 
 use dav_documents_core::documents::front_of;
@@ -26,20 +26,19 @@ use rand_core::Rng;
 use std::alloc::{AllocError, Global};
 use std::convert::AsStr;
 
-/// What may be told of what stands at a path, behind the prefix (RFC 4918 section 15). `NotFound` where nothing stands there.
+/// What may be told of what stands at a path, behind the prefix (RFC 4918 section 15). `NotFound`
+/// where nothing stands there.
 pub fn describe<R: Rng>(
     alloc: Global,
     session: &mut Session<R>,
     prefix: &str,
     place: &DavPath,
 ) -> Result<Description, Fault>
-    ensures ok { IfOk result (λ d. spec_of.Describes prefix.now (live (spec.caller session.old).now (spec.state R.stream session.old))
+    ensures ok { IfOk result (λ d. spec_of.Describes prefix.now (live_of R.stream session.old)
         (segments place.now.bytes) (description_of d)) }
-    ensures err { IfErr result (λ e. (e ≡ fault.InsufficientStorage)
-        ⊎ ((e ≡ fault.NotFound) × (at_path (spec.state R.stream session.old).map (segments place.now.bytes) ≡ None))) }
-    ensures run { RunBy (spec.caller session.old) (spec.state R.stream session.old) (spec.state R.stream session.new) }
-    ensures live { SameLive (spec.caller session.old).now (spec.state R.stream session.old) (spec.state R.stream session.new) }
-    ensures caller { spec.caller session.new ≡ spec.caller session.old }
+    ensures err { IfErr result (λ e. (e ≡ fault.InsufficientStorage) ⊎ ((e ≡ fault.NotFound)
+        × (at_path (state R.stream session.old).map (segments place.now.bytes) ≡ None))) }
+    ensures looks { Looks R.stream session.old session.new }
 {
     let Some(meta) = session.meta(copy_of(place)?) else {
         return Err(Fault::NotFound);
@@ -57,8 +56,8 @@ fn described(
     props: Vec<DavProp>,
     locks: Vec<DavLock>,
 ) -> Result<Description, Fault>
-    ensures ok { IfOk result (λ d. spec_of.IsDescribed prefix.now (segments place.now.bytes) (meta_of meta.now) (map property_of props.items) locks.items
-        (description_of d)) }
+    ensures ok { IfOk result (λ d. spec_of.IsDescribed prefix.now (segments place.now.bytes)
+        (meta_of meta.now) (map property_of props.items) locks.items (description_of d)) }
     ensures err { IfErr result (λ e. e ≡ fault.InsufficientStorage) }
 {
     let folder = is_folder(meta);
@@ -76,7 +75,7 @@ fn described(
 }
 
 fn is_folder(meta: &MemFsMeta) -> bool
-    ensures { result ≡ spec_of.is_folder (meta_of meta.now).kind }
+    ensures { result ≡ is_folder (meta_of meta.now).kind }
 {
     meta.is_dir()
 }
@@ -119,7 +118,8 @@ fn place_url(
     path: &DavPath,
     folder: bool,
 ) -> Result<String, AllocError>
-    ensures { IfOk result (λ text. string_bytes text ≡ spec_of.place_url prefix.now (segments path.now.bytes) folder) }
+    ensures { IfOk result (λ text. string_bytes text ≡ spec_of.place_url prefix.now
+        (segments path.now.bytes) folder) }
 {
     let mut text = String::new(alloc);
     escaped(front_of(prefix)).append_to(&mut text)?;
@@ -129,7 +129,8 @@ fn place_url(
 }
 
 fn push_segments(text: &mut String, path: &DavPath) -> Result<(), AllocError>
-    ensures { OnOk result (string_bytes text.new ≡ string_bytes text.old ++ spec_of.segments_url (segments path.now.bytes)) }
+    ensures { OnOk result (string_bytes text.new ≡ string_bytes text.old
+        ++ spec_of.segments_url (segments path.now.bytes)) }
 {
     for segment in path.segments() {
         text.push_str("/")?;
@@ -139,7 +140,8 @@ fn push_segments(text: &mut String, path: &DavPath) -> Result<(), AllocError>
 }
 
 fn push_slash(text: &mut String, folder: bool) -> Result<(), AllocError>
-    ensures { OnOk result (string_bytes text.new ≡ string_bytes text.old ++ (if folder then codes "/" else [])) }
+    ensures { OnOk result (string_bytes text.new ≡ string_bytes text.old
+        ++ (if folder then codes "/" else [])) }
 {
     if folder {
         text.push_str("/")?;

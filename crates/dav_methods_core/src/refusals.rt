@@ -13,8 +13,9 @@ use http_header::{HeaderName, HeaderValue};
 use http_server::Response;
 use std::alloc::{AllocError, Global};
 
-/// Tells a fault by its status; and where there is memory for it, why: by a document, and by the methods that are served, if the path doesn't take this
-/// one (RFC 9110 section 15.5.6). Paths stand behind the prefix in a document.
+/// Tells a fault by its status; and where there is memory for it, why: by a document, and by the
+/// methods that are served, if the path doesn't take this one (RFC 9110 section 15.5.6). Paths
+/// stand behind the prefix in a document.
 pub fn refuse(alloc: Global, response: &mut Response, prefix: &str, fault: &Fault)
     ensures status { response.new.status ≡ fault_status fault.now }
     ensures told { TellsWhy prefix.now fault.now response.new }
@@ -59,8 +60,10 @@ fn say_why(
 /// A document for a body, and that it is XML.
 pub fn say_document(response: &mut Response, document: Vec<u8>) -> Result<(), AllocError>
     ensures status { response.new.status ≡ response.old.status }
-    ensures fields { OnOk result (fields_of response.new ≡ fields_of response.old ++ (codes "content-type", xml_type) ∷ []) }
-    ensures body { OnOk result (response.new.body.items ≡ response.old.body.items ++ document.items) }
+    ensures fields { OnOk result (fields_of response.new ≡ fields_of response.old
+        ++ (codes "content-type", xml_type) ∷ []) }
+    ensures body { OnOk result (response.new.body.items ≡ response.old.body.items
+        ++ document.items) }
 {
     response.add_header(
         HeaderName::from_static("content-type"),

@@ -1,5 +1,6 @@
 -- The keyed tree: a finite map from numbers to parent, key and item, and the next number. Number 1 is the root (own).
-use Rattle.std.specs.Prelude.{◌≡◌, ℕ, ◌+◌, max, ◌<◌, ◌==◌, ◌&&◌, ◌||◌, not, zero, suc, Bool, true, false, if◌then◌else◌, List, [], ◌∷◌, Option, Some, None, IsSome, is_some, refl}
+use Rattle.std.specs.Prelude.{◌≡◌, ℕ, ◌+◌, max, ◌<◌, ◌==◌, ◌&&◌, ◌||◌, not, zero, suc, Bool, true, false, if◌then◌else◌, List, [], ◌∷◌, Option, Some, None, IsSome, is_some, eqb, refl}
+use Rattle.std.specs.List.{list_any}
 use Rattle.std.specs.Option.{option_map}
 use Rattle.std.specs.Ordering.{nat_cmp}
 use Rattle.std.specs.Coded.{Coded, code_by, coded×, coded_ℕ, coded_option}
@@ -24,6 +25,14 @@ entry_code {K} {D} k d =
 abbrev pub keyed_code : {K D : Type 0} → Coded K → Coded D → Coded (Keyed K D)
 keyed_code {K} {D} k d =
     code_by (FinMap nat_cmp (Entry K D) × ℕ) (coded× (code coded_ℕ (entry_code k d)) coded_ℕ) (λ t. (t.nodes, t.next)) (λ p. record { nodes = p.0; next = p.1 }) (λ _. refl)
+
+-- n is among ks
+abbrev pub IsIn : ℕ → List ℕ → Type 0
+IsIn n ks = list_any (eqb n) ks ≡ true
+
+-- numbers are from 1 to 2^64 - 2
+abbrev pub is_out_of_range : ℕ → Bool
+is_out_of_range n = (n == 0) || (n == 18446744073709551615)
 
 -- n leads to 1 by the parents that f gives
 pub data Leads (f : ℕ → Option ℕ) : ℕ → Type 0 where
@@ -104,12 +113,12 @@ module _ {K D : Type 0} where
   abbrev pub restored : Keyed K D → ℕ → K → D → ℕ → Keyed K D
   restored t p k d n = add_as t n (max t.next (n + 1)) p k d
 
-  -- why such a node can't be added: numbers are from 1 to 2^64 - 2
+  -- why such a node can't be added
   abbrev pub restore_refusal : Keyed K D → ℕ → ℕ → Option FsError
   restore_refusal t p n =
       if is_some (entry t p)
       then (if is_some (entry t n) then Some Exists
-      else (if (n == 0) || (n == 18446744073709551615) then Some Forbidden else None))
+      else (if is_out_of_range n then Some Forbidden else None))
       else Some NotFound
 
   -- t with another item at n

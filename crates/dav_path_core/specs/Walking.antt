@@ -1,9 +1,10 @@
 -- The walk of what stands at a node and below it, along first children, siblings and parents: first a node, and then what is
 -- below it (own).
-use Rattle.std.specs.Prelude.{◌≡◌, ◌≢◌, ◌⊎◌, ◌↔◌, ◌==◌, ℕ, zero, suc, true, eqb, if◌then◌else◌, List, [], ◌∷◌, ◌++◌, Option, Some, None}
+use Rattle.std.specs.Prelude.{◌≡◌, ◌≢◌, ◌⊎◌, ◌↔◌, ◌==◌, ℕ, zero, suc, eqb, if◌then◌else◌, List, [], ◌∷◌, ◌++◌, Option, Some, None}
 use Rattle.std.specs.FinMap.{len}
-use Rattle.std.specs.List.{list_any, IsDistinct}
-use Rattle.dav_path_core.specs.Keyed.{Keyed, IsKnown, Under, parent}
+use Rattle.std.specs.List.{IsDistinct}
+use Rattle.std.specs.Option.{option_or}
+use Rattle.dav_path_core.specs.Keyed.{Keyed, IsIn, IsKnown, Under, parent}
 use Rattle.dav_path_core.specs.TreeValue.{TreeValue, first, after}
 
 -- s is a sibling behind n
@@ -15,11 +16,6 @@ pub data Follows (next : ℕ → Option ℕ) : ℕ → ℕ → Type 0 where
 pub data Later {K D : Type 0} (t : TreeValue K D) (top : ℕ) : ℕ → ℕ → Type 0 where
   beside : {n s q : ℕ} → n ≢ top → Follows (after t) n s → Under (parent t.keyed) s q → Later t top n q
   above : {n p q : ℕ} → n ≢ top → parent t.keyed n ≡ Some p → Later t top p q → Later t top n q
-
--- a number, or else what is found where there is none
-abbrev pub or_else : Option ℕ → Option ℕ → Option ℕ
-or_else None o = o
-or_else (Some n) o = Some n
 
 module _ {K D : Type 0} where
   -- q is still to be met by a walk below top that stands at n
@@ -42,11 +38,11 @@ module _ {K D : Type 0} where
   abbrev pub climbs : TreeValue K D → ℕ → ℕ → ℕ → Option ℕ
   climbs t top zero n = None
   climbs t top (suc steps) n =
-      if n == top then None else or_else (after t n) (elim (parent t.keyed n) [ None ↦ None | Some p ↦ climbs t top steps p ])
+      if n == top then None else option_or (after t n) (elim (parent t.keyed n) [ None ↦ None | Some p ↦ climbs t top steps p ])
 
   -- the number after n in the walk below top
   abbrev pub following : TreeValue K D → ℕ → ℕ → Option ℕ
-  following t top n = or_else (first t n) (climbs t top (len t.keyed.nodes) n)
+  following t top n = option_or (first t n) (climbs t top (len t.keyed.nodes) n)
 
   -- the numbers that a walk from the root meets from o on, so many at most
   abbrev pub numbers_from : TreeValue K D → ℕ → Option ℕ → List ℕ
@@ -56,6 +52,6 @@ module _ {K D : Type 0} where
 
   -- the numbers of the nodes, each once, and each behind its parent
   pub record IsWalk (t : Keyed K D) (ns : List ℕ) : Type 0 where
-    pub members : (n : ℕ) → (list_any (eqb n) ns ≡ true) ↔ IsKnown t n
+    pub members : (n : ℕ) → IsIn n ns ↔ IsKnown t n
     pub once : IsDistinct eqb ns
-    pub behind : (front rest : List ℕ) (n p : ℕ) → ns ≡ front ++ n ∷ rest → parent t n ≡ Some p → list_any (eqb p) front ≡ true
+    pub behind : (front rest : List ℕ) (n p : ℕ) → ns ≡ front ++ n ∷ rest → parent t n ≡ Some p → IsIn p front

@@ -150,17 +150,6 @@ checks_below folder m (Command.PatchProps path patch) within = (within, tt)
 checks_below folder m (Command.Check path deep) within = (within, tt)
 checks_below folder m _ within = tt
 
-same_target : (folder : Path) (m n : ResourceMap) (p : Path) → AgreeBelow folder m n → is_below folder p ≡ true → target n p ≡ target m p
-same_target folder m n p agree h =
-    let w = inside folder p h in
-    ap (λ o. if is_some o then shallow p ∷ [] else member p false) (ap (at_path n) w.2 ∙ agree.same (w.0 ∷ w.1) ∙ sym (ap (at_path m) w.2))
-
--- and they are the same in two maps that agree
-pub same_checks : (folder : Path) (m n : ResourceMap) (c : Command) → AgreeBelow folder m n → is_within folder c ≡ true → checks n c ≡ checks m c
-same_checks folder m n (Command.Put path bytes) agree below = same_target folder m n path agree below
-same_checks folder m n (Command.Copy from to) agree below = same_target folder m n to agree (and_parts (is_front folder from) (is_below folder to) below).1
-same_checks folder m n _ agree below = refl
-
 -- ---- the next number never falls
 
 pub same_next : (m m' : ResourceMap) → m' ≡ m → m.next ≤ m'.next

@@ -247,17 +247,6 @@ pub all_written : (text done rest : List ℕ) (old new : Option (List ℕ)) → 
 all_written text done [] old new split none more = subst (Appends old new) (sym (split ∙ append-nil done)) more
 all_written text done (b ∷ rest) old new split none more = absurd (omega arith)
 
--- no bytes are what was there
-pub none_more : (old new : Option (List ℕ)) → Appends old new [] → Keeps old new
-none_more None new more = tt
-none_more (Some x) None more = absurd more
-none_more (Some x) (Some y) more = more ∙ append-nil x
-
-pub kept_none : (old new : Option (List ℕ)) → Keeps old new → Appends old new []
-kept_none None new same = tt
-kept_none (Some x) None same = absurd same
-kept_none (Some x) (Some y) same = same ∙ sym (append-nil x)
-
 -- one more piece
 pub more_written : (text done rest : List ℕ) (old out new : Option (List ℕ)) (count : ℕ) → text ≡ done ++ rest → Appends old out done → Appends out new (take count rest)
     → (done' : List ℕ) × (text ≡ done' ++ drop count rest) × Appends old new done'

@@ -65,10 +65,6 @@ refused_later locks who ks ls OutOfMemory none h = λ all. h (sym (refusing-rest
 refused_later locks who ks ls (Fs e) none h = absurd h
 refused_later locks who ks ls NoLock none h = absurd h
 
--- where none refuses the first checks nor the others, none refuses them all
-pub free_all : (locks : List Lock) (who : Caller) (ks ls : List Check) → refusing locks who ks ≡ [] → refusing locks who ls ≡ [] → refusing locks who (ks ++ ls) ≡ []
-free_all locks who ks ls none others = refusing-rest locks who ks ls none ∙ others
-
 -- ---- locks
 
 -- a refused lock

@@ -1,6 +1,6 @@
 -- What a caller's requests are answered, and what they leave.
 use Rattle.std.proofs.Common.{true, ◌≡◌, ◌⊎◌, inl, inr, ℕ, List, [], ◌∷◌, ◌++◌, map, take, drop, Option, Some, None, Result, Ok, Err, refl, sym, ◌∙◌, ap, subst}
-use Rattle.std.specs.Prelude.{ok_or, OnErr}
+use Rattle.std.specs.Prelude.{ok_or}
 use Rattle.std.specs.FinMap.{entries, values}
 use Rattle.std.proofs.lemmas.Bool.{false≢true, or_from}
 use Rattle.std.proofs.lemmas.List.{map-append}
@@ -22,16 +22,13 @@ use Rattle.dav_files_core.specs.Resources.{Resource, ResourceMap, at_path}
 use Rattle.dav_locks_core.proofs.laws.StaleLemmas.{stale_once}
 use Rattle.dav_resource_core.specs.Requests.{Command, Reply, Meta, Bytes, Entries, Props, Value, Answer, Refusal, Fs, Locked, NoLock, OutOfMemory}
 use Rattle.dav_resource_core.specs.ResourceStep.{tells, MayLackOnMap}
-use Rattle.dav_resource_core.specs.Served.{answer_of, refusal_of}
-use Rattle.dav_resource_core.specs.declared.guarded.requests.Reply as served
-use Rattle.dav_resource_core.specs.declared.guarded.requests.Refusal as served_refusal
 use Rattle.dav_resource_core.specs.Step.{State, Same, Effect, Step, Run}
 use Rattle.dav_resource_core.proofs.Frame.{told_left}
 use Rattle.dav_resource_core.proofs.RunLaws.{run_join}
 use Rattle.dav_resource_core.proofs.StepLaws.{Same-equal, Same-refl, outcome}
 use Rattle.dav_faults_core.specs.declared.faults.Fault.{Fault}
 use Rattle.dav_faults_core.specs.declared.faults.Fault.TheVariants as fault
-use Rattle.dav_session_core.specs.Private.Refusing.{list_fault}
+use Rattle.dav_session_core.specs.StoreRefusals.{list_fault}
 use Rattle.dav_session_core.specs.Callers.{Asks, Caller, RunBy, asking, ends_or_refreshes, is_look, live, SameLive}
 use Rattle.dav_session_core.proofs.CallerLaws.{asks_of}
 
@@ -114,11 +111,6 @@ refused_live who c s s' (Fs e) h = same_live who.now s s' h.1
 refused_live who c s s' (Locked l) h = same_live who.now s s' h.1
 refused_live who c s s' NoLock h = same_live who.now s s' h.1
 refused_live who c s s' OutOfMemory h = same_live who.now s s' h.1
-
-pub refused_result : (who : Caller) (c : Command) (s s' : State) (result : Result served.Reply served_refusal.Refusal) → Step s (asking who c) (answer_of result) s'
-    → OnErr result (SameLive who.now s s')
-refused_result who c s s' (Ok reply) h = tt
-refused_result who c s s' (Err e) h = refused_live who c s s' (refusal_of e) h
 
 -- ---- what a `Read` tells
 

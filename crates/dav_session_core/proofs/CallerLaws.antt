@@ -89,9 +89,6 @@ runs_exclusive s s' h x = run_exclusive s s' h.requests h.answers x h.run
 pub runs_shape : (s s' : State) → Runs s s' → IsResourceMap s.map → IsResourceMap s'.map
 runs_shape s s' h is_map = run_shape s s' h.requests h.answers is_map h.run
 
-pub asks_exclusive : (who : Caller) (s s' : State) → Asks who s s' → Exclusive s.locks → Exclusive s'.locks
-asks_exclusive who s s' h x = run_exclusive s s' (map (asking who) h.commands) h.answers x h.run
-
 pub asks_shape : (who : Caller) (s s' : State) → Asks who s s' → IsResourceMap s.map → IsResourceMap s'.map
 asks_shape who s s' h is_map = run_shape s s' (map (asking who) h.commands) h.answers is_map h.run
 

@@ -18,7 +18,7 @@ use Rattle.dav_session_core.specs.Callers.{Caller, SameLive, live}
 use Rattle.dav_session_core.specs.Clearing.{IsCleared, refusing_anew, refusing_clearing}
 use Rattle.dav_session_core.specs.Ends.{GoesFrom, HasFolder}
 use Rattle.dav_session_core.specs.LocksInTheWay.{IsRefusedBy}
-use Rattle.dav_session_core.specs.Private.Transferring.{known_at}
+use Rattle.dav_session_core.specs.TransferEnds.{known_at}
 use Rattle.dav_session_core.specs.Removing.{IsRemoved, refusing_removal}
 use Rattle.dav_session_core.specs.Subtrees.{IsWalk}
 use Rattle.dav_session_core.proofs.GetLemmas.{known_entry}

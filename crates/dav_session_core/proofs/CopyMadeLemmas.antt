@@ -22,7 +22,7 @@ use Rattle.dav_resource_core.proofs.StepLaws.{Same-equal}
 use Rattle.dav_session_core.specs.Callers.{Caller, as_caller, asking}
 use Rattle.dav_session_core.specs.Copying.{created_at, node_at}
 use Rattle.dav_session_core.specs.Ends.{HasFolder}
-use Rattle.dav_session_core.specs.Private.Refusing.{put_fault}
+use Rattle.dav_session_core.specs.StoreRefusals.{put_fault}
 use Rattle.dav_faults_core.specs.declared.faults.Fault.TheVariants as fault
 use Rattle.dav_session_core.proofs.MakeLemmas.{done, left_by}
 use Rattle.dav_session_core.proofs.PutLemmas.{change_err, rebuilt}

@@ -19,8 +19,8 @@ use Rattle.dav_resource_core.specs.Step.{State, Step}
 use Rattle.dav_session_core.specs.Callers.{Caller, as_caller, asking, live}
 use Rattle.dav_session_core.specs.Copying.{IsCopied, IsPartlyCopied, IsReady, between, copy_at, created_at, is_copied, node_at}
 use Rattle.dav_session_core.specs.Ends.{HasFolder}
-use Rattle.dav_session_core.specs.Private.Refusing.{put_fault}
-use Rattle.dav_session_core.specs.Private.Transferring.{NotCopied}
+use Rattle.dav_session_core.specs.StoreRefusals.{put_fault}
+use Rattle.dav_session_core.specs.TransferEnds.{NotCopied}
 use Rattle.dav_faults_core.specs.declared.faults.Fault.{Fault}
 use Rattle.dav_faults_core.specs.declared.faults.Fault.TheVariants as fault
 use Rattle.dav_session_core.proofs.Asking.{live_once}

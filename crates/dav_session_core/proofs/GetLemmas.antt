@@ -1,7 +1,7 @@
 -- What a GET tells of what stands at its path.
 use Rattle.std.proofs.Common.{◌≡◌, ◌⊎◌, inl, inr, ℕ, ◌-◌, List, [], ◌∷◌, length, take, drop, Option, Some, None, Result, Ok, Err, refl, sym, ◌∙◌, ap, subst, arith}
 use Rattle.std.specs.Prelude.{option_map, IfOk, IfErr, OnOk}
-use Rattle.std.proofs.lemmas.List.{append-nil, take_all}
+use Rattle.std.proofs.lemmas.List.{take_all}
 use Rattle.http_header.specs.FieldValue.{FieldValue}
 use Rattle.http_header.specs.HeaderMap.{Entries}
 use Rattle.dav_path_core.specs.declared.util.DavMethod.{DavMethod}
@@ -13,7 +13,6 @@ use Rattle.dav_files_core.specs.declared.memfs.Kind.TheVariants.{Folder, File}
 use Rattle.dav_files_core.specs.Meta.{Meta, meta_at}
 use Rattle.dav_files_core.specs.Resources.{Resource, ResourceMap, at_path}
 use Rattle.dav_fields_core.specs.declared.etags.Standing.{Standing}
-use Rattle.dav_fields_core.specs.declared.etags.Standing.TheVariants as stands
 use Rattle.dav_faults_core.specs.declared.faults.Fault.{Fault}
 use Rattle.dav_faults_core.specs.declared.faults.Fault.TheVariants as fault
 use Rattle.dav_fields_core.specs.declared.preconditions.Course.{Course}
@@ -24,7 +23,7 @@ use Rattle.dav_fields_core.specs.Fields.{Marks, Sent}
 use Rattle.dav_fields_core.specs.FileTags.{standing_as, standing_by}
 use Rattle.dav_fields_core.specs.Getting.{FailsToGet, Gets, Tells, own_tags, tagged, tags_by, told, told_by, told_of}
 use Rattle.dav_fields_core.specs.Preconditions.{course_of}
-use Rattle.dav_fields_core.specs.Private.Marking.{IsNone, IsRead, and_part, and_tags}
+use Rattle.dav_fields_core.specs.Marking.{IsNone, IsRead, and_part, and_tags}
 use Rattle.dav_fields_core.specs.Ranges.{part_text, unsatisfied_text}
 
 -- ---- what is known of the entry there
@@ -90,13 +89,6 @@ blank = record { tags = []; parts = [] }
 pub tag_told : (r : Resource) (known : Meta) (old new : Marks) → old ≡ blank → new ≡ and_tags (tags_by (standing_as known)) old → known ≡ meta_at r.node
     → new ≡ tagged (own_tags r)
 tag_told r known old new none more same = more ∙ ap (and_tags (tags_by (standing_as known))) none ∙ ap (λ k. tagged (tags_by (standing_as k))) same
-
--- a folder has no tag
-pub folder_marks : (known : Meta) (standing : Standing) (old new : Marks) → standing ≡ standing_as known → known.kind ≡ Folder → new ≡ old
-    → new ≡ and_tags (tags_by standing) old
-folder_marks known standing old new at kind same =
-    let folder : standing ≡ stands.Folder = at ∙ ap (λ k. standing_by k known.modified known.length) kind in
-    same ∙ sym (ap (λ (t : Standing). and_tags (tags_by t) old) folder ∙ ap (λ tags. record { tags = tags; parts = old.parts }) (append-nil old.tags))
 
 abbrev part_marks : ℕ → ℕ → Meta → Marks
 part_marks first end known = record { tags = tags_by (standing_as known); parts = part_text first end known.length ∷ [] }

@@ -8,6 +8,7 @@ pub mod CopyMadeLemmas
 pub mod CopyingLemmas
 pub mod GetLemmas
 pub mod GrantLemmas
+pub mod Looking
 pub mod MakeLemmas
 pub mod MoveLemmas
 pub mod OwnLemmas

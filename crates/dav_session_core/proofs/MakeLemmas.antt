@@ -18,7 +18,7 @@ use Rattle.dav_resource_core.specs.Step.{State, Serves}
 use Rattle.dav_resource_core.proofs.Frame.{change_left}
 use Rattle.dav_session_core.specs.Callers.{Caller, asking}
 use Rattle.dav_session_core.specs.Making.{FailsToMake, Makes, in_the_way}
-use Rattle.dav_session_core.specs.Private.Refusing.{put_fault, unputtable}
+use Rattle.dav_session_core.specs.StoreRefusals.{put_fault, unputtable}
 use Rattle.dav_session_core.proofs.PutLemmas.{change_err, rebuilt}
 
 pub nothing_in : {A : Type 0} (xs : List A) → length xs ≡ 0 → xs ≡ []

@@ -16,7 +16,7 @@ use Rattle.dav_resource_core.specs.ResourceStep.{patches}
 use Rattle.dav_resource_core.specs.Step.{State, Serves}
 use Rattle.dav_session_core.specs.Callers.{Caller, asking, refusing_at}
 use Rattle.dav_session_core.specs.Patching.{IsPatched, KeepsProperties, with_updates}
-use Rattle.dav_session_core.specs.Private.Patching.{patch_fault}
+use Rattle.dav_session_core.specs.PatchRefusals.{patch_fault}
 use Rattle.dav_documents_core.specs.PropertyUpdates.{Update}
 use Rattle.dav_session_core.proofs.PutLemmas.{rebuilt}
 

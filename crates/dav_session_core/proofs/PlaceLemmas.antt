@@ -1,5 +1,5 @@
 -- What the places of a depth are: each stands, or a name below is one that no path has which is read.
-use Rattle.std.proofs.Common.{true, ◌≡◌, ◌⊎◌, inl, inr, ℕ, ◌<◌, arith, List, [], ◌∷◌, length, map, get_or, Option, Some, None, Result, Ok, Err, sym, ap, ◌∙◌, subst}
+use Rattle.std.proofs.Common.{◌≡◌, ◌⊎◌, inl, inr, ℕ, ◌<◌, arith, List, [], ◌∷◌, length, map, get_or, Option, Some, None, Result, Ok, Err, sym, ap, ◌∙◌, subst}
 use Rattle.std.specs.Prelude.{Contains, IfOk, IsSome, OnOk}
 use Rattle.std.proofs.lemmas.Bool.{false≢true}
 use Rattle.std.proofs.lemmas.List.{get_or-map, length-map}
@@ -12,8 +12,8 @@ use Rattle.dav_files_core.specs.Resources.{Resource, ResourceMap, at_path}
 use Rattle.dav_faults_core.specs.declared.faults.Fault.{Fault}
 use Rattle.dav_faults_core.specs.declared.faults.Fault.TheVariants as fault
 use Rattle.dav_session_core.specs.Private.Gathering.{HasOddMember, MembersAre}
-use Rattle.dav_session_core.specs.Private.Placed.{AllStand, IsNowhere}
-use Rattle.dav_session_core.specs.Subtrees.{HasOddName, IsWalk}
+use Rattle.dav_session_core.specs.Placed.{AllStand, IsNowhere}
+use Rattle.dav_session_core.specs.Subtrees.{HasOddName}
 use Rattle.dav_session_core.proofs.SubtreeLemmas.{member_stands}
 
 -- at the one that code is at
@@ -22,9 +22,6 @@ stands_at view m m' xs i x lt is all same =
     let below : i < length (map view xs) = omega (arith, length-map xs view) in
     let at : get_or (map view xs) i (view x) ≡ view x = get_or-map view xs i x (view x) lt ∙ ap view (sym is) in
     subst (λ n. IsSome (at_path n (view x))) (sym same) (all (view x) (subst (Contains (map view xs)) at (Contains-get_or (map view xs) i (view x) below)))
-
-pub walk_stands : (m : ResourceMap) (p : Path) (places : List Path) → IsWalk m p places → AllStand m places
-walk_stands m p places walk q c = ((walk.members q).0 c).1
 
 pub one_stands : (m : ResourceMap) (p : Path) (places : List Path) → places ≡ p ∷ [] → IsSome (at_path m p) → AllStand m places
 one_stands m p places is here = subst (AllStand m) (sym is) (λ q c. elim (In-Contains (p ∷ []) q c) [

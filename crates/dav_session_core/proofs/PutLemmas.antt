@@ -1,6 +1,6 @@
 -- What a PUT leaves in a resource map, and why it is refused.
 use Rattle.std.proofs.Common.{Bool, true, false, ◌≡◌, ◌≢◌, ◌⊎◌, inl, inr, ℕ, ◌+◌, List, [], ◌++◌, Option, Some, None, Result, Ok, Err, refl, sym, ◌∙◌, ap, subst}
-use Rattle.std.specs.Prelude.{is_some, option_map, Contains, IfErr, OnOk}
+use Rattle.std.specs.Prelude.{is_some, option_map, Contains, IfErr}
 use Rattle.std.proofs.lemmas.List.{append-nil}
 use Rattle.std.proofs.lemmas.List.Elements.{Contains-append_left, Contains-append_right}
 use Rattle.http_header.specs.FieldValue.{FieldValue}
@@ -10,7 +10,7 @@ use Rattle.dav_path_core.specs.declared.errors.FsError.{FsError}
 use Rattle.dav_path_core.specs.declared.errors.FsError.TheVariants as fs
 use Rattle.dav_path_core.specs.declared.util.DavMethod.TheVariants as method
 use Rattle.dav_path_core.specs.Fronts.{Path, parent}
-use Rattle.dav_path_core.proofs.lists.FinMaps.{get_same, get_other, none_some, one_some}
+use Rattle.dav_path_core.proofs.lists.FinMaps.{get_same, get_other}
 use Rattle.dav_path_core.proofs.lists.Orders.{path_total, path_exact}
 use Rattle.dav_files_core.specs.declared.memfs.Kind.{Kind}
 use Rattle.dav_files_core.specs.declared.memfs.Kind.TheVariants.{Folder, File}
@@ -34,11 +34,11 @@ use Rattle.dav_session_core.specs.Callers.{Caller, SameLive, as_caller, asking, 
 use Rattle.dav_fields_core.specs.FileTags.{standing_of}
 use Rattle.dav_session_core.specs.LocksInTheWay.{IsRefusedBy}
 use Rattle.dav_fields_core.specs.Preconditions.{course_of}
-use Rattle.dav_fields_core.specs.Private.Marking.{IsNone}
-use Rattle.dav_session_core.specs.Private.Placing.{HasPlace, LacksPlace, standing_known, target_by}
-use Rattle.dav_session_core.specs.Private.Refusing.{put_fault, unputtable}
+use Rattle.dav_fields_core.specs.Marking.{IsNone}
+use Rattle.dav_session_core.specs.Placing.{HasPlace, LacksPlace, standing_known, target_by}
+use Rattle.dav_session_core.specs.StoreRefusals.{put_fault, unputtable}
 use Rattle.dav_session_core.specs.Putting.{FailsToPut, IsPuttable, Puts, changes_by, in_the_way, props_of, put_course}
-use Rattle.dav_session_core.proofs.GetLemmas.{known_entry, nothing_known}
+use Rattle.dav_session_core.proofs.GetLemmas.{known_entry}
 
 -- the entries after it, but for the locks
 pub record Found (m : ResourceMap) (p : Path) (bytes : List ℕ) (now : ℕ) (m' : ResourceMap) : Type 0 where
@@ -235,16 +235,6 @@ pub above_stands : (m : ResourceMap) (p q : Path) (known : Meta) → q ≡ paren
 above_stands m p q known is found kind =
     let entry = known_entry m q known found in (entry.0, ap (at_path m) (sym is) ∙ entry.1, sym (ap (λ (k : Meta). k.kind) entry.2) ∙ kind)
 
-pub above_lacks : (m : ResourceMap) (p q : Path) (known : Meta) → q ≡ parent p → Some known ≡ known_at m q → known.kind ≡ File → IsNone m (parent p) Folder
-above_lacks m p q known is found kind r here folder =
-    let entry = known_entry m q known found in
-    let same = one_some (at_path m (parent p)) entry.0 r (ap (at_path m) (sym is) ∙ entry.1) here in
-    let kinds : File ≡ Folder = sym kind ∙ ap (λ (k : Meta). k.kind) entry.2 ∙ ap (λ (x : Resource). x.node.kind) same ∙ folder in
-    cc
-
-pub above_missing : (m : ResourceMap) (p q : Path) → q ≡ parent p → None ≡ known_at m q → IsNone m (parent p) Folder
-above_missing m p q is found r here folder = none_some (at_path m (parent p)) r (ap (at_path m) (sym is) ∙ nothing_known (at_path m q) found) here
-
 -- a folder above lets a file be made
 made_in : (m : ResourceMap) (p : Path) (bytes : List ℕ) (now : ℕ) (r : Resource) → at_path m (parent p) ≡ Some r → r.node.kind ≡ Folder
     → (m' : ResourceMap) × ((find_folder m (parent p) >>= λ (_ : Resource). done (added m p (new_file bytes now))) ≡ done m')
@@ -305,15 +295,6 @@ course_by known headers = changes_by (course_of method.Put (standing_known known
 pub course_there : (m : ResourceMap) (p : Path) (headers : Entries FieldValue) (known : Option Meta) → known ≡ known_at m p → course_by known headers ≡ put_course m p headers
 course_there m p headers known is =
     ap (λ k. course_by k headers) is ∙ ap (λ at. changes_by (course_of method.Put at headers)) (standing_there (at_path m p))
-
--- what a test gives, exactly
-pub just_ok : (result x : Result (Unit {0}) Fault) → result ≡ x → OnOk result (x ≡ Ok tt)
-just_ok (Ok y) x is = sym is
-just_ok (Err e) x is = tt
-
-pub just_err : (result x : Result (Unit {0}) Fault) → result ≡ x → IfErr result (λ e. (e ≡ fault.InsufficientStorage) ⊎ (x ≡ Err e))
-just_err (Ok y) x is = tt
-just_err (Err e) x is = inr (sym is)
 
 -- a condition that doesn't hold, or isn't read, where the file could be put
 pub withheld : (who : Caller) (s : State) (p : Path) (bytes : List ℕ) (headers : Entries FieldValue) (known : Option Meta) (e : Fault) → known ≡ known_at s.map p

@@ -23,7 +23,7 @@ use Rattle.dav_session_core.specs.Callers.{Asks, Caller, RunBy, asking, live}
 use Rattle.dav_session_core.specs.Conditions.{has_token}
 use Rattle.dav_fields_core.specs.LockTimeouts.{timeouts_in}
 use Rattle.dav_session_core.specs.Private.Owning.{AllOwn}
-use Rattle.dav_session_core.specs.Private.Refreshing.{NotOne, is_token_of_one}
+use Rattle.dav_session_core.specs.OneToken.{NotOne, is_token_of_one}
 use Rattle.dav_session_core.specs.Refreshing.{FailsToRefresh, RefreshesOwn, named_there, told_with}
 use Rattle.dav_session_core.specs.Unlocking.{IsAnothers}
 use Rattle.dav_session_core.proofs.Asking.{asks_join}

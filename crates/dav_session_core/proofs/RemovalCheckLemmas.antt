@@ -19,8 +19,8 @@ use Rattle.dav_fields_core.specs.Depths.{ReachesAll}
 use Rattle.dav_session_core.specs.LocksInTheWay.{IsRefusedBy, by_place, is_below}
 use Rattle.dav_session_core.specs.Removing.{FailsToRemove, IsLockedIn, refusing_removal}
 use Rattle.dav_session_core.specs.Subtrees.{IsWalk}
-use Rattle.dav_session_core.proofs.ConditionLemmas.{Looks, drop_seen, same_state}
-use Rattle.dav_session_core.proofs.PutLemmas.{both_none, more_refused}
+use Rattle.dav_session_core.proofs.ConditionLemmas.{drop_seen}
+use Rattle.dav_session_core.proofs.PutLemmas.{more_refused}
 
 -- ---- one place
 
@@ -48,13 +48,6 @@ second_fails who asker s mid p q (Err e) same still is h =
     more_refused (at s' who (parent p)) (refusing_removal s' who (p ∷ [])) e
     (λ l within. Contains-append_right (below s' who p) (at s' who (parent p) ++ []) l (Contains-append_left (at s' who (parent p)) [] l within)) above
 
-pub both_passed : (who asker : Caller) (s mid : State) (p q : Path) → asker ≡ who → SameLive who.now s mid → q ≡ parent p → below (live who.now s) who p ≡ []
-    → at (live asker.now mid) asker q ≡ [] → refusing_removal (live who.now s) who (p ∷ []) ≡ []
-both_passed who asker s mid p q same still is first second =
-    let at_who = subst (λ (w : Caller). at (live w.now mid) w q ≡ []) same second in
-    let at_start = subst (λ (t : State). at t who q ≡ []) still at_who in
-    both_none (below (live who.now s) who p) (at (live who.now s) who (parent p)) first (subst (λ q. at (live who.now s) who q ≡ []) is at_start)
-
 -- ---- one place after another
 
 pub removal_split : (s : State) (who : Caller) (p : Path) (places : List Path)
@@ -64,12 +57,6 @@ removal_split s who p places =
     let second = at s who (parent p) in
     let rest = refusing_removal s who places in
     ap (λ xs. first ++ (xs ++ rest)) (sym (append-nil second)) ∙ sym (append_assoc first (second ++ []) rest)
-
--- what is left to be asked, as the questions before began
-pub as_begun : (who : Caller) (start : State) (mid : Caller) (m : State) → Looks who start mid m → (places : List Path)
-    → refusing_removal (live mid.now m) mid places ≡ refusing_removal (live who.now start) who places
-as_begun who start mid m h places =
-    ap (λ t. refusing_removal t mid places) (same_state who start mid m h) ∙ ap (λ w. refusing_removal (live who.now start) w places) h.caller
 
 module _ {A : Type 0} (s : State) (who : Caller) (view : A → Path) (xs : List A) (i : ℕ)
     (left : refusing_removal s who (map view (drop i xs)) ≡ refusing_removal s who (map view xs)) where

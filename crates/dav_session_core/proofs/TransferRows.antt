@@ -4,7 +4,7 @@ use Rattle.std.specs.Prelude.{codes}
 use Rattle.dav_path_core.specs.Fronts.{Path}
 use Rattle.dav_session_core.specs.Copying.{is_copied}
 use Rattle.dav_session_core.specs.Ends.{is_related}
-use Rattle.dav_session_core.specs.Private.Transferring.{copies_of}
+use Rattle.dav_session_core.specs.TransferEnds.{copies_of}
 
 -- /d, /d/e, /d/e/f and /k
 abbrev d : Path

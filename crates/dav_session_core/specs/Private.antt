@@ -1,9 +1,3 @@
 pub mod Anew
 pub mod Gathering
 pub mod Owning
-pub mod Patching
-pub mod Placed
-pub mod Placing
-pub mod Refreshing
-pub mod Refusing
-pub mod Transferring

@@ -229,12 +229,6 @@ at_others key old new number h t e =
 pub numbered_none : (numbers : Numbers) → IsNumbered [] numbers
 numbered_none numbers = record { each = λ place b e. absurd cc; tree = λ t h. absurd (omega arith) }
 
-pub numbered_unchanged : (bindings : List code.Binding) (old new : Numbers) → new.entries ≡ old.entries → IsNumbered bindings old → IsNumbered bindings new
-numbered_unchanged bindings old new e h = record {
-  each = h.each;
-  tree = λ t lt. ap (lookup (is_at (λ (k : RcStr Global). slice_cmp nat_cmp t (rc_str_bytes k)))) e ∙ h.tree t lt;
-}
-
 -- the number that a namespace has may be put into the tree
 pub numbered_put : (bindings : List code.Binding) (key : RcStr Global) (old new : Numbers) (number : ℕ) → IsNumbered bindings old
     → number ≡ number_in (rc_str_bytes key) bindings → tree.UpdatesBy key_cmp (key_cmp key) old new (Some number) → IsNumbered bindings new

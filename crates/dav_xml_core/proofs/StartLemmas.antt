@@ -24,9 +24,6 @@ Knows inside own name = is_other name.namespace ≡ true → bound own inside �
 abbrev pub named : List ℕ → List ℕ → Name
 named namespace local = record { namespace = namespace; local = local }
 
-some_name : Name → Option Name
-some_name name = Some name
-
 pub is_nil_is : (text : List ℕ) → is_nil text ≡ true → text ≡ []
 is_nil_is [] h = refl
 is_nil_is (c ∷ text) h = absurd (false≢true h)

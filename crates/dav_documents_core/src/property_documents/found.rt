@@ -4,8 +4,8 @@ ghost use Rattle.std.specs.List.{flat_map, list_any};
 ghost use Rattle.dav_xml_core.specs.Views.{name_of, writing_of};
 ghost use Rattle.dav_xml_core.specs.Writing.{with_nodes};
 ghost use Rattle.dav_documents_core.specs.Pieces.{with_pieces};
-ghost use Rattle.dav_documents_core.specs.Private.Asking.{question_of};
-ghost use Rattle.dav_documents_core.specs.Private.Describing.{description_of};
+ghost use Rattle.dav_documents_core.specs.QuestionViews.{question_of};
+ghost use Rattle.dav_documents_core.specs.DescriptionViews.{description_of};
 ghost use Rattle.dav_documents_core.specs.Private.Rising.{Rise};
 ghost use Rattle.dav_documents_core.specs.PropertyDocuments as spec;
 

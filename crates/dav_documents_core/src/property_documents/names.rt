@@ -5,7 +5,7 @@ ghost use Rattle.std.specs.Ordering.{is_lt};
 ghost use Rattle.dav_xml_core.specs.Views.{name_of, writing_of};
 ghost use Rattle.dav_xml_core.specs.Writing.{with_nodes};
 ghost use Rattle.dav_files_core.specs.Properties.{property_of};
-ghost use Rattle.dav_documents_core.specs.Private.Describing.{description_of};
+ghost use Rattle.dav_documents_core.specs.DescriptionViews.{description_of};
 ghost use Rattle.dav_documents_core.specs.Private.Rising.{Rise, order, property_key};
 ghost use Rattle.dav_documents_core.specs.PropertyDocuments as spec;
 ghost use Rattle.dav_documents_core.specs.RefusalBodies.{dav_name, element};

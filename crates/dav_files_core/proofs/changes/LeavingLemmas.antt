@@ -19,10 +19,6 @@ use Rattle.dav_files_core.proofs.walks.HasMembersLemmas.{no_members, has_child_i
 use Rattle.dav_files_core.proofs.changes.LeftLemmas.{stands_itself, is_view}
 use Rattle.dav_files_core.proofs.changes.WithoutLemmas.{Represents-without}
 
-pub root_is : (p : Path) → is_root p ≡ true → p ≡ []
-root_is [] h = refl
-root_is (s ∷ p) h = absurd (cc)
-
 pub not_root : (p : Path) → is_root p ≡ false → ¬ (p ≡ [])
 not_root p h e = true≢false (sym (ap is_root e) ∙ h)
 

@@ -9,8 +9,8 @@ use Rattle.dav_files_core.specs.declared.memfs.Kind.TheVariants.{Folder, File}
 use Rattle.dav_files_core.specs.Folders.{is_root}
 use Rattle.dav_files_core.specs.Outcomes.{Outcome, changed}
 use Rattle.dav_files_core.specs.Private.Entries.{IsBare}
-use Rattle.dav_files_core.specs.Resources.{Resource, ResourceMap, at_path, IsResourceMap}
-use Rattle.dav_files_core.specs.Restoring.{can_stand, is_folder, is_none, is_root_folder, raised, restore_at}
+use Rattle.dav_files_core.specs.Resources.{is_folder, Resource, ResourceMap, at_path, IsResourceMap}
+use Rattle.dav_files_core.specs.Restoring.{can_stand, is_root_folder, raised, restore_at}
 use Rattle.dav_path_core.specs.Keyed.{raised as raised_tree}
 use Rattle.dav_files_core.specs.Private.Represents.{FileTree, Represents}
 
@@ -20,14 +20,6 @@ root_number m is_map [] x here = let root = is_map.root in eq-eqb x.number 1 (ap
 root_number m is_map (s ∷ p) x here =
     let root = is_map.root in
     ne_eqb x.number 1 (λ e. let same : s ∷ p ≡ [] = is_map.apart (s ∷ p) [] x root.0 here root.1 (e ∙ sym root.2) in absurd (cc))
-
--- what can stand is bare, and has a number that is given
-pub stands_bare : (r : Resource) → can_stand r ≡ true → IsBare r.node
-stands_bare r h folder = none r.node.bytes (ap (λ k. not (is_folder k) || is_none r.node.bytes) (sym folder) ∙ (and_parts _ _ h).1)
-  where
-    none : (bytes : List ℕ) → is_none bytes ≡ true → bytes ≡ []
-    none [] e = refl
-    none (b ∷ bytes) e = absurd (true≢false (sym e))
 
 not_or : (a b : Bool) → not (a || b) ≡ true → (a ≡ false) × (b ≡ false)
 not_or false false h = (refl, refl)
@@ -57,10 +49,6 @@ module _ (m : ResourceMap) (is_map : IsResourceMap m) (p : Path) (x r : Resource
 
   pub root_there : ((id == 1) && ((r.number == 1) && is_folder r.node.kind)) ≡ true → restore_at m p r (Some x) ≡ Ok (tt, changed m p x r.node)
   root_there e = ap (λ b. let o : Outcome (Unit {0}) = cond b (Ok (tt, changed m p x r.node)) (Err Exists) in o) (asked ∙ e)
-
-pub is_folder_kind : (k : Kind) → is_folder k ≡ true → k ≡ Folder
-is_folder_kind Folder h = refl
-is_folder_kind File h = absurd (true≢false (sym h))
 
 -- a next number that is raised, in the tree and in the map
 pub Represents-raised : (t : FileTree) (m : ResourceMap) → Represents t m → (next : ℕ) → Represents (raised_tree t next) (raised m next)

@@ -13,15 +13,16 @@ use Rattle.dav_path_core.specs.declared.errors.FsError.TheVariants.{Exists, Forb
 use Rattle.dav_path_core.specs.Fronts.{Segment, Path, path_cmp, parent}
 use Rattle.dav_path_core.proofs.lists.EntryLemmas.{In-entries, entries-In, distinct_entries}
 use Rattle.dav_path_core.proofs.lists.FinMaps.{none_some, one_some, get_same}
-use Rattle.dav_path_core.proofs.lists.MemberLemmas.{In, In-Contains, Contains-In}
+use Rattle.dav_path_core.proofs.lists.MemberLemmas.{In, In-Contains, In-behind, In-front, In-last, Contains-In}
 use Rattle.dav_path_core.proofs.lists.Orders.{path_total, path_exact, eq_by_cmp_same}
 use Rattle.dav_path_core.proofs.lists.SameMembers.{In-map, In-there}
 use Rattle.dav_files_core.specs.declared.memfs.Kind.{Kind}
 use Rattle.dav_files_core.specs.declared.memfs.Kind.TheVariants.{Folder, File}
+use Rattle.dav_files_core.specs.Finding.{has_any}
 use Rattle.dav_files_core.specs.Outcomes.{Outcome, ◌>>=◌, changed, find_folder, only_folder, start, new_folder}
 use Rattle.dav_files_core.specs.OpenFiles.{with_number}
-use Rattle.dav_files_core.specs.Resources.{Resource, ResourceMap, at_path, IsResourceMap}
-use Rattle.dav_files_core.specs.Restoring.{can_stand, is_folder, is_none, restore, restore_all, restore_at, restored, IsRestoredFrom}
+use Rattle.dav_files_core.specs.Resources.{is_folder, Resource, ResourceMap, at_path, IsResourceMap}
+use Rattle.dav_files_core.specs.Restoring.{can_stand, restore, restore_all, restore_at, restored, IsRestoredFrom}
 use Rattle.dav_files_core.specs.Walks.{Stored, entry_of, StandsBehind, IsWalk}
 use Rattle.dav_files_core.proofs.changes.AddedLemmas.{IsResourceMap-added_as, added_as_kept, added_as_cases}
 use Rattle.dav_files_core.proofs.changes.ChangedLemmas.{IsResourceMap-changed, changed_cases}
@@ -47,21 +48,6 @@ not_again (e ∷ front) rest p r x d i = elim i [
     at [] a = a.0
     at (f ∷ front) a = at front a.1
 
-In-last : {A : Type 0} (front : List A) (x : A) (q : A) → In q (front ++ x ∷ []) → In q front ⊎ (x ≡ q)
-In-last [] x q i = elim i [ inl e ↦ inr e | inr j ↦ absurd j ]
-In-last (y ∷ front) x q i = elim i [
-  | inl e ↦ inl (inl e)
-  | inr j ↦ elim (In-last front x q j) [ inl k ↦ inl (inr k) | inr e ↦ inr e ]
-]
-
-In-front : {A : Type 0} (front rest : List A) (q : A) → In q front → In q (front ++ rest)
-In-front [] rest q i = absurd i
-In-front (y ∷ front) rest q i = elim i [ inl e ↦ inl e | inr j ↦ inr (In-front front rest q j) ]
-
-In-behind : {A : Type 0} (front rest : List A) (q : A) → In q rest → In q (front ++ rest)
-In-behind [] rest q i = i
-In-behind (y ∷ front) rest q i = inr (In-behind front rest q i)
-
 -- ---- one entry more
 
 -- the entries in front and no others stand in the map
@@ -76,13 +62,13 @@ module _ (m : ResourceMap) (is_map : IsResourceMap m) (given : m.next ≤ 184467
   stands p r here =
       let positive = is_map.positive p r here in
       let below = is_map.below p r here in
-      ap (λ b. not (b || (r.number == 18446744073709551615)) && (not (is_folder r.node.kind) || is_none r.node.bytes)) (ne_eqb r.number 0 (λ e. omega (arith, e, positive)))
-      ∙ ap (λ b. not b && (not (is_folder r.node.kind) || is_none r.node.bytes)) (ne_eqb r.number 18446744073709551615 (λ e. omega (arith, e, below, given)))
+      ap (λ b. not (b || (r.number == 18446744073709551615)) && not (is_folder r.node.kind && has_any r.node.bytes)) (ne_eqb r.number 0 (λ e. omega (arith, e, positive)))
+      ∙ ap (λ b. not b && not (is_folder r.node.kind && has_any r.node.bytes)) (ne_eqb r.number 18446744073709551615 (λ e. omega (arith, e, below, given)))
       ∙ bare r.node.kind refl
     where
-      bare : (k : Kind) → r.node.kind ≡ k → (not (is_folder r.node.kind) || is_none r.node.bytes) ≡ true
-      bare File is = ap (λ k. not (is_folder k) || is_none r.node.bytes) is
-      bare Folder is = ap (λ k. not (is_folder k) || is_none r.node.bytes) is ∙ ap is_none (is_map.bare p r here is)
+      bare : (k : Kind) → r.node.kind ≡ k → not (is_folder r.node.kind && has_any r.node.bytes) ≡ true
+      bare File is = ap (λ k. not (is_folder k && has_any r.node.bytes)) is
+      bare Folder is = ap (λ k. not (is_folder k && has_any r.node.bytes)) is ∙ ap (λ bytes. not (has_any bytes)) (is_map.bare p r here is)
 
   -- an entry is restored where its folder stands and neither it nor its number
   module _ (front : List (Path × Resource)) (n : ResourceMap) (at : At m front n) (f : Path) (name : Segment) (folder r : Resource)

@@ -143,12 +143,6 @@ module _ (m : ResourceMap) (is_map : IsResourceMap m) (from : Path) (r : Resourc
   pub not_renamed : (e : FsError) → relocated m from target ≡ Err e → (now : ℕ) → rename m from target now ≡ Err e
   not_renamed e h now = in_folder now ∙ ap (λ (o : Result ResourceMap FsError). o >>= done now p) h
 
--- ---- the root as the target
-pub renamed_to_root : (m : ResourceMap) → IsResourceMap m → (from : Path) (r : Resource) → at_path m from ≡ Some r → (now : ℕ) → rename m from [] now ≡ Err (if is_root from then Forbidden else Exists)
-renamed_to_root m is_map from r source now =
-    ap (λ o. ok_or o (refusal_at m from) >>= λ (_ : Resource). find_folder m [] >>= λ (_ : Resource). Err (if is_root from then Forbidden else Exists)) source
-    ∙ ap (λ (o : Result Resource FsError). o >>= λ (_ : Resource). Err (if is_root from then Forbidden else Exists)) (folder_found m [] is_map.root.0 is_map.root.1 is_map.root.3)
-
 -- what is there finds its folder by its number
 pub finds_folder : (m : ResourceMap) → IsResourceMap m → (p : Path) (r : Resource) → at_path m p ≡ Some r → (x : Option ℕ) → StandsIn m p x → FindsFolder m p (Ok x)
 finds_folder m is_map p r here None h = h

@@ -178,14 +178,3 @@ module _ (m : ResourceMap) (p : Path) (is_map : IsResourceMap m) (at : Option �
 -- where a seek left the file
 pub stands_at : (at x : ℕ) (f g : OpenFile) → ◌≡◌ {A = Result (ℕ × OpenFile) FsError} (Ok (at, record f { position = at })) (Ok (x, g)) → g ≡ record f { position = at }
 stands_at at x f g h = let pairs : (at, record f { position = at }) ≡ (x, g) = cc in ap (λ (x : ℕ × OpenFile). x.1) (sym pairs)
-
--- what is known of a path, by the number found there
-pub meta_lost : (m : ResourceMap) (p : Path) (e : FsError) → Err e ≡ number_of m p → metadata m p ≡ Err e
-meta_lost m p e h = by (find m p) refl h
-  where
-    by : (o : Result Resource FsError) → find m p ≡ o → Err e ≡ (o >>= λ (r : Resource). Ok r.number) → metadata m p ≡ Err e
-    by (Ok r) is h = absurd (cc)
-    by (Err x) is h = ap (λ (o : Result Resource FsError). o >>= (λ (r : Resource). Ok (meta_at r.node))) is ∙ sym (cc)
-
-pub meta_there : (m : ResourceMap) (p : Path) (r : Resource) → at_path m p ≡ Some r → metadata m p ≡ Ok (meta_at r.node)
-meta_there m p r here = ap (λ (o : Option Resource). ok_or o (refusal_at m p) >>= (λ (r : Resource). Ok (meta_at r.node))) here

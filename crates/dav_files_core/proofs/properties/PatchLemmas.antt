@@ -81,10 +81,6 @@ module _ (changes changes' : Changes) (props props' : Properties) (k : Key) (p :
 pub among_more : (keys new : List Key) (k q : Key) → new ≡ keys ++ (k ∷ []) → is_among new q ≡ (is_among keys q || (eq_by_cmp key_cmp q k || false))
 among_more keys new k q is = ap (λ keys. is_among keys q) is ∙ list_any-append (eq_by_cmp key_cmp q) keys (k ∷ [])
 
--- one that has something is not noted
-pub not_noted : (props : Properties) (keys : List Key) (k : Key) → IsSome (get props k) → NotesKey props keys k keys
-not_noted props keys k there = record { only = λ q h. inl h; others = λ q h. h; noted = inl there }
-
 -- one that has nothing is
 pub is_noted : (props : Properties) (keys : List Key) (k : Key) (new : List Key) → is_some (get props k) ≡ false → new ≡ keys ++ (k ∷ []) → NotesKey props keys k new
 is_noted props keys k new free is = record {

@@ -8,9 +8,8 @@ use Rattle.std.specs.Cmp.{nat_cmp_total}
 use Rattle.std.specs.FinMap.{get, entries, len}
 use Rattle.std.proofs.lemmas.Bool.{eqb-true, false≢true}
 use Rattle.dav_path_core.specs.Fronts.{Segment, Path}
-use Rattle.dav_path_core.specs.Keyed.{item, parent, parent_and_key, parent_and_key_of, IsKnown}
+use Rattle.dav_path_core.specs.Keyed.{item, parent, parent_and_key, parent_and_key_of, IsKnown, IsIn}
 use Rattle.dav_path_core.specs.Walking.{IsWalk as IsTreeWalk}
-use Rattle.dav_path_core.specs.Private.Chains.{IsIn}
 use Rattle.dav_path_core.proofs.children.Chains.{in_here, in_later, none_twice, later_distinct}
 use Rattle.dav_path_core.proofs.lists.EntryLemmas.{In-entries, entries-In, entries_once}
 use Rattle.dav_path_core.proofs.lists.Every.{not_empty}
@@ -65,9 +64,6 @@ all_known t [] known = tt
 all_known t (n ∷ ns) known = (known n (in_here n ns), all_known t ns (λ q i. known q (in_later q n ns i)))
 
 -- ---- what stands at a number
-
-pub same_stored : (t : FileTree) (id : ℕ) (node : Node) → item t id ≡ Some node → stored_at t id ≡ stored_with t id node
-same_stored t id node is = ap (λ o. stored_with t id (unwrap_or o (new_folder 0))) is
 
 module _ (t : FileTree) (n : ℕ) (known : IsKnown t n) where
   stored_there : (e : FileEntry) × (get t.nodes n ≡ Some e)

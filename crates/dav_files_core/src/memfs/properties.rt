@@ -31,13 +31,15 @@ pub(super) struct Props {
 impl Model for Props {
     ghost use Rattle.dav_files_core.specs.Resources.{Properties};
     ghost use Rattle.dav_files_core.specs.Codes.{coded_properties};
-    ghost use Rattle.dav_files_core.specs.Private.PropertyMaps.{properties_of};
+    ghost use Rattle.dav_files_core.specs.Private.PropertyMaps.{AreKeyed, properties_of};
 
     ghost Value = { Properties };
 
     ghost coded = { coded_properties };
 
     ghost view = { λ a. properties_of a.map.entries };
+
+    ghost invariant = { λ a. AreKeyed (properties_of a.map.entries) };
 }
 
 /// The same properties, or out of memory.
@@ -102,7 +104,8 @@ impl Props {
 
     // All, lent, by the bytes of namespace and name.
     pub(super) fn lent(&self) -> MemFsProps<'_>
-        ensures { result ≡ values self.now }
+        ensures props { result ≡ values self.now }
+        ensures whole { properties_from result ≡ self.now }
     {
         MemFsProps {
             values: self.map.values(),

@@ -3,8 +3,8 @@ ghost use Rattle.std.specs.Prelude.{◌≡◌, ◌==◌, ◌&&◌, ◌<◌, ◌^
 ghost use Rattle.dav_path_core.specs.Answers.{AnswersAs};
 ghost use Rattle.dav_path_core.specs.Segments.{segments};
 ghost use Rattle.dav_path_core.specs.Fronts.{Path};
-ghost use Rattle.dav_files_core.specs.Resources.{Resource, ResourceMap, IsResourceMap, at_path};
-ghost use Rattle.dav_files_core.specs.Restoring.{IsRestoredFrom, resource_of, can_stand, is_folder, raised, restore, restore_at};
+ghost use Rattle.dav_files_core.specs.Resources.{Resource, ResourceMap, IsResourceMap, at_path, is_folder};
+ghost use Rattle.dav_files_core.specs.Restoring.{IsRestoredFrom, resource_of, can_stand, raised, restore, restore_at};
 ghost use Rattle.dav_files_core.specs.Walks.{Stored, entry_of, IsWalk};
 ghost use Rattle.dav_files_core.specs.Private.Entries.{HasNumber};
 ghost use Rattle.dav_files_core.specs.Private.TreeCalls.{IsMissing};

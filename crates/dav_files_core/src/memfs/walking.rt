@@ -4,6 +4,7 @@ ghost use Rattle.std.specs.Prelude.{◌≡◌, [], None, unwrap_or, MatchResult}
 ghost use Rattle.std.specs.FinMap.{values};
 ghost use Rattle.std.specs.List.{last_or};
 ghost use Rattle.dav_files_core.specs.Meta.{meta_of, meta_at};
+ghost use Rattle.dav_files_core.specs.Restoring.{properties_from};
 ghost use Rattle.dav_files_core.specs.Walks.{IsWalk};
 
 use super::nodes::{Node, node_of};
@@ -16,7 +17,7 @@ use std::alloc::Global;
 use std::marker::Model;
 
 /// A folder or a file as it stands in a `MemFs`.
-#[derive(Drop)]
+#[derive(Debug, Drop)]
 pub struct MemFsStored<'a> {
     tree: &'a Tree<Bytes, Node>,
     number: u64,
@@ -87,9 +88,10 @@ impl<'a> MemFsStored<'a> {
         node.content.shared(alloc)
     }
 
-    /// Its properties, by the bytes of namespace and name.
+    /// Its properties, by the bytes of namespace and name. An entry that is restored with these has the same.
     pub fn props(&self) -> MemFsProps<'a>
-        ensures { result ≡ values self.now.resource.node.props }
+        ensures props { result ≡ values self.now.resource.node.props }
+        ensures whole { properties_from result ≡ self.now.resource.node.props }
     {
         let node = self.node;
         node.props.lent()
@@ -97,7 +99,7 @@ impl<'a> MemFsStored<'a> {
 }
 
 /// All that stands in a `MemFs`, one after another.
-#[derive(Drop)]
+#[derive(Debug, Drop)]
 pub struct MemFsWalk<'a> {
     tree: &'a Tree<Bytes, Node>,
     numbers: Walk<'a, Bytes, Node>,

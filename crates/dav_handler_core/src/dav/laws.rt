@@ -1,4 +1,5 @@
-//! The laws of conditions, of locks and of documents over the answers of the server. They do nothing.
+//! The laws of conditions, of locks and of documents over the answers of the server. They do
+//! nothing.
 ghost use Rattle.std.specs.Prelude.{◌≡◌, ◌<◌, ◌⊎◌, ◌^◌, ℕ, true, length, List, Some, IfOk};
 ghost use Rattle.http.specs.declared.request.Request.{Request};
 ghost use Rattle.http_server.specs.declared.response.Response.{Response};
@@ -9,48 +10,65 @@ ghost use Rattle.dav_session_core.specs.Callers.{SameLive};
 ghost use Rattle.dav_handler_core.specs.Deciding.{HeldOff, SendsPart, SendsTag, WentOn, looks};
 ghost use Rattle.dav_fields_core.specs.Fields.{Sent, sent_of};
 ghost use Rattle.dav_handler_core.specs.Holding.{IsKeptUnlessHeld, StandsUnlessEnded};
-ghost use Rattle.dav_handler_core.specs.KeptDocuments.{IsNew, KeepsElements, TellsXml, is_told_in_xml};
+ghost use Rattle.dav_handler_core.specs.KeptDocuments.{IsNew, KeepsElements, TellsXml};
+ghost use Rattle.dav_handler_core.specs.KeptDocuments.{is_told_in_xml};
 ghost use Rattle.dav_documents_core.specs.PatchBodies.{patch_nodes};
 ghost use Rattle.dav_handler_core.specs.TagHistories.{Becomes};
 ghost use Rattle.dav_locks_core.specs.Exclusive.{Exclusive};
 
-/// The law of conditions (RFC 4918 section 10.4, RFC 9110 sections 13 and 14) over every answer of the server. It does nothing.
+/// The law of conditions (RFC 4918 section 10.4, RFC 9110 sections 13 and 14) over every answer of
+/// the server. It does nothing.
 ///
 /// - A GET, a HEAD or a PUT is done only where its `If` holds and the conditions of HTTP let it.
-/// - 304 and 412 come only where one of them doesn't, and then nothing has changed, but that locks that have expired may be gone.
+/// - 304 and 412 come only where one of them doesn't, and then nothing has changed, but that locks
+///   that have expired may be gone.
 /// - 206 comes with exactly the part of the file that is asked for, and `Content-Range` says which.
-/// - An answer below 400 to a GET, a HEAD or a PUT has the tag of the file that stands at its path behind it, and no tag where none does.
+/// - An answer below 400 to a GET, a HEAD or a PUT has the tag of the file that stands at its path
+///   behind it, and no tag where none does.
 pub fn conditions_decide()
-    ensures went_on { (before after : Server) (request : Request (List ℕ)) (response : Response) → (h : Answers before request response after)
-        → looks h.method ≡ true → response.status < 300 → WentOn h.method before request after }
-    ensures held_off { (before after : Server) (request : Request (List ℕ)) (response : Response) → (h : Answers before request response after)
-        → (response.status ≡ 304) ⊎ (response.status ≡ 412) → HeldOff h.method before request after × SameLive after.last before.state after.state }
-    ensures part { (before after : Server) (request : Request (List ℕ)) (response : Response) → Answers before request response after
-        → response.status ≡ 206 → SendsPart before request (sent_of response) after }
-    ensures tag { (before after : Server) (request : Request (List ℕ)) (response : Response) → (h : Answers before request response after)
-        → looks h.method ≡ true → response.status < 400 → SendsTag before request (sent_of response) after }
+    ensures went_on { (before after : Server) (request : Request (List ℕ)) (response : Response)
+        → (h : Answers before request response after) → looks h.method ≡ true
+        → response.status < 300 → WentOn h.method before request after }
+    ensures held_off { (before after : Server) (request : Request (List ℕ)) (response : Response)
+        → (h : Answers before request response after) → (response.status ≡ 304)
+        ⊎ (response.status ≡ 412) → HeldOff h.method before request after
+        × SameLive after.last before.state after.state }
+    ensures part { (before after : Server) (request : Request (List ℕ)) (response : Response)
+        → Answers before request response after → response.status ≡ 206
+        → SendsPart before request (sent_of response) after }
+    ensures tag { (before after : Server) (request : Request (List ℕ)) (response : Response)
+        → (h : Answers before request response after) → looks h.method ≡ true
+        → response.status < 400 → SendsTag before request (sent_of response) after }
 {}
 
 /// The law of locks (RFC 4918 sections 6 and 7) over every answer of the server. It does nothing.
 ///
-/// - A lock ends only where its moment has come, or by a request of its principal that names its token.
+/// - A lock ends only where its moment has come, or by a request of its principal that names its
+///   token.
 /// - A path under an exclusive lock changes only by such a request.
 pub fn locks_are_their_holders()
-    ensures ended { (before after : Server) (request : Request (List ℕ)) (response : Response) → Answers before request response after
-        → Exclusive before.state.locks → StandsUnlessEnded before request after }
-    ensures changed { (before after : Server) (request : Request (List ℕ)) (response : Response) → Answers before request response after
-        → Exclusive before.state.locks → IsKeptUnlessHeld before request after }
+    ensures ended { (before after : Server) (request : Request (List ℕ)) (response : Response)
+        → Answers before request response after → Exclusive before.state.locks
+        → StandsUnlessEnded before request after }
+    ensures changed { (before after : Server) (request : Request (List ℕ)) (response : Response)
+        → Answers before request response after → Exclusive before.state.locks
+        → IsKeptUnlessHeld before request after }
 {}
 
-/// The law of documents (XML 1.0 section 2.1, RFC 4918 section 8.2) over a run from new stores. It does nothing.
+/// The law of documents (XML 1.0 section 2.1, RFC 4918 section 8.2) over a run from new stores. It
+/// does nothing.
 ///
-/// - What a PROPFIND, a PROPPATCH or a LOCK has done is told by bytes that are read as one document, and told to be XML, whatever any client has set before.
+/// - What a PROPFIND, a PROPPATCH or a LOCK has done is told by bytes that are read as one
+///   document, and told to be XML, whatever any client has set before.
 /// - What is told of a PROPPATCH is read as it was told.
 /// - What the stores keep of properties and locks are elements that could have been read.
 pub fn answers_are_documents()
-    ensures told { (begun before after : Server) (request : Request (List ℕ)) (response : Response) → IsNew begun → Becomes begun before
-        → (h : Answers before request response after) → is_told_in_xml h.method ≡ true → IfOk h.result (λ status. TellsXml (sent_of response)) }
-    ensures patched { (before after : Server) (request : Request (List ℕ)) (status : ℕ) (sent : Sent) → length (body_of request) < 2 ^ 64
-        → (h : IsPropPatched before request status sent after) → document_of sent.body ≡ Some (patch_nodes before.options.prefix h.path h.patches.updates) }
+    ensures told { (begun before after : Server) (request : Request (List ℕ)) (response : Response)
+        → IsNew begun → Becomes begun before → (h : Answers before request response after)
+        → is_told_in_xml h.method ≡ true → IfOk h.result (λ status. TellsXml (sent_of response)) }
+    ensures patched { (before after : Server) (request : Request (List ℕ)) (status : ℕ)
+        (sent : Sent) → length (body_of request) < 2 ^ 64
+        → (h : IsPropPatched before request status sent after) → document_of sent.body
+        ≡ Some (patch_nodes before.options.prefix h.path h.patches.updates) }
     ensures kept { (begun s : Server) → IsNew begun → Becomes begun s → KeepsElements s }
 {}

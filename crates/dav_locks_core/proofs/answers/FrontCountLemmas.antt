@@ -12,8 +12,7 @@ use Rattle.std.proofs.lemmas.List.Concat.{length-flat_map}
 use Rattle.std.proofs.lemmas.List.Folds.{list_any-append}
 use Rattle.std.proofs.lemmas.Map.Made.{distinct_count-le, length-from_keys}
 use Rattle.dav_path_core.specs.Fronts.{Segment, Path, is_front, is_same_path}
-use Rattle.dav_path_core.specs.Keyed.{Entry, Under, entry, parent, IsKnown, IsTree}
-use Rattle.dav_path_core.specs.Private.Chains.{IsIn}
+use Rattle.dav_path_core.specs.Keyed.{Entry, Under, entry, parent, IsKnown, IsTree, IsIn}
 use Rattle.dav_path_core.proofs.lists.Orders.{path_total}
 use Rattle.dav_path_core.proofs.children.Chains.{in_here, in_later, in_cases, none_twice, later_distinct}
 use Rattle.dav_path_core.proofs.paths.FrontLemmas.{is_same_path-same, is_same_path-refl, is_front-cons, is_front-parts}

@@ -100,14 +100,6 @@ notes_by_end old new end number at u same = record { this = this; others = other
     others None g apart = ap (λ m. get nat_cmp m g) same
     others (Some e) g apart = u.2 (e, g) (other_end (end, number) e g (λ p. apart (ap (λ (e : ℕ). Some e) (sym p.0)) p.1))
 
--- a lock that has no end
-pub notes_no_end : (ends : Ends) (number : ℕ) (at : Option ℕ) → NotesEnd ends ends None number at
-notes_no_end ends number at = record { this = this; others = λ k g apart. refl }
-  where
-    this : (k : Option ℕ) → IsEndOf None k → node_of ends k number ≡ at
-    this None is = absurd is
-    this (Some e) is = absurd (none≢some e is)
-
 pub notes_both : (old mid new : Ends) (end : Option ℕ) (number : ℕ) (at : Option ℕ) → NotesEnd old mid end number at → NotesAt mid new IsAlone number at → Notes old new end number at
 notes_both old mid new end number at a b = record { this = this; others = others }
   where

@@ -1,7 +1,7 @@
 -- A tree represents one list, and what each change of the tree does to it.
 use Rattle.std.proofs.Common.{◌≡◌, ◌≢◌, inl, inr, ℕ, ◌+◌, ◌<◌, ◌==◌, true, false, cond, List, [], ◌∷◌, ◌++◌, length, get_or, set, Option, Some, None, IsSome, is_some, refl, sym, ap, ◌∙◌, subst, arith}
 use Rattle.std.specs.Prelude.{remove}
-use Rattle.std.specs.Option.{option_map, unwrap_or}
+use Rattle.std.specs.Option.{option_map, option_or, unwrap_or}
 use Rattle.std.specs.Ordering.{nat_cmp, eq_by_cmp}
 use Rattle.std.specs.Cmp.{nat_cmp_total}
 use Rattle.std.specs.FinMap.{get, find, entries, entries_sorted, from_entries, get-from_entries, get-entries, get-empty, empty, nat_cmp-IsAntisymmetric}
@@ -12,7 +12,7 @@ use Rattle.dav_path_core.specs.Keyed.{Entry, entry, parent_and_key, parent_and_k
 use Rattle.dav_path_core.proofs.trees.Trees.{Sets, Sets-insert, IsTree-with_item, find-here, find-head, same_some, none≢some}
 use Rattle.dav_locks_core.specs.Lock.{Lock}
 use Rattle.dav_locks_core.specs.Locks as locks
-use Rattle.dav_locks_core.specs.Private.LockTree.{NumberedLock, LockTree, locks_at, is_segment, child_at, node_at, all_standing, all_granted, or_else}
+use Rattle.dav_locks_core.specs.Private.LockTree.{NumberedLock, LockTree, locks_at, is_segment, child_at, node_at, all_standing, all_granted}
 use Rattle.dav_locks_core.specs.Private.Pruning.{SameLocks}
 use Rattle.dav_locks_core.specs.Private.Represents.{Represents}
 use Rattle.dav_locks_core.proofs.walks.SubtreeLemmas.{way_stays}
@@ -24,10 +24,10 @@ use Rattle.dav_locks_core.proofs.trees.WayLemmas.{child_at-is, child_at-from}
 abbrev Nodes : Type 0
 Nodes = List (ℕ × Entry Segment (List NumberedLock))
 
-find-both : (g : ℕ) (xs ys : List NumberedLock) → find nat_cmp g (xs ++ ys) ≡ or_else (find nat_cmp g xs) (find nat_cmp g ys)
+find-both : (g : ℕ) (xs ys : List NumberedLock) → find nat_cmp g (xs ++ ys) ≡ option_or (find nat_cmp g xs) (find nat_cmp g ys)
 find-both g [] ys = refl
 find-both g (x ∷ xs) ys =
-    elim (eq_by_cmp nat_cmp g x.0) as (λ b. cond b (Some x.1) (find nat_cmp g (xs ++ ys)) ≡ or_else (cond b (Some x.1) (find nat_cmp g xs)) (find nat_cmp g ys)) [
+    elim (eq_by_cmp nat_cmp g x.0) as (λ b. cond b (Some x.1) (find nat_cmp g (xs ++ ys)) ≡ option_or (cond b (Some x.1) (find nat_cmp g xs)) (find nat_cmp g ys)) [
       | true ↦ refl
       | false ↦ find-both g xs ys
     ]
@@ -39,17 +39,17 @@ in_node g l [] s h = absurd (none≢some l h)
 in_node g l (e ∷ es) s h = by (λ more. in_node g l es (in_order_tail e es s) more) (find nat_cmp g e.1.item) refl (sym (find-both g e.1.item (all_standing es)) ∙ h)
   where
     by : (find nat_cmp g (all_standing es) ≡ Some l → (n : ℕ) × (f : Entry Segment (List NumberedLock)) × (find nat_cmp n es ≡ Some f) × (find nat_cmp g f.item ≡ Some l))
-        → (o : Option Lock) → find nat_cmp g e.1.item ≡ o → or_else o (find nat_cmp g (all_standing es)) ≡ Some l
+        → (o : Option Lock) → find nat_cmp g e.1.item ≡ o → option_or o (find nat_cmp g (all_standing es)) ≡ Some l
         → (n : ℕ) × (f : Entry Segment (List NumberedLock)) × (find nat_cmp n (e ∷ es) ≡ Some f) × (find nat_cmp g f.item ≡ Some l)
     by rec None i h = let w = rec h in (w.0, w.1, find-later e es w.0 w.1 s w.2, w.3)
     by rec (Some m) i h = (e.0, e.1, find-here e es, i ∙ h)
 
 -- and what stands at a node is among all
-some_later : (o : Option Lock) (r : Option Lock) → IsSome r → IsSome (or_else o r)
+some_later : (o : Option Lock) (r : Option Lock) → IsSome r → IsSome (option_or o r)
 some_later None r s = s
 some_later (Some x) r s = refl
 
-some_here : (o : Option Lock) (r : Option Lock) → IsSome o → IsSome (or_else o r)
+some_here : (o : Option Lock) (r : Option Lock) → IsSome o → IsSome (option_or o r)
 some_here None r s = absurd (false≢true s)
 some_here (Some x) r s = refl
 
@@ -57,7 +57,7 @@ among : (g n : ℕ) (e : Entry Segment (List NumberedLock)) (es : Nodes) → fin
 among g n e [] h s = absurd (none≢some e h)
 among g n e (x ∷ es) h s =
     subst IsSome (sym (find-both g x.1.item (all_standing es)))
-    (elim (n == x.0) as (λ b. (n == x.0) ≡ b → cond b (Some x.1) (find nat_cmp n es) ≡ Some e → IsSome (or_else (find nat_cmp g x.1.item) (find nat_cmp g (all_standing es)))) [
+    (elim (n == x.0) as (λ b. (n == x.0) ≡ b → cond b (Some x.1) (find nat_cmp n es) ≡ Some e → IsSome (option_or (find nat_cmp g x.1.item) (find nat_cmp g (all_standing es)))) [
       | true ↦ λ t h. some_here _ _ (subst (λ (f : Entry Segment (List NumberedLock)). IsSome (find nat_cmp g f.item)) (sym (same_some x.1 e h)) s)
       | false ↦ λ t h. some_later _ _ (among g n e es h s)
     ] refl (sym (find-head n x es) ∙ h))

@@ -1,6 +1,7 @@
 -- The way down to a path: the first lock that passes on it, and that no two paths lead to one node.
 use Rattle.std.proofs.Common.{◌≡◌, ◌⊎◌, inl, inr, ℕ, suc, ◌<◌, ◌≤◌, Bool, true, false, [], ◌∷◌, length, get_or, Option, Some, None, refl, sym, ap, ◌∙◌, subst, arith, reverse}
 use mathlib.Core.List.{reverse_aux}
+use Rattle.std.specs.Option.{option_or}
 use Rattle.std.specs.Prelude.{option_and_then}
 use Rattle.std.specs.Ordering.{ordering_then, is_eq}
 use Rattle.std.specs.Cmp.{tied_itself}
@@ -13,7 +14,7 @@ use Rattle.dav_path_core.proofs.trees.Trees.{child-some, child-only, same_some, 
 use Rattle.dav_path_core.proofs.lists.Orders.{segment_total}
 use Rattle.dav_path_core.proofs.paths.FrontLemmas.{name_test, is_front-parts, is_front-cons}
 use Rattle.dav_locks_core.specs.Lock.{Lock}
-use Rattle.dav_locks_core.specs.Private.LockTree.{NumberedLock, LockTree, locks_at, is_segment, child_at, node_at, first_at, or_else, with_node, lookup_lock}
+use Rattle.dav_locks_core.specs.Private.LockTree.{NumberedLock, LockTree, locks_at, is_segment, child_at, node_at, first_at, with_node, lookup_lock}
 use Rattle.dav_path_core.proofs.lists.PlaceLemmas.{position-none, position-first}
 
 -- ---- children by their segments
@@ -88,7 +89,7 @@ module _ (test : Bool → Lock → Bool) (t : LockTree) where
   NoneOnWay-from n (s ∷ p) h = by (λ c. NoneOnWay-from c p) (first_at (test false) t n) refl (child_at t n s) refl h
     where
       by : ((c : ℕ) → lookup_lock test t c p ≡ None → NoneOnWay c p) → (o : Option ℕ) → first_at (test false) t n ≡ o → (c : Option ℕ) → child_at t n s ≡ c
-          → or_else (with_node n o) (option_and_then (λ c. lookup_lock test t c p) c) ≡ None → NoneOnWay n (s ∷ p)
+          → option_or (with_node n o) (option_and_then (λ c. lookup_lock test t c p) c) ≡ None → NoneOnWay n (s ∷ p)
       by rec (Some j) e c ce h q m k d f ne lt = absurd (none≢some (n, j) (sym h))
       by rec None e c ce h [] m k d f ne lt = subst (λ m. k < length (locks_at t m) → test false (lock_at t m k d) ≡ false) (at_start n m ne) (none_here false n e k d) lt
       by rec None e None ce h (r ∷ q) m k d f ne lt =
@@ -162,7 +163,7 @@ module _ (test : Bool → Lock → Bool) (t : LockTree) where
   IsFirst-from n (s ∷ p) m k h = by (λ c. IsFirst-from c p m k) (first_at (test false) t n) refl (child_at t n s) refl h
     where
       by : ((c : ℕ) → lookup_lock test t c p ≡ Some (m, k) → IsFirst c p m k) → (o : Option ℕ) → first_at (test false) t n ≡ o → (c : Option ℕ) → child_at t n s ≡ c
-          → or_else (with_node n o) (option_and_then (λ c. lookup_lock test t c p) c) ≡ Some (m, k) → IsFirst n (s ∷ p) m k
+          → option_or (with_node n o) (option_and_then (λ c. lookup_lock test t c p) c) ≡ Some (m, k) → IsFirst n (s ∷ p) m k
       by rec (Some j) e c ce h =
           let w : (n, j) ≡ (m, k) = same_some _ _ h in
           subst (λ (f : ℕ × ℕ). IsFirst n (s ∷ p) f.0 f.1) w (IsFirst-here n (s ∷ p) j e)
@@ -214,16 +215,16 @@ module _ (test : Bool → Lock → Bool) (t : LockTree) (n : ℕ) where
   module _ (s : Segment) (p : Path) where
     pub way-found : (k : ℕ) → Some k ≡ first_at (test false) t n → lookup_lock test t n (s ∷ p) ≡ Some (n, k)
     unfolding lookup_lock
-    way-found k e = ap (λ o. or_else (with_node n o) (option_and_then (λ c. lookup_lock test t c p) (child_at t n s))) (sym e)
+    way-found k e = ap (λ o. option_or (with_node n o) (option_and_then (λ c. lookup_lock test t c p) (child_at t n s))) (sym e)
 
     pub way-down : (c : ℕ) → None ≡ first_at (test false) t n → Some c ≡ child_at t n s → lookup_lock test t n (s ∷ p) ≡ lookup_lock test t c p
     unfolding lookup_lock
     way-down c e ce =
-        ap (λ o. or_else (with_node n o) (option_and_then (λ c. lookup_lock test t c p) (child_at t n s))) (sym e)
+        ap (λ o. option_or (with_node n o) (option_and_then (λ c. lookup_lock test t c p) (child_at t n s))) (sym e)
         ∙ ap (λ o. option_and_then (λ c. lookup_lock test t c p) o) (sym ce)
 
     pub way-stuck : None ≡ first_at (test false) t n → None ≡ child_at t n s → lookup_lock test t n (s ∷ p) ≡ None
     unfolding lookup_lock
     way-stuck e ce =
-        ap (λ o. or_else (with_node n o) (option_and_then (λ c. lookup_lock test t c p) (child_at t n s))) (sym e)
+        ap (λ o. option_or (with_node n o) (option_and_then (λ c. lookup_lock test t c p) (child_at t n s))) (sym e)
         ∙ ap (λ o. option_and_then (λ c. lookup_lock test t c p) o) (sym ce)

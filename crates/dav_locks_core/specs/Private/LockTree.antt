@@ -1,7 +1,7 @@
 -- The locks of a tree of segments: those that stand at each node, with their grant numbers, and the list that they make, in
 -- the order of granting.
-use Rattle.std.specs.Prelude.{◌≡◌, ℕ, Bool, true, false, List, [], ◌∷◌, ◌++◌, Option, Some, None, IsSome, option_map, option_and_then, map, filter, position, nat_eq, slice_index_or}
-use Rattle.std.specs.Option.{unwrap_or}
+use Rattle.std.specs.Prelude.{◌≡◌, ℕ, Bool, true, false, List, [], ◌∷◌, ◌++◌, Option, Some, IsSome, option_map, option_and_then, map, filter, position, nat_eq, slice_index_or}
+use Rattle.std.specs.Option.{option_or, unwrap_or}
 use Rattle.std.specs.Ordering.{nat_cmp}
 use Rattle.std.specs.FinMap.{entries, from_entries}
 use Rattle.std.specs.Cmp.Lexicographic.{pointwise}
@@ -50,11 +50,6 @@ lock_list t = locks_of (all_granted t)
 
 -- ---- the way down to a path
 
--- the first of two that is there
-abbrev pub or_else : {A : Type 0} → Option A → Option A → Option A
-or_else None o = o
-or_else (Some x) o = Some x
-
 -- a place at a node, if there is one
 abbrev pub with_node : ℕ → Option ℕ → Option (ℕ × ℕ)
 with_node n o = option_map {U = ℕ × ℕ} (λ k. (n, k)) o
@@ -68,7 +63,7 @@ first_at test t n = position (λ g. test g.1) (locks_at t n)
 unfoldable pub lookup_lock : (Bool → Lock → Bool) → LockTree → ℕ → Path → Option (ℕ × ℕ)
 lookup_lock test t n [] = with_node n (first_at (test true) t n)
 lookup_lock test t n (s ∷ p) =
-    or_else (with_node n (first_at (test false) t n)) (option_and_then (λ c. lookup_lock test t c p) (child_at t n s))
+    option_or (with_node n (first_at (test false) t n)) (option_and_then (λ c. lookup_lock test t c p) (child_at t n s))
 
 -- the locks that cover a path, on the way down to it from a node: the deep ones above it and those at its end
 unfoldable pub covering_down : LockTree → ℕ → Path → List Lock

@@ -11,7 +11,7 @@ use std::collections::btree_map;
 use std::marker::Model;
 
 /// The locks of a `MemLs`, in the order of granting.
-#[derive(Drop)]
+#[derive(Debug, Drop)]
 pub struct MemLsLocks<'a> {
     tree: &'a Tree<Bytes, NodeLocks>,
     // By grant number, the node at which the lock stands.

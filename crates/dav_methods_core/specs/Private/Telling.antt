@@ -10,13 +10,16 @@ use Rattle.dav_documents_core.specs.PropertyDocuments.{Description, response_pie
 use Rattle.dav_documents_core.specs.PropertyQuestions.{Question}
 
 -- the response to the question about one place is written behind what was written
-pub record TellsOne (prefix : List ℕ) (s : State) (principal : Option (List ℕ)) (question : Question) (p : Path) (was now : Writing) : Type 0 where
+pub record TellsOne (prefix : List ℕ) (s : State) (principal : Option (List ℕ))
+    (question : Question) (p : Path) (was now : Writing) : Type 0 where
   pub resource : Description
   pub described : Describes prefix s p resource
   pub written : now ≡ with_pieces was (response_pieces prefix principal question resource)
 
 -- of each of the places, in order
-pub record TellsEach (prefix : List ℕ) (s : State) (principal : Option (List ℕ)) (question : Question) (places : List Path) (was now : Writing) : Type 0 where
+pub record TellsEach (prefix : List ℕ) (s : State) (principal : Option (List ℕ))
+    (question : Question) (places : List Path) (was now : Writing) : Type 0 where
   pub resources : List Description
   pub described : DescribesEach prefix s places resources
-  pub written : now ≡ with_pieces was (flat_map (response_pieces prefix principal question) resources)
+  pub written : now ≡ with_pieces was (flat_map (response_pieces prefix principal question)
+      resources)

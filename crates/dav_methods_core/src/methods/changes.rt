@@ -1,14 +1,15 @@
 //! What methods that make something share.
-ghost use Rattle.std.specs.Prelude.{◌≡◌, ◌⊎◌, [], Some, IfErr, IfOk, OnOk, is_some, if◌then◌else◌};
+ghost use Rattle.std.specs.Prelude.{◌≡◌, ◌⊎◌, [], IfErr, IfOk, OnOk, is_some, if◌then◌else◌};
 ghost use Rattle.dav_path_core.specs.Fronts.{parent};
 ghost use Rattle.dav_path_core.specs.Segments.{segments};
 ghost use Rattle.dav_files_core.specs.declared.memfs.Kind.TheVariants.{Folder};
-ghost use Rattle.dav_files_core.specs.Resources.{IsResourceMap, Resource, at_path};
-ghost use Rattle.dav_session_core.specs.Callers.{RunBy, SameLive, as_caller, live};
+ghost use Rattle.dav_files_core.specs.Resources.{IsResourceMap};
+ghost use Rattle.dav_session_core.specs.Callers.{as_caller};
+ghost use Rattle.dav_session_core.specs.Ends.{HasFolder};
 ghost use Rattle.dav_session_core.specs.LocksInTheWay.{IsRefusedBy, by_place, is_below};
-ghost use Rattle.dav_fields_core.specs.Private.Marking.{IsNone};
-ghost use Rattle.dav_session_core.specs.Private.Placing.{target_by};
-ghost use Rattle.dav_session_core.specs.Sessions as spec;
+ghost use Rattle.dav_fields_core.specs.Marking.{IsNone};
+ghost use Rattle.dav_session_core.specs.Placing.{target_by};
+ghost use Rattle.dav_session_core.specs.Sessions.{Looks, caller, live_of, state};
 ghost use Rattle.dav_faults_core.specs.declared.faults.Fault.TheVariants as fault;
 ghost use Rattle.dav_resource_core.specs.Checks.{refusing};
 
@@ -26,13 +27,12 @@ pub(super) fn check_locks<R: Rng>(
     path: &DavPath,
     there: bool,
 ) -> Result<(), Fault>
-    ensures ok { OnOk result (refusing (live (spec.caller session.old).now (spec.state R.stream session.old)).locks (as_caller (spec.caller session.old)) (target_by there (segments path.now.bytes)) ≡ []) }
-    ensures err { IfErr result (λ e. IsRefusedBy (refusing (live (spec.caller session.old).now (spec.state R.stream session.old)).locks
-        (as_caller (spec.caller session.old)) (target_by there (segments path.now.bytes))) e) }
-    ensures run { RunBy (spec.caller session.old) (spec.state R.stream session.old) (spec.state R.stream session.new) }
-    ensures live { SameLive (spec.caller session.old).now (spec.state R.stream session.old) (spec.state R.stream session.new) }
-    ensures caller { spec.caller session.new ≡ spec.caller session.old }
-    ensures shape { OnOk result (IsResourceMap (spec.state R.stream session.new).map) }
+    ensures ok { OnOk result (refusing (live_of R.stream session.old).locks
+        (as_caller (caller session.old)) (target_by there (segments path.now.bytes)) ≡ []) }
+    ensures err { IfErr result (λ e. IsRefusedBy (refusing (live_of R.stream session.old).locks
+        (as_caller (caller session.old)) (target_by there (segments path.now.bytes))) e) }
+    ensures looks { Looks R.stream session.old session.new }
+    ensures shape { OnOk result (IsResourceMap (state R.stream session.new).map) }
 {
     session.check(copy_of(path)?)?;
     if there {
@@ -43,12 +43,11 @@ pub(super) fn check_locks<R: Rng>(
 
 /// Whether a folder stands above. `Conflict` where none does.
 pub(super) fn check_above<R: Rng>(session: &mut Session<R>, path: &DavPath) -> Result<(), Fault>
-    ensures ok { OnOk result ((r : Resource) × (at_path (spec.state R.stream session.old).map (parent (segments path.now.bytes)) ≡ Some r) × (r.node.kind ≡ Folder)) }
+    ensures ok { OnOk result (HasFolder (state R.stream session.old).map
+        (parent (segments path.now.bytes))) }
     ensures err { IfErr result (λ e. (e ≡ fault.InsufficientStorage) ⊎ ((e ≡ fault.Conflict)
-        × IsNone (spec.state R.stream session.old).map (parent (segments path.now.bytes)) Folder)) }
-    ensures run { RunBy (spec.caller session.old) (spec.state R.stream session.old) (spec.state R.stream session.new) }
-    ensures live { SameLive (spec.caller session.old).now (spec.state R.stream session.old) (spec.state R.stream session.new) }
-    ensures caller { spec.caller session.new ≡ spec.caller session.old }
+        × IsNone (state R.stream session.old).map (parent (segments path.now.bytes)) Folder)) }
+    ensures looks { Looks R.stream session.old session.new }
 {
     match session.meta(parent_of(path)?) {
         Some(above) => if above.is_dir() {

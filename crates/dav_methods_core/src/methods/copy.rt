@@ -1,16 +1,18 @@
 //! COPY.
-ghost use Rattle.std.specs.Prelude.{◌≡◌, ◌∷◌, ◌++◌, [], map, option_map, IfErr, IfOk, OnOk};
+ghost use Rattle.std.specs.Prelude.{◌≡◌, ◌∷◌, ◌++◌, [], option_map, IfErr, IfOk, OnOk};
 ghost use Rattle.dav_path_core.specs.Segments.{segments};
 ghost use Rattle.dav_files_core.specs.Meta.{meta_of};
 ghost use Rattle.dav_files_core.specs.Resources.{IsResourceMap};
-ghost use Rattle.dav_resource_core.specs.Checks.{refusing, shallow};
-ghost use Rattle.dav_session_core.specs.Callers.{RunBy, SameLive, as_caller, live};
-ghost use Rattle.dav_session_core.specs.Clearing.{refusing_clearing};
+ghost use Rattle.dav_resource_core.specs.Checks.{refusing};
+ghost use Rattle.dav_session_core.specs.Callers.{as_caller};
 ghost use Rattle.dav_session_core.specs.Copying.{Copies, CopyLeaves, FailsToCopy};
 ghost use Rattle.dav_session_core.specs.LocksInTheWay.{IsRefusedBy};
-ghost use Rattle.dav_session_core.specs.Private.Placing.{target_by};
-ghost use Rattle.dav_session_core.specs.Private.Transferring.{ArePlaces, IsPlanned, LacksPlaces, copies_of, copy_target};
-ghost use Rattle.dav_session_core.specs.Sessions as spec;
+ghost use Rattle.dav_session_core.specs.TransferEnds.{ArePlaces, IsPlanned, LacksPlaces};
+ghost use Rattle.dav_session_core.specs.TransferEnds.{copies_of, copy_target};
+ghost use Rattle.dav_methods_core.specs.Private.Transfers.{checks_of};
+ghost use Rattle.dav_session_core.specs.Unhindered.{ends_of, paths_of};
+ghost use Rattle.dav_methods_core.specs.Private.Transfers.{refusing_transfers};
+ghost use Rattle.dav_session_core.specs.Sessions.{Acts, Looks, caller, live_of, state};
 ghost use Rattle.dav_faults_core.specs.declared.faults.Fault.TheVariants as fault;
 
 use super::changes::{by_place, check_locks, done};
@@ -26,10 +28,13 @@ use http_header::{HeaderMap, HeaderValue};
 use rand_core::Rng;
 use std::alloc::Global;
 
-/// Copies what stands at a path, with all below it or alone, to where the request leads, and answers 201, or 204 where something stood there (RFC 4918 section 9.8).
+/// Copies what stands at a path, with all below it or alone, to where the request leads, and
+/// answers 201, or 204 where something stood there (RFC 4918 section 9.8).
 ///
-/// `BadRequest` for a depth that it can't have; then what `ends_of` gives; `BadRequest` where a name below the path is one that no path has which is read; `Locked` where a lock
-/// stands in the way, and `MemberLocked` where one below the target does; with the path of that lock. `InsufficientStorage` may come once some resources are copied.
+/// `BadRequest` for a depth that it can't have; then what `ends_of` gives; `BadRequest` where a
+/// name below the path is one that no path has which is read; `Locked` where a lock stands in the
+/// way, and `MemberLocked` where one below the target does; with the path of that lock.
+/// `InsufficientStorage` may come once some resources are copied.
 pub fn copy<R: Rng>(
     alloc: Global,
     session: &mut Session<R>,
@@ -38,14 +43,15 @@ pub fn copy<R: Rng>(
     headers: &HeaderMap<HeaderValue>,
     path: &DavPath,
 ) -> Result<StatusCode, Fault>
-    ensures done { IfOk result (λ code. Copies scheme prefix.now headers.now (live (spec.caller session.old).now (spec.state R.stream session.old)) (spec.caller session.old)
-        (segments path.now.bytes) code (spec.state R.stream session.new)) }
-    ensures err { IfErr result (λ e. FailsToCopy scheme prefix.now headers.now (live (spec.caller session.old).now (spec.state R.stream session.old)) (spec.caller session.old)
-        (segments path.now.bytes) e) }
-    ensures left { IfErr result (λ e. CopyLeaves scheme prefix.now headers.now (spec.state R.stream session.old) (spec.caller session.old).now (segments path.now.bytes) e
-        (spec.state R.stream session.new)) }
-    ensures run { RunBy (spec.caller session.old) (spec.state R.stream session.old) (spec.state R.stream session.new) }
-    ensures caller { spec.caller session.new ≡ spec.caller session.old }
+    ensures done { IfOk result (λ code. Copies scheme prefix.now headers.now
+        (live_of R.stream session.old) (caller session.old) (segments path.now.bytes) code
+        (state R.stream session.new)) }
+    ensures err { IfErr result (λ e. FailsToCopy scheme prefix.now headers.now
+        (live_of R.stream session.old) (caller session.old) (segments path.now.bytes) e) }
+    ensures left { IfErr result (λ e. CopyLeaves scheme prefix.now headers.now
+        (state R.stream session.old) (caller session.old).now (segments path.now.bytes) e
+        (state R.stream session.new)) }
+    ensures acts { Acts R.stream session.old session.new }
 {
     let Plan {
         known,
@@ -57,7 +63,8 @@ pub fn copy<R: Rng>(
     Ok(done(&known))
 }
 
-// What a COPY does once nothing refuses it: what stands at its target, what goes from there, and what is copied.
+// What a COPY does once nothing refuses it: what stands at its target, what goes from there, and
+// what is copied.
 #[derive(Drop)]
 struct Plan {
     known: Option<MemFsMeta>,
@@ -73,14 +80,13 @@ fn planned<R: Rng>(
     headers: &HeaderMap<HeaderValue>,
     path: &DavPath,
 ) -> Result<Plan, Fault>
-    ensures ok { IfOk result (λ plan. IsPlanned scheme prefix.now headers.now (live (spec.caller session.old).now (spec.state R.stream session.old)) (spec.caller session.old)
-        (segments path.now.bytes) (option_map meta_of plan.known) (map (λ p. segments p.bytes) plan.gone.items)
-        (map (λ t. (segments t.from.bytes, segments t.to.bytes)) plan.transfers.items)) }
-    ensures err { IfErr result (λ e. FailsToCopy scheme prefix.now headers.now (live (spec.caller session.old).now (spec.state R.stream session.old)) (spec.caller session.old)
-        (segments path.now.bytes) e) }
-    ensures run { RunBy (spec.caller session.old) (spec.state R.stream session.old) (spec.state R.stream session.new) }
-    ensures live { SameLive (spec.caller session.old).now (spec.state R.stream session.old) (spec.state R.stream session.new) }
-    ensures caller { spec.caller session.new ≡ spec.caller session.old }
+    ensures ok { IfOk result (λ plan. IsPlanned scheme prefix.now headers.now
+        (live_of R.stream session.old) (caller session.old) (segments path.now.bytes)
+        (option_map meta_of plan.known) (paths_of plan.gone.items)
+        (ends_of plan.transfers.items)) }
+    ensures err { IfErr result (λ e. FailsToCopy scheme prefix.now headers.now
+        (live_of R.stream session.old) (caller session.old) (segments path.now.bytes) e) }
+    ensures looks { Looks R.stream session.old session.new }
 {
     let deep = copy_depth(headers)?;
     let Ends {
@@ -100,18 +106,19 @@ fn planned<R: Rng>(
     }
 }
 
-// The paths of all that stands at a path and below it, each folder before its members, or the path alone.
+// The paths of all that stands at a path and below it, each folder before its members, or the path
+// alone.
 fn places_of<R: Rng>(
     alloc: Global,
     session: &mut Session<R>,
     path: &DavPath,
     deep: bool,
 ) -> Result<Vec<DavPath>, Fault>
-    ensures ok { IfOk result (λ places. ArePlaces (spec.state R.stream session.old).map deep (segments path.now.bytes) (map (λ p. segments p.bytes) places.items)) }
-    ensures err { IfErr result (λ e. LacksPlaces (spec.state R.stream session.old).map deep (segments path.now.bytes) e) }
-    ensures run { RunBy (spec.caller session.old) (spec.state R.stream session.old) (spec.state R.stream session.new) }
-    ensures live { SameLive (spec.caller session.old).now (spec.state R.stream session.old) (spec.state R.stream session.new) }
-    ensures caller { spec.caller session.new ≡ spec.caller session.old }
+    ensures ok { IfOk result (λ places. ArePlaces (state R.stream session.old).map deep
+        (segments path.now.bytes) (paths_of places.items)) }
+    ensures err { IfErr result (λ e. LacksPlaces (state R.stream session.old).map deep
+        (segments path.now.bytes) e) }
+    ensures looks { Looks R.stream session.old session.new }
 {
     if deep {
         return session.walk(alloc, copy_of(path)?);
@@ -128,8 +135,8 @@ fn transfers_of(
     from: &DavPath,
     to: &DavPath,
 ) -> Result<Vec<Transfer>, Fault>
-    ensures ok { IfOk result (λ transfers. map (λ t. (segments t.from.bytes, segments t.to.bytes)) transfers.items
-        ≡ copies_of (segments from.now.bytes) (segments to.now.bytes) (map (λ p. segments p.bytes) places.now)) }
+    ensures ok { IfOk result (λ transfers. ends_of transfers.items
+        ≡ copies_of (segments from.now.bytes) (segments to.now.bytes) (paths_of places.now)) }
     ensures err { IfErr result (λ e. e ≡ fault.InsufficientStorage) }
 {
     let mut transfers = Vec::new(alloc);
@@ -146,9 +153,9 @@ fn add_transfer(
     from: &DavPath,
     to: &DavPath,
 ) -> Result<(), Fault>
-    ensures ok { OnOk result (map (λ t. (segments t.from.bytes, segments t.to.bytes)) transfers.new.items
-        ≡ map (λ t. (segments t.from.bytes, segments t.to.bytes)) transfers.old.items
-        ++ copies_of (segments from.now.bytes) (segments to.now.bytes) (segments place.now.bytes ∷ [])) }
+    ensures ok { OnOk result (ends_of transfers.new.items ≡ ends_of transfers.old.items
+        ++ copies_of (segments from.now.bytes) (segments to.now.bytes)
+        (segments place.now.bytes ∷ [])) }
     ensures err { IfErr result (λ e. e ≡ fault.InsufficientStorage) }
 {
     let Some(target) = target_of(place, from, to)? else {
@@ -162,7 +169,8 @@ fn add_transfer(
 // Where a place is copied to; nowhere where it is at or below the target.
 fn target_of(place: &DavPath, from: &DavPath, to: &DavPath) -> Result<Option<DavPath>, Fault>
     ensures ok { IfOk result (λ target. option_map (λ p. segments p.bytes) target
-        ≡ copy_target (segments from.now.bytes) (segments to.now.bytes) (segments place.now.bytes)) }
+        ≡ copy_target (segments from.now.bytes) (segments to.now.bytes)
+        (segments place.now.bytes)) }
     ensures err { IfErr result (λ e. e ≡ fault.InsufficientStorage) }
 {
     if place.behind_prefix().is_at_or_below(to.behind_prefix()) {
@@ -179,18 +187,12 @@ fn check_copy<R: Rng>(
     gone: &[DavPath],
     transfers: &[Transfer],
 ) -> Result<(), Fault>
-    ensures ok { OnOk result (refusing_clearing (live (spec.caller session.old).now (spec.state R.stream session.old)) (spec.caller session.old) (segments to.now.bytes)
-        (map (λ p. segments p.bytes) gone.now)
-        ++ refusing (live (spec.caller session.old).now (spec.state R.stream session.old)).locks (as_caller (spec.caller session.old))
-        (target_by there (segments to.now.bytes) ++ map (λ t. shallow (segments t.to.bytes)) transfers.now) ≡ []) }
-    ensures err { IfErr result (λ e. IsRefusedBy (refusing_clearing (live (spec.caller session.old).now (spec.state R.stream session.old)) (spec.caller session.old)
-        (segments to.now.bytes) (map (λ p. segments p.bytes) gone.now)
-        ++ refusing (live (spec.caller session.old).now (spec.state R.stream session.old)).locks (as_caller (spec.caller session.old))
-        (target_by there (segments to.now.bytes) ++ map (λ t. shallow (segments t.to.bytes)) transfers.now)) e) }
-    ensures run { RunBy (spec.caller session.old) (spec.state R.stream session.old) (spec.state R.stream session.new) }
-    ensures live { SameLive (spec.caller session.old).now (spec.state R.stream session.old) (spec.state R.stream session.new) }
-    ensures caller { spec.caller session.new ≡ spec.caller session.old }
-    ensures shape { OnOk result (IsResourceMap (spec.state R.stream session.new).map) }
+    ensures ok { OnOk result (refusing_transfers (live_of R.stream session.old) (caller session.old)
+        (segments to.now.bytes) there (paths_of gone.now) transfers.now ≡ []) }
+    ensures err { IfErr result (λ e. IsRefusedBy (refusing_transfers (live_of R.stream session.old)
+        (caller session.old) (segments to.now.bytes) there (paths_of gone.now) transfers.now) e) }
+    ensures looks { Looks R.stream session.old session.new }
+    ensures shape { OnOk result (IsResourceMap (state R.stream session.new).map) }
 {
     session.check_clearing(to, gone)?;
     check_locks(session, to, there)?;
@@ -199,13 +201,11 @@ fn check_copy<R: Rng>(
 
 // Whether they let the caller write each copy.
 fn check_each<R: Rng>(session: &mut Session<R>, transfers: &[Transfer]) -> Result<(), Fault>
-    ensures ok { OnOk result (refusing (live (spec.caller session.old).now (spec.state R.stream session.old)).locks (as_caller (spec.caller session.old))
-        (map (λ t. shallow (segments t.to.bytes)) transfers.now) ≡ []) }
-    ensures err { IfErr result (λ e. IsRefusedBy (refusing (live (spec.caller session.old).now (spec.state R.stream session.old)).locks (as_caller (spec.caller session.old))
-        (map (λ t. shallow (segments t.to.bytes)) transfers.now)) e) }
-    ensures run { RunBy (spec.caller session.old) (spec.state R.stream session.old) (spec.state R.stream session.new) }
-    ensures live { SameLive (spec.caller session.old).now (spec.state R.stream session.old) (spec.state R.stream session.new) }
-    ensures caller { spec.caller session.new ≡ spec.caller session.old }
+    ensures ok { OnOk result (refusing (live_of R.stream session.old).locks
+        (as_caller (caller session.old)) (checks_of transfers.now) ≡ []) }
+    ensures err { IfErr result (λ e. IsRefusedBy (refusing (live_of R.stream session.old).locks
+        (as_caller (caller session.old)) (checks_of transfers.now)) e) }
+    ensures looks { Looks R.stream session.old session.new }
 {
     for transfer in transfers {
         session.check(copy_of(&transfer.to)?)?;

@@ -2,9 +2,8 @@
 ghost use Rattle.std.specs.Prelude.{◌≡◌, IfErr, IfOk, OnErr};
 ghost use Rattle.dav_path_core.specs.Segments.{segments};
 ghost use Rattle.dav_files_core.specs.Folders.{is_root};
-ghost use Rattle.dav_session_core.specs.Callers.{RunBy, SameLive, live};
 ghost use Rattle.dav_session_core.specs.Removing.{FailsToRemove, Removes};
-ghost use Rattle.dav_session_core.specs.Sessions as spec;
+ghost use Rattle.dav_session_core.specs.Sessions.{Acts, Stays, caller, live_of, state};
 
 use super::changes::by_place;
 use dav_faults_core::faults::Fault;
@@ -18,22 +17,22 @@ use std::alloc::Global;
 
 /// Takes away what stands at a path, with all below it, and answers 204 (RFC 4918 section 9.6).
 ///
-/// `BadRequest` for a depth that doesn't reach all the way down; `Forbidden` for the root; `NotFound` where nothing stands there; `BadRequest` where a name below it
-/// is one that no path has which is read; `Locked` where a lock
-/// at the path or above it refuses that any of it goes, and `MemberLocked` where one below it does; with the path of that lock.
+/// `BadRequest` for a depth that doesn't reach all the way down; `Forbidden` for the root;
+/// `NotFound` where nothing stands there; `BadRequest` where a name below it is one that no path
+/// has which is read; `Locked` where a lock at the path or above it refuses that any of it goes,
+/// and `MemberLocked` where one below it does; with the path of that lock.
 pub fn delete<R: Rng>(
     alloc: Global,
     session: &mut Session<R>,
     headers: &HeaderMap<HeaderValue>,
     path: DavPath,
 ) -> Result<StatusCode, Fault>
-    ensures done { IfOk result (λ code. Removes headers.now (live (spec.caller session.old).now (spec.state R.stream session.old)) (spec.caller session.old)
-        (segments path.bytes) code (spec.state R.stream session.new)) }
-    ensures err { IfErr result (λ e. FailsToRemove headers.now (live (spec.caller session.old).now (spec.state R.stream session.old)) (spec.caller session.old)
-        (segments path.bytes) e) }
-    ensures refused { OnErr result (SameLive (spec.caller session.old).now (spec.state R.stream session.old) (spec.state R.stream session.new)) }
-    ensures run { RunBy (spec.caller session.old) (spec.state R.stream session.old) (spec.state R.stream session.new) }
-    ensures caller { spec.caller session.new ≡ spec.caller session.old }
+    ensures done { IfOk result (λ code. Removes headers.now (live_of R.stream session.old)
+        (caller session.old) (segments path.bytes) code (state R.stream session.new)) }
+    ensures err { IfErr result (λ e. FailsToRemove headers.now (live_of R.stream session.old)
+        (caller session.old) (segments path.bytes) e) }
+    ensures refused { OnErr result (Stays R.stream session.old session.new) }
+    ensures acts { Acts R.stream session.old session.new }
 {
     check_whole(headers)?;
     if is_root(&path) {

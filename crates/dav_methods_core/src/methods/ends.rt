@@ -1,12 +1,12 @@
 //! The two ends of a COPY or a MOVE.
-ghost use Rattle.std.specs.Prelude.{◌≡◌, ◌⊎◌, true, false, map, option_map, IfErr, IfOk, OnOk};
+ghost use Rattle.std.specs.Prelude.{◌≡◌, option_map, IfErr, IfOk};
 ghost use Rattle.dav_path_core.specs.Segments.{segments};
-ghost use Rattle.dav_files_core.specs.Meta.{meta_at, meta_of};
-ghost use Rattle.dav_files_core.specs.Resources.{at_path};
-ghost use Rattle.dav_session_core.specs.Callers.{RunBy, SameLive};
-ghost use Rattle.dav_session_core.specs.Ends.{FailsAtEnds, GoesFrom, LeadsOn, is_related};
-ghost use Rattle.dav_session_core.specs.Private.Transferring.{AreEnds, FailsToFit, FailsToLead, Fits};
-ghost use Rattle.dav_session_core.specs.Sessions as spec;
+ghost use Rattle.dav_files_core.specs.Meta.{meta_of};
+ghost use Rattle.dav_session_core.specs.Ends.{FailsAtEnds, LeadsOn, is_related};
+ghost use Rattle.dav_session_core.specs.TransferEnds.{AreEnds, FailsToFit, FailsToLead};
+ghost use Rattle.dav_session_core.specs.TransferEnds.{Fits};
+ghost use Rattle.dav_session_core.specs.Unhindered.{paths_of};
+ghost use Rattle.dav_session_core.specs.Sessions.{Looks, state};
 ghost use Rattle.dav_faults_core.specs.declared.faults.Fault.TheVariants as fault;
 
 use super::changes::check_above;
@@ -20,7 +20,8 @@ use http_header::{HeaderMap, HeaderValue};
 use rand_core::Rng;
 use std::alloc::Global;
 
-/// Where a request leads, what stands there, and all that goes from there before anything is written.
+/// Where a request leads, what stands there, and all that goes from there before anything is
+/// written.
 #[derive(Drop)]
 pub(super) struct Ends {
     pub(super) target: DavPath,
@@ -28,11 +29,14 @@ pub(super) struct Ends {
     pub(super) gone: Vec<DavPath>,
 }
 
-/// The ends of a request for a path. Where `within` is false the target may not lie below that path.
+/// The ends of a request for a path. Where `within` is false the target may not lie below that
+/// path.
 ///
-/// `BadRequest` where `Overwrite` can't be read; the fault of a `Destination` that leads nowhere; `Forbidden` for a target at the path or above it, and below it where it may
-/// not lie there; `NotFound` where nothing stands at the path; `PreconditionFailed` where something stands at the target that may not be replaced; `Conflict` where no folder
-/// stands above the target; `BadRequest` where a name below the target is one that no path has which is read.
+/// `BadRequest` where `Overwrite` can't be read; the fault of a `Destination` that leads nowhere;
+/// `Forbidden` for a target at the path or above it, and below it where it may not lie there;
+/// `NotFound` where nothing stands at the path; `PreconditionFailed` where something stands at the
+/// target that may not be replaced; `Conflict` where no folder stands above the target;
+/// `BadRequest` where a name below the target is one that no path has which is read.
 pub(super) fn ends_of<R: Rng>(
     alloc: Global,
     session: &mut Session<R>,
@@ -42,12 +46,12 @@ pub(super) fn ends_of<R: Rng>(
     path: &DavPath,
     within: bool,
 ) -> Result<Ends, Fault>
-    ensures ok { IfOk result (λ ends. AreEnds scheme prefix.now headers.now (spec.state R.stream session.old).map (segments path.now.bytes) within ends.target
-        (option_map meta_of ends.known) (map (λ p. segments p.bytes) ends.gone.items)) }
-    ensures err { IfErr result (λ e. FailsAtEnds scheme prefix.now headers.now (spec.state R.stream session.old).map (segments path.now.bytes) within e) }
-    ensures run { RunBy (spec.caller session.old) (spec.state R.stream session.old) (spec.state R.stream session.new) }
-    ensures live { SameLive (spec.caller session.old).now (spec.state R.stream session.old) (spec.state R.stream session.new) }
-    ensures caller { spec.caller session.new ≡ spec.caller session.old }
+    ensures ok { IfOk result (λ ends. AreEnds scheme prefix.now headers.now
+        (state R.stream session.old).map (segments path.now.bytes) within ends.target
+        (option_map meta_of ends.known) (paths_of ends.gone.items)) }
+    ensures err { IfErr result (λ e. FailsAtEnds scheme prefix.now headers.now
+        (state R.stream session.old).map (segments path.now.bytes) within e) }
+    ensures looks { Looks R.stream session.old session.new }
 {
     let Target {
         path: target,
@@ -77,8 +81,10 @@ fn target_in(
     from: &DavPath,
     within: bool,
 ) -> Result<Target, Fault>
-    ensures ok { IfOk result (λ target. LeadsOn scheme prefix.now headers.now (segments from.now.bytes) within target.path target.replaces) }
-    ensures err { IfErr result (λ e. FailsToLead scheme prefix.now headers.now (segments from.now.bytes) within e) }
+    ensures ok { IfOk result (λ target. LeadsOn scheme prefix.now headers.now
+        (segments from.now.bytes) within target.path target.replaces) }
+    ensures err { IfErr result (λ e. FailsToLead scheme prefix.now headers.now
+        (segments from.now.bytes) within e) }
 {
     let replaces = overwrites(headers)?;
     let path = destination_in(alloc, scheme, prefix, headers)?;
@@ -96,18 +102,19 @@ fn is_related(from: &DavPath, to: &DavPath, within: bool) -> bool
         || (!within && to.behind_prefix().is_at_or_below(from.behind_prefix()))
 }
 
-// What is known of the target; whether something stands at the source, what stands at the target may be replaced, and a folder stands above it.
+// What is known of the target; whether something stands at the source, what stands at the target
+// may be replaced, and a folder stands above it.
 fn check_fit<R: Rng>(
     session: &mut Session<R>,
     from: &DavPath,
     to: &DavPath,
     replaces: bool,
 ) -> Result<Option<MemFsMeta>, Fault>
-    ensures ok { IfOk result (λ known. Fits (spec.state R.stream session.old).map (segments from.now.bytes) (segments to.now.bytes) replaces (option_map meta_of known)) }
-    ensures err { IfErr result (λ e. FailsToFit (spec.state R.stream session.old).map (segments from.now.bytes) (segments to.now.bytes) replaces e) }
-    ensures run { RunBy (spec.caller session.old) (spec.state R.stream session.old) (spec.state R.stream session.new) }
-    ensures live { SameLive (spec.caller session.old).now (spec.state R.stream session.old) (spec.state R.stream session.new) }
-    ensures caller { spec.caller session.new ≡ spec.caller session.old }
+    ensures ok { IfOk result (λ known. Fits (state R.stream session.old).map
+        (segments from.now.bytes) (segments to.now.bytes) replaces (option_map meta_of known)) }
+    ensures err { IfErr result (λ e. FailsToFit (state R.stream session.old).map
+        (segments from.now.bytes) (segments to.now.bytes) replaces e) }
+    ensures looks { Looks R.stream session.old session.new }
 {
     if session.meta(copy_of(from)?).is_none() {
         return Err(Fault::NotFound);

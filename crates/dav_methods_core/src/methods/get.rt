@@ -3,15 +3,14 @@ ghost use Rattle.std.specs.Prelude.{◌≡◌, ◌⊎◌, ◌-◌, [], IfOk, IfE
 ghost use Rattle.dav_path_core.specs.Segments.{segments};
 ghost use Rattle.dav_files_core.specs.declared.memfs.Kind.TheVariants.{File, Folder};
 ghost use Rattle.dav_files_core.specs.Meta.{meta_of};
-ghost use Rattle.dav_files_core.specs.Resources.{Resource};
 ghost use Rattle.http_server.specs.Response.{IsBlank};
-ghost use Rattle.dav_session_core.specs.Callers.{RunBy, SameLive};
 ghost use Rattle.dav_fields_core.specs.Fields.{marks_of, sent_of};
 ghost use Rattle.dav_fields_core.specs.FileTags.{standing_as};
 ghost use Rattle.dav_fields_core.specs.Getting.{FailsToGet, Gets, extent_in, tags_by, told};
-ghost use Rattle.dav_fields_core.specs.Private.Marking.{HasShownTag, IsNone, IsRead, and_part, and_tags};
+ghost use Rattle.dav_fields_core.specs.Marking.{HasShownTag, IsNone, IsRead, and_part};
+ghost use Rattle.dav_fields_core.specs.Marking.{and_tags};
 ghost use Rattle.dav_fields_core.specs.Ranges.{part_text, unsatisfied_text};
-ghost use Rattle.dav_session_core.specs.Sessions as spec;
+ghost use Rattle.dav_session_core.specs.Sessions.{Looks, state};
 ghost use Rattle.dav_faults_core.specs.declared.faults.Fault.TheVariants as fault;
 
 use crate::pages::page_of;
@@ -35,10 +34,11 @@ use http_server::Response;
 use rand_core::Rng;
 use std::alloc::Global;
 
-/// Answers the bytes of a file, or the part of them that is asked for, or a page of links for a folder; or what the conditions of HTTP ask for in
-/// their place. It answers the status.
+/// Answers the bytes of a file, or the part of them that is asked for, or a page of links for a
+/// folder; or what the conditions of HTTP ask for in their place. It answers the status.
 ///
-/// `NotFound` where nothing stands there; else `BadRequest` where a condition can't be read, and `PreconditionFailed` where one doesn't hold.
+/// `NotFound` where nothing stands there; else `BadRequest` where a condition can't be read, and
+/// `PreconditionFailed` where one doesn't hold.
 pub fn get<R: Rng>(
     alloc: Global,
     session: &mut Session<R>,
@@ -48,11 +48,11 @@ pub fn get<R: Rng>(
     response: &mut Response,
 ) -> Result<StatusCode, Fault>
     requires { IsBlank response.old }
-    ensures ok { IfOk result (λ status. Gets method (spec.state R.stream session.old).map (segments path.now.bytes) headers.now status (sent_of response.new)) }
-    ensures err { IfErr result (λ e. FailsToGet method (spec.state R.stream session.old).map (segments path.now.bytes) headers.now e) }
-    ensures run { RunBy (spec.caller session.old) (spec.state R.stream session.old) (spec.state R.stream session.new) }
-    ensures live { SameLive (spec.caller session.old).now (spec.state R.stream session.old) (spec.state R.stream session.new) }
-    ensures caller { spec.caller session.new ≡ spec.caller session.old }
+    ensures ok { IfOk result (λ status. Gets method (state R.stream session.old).map
+        (segments path.now.bytes) headers.now status (sent_of response.new)) }
+    ensures err { IfErr result (λ e. FailsToGet method (state R.stream session.old).map
+        (segments path.now.bytes) headers.now e) }
+    ensures looks { Looks R.stream session.old session.new }
 {
     let Some(meta) = session.meta(copy_of(path)?) else {
         return Err(Fault::NotFound);
@@ -107,7 +107,8 @@ fn not_modified(
     response: &mut Response,
 ) -> Result<StatusCode, Fault>
     requires { HasShownTag standing.now }
-    ensures ok { IfOk result (λ status. (status ≡ 304) × (marks_of response.new ≡ and_tags (tags_by standing.now) (marks_of response.old))) }
+    ensures ok { IfOk result (λ status. (status ≡ 304)
+        × (marks_of response.new ≡ and_tags (tags_by standing.now) (marks_of response.old))) }
     ensures body { response.new.body ≡ response.old.body }
     ensures err { IfErr result (λ e. e ≡ fault.InsufficientStorage) }
 {
@@ -117,7 +118,8 @@ fn not_modified(
 
 // 416, with the size (RFC 9110 section 15.5.17).
 fn unsatisfied(alloc: Global, size: u64, response: &mut Response) -> Result<StatusCode, Fault>
-    ensures ok { IfOk result (λ status. (status ≡ 416) × (marks_of response.new ≡ and_part (unsatisfied_text size) (marks_of response.old))) }
+    ensures ok { IfOk result (λ status. (status ≡ 416)
+        × (marks_of response.new ≡ and_part (unsatisfied_text size) (marks_of response.old))) }
     ensures body { response.new.body ≡ response.old.body }
     ensures err { IfErr result (λ e. e ≡ fault.InsufficientStorage) }
 {
@@ -137,14 +139,15 @@ fn tell_whole<R: Rng>(
     requires shown { HasShownTag standing.now }
     requires known { standing.now ≡ standing_as (meta_of meta.now) }
     requires empty { response.old.body.items ≡ [] }
-    ensures ok { IfOk result (λ status. (status ≡ 200) × (marks_of response.new ≡ and_tags (tags_by standing.now) (marks_of response.old))) }
+    ensures ok { IfOk result (λ status. (status ≡ 200)
+        × (marks_of response.new ≡ and_tags (tags_by standing.now) (marks_of response.old))) }
     ensures bytes { OnOk result ((meta_of meta.now).kind ≡ File
-        → IsRead (spec.state R.stream session.old).map (segments path.now.bytes) 0 (meta_of meta.now).length response.new.body.items) }
+        → IsRead (state R.stream session.old).map (segments path.now.bytes) 0
+        (meta_of meta.now).length response.new.body.items) }
     ensures err { IfErr result (λ e. (e ≡ fault.InsufficientStorage) ⊎ ((e ≡ fault.NotFound)
-        × IsNone (spec.state R.stream session.old).map (segments path.now.bytes) (meta_of meta.now).kind)) }
-    ensures run { RunBy (spec.caller session.old) (spec.state R.stream session.old) (spec.state R.stream session.new) }
-    ensures live { SameLive (spec.caller session.old).now (spec.state R.stream session.old) (spec.state R.stream session.new) }
-    ensures caller { spec.caller session.new ≡ spec.caller session.old }
+        × IsNone (state R.stream session.old).map (segments path.now.bytes)
+        (meta_of meta.now).kind)) }
+    ensures looks { Looks R.stream session.old session.new }
 {
     if meta.is_dir() {
         return tell_folder(alloc, session, path, meta, response);
@@ -176,14 +179,14 @@ fn tell_part<R: Rng>(
 ) -> Result<StatusCode, Fault>
     requires shown { HasShownTag standing.now }
     requires empty { response.old.body.items ≡ [] }
-    ensures ok { IfOk result (λ status. (status ≡ 206) × (marks_of response.new
-        ≡ and_tags (tags_by standing.now) (and_part (part_text first end (meta_of meta.now).length) (marks_of response.old)))) }
-    ensures bytes { OnOk result (IsRead (spec.state R.stream session.old).map (segments path.now.bytes) first (end - first) response.new.body.items) }
+    ensures ok { IfOk result (λ status. (status ≡ 206)
+        × (marks_of response.new ≡ and_tags (tags_by standing.now)
+        (and_part (part_text first end (meta_of meta.now).length) (marks_of response.old)))) }
+    ensures bytes { OnOk result (IsRead (state R.stream session.old).map (segments path.now.bytes)
+        first (end - first) response.new.body.items) }
     ensures err { IfErr result (λ e. (e ≡ fault.InsufficientStorage) ⊎ ((e ≡ fault.NotFound)
-        × IsNone (spec.state R.stream session.old).map (segments path.now.bytes) File)) }
-    ensures run { RunBy (spec.caller session.old) (spec.state R.stream session.old) (spec.state R.stream session.new) }
-    ensures live { SameLive (spec.caller session.old).now (spec.state R.stream session.old) (spec.state R.stream session.new) }
-    ensures caller { spec.caller session.new ≡ spec.caller session.old }
+        × IsNone (state R.stream session.old).map (segments path.now.bytes) File)) }
+    ensures looks { Looks R.stream session.old session.new }
 {
     add_part(alloc, response, first, end, meta.len())?;
     let status = StatusCode::PARTIAL_CONTENT;
@@ -215,13 +218,13 @@ fn tell_bytes<R: Rng>(
 ) -> Result<StatusCode, Fault>
     requires shown { HasShownTag standing.now }
     requires empty { response.old.body.items ≡ [] }
-    ensures ok { IfOk result (λ s. (s ≡ status) × (marks_of response.new ≡ and_tags (tags_by standing.now) (marks_of response.old))) }
-    ensures bytes { OnOk result (IsRead (spec.state R.stream session.old).map (segments path.now.bytes) at count response.new.body.items) }
+    ensures ok { IfOk result (λ s. (s ≡ status) × (marks_of response.new
+        ≡ and_tags (tags_by standing.now) (marks_of response.old))) }
+    ensures bytes { OnOk result (IsRead (state R.stream session.old).map (segments path.now.bytes)
+        at count response.new.body.items) }
     ensures err { IfErr result (λ e. (e ≡ fault.InsufficientStorage) ⊎ ((e ≡ fault.NotFound)
-        × IsNone (spec.state R.stream session.old).map (segments path.now.bytes) File)) }
-    ensures run { RunBy (spec.caller session.old) (spec.state R.stream session.old) (spec.state R.stream session.new) }
-    ensures live { SameLive (spec.caller session.old).now (spec.state R.stream session.old) (spec.state R.stream session.new) }
-    ensures caller { spec.caller session.new ≡ spec.caller session.old }
+        × IsNone (state R.stream session.old).map (segments path.now.bytes) File)) }
+    ensures looks { Looks R.stream session.old session.new }
 {
     let bytes = session.read(copy_of(path)?, at, count)?;
     add_tag(alloc, response, standing)?;
@@ -240,12 +243,11 @@ fn tell_folder<R: Rng>(
     meta: &MemFsMeta,
     response: &mut Response,
 ) -> Result<StatusCode, Fault>
-    ensures ok { IfOk result (λ status. (status ≡ 200) × (marks_of response.new ≡ marks_of response.old)) }
+    ensures ok { IfOk result (λ status. (status ≡ 200)
+        × (marks_of response.new ≡ marks_of response.old)) }
     ensures err { IfErr result (λ e. (e ≡ fault.InsufficientStorage) ⊎ ((e ≡ fault.NotFound)
-        × IsNone (spec.state R.stream session.old).map (segments path.now.bytes) Folder)) }
-    ensures run { RunBy (spec.caller session.old) (spec.state R.stream session.old) (spec.state R.stream session.new) }
-    ensures live { SameLive (spec.caller session.old).now (spec.state R.stream session.old) (spec.state R.stream session.new) }
-    ensures caller { spec.caller session.new ≡ spec.caller session.old }
+        × IsNone (state R.stream session.old).map (segments path.now.bytes) Folder)) }
+    ensures looks { Looks R.stream session.old session.new }
 {
     let entries = session.list(copy_of(path)?)?;
     let page = page_of(alloc, path, &entries)?;

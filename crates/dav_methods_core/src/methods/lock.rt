@@ -1,21 +1,25 @@
 //! LOCK with a body, which asks for a new lock.
-ghost use Rattle.std.specs.Prelude.{◌≡◌, ◌⊎◌, ◌-◌, ◌^◌, ◌<◌, ◌∷◌, [], false, true, ℕ, codes, map, string_bytes, IfErr, IfOk, OnErr, OnOk, if◌then◌else◌};
+ghost use Rattle.std.specs.Prelude.{◌≡◌, ◌⊎◌, ◌-◌, ◌^◌, ◌<◌, ◌∷◌, [], map};
+ghost use Rattle.std.specs.Prelude.{string_bytes, IfErr, IfOk, OnErr, OnOk, if◌then◌else◌};
 ghost use Rattle.http_header.specs.FieldValue.{IsFieldValue};
-ghost use Rattle.http_server.specs.Response.{IsBlank, fields_of};
+ghost use Rattle.http_server.specs.Response.{IsBlank};
 ghost use Rattle.dav_path_core.specs.Segments.{segments};
 ghost use Rattle.dav_locks_core.specs.Lock.{Lock};
-ghost use Rattle.dav_locks_core.specs.Locks.{discovered, lock_conflicts, lock_path};
-ghost use Rattle.dav_resource_core.specs.Step.{State};
-ghost use Rattle.dav_session_core.specs.Callers.{Asks, RunBy, Runs, SameLive, live};
-ghost use Rattle.dav_fields_core.specs.Fields.{sent_of, values_in, bracketed};
-ghost use Rattle.dav_session_core.specs.Granting.{AreAbove, HaveTokens, granted_lock, with_lock};
+ghost use Rattle.dav_locks_core.specs.Locks.{discovered, lock_conflicts};
+ghost use Rattle.dav_fields_core.specs.Fields.{sent_of, bracketed};
+ghost use Rattle.dav_session_core.specs.Granting.{granted_lock, with_lock};
 ghost use Rattle.dav_documents_core.specs.LockDocuments.{discovery_pieces};
 ghost use Rattle.dav_methods_core.specs.Locking as locking;
 ghost use Rattle.dav_documents_core.specs.Pieces.{written_pieces};
-ghost use Rattle.dav_methods_core.specs.Private.Rooms.{FoundRoom, IsConflictAt, IsGrantedNow, IsMadeUnder, IsReady, IsUnmade, LacksRoom, LeavesLock, conflict_at, wanted_of};
+ghost use Rattle.dav_methods_core.specs.Rooms.{FoundRoom, IsConflictAt, IsGrantedNow};
+ghost use Rattle.dav_methods_core.specs.Rooms.{Forgets};
+ghost use Rattle.dav_methods_core.specs.Rooms.{IsMadeUnder, IsReady, IsUnmade, LacksRoom};
+ghost use Rattle.dav_methods_core.specs.Rooms.{LeavesLock, conflict_at, wanted_of};
 ghost use Rattle.dav_documents_core.specs.RefusalBodies.{xml_type};
 ghost use Rattle.dav_fields_core.specs.Refusals.{IsLastMoment};
-ghost use Rattle.dav_session_core.specs.Sessions as spec;
+ghost use Rattle.dav_methods_core.specs.Asking.{Ran};
+ghost use Rattle.dav_session_core.specs.Sessions.{Requests};
+ghost use Rattle.dav_session_core.specs.Sessions.{Acts, Looks, Stays, caller, live_of, state};
 ghost use Rattle.dav_faults_core.specs.declared.faults.Fault.TheVariants as fault;
 
 use super::changes::{check_above, is_below, parent_of};
@@ -50,12 +54,16 @@ pub struct Wanted {
     pub deep: bool,
 }
 
-/// Grants a lock of a path, makes an empty file there where nothing stands, and answers 200, or 201 for a new file, with the lock's token and all locks that cover the
-/// path (RFC 4918 sections 7.3 and 9.10).
+/// Grants a lock of a path, makes an empty file there where nothing stands, and answers 200, or 201
+/// for a new file, with the lock's token and all locks that cover the path (RFC 4918 sections 7.3
+/// and 9.10).
 ///
-/// `BadRequest` where what is asked for can't be read; `ServiceUnavailable` at the last moment; where nothing stands, `Locked` where a lock lets the caller make no file,
-/// with its path, and `Conflict` where no folder stands above; `ConflictingLock` where another lock lets this one not be granted, with its path, and `ConflictingMember`
-/// where that is a member's. Where there is no memory for the answer, the lock is taken back.
+/// `BadRequest` where what is asked for can't be read; `ServiceUnavailable` at the last moment;
+/// where nothing stands, `Locked` where a lock lets the caller make no file, with its path, and
+/// `Conflict` where no folder stands above; `ConflictingLock` where another lock lets this one not
+/// be granted, with its path, and `ConflictingMember` where that is a member's. Where there is no
+/// memory for the answer, the lock is taken back.
+#[tactic(auto, using(crate::proofs::Acting::all_requests))]
 pub fn lock<R: Rng>(
     alloc: Global,
     session: &mut Session<R>,
@@ -67,14 +75,16 @@ pub fn lock<R: Rng>(
     response: &mut Response,
 ) -> Result<StatusCode, Fault>
     requires { IsBlank response.old }
-    ensures done { IfOk result (λ code. locking.IsGranted longest prefix.now headers.now body.now (live (spec.caller session.old).now (spec.state R.stream session.old))
-        (spec.caller session.old) path code (sent_of response.new) (spec.state R.stream session.new)) }
-    ensures err { IfErr result (λ e. locking.FailsToLock longest headers.now body.now (live (spec.caller session.old).now (spec.state R.stream session.old))
-        (spec.caller session.old) path e) }
-    ensures left { IfErr result (λ e. LeavesLock (locking.IsAskedBy body.now (live (spec.caller session.old).now (spec.state R.stream session.old)) (spec.caller session.old) path)
-        (spec.caller session.old) (segments path.bytes) e (spec.state R.stream session.old) (spec.state R.stream session.new)) }
-    ensures run { Runs (spec.state R.stream session.old) (spec.state R.stream session.new) }
-    ensures caller { spec.caller session.new ≡ spec.caller session.old }
+    ensures done { IfOk result (λ code. locking.IsGranted longest prefix.now headers.now body.now
+        (live_of R.stream session.old) (caller session.old) path code (sent_of response.new)
+        (state R.stream session.new)) }
+    ensures err { IfErr result (λ e. locking.FailsToLock longest headers.now body.now
+        (live_of R.stream session.old) (caller session.old) path e) }
+    ensures left { IfErr result (λ e. LeavesLock
+        (locking.IsAskedBy body.now (live_of R.stream session.old) (caller session.old) path)
+        (caller session.old) (segments path.bytes) e (state R.stream session.old)
+        (state R.stream session.new)) }
+    ensures ran { Ran R.stream session.old session.new }
 {
     let wanted = wanted_in(alloc, longest, headers, body)?;
     check_moment(session.now())?;
@@ -92,8 +102,10 @@ fn wanted_in(
     headers: &HeaderMap<HeaderValue>,
     body: &[u8],
 ) -> Result<Wanted, Fault>
-    ensures ok { IfOk result (λ wanted. locking.Wants longest headers.now body.now (wanted_of wanted)) }
-    ensures err { IfErr result (λ e. (e ≡ fault.InsufficientStorage) ⊎ ((e ≡ fault.BadRequest) × locking.CantBeRead headers.now body.now)) }
+    ensures ok { IfOk result (λ wanted. locking.Wants longest headers.now body.now
+        (wanted_of wanted)) }
+    ensures err { IfErr result (λ e. (e ≡ fault.InsufficientStorage)
+        ⊎ ((e ≡ fault.BadRequest) × locking.CantBeRead headers.now body.now)) }
 {
     let deep = copy_depth(headers)?;
     let timeouts = timeouts_in(alloc, headers)?;
@@ -119,13 +131,11 @@ fn check_moment(now: Moment) -> Result<(), Fault>
 
 // Whether nothing stands there; then a file can be made.
 fn find_room<R: Rng>(session: &mut Session<R>, path: &DavPath) -> Result<bool, Fault>
-    ensures ok { IfOk result (λ missing. FoundRoom (live (spec.caller session.old).now (spec.state R.stream session.old)) (spec.caller session.old)
-        (segments path.now.bytes) missing) }
-    ensures err { IfErr result (λ e. LacksRoom (live (spec.caller session.old).now (spec.state R.stream session.old)) (spec.caller session.old)
+    ensures ok { IfOk result (λ missing. FoundRoom (live_of R.stream session.old)
+        (caller session.old) (segments path.now.bytes) missing) }
+    ensures err { IfErr result (λ e. LacksRoom (live_of R.stream session.old) (caller session.old)
         (segments path.now.bytes) e) }
-    ensures run { RunBy (spec.caller session.old) (spec.state R.stream session.old) (spec.state R.stream session.new) }
-    ensures live { SameLive (spec.caller session.old).now (spec.state R.stream session.old) (spec.state R.stream session.new) }
-    ensures caller { spec.caller session.new ≡ spec.caller session.old }
+    ensures looks { Looks R.stream session.old session.new }
 {
     let known = session.meta(copy_of(path)?);
     if known.is_some() {
@@ -137,6 +147,7 @@ fn find_room<R: Rng>(session: &mut Session<R>, path: &DavPath) -> Result<bool, F
 }
 
 // Grants the lock, and tells of it; where that lacks memory, the lock is taken back.
+#[tactic(auto, using(crate::proofs::Acting::all_requests))]
 fn grant<R: Rng>(
     alloc: Global,
     session: &mut Session<R>,
@@ -148,17 +159,19 @@ fn grant<R: Rng>(
     response: &mut Response,
 ) -> Result<StatusCode, Fault>
     requires blank { IsBlank response.old }
-    requires ready { IsReady (live (spec.caller session.old).now (spec.state R.stream session.old)) (spec.caller session.old) path (wanted_of wanted) missing
-        (map string_bytes above.now) }
-    ensures done { IfOk result (λ code. (lock : Lock) × IsGrantedNow prefix.now (live (spec.caller session.old).now (spec.state R.stream session.old))
-        (spec.caller session.old) path (wanted_of wanted) missing lock code (sent_of response.new) (spec.state R.stream session.new)) }
-    ensures err { IfErr result (λ e. IsConflictAt (lock_conflicts (live (spec.caller session.old).now (spec.state R.stream session.old)).locks
-        (segments path.bytes) wanted.shared wanted.deep) path e) }
-    ensures left { IfErr result (λ e. LeavesLock (λ l. l ≡ granted_lock (live (spec.caller session.old).now (spec.state R.stream session.old)) (spec.caller session.old) path
-        (wanted_of wanted).owner wanted.timeout wanted.shared wanted.deep)
-        (spec.caller session.old) (segments path.bytes) e (spec.state R.stream session.old) (spec.state R.stream session.new)) }
-    ensures run { Runs (spec.state R.stream session.old) (spec.state R.stream session.new) }
-    ensures caller { spec.caller session.new ≡ spec.caller session.old }
+    requires ready { IsReady (live_of R.stream session.old) (caller session.old) path
+        (wanted_of wanted) missing (map string_bytes above.now) }
+    ensures done { IfOk result (λ code. (lock : Lock)
+        × IsGrantedNow prefix.now (live_of R.stream session.old) (caller session.old) path
+        (wanted_of wanted) missing lock code (sent_of response.new) (state R.stream session.new)) }
+    ensures err { IfErr result (λ e. IsConflictAt
+        (lock_conflicts (live_of R.stream session.old).locks (segments path.bytes) wanted.shared
+        wanted.deep) path e) }
+    ensures left { IfErr result (λ e. LeavesLock
+        (λ l. l ≡ granted_lock (live_of R.stream session.old) (caller session.old) path
+        (wanted_of wanted).owner wanted.timeout wanted.shared wanted.deep) (caller session.old)
+        (segments path.bytes) e (state R.stream session.old) (state R.stream session.new)) }
+    ensures ran { Ran R.stream session.old session.new }
 {
     let lock = granted(session, &path, wanted)?;
     match finish(
@@ -178,22 +191,25 @@ fn grant<R: Rng>(
     }
 }
 
-// Grants the lock. `ConflictingLock` where another one stands in the way at the path or above, and `ConflictingMember` where it stands below.
+// Grants the lock. `ConflictingLock` where another one stands in the way at the path or above, and
+// `ConflictingMember` where it stands below.
 fn granted<R: Rng>(
     session: &mut Session<R>,
     path: &DavPath,
     wanted: Wanted,
 ) -> Result<DavLock, Fault>
-    ensures ok { IfOk result (λ lock. lock ≡ granted_lock (live (spec.caller session.old).now (spec.state R.stream session.old)) (spec.caller session.old) path.now
-        (wanted_of wanted).owner wanted.timeout wanted.shared wanted.deep) }
-    ensures left { IfOk result (λ lock. spec.state R.stream session.new ≡ with_lock (live (spec.caller session.old).now (spec.state R.stream session.old)) lock) }
-    ensures free { OnOk result (lock_conflicts (live (spec.caller session.old).now (spec.state R.stream session.old)).locks (segments path.now.bytes)
-        wanted.shared wanted.deep ≡ []) }
-    ensures err { IfErr result (λ e. IsConflictAt (lock_conflicts (live (spec.caller session.old).now (spec.state R.stream session.old)).locks
-        (segments path.now.bytes) wanted.shared wanted.deep) path.now e) }
-    ensures refused { OnErr result (SameLive (spec.caller session.old).now (spec.state R.stream session.old) (spec.state R.stream session.new)) }
-    ensures run { RunBy (spec.caller session.old) (spec.state R.stream session.old) (spec.state R.stream session.new) }
-    ensures caller { spec.caller session.new ≡ spec.caller session.old }
+    ensures ok { IfOk result (λ lock. lock ≡ granted_lock (live_of R.stream session.old)
+        (caller session.old) path.now (wanted_of wanted).owner wanted.timeout wanted.shared
+        wanted.deep) }
+    ensures left { IfOk result (λ lock. state R.stream session.new
+        ≡ with_lock (live_of R.stream session.old) lock) }
+    ensures free { OnOk result (lock_conflicts (live_of R.stream session.old).locks
+        (segments path.now.bytes) wanted.shared wanted.deep ≡ []) }
+    ensures err { IfErr result (λ e. IsConflictAt
+        (lock_conflicts (live_of R.stream session.old).locks (segments path.now.bytes)
+        wanted.shared wanted.deep) path.now e) }
+    ensures refused { OnErr result (Stays R.stream session.old session.new) }
+    ensures acts { Acts R.stream session.old session.new }
 {
     let place = copy_of(path)?;
     match session.grant(
@@ -223,6 +239,7 @@ fn by_place(path: &DavPath, fault: Fault) -> Result<Fault, AllocError>
 }
 
 // Tells of the lock with the token, and makes an empty file under it where nothing stands.
+#[tactic(auto, using(crate::proofs::Acting::all_requests))]
 fn finish<R: Rng>(
     alloc: Global,
     session: &mut Session<R>,
@@ -236,16 +253,16 @@ fn finish<R: Rng>(
     requires value { IsFieldValue (bracketed token.now) }
     ensures ok { IfOk result (λ status. status ≡ (if missing then 201 else 200)) }
     ensures named { OnOk result ((sent_of response.new).tokens ≡ bracketed token.now ∷ []) }
-    ensures told { OnOk result ((sent_of response.new).body ≡ written_pieces (discovery_pieces prefix.now (spec.caller session.old).principal
-        (discovered (live (spec.caller session.old).now (spec.state R.stream session.old)).locks (segments path.now.bytes)))) }
+    ensures told { OnOk result ((sent_of response.new).body
+        ≡ written_pieces (discovery_pieces prefix.now (caller session.old).principal
+        (discovered (live_of R.stream session.old).locks (segments path.now.bytes)))) }
     ensures typed { OnOk result ((sent_of response.new).types ≡ xml_type ∷ []) }
-    ensures made { OnOk result (IsMadeUnder (spec.state R.stream session.old) (spec.caller session.old) token.now (segments path.now.bytes) missing
-        (spec.state R.stream session.new)) }
-    ensures err { IfErr result (λ e. IsUnmade (spec.state R.stream session.old) (spec.caller session.old) token.now (segments path.now.bytes) missing e
-        (spec.state R.stream session.new)) }
-    ensures refused { OnErr result (SameLive (spec.caller session.old).now (spec.state R.stream session.old) (spec.state R.stream session.new)) }
-    ensures run { Runs (spec.state R.stream session.old) (spec.state R.stream session.new) }
-    ensures caller { spec.caller session.new ≡ spec.caller session.old }
+    ensures made { OnOk result (IsMadeUnder (state R.stream session.old) (caller session.old)
+        token.now (segments path.now.bytes) missing (state R.stream session.new)) }
+    ensures err { IfErr result (λ e. IsUnmade (state R.stream session.old) (caller session.old)
+        token.now (segments path.now.bytes) missing e (state R.stream session.new)) }
+    ensures refused { OnErr result (Stays R.stream session.old session.new) }
+    ensures ran { Ran R.stream session.old session.new }
 {
     let locks = session.locks_at(copy_of(path)?)?;
     let document = discovery_document(alloc, prefix, session.principal(), &locks)?;
@@ -271,14 +288,13 @@ fn tell(alloc: Global, response: &mut Response, document: Vec<u8>, token: &str) 
     Ok(())
 }
 
-// Takes the lock back that was granted right before; but not where another lock at the path or above has its token, as that one would end in its place.
+// Takes the lock back that was granted right before; but not where another lock at the path or
+// above has its token, as that one would end in its place.
+#[tactic(auto, using(crate::proofs::Acting::all_requests))]
 fn forget<R: Rng>(session: &mut Session<R>, path: DavPath, token: String, above: &[String])
-    ensures left { (s : State) (l : Lock) → live (spec.caller session.old).now s ≡ s
-        → live (spec.caller session.old).now (spec.state R.stream session.old) ≡ with_lock s l → lock_path l ≡ segments path.bytes → l.token ≡ string_bytes token
-        → HaveTokens s (segments path.bytes) (map string_bytes above.now) → AreAbove s (segments path.bytes) (map string_bytes above.now)
-        → locking.LeavesUntold (λ k. k ≡ l) s (spec.caller session.old) (segments path.bytes) (spec.state R.stream session.new) }
-    ensures run { Asks (spec.caller session.old) (spec.state R.stream session.old) (spec.state R.stream session.new) }
-    ensures caller { spec.caller session.new ≡ spec.caller session.old }
+    ensures left { Forgets (caller session.old) (segments path.bytes) (string_bytes token)
+        (map string_bytes above.now) (state R.stream session.old) (state R.stream session.new) }
+    ensures asks { Requests R.stream session.old session.new }
 {
     if !is_among(above, &token) {
         session.take_back(path, token);

@@ -1,9 +1,8 @@
 //! MKCOL.
-ghost use Rattle.std.specs.Prelude.{◌≡◌, IfErr, IfOk, OnErr};
+ghost use Rattle.std.specs.Prelude.{IfErr, IfOk, OnErr};
 ghost use Rattle.dav_path_core.specs.Segments.{segments};
-ghost use Rattle.dav_session_core.specs.Callers.{RunBy, SameLive, live};
 ghost use Rattle.dav_session_core.specs.Making.{FailsToMake, Makes};
-ghost use Rattle.dav_session_core.specs.Sessions as spec;
+ghost use Rattle.dav_session_core.specs.Sessions.{Acts, Stays, caller, live_of, state};
 
 use dav_faults_core::faults::Fault;
 use dav_resource_core::davpath::DavPath;
@@ -14,20 +13,20 @@ use rand_core::Rng;
 
 /// Makes a folder, and answers 201 (RFC 4918 section 9.3).
 ///
-/// `UnsupportedMediaType` for a request with a body; else `Locked` where a lock stands in the way; else `MethodNotAllowed` where something stands, and
-/// `Conflict` where there is no folder in which the folder could stand.
+/// `UnsupportedMediaType` for a request with a body; else `Locked` where a lock stands in the way;
+/// else `MethodNotAllowed` where something stands, and `Conflict` where there is no folder in which
+/// the folder could stand.
 pub fn mkcol<R: Rng>(
     session: &mut Session<R>,
     path: DavPath,
     body: &[u8],
 ) -> Result<StatusCode, Fault>
-    ensures done { IfOk result (λ code. Makes body.now (live (spec.caller session.old).now (spec.state R.stream session.old)) (spec.caller session.old)
-        (segments path.bytes) code (spec.state R.stream session.new)) }
-    ensures err { IfErr result (λ e. FailsToMake body.now (live (spec.caller session.old).now (spec.state R.stream session.old)) (spec.caller session.old)
-        (segments path.bytes) e) }
-    ensures refused { OnErr result (SameLive (spec.caller session.old).now (spec.state R.stream session.old) (spec.state R.stream session.new)) }
-    ensures run { RunBy (spec.caller session.old) (spec.state R.stream session.old) (spec.state R.stream session.new) }
-    ensures caller { spec.caller session.new ≡ spec.caller session.old }
+    ensures done { IfOk result (λ code. Makes body.now (live_of R.stream session.old)
+        (caller session.old) (segments path.bytes) code (state R.stream session.new)) }
+    ensures err { IfErr result (λ e. FailsToMake body.now (live_of R.stream session.old)
+        (caller session.old) (segments path.bytes) e) }
+    ensures refused { OnErr result (Stays R.stream session.old session.new) }
+    ensures acts { Acts R.stream session.old session.new }
 {
     if !body.is_empty() {
         return Err(Fault::UnsupportedMediaType);

@@ -1,11 +1,11 @@
 //! MOVE.
-ghost use Rattle.std.specs.Prelude.{◌≡◌, [], map, IfErr, IfOk, OnOk};
+ghost use Rattle.std.specs.Prelude.{◌≡◌, [], IfErr, IfOk, OnOk};
 ghost use Rattle.dav_path_core.specs.Segments.{segments};
 ghost use Rattle.dav_files_core.specs.Resources.{IsResourceMap};
-ghost use Rattle.dav_session_core.specs.Callers.{RunBy, SameLive, live};
 ghost use Rattle.dav_session_core.specs.LocksInTheWay.{IsRefusedBy};
 ghost use Rattle.dav_session_core.specs.Moving.{FailsToMove, MoveLeaves, Moves, refusing_move};
-ghost use Rattle.dav_session_core.specs.Sessions as spec;
+ghost use Rattle.dav_session_core.specs.Unhindered.{paths_of};
+ghost use Rattle.dav_session_core.specs.Sessions.{Acts, Looks, caller, live_of, state};
 
 use super::changes::{by_place, done};
 use super::ends::{Ends, ends_of};
@@ -19,10 +19,13 @@ use http_header::{HeaderMap, HeaderValue};
 use rand_core::Rng;
 use std::alloc::Global;
 
-/// Moves what stands at a path, with all below it, to where the request leads, and answers 201, or 204 where something stood there (RFC 4918 section 9.9).
+/// Moves what stands at a path, with all below it, to where the request leads, and answers 201, or
+/// 204 where something stood there (RFC 4918 section 9.9).
 ///
-/// `BadRequest` for a depth that doesn't reach all the way down; then what `ends_of` gives; `Locked` where a lock stands in the way, and `MemberLocked` where one below the
-/// path or below the target does; with the path of that lock. `InsufficientStorage` may come once a folder at the target is gone.
+/// `BadRequest` for a depth that doesn't reach all the way down; then what `ends_of` gives;
+/// `Locked` where a lock stands in the way, and `MemberLocked` where one below the path or below
+/// the target does; with the path of that lock. `InsufficientStorage` may come once a folder at the
+/// target is gone.
 pub fn relocate<R: Rng>(
     alloc: Global,
     session: &mut Session<R>,
@@ -31,14 +34,14 @@ pub fn relocate<R: Rng>(
     headers: &HeaderMap<HeaderValue>,
     path: DavPath,
 ) -> Result<StatusCode, Fault>
-    ensures done { IfOk result (λ code. Moves scheme prefix.now headers.now (live (spec.caller session.old).now (spec.state R.stream session.old)) (spec.caller session.old)
-        (segments path.bytes) code (spec.state R.stream session.new)) }
-    ensures err { IfErr result (λ e. FailsToMove scheme prefix.now headers.now (live (spec.caller session.old).now (spec.state R.stream session.old)) (spec.caller session.old)
-        (segments path.bytes) e) }
-    ensures left { IfErr result (λ e. MoveLeaves scheme prefix.now headers.now (spec.state R.stream session.old) (spec.caller session.old).now e
-        (spec.state R.stream session.new)) }
-    ensures run { RunBy (spec.caller session.old) (spec.state R.stream session.old) (spec.state R.stream session.new) }
-    ensures caller { spec.caller session.new ≡ spec.caller session.old }
+    ensures done { IfOk result (λ code. Moves scheme prefix.now headers.now
+        (live_of R.stream session.old) (caller session.old) (segments path.bytes) code
+        (state R.stream session.new)) }
+    ensures err { IfErr result (λ e. FailsToMove scheme prefix.now headers.now
+        (live_of R.stream session.old) (caller session.old) (segments path.bytes) e) }
+    ensures left { IfErr result (λ e. MoveLeaves scheme prefix.now headers.now
+        (state R.stream session.old) (caller session.old).now e (state R.stream session.new)) }
+    ensures acts { Acts R.stream session.old session.new }
 {
     check_whole(headers)?;
     let Ends {
@@ -55,21 +58,21 @@ pub fn relocate<R: Rng>(
     Ok(done(&known))
 }
 
-// Whether the locks let the caller take away the source, clear the target, and stand the source there.
+// Whether the locks let the caller take away the source, clear the target, and stand the source
+// there.
 fn check_move<R: Rng>(
     session: &mut Session<R>,
     from: &DavPath,
     to: &DavPath,
     gone: &[DavPath],
 ) -> Result<(), Fault>
-    ensures ok { OnOk result (refusing_move (live (spec.caller session.old).now (spec.state R.stream session.old)) (spec.caller session.old) (segments from.now.bytes)
-        (segments to.now.bytes) (map (λ p. segments p.bytes) gone.now) ≡ []) }
-    ensures err { IfErr result (λ e. IsRefusedBy (refusing_move (live (spec.caller session.old).now (spec.state R.stream session.old)) (spec.caller session.old)
-        (segments from.now.bytes) (segments to.now.bytes) (map (λ p. segments p.bytes) gone.now)) e) }
-    ensures run { RunBy (spec.caller session.old) (spec.state R.stream session.old) (spec.state R.stream session.new) }
-    ensures live { SameLive (spec.caller session.old).now (spec.state R.stream session.old) (spec.state R.stream session.new) }
-    ensures caller { spec.caller session.new ≡ spec.caller session.old }
-    ensures shape { OnOk result (IsResourceMap (spec.state R.stream session.new).map) }
+    ensures ok { OnOk result (refusing_move (live_of R.stream session.old) (caller session.old)
+        (segments from.now.bytes) (segments to.now.bytes) (paths_of gone.now) ≡ []) }
+    ensures err { IfErr result (λ e. IsRefusedBy
+        (refusing_move (live_of R.stream session.old) (caller session.old)
+        (segments from.now.bytes) (segments to.now.bytes) (paths_of gone.now)) e) }
+    ensures looks { Looks R.stream session.old session.new }
+    ensures shape { OnOk result (IsResourceMap (state R.stream session.new).map) }
 {
     session.check_one(from)?;
     if gone.is_empty() {

@@ -9,7 +9,8 @@ use http_header::{HeaderName, HeaderValue};
 use http_server::Response;
 use std::alloc::AllocError;
 
-/// Says what the server can do (RFC 9110 section 9.3.7, RFC 4918 section 10.1); the target isn't looked at.
+/// Says what the server can do (RFC 9110 section 9.3.7, RFC 4918 section 10.1); the target isn't
+/// looked at.
 pub fn options(response: &mut Response) -> Result<StatusCode, Fault>
     ensures { MatchResult result (λ status. status ≡ 200) (λ e. e ≡ fault.InsufficientStorage) }
 {

@@ -1,21 +1,22 @@
 //! PROPFIND.
-ghost use Rattle.std.specs.Prelude.{◌≡◌, ◌≢◌, ◌⊎◌, true, None, Some, List, [], ◌∷◌, map, IfErr, IfOk, IsSome, OnOk};
+ghost use Rattle.std.specs.Prelude.{◌≡◌, ◌≢◌, ◌⊎◌, true, None, Some, List, [], ◌∷◌, IfErr};
+ghost use Rattle.std.specs.Prelude.{IfOk, IsSome, OnOk};
 ghost use Rattle.http_server.specs.Response.{IsBlank};
 ghost use Rattle.dav_path_core.specs.Segments.{segments};
 ghost use Rattle.dav_headers_core.specs.declared.davheaders.depths.Depth.TheVariants as reach;
 ghost use Rattle.dav_files_core.specs.Resources.{at_path};
 ghost use Rattle.dav_xml_core.specs.Views.{writing_of};
-ghost use Rattle.dav_session_core.specs.Callers.{RunBy, SameLive, live};
 ghost use Rattle.dav_fields_core.specs.Depths.{depth_in};
 ghost use Rattle.dav_fields_core.specs.Fields.{sent_of};
 ghost use Rattle.dav_methods_core.specs.Finding.{DescribesEach, FailsToFind, Finds};
 ghost use Rattle.dav_documents_core.specs.Pieces.{written_pieces};
-ghost use Rattle.dav_documents_core.specs.Private.Asking.{question_of};
+ghost use Rattle.dav_documents_core.specs.QuestionViews.{question_of};
 ghost use Rattle.dav_methods_core.specs.Private.Telling.{TellsEach, TellsOne};
-ghost use Rattle.dav_session_core.specs.Private.Placed.{AllStand};
+ghost use Rattle.dav_session_core.specs.Placed.{AllStand};
 ghost use Rattle.dav_documents_core.specs.PropertyDocuments.{Description, multistatus};
 ghost use Rattle.dav_documents_core.specs.RefusalBodies.{xml_type};
-ghost use Rattle.dav_session_core.specs.Sessions as spec;
+ghost use Rattle.dav_session_core.specs.Unhindered.{paths_of};
+ghost use Rattle.dav_session_core.specs.Sessions.{Looks, caller, live_of, state};
 ghost use Rattle.dav_faults_core.specs.declared.faults.Fault.TheVariants as fault;
 
 use crate::describing::describe;
@@ -35,10 +36,12 @@ use http_server::Response;
 use rand_core::Rng;
 use std::alloc::Global;
 
-/// Tells of what stands at a path, and within the depth below it, and answers 207 (RFC 4918 section 9.1).
+/// Tells of what stands at a path, and within the depth below it, and answers 207 (RFC 4918 section
+/// 9.1).
 ///
-/// `BadRequest` for a depth or a body that can't be read, or where a name below it is one that no path has which is read; `InfiniteDepth` for all the way down, where the
-/// server refuses that; `NotFound` where nothing stands there.
+/// `BadRequest` for a depth or a body that can't be read, or where a name below it is one that no
+/// path has which is read; `InfiniteDepth` for all the way down, where the server refuses that;
+/// `NotFound` where nothing stands there.
 pub fn propfind<R: Rng>(
     alloc: Global,
     session: &mut Session<R>,
@@ -50,12 +53,13 @@ pub fn propfind<R: Rng>(
     response: &mut Response,
 ) -> Result<StatusCode, Fault>
     requires { IsBlank response.old }
-    ensures done { IfOk result (λ status. (status ≡ 207) × Finds finite prefix.now headers.now body.now (live (spec.caller session.old).now (spec.state R.stream session.old))
-        (spec.caller session.old) (segments path.bytes) response.new.body.items × ((sent_of response.new).types ≡ xml_type ∷ [])) }
-    ensures err { IfErr result (λ e. FailsToFind finite headers.now body.now (spec.state R.stream session.old).map (segments path.bytes) e) }
-    ensures run { RunBy (spec.caller session.old) (spec.state R.stream session.old) (spec.state R.stream session.new) }
-    ensures live { SameLive (spec.caller session.old).now (spec.state R.stream session.old) (spec.state R.stream session.new) }
-    ensures caller { spec.caller session.new ≡ spec.caller session.old }
+    ensures done { IfOk result (λ status. (status ≡ 207)
+        × Finds finite prefix.now headers.now body.now (live_of R.stream session.old)
+        (caller session.old) (segments path.bytes) response.new.body.items
+        × ((sent_of response.new).types ≡ xml_type ∷ [])) }
+    ensures err { IfErr result (λ e. FailsToFind finite headers.now body.now
+        (state R.stream session.old).map (segments path.bytes) e) }
+    ensures looks { Looks R.stream session.old session.new }
 {
     let depth = depth_of(finite, headers)?;
     let question = question_in(alloc, body)?;
@@ -70,7 +74,8 @@ fn depth_of(finite: bool, headers: &HeaderMap<HeaderValue>) -> Result<Depth, Fau
     ensures ok { IfOk result (λ depth. depth_in headers.now ≡ Some depth) }
     ensures allowed { IfOk result (λ depth. finite ≡ true → depth ≢ reach.Infinity) }
     ensures err { IfErr result (λ e. ((e ≡ fault.BadRequest) × (depth_in headers.now ≡ None))
-        ⊎ ((e ≡ fault.InfiniteDepth) × (finite ≡ true) × (depth_in headers.now ≡ Some reach.Infinity))) }
+        ⊎ ((e ≡ fault.InfiniteDepth) × (finite ≡ true)
+        × (depth_in headers.now ≡ Some reach.Infinity))) }
 {
     match depth_in(headers)? {
         Depth::Infinity => if finite {
@@ -90,14 +95,13 @@ fn tell<R: Rng>(
     question: &Question,
     places: &[DavPath],
 ) -> Result<Vec<u8>, Fault>
-    requires { AllStand (spec.state R.stream session.old).map (map (λ p. segments p.bytes) places.now) }
+    requires { AllStand (state R.stream session.old).map (paths_of places.now) }
     ensures ok { IfOk result (λ document. (resources : List Description)
-        × DescribesEach prefix.now (live (spec.caller session.old).now (spec.state R.stream session.old)) (map (λ p. segments p.bytes) places.now) resources
-        × (document.items ≡ written_pieces (multistatus prefix.now (spec.caller session.old).principal (question_of question.now) resources))) }
+        × DescribesEach prefix.now (live_of R.stream session.old) (paths_of places.now) resources
+        × (document.items ≡ written_pieces (multistatus prefix.now (caller session.old).principal
+        (question_of question.now) resources))) }
     ensures err { IfErr result (λ e. e ≡ fault.InsufficientStorage) }
-    ensures run { RunBy (spec.caller session.old) (spec.state R.stream session.old) (spec.state R.stream session.new) }
-    ensures live { SameLive (spec.caller session.old).now (spec.state R.stream session.old) (spec.state R.stream session.new) }
-    ensures caller { spec.caller session.new ≡ spec.caller session.old }
+    ensures looks { Looks R.stream session.old session.new }
 {
     let mut writer = Writer::new(alloc);
     begin(&mut writer, "multistatus")?;
@@ -114,13 +118,12 @@ fn tell_each<R: Rng>(
     question: &Question,
     places: &[DavPath],
 ) -> Result<(), Fault>
-    requires { AllStand (spec.state R.stream session.old).map (map (λ p. segments p.bytes) places.now) }
-    ensures ok { OnOk result (TellsEach prefix.now (live (spec.caller session.old).now (spec.state R.stream session.old)) (spec.caller session.old).principal
-        (question_of question.now) (map (λ p. segments p.bytes) places.now) (writing_of writer.old) (writing_of writer.new)) }
+    requires { AllStand (state R.stream session.old).map (paths_of places.now) }
+    ensures ok { OnOk result (TellsEach prefix.now (live_of R.stream session.old)
+        (caller session.old).principal (question_of question.now) (paths_of places.now)
+        (writing_of writer.old) (writing_of writer.new)) }
     ensures err { IfErr result (λ e. e ≡ fault.InsufficientStorage) }
-    ensures run { RunBy (spec.caller session.old) (spec.state R.stream session.old) (spec.state R.stream session.new) }
-    ensures live { SameLive (spec.caller session.old).now (spec.state R.stream session.old) (spec.state R.stream session.new) }
-    ensures caller { spec.caller session.new ≡ spec.caller session.old }
+    ensures looks { Looks R.stream session.old session.new }
 {
     for place in places {
         tell_one(alloc, session, writer, prefix, question, place)?;
@@ -136,13 +139,12 @@ fn tell_one<R: Rng>(
     question: &Question,
     place: &DavPath,
 ) -> Result<(), Fault>
-    requires { IsSome (at_path (spec.state R.stream session.old).map (segments place.now.bytes)) }
-    ensures ok { OnOk result (TellsOne prefix.now (live (spec.caller session.old).now (spec.state R.stream session.old)) (spec.caller session.old).principal
-        (question_of question.now) (segments place.now.bytes) (writing_of writer.old) (writing_of writer.new)) }
+    requires { IsSome (at_path (state R.stream session.old).map (segments place.now.bytes)) }
+    ensures ok { OnOk result (TellsOne prefix.now (live_of R.stream session.old)
+        (caller session.old).principal (question_of question.now) (segments place.now.bytes)
+        (writing_of writer.old) (writing_of writer.new)) }
     ensures err { IfErr result (λ e. e ≡ fault.InsufficientStorage) }
-    ensures run { RunBy (spec.caller session.old) (spec.state R.stream session.old) (spec.state R.stream session.new) }
-    ensures live { SameLive (spec.caller session.old).now (spec.state R.stream session.old) (spec.state R.stream session.new) }
-    ensures caller { spec.caller session.new ≡ spec.caller session.old }
+    ensures looks { Looks R.stream session.old session.new }
 {
     let description = describe(alloc, session, prefix, place)?;
     write_response(

@@ -3,11 +3,11 @@ ghost use Rattle.std.specs.Prelude.{◌≡◌, [], IfErr, IfOk, IsSome, OnErr, O
 ghost use Rattle.http_server.specs.Response.{IsBlank};
 ghost use Rattle.dav_path_core.specs.Segments.{segments};
 ghost use Rattle.dav_files_core.specs.Resources.{at_path};
-ghost use Rattle.dav_session_core.specs.Callers.{RunBy, SameLive, live, refusing_at};
+ghost use Rattle.dav_session_core.specs.Callers.{refusing_at};
 ghost use Rattle.dav_fields_core.specs.Fields.{sent_of};
 ghost use Rattle.dav_session_core.specs.Patching.{FailsToPatch, Patches};
-ghost use Rattle.dav_session_core.specs.Private.Patching.{LacksStanding};
-ghost use Rattle.dav_session_core.specs.Sessions as spec;
+ghost use Rattle.dav_session_core.specs.PatchRefusals.{LacksStanding};
+ghost use Rattle.dav_session_core.specs.Sessions.{Acts, Looks, Stays, caller, live_of, state};
 
 use crate::refusals::say_document;
 use dav_documents_core::patch_bodies::{any_protected, patch_document};
@@ -20,10 +20,11 @@ use http_server::Response;
 use rand_core::Rng;
 use std::alloc::Global;
 
-/// Sets and removes properties in the order of the body, all or none, and answers 207 with what became of each (RFC 4918 section 9.2).
+/// Sets and removes properties in the order of the body, all or none, and answers 207 with what
+/// became of each (RFC 4918 section 9.2).
 ///
-/// `BadRequest` for a body that asks for no such thing; else `NotFound` where nothing stands at the path; else `Locked` where a lock stands in the way, with
-/// its path.
+/// `BadRequest` for a body that asks for no such thing; else `NotFound` where nothing stands at the
+/// path; else `Locked` where a lock stands in the way, with its path.
 pub fn proppatch<R: Rng>(
     alloc: Global,
     session: &mut Session<R>,
@@ -33,13 +34,12 @@ pub fn proppatch<R: Rng>(
     response: &mut Response,
 ) -> Result<StatusCode, Fault>
     requires { IsBlank response.old }
-    ensures done { IfOk result (λ code. Patches prefix.now body.now (live (spec.caller session.old).now (spec.state R.stream session.old)) (spec.caller session.old)
-        path code (sent_of response.new) (spec.state R.stream session.new)) }
-    ensures err { IfErr result (λ e. FailsToPatch body.now (live (spec.caller session.old).now (spec.state R.stream session.old)) (spec.caller session.old)
-        (segments path.bytes) e) }
-    ensures refused { OnErr result (SameLive (spec.caller session.old).now (spec.state R.stream session.old) (spec.state R.stream session.new)) }
-    ensures run { RunBy (spec.caller session.old) (spec.state R.stream session.old) (spec.state R.stream session.new) }
-    ensures caller { spec.caller session.new ≡ spec.caller session.old }
+    ensures done { IfOk result (λ code. Patches prefix.now body.now (live_of R.stream session.old)
+        (caller session.old) path code (sent_of response.new) (state R.stream session.new)) }
+    ensures err { IfErr result (λ e. FailsToPatch body.now (live_of R.stream session.old)
+        (caller session.old) (segments path.bytes) e) }
+    ensures refused { OnErr result (Stays R.stream session.old session.new) }
+    ensures acts { Acts R.stream session.old session.new }
 {
     let updates = property_updates(alloc, body)?;
     check_standing(session, &path)?;
@@ -53,13 +53,13 @@ pub fn proppatch<R: Rng>(
 
 // Whether something stands at a path, and the locks let the caller change it.
 fn check_standing<R: Rng>(session: &mut Session<R>, path: &DavPath) -> Result<(), Fault>
-    ensures ok { OnOk result (IsSome (at_path (spec.state R.stream session.old).map (segments path.now.bytes))
-        × (refusing_at (live (spec.caller session.old).now (spec.state R.stream session.old)) (spec.caller session.old) (segments path.now.bytes) ≡ [])) }
-    ensures err { IfErr result (λ e. LacksStanding (live (spec.caller session.old).now (spec.state R.stream session.old)) (spec.caller session.old)
-        (segments path.now.bytes) e) }
-    ensures run { RunBy (spec.caller session.old) (spec.state R.stream session.old) (spec.state R.stream session.new) }
-    ensures live { SameLive (spec.caller session.old).now (spec.state R.stream session.old) (spec.state R.stream session.new) }
-    ensures caller { spec.caller session.new ≡ spec.caller session.old }
+    ensures ok { OnOk result (
+        IsSome (at_path (state R.stream session.old).map (segments path.now.bytes))
+        × (refusing_at (live_of R.stream session.old) (caller session.old)
+        (segments path.now.bytes) ≡ [])) }
+    ensures err { IfErr result (λ e. LacksStanding (live_of R.stream session.old)
+        (caller session.old) (segments path.now.bytes) e) }
+    ensures looks { Looks R.stream session.old session.new }
 {
     let known = session.meta(copy_of(path)?);
     if known.is_none() {

@@ -1,18 +1,19 @@
 //! PUT.
-ghost use Rattle.std.specs.Prelude.{◌≡◌, ◌⊎◌, ◌∷◌, [], Ok, Err, IfOk, IfErr, OnOk, OnErr, length, option_map};
+ghost use Rattle.std.specs.Prelude.{◌≡◌, ◌⊎◌, ◌∷◌, [], Ok, Err, IfOk, IfErr, OnOk, OnErr, length};
+ghost use Rattle.std.specs.Prelude.{option_map};
 ghost use Rattle.dav_path_core.specs.declared.util.DavMethod.TheVariants as method;
 ghost use Rattle.dav_path_core.specs.Segments.{segments};
 ghost use Rattle.dav_files_core.specs.Meta.{meta_of};
 ghost use Rattle.http_server.specs.Response.{IsBlank};
-ghost use Rattle.dav_session_core.specs.Callers.{RunBy, SameLive};
 ghost use Rattle.dav_fields_core.specs.Fields.{marks_of};
 ghost use Rattle.dav_fields_core.specs.FileTags.{file_tag};
 ghost use Rattle.dav_fields_core.specs.Getting.{tagged};
-ghost use Rattle.dav_session_core.specs.Putting.{FailsToPut, Puts, changes_by, put_course, put_status};
-ghost use Rattle.dav_session_core.specs.Private.Placing.{HasPlace, LacksPlace, standing_known};
-ghost use Rattle.dav_fields_core.specs.Private.Marking.{and_tags};
+ghost use Rattle.dav_session_core.specs.Putting.{FailsToPut, Puts, changes_by, put_course};
+ghost use Rattle.dav_session_core.specs.Putting.{put_status};
+ghost use Rattle.dav_session_core.specs.Placing.{HasPlace, LacksPlace, standing_known};
+ghost use Rattle.dav_fields_core.specs.Marking.{and_tags};
 ghost use Rattle.dav_fields_core.specs.Preconditions.{course_of};
-ghost use Rattle.dav_session_core.specs.Sessions as spec;
+ghost use Rattle.dav_session_core.specs.Sessions.{Acts, Looks, Stays, caller, state};
 ghost use Rattle.dav_faults_core.specs.declared.faults.Fault.TheVariants as fault;
 
 use super::changes::{check_above, check_locks, done};
@@ -33,11 +34,12 @@ use http_server::Response;
 use rand_core::Rng;
 use std::alloc::Global;
 
-/// Makes the bytes of a file those of a request, and answers the status: 201 for a file that is made, 204 for one that was there. The answer gets the
-/// tag of the file.
+/// Makes the bytes of a file those of a request, and answers the status: 201 for a file that is
+/// made, 204 for one that was there. The answer gets the tag of the file.
 ///
-/// `Locked` where a lock stands in the way; else `MethodNotAllowed` on a folder, and `Conflict` where there is no folder in which the file
-/// could stand; else `BadRequest` where a condition of HTTP can't be read, and `PreconditionFailed` where one doesn't hold.
+/// `Locked` where a lock stands in the way; else `MethodNotAllowed` on a folder, and `Conflict`
+/// where there is no folder in which the file could stand; else `BadRequest` where a condition of
+/// HTTP can't be read, and `PreconditionFailed` where one doesn't hold.
 pub fn put<R: Rng>(
     alloc: Global,
     session: &mut Session<R>,
@@ -47,14 +49,18 @@ pub fn put<R: Rng>(
     response: &mut Response,
 ) -> Result<StatusCode, Fault>
     requires { IsBlank response.old }
-    ensures done { IfOk result (λ code. (code ≡ put_status (spec.state R.stream session.old).map (segments path.bytes))
-        × Puts (spec.state R.stream session.old) (spec.caller session.old).now (segments path.bytes) bytes (spec.state R.stream session.new)) }
-    ensures course { OnOk result (put_course (spec.state R.stream session.old).map (segments path.bytes) headers.now ≡ Ok tt) }
-    ensures marks { OnOk result (marks_of response.new ≡ tagged (file_tag (spec.caller session.old).now (length bytes) ∷ [])) }
-    ensures err { IfErr result (λ e. FailsToPut (spec.state R.stream session.old) (spec.caller session.old) (segments path.bytes) bytes headers.now e) }
-    ensures refused { OnErr result (SameLive (spec.caller session.old).now (spec.state R.stream session.old) (spec.state R.stream session.new)) }
-    ensures run { RunBy (spec.caller session.old) (spec.state R.stream session.old) (spec.state R.stream session.new) }
-    ensures caller { spec.caller session.new ≡ spec.caller session.old }
+    ensures done { IfOk result (λ code.
+        (code ≡ put_status (state R.stream session.old).map (segments path.bytes))
+        × Puts (state R.stream session.old) (caller session.old).now (segments path.bytes) bytes
+        (state R.stream session.new)) }
+    ensures course { OnOk result (put_course (state R.stream session.old).map (segments path.bytes)
+        headers.now ≡ Ok tt) }
+    ensures marks { OnOk result (marks_of response.new
+        ≡ tagged (file_tag (caller session.old).now (length bytes) ∷ [])) }
+    ensures err { IfErr result (λ e. FailsToPut (state R.stream session.old) (caller session.old)
+        (segments path.bytes) bytes headers.now e) }
+    ensures refused { OnErr result (Stays R.stream session.old session.new) }
+    ensures acts { Acts R.stream session.old session.new }
 {
     let known = session.meta(copy_of(&path)?);
     check_locks(session, &path, known.is_some())?;
@@ -73,11 +79,12 @@ fn check_place<R: Rng>(
     path: &DavPath,
     known: &Option<MemFsMeta>,
 ) -> Result<(), Fault>
-    ensures ok { OnOk result (HasPlace (spec.state R.stream session.old).map (segments path.now.bytes) (option_map meta_of known.now)) }
-    ensures err { IfErr result (λ e. (e ≡ fault.InsufficientStorage) ⊎ LacksPlace (spec.state R.stream session.old).map (segments path.now.bytes) (option_map meta_of known.now) e) }
-    ensures run { RunBy (spec.caller session.old) (spec.state R.stream session.old) (spec.state R.stream session.new) }
-    ensures live { SameLive (spec.caller session.old).now (spec.state R.stream session.old) (spec.state R.stream session.new) }
-    ensures caller { spec.caller session.new ≡ spec.caller session.old }
+    ensures ok { OnOk result (HasPlace (state R.stream session.old).map (segments path.now.bytes)
+        (option_map meta_of known.now)) }
+    ensures err { IfErr result (λ e. (e ≡ fault.InsufficientStorage)
+        ⊎ LacksPlace (state R.stream session.old).map (segments path.now.bytes)
+        (option_map meta_of known.now) e) }
+    ensures looks { Looks R.stream session.old session.new }
 {
     match known {
         Some(meta) => if meta.is_dir() {
@@ -95,9 +102,11 @@ fn check_conditions(
     headers: &HeaderMap<HeaderValue>,
     known: &Option<MemFsMeta>,
 ) -> Result<(), Fault>
-    ensures ok { OnOk result (changes_by (course_of method.Put (standing_known (option_map meta_of known.now)) headers.now) ≡ Ok tt) }
+    ensures ok { OnOk result (changes_by (course_of method.Put
+        (standing_known (option_map meta_of known.now)) headers.now) ≡ Ok tt) }
     ensures err { IfErr result (λ e. (e ≡ fault.InsufficientStorage)
-        ⊎ (changes_by (course_of method.Put (standing_known (option_map meta_of known.now)) headers.now) ≡ Err e)) }
+        ⊎ (changes_by (course_of method.Put (standing_known (option_map meta_of known.now))
+        headers.now) ≡ Err e)) }
 {
     let standing = standing_known(alloc, known)?;
     changes_by(read_course(DavMethod::Put, &standing, headers))
@@ -118,7 +127,8 @@ fn changes_by(course: Option<Course>) -> Result<(), Fault>
 
 // What is known of the path, as conditions see it.
 fn standing_known(alloc: Global, known: &Option<MemFsMeta>) -> Result<Standing, Fault>
-    ensures ok { IfOk result (λ standing. standing ≡ standing_known (option_map meta_of known.now)) }
+    ensures ok { IfOk result (λ standing. standing
+        ≡ standing_known (option_map meta_of known.now)) }
     ensures err { IfErr result (λ e. e ≡ fault.InsufficientStorage) }
 {
     match known {
@@ -134,7 +144,8 @@ fn say_tag(
     modified: Moment,
     length: u64,
 ) -> Result<(), Fault>
-    ensures marks { OnOk result (marks_of response.new ≡ and_tags (file_tag modified.0 length ∷ []) (marks_of response.old)) }
+    ensures marks { OnOk result (marks_of response.new
+        ≡ and_tags (file_tag modified.0 length ∷ []) (marks_of response.old)) }
     ensures body { response.new.body ≡ response.old.body }
     ensures err { IfErr result (λ e. e ≡ fault.InsufficientStorage) }
 {

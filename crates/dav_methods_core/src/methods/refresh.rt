@@ -2,11 +2,11 @@
 ghost use Rattle.std.specs.Prelude.{◌≡◌, ◌∷◌, [], filter, map, string_bytes, IfErr, IfOk, OnErr};
 ghost use Rattle.http_server.specs.Response.{IsBlank};
 ghost use Rattle.dav_path_core.specs.Segments.{segments};
-ghost use Rattle.dav_session_core.specs.Callers.{Asks, RunBy, SameLive, live};
 ghost use Rattle.dav_fields_core.specs.Fields.{sent_of};
 ghost use Rattle.dav_session_core.specs.Refreshing as spec_of;
-ghost use Rattle.dav_session_core.specs.Private.Refreshing.{NotOne, is_token_of_one};
-ghost use Rattle.dav_session_core.specs.Sessions as spec;
+ghost use Rattle.dav_session_core.specs.OneToken.{NotOne, is_token_of_one};
+ghost use Rattle.dav_session_core.specs.Sessions.{Requests};
+ghost use Rattle.dav_session_core.specs.Sessions.{Looks, caller, live_of, state};
 
 use crate::refusals::say_document;
 use dav_documents_core::lock_documents::discovery_document;
@@ -22,11 +22,14 @@ use http_server::Response;
 use rand_core::Rng;
 use std::alloc::Global;
 
-/// Gives the lock another end whose token is named and which covers the path, and answers 200 with the locks that cover it (RFC 4918 section 9.10.2). The timeout is
-/// the first that is asked for and that can be given; else it is the one that the lock has.
+/// Gives the lock another end whose token is named and which covers the path, and answers 200 with
+/// the locks that cover it (RFC 4918 section 9.10.2). The timeout is the first that is asked for
+/// and that can be given; else it is the one that the lock has.
 ///
-/// `BadRequest` for a `Timeout` that can't be read; `PreconditionFailed` where no named token is that of such a lock, and `BadRequest` where several are; `Forbidden`
-/// where a lock with the token at the path or above has another principal.
+/// `BadRequest` for a `Timeout` that can't be read; `PreconditionFailed` where no named token is
+/// that of such a lock, and `BadRequest` where several are; `Forbidden` where a lock with the token
+/// at the path or above has another principal.
+#[tactic(auto, using(crate::proofs::Acting::all_requests))]
 pub fn refresh<R: Rng>(
     alloc: Global,
     session: &mut Session<R>,
@@ -37,14 +40,13 @@ pub fn refresh<R: Rng>(
     response: &mut Response,
 ) -> Result<StatusCode, Fault>
     requires { IsBlank response.old }
-    ensures done { IfOk result (λ code. spec_of.Refreshes longest prefix.now headers.now (live (spec.caller session.old).now (spec.state R.stream session.old))
-        (spec.caller session.old) (segments path.bytes) code (sent_of response.new) (spec.state R.stream session.new)) }
-    ensures err { IfErr result (λ e. spec_of.FailsToRefresh headers.now (live (spec.caller session.old).now (spec.state R.stream session.old))
-        (spec.caller session.old) (segments path.bytes) e) }
-    ensures refused { OnErr result (SameLive (spec.caller session.old).now (spec.state R.stream session.old) (spec.state R.stream session.new)) }
-    ensures run { Asks (spec.caller session.old) (spec.state R.stream session.old) (spec.state R.stream session.new) }
-    ensures looked { OnErr result (RunBy (spec.caller session.old) (spec.state R.stream session.old) (spec.state R.stream session.new)) }
-    ensures caller { spec.caller session.new ≡ spec.caller session.old }
+    ensures done { IfOk result (λ code. spec_of.Refreshes longest prefix.now headers.now
+        (live_of R.stream session.old) (caller session.old) (segments path.bytes) code
+        (sent_of response.new) (state R.stream session.new)) }
+    ensures err { IfErr result (λ e. spec_of.FailsToRefresh headers.now
+        (live_of R.stream session.old) (caller session.old) (segments path.bytes) e) }
+    ensures looks { OnErr result (Looks R.stream session.old session.new) }
+    ensures asks { Requests R.stream session.old session.new }
 {
     let timeouts = timeouts_in(alloc, headers)?;
     let token = token_named(alloc, session, &path)?;
@@ -65,22 +67,23 @@ fn token_named<R: Rng>(
     session: &mut Session<R>,
     path: &DavPath,
 ) -> Result<String, Fault>
-    ensures ok { IfOk result (λ token. spec_of.named_there (live (spec.caller session.old).now (spec.state R.stream session.old)) (spec.caller session.old)
-        (segments path.now.bytes) ≡ string_bytes token ∷ []) }
-    ensures err { IfErr result (λ e. NotOne (spec_of.named_there (live (spec.caller session.old).now (spec.state R.stream session.old)) (spec.caller session.old)
-        (segments path.now.bytes)) e) }
-    ensures run { RunBy (spec.caller session.old) (spec.state R.stream session.old) (spec.state R.stream session.new) }
-    ensures live { SameLive (spec.caller session.old).now (spec.state R.stream session.old) (spec.state R.stream session.new) }
-    ensures caller { spec.caller session.new ≡ spec.caller session.old }
+    ensures ok { IfOk result (λ token. spec_of.named_there (live_of R.stream session.old)
+        (caller session.old) (segments path.now.bytes) ≡ string_bytes token ∷ []) }
+    ensures err { IfErr result (λ e. NotOne (spec_of.named_there (live_of R.stream session.old)
+        (caller session.old) (segments path.now.bytes)) e) }
+    ensures looks { Looks R.stream session.old session.new }
 {
     let locks = session.locks_at(copy_of(path)?)?;
     one_of(alloc, session.tokens(), &locks)
 }
 
-// Of some tokens the one that a lock has. `PreconditionFailed` where none is, `BadRequest` where several are.
+// Of some tokens the one that a lock has. `PreconditionFailed` where none is, `BadRequest` where
+// several are.
 fn one_of(alloc: Global, tokens: &[String], locks: &[DavLock]) -> Result<String, Fault>
-    ensures ok { IfOk result (λ token. filter (is_token_of_one locks.now) (map string_bytes tokens.now) ≡ string_bytes token ∷ []) }
-    ensures err { IfErr result (λ e. NotOne (filter (is_token_of_one locks.now) (map string_bytes tokens.now)) e) }
+    ensures ok { IfOk result (λ token. filter (is_token_of_one locks.now)
+        (map string_bytes tokens.now) ≡ string_bytes token ∷ []) }
+    ensures err { IfErr result (λ e. NotOne (filter (is_token_of_one locks.now)
+        (map string_bytes tokens.now)) e) }
 {
     let mut named = tokens.iter().filter(|token| any_has(locks, token));
     let Some(token) = named.next() else {

@@ -1,8 +1,9 @@
 //! UNLOCK.
-ghost use Rattle.std.specs.Prelude.{◌≡◌, ◌⊎◌, ℕ, List, IfErr, IfOk, MatchOption, OnErr, string_bytes};
+ghost use Rattle.std.specs.Prelude.{◌≡◌, ◌⊎◌, ℕ, List, IfErr, IfOk, MatchOption, OnErr};
+ghost use Rattle.std.specs.Prelude.{string_bytes};
 ghost use Rattle.dav_path_core.specs.Segments.{segments};
-ghost use Rattle.dav_session_core.specs.Callers.{Asks, RunBy, SameLive, live};
-ghost use Rattle.dav_session_core.specs.Sessions as spec;
+ghost use Rattle.dav_session_core.specs.Sessions.{Requests};
+ghost use Rattle.dav_session_core.specs.Sessions.{Looks, caller, live_of, state};
 ghost use Rattle.dav_session_core.specs.Unlocking.{FailsToUnlock, IsBracketed, NamesToken, Unlocks};
 ghost use Rattle.dav_faults_core.specs.declared.faults.Fault.TheVariants as fault;
 
@@ -17,22 +18,21 @@ use std::alloc::Global;
 
 /// Ends the lock that `Lock-Token` names, and answers 204 (RFC 4918 section 9.11).
 ///
-/// `BadRequest` without such a token; `NoSuchLock` where no lock with it covers the path; `Forbidden` where one with it at the path or above has
-/// another principal.
+/// `BadRequest` without such a token; `NoSuchLock` where no lock with it covers the path;
+/// `Forbidden` where one with it at the path or above has another principal.
+#[tactic(auto, using(crate::proofs::Acting::all_requests))]
 pub fn unlock<R: Rng>(
     alloc: Global,
     session: &mut Session<R>,
     headers: &HeaderMap<HeaderValue>,
     path: DavPath,
 ) -> Result<StatusCode, Fault>
-    ensures done { IfOk result (λ code. Unlocks headers.now (live (spec.caller session.old).now (spec.state R.stream session.old)) (spec.caller session.old)
-        (segments path.bytes) code (spec.state R.stream session.new)) }
-    ensures err { IfErr result (λ e. FailsToUnlock headers.now (live (spec.caller session.old).now (spec.state R.stream session.old)) (spec.caller session.old)
-        (segments path.bytes) e) }
-    ensures refused { OnErr result (SameLive (spec.caller session.old).now (spec.state R.stream session.old) (spec.state R.stream session.new)) }
-    ensures run { Asks (spec.caller session.old) (spec.state R.stream session.old) (spec.state R.stream session.new) }
-    ensures looked { OnErr result (RunBy (spec.caller session.old) (spec.state R.stream session.old) (spec.state R.stream session.new)) }
-    ensures caller { spec.caller session.new ≡ spec.caller session.old }
+    ensures done { IfOk result (λ code. Unlocks headers.now (live_of R.stream session.old)
+        (caller session.old) (segments path.bytes) code (state R.stream session.new)) }
+    ensures err { IfErr result (λ e. FailsToUnlock headers.now (live_of R.stream session.old)
+        (caller session.old) (segments path.bytes) e) }
+    ensures looks { OnErr result (Looks R.stream session.old session.new) }
+    ensures asks { Requests R.stream session.old session.new }
 {
     let token = token_named(alloc, headers)?;
     session.unlock(path, token)?;
@@ -56,7 +56,8 @@ fn token_named(alloc: Global, headers: &HeaderMap<HeaderValue>) -> Result<String
 
 // The token between the angle brackets of a value, where it has them.
 fn token_in(value: &HeaderValue) -> Option<&str>
-    ensures { MatchOption result ((token : List ℕ) → ¬ IsBracketed value.now.bytes token) (λ token. IsBracketed value.now.bytes token.now) }
+    ensures { MatchOption result ((token : List ℕ) → ¬ IsBracketed value.now.bytes token)
+        (λ token. IsBracketed value.now.bytes token.now) }
 {
     let Ok(text) = str::from_utf8(value.as_bytes()) else {
         return None;

@@ -2,7 +2,8 @@
 use Rattle.std.proofs.Common.{◌≡◌, ◌≢◌, ℕ, ◌==◌, ◌||◌, false, cond, ◌⊎◌, List, [], ◌∷◌, Some, None, Option, refl, ap, sym, ◌∙◌, subst, inl, inr, eqb}
 use Rattle.std.specs.List.{list_any, IsDistinct, AllByRecursion}
 use Rattle.std.proofs.lemmas.Bool.{cases_eq, eq-eqb, ne_eqb, eqb-true, or_cases, false≢true, true≢false, false_from_ne_true, or_right}
-use Rattle.dav_path_core.specs.Private.Chains.{IsIn, Chain, IsChainOf, Linked}
+use Rattle.dav_path_core.specs.Keyed.{IsIn}
+use Rattle.dav_path_core.specs.Private.Chains.{Chain, IsChainOf, Linked}
 use Rattle.dav_path_core.proofs.trees.Trees.{none≢some, same_some}
 
 -- ---- members

@@ -1,5 +1,5 @@
 -- What the view of a tree answers, by the entries of its map.
-use Rattle.std.proofs.Common.{◌≡◌, nat_eq, ◌≢◌, ◌+◌, ◌==◌, ℕ, Bool, is_some, true, false, cond, List, [], ◌∷◌, Some, None, Option, refl, ap, sym, ◌∙◌, subst, inl, inr}
+use Rattle.std.proofs.Common.{◌≡◌, nat_eq, ◌≢◌, ◌==◌, ℕ, Bool, is_some, true, false, cond, List, [], ◌∷◌, Some, None, Option, refl, ap, sym, ◌∙◌, subst, inl, inr}
 use Rattle.std.specs.Ordering.{nat_cmp, eq_by_cmp}
 use Rattle.std.specs.Cmp.{nat_cmp_total, unsigned_tied}
 use Rattle.std.specs.Option.{option_map}

@@ -1,18 +1,18 @@
 -- An index says what is so before and after each change of its tree.
-use Rattle.std.proofs.Common.{◌≡◌, ◌≢◌, ◌⊎◌, inl, inr, ℕ, Bool, true, false, cond, Option, Some, None, refl, sym, ap, ◌∙◌, subst}
+use Rattle.std.proofs.Common.{◌≡◌, ◌≢◌, ◌⊎◌, inl, inr, ℕ, true, Option, Some, None, refl, sym, ap, ◌∙◌, subst}
 use Rattle.std.specs.Option.{option_map}
-use Rattle.std.specs.Ordering.{nat_cmp, eq_by_cmp}
+use Rattle.std.specs.Ordering.{nat_cmp}
 use Rattle.std.specs.Cmp.{nat_cmp_total}
 use Rattle.std.specs.Cmp.Lexicographic.{pointwise, bytes_decides}
 use Rattle.std.specs.Prelude.{nat_eq}
-use Rattle.std.specs.FinMap.{get, insert, remove, empty, get-empty, get-insert, get-remove, nat_cmp-IsAntisymmetric}
+use Rattle.std.specs.FinMap.{get, insert, remove, empty, get-empty, nat_cmp-IsAntisymmetric}
 use Rattle.std.proofs.lemmas.Bool.{true≢false, cases_eq}
-use Rattle.dav_path_core.specs.Fronts.{Segment, segment_cmp}
+use Rattle.dav_path_core.specs.Fronts.{Segment}
 use Rattle.dav_path_core.specs.Keyed.{Entry, Keyed, IsTree, IsChild, child, add_as, without, placed, placed_at, with_item, with_item_at, entry, parent_and_key_of}
 use Rattle.dav_path_core.specs.ChildIndex.{Names, Index, IsIndex, told, is_named, noted, noted_at, forgotten, forgotten_at}
 use Rattle.dav_path_core.proofs.lists.FinMaps.{dec, get_same, get_other, get_gone, get_left}
 use Rattle.dav_path_core.proofs.lists.Orders.{segment_total, segment_exact}
-use Rattle.dav_path_core.proofs.trees.Trees.{same_some, none≢some, child-some, child-none, known_from_child, Sets, Sets-insert}
+use Rattle.dav_path_core.proofs.trees.Trees.{same_some, none≢some, child-some, child-none, Sets, Sets-insert}
 use Rattle.dav_path_core.proofs.trees.KeyedCuts.{entry-without}
 use Rattle.dav_path_core.proofs.trees.ChildChanges.{child-without, child-add_as, child-placed, child-with_item-at}
 

@@ -1,12 +1,12 @@
 -- The folders of an index, as the code's map has them.
-use Rattle.std.proofs.Common.{◌≡◌, ℕ, nat_eq, cond, is_some, List, Option, Some, None, refl, sym, ap, ◌∙◌}
+use Rattle.std.proofs.Common.{◌≡◌, ℕ, nat_eq, cond, is_some, List, Option, Some, None, sym, ap, ◌∙◌}
 use Rattle.std.specs.Ordering.{nat_cmp, eq_by_cmp}
 use Rattle.std.specs.Cmp.{nat_cmp_total, unsigned_tied}
-use Rattle.std.specs.FinMap.{FinMap, get, insert, remove, get-from_entries, get-insert, get-remove, same_map, nat_cmp-IsAntisymmetric}
+use Rattle.std.specs.FinMap.{get, insert, remove, get-from_entries, get-insert, get-remove, same_map, nat_cmp-IsAntisymmetric}
 use Rattle.std.specs.HashMap.{HashMap, Updates, WritesThrough}
 use Rattle.std.specs.Map.{lookup}
 use Rattle.std.proofs.lemmas.Cmp.{nat_eq_equiv}
-use Rattle.dav_path_core.specs.ChildIndex.{Names, Index}
+use Rattle.dav_path_core.specs.ChildIndex.{Names}
 use Rattle.dav_path_core.specs.Private.ChildNames.{index_of}
 use Rattle.dav_path_core.proofs.children.Views.{find-lookup}
 

@@ -1,14 +1,14 @@
 -- The names of a folder's children, gathered along the list of them.
-use Rattle.std.proofs.Common.{◌≡◌, ◌≢◌, ◌⊎◌, inl, inr, ℕ, true, List, [], ◌∷◌, ◌++◌, Option, Some, None, refl, sym, ap, ◌∙◌, subst, eqb}
+use Rattle.std.proofs.Common.{◌≡◌, inl, inr, ℕ, true, List, [], ◌∷◌, ◌++◌, Option, Some, None, refl, sym, ap, ◌∙◌, subst, eqb}
 use Rattle.std.specs.Option.{option_map}
 use Rattle.std.specs.List.{list_any}
 use Rattle.std.specs.Prelude.{nat_eq}
 use Rattle.std.specs.Cmp.Lexicographic.{pointwise, bytes_decides}
 use Rattle.std.specs.FinMap.{get, insert, empty, get-empty}
-use Rattle.std.proofs.lemmas.Bool.{or_cases, or_right, eqb-true, false≢true}
+use Rattle.std.proofs.lemmas.Bool.{or_cases, eqb-true, false≢true}
 use Rattle.std.proofs.lemmas.List.Folds.{list_any-append}
 use Rattle.dav_path_core.specs.Fronts.{Segment, segment_cmp}
-use Rattle.dav_path_core.specs.Keyed.{IsChild, IsKnown, IsTree, child}
+use Rattle.dav_path_core.specs.Keyed.{IsChild, IsKnown, child}
 use Rattle.dav_path_core.specs.TreeValue.{TreeValue, IsTreeValue, first, after}
 use Rattle.dav_path_core.specs.ChildIndex.{Names, is_named}
 use Rattle.dav_path_core.proofs.lists.FinMaps.{dec, get_same, get_other}

@@ -44,3 +44,18 @@ In-filter test (y ∷ xs) x i h = elim (test y) as (λ b. test y ≡ b → In x 
   | true ↦ λ e. elim i [ inl is ↦ inl is | inr j ↦ inr (In-filter test xs x j h) ]
   | false ↦ λ e. elim i [ inl is ↦ absurd (false≢true (sym e ∙ ap test is ∙ h)) | inr j ↦ In-filter test xs x j h ]
 ] refl
+
+pub In-last : {A : Type 0} (front : List A) (x : A) (q : A) → In q (front ++ x ∷ []) → In q front ⊎ (x ≡ q)
+In-last [] x q i = elim i [ inl e ↦ inr e | inr j ↦ absurd j ]
+In-last (y ∷ front) x q i = elim i [
+  | inl e ↦ inl (inl e)
+  | inr j ↦ elim (In-last front x q j) [ inl k ↦ inl (inr k) | inr e ↦ inr e ]
+]
+
+pub In-front : {A : Type 0} (front rest : List A) (q : A) → In q front → In q (front ++ rest)
+In-front [] rest q i = absurd i
+In-front (y ∷ front) rest q i = elim i [ inl e ↦ inl e | inr j ↦ inr (In-front front rest q j) ]
+
+pub In-behind : {A : Type 0} (front rest : List A) (q : A) → In q rest → In q (front ++ rest)
+In-behind [] rest q i = i
+In-behind (y ∷ front) rest q i = inr (In-behind front rest q i)

@@ -2,7 +2,7 @@
 use Rattle.std.proofs.Common.{◌≡◌, ℕ, zero, suc, ◌+◌, ◌<◌, ◌≤◌, List, [], ◌∷◌, Bool, true, false, cond, length, get_or, map, Some, None, refl, sym, ◌∙◌, inl, inr, subst, ap, arith}
 use Rattle.std.specs.Prelude.{filter, remove, set, Contains, position, not, nat_lt, ◌||◌, ◌&&◌}
 use Rattle.std.specs.List.{AllByRecursion, position_or_len, prefix_len, list_any}
-use Rattle.std.proofs.lemmas.Bool.{cases_Bool, ltb-false, le-ltb}
+use Rattle.std.proofs.lemmas.Bool.{cases_Bool, ltb-false}
 use Rattle.std.proofs.lemmas.List.Quantifiers.{position-Some}
 
 -- none passes of those before the first that passes
@@ -36,16 +36,6 @@ position-first p [] k h = absurd (some_none k (sym h))
 position-first p (x ∷ xs) k h =
     let w = position-Some p (x ∷ xs) k x h in
     (w.0, λ d. (position-Some p (x ∷ xs) k d h).1, λ j d lt. (position-Some p (x ∷ xs) k d h).2 j lt)
-
--- none where none passes
-pub position-of_none : {X : Type 0} (p : X → Bool) (xs : List X) → AllByRecursion (λ x. p x ≡ false) xs → position p xs ≡ None
-position-of_none {X = X} p xs none = ap (λ n. cond (nat_lt n (length xs)) (Some n) None) (whole xs none) ∙ ap (λ b. cond b (Some (length xs)) None) (le-ltb (length xs) (length xs) (omega arith))
-  where
-    whole : (xs : List X) → AllByRecursion (λ x. p x ≡ false) xs → prefix_len (λ x. not (p x)) xs ≡ length xs
-    whole [] h = refl
-    whole (x ∷ xs) h =
-        let rest = whole xs h.1 in
-        subst (λ b. cond (not b) (1 + prefix_len (λ x. not (p x)) xs) 0 ≡ length (x ∷ xs)) (sym h.0) (omega (arith, rest))
 
 -- ---- a filter
 

@@ -3,10 +3,9 @@ use Rattle.std.proofs.Common.{◌≡◌, ◌⊎◌, inl, inr, ℕ, zero, suc, �
 use Rattle.std.specs.FinMap.{len}
 use Rattle.std.specs.List.{IsDistinct}
 use Rattle.std.proofs.lemmas.Bool.{false≢true}
-use Rattle.dav_path_core.specs.Keyed.{parent, IsKnown, here}
+use Rattle.dav_path_core.specs.Keyed.{parent, IsKnown, here, IsIn}
 use Rattle.dav_path_core.specs.TreeValue.{TreeValue, IsTreeValue}
 use Rattle.dav_path_core.specs.Walking.{following, numbers_from, IsWalk}
-use Rattle.dav_path_core.specs.Private.Chains.{IsIn}
 use Rattle.dav_path_core.proofs.children.Chains.{in_here, in_later, in_cases, more_distinct, no_distinct}
 use Rattle.dav_path_core.proofs.walks.AboveLemmas.{known_under, not_root}
 use Rattle.dav_path_core.proofs.walks.WalkLemmas.{Met, Finds, following-found, met_none, met_few, met_on, met_all, parent_met}

@@ -2,9 +2,8 @@
 use Rattle.std.proofs.Common.{◌≡◌, ◌≢◌, ◌⊎◌, inl, inr, ℕ, Bool, List, [], ◌∷◌, Option, Some, None, refl, sym, ap, ◌∙◌, subst, eqb}
 use Rattle.std.specs.List.{IsDistinct}
 use Rattle.std.proofs.lemmas.Bool.{false≢true}
-use Rattle.dav_path_core.specs.Keyed.{parent, IsKnown}
+use Rattle.dav_path_core.specs.Keyed.{parent, IsKnown, IsIn}
 use Rattle.dav_path_core.specs.TreeValue.{TreeValue, Siblings, done, more, first, after, IsChildList, IsTreeValue}
-use Rattle.dav_path_core.specs.Private.Chains.{IsIn}
 use Rattle.dav_path_core.proofs.children.Chains.{in_here, in_later, in_cases, none_twice, later_distinct}
 use Rattle.dav_path_core.proofs.children.Walks.{split, ended, parent_known}
 use Rattle.dav_path_core.proofs.trees.Trees.{none≢some, same_some}

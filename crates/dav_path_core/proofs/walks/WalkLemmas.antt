@@ -2,17 +2,17 @@
 use Rattle.std.proofs.Common.{◌≡◌, ◌≢◌, ◌⊎◌, inl, inr, ℕ, zero, suc, ◌+◌, ◌<◌, ◌≤◌, Bool, List, [], ◌∷◌, length, Option, Some, None, MatchOption, if◌then◌else◌, refl, sym, ap, ◌∙◌, subst, arith, eqb}
 use Rattle.std.specs.List.{IsDistinct}
 use Rattle.std.specs.FinMap.{len}
+use Rattle.std.specs.Option.{option_or}
 use Rattle.std.proofs.lemmas.Bool.{cases_eq, eq-eqb, ne_eqb}
-use Rattle.dav_path_core.specs.Keyed.{Under, here, below, Leads, parent, IsKnown}
+use Rattle.dav_path_core.specs.Keyed.{Under, here, below, Leads, parent, IsKnown, IsIn}
 use Rattle.dav_path_core.specs.TreeValue.{TreeValue, first, after, IsTreeValue}
-use Rattle.dav_path_core.specs.Private.Chains.{IsIn}
 use Rattle.dav_path_core.proofs.children.Chains.{in_here, in_later, in_cases, more_distinct, no_distinct}
 use Rattle.dav_path_core.proofs.trees.Counting.{at_most_count, way_short}
 use Rattle.dav_path_core.proofs.trees.Cutting.{Under-trans}
 use Rattle.dav_path_core.proofs.trees.KeyedDepth.{depth, top as no_parent_above, one_up}
 use Rattle.dav_path_core.proofs.trees.Trees.{none≢some, same_some, known_from_parent}
 use Rattle.dav_path_core.proofs.children.Walks.{parent_known}
-use Rattle.dav_path_core.specs.Walking.{right_behind, further, Later, beside, above, ToCome, GoesOn, IsOver, or_else, climbs, following}
+use Rattle.dav_path_core.specs.Walking.{right_behind, further, Later, beside, above, ToCome, GoesOn, IsOver, climbs, following}
 use Rattle.dav_path_core.proofs.walks.AboveLemmas.{Under-up, Under-step, one_above, not_below_child}
 use Rattle.dav_path_core.proofs.walks.SiblingLemmas.{first_is_child, child_from_first, no_first, follows_parent, Follows-next, Follows-none}
 
@@ -24,25 +24,25 @@ module _ {K D : Type 0} (t : TreeValue K D) (top : ℕ) where
     up_from o = elim o [ None ↦ None | Some p ↦ climbs t top m p ]
 
     abbrev at_top : Bool → Option ℕ
-    at_top b = if b then None else or_else (after t n) (up_from (parent t.keyed n))
+    at_top b = if b then None else option_or (after t n) (up_from (parent t.keyed n))
 
     pub climbs-top : n ≡ top → climbs t top (suc m) n ≡ None
     climbs-top is = ap at_top (eq-eqb n top is)
 
     pub climbs-aside : (s : ℕ) → n ≢ top → after t n ≡ Some s → climbs t top (suc m) n ≡ Some s
-    climbs-aside s ne e = ap at_top (ne_eqb n top ne) ∙ ap (λ o. or_else o (up_from (parent t.keyed n))) e
+    climbs-aside s ne e = ap at_top (ne_eqb n top ne) ∙ ap (λ o. option_or o (up_from (parent t.keyed n))) e
 
     pub climbs-up : (p : ℕ) → n ≢ top → after t n ≡ None → parent t.keyed n ≡ Some p → climbs t top (suc m) n ≡ climbs t top m p
-    climbs-up p ne e f = ap at_top (ne_eqb n top ne) ∙ ap (λ o. or_else o (up_from (parent t.keyed n))) e ∙ ap up_from f
+    climbs-up p ne e f = ap at_top (ne_eqb n top ne) ∙ ap (λ o. option_or o (up_from (parent t.keyed n))) e ∙ ap up_from f
 
     pub climbs-out : n ≢ top → after t n ≡ None → parent t.keyed n ≡ None → climbs t top (suc m) n ≡ None
-    climbs-out ne e f = ap at_top (ne_eqb n top ne) ∙ ap (λ o. or_else o (up_from (parent t.keyed n))) e ∙ ap up_from f
+    climbs-out ne e f = ap at_top (ne_eqb n top ne) ∙ ap (λ o. option_or o (up_from (parent t.keyed n))) e ∙ ap up_from f
 
   pub following-down : (n c : ℕ) → first t n ≡ Some c → following t top n ≡ Some c
-  following-down n c e = ap (λ o. or_else o (climbs t top (len t.keyed.nodes) n)) e
+  following-down n c e = ap (λ o. option_or o (climbs t top (len t.keyed.nodes) n)) e
 
   pub following-up : (n : ℕ) → first t n ≡ None → following t top n ≡ climbs t top (len t.keyed.nodes) n
-  following-up n e = ap (λ o. or_else o (climbs t top (len t.keyed.nodes) n)) e
+  following-up n e = ap (λ o. option_or o (climbs t top (len t.keyed.nodes) n)) e
 
 -- ---- what a walk keeps
 

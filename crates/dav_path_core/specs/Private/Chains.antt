@@ -1,10 +1,7 @@
 -- Lists of children as links in both directions between numbers (own).
-use Rattle.std.specs.Prelude.{◌≡◌, ℕ, ◌↔◌, true, eqb, List, [], ◌∷◌, Option, Some, None}
-use Rattle.std.specs.List.{list_any, IsDistinct}
-
--- n is among ks
-abbrev pub IsIn : ℕ → List ℕ → Type 0
-IsIn n ks = list_any (eqb n) ks ≡ true
+use Rattle.std.specs.Prelude.{◌≡◌, ℕ, ◌↔◌, eqb, List, [], ◌∷◌, Option, Some, None}
+use Rattle.std.specs.List.{IsDistinct}
+use Rattle.dav_path_core.specs.Keyed.{IsIn}
 
 -- the links from o on are ks, and each leads back to the one before, the first to b
 abbrev pub Chain : (ℕ → Option ℕ) → (ℕ → Option ℕ) → Option ℕ → Option ℕ → List ℕ → Type 0

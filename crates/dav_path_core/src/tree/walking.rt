@@ -10,7 +10,7 @@ use std::hash::Hash;
 use std::marker::Model;
 
 /// The numbers of all nodes of a tree, one after another, each behind its parent. It takes no memory.
-#[derive(Drop)]
+#[derive(Debug, Drop)]
 pub struct Walk<'a, K: Eq + Hash, D> {
     tree: &'a Tree<K, D>,
     at: Option<u64>,

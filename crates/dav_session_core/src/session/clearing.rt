@@ -1,17 +1,17 @@
 //! How a folder at the target of a COPY or a MOVE goes, before anything is written there.
-ghost use Rattle.std.specs.Prelude.{◌≡◌, ◌≢◌, ◌⊎◌, [], map, option_copied, option_map, string_bytes, IfErr, IfOk, OnOk};
+ghost use Rattle.std.specs.Prelude.{◌≡◌, [], map, option_copied, option_map, string_bytes, IfErr};
+ghost use Rattle.std.specs.Prelude.{IfOk, OnOk};
 ghost use Rattle.std.specs.List.{find};
-ghost use Rattle.dav_path_core.specs.Fronts.{Path};
 ghost use Rattle.dav_path_core.specs.Segments.{segments};
 ghost use Rattle.dav_locks_core.specs.Locks.{held};
-ghost use Rattle.dav_session_core.specs.Callers.{RunBy, SameLive, live};
-ghost use Rattle.dav_session_core.specs.Clearing.{IsCleared, refusing_anew, refusing_clearing};
+ghost use Rattle.dav_session_core.specs.Clearing.{IsCleared};
 ghost use Rattle.dav_session_core.specs.Ends.{GoesFrom};
 ghost use Rattle.dav_session_core.specs.LocksInTheWay.{IsRefusedBy};
-ghost use Rattle.dav_session_core.specs.Private.Anew.{any_leads, leads_to, refuses_anew, with_tokens};
-ghost use Rattle.dav_session_core.specs.Sessions as spec;
-ghost use Rattle.dav_session_core.specs.Subtrees.{HasOddName};
-ghost use Rattle.dav_faults_core.specs.declared.faults.Fault.TheVariants as fault;
+ghost use Rattle.dav_session_core.specs.Private.Anew.{any_leads, leads_to, refuses_anew};
+ghost use Rattle.dav_session_core.specs.Private.Anew.{with_tokens};
+ghost use Rattle.dav_session_core.specs.Sessions.{Acts, caller, live_after, live_of, Looks, state};
+ghost use Rattle.dav_session_core.specs.Questions.{FailsToGather, against_anew, against_clearing};
+ghost use Rattle.dav_session_core.specs.Unhindered.{WhereClearable, paths_of};
 
 use super::Session;
 use super::questions::copy_of;
@@ -25,16 +25,16 @@ use rand_core::Rng;
 use std::alloc::Global;
 
 impl<R: Rng> Session<R> {
-    /// The paths of a folder and of all that is in it, each folder before its members; none where no folder stands at the path.
+    /// The paths of a folder and of all that is in it, each folder before its members; none where
+    /// no folder stands at the path.
     ///
     /// `BadRequest` where a name below it is one that no path has which is read.
     pub fn folder_at(&mut self, alloc: Global, path: &DavPath) -> Result<Vec<DavPath>, Fault>
-        ensures ok { IfOk result (λ places. GoesFrom (spec.state R.stream self.old).map (segments path.now.bytes) (map (λ p. segments p.bytes) places.items)) }
-        ensures err { IfErr result (λ e. (e ≡ fault.InsufficientStorage)
-            ⊎ ((e ≡ fault.BadRequest) × HasOddName (spec.state R.stream self.old).map (segments path.now.bytes))) }
-        ensures run { RunBy (spec.caller self.old) (spec.state R.stream self.old) (spec.state R.stream self.new) }
-        ensures live { SameLive (spec.caller self.old).now (spec.state R.stream self.old) (spec.state R.stream self.new) }
-        ensures caller { spec.caller self.new ≡ spec.caller self.old }
+        ensures ok { IfOk result (λ places. GoesFrom (state R.stream self.old).map
+            (segments path.now.bytes) (paths_of places.items)) }
+        ensures err { IfErr result (λ e. FailsToGather (state R.stream self.old).map
+            (segments path.now.bytes) e) }
+        ensures looks { Looks R.stream self.old self.new }
     {
         match self.meta(copy_of(path)?) {
             Some(known) => if known.is_dir() {
@@ -46,16 +46,15 @@ impl<R: Rng> Session<R> {
         }
     }
 
-    /// Whether the locks let the caller take away what stands at each of the places, and then make something at the path. `Locked` where one stands in
-    /// the way, with its path. Without places nothing is asked.
+    /// Whether the locks let the caller take away what stands at each of the places, and then make
+    /// something at the path. `Locked` where one stands in the way, with its path. Without places
+    /// nothing is asked.
     pub fn check_clearing(&mut self, path: &DavPath, places: &[DavPath]) -> Result<(), Fault>
-        ensures ok { OnOk result (refusing_clearing (live (spec.caller self.old).now (spec.state R.stream self.old)) (spec.caller self.old)
-            (segments path.now.bytes) (map (λ p. segments p.bytes) places.now) ≡ []) }
-        ensures err { IfErr result (λ e. IsRefusedBy (refusing_clearing (live (spec.caller self.old).now (spec.state R.stream self.old)) (spec.caller self.old)
-            (segments path.now.bytes) (map (λ p. segments p.bytes) places.now)) e) }
-        ensures run { RunBy (spec.caller self.old) (spec.state R.stream self.old) (spec.state R.stream self.new) }
-        ensures live { SameLive (spec.caller self.old).now (spec.state R.stream self.old) (spec.state R.stream self.new) }
-        ensures caller { spec.caller self.new ≡ spec.caller self.old }
+        ensures ok { OnOk result (against_clearing R.stream self.old path.now (paths_of places.now)
+            ≡ []) }
+        ensures err { IfErr result (λ e. IsRefusedBy
+            (against_clearing R.stream self.old path.now (paths_of places.now)) e) }
+        ensures looks { Looks R.stream self.old self.new }
     {
         if places.is_empty() {
             return Ok(());
@@ -64,15 +63,13 @@ impl<R: Rng> Session<R> {
         self.check_anew(path)
     }
 
-    /// Whether the locks let the caller make something at a path, once what stands there is gone with its locks: those above it alone decide then
-    /// (RFC 4918 section 7). `Locked` where one stands in the way, with its path.
+    /// Whether the locks let the caller make something at a path, once what stands there is gone
+    /// with its locks: those above it alone decide then (RFC 4918 section 7). `Locked` where one
+    /// stands in the way, with its path.
     pub fn check_anew(&mut self, path: &DavPath) -> Result<(), Fault>
-        ensures ok { OnOk result (refusing_anew (live (spec.caller self.old).now (spec.state R.stream self.old)) (spec.caller self.old) (segments path.now.bytes) ≡ []) }
-        ensures err { IfErr result (λ e. IsRefusedBy (refusing_anew (live (spec.caller self.old).now (spec.state R.stream self.old)) (spec.caller self.old)
-            (segments path.now.bytes)) e) }
-        ensures run { RunBy (spec.caller self.old) (spec.state R.stream self.old) (spec.state R.stream self.new) }
-        ensures live { SameLive (spec.caller self.old).now (spec.state R.stream self.old) (spec.state R.stream self.new) }
-        ensures caller { spec.caller self.new ≡ spec.caller self.old }
+        ensures ok { OnOk result (against_anew R.stream self.old path.now ≡ []) }
+        ensures err { IfErr result (λ e. IsRefusedBy (against_anew R.stream self.old path.now) e) }
+        ensures looks { Looks R.stream self.old self.new }
     {
         let locks = self.locks_at(path.parent()?)?;
         match refusing(&locks, path, &self.request.tokens, &self.request.principal) {
@@ -81,15 +78,13 @@ impl<R: Rng> Session<R> {
         }
     }
 
-    /// Takes away a folder with all that is in it, where there are places; they are its walk then (RFC 4918 sections 9.8.4 and 9.9.3).
+    /// Takes away a folder with all that is in it, where there are places; they are its walk then
+    /// (RFC 4918 sections 9.8.4 and 9.9.3).
     pub fn clear(&mut self, places: Vec<DavPath>)
-        ensures cleared { (p : Path) → GoesFrom (spec.state R.stream self.old).map p (map (λ q. segments q.bytes) places.items)
-            → refusing_clearing (live (spec.caller self.old).now (spec.state R.stream self.old)) (spec.caller self.old) p
-            (map (λ q. segments q.bytes) places.items) ≡ []
-            → (p ≢ []) → IsCleared (spec.caller self.old).now p (live (spec.caller self.old).now (spec.state R.stream self.old))
-            (live (spec.caller self.old).now (spec.state R.stream self.new)) }
-        ensures run { RunBy (spec.caller self.old) (spec.state R.stream self.old) (spec.state R.stream self.new) }
-        ensures caller { spec.caller self.new ≡ spec.caller self.old }
+        ensures cleared { WhereClearable (live_of R.stream self.old) (caller self.old)
+            (paths_of places.items) (λ p. IsCleared (caller self.old).now p
+            (live_of R.stream self.old) (live_after R.stream self.old self.new)) }
+        ensures acts { Acts R.stream self.old self.new }
     {
         if places.is_empty() {
             return;
@@ -98,14 +93,16 @@ impl<R: Rng> Session<R> {
     }
 }
 
-// The first of the locks that refuses to make something at the path; those there and below count as gone.
+// The first of the locks that refuses to make something at the path; those there and below count as
+// gone.
 fn refusing<'a>(
     locks: &'a [DavLock],
     path: &DavPath,
     tokens: &[String],
     principal: &Option<String>,
 ) -> Option<&'a DavLock>
-    ensures { let who = with_tokens (option_map string_bytes principal.now) (map string_bytes tokens.now) in
+    ensures { let who = with_tokens (option_map string_bytes principal.now)
+        (map string_bytes tokens.now) in
         let p = segments path.now.bytes in
         option_copied result ≡ find (refuses_anew p who (any_leads p who locks.now)) locks.now }
 {
@@ -115,14 +112,17 @@ fn refusing<'a>(
         .find(|lock| refuses_anew(lock, path, tokens, principal, any))
 }
 
-// Whether the caller with these tokens and this principal holds one of the locks, and it leads to the path.
+// Whether the caller with these tokens and this principal holds one of the locks, and it leads to
+// the path.
 fn any_leads(
     locks: &[DavLock],
     path: &DavPath,
     tokens: &[String],
     principal: &Option<String>,
 ) -> bool
-    ensures { result ≡ any_leads (segments path.now.bytes) (with_tokens (option_map string_bytes principal.now) (map string_bytes tokens.now)) locks.now }
+    ensures { result ≡ any_leads (segments path.now.bytes)
+        (with_tokens (option_map string_bytes principal.now) (map string_bytes tokens.now))
+        locks.now }
 {
     locks.iter().any(|lock| leads_to(lock, path) && is_held(lock, tokens, principal))
 }
@@ -135,12 +135,15 @@ fn refuses_anew(
     principal: &Option<String>,
     any: bool,
 ) -> bool
-    ensures { result ≡ refuses_anew (segments path.now.bytes) (with_tokens (option_map string_bytes principal.now) (map string_bytes tokens.now)) any lock.now }
+    ensures { result ≡ refuses_anew (segments path.now.bytes)
+        (with_tokens (option_map string_bytes principal.now) (map string_bytes tokens.now)) any
+        lock.now }
 {
     leads_to(lock, path) && !is_held(lock, tokens, principal) && (!lock.shared || !any)
 }
 
-// Whether a lock that covers the folder above the path covers the path, too, and doesn't stand there.
+// Whether a lock that covers the folder above the path covers the path, too, and doesn't stand
+// there.
 fn leads_to(lock: &DavLock, path: &DavPath) -> bool
     ensures { result ≡ leads_to (segments path.now.bytes) lock.now }
 {
@@ -153,7 +156,8 @@ fn leads_to(lock: &DavLock, path: &DavPath) -> bool
 
 // Whether the caller with these tokens and this principal holds a lock.
 fn is_held(lock: &DavLock, tokens: &[String], principal: &Option<String>) -> bool
-    ensures { result ≡ held lock.now (with_tokens (option_map string_bytes principal.now) (map string_bytes tokens.now)) }
+    ensures { result ≡ held lock.now (with_tokens (option_map string_bytes principal.now)
+        (map string_bytes tokens.now)) }
 {
     is_among(tokens, &lock.token) && is_principal(lock, principal)
 }

@@ -1,16 +1,19 @@
 //! How a lock is granted, and how one that was granted is taken back.
-ghost use Rattle.std.specs.Prelude.{◌≡◌, ◌⊎◌, ◌∷◌, [], false, Err, Ok, option_map, string_bytes, IfErr, IfOk, OnErr, OnOk};
+ghost use Rattle.std.specs.Prelude.{◌≡◌, ◌⊎◌, [], false, Err, Ok, option_map, string_bytes, IfErr};
+ghost use Rattle.std.specs.Prelude.{IfOk, OnErr, OnOk};
 ghost use Rattle.dav_path_core.specs.Segments.{segments};
 ghost use Rattle.dav_locks_core.specs.Lock.{Lock};
-ghost use Rattle.dav_locks_core.specs.Locks.{lock_conflicts, lock_path};
+ghost use Rattle.dav_locks_core.specs.Locks.{lock_path};
 ghost use Rattle.dav_resource_core.specs.Requests as reply_of;
-ghost use Rattle.dav_resource_core.specs.Requests.{Command as command, Refusal as refusal};
-ghost use Rattle.dav_resource_core.specs.Step.{Serves, State};
-ghost use Rattle.dav_session_core.specs.Callers.{Asks, RunBy, Runs, SameLive, asking, live};
-ghost use Rattle.dav_session_core.specs.Granting.{IsConflictOf, also_naming, granted_lock, stands_above, with_lock, with_token_drawn};
-ghost use Rattle.dav_session_core.specs.Private.Refusing.{put_fault};
-ghost use Rattle.dav_session_core.specs.Sessions as spec;
+ghost use Rattle.dav_resource_core.specs.Requests.{Refusal as refusal};
+ghost use Rattle.dav_resource_core.specs.Step.{State};
+ghost use Rattle.dav_session_core.specs.Callers.{Runs};
+ghost use Rattle.dav_session_core.specs.Granting.{IsConflictOf, granted_lock, stands_above};
+ghost use Rattle.dav_session_core.specs.Granting.{with_lock, with_token_drawn, PutsUnder};
+ghost use Rattle.dav_session_core.specs.StoreRefusals.{put_fault};
+ghost use Rattle.dav_session_core.specs.Sessions.{Acts, caller, live_of, Requests, state, Stays};
 ghost use Rattle.dav_faults_core.specs.declared.faults.Fault.TheVariants as fault;
+ghost use Rattle.dav_session_core.specs.Questions.{against_lock};
 
 use super::Session;
 use super::questions::refused;
@@ -33,15 +36,16 @@ impl<R: Rng> Session<R> {
         shared: bool,
         deep: bool,
     ) -> Result<DavLock, Fault>
-        ensures ok { IfOk result (λ lock. lock ≡ granted_lock (live (spec.caller self.old).now (spec.state R.stream self.old)) (spec.caller self.old) path
+        ensures ok { IfOk result (λ lock. lock
+            ≡ granted_lock (live_of R.stream self.old) (caller self.old) path
             (option_map string_bytes owner) timeout shared deep) }
-        ensures left { IfOk result (λ lock. spec.state R.stream self.new ≡ with_lock (live (spec.caller self.old).now (spec.state R.stream self.old)) lock) }
-        ensures free { OnOk result (lock_conflicts (live (spec.caller self.old).now (spec.state R.stream self.old)).locks (segments path.bytes) shared deep ≡ []) }
-        ensures err { IfErr result (λ e. IsConflictOf (lock_conflicts (live (spec.caller self.old).now (spec.state R.stream self.old)).locks
-            (segments path.bytes) shared deep) e) }
-        ensures refused { OnErr result (SameLive (spec.caller self.old).now (spec.state R.stream self.old) (spec.state R.stream self.new)) }
-        ensures run { RunBy (spec.caller self.old) (spec.state R.stream self.old) (spec.state R.stream self.new) }
-        ensures caller { spec.caller self.new ≡ spec.caller self.old }
+        ensures left { IfOk result (λ lock. state R.stream self.new
+            ≡ with_lock (live_of R.stream self.old) lock) }
+        ensures free { OnOk result (against_lock R.stream self.old path shared deep ≡ []) }
+        ensures err { IfErr result (λ e. IsConflictOf
+            (against_lock R.stream self.old path shared deep) e) }
+        ensures refused { OnErr result (Stays R.stream self.old self.new) }
+        ensures acts { Acts R.stream self.old self.new }
     {
         match self.ask(Command::Lock {
             path,
@@ -56,28 +60,32 @@ impl<R: Rng> Session<R> {
         }
     }
 
-    /// Takes a lock back that was granted right before: it is as if it had never been granted, but that the generator has given a token. The token may be
-    /// that of no other lock at the path or above (RFC 4918 section 9.11).
+    /// Takes a lock back that was granted right before: it is as if it had never been granted, but
+    /// that the generator has given a token. The token may be that of no other lock at the path or
+    /// above (RFC 4918 section 9.11).
     pub fn take_back(&mut self, path: DavPath, token: String)
-        ensures taken { (s : State) (l : Lock) → live (spec.caller self.old).now (spec.state R.stream self.old) ≡ with_lock s l
-            → lock_path l ≡ segments path.bytes → l.token ≡ string_bytes token → stands_above s (segments path.bytes) (string_bytes token) ≡ false
-            → spec.state R.stream self.new ≡ with_token_drawn s }
-        ensures run { Asks (spec.caller self.old) (spec.state R.stream self.old) (spec.state R.stream self.new) }
-        ensures caller { spec.caller self.new ≡ spec.caller self.old }
+        ensures taken { (s : State) (l : Lock) → live_of R.stream self.old ≡ with_lock s l
+            → lock_path l ≡ segments path.bytes → l.token ≡ string_bytes token
+            → stands_above s (segments path.bytes) (string_bytes token) ≡ false
+            → state R.stream self.new ≡ with_token_drawn s }
+        ensures requests { Requests R.stream self.old self.new }
     {
         drop(self.ask(Command::Unlock { path, token }));
     }
 
-    /// Makes an empty file under a lock that the caller was granted, whose token it names here beside its own (RFC 4918 section 7.3). It answers as a PUT where nothing stands.
+    /// Makes an empty file under a lock that the caller was granted, whose token it names here
+    /// beside its own (RFC 4918 section 7.3). It answers as a PUT where nothing stands.
     pub fn make_under(&mut self, path: DavPath, token: String) -> Result<(), Fault>
-        ensures ok { OnOk result ((reply : reply_of.Reply) × Serves (live (spec.caller self.old).now (spec.state R.stream self.old))
-            (asking (also_naming (spec.caller self.old) (string_bytes token)) (command.Put (segments path.bytes) [])) (Ok reply) (spec.state R.stream self.new)) }
-        ensures err { IfErr result (λ e. (e ≡ fault.InsufficientStorage) ⊎ ((r : refusal) × (e ≡ put_fault false r)
-            × Serves (live (spec.caller self.old).now (spec.state R.stream self.old))
-            (asking (also_naming (spec.caller self.old) (string_bytes token)) (command.Put (segments path.bytes) [])) (Err r) (spec.state R.stream self.new))) }
-        ensures refused { OnErr result (SameLive (spec.caller self.old).now (spec.state R.stream self.old) (spec.state R.stream self.new)) }
-        ensures run { Runs (spec.state R.stream self.old) (spec.state R.stream self.new) }
-        ensures caller { spec.caller self.new ≡ spec.caller self.old }
+        ensures ok { OnOk result ((reply : reply_of.Reply)
+            × PutsUnder (live_of R.stream self.old) (caller self.old) (segments path.bytes)
+            (string_bytes token) (Ok reply) (state R.stream self.new)) }
+        ensures err { IfErr result (λ e. (e ≡ fault.InsufficientStorage)
+            ⊎ ((r : refusal) × (e ≡ put_fault false r)
+            × PutsUnder (live_of R.stream self.old) (caller self.old) (segments path.bytes)
+            (string_bytes token) (Err r) (state R.stream self.new))) }
+        ensures refused { OnErr result (Stays R.stream self.old self.new) }
+        ensures run { Runs (state R.stream self.old) (state R.stream self.new) }
+        ensures caller { caller self.new ≡ caller self.old }
     {
         self.request.tokens.push(token)?;
         let bytes = Bytes::new();

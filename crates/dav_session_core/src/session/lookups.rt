@@ -1,17 +1,16 @@
 //! What conditions ask a session for.
-ghost use Rattle.std.specs.Prelude.{◌≡◌, ◌≢◌, ◌⊎◌, [], bytes_eq, IfOk, IfErr, OnOk};
+ghost use Rattle.std.specs.Prelude.{◌≡◌, ◌≢◌, [], false, bytes_eq, IfOk, IfErr, OnOk};
 ghost use Rattle.std.specs.List.{list_any};
 ghost use Rattle.dav_path_core.specs.Segments.{segments};
 ghost use Rattle.dav_files_core.specs.Meta.{meta_of};
-ghost use Rattle.dav_files_core.specs.Resources.{IsResourceMap, at_path};
-ghost use Rattle.dav_locks_core.specs.Locks.{check_conflicts, discovered};
-ghost use Rattle.dav_session_core.specs.Callers.{RunBy, SameLive, as_caller, live, refusing_at};
+ghost use Rattle.dav_files_core.specs.Resources.{IsResourceMap};
 ghost use Rattle.dav_session_core.specs.Conditions.{has_token};
 ghost use Rattle.dav_fields_core.specs.FileTags.{standing_as, standing_of};
 ghost use Rattle.dav_session_core.specs.LocksInTheWay.{IsRefusedBy};
-ghost use Rattle.dav_fields_core.specs.Private.Marking.{HasShownTag};
-ghost use Rattle.dav_session_core.specs.Sessions as spec;
+ghost use Rattle.dav_fields_core.specs.Marking.{HasShownTag};
+ghost use Rattle.dav_session_core.specs.Sessions.{live_of, Looks, state};
 ghost use Rattle.dav_faults_core.specs.declared.faults.Fault.TheVariants as fault;
+ghost use Rattle.dav_session_core.specs.Questions.{against_change, covering, found_at};
 
 use super::Session;
 use super::questions::copy_of;
@@ -27,13 +26,13 @@ use std::alloc::Global;
 use std::convert::AsStr;
 
 impl<R: Rng> Session<R> {
-    /// What stands at a path, as conditions see it. `InsufficientStorage` where there is no memory for a file's tag.
+    /// What stands at a path, as conditions see it. `InsufficientStorage` where there is no memory
+    /// for a file's tag.
     pub fn standing(&mut self, alloc: Global, path: DavPath) -> Result<Standing, Fault>
-        ensures ok { IfOk result (λ standing. standing ≡ standing_of (at_path (spec.state R.stream self.old).map (segments path.bytes))) }
+        ensures ok { IfOk result (λ standing. standing
+            ≡ standing_of (found_at R.stream self.old path)) }
         ensures err { IfErr result (λ e. e ≡ fault.InsufficientStorage) }
-        ensures run { RunBy (spec.caller self.old) (spec.state R.stream self.old) (spec.state R.stream self.new) }
-        ensures live { SameLive (spec.caller self.old).now (spec.state R.stream self.old) (spec.state R.stream self.new) }
-        ensures caller { spec.caller self.new ≡ spec.caller self.old }
+        ensures looks { Looks R.stream self.old self.new }
     {
         match self.meta(path) {
             Some(meta) => standing_as(alloc, &meta),
@@ -41,30 +40,26 @@ impl<R: Rng> Session<R> {
         }
     }
 
-    /// Whether the locks let the caller change what stands at a path (RFC 4918 section 7). `Locked` where one stands in the way, with its path.
+    /// Whether the locks let the caller change what stands at a path (RFC 4918 section 7). `Locked`
+    /// where one stands in the way, with its path.
     pub fn check(&mut self, path: DavPath) -> Result<(), Fault>
-        ensures ok { OnOk result (refusing_at (live (spec.caller self.old).now (spec.state R.stream self.old)) (spec.caller self.old) (segments path.bytes) ≡ []) }
-        ensures err { IfErr result (λ e. IsRefusedBy (refusing_at (live (spec.caller self.old).now (spec.state R.stream self.old)) (spec.caller self.old)
-            (segments path.bytes)) e) }
-        ensures run { RunBy (spec.caller self.old) (spec.state R.stream self.old) (spec.state R.stream self.new) }
-        ensures live { SameLive (spec.caller self.old).now (spec.state R.stream self.old) (spec.state R.stream self.new) }
-        ensures caller { spec.caller self.new ≡ spec.caller self.old }
-        ensures shape { OnOk result (IsResourceMap (spec.state R.stream self.new).map) }
+        ensures ok { OnOk result (against_change R.stream self.old path false ≡ []) }
+        ensures err { IfErr result (λ e. IsRefusedBy (against_change R.stream self.old path false)
+            e) }
+        ensures looks { Looks R.stream self.old self.new }
+        ensures shape { OnOk result (IsResourceMap (state R.stream self.new).map) }
     {
         self.check_reached(path, false)
     }
 
-    /// Whether the locks let the caller change what stands at a path, and where it is deep all below it (RFC 4918 section 7). `Locked` where one stands in
-    /// the way, with its path.
+    /// Whether the locks let the caller change what stands at a path, and where it is deep all
+    /// below it (RFC 4918 section 7). `Locked` where one stands in the way, with its path.
     pub fn check_reached(&mut self, path: DavPath, deep: bool) -> Result<(), Fault>
-        ensures ok { OnOk result (check_conflicts (live (spec.caller self.old).now (spec.state R.stream self.old)).locks (segments path.bytes) deep
-            (as_caller (spec.caller self.old)) ≡ []) }
-        ensures err { IfErr result (λ e. IsRefusedBy (check_conflicts (live (spec.caller self.old).now (spec.state R.stream self.old)).locks (segments path.bytes) deep
-            (as_caller (spec.caller self.old))) e) }
-        ensures run { RunBy (spec.caller self.old) (spec.state R.stream self.old) (spec.state R.stream self.new) }
-        ensures live { SameLive (spec.caller self.old).now (spec.state R.stream self.old) (spec.state R.stream self.new) }
-        ensures caller { spec.caller self.new ≡ spec.caller self.old }
-        ensures shape { OnOk result (IsResourceMap (spec.state R.stream self.new).map) }
+        ensures ok { OnOk result (against_change R.stream self.old path deep ≡ []) }
+        ensures err { IfErr result (λ e. IsRefusedBy
+            (against_change R.stream self.old path deep) e) }
+        ensures looks { Looks R.stream self.old self.new }
+        ensures shape { OnOk result (IsResourceMap (state R.stream self.new).map) }
     {
         match self.ask(Command::Check { path, deep }) {
             Ok(_) => Ok(()),
@@ -73,15 +68,13 @@ impl<R: Rng> Session<R> {
         }
     }
 
-    /// The locks that cover a path, from the root down, but those that have expired (RFC 4918 section 6). `InsufficientStorage` where there is no memory to
-    /// show one.
+    /// The locks that cover a path, from the root down, but those that have expired (RFC 4918
+    /// section 6). `InsufficientStorage` where there is no memory to show one.
     pub fn locks_at(&mut self, path: DavPath) -> Result<Vec<DavLock>, Fault>
-        ensures ok { IfOk result (λ locks. locks.items ≡ discovered (live (spec.caller self.old).now (spec.state R.stream self.old)).locks (segments path.bytes)) }
+        ensures ok { IfOk result (λ locks. locks.items ≡ covering R.stream self.old path) }
         ensures err { IfErr result (λ e. (e ≡ fault.InsufficientStorage)
-            × (discovered (live (spec.caller self.old).now (spec.state R.stream self.old)).locks (segments path.bytes) ≢ [])) }
-        ensures run { RunBy (spec.caller self.old) (spec.state R.stream self.old) (spec.state R.stream self.new) }
-        ensures live { SameLive (spec.caller self.old).now (spec.state R.stream self.old) (spec.state R.stream self.new) }
-        ensures caller { spec.caller self.new ≡ spec.caller self.old }
+            × (covering R.stream self.old path ≢ [])) }
+        ensures looks { Looks R.stream self.old self.new }
     {
         match self.ask(Command::Discover { path }) {
             Ok(Reply::Locks(locks)) => Ok(locks),
@@ -90,7 +83,8 @@ impl<R: Rng> Session<R> {
     }
 }
 
-/// What is known of a folder or a file, as conditions see it. `InsufficientStorage` where there is no memory for a file's tag.
+/// What is known of a folder or a file, as conditions see it. `InsufficientStorage` where there is
+/// no memory for a file's tag.
 pub fn standing_as(alloc: Global, meta: &MemFsMeta) -> Result<Standing, Fault>
     ensures ok { IfOk result (λ standing. standing ≡ standing_as (meta_of meta.now)) }
     ensures shown { IfOk result (λ standing. HasShownTag standing) }
@@ -117,11 +111,10 @@ pub fn has_token<R: Rng>(
     path: &DavPath,
     token: &str,
 ) -> Result<bool, Fault>
-    ensures ok { IfOk result (λ has. has ≡ has_token (live (spec.caller session.old).now (spec.state R.stream session.old)) (segments path.now.bytes) token.now) }
+    ensures ok { IfOk result (λ has. has ≡ has_token (live_of R.stream session.old)
+        (segments path.now.bytes) token.now) }
     ensures err { IfErr result (λ e. e ≡ fault.InsufficientStorage) }
-    ensures run { RunBy (spec.caller session.old) (spec.state R.stream session.old) (spec.state R.stream session.new) }
-    ensures live { SameLive (spec.caller session.old).now (spec.state R.stream session.old) (spec.state R.stream session.new) }
-    ensures caller { spec.caller session.new ≡ spec.caller session.old }
+    ensures looks { Looks R.stream session.old session.new }
 {
     let locks = session.locks_at(copy_of(path)?)?;
     Ok(any_has(&locks, token))

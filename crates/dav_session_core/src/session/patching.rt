@@ -2,10 +2,9 @@
 ghost use Rattle.std.specs.Prelude.{◌≡◌, map, IfErr, OnErr, OnOk};
 ghost use Rattle.dav_path_core.specs.Segments.{segments};
 ghost use Rattle.dav_files_core.specs.Properties.{entry_of};
-ghost use Rattle.dav_session_core.specs.Callers.{RunBy, SameLive, live};
 ghost use Rattle.dav_session_core.specs.Patching.{IsPatched, KeepsProperties};
-ghost use Rattle.dav_session_core.specs.Private.Patching.{patch_fault};
-ghost use Rattle.dav_session_core.specs.Sessions as spec;
+ghost use Rattle.dav_session_core.specs.PatchRefusals.{patch_fault};
+ghost use Rattle.dav_session_core.specs.Sessions.{Acts, caller, live_of, state, Stays};
 ghost use Rattle.dav_resource_core.specs.Served.{refusal_of};
 
 use super::Session;
@@ -17,16 +16,18 @@ use dav_resource_core::guarded::{Command, Refusal};
 use rand_core::Rng;
 
 impl<R: Rng> Session<R> {
-    /// Sets and removes properties of what stands at a path, one after another, all or none (RFC 4918 section 9.2).
+    /// Sets and removes properties of what stands at a path, one after another, all or none (RFC
+    /// 4918 section 9.2).
     ///
-    /// `Locked` where a lock stands in the way, with its path; `NotFound` where nothing stands there.
+    /// `Locked` where a lock stands in the way, with its path; `NotFound` where nothing stands
+    /// there.
     pub fn patch(&mut self, path: DavPath, patch: Vec<(bool, DavProp)>) -> Result<(), Fault>
-        ensures ok { OnOk result (IsPatched (segments path.bytes) (map entry_of patch.items) (live (spec.caller self.old).now (spec.state R.stream self.old))
-            (spec.state R.stream self.new)) }
-        ensures err { IfErr result (λ e. KeepsProperties (live (spec.caller self.old).now (spec.state R.stream self.old)) (spec.caller self.old) (segments path.bytes) e) }
-        ensures refused { OnErr result (SameLive (spec.caller self.old).now (spec.state R.stream self.old) (spec.state R.stream self.new)) }
-        ensures run { RunBy (spec.caller self.old) (spec.state R.stream self.old) (spec.state R.stream self.new) }
-        ensures caller { spec.caller self.new ≡ spec.caller self.old }
+        ensures ok { OnOk result (IsPatched (segments path.bytes) (map entry_of patch.items)
+            (live_of R.stream self.old) (state R.stream self.new)) }
+        ensures err { IfErr result (λ e. KeepsProperties (live_of R.stream self.old)
+            (caller self.old) (segments path.bytes) e) }
+        ensures refused { OnErr result (Stays R.stream self.old self.new) }
+        ensures acts { Acts R.stream self.old self.new }
     {
         match self.ask(Command::PatchProps { path, patch }) {
             Ok(_) => Ok(()),

@@ -1,16 +1,15 @@
 //! What methods ask a session for.
-ghost use Rattle.std.specs.Prelude.{◌≡◌, ◌⊎◌, None, Some, Ok, true, IfOk, IfErr, is_some, map, option_map, take, drop};
+ghost use Rattle.std.specs.Prelude.{◌≡◌, Ok, true, IfOk, IfErr, is_some, map, option_map};
 ghost use Rattle.dav_path_core.specs.Segments.{segments};
 ghost use Rattle.dav_files_core.specs.declared.memfs.Kind.TheVariants.{File, Folder};
 ghost use Rattle.dav_files_core.specs.Listing.{entry_of, read_dir};
 ghost use Rattle.dav_files_core.specs.Meta.{meta_at, meta_of};
 ghost use Rattle.dav_files_core.specs.Properties.{get_props, property_of};
-ghost use Rattle.dav_files_core.specs.Resources.{IsResourceMap, Resource, at_path};
-ghost use Rattle.dav_session_core.specs.Callers.{RunBy, SameLive};
-ghost use Rattle.dav_session_core.specs.Private.Refusing.{list_fault, put_fault};
-ghost use Rattle.dav_session_core.specs.Sessions as spec;
+ghost use Rattle.dav_files_core.specs.Resources.{IsResourceMap};
+ghost use Rattle.dav_session_core.specs.StoreRefusals.{list_fault, put_fault};
+ghost use Rattle.dav_session_core.specs.Sessions.{Looks, state};
 ghost use Rattle.dav_resource_core.specs.Served.{refusal_of};
-ghost use Rattle.dav_faults_core.specs.declared.faults.Fault.TheVariants as fault;
+ghost use Rattle.dav_session_core.specs.Questions.{IsPartOf, LacksAny, LacksKind, found_at};
 
 use super::Session;
 use bytes::Bytes;
@@ -27,11 +26,9 @@ impl<R: Rng> Session<R> {
     /// What is known of what stands at a path; none where nothing does.
     pub fn meta(&mut self, path: DavPath) -> Option<MemFsMeta>
         ensures found { option_map meta_of result
-            ≡ option_map (λ r. meta_at r.node) (at_path (spec.state R.stream self.old).map (segments path.bytes)) }
-        ensures run { RunBy (spec.caller self.old) (spec.state R.stream self.old) (spec.state R.stream self.new) }
-        ensures live { SameLive (spec.caller self.old).now (spec.state R.stream self.old) (spec.state R.stream self.new) }
-        ensures caller { spec.caller self.new ≡ spec.caller self.old }
-        ensures shape { IsResourceMap (spec.state R.stream self.new).map }
+            ≡ option_map (λ r. meta_at r.node) (found_at R.stream self.old path) }
+        ensures looks { Looks R.stream self.old self.new }
+        ensures shape { IsResourceMap (state R.stream self.new).map }
     {
         match self.ask(Command::Meta { path }) {
             Ok(Reply::Meta(meta)) => Some(meta),
@@ -42,13 +39,10 @@ impl<R: Rng> Session<R> {
 
     /// The bytes of a file from a place on, so many at most. `NotFound` where no file stands there.
     pub fn read(&mut self, path: DavPath, at: usize, count: usize) -> Result<Bytes, Fault>
-        ensures ok { IfOk result (λ bytes. (r : Resource) × (at_path (spec.state R.stream self.old).map (segments path.bytes) ≡ Some r)
-            × (r.node.kind ≡ File) × (bytes ≡ take count (drop at r.node.bytes))) }
-        ensures err { IfErr result (λ e. (e ≡ fault.InsufficientStorage) ⊎ ((e ≡ fault.NotFound)
-            × ((r : Resource) → at_path (spec.state R.stream self.old).map (segments path.bytes) ≡ Some r → ¬ (r.node.kind ≡ File)))) }
-        ensures run { RunBy (spec.caller self.old) (spec.state R.stream self.old) (spec.state R.stream self.new) }
-        ensures live { SameLive (spec.caller self.old).now (spec.state R.stream self.old) (spec.state R.stream self.new) }
-        ensures caller { spec.caller self.new ≡ spec.caller self.old }
+        ensures ok { IfOk result (λ bytes. IsPartOf (found_at R.stream self.old path) at count
+            bytes) }
+        ensures err { IfErr result (λ e. LacksKind File (found_at R.stream self.old path) e) }
+        ensures looks { Looks R.stream self.old self.new }
     {
         match self.ask(Command::Read { path, at, count }) {
             Ok(Reply::Bytes(bytes)) => Ok(bytes),
@@ -57,14 +51,13 @@ impl<R: Rng> Session<R> {
         }
     }
 
-    /// The members of a folder, sorted by the bytes of their names. `NotFound` where no folder stands there.
+    /// The members of a folder, sorted by the bytes of their names. `NotFound` where no folder
+    /// stands there.
     pub fn list(&mut self, path: DavPath) -> Result<Vec<MemFsEntry>, Fault>
-        ensures ok { IfOk result (λ entries. read_dir (spec.state R.stream self.old).map (segments path.bytes) ≡ Ok (map entry_of entries.items)) }
-        ensures err { IfErr result (λ e. (e ≡ fault.InsufficientStorage) ⊎ ((e ≡ fault.NotFound)
-            × ((r : Resource) → at_path (spec.state R.stream self.old).map (segments path.bytes) ≡ Some r → ¬ (r.node.kind ≡ Folder)))) }
-        ensures run { RunBy (spec.caller self.old) (spec.state R.stream self.old) (spec.state R.stream self.new) }
-        ensures live { SameLive (spec.caller self.old).now (spec.state R.stream self.old) (spec.state R.stream self.new) }
-        ensures caller { spec.caller self.new ≡ spec.caller self.old }
+        ensures ok { IfOk result (λ entries. read_dir (state R.stream self.old).map
+            (segments path.bytes) ≡ Ok (map entry_of entries.items)) }
+        ensures err { IfErr result (λ e. LacksKind Folder (found_at R.stream self.old path) e) }
+        ensures looks { Looks R.stream self.old self.new }
     {
         match self.ask(Command::List { path }) {
             Ok(Reply::Entries(entries)) => Ok(entries),
@@ -73,14 +66,13 @@ impl<R: Rng> Session<R> {
         }
     }
 
-    /// The properties that clients set of what stands at a path, by their namespaces and names (RFC 4918 section 4). `NotFound` where nothing stands there.
+    /// The properties that clients set of what stands at a path, by their namespaces and names (RFC
+    /// 4918 section 4). `NotFound` where nothing stands there.
     pub fn props(&mut self, path: DavPath) -> Result<Vec<DavProp>, Fault>
-        ensures ok { IfOk result (λ props. get_props (spec.state R.stream self.old).map (segments path.bytes) true ≡ Ok (map property_of props.items)) }
-        ensures err { IfErr result (λ e. (e ≡ fault.InsufficientStorage)
-            ⊎ ((e ≡ fault.NotFound) × (at_path (spec.state R.stream self.old).map (segments path.bytes) ≡ None))) }
-        ensures run { RunBy (spec.caller self.old) (spec.state R.stream self.old) (spec.state R.stream self.new) }
-        ensures live { SameLive (spec.caller self.old).now (spec.state R.stream self.old) (spec.state R.stream self.new) }
-        ensures caller { spec.caller self.new ≡ spec.caller self.old }
+        ensures ok { IfOk result (λ props. get_props (state R.stream self.old).map
+            (segments path.bytes) true ≡ Ok (map property_of props.items)) }
+        ensures err { IfErr result (λ e. LacksAny (found_at R.stream self.old path) e) }
+        ensures looks { Looks R.stream self.old self.new }
     {
         match self.ask(Command::GetProps {
             path,

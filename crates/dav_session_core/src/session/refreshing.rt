@@ -1,10 +1,9 @@
 //! How a caller gives a lock of its own another end.
 ghost use Rattle.std.specs.Prelude.{◌≡◌, ◌⊎◌, true, string_bytes, IfErr, OnErr, OnOk};
 ghost use Rattle.dav_path_core.specs.Segments.{segments};
-ghost use Rattle.dav_session_core.specs.Callers.{Asks, RunBy, SameLive, live};
 ghost use Rattle.dav_session_core.specs.Conditions.{has_token};
 ghost use Rattle.dav_session_core.specs.Refreshing.{RefreshesOwn};
-ghost use Rattle.dav_session_core.specs.Sessions as spec;
+ghost use Rattle.dav_session_core.specs.Sessions.{caller, live_of, Looks, Requests, state};
 ghost use Rattle.dav_session_core.specs.Unlocking.{IsAnothers};
 ghost use Rattle.dav_faults_core.specs.declared.faults.Fault.TheVariants as fault;
 
@@ -15,24 +14,26 @@ use dav_resource_core::guarded::Command;
 use rand_core::Rng;
 
 impl<R: Rng> Session<R> {
-    /// Gives the caller's own lock with a token, which covers the path, another end (RFC 4918 section 9.10.2). The timeout is in seconds; none for no end.
+    /// Gives the caller's own lock with a token, which covers the path, another end (RFC 4918
+    /// section 9.10.2). The timeout is in seconds; none for no end.
     ///
     /// `Forbidden` where a lock with the token at the path or above has another principal.
+    #[tactic(auto, using(crate::proofs::Looking::requests_follow))]
     pub fn refresh(
         &mut self,
         path: DavPath,
         token: String,
         timeout: Option<u64>,
     ) -> Result<(), Fault>
-        requires { has_token (live (spec.caller self.old).now (spec.state R.stream self.old)) (segments path.bytes) (string_bytes token) ≡ true }
-        ensures ok { OnOk result (RefreshesOwn (live (spec.caller self.old).now (spec.state R.stream self.old)) (spec.caller self.old) (segments path.bytes)
-            (string_bytes token) timeout (spec.state R.stream self.new)) }
-        ensures err { IfErr result (λ e. (e ≡ fault.InsufficientStorage) ⊎ ((e ≡ fault.Forbidden)
-            × IsAnothers (live (spec.caller self.old).now (spec.state R.stream self.old)) (spec.caller self.old) (segments path.bytes) (string_bytes token))) }
-        ensures refused { OnErr result (SameLive (spec.caller self.old).now (spec.state R.stream self.old) (spec.state R.stream self.new)) }
-        ensures run { Asks (spec.caller self.old) (spec.state R.stream self.old) (spec.state R.stream self.new) }
-        ensures looked { OnErr result (RunBy (spec.caller self.old) (spec.state R.stream self.old) (spec.state R.stream self.new)) }
-        ensures caller { spec.caller self.new ≡ spec.caller self.old }
+        requires { has_token (live_of R.stream self.old) (segments path.bytes) (string_bytes token)
+            ≡ true }
+        ensures ok { OnOk result (RefreshesOwn (live_of R.stream self.old) (caller self.old)
+            (segments path.bytes) (string_bytes token) timeout (state R.stream self.new)) }
+        ensures err { IfErr result (λ e. (e ≡ fault.InsufficientStorage)
+            ⊎ ((e ≡ fault.Forbidden) × IsAnothers (live_of R.stream self.old) (caller self.old)
+            (segments path.bytes) (string_bytes token))) }
+        ensures refused { OnErr result (Looks R.stream self.old self.new) }
+        ensures requests { Requests R.stream self.old self.new }
     {
         self.check_own(&path, &token)?;
         match self.ask(Command::Refresh {

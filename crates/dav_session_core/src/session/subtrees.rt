@@ -1,16 +1,18 @@
 //! All that stands at or below a path.
-ghost use Rattle.std.specs.Prelude.{◌≡◌, ◌≢◌, ◌⊎◌, ◌↔◌, List, None, [], ◌∷◌, ◌++◌, map, false, Contains, IfOk, IfErr, IsSome, OnOk};
+ghost use Rattle.std.specs.Prelude.{◌≡◌, ◌≢◌, ◌⊎◌, ◌↔◌, List, None, [], ◌∷◌, ◌++◌, map, false};
+ghost use Rattle.std.specs.Prelude.{Contains, IfOk, IfErr, IsSome, OnOk};
 ghost use Rattle.dav_path_core.specs.Fronts.{Path};
 ghost use Rattle.dav_path_core.specs.Reading.{CanBeSegment};
 ghost use Rattle.dav_path_core.specs.Segments.{segments};
 ghost use Rattle.dav_files_core.specs.declared.memfs.listing.MemFsEntry.{MemFsEntry};
 ghost use Rattle.dav_files_core.specs.Finding.{has_members};
 ghost use Rattle.dav_files_core.specs.Resources.{ResourceMap, at_path};
-ghost use Rattle.dav_session_core.specs.Callers.{RunBy, SameLive};
-ghost use Rattle.dav_session_core.specs.Private.Gathering.{HasOddMember, MembersAre, paths_in};
-ghost use Rattle.dav_session_core.specs.Sessions as spec;
-ghost use Rattle.dav_session_core.specs.Subtrees.{HasOddName, IsWalk};
+ghost use Rattle.dav_session_core.specs.Private.Gathering.{MembersAre, paths_in, FailsToName};
+ghost use Rattle.dav_session_core.specs.Sessions.{Looks, state};
+ghost use Rattle.dav_session_core.specs.Subtrees.{IsWalk};
 ghost use Rattle.dav_faults_core.specs.declared.faults.Fault.TheVariants as fault;
+ghost use Rattle.dav_session_core.specs.Questions.{FailsToWalk, found_at};
+ghost use Rattle.dav_session_core.specs.Unhindered.{paths_of};
 
 use super::Session;
 use super::questions::copy_of;
@@ -22,21 +24,19 @@ use rand_core::Rng;
 use std::alloc::Global;
 
 impl<R: Rng> Session<R> {
-    /// The paths of all that stands at a path and below it, each folder before its members: so taken from the end, each stands alone when its turn
-    /// comes (RFC 4918 sections 9.6.1 and 9.8.3).
+    /// The paths of all that stands at a path and below it, each folder before its members: so
+    /// taken from the end, each stands alone when its turn comes (RFC 4918 sections 9.6.1 and
+    /// 9.8.3).
     ///
-    /// `NotFound` where nothing stands there; `BadRequest` where a name below it is one that no path has which is read, as only calls past path reading
-    /// can make one.
+    /// `NotFound` where nothing stands there; `BadRequest` where a name below it is one that no
+    /// path has which is read, as only calls past path reading can make one.
     pub fn walk(&mut self, alloc: Global, path: DavPath) -> Result<Vec<DavPath>, Fault>
-        ensures ok { IfOk result (λ places.
-            IsWalk (spec.state R.stream self.old).map (segments path.bytes) (map (λ p. segments p.bytes) places.items)) }
-        ensures found { OnOk result (IsSome (at_path (spec.state R.stream self.old).map (segments path.bytes))) }
-        ensures err { IfErr result (λ e. (e ≡ fault.InsufficientStorage)
-            ⊎ ((e ≡ fault.NotFound) × (at_path (spec.state R.stream self.old).map (segments path.bytes) ≡ None))
-            ⊎ ((e ≡ fault.BadRequest) × HasOddName (spec.state R.stream self.old).map (segments path.bytes))) }
-        ensures run { RunBy (spec.caller self.old) (spec.state R.stream self.old) (spec.state R.stream self.new) }
-        ensures live { SameLive (spec.caller self.old).now (spec.state R.stream self.old) (spec.state R.stream self.new) }
-        ensures caller { spec.caller self.new ≡ spec.caller self.old }
+        ensures ok { IfOk result (λ places. IsWalk (state R.stream self.old).map
+            (segments path.bytes) (paths_of places.items)) }
+        ensures found { OnOk result (IsSome (found_at R.stream self.old path)) }
+        ensures err { IfErr result (λ e. FailsToWalk (state R.stream self.old).map
+            (segments path.bytes) e) }
+        ensures looks { Looks R.stream self.old self.new }
     {
         if self.meta(copy_of(&path)?).is_none() {
             return Err(Fault::NotFound);
@@ -54,12 +54,11 @@ impl<R: Rng> Session<R> {
 
     // The paths of a folder's members; none where no folder stands at the path.
     pub(super) fn members(&mut self, alloc: Global, place: &DavPath) -> Result<Vec<DavPath>, Fault>
-        ensures ok { IfOk result (λ paths. MembersAre (spec.state R.stream self.old).map (segments place.now.bytes) (map (λ p. segments p.bytes) paths.items)) }
-        ensures err { IfErr result (λ e. (e ≡ fault.InsufficientStorage)
-            ⊎ ((e ≡ fault.BadRequest) × HasOddMember (spec.state R.stream self.old).map (segments place.now.bytes))) }
-        ensures run { RunBy (spec.caller self.old) (spec.state R.stream self.old) (spec.state R.stream self.new) }
-        ensures live { SameLive (spec.caller self.old).now (spec.state R.stream self.old) (spec.state R.stream self.new) }
-        ensures caller { spec.caller self.new ≡ spec.caller self.old }
+        ensures ok { IfOk result (λ paths. MembersAre (state R.stream self.old).map
+            (segments place.now.bytes) (paths_of paths.items)) }
+        ensures err { IfErr result (λ e. FailsToName (state R.stream self.old).map
+            (segments place.now.bytes) e) }
+        ensures looks { Looks R.stream self.old self.new }
     {
         match self.list(copy_of(place)?) {
             Ok(entries) => member_paths(alloc, place, &entries),
@@ -69,15 +68,20 @@ impl<R: Rng> Session<R> {
     }
 }
 
-/// The law of what stands last in a walk: it has no members (RFC 4918 section 9.6.1). It does nothing.
+/// The law of what stands last in a walk: it has no members (RFC 4918 section 9.6.1). It does
+/// nothing.
 pub fn last_place_is_bare()
-    ensures { (m : ResourceMap) (p last : Path) (before : List Path) → IsWalk m p (before ++ (last ∷ [])) → has_members m last ≡ false }
+    ensures { (m : ResourceMap) (p last : Path) (before : List Path)
+        → IsWalk m p (before ++ (last ∷ [])) → has_members m last ≡ false }
 {}
 
-/// The law of a walk whose last place is gone: what stands before it in the list is a walk of what is left (RFC 4918 section 9.6.1). It does nothing.
+/// The law of a walk whose last place is gone: what stands before it in the list is a walk of what
+/// is left (RFC 4918 section 9.6.1). It does nothing.
 pub fn walk_without_its_last()
-    ensures { (m after : ResourceMap) (p last : Path) (before : List Path) → IsWalk m p (before ++ (last ∷ [])) → at_path after last ≡ None
-        → ((q : Path) → q ≢ last → IsSome (at_path after q) ↔ IsSome (at_path m q)) → IsWalk after p before }
+    ensures { (m after : ResourceMap) (p last : Path) (before : List Path)
+        → IsWalk m p (before ++ (last ∷ [])) → at_path after last ≡ None
+        → ((q : Path) → q ≢ last → IsSome (at_path after q) ↔ IsSome (at_path m q))
+        → IsWalk after p before }
 {}
 
 // The paths of listed members of a folder.
@@ -86,10 +90,11 @@ fn member_paths(
     folder: &DavPath,
     entries: &[MemFsEntry],
 ) -> Result<Vec<DavPath>, Fault>
-    ensures ok { IfOk result (λ paths. map (λ p. segments p.bytes) paths.items
+    ensures ok { IfOk result (λ paths. paths_of paths.items
         ≡ paths_in (segments folder.now.bytes) (map (λ e. e.name) entries.now)) }
-    ensures err { IfErr result (λ e. (e ≡ fault.InsufficientStorage) ⊎ ((e ≡ fault.BadRequest)
-        × ((entry : MemFsEntry) × Contains entries.now entry × ¬ CanBeSegment entry.name))) }
+    ensures err { IfErr result (λ e. (e ≡ fault.InsufficientStorage)
+        ⊎ ((e ≡ fault.BadRequest) × ((entry : MemFsEntry) × Contains entries.now entry
+        × ¬ CanBeSegment entry.name))) }
 {
     let mut paths = Vec::new(alloc);
     for entry in entries {

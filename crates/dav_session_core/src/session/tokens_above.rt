@@ -1,11 +1,10 @@
 //! The tokens of the locks at a path and above it.
 ghost use Rattle.std.specs.Prelude.{◌≡◌, ◌++◌, map, string_bytes, IfErr, IfOk, OnOk};
 ghost use Rattle.dav_path_core.specs.Segments.{segments};
-ghost use Rattle.dav_locks_core.specs.Locks.{discovered};
-ghost use Rattle.dav_session_core.specs.Callers.{RunBy, SameLive, live};
 ghost use Rattle.dav_session_core.specs.Granting.{AreAbove, HaveTokens};
-ghost use Rattle.dav_session_core.specs.Sessions as spec;
+ghost use Rattle.dav_session_core.specs.Sessions.{live_of, Looks};
 ghost use Rattle.dav_faults_core.specs.declared.faults.Fault.TheVariants as fault;
+ghost use Rattle.dav_session_core.specs.Questions.{covering};
 
 use super::Session;
 use super::questions::copy_of;
@@ -17,16 +16,15 @@ use rand_core::Rng;
 use std::alloc::{AllocError, Global};
 
 impl<R: Rng> Session<R> {
-    /// The tokens of all locks that stand at a path or above it (RFC 4918 section 6.5). `InsufficientStorage` alone.
+    /// The tokens of all locks that stand at a path or above it (RFC 4918 section 6.5).
+    /// `InsufficientStorage` alone.
     pub fn tokens_above(&mut self, alloc: Global, path: &DavPath) -> Result<Vec<String>, Fault>
-        ensures ok { IfOk result (λ tokens. HaveTokens (live (spec.caller self.old).now (spec.state R.stream self.old)) (segments path.now.bytes)
-            (map string_bytes tokens.items)) }
-        ensures only { IfOk result (λ tokens. AreAbove (live (spec.caller self.old).now (spec.state R.stream self.old)) (segments path.now.bytes)
-            (map string_bytes tokens.items)) }
+        ensures ok { IfOk result (λ tokens. HaveTokens (live_of R.stream self.old)
+            (segments path.now.bytes) (map string_bytes tokens.items)) }
+        ensures only { IfOk result (λ tokens. AreAbove (live_of R.stream self.old)
+            (segments path.now.bytes) (map string_bytes tokens.items)) }
         ensures err { IfErr result (λ e. e ≡ fault.InsufficientStorage) }
-        ensures run { RunBy (spec.caller self.old) (spec.state R.stream self.old) (spec.state R.stream self.new) }
-        ensures live { SameLive (spec.caller self.old).now (spec.state R.stream self.old) (spec.state R.stream self.new) }
-        ensures caller { spec.caller self.new ≡ spec.caller self.old }
+        ensures looks { Looks R.stream self.old self.new }
     {
         let mut tokens = Vec::new(alloc);
         let mut here = copy_of(path)?;
@@ -40,12 +38,11 @@ impl<R: Rng> Session<R> {
 
     // Adds the tokens of the locks that cover a path.
     fn add_tokens_at(&mut self, path: &DavPath, tokens: &mut Vec<String>) -> Result<(), Fault>
-        ensures ok { OnOk result (map string_bytes tokens.new.items ≡ map string_bytes tokens.old.items
-            ++ map (λ l. l.token) (discovered (live (spec.caller self.old).now (spec.state R.stream self.old)).locks (segments path.now.bytes))) }
+        ensures ok { OnOk result (map string_bytes tokens.new.items
+            ≡ map string_bytes tokens.old.items ++ map (λ l. l.token)
+            (covering R.stream self.old path.now)) }
         ensures err { IfErr result (λ e. e ≡ fault.InsufficientStorage) }
-        ensures run { RunBy (spec.caller self.old) (spec.state R.stream self.old) (spec.state R.stream self.new) }
-        ensures live { SameLive (spec.caller self.old).now (spec.state R.stream self.old) (spec.state R.stream self.new) }
-        ensures caller { spec.caller self.new ≡ spec.caller self.old }
+        ensures looks { Looks R.stream self.old self.new }
     {
         let locks = self.locks_at(copy_of(path)?)?;
         push_tokens(tokens, &locks)?;
@@ -54,7 +51,8 @@ impl<R: Rng> Session<R> {
 }
 
 fn push_tokens(tokens: &mut Vec<String>, locks: &[DavLock]) -> Result<(), AllocError>
-    ensures { OnOk result (map string_bytes tokens.new.items ≡ map string_bytes tokens.old.items ++ map (λ l. l.token) locks.now) }
+    ensures { OnOk result (map string_bytes tokens.new.items ≡ map string_bytes tokens.old.items
+        ++ map (λ l. l.token) locks.now) }
 {
     for lock in locks {
         tokens.push(lock.token.clone()?)?;

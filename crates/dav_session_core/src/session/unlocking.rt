@@ -1,11 +1,11 @@
 //! How a caller ends a lock of its own.
-ghost use Rattle.std.specs.Prelude.{◌≡◌, ◌⊎◌, ℕ, true, false, not, ◌&&◌, bytes_eq, length, option_map, string_bytes, IfErr, OnOk, OnErr};
+ghost use Rattle.std.specs.Prelude.{◌≡◌, ◌⊎◌, true, false, not, ◌&&◌, bytes_eq, length, option_map};
+ghost use Rattle.std.specs.Prelude.{string_bytes, IfErr, OnOk, OnErr};
 ghost use Rattle.std.specs.List.{list_any};
 ghost use Rattle.dav_path_core.specs.Segments.{segments};
 ghost use Rattle.dav_locks_core.specs.Locks.{covers, same_text};
-ghost use Rattle.dav_session_core.specs.Callers.{Asks, RunBy, SameLive, live};
 ghost use Rattle.dav_session_core.specs.Conditions.{has_token};
-ghost use Rattle.dav_session_core.specs.Sessions as spec;
+ghost use Rattle.dav_session_core.specs.Sessions.{caller, live_of, Looks, Requests, state};
 ghost use Rattle.dav_session_core.specs.Unlocking.{EndsOwn, IsAnothers, KeepsLock};
 ghost use Rattle.dav_session_core.specs.Private.Owning.{AllOwn, is_anothers};
 ghost use Rattle.dav_faults_core.specs.declared.faults.Fault.TheVariants as fault;
@@ -21,19 +21,21 @@ use dav_resource_core::ls::DavLock;
 use rand_core::Rng;
 
 impl<R: Rng> Session<R> {
-    /// Ends the caller's own lock with a token, which stands at the path or above (RFC 4918 section 9.11).
+    /// Ends the caller's own lock with a token, which stands at the path or above (RFC 4918 section
+    /// 9.11).
     ///
-    /// `NoSuchLock` where no lock with the token covers the path; `Forbidden` where one with it at the path or above has another principal.
+    /// `NoSuchLock` where no lock with the token covers the path; `Forbidden` where one with it at
+    /// the path or above has another principal.
+    #[tactic(auto, using(crate::proofs::Looking::requests_follow))]
     pub fn unlock(&mut self, path: DavPath, token: String) -> Result<(), Fault>
-        ensures covered { OnOk result (has_token (live (spec.caller self.old).now (spec.state R.stream self.old)) (segments path.bytes) (string_bytes token) ≡ true) }
-        ensures ok { OnOk result (EndsOwn (live (spec.caller self.old).now (spec.state R.stream self.old)) (spec.caller self.old) (segments path.bytes)
-            (string_bytes token) (spec.state R.stream self.new)) }
-        ensures err { IfErr result (λ e. KeepsLock (live (spec.caller self.old).now (spec.state R.stream self.old)) (spec.caller self.old) (segments path.bytes)
-            (string_bytes token) e) }
-        ensures refused { OnErr result (SameLive (spec.caller self.old).now (spec.state R.stream self.old) (spec.state R.stream self.new)) }
-        ensures run { Asks (spec.caller self.old) (spec.state R.stream self.old) (spec.state R.stream self.new) }
-        ensures looked { OnErr result (RunBy (spec.caller self.old) (spec.state R.stream self.old) (spec.state R.stream self.new)) }
-        ensures caller { spec.caller self.new ≡ spec.caller self.old }
+        ensures covered { OnOk result (has_token (live_of R.stream self.old) (segments path.bytes)
+            (string_bytes token) ≡ true) }
+        ensures ok { OnOk result (EndsOwn (live_of R.stream self.old) (caller self.old)
+            (segments path.bytes) (string_bytes token) (state R.stream self.new)) }
+        ensures err { IfErr result (λ e. KeepsLock (live_of R.stream self.old) (caller self.old)
+            (segments path.bytes) (string_bytes token) e) }
+        ensures refused { OnErr result (Looks R.stream self.old self.new) }
+        ensures requests { Requests R.stream self.old self.new }
     {
         if !has_token(self, &path, &token)? {
             return Err(Fault::NoSuchLock);
@@ -47,12 +49,12 @@ impl<R: Rng> Session<R> {
 
     // Whether each lock with the token at the path or above is the caller's own.
     pub(super) fn check_own(&mut self, path: &DavPath, token: &str) -> Result<(), Fault>
-        ensures ok { OnOk result (AllOwn (live (spec.caller self.old).now (spec.state R.stream self.old)) (spec.caller self.old) (segments path.now.bytes) token.now) }
-        ensures err { IfErr result (λ e. (e ≡ fault.InsufficientStorage) ⊎ ((e ≡ fault.Forbidden)
-            × IsAnothers (live (spec.caller self.old).now (spec.state R.stream self.old)) (spec.caller self.old) (segments path.now.bytes) token.now)) }
-        ensures run { RunBy (spec.caller self.old) (spec.state R.stream self.old) (spec.state R.stream self.new) }
-        ensures live { SameLive (spec.caller self.old).now (spec.state R.stream self.old) (spec.state R.stream self.new) }
-        ensures caller { spec.caller self.new ≡ spec.caller self.old }
+        ensures ok { OnOk result (AllOwn (live_of R.stream self.old) (caller self.old)
+            (segments path.now.bytes) token.now) }
+        ensures err { IfErr result (λ e. (e ≡ fault.InsufficientStorage)
+            ⊎ ((e ≡ fault.Forbidden) × IsAnothers (live_of R.stream self.old) (caller self.old)
+            (segments path.now.bytes) token.now)) }
+        ensures looks { Looks R.stream self.old self.new }
     {
         let mut here = copy_of(path)?;
         for _ in 0..depth_of(path) {
@@ -64,14 +66,13 @@ impl<R: Rng> Session<R> {
 
     // Whether each lock with the token that covers the path is the caller's own.
     fn check_own_at(&mut self, path: &DavPath, token: &str) -> Result<(), Fault>
-        ensures ok { OnOk result (list_any (λ l. is_anothers (spec.caller self.old) token.now l && covers l (segments path.now.bytes))
-            (live (spec.caller self.old).now (spec.state R.stream self.old)).locks ≡ false) }
-        ensures err { IfErr result (λ e. (e ≡ fault.InsufficientStorage) ⊎ ((e ≡ fault.Forbidden)
-            × (list_any (λ l. is_anothers (spec.caller self.old) token.now l && covers l (segments path.now.bytes))
-            (live (spec.caller self.old).now (spec.state R.stream self.old)).locks ≡ true))) }
-        ensures run { RunBy (spec.caller self.old) (spec.state R.stream self.old) (spec.state R.stream self.new) }
-        ensures live { SameLive (spec.caller self.old).now (spec.state R.stream self.old) (spec.state R.stream self.new) }
-        ensures caller { spec.caller self.new ≡ spec.caller self.old }
+        ensures ok { OnOk result (list_any (λ l. is_anothers (caller self.old) token.now l
+            && covers l (segments path.now.bytes)) (live_of R.stream self.old).locks ≡ false) }
+        ensures err { IfErr result (λ e. (e ≡ fault.InsufficientStorage)
+            ⊎ ((e ≡ fault.Forbidden) × (list_any
+            (λ l. is_anothers (caller self.old) token.now l && covers l (segments path.now.bytes))
+            (live_of R.stream self.old).locks ≡ true))) }
+        ensures looks { Looks R.stream self.old self.new }
     {
         let locks = self.locks_at(copy_of(path)?)?;
         if any_anothers(&locks, token, &self.request.principal) {
@@ -90,7 +91,8 @@ pub(super) fn depth_of(path: &DavPath) -> usize
 
 // Whether one of the locks has the token, and not the principal.
 fn any_anothers(locks: &[DavLock], token: &str, principal: &Option<String>) -> bool
-    ensures { result ≡ list_any (λ l. bytes_eq l.token token.now && not (same_text l.principal (option_map string_bytes principal.now))) locks.now }
+    ensures { result ≡ list_any (λ l. bytes_eq l.token token.now
+        && not (same_text l.principal (option_map string_bytes principal.now))) locks.now }
 {
     locks.iter().any(|lock| lock.token.as_str() == token && !is_principal(lock, principal))
 }

@@ -1,6 +1,6 @@
 use Rattle.std.proofs.Common.{◌≡◌, drop, map}
 use Rattle.dav_xml_core.specs.Views.{name_of}
-use Rattle.dav_documents_core.specs.Private.Describing.{description_of}
+use Rattle.dav_documents_core.specs.DescriptionViews.{description_of}
 use Rattle.dav_documents_core.specs.PropertyDocuments.{lacks}
 use Rattle.dav_documents_core.proofs.property_documents.lacks.Given as goal
 

@@ -4,8 +4,8 @@ use Rattle.std.proofs.lemmas.Result.{on_ok_weaker}
 use Rattle.dav_xml_core.specs.Views.{writing_of}
 use Rattle.dav_xml_core.specs.Writing.{Writing, with_end, with_nodes}
 use Rattle.dav_documents_core.specs.Pieces.{with_pieces}
-use Rattle.dav_documents_core.specs.Private.Asking.{question_of}
-use Rattle.dav_documents_core.specs.Private.Describing.{description_of}
+use Rattle.dav_documents_core.specs.QuestionViews.{question_of}
+use Rattle.dav_documents_core.specs.DescriptionViews.{description_of}
 use Rattle.dav_documents_core.specs.PropertyDocuments.{found_pieces, text_nodes}
 use Rattle.dav_documents_core.proofs.PropertyLemmas.{with_propstat}
 use Rattle.dav_documents_core.proofs.property_documents.write_found_props.Goals as goal

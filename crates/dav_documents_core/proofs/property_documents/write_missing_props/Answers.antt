@@ -4,7 +4,7 @@ use Rattle.std.proofs.lemmas.Result.{on_ok_weaker}
 use Rattle.dav_xml_core.specs.Views.{name_of, writing_of}
 use Rattle.dav_xml_core.specs.Writing.{Writing, with_end, with_nodes, with_start}
 use Rattle.dav_documents_core.specs.Pieces.{made}
-use Rattle.dav_documents_core.specs.Private.Describing.{description_of}
+use Rattle.dav_documents_core.specs.DescriptionViews.{description_of}
 use Rattle.dav_documents_core.specs.PropertyDocuments.{missing_nodes, text_nodes}
 use Rattle.dav_documents_core.specs.RefusalBodies.{dav_name}
 use Rattle.dav_documents_core.proofs.PieceLemmas.{of_nodes}

@@ -5,8 +5,8 @@ use Rattle.dav_xml_core.specs.Documents.{Name}
 use Rattle.dav_xml_core.specs.Views.{writing_of}
 use Rattle.dav_xml_core.specs.Writing.{Writing, with_end, with_nodes, with_start}
 use Rattle.dav_documents_core.specs.Pieces.{made, with_pieces}
-use Rattle.dav_documents_core.specs.Private.Asking.{question_of}
-use Rattle.dav_documents_core.specs.Private.Describing.{description_of}
+use Rattle.dav_documents_core.specs.QuestionViews.{question_of}
+use Rattle.dav_documents_core.specs.DescriptionViews.{description_of}
 use Rattle.dav_documents_core.specs.PropertyDocuments.{found_stat, missing_of, missing_stat, text_nodes}
 use Rattle.dav_documents_core.specs.RefusalBodies.{dav_name}
 use Rattle.dav_documents_core.proofs.PieceLemmas.{in_element, in_turn}

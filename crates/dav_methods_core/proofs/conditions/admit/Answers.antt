@@ -6,17 +6,7 @@ use Rattle.dav_headers_core.specs.IfValues.{ReadsAs, located}
 use Rattle.dav_session_core.specs.Callers.{live}
 use Rattle.dav_session_core.specs.Sessions as spec
 use Rattle.dav_methods_core.proofs.AdmitLemmas.{no_base}
-use Rattle.dav_session_core.proofs.CallerLaws.{by_none}
 use Rattle.dav_methods_core.proofs.conditions.admit.Goals as goal
-
-pub returns-in_err-header-clause-run : goal.returns-in_err-header-clause-run
-returns-in_err-header-clause-run g c = by_none (spec.caller c.args.session.now) (spec.state g.R.Rng.stream c.args.session.now)
-
-pub returns-in_default-clause-run : goal.returns-in_default-clause-run
-returns-in_default-clause-run g c = by_none (spec.caller c.args.session.now) (spec.state g.R.Rng.stream c.args.session.now)
-
-pub returns-in_err-base-clause-run : goal.returns-in_err-base-clause-run
-returns-in_err-base-clause-run g c = by_none (spec.caller c.args.session.now) (spec.state g.R.Rng.stream c.args.session.now)
 
 pub returns-in_err-base-clause-err : goal.returns-in_err-base-clause-err
 returns-in_err-base-clause-err g c =

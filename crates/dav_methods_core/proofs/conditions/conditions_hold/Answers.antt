@@ -5,24 +5,13 @@ use Rattle.dav_session_core.specs.Callers.{live}
 use Rattle.dav_session_core.specs.Conditions.{condition_holds, conditions_hold}
 use Rattle.dav_session_core.specs.Sessions as spec
 use Rattle.dav_fields_core.specs.TaggedLists.{spoken}
-use Rattle.dav_session_core.proofs.ConditionLemmas.{looks_none, looks_on, same_state, drop_seen, goes_on_true}
+use Rattle.dav_session_core.proofs.ConditionLemmas.{drop_seen, goes_on_true}
+use Rattle.dav_session_core.proofs.Looking.{looks_none, looks_on, same_asked}
 use Rattle.dav_methods_core.proofs.conditions.conditions_hold.Goals as goal
 
 pub loop-condition-init : goal.loop-condition-init
 loop-condition-init g c =
-    record { looks = looks_none (spec.caller c.args.session.now) (spec.state g.R.Rng.stream c.args.session.now); left = refl }
-
-pub returns-in_err-condition_holds-clause-run : goal.returns-in_err-condition_holds-clause-run
-returns-in_err-condition_holds-clause-run g c =
-    (looks_on (spec.caller c.args.session.now) (spec.state g.R.Rng.stream c.args.session.now) (spec.caller c.loop-condition.session)
-    (spec.state g.R.Rng.stream c.loop-condition.session) (spec.caller c.condition_holds.new.session) (spec.state g.R.Rng.stream c.condition_holds.new.session)
-    c.loop-condition.invariant.looks c.condition_holds.ensures.run c.condition_holds.ensures.live c.condition_holds.ensures.caller).run
-
-pub returns-then-not-branch-clause-run : goal.returns-then-not-branch-clause-run
-returns-then-not-branch-clause-run g c =
-    (looks_on (spec.caller c.args.session.now) (spec.state g.R.Rng.stream c.args.session.now) (spec.caller c.loop-condition.session)
-    (spec.state g.R.Rng.stream c.loop-condition.session) (spec.caller c.condition_holds.new.session) (spec.state g.R.Rng.stream c.condition_holds.new.session)
-    c.loop-condition.invariant.looks c.condition_holds.ensures.run c.condition_holds.ensures.live c.condition_holds.ensures.caller).run
+    record { looks = looks_none g.R.Rng.stream c.args.session.now; left = refl }
 
 pub loop-condition-preserved : goal.loop-condition-preserved
 loop-condition-preserved g c =
@@ -36,10 +25,9 @@ loop-condition-preserved g c =
     let conditions = c.args.conditions.now in
     let i = c.loop-condition.condition-index in
     let holds : condition_holds s at item ≡ true =
-    ap (λ (x : State). condition_holds x at item) (sym (same_state who start mid m c.loop-condition.invariant.looks)) ∙ sym {b = condition_holds (live mid.now m) at item} c.in_ok-condition_holds.ensures.ok ∙ c.if-not-branch.false in
+    sym (same_asked (λ w (x : State). condition_holds x at item) c.loop-condition.invariant.looks) ∙ sym {b = condition_holds (live mid.now m) at item} c.in_ok-condition_holds.ensures.ok ∙ c.if-not-branch.false in
     record {
-      looks = looks_on who start mid m (spec.caller c.condition_holds.new.session) (spec.state g.R.Rng.stream c.condition_holds.new.session)
-          c.loop-condition.invariant.looks c.condition_holds.ensures.run c.condition_holds.ensures.live c.condition_holds.ensures.caller;
+      looks = looks_on c.loop-condition.invariant.looks c.condition_holds.ensures.looks;
       left = goes_on_true (condition_holds s at item) (conditions_hold s at (conditions_of (drop i conditions)))
           (conditions_hold s at (conditions_of (drop (i + 1) conditions))) (conditions_hold s at (conditions_of conditions))
           (ap (conditions_hold s at) (drop_seen condition_of conditions i c.condition-item.result c.loop-condition-test.true c.condition-item.is))

@@ -4,7 +4,6 @@ use Rattle.dav_session_core.specs.Callers.{live}
 use Rattle.dav_session_core.specs.Conditions.{conditions_hold}
 use Rattle.dav_session_core.specs.Sessions as spec
 use Rattle.dav_fields_core.specs.TaggedLists.{spoken}
-use Rattle.dav_session_core.proofs.ConditionLemmas.{Looks}
 use Rattle.dav_methods_core.proofs.conditions.conditions_hold.Given as goal
 
 abbrev pub invariant-loop-condition : goal.invariant-loop-condition
@@ -12,6 +11,6 @@ invariant-loop-condition g l =
     let start = spec.state g.R.Rng.stream l.fn.session in
     let s = live (spec.caller l.fn.session).now start in
     record {
-      looks : Looks (spec.caller l.fn.session) start (spec.caller l.session) (spec.state g.R.Rng.stream l.session);
+      looks : spec.Looks g.R.Rng.stream l.fn.session l.session;
       left : conditions_hold s (spoken l.at) (conditions_of (drop l.condition-index l.conditions)) ≡ conditions_hold s (spoken l.at) (conditions_of l.conditions);
     }

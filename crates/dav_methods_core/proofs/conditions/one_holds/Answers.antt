@@ -7,32 +7,17 @@ use Rattle.dav_session_core.specs.Callers.{live}
 use Rattle.dav_session_core.specs.Conditions.{ListsAre, conditions_hold}
 use Rattle.dav_session_core.specs.Sessions as spec
 use Rattle.dav_fields_core.specs.TaggedLists.{base_of, spoken, spread_from}
-use Rattle.dav_session_core.proofs.CallerLaws.{by_none}
-use Rattle.dav_session_core.proofs.ConditionLemmas.{looks_none, looks_on, same_state, drop_seen, goes_on, holds_here, none_left}
+use Rattle.dav_session_core.proofs.ConditionLemmas.{drop_seen, goes_on, holds_here, none_left}
+use Rattle.dav_session_core.proofs.Looking.{looks_none, looks_on, same_asked}
 use Rattle.dav_methods_core.proofs.conditions.one_holds.Goals as goal
-
-pub returns-in_err-copy_of-clause-run : goal.returns-in_err-copy_of-clause-run
-returns-in_err-copy_of-clause-run g c = by_none (spec.caller c.args.session.now) (spec.state g.R.Rng.stream c.args.session.now)
 
 pub loop-list-init : goal.loop-list-init
 loop-list-init g c = record {
-  looks = looks_none (spec.caller c.args.session.now) (spec.state g.R.Rng.stream c.args.session.now);
+  looks = looks_none g.R.Rng.stream c.args.session.now;
   last = None;
   speaks = ap (λ path. Some (segments path.bytes)) c.in_ok-copy_of.ensures;
   left = λ holds h. h;
 }
-
-pub returns-in_err-conditions_hold-clause-run : goal.returns-in_err-conditions_hold-clause-run
-returns-in_err-conditions_hold-clause-run g c =
-    (looks_on (spec.caller c.args.session.now) (spec.state g.R.Rng.stream c.args.session.now) (spec.caller c.loop-list.session)
-    (spec.state g.R.Rng.stream c.loop-list.session) (spec.caller c.conditions_hold.new.session) (spec.state g.R.Rng.stream c.conditions_hold.new.session)
-    c.loop-list.invariant.looks c.conditions_hold.ensures.run c.conditions_hold.ensures.live c.conditions_hold.ensures.caller).run
-
-pub returns-then-branch-clause-run : goal.returns-then-branch-clause-run
-returns-then-branch-clause-run g c =
-    (looks_on (spec.caller c.args.session.now) (spec.state g.R.Rng.stream c.args.session.now) (spec.caller c.loop-list.session)
-    (spec.state g.R.Rng.stream c.loop-list.session) (spec.caller c.conditions_hold.new.session) (spec.state g.R.Rng.stream c.conditions_hold.new.session)
-    c.loop-list.invariant.looks c.conditions_hold.ensures.run c.conditions_hold.ensures.live c.conditions_hold.ensures.caller).run
 
 pub returns-then-branch-clause-ok : goal.returns-then-branch-clause-ok
 returns-then-branch-clause-ok g c =
@@ -50,7 +35,7 @@ returns-then-branch-clause-ok g c =
     let i = c.loop-list.list-index in
     let speaks = c.in_ok-at.ensures.ok here last c.loop-list.invariant.speaks in
     let holds : conditions_hold s at item.conditions ≡ true =
-    ap (λ (x : State). conditions_hold x at item.conditions) (sym (same_state who start mid m c.loop-list.invariant.looks))
+    sym (same_asked (λ w (x : State). conditions_hold x at item.conditions) c.loop-list.invariant.looks)
     ∙ sym {b = conditions_hold (live mid.now m) at item.conditions} (c.in_ok-conditions_hold.ensures.ok ∙ ap (λ cs. conditions_hold (live mid.now m) at (conditions_of cs)) c.deref.ensures.value) ∙ c.if-branch.true in
     c.loop-list.invariant.left true (subst (λ (ls : List Located). ListsAre s base here (spread_from last ls) true)
     (sym (drop_seen located lists i c.list-item.result c.loop-list-test.true c.list-item.is))
@@ -72,11 +57,10 @@ loop-list-preserved g c =
     let i = c.loop-list.list-index in
     let speaks = c.in_ok-at.ensures.ok here last c.loop-list.invariant.speaks in
     let fails : conditions_hold s at item.conditions ≡ false =
-    ap (λ (x : State). conditions_hold x at item.conditions) (sym (same_state who start mid m c.loop-list.invariant.looks))
+    sym (same_asked (λ w (x : State). conditions_hold x at item.conditions) c.loop-list.invariant.looks)
     ∙ sym {b = conditions_hold (live mid.now m) at item.conditions} (c.in_ok-conditions_hold.ensures.ok ∙ ap (λ cs. conditions_hold (live mid.now m) at (conditions_of cs)) c.deref.ensures.value) ∙ c.if-branch.false in
     record {
-      looks = looks_on who start mid m (spec.caller c.conditions_hold.new.session) (spec.state g.R.Rng.stream c.conditions_hold.new.session)
-          c.loop-list.invariant.looks c.conditions_hold.ensures.run c.conditions_hold.ensures.live c.conditions_hold.ensures.caller;
+      looks = looks_on c.loop-list.invariant.looks c.conditions_hold.ensures.looks;
       last = option_or item.tag last;
       speaks = speaks;
       left = λ holds h. c.loop-list.invariant.left holds (subst (λ (ls : List Located). ListsAre s base here (spread_from last ls) holds)

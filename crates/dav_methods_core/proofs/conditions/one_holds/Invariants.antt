@@ -6,7 +6,6 @@ use Rattle.dav_session_core.specs.Callers.{live}
 use Rattle.dav_session_core.specs.Conditions.{IfIs, ListsAre}
 use Rattle.dav_session_core.specs.Sessions as spec
 use Rattle.dav_fields_core.specs.TaggedLists.{SpeaksOf, base_of, spoken, spread_from}
-use Rattle.dav_session_core.proofs.ConditionLemmas.{Looks}
 use Rattle.dav_methods_core.proofs.conditions.one_holds.Given as goal
 
 abbrev pub invariant-loop-list : goal.invariant-loop-list
@@ -16,7 +15,7 @@ invariant-loop-list g l =
     let base = base_of l.base l.here in
     let p = segments l.here.bytes in
     record {
-      looks : Looks (spec.caller l.fn.session) start (spec.caller l.session) (spec.state g.R.Rng.stream l.session);
+      looks : spec.Looks g.R.Rng.stream l.fn.session l.session;
       last : Option Parts;
       speaks : SpeaksOf base p last (spoken l.at);
       left : (holds : Bool) → ListsAre s base p (spread_from last (map located (drop l.list-index l.lists))) holds → IfIs s base p (map located l.lists) holds;

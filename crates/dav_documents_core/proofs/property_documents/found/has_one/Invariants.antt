@@ -1,7 +1,7 @@
 use Rattle.std.proofs.Common.{◌≡◌, drop, map}
 use Rattle.std.specs.List.{list_any}
 use Rattle.dav_xml_core.specs.Views.{name_of}
-use Rattle.dav_documents_core.specs.Private.Describing.{description_of}
+use Rattle.dav_documents_core.specs.DescriptionViews.{description_of}
 use Rattle.dav_documents_core.specs.PropertyDocuments.{has_value}
 use Rattle.dav_documents_core.proofs.property_documents.found.has_one.Given as goal
 

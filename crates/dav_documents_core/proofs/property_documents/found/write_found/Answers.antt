@@ -3,7 +3,7 @@ use Rattle.std.specs.List.{flat_map}
 use Rattle.std.proofs.lemmas.Result.{on_ok_weaker}
 use Rattle.dav_xml_core.specs.Views.{writing_of}
 use Rattle.dav_documents_core.specs.declared.live_properties.TheConstants.{LIVE}
-use Rattle.dav_documents_core.specs.Private.Describing.{description_of}
+use Rattle.dav_documents_core.specs.DescriptionViews.{description_of}
 use Rattle.dav_documents_core.specs.PropertyDocuments.{dead_name_nodes, own_name_nodes}
 use Rattle.dav_documents_core.proofs.PieceLemmas.{of_nodes}
 use Rattle.dav_documents_core.proofs.property_documents.found.write_found.Goals as goal

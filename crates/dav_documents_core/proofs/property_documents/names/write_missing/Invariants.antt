@@ -2,7 +2,7 @@ use Rattle.std.proofs.Common.{◌≡◌, drop, map}
 use Rattle.std.specs.List.{flat_map}
 use Rattle.dav_xml_core.specs.Views.{name_of, writing_of}
 use Rattle.dav_xml_core.specs.Writing.{with_nodes}
-use Rattle.dav_documents_core.specs.Private.Describing.{description_of}
+use Rattle.dav_documents_core.specs.DescriptionViews.{description_of}
 use Rattle.dav_documents_core.specs.PropertyDocuments.{missing_nodes}
 use Rattle.dav_documents_core.proofs.property_documents.names.write_missing.Given as goal
 

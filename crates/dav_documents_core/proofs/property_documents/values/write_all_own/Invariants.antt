@@ -4,7 +4,7 @@ use Rattle.std.specs.Prelude.{string_bytes}
 use Rattle.dav_xml_core.specs.Views.{writing_of}
 use Rattle.dav_documents_core.specs.declared.live_properties.TheConstants.{LIVE}
 use Rattle.dav_documents_core.specs.Pieces.{with_pieces}
-use Rattle.dav_documents_core.specs.Private.Describing.{description_of}
+use Rattle.dav_documents_core.specs.DescriptionViews.{description_of}
 use Rattle.dav_documents_core.specs.PropertyDocuments.{own_pieces}
 use Rattle.dav_documents_core.proofs.property_documents.values.write_all_own.Given as goal
 

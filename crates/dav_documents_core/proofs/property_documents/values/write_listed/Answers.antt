@@ -1,7 +1,7 @@
 use Rattle.std.proofs.Common.{option_map}
 use Rattle.std.specs.Prelude.{string_bytes}
 use Rattle.dav_xml_core.specs.Views.{name_of, writing_of}
-use Rattle.dav_documents_core.specs.Private.Describing.{description_of}
+use Rattle.dav_documents_core.specs.DescriptionViews.{description_of}
 use Rattle.dav_documents_core.specs.PropertyDocuments.{value_pieces}
 use Rattle.dav_documents_core.proofs.PropertyLemmas.{next_told}
 use Rattle.dav_documents_core.proofs.property_documents.values.write_listed.Goals as goal

@@ -27,10 +27,10 @@ returns-in_err-admit-clause-err g c =
         who,
         record {
           names = begun.0;
-          from = subst (IsFrom before.options c.args.request.now) (sym c.admit.ensures.caller) begun.1;
+          from = subst (IsFrom before.options c.args.request.now) (sym c.admit.ensures.looks.who) begun.1;
           now = refl;
         },
         held_there before c.args.request.now c.headers.result.now c.in_ok-path.path e c.begin.new.self.settings.scheme (caller c.begin.new.self.session).now who.now (server g.R.Rng.stream c.begin.new.self).state
-            (ap (λ (o : Options). o.scheme) c.begin.ensures.options) (sym (ap (λ (w : Caller). w.now) c.admit.ensures.caller)) c.begin.ensures.state c.headers.ensures c.in_err-admit.ensures.err,
+            (ap (λ (o : Options). o.scheme) c.begin.ensures.options) (sym (ap (λ (w : Caller). w.now) c.admit.ensures.looks.who)) c.begin.ensures.state c.headers.ensures c.in_err-admit.ensures.err,
       ),
     ))

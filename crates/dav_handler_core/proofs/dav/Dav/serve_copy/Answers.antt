@@ -26,7 +26,7 @@ returns-clause-answers g c =
     let does : Options → Entries FieldValue → Type 0 = λ o h. IfOk c.copy.result (λ status. Copies o.scheme o.prefix h (live who.now s) who (segments c.in_ok-path.path.bytes) status after.state) in
     let fails : Options → Entries FieldValue → Type 0 = λ o h. IfErr c.copy.result (λ e. FailsToCopy o.scheme o.prefix h (live who.now s) who (segments c.in_ok-path.path.bytes) e) in
     change_answered true (Copies before.options.scheme before.options.prefix headers) (FailsToCopy before.options.scheme before.options.prefix headers) before mid after c.args.request.now
-    c.in_ok-path.path who (ap (λ (w : Caller). w.now) c.copy.ensures.caller) begun.0.0 begun.1 (λ h. begun.0.1 refl) s c.begin_admitted.ensures.live c.copy.result
+    c.in_ok-path.path who (ap (λ (w : Caller). w.now) c.copy.ensures.acts.who) begun.0.0 begun.1 (λ h. begun.0.1 refl) s c.begin_admitted.ensures.live c.copy.result
     (subst (λ o. does o headers) options (subst (does mid.options) c.headers.ensures
     (subst (λ prefix. IfOk c.copy.result (λ status. Copies mid.options.scheme prefix c.headers.result.now (live who.now s) who (segments c.in_ok-path.path.bytes) status after.state))
     c.deref.ensures c.copy.ensures.done)))
@@ -44,7 +44,7 @@ returns-clause-refused g c =
     let begun = c.in_ok-path.ensures.ok in
     let headers = (head_of c.args.request.now).headers in
     let leaves : Options → Entries FieldValue → Type 0 = λ o h. IfErr c.copy.result (λ e. CopyLeaves o.scheme o.prefix h s who.now (segments c.in_ok-path.path.bytes) e after.state) in
-    copy_leaves before mid after c.args.request.now c.in_ok-path.path who (ap (λ (w : Caller). w.now) c.copy.ensures.caller) begun.0.0 (begun.0.1 refl) s
+    copy_leaves before mid after c.args.request.now c.in_ok-path.path who (ap (λ (w : Caller). w.now) c.copy.ensures.acts.who) begun.0.0 (begun.0.1 refl) s
     c.begin_admitted.ensures.live c.copy.result
     (subst (λ o. leaves o headers) c.begin_admitted.ensures.moves.options (subst (leaves mid.options) c.headers.ensures
     (subst (λ prefix. IfErr c.copy.result (λ e. CopyLeaves mid.options.scheme prefix c.headers.result.now s who.now (segments c.in_ok-path.path.bytes) e after.state)) c.deref.ensures c.copy.ensures.left)))
@@ -52,4 +52,4 @@ returns-clause-refused g c =
 pub returns-clause-moves : goal.returns-clause-moves
 returns-clause-moves g c =
     moves_on (server g.R.Rng.stream c.args.self.now) (server g.R.Rng.stream c.begin_admitted.new.self) _ c.args.request.now c.in_ok-path.path (caller c.begin_admitted.new.self.session)
-    c.in_ok-path.ensures.ok.0.0 c.begin_admitted.ensures.moves c.begin_admitted.ensures.run c.copy.ensures.run (ap (λ (w : Caller). w.now) c.copy.ensures.caller) refl refl
+    c.in_ok-path.ensures.ok.0.0 c.begin_admitted.ensures.moves c.begin_admitted.ensures.run c.copy.ensures.acts.run (ap (λ (w : Caller). w.now) c.copy.ensures.acts.who) refl refl

@@ -18,11 +18,11 @@ returns-clause-answers g c =
     let s = state g.R.Rng.stream c.begin_admitted.new.self.session in
     let begun = c.in_ok-path.ensures.ok in
     change_answered true (Removes (head_of c.args.request.now).headers) (FailsToRemove (head_of c.args.request.now).headers) before mid after c.args.request.now c.in_ok-path.path who
-    (ap (λ (w : Caller). w.now) c.delete.ensures.caller) begun.0.0 begun.1 (λ h. begun.0.1 refl) s c.begin_admitted.ensures.live c.delete.result
+    (ap (λ (w : Caller). w.now) c.delete.ensures.acts.who) begun.0.0 begun.1 (λ h. begun.0.1 refl) s c.begin_admitted.ensures.live c.delete.result
     (subst (λ headers. IfOk c.delete.result (λ status. Removes headers (live who.now s) who (segments c.in_ok-path.path.bytes) status after.state)) c.headers.ensures c.delete.ensures.done)
     (subst (λ headers. IfErr c.delete.result (λ e. FailsToRemove headers (live who.now s) who (segments c.in_ok-path.path.bytes) e)) c.headers.ensures c.delete.ensures.err)
 
 pub returns-clause-moves : goal.returns-clause-moves
 returns-clause-moves g c =
     moves_on (server g.R.Rng.stream c.args.self.now) (server g.R.Rng.stream c.begin_admitted.new.self) _ c.args.request.now c.in_ok-path.path (caller c.begin_admitted.new.self.session)
-    c.in_ok-path.ensures.ok.0.0 c.begin_admitted.ensures.moves c.begin_admitted.ensures.run c.delete.ensures.run (ap (λ (w : Caller). w.now) c.delete.ensures.caller) refl refl
+    c.in_ok-path.ensures.ok.0.0 c.begin_admitted.ensures.moves c.begin_admitted.ensures.run c.delete.ensures.acts.run (ap (λ (w : Caller). w.now) c.delete.ensures.acts.who) refl refl

@@ -15,7 +15,7 @@ returns-clause-answers g c =
     let map = (state g.R.Rng.stream c.begin_admitted.new.self.session).map in
     let begun = c.in_ok-path.ensures.ok in
     get_answered (server g.R.Rng.stream c.args.self.now) (server g.R.Rng.stream c.begin_admitted.new.self) _ c.args.request.now c.in_ok-path.path (caller c.begin_admitted.new.self.session)
-    (ap (λ (w : Caller). w.now) c.get.ensures.caller) begun.0.0 begun.1 c.args.method map c.get.result (sent_of c.get.new.response)
+    (ap (λ (w : Caller). w.now) c.get.ensures.looks.who) begun.0.0 begun.1 c.args.method map c.get.result (sent_of c.get.new.response)
     (ap (λ (s : State). s.map) c.begin_admitted.ensures.live)
     (subst (λ h. IfOk c.get.result (λ status. Gets c.args.method map (segments c.in_ok-path.path.bytes) h status (sent_of c.get.new.response))) c.headers.ensures c.get.ensures.ok)
     (subst (λ h. IfErr c.get.result (λ e. FailsToGet c.args.method map (segments c.in_ok-path.path.bytes) h e)) c.headers.ensures c.get.ensures.err)
@@ -23,4 +23,4 @@ returns-clause-answers g c =
 pub returns-clause-moves : goal.returns-clause-moves
 returns-clause-moves g c =
     moves_on (server g.R.Rng.stream c.args.self.now) (server g.R.Rng.stream c.begin_admitted.new.self) _ c.args.request.now c.in_ok-path.path (caller c.begin_admitted.new.self.session)
-    c.in_ok-path.ensures.ok.0.0 c.begin_admitted.ensures.moves c.begin_admitted.ensures.run c.get.ensures.run (ap (λ (w : Caller). w.now) c.get.ensures.caller) refl refl
+    c.in_ok-path.ensures.ok.0.0 c.begin_admitted.ensures.moves c.begin_admitted.ensures.run c.get.ensures.looks.run (ap (λ (w : Caller). w.now) c.get.ensures.looks.who) refl refl

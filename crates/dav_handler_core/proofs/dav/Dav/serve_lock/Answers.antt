@@ -8,7 +8,7 @@ use Rattle.dav_handler_core.specs.Answers.{Options}
 use Rattle.dav_session_core.specs.Callers.{Caller, live}
 use Rattle.dav_fields_core.specs.Fields.{sent_of}
 use Rattle.dav_methods_core.specs.Locking.{FailsToLock, IsAskedBy, IsGranted}
-use Rattle.dav_methods_core.specs.Private.Rooms.{LeavesLock}
+use Rattle.dav_methods_core.specs.Rooms.{LeavesLock}
 use Rattle.dav_handler_core.specs.Servers.{server}
 use Rattle.dav_session_core.specs.Sessions.{caller, state}
 use Rattle.dav_handler_core.proofs.LockAnswerLemmas.{lock_answered, lock_leaves_by, lock_unread, moves_granted, some_body}
@@ -42,7 +42,7 @@ returns-clause-answers g c =
     let headers = (head_of c.args.request.now).headers in
     let body = body_of c.args.request.now in
     let some = some_body body (subst (λ body. (length body == 0) ≡ _) c.body.ensures (sym c.is_empty.ensures ∙ c.if-is_empty.false)) in
-    lock_answered before mid after c.args.request.now path who (ap (λ (w : Caller). w.now) c.lock.ensures.caller) begun.0.0 begun.1 s c.begin_admitted.ensures.live c.lock.result sent
+    lock_answered before mid after c.args.request.now path who (ap (λ (w : Caller). w.now) c.lock.ensures.ran.who) begun.0.0 begun.1 s c.begin_admitted.ensures.live c.lock.result sent
     (begun.0.1 refl) some.1
     (subst (λ (o : Options). IfOk c.lock.result (λ status. IsGranted o.longest o.prefix headers body (live who.now s) who path status sent after.state)) options
     (subst (λ b. IfOk c.lock.result (λ status. IsGranted mid.options.longest mid.options.prefix headers b (live who.now s) who path status sent after.state)) (c.deref-2.ensures ∙ c.body-2.ensures)
@@ -61,7 +61,7 @@ returns-clause-refused g c =
     let who = caller c.begin_admitted.new.self.session in
     let s = state g.R.Rng.stream c.begin_admitted.new.self.session in
     let begun = c.in_ok-path.ensures.ok in
-    lock_leaves_by before mid after c.args.request.now c.in_ok-path.path who (ap (λ (w : Caller). w.now) c.lock.ensures.caller) begun.0.0 begun.1 s c.begin_admitted.ensures.live
+    lock_leaves_by before mid after c.args.request.now c.in_ok-path.path who (ap (λ (w : Caller). w.now) c.lock.ensures.ran.who) begun.0.0 begun.1 s c.begin_admitted.ensures.live
     c.lock.result
     (subst (λ b. IfErr c.lock.result (λ e. LeavesLock (IsAskedBy b (live who.now s) who c.in_ok-path.path) who (segments c.in_ok-path.path.bytes) e s after.state))
     (c.deref-2.ensures ∙ c.body-2.ensures) c.lock.ensures.left)
@@ -78,8 +78,8 @@ returns-clause-moves g c =
     let sent = sent_of c.lock.new.response in
     let headers = (head_of c.args.request.now).headers in
     let body = body_of c.args.request.now in
-    moves_granted before mid after c.args.request.now path who (ap (λ (w : Caller). w.now) c.lock.ensures.caller) begun.0.0 begun.1 s c.begin_admitted.ensures.live c.lock.result sent
-    refl c.begin_admitted.ensures.moves c.begin_admitted.ensures.run c.lock.ensures.run
+    moves_granted before mid after c.args.request.now path who (ap (λ (w : Caller). w.now) c.lock.ensures.ran.who) begun.0.0 begun.1 s c.begin_admitted.ensures.live c.lock.result sent
+    refl c.begin_admitted.ensures.moves c.begin_admitted.ensures.run c.lock.ensures.ran.run
     (subst (λ (o : Options). IfOk c.lock.result (λ status. IsGranted o.longest o.prefix headers body (live who.now s) who path status sent after.state)) c.begin_admitted.ensures.moves.options
     (subst (λ b. IfOk c.lock.result (λ status. IsGranted mid.options.longest mid.options.prefix headers b (live who.now s) who path status sent after.state)) (c.deref-2.ensures ∙ c.body-2.ensures)
     (subst (λ h. IfOk c.lock.result (λ status. IsGranted mid.options.longest mid.options.prefix h c.deref-2.result.now (live who.now s) who path status sent after.state)) c.headers.ensures

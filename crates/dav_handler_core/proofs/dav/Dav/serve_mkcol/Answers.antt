@@ -19,11 +19,11 @@ returns-clause-answers g c =
     let begun = c.in_ok-path.ensures.ok in
     let body = c.deref.ensures ∙ c.body.ensures in
     change_answered true (Makes (body_of c.args.request.now)) (FailsToMake (body_of c.args.request.now)) before mid after c.args.request.now c.in_ok-path.path who
-    (ap (λ (w : Caller). w.now) c.mkcol.ensures.caller) begun.0.0 begun.1 (λ h. begun.0.1 refl) s c.begin_admitted.ensures.live c.mkcol.result
+    (ap (λ (w : Caller). w.now) c.mkcol.ensures.acts.who) begun.0.0 begun.1 (λ h. begun.0.1 refl) s c.begin_admitted.ensures.live c.mkcol.result
     (subst (λ body. IfOk c.mkcol.result (λ status. Makes body (live who.now s) who (segments c.in_ok-path.path.bytes) status after.state)) body c.mkcol.ensures.done)
     (subst (λ body. IfErr c.mkcol.result (λ e. FailsToMake body (live who.now s) who (segments c.in_ok-path.path.bytes) e)) body c.mkcol.ensures.err)
 
 pub returns-clause-moves : goal.returns-clause-moves
 returns-clause-moves g c =
     moves_on (server g.R.Rng.stream c.args.self.now) (server g.R.Rng.stream c.begin_admitted.new.self) _ c.args.request.now c.in_ok-path.path (caller c.begin_admitted.new.self.session)
-    c.in_ok-path.ensures.ok.0.0 c.begin_admitted.ensures.moves c.begin_admitted.ensures.run c.mkcol.ensures.run (ap (λ (w : Caller). w.now) c.mkcol.ensures.caller) refl refl
+    c.in_ok-path.ensures.ok.0.0 c.begin_admitted.ensures.moves c.begin_admitted.ensures.run c.mkcol.ensures.acts.run (ap (λ (w : Caller). w.now) c.mkcol.ensures.acts.who) refl refl

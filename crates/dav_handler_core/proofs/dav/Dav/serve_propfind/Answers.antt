@@ -33,7 +33,7 @@ returns-clause-answers g c =
     let does : List ℕ → Entries FieldValue → List ℕ → Type 0 = λ prefix h b. IfOk result (λ status. TellsFound before.options.finite prefix h b told (live who.now s) who p status after.state) in
     let fails : Entries FieldValue → List ℕ → Type 0 = λ h b. IfErr result (λ e. FailsToTell before.options.finite h b (live who.now s) who p e) in
     change_answered false (TellsFound before.options.finite before.options.prefix headers body told) (FailsToTell before.options.finite headers body) before mid after c.args.request.now c.in_ok-path.path who
-    (ap (λ (w : Caller). w.now) c.propfind.ensures.caller) begun.0.0 begun.1 (λ h. absurd (true≢false (sym h))) s c.begin_admitted.ensures.live result
+    (ap (λ (w : Caller). w.now) c.propfind.ensures.looks.who) begun.0.0 begun.1 (λ h. absurd (true≢false (sym h))) s c.begin_admitted.ensures.live result
     (subst (λ b. does before.options.prefix headers b) body_is (subst (λ h. does before.options.prefix h c.deref-2.result.now) c.headers.ensures
     (subst (λ prefix. does prefix c.headers.result.now c.deref-2.result.now) prefix_is
     (subst (λ f. IfOk result (λ status. TellsFound f c.deref.result.now c.headers.result.now c.deref-2.result.now told (live who.now s) who p status after.state)) finite_is c.propfind.ensures.done))))
@@ -43,4 +43,4 @@ returns-clause-answers g c =
 pub returns-clause-moves : goal.returns-clause-moves
 returns-clause-moves g c =
     moves_on (server g.R.Rng.stream c.args.self.now) (server g.R.Rng.stream c.begin_admitted.new.self) _ c.args.request.now c.in_ok-path.path (caller c.begin_admitted.new.self.session)
-    c.in_ok-path.ensures.ok.0.0 c.begin_admitted.ensures.moves c.begin_admitted.ensures.run c.propfind.ensures.run (ap (λ (w : Caller). w.now) c.propfind.ensures.caller) refl refl
+    c.in_ok-path.ensures.ok.0.0 c.begin_admitted.ensures.moves c.begin_admitted.ensures.run c.propfind.ensures.looks.run (ap (λ (w : Caller). w.now) c.propfind.ensures.looks.who) refl refl

@@ -30,7 +30,7 @@ returns-clause-answers g c =
     let body = c.deref-2.ensures ∙ c.body.ensures in
     let sent = sent_of c.proppatch.new.response in
     let does : List ℕ → List ℕ → Type 0 = λ prefix body. IfOk c.proppatch.result (λ status. Patches prefix body (live who.now s) who c.in_ok-path.path status sent after.state) in
-    patch_answered before mid after c.args.request.now c.in_ok-path.path who (ap (λ (w : Caller). w.now) c.proppatch.ensures.caller) begun.0.0 begun.1 s
+    patch_answered before mid after c.args.request.now c.in_ok-path.path who (ap (λ (w : Caller). w.now) c.proppatch.ensures.acts.who) begun.0.0 begun.1 s
     c.begin_admitted.ensures.live c.proppatch.result sent
     (subst (λ (o : Options). does o.prefix (body_of c.args.request.now)) c.begin_admitted.ensures.moves.options
     (subst (does mid.options.prefix) body (subst (λ prefix. does prefix c.deref-2.result.now) c.deref.ensures c.proppatch.ensures.done)))
@@ -39,4 +39,4 @@ returns-clause-answers g c =
 pub returns-clause-moves : goal.returns-clause-moves
 returns-clause-moves g c =
     moves_on (server g.R.Rng.stream c.args.self.now) (server g.R.Rng.stream c.begin_admitted.new.self) _ c.args.request.now c.in_ok-path.path (caller c.begin_admitted.new.self.session)
-    c.in_ok-path.ensures.ok.0.0 c.begin_admitted.ensures.moves c.begin_admitted.ensures.run c.proppatch.ensures.run (ap (λ (w : Caller). w.now) c.proppatch.ensures.caller) refl refl
+    c.in_ok-path.ensures.ok.0.0 c.begin_admitted.ensures.moves c.begin_admitted.ensures.run c.proppatch.ensures.acts.run (ap (λ (w : Caller). w.now) c.proppatch.ensures.acts.who) refl refl

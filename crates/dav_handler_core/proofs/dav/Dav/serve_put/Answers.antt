@@ -31,7 +31,7 @@ pub returns-clause-answers : goal.returns-clause-answers
 returns-clause-answers g c =
     let begun = c.in_ok-path.ensures.ok in
     put_answered (server g.R.Rng.stream c.args.self.now) (server g.R.Rng.stream c.begin_admitted.new.self) _ c.args.request.now c.in_ok-path.path (caller c.begin_admitted.new.self.session)
-    (ap (λ (w : Caller). w.now) c.put.ensures.caller) begun.0.0 begun.1 (begun.0.1 refl) (state g.R.Rng.stream c.begin_admitted.new.self.session)
+    (ap (λ (w : Caller). w.now) c.put.ensures.acts.who) begun.0.0 begun.1 (begun.0.1 refl) (state g.R.Rng.stream c.begin_admitted.new.self.session)
     (whole_request c.args.request.now c.headers.result.now c.contains_key.result c.headers.ensures c.contains_key.ensures c.if-contains_key.false)
     c.put.result (sent_of c.put.new.response) c.in_ok-clone.field-0 c.headers-2.result.now (c.in_ok-clone.ensures.cases ∙ c.body.ensures) c.headers-2.ensures
     (ap (λ (s : State). s.map) c.begin_admitted.ensures.live) c.begin_admitted.ensures.live c.put.ensures.done c.put.ensures.course c.put.ensures.marks c.put.ensures.err
@@ -39,4 +39,4 @@ returns-clause-answers g c =
 pub returns-clause-moves : goal.returns-clause-moves
 returns-clause-moves g c =
     moves_on (server g.R.Rng.stream c.args.self.now) (server g.R.Rng.stream c.begin_admitted.new.self) _ c.args.request.now c.in_ok-path.path (caller c.begin_admitted.new.self.session)
-    c.in_ok-path.ensures.ok.0.0 c.begin_admitted.ensures.moves c.begin_admitted.ensures.run c.put.ensures.run (ap (λ (w : Caller). w.now) c.put.ensures.caller) refl refl
+    c.in_ok-path.ensures.ok.0.0 c.begin_admitted.ensures.moves c.begin_admitted.ensures.run c.put.ensures.acts.run (ap (λ (w : Caller). w.now) c.put.ensures.acts.who) refl refl

@@ -1,6 +1,7 @@
 use Rattle.std.proofs.Common.{refl, ap, sym, subst}
 use Rattle.std.specs.Prelude.{IfOk, IfErr}
 use Rattle.std.proofs.lemmas.Result.{err_from_is_err_and}
+use Rattle.std.proofs.lemmas.Result.{on_err_weaker}
 use Rattle.http.specs.Request.{head_of}
 use Rattle.dav_path_core.specs.Segments.{segments}
 use Rattle.dav_files_core.specs.Finding.{has_any}
@@ -9,7 +10,7 @@ use Rattle.dav_session_core.specs.Callers.{Caller, live}
 use Rattle.dav_fields_core.specs.Fields.{sent_of}
 use Rattle.dav_session_core.specs.Refreshing.{FailsToRefresh, Refreshes}
 use Rattle.dav_handler_core.specs.Servers.{server}
-use Rattle.dav_session_core.specs.Sessions.{caller, state}
+use Rattle.dav_session_core.specs.Sessions.{Looks, caller, state}
 use Rattle.dav_handler_core.proofs.LockAnswerLemmas.{lock_unread, moves_refreshed, refresh_answered}
 use Rattle.dav_handler_core.proofs.dav.Dav.serve_refresh.Goals as goal
 
@@ -29,7 +30,7 @@ returns-clause-answers g c =
     let begun = c.in_ok-path.ensures.ok in
     let p = segments c.in_ok-path.path.bytes in
     let sent = sent_of c.refresh.new.response in
-    refresh_answered before mid after c.args.request.now c.in_ok-path.path who (ap (λ (w : Caller). w.now) c.refresh.ensures.caller) begun.0.0 begun.1 s
+    refresh_answered before mid after c.args.request.now c.in_ok-path.path who (ap (λ (w : Caller). w.now) c.refresh.ensures.asks.who) begun.0.0 begun.1 s
     c.begin_admitted.ensures.live c.refresh.result sent c.requires.no_body
     (subst (λ (o : Options). IfOk c.refresh.result (λ status. Refreshes o.longest o.prefix (head_of c.args.request.now).headers (live who.now s) who p status sent after.state))
     c.begin_admitted.ensures.moves.options
@@ -48,11 +49,11 @@ returns-clause-moves g c =
     let begun = c.in_ok-path.ensures.ok in
     let p = segments c.in_ok-path.path.bytes in
     let sent = sent_of c.refresh.new.response in
-    moves_refreshed before mid after c.args.request.now c.in_ok-path.path who (ap (λ (w : Caller). w.now) c.refresh.ensures.caller) begun.0.0 begun.1 s
-    c.begin_admitted.ensures.live c.refresh.result sent refl c.begin_admitted.ensures.moves c.begin_admitted.ensures.run c.refresh.ensures.run
+    moves_refreshed before mid after c.args.request.now c.in_ok-path.path who (ap (λ (w : Caller). w.now) c.refresh.ensures.asks.who) begun.0.0 begun.1 s
+    c.begin_admitted.ensures.live c.refresh.result sent refl c.begin_admitted.ensures.moves c.begin_admitted.ensures.run c.refresh.ensures.asks.run
     (subst (λ (o : Options). IfOk c.refresh.result (λ status. Refreshes o.longest o.prefix (head_of c.args.request.now).headers (live who.now s) who p status sent after.state))
     c.begin_admitted.ensures.moves.options
     (subst (λ headers. IfOk c.refresh.result (λ status. Refreshes mid.options.longest mid.options.prefix headers (live who.now s) who p status sent after.state)) c.headers.ensures
     (subst (λ prefix. IfOk c.refresh.result (λ status. Refreshes mid.options.longest prefix c.headers.result.now (live who.now s) who p status sent after.state)) c.deref.ensures
     c.refresh.ensures.done)))
-    c.refresh.ensures.looked refl refl
+    (on_err_weaker c.refresh.result (λ (h : Looks g.R.Rng.stream c.begin_admitted.new.self.session c.refresh.new.session). h.run) c.refresh.ensures.looks) refl refl

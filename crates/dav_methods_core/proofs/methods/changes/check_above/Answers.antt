@@ -2,13 +2,8 @@ use Rattle.std.proofs.Common.{◌∙◌, sym, ap}
 use Rattle.std.specs.Prelude.{option_map}
 use Rattle.dav_path_core.specs.Segments.{segments}
 use Rattle.dav_files_core.specs.Meta.{meta_of}
-use Rattle.dav_session_core.specs.Sessions as spec
-use Rattle.dav_session_core.proofs.CallerLaws.{by_none}
 use Rattle.dav_session_core.proofs.PutLemmas.{above_stands}
 use Rattle.dav_methods_core.proofs.methods.changes.check_above.Goals as goal
-
-pub returns-in_err-parent_of-clause-run : goal.returns-in_err-parent_of-clause-run
-returns-in_err-parent_of-clause-run g c = by_none (spec.caller c.args.session.now) (spec.state g.R.Rng.stream c.args.session.now)
 
 pub returns-then-is_dir-clause-ok : goal.returns-then-is_dir-clause-ok
 returns-then-is_dir-clause-ok g c =

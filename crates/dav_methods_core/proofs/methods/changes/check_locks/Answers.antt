@@ -4,13 +4,8 @@ use Rattle.dav_path_core.specs.Segments.{segments}
 use Rattle.dav_session_core.specs.Callers.{live, refusing_at}
 use Rattle.dav_session_core.specs.LocksInTheWay.{IsRefusedBy}
 use Rattle.dav_session_core.specs.Sessions as spec
-use Rattle.dav_session_core.proofs.Asking.{join_as}
-use Rattle.dav_session_core.proofs.CallerLaws.{by_none}
 use Rattle.dav_session_core.proofs.PutLemmas.{above_fails, first_refused}
 use Rattle.dav_methods_core.proofs.methods.changes.check_locks.Goals as goal
-
-pub returns-in_err-copy_of-clause-run : goal.returns-in_err-copy_of-clause-run
-returns-in_err-copy_of-clause-run g c = by_none (spec.caller c.args.session.now) (spec.state g.R.Rng.stream c.args.session.now)
 
 pub returns-in_err-check-clause-err : goal.returns-in_err-check-clause-err
 returns-in_err-check-clause-err g c =
@@ -24,9 +19,4 @@ returns-in_err-check-clause-err g c =
 pub returns-clause-err : goal.returns-clause-err
 returns-clause-err g c =
     above_fails (spec.caller c.args.session.now) (spec.caller c.check.new.self) (spec.state g.R.Rng.stream c.args.session.now) (spec.state g.R.Rng.stream c.check.new.self)
-    (segments c.args.path.now.bytes) _ c.args.there c.check-2.result c.if-there.false c.check.ensures.caller c.check.ensures.live c.in_ok-parent_of.ensures.ok c.check-2.ensures.err
-
-pub returns-clause-run : goal.returns-clause-run
-returns-clause-run g c =
-    join_as (spec.caller c.args.session.now) (spec.caller c.check.new.self) (spec.state g.R.Rng.stream c.args.session.now) (spec.state g.R.Rng.stream c.check.new.self)
-    (spec.state g.R.Rng.stream c.check-2.new.self) c.check.ensures.caller c.check.ensures.run c.check-2.ensures.run
+    (segments c.args.path.now.bytes) _ c.args.there c.check-2.result c.if-there.false c.check.ensures.looks.who c.check.ensures.looks.live c.in_ok-parent_of.ensures.ok c.check-2.ensures.err

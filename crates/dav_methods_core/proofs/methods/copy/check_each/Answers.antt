@@ -1,4 +1,4 @@
-use Rattle.std.proofs.Common.{◌≡◌, List, [], refl, sym, ◌∙◌, subst}
+use Rattle.std.proofs.Common.{◌≡◌, List, [], refl, subst}
 use Rattle.std.proofs.lemmas.Result.{err_from_is_err_and}
 use Rattle.dav_path_core.specs.PathText.{PathText}
 use Rattle.dav_path_core.specs.Segments.{segments}
@@ -9,8 +9,9 @@ use Rattle.dav_session_core.specs.declared.session.copying.Transfer.{Transfer}
 use Rattle.dav_session_core.specs.Callers.{Caller, as_caller, live, refusing_at}
 use Rattle.dav_session_core.specs.LocksInTheWay.{IsRefusedBy}
 use Rattle.dav_session_core.specs.Sessions as spec
-use Rattle.dav_session_core.proofs.ConditionLemmas.{looks_none, looks_on}
-use Rattle.dav_methods_core.proofs.CopyCheckLemmas.{all_checked, asked_behind, checked_more, refused_one}
+use Rattle.dav_session_core.proofs.Looking.{looks_none, looks_on}
+use Rattle.dav_methods_core.proofs.Acting.{held_before}
+use Rattle.dav_methods_core.proofs.CopyCheckLemmas.{all_checked, checked_more, refused_one}
 use Rattle.dav_methods_core.proofs.methods.copy.check_each.Goals as goal
 
 abbrev check_of : Transfer → Check
@@ -21,20 +22,9 @@ locks_at p s who = refusing_at s who (segments p.bytes)
 
 pub loop-transfer-init : goal.loop-transfer-init
 loop-transfer-init g c = record {
-  looks = looks_none (spec.caller c.args.session.now) (spec.state g.R.Rng.stream c.args.session.now);
+  looks = looks_none g.R.Rng.stream c.args.session.now;
   left = refl;
 }
-
-pub returns-in_err-copy_of-clause-run : goal.returns-in_err-copy_of-clause-run
-returns-in_err-copy_of-clause-run g c = c.loop-transfer.invariant.looks.run
-
-pub returns-in_err-copy_of-clause-live : goal.returns-in_err-copy_of-clause-live
-returns-in_err-copy_of-clause-live g c = c.loop-transfer.invariant.looks.live
-
-pub returns-in_err-check-clause-run : goal.returns-in_err-check-clause-run
-returns-in_err-check-clause-run g c =
-    (looks_on (spec.caller c.args.session.now) (spec.state g.R.Rng.stream c.args.session.now) (spec.caller c.loop-transfer.session) (spec.state g.R.Rng.stream c.loop-transfer.session)
-    (spec.caller c.check.new.self) (spec.state g.R.Rng.stream c.check.new.self) c.loop-transfer.invariant.looks c.check.ensures.run c.check.ensures.live c.check.ensures.caller).run
 
 pub returns-in_err-check-clause-err : goal.returns-in_err-check-clause-err
 returns-in_err-check-clause-err g c =
@@ -48,7 +38,7 @@ returns-in_err-check-clause-err g c =
     let here = subst (λ (p : PathText). IsRefusedBy (locks_at p (live asker.now mid) asker) e) c.in_ok-copy_of.ensures c.in_err-check.ensures.err in
     rw (q.1, q.2) (refused_one (live who.now start).locks (as_caller who) check_of c.args.transfers.now c.loop-transfer.transfer-index c.loop-transfer.invariant.left x
     c.loop-transfer-test.true c.transfer-item.is e
-    (subst (λ ls. IsRefusedBy ls e) (asked_behind (locks_at x.to) who start asker mid c.loop-transfer.invariant.looks) here))
+    (held_before (λ w s. IsRefusedBy (locks_at x.to s w) e) c.loop-transfer.invariant.looks here))
 
 pub loop-transfer-preserved : goal.loop-transfer-preserved
 loop-transfer-preserved g c =
@@ -59,10 +49,9 @@ loop-transfer-preserved g c =
     let mid = spec.state g.R.Rng.stream c.loop-transfer.session in
     let here = subst (λ (p : PathText). locks_at p (live asker.now mid) asker ≡ []) c.in_ok-copy_of.ensures c.in_ok-check.ensures.ok in
     record {
-      looks = looks_on who start asker mid (spec.caller c.check.new.self) (spec.state g.R.Rng.stream c.check.new.self) c.loop-transfer.invariant.looks
-          c.check.ensures.run c.check.ensures.live c.check.ensures.caller;
+      looks = looks_on c.loop-transfer.invariant.looks c.check.ensures.looks;
       left = checked_more (live who.now start).locks (as_caller who) check_of c.args.transfers.now c.loop-transfer.transfer-index c.loop-transfer.invariant.left x
-          c.loop-transfer-test.true c.transfer-item.is (sym (asked_behind (locks_at x.to) who start asker mid c.loop-transfer.invariant.looks) ∙ here);
+          c.loop-transfer-test.true c.transfer-item.is (held_before (λ w s. locks_at x.to s w ≡ []) c.loop-transfer.invariant.looks here);
     }
 
 pub returns-clause-ok : goal.returns-clause-ok

@@ -3,7 +3,6 @@ use Rattle.dav_path_core.specs.Segments.{segments}
 use Rattle.dav_resource_core.specs.Checks.{refusing, shallow}
 use Rattle.dav_session_core.specs.Callers.{as_caller, live}
 use Rattle.dav_session_core.specs.Sessions as spec
-use Rattle.dav_session_core.proofs.ConditionLemmas.{Looks}
 use Rattle.dav_methods_core.proofs.methods.copy.check_each.Given as goal
 
 -- what refuses one of all copies refuses one of those that are left
@@ -12,7 +11,7 @@ invariant-loop-transfer g l =
     let who = spec.caller l.fn.session in
     let start = spec.state g.R.Rng.stream l.fn.session in
     record {
-      looks : Looks who start (spec.caller l.session) (spec.state g.R.Rng.stream l.session);
+      looks : spec.Looks g.R.Rng.stream l.fn.session l.session;
       left : refusing (live who.now start).locks (as_caller who) (map (λ t. shallow (segments t.to.bytes)) (drop l.transfer-index l.transfers))
           ≡ refusing (live who.now start).locks (as_caller who) (map (λ t. shallow (segments t.to.bytes)) l.transfers);
     }

@@ -6,12 +6,13 @@ use Rattle.dav_path_core.specs.Segments.{segments}
 use Rattle.dav_files_core.specs.Meta.{meta_at, meta_of}
 use Rattle.dav_files_core.specs.Resources.{Resource, at_path}
 use Rattle.dav_session_core.specs.Callers.{live}
-use Rattle.dav_session_core.specs.Private.Transferring.{IsPlanned}
+use Rattle.dav_session_core.specs.TransferEnds.{IsPlanned}
 use Rattle.dav_session_core.specs.Sessions as spec
 use Rattle.dav_session_core.specs.declared.session.copying.Transfer.{Transfer}
-use Rattle.dav_session_core.proofs.Asking.{join_as}
 use Rattle.dav_methods_core.proofs.CopyMethodLemmas.{copy_all, copy_begun, copy_left, copy_lost, copy_short}
 use Rattle.dav_session_core.proofs.PutLemmas.{known_there}
+use Rattle.dav_session_core.proofs.Looking.{acts_on}
+use Rattle.dav_methods_core.proofs.Acting.{looks_act}
 use Rattle.dav_methods_core.proofs.methods.copy.copy.Goals as goal
 
 abbrev ends : Transfer → Path × Path
@@ -26,7 +27,7 @@ pub returns-in_err-known-clause-left : goal.returns-in_err-known-clause-left
 returns-in_err-known-clause-left g c =
     let q = err_from_is_err_and c.from_residual.result c.from_residual.ensures.1 in
     rw (q.1, q.2) (copy_left c.args.scheme c.args.prefix.now c.args.headers.now (spec.caller c.args.session.now) (spec.state g.R.Rng.stream c.args.session.now)
-    (segments c.args.path.now.bytes) c.in_err-known.field-0.0 (spec.state g.R.Rng.stream c.planned.new.session) c.planned.ensures.live)
+    (segments c.args.path.now.bytes) c.in_err-known.field-0.0 (spec.state g.R.Rng.stream c.planned.new.session) c.planned.ensures.looks.live)
 
 pub returns-in_err-copy_all-clause-err : goal.returns-in_err-copy_all-clause-err
 returns-in_err-copy_all-clause-err g c =
@@ -44,8 +45,8 @@ returns-in_err-copy_all-clause-err g c =
     let pairs = map ends c.deref.result.now in
     let plan = subst (λ ts. IsPlanned c.args.scheme c.args.prefix.now c.args.headers.now (live who.now start) who from known gone (map ends ts)) (sym c.deref.ensures.value)
     c.in_ok-known.ensures.ok in
-    let by = c.clear.ensures.caller ∙ c.planned.ensures.caller in
-    let short = copy_short c.args.scheme c.args.prefix.now c.args.headers.now who start from known gone pairs plan asker b m c.planned.ensures.caller c.planned.ensures.live c.clear.ensures.run c.clear.ensures.cleared copier after by c.in_err-copy_all.field-0.0 c.in_err-copy_all.ensures.err in
+    let by = c.clear.ensures.acts.who ∙ c.planned.ensures.looks.who in
+    let short = copy_short c.args.scheme c.args.prefix.now c.args.headers.now who start from known gone pairs plan asker b m c.planned.ensures.looks.who c.planned.ensures.looks.live c.clear.ensures.acts.run c.clear.ensures.cleared copier after by c.in_err-copy_all.field-0.0 c.in_err-copy_all.ensures.err in
     rw (q.1, q.2) (copy_lost c.args.scheme c.args.prefix.now c.args.headers.now who start from c.in_err-copy_all.field-0.0 short)
 
 pub returns-in_err-copy_all-clause-left : goal.returns-in_err-copy_all-clause-left
@@ -64,21 +65,10 @@ returns-in_err-copy_all-clause-left g c =
     let pairs = map ends c.deref.result.now in
     let plan = subst (λ ts. IsPlanned c.args.scheme c.args.prefix.now c.args.headers.now (live who.now start) who from known gone (map ends ts)) (sym c.deref.ensures.value)
     c.in_ok-known.ensures.ok in
-    let by = c.clear.ensures.caller ∙ c.planned.ensures.caller in
-    let short = copy_short c.args.scheme c.args.prefix.now c.args.headers.now who start from known gone pairs plan asker b m c.planned.ensures.caller c.planned.ensures.live c.clear.ensures.run c.clear.ensures.cleared copier after by c.in_err-copy_all.field-0.0 c.in_err-copy_all.ensures.err in
-    rw (q.1, q.2) (copy_begun c.args.scheme c.args.prefix.now c.args.headers.now who start from known gone pairs plan asker b m c.planned.ensures.caller c.planned.ensures.live c.clear.ensures.run c.clear.ensures.cleared copier after by
+    let by = c.clear.ensures.acts.who ∙ c.planned.ensures.looks.who in
+    let short = copy_short c.args.scheme c.args.prefix.now c.args.headers.now who start from known gone pairs plan asker b m c.planned.ensures.looks.who c.planned.ensures.looks.live c.clear.ensures.acts.run c.clear.ensures.cleared copier after by c.in_err-copy_all.field-0.0 c.in_err-copy_all.ensures.err in
+    rw (q.1, q.2) (copy_begun c.args.scheme c.args.prefix.now c.args.headers.now who start from known gone pairs plan asker b m c.planned.ensures.looks.who c.planned.ensures.looks.live c.clear.ensures.acts.run c.clear.ensures.cleared copier after by
     c.in_err-copy_all.field-0.0 short c.in_err-copy_all.ensures.begun)
-
-pub returns-in_err-copy_all-clause-run : goal.returns-in_err-copy_all-clause-run
-returns-in_err-copy_all-clause-run g c =
-    let who = spec.caller c.args.session.now in
-    let start = spec.state g.R.Rng.stream c.args.session.now in
-    let asker = spec.caller c.planned.new.session in
-    let b = spec.state g.R.Rng.stream c.planned.new.session in
-    let m = spec.state g.R.Rng.stream c.clear.new.self in
-    let copier = spec.caller c.clear.new.self in
-    let after = spec.state g.R.Rng.stream c.copy_all.new.self in
-    join_as who asker start b after c.planned.ensures.caller c.planned.ensures.run (join_as asker copier b m after c.clear.ensures.caller c.clear.ensures.run c.copy_all.ensures.run)
 
 pub returns-clause-done : goal.returns-clause-done
 returns-clause-done g c =
@@ -95,18 +85,15 @@ returns-clause-done g c =
     let pairs = map ends c.deref.result.now in
     let plan = subst (λ ts. IsPlanned c.args.scheme c.args.prefix.now c.args.headers.now (live who.now start) who from known gone (map ends ts)) (sym c.deref.ensures.value)
     c.in_ok-known.ensures.ok in
-    let by = c.clear.ensures.caller ∙ c.planned.ensures.caller in
+    let by = c.clear.ensures.acts.who ∙ c.planned.ensures.looks.who in
     let there = known_there meta_of (λ (r : Resource). meta_at r.node) c.in_ok-known.field-0.known (at_path start.map (segments plan.to.bytes)) plan.known_is in
-    copy_all c.args.scheme c.args.prefix.now c.args.headers.now who start from known gone pairs plan asker b m c.planned.ensures.caller c.planned.ensures.live c.clear.ensures.run c.clear.ensures.cleared copier after by
+    copy_all c.args.scheme c.args.prefix.now c.args.headers.now who start from known gone pairs plan asker b m c.planned.ensures.looks.who c.planned.ensures.looks.live c.clear.ensures.acts.run c.clear.ensures.cleared copier after by
     c.done.result (c.done.ensures ∙ ap (λ b. cond b 204 201) there) c.in_ok-copy_all.ensures.copied
 
-pub returns-clause-run : goal.returns-clause-run
-returns-clause-run g c =
-    let who = spec.caller c.args.session.now in
-    let start = spec.state g.R.Rng.stream c.args.session.now in
-    let asker = spec.caller c.planned.new.session in
-    let b = spec.state g.R.Rng.stream c.planned.new.session in
-    let m = spec.state g.R.Rng.stream c.clear.new.self in
-    let copier = spec.caller c.clear.new.self in
-    let after = spec.state g.R.Rng.stream c.copy_all.new.self in
-    join_as who asker start b after c.planned.ensures.caller c.planned.ensures.run (join_as asker copier b m after c.clear.ensures.caller c.clear.ensures.run c.copy_all.ensures.run)
+pub returns-in_err-copy_all-clause-acts : goal.returns-in_err-copy_all-clause-acts
+returns-in_err-copy_all-clause-acts g c =
+    acts_on (looks_act c.planned.ensures.looks) (acts_on c.clear.ensures.acts c.copy_all.ensures.acts)
+
+pub returns-clause-acts : goal.returns-clause-acts
+returns-clause-acts g c =
+    acts_on (looks_act c.planned.ensures.looks) (acts_on c.clear.ensures.acts c.copy_all.ensures.acts)

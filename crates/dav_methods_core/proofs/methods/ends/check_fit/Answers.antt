@@ -6,42 +6,21 @@ use Rattle.dav_files_core.specs.Meta.{meta_at, meta_of}
 use Rattle.dav_files_core.specs.Resources.{Resource, ResourceMap, at_path}
 use Rattle.dav_resource_core.specs.Step.{State}
 use Rattle.dav_session_core.specs.Ends.{HasFolder}
-use Rattle.dav_session_core.specs.Private.Transferring.{known_at}
+use Rattle.dav_session_core.specs.TransferEnds.{known_at}
 use Rattle.dav_session_core.specs.Sessions as spec
-use Rattle.dav_session_core.proofs.Asking.{join_as, live_as}
-use Rattle.dav_session_core.proofs.CallerLaws.{by_none}
+use Rattle.dav_session_core.proofs.Looking.{looks_on}
 use Rattle.dav_methods_core.proofs.EndsLemmas.{may_stand}
 use Rattle.dav_session_core.proofs.PutLemmas.{known_there}
 use Rattle.dav_session_core.proofs.SubtreeLemmas.{stands_as}
 use Rattle.dav_methods_core.proofs.methods.ends.check_fit.Goals.{else-is_some-via-then-is_some+else-not-replaces, else-is_some-via-else-is_some}
 use Rattle.dav_methods_core.proofs.methods.ends.check_fit.Goals as goal
 
-pub returns-in_err-copy_of-clause-run : goal.returns-in_err-copy_of-clause-run
-returns-in_err-copy_of-clause-run g c = by_none (spec.caller c.args.session.now) (spec.state g.R.Rng.stream c.args.session.now)
-
-pub returns-then-not-replaces-clause-run : goal.returns-then-not-replaces-clause-run
-returns-then-not-replaces-clause-run g c =
-    join_as (spec.caller c.args.session.now) (spec.caller c.meta.new.self) (spec.state g.R.Rng.stream c.args.session.now) (spec.state g.R.Rng.stream c.meta.new.self)
-    (spec.state g.R.Rng.stream c.meta-known.new.self) c.meta.ensures.caller c.meta.ensures.run c.meta-known.ensures.run
-
-pub returns-in_err-check_above-clause-run : goal.returns-in_err-check_above-clause-run
-returns-in_err-check_above-clause-run g c =
-    let who = spec.caller c.args.session.now in
-    let start = spec.state g.R.Rng.stream c.args.session.now in
-    let known = spec.state g.R.Rng.stream c.meta-known.new.self in
-    join_as who (spec.caller c.meta-known.new.self) start known (spec.state g.R.Rng.stream c.check_above.new.session) (c.meta-known.ensures.caller ∙ c.meta.ensures.caller)
-    (join_as who (spec.caller c.meta.new.self) start (spec.state g.R.Rng.stream c.meta.new.self) known c.meta.ensures.caller c.meta.ensures.run c.meta-known.ensures.run)
-    c.check_above.ensures.run
-
 pub returns-clause-ok : goal.returns-clause-ok
 returns-clause-ok g c =
-    let who = spec.caller c.args.session.now in
     let start = spec.state g.R.Rng.stream c.args.session.now in
-    let mid = spec.state g.R.Rng.stream c.meta.new.self in
     let to = segments c.args.to.now.bytes in
-    let still = live_as who (spec.caller c.meta.new.self) start mid (spec.state g.R.Rng.stream c.meta-known.new.self) c.meta.ensures.caller c.meta.ensures.live
-    c.meta-known.ensures.live in
-    let found = c.meta-known.ensures.found ∙ ap (λ (s : State). known_at s.map (segments c.in_ok-copy_of-2.field-0.bytes)) c.meta.ensures.live
+    let still = looks_on c.meta.ensures.looks c.meta-known.ensures.looks in
+    let found = c.meta-known.ensures.found ∙ ap (λ (s : State). known_at s.map (segments c.in_ok-copy_of-2.field-0.bytes)) c.meta.ensures.looks.live
     ∙ ap (λ (q : PathText). known_at start.map (segments q.bytes)) c.in_ok-copy_of-2.ensures in
     let there = known_there meta_of (λ (r : Resource). meta_at r.node) c.meta-known.result (at_path start.map to) found in
     record {
@@ -52,16 +31,15 @@ returns-clause-ok g c =
           | else-is_some-via-then-is_some+else-not-replaces w ↦ λ h. w.if-not-replaces.false
           | else-is_some-via-else-is_some w ↦ may_stand c.meta-known.result start.map to c.args.replaces there (sym c.is_some.ensures ∙ w.if-is_some.false)
         ];
-        above = subst (λ (m : ResourceMap). HasFolder m (parent to)) (ap (λ (s : State). s.map) still) c.in_ok-check_above.ensures.ok;
+        above = subst (λ (m : ResourceMap). HasFolder m (parent to)) (ap (λ (s : State). s.map) still.live) c.in_ok-check_above.ensures.ok;
       };
       known_is = found;
     }
 
-pub returns-clause-run : goal.returns-clause-run
-returns-clause-run g c =
-    let who = spec.caller c.args.session.now in
-    let start = spec.state g.R.Rng.stream c.args.session.now in
-    let known = spec.state g.R.Rng.stream c.meta-known.new.self in
-    join_as who (spec.caller c.meta-known.new.self) start known (spec.state g.R.Rng.stream c.check_above.new.session) (c.meta-known.ensures.caller ∙ c.meta.ensures.caller)
-    (join_as who (spec.caller c.meta.new.self) start (spec.state g.R.Rng.stream c.meta.new.self) known c.meta.ensures.caller c.meta.ensures.run c.meta-known.ensures.run)
-    c.check_above.ensures.run
+pub returns-in_err-check_above-clause-looks : goal.returns-in_err-check_above-clause-looks
+returns-in_err-check_above-clause-looks g c =
+    looks_on (looks_on c.meta.ensures.looks c.meta-known.ensures.looks) c.check_above.ensures.looks
+
+pub returns-clause-looks : goal.returns-clause-looks
+returns-clause-looks g c =
+    looks_on (looks_on c.meta.ensures.looks c.meta-known.ensures.looks) c.check_above.ensures.looks

@@ -5,8 +5,6 @@ use Rattle.dav_files_core.specs.Resources.{ResourceMap}
 use Rattle.dav_resource_core.specs.Step.{State}
 use Rattle.dav_session_core.specs.Ends.{GoesFrom}
 use Rattle.dav_session_core.specs.Sessions as spec
-use Rattle.dav_session_core.proofs.Asking.{join_as}
-use Rattle.dav_session_core.proofs.CallerLaws.{by_none}
 use Rattle.dav_methods_core.proofs.EndsLemmas.{fails_fit, fails_lead, fails_odd}
 use Rattle.dav_methods_core.proofs.methods.ends.ends_of.Goals as goal
 
@@ -15,9 +13,6 @@ returns-in_err-target-clause-err g c =
     let q = err_from_is_err_and c.from_residual.result c.from_residual.ensures.1 in
     rw (q.1, q.2) (fails_lead c.args.scheme c.args.prefix.now c.args.headers.now (segments c.args.path.now.bytes) c.args.within (spec.state g.R.Rng.stream c.args.session.now).map
     c.in_err-target.field-0.0 c.in_err-target.ensures.err)
-
-pub returns-in_err-target-clause-run : goal.returns-in_err-target-clause-run
-returns-in_err-target-clause-run g c = by_none (spec.caller c.args.session.now) (spec.state g.R.Rng.stream c.args.session.now)
 
 pub returns-in_err-known-clause-err : goal.returns-in_err-known-clause-err
 returns-in_err-known-clause-err g c =
@@ -32,12 +27,7 @@ returns-in_err-gone-clause-err g c =
     let target = c.in_ok-target.field-0 in
     rw (q.1, q.2) (fails_odd c.args.scheme c.args.prefix.now c.args.headers.now (segments c.args.path.now.bytes) c.args.within (spec.state g.R.Rng.stream c.args.session.now).map
     target.path target.replaces c.in_ok-target.ensures.ok c.in_ok-known.ensures.ok.fit (spec.state g.R.Rng.stream c.check_fit.new.session).map
-    (ap (λ (s : State). s.map) c.check_fit.ensures.live) c.in_err-gone.field-0.0 c.in_err-gone.ensures.err)
-
-pub returns-in_err-gone-clause-run : goal.returns-in_err-gone-clause-run
-returns-in_err-gone-clause-run g c =
-    join_as (spec.caller c.args.session.now) (spec.caller c.check_fit.new.session) (spec.state g.R.Rng.stream c.args.session.now)
-    (spec.state g.R.Rng.stream c.check_fit.new.session) (spec.state g.R.Rng.stream c.folder_at.new.self) c.check_fit.ensures.caller c.check_fit.ensures.run c.folder_at.ensures.run
+    (ap (λ (s : State). s.map) c.check_fit.ensures.looks.live) c.in_err-gone.field-0.0 c.in_err-gone.ensures.err)
 
 pub returns-clause-ok : goal.returns-clause-ok
 returns-clause-ok g c =
@@ -49,10 +39,5 @@ returns-clause-ok g c =
       fit = fits.fit;
       known_is = fits.known_is;
       goes = subst (λ (m : ResourceMap). GoesFrom m (segments target.path.bytes) (map (λ p. segments p.bytes) c.in_ok-gone.gone.items))
-          (ap (λ (s : State). s.map) c.check_fit.ensures.live) c.in_ok-gone.ensures.ok;
+          (ap (λ (s : State). s.map) c.check_fit.ensures.looks.live) c.in_ok-gone.ensures.ok;
     }
-
-pub returns-clause-run : goal.returns-clause-run
-returns-clause-run g c =
-    join_as (spec.caller c.args.session.now) (spec.caller c.check_fit.new.session) (spec.state g.R.Rng.stream c.args.session.now)
-    (spec.state g.R.Rng.stream c.check_fit.new.session) (spec.state g.R.Rng.stream c.folder_at.new.self) c.check_fit.ensures.caller c.check_fit.ensures.run c.folder_at.ensures.run

@@ -7,14 +7,8 @@ use Rattle.dav_files_core.specs.Resources.{Resource, at_path}
 use Rattle.dav_resource_core.specs.Step.{State}
 use Rattle.dav_fields_core.specs.declared.ranges.Extent.TheVariants as extent
 use Rattle.dav_fields_core.specs.Fields.{marks_in, marks_of, sent_of}
-use Rattle.dav_session_core.specs.Sessions as spec
-use Rattle.dav_session_core.proofs.Asking.{join_as}
-use Rattle.dav_session_core.proofs.CallerLaws.{by_none}
 use Rattle.dav_session_core.proofs.GetLemmas.{fails, none_gotten, part_fails, part_gotten, told_is, unsatisfied_gotten, whole_gotten}
 use Rattle.dav_methods_core.proofs.methods.get.get.Goals as goal
-
-pub returns-in_err-copy_of-clause-run : goal.returns-in_err-copy_of-clause-run
-returns-in_err-copy_of-clause-run g c = by_none (spec.caller c.args.session.now) (spec.state g.R.Rng.stream c.args.session.now)
 
 pub returns-in_err-told-clause-err : goal.returns-in_err-told-clause-err
 returns-in_err-told-clause-err g c =
@@ -30,7 +24,7 @@ returns-in-None-clause-ok g c =
     (marks_of c.args.response.now) (sent_of c.not_modified.new.response)
     (sym (ap (option_map meta_of) c.in-Some.is) ∙ c.meta.ensures.found
     ∙ ap (λ p. option_map (λ (r : Resource). meta_at r.node) (at_path c.args.session.now.stores.map (segments p.bytes))) c.in_ok-copy_of.ensures)
-    c.in_ok-standing.ensures.ok (ap marks_in c.requires.headers) (ap (λ (s : State). s.map) c.meta.ensures.live)
+    c.in_ok-standing.ensures.ok (ap marks_in c.requires.headers) (ap (λ (s : State). s.map) c.meta.ensures.looks.live)
     c.not_modified.result (told_is c.args.method (meta_of c.in-Some.meta) c.args.headers.now c.in_ok-standing.standing c.len.result (Ok None) c.in_ok-standing.ensures.ok c.len.ensures
     (sym (ap Ok c.in-None.is) ∙ c.in_ok-told.ensures))
     (ap (λ b. b.items) c.not_modified.ensures.body ∙ c.requires.body) c.not_modified.ensures.ok
@@ -41,15 +35,10 @@ returns-in-Some-Whole-clause-ok g c =
     (marks_of c.args.response.now) (sent_of c.tell_whole.new.response)
     (sym (ap (option_map meta_of) c.in-Some.is) ∙ c.meta.ensures.found
     ∙ ap (λ p. option_map (λ (r : Resource). meta_at r.node) (at_path c.args.session.now.stores.map (segments p.bytes))) c.in_ok-copy_of.ensures)
-    c.in_ok-standing.ensures.ok (ap marks_in c.requires.headers) (ap (λ (s : State). s.map) c.meta.ensures.live)
+    c.in_ok-standing.ensures.ok (ap marks_in c.requires.headers) (ap (λ (s : State). s.map) c.meta.ensures.looks.live)
     c.tell_whole.result (told_is c.args.method (meta_of c.in-Some.meta) c.args.headers.now c.in_ok-standing.standing c.len.result (Ok (Some extent.Whole)) c.in_ok-standing.ensures.ok c.len.ensures
     (sym (ap Ok (c.in-Some-Whole.is ∙ ap Some c.in-Some-Whole.field-0-is)) ∙ c.in_ok-told.ensures))
     c.tell_whole.ensures.ok c.tell_whole.ensures.bytes
-
-pub returns-in-Some-Whole-clause-run : goal.returns-in-Some-Whole-clause-run
-returns-in-Some-Whole-clause-run g c =
-    join_as (spec.caller c.args.session.now) (spec.caller c.meta.new.self) (spec.state g.R.Rng.stream c.args.session.now) (spec.state g.R.Rng.stream c.meta.new.self)
-    (spec.state g.R.Rng.stream c.tell_whole.new.session) c.meta.ensures.caller c.meta.ensures.run c.tell_whole.ensures.run
 
 pub returns-in-Some-Part-clause-ok : goal.returns-in-Some-Part-clause-ok
 returns-in-Some-Part-clause-ok g c =
@@ -57,7 +46,7 @@ returns-in-Some-Part-clause-ok g c =
     (marks_of c.args.response.now) (sent_of c.tell_part.new.response)
     (sym (ap (option_map meta_of) c.in-Some.is) ∙ c.meta.ensures.found
     ∙ ap (λ p. option_map (λ (r : Resource). meta_at r.node) (at_path c.args.session.now.stores.map (segments p.bytes))) c.in_ok-copy_of.ensures)
-    c.in_ok-standing.ensures.ok (ap marks_in c.requires.headers) (ap (λ (s : State). s.map) c.meta.ensures.live)
+    c.in_ok-standing.ensures.ok (ap marks_in c.requires.headers) (ap (λ (s : State). s.map) c.meta.ensures.looks.live)
     c.in-Some-Part.first c.in-Some-Part.end c.tell_part.result
     (told_is c.args.method (meta_of c.in-Some.meta) c.args.headers.now c.in_ok-standing.standing c.len.result (Ok (Some (extent.Part c.in-Some-Part.first c.in-Some-Part.end))) c.in_ok-standing.ensures.ok c.len.ensures
     (sym (ap Ok (c.in-Some-Part.is ∙ ap Some c.in-Some-Part.field-0-is)) ∙ c.in_ok-told.ensures))
@@ -69,16 +58,11 @@ returns-in-Some-Part-clause-err g c =
     (marks_of c.args.response.now) (sent_of c.tell_part.new.response)
     (sym (ap (option_map meta_of) c.in-Some.is) ∙ c.meta.ensures.found
     ∙ ap (λ p. option_map (λ (r : Resource). meta_at r.node) (at_path c.args.session.now.stores.map (segments p.bytes))) c.in_ok-copy_of.ensures)
-    c.in_ok-standing.ensures.ok (ap marks_in c.requires.headers) (ap (λ (s : State). s.map) c.meta.ensures.live)
+    c.in_ok-standing.ensures.ok (ap marks_in c.requires.headers) (ap (λ (s : State). s.map) c.meta.ensures.looks.live)
     c.in-Some-Part.first c.in-Some-Part.end c.tell_part.result
     (told_is c.args.method (meta_of c.in-Some.meta) c.args.headers.now c.in_ok-standing.standing c.len.result (Ok (Some (extent.Part c.in-Some-Part.first c.in-Some-Part.end))) c.in_ok-standing.ensures.ok c.len.ensures
     (sym (ap Ok (c.in-Some-Part.is ∙ ap Some c.in-Some-Part.field-0-is)) ∙ c.in_ok-told.ensures))
     c.tell_part.ensures.err
-
-pub returns-in-Some-Part-clause-run : goal.returns-in-Some-Part-clause-run
-returns-in-Some-Part-clause-run g c =
-    join_as (spec.caller c.args.session.now) (spec.caller c.meta.new.self) (spec.state g.R.Rng.stream c.args.session.now) (spec.state g.R.Rng.stream c.meta.new.self)
-    (spec.state g.R.Rng.stream c.tell_part.new.session) c.meta.ensures.caller c.meta.ensures.run c.tell_part.ensures.run
 
 pub returns-clause-ok : goal.returns-clause-ok
 returns-clause-ok g c =
@@ -86,7 +70,7 @@ returns-clause-ok g c =
     (marks_of c.args.response.now) (sent_of c.unsatisfied.new.response)
     (sym (ap (option_map meta_of) c.in-Some.is) ∙ c.meta.ensures.found
     ∙ ap (λ p. option_map (λ (r : Resource). meta_at r.node) (at_path c.args.session.now.stores.map (segments p.bytes))) c.in_ok-copy_of.ensures)
-    c.in_ok-standing.ensures.ok (ap marks_in c.requires.headers) (ap (λ (s : State). s.map) c.meta.ensures.live)
+    c.in_ok-standing.ensures.ok (ap marks_in c.requires.headers) (ap (λ (s : State). s.map) c.meta.ensures.looks.live)
     c.len-in-Some-Unsatisfiable.result c.unsatisfied.result (told_is c.args.method (meta_of c.in-Some.meta) c.args.headers.now c.in_ok-standing.standing c.len.result (Ok (Some extent.Unsatisfiable)) c.in_ok-standing.ensures.ok c.len.ensures
     (sym (ap Ok (c.in-Some-Unsatisfiable.is ∙ ap Some c.in-Some-Unsatisfiable.field-0-is)) ∙ c.in_ok-told.ensures))
     c.len-in-Some-Unsatisfiable.ensures (ap (λ b. b.items) c.unsatisfied.ensures.body ∙ c.requires.body) c.unsatisfied.ensures.ok

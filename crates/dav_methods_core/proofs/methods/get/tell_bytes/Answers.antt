@@ -1,12 +1,7 @@
 use Rattle.std.proofs.Common.{◌∙◌, ◌++◌, sym, ap}
 use Rattle.dav_path_core.specs.Segments.{segments}
 use Rattle.dav_files_core.specs.Resources.{at_path}
-use Rattle.dav_session_core.specs.Sessions as spec
-use Rattle.dav_session_core.proofs.CallerLaws.{by_none}
 use Rattle.dav_methods_core.proofs.methods.get.tell_bytes.Goals as goal
-
-pub returns-in_err-copy_of-clause-run : goal.returns-in_err-copy_of-clause-run
-returns-in_err-copy_of-clause-run g c = by_none (spec.caller c.args.session.now) (spec.state g.R.Rng.stream c.args.session.now)
 
 pub returns-clause-bytes : goal.returns-clause-bytes
 returns-clause-bytes g c =

@@ -1,13 +1,8 @@
 use Rattle.std.proofs.Common.{subst}
 use Rattle.dav_path_core.specs.Segments.{segments}
-use Rattle.dav_fields_core.specs.Private.Marking.{IsRead}
-use Rattle.dav_session_core.specs.Sessions as spec
-use Rattle.dav_session_core.proofs.CallerLaws.{by_none}
+use Rattle.dav_fields_core.specs.Marking.{IsRead}
 use Rattle.dav_session_core.proofs.GetLemmas.{on_ok}
 use Rattle.dav_methods_core.proofs.methods.get.tell_part.Goals as goal
-
-pub returns-in_err-add_part-clause-run : goal.returns-in_err-add_part-clause-run
-returns-in_err-add_part-clause-run g c = by_none (spec.caller c.args.session.now) (spec.state g.R.Rng.stream c.args.session.now)
 
 pub returns-clause-bytes : goal.returns-clause-bytes
 returns-clause-bytes g c = on_ok c.tell_bytes.result _ _

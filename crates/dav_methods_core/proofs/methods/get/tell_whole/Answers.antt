@@ -1,6 +1,6 @@
 use Rattle.std.proofs.Common.{subst}
 use Rattle.dav_path_core.specs.Segments.{segments}
-use Rattle.dav_fields_core.specs.Private.Marking.{IsRead}
+use Rattle.dav_fields_core.specs.Marking.{IsRead}
 use Rattle.dav_session_core.proofs.GetLemmas.{on_ok}
 use Rattle.dav_methods_core.proofs.methods.get.tell_whole.Goals as goal
 

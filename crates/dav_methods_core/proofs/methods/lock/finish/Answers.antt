@@ -7,14 +7,11 @@ use Rattle.dav_resource_core.specs.Step.{Serves}
 use Rattle.dav_faults_core.specs.declared.faults.Fault.TheVariants as fault
 use Rattle.dav_session_core.specs.Callers.{asking}
 use Rattle.dav_session_core.specs.Granting.{also_naming}
-use Rattle.dav_session_core.specs.Private.Refusing.{put_fault}
+use Rattle.dav_session_core.specs.StoreRefusals.{put_fault}
 use Rattle.dav_session_core.specs.Sessions as spec
-use Rattle.dav_session_core.proofs.CallerLaws.{no_runs, runs_by, runs_join}
 use Rattle.dav_methods_core.proofs.LockLemmas.{at_start, made_as, unmade_as}
+use Rattle.dav_methods_core.proofs.Acting.{acts_ran, looks_act, ran_on}
 use Rattle.dav_methods_core.proofs.methods.lock.finish.Goals as goal
-
-pub returns-in_err-copy_of-clause-run : goal.returns-in_err-copy_of-clause-run
-returns-in_err-copy_of-clause-run g c = no_runs (spec.state g.R.Rng.stream c.args.session.now)
 
 pub returns-in_err-make_under-clause-err : goal.returns-in_err-make_under-clause-err
 returns-in_err-make_under-clause-err g c =
@@ -27,14 +24,7 @@ returns-in_err-make_under-clause-err g c =
     rw (p.1, p.2) (unmade_as s who c.args.token.now (segments c.args.path.now.bytes) c.args.missing e after c.if-not-missing.false
     (at_start who (spec.caller c.locks_at.new.self) s m c.args.token.now (string_bytes c.in_ok-from_str.field-0) (segments c.args.path.now.bytes) (segments c.in_ok-copy_of-2.field-0.bytes)
     (λ t w token q. (e ≡ fault.InsufficientStorage) ⊎ ((r : Refusal) × (e ≡ put_fault false r) × Serves t (asking (also_naming w token) (Command.Put q [])) (Err r) after))
-    c.locks_at.ensures.caller c.locks_at.ensures.live c.in_ok-from_str.ensures.ok (ap (λ (path : PathText). segments path.bytes) c.in_ok-copy_of-2.ensures) c.in_err-make_under.ensures.err))
-
-pub returns-in_err-make_under-clause-run : goal.returns-in_err-make_under-clause-run
-returns-in_err-make_under-clause-run g c =
-    let who = spec.caller c.args.session.now in
-    let s = spec.state g.R.Rng.stream c.args.session.now in
-    let m = spec.state g.R.Rng.stream c.locks_at.new.self in
-    runs_join s m (spec.state g.R.Rng.stream c.make_under.new.self) (runs_by who s m c.locks_at.ensures.run) c.make_under.ensures.run
+    c.locks_at.ensures.looks.who c.locks_at.ensures.looks.live c.in_ok-from_str.ensures.ok (ap (λ (path : PathText). segments path.bytes) c.in_ok-copy_of-2.ensures) c.in_err-make_under.ensures.err))
 
 pub returns-clause-made : goal.returns-clause-made
 returns-clause-made g c =
@@ -45,11 +35,12 @@ returns-clause-made g c =
     made_as s who c.args.token.now (segments c.args.path.now.bytes) c.args.missing after c.if-not-missing.false
     (at_start who (spec.caller c.locks_at.new.self) s m c.args.token.now (string_bytes c.in_ok-from_str.field-0) (segments c.args.path.now.bytes) (segments c.in_ok-copy_of-2.field-0.bytes)
     (λ t w token q. (reply : Reply) × Serves t (asking (also_naming w token) (Command.Put q [])) (Ok reply) after)
-    c.locks_at.ensures.caller c.locks_at.ensures.live c.in_ok-from_str.ensures.ok (ap (λ (path : PathText). segments path.bytes) c.in_ok-copy_of-2.ensures) c.in_ok-make_under.ensures.ok)
+    c.locks_at.ensures.looks.who c.locks_at.ensures.looks.live c.in_ok-from_str.ensures.ok (ap (λ (path : PathText). segments path.bytes) c.in_ok-copy_of-2.ensures) c.in_ok-make_under.ensures.ok)
 
-pub returns-clause-run : goal.returns-clause-run
-returns-clause-run g c =
-    let who = spec.caller c.args.session.now in
-    let s = spec.state g.R.Rng.stream c.args.session.now in
-    let m = spec.state g.R.Rng.stream c.locks_at.new.self in
-    runs_join s m (spec.state g.R.Rng.stream c.make_under.new.self) (runs_by who s m c.locks_at.ensures.run) c.make_under.ensures.run
+pub returns-in_err-make_under-clause-ran : goal.returns-in_err-make_under-clause-ran
+returns-in_err-make_under-clause-ran g c =
+    ran_on (acts_ran (looks_act c.locks_at.ensures.looks)) (record { run = c.make_under.ensures.run; who = c.make_under.ensures.caller })
+
+pub returns-clause-ran : goal.returns-clause-ran
+returns-clause-ran g c =
+    ran_on (acts_ran (looks_act c.locks_at.ensures.looks)) (record { run = c.make_under.ensures.run; who = c.make_under.ensures.caller })

@@ -2,16 +2,9 @@ use Rattle.std.proofs.Common.{◌≡◌, ◌∙◌, false, map, string_bytes, sy
 use Rattle.dav_path_core.specs.Segments.{segments}
 use Rattle.dav_fields_core.specs.IfTokens.{is_among}
 use Rattle.dav_session_core.specs.Sessions as spec
-use Rattle.dav_session_core.proofs.CallerLaws.{asks_of, by_none}
 use Rattle.dav_session_core.proofs.GrantLemmas.{not_above}
 use Rattle.dav_methods_core.proofs.LockLemmas.{back}
 use Rattle.dav_methods_core.proofs.methods.lock.forget.Goals as goal
-
-pub returns-else-not-is_among-clause-run : goal.returns-else-not-is_among-clause-run
-returns-else-not-is_among-clause-run g c =
-    let who = spec.caller c.args.session.now in
-    let s = spec.state g.R.Rng.stream c.args.session.now in
-    asks_of who s s (by_none who s)
 
 pub returns-then-not-is_among-clause-left : goal.returns-then-not-is_among-clause-left
 returns-then-not-is_among-clause-left g c = λ s l once is path named have only.

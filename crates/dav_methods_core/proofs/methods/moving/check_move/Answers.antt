@@ -5,7 +5,6 @@ use Rattle.dav_session_core.specs.Callers.{live}
 use Rattle.dav_session_core.specs.Clearing.{refusing_clearing}
 use Rattle.dav_session_core.specs.Removing.{refusing_removal}
 use Rattle.dav_session_core.specs.Sessions as spec
-use Rattle.dav_session_core.proofs.Asking.{join_as}
 use Rattle.dav_methods_core.proofs.MoveCheckLemmas.{none_goes, place_bare, place_cleared, place_fails, some_goes, source_fails}
 use Rattle.dav_methods_core.proofs.methods.moving.check_move.Goals as goal
 
@@ -24,14 +23,9 @@ returns-then-is_empty-clause-err g c =
     let to = segments c.args.to.now.bytes in
     let gone = map (λ p. segments p.bytes) c.args.gone.now in
     place_fails who (spec.caller c.check_one.new.self) s (spec.state g.R.Rng.stream c.check_one.new.self) (segments c.args.from.now.bytes) to gone
-    (λ t w. refusing_removal t w (to ∷ [])) c.check_one.ensures.caller c.check_one.ensures.live
+    (λ t w. refusing_removal t w (to ∷ [])) c.check_one.ensures.looks.who c.check_one.ensures.looks.live
     (place_bare (live who.now s) who to gone (none_goes (λ p. segments p.bytes) c.args.gone.now (sym c.is_empty.ensures ∙ c.if-is_empty.true)))
     c.check_one-then-is_empty.result c.check_one-then-is_empty.ensures.err
-
-pub returns-then-is_empty-clause-run : goal.returns-then-is_empty-clause-run
-returns-then-is_empty-clause-run g c =
-    join_as (spec.caller c.args.session.now) (spec.caller c.check_one.new.self) (spec.state g.R.Rng.stream c.args.session.now) (spec.state g.R.Rng.stream c.check_one.new.self)
-    (spec.state g.R.Rng.stream c.check_one-then-is_empty.new.self) c.check_one.ensures.caller c.check_one.ensures.run c.check_one-then-is_empty.ensures.run
 
 pub returns-clause-err : goal.returns-clause-err
 returns-clause-err g c =
@@ -40,11 +34,6 @@ returns-clause-err g c =
     let to = segments c.args.to.now.bytes in
     let gone = map (λ p. segments p.bytes) c.args.gone.now in
     place_fails who (spec.caller c.check_one.new.self) s (spec.state g.R.Rng.stream c.check_one.new.self) (segments c.args.from.now.bytes) to gone
-    (λ t w. refusing_clearing t w to gone) c.check_one.ensures.caller c.check_one.ensures.live
+    (λ t w. refusing_clearing t w to gone) c.check_one.ensures.looks.who c.check_one.ensures.looks.live
     (place_cleared (live who.now s) who to gone (some_goes (λ p. segments p.bytes) c.args.gone.now (sym c.is_empty.ensures ∙ c.if-is_empty.false)))
     c.check_clearing.result c.check_clearing.ensures.err
-
-pub returns-clause-run : goal.returns-clause-run
-returns-clause-run g c =
-    join_as (spec.caller c.args.session.now) (spec.caller c.check_one.new.self) (spec.state g.R.Rng.stream c.args.session.now) (spec.state g.R.Rng.stream c.check_one.new.self)
-    (spec.state g.R.Rng.stream c.check_clearing.new.self) c.check_one.ensures.caller c.check_one.ensures.run c.check_clearing.ensures.run

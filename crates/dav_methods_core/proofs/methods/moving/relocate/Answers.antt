@@ -8,10 +8,10 @@ use Rattle.dav_session_core.specs.Callers.{live}
 use Rattle.dav_session_core.specs.LocksInTheWay.{IsRefusedBy, by_place}
 use Rattle.dav_session_core.specs.Moving.{FailsToMove, refusing_move}
 use Rattle.dav_session_core.specs.Sessions as spec
-use Rattle.dav_session_core.proofs.Asking.{join_as}
-use Rattle.dav_session_core.proofs.CallerLaws.{by_none}
-use Rattle.dav_methods_core.proofs.MoveCheckLemmas.{move_all, move_begun, move_halted, move_locked, move_lost, move_ready, move_run, move_short, move_unfit}
+use Rattle.dav_methods_core.proofs.MoveCheckLemmas.{move_all, move_begun, move_halted, move_locked, move_lost, move_ready, move_short, move_unfit}
 use Rattle.dav_session_core.proofs.PutLemmas.{known_there}
+use Rattle.dav_session_core.proofs.Looking.{acts_on, looks_on}
+use Rattle.dav_methods_core.proofs.Acting.{looks_act}
 use Rattle.dav_methods_core.proofs.methods.moving.relocate.Goals as goal
 
 pub returns-in_err-check_whole-clause-err : goal.returns-in_err-check_whole-clause-err
@@ -19,9 +19,6 @@ returns-in_err-check_whole-clause-err g c =
     let q = err_from_is_err_and c.from_residual.result c.from_residual.ensures.1 in
     rw (q.1, q.2) (move_halted c.args.scheme c.args.prefix.now c.args.headers.now (spec.caller c.args.session.now) (spec.state g.R.Rng.stream c.args.session.now)
     (segments c.args.path.bytes) c.in_err-check_whole.field-0.0 c.in_err-check_whole.ensures.err)
-
-pub returns-in_err-check_whole-clause-run : goal.returns-in_err-check_whole-clause-run
-returns-in_err-check_whole-clause-run g c = by_none (spec.caller c.args.session.now) (spec.state g.R.Rng.stream c.args.session.now)
 
 pub returns-in_err-target-clause-err : goal.returns-in_err-target-clause-err
 returns-in_err-target-clause-err g c =
@@ -41,13 +38,8 @@ returns-in-Err-clause-err g c =
     let e = c.in-Err.fault in
     subst (FailsToMove c.args.scheme c.args.prefix.now c.args.headers.now (live who.now s) who from) (sym (c.by_place-in-Err.ensures ∙ ap (by_place from) c.by_place.ensures))
     (move_locked c.args.scheme c.args.prefix.now c.args.headers.now who s from to (option_map meta_of c.in_ok-target.field-0.known) gone c.in_ok-target.ensures.ok asker a e
-    c.in_ok-check_whole.ensures.ok c.ends_of.ensures.caller c.ends_of.ensures.live
+    c.in_ok-check_whole.ensures.ok c.ends_of.ensures.looks.who c.ends_of.ensures.looks.live
     (subst (λ xs. IsRefusedBy (refusing_move (live asker.now a) asker from (segments to.bytes) (map (λ q. segments q.bytes) xs)) e) c.deref.ensures.value c.in-Err.ensures.err))
-
-pub returns-in-Err-clause-run : goal.returns-in-Err-clause-run
-returns-in-Err-clause-run g c =
-    join_as (spec.caller c.args.session.now) (spec.caller c.ends_of.new.session) (spec.state g.R.Rng.stream c.args.session.now) (spec.state g.R.Rng.stream c.ends_of.new.session)
-    (spec.state g.R.Rng.stream c.check_move.new.session) c.ends_of.ensures.caller c.ends_of.ensures.run c.check_move.ensures.run
 
 pub returns-in_err-relocate-clause-err : goal.returns-in_err-relocate-clause-err
 returns-in_err-relocate-clause-err g c =
@@ -64,11 +56,11 @@ returns-in_err-relocate-clause-err g c =
     let known = option_map meta_of c.in_ok-target.field-0.known in
     let gone = map (λ q. segments q.bytes) c.in_ok-target.field-0.gone.items in
     let free = subst (λ xs. refusing_move (live asker.now a) asker from (segments to.bytes) (map (λ q. segments q.bytes) xs) ≡ []) c.deref.ensures.value c.in-Ok.ensures.ok in
-    let ready = move_ready c.args.scheme c.args.prefix.now c.args.headers.now who s from to known gone c.in_ok-target.ensures.ok asker a checker b m c.ends_of.ensures.caller c.ends_of.ensures.live
-    c.check_move.ensures.caller c.check_move.ensures.live free c.in-Ok.ensures.shape c.clear.ensures.run c.clear.ensures.cleared in
+    let ready = move_ready c.args.scheme c.args.prefix.now c.args.headers.now who s from to known gone c.in_ok-target.ensures.ok asker a checker b m c.ends_of.ensures.looks.who c.ends_of.ensures.looks.live
+    c.check_move.ensures.looks.who c.check_move.ensures.looks.live free c.in-Ok.ensures.shape c.clear.ensures.acts.run c.clear.ensures.cleared in
     let mover = spec.caller c.clear.new.self in
     let after = spec.state g.R.Rng.stream c.relocate.new.self in
-    let by = c.clear.ensures.caller ∙ c.check_move.ensures.caller ∙ c.ends_of.ensures.caller in
+    let by = c.clear.ensures.acts.who ∙ c.check_move.ensures.looks.who ∙ c.ends_of.ensures.looks.who in
     let short = move_short c.args.scheme c.args.prefix.now c.args.headers.now who s from to known gone c.in_ok-target.ensures.ok m ready mover after by c.in_err-relocate.field-0.0
     c.in_err-relocate.ensures.err in
     rw (q.1, q.2) (move_lost c.args.scheme c.args.prefix.now c.args.headers.now who s from c.in_err-relocate.field-0.0 short)
@@ -88,22 +80,15 @@ returns-in_err-relocate-clause-left g c =
     let known = option_map meta_of c.in_ok-target.field-0.known in
     let gone = map (λ q. segments q.bytes) c.in_ok-target.field-0.gone.items in
     let free = subst (λ xs. refusing_move (live asker.now a) asker from (segments to.bytes) (map (λ q. segments q.bytes) xs) ≡ []) c.deref.ensures.value c.in-Ok.ensures.ok in
-    let ready = move_ready c.args.scheme c.args.prefix.now c.args.headers.now who s from to known gone c.in_ok-target.ensures.ok asker a checker b m c.ends_of.ensures.caller c.ends_of.ensures.live
-    c.check_move.ensures.caller c.check_move.ensures.live free c.in-Ok.ensures.shape c.clear.ensures.run c.clear.ensures.cleared in
+    let ready = move_ready c.args.scheme c.args.prefix.now c.args.headers.now who s from to known gone c.in_ok-target.ensures.ok asker a checker b m c.ends_of.ensures.looks.who c.ends_of.ensures.looks.live
+    c.check_move.ensures.looks.who c.check_move.ensures.looks.live free c.in-Ok.ensures.shape c.clear.ensures.acts.run c.clear.ensures.cleared in
     let mover = spec.caller c.clear.new.self in
     let after = spec.state g.R.Rng.stream c.relocate.new.self in
-    let by = c.clear.ensures.caller ∙ c.check_move.ensures.caller ∙ c.ends_of.ensures.caller in
+    let by = c.clear.ensures.acts.who ∙ c.check_move.ensures.looks.who ∙ c.ends_of.ensures.looks.who in
     let short = move_short c.args.scheme c.args.prefix.now c.args.headers.now who s from to known gone c.in_ok-target.ensures.ok m ready mover after by c.in_err-relocate.field-0.0
     c.in_err-relocate.ensures.err in
     rw (q.1, q.2) (move_begun c.args.scheme c.args.prefix.now c.args.headers.now who s from to known gone c.in_ok-target.ensures.ok m ready mover after by
     c.in_err-relocate.field-0.0 short c.in_err-relocate.ensures.refused)
-
-pub returns-in_err-relocate-clause-run : goal.returns-in_err-relocate-clause-run
-returns-in_err-relocate-clause-run g c =
-    move_run (spec.caller c.args.session.now) (spec.caller c.ends_of.new.session) (spec.caller c.check_move.new.session) (spec.caller c.clear.new.self)
-    (spec.state g.R.Rng.stream c.args.session.now) (spec.state g.R.Rng.stream c.ends_of.new.session) (spec.state g.R.Rng.stream c.check_move.new.session)
-    (spec.state g.R.Rng.stream c.clear.new.self) (spec.state g.R.Rng.stream c.relocate.new.self) c.ends_of.ensures.caller c.check_move.ensures.caller c.clear.ensures.caller
-    c.ends_of.ensures.run c.check_move.ensures.run c.clear.ensures.run c.relocate.ensures.run
 
 pub returns-clause-done : goal.returns-clause-done
 returns-clause-done g c =
@@ -121,14 +106,15 @@ returns-clause-done g c =
     let free = subst (λ xs. refusing_move (live asker.now a) asker from (segments to.bytes) (map (λ q. segments q.bytes) xs) ≡ []) c.deref.ensures.value c.in-Ok.ensures.ok in
     let there = known_there meta_of (λ (r : Resource). meta_at r.node) c.in_ok-target.field-0.known (at_path s.map (segments to.bytes)) c.in_ok-target.ensures.ok.known_is in
     move_all c.args.scheme c.args.prefix.now c.args.headers.now who s from to known gone c.in_ok-target.ensures.ok m
-    (move_ready c.args.scheme c.args.prefix.now c.args.headers.now who s from to known gone c.in_ok-target.ensures.ok asker a checker b m c.ends_of.ensures.caller c.ends_of.ensures.live
-    c.check_move.ensures.caller c.check_move.ensures.live free c.in-Ok.ensures.shape c.clear.ensures.run c.clear.ensures.cleared)
-    (spec.caller c.clear.new.self) (spec.state g.R.Rng.stream c.relocate.new.self) (c.clear.ensures.caller ∙ c.check_move.ensures.caller ∙ c.ends_of.ensures.caller)
+    (move_ready c.args.scheme c.args.prefix.now c.args.headers.now who s from to known gone c.in_ok-target.ensures.ok asker a checker b m c.ends_of.ensures.looks.who c.ends_of.ensures.looks.live
+    c.check_move.ensures.looks.who c.check_move.ensures.looks.live free c.in-Ok.ensures.shape c.clear.ensures.acts.run c.clear.ensures.cleared)
+    (spec.caller c.clear.new.self) (spec.state g.R.Rng.stream c.relocate.new.self) (c.clear.ensures.acts.who ∙ c.check_move.ensures.looks.who ∙ c.ends_of.ensures.looks.who)
     c.done.result c.in_ok-check_whole.ensures.ok (c.done.ensures ∙ ap (λ b. cond b 204 201) there) c.in_ok-relocate.ensures.moved
 
-pub returns-clause-run : goal.returns-clause-run
-returns-clause-run g c =
-    move_run (spec.caller c.args.session.now) (spec.caller c.ends_of.new.session) (spec.caller c.check_move.new.session) (spec.caller c.clear.new.self)
-    (spec.state g.R.Rng.stream c.args.session.now) (spec.state g.R.Rng.stream c.ends_of.new.session) (spec.state g.R.Rng.stream c.check_move.new.session)
-    (spec.state g.R.Rng.stream c.clear.new.self) (spec.state g.R.Rng.stream c.relocate.new.self) c.ends_of.ensures.caller c.check_move.ensures.caller c.clear.ensures.caller
-    c.ends_of.ensures.run c.check_move.ensures.run c.clear.ensures.run c.relocate.ensures.run
+pub returns-in_err-relocate-clause-acts : goal.returns-in_err-relocate-clause-acts
+returns-in_err-relocate-clause-acts g c =
+    acts_on (looks_act (looks_on c.ends_of.ensures.looks c.check_move.ensures.looks)) (acts_on c.clear.ensures.acts c.relocate.ensures.acts)
+
+pub returns-clause-acts : goal.returns-clause-acts
+returns-clause-acts g c =
+    acts_on (looks_act (looks_on c.ends_of.ensures.looks c.check_move.ensures.looks)) (acts_on c.clear.ensures.acts c.relocate.ensures.acts)

@@ -8,26 +8,22 @@ use Rattle.dav_fields_core.specs.Fields.{values_in}
 use Rattle.dav_documents_core.specs.RefusalBodies.{xml_type}
 use Rattle.dav_methods_core.specs.Finding.{DescribesEach}
 use Rattle.dav_documents_core.specs.Pieces.{written_pieces}
-use Rattle.dav_documents_core.specs.Private.Asking.{question_of}
-use Rattle.dav_session_core.specs.Private.Placed.{AllStand}
+use Rattle.dav_documents_core.specs.QuestionViews.{question_of}
+use Rattle.dav_session_core.specs.Placed.{AllStand}
 use Rattle.dav_documents_core.specs.PropertyDocuments.{multistatus}
 use Rattle.dav_session_core.specs.Sessions as spec
-use Rattle.dav_session_core.proofs.Asking.{join_as}
-use Rattle.dav_session_core.proofs.CallerLaws.{by_none}
-use Rattle.dav_session_core.proofs.ConditionLemmas.{looks_none, looks_on, same_state}
+use Rattle.dav_methods_core.proofs.Acting.{held_before}
 use Rattle.dav_methods_core.proofs.FindingLemmas.{by_depth, by_memory, by_places, by_question}
 use Rattle.dav_methods_core.proofs.methods.propfind.propfind.Goals as goal
 
 pub returns-clause-done : goal.returns-clause-done
 returns-clause-done g c =
-    let who = spec.caller c.args.session.now in
-    let start = spec.state g.R.Rng.stream c.args.session.now in
     let asker = spec.caller c.places_within.new.self in
     let mid = spec.state g.R.Rng.stream c.places_within.new.self in
     let question = question_of c.in_ok-question.question in
-    let looks = looks_on who start who start asker mid (looks_none who start) c.places_within.ensures.run c.places_within.ensures.live c.places_within.ensures.caller in
+    let looks = c.places_within.ensures.looks in
     let told = c.in_ok-document.ensures.ok in
-    let named = ap (λ (principal : Option (List ℕ)). written_pieces (multistatus c.args.prefix.now principal question told.0)) (ap (λ (w : Caller). w.principal) looks.caller) in (
+    let named = ap (λ (principal : Option (List ℕ)). written_pieces (multistatus c.args.prefix.now principal question told.0)) (ap (λ (w : Caller). w.principal) looks.who) in (
       refl,
       record {
         depth = c.in_ok-depth.depth;
@@ -38,7 +34,7 @@ returns-clause-done g c =
         places = map (λ p. segments p.bytes) c.in_ok-places.places.items;
         within = c.in_ok-places.ensures.ok;
         resources = told.0;
-        described = subst (λ (s : State). DescribesEach c.args.prefix.now s (map (λ p. segments p.bytes) c.in_ok-places.places.items) told.0) (same_state who start asker mid looks)
+        described = held_before (λ w (s : State). DescribesEach c.args.prefix.now s (map (λ p. segments p.bytes) c.in_ok-places.places.items) told.0) looks
             (subst (λ (places : List PathText). DescribesEach c.args.prefix.now (live asker.now mid) (map (λ p. segments p.bytes) places) told.0) c.deref.ensures.value told.1);
         told_is = c.in_ok-say_document.ensures.body ∙ ap (λ (before : List ℕ). before ++ c.in_ok-document.document.items) c.requires.body ∙ told.2 ∙ named;
       },
@@ -49,31 +45,7 @@ returns-clause-done g c =
 pub tell-requires : goal.tell-requires
 tell-requires g c =
     subst (λ (places : List PathText). AllStand (spec.state g.R.Rng.stream c.places_within.new.self).map (map (λ p. segments p.bytes) places)) (sym c.deref.ensures.value)
-    (subst (λ m. AllStand m (map (λ p. segments p.bytes) c.in_ok-places.places.items)) (sym (ap (λ (s : State). s.map) c.places_within.ensures.live)) c.in_ok-places.ensures.stand)
-
-pub returns-clause-run : goal.returns-clause-run
-returns-clause-run g c =
-    join_as (spec.caller c.args.session.now) (spec.caller c.places_within.new.self) (spec.state g.R.Rng.stream c.args.session.now)
-    (spec.state g.R.Rng.stream c.places_within.new.self) (spec.state g.R.Rng.stream c.tell.new.session) c.places_within.ensures.caller
-    c.places_within.ensures.run c.tell.ensures.run
-
-pub returns-in_err-document-clause-run : goal.returns-in_err-document-clause-run
-returns-in_err-document-clause-run g c =
-    join_as (spec.caller c.args.session.now) (spec.caller c.places_within.new.self) (spec.state g.R.Rng.stream c.args.session.now)
-    (spec.state g.R.Rng.stream c.places_within.new.self) (spec.state g.R.Rng.stream c.tell.new.session) c.places_within.ensures.caller
-    c.places_within.ensures.run c.tell.ensures.run
-
-pub returns-in_err-say_document-clause-run : goal.returns-in_err-say_document-clause-run
-returns-in_err-say_document-clause-run g c =
-    join_as (spec.caller c.args.session.now) (spec.caller c.places_within.new.self) (spec.state g.R.Rng.stream c.args.session.now)
-    (spec.state g.R.Rng.stream c.places_within.new.self) (spec.state g.R.Rng.stream c.tell.new.session) c.places_within.ensures.caller
-    c.places_within.ensures.run c.tell.ensures.run
-
-pub returns-in_err-depth-clause-run : goal.returns-in_err-depth-clause-run
-returns-in_err-depth-clause-run g c = by_none (spec.caller c.args.session.now) (spec.state g.R.Rng.stream c.args.session.now)
-
-pub returns-in_err-question-clause-run : goal.returns-in_err-question-clause-run
-returns-in_err-question-clause-run g c = by_none (spec.caller c.args.session.now) (spec.state g.R.Rng.stream c.args.session.now)
+    (subst (λ m. AllStand m (map (λ p. segments p.bytes) c.in_ok-places.places.items)) (sym (ap (λ (s : State). s.map) c.places_within.ensures.looks.live)) c.in_ok-places.ensures.stand)
 
 pub returns-in_err-depth-clause-err : goal.returns-in_err-depth-clause-err
 returns-in_err-depth-clause-err g c =

@@ -2,16 +2,12 @@ use Rattle.std.proofs.Common.{[], codes, ap, sym, ◌∙◌}
 use Rattle.std.specs.Prelude.{flat_map}
 use Rattle.dav_xml_core.specs.Writing.{Writing, in_document, unwritten, with_end, with_start}
 use Rattle.dav_documents_core.specs.Pieces.{with_pieces, written_pieces}
-use Rattle.dav_documents_core.specs.Private.Asking.{question_of}
+use Rattle.dav_documents_core.specs.QuestionViews.{question_of}
 use Rattle.dav_documents_core.specs.PropertyDocuments.{response_pieces}
 use Rattle.dav_documents_core.specs.RefusalBodies.{dav_name}
 use Rattle.dav_session_core.specs.Sessions as spec
-use Rattle.dav_session_core.proofs.CallerLaws.{by_none}
 use Rattle.dav_documents_core.proofs.PieceLemmas.{in_element}
 use Rattle.dav_methods_core.proofs.methods.propfind.tell.Goals as goal
-
-pub returns-in_err-begin-clause-run : goal.returns-in_err-begin-clause-run
-returns-in_err-begin-clause-run g c = by_none (spec.caller c.args.session.now) (spec.state g.R.Rng.stream c.args.session.now)
 
 pub returns-clause-ok : goal.returns-clause-ok
 unfolding written_pieces

@@ -1,20 +1,21 @@
-use Rattle.std.proofs.Common.{ℕ, List, Option, map, sym, ap, subst}
+use Rattle.std.proofs.Common.{map, sym, ap, subst}
 use Rattle.std.proofs.lemmas.List.{drop_all}
 use Rattle.dav_path_core.specs.Segments.{segments}
 use Rattle.dav_xml_core.specs.Views.{writing_of}
 use Rattle.dav_resource_core.specs.Step.{State}
 use Rattle.dav_session_core.specs.Callers.{Caller, live}
-use Rattle.dav_documents_core.specs.Private.Asking.{question_of}
+use Rattle.dav_documents_core.specs.QuestionViews.{question_of}
 use Rattle.dav_methods_core.specs.Private.Telling.{TellsEach, TellsOne}
 use Rattle.dav_session_core.specs.Sessions as spec
-use Rattle.dav_session_core.proofs.ConditionLemmas.{looks_none, looks_on, same_state}
+use Rattle.dav_session_core.proofs.Looking.{looks_none, looks_on}
+use Rattle.dav_methods_core.proofs.Acting.{held_before}
 use Rattle.dav_methods_core.proofs.FindingLemmas.{tells_none, tells_on}
 use Rattle.dav_session_core.proofs.PlaceLemmas.{stands_at}
 use Rattle.dav_methods_core.proofs.methods.propfind.tell_each.Goals as goal
 
 pub loop-place-init : goal.loop-place-init
 loop-place-init g c = record {
-  looks = looks_none (spec.caller c.args.session.now) (spec.state g.R.Rng.stream c.args.session.now);
+  looks = looks_none g.R.Rng.stream c.args.session.now;
   goes_on = λ now told. told;
 }
 
@@ -24,26 +25,16 @@ tell_one-requires g c =
     stands_at (λ p. segments p.bytes) start.map (spec.state g.R.Rng.stream c.loop-place.session).map c.args.places.now c.loop-place.place-index c.place-item.result
     c.loop-place-test.true c.place-item.is c.requires (ap (λ (s : State). s.map) c.loop-place.invariant.looks.live)
 
-pub returns-in_err-tell_one-clause-run : goal.returns-in_err-tell_one-clause-run
-returns-in_err-tell_one-clause-run g c =
-    (looks_on (spec.caller c.args.session.now) (spec.state g.R.Rng.stream c.args.session.now) (spec.caller c.loop-place.session) (spec.state g.R.Rng.stream c.loop-place.session)
-    (spec.caller c.tell_one.new.session) (spec.state g.R.Rng.stream c.tell_one.new.session) c.loop-place.invariant.looks c.tell_one.ensures.run c.tell_one.ensures.live c.tell_one.ensures.caller).run
-
 pub loop-place-preserved : goal.loop-place-preserved
 loop-place-preserved g c =
     let who = spec.caller c.args.session.now in
     let start = spec.state g.R.Rng.stream c.args.session.now in
-    let asker = spec.caller c.loop-place.session in
-    let mid = spec.state g.R.Rng.stream c.loop-place.session in
     let p = segments c.place-item.result.bytes in
     let question = question_of c.args.question.now in
-    let named = subst (λ (principal : Option (List ℕ)). TellsOne c.args.prefix.now (live asker.now mid) principal question p (writing_of c.loop-place.writer) (writing_of c.tell_one.new.writer))
-    (ap (λ (w : Caller). w.principal) c.loop-place.invariant.looks.caller) c.in_ok-tell_one.ensures.ok in
-    let one = subst (λ (s : State). TellsOne c.args.prefix.now s who.principal question p (writing_of c.loop-place.writer) (writing_of c.tell_one.new.writer))
-    (same_state who start asker mid c.loop-place.invariant.looks) named in
+    let one = held_before (λ (w : Caller) (s : State). TellsOne c.args.prefix.now s w.principal question p (writing_of c.loop-place.writer) (writing_of c.tell_one.new.writer))
+    c.loop-place.invariant.looks c.in_ok-tell_one.ensures.ok in
     record {
-      looks = looks_on who start asker mid (spec.caller c.tell_one.new.session) (spec.state g.R.Rng.stream c.tell_one.new.session) c.loop-place.invariant.looks
-          c.tell_one.ensures.run c.tell_one.ensures.live c.tell_one.ensures.caller;
+      looks = looks_on c.loop-place.invariant.looks c.tell_one.ensures.looks;
       goes_on = λ now rest. tells_on c.args.prefix.now (live who.now start) who.principal question (λ q. segments q.bytes) c.args.places.now c.loop-place.place-index c.place-item.result
           (writing_of c.loop-place.writer) (writing_of c.tell_one.new.writer) now (writing_of c.args.writer.now) c.loop-place-test.true c.place-item.is one
           (c.loop-place.invariant.goes_on now) rest;

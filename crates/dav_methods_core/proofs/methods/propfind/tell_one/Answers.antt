@@ -5,8 +5,8 @@ use Rattle.dav_files_core.specs.Resources.{at_path}
 use Rattle.dav_xml_core.specs.Views.{writing_of}
 use Rattle.dav_session_core.specs.Callers.{Caller}
 use Rattle.dav_documents_core.specs.Pieces.{with_pieces}
-use Rattle.dav_documents_core.specs.Private.Asking.{question_of}
-use Rattle.dav_documents_core.specs.Private.Describing.{description_of}
+use Rattle.dav_documents_core.specs.QuestionViews.{question_of}
+use Rattle.dav_documents_core.specs.DescriptionViews.{description_of}
 use Rattle.dav_documents_core.specs.PropertyDocuments.{response_pieces}
 use Rattle.dav_session_core.specs.Sessions as spec
 use Rattle.dav_session_core.proofs.PlaceLemmas.{short_of}
@@ -21,7 +21,7 @@ returns-in_err-description-clause-err g c =
 pub returns-clause-ok : goal.returns-clause-ok
 returns-clause-ok g c =
     let d = description_of c.in_ok-description.description in
-    let named = c.principal.ensures ∙ ap (λ (who : Caller). who.principal) c.describe.ensures.caller in
+    let named = c.principal.ensures ∙ ap (λ (who : Caller). who.principal) c.describe.ensures.looks.who in
     record {
       resource = d;
       described = c.in_ok-description.ensures.ok;

@@ -8,12 +8,8 @@ use Rattle.dav_documents_core.specs.RefusalBodies.{xml_type}
 use Rattle.dav_documents_core.specs.PatchBodies.{any_protected, patch_nodes}
 use Rattle.dav_session_core.specs.Patching.{Changes}
 use Rattle.dav_session_core.specs.Sessions as spec
-use Rattle.dav_session_core.proofs.Asking.{join_as, live_once}
-use Rattle.dav_session_core.proofs.CallerLaws.{by_none}
+use Rattle.dav_session_core.proofs.Asking.{live_once}
 use Rattle.dav_methods_core.proofs.methods.proppatch.proppatch.Goals as goal
-
-pub returns-in_err-updates-clause-run : goal.returns-in_err-updates-clause-run
-returns-in_err-updates-clause-run g c = by_none (spec.caller c.args.session.now) (spec.state g.R.Rng.stream c.args.session.now)
 
 pub returns-then-any_protected-clause-done : goal.returns-then-any_protected-clause-done
 returns-then-any_protected-clause-done g c =
@@ -23,7 +19,7 @@ returns-then-any_protected-clause-done g c =
     let p = segments c.args.path.bytes in
     let updates = map entry_of c.in_ok-updates.updates.items in
     let some : any_protected updates ≡ true = ap (λ us. any_protected (map entry_of us)) (sym c.deref-2.ensures.value) ∙ sym c.any_protected.ensures ∙ c.if-any_protected.true in
-    let same : Changes true who.now p updates (live who.now s) after = c.check_standing.ensures.live ∙ sym (live_once who.now s) in
+    let same : Changes true who.now p updates (live who.now s) after = c.check_standing.ensures.looks.live ∙ sym (live_once who.now s) in
     record {
       status_is = refl;
       updates = updates;
@@ -36,15 +32,3 @@ returns-then-any_protected-clause-done g c =
       typed = ap (λ fields. values_in fields (codes "content-type"))
           (c.in_ok-say_document.ensures.fields ∙ ap (λ front. front ++ (codes "content-type", xml_type) ∷ []) c.requires.headers);
     }
-
-pub returns-in_err-patch-clause-run : goal.returns-in_err-patch-clause-run
-returns-in_err-patch-clause-run g c =
-    join_as (spec.caller c.args.session.now) (spec.caller c.check_standing.new.session) (spec.state g.R.Rng.stream c.args.session.now)
-    (spec.state g.R.Rng.stream c.check_standing.new.session) (spec.state g.R.Rng.stream c.patch.new.self) c.check_standing.ensures.caller c.check_standing.ensures.run
-    c.patch.ensures.run
-
-pub returns-clause-run : goal.returns-clause-run
-returns-clause-run g c =
-    join_as (spec.caller c.args.session.now) (spec.caller c.check_standing.new.session) (spec.state g.R.Rng.stream c.args.session.now)
-    (spec.state g.R.Rng.stream c.check_standing.new.session) (spec.state g.R.Rng.stream c.patch.new.self) c.check_standing.ensures.caller c.check_standing.ensures.run
-    c.patch.ensures.run

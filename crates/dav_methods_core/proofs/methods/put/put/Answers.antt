@@ -1,4 +1,4 @@
-use Rattle.std.proofs.Common.{refl, Ok, Err, ◌≡◌, ◌∙◌, sym, ap, subst, is_some, if◌then◌else◌}
+use Rattle.std.proofs.Common.{Ok, Err, ◌≡◌, ◌∙◌, sym, ap, subst, is_some, if◌then◌else◌, refl}
 use Rattle.std.specs.Prelude.{option_map}
 use Rattle.std.proofs.lemmas.Result.{err_from_is_err_and}
 use Rattle.dav_path_core.specs.Segments.{segments}
@@ -8,24 +8,13 @@ use Rattle.dav_resource_core.specs.Requests.{Command}
 use Rattle.dav_resource_core.specs.Served.{reply_of, refusal_of}
 use Rattle.dav_resource_core.specs.Step.{State}
 use Rattle.dav_session_core.specs.Putting.{FailsToPut}
-use Rattle.dav_session_core.specs.Private.Placing.{HasPlace}
-use Rattle.dav_session_core.specs.Private.Refusing.{put_fault}
+use Rattle.dav_session_core.specs.Placing.{HasPlace}
+use Rattle.dav_session_core.specs.StoreRefusals.{put_fault}
 use Rattle.dav_session_core.specs.Sessions as spec
-use Rattle.dav_session_core.proofs.Asking.{join_as, live_as}
-use Rattle.dav_session_core.proofs.CallerLaws.{by_none}
+use Rattle.dav_session_core.proofs.Looking.{looks_on, acts_on}
 use Rattle.dav_session_core.proofs.PutLemmas.{after_look, course_there, free_way, known_at, known_there, lacks_place_at, locked, put_done, put_refused, withheld}
+use Rattle.dav_methods_core.proofs.Acting.{looks_act}
 use Rattle.dav_methods_core.proofs.methods.put.put.Goals as goal
-
-pub returns-in_err-copy_of-clause-run : goal.returns-in_err-copy_of-clause-run
-returns-in_err-copy_of-clause-run g c = by_none (spec.caller c.args.session.now) (spec.state g.R.Rng.stream c.args.session.now)
-
-pub returns-in_err-check_locks-clause-run : goal.returns-in_err-check_locks-clause-run
-returns-in_err-check_locks-clause-run g c =
-    let who = spec.caller c.args.session.now in
-    let s = spec.state g.R.Rng.stream c.args.session.now in
-    let run = join_as who (spec.caller c.meta-known.new.self) s (spec.state g.R.Rng.stream c.meta-known.new.self) (spec.state g.R.Rng.stream c.check_locks.new.session)
-    c.meta-known.ensures.caller c.meta-known.ensures.run c.check_locks.ensures.run in
-    run
 
 pub returns-in_err-check_locks-clause-err : goal.returns-in_err-check_locks-clause-err
 returns-in_err-check_locks-clause-err g c =
@@ -38,7 +27,7 @@ returns-in_err-check_locks-clause-err g c =
     let there : c.is_some.result ≡ is_some (at_path s.map (segments c.args.path.bytes)) =
     c.is_some.ensures ∙ known_there meta_of (λ (r : Resource). meta_at r.node) c.meta-known.result (at_path s.map (segments c.args.path.bytes)) found in
     rw (p.1, p.2) (locked who (spec.caller c.meta-known.new.self) s (spec.state g.R.Rng.stream c.meta-known.new.self) (segments c.args.path.bytes) c.args.bytes c.args.headers.now
-    c.is_some.result c.in_err-check_locks.field-0.0 c.meta-known.ensures.caller c.meta-known.ensures.live there c.in_err-check_locks.ensures.err)
+    c.is_some.result c.in_err-check_locks.field-0.0 c.meta-known.ensures.looks.who c.meta-known.ensures.looks.live there c.in_err-check_locks.ensures.err)
 
 pub returns-in_err-check_place-clause-err : goal.returns-in_err-check_place-clause-err
 returns-in_err-check_place-clause-err g c =
@@ -51,20 +40,10 @@ returns-in_err-check_place-clause-err g c =
     let there : c.is_some.result ≡ is_some (at_path s.map (segments c.args.path.bytes)) =
     c.is_some.ensures ∙ known_there meta_of (λ (r : Resource). meta_at r.node) c.meta-known.result (at_path s.map (segments c.args.path.bytes)) found in
     let free = free_way who (spec.caller c.meta-known.new.self) s (spec.state g.R.Rng.stream c.meta-known.new.self) (segments c.args.path.bytes) c.args.bytes c.is_some.result
-    c.meta-known.ensures.caller c.meta-known.ensures.live there c.in_ok-check_locks.ensures.ok in
-    let locked = live_as who (spec.caller c.meta-known.new.self) s (spec.state g.R.Rng.stream c.meta-known.new.self) (spec.state g.R.Rng.stream c.check_locks.new.session)
-    c.meta-known.ensures.caller c.meta-known.ensures.live c.check_locks.ensures.live in
+    c.meta-known.ensures.looks.who c.meta-known.ensures.looks.live there c.in_ok-check_locks.ensures.ok in
+    let locked = looks_on c.meta-known.ensures.looks c.check_locks.ensures.looks in
     rw (p.1, p.2) (lacks_place_at who s (segments c.args.path.bytes) c.args.bytes c.args.headers.now known c.in_err-check_place.field-0.0 found free
-    (spec.state g.R.Rng.stream c.check_locks.new.session) (ap (λ (t : State). t.map) locked) c.in_err-check_place.ensures.err)
-
-pub returns-in_err-check_place-clause-run : goal.returns-in_err-check_place-clause-run
-returns-in_err-check_place-clause-run g c =
-    let who = spec.caller c.args.session.now in
-    let s = spec.state g.R.Rng.stream c.args.session.now in
-    let run = join_as who (spec.caller c.meta-known.new.self) s (spec.state g.R.Rng.stream c.meta-known.new.self) (spec.state g.R.Rng.stream c.check_locks.new.session)
-    c.meta-known.ensures.caller c.meta-known.ensures.run c.check_locks.ensures.run in
-    join_as who (spec.caller c.check_locks.new.session) s (spec.state g.R.Rng.stream c.check_locks.new.session) (spec.state g.R.Rng.stream c.check_place.new.session)
-    (c.check_locks.ensures.caller ∙ c.meta-known.ensures.caller) run c.check_place.ensures.run
+    (spec.state g.R.Rng.stream c.check_locks.new.session) (ap (λ (t : State). t.map) locked.live) c.in_err-check_place.ensures.err)
 
 pub returns-in_err-check_conditions-clause-err : goal.returns-in_err-check_conditions-clause-err
 returns-in_err-check_conditions-clause-err g c =
@@ -77,29 +56,10 @@ returns-in_err-check_conditions-clause-err g c =
     let there : c.is_some.result ≡ is_some (at_path s.map (segments c.args.path.bytes)) =
     c.is_some.ensures ∙ known_there meta_of (λ (r : Resource). meta_at r.node) c.meta-known.result (at_path s.map (segments c.args.path.bytes)) found in
     let free = free_way who (spec.caller c.meta-known.new.self) s (spec.state g.R.Rng.stream c.meta-known.new.self) (segments c.args.path.bytes) c.args.bytes c.is_some.result
-    c.meta-known.ensures.caller c.meta-known.ensures.live there c.in_ok-check_locks.ensures.ok in
-    let locked = live_as who (spec.caller c.meta-known.new.self) s (spec.state g.R.Rng.stream c.meta-known.new.self) (spec.state g.R.Rng.stream c.check_locks.new.session)
-    c.meta-known.ensures.caller c.meta-known.ensures.live c.check_locks.ensures.live in
-    let place = subst (λ m. HasPlace m (segments c.args.path.bytes) known) (ap (λ (t : State). t.map) locked) c.in_ok-check_place.ensures.ok in
+    c.meta-known.ensures.looks.who c.meta-known.ensures.looks.live there c.in_ok-check_locks.ensures.ok in
+    let locked = looks_on c.meta-known.ensures.looks c.check_locks.ensures.looks in
+    let place = subst (λ m. HasPlace m (segments c.args.path.bytes) known) (ap (λ (t : State). t.map) locked.live) c.in_ok-check_place.ensures.ok in
     rw (p.1, p.2) (withheld who s (segments c.args.path.bytes) c.args.bytes c.args.headers.now known c.in_err-check_conditions.field-0.0 found free place c.in_err-check_conditions.ensures.err)
-
-pub returns-in_err-check_conditions-clause-run : goal.returns-in_err-check_conditions-clause-run
-returns-in_err-check_conditions-clause-run g c =
-    let who = spec.caller c.args.session.now in
-    let s = spec.state g.R.Rng.stream c.args.session.now in
-    let run = join_as who (spec.caller c.meta-known.new.self) s (spec.state g.R.Rng.stream c.meta-known.new.self) (spec.state g.R.Rng.stream c.check_locks.new.session)
-    c.meta-known.ensures.caller c.meta-known.ensures.run c.check_locks.ensures.run in
-    join_as who (spec.caller c.check_locks.new.session) s (spec.state g.R.Rng.stream c.check_locks.new.session) (spec.state g.R.Rng.stream c.check_place.new.session)
-    (c.check_locks.ensures.caller ∙ c.meta-known.ensures.caller) run c.check_place.ensures.run
-
-pub returns-in_err-say_tag-clause-run : goal.returns-in_err-say_tag-clause-run
-returns-in_err-say_tag-clause-run g c =
-    let who = spec.caller c.args.session.now in
-    let s = spec.state g.R.Rng.stream c.args.session.now in
-    let run = join_as who (spec.caller c.meta-known.new.self) s (spec.state g.R.Rng.stream c.meta-known.new.self) (spec.state g.R.Rng.stream c.check_locks.new.session)
-    c.meta-known.ensures.caller c.meta-known.ensures.run c.check_locks.ensures.run in
-    join_as who (spec.caller c.check_locks.new.session) s (spec.state g.R.Rng.stream c.check_locks.new.session) (spec.state g.R.Rng.stream c.check_place.new.session)
-    (c.check_locks.ensures.caller ∙ c.meta-known.ensures.caller) run c.check_place.ensures.run
 
 pub returns-in-Ok-clause-done : goal.returns-in-Ok-clause-done
 returns-in-Ok-clause-done g c =
@@ -110,38 +70,24 @@ returns-in-Ok-clause-done g c =
     c.meta-known.ensures.found ∙ ap (λ p. known_at s.map (segments p.bytes)) c.in_ok-copy_of.ensures in
     let there : c.is_some.result ≡ is_some (at_path s.map (segments c.args.path.bytes)) =
     c.is_some.ensures ∙ known_there meta_of (λ (r : Resource). meta_at r.node) c.meta-known.result (at_path s.map (segments c.args.path.bytes)) found in
-    let locked = live_as who (spec.caller c.meta-known.new.self) s (spec.state g.R.Rng.stream c.meta-known.new.self) (spec.state g.R.Rng.stream c.check_locks.new.session)
-    c.meta-known.ensures.caller c.meta-known.ensures.live c.check_locks.ensures.live in
-    let placed = live_as who (spec.caller c.check_locks.new.session) s (spec.state g.R.Rng.stream c.check_locks.new.session) (spec.state g.R.Rng.stream c.check_place.new.session)
-    (c.check_locks.ensures.caller ∙ c.meta-known.ensures.caller) locked c.check_place.ensures.live in
+    let locked = looks_on c.meta-known.ensures.looks c.check_locks.ensures.looks in
+    let placed = looks_on locked c.check_place.ensures.looks in
     let at : is_some c.meta-known.result ≡ is_some (at_path s.map (segments c.args.path.bytes)) =
     known_there meta_of (λ (r : Resource). meta_at r.node) c.meta-known.result (at_path s.map (segments c.args.path.bytes)) found in (
       c.done.ensures ∙ ap (λ b. if b then 204 else 201) at,
       put_done who s (spec.state g.R.Rng.stream c.ask.new.self) (segments c.args.path.bytes) c.args.bytes (reply_of c.in-Ok.field-0)
           (after_look who (spec.caller c.check_place.new.session) s (spec.state g.R.Rng.stream c.check_place.new.session) (spec.state g.R.Rng.stream c.ask.new.self)
           (Command.Put (segments c.args.path.bytes) c.args.bytes) (Ok (reply_of c.in-Ok.field-0))
-          (c.check_place.ensures.caller ∙ c.check_locks.ensures.caller ∙ c.meta-known.ensures.caller) placed c.in-Ok.ensures.step),
+          placed.who placed.live c.in-Ok.ensures.step),
     )
 
 pub returns-in-Ok-clause-course : goal.returns-in-Ok-clause-course
 returns-in-Ok-clause-course g c =
-    let who = spec.caller c.args.session.now in
     let s = spec.state g.R.Rng.stream c.args.session.now in
     let known = option_map meta_of c.meta-known.result in
     let found : known ≡ known_at s.map (segments c.args.path.bytes) =
     c.meta-known.ensures.found ∙ ap (λ p. known_at s.map (segments p.bytes)) c.in_ok-copy_of.ensures in
     sym (course_there s.map (segments c.args.path.bytes) c.args.headers.now known found) ∙ c.in_ok-check_conditions.ensures.ok
-
-pub returns-in-Ok-clause-run : goal.returns-in-Ok-clause-run
-returns-in-Ok-clause-run g c =
-    let who = spec.caller c.args.session.now in
-    let s = spec.state g.R.Rng.stream c.args.session.now in
-    let run = join_as who (spec.caller c.meta-known.new.self) s (spec.state g.R.Rng.stream c.meta-known.new.self) (spec.state g.R.Rng.stream c.check_locks.new.session)
-    c.meta-known.ensures.caller c.meta-known.ensures.run c.check_locks.ensures.run in
-    let before = join_as who (spec.caller c.check_locks.new.session) s (spec.state g.R.Rng.stream c.check_locks.new.session) (spec.state g.R.Rng.stream c.check_place.new.session)
-    (c.check_locks.ensures.caller ∙ c.meta-known.ensures.caller) run c.check_place.ensures.run in
-    join_as who (spec.caller c.check_place.new.session) s (spec.state g.R.Rng.stream c.check_place.new.session) (spec.state g.R.Rng.stream c.ask.new.self)
-    (c.check_place.ensures.caller ∙ c.check_locks.ensures.caller ∙ c.meta-known.ensures.caller) before (c.ask.ensures.run refl)
 
 pub returns-clause-err : goal.returns-clause-err
 returns-clause-err g c =
@@ -150,10 +96,8 @@ returns-clause-err g c =
     let known = option_map meta_of c.meta-known.result in
     let found : known ≡ known_at s.map (segments c.args.path.bytes) =
     c.meta-known.ensures.found ∙ ap (λ p. known_at s.map (segments p.bytes)) c.in_ok-copy_of.ensures in
-    let locked = live_as who (spec.caller c.meta-known.new.self) s (spec.state g.R.Rng.stream c.meta-known.new.self) (spec.state g.R.Rng.stream c.check_locks.new.session)
-    c.meta-known.ensures.caller c.meta-known.ensures.live c.check_locks.ensures.live in
-    let placed = live_as who (spec.caller c.check_locks.new.session) s (spec.state g.R.Rng.stream c.check_locks.new.session) (spec.state g.R.Rng.stream c.check_place.new.session)
-    (c.check_locks.ensures.caller ∙ c.meta-known.ensures.caller) locked c.check_place.ensures.live in
+    let locked = looks_on c.meta-known.ensures.looks c.check_locks.ensures.looks in
+    let placed = looks_on locked c.check_place.ensures.looks in
     let e = refusal_of c.in-Err.refusal in
     let at : is_some c.meta-known.result ≡ is_some (at_path s.map (segments c.args.path.bytes)) =
     known_there meta_of (λ (r : Resource). meta_at r.node) c.meta-known.result (at_path s.map (segments c.args.path.bytes)) found in
@@ -161,15 +105,24 @@ returns-clause-err g c =
     (put_refused who s (spec.state g.R.Rng.stream c.ask.new.self) (segments c.args.path.bytes) c.args.bytes c.args.headers.now e
     (after_look who (spec.caller c.check_place.new.session) s (spec.state g.R.Rng.stream c.check_place.new.session) (spec.state g.R.Rng.stream c.ask.new.self)
     (Command.Put (segments c.args.path.bytes) c.args.bytes) (Err e)
-    (c.check_place.ensures.caller ∙ c.check_locks.ensures.caller ∙ c.meta-known.ensures.caller) placed c.in-Err.ensures.step))
+    placed.who placed.live c.in-Err.ensures.step))
 
-pub returns-clause-run : goal.returns-clause-run
-returns-clause-run g c =
-    let who = spec.caller c.args.session.now in
-    let s = spec.state g.R.Rng.stream c.args.session.now in
-    let run = join_as who (spec.caller c.meta-known.new.self) s (spec.state g.R.Rng.stream c.meta-known.new.self) (spec.state g.R.Rng.stream c.check_locks.new.session)
-    c.meta-known.ensures.caller c.meta-known.ensures.run c.check_locks.ensures.run in
-    let before = join_as who (spec.caller c.check_locks.new.session) s (spec.state g.R.Rng.stream c.check_locks.new.session) (spec.state g.R.Rng.stream c.check_place.new.session)
-    (c.check_locks.ensures.caller ∙ c.meta-known.ensures.caller) run c.check_place.ensures.run in
-    join_as who (spec.caller c.check_place.new.session) s (spec.state g.R.Rng.stream c.check_place.new.session) (spec.state g.R.Rng.stream c.ask.new.self)
-    (c.check_place.ensures.caller ∙ c.check_locks.ensures.caller ∙ c.meta-known.ensures.caller) before (c.ask.ensures.run refl)
+pub returns-in_err-check_place-clause-acts : goal.returns-in_err-check_place-clause-acts
+returns-in_err-check_place-clause-acts g c =
+    looks_act (looks_on (looks_on c.meta-known.ensures.looks c.check_locks.ensures.looks) c.check_place.ensures.looks)
+
+pub returns-in_err-check_conditions-clause-acts : goal.returns-in_err-check_conditions-clause-acts
+returns-in_err-check_conditions-clause-acts g c =
+    looks_act (looks_on (looks_on c.meta-known.ensures.looks c.check_locks.ensures.looks) c.check_place.ensures.looks)
+
+pub returns-in_err-say_tag-clause-acts : goal.returns-in_err-say_tag-clause-acts
+returns-in_err-say_tag-clause-acts g c =
+    looks_act (looks_on (looks_on c.meta-known.ensures.looks c.check_locks.ensures.looks) c.check_place.ensures.looks)
+
+pub returns-in-Ok-clause-acts : goal.returns-in-Ok-clause-acts
+returns-in-Ok-clause-acts g c =
+    acts_on (looks_act (looks_on (looks_on c.meta-known.ensures.looks c.check_locks.ensures.looks) c.check_place.ensures.looks)) (c.ask.ensures.acts refl)
+
+pub returns-clause-acts : goal.returns-clause-acts
+returns-clause-acts g c =
+    acts_on (looks_act (looks_on (looks_on c.meta-known.ensures.looks c.check_locks.ensures.looks) c.check_place.ensures.looks)) (c.ask.ensures.acts refl)

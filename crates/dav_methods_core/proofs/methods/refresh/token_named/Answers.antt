@@ -3,14 +3,10 @@ use Rattle.std.specs.Prelude.{IfErr, IfOk}
 use Rattle.dav_path_core.specs.Segments.{segments}
 use Rattle.dav_locks_core.specs.Locks.{discovered}
 use Rattle.dav_session_core.specs.Callers.{Caller, live}
-use Rattle.dav_session_core.specs.Private.Refreshing.{NotOne}
+use Rattle.dav_session_core.specs.OneToken.{NotOne}
 use Rattle.dav_session_core.specs.Sessions as spec
-use Rattle.dav_session_core.proofs.CallerLaws.{by_none}
 use Rattle.dav_session_core.proofs.RefreshLemmas.{named_is}
 use Rattle.dav_methods_core.proofs.methods.refresh.token_named.Goals as goal
-
-pub returns-in_err-copy_of-clause-run : goal.returns-in_err-copy_of-clause-run
-returns-in_err-copy_of-clause-run g c = by_none (spec.caller c.args.session.now) (spec.state g.R.Rng.stream c.args.session.now)
 
 pub returns-clause-ok : goal.returns-clause-ok
 returns-clause-ok g c =
@@ -19,7 +15,7 @@ returns-clause-ok g c =
     subst (λ (named : List (List ℕ)). IfOk c.one_of.result (λ token. named ≡ string_bytes token ∷ []))
     (named_is s who (segments c.args.path.now.bytes) _ _
     (c.deref.ensures.value ∙ c.in_ok-locks.ensures.ok ∙ ap (λ path. discovered s.locks (segments path.bytes)) c.in_ok-copy_of.ensures)
-    (c.tokens.ensures ∙ ap (λ (w : Caller). w.tokens) c.locks_at.ensures.caller))
+    (c.tokens.ensures ∙ ap (λ (w : Caller). w.tokens) c.locks_at.ensures.looks.who))
     c.one_of.ensures.ok
 
 pub returns-clause-err : goal.returns-clause-err
@@ -29,5 +25,5 @@ returns-clause-err g c =
     subst (λ (named : List (List ℕ)). IfErr c.one_of.result (λ e. NotOne named e))
     (named_is s who (segments c.args.path.now.bytes) _ _
     (c.deref.ensures.value ∙ c.in_ok-locks.ensures.ok ∙ ap (λ path. discovered s.locks (segments path.bytes)) c.in_ok-copy_of.ensures)
-    (c.tokens.ensures ∙ ap (λ (w : Caller). w.tokens) c.locks_at.ensures.caller))
+    (c.tokens.ensures ∙ ap (λ (w : Caller). w.tokens) c.locks_at.ensures.looks.who))
     c.one_of.ensures.err

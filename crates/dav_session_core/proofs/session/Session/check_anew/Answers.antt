@@ -5,18 +5,14 @@ use Rattle.dav_locks_core.specs.Lock.{Lock}
 use Rattle.dav_session_core.specs.Callers.{live}
 use Rattle.dav_session_core.specs.Sessions as spec
 use Rattle.dav_session_core.proofs.AnewLemmas.{anew_free, anew_refused}
-use Rattle.dav_session_core.proofs.CallerLaws.{by_none}
 use Rattle.dav_session_core.proofs.session.Session.check_anew.Goals as goal
-
-pub returns-in_err-parent-clause-run : goal.returns-in_err-parent-clause-run
-returns-in_err-parent-clause-run g c = by_none (spec.caller c.args.self.now) (spec.state g.R.Rng.stream c.args.self.now)
 
 pub returns-in-Some-clause-err : goal.returns-in-Some-clause-err
 returns-in-Some-clause-err g c =
     let who = spec.caller c.args.self.now in (
       c.in-Some.lock.now,
       anew_refused who (spec.caller c.locks_at.new.self) (live who.now (spec.state g.R.Rng.stream c.args.self.now)) (segments c.args.path.now.bytes)
-          (segments c.in_ok-parent.field-0.bytes) c.deref.result.now (map string_bytes c.deref-2.result.now) (option_copied c.refusing.result) c.locks_at.ensures.caller
+          (segments c.in_ok-parent.field-0.bytes) c.deref.result.now (map string_bytes c.deref-2.result.now) (option_copied c.refusing.result) c.locks_at.ensures.looks.who
           (ap (map string_bytes) c.deref-2.ensures.value) (c.deref.ensures.value ∙ c.in_ok-locks.ensures.ok) c.in_ok-parent.ensures.above c.refusing.ensures
           c.in-Some.lock.now (ap option_copied c.in-Some.is),
       ap (λ (l : Lock). l.path) (sym c.lock.view_is) ∙ sym c.in_ok-copy_of-in-Some.ensures,
@@ -26,6 +22,6 @@ pub returns-clause-ok : goal.returns-clause-ok
 returns-clause-ok g c =
     let who = spec.caller c.args.self.now in
     anew_free who (spec.caller c.locks_at.new.self) (live who.now (spec.state g.R.Rng.stream c.args.self.now)) (segments c.args.path.now.bytes)
-    (segments c.in_ok-parent.field-0.bytes) c.deref.result.now (map string_bytes c.deref-2.result.now) (option_copied c.refusing.result) c.locks_at.ensures.caller
+    (segments c.in_ok-parent.field-0.bytes) c.deref.result.now (map string_bytes c.deref-2.result.now) (option_copied c.refusing.result) c.locks_at.ensures.looks.who
     (ap (map string_bytes) c.deref-2.ensures.value) (c.deref.ensures.value ∙ c.in_ok-locks.ensures.ok) c.in_ok-parent.ensures.above c.refusing.ensures
     (ap option_copied c.in-None.is)

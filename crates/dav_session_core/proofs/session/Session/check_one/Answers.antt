@@ -4,13 +4,8 @@ use Rattle.dav_path_core.specs.Segments.{segments}
 use Rattle.dav_session_core.specs.Callers.{live}
 use Rattle.dav_session_core.specs.LocksInTheWay.{IsRefusedBy}
 use Rattle.dav_session_core.specs.Sessions as spec
-use Rattle.dav_session_core.proofs.Asking.{join_as}
-use Rattle.dav_session_core.proofs.CallerLaws.{by_none}
 use Rattle.dav_session_core.proofs.RemovalCheckLemmas.{below, first_fails, second_fails}
 use Rattle.dav_session_core.proofs.session.Session.check_one.Goals as goal
-
-pub returns-in_err-copy_of-clause-run : goal.returns-in_err-copy_of-clause-run
-returns-in_err-copy_of-clause-run g c = by_none (spec.caller c.args.self.now) (spec.state g.R.Rng.stream c.args.self.now)
 
 pub returns-in_err-check_reached-clause-err : goal.returns-in_err-check_reached-clause-err
 returns-in_err-check_reached-clause-err g c =
@@ -24,10 +19,5 @@ returns-in_err-check_reached-clause-err g c =
 pub returns-clause-err : goal.returns-clause-err
 returns-clause-err g c =
     second_fails (spec.caller c.args.self.now) (spec.caller c.check_reached.new.self) (spec.state g.R.Rng.stream c.args.self.now) (spec.state g.R.Rng.stream c.check_reached.new.self)
-    (segments c.args.place.now.bytes) (segments c.in_ok-parent.field-0.bytes) c.check.result c.check_reached.ensures.caller c.check_reached.ensures.live c.in_ok-parent.ensures.above
+    (segments c.args.place.now.bytes) (segments c.in_ok-parent.field-0.bytes) c.check.result c.check_reached.ensures.looks.who c.check_reached.ensures.looks.live c.in_ok-parent.ensures.above
     c.check.ensures.err
-
-pub returns-clause-run : goal.returns-clause-run
-returns-clause-run g c =
-    join_as (spec.caller c.args.self.now) (spec.caller c.check_reached.new.self) (spec.state g.R.Rng.stream c.args.self.now) (spec.state g.R.Rng.stream c.check_reached.new.self)
-    (spec.state g.R.Rng.stream c.check.new.self) c.check_reached.ensures.caller c.check_reached.ensures.run c.check.ensures.run

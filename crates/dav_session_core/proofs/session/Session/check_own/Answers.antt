@@ -6,13 +6,9 @@ use Rattle.dav_path_core.specs.Segments.{segments}
 use Rattle.dav_path_core.proofs.paths.FrontLemmas.{is_front-refl, is_front-trans}
 use Rattle.dav_session_core.specs.Callers.{live}
 use Rattle.dav_session_core.specs.Sessions as spec
-use Rattle.dav_session_core.proofs.CallerLaws.{by_none}
-use Rattle.dav_session_core.proofs.ConditionLemmas.{looks_none, looks_on}
+use Rattle.dav_session_core.proofs.Looking.{as_looks, looks_none, looks_on}
 use Rattle.dav_session_core.proofs.OwnLemmas.{OwnSoFar, at_first, checked_own, none_as, one_less, one_up, parent_front, refused_own}
 use Rattle.dav_session_core.proofs.session.Session.check_own.Goals as goal
-
-pub returns-in_err-here-clause-run : goal.returns-in_err-here-clause-run
-returns-in_err-here-clause-run g c = by_none (spec.caller c.args.self.now) (spec.state g.R.Rng.stream c.args.self.now)
 
 pub loop-init : goal.loop-init
 loop-init g c =
@@ -21,56 +17,11 @@ loop-init g c =
     let p = segments c.args.path.now.bytes in
     let here : segments c.in_ok-here.here.bytes ≡ p = ap (λ (path : PathText). segments path.bytes) c.in_ok-here.ensures in
     record {
-      looks = looks_none who start;
+      looks = looks_none g.R.Rng.stream c.args.self.now;
       front = subst (λ q. is_front q p ≡ true) (sym here) (is_front-refl p);
       left = omega (arith, ap length here);
       own = subst (OwnSoFar (live who.now start) who p c.args.token.now) (sym here) (at_first (live who.now start) who p c.args.token.now);
     }
-
-pub returns-in_err-check_own_at-clause-run : goal.returns-in_err-check_own_at-clause-run
-returns-in_err-check_own_at-clause-run g c =
-    (looks_on (spec.caller c.args.self.now) (spec.state g.R.Rng.stream c.args.self.now) (spec.caller c.loop.self) (spec.state g.R.Rng.stream c.loop.self)
-    (spec.caller c.check_own_at.new.self) (spec.state g.R.Rng.stream c.check_own_at.new.self) c.loop.invariant.looks c.check_own_at.ensures.run c.check_own_at.ensures.live c.check_own_at.ensures.caller).run
-
-pub returns-in_err-check_own_at-clause-live : goal.returns-in_err-check_own_at-clause-live
-returns-in_err-check_own_at-clause-live g c =
-    (looks_on (spec.caller c.args.self.now) (spec.state g.R.Rng.stream c.args.self.now) (spec.caller c.loop.self) (spec.state g.R.Rng.stream c.loop.self)
-    (spec.caller c.check_own_at.new.self) (spec.state g.R.Rng.stream c.check_own_at.new.self) c.loop.invariant.looks c.check_own_at.ensures.run c.check_own_at.ensures.live c.check_own_at.ensures.caller).live
-
-pub returns-in_err-check_own_at-clause-caller : goal.returns-in_err-check_own_at-clause-caller
-returns-in_err-check_own_at-clause-caller g c =
-    (looks_on (spec.caller c.args.self.now) (spec.state g.R.Rng.stream c.args.self.now) (spec.caller c.loop.self) (spec.state g.R.Rng.stream c.loop.self)
-    (spec.caller c.check_own_at.new.self) (spec.state g.R.Rng.stream c.check_own_at.new.self) c.loop.invariant.looks c.check_own_at.ensures.run c.check_own_at.ensures.live c.check_own_at.ensures.caller).caller
-
-pub returns-in_err-here-2-clause-run : goal.returns-in_err-here-2-clause-run
-returns-in_err-here-2-clause-run g c =
-    (looks_on (spec.caller c.args.self.now) (spec.state g.R.Rng.stream c.args.self.now) (spec.caller c.loop.self) (spec.state g.R.Rng.stream c.loop.self)
-    (spec.caller c.check_own_at.new.self) (spec.state g.R.Rng.stream c.check_own_at.new.self) c.loop.invariant.looks c.check_own_at.ensures.run c.check_own_at.ensures.live c.check_own_at.ensures.caller).run
-
-pub returns-in_err-here-2-clause-live : goal.returns-in_err-here-2-clause-live
-returns-in_err-here-2-clause-live g c =
-    (looks_on (spec.caller c.args.self.now) (spec.state g.R.Rng.stream c.args.self.now) (spec.caller c.loop.self) (spec.state g.R.Rng.stream c.loop.self)
-    (spec.caller c.check_own_at.new.self) (spec.state g.R.Rng.stream c.check_own_at.new.self) c.loop.invariant.looks c.check_own_at.ensures.run c.check_own_at.ensures.live c.check_own_at.ensures.caller).live
-
-pub returns-in_err-here-2-clause-caller : goal.returns-in_err-here-2-clause-caller
-returns-in_err-here-2-clause-caller g c =
-    (looks_on (spec.caller c.args.self.now) (spec.state g.R.Rng.stream c.args.self.now) (spec.caller c.loop.self) (spec.state g.R.Rng.stream c.loop.self)
-    (spec.caller c.check_own_at.new.self) (spec.state g.R.Rng.stream c.check_own_at.new.self) c.loop.invariant.looks c.check_own_at.ensures.run c.check_own_at.ensures.live c.check_own_at.ensures.caller).caller
-
-pub returns-clause-run : goal.returns-clause-run
-returns-clause-run g c =
-    (looks_on (spec.caller c.args.self.now) (spec.state g.R.Rng.stream c.args.self.now) (spec.caller c.loop.self) (spec.state g.R.Rng.stream c.loop.self)
-    (spec.caller c.check_own_at-2.new.self) (spec.state g.R.Rng.stream c.check_own_at-2.new.self) c.loop.invariant.looks c.check_own_at-2.ensures.run c.check_own_at-2.ensures.live c.check_own_at-2.ensures.caller).run
-
-pub returns-clause-live : goal.returns-clause-live
-returns-clause-live g c =
-    (looks_on (spec.caller c.args.self.now) (spec.state g.R.Rng.stream c.args.self.now) (spec.caller c.loop.self) (spec.state g.R.Rng.stream c.loop.self)
-    (spec.caller c.check_own_at-2.new.self) (spec.state g.R.Rng.stream c.check_own_at-2.new.self) c.loop.invariant.looks c.check_own_at-2.ensures.run c.check_own_at-2.ensures.live c.check_own_at-2.ensures.caller).live
-
-pub returns-clause-caller : goal.returns-clause-caller
-returns-clause-caller g c =
-    (looks_on (spec.caller c.args.self.now) (spec.state g.R.Rng.stream c.args.self.now) (spec.caller c.loop.self) (spec.state g.R.Rng.stream c.loop.self)
-    (spec.caller c.check_own_at-2.new.self) (spec.state g.R.Rng.stream c.check_own_at-2.new.self) c.loop.invariant.looks c.check_own_at-2.ensures.run c.check_own_at-2.ensures.live c.check_own_at-2.ensures.caller).caller
 
 pub returns-in_err-check_own_at-clause-err : goal.returns-in_err-check_own_at-clause-err
 returns-in_err-check_own_at-clause-err g c =
@@ -78,7 +29,7 @@ returns-in_err-check_own_at-clause-err g c =
     let who = spec.caller c.args.self.now in
     let start = spec.state g.R.Rng.stream c.args.self.now in
     rw (q.1, q.2) (refused_own who start (spec.caller c.loop.self) (spec.state g.R.Rng.stream c.loop.self) (segments c.args.path.now.bytes) c.args.token.now
-    (segments c.loop.here.bytes) {A = Unit {0}} (Err c.in_err-check_own_at.field-0.0) c.loop.invariant.looks c.loop.invariant.front c.in_err-check_own_at.ensures.err)
+    (segments c.loop.here.bytes) {A = Unit {0}} (Err c.in_err-check_own_at.field-0.0) (as_looks c.loop.invariant.looks) c.loop.invariant.front c.in_err-check_own_at.ensures.err)
 
 pub loop-preserved : goal.loop-preserved
 loop-preserved g c =
@@ -89,10 +40,9 @@ loop-preserved g c =
     let here = segments c.loop.here.bytes in
     let token = c.args.token.now in
     let up : segments c.in_ok-here-2.here.bytes ≡ parent here = c.in_ok-here-2.ensures.above in
-    let none = none_as who start (spec.caller c.loop.self) (spec.state g.R.Rng.stream c.loop.self) p token here false c.loop.invariant.looks c.in_ok-check_own_at.ensures.ok in
+    let none = none_as who start (spec.caller c.loop.self) (spec.state g.R.Rng.stream c.loop.self) p token here false (as_looks c.loop.invariant.looks) c.in_ok-check_own_at.ensures.ok in
     record {
-      looks = looks_on (spec.caller c.args.self.now) (spec.state g.R.Rng.stream c.args.self.now) (spec.caller c.loop.self) (spec.state g.R.Rng.stream c.loop.self)
-          (spec.caller c.check_own_at.new.self) (spec.state g.R.Rng.stream c.check_own_at.new.self) c.loop.invariant.looks c.check_own_at.ensures.run c.check_own_at.ensures.live c.check_own_at.ensures.caller;
+      looks = looks_on c.loop.invariant.looks c.check_own_at.ensures.looks;
       front = subst (λ q. is_front q p ≡ true) (sym up) (is_front-trans (parent here) here p (parent_front here) c.loop.invariant.front);
       left = ap (λ (q : Path). length q + (c.loop.counter + 1)) up ∙ one_less here c.loop.counter (length p) c.loop.invariant.left (subst (λ n. c.loop.counter < n) c.depth_of-end.ensures c.loop-test.true);
       own = subst (OwnSoFar s who p token) (sym up) (one_up s who p token here none c.loop.invariant.own);
@@ -103,11 +53,11 @@ returns-clause-ok g c =
     let who = spec.caller c.args.self.now in
     let start = spec.state g.R.Rng.stream c.args.self.now in
     checked_own who start (spec.caller c.loop.self) (spec.state g.R.Rng.stream c.loop.self) (segments c.args.path.now.bytes) c.args.token.now
-    (segments c.loop.here.bytes) c.check_own_at-2.result (omega (arith, c.loop.invariant.left, c.loop-test.false, c.depth_of-end.ensures)) c.loop.invariant.looks c.check_own_at-2.ensures.ok c.loop.invariant.own
+    (segments c.loop.here.bytes) c.check_own_at-2.result (omega (arith, c.loop.invariant.left, c.loop-test.false, c.depth_of-end.ensures)) (as_looks c.loop.invariant.looks) c.check_own_at-2.ensures.ok c.loop.invariant.own
 
 pub returns-clause-err : goal.returns-clause-err
 returns-clause-err g c =
     let who = spec.caller c.args.self.now in
     let start = spec.state g.R.Rng.stream c.args.self.now in
     refused_own who start (spec.caller c.loop.self) (spec.state g.R.Rng.stream c.loop.self) (segments c.args.path.now.bytes) c.args.token.now
-    (segments c.loop.here.bytes) c.check_own_at-2.result c.loop.invariant.looks c.loop.invariant.front c.check_own_at-2.ensures.err
+    (segments c.loop.here.bytes) c.check_own_at-2.result (as_looks c.loop.invariant.looks) c.loop.invariant.front c.check_own_at-2.ensures.err

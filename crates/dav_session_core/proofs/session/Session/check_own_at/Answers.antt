@@ -7,19 +7,15 @@ use Rattle.dav_locks_core.specs.Locks.{covers}
 use Rattle.dav_session_core.specs.Callers.{Caller, live}
 use Rattle.dav_session_core.specs.Private.Owning.{is_anothers}
 use Rattle.dav_session_core.specs.Sessions as spec
-use Rattle.dav_session_core.proofs.CallerLaws.{by_none}
 use Rattle.dav_session_core.proofs.TokenLemmas.{any_discovered}
 use Rattle.dav_session_core.proofs.session.Session.check_own_at.Goals as goal
-
-pub returns-in_err-copy_of-clause-run : goal.returns-in_err-copy_of-clause-run
-returns-in_err-copy_of-clause-run g c = by_none (spec.caller c.args.self.now) (spec.state g.R.Rng.stream c.args.self.now)
 
 pub returns-then-any_anothers-clause-err : goal.returns-then-any_anothers-clause-err
 returns-then-any_anothers-clause-err g c =
     let who = spec.caller c.args.self.now in
     let s = live who.now (spec.state g.R.Rng.stream c.args.self.now) in
     let seen = c.any_anothers.ensures
-    ∙ ap (λ (w : Caller). list_any (is_anothers w c.args.token.now) c.deref.result.now) c.in_ok-locks.ensures.caller
+    ∙ ap (λ (w : Caller). list_any (is_anothers w c.args.token.now) c.deref.result.now) c.in_ok-locks.ensures.looks.who
     ∙ ap (list_any (is_anothers who c.args.token.now)) (c.deref.ensures.value ∙ c.in_ok-locks.ensures.ok)
     ∙ any_discovered (is_anothers who c.args.token.now) s.locks (segments c.in_ok-copy_of.field-0.bytes)
     ∙ ap (λ (path : PathText). list_any (λ (l : Lock). is_anothers who c.args.token.now l && covers l (segments path.bytes)) s.locks) c.in_ok-copy_of.ensures in
@@ -30,7 +26,7 @@ returns-clause-ok g c =
     let who = spec.caller c.args.self.now in
     let s = live who.now (spec.state g.R.Rng.stream c.args.self.now) in
     let seen = c.any_anothers.ensures
-    ∙ ap (λ (w : Caller). list_any (is_anothers w c.args.token.now) c.deref.result.now) c.in_ok-locks.ensures.caller
+    ∙ ap (λ (w : Caller). list_any (is_anothers w c.args.token.now) c.deref.result.now) c.in_ok-locks.ensures.looks.who
     ∙ ap (list_any (is_anothers who c.args.token.now)) (c.deref.ensures.value ∙ c.in_ok-locks.ensures.ok)
     ∙ any_discovered (is_anothers who c.args.token.now) s.locks (segments c.in_ok-copy_of.field-0.bytes)
     ∙ ap (λ (path : PathText). list_any (λ (l : Lock). is_anothers who c.args.token.now l && covers l (segments path.bytes)) s.locks) c.in_ok-copy_of.ensures in

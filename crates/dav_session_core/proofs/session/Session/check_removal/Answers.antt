@@ -3,21 +3,17 @@ use Rattle.std.proofs.lemmas.Result.{err_from_is_err_and}
 use Rattle.dav_path_core.specs.Segments.{segments}
 use Rattle.dav_session_core.specs.Callers.{live}
 use Rattle.dav_session_core.specs.LocksInTheWay.{IsRefusedBy}
+use Rattle.dav_session_core.specs.Removing.{refusing_removal}
 use Rattle.dav_session_core.specs.Sessions as spec
-use Rattle.dav_session_core.proofs.ConditionLemmas.{looks_none, looks_on}
-use Rattle.dav_session_core.proofs.RemovalCheckLemmas.{all_checked, as_begun, checked_more, refused_one}
+use Rattle.dav_session_core.proofs.Looking.{looks_none, looks_on, same_asked}
+use Rattle.dav_session_core.proofs.RemovalCheckLemmas.{all_checked, checked_more, refused_one}
 use Rattle.dav_session_core.proofs.session.Session.check_removal.Goals as goal
 
 pub loop-place-init : goal.loop-place-init
 loop-place-init g c = record {
-  looks = looks_none (spec.caller c.args.self.now) (spec.state g.R.Rng.stream c.args.self.now);
+  looks = looks_none g.R.Rng.stream c.args.self.now;
   left = refl;
 }
-
-pub returns-in_err-check_one-clause-run : goal.returns-in_err-check_one-clause-run
-returns-in_err-check_one-clause-run g c =
-    (looks_on (spec.caller c.args.self.now) (spec.state g.R.Rng.stream c.args.self.now) (spec.caller c.loop-place.self) (spec.state g.R.Rng.stream c.loop-place.self)
-    (spec.caller c.check_one.new.self) (spec.state g.R.Rng.stream c.check_one.new.self) c.loop-place.invariant.looks c.check_one.ensures.run c.check_one.ensures.live c.check_one.ensures.caller).run
 
 pub returns-in_err-check_one-clause-err : goal.returns-in_err-check_one-clause-err
 returns-in_err-check_one-clause-err g c =
@@ -28,7 +24,7 @@ returns-in_err-check_one-clause-err g c =
     let here = segments c.place-item.result.bytes in
     rw (q.1, q.2) (refused_one (live who.now start) who (λ p. segments p.bytes) c.args.places.now c.loop-place.place-index c.loop-place.invariant.left c.place-item.result
     c.loop-place-test.true c.place-item.is e
-    (subst (λ ls. IsRefusedBy ls e) (as_begun who start (spec.caller c.loop-place.self) (spec.state g.R.Rng.stream c.loop-place.self) c.loop-place.invariant.looks (here ∷ []))
+    (subst (λ ls. IsRefusedBy ls e) (same_asked (λ w s. refusing_removal s w (here ∷ [])) c.loop-place.invariant.looks)
     c.in_err-check_one.ensures.err))
 
 pub loop-place-preserved : goal.loop-place-preserved
@@ -36,11 +32,10 @@ loop-place-preserved g c =
     let who = spec.caller c.args.self.now in
     let start = spec.state g.R.Rng.stream c.args.self.now in
     record {
-      looks = looks_on who start (spec.caller c.loop-place.self) (spec.state g.R.Rng.stream c.loop-place.self)
-          (spec.caller c.check_one.new.self) (spec.state g.R.Rng.stream c.check_one.new.self) c.loop-place.invariant.looks c.check_one.ensures.run c.check_one.ensures.live c.check_one.ensures.caller;
+      looks = looks_on c.loop-place.invariant.looks c.check_one.ensures.looks;
       left = checked_more (live who.now start) who (λ p. segments p.bytes) c.args.places.now c.loop-place.place-index c.loop-place.invariant.left c.place-item.result
           c.loop-place-test.true c.place-item.is
-          (sym (as_begun who start (spec.caller c.loop-place.self) (spec.state g.R.Rng.stream c.loop-place.self) c.loop-place.invariant.looks (segments c.place-item.result.bytes ∷ []))
+          (sym (same_asked (λ w s. refusing_removal s w (segments c.place-item.result.bytes ∷ [])) c.loop-place.invariant.looks)
           ∙ c.in_ok-check_one.ensures.ok);
     }
 

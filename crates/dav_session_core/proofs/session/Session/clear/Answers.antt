@@ -1,7 +1,6 @@
 use Rattle.std.proofs.Common.{◌≡◌, ◌==◌, ◌∙◌, eqb-true, false, refl, subst, sym}
 use Rattle.dav_path_core.specs.Segments.{segments}
 use Rattle.dav_session_core.specs.Sessions as spec
-use Rattle.dav_session_core.proofs.CallerLaws.{by_none}
 use Rattle.dav_session_core.proofs.ClearingLemmas.{goes_away, stays}
 use Rattle.dav_session_core.proofs.SubtreeLemmas.{nothing_left}
 use Rattle.dav_session_core.proofs.session.Session.clear.Goals as goal
@@ -11,9 +10,6 @@ returns-then-is_empty-clause-cleared g c = λ p goes free no_root.
     let start = spec.state g.R.Rng.stream c.args.self.now in
     stays (λ q. segments q.bytes) c.args.places.items (spec.caller c.args.self.now) p start start goes
     (nothing_left c.args.places.items c.args.places.len c.args.places.ok.0 (eqb-true _ 0 (sym c.is_empty.ensures ∙ c.if-is_empty.true))) refl
-
-pub returns-then-is_empty-clause-run : goal.returns-then-is_empty-clause-run
-returns-then-is_empty-clause-run g c = by_none (spec.caller c.args.self.now) (spec.state g.R.Rng.stream c.args.self.now)
 
 pub returns-clause-cleared : goal.returns-clause-cleared
 returns-clause-cleared g c = λ p goes free no_root.

@@ -1,4 +1,4 @@
-use Rattle.std.proofs.Common.{◌≡◌, ℕ, ◌+◌, ◌<◌, Bool, List, ◌∷◌, drop, get_or, length, map, refl, ◌∙◌, subst}
+use Rattle.std.proofs.Common.{◌≡◌, ℕ, ◌+◌, ◌<◌, Bool, List, ◌∷◌, drop, get_or, length, map, refl, subst}
 use Rattle.std.proofs.lemmas.List.{drop_all}
 use Rattle.std.proofs.lemmas.Result.{err_from_is_err_and}
 use Rattle.dav_path_core.specs.Segments.{segments}
@@ -8,10 +8,9 @@ use Rattle.dav_session_core.specs.Callers.{Caller, live}
 use Rattle.dav_session_core.specs.Copying.{IsReady}
 use Rattle.dav_session_core.specs.Sessions as spec
 use Rattle.dav_session_core.specs.declared.session.copying.Transfer.{Transfer}
-use Rattle.dav_session_core.proofs.Asking.{join_as}
-use Rattle.dav_session_core.proofs.CallerLaws.{by_none}
 use Rattle.dav_session_core.proofs.ConditionLemmas.{drop_seen}
 use Rattle.dav_session_core.proofs.CopyingLemmas.{Copying, copying_begun, copying_ended, copying_partly, one_copied, one_refused}
+use Rattle.dav_session_core.proofs.Looking.{acts_none, acts_on}
 use Rattle.dav_session_core.proofs.session.Session.copy_all.Goals as goal
 
 abbrev ends : Transfer → Path × Path
@@ -22,8 +21,7 @@ loop-transfer-init g c =
     let who = spec.caller c.args.self.now in
     let start = spec.state g.R.Rng.stream c.args.self.now in
     record {
-      run = by_none who start;
-      caller = refl;
+      acts = acts_none g.R.Rng.stream c.args.self.now;
       copying = λ deep from to rests ready are. copying_begun who deep from to rests (live who.now start) ready start _ refl are;
     }
 
@@ -41,20 +39,14 @@ loop-transfer-preserved g c =
     let after = spec.state g.R.Rng.stream c.copy_one.new.self in
     let x = c.transfer-item.result in
     record {
-      run = join_as who (spec.caller c.loop-transfer.self) start mid after c.loop-transfer.invariant.caller c.loop-transfer.invariant.run c.copy_one.ensures.run;
-      caller = c.copy_one.ensures.caller ∙ c.loop-transfer.invariant.caller;
+      acts = acts_on c.loop-transfer.invariant.acts c.copy_one.ensures.acts;
       copying = λ deep from to rests ready are.
           one_copied who deep from to rests (live who.now start) ready (spec.caller c.loop-transfer.self) mid after (segments x.from.bytes) (segments x.to.bytes) _
-          c.loop-transfer.invariant.caller
+          c.loop-transfer.invariant.acts.who
           (at_next who deep from to rests (live who.now start) ready mid c.args.transfers.now c.loop-transfer.transfer-index x c.loop-transfer-test.true c.transfer-item.is
           (c.loop-transfer.invariant.copying deep from to rests ready are))
           c.in_ok-copy_one.ensures.ok;
     }
-
-pub returns-in_err-copy_one-clause-run : goal.returns-in_err-copy_one-clause-run
-returns-in_err-copy_one-clause-run g c =
-    join_as (spec.caller c.args.self.now) (spec.caller c.loop-transfer.self) (spec.state g.R.Rng.stream c.args.self.now) (spec.state g.R.Rng.stream c.loop-transfer.self)
-    (spec.state g.R.Rng.stream c.copy_one.new.self) c.loop-transfer.invariant.caller c.loop-transfer.invariant.run c.copy_one.ensures.run
 
 pub returns-in_err-copy_one-clause-begun : goal.returns-in_err-copy_one-clause-begun
 returns-in_err-copy_one-clause-begun g c = λ deep from to rests ready are.
@@ -68,7 +60,7 @@ returns-in_err-copy_one-clause-begun g c = λ deep from to rests ready are.
     (c.loop-transfer.invariant.copying deep from to rests ready are) in
     rw (q.1) (copying_partly who deep from to rests (live who.now start) ready _ after
     (one_refused who deep from to rests (live who.now start) ready (spec.caller c.loop-transfer.self) mid after (segments x.from.bytes) (segments x.to.bytes) _
-    c.loop-transfer.invariant.caller next c.in_err-copy_one.field-0.0 c.in_err-copy_one.ensures.err).0)
+    c.loop-transfer.invariant.acts.who next c.in_err-copy_one.field-0.0 c.in_err-copy_one.ensures.err).0)
 
 pub returns-in_err-copy_one-clause-err : goal.returns-in_err-copy_one-clause-err
 returns-in_err-copy_one-clause-err g c = λ deep from to rests ready are.
@@ -81,7 +73,7 @@ returns-in_err-copy_one-clause-err g c = λ deep from to rests ready are.
     let next = at_next who deep from to rests (live who.now start) ready mid c.args.transfers.now c.loop-transfer.transfer-index x c.loop-transfer-test.true c.transfer-item.is
     (c.loop-transfer.invariant.copying deep from to rests ready are) in
     rw (q.1, q.2) (one_refused who deep from to rests (live who.now start) ready (spec.caller c.loop-transfer.self) mid after (segments x.from.bytes) (segments x.to.bytes) _
-    c.loop-transfer.invariant.caller next c.in_err-copy_one.field-0.0 c.in_err-copy_one.ensures.err).1
+    c.loop-transfer.invariant.acts.who next c.in_err-copy_one.field-0.0 c.in_err-copy_one.ensures.err).1
 
 pub returns-clause-copied : goal.returns-clause-copied
 returns-clause-copied g c = λ deep from to rests ready are.

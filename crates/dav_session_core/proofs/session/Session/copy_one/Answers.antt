@@ -6,14 +6,7 @@ use Rattle.dav_resource_core.specs.Served.{reply_of}
 use Rattle.dav_resource_core.specs.Step.{Step}
 use Rattle.dav_session_core.specs.Callers.{asking}
 use Rattle.dav_session_core.specs.Sessions as spec
-use Rattle.dav_session_core.proofs.CallerLaws.{by_none}
 use Rattle.dav_session_core.proofs.session.Session.copy_one.Goals as goal
-
-pub returns-in_err-from-clause-run : goal.returns-in_err-from-clause-run
-returns-in_err-from-clause-run g c = by_none (spec.caller c.args.self.now) (spec.state g.R.Rng.stream c.args.self.now)
-
-pub returns-in_err-to-clause-run : goal.returns-in_err-to-clause-run
-returns-in_err-to-clause-run g c = by_none (spec.caller c.args.self.now) (spec.state g.R.Rng.stream c.args.self.now)
 
 pub returns-in-Ok-clause-ok : goal.returns-in-Ok-clause-ok
 returns-in-Ok-clause-ok g c =

@@ -4,13 +4,8 @@ use Rattle.dav_path_core.specs.Segments.{segments}
 use Rattle.dav_files_core.specs.Meta.{meta_of}
 use Rattle.dav_resource_core.specs.Step.{State}
 use Rattle.dav_session_core.specs.Sessions as spec
-use Rattle.dav_session_core.proofs.Asking.{join_as}
-use Rattle.dav_session_core.proofs.CallerLaws.{by_none}
 use Rattle.dav_session_core.proofs.ClearingLemmas.{folder_there, walk_goes}
 use Rattle.dav_session_core.proofs.session.Session.folder_at.Goals as goal
-
-pub returns-in_err-copy_of-clause-run : goal.returns-in_err-copy_of-clause-run
-returns-in_err-copy_of-clause-run g c = by_none (spec.caller c.args.self.now) (spec.state g.R.Rng.stream c.args.self.now)
 
 pub returns-in_ok-copy_of-in-Some-clause-ok : goal.returns-in_ok-copy_of-in-Some-clause-ok
 returns-in_ok-copy_of-in-Some-clause-ok g c =
@@ -19,9 +14,4 @@ returns-in_ok-copy_of-in-Some-clause-ok g c =
     let folder = folder_there start.map c.args.path.now c.in_ok-copy_of.field-0 c.in_ok-copy_of.ensures (meta_of c.in-Some.known)
     (sym (ap (option_map meta_of) c.in-Some.is) ∙ c.meta.ensures.found) (c.is_dir.ensures.0 c.if-is_dir.true) in
     walk_goes start.map c.args.path.now c.in_ok-copy_of-in-Some.field-0 c.in_ok-copy_of-in-Some.ensures c.walk.result (λ places. map (λ p. segments p.bytes) places.items) mid.map
-    (ap (λ (s : State). s.map) c.meta.ensures.live) folder c.walk.ensures.ok
-
-pub returns-in_ok-copy_of-in-Some-clause-run : goal.returns-in_ok-copy_of-in-Some-clause-run
-returns-in_ok-copy_of-in-Some-clause-run g c =
-    join_as (spec.caller c.args.self.now) (spec.caller c.meta.new.self) (spec.state g.R.Rng.stream c.args.self.now) (spec.state g.R.Rng.stream c.meta.new.self)
-    (spec.state g.R.Rng.stream c.walk.new.self) c.meta.ensures.caller c.meta.ensures.run c.walk.ensures.run
+    (ap (λ (s : State). s.map) c.meta.ensures.looks.live) folder c.walk.ensures.ok

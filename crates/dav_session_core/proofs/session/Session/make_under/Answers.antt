@@ -27,7 +27,7 @@ returns-in-Ok-clause-caller g c =
     let who = spec.caller c.args.self.now in
     let naming : List (List ℕ) → Caller = λ tokens. record { principal = who.principal; tokens = tokens; now = who.now } in
     let named = ap naming (ap (map string_bytes) c.in_ok-push.ensures.items ∙ map-append string_bytes c.args.self.now.request.tokens.items (c.args.token ∷ [])) in
-    named_before who (spec.caller c.ask-answer.new.self) (string_bytes c.args.token) (map string_bytes c.pop.new.self.items) (c.ask-answer.ensures.caller ∙ named)
+    named_before who (spec.caller c.ask-answer.new.self) (string_bytes c.args.token) (map string_bytes c.pop.new.self.items) (c.ask-answer.ensures.requests.who ∙ named)
     (tokens_left string_bytes c.ask-answer.new.self.request.tokens.items c.pop.new.self.items
     (c.pop.ensures.rest ∙ ap (λ n. take (n - 1) c.ask-answer.new.self.request.tokens.items) c.ask-answer.new.self.request.tokens.ok.0))
 
@@ -36,7 +36,7 @@ returns-in-Err-clause-caller g c =
     let who = spec.caller c.args.self.now in
     let naming : List (List ℕ) → Caller = λ tokens. record { principal = who.principal; tokens = tokens; now = who.now } in
     let named = ap naming (ap (map string_bytes) c.in_ok-push.ensures.items ∙ map-append string_bytes c.args.self.now.request.tokens.items (c.args.token ∷ [])) in
-    named_before who (spec.caller c.ask-answer.new.self) (string_bytes c.args.token) (map string_bytes c.pop.new.self.items) (c.ask-answer.ensures.caller ∙ named)
+    named_before who (spec.caller c.ask-answer.new.self) (string_bytes c.args.token) (map string_bytes c.pop.new.self.items) (c.ask-answer.ensures.requests.who ∙ named)
     (tokens_left string_bytes c.ask-answer.new.self.request.tokens.items c.pop.new.self.items
     (c.pop.ensures.rest ∙ ap (λ n. take (n - 1) c.ask-answer.new.self.request.tokens.items) c.ask-answer.new.self.request.tokens.ok.0))
 

@@ -5,13 +5,8 @@ use Rattle.dav_path_core.specs.Segments.{segments}
 use Rattle.dav_files_core.specs.Listing.{entry_of, read_dir}
 use Rattle.dav_files_core.specs.declared.memfs.listing.MemFsEntry.{MemFsEntry}
 use Rattle.dav_session_core.specs.Private.Gathering.{paths_in}
-use Rattle.dav_session_core.specs.Sessions as spec
-use Rattle.dav_session_core.proofs.CallerLaws.{by_none}
 use Rattle.dav_session_core.proofs.SubtreeLemmas.{members_told, odd_told}
 use Rattle.dav_session_core.proofs.session.Session.members.Goals as goal
-
-pub returns-in_err-copy_of-clause-run : goal.returns-in_err-copy_of-clause-run
-returns-in_err-copy_of-clause-run g c = by_none (spec.caller c.args.self.now) (spec.state g.R.Rng.stream c.args.self.now)
 
 pub returns-in-Ok-clause-ok : goal.returns-in-Ok-clause-ok
 returns-in-Ok-clause-ok g c =

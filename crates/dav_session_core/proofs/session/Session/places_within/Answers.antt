@@ -4,14 +4,10 @@ use Rattle.dav_path_core.specs.Segments.{segments}
 use Rattle.dav_headers_core.specs.declared.davheaders.depths.Depth.TheVariants as depth
 use Rattle.dav_files_core.specs.Resources.{at_path}
 use Rattle.dav_session_core.specs.Places.{AreWithin}
-use Rattle.dav_session_core.specs.Private.Placed.{AllStand}
+use Rattle.dav_session_core.specs.Placed.{AllStand}
 use Rattle.dav_session_core.specs.Sessions as spec
-use Rattle.dav_session_core.proofs.CallerLaws.{by_none}
 use Rattle.dav_session_core.proofs.PlaceLemmas.{if_found, members_stand}
 use Rattle.dav_session_core.proofs.session.Session.places_within.Goals as goal
-
-pub returns-in-Default-clause-run : goal.returns-in-Default-clause-run
-returns-in-Default-clause-run g c = by_none (spec.caller c.args.self.now) (spec.state g.R.Rng.stream c.args.self.now)
 
 pub returns-in-One-clause-stand : goal.returns-in-One-clause-stand
 returns-in-One-clause-stand g c =

@@ -1,19 +1,13 @@
-use Rattle.std.proofs.Common.{List, ℕ, Ok, Err, string_bytes, subst}
+use Rattle.std.proofs.Common.{List, ℕ, Ok, string_bytes, subst}
 use Rattle.dav_path_core.specs.Segments.{segments}
 use Rattle.dav_resource_core.specs.Requests.{Command}
-use Rattle.dav_resource_core.specs.Served.{reply_of, refusal_of}
+use Rattle.dav_resource_core.specs.Served.{reply_of}
 use Rattle.dav_session_core.specs.Callers.{live}
 use Rattle.dav_session_core.specs.Private.Owning.{AllOwn}
 use Rattle.dav_session_core.specs.Sessions as spec
-use Rattle.dav_session_core.proofs.Asking.{asks_one, join_as}
-use Rattle.dav_session_core.proofs.CallerLaws.{asks_of}
 use Rattle.dav_session_core.proofs.PutLemmas.{after_look}
-use Rattle.dav_session_core.proofs.RefreshLemmas.{refreshed_own, refused_run}
+use Rattle.dav_session_core.proofs.RefreshLemmas.{refreshed_own}
 use Rattle.dav_session_core.proofs.session.Session.refresh.Goals as goal
-
-pub returns-in_err-check_own-clause-run : goal.returns-in_err-check_own-clause-run
-returns-in_err-check_own-clause-run g c =
-    asks_of (spec.caller c.args.self.now) (spec.state g.R.Rng.stream c.args.self.now) (spec.state g.R.Rng.stream c.check_own.new.self) c.check_own.ensures.run
 
 pub returns-in-Ok-clause-ok : goal.returns-in-Ok-clause-ok
 returns-in-Ok-clause-ok g c =
@@ -26,23 +20,4 @@ returns-in-Ok-clause-ok g c =
     refreshed_own who (live who.now s) left p token c.args.timeout (reply_of c.in-Ok.field-0)
     (subst (λ (t : List ℕ). AllOwn (live who.now s) who p t) c.deref.ensures c.in_ok-check_own.ensures.ok)
     (after_look who (spec.caller c.check_own.new.self) s checked left (Command.Refresh p token c.args.timeout) (Ok (reply_of c.in-Ok.field-0))
-    c.check_own.ensures.caller c.check_own.ensures.live c.in-Ok.ensures.step)
-
-pub returns-in-Ok-clause-run : goal.returns-in-Ok-clause-run
-returns-in-Ok-clause-run g c =
-    asks_one (spec.caller c.args.self.now) (spec.caller c.check_own.new.self) (spec.state g.R.Rng.stream c.args.self.now) (spec.state g.R.Rng.stream c.check_own.new.self)
-    (spec.state g.R.Rng.stream c.ask.new.self) (Command.Refresh (segments c.args.path.bytes) (string_bytes c.args.token) c.args.timeout) (Ok (reply_of c.in-Ok.field-0))
-    c.check_own.ensures.caller c.check_own.ensures.run c.in-Ok.ensures.step
-
-pub returns-clause-run : goal.returns-clause-run
-returns-clause-run g c =
-    asks_one (spec.caller c.args.self.now) (spec.caller c.check_own.new.self) (spec.state g.R.Rng.stream c.args.self.now) (spec.state g.R.Rng.stream c.check_own.new.self)
-    (spec.state g.R.Rng.stream c.ask.new.self) (Command.Refresh (segments c.args.path.bytes) (string_bytes c.args.token) c.args.timeout) (Err (refusal_of c.in-Err.field-0))
-    c.check_own.ensures.caller c.check_own.ensures.run c.in-Err.ensures.step
-
-pub returns-clause-looked : goal.returns-clause-looked
-returns-clause-looked g c =
-    join_as (spec.caller c.args.self.now) (spec.caller c.check_own.new.self) (spec.state g.R.Rng.stream c.args.self.now) (spec.state g.R.Rng.stream c.check_own.new.self)
-    (spec.state g.R.Rng.stream c.ask.new.self) c.check_own.ensures.caller c.check_own.ensures.run
-    (refused_run (spec.caller c.check_own.new.self) (Command.Refresh (segments c.args.path.bytes) (string_bytes c.args.token) c.args.timeout) (segments c.args.path.bytes)
-    (spec.state g.R.Rng.stream c.check_own.new.self) (spec.state g.R.Rng.stream c.ask.new.self) (refusal_of c.in-Err.field-0) c.in-Err.ensures.step)
+    c.check_own.ensures.looks.who c.check_own.ensures.looks.live c.in-Ok.ensures.step)

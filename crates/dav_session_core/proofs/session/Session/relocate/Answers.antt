@@ -2,7 +2,7 @@ use Rattle.std.proofs.Common.{false, ap, ◌∙◌}
 use Rattle.dav_path_core.specs.Segments.{segments}
 use Rattle.dav_resource_core.specs.Served.{refusal_of}
 use Rattle.dav_session_core.specs.Callers.{live}
-use Rattle.dav_session_core.specs.Private.Refusing.{put_fault}
+use Rattle.dav_session_core.specs.StoreRefusals.{put_fault}
 use Rattle.dav_session_core.specs.Sessions as spec
 use Rattle.dav_session_core.proofs.MoveLemmas.{is_moved, move_lacks}
 use Rattle.dav_session_core.proofs.session.Session.relocate.Goals as goal

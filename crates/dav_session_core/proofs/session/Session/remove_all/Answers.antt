@@ -1,12 +1,11 @@
-use Rattle.std.proofs.Common.{refl, map, ap, ◌∙◌, subst}
+use Rattle.std.proofs.Common.{refl, map, ap, subst}
 use Rattle.dav_path_core.specs.Segments.{segments}
 use Rattle.dav_resource_core.specs.Served.{answer_of}
 use Rattle.dav_session_core.specs.Callers.{live}
 use Rattle.dav_session_core.specs.Sessions as spec
-use Rattle.dav_session_core.proofs.Asking.{join_as}
-use Rattle.dav_session_core.proofs.CallerLaws.{by_none}
 use Rattle.dav_session_core.proofs.RemovalLemmas.{Removing, removing_as, removing_begun, removing_ended}
 use Rattle.dav_session_core.proofs.SubtreeLemmas.{nothing_left}
+use Rattle.dav_session_core.proofs.Looking.{acts_none, acts_on}
 use Rattle.dav_session_core.proofs.session.Session.remove_all.Goals as goal
 
 pub loop-path-init : goal.loop-path-init
@@ -14,8 +13,7 @@ loop-path-init g c =
     let who = spec.caller c.args.self.now in
     let start = spec.state g.R.Rng.stream c.args.self.now in
     record {
-      run = by_none who start;
-      caller = refl;
+      acts = acts_none g.R.Rng.stream c.args.self.now;
       removing = λ p no_root stood walk free. removing_begun who p start (map (λ q. segments q.bytes) c.args.places.items) stood walk free;
     }
 
@@ -26,11 +24,10 @@ loop-path-preserved g c =
     let mid = spec.state g.R.Rng.stream c.loop-path.self in
     let after = spec.state g.R.Rng.stream c.ask.new.self in
     record {
-      run = join_as who (spec.caller c.loop-path.self) start mid after c.loop-path.invariant.caller c.loop-path.invariant.run (c.ask.ensures.run refl);
-      caller = c.ask.ensures.caller ∙ c.loop-path.invariant.caller;
+      acts = acts_on c.loop-path.invariant.acts (c.ask.ensures.acts refl);
       removing = λ p no_root stood walk free.
           removing_as (λ q. segments q.bytes) who (spec.caller c.loop-path.self) p (live who.now start) mid after c.loop-path.places.items c.pop.new.self.items c.in-Some.path
-          (answer_of c.ask.result) no_root c.loop-path.invariant.caller c.in-Some.ensures.items (c.loop-path.invariant.removing p no_root stood walk free) c.ask.ensures.step;
+          (answer_of c.ask.result) no_root c.loop-path.invariant.acts.who c.in-Some.ensures.items (c.loop-path.invariant.removing p no_root stood walk free) c.ask.ensures.step;
     }
 
 pub returns-clause-removed : goal.returns-clause-removed

@@ -3,7 +3,7 @@ use Rattle.std.specs.Prelude.{IsSome}
 use Rattle.dav_path_core.specs.Fronts.{Path}
 use Rattle.dav_path_core.specs.Segments.{segments}
 use Rattle.dav_files_core.specs.Resources.{at_path}
-use Rattle.dav_session_core.specs.Callers.{RunBy, live}
+use Rattle.dav_session_core.specs.Callers.{live}
 use Rattle.dav_session_core.specs.Removing.{refusing_removal}
 use Rattle.dav_session_core.specs.Sessions as spec
 use Rattle.dav_session_core.specs.Subtrees.{IsWalk}
@@ -16,8 +16,7 @@ invariant-loop-path g l =
     let start = spec.state g.R.Rng.stream l.fn.self in
     let all = map (λ q. segments q.bytes) l.fn.places.items in
     record {
-      run : RunBy who start (spec.state g.R.Rng.stream l.self);
-      caller : spec.caller l.self ≡ who;
+      acts : spec.Acts g.R.Rng.stream l.fn.self l.self;
       removing : (p : Path) → p ≢ [] → IsSome (at_path start.map p) → IsWalk start.map p all → refusing_removal (live who.now start) who all ≡ []
           → Removing who p (live who.now start) (map (λ q. segments q.bytes) l.places.items) (spec.state g.R.Rng.stream l.self);
     }

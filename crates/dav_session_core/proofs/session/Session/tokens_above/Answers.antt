@@ -10,8 +10,8 @@ use Rattle.dav_resource_core.specs.Step.{State}
 use Rattle.dav_session_core.specs.Callers.{live}
 use Rattle.dav_session_core.specs.Granting.{AreAbove}
 use Rattle.dav_session_core.specs.Sessions as spec
-use Rattle.dav_session_core.proofs.CallerLaws.{by_none}
-use Rattle.dav_session_core.proofs.ConditionLemmas.{looks_none, looks_on, same_state}
+use Rattle.dav_session_core.proofs.ConditionLemmas.{same_state}
+use Rattle.dav_session_core.proofs.Looking.{as_looks, looks_none, looks_on}
 use Rattle.dav_session_core.proofs.GrantLemmas.{TokensSoFar, no_tokens_yet, only_more, tokens_up, tokens_whole}
 use Rattle.dav_session_core.proofs.OwnLemmas.{one_less, parent_front}
 use Rattle.dav_session_core.proofs.session.Session.tokens_above.Goals as goal
@@ -23,56 +23,13 @@ loop-init g c =
     let p = segments c.args.path.now.bytes in
     let here : segments c.in_ok-here.here.bytes ≡ p = ap (λ (path : PathText). segments path.bytes) c.in_ok-here.ensures in
     record {
-      looks = looks_none who start;
+      looks = looks_none g.R.Rng.stream c.args.self.now;
       left = omega (arith, ap length here);
       tokens = subst (λ (q : Path). TokensSoFar (live who.now start) p q (map string_bytes c.new-tokens.result.items)) (sym here)
           (no_tokens_yet (live who.now start) p (map string_bytes c.new-tokens.result.items));
       front = ap (λ (q : Path). is_front q p) here ∙ is_front-refl p;
       only = subst (λ (tokens : List _). AreAbove (live who.now start) p (map string_bytes tokens)) (sym c.new-tokens.ensures.items) (λ token none. absurd (true≢false (sym none)));
     }
-
-pub returns-in_err-here-clause-run : goal.returns-in_err-here-clause-run
-returns-in_err-here-clause-run g c = by_none (spec.caller c.args.self.now) (spec.state g.R.Rng.stream c.args.self.now)
-
-pub returns-in_err-add_tokens_at-clause-run : goal.returns-in_err-add_tokens_at-clause-run
-returns-in_err-add_tokens_at-clause-run g c =
-    (looks_on (spec.caller c.args.self.now) (spec.state g.R.Rng.stream c.args.self.now) (spec.caller c.loop.self) (spec.state g.R.Rng.stream c.loop.self)
-    (spec.caller c.add_tokens_at.new.self) (spec.state g.R.Rng.stream c.add_tokens_at.new.self) c.loop.invariant.looks c.add_tokens_at.ensures.run c.add_tokens_at.ensures.live c.add_tokens_at.ensures.caller).run
-
-pub returns-in_err-add_tokens_at-clause-live : goal.returns-in_err-add_tokens_at-clause-live
-returns-in_err-add_tokens_at-clause-live g c =
-    (looks_on (spec.caller c.args.self.now) (spec.state g.R.Rng.stream c.args.self.now) (spec.caller c.loop.self) (spec.state g.R.Rng.stream c.loop.self)
-    (spec.caller c.add_tokens_at.new.self) (spec.state g.R.Rng.stream c.add_tokens_at.new.self) c.loop.invariant.looks c.add_tokens_at.ensures.run c.add_tokens_at.ensures.live c.add_tokens_at.ensures.caller).live
-
-pub returns-in_err-add_tokens_at-clause-caller : goal.returns-in_err-add_tokens_at-clause-caller
-returns-in_err-add_tokens_at-clause-caller g c =
-    (looks_on (spec.caller c.args.self.now) (spec.state g.R.Rng.stream c.args.self.now) (spec.caller c.loop.self) (spec.state g.R.Rng.stream c.loop.self)
-    (spec.caller c.add_tokens_at.new.self) (spec.state g.R.Rng.stream c.add_tokens_at.new.self) c.loop.invariant.looks c.add_tokens_at.ensures.run c.add_tokens_at.ensures.live c.add_tokens_at.ensures.caller).caller
-
-pub returns-in_err-here-2-clause-run : goal.returns-in_err-here-2-clause-run
-returns-in_err-here-2-clause-run g c =
-    (looks_on (spec.caller c.args.self.now) (spec.state g.R.Rng.stream c.args.self.now) (spec.caller c.loop.self) (spec.state g.R.Rng.stream c.loop.self)
-    (spec.caller c.add_tokens_at.new.self) (spec.state g.R.Rng.stream c.add_tokens_at.new.self) c.loop.invariant.looks c.add_tokens_at.ensures.run c.add_tokens_at.ensures.live c.add_tokens_at.ensures.caller).run
-
-pub returns-in_err-here-2-clause-live : goal.returns-in_err-here-2-clause-live
-returns-in_err-here-2-clause-live g c =
-    (looks_on (spec.caller c.args.self.now) (spec.state g.R.Rng.stream c.args.self.now) (spec.caller c.loop.self) (spec.state g.R.Rng.stream c.loop.self)
-    (spec.caller c.add_tokens_at.new.self) (spec.state g.R.Rng.stream c.add_tokens_at.new.self) c.loop.invariant.looks c.add_tokens_at.ensures.run c.add_tokens_at.ensures.live c.add_tokens_at.ensures.caller).live
-
-pub returns-in_err-here-2-clause-caller : goal.returns-in_err-here-2-clause-caller
-returns-in_err-here-2-clause-caller g c =
-    (looks_on (spec.caller c.args.self.now) (spec.state g.R.Rng.stream c.args.self.now) (spec.caller c.loop.self) (spec.state g.R.Rng.stream c.loop.self)
-    (spec.caller c.add_tokens_at.new.self) (spec.state g.R.Rng.stream c.add_tokens_at.new.self) c.loop.invariant.looks c.add_tokens_at.ensures.run c.add_tokens_at.ensures.live c.add_tokens_at.ensures.caller).caller
-
-pub returns-in_err-add_tokens_at-2-clause-run : goal.returns-in_err-add_tokens_at-2-clause-run
-returns-in_err-add_tokens_at-2-clause-run g c =
-    (looks_on (spec.caller c.args.self.now) (spec.state g.R.Rng.stream c.args.self.now) (spec.caller c.loop.self) (spec.state g.R.Rng.stream c.loop.self)
-    (spec.caller c.add_tokens_at-2.new.self) (spec.state g.R.Rng.stream c.add_tokens_at-2.new.self) c.loop.invariant.looks c.add_tokens_at-2.ensures.run c.add_tokens_at-2.ensures.live c.add_tokens_at-2.ensures.caller).run
-
-pub returns-clause-run : goal.returns-clause-run
-returns-clause-run g c =
-    (looks_on (spec.caller c.args.self.now) (spec.state g.R.Rng.stream c.args.self.now) (spec.caller c.loop.self) (spec.state g.R.Rng.stream c.loop.self)
-    (spec.caller c.add_tokens_at-2.new.self) (spec.state g.R.Rng.stream c.add_tokens_at-2.new.self) c.loop.invariant.looks c.add_tokens_at-2.ensures.run c.add_tokens_at-2.ensures.live c.add_tokens_at-2.ensures.caller).run
 
 pub loop-preserved : goal.loop-preserved
 loop-preserved g c =
@@ -82,11 +39,10 @@ loop-preserved g c =
     let p = segments c.args.path.now.bytes in
     let here = segments c.loop.here.bytes in
     let up : segments c.in_ok-here-2.here.bytes ≡ parent here = c.in_ok-here-2.ensures.above in
-    let same = same_state who start (spec.caller c.loop.self) (spec.state g.R.Rng.stream c.loop.self) c.loop.invariant.looks in
+    let same = same_state who start (spec.caller c.loop.self) (spec.state g.R.Rng.stream c.loop.self) (as_looks c.loop.invariant.looks) in
     let added = c.in_ok-add_tokens_at.ensures.ok ∙ ap (λ (t : State). map string_bytes c.loop.tokens.items ++ map (λ (l : Lock). l.token) (discovered t.locks here)) same in
     record {
-      looks = looks_on (spec.caller c.args.self.now) (spec.state g.R.Rng.stream c.args.self.now) (spec.caller c.loop.self) (spec.state g.R.Rng.stream c.loop.self)
-          (spec.caller c.add_tokens_at.new.self) (spec.state g.R.Rng.stream c.add_tokens_at.new.self) c.loop.invariant.looks c.add_tokens_at.ensures.run c.add_tokens_at.ensures.live c.add_tokens_at.ensures.caller;
+      looks = looks_on c.loop.invariant.looks c.add_tokens_at.ensures.looks;
       left = ap (λ (q : Path). length q + (c.loop.counter + 1)) up ∙ one_less here c.loop.counter (length p) c.loop.invariant.left (subst (λ n. c.loop.counter < n) c.depth_of-end.ensures c.loop-test.true);
       tokens = subst (λ (q : Path). TokensSoFar s p q (map string_bytes c.add_tokens_at.new.tokens.items)) (sym up)
           (tokens_up s p here (map string_bytes c.loop.tokens.items) (map string_bytes c.add_tokens_at.new.tokens.items) added c.loop.invariant.tokens);
@@ -99,7 +55,7 @@ returns-clause-ok g c =
     let who = spec.caller c.args.self.now in
     let start = spec.state g.R.Rng.stream c.args.self.now in
     let here = segments c.loop.here.bytes in
-    let same = same_state who start (spec.caller c.loop.self) (spec.state g.R.Rng.stream c.loop.self) c.loop.invariant.looks in
+    let same = same_state who start (spec.caller c.loop.self) (spec.state g.R.Rng.stream c.loop.self) (as_looks c.loop.invariant.looks) in
     let added = c.in_ok-add_tokens_at-2.ensures.ok ∙ ap (λ (t : State). map string_bytes c.loop.tokens.items ++ map (λ (l : Lock). l.token) (discovered t.locks here)) same in
     tokens_whole (live who.now start) (segments c.args.path.now.bytes) here (map string_bytes c.loop.tokens.items) (map string_bytes c.add_tokens_at-2.new.tokens.items)
     (omega (arith, c.loop.invariant.left, c.loop-test.false, c.depth_of-end.ensures)) added c.loop.invariant.tokens
@@ -109,7 +65,19 @@ returns-clause-only g c =
     let who = spec.caller c.args.self.now in
     let start = spec.state g.R.Rng.stream c.args.self.now in
     let here = segments c.loop.here.bytes in
-    let same = same_state who start (spec.caller c.loop.self) (spec.state g.R.Rng.stream c.loop.self) c.loop.invariant.looks in
+    let same = same_state who start (spec.caller c.loop.self) (spec.state g.R.Rng.stream c.loop.self) (as_looks c.loop.invariant.looks) in
     let added = c.in_ok-add_tokens_at-2.ensures.ok ∙ ap (λ (t : State). map string_bytes c.loop.tokens.items ++ map (λ (l : Lock). l.token) (discovered t.locks here)) same in
     only_more (live who.now start) (segments c.args.path.now.bytes) here (map string_bytes c.loop.tokens.items) (map string_bytes c.add_tokens_at-2.new.tokens.items)
     c.loop.invariant.front added c.loop.invariant.only
+
+pub returns-in_err-add_tokens_at-clause-looks : goal.returns-in_err-add_tokens_at-clause-looks
+returns-in_err-add_tokens_at-clause-looks g c = looks_on c.loop.invariant.looks c.add_tokens_at.ensures.looks
+
+pub returns-in_err-here-2-clause-looks : goal.returns-in_err-here-2-clause-looks
+returns-in_err-here-2-clause-looks g c = looks_on c.loop.invariant.looks c.add_tokens_at.ensures.looks
+
+pub returns-in_err-add_tokens_at-2-clause-looks : goal.returns-in_err-add_tokens_at-2-clause-looks
+returns-in_err-add_tokens_at-2-clause-looks g c = looks_on c.loop.invariant.looks c.add_tokens_at-2.ensures.looks
+
+pub returns-clause-looks : goal.returns-clause-looks
+returns-clause-looks g c = looks_on c.loop.invariant.looks c.add_tokens_at-2.ensures.looks

@@ -4,7 +4,6 @@ use Rattle.dav_path_core.specs.Segments.{segments}
 use Rattle.dav_session_core.specs.Callers.{live}
 use Rattle.dav_session_core.specs.Granting.{AreAbove}
 use Rattle.dav_session_core.specs.Sessions as spec
-use Rattle.dav_session_core.proofs.ConditionLemmas.{Looks}
 use Rattle.dav_session_core.proofs.GrantLemmas.{TokensSoFar}
 use Rattle.dav_session_core.proofs.session.Session.tokens_above.Given as goal
 
@@ -13,7 +12,7 @@ invariant-loop g l =
     let who = spec.caller l.fn.self in
     let start = spec.state g.R.Rng.stream l.fn.self in
     record {
-      looks : Looks who start (spec.caller l.self) (spec.state g.R.Rng.stream l.self);
+      looks : spec.Looks g.R.Rng.stream l.fn.self l.self;
       left : length (segments l.here.bytes) + l.counter ≡ length (segments l.path.bytes);
       tokens : TokensSoFar (live who.now start) (segments l.path.bytes) (segments l.here.bytes) (map string_bytes l.tokens.items);
       front : is_front (segments l.here.bytes) (segments l.path.bytes) ≡ true;

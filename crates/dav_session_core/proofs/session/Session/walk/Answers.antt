@@ -7,13 +7,9 @@ use Rattle.dav_files_core.specs.Meta.{meta_at}
 use Rattle.dav_files_core.specs.Resources.{IsResourceMap, Resource, at_path}
 use Rattle.dav_resource_core.specs.Step.{State}
 use Rattle.dav_session_core.specs.Sessions as spec
-use Rattle.dav_session_core.proofs.CallerLaws.{by_none}
-use Rattle.dav_session_core.proofs.ConditionLemmas.{looks_none, looks_on}
+use Rattle.dav_session_core.proofs.Looking.{as_looks, looks_on}
 use Rattle.dav_session_core.proofs.SubtreeLemmas.{begin, ended, fewer, goes_on, nothing_left, refused_walk, same_map, stands_as}
 use Rattle.dav_session_core.proofs.session.Session.walk.Goals as goal
-
-pub returns-in_err-copy_of-clause-run : goal.returns-in_err-copy_of-clause-run
-returns-in_err-copy_of-clause-run g c = by_none (spec.caller c.args.self.now) (spec.state g.R.Rng.stream c.args.self.now)
 
 pub loop-place-init : goal.loop-place-init
 loop-place-init g c =
@@ -23,7 +19,7 @@ loop-place-init g c =
     (c.meta.ensures.found ∙ ap (λ (q : PathText). option_map (λ (r : Resource). meta_at r.node) (at_path start.map (segments q.bytes))) c.in_ok-copy_of.ensures)
     (c.is_none.ensures ∙ ap not c.if-is_none.false) in
     record {
-      looks = looks_on who start who start (spec.caller c.meta.new.self) (spec.state g.R.Rng.stream c.meta.new.self) (looks_none who start) c.meta.ensures.run c.meta.ensures.live c.meta.ensures.caller;
+      looks = c.meta.ensures.looks;
       walking = begin (λ p. segments p.bytes) start.map c.args.path c.new-places.result.items c.new-waiting.result.items c.push.new.self.items c.new-places.ensures.items c.new-waiting.ensures.items c.in_ok-push.ensures.items here;
     }
 
@@ -33,45 +29,29 @@ returns-in_err-members-clause-err g c =
     let start = spec.state g.R.Rng.stream c.args.self.now in
     rw (q.1, q.2) (refused_walk (λ p. segments p.bytes) start.map (segments c.args.path.bytes) c.loop-place.places.items c.loop-place.waiting.items c.pop.new.self.items c.in-Some.place
     c.in-Some.ensures.items c.loop-place.invariant.walking c.in_err-members.field-0.0 (spec.state g.R.Rng.stream c.loop-place.self).map
-    (same_map (spec.caller c.args.self.now) start (spec.caller c.loop-place.self) (spec.state g.R.Rng.stream c.loop-place.self) c.loop-place.invariant.looks) c.in_err-members.ensures.err)
-
-pub returns-in_err-members-clause-run : goal.returns-in_err-members-clause-run
-returns-in_err-members-clause-run g c =
-    (looks_on (spec.caller c.args.self.now) (spec.state g.R.Rng.stream c.args.self.now) (spec.caller c.loop-place.self) (spec.state g.R.Rng.stream c.loop-place.self)
-    (spec.caller c.members.new.self) (spec.state g.R.Rng.stream c.members.new.self) c.loop-place.invariant.looks c.members.ensures.run c.members.ensures.live c.members.ensures.caller).run
-
-pub returns-in_err-append-clause-run : goal.returns-in_err-append-clause-run
-returns-in_err-append-clause-run g c =
-    (looks_on (spec.caller c.args.self.now) (spec.state g.R.Rng.stream c.args.self.now) (spec.caller c.loop-place.self) (spec.state g.R.Rng.stream c.loop-place.self)
-    (spec.caller c.members.new.self) (spec.state g.R.Rng.stream c.members.new.self) c.loop-place.invariant.looks c.members.ensures.run c.members.ensures.live c.members.ensures.caller).run
-
-pub returns-in_err-push-2-clause-run : goal.returns-in_err-push-2-clause-run
-returns-in_err-push-2-clause-run g c =
-    (looks_on (spec.caller c.args.self.now) (spec.state g.R.Rng.stream c.args.self.now) (spec.caller c.loop-place.self) (spec.state g.R.Rng.stream c.loop-place.self)
-    (spec.caller c.members.new.self) (spec.state g.R.Rng.stream c.members.new.self) c.loop-place.invariant.looks c.members.ensures.run c.members.ensures.live c.members.ensures.caller).run
+    (same_map (spec.caller c.args.self.now) start (spec.caller c.loop-place.self) (spec.state g.R.Rng.stream c.loop-place.self) (as_looks c.loop-place.invariant.looks)) c.in_err-members.ensures.err)
 
 pub loop-place-smaller : goal.loop-place-smaller
 loop-place-smaller g c =
     let start = spec.state g.R.Rng.stream c.args.self.now in
     fewer (λ p. segments p.bytes) start.map (segments c.args.path.bytes) c.loop-place.places.items c.loop-place.waiting.items c.pop.new.self.items c.in-Some.place
     c.in-Some.ensures.items c.loop-place.invariant.walking c.push-in-Some.new.self.items c.in_ok-members.members.items c.append.new.self.items (spec.state g.R.Rng.stream c.loop-place.self).map
-    (same_map (spec.caller c.args.self.now) start (spec.caller c.loop-place.self) (spec.state g.R.Rng.stream c.loop-place.self) c.loop-place.invariant.looks)
+    (same_map (spec.caller c.args.self.now) start (spec.caller c.loop-place.self) (spec.state g.R.Rng.stream c.loop-place.self) (as_looks c.loop-place.invariant.looks))
     c.in_ok-append.ensures.items c.in_ok-members.ensures.ok
 
 pub loop-place-preserved : goal.loop-place-preserved
 loop-place-preserved g c =
     let start = spec.state g.R.Rng.stream c.args.self.now in
     record {
-      looks = looks_on (spec.caller c.args.self.now) start (spec.caller c.loop-place.self) (spec.state g.R.Rng.stream c.loop-place.self)
-          (spec.caller c.members.new.self) (spec.state g.R.Rng.stream c.members.new.self) c.loop-place.invariant.looks c.members.ensures.run c.members.ensures.live c.members.ensures.caller;
+      looks = looks_on c.loop-place.invariant.looks c.members.ensures.looks;
       walking = goes_on (λ p. segments p.bytes) start.map (segments c.args.path.bytes) c.loop-place.places.items c.loop-place.waiting.items c.pop.new.self.items c.in-Some.place
           c.in-Some.ensures.items c.loop-place.invariant.walking c.push-in-Some.new.self.items c.in_ok-members.members.items c.append.new.self.items (spec.state g.R.Rng.stream c.loop-place.self).map
-          (same_map (spec.caller c.args.self.now) start (spec.caller c.loop-place.self) (spec.state g.R.Rng.stream c.loop-place.self) c.loop-place.invariant.looks)
+          (same_map (spec.caller c.args.self.now) start (spec.caller c.loop-place.self) (spec.state g.R.Rng.stream c.loop-place.self) (as_looks c.loop-place.invariant.looks))
           c.in_ok-append.ensures.items c.in_ok-members.ensures.ok c.in_ok-push-2.ensures.items;
     }
 
 pub returns-clause-ok : goal.returns-clause-ok
 returns-clause-ok g c =
-    let is_map = subst IsResourceMap (ap (λ (s : State). s.map) c.meta.ensures.live) c.meta.ensures.shape in
+    let is_map = subst IsResourceMap (ap (λ (s : State). s.map) c.meta.ensures.looks.live) c.meta.ensures.shape in
     ended (λ p. segments p.bytes) (spec.state g.R.Rng.stream c.args.self.now).map (segments c.args.path.bytes) c.loop-place.places.items c.loop-place.waiting.items
     (nothing_left c.loop-place.waiting.items c.loop-place.waiting.len c.loop-place.waiting.ok.0 c.in_default.ensures.cases.0) c.loop-place.invariant.walking is_map

@@ -1,7 +1,6 @@
 use Rattle.std.proofs.Common.{map}
 use Rattle.dav_path_core.specs.Segments.{segments}
 use Rattle.dav_session_core.specs.Sessions as spec
-use Rattle.dav_session_core.proofs.ConditionLemmas.{Looks}
 use Rattle.dav_session_core.proofs.SubtreeLemmas.{Walking, left_below}
 use Rattle.dav_session_core.proofs.session.Session.walk.Given as goal
 
@@ -9,7 +8,7 @@ abbrev pub invariant-loop-place : goal.invariant-loop-place
 invariant-loop-place g l =
     let start = spec.state g.R.Rng.stream l.fn.self in
     record {
-      looks : Looks (spec.caller l.fn.self) start (spec.caller l.self) (spec.state g.R.Rng.stream l.self);
+      looks : spec.Looks g.R.Rng.stream l.fn.self l.self;
       walking : Walking start.map (segments l.fn.path.bytes) (map (λ p. segments p.bytes) l.places.items) (map (λ p. segments p.bytes) l.waiting.items);
     }
 

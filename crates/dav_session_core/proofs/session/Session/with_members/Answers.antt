@@ -8,34 +8,14 @@ use Rattle.dav_headers_core.specs.declared.davheaders.depths.Depth.TheVariants a
 use Rattle.dav_resource_core.specs.Step.{State}
 use Rattle.dav_session_core.specs.Private.Gathering.{MembersAre}
 use Rattle.dav_session_core.specs.Sessions as spec
-use Rattle.dav_session_core.proofs.Asking.{join_as}
-use Rattle.dav_session_core.proofs.CallerLaws.{by_none}
 use Rattle.dav_session_core.proofs.PlaceLemmas.{nowhere_odd}
 use Rattle.dav_session_core.proofs.session.Session.with_members.Goals as goal
-
-pub returns-in_err-copy_of-clause-run : goal.returns-in_err-copy_of-clause-run
-returns-in_err-copy_of-clause-run g c = by_none (spec.caller c.args.self.now) (spec.state g.R.Rng.stream c.args.self.now)
 
 pub returns-in_err-members-clause-err : goal.returns-in_err-members-clause-err
 returns-in_err-members-clause-err g c =
     let q = err_from_is_err_and c.from_residual-in_err-members.result c.from_residual-in_err-members.ensures.1 in
     rw (q.1, q.2) (nowhere_odd depth.One (spec.state g.R.Rng.stream c.args.self.now).map (spec.state g.R.Rng.stream c.place_alone.new.self).map (segments c.args.path.bytes)
-    c.in_err-members.field-0.0 (ap (λ (s : State). s.map) c.place_alone.ensures.live) c.in_err-members.ensures.err)
-
-pub returns-in_err-members-clause-run : goal.returns-in_err-members-clause-run
-returns-in_err-members-clause-run g c =
-    join_as (spec.caller c.args.self.now) (spec.caller c.place_alone.new.self) (spec.state g.R.Rng.stream c.args.self.now) (spec.state g.R.Rng.stream c.place_alone.new.self)
-    (spec.state g.R.Rng.stream c.members.new.self) c.place_alone.ensures.caller c.place_alone.ensures.run c.members.ensures.run
-
-pub returns-in_err-append-clause-run : goal.returns-in_err-append-clause-run
-returns-in_err-append-clause-run g c =
-    join_as (spec.caller c.args.self.now) (spec.caller c.place_alone.new.self) (spec.state g.R.Rng.stream c.args.self.now) (spec.state g.R.Rng.stream c.place_alone.new.self)
-    (spec.state g.R.Rng.stream c.members.new.self) c.place_alone.ensures.caller c.place_alone.ensures.run c.members.ensures.run
-
-pub returns-clause-run : goal.returns-clause-run
-returns-clause-run g c =
-    join_as (spec.caller c.args.self.now) (spec.caller c.place_alone.new.self) (spec.state g.R.Rng.stream c.args.self.now) (spec.state g.R.Rng.stream c.place_alone.new.self)
-    (spec.state g.R.Rng.stream c.members.new.self) c.place_alone.ensures.caller c.place_alone.ensures.run c.members.ensures.run
+    c.in_err-members.field-0.0 (ap (λ (s : State). s.map) c.place_alone.ensures.looks.live) c.in_err-members.ensures.err)
 
 pub returns-clause-ok : goal.returns-clause-ok
 returns-clause-ok g c =
@@ -43,5 +23,5 @@ returns-clause-ok g c =
       members,
       ap (map (λ p. segments p.bytes)) c.in_ok-append.ensures.items ∙ map-append (λ p. segments p.bytes) c.in_ok-places.places.items c.in_ok-members.members.items
           ∙ ap (λ (first : List Path). first ++ members) c.in_ok-places.ensures.ok ∙ ap (λ (q : PathText). segments q.bytes ∷ members) c.in_ok-copy_of.ensures,
-      subst (λ m. MembersAre m (segments c.args.path.bytes) members) (ap (λ (s : State). s.map) c.place_alone.ensures.live) c.in_ok-members.ensures.ok,
+      subst (λ m. MembersAre m (segments c.args.path.bytes) members) (ap (λ (s : State). s.map) c.place_alone.ensures.looks.live) c.in_ok-members.ensures.ok,
     )

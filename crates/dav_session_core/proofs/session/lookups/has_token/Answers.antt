@@ -6,12 +6,8 @@ use Rattle.dav_locks_core.specs.Lock.{Lock}
 use Rattle.dav_session_core.specs.Callers.{live}
 use Rattle.dav_session_core.specs.Conditions.{has_token}
 use Rattle.dav_session_core.specs.Sessions as spec
-use Rattle.dav_session_core.proofs.CallerLaws.{by_none}
 use Rattle.dav_session_core.proofs.TokenLemmas.{any_discovered}
 use Rattle.dav_session_core.proofs.session.lookups.has_token.Goals as goal
-
-pub returns-in_err-copy_of-clause-run : goal.returns-in_err-copy_of-clause-run
-returns-in_err-copy_of-clause-run g c = by_none (spec.caller c.args.session.now) (spec.state g.R.Rng.stream c.args.session.now)
 
 pub returns-clause-ok : goal.returns-clause-ok
 returns-clause-ok g c =

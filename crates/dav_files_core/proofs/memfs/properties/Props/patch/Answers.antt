@@ -1,7 +1,8 @@
 use Rattle.std.proofs.Common.{map, sym, ap, ◌∙◌, subst}
 use Rattle.dav_files_core.specs.Private.Patching.{AreMissing, changes_of}
-use Rattle.dav_files_core.specs.Private.PropertyMaps.{properties_of}
+use Rattle.dav_files_core.specs.Private.PropertyMaps.{AreKeyed, properties_of}
 use Rattle.dav_files_core.specs.Properties.{entry_of, patched}
+use Rattle.dav_files_core.proofs.properties.KeyedLemmas.{keyed_patched}
 use Rattle.dav_files_core.proofs.properties.PatchLemmas.{all_patched}
 use Rattle.dav_files_core.proofs.memfs.properties.Props.patch.Goals as goal
 
@@ -14,3 +15,14 @@ returns-clause-ok c =
     (subst (AreMissing props changes) (sym c.as_slice.ensures.value) c.in_ok-answers.ensures.missing) c.in_ok-make_room.ensures.others c.in_ok-make_room.ensures.room
     c.in_ok-answers.ensures.changes c.make_changes.ensures
     ∙ ap (λ props. patched props patch) c.self.view_is
+
+pub invariant_of-self-2 : goal.invariant_of-self-2
+invariant_of-self-2 c =
+    let props = properties_of c.self.inside.map.entries in
+    let changes = changes_of c.in_ok-answers.changes.last.entries in
+    let patch = map entry_of c.args.patch.items in
+    subst AreKeyed
+    (sym (all_patched props (properties_of c.make_room.new.kept.entries) (properties_of c.make_changes.new.kept.entries) patch changes c.as_slice.result.now
+    (subst (AreMissing props changes) (sym c.as_slice.ensures.value) c.in_ok-answers.ensures.missing) c.in_ok-make_room.ensures.others c.in_ok-make_room.ensures.room
+    c.in_ok-answers.ensures.changes c.make_changes.ensures))
+    (keyed_patched patch props c.self.invariant)

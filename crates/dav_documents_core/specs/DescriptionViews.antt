@@ -1,4 +1,4 @@
--- What a contract sees of a description. Private contracts alone speak of it.
+-- What a contract sees of a description.
 use Rattle.std.specs.Prelude.{map, string_bytes}
 use Rattle.dav_files_core.specs.Properties.{property_of}
 use Rattle.dav_documents_core.specs.declared.property_documents.Description as code

@@ -1,4 +1,4 @@
--- How the marks of an answer grow, and what is read for its body. Private contracts alone speak of it.
+-- How the marks of an answer grow, and what is read for its body.
 use Rattle.std.specs.Prelude.{◌≡◌, ℕ, List, [], ◌∷◌, ◌++◌, Some, take, drop}
 use Rattle.dav_path_core.specs.Fronts.{Path}
 use Rattle.dav_files_core.specs.declared.memfs.Kind.{Kind}

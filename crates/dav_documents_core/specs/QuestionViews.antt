@@ -1,4 +1,4 @@
--- What a contract sees of a question. Private contracts alone speak of it.
+-- What a contract sees of a question.
 use Rattle.std.specs.Prelude.{map}
 use Rattle.dav_xml_core.specs.Views.{name_of}
 use Rattle.dav_documents_core.specs.declared.property_questions.Question as code

@@ -1,4 +1,4 @@
--- Which of the named tokens a lock has. Private contracts alone speak of it.
+-- Which of the named tokens a lock has.
 use Rattle.std.specs.Prelude.{◌≡◌, ℕ, ◌<◌, Bool, List, [], bytes_eq, length}
 use Rattle.std.specs.List.{list_any}
 use Rattle.dav_locks_core.specs.Lock.{Lock}

@@ -1,4 +1,4 @@
--- Whether places stand, and why those within a depth aren't known. Private contracts alone speak of it.
+-- Whether places stand, and why those within a depth aren't known.
 use Rattle.std.specs.Prelude.{◌≡◌, ◌⊎◌, List, None, Contains, IsSome}
 use Rattle.dav_path_core.specs.Fronts.{Path}
 use Rattle.dav_headers_core.specs.declared.davheaders.depths.Depth.{Depth}

@@ -1,4 +1,4 @@
--- The faults of a PROPPATCH, by what the stores refuse. Private contracts alone speak of it.
+-- The faults of a PROPPATCH, by what the stores refuse.
 use Rattle.std.specs.Prelude.{◌≡◌, None, IsSome}
 use Rattle.dav_path_core.specs.Fronts.{Path}
 use Rattle.dav_path_core.specs.declared.errors.FsError.TheVariants.{InsufficientStorage}

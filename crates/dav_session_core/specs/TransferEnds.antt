@@ -1,4 +1,4 @@
--- The ends of a COPY or a MOVE, piece by piece. Private contracts alone speak of them.
+-- The ends of a COPY or a MOVE, piece by piece.
 use Rattle.std.specs.Prelude.{◌≡◌, ◌⊎◌, Bool, true, false, ℕ, List, [], ◌∷◌, Option, None, Some, Err, IsSome, map, option_map, filter_map, if◌then◌else◌}
 use Rattle.http_header.specs.FieldValue.{FieldValue}
 use Rattle.http_header.specs.HeaderMap.{Entries}
@@ -17,7 +17,7 @@ use Rattle.dav_session_core.specs.Copying.{AreCopied, between, refusing_copy}
 use Rattle.dav_fields_core.specs.Depths.{copy_depth}
 use Rattle.dav_fields_core.specs.Destinations.{IsDestination, LeadsNowhere, overwrites}
 use Rattle.dav_session_core.specs.Ends.{EndsFit, GoesFrom, HasFolder, LeadsOn, is_related}
-use Rattle.dav_session_core.specs.Private.Refusing.{put_fault}
+use Rattle.dav_session_core.specs.StoreRefusals.{put_fault}
 use Rattle.dav_session_core.specs.Subtrees.{HasOddName, IsWalk}
 
 -- why a request leads nowhere, or to a place that it can't have

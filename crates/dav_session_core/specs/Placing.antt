@@ -1,4 +1,4 @@
--- Whether a PUT can be done, by what is known of its path. Private contracts alone speak of it.
+-- Whether a PUT can be done, by what is known of its path.
 use Rattle.std.specs.Prelude.{◌≡◌, Bool, false, List, [], ◌∷◌, Option, None, Some, if◌then◌else◌}
 use Rattle.dav_path_core.specs.Fronts.{Path, parent}
 use Rattle.dav_files_core.specs.declared.memfs.Kind.TheVariants.{Folder, File}
@@ -10,7 +10,7 @@ use Rattle.dav_fields_core.specs.declared.etags.Standing.TheVariants.{Nothing}
 use Rattle.dav_faults_core.specs.declared.faults.Fault.{Fault}
 use Rattle.dav_faults_core.specs.declared.faults.Fault.TheVariants as fault
 use Rattle.dav_fields_core.specs.FileTags.{standing_as}
-use Rattle.dav_fields_core.specs.Private.Marking.{IsNone}
+use Rattle.dav_fields_core.specs.Marking.{IsNone}
 
 -- what is checked, where something stands there or not
 abbrev pub target_by : Bool → Path → List Check

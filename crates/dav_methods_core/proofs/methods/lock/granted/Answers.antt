@@ -1,6 +1,0 @@
-use Rattle.dav_session_core.specs.Sessions as spec
-use Rattle.dav_session_core.proofs.CallerLaws.{by_none}
-use Rattle.dav_methods_core.proofs.methods.lock.granted.Goals as goal
-
-pub returns-in_err-place-clause-run : goal.returns-in_err-place-clause-run
-returns-in_err-place-clause-run g c = by_none (spec.caller c.args.session.now) (spec.state g.R.Rng.stream c.args.session.now)

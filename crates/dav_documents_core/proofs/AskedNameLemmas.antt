@@ -8,11 +8,12 @@ use Rattle.dav_xml_core.specs.ReadableDocuments.{CouldBeRead}
 use Rattle.dav_xml_core.specs.Reading.{document_of}
 use Rattle.dav_xml_core.proofs.ElementLemmas.{bind_some, when_some}
 use Rattle.dav_xml_core.proofs.ReadNodesLemmas.{read_could, read_room}
-use Rattle.dav_documents_core.specs.Elements.{at_most_one, children, element_name, is_dav, named, the_one}
+use Rattle.dav_documents_core.specs.Elements.{at_most_one, children, name_of_element, is_dav, elements_named, the_one}
 use Rattle.dav_documents_core.specs.KeptElements.{IsElementIn, IsElementName}
 use Rattle.dav_documents_core.specs.KeptReading.{IsLang, WasRead}
 use Rattle.dav_documents_core.specs.LockInfos.{LockInfo, is_shared, is_write, lock_info_by, lock_info_in, lock_info_of, owner_text}
-use Rattle.dav_documents_core.specs.PropertyQuestions.{Question, All, Names, Listed, and_name, and_names, and_new, and_within, asked, asked_by, asked_in, asked_names, has_part, names_within, question_in, same_name}
+use Rattle.dav_documents_core.specs.PropertyQuestions.{Question, All, Names, Listed, and_name, and_names, and_new, and_within, question_asked, asked_by, asked_in, asked_names, has_part, names_within, question_in}
+use Rattle.dav_xml_core.specs.Namespaces.{same_name}
 use Rattle.dav_documents_core.specs.PropertyUpdates.{own_lang, with_lang}
 use Rattle.dav_documents_core.proofs.KeptReadingLaws.{kept_could, name_could, own_text}
 use Rattle.dav_documents_core.proofs.NamedLemmas.{only_holds}
@@ -34,17 +35,17 @@ with_new names name h is = by (list_any (same_name name) names)
     by true = h
     by false = pushed names name h is
 
-with_name : (names : List Name) (element : List Node) → AreNames names → CouldBeRead element → AreNames (and_name names (element_name element))
-with_name names element h could = by (element_name element) refl
+with_name : (names : List Name) (element : List Node) → AreNames names → CouldBeRead element → AreNames (and_name names (name_of_element element))
+with_name names element h could = by (name_of_element element) refl
   where
-    by : (o : Option Name) → element_name element ≡ o → AreNames (and_name names o)
+    by : (o : Option Name) → name_of_element element ≡ o → AreNames (and_name names o)
     by None is = h
     by (Some name) is = with_new names name h (name_could element name could is)
 
 with_names : (names : List Name) (elements : List (List Node)) → AreNames names → AllByRecursion CouldBeRead elements → AreNames (and_names names elements)
 with_names names [] h could = h
 with_names names (element ∷ elements) h could =
-    with_names (and_name names (element_name element)) elements (with_name names element h could.0) could.1
+    with_names (and_name names (name_of_element element)) elements (with_name names element h could.0) could.1
 
 within : (local : List ℕ) (names : List Name) (part : List Node) → AreNames names → CouldBeRead part → AreNames (and_within local names part)
 within local names part h could = by (is_dav local part)
@@ -59,7 +60,7 @@ all_within local names (part ∷ parts) h could = all_within local (and_within l
 
 -- ---- the question
 
-of_question : (names all prop : Bool) (included listed : List Name) (question : Question) → asked names all prop included listed ≡ Some question
+of_question : (names all prop : Bool) (included listed : List Name) (question : Question) → question_asked names all prop included listed ≡ Some question
     → AreNames included → AreNames listed → AreNames (asked_names question)
 of_question true false false included listed question is h k = let same : Names ≡ question = cc in subst (λ (q : Question). AreNames (asked_names q)) same tt
 of_question false true false included listed question is h k = let same : All included ≡ question = cc in subst (λ (q : Question). AreNames (asked_names q)) same h
@@ -92,7 +93,7 @@ question_names (b ∷ bytes) question fits is = by (document_of (b ∷ bytes)) r
 -- ---- the owner
 
 owner_kept : (lang : Option (List ℕ)) (inside : List (List Node)) (owner : Option (List Node)) → IsLang lang → AllByRecursion WasRead inside
-    → at_most_one (named (codes "owner") inside) ≡ Some owner → IsElementIn (owner_text lang owner)
+    → at_most_one (elements_named (codes "owner") inside) ≡ Some owner → IsElementIn (owner_text lang owner)
 owner_kept lang inside None text read is = tt
 owner_kept lang inside (Some element) text read is =
     record { nodes = with_lang lang element; could = kept_could lang element text (only_holds WasRead (is_dav (codes "owner")) inside element is read); written = refl }
@@ -101,11 +102,11 @@ owner_in : (lang : Option (List ℕ)) (inside : List (List Node)) (info : LockIn
     → IsElementIn info.owner
 unfolding lock_info_by
 owner_in lang inside info text read is =
-    let a = bind_some (the_one (named (codes "lockscope") inside)) _ info is in
+    let a = bind_some (the_one (elements_named (codes "lockscope") inside)) _ info is in
     let b = bind_some (is_shared a.0) _ info a.2 in
-    let d = bind_some (the_one (named (codes "locktype") inside)) _ info b.2 in
+    let d = bind_some (the_one (elements_named (codes "locktype") inside)) _ info b.2 in
     let e = bind_some (when (is_write d.0) d.0) _ info d.2 in
-    let f = bind_some (at_most_one (named (codes "owner") inside)) _ info e.2 in
+    let f = bind_some (at_most_one (elements_named (codes "owner") inside)) _ info e.2 in
     let made : LockInfo = record { shared = b.0; owner = owner_text lang f.0 } in
     let same : made ≡ info = cc in
     subst (λ (o : Option (List ℕ)). IsElementIn o) (ap (λ (i : LockInfo). i.owner) same) (owner_kept lang inside f.0 text read f.1)

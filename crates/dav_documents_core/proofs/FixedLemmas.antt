@@ -2,7 +2,7 @@
 use Rattle.std.proofs.Common.{◌≡◌, refl, ℕ, false, true, List, [], ◌∷◌, ◌++◌, codes, ap, sym, ◌∙◌, subst, append-nil, append_assoc}
 use Rattle.dav_xml_core.specs.Documents.{Node}
 use Rattle.dav_xml_core.specs.Reading.{is_empty}
-use Rattle.dav_xml_core.specs.Writing.{Writing, declared, element_prefix, start_text, tag_name, with_end, with_nodes, with_start}
+use Rattle.dav_xml_core.specs.Writing.{Writing, declaration_bytes, element_prefix, start_text, tag_name, with_end, with_nodes, with_start}
 use Rattle.dav_xml_core.proofs.WriterLemmas.{end_of, writing}
 use Rattle.dav_documents_core.specs.LockDocuments.{kind_nodes, supported_locks}
 use Rattle.dav_documents_core.specs.RefusalBodies.{dav_name, element}
@@ -73,7 +73,7 @@ abbrev pub supported_text : List ℕ
 supported_text = codes "<D:supportedlock><D:lockentry><D:lockscope><D:exclusive></D:exclusive></D:lockscope><D:locktype><D:write></D:write></D:locktype></D:lockentry><D:lockentry><D:lockscope><D:shared></D:shared></D:lockscope><D:locktype><D:write></D:write></D:locktype></D:lockentry></D:supportedlock>"
 
 spelled : element_text (codes "supportedlock") (entry_text (codes "exclusive") ++ entry_text (codes "shared")) ≡ supported_text
-unfolding start_text tag_name declared
+unfolding start_text tag_name declaration_bytes
 spelled = refl
 
 pub supported_fixed : AreFixed supported_locks supported_text

@@ -12,22 +12,22 @@ use Rattle.dav_xml_core.specs.Parts.{Part, PartsCouldBeRead, is_part, nodes_in, 
 use Rattle.dav_xml_core.specs.Readable.{is_start, name_bytes}
 use Rattle.dav_xml_core.specs.ReadableDocuments.{are_apart, is_node, node_bytes}
 use Rattle.dav_xml_core.specs.Reading.{document_of}
-use Rattle.dav_xml_core.specs.Writing.{Writing, in_document, unwritten, written, written_alone}
+use Rattle.dav_xml_core.specs.Writing.{Writing, in_document, new_writing, document_bytes, written_alone}
 use Rattle.dav_xml_core.proofs.InsideLemmas.{element_behind, element_closes}
 use Rattle.dav_xml_core.proofs.NodesLemmas.{parts_again}
 use Rattle.dav_documents_core.specs.KeptElements.{IsDocument, IsElementName, IsElementText, IsVisible}
-use Rattle.dav_documents_core.specs.Pieces.{Piece, Made, Kept, enclosed, made, with_piece, with_pieces, written_pieces}
+use Rattle.dav_documents_core.specs.Pieces.{DocumentPiece, Made, Kept, enclosed_pieces, made_pieces, and_piece, and_pieces, written_pieces}
 use Rattle.dav_documents_core.specs.RefusalBodies.{dav_name, element}
 use Rattle.dav_documents_core.proofs.PieceLemmas.{of_nodes}
 use Rattle.dav_documents_core.proofs.VisibleTextLemmas.{all_chars, same_bytes}
 
 -- the bytes of what is known in characters
-abbrev piece_of : Part → Piece
+abbrev piece_of : Part → DocumentPiece
 piece_of (part.Made node) = Made (node_bytes node)
 piece_of (part.Kept nodes) = Kept (written_alone (map node_bytes nodes))
 
 -- whole elements, each of which could have been read
-pub record AreFine (pieces : List Piece) : Type 0 where
+pub record AreFine (pieces : List DocumentPiece) : Type 0 where
   pub parts : List Part
   pub spelled : pieces ≡ map piece_of parts
   pub each : list_all is_node (nodes_in parts) ≡ true
@@ -44,10 +44,10 @@ nodes_joined (part.Kept nodes ∷ before) behind =
 pub none : AreFine []
 none = record { parts = []; spelled = refl; each = refl; kept = refl; closed = λ n more. refl; apart = λ more. refl }
 
-pub both : (before behind : List Piece) → AreFine before → AreFine behind → AreFine (before ++ behind)
+pub both : (before behind : List DocumentPiece) → AreFine before → AreFine behind → AreFine (before ++ behind)
 both before behind h k = record {
   parts = h.parts ++ k.parts;
-  spelled = ap (λ (ps : List Piece). ps ++ behind) h.spelled ∙ ap (λ (ps : List Piece). map piece_of h.parts ++ ps) k.spelled ∙ sym (map-append piece_of h.parts k.parts);
+  spelled = ap (λ (ps : List DocumentPiece). ps ++ behind) h.spelled ∙ ap (λ (ps : List DocumentPiece). map piece_of h.parts ++ ps) k.spelled ∙ sym (map-append piece_of h.parts k.parts);
   each = ap (list_all is_node) (nodes_joined h.parts k.parts) ∙ list_all-append is_node (nodes_in h.parts) (nodes_in k.parts) ∙ rw (h.each, k.each) refl;
   kept = list_all-append is_part h.parts k.parts ∙ rw (h.kept, k.kept) refl;
   closed = λ n more.
@@ -58,11 +58,11 @@ both before behind h k = record {
       ∙ ap (are_apart false) (append_assoc (nodes_in h.parts) (nodes_in k.parts) more) ∙ h.apart (nodes_in k.parts ++ more) ∙ k.apart more;
 }
 
-pub either : (b : Bool) (this that : List Piece) → AreFine this → AreFine that → AreFine (cond b this that)
+pub either : (b : Bool) (this that : List DocumentPiece) → AreFine this → AreFine that → AreFine (cond b this that)
 either true this that h k = h
 either false this that h k = k
 
-pub all_of : {A : Type 0} (f : A → List Piece) (xs : List A) → AllByRecursion (λ x. AreFine (f x)) xs → AreFine (flat_map f xs)
+pub all_of : {A : Type 0} (f : A → List DocumentPiece) (xs : List A) → AllByRecursion (λ x. AreFine (f x)) xs → AreFine (flat_map f xs)
 all_of f [] h = none
 all_of f (x ∷ xs) h = both (f x) (flat_map f xs) h.0 (all_of f xs h.1)
 
@@ -71,11 +71,11 @@ all_of f (x ∷ xs) h = both (f x) (flat_map f xs) h.0 (all_of f xs h.1)
 inside_out : (parts : List Part) (more : List Node) → nodes_in (parts ++ part.Made End ∷ []) ++ more ≡ nodes_in parts ++ End ∷ more
 inside_out parts more = ap (λ (ns : List Node). ns ++ more) (nodes_joined parts (part.Made End ∷ [])) ∙ append_assoc (nodes_in parts) (End ∷ []) more
 
-within_name : (name : Name) (inside : List Piece) → is_start name [] ≡ true → AreFine inside → AreFine (Made (Start (name_bytes name) []) ∷ (inside ++ Made End ∷ []))
+within_name : (name : Name) (inside : List DocumentPiece) → is_start name [] ≡ true → AreFine inside → AreFine (Made (Start (name_bytes name) []) ∷ (inside ++ Made End ∷ []))
 within_name name inside start h = record {
   parts = part.Made (Start name []) ∷ (h.parts ++ part.Made End ∷ []);
-  spelled = ap (λ (ps : List Piece). Made (Start (name_bytes name) []) ∷ (ps ++ Made End ∷ [])) h.spelled
-      ∙ ap (λ (ps : List Piece). Made (Start (name_bytes name) []) ∷ ps) (sym (map-append piece_of h.parts (part.Made End ∷ [])));
+  spelled = ap (λ (ps : List DocumentPiece). Made (Start (name_bytes name) []) ∷ (ps ++ Made End ∷ [])) h.spelled
+      ∙ ap (λ (ps : List DocumentPiece). Made (Start (name_bytes name) []) ∷ ps) (sym (map-append piece_of h.parts (part.Made End ∷ [])));
   each = ap (λ b. b && list_all is_node (nodes_in (h.parts ++ part.Made End ∷ []))) start
       ∙ ap (list_all is_node) (nodes_joined h.parts (part.Made End ∷ [])) ∙ list_all-append is_node (nodes_in h.parts) (End ∷ []) ∙ rw h.each refl;
   kept = list_all-append is_part h.parts (part.Made End ∷ []) ∙ rw h.kept refl;
@@ -88,11 +88,11 @@ pub record IsWord (local : List ℕ) : Type 0 where
   pub start : is_start (dav_name local) [] ≡ true
   pub same : name_bytes (dav_name local) ≡ dav_name local
 
-pub within : (local : List ℕ) (inside : List Piece) → IsWord local → AreFine inside → AreFine (enclosed local inside)
+pub within : (local : List ℕ) (inside : List DocumentPiece) → IsWord local → AreFine inside → AreFine (enclosed_pieces local inside)
 within local inside word h =
     subst (λ (name : Name). AreFine (Made (Start name []) ∷ (inside ++ Made End ∷ []))) word.same (within_name (dav_name local) inside word.start h)
 
-pub text : (local words : List ℕ) → IsWord local → IsVisible words → AreFine (made (element local (Text words ∷ [])))
+pub text : (local words : List ℕ) → IsWord local → IsVisible words → AreFine (made_pieces (element local (Text words ∷ [])))
 text local words word h = record {
   parts = part.Made (Start (dav_name local) []) ∷ part.Made (Text words) ∷ part.Made End ∷ [];
   spelled = ap (λ (name : Name). Made (Start name []) ∷ Made (Text words) ∷ Made End ∷ []) (sym word.same)
@@ -103,10 +103,10 @@ text local words word h = record {
   apart = λ more. refl;
 }
 
-pub named : (name : Name) → IsElementName name → AreFine (made (Start name [] ∷ End ∷ []))
+pub named : (name : Name) → IsElementName name → AreFine (made_pieces (Start name [] ∷ End ∷ []))
 unfolding are_distinct
 named name h =
-    subst (λ (n : Name). AreFine (made (Start n [] ∷ End ∷ []))) (sym h.bytes) (within_name h.characters [] (rw h.is refl) none)
+    subst (λ (n : Name). AreFine (made_pieces (Start n [] ∷ End ∷ []))) (sym h.bytes) (within_name h.characters [] (rw h.is refl) none)
 
 pub kept : (xml : List ℕ) → IsElementText xml → AreFine (Kept xml ∷ [])
 kept xml h =
@@ -125,15 +125,15 @@ kept xml h =
 -- ---- nodes
 
 abbrev pub AreFineNodes : List Node → Type 0
-AreFineNodes nodes = AreFine (made nodes)
+AreFineNodes nodes = AreFine (made_pieces nodes)
 
 pub nodes_both : (before behind : List Node) → AreFineNodes before → AreFineNodes behind → AreFineNodes (before ++ behind)
-nodes_both before behind h k = subst AreFine (sym (map-append Made before behind)) (both (made before) (made behind) h k)
+nodes_both before behind h k = subst AreFine (sym (map-append Made before behind)) (both (made_pieces before) (made_pieces behind) h k)
 
 pub nodes_within : (local : List ℕ) (inside : List Node) → IsWord local → AreFineNodes inside → AreFineNodes (element local inside)
 nodes_within local inside word h =
-    subst AreFine (ap (λ (ps : List Piece). Made (Start (dav_name local) []) ∷ ps) (sym (map-append Made inside (End ∷ []))))
-    (within local (made inside) word h)
+    subst AreFine (ap (λ (ps : List DocumentPiece). Made (Start (dav_name local) []) ∷ ps) (sym (map-append Made inside (End ∷ []))))
+    (within local (made_pieces inside) word h)
 
 pub nodes_either : (b : Bool) (this that : List Node) → AreFineNodes this → AreFineNodes that → AreFineNodes (cond b this that)
 nodes_either true this that h k = h
@@ -145,10 +145,10 @@ nodes_of f (x ∷ xs) h = nodes_both (f x) (flat_map f xs) h.0 (nodes_of f xs h.
 
 -- ---- the document
 
-same_writing : (writing : Writing) (parts : List Part) → with_pieces writing (map piece_of parts) ≡ with_parts writing (map part_bytes parts)
+same_writing : (writing : Writing) (parts : List Part) → and_pieces writing (map piece_of parts) ≡ with_parts writing (map part_bytes parts)
 same_writing writing [] = refl
-same_writing writing (part.Made node ∷ parts) = same_writing (with_piece writing (Made (node_bytes node))) parts
-same_writing writing (part.Kept nodes ∷ parts) = same_writing (with_piece writing (Kept (written_alone (map node_bytes nodes)))) parts
+same_writing writing (part.Made node ∷ parts) = same_writing (and_piece writing (Made (node_bytes node))) parts
+same_writing writing (part.Kept nodes ∷ parts) = same_writing (and_piece writing (Kept (written_alone (map node_bytes nodes)))) parts
 
 could_be : (name : Name) (parts : List Part) → is_start name [] ≡ true → list_all is_node (nodes_in parts) ≡ true → list_all is_part parts ≡ true
     → ((n : ℕ) (more : List Node) → closes (suc n) (nodes_in parts ++ more) ≡ closes (suc n) more)
@@ -168,12 +168,12 @@ could_be name parts start each kept closed apart =
     }
 
 -- the nodes that are read, and of which parts they are
-record IsRead (pieces : List Piece) (bytes : List ℕ) : Type 0 where
+record IsRead (pieces : List DocumentPiece) (bytes : List ℕ) : Type 0 where
   parts : List Part
   spelled : pieces ≡ map piece_of parts
   is : document_of bytes ≡ Some (nodes_in (map part_bytes parts))
 
-read_name : (name : Name) (inside : List Piece) → is_start name [] ≡ true → AreFine inside
+read_name : (name : Name) (inside : List DocumentPiece) → is_start name [] ≡ true → AreFine inside
     → IsRead (Made (Start (name_bytes name) []) ∷ (inside ++ Made End ∷ [])) (written_pieces (Made (Start (name_bytes name) []) ∷ (inside ++ Made End ∷ [])))
 unfolding written_pieces written_parts within_name
 read_name name inside start h =
@@ -182,38 +182,38 @@ read_name name inside start h =
     record {
       parts = fine.parts;
       spelled = fine.spelled;
-      is = ap (λ (ps : List Piece). document_of (with_pieces (unwritten in_document) ps).bytes) fine.spelled
-          ∙ ap (λ (w : Writing). document_of w.bytes) (same_writing (unwritten in_document) fine.parts)
+      is = ap (λ (ps : List DocumentPiece). document_of (and_pieces (new_writing in_document) ps).bytes) fine.spelled
+          ∙ ap (λ (w : Writing). document_of w.bytes) (same_writing (new_writing in_document) fine.parts)
           ∙ parts_again (map part_bytes fine.parts) could;
     }
 
-read_within : (local : List ℕ) (inside : List Piece) → IsWord local → AreFine inside → IsRead (enclosed local inside) (written_pieces (enclosed local inside))
+read_within : (local : List ℕ) (inside : List DocumentPiece) → IsWord local → AreFine inside → IsRead (enclosed_pieces local inside) (written_pieces (enclosed_pieces local inside))
 read_within local inside word h =
     let P : Name → Type 0 = λ (name : Name). IsRead (Made (Start name []) ∷ (inside ++ Made End ∷ [])) (written_pieces (Made (Start name []) ∷ (inside ++ Made End ∷ []))) in
     subst P word.same (read_name (dav_name local) inside word.start h)
 
 -- a document with pieces in it is read
-pub document : (local : List ℕ) (inside : List Piece) → IsWord local → AreFine inside → IsDocument (written_pieces (enclosed local inside))
+pub document : (local : List ℕ) (inside : List DocumentPiece) → IsWord local → AreFine inside → IsDocument (written_pieces (enclosed_pieces local inside))
 document local inside word h =
     let read = read_within local inside word h in record { nodes = nodes_in (map part_bytes read.parts); is = read.is }
 
-same_nodes : (nodes : List Node) (parts : List Part) → made nodes ≡ map piece_of parts → nodes_in (map part_bytes parts) ≡ nodes
+same_nodes : (nodes : List Node) (parts : List Part) → made_pieces nodes ≡ map piece_of parts → nodes_in (map part_bytes parts) ≡ nodes
 same_nodes [] [] h = refl
 same_nodes [] (p ∷ parts) h = absurd (cc)
 same_nodes (node ∷ nodes) [] h = absurd (cc)
 same_nodes (node ∷ nodes) (part.Kept kept ∷ parts) h = absurd (cc)
 same_nodes (node ∷ nodes) (part.Made other ∷ parts) h =
     let first : node ≡ node_bytes other = cc in
-    let others : made nodes ≡ map piece_of parts = cc in
+    let others : made_pieces nodes ≡ map piece_of parts = cc in
     ap (λ (n : Node). n ∷ nodes_in (map part_bytes parts)) (sym first) ∙ ap (λ (ns : List Node). node ∷ ns) (same_nodes nodes parts others)
 
 -- and one of nodes is read as them
-pub document_again : (local : List ℕ) (inside : List Node) → IsWord local → AreFineNodes inside → document_of (written (element local inside)) ≡ Some (element local inside)
-unfolding written written_pieces
+pub document_again : (local : List ℕ) (inside : List Node) → IsWord local → AreFineNodes inside → document_of (document_bytes (element local inside)) ≡ Some (element local inside)
+unfolding document_bytes written_pieces
 document_again local inside word h =
-    let is : made (element local inside) ≡ enclosed local (made inside) =
-    ap (λ (ps : List Piece). Made (Start (dav_name local) []) ∷ ps) (map-append Made inside (End ∷ [])) in
-    let read = read_within local (made inside) word h in
-    ap (λ (w : Writing). document_of w.bytes) (sym (of_nodes (unwritten in_document) (element local inside)))
-    ∙ ap (λ (ps : List Piece). document_of (with_pieces (unwritten in_document) ps).bytes) is ∙ read.is
+    let is : made_pieces (element local inside) ≡ enclosed_pieces local (made_pieces inside) =
+    ap (λ (ps : List DocumentPiece). Made (Start (dav_name local) []) ∷ ps) (map-append Made inside (End ∷ [])) in
+    let read = read_within local (made_pieces inside) word h in
+    ap (λ (w : Writing). document_of w.bytes) (sym (of_nodes (new_writing in_document) (element local inside)))
+    ∙ ap (λ (ps : List DocumentPiece). document_of (and_pieces (new_writing in_document) ps).bytes) is ∙ read.is
     ∙ ap (λ (ns : List Node). Some ns) (same_nodes (element local inside) read.parts (is ∙ read.spelled))

@@ -21,10 +21,10 @@ use Rattle.dav_xml_core.specs.Scanning.{is_nil}
 use Rattle.dav_xml_core.proofs.ElementLemmas.{bind_some, when_some}
 use Rattle.dav_xml_core.proofs.NodesLemmas.{alone_again}
 use Rattle.dav_xml_core.proofs.ReadNodesLemmas.{read_could, read_room}
-use Rattle.dav_documents_core.specs.Elements.{at_most_one, children, element_name, is_dav, named, the_one}
+use Rattle.dav_documents_core.specs.Elements.{at_most_one, children, name_of_element, is_dav, elements_named, the_one}
 use Rattle.dav_documents_core.specs.KeptElements.{IsElementIn, IsElementName, IsKeptProperty}
 use Rattle.dav_documents_core.specs.KeptReading.{IsLang, IsReadAsSent, IsText, WasRead}
-use Rattle.dav_documents_core.specs.PropertyUpdates.{Update, first_lang, instructed, is_lang, kept, lang_attribute, lang_in, own_lang, sets, told_lang, update_of, updates_by, updates_in, updates_of, with_lang}
+use Rattle.dav_documents_core.specs.PropertyUpdates.{Update, first_lang, instructed_updates, is_lang, kept_property, lang_attribute, lang_in, own_lang, sets, told_lang, update_of, updates_by, updates_in, updates_of, with_lang}
 use Rattle.dav_documents_core.proofs.NamedLemmas.{only_holds}
 use Rattle.dav_documents_core.proofs.ReadChildLemmas.{children_read}
 
@@ -194,7 +194,7 @@ sent_behind : (xs ys : List Update) → AllByRecursion IsKeptAsSent xs → AllBy
 sent_behind [] ys h k = k
 sent_behind (x ∷ xs) ys h k = (h.0, sent_behind xs ys h.1 k)
 
-named_chars : (characters : List Node) (name : Name) → is_readable characters ≡ true → element_name (map node_bytes characters) ≡ Some name → IsElementName name
+named_chars : (characters : List Node) (name : Name) → is_readable characters ≡ true → name_of_element (map node_bytes characters) ≡ Some name → IsElementName name
 named_chars [] name h is = absurd (cc)
 named_chars (Text text ∷ nodes) name h is = absurd (cc)
 named_chars (End ∷ nodes) name h is = absurd (cc)
@@ -208,15 +208,15 @@ named_chars (Start own attributes ∷ nodes) name h is =
     record { characters = own; bytes = sym same; is = (both (is_name own) (list_all is_attribute attributes) first.0).0 }
 
 -- the name of an element that could have been read is one
-pub name_could : (element : List Node) (name : Name) → CouldBeRead element → element_name element ≡ Some name → IsElementName name
-name_could element name h is = named_chars h.characters name h.readable (ap element_name (sym h.bytes) ∙ is)
+pub name_could : (element : List Node) (name : Name) → CouldBeRead element → name_of_element element ≡ Some name → IsElementName name
+name_could element name h is = named_chars h.characters name h.readable (ap name_of_element (sym h.bytes) ∙ is)
 
-element_kept : (set : Bool) (lang : Option (List ℕ)) (name : Name) (element : List Node) → IsLang lang → WasRead element → IsElementIn (kept set lang name element).xml
+element_kept : (set : Bool) (lang : Option (List ℕ)) (name : Name) (element : List Node) → IsLang lang → WasRead element → IsElementIn (kept_property set lang name element).xml
 element_kept true lang name element text h = record { nodes = with_lang lang element; could = kept_could lang element text h; written = refl }
 element_kept false lang name element text h = tt
 
-one_read : (set : Bool) (lang : Option (List ℕ)) (name : Name) (element : List Node) → element_name element ≡ Some name → IsLang lang → WasRead element
-    → IsReadAsSent (set, kept set lang name element)
+one_read : (set : Bool) (lang : Option (List ℕ)) (name : Name) (element : List Node) → name_of_element element ≡ Some name → IsLang lang → WasRead element
+    → IsReadAsSent (set, kept_property set lang name element)
 one_read true lang name element named text h = λ xml is.
     let same : written_alone (with_lang lang element) ≡ xml = cc in
     let could = kept_could lang element text h in
@@ -230,15 +230,15 @@ one_read true lang name element named text h = λ xml is.
     }
 one_read false lang name element named text h = λ xml is. absurd (cc)
 
-one_sent : (set : Bool) (lang : Option (List ℕ)) (name : Name) (element : List Node) → element_name element ≡ Some name → IsLang lang → WasRead element
-    → IsKeptAsSent (set, kept set lang name element)
+one_sent : (set : Bool) (lang : Option (List ℕ)) (name : Name) (element : List Node) → name_of_element element ≡ Some name → IsLang lang → WasRead element
+    → IsKeptAsSent (set, kept_property set lang name element)
 one_sent set lang name element named text h =
     ((name_could element name h.could named, element_kept set lang name element text h), one_read set lang name element named text h)
 
 update_sent : (set : Bool) (lang : Option (List ℕ)) (element : List Node) → IsLang lang → WasRead element → AllByRecursion IsKeptAsSent (update_of set lang element)
-update_sent set lang element text h = by (element_name element) refl
+update_sent set lang element text h = by (name_of_element element) refl
   where
-    by : (o : Option Name) → element_name element ≡ o → AllByRecursion IsKeptAsSent (choose o (λ name. (set, kept set lang name element) ∷ []) [])
+    by : (o : Option Name) → name_of_element element ≡ o → AllByRecursion IsKeptAsSent (choose o (λ name. (set, kept_property set lang name element) ∷ []) [])
     by (Some name) is = (one_sent set lang name element is text h, tt)
     by None is = tt
 
@@ -254,15 +254,15 @@ the_one_is (y ∷ []) x h = ap Some h
 the_one_is (y ∷ z ∷ xs) x h = absurd (cc)
 
 instructed_sent : (lang : Option (List ℕ)) (instruction : List Node) (updates : List Update) → IsLang lang → WasRead instruction
-    → instructed lang instruction ≡ Some updates → AllByRecursion IsKeptAsSent updates
-unfolding instructed
+    → instructed_updates lang instruction ≡ Some updates → AllByRecursion IsKeptAsSent updates
+unfolding instructed_updates
 instructed_sent lang instruction updates text h is = by (sets instruction) is
   where
-    at : (set : Bool) (o : Option (List Node)) → the_one (named (codes "prop") (children instruction)) ≡ o
+    at : (set : Bool) (o : Option (List Node)) → the_one (elements_named (codes "prop") (children instruction)) ≡ o
         → (o >>= λ prop. Some (flat_map (update_of set (lang_in (lang_in lang instruction) prop)) (children prop))) ≡ Some updates → AllByRecursion IsKeptAsSent updates
     at set None found is = absurd (cc)
     at set (Some prop) found is =
-        let prop_could = only_holds WasRead (is_dav (codes "prop")) (children instruction) prop (the_one_is (named (codes "prop") (children instruction)) prop found)
+        let prop_could = only_holds WasRead (is_dav (codes "prop")) (children instruction) prop (the_one_is (elements_named (codes "prop") (children instruction)) prop found)
         (children_read instruction h) in
         let around = text_in (lang_in lang instruction) prop (text_in lang instruction text h.could) prop_could.could in
         let same : flat_map (update_of set (lang_in (lang_in lang instruction) prop)) (children prop) ≡ updates = cc in
@@ -270,16 +270,16 @@ instructed_sent lang instruction updates text h is = by (sets instruction) is
         (updates_sent set (lang_in (lang_in lang instruction) prop) (children prop) around (children_read prop prop_could))
 
     by : (o : Option Bool) → choose o
-        (λ set. the_one (named (codes "prop") (children instruction)) >>= λ prop. Some (flat_map (update_of set (lang_in (lang_in lang instruction) prop)) (children prop)))
+        (λ set. the_one (elements_named (codes "prop") (children instruction)) >>= λ prop. Some (flat_map (update_of set (lang_in (lang_in lang instruction) prop)) (children prop)))
         (Some []) ≡ Some updates → AllByRecursion IsKeptAsSent updates
-    by (Some set) is = at set (the_one (named (codes "prop") (children instruction))) refl is
+    by (Some set) is = at set (the_one (elements_named (codes "prop") (children instruction))) refl is
     by None is = let same : [] ≡ updates = cc in subst (λ (us : List Update). AllByRecursion IsKeptAsSent us) same tt
 
 all_sent : (lang : Option (List ℕ)) (instructions : List (List Node)) (updates : List Update) → IsLang lang → AllByRecursion WasRead instructions
     → updates_by lang instructions ≡ Some updates → AllByRecursion IsKeptAsSent updates
 all_sent lang [] updates text h is = let same : [] ≡ updates = cc in subst (λ (us : List Update). AllByRecursion IsKeptAsSent us) same tt
 all_sent lang (instruction ∷ instructions) updates text h is =
-    let first = bind_some (instructed lang instruction) (λ first. updates_by lang instructions >>= λ others. Some (first ++ others)) updates is in
+    let first = bind_some (instructed_updates lang instruction) (λ first. updates_by lang instructions >>= λ others. Some (first ++ others)) updates is in
     let others = bind_some (updates_by lang instructions) (λ others. Some (first.0 ++ others)) updates first.2 in
     let same : first.0 ++ others.0 ≡ updates = same_Some (first.0 ++ others.0) updates others.2 in
     subst (λ (us : List Update). AllByRecursion IsKeptAsSent us) same

@@ -3,6 +3,7 @@ pub mod ChildLemmas
 mod ElementRows
 pub mod FixedLemmas
 pub mod FragmentLemmas
+pub mod KeptLockTexts
 pub mod KeptReadingLaws
 mod LockInfoRows
 pub mod MapValueLemmas

@@ -10,8 +10,9 @@ use Rattle.std.proofs.lemmas.Map.Text.{is_eq-slice_cmp}
 use Rattle.std.proofs.lemmas.List.Folds.{list_any-append}
 use Rattle.std.proofs.lemmas.Slice.Eq.{bytes_eq-Decides}
 use Rattle.dav_xml_core.specs.Documents.{Name}
-use Rattle.dav_documents_core.specs.Private.Naming.{Key, key_cmp, name_at}
-use Rattle.dav_documents_core.specs.PropertyQuestions.{and_new, same_name}
+use Rattle.dav_documents_core.specs.Private.LentKeys.{LentKey, lent_key_cmp, name_at}
+use Rattle.dav_documents_core.specs.PropertyQuestions.{and_new}
+use Rattle.dav_xml_core.specs.Namespaces.{same_name}
 
 text_is : (a b : List ℕ) → is_eq (slice_cmp nat_cmp a b) ≡ bytes_eq b a
 text_is a b =
@@ -26,7 +27,7 @@ both Equal p x false e f = f
 both Greater p x true e f = e
 both Greater p x false e f = refl
 
-key_is : (a b : Key) → is_eq (key_cmp a b) ≡ same_name (name_at b) (name_at a)
+key_is : (a b : LentKey) → is_eq (lent_key_cmp a b) ≡ same_name (name_at b) (name_at a)
 key_is a b = both (slice_cmp nat_cmp a.0.now b.0.now) (slice_cmp nat_cmp a.1.now b.1.now) _ _ (text_is a.0.now b.0.now) (text_is a.1.now b.1.now)
 
 as_or : (b x : Bool) → cond b true x ≡ (x || (b || false))
@@ -36,8 +37,8 @@ as_or false true = refl
 as_or false false = refl
 
 -- the names with one more
-pub one_name_more : (other key : Key) (names : List Name)
-    → cond (is_eq (key_cmp key other)) true (list_any (same_name (name_at other)) names) ≡ list_any (same_name (name_at other)) (names ++ name_at key ∷ [])
+pub one_name_more : (other key : LentKey) (names : List Name)
+    → cond (is_eq (lent_key_cmp key other)) true (list_any (same_name (name_at other)) names) ≡ list_any (same_name (name_at other)) (names ++ name_at key ∷ [])
 one_name_more other key names =
     ap (λ b. cond b true (list_any (same_name (name_at other)) names)) (key_is key other)
     ∙ as_or (same_name (name_at other) (name_at key)) (list_any (same_name (name_at other)) names)

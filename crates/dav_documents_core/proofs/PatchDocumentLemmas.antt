@@ -3,9 +3,9 @@ use Rattle.std.proofs.Common.{◌≡◌, refl, ℕ, Bool, true, false, cond, Lis
 use Rattle.std.specs.List.{AllByRecursion}
 use Rattle.dav_path_core.specs.PathText.{PathText}
 use Rattle.dav_xml_core.specs.Reading.{document_of}
-use Rattle.dav_xml_core.specs.Writing.{written}
+use Rattle.dav_xml_core.specs.Writing.{document_bytes}
 use Rattle.dav_documents_core.specs.KeptElements.{IsKeptProperty, IsVisible}
-use Rattle.dav_documents_core.specs.PatchBodies.{all_protected, any_protected, is_chosen, name_nodes, names_nodes, others_nodes, patch_nodes, prop_nodes, propstats, protected_nodes, status_nodes}
+use Rattle.dav_documents_core.specs.PatchBodies.{all_protected, any_protected, is_chosen, property_name_nodes, names_nodes, others_nodes, patch_nodes, prop_nodes, propstats, protected_nodes, status_nodes}
 use Rattle.dav_documents_core.specs.PropertyDocuments.{name_of_property}
 use Rattle.dav_documents_core.specs.PropertyUpdates.{Update}
 use Rattle.dav_documents_core.specs.RefusalBodies.{element, href, url_path}
@@ -20,8 +20,8 @@ AreKept updates = AllByRecursion (λ update. IsKeptProperty update.1) updates
 names_fine : (protected : Bool) (updates : List Update) → AreKept updates → AreFineNodes (names_nodes protected updates)
 names_fine protected [] h = none
 names_fine protected (update ∷ updates) h =
-    nodes_both (cond (is_chosen protected update) (name_nodes update.1) []) (names_nodes protected updates)
-    (nodes_either (is_chosen protected update) (name_nodes update.1) [] (named (name_of_property update.1) h.0.0) none) (names_fine protected updates h.1)
+    nodes_both (cond (is_chosen protected update) (property_name_nodes update.1) []) (names_nodes protected updates)
+    (nodes_either (is_chosen protected update) (property_name_nodes update.1) [] (named (name_of_property update.1) h.0.0) none) (names_fine protected updates h.1)
 
 prop_fine : (protected : Bool) (updates : List Update) → AreKept updates → AreFineNodes (prop_nodes protected updates)
 prop_fine protected updates h = nodes_within (codes "prop") (names_nodes protected updates) word.prop (names_fine protected updates h)
@@ -50,7 +50,7 @@ stats_fine updates h =
     (others_fine (codes "HTTP/1.1 200 OK") updates (record { some = refl; each = refl }) h)
 
 pub patch_is_read : (prefix : List ℕ) (path : PathText) (updates : List Update) → IsRooted path → AreKept updates
-    → document_of (written (patch_nodes prefix path updates)) ≡ Some (patch_nodes prefix path updates)
+    → document_of (document_bytes (patch_nodes prefix path updates)) ≡ Some (patch_nodes prefix path updates)
 patch_is_read prefix path updates rooted h =
     let inside = href prefix path ++ propstats updates in
     document_again (codes "multistatus") (element (codes "response") inside) word.multistatus

@@ -3,7 +3,7 @@ use Rattle.std.proofs.Common.{◌≡◌, ℕ, List, [], ◌∷◌, ◌++◌, Som
 use Rattle.dav_path_core.specs.PathText.{PathText}
 use Rattle.dav_xml_core.specs.Documents.{Node, Text}
 use Rattle.dav_xml_core.specs.Reading.{document_of}
-use Rattle.dav_xml_core.specs.Writing.{written}
+use Rattle.dav_xml_core.specs.Writing.{document_bytes}
 use Rattle.dav_faults_core.specs.declared.faults.Fault.{Fault}
 use Rattle.dav_faults_core.specs.declared.faults.Fault.TheVariants as fault
 use Rattle.dav_documents_core.specs.KeptElements.{IsVisible}
@@ -13,9 +13,9 @@ use Rattle.dav_documents_core.proofs.FragmentLemmas.{AreFineNodes, IsWord, docum
 use Rattle.dav_documents_core.proofs.ToldDocumentLemmas.{path_visible}
 use Rattle.dav_documents_core.proofs.WordLemmas as word
 
-is_read : (local : List ℕ) (inside nodes : List Node) → IsWord local → AreFineNodes inside → Some (element local inside) ≡ Some nodes → document_of (written nodes) ≡ Some nodes
+is_read : (local : List ℕ) (inside nodes : List Node) → IsWord local → AreFineNodes inside → Some (element local inside) ≡ Some nodes → document_of (document_bytes nodes) ≡ Some nodes
 is_read local inside nodes is fine are =
-    let same : element local inside ≡ nodes = cc in subst (λ (ns : List Node). document_of (written ns) ≡ Some ns) same (document_again local inside is fine)
+    let same : element local inside ≡ nodes = cc in subst (λ (ns : List Node). document_of (document_bytes ns) ≡ Some ns) same (document_again local inside is fine)
 
 path_fine : (prefix : List ℕ) (path : PathText) → IsRooted path → AreFineNodes (href prefix path)
 path_fine prefix path h = text (codes "href") (url_path prefix path) word.href (path_visible prefix path h)

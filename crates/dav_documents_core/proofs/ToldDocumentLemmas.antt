@@ -14,9 +14,9 @@ use Rattle.dav_documents_core.specs.declared.live_properties.Live.TheVariants as
 use Rattle.dav_documents_core.specs.declared.live_properties.TheConstants.{LIVE}
 use Rattle.dav_documents_core.specs.KeptElements.{IsDocument, IsElementIn, IsElementName, IsKeptLock, IsKeptProperty, IsVisible}
 use Rattle.dav_documents_core.specs.LiveProperties.{has_live, live_named, live_word}
-use Rattle.dav_documents_core.specs.LockDocuments.{active_lock, depth_word, discovery_pieces, kind_nodes, lock_discovery, names, owner_pieces, scope_word, supported_locks, terms, timeout_text, token_nodes}
-use Rattle.dav_documents_core.specs.Pieces.{Piece, enclosed, made, written_pieces}
-use Rattle.dav_documents_core.specs.PropertyDocuments.{Description, dead_name_nodes, dead_pieces, dead_value, finds, found_pieces, found_stat, has_value, is_dead, is_named, kept_pieces, lacks, live_pieces, missing_nodes, missing_of, multistatus, name_nodes, name_of_property, own_name_nodes, own_pieces, propstat, response_pieces, text_nodes, type_nodes, value_by, value_pieces}
+use Rattle.dav_documents_core.specs.LockDocuments.{active_lock, depth_word, discovery_pieces, kind_nodes, lock_discovery, lock_name_nodes, owner_pieces, scope_word, supported_locks, terms, lock_timeout_text, token_nodes}
+use Rattle.dav_documents_core.specs.Pieces.{DocumentPiece, enclosed_pieces, made_pieces, written_pieces}
+use Rattle.dav_documents_core.specs.PropertyDocuments.{Description, dead_name_nodes, dead_pieces, dead_value, finds, found_pieces, found_stat, has_value, is_dead, is_named, kept_pieces, lacks, live_pieces, missing_nodes, missing_of, multistatus, name_nodes, name_of_property, own_name_nodes, own_pieces, propstat, response_pieces, text_element, type_nodes, value_by, value_pieces}
 use Rattle.dav_documents_core.specs.PropertyQuestions.{Question, All, Names, Listed, asked_names}
 use Rattle.dav_documents_core.specs.RefusalBodies.{dav_name, element, front, href, url_path}
 use Rattle.dav_documents_core.specs.RefusalReading.{IsRooted}
@@ -66,7 +66,7 @@ depth_seen : (deep : Bool) → IsVisible (depth_word deep)
 depth_seen true = seen (codes "infinity") refl refl
 depth_seen false = seen (codes "0") refl refl
 
-timeout_seen : (timeout : Option ℕ) → IsVisible (timeout_text timeout)
+timeout_seen : (timeout : Option ℕ) → IsVisible (lock_timeout_text timeout)
 timeout_seen None = seen (codes "Infinite") refl refl
 timeout_seen (Some seconds) = seen (codes "Second-" ++ decimal seconds) refl (joined (codes "Second-") (decimal seconds) refl (decimal_visible seconds).each)
 
@@ -91,24 +91,24 @@ module _ (prefix : List ℕ) (principal : Option (List ℕ)) where
       nodes_either (same_text l.principal principal) (element (codes "locktoken") token) []
       (nodes_within (codes "locktoken") token word.locktoken (text (codes "href") l.token word.href h.token)) none
 
-  names_fine : (l : Lock) → IsKeptLock l → AreFineNodes (names prefix principal l)
+  names_fine : (l : Lock) → IsKeptLock l → AreFineNodes (lock_name_nodes prefix principal l)
   names_fine l h =
-      nodes_both (element (codes "timeout") (Text (timeout_text l.timeout) ∷ [])) (token_nodes principal l ++ element (codes "lockroot") (href prefix l.path))
-      (text (codes "timeout") (timeout_text l.timeout) word.timeout (timeout_seen l.timeout))
+      nodes_both (element (codes "timeout") (Text (lock_timeout_text l.timeout) ∷ [])) (token_nodes principal l ++ element (codes "lockroot") (href prefix l.path))
+      (text (codes "timeout") (lock_timeout_text l.timeout) word.timeout (timeout_seen l.timeout))
       (nodes_both (token_nodes principal l) (element (codes "lockroot") (href prefix l.path)) (token_fine l h)
       (nodes_within (codes "lockroot") (href prefix l.path) word.lockroot (text (codes "href") (url_path prefix l.path) word.href (path_visible prefix l.path h.rooted))))
 
   terms_fine : (l : Lock) → IsKeptLock l → AreFine (terms l)
   terms_fine l h =
-      both (made (kind_nodes l.shared ++ element (codes "depth") (Text (depth_word l.deep) ∷ []))) (owner_pieces l.owner)
+      both (made_pieces (kind_nodes l.shared ++ element (codes "depth") (Text (depth_word l.deep) ∷ []))) (owner_pieces l.owner)
       (nodes_both (kind_nodes l.shared) (element (codes "depth") (Text (depth_word l.deep) ∷ [])) (kind_fine l.shared)
       (text (codes "depth") (depth_word l.deep) word.depth (depth_seen l.deep)))
       (owner_fine l.owner h.owner)
 
   lock_fine : (l : Lock) → IsKeptLock l → AreFine (active_lock prefix principal l)
   lock_fine l h =
-      within (codes "activelock") (terms l ++ made (names prefix principal l)) word.activelock
-      (both (terms l) (made (names prefix principal l)) (terms_fine l h) (names_fine l h))
+      within (codes "activelock") (terms l ++ made_pieces (lock_name_nodes prefix principal l)) word.activelock
+      (both (terms l) (made_pieces (lock_name_nodes prefix principal l)) (terms_fine l h) (names_fine l h))
 
   each_lock : (locks : List Lock) → AllByRecursion IsKeptLock locks → AllByRecursion (λ l. AreFine (active_lock prefix principal l)) locks
   each_lock [] h = tt
@@ -210,23 +210,23 @@ module _ (prefix : List ℕ) (principal : Option (List ℕ)) where
       (nodes_of dead_name_nodes d.props (each_dead_name d.props h.props))
   found_fine d (Listed asked) h = all_of (value_pieces prefix principal d) asked (each_value d asked h)
 
-  propstat_fine : (status : List ℕ) (inside : List Piece) → IsVisible status → AreFine inside → AreFine (propstat status inside)
+  propstat_fine : (status : List ℕ) (inside : List DocumentPiece) → IsVisible status → AreFine inside → AreFine (propstat status inside)
   propstat_fine status inside is h =
-      within (codes "propstat") (enclosed (codes "prop") inside ++ made (text_nodes (codes "status") status)) word.propstat
-      (both (enclosed (codes "prop") inside) (made (text_nodes (codes "status") status)) (within (codes "prop") inside word.prop h)
+      within (codes "propstat") (enclosed_pieces (codes "prop") inside ++ made_pieces (text_element (codes "status") status)) word.propstat
+      (both (enclosed_pieces (codes "prop") inside) (made_pieces (text_element (codes "status") status)) (within (codes "prop") inside word.prop h)
       (text (codes "status") status word.status is))
 
   response_fine : (question : Question) (d : Description) → AllByRecursion IsElementName (asked_names question) → IsTellable d → AreFine (response_pieces prefix principal question d)
   response_fine question d asked h =
       let found = found_pieces prefix principal d question in
       let lacking = flat_map (missing_nodes d) (asked_names question) in
-      within (codes "response") (made (text_nodes (codes "href") d.url) ++ (found_stat prefix principal question d ++ missing_of (asked_names question) d)) word.response
-      (both (made (text_nodes (codes "href") d.url)) (found_stat prefix principal question d ++ missing_of (asked_names question) d) (text (codes "href") d.url word.href h.url)
+      within (codes "response") (made_pieces (text_element (codes "href") d.url) ++ (found_stat prefix principal question d ++ missing_of (asked_names question) d)) word.response
+      (both (made_pieces (text_element (codes "href") d.url)) (found_stat prefix principal question d ++ missing_of (asked_names question) d) (text (codes "href") d.url word.href h.url)
       (both (found_stat prefix principal question d) (missing_of (asked_names question) d)
       (either (finds d question) (propstat (codes "HTTP/1.1 200 OK") found) []
       (propstat_fine (codes "HTTP/1.1 200 OK") found (seen (codes "HTTP/1.1 200 OK") refl refl) (found_fine d question h)) none)
-      (either (lacks d (asked_names question)) (propstat (codes "HTTP/1.1 404 Not Found") (made lacking)) []
-      (propstat_fine (codes "HTTP/1.1 404 Not Found") (made lacking) (seen (codes "HTTP/1.1 404 Not Found") refl refl)
+      (either (lacks d (asked_names question)) (propstat (codes "HTTP/1.1 404 Not Found") (made_pieces lacking)) []
+      (propstat_fine (codes "HTTP/1.1 404 Not Found") (made_pieces lacking) (seen (codes "HTTP/1.1 404 Not Found") refl refl)
       (nodes_of (missing_nodes d) (asked_names question) (each_missing d (asked_names question) asked))) none)))
 
   each_response : (question : Question) (resources : List Description) → AllByRecursion IsElementName (asked_names question) → AllByRecursion IsTellable resources

@@ -12,19 +12,19 @@ use Rattle.dav_path_core.specs.Url.{url}
 use Rattle.dav_path_core.proofs.paths.UrlLemmas.{IsSafe, safe_url}
 use Rattle.dav_xml_core.specs.Characters.{is_char}
 use Rattle.dav_xml_core.specs.Scanning.{is_nil}
-use Rattle.dav_documents_core.specs.KeptElements.{IsVisible, is_visible}
+use Rattle.dav_documents_core.specs.KeptElements.{IsVisible, is_printable}
 
 abbrev pub AreVisible : List ℕ → Type 0
-AreVisible text = list_all is_visible text ≡ true
+AreVisible text = list_all is_printable text ≡ true
 
-pub visible : (b : ℕ) → 32 ≤ b → b ≤ 126 → is_visible b ≡ true
+pub visible : (b : ℕ) → 32 ≤ b → b ≤ 126 → is_printable b ≡ true
 visible b low high = grind (arith, nat_tests)
 
 pub one_more : (b : ℕ) (text : List ℕ) → 32 ≤ b → b ≤ 126 → AreVisible text → AreVisible (b ∷ text)
 one_more b text low high h = rw (visible b low high, h) refl
 
 pub joined : (before behind : List ℕ) → AreVisible before → AreVisible behind → AreVisible (before ++ behind)
-joined before behind h k = list_all-append is_visible before behind ∙ rw (h, k) refl
+joined before behind h k = list_all-append is_printable before behind ∙ rw (h, k) refl
 
 pub some_behind : (before behind : List ℕ) → is_nil behind ≡ false → is_nil (before ++ behind) ≡ false
 some_behind [] behind h = h
@@ -40,27 +40,27 @@ all_joined f (x ∷ xs) h = joined (f x) (flat_map f xs) (h x) (all_joined f xs 
 
 -- ---- what a document takes of them
 
-char : (b : ℕ) → is_visible b ≡ true → is_char b ≡ true
+char : (b : ℕ) → is_printable b ≡ true → is_char b ≡ true
 char b h = grind (arith, nat_tests)
 
-low_byte : (b : ℕ) → is_visible b ≡ true → b < 128
+low_byte : (b : ℕ) → is_printable b ≡ true → b < 128
 low_byte b h = grind (arith, nat_tests)
 
 pub all_chars : (text : List ℕ) → AreVisible text → list_all is_char text ≡ true
 all_chars [] h = refl
-all_chars (b ∷ text) h = let p = and_parts (is_visible b) (list_all is_visible text) h in rw (char b p.0, all_chars text p.1) refl
+all_chars (b ∷ text) h = let p = and_parts (is_printable b) (list_all is_printable text) h in rw (char b p.0, all_chars text p.1) refl
 
 ascii : (text : List ℕ) → AreVisible text → IsAscii text
 ascii [] h i = omega arith
-ascii (b ∷ text) h zero = low_byte b (and_parts (is_visible b) (list_all is_visible text) h).0
-ascii (b ∷ text) h (suc i) = ascii text (and_parts (is_visible b) (list_all is_visible text) h).1 i
+ascii (b ∷ text) h zero = low_byte b (and_parts (is_printable b) (list_all is_printable text) h).0
+ascii (b ∷ text) h (suc i) = ascii text (and_parts (is_printable b) (list_all is_printable text) h).1 i
 
 pub same_bytes : (text : List ℕ) → AreVisible text → encode_utf8_all text ≡ text
 same_bytes text h = encodes-IsAscii text (ascii text h)
 
 -- ---- URLs
 
-safe : (b : ℕ) → IsSafe b → is_visible b ≡ true
+safe : (b : ℕ) → IsSafe b → is_printable b ≡ true
 safe b h = visible b h.low h.high
 
 all_safe : (text : List ℕ) → AllByRecursion IsSafe text → AreVisible text
@@ -72,7 +72,7 @@ url_visible bytes = all_safe (url bytes) (recursion_from_All IsSafe (url bytes) 
 
 -- ---- numbers
 
-glyph : (n : ℕ) → is_visible (digit_glyph false (n % 10)) ≡ true
+glyph : (n : ℕ) → is_printable (digit_glyph false (n % 10)) ≡ true
 glyph n = grind (arith, nat_tests)
 
 digits_visible : (k n : ℕ) (behind : List ℕ) → AreVisible behind → AreVisible (digits_onto k 10 false n behind)

@@ -29,22 +29,22 @@ children (Start name attributes ∷ nodes) = elements_from 0 [] nodes
 children (Text text ∷ nodes) = []
 children (End ∷ nodes) = []
 
-abbrev pub element_name : List Node → Option Name
-element_name [] = None
-element_name (Start name attributes ∷ nodes) = Some name
-element_name (Text text ∷ nodes) = None
-element_name (End ∷ nodes) = None
+abbrev pub name_of_element : List Node → Option Name
+name_of_element [] = None
+name_of_element (Start name attributes ∷ nodes) = Some name
+name_of_element (Text text ∷ nodes) = None
+name_of_element (End ∷ nodes) = None
 
 abbrev pub is_dav_name : List ℕ → Name → Bool
 is_dav_name local name = bytes_eq name.namespace dav_namespace && bytes_eq name.local local
 
 -- it is one of `DAV:` with this local name
 abbrev pub is_dav : List ℕ → List Node → Bool
-is_dav local element = option_map_or (is_dav_name local) (element_name element) false
+is_dav local element = option_map_or (is_dav_name local) (name_of_element element) false
 
 -- those of them
-abbrev pub named : List ℕ → List (List Node) → List (List Node)
-named local elements = filter (is_dav local) elements
+abbrev pub elements_named : List ℕ → List (List Node) → List (List Node)
+elements_named local elements = filter (is_dav local) elements
 
 -- none of a list, or the only one, and not where there are several
 abbrev pub at_most_one : {A : Type 0} → List A → Option (Option A)
@@ -57,5 +57,5 @@ the_one xs = at_most_one xs >>= λ found. found
 
 -- ---- what contracts see of the code's values
 
-abbrev pub nodes_of : Bor (List code.Node) → List Node
-nodes_of element = map node_of element.now
+abbrev pub element_nodes : Bor (List code.Node) → List Node
+element_nodes element = map node_of element.now

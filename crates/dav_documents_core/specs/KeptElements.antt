@@ -16,13 +16,13 @@ use Rattle.dav_documents_core.specs.RefusalReading.{IsRooted}
 -- ---- texts
 
 -- a character of ASCII that is seen, or a space
-abbrev pub is_visible : ℕ → Bool
-is_visible b = nat_le 32 b && nat_le b 126
+abbrev pub is_printable : ℕ → Bool
+is_printable b = nat_le 32 b && nat_le b 126
 
 -- some of them
 pub record IsVisible (text : List ℕ) : Type 0 where
   pub some : is_nil text ≡ false
-  pub each : list_all is_visible text ≡ true
+  pub each : list_all is_printable text ≡ true
 
 -- ---- what is kept
 

@@ -6,7 +6,7 @@ use Rattle.dav_xml_core.specs.Documents.{Node}
 use Rattle.dav_xml_core.specs.ReadableDocuments.{CouldBeRead, has_room}
 use Rattle.dav_xml_core.specs.Reading.{document_of}
 use Rattle.dav_xml_core.specs.Writing.{written_alone}
-use Rattle.dav_documents_core.specs.Elements.{element_name}
+use Rattle.dav_documents_core.specs.Elements.{name_of_element}
 use Rattle.dav_documents_core.specs.PatchBodies.{namespace_of}
 use Rattle.dav_documents_core.specs.PropertyUpdates.{Update, with_lang}
 
@@ -29,7 +29,7 @@ IsLang (Some lang) = IsText lang
 pub record IsSent (update : Update) (xml : List ℕ) : Type 0 where
   pub lang : Option (List ℕ)
   pub element : List Node
-  pub named : element_name element ≡ Some (record { namespace = namespace_of update.1; local = update.1.name })
+  pub named : name_of_element element ≡ Some (record { namespace = namespace_of update.1; local = update.1.name })
   pub written : xml ≡ written_alone (with_lang lang element)
   pub could : CouldBeRead (with_lang lang element)
   pub is_read : document_of xml ≡ Some (with_lang lang element)

@@ -4,7 +4,7 @@ use Rattle.std.specs.Fmt.{decimal}
 use Rattle.dav_xml_core.specs.Documents.{Node, Text}
 use Rattle.dav_locks_core.specs.Lock.{Lock}
 use Rattle.dav_locks_core.specs.Locks.{same_text}
-use Rattle.dav_documents_core.specs.Pieces.{Piece, Kept, enclosed, made}
+use Rattle.dav_documents_core.specs.Pieces.{DocumentPiece, Kept, enclosed_pieces, made_pieces}
 use Rattle.dav_documents_core.specs.RefusalBodies.{element, href}
 
 -- ---- what a lock is
@@ -26,12 +26,12 @@ abbrev pub depth_word : Bool → List ℕ
 depth_word deep = if deep then codes "infinity" else codes "0"
 
 -- as it was asked for (RFC 4918 section 10.7)
-abbrev pub timeout_text : Option ℕ → List ℕ
-timeout_text None = codes "Infinite"
-timeout_text (Some seconds) = codes "Second-" ++ decimal seconds
+abbrev pub lock_timeout_text : Option ℕ → List ℕ
+lock_timeout_text None = codes "Infinite"
+lock_timeout_text (Some seconds) = codes "Second-" ++ decimal seconds
 
 -- the element that was kept, where there is one
-abbrev pub owner_pieces : Option (List ℕ) → List Piece
+abbrev pub owner_pieces : Option (List ℕ) → List DocumentPiece
 owner_pieces None = []
 owner_pieces (Some owner) = Kept owner ∷ []
 
@@ -41,22 +41,22 @@ token_nodes principal l =
     if same_text l.principal principal then element (codes "locktoken") (element (codes "href") (Text l.token ∷ [])) else []
 
 -- what was asked for
-abbrev pub terms : Lock → List Piece
-terms l = made (kind_nodes l.shared ++ element (codes "depth") (Text (depth_word l.deep) ∷ [])) ++ owner_pieces l.owner
+abbrev pub terms : Lock → List DocumentPiece
+terms l = made_pieces (kind_nodes l.shared ++ element (codes "depth") (Text (depth_word l.deep) ∷ [])) ++ owner_pieces l.owner
 
 -- until when it stands, how it is named, and where it stands
-abbrev pub names : List ℕ → Option (List ℕ) → Lock → List Node
-names prefix principal l =
-    element (codes "timeout") (Text (timeout_text l.timeout) ∷ [])
+abbrev pub lock_name_nodes : List ℕ → Option (List ℕ) → Lock → List Node
+lock_name_nodes prefix principal l =
+    element (codes "timeout") (Text (lock_timeout_text l.timeout) ∷ [])
     ++ (token_nodes principal l ++ element (codes "lockroot") (href prefix l.path))
 
-abbrev pub active_lock : List ℕ → Option (List ℕ) → Lock → List Piece
-active_lock prefix principal l = enclosed (codes "activelock") (terms l ++ made (names prefix principal l))
+abbrev pub active_lock : List ℕ → Option (List ℕ) → Lock → List DocumentPiece
+active_lock prefix principal l = enclosed_pieces (codes "activelock") (terms l ++ made_pieces (lock_name_nodes prefix principal l))
 
 -- Of locks in order, as a principal sees them, behind the prefix of the server.
-abbrev pub lock_discovery : List ℕ → Option (List ℕ) → List Lock → List Piece
-lock_discovery prefix principal locks = enclosed (codes "lockdiscovery") (flat_map (active_lock prefix principal) locks)
+abbrev pub lock_discovery : List ℕ → Option (List ℕ) → List Lock → List DocumentPiece
+lock_discovery prefix principal locks = enclosed_pieces (codes "lockdiscovery") (flat_map (active_lock prefix principal) locks)
 
 -- the body of the answer to a LOCK (RFC 4918 section 9.10.1)
-abbrev pub discovery_pieces : List ℕ → Option (List ℕ) → List Lock → List Piece
-discovery_pieces prefix principal locks = enclosed (codes "prop") (lock_discovery prefix principal locks)
+abbrev pub discovery_pieces : List ℕ → Option (List ℕ) → List Lock → List DocumentPiece
+discovery_pieces prefix principal locks = enclosed_pieces (codes "prop") (lock_discovery prefix principal locks)

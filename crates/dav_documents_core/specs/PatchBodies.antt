@@ -30,8 +30,8 @@ all_protected updates = list_all is_protected updates
 -- ---- the document
 
 -- an empty element with the name of the property
-abbrev pub name_nodes : Property → List Node
-name_nodes p = Start (record { namespace = namespace_of p; local = p.name }) [] ∷ End ∷ []
+abbrev pub property_name_nodes : Property → List Node
+property_name_nodes p = Start (record { namespace = namespace_of p; local = p.name }) [] ∷ End ∷ []
 
 -- protected or not, as asked
 abbrev pub is_chosen : Bool → Update → Bool
@@ -41,7 +41,7 @@ is_chosen false update = not (is_protected update)
 -- the names of those, in the order of the body
 abbrev pub names_nodes : Bool → List Update → List Node
 names_nodes protected [] = []
-names_nodes protected (update ∷ updates) = (if is_chosen protected update then name_nodes update.1 else []) ++ names_nodes protected updates
+names_nodes protected (update ∷ updates) = (if is_chosen protected update then property_name_nodes update.1 else []) ++ names_nodes protected updates
 
 abbrev pub prop_nodes : Bool → List Update → List Node
 prop_nodes protected updates = element (codes "prop") (names_nodes protected updates)

@@ -1,3 +1,3 @@
-pub mod Naming
+pub mod LentKeys
 pub mod Nesting
 pub mod Rising

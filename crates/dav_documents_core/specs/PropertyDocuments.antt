@@ -10,7 +10,7 @@ use Rattle.dav_documents_core.specs.declared.live_properties.Live.TheVariants as
 use Rattle.dav_documents_core.specs.declared.live_properties.TheConstants.{LIVE}
 use Rattle.dav_documents_core.specs.LiveProperties.{has_live, live_named, live_word}
 use Rattle.dav_documents_core.specs.LockDocuments.{lock_discovery, supported_locks}
-use Rattle.dav_documents_core.specs.Pieces.{Piece, Kept, enclosed, made}
+use Rattle.dav_documents_core.specs.Pieces.{DocumentPiece, Kept, enclosed_pieces, made_pieces}
 use Rattle.dav_documents_core.specs.PropertyQuestions.{Question, All, Names, Listed, asked_names}
 use Rattle.dav_documents_core.specs.RefusalBodies.{dav_name, element}
 
@@ -28,26 +28,26 @@ pub record Description : Type 0 where
 
 -- ---- live properties
 
-abbrev pub text_nodes : List ℕ → List ℕ → List Node
-text_nodes local text = element local (Text text ∷ [])
+abbrev pub text_element : List ℕ → List ℕ → List Node
+text_element local text = element local (Text text ∷ [])
 
 abbrev pub type_nodes : Bool → List Node
 type_nodes folder =
     if folder then element (codes "resourcetype") (element (codes "collection") []) else element (codes "resourcetype") []
 
 -- as the principal sees it, behind the prefix of the server
-abbrev pub live_pieces : List ℕ → Option (List ℕ) → Description → Live → List Piece
-live_pieces prefix principal d live.CreationDate = made (text_nodes (codes "creationdate") d.created)
-live_pieces prefix principal d live.ContentLength = made (text_nodes (codes "getcontentlength") (decimal d.size))
-live_pieces prefix principal d live.ContentType = made (text_nodes (codes "getcontenttype") d.content_type)
-live_pieces prefix principal d live.Tag = made (text_nodes (codes "getetag") d.tag)
-live_pieces prefix principal d live.LastModified = made (text_nodes (codes "getlastmodified") d.modified)
+abbrev pub live_pieces : List ℕ → Option (List ℕ) → Description → Live → List DocumentPiece
+live_pieces prefix principal d live.CreationDate = made_pieces (text_element (codes "creationdate") d.created)
+live_pieces prefix principal d live.ContentLength = made_pieces (text_element (codes "getcontentlength") (decimal d.size))
+live_pieces prefix principal d live.ContentType = made_pieces (text_element (codes "getcontenttype") d.content_type)
+live_pieces prefix principal d live.Tag = made_pieces (text_element (codes "getetag") d.tag)
+live_pieces prefix principal d live.LastModified = made_pieces (text_element (codes "getlastmodified") d.modified)
 live_pieces prefix principal d live.Locks = lock_discovery prefix principal d.locks
-live_pieces prefix principal d live.ResourceType = made (type_nodes d.folder)
-live_pieces prefix principal d live.SupportedLocks = made supported_locks
+live_pieces prefix principal d live.ResourceType = made_pieces (type_nodes d.folder)
+live_pieces prefix principal d live.SupportedLocks = made_pieces supported_locks
 
 -- where the resource has it
-abbrev pub own_pieces : List ℕ → Option (List ℕ) → Description → Live → List Piece
+abbrev pub own_pieces : List ℕ → Option (List ℕ) → Description → Live → List DocumentPiece
 own_pieces prefix principal d property = if has_live d.folder property then live_pieces prefix principal d property else []
 
 -- ---- dead properties
@@ -63,7 +63,7 @@ abbrev pub dead_value : List Property → Name → Option (List ℕ)
 dead_value [] name = None
 dead_value (p ∷ props) name = if is_named name p then p.xml else dead_value props name
 
-abbrev pub kept_pieces : Option (List ℕ) → List Piece
+abbrev pub kept_pieces : Option (List ℕ) → List DocumentPiece
 kept_pieces None = []
 kept_pieces (Some xml) = Kept xml ∷ []
 
@@ -71,7 +71,7 @@ kept_pieces (Some xml) = Kept xml ∷ []
 abbrev pub is_dead : Property → Bool
 is_dead p = not (is_some (live_named (name_of_property p))) && is_some p.xml
 
-abbrev pub dead_pieces : Property → List Piece
+abbrev pub dead_pieces : Property → List DocumentPiece
 dead_pieces p = if is_dead p then kept_pieces p.xml else []
 
 -- ---- a property by its name
@@ -83,11 +83,11 @@ has_value_by d name None = is_some (dead_value d.props name)
 abbrev pub has_value : Description → Name → Bool
 has_value d name = has_value_by d name (live_named name)
 
-abbrev pub value_by : List ℕ → Option (List ℕ) → Description → Name → Option Live → List Piece
+abbrev pub value_by : List ℕ → Option (List ℕ) → Description → Name → Option Live → List DocumentPiece
 value_by prefix principal d name (Some property) = own_pieces prefix principal d property
 value_by prefix principal d name None = kept_pieces (dead_value d.props name)
 
-abbrev pub value_pieces : List ℕ → Option (List ℕ) → Description → Name → List Piece
+abbrev pub value_pieces : List ℕ → Option (List ℕ) → Description → Name → List DocumentPiece
 value_pieces prefix principal d name = value_by prefix principal d name (live_named name)
 
 -- the name alone
@@ -105,9 +105,9 @@ dead_name_nodes p = if is_dead p then name_nodes (name_of_property p) else []
 
 -- ---- what a question finds, and what it doesn't
 
-abbrev pub found_pieces : List ℕ → Option (List ℕ) → Description → Question → List Piece
+abbrev pub found_pieces : List ℕ → Option (List ℕ) → Description → Question → List DocumentPiece
 found_pieces prefix principal d (All included) = flat_map (own_pieces prefix principal d) LIVE ++ flat_map dead_pieces d.props
-found_pieces prefix principal d Names = made (flat_map (own_name_nodes d) LIVE ++ flat_map dead_name_nodes d.props)
+found_pieces prefix principal d Names = made_pieces (flat_map (own_name_nodes d) LIVE ++ flat_map dead_name_nodes d.props)
 found_pieces prefix principal d (Listed names) = flat_map (value_pieces prefix principal d) names
 
 -- it finds something, or it asks for nothing
@@ -118,27 +118,27 @@ finds d _ = true
 abbrev pub lacks : Description → List Name → Bool
 lacks d names = list_any (λ name. not (has_value d name)) names
 
-abbrev pub propstat : List ℕ → List Piece → List Piece
-propstat status inside = enclosed (codes "propstat") (enclosed (codes "prop") inside ++ made (text_nodes (codes "status") status))
+abbrev pub propstat : List ℕ → List DocumentPiece → List DocumentPiece
+propstat status inside = enclosed_pieces (codes "propstat") (enclosed_pieces (codes "prop") inside ++ made_pieces (text_element (codes "status") status))
 
-abbrev pub found_stat : List ℕ → Option (List ℕ) → Question → Description → List Piece
+abbrev pub found_stat : List ℕ → Option (List ℕ) → Question → Description → List DocumentPiece
 found_stat prefix principal question d =
     if finds d question then propstat (codes "HTTP/1.1 200 OK") (found_pieces prefix principal d question) else []
 
 -- of these names
-abbrev pub missing_of : List Name → Description → List Piece
-missing_of names d = if lacks d names then propstat (codes "HTTP/1.1 404 Not Found") (made (flat_map (missing_nodes d) names)) else []
+abbrev pub missing_of : List Name → Description → List DocumentPiece
+missing_of names d = if lacks d names then propstat (codes "HTTP/1.1 404 Not Found") (made_pieces (flat_map (missing_nodes d) names)) else []
 
-abbrev pub missing_stat : Question → Description → List Piece
+abbrev pub missing_stat : Question → Description → List DocumentPiece
 missing_stat question d = missing_of (asked_names question) d
 
 -- ---- the document
 
-abbrev pub response_pieces : List ℕ → Option (List ℕ) → Question → Description → List Piece
+abbrev pub response_pieces : List ℕ → Option (List ℕ) → Question → Description → List DocumentPiece
 response_pieces prefix principal question d =
-    enclosed (codes "response") (made (text_nodes (codes "href") d.url) ++ (found_stat prefix principal question d ++ missing_stat question d))
+    enclosed_pieces (codes "response") (made_pieces (text_element (codes "href") d.url) ++ (found_stat prefix principal question d ++ missing_stat question d))
 
 -- a response for each resource, in order
-abbrev pub multistatus : List ℕ → Option (List ℕ) → Question → List Description → List Piece
+abbrev pub multistatus : List ℕ → Option (List ℕ) → Question → List Description → List DocumentPiece
 multistatus prefix principal question resources =
-    enclosed (codes "multistatus") (flat_map (response_pieces prefix principal question) resources)
+    enclosed_pieces (codes "multistatus") (flat_map (response_pieces prefix principal question) resources)

@@ -7,7 +7,7 @@ use Rattle.dav_xml_core.specs.Optional.{◌>>=◌, choose, when}
 use Rattle.dav_xml_core.specs.Reading.{document_of}
 use Rattle.dav_xml_core.specs.Writing.{written_alone}
 use Rattle.dav_files_core.specs.Resources.{Property}
-use Rattle.dav_documents_core.specs.Elements.{children, element_name, is_dav, named, the_one}
+use Rattle.dav_documents_core.specs.Elements.{children, name_of_element, is_dav, elements_named, the_one}
 
 -- `true` sets the property, `false` removes it
 abbrev pub Update : Type 0
@@ -54,8 +54,8 @@ with_lang (Some lang) element = told_lang lang element
 -- ---- one property
 
 -- what is kept of a property: the whole element, as XML that means the same in any document; to remove it, its name is enough
-abbrev pub kept : Bool → Option (List ℕ) → Name → List Node → Property
-kept set lang name element = record {
+abbrev pub kept_property : Bool → Option (List ℕ) → Name → List Node → Property
+kept_property set lang name element = record {
   name = name.local;
   prefix = None;
   namespace = Some name.namespace;
@@ -63,7 +63,7 @@ kept set lang name element = record {
 }
 
 abbrev pub update_of : Bool → Option (List ℕ) → List Node → List Update
-update_of set lang element = choose (element_name element) (λ name. (set, kept set lang name element) ∷ []) []
+update_of set lang element = choose (name_of_element element) (λ name. (set, kept_property set lang name element) ∷ []) []
 
 -- ---- a body
 
@@ -72,10 +72,10 @@ abbrev pub sets : List Node → Option Bool
 sets element = if is_dav (codes "set") element then Some true else (if is_dav (codes "remove") element then Some false else None)
 
 -- what one element of a `propertyupdate` asks for, in the language around it: it has one `prop`, which has the properties
-unfoldable pub instructed : Option (List ℕ) → List Node → Option (List Update)
-instructed lang instruction =
+unfoldable pub instructed_updates : Option (List ℕ) → List Node → Option (List Update)
+instructed_updates lang instruction =
     choose (sets instruction)
-    (λ set. the_one (named (codes "prop") (children instruction)) >>= λ prop.
+    (λ set. the_one (elements_named (codes "prop") (children instruction)) >>= λ prop.
     Some (flat_map (update_of set (lang_in (lang_in lang instruction) prop)) (children prop)))
     (Some [])
 
@@ -83,7 +83,7 @@ instructed lang instruction =
 abbrev pub updates_by : Option (List ℕ) → List (List Node) → Option (List Update)
 updates_by lang [] = Some []
 updates_by lang (instruction ∷ instructions) =
-    instructed lang instruction >>= λ first. updates_by lang instructions >>= λ others. Some (first ++ others)
+    instructed_updates lang instruction >>= λ first. updates_by lang instructions >>= λ others. Some (first ++ others)
 
 abbrev pub updates_of : List Node → Option (List Update)
 updates_of nodes = when (is_dav (codes "propertyupdate") nodes) (children nodes) >>= updates_by (own_lang nodes)

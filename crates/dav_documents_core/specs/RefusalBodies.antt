@@ -1,7 +1,7 @@
 -- What is told of a refusal beside its status: a document that says why (RFC 4918 sections 9.6.2, 13 and 16).
 use Rattle.std.specs.Prelude.{ℕ, ◌-◌, List, [], ◌∷◌, ◌++◌, length, take, codes, Option, None, Some, if◌then◌else◌}
 use Rattle.dav_path_core.specs.PathText.{PathText}
-use Rattle.dav_path_core.specs.Reading.{ends_in_slash}
+use Rattle.dav_path_core.specs.PathReading.{ends_in_slash}
 use Rattle.dav_path_core.specs.Url.{url}
 use Rattle.dav_xml_core.specs.Documents.{Node, Start, Text, End}
 pub use Rattle.dav_xml_core.specs.Writing.{dav_name}

@@ -3,7 +3,7 @@ use Rattle.std.specs.Prelude.{◌≡◌, ℕ, List, ◌∷◌, Some}
 use Rattle.dav_path_core.specs.PathText.{PathText}
 use Rattle.dav_xml_core.specs.Documents.{Node}
 use Rattle.dav_xml_core.specs.Reading.{document_of}
-use Rattle.dav_xml_core.specs.Writing.{written}
+use Rattle.dav_xml_core.specs.Writing.{document_bytes}
 use Rattle.dav_faults_core.specs.declared.faults.Fault.{Fault}
 use Rattle.dav_faults_core.specs.declared.faults.Fault.TheVariants as fault
 use Rattle.dav_documents_core.specs.RefusalBodies.{refusal_nodes}
@@ -21,4 +21,4 @@ HasPath _ = Unit {0}
 
 -- the bytes of its document are read as the document's nodes
 abbrev pub IsReadAsTold : List ℕ → Fault → Type 0
-IsReadAsTold prefix e = (nodes : List Node) → refusal_nodes prefix e ≡ Some nodes → document_of (written nodes) ≡ Some nodes
+IsReadAsTold prefix e = (nodes : List Node) → refusal_nodes prefix e ≡ Some nodes → document_of (document_bytes nodes) ≡ Some nodes

@@ -14,7 +14,7 @@ use std::alloc::{AllocError, Global};
 /// The elements right inside an element, in order, each with its nodes from its start to its end (own). Texts between them are left out. Nodes that begin
 /// with no start have none.
 pub fn children<'a>(alloc: Global, element: &'a [Node]) -> Result<Vec<&'a [Node]>, AllocError>
-    ensures { IfOk result (λ found. map spec.nodes_of found.items ≡ spec.children (map node_of element.now)) }
+    ensures { IfOk result (λ found. map spec.element_nodes found.items ≡ spec.children (map node_of element.now)) }
 {
     match element {
         [Node::Start(..), inside @ ..] => elements(alloc, inside),
@@ -24,7 +24,7 @@ pub fn children<'a>(alloc: Global, element: &'a [Node]) -> Result<Vec<&'a [Node]
 
 // The elements among nodes.
 fn elements<'a>(alloc: Global, nodes: &'a [Node]) -> Result<Vec<&'a [Node]>, AllocError>
-    ensures { IfOk result (λ found. map spec.nodes_of found.items ≡ spec.elements_from 0 [] (map node_of nodes.now)) }
+    ensures { IfOk result (λ found. map spec.element_nodes found.items ≡ spec.elements_from 0 [] (map node_of nodes.now)) }
 {
     let mut found = Vec::new(alloc);
     let mut depth = 0;
@@ -55,7 +55,7 @@ fn depth_behind(depth: usize, node: &Node) -> usize
 
 /// The name of an element.
 pub fn element_name(element: &[Node]) -> Option<&Name>
-    ensures { option_map (λ name. name_of name.now) result ≡ spec.element_name (map node_of element.now) }
+    ensures { option_map (λ name. name_of name.now) result ≡ spec.name_of_element (map node_of element.now) }
 {
     match element {
         [Node::Start(name, _), ..] => Some(name),
@@ -82,8 +82,8 @@ fn is_dav_name(name: &Name, local: &str) -> bool
 
 /// The only one of the elements that is the one of `DAV:` with this local name, or none. `BadRequest` where there are several.
 pub fn at_most_one<'a>(elements: &[&'a [Node]], local: &str) -> Result<Option<&'a [Node]>, Fault>
-    ensures ok { IfOk result (λ found. spec.at_most_one (spec.named local.now (map spec.nodes_of elements.now)) ≡ Some (option_map spec.nodes_of found)) }
-    ensures err { IfErr result (λ e. (e ≡ fault.BadRequest) × (spec.at_most_one (spec.named local.now (map spec.nodes_of elements.now)) ≡ None)) }
+    ensures ok { IfOk result (λ found. spec.at_most_one (spec.elements_named local.now (map spec.element_nodes elements.now)) ≡ Some (option_map spec.element_nodes found)) }
+    ensures err { IfErr result (λ e. (e ≡ fault.BadRequest) × (spec.at_most_one (spec.elements_named local.now (map spec.element_nodes elements.now)) ≡ None)) }
 {
     let mut found = None;
     for element in elements {
@@ -99,8 +99,8 @@ pub fn at_most_one<'a>(elements: &[&'a [Node]], local: &str) -> Result<Option<&'
 
 /// The only one of the elements that is the one of `DAV:` with this local name. `BadRequest` where there is none, or several.
 pub fn the_one<'a>(elements: &[&'a [Node]], local: &str) -> Result<&'a [Node], Fault>
-    ensures ok { IfOk result (λ found. spec.the_one (spec.named local.now (map spec.nodes_of elements.now)) ≡ Some (spec.nodes_of found)) }
-    ensures err { IfErr result (λ e. (e ≡ fault.BadRequest) × (spec.the_one (spec.named local.now (map spec.nodes_of elements.now)) ≡ None)) }
+    ensures ok { IfOk result (λ found. spec.the_one (spec.elements_named local.now (map spec.element_nodes elements.now)) ≡ Some (spec.element_nodes found)) }
+    ensures err { IfErr result (λ e. (e ≡ fault.BadRequest) × (spec.the_one (spec.elements_named local.now (map spec.element_nodes elements.now)) ≡ None)) }
 {
     at_most_one(elements, local)?.ok_or(Fault::BadRequest)
 }

@@ -5,7 +5,7 @@ ghost use Rattle.dav_xml_core.specs.Views.{writing_of};
 ghost use Rattle.dav_xml_core.specs.Writing.{with_nodes};
 ghost use Rattle.dav_locks_core.specs.Locks.{same_text};
 ghost use Rattle.dav_documents_core.specs.LockDocuments as spec;
-ghost use Rattle.dav_documents_core.specs.Pieces.{with_pieces, written_pieces};
+ghost use Rattle.dav_documents_core.specs.Pieces.{and_pieces, written_pieces};
 ghost use Rattle.dav_documents_core.specs.RefusalBodies.{element, href};
 
 use crate::documents::{begin, write_href, write_text, write_within};
@@ -44,7 +44,7 @@ pub fn write_discovery(
     locks: &[DavLock],
 ) -> Result<(), AllocError>
     ensures { OnOk result (writing_of writer.new
-        ≡ with_pieces (writing_of writer.old) (spec.lock_discovery prefix.now (option_map string_bytes principal.now) locks.now)) }
+        ≡ and_pieces (writing_of writer.old) (spec.lock_discovery prefix.now (option_map string_bytes principal.now) locks.now)) }
 {
     begin(writer, "lockdiscovery")?;
     for lock in locks {
@@ -85,7 +85,7 @@ fn write_active(
     lock: &DavLock,
 ) -> Result<(), AllocError>
     ensures { OnOk result (writing_of writer.new
-        ≡ with_pieces (writing_of writer.old) (spec.active_lock prefix.now (option_map string_bytes principal.now) lock.now)) }
+        ≡ and_pieces (writing_of writer.old) (spec.active_lock prefix.now (option_map string_bytes principal.now) lock.now)) }
 {
     begin(writer, "activelock")?;
     write_terms(writer, lock)?;
@@ -95,7 +95,7 @@ fn write_active(
 
 // What was asked for.
 fn write_terms(writer: &mut Writer, lock: &DavLock) -> Result<(), AllocError>
-    ensures { OnOk result (writing_of writer.new ≡ with_pieces (writing_of writer.old) (spec.terms lock.now)) }
+    ensures { OnOk result (writing_of writer.new ≡ and_pieces (writing_of writer.old) (spec.terms lock.now)) }
 {
     write_kind(writer, lock.shared)?;
     write_text(writer, "depth", depth_word(lock.deep))?;
@@ -111,7 +111,7 @@ fn write_names(
     lock: &DavLock,
 ) -> Result<(), AllocError>
     ensures { OnOk result (writing_of writer.new
-        ≡ with_nodes (writing_of writer.old) (spec.names prefix.now (option_map string_bytes principal.now) lock.now)) }
+        ≡ with_nodes (writing_of writer.old) (spec.lock_name_nodes prefix.now (option_map string_bytes principal.now) lock.now)) }
 {
     write_timeout(alloc, writer, lock.timeout)?;
     write_token(writer, principal, lock)?;
@@ -141,7 +141,7 @@ fn depth_word(deep: bool) -> &'static str
 // The owner's element, where there is one.
 fn write_owner(writer: &mut Writer, owner: &Option<String>) -> Result<(), AllocError>
     ensures { OnOk result (writing_of writer.new
-        ≡ with_pieces (writing_of writer.old) (spec.owner_pieces (option_map string_bytes owner.now))) }
+        ≡ and_pieces (writing_of writer.old) (spec.owner_pieces (option_map string_bytes owner.now))) }
 {
     match owner {
         Some(owner) => writer.kept(owner.as_bytes()),
@@ -152,7 +152,7 @@ fn write_owner(writer: &mut Writer, owner: &Option<String>) -> Result<(), AllocE
 // As it was asked for.
 fn write_timeout(alloc: Global, writer: &mut Writer, timeout: Option<u64>) -> Result<(), AllocError>
     ensures { OnOk result (writing_of writer.new
-        ≡ with_nodes (writing_of writer.old) (element (codes "timeout") (Text (spec.timeout_text timeout) ∷ []))) }
+        ≡ with_nodes (writing_of writer.old) (element (codes "timeout") (Text (spec.lock_timeout_text timeout) ∷ []))) }
 {
     match timeout {
         Some(seconds) => {

@@ -5,7 +5,7 @@ ghost use Rattle.std.specs.Option.{ForSome};
 ghost use Rattle.dav_xml_core.specs.Views.{node_of};
 ghost use Rattle.dav_xml_core.specs.Writing.{written_alone};
 ghost use Rattle.dav_documents_core.specs.Bodies.{IsReadAs};
-ghost use Rattle.dav_documents_core.specs.Elements.{nodes_of};
+ghost use Rattle.dav_documents_core.specs.Elements.{element_nodes};
 ghost use Rattle.dav_documents_core.specs.KeptReading.{IsLang, WasRead};
 ghost use Rattle.dav_documents_core.specs.LockInfos as spec;
 ghost use Rattle.dav_documents_core.specs.LockInfoViews.{info_of};
@@ -44,8 +44,8 @@ pub fn lock_info(alloc: Global, body: &[u8]) -> Result<LockInfo, Fault>
 #[tactic(auto, unfolding(crate::specs::LockInfos::lock_info_by))]
 fn lock_info_by(alloc: Global, lang: Option<&str>, inside: &[&[Node]]) -> Result<LockInfo, Fault>
     requires lang { IsLang (option_copied lang) }
-    requires read { AllByRecursion WasRead (map nodes_of inside.now) }
-    ensures { IsReadAs info_of result (spec.lock_info_by (option_copied lang.entry) (map nodes_of inside.now)) }
+    requires read { AllByRecursion WasRead (map element_nodes inside.now) }
+    ensures { IsReadAs info_of result (spec.lock_info_by (option_copied lang.entry) (map element_nodes inside.now)) }
 {
     let scope = the_one(inside, "lockscope")?;
     let shared = is_shared(alloc, scope)?;
@@ -71,7 +71,7 @@ fn is_shared(alloc: Global, scope: &[Node]) -> Result<bool, Fault>
 
 // Whether it is `shared`, of two that may be there.
 fn one_scope(exclusive: Option<&[Node]>, shared: Option<&[Node]>) -> Option<bool>
-    ensures { result ≡ spec.one_scope (option_map nodes_of exclusive.entry) (option_map nodes_of shared.entry) }
+    ensures { result ≡ spec.one_scope (option_map element_nodes exclusive.entry) (option_map element_nodes shared.entry) }
 {
     match (exclusive, shared) {
         (Some(_), None) => Some(false),
@@ -96,8 +96,8 @@ fn owner_text(
     owner: Option<&[Node]>,
 ) -> Result<Option<String>, AllocError>
     requires lang { IsLang (option_copied lang) }
-    requires read { ForSome owner (λ owner. WasRead (nodes_of owner)) }
-    ensures { IfOk result (λ text. option_map string_bytes text ≡ spec.owner_text (option_copied lang.entry) (option_map nodes_of owner.entry)) }
+    requires read { ForSome owner (λ owner. WasRead (element_nodes owner)) }
+    ensures { IfOk result (λ text. option_map string_bytes text ≡ spec.owner_text (option_copied lang.entry) (option_map element_nodes owner.entry)) }
 {
     match owner {
         Some(owner) => Ok(Some(text_in(alloc, lang, owner)?)),

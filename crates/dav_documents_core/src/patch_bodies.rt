@@ -1,9 +1,9 @@
 //! What is told of a PROPPATCH that is served.
 ghost use Rattle.std.specs.Prelude.{◌≡◌, codes, map, unwrap_or, bytes_eq, IfOk, OnOk};
 ghost use Rattle.std.specs.List.{list_any};
-ghost use Rattle.dav_files_core.specs.Properties.{entry_of, property_of};
+ghost use Rattle.dav_files_core.specs.Properties.{patch_update, property_of};
 ghost use Rattle.dav_xml_core.specs.Views.{writing_of};
-ghost use Rattle.dav_xml_core.specs.Writing.{with_nodes, written};
+ghost use Rattle.dav_xml_core.specs.Writing.{with_nodes, document_bytes};
 ghost use Rattle.dav_documents_core.specs.PatchBodies as spec;
 
 use crate::documents::{begin, write_empty, write_href, write_text};
@@ -26,14 +26,14 @@ const LIVE: [&str; 8] = [
 ];
 
 /// The document that tells of a PROPPATCH at a path (RFC 4918 section 9.2.1): that all is changed; or that some properties are protected, and so nothing is.
-#[tactic(auto, unfolding(dav_xml_core::specs::Writing::written))]
+#[tactic(auto, unfolding(dav_xml_core::specs::Writing::document_bytes))]
 pub fn patch_document(
     alloc: Global,
     prefix: &str,
     path: &DavPath,
     updates: &[(bool, DavProp)],
 ) -> Result<Vec<u8>, AllocError>
-    ensures { IfOk result (λ document. document.items ≡ written (spec.patch_nodes prefix.now path.now (map entry_of updates.now))) }
+    ensures { IfOk result (λ document. document.items ≡ document_bytes (spec.patch_nodes prefix.now path.now (map patch_update updates.now))) }
 {
     let mut writer = Writer::new(alloc);
     begin(&mut writer, "multistatus")?;
@@ -50,7 +50,7 @@ fn write_propstats(
     writer: &mut Writer,
     updates: &[(bool, DavProp)],
 ) -> Result<(), AllocError>
-    ensures { OnOk result (writing_of writer.new ≡ with_nodes (writing_of writer.old) (spec.propstats (map entry_of updates.now))) }
+    ensures { OnOk result (writing_of writer.new ≡ with_nodes (writing_of writer.old) (spec.propstats (map patch_update updates.now))) }
 {
     if !any_protected(updates) {
         return write_others(alloc, writer, "HTTP/1.1 200 OK", updates);
@@ -69,7 +69,7 @@ fn write_others(
     status: &str,
     updates: &[(bool, DavProp)],
 ) -> Result<(), AllocError>
-    ensures { OnOk result (writing_of writer.new ≡ with_nodes (writing_of writer.old) (spec.others_nodes status.now (map entry_of updates.now))) }
+    ensures { OnOk result (writing_of writer.new ≡ with_nodes (writing_of writer.old) (spec.others_nodes status.now (map patch_update updates.now))) }
 {
     begin(writer, "propstat")?;
     write_prop(alloc, writer, false, updates)?;
@@ -83,7 +83,7 @@ fn write_protected(
     writer: &mut Writer,
     updates: &[(bool, DavProp)],
 ) -> Result<(), AllocError>
-    ensures { OnOk result (writing_of writer.new ≡ with_nodes (writing_of writer.old) (spec.protected_nodes (map entry_of updates.now))) }
+    ensures { OnOk result (writing_of writer.new ≡ with_nodes (writing_of writer.old) (spec.protected_nodes (map patch_update updates.now))) }
 {
     begin(writer, "propstat")?;
     write_prop(alloc, writer, true, updates)?;
@@ -101,7 +101,7 @@ fn write_prop(
     protected: bool,
     updates: &[(bool, DavProp)],
 ) -> Result<(), AllocError>
-    ensures { OnOk result (writing_of writer.new ≡ with_nodes (writing_of writer.old) (spec.prop_nodes protected (map entry_of updates.now))) }
+    ensures { OnOk result (writing_of writer.new ≡ with_nodes (writing_of writer.old) (spec.prop_nodes protected (map patch_update updates.now))) }
 {
     begin(writer, "prop")?;
     write_names(alloc, writer, protected, updates)?;
@@ -114,7 +114,7 @@ fn write_names(
     protected: bool,
     updates: &[(bool, DavProp)],
 ) -> Result<(), AllocError>
-    ensures { OnOk result (writing_of writer.new ≡ with_nodes (writing_of writer.old) (spec.names_nodes protected (map entry_of updates.now))) }
+    ensures { OnOk result (writing_of writer.new ≡ with_nodes (writing_of writer.old) (spec.names_nodes protected (map patch_update updates.now))) }
 {
     for update in updates {
         if is_chosen(protected, update) {
@@ -126,7 +126,7 @@ fn write_names(
 
 // An empty element with the name of a property.
 fn write_name(alloc: Global, writer: &mut Writer, prop: &DavProp) -> Result<(), AllocError>
-    ensures { OnOk result (writing_of writer.new ≡ with_nodes (writing_of writer.old) (spec.name_nodes (property_of prop.now))) }
+    ensures { OnOk result (writing_of writer.new ≡ with_nodes (writing_of writer.old) (spec.property_name_nodes (property_of prop.now))) }
 {
     let name = Name {
         namespace: RcStr::from_str(alloc, namespace_of(prop))?,
@@ -140,7 +140,7 @@ fn write_name(alloc: Global, writer: &mut Writer, prop: &DavProp) -> Result<(), 
 
 /// Whether one of the properties is protected (RFC 4918 section 15).
 pub fn any_protected(updates: &[(bool, DavProp)]) -> bool
-    ensures { result ≡ spec.any_protected (map entry_of updates.now) }
+    ensures { result ≡ spec.any_protected (map patch_update updates.now) }
 {
     for update in updates {
         if is_protected(update) {
@@ -151,7 +151,7 @@ pub fn any_protected(updates: &[(bool, DavProp)]) -> bool
 }
 
 fn all_protected(updates: &[(bool, DavProp)]) -> bool
-    ensures { result ≡ spec.all_protected (map entry_of updates.now) }
+    ensures { result ≡ spec.all_protected (map patch_update updates.now) }
 {
     for update in updates {
         if !is_protected(update) {
@@ -162,7 +162,7 @@ fn all_protected(updates: &[(bool, DavProp)]) -> bool
 }
 
 fn is_chosen(protected: bool, update: &(bool, DavProp)) -> bool
-    ensures { result ≡ spec.is_chosen protected (entry_of update.now) }
+    ensures { result ≡ spec.is_chosen protected (patch_update update.now) }
 {
     if protected {
         is_protected(update)
@@ -172,7 +172,7 @@ fn is_chosen(protected: bool, update: &(bool, DavProp)) -> bool
 }
 
 fn is_protected(update: &(bool, DavProp)) -> bool
-    ensures { result ≡ spec.is_protected (entry_of update.now) }
+    ensures { result ≡ spec.is_protected (patch_update update.now) }
 {
     is_live(&update.1)
 }

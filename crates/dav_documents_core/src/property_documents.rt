@@ -4,7 +4,7 @@ ghost use Rattle.std.specs.List.{flat_map};
 ghost use Rattle.dav_xml_core.specs.Views.{name_of, writing_of};
 ghost use Rattle.dav_xml_core.specs.Writing.{with_end, with_nodes, with_start};
 ghost use Rattle.dav_files_core.specs.Properties.{property_of};
-ghost use Rattle.dav_documents_core.specs.Pieces.{made, with_pieces};
+ghost use Rattle.dav_documents_core.specs.Pieces.{made_pieces, and_pieces};
 ghost use Rattle.dav_documents_core.specs.QuestionViews.{question_of};
 ghost use Rattle.dav_documents_core.specs.DescriptionViews.{description_of};
 ghost use Rattle.dav_documents_core.specs.Private.Rising.{Rise};
@@ -57,7 +57,7 @@ pub fn write_response(
     question: &Question,
     description: &Description,
 ) -> Result<(), AllocError>
-    ensures { OnOk result (writing_of writer.new ≡ with_pieces (writing_of writer.old)
+    ensures { OnOk result (writing_of writer.new ≡ and_pieces (writing_of writer.old)
         (spec.response_pieces prefix.now (option_map string_bytes principal.now) (question_of question.now) (description_of description.now))) }
 {
     begin(writer, "response")?;
@@ -87,7 +87,7 @@ fn write_found_stat(
     risen: bool,
 ) -> Result<(), AllocError>
     requires { risen ≡ true → Rise description.now.props.items }
-    ensures { OnOk result (writing_of writer.new ≡ with_pieces (writing_of writer.old)
+    ensures { OnOk result (writing_of writer.new ≡ and_pieces (writing_of writer.old)
         (spec.found_stat prefix.now (option_map string_bytes principal.now) (question_of question.now) (description_of description.now))) }
 {
     if finds(description, risen, question) {
@@ -114,7 +114,7 @@ fn write_found_props(
     risen: bool,
 ) -> Result<(), AllocError>
     requires { risen ≡ true → Rise description.now.props.items }
-    ensures { OnOk result (writing_of writer.new ≡ with_pieces (writing_of writer.old) (spec.propstat (codes "HTTP/1.1 200 OK")
+    ensures { OnOk result (writing_of writer.new ≡ and_pieces (writing_of writer.old) (spec.propstat (codes "HTTP/1.1 200 OK")
         (spec.found_pieces prefix.now (option_map string_bytes principal.now) (description_of description.now) (question_of question.now)))) }
 {
     begin_stat(writer)?;
@@ -138,7 +138,7 @@ fn write_missing_stat(
     risen: bool,
 ) -> Result<(), AllocError>
     requires { risen ≡ true → Rise description.now.props.items }
-    ensures { OnOk result (writing_of writer.new ≡ with_pieces (writing_of writer.old)
+    ensures { OnOk result (writing_of writer.new ≡ and_pieces (writing_of writer.old)
         (spec.missing_of (map name_of names.now) (description_of description.now))) }
 {
     if lacks(description, risen, names) {
@@ -154,8 +154,8 @@ fn write_missing_props(
     risen: bool,
 ) -> Result<(), AllocError>
     requires { risen ≡ true → Rise description.now.props.items }
-    ensures { OnOk result (writing_of writer.new ≡ with_pieces (writing_of writer.old) (spec.propstat (codes "HTTP/1.1 404 Not Found")
-        (made (flat_map (spec.missing_nodes (description_of description.now)) (map name_of names.now))))) }
+    ensures { OnOk result (writing_of writer.new ≡ and_pieces (writing_of writer.old) (spec.propstat (codes "HTTP/1.1 404 Not Found")
+        (made_pieces (flat_map (spec.missing_nodes (description_of description.now)) (map name_of names.now))))) }
 {
     begin_stat(writer)?;
     write_missing(writer, names, description, risen)?;
@@ -196,7 +196,7 @@ fn begin_stat(writer: &mut Writer) -> Result<(), AllocError>
 
 // They end, with their status.
 fn end_stat(writer: &mut Writer, status: &str) -> Result<(), AllocError>
-    ensures { OnOk result (writing_of writer.new ≡ with_end (with_nodes (with_end (writing_of writer.old)) (spec.text_nodes (codes "status") status.now))) }
+    ensures { OnOk result (writing_of writer.new ≡ with_end (with_nodes (with_end (writing_of writer.old)) (spec.text_element (codes "status") status.now))) }
 {
     writer.end()?;
     write_text(writer, "status", status)?;

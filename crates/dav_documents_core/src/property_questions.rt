@@ -76,7 +76,7 @@ fn asked(
     included: Vec<Name>,
     listed: Vec<Name>,
 ) -> Option<Question>
-    ensures { option_map question_of result ≡ spec.asked names all some (map name_of included.items) (map name_of listed.items) }
+    ensures { option_map question_of result ≡ spec.question_asked names all some (map name_of included.items) (map name_of listed.items) }
 {
     match (names, all, some) {
         (true, false, false) => Some(Question::Names),

@@ -2,12 +2,12 @@
 ghost use Rattle.std.specs.Prelude.{◌≡◌, ◌++◌, ◌∷◌, [], map, option_map, IfOk, OnOk, Some};
 ghost use Rattle.std.specs.List.{flat_map};
 ghost use Rattle.std.specs.Option.{option_copied};
-ghost use Rattle.dav_files_core.specs.Properties.{entry_of, property_of};
+ghost use Rattle.dav_files_core.specs.Properties.{patch_update, property_of};
 ghost use Rattle.dav_xml_core.specs.Documents as plain;
 ghost use Rattle.dav_xml_core.specs.Views.{attribute_of, name_of, node_of};
 ghost use Rattle.dav_xml_core.specs.Writing.{written_alone};
 ghost use Rattle.dav_documents_core.specs.Bodies.{IsReadAs};
-ghost use Rattle.dav_documents_core.specs.Elements.{nodes_of};
+ghost use Rattle.dav_documents_core.specs.Elements.{element_nodes};
 ghost use Rattle.dav_documents_core.specs.PropertyUpdates as spec;
 
 use crate::bodies::document_in;
@@ -23,7 +23,7 @@ const XML_NAMESPACE: &str = "http://www.w3.org/XML/1998/namespace";
 /// What the body of a PROPPATCH asks for, in the order of the document: `true` sets a property, `false` removes it (RFC 4918 sections 9.2 and 14.19).
 /// `BadRequest` where the body spells no `propertyupdate`, or a `set` or `remove` in it hasn't one `prop`.
 pub fn property_updates(alloc: Global, body: &[u8]) -> Result<Vec<(bool, DavProp)>, Fault>
-    ensures { IsReadAs (λ updates. map entry_of updates.items) result (spec.updates_in body.now) }
+    ensures { IsReadAs (λ updates. map patch_update updates.items) result (spec.updates_in body.now) }
 {
     let document = document_in(alloc, body)?;
     if !is_dav(&document.nodes, "propertyupdate") {
@@ -39,7 +39,7 @@ fn updates_by(
     lang: Option<&str>,
     instructions: &[&[Node]],
 ) -> Result<Vec<(bool, DavProp)>, Fault>
-    ensures { IsReadAs (λ updates. map entry_of updates.items) result (spec.updates_by (option_copied lang.entry) (map nodes_of instructions.now)) }
+    ensures { IsReadAs (λ updates. map patch_update updates.items) result (spec.updates_by (option_copied lang.entry) (map element_nodes instructions.now)) }
 {
     let mut updates = Vec::new(alloc);
     for instruction in instructions {
@@ -49,15 +49,15 @@ fn updates_by(
 }
 
 // What one of them asks for.
-#[tactic(auto, unfolding(crate::specs::PropertyUpdates::instructed))]
+#[tactic(auto, unfolding(crate::specs::PropertyUpdates::instructed_updates))]
 fn push_instructed(
     alloc: Global,
     updates: &mut Vec<(bool, DavProp)>,
     lang: Option<&str>,
     instruction: &[Node],
 ) -> Result<(), Fault>
-    ensures { IsReadAs (λ _. map entry_of updates.new.items) result
-        (option_map (λ more. map entry_of updates.old.items ++ more) (spec.instructed (option_copied lang.entry) (map node_of instruction.now))) }
+    ensures { IsReadAs (λ _. map patch_update updates.new.items) result
+        (option_map (λ more. map patch_update updates.old.items ++ more) (spec.instructed_updates (option_copied lang.entry) (map node_of instruction.now))) }
 {
     let Some(set) = sets(instruction) else {
         return Ok(());
@@ -91,8 +91,8 @@ fn push_updates(
     lang: Option<&str>,
     properties: &[&[Node]],
 ) -> Result<(), AllocError>
-    ensures { OnOk result (map entry_of updates.new.items
-        ≡ map entry_of updates.old.items ++ flat_map (spec.update_of set (option_copied lang.entry)) (map nodes_of properties.now)) }
+    ensures { OnOk result (map patch_update updates.new.items
+        ≡ map patch_update updates.old.items ++ flat_map (spec.update_of set (option_copied lang.entry)) (map element_nodes properties.now)) }
 {
     for property in properties {
         push_update(alloc, updates, set, lang, property)?;
@@ -107,8 +107,8 @@ fn push_update(
     lang: Option<&str>,
     property: &[Node],
 ) -> Result<(), AllocError>
-    ensures { OnOk result (map entry_of updates.new.items
-        ≡ map entry_of updates.old.items ++ spec.update_of set (option_copied lang.entry) (map node_of property.now)) }
+    ensures { OnOk result (map patch_update updates.new.items
+        ≡ map patch_update updates.old.items ++ spec.update_of set (option_copied lang.entry) (map node_of property.now)) }
 {
     let Some(name) = element_name(property) else {
         return Ok(());
@@ -126,7 +126,7 @@ fn kept(
     name: &Name,
     property: &[Node],
 ) -> Result<DavProp, AllocError>
-    ensures { IfOk result (λ prop. property_of prop ≡ spec.kept set (option_copied lang.entry) (name_of name.now) (map node_of property.now)) }
+    ensures { IfOk result (λ prop. property_of prop ≡ spec.kept_property set (option_copied lang.entry) (name_of name.now) (map node_of property.now)) }
 {
     let xml = if set {
         Some(kept_xml(alloc, lang, property)?)

@@ -1,6 +1,6 @@
 //! The documents that say why a request is refused (RFC 4918 section 16).
 ghost use Rattle.std.specs.Prelude.{◌≡◌, ◌++◌, ◌∷◌, [], codes, option_map, IfOk, OnOk};
-ghost use Rattle.dav_xml_core.specs.Writing.{with_nodes, written};
+ghost use Rattle.dav_xml_core.specs.Writing.{with_nodes, document_bytes};
 ghost use Rattle.dav_xml_core.specs.Views.{writing_of};
 ghost use Rattle.dav_documents_core.specs.RefusalBodies.{conflict_below_nodes, conflict_nodes, element, lock_nodes, member_nodes, refusal_nodes, told_response};
 
@@ -16,7 +16,7 @@ pub fn document_of(
     prefix: &str,
     fault: &Fault,
 ) -> Result<Option<Vec<u8>>, AllocError>
-    ensures { IfOk result (λ found. option_map (λ document. document.items) found ≡ option_map written (refusal_nodes prefix.now fault.now)) }
+    ensures { IfOk result (λ found. option_map (λ document. document.items) found ≡ option_map document_bytes (refusal_nodes prefix.now fault.now)) }
 {
     match fault {
         Fault::Locked(path) => Ok(Some(locked(alloc, prefix, path)?)),
@@ -31,7 +31,7 @@ pub fn document_of(
 
 // A lock stands in the way, at the path.
 fn locked(alloc: Global, prefix: &str, path: &DavPath) -> Result<Vec<u8>, AllocError>
-    ensures { IfOk result (λ document. document.items ≡ written (lock_nodes prefix.now path.now)) }
+    ensures { IfOk result (λ document. document.items ≡ document_bytes (lock_nodes prefix.now path.now)) }
 {
     let mut writer = Writer::new(alloc);
     begin(&mut writer, "error")?;
@@ -44,7 +44,7 @@ fn locked(alloc: Global, prefix: &str, path: &DavPath) -> Result<Vec<u8>, AllocE
 
 // Another lock lets this one not be granted, at the path.
 fn conflicting(alloc: Global, prefix: &str, path: &DavPath) -> Result<Vec<u8>, AllocError>
-    ensures { IfOk result (λ document. document.items ≡ written (conflict_nodes prefix.now path.now)) }
+    ensures { IfOk result (λ document. document.items ≡ document_bytes (conflict_nodes prefix.now path.now)) }
 {
     let mut writer = Writer::new(alloc);
     begin(&mut writer, "error")?;
@@ -57,7 +57,7 @@ fn conflicting(alloc: Global, prefix: &str, path: &DavPath) -> Result<Vec<u8>, A
 
 // A lock of a member stands in the way, at the path.
 fn member_locked(alloc: Global, prefix: &str, path: &DavPath) -> Result<Vec<u8>, AllocError>
-    ensures { IfOk result (λ document. document.items ≡ written (member_nodes prefix.now path.now)) }
+    ensures { IfOk result (λ document. document.items ≡ document_bytes (member_nodes prefix.now path.now)) }
 {
     let mut writer = Writer::new(alloc);
     begin(&mut writer, "multistatus")?;
@@ -79,7 +79,7 @@ fn conflicting_below(
     at: &DavPath,
     path: &DavPath,
 ) -> Result<Vec<u8>, AllocError>
-    ensures { IfOk result (λ document. document.items ≡ written (conflict_below_nodes prefix.now at.now path.now)) }
+    ensures { IfOk result (λ document. document.items ≡ document_bytes (conflict_below_nodes prefix.now at.now path.now)) }
 {
     let mut writer = Writer::new(alloc);
     begin(&mut writer, "multistatus")?;
@@ -124,7 +124,7 @@ fn write_dependent(
 
 // A condition that doesn't hold, by its name (RFC 4918 section 16).
 fn failed_condition(alloc: Global, condition: &str) -> Result<Vec<u8>, AllocError>
-    ensures { IfOk result (λ document. document.items ≡ written (element (codes "error") (element condition.now []))) }
+    ensures { IfOk result (λ document. document.items ≡ document_bytes (element (codes "error") (element condition.now []))) }
 {
     let mut writer = Writer::new(alloc);
     begin(&mut writer, "error")?;

@@ -30,20 +30,20 @@ fault_status ServiceUnavailable = 503
 fault_status InsufficientStorage = 507
 
 -- the fault of a request whose path is refused
-abbrev pub of_path : ParseError → Fault
-of_path parse.InvalidPath = BadRequest
-of_path parse.PrefixMismatch = NotFound
-of_path parse.ForbiddenPath = Forbidden
-of_path parse.OutOfMemory = InsufficientStorage
+abbrev pub fault_of_path : ParseError → Fault
+fault_of_path parse.InvalidPath = BadRequest
+fault_of_path parse.PrefixMismatch = NotFound
+fault_of_path parse.ForbiddenPath = Forbidden
+fault_of_path parse.OutOfMemory = InsufficientStorage
 
 -- the fault of a request with a header that isn't read
-abbrev pub of_header : HeaderError → Fault
-of_header header.Invalid = BadRequest
-of_header header.OutOfMemory = InsufficientStorage
+abbrev pub fault_of_header : HeaderError → Fault
+fault_of_header header.Invalid = BadRequest
+fault_of_header header.OutOfMemory = InsufficientStorage
 
 -- the fault of a body that is no document
-abbrev pub of_xml : XmlError → Fault
-of_xml (xml.NotWellFormed at) = BadRequest
-of_xml xml.DocumentType = BadRequest
-of_xml xml.Encoding = BadRequest
-of_xml xml.OutOfMemory = InsufficientStorage
+abbrev pub fault_of_xml : XmlError → Fault
+fault_of_xml (xml.NotWellFormed at) = BadRequest
+fault_of_xml xml.DocumentType = BadRequest
+fault_of_xml xml.Encoding = BadRequest
+fault_of_xml xml.OutOfMemory = InsufficientStorage

@@ -98,9 +98,9 @@ impl<T: Drop> From<AllocFailed<T>> for Fault {
 }
 
 impl From<ParseError> for Fault {
-    ghost use Rattle.dav_faults_core.specs.Faults.{of_path};
+    ghost use Rattle.dav_faults_core.specs.Faults.{fault_of_path};
 
-    ghost from_gives = { λ error fault. fault ≡ of_path error };
+    ghost from_gives = { λ error fault. fault ≡ fault_of_path error };
 
     fn from(error: ParseError) -> Self {
         match error {
@@ -113,9 +113,9 @@ impl From<ParseError> for Fault {
 }
 
 impl From<HeaderError> for Fault {
-    ghost use Rattle.dav_faults_core.specs.Faults.{of_header};
+    ghost use Rattle.dav_faults_core.specs.Faults.{fault_of_header};
 
-    ghost from_gives = { λ error fault. fault ≡ of_header error };
+    ghost from_gives = { λ error fault. fault ≡ fault_of_header error };
 
     fn from(error: HeaderError) -> Self {
         match error {
@@ -126,9 +126,9 @@ impl From<HeaderError> for Fault {
 }
 
 impl From<XmlError> for Fault {
-    ghost use Rattle.dav_faults_core.specs.Faults.{of_xml};
+    ghost use Rattle.dav_faults_core.specs.Faults.{fault_of_xml};
 
-    ghost from_gives = { λ error fault. fault ≡ of_xml error };
+    ghost from_gives = { λ error fault. fault ≡ fault_of_xml error };
 
     fn from(error: XmlError) -> Self {
         match error {

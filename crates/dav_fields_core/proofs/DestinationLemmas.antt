@@ -11,8 +11,8 @@ use Rattle.dav_fields_core.specs.declared.bases.Scheme.{Scheme}
 use Rattle.dav_faults_core.specs.declared.faults.Fault.{Fault}
 use Rattle.dav_faults_core.specs.declared.faults.Fault.TheVariants as fault
 use Rattle.dav_fields_core.specs.Bases.{IsBase}
-use Rattle.dav_fields_core.specs.Destinations.{IsDestination, LeadsNowhere, LeadsTo, NamesText, fault_of}
-use Rattle.dav_fields_core.specs.Destinations.LeadsNowhere.{memory, no_text, no_url, no_host, no_path}
+use Rattle.dav_fields_core.specs.TransferDestinations.{IsDestination, LeadsNowhere, LeadsTo, NamesText, fault_of}
+use Rattle.dav_fields_core.specs.TransferDestinations.LeadsNowhere.{memory, no_text, no_url, no_host, no_path}
 use Rattle.dav_fields_core.specs.Targets.{IsPathOf, RefusesPath}
 
 module _ (scheme : Scheme) (prefix : List ℕ) (headers : Entries FieldValue) where

@@ -11,10 +11,10 @@ use Rattle.std.proofs.lemmas.List.Sums.{list_all-from_AllPass}
 use Rattle.std.proofs.lemmas.List.Splits.{slice_split_at}
 use Rattle.dav_headers_core.specs.declared.davheaders.errors.HeaderError.{HeaderError}
 use Rattle.dav_headers_core.specs.declared.davheaders.errors.HeaderError.TheVariants as header
-use Rattle.dav_headers_core.specs.Gives.{GivesFirst}
+use Rattle.dav_headers_core.specs.HeaderGives.{GivesFirst}
 use Rattle.dav_headers_core.specs.Tags.{quote, new_tag, is_weak}
 use Rattle.dav_headers_core.proofs.tags.TagLemmas.{spelled_is_tag}
-use Rattle.dav_headers_core.specs.UpdateRanges.{is_dash, two}
+use Rattle.dav_headers_core.specs.UpdateRanges.{is_hyphen, two}
 use Rattle.dav_headers_core.proofs.numbers.DashLemmas.{NoDash, just_two}
 use Rattle.dav_headers_core.proofs.numbers.NumberLemmas.{decimal_in}
 use Rattle.dav_fields_core.specs.FileTags.{tag_text, file_tag}
@@ -30,7 +30,7 @@ digits_hold digits h = All-from_get_or (λ b. is_quote b ≡ false) digits 0 (λ
     ne_eqb (get_or digits i 0) 34 (omega arith))
 
 no_dash : (digits : List ℕ) → All (IsInRange 48 57) digits → NoDash digits
-no_dash digits h i lt is_dash = let digit = All-get_or (IsInRange 48 57) digits i 0 lt h in absurd (omega arith)
+no_dash digits h i lt is_hyphen = let digit = All-get_or (IsInRange 48 57) digits i 0 lt h in absurd (omega arith)
 
 no_quote : (m n : ℕ) → m < 2 ^ 64 → n < 2 ^ 64 → All (λ b. is_quote b ≡ false) (tag_text m n)
 no_quote m n small fits =
@@ -73,7 +73,7 @@ is_read m n small fits =
 
 -- ---- equal tags have equal numbers
 
-parts_of : (m n : ℕ) → m < 2 ^ 64 → n < 2 ^ 64 → two (slice_split is_dash (tag_text m n)) ≡ Some (decimal m, decimal n)
+parts_of : (m n : ℕ) → m < 2 ^ 64 → n < 2 ^ 64 → two (slice_split is_hyphen (tag_text m n)) ≡ Some (decimal m, decimal n)
 parts_of m n small fits =
     just_two (tag_text m n) (decimal m) (decimal n) refl (no_dash (decimal m) (decimal_in m small)) (no_dash (decimal n) (decimal_in n fits))
 
@@ -89,7 +89,7 @@ same_text m n p q a b c d same =
 
 pub tells : (m n p q : ℕ) → m < 2 ^ 64 → n < 2 ^ 64 → p < 2 ^ 64 → q < 2 ^ 64 → file_tag m n ≡ file_tag p q → (m ≡ p) × (n ≡ q)
 tells m n p q a b c d same =
-    let parted = sym (parts_of m n a b) ∙ ap (λ text. two (slice_split is_dash text)) (same_text m n p q a b c d same) ∙ parts_of p q c d in
+    let parted = sym (parts_of m n a b) ∙ ap (λ text. two (slice_split is_hyphen text)) (same_text m n p q a b c d same) ∙ parts_of p q c d in
     let pair : (decimal m, decimal n) ≡ (decimal p, decimal q) = cc in (
       decimal_injective m p a c (ap (λ (x : List ℕ × List ℕ). x.0) pair),
       decimal_injective n q b d (ap (λ (x : List ℕ × List ℕ). x.1) pair),

@@ -1,11 +1,13 @@
 pub mod BaseLemmas
 pub mod Collecting
 pub mod DestinationLemmas
+pub mod DistinctTokens
 pub mod FieldLemmas
 pub mod FileTagLemmas
 pub mod ListedTagLemmas
 pub mod PreconditionLaws
 mod PreconditionRows
+pub mod ReadMarks
 pub mod RefusalLemmas
 pub mod TagGrammarLaws
 pub mod TaggedLemmas

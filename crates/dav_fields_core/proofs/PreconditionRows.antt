@@ -7,7 +7,7 @@ use Rattle.http_header.specs.HeaderMap.{Entries}
 use Rattle.httpdate.specs.Calendar.{days_of_years, days_of_months}
 use Rattle.httpdate.specs.Reader.{read_tag, read_two_digits, read_name, read_year, read_time, read_padded_day, parse_imf_fixdate, parse_rfc850_date, parse_asctime, parse}
 use Rattle.dav_path_core.specs.declared.util.DavMethod.TheVariants as method
-use Rattle.dav_headers_core.specs.Tags.{spelled}
+use Rattle.dav_headers_core.specs.Tags.{spelled_tag}
 use Rattle.dav_fields_core.specs.declared.etags.Standing.{Standing}
 use Rattle.dav_fields_core.specs.declared.etags.Standing.TheVariants.{Nothing, Folder, File}
 use Rattle.dav_fields_core.specs.declared.preconditions.Course.TheVariants.{Proceed, Whole, NotModified, PreconditionFailed}
@@ -17,38 +17,38 @@ use Rattle.dav_fields_core.specs.Preconditions.{course_of}
 
 -- ---- tags and lists of them
 
-tag_is : file_tag 5 12 ≡ spelled false (codes "5-12")
+tag_is : file_tag 5 12 ≡ spelled_tag false (codes "5-12")
 unfolding digits
 tag_is = refl
 
-comma_inside : elements (spelled false (codes "a,b") ++ codes " , " ++ spelled true (codes "c") ++ codes ",,") ≡ spelled false (codes "a,b") ∷ spelled true (codes "c") ∷ [] ∷ [] ∷ []
+comma_inside : elements (spelled_tag false (codes "a,b") ++ codes " , " ++ spelled_tag true (codes "c") ++ codes ",,") ≡ spelled_tag false (codes "a,b") ∷ spelled_tag true (codes "c") ∷ [] ∷ [] ∷ []
 comma_inside = refl
 
 no_end : elements (codes "x" ++ 34 ∷ codes "a,b") ≡ (codes "x" ++ 34 ∷ codes "a,b") ∷ []
 no_end = refl
 
-blank_inside : is_entity_tag (spelled false (codes "a b")) ≡ false
+blank_inside : is_entity_tag (spelled_tag false (codes "a b")) ≡ false
 blank_inside = refl
 
-weak_one : is_entity_tag (spelled true (codes "a,b")) ≡ true
+weak_one : is_entity_tag (spelled_tag true (codes "a,b")) ≡ true
 weak_one = refl
 
-small_mark : is_entity_tag (codes "w/" ++ spelled false (codes "a")) ≡ false
+small_mark : is_entity_tag (codes "w/" ++ spelled_tag false (codes "a")) ≡ false
 small_mark = refl
 
 -- ---- one header
 
 -- a file whose tag is `"5-12"`, changed last in second 2
 abbrev file : Standing
-file = File (spelled false (codes "5-12")) (record { 0 = 2_700_000_000 })
+file = File (spelled_tag false (codes "5-12")) (record { 0 = 2_700_000_000 })
 
 abbrev tag : List ℕ
-tag = spelled false (codes "5-12")
+tag = spelled_tag false (codes "5-12")
 
 abbrev with : List ℕ → List ℕ → Entries FieldValue
 with name value = (name, plain_value value ∷ []) ∷ []
 
-match_same : course_of method.Put file (with (codes "if-match") (spelled false (codes "x") ++ codes ", " ++ tag)) ≡ Some Proceed
+match_same : course_of method.Put file (with (codes "if-match") (spelled_tag false (codes "x") ++ codes ", " ++ tag)) ≡ Some Proceed
 match_same = refl
 
 match_weak : course_of method.Put file (with (codes "if-match") (codes "W/" ++ tag)) ≡ Some PreconditionFailed
@@ -69,7 +69,7 @@ none_of_this_read = refl
 none_of_this_written : course_of method.Put file (with (codes "if-none-match") tag) ≡ Some PreconditionFailed
 none_of_this_written = refl
 
-none_of_others : course_of method.Get file (with (codes "if-none-match") (spelled false (codes "5-12,x"))) ≡ Some Proceed
+none_of_others : course_of method.Get file (with (codes "if-none-match") (spelled_tag false (codes "5-12,x"))) ≡ Some Proceed
 none_of_others = refl
 
 none_of_any_at_nothing : course_of method.Put Nothing (with (codes "if-none-match") (codes "*")) ≡ Some Proceed
@@ -79,7 +79,7 @@ none_of_any_at_a_folder : course_of method.MkCol Folder (with (codes "if-none-ma
 none_of_any_at_a_folder = refl
 
 -- what can't be read
-blank_in_a_tag : course_of method.Get file (with (codes "if-none-match") (spelled false (codes "a b"))) ≡ None
+blank_in_a_tag : course_of method.Get file (with (codes "if-none-match") (spelled_tag false (codes "a b"))) ≡ None
 blank_in_a_tag = refl
 
 star_in_a_list : course_of method.Get file (with (codes "if-match") (codes "*, " ++ tag)) ≡ None
@@ -125,7 +125,7 @@ match_first : course_of method.Get file ((codes "if-none-match", plain_value tag
 match_first = refl
 
 -- `If-None-Match` puts `If-Modified-Since` aside
-none_match_first : course_of method.Get file ((codes "if-none-match", plain_value (codes "W/" ++ spelled false (codes "x")) ∷ []) ∷ with (codes "if-modified-since") (codes "?")) ≡ Some Proceed
+none_match_first : course_of method.Get file ((codes "if-none-match", plain_value (codes "W/" ++ spelled_tag false (codes "x")) ∷ []) ∷ with (codes "if-modified-since") (codes "?")) ≡ Some Proceed
 none_match_first = refl
 
 part_of_this : course_of method.Get file ((codes "if-range", plain_value tag ∷ []) ∷ with (codes "range") (codes "bytes=0-1")) ≡ Some Proceed

@@ -12,14 +12,14 @@ use Rattle.dav_path_core.specs.Fault.Fault.{no_target, first}
 use Rattle.dav_path_core.specs.Fault.IsFaultAt.{foreign, above}
 use Rattle.dav_path_core.specs.PathText.{PathText, full}
 use Rattle.dav_path_core.specs.Prefix.{NeedsSlash, SetsPrefix}
-use Rattle.dav_path_core.specs.Reading.{Read}
+use Rattle.dav_path_core.specs.PathReading.{Read}
 use Rattle.dav_headers_core.specs.declared.davheaders.errors.HeaderError.{HeaderError}
 use Rattle.dav_headers_core.specs.declared.davheaders.errors.HeaderError.TheVariants as header
 use Rattle.dav_headers_core.specs.IfValues.{Located, ReadsAs}
 use Rattle.dav_faults_core.specs.declared.faults.Fault.TheVariants as fault
-use Rattle.dav_faults_core.specs.Faults.{of_path, of_header}
+use Rattle.dav_faults_core.specs.Faults.{fault_of_path, fault_of_header}
 use Rattle.dav_fields_core.specs.Targets.{IsPathOf, RefusesPath}
-use Rattle.dav_fields_core.specs.Refusals.{RefusesTarget, RefusesPrincipal, NamesNobody, HasBadIf}
+use Rattle.dav_fields_core.specs.RequestRefusals.{RefusesTarget, RefusesPrincipal, NamesNobody, HasBadIf}
 
 -- ---- targets
 
@@ -61,7 +61,7 @@ module _ (prefix text whole front : List ℕ) (at_root : front ≡ []) (read : R
 
 -- the fault of a target that is refused
 pub refuses_target : (prefix : List ℕ) (uri : Uri) (e : ParseError) → RefusesPath prefix (uri_path uri) e
-    → (of_path e ≡ fault.InsufficientStorage) ⊎ RefusesTarget prefix uri (of_path e)
+    → (fault_of_path e ≡ fault.InsufficientStorage) ⊎ RefusesTarget prefix uri (fault_of_path e)
 refuses_target prefix uri parse.InvalidPath h = inr h
 refuses_target prefix uri parse.PrefixMismatch h = inr h
 refuses_target prefix uri parse.ForbiddenPath h = inr h
@@ -78,7 +78,7 @@ nobody_named named headers name value is_named only nobody =
 -- an `If` whose one value isn't read
 pub unread_if : (headers : Entries FieldValue) (name : List ℕ) (value : FieldValue) (values : List FieldValue) (e : HeaderError) → name ≡ codes "if"
     → get_all headers name ≡ value ∷ [] → values ≡ value ∷ [] → ((lists : List Located) → ReadsAs values lists → e ≡ header.OutOfMemory)
-    → (of_header e ≡ fault.InsufficientStorage) ⊎ ((of_header e ≡ fault.BadRequest) × HasBadIf headers)
+    → (fault_of_header e ≡ fault.InsufficientStorage) ⊎ ((fault_of_header e ≡ fault.BadRequest) × HasBadIf headers)
 unread_if headers name value values header.OutOfMemory named only same read = inl refl
 unread_if headers name value values header.Invalid named only same read =
     let there : get_all headers (codes "if") ≡ value ∷ [] = subst (λ n. get_all headers n ≡ value ∷ []) named only in

@@ -8,7 +8,7 @@ use Rattle.dav_path_core.specs.PathText.{PathText}
 use Rattle.dav_faults_core.specs.declared.faults.Fault.{Fault}
 use Rattle.dav_faults_core.specs.declared.faults.Fault.TheVariants as fault
 use Rattle.dav_fields_core.specs.Targets.{IsPathOf}
-use Rattle.dav_fields_core.specs.TaggedLists.{Base, IsSameServer, Names, spoken}
+use Rattle.dav_fields_core.specs.TaggedLists.{Base, IsSameServer, NamesByUrl, spoken_path}
 
 -- what is answered of a text
 abbrev pub Found : List ℕ → List ℕ → Option PathText → Type 0
@@ -30,7 +30,7 @@ only_memory e (Err f) h = h
 
 -- what a URL of the server names
 pub named_by : (base : Base) (url : Parts) (prefix text : List ℕ) → IsSameServer url base.url → prefix ≡ base.prefix → text ≡ url.path → (found : Option PathText)
-    → Found prefix text found → Names base url (spoken found)
+    → Found prefix text found → NamesByUrl base url (spoken_path found)
 named_by base url prefix text same is_prefix is_text None h = λ p named.
     h named.path (subst (λ t. IsPathOf prefix t named.path) (sym is_text) (subst (λ q. IsPathOf q url.path named.path) (sym is_prefix) named.path_of))
 named_by base url prefix text same is_prefix is_text (Some path) h = record {

@@ -7,7 +7,7 @@ use Rattle.std.proofs.Math.Seq.{drop-cons, split_at}
 use Rattle.std.specs.Bool.{IsTrue}
 use Rattle.std.specs.Char.{to_ascii_lowercase}
 use Rattle.std.specs.Prelude.{◌↔◌, if◌then◌else◌, bytes_eq}
-use Rattle.dav_fields_core.specs.ContentTypes.{Entry, extension, type_in}
+use Rattle.dav_fields_core.specs.ContentTypes.{TypeEntry, extension, type_in}
 
 -- what stands in front doesn't matter
 extension_behind : (front back text : List ℕ) → extension back ≡ Some text → extension (front ++ back) ≡ Some text
@@ -39,7 +39,7 @@ passed : {A : Type 0} (r : Bool) (a b : A) → (r ≡ true → ⊥) → (if r th
 passed true a b h = absurd (h refl)
 passed false a b h = refl
 
-module _ {X : Type 0} (f : X → Entry) (table : List X) (place : ℕ) (d : X) (text known : List ℕ) (test : Bool) (inside : place < length table)
+module _ {X : Type 0} (f : X → TypeEntry) (table : List X) (place : ℕ) (d : X) (text known : List ℕ) (test : Bool) (inside : place < length table)
     (is_known : known ≡ (f (get_or table place d)).0)
     (tests : IsTrue test ↔ (map to_ascii_lowercase text ≡ map to_ascii_lowercase known)) where
   -- the entry at a place has the extension

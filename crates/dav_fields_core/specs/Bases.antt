@@ -8,13 +8,13 @@ use Rattle.dav_fields_core.specs.declared.bases.Scheme.{Scheme}
 use Rattle.dav_fields_core.specs.declared.bases.Scheme.TheVariants.{Http, Https}
 
 -- what stands in front of the host in a URL
-abbrev pub front_of : Scheme → List ℕ
-front_of Http = codes "http://"
-front_of Https = codes "https://"
+abbrev pub scheme_front : Scheme → List ℕ
+scheme_front Http = codes "http://"
+scheme_front Https = codes "https://"
 
 -- the text of a URL by its scheme, and its host and port
 abbrev pub base_text : Scheme → List ℕ → List ℕ
-base_text scheme host = front_of scheme ++ (host ++ codes "/")
+base_text scheme host = scheme_front scheme ++ (host ++ codes "/")
 
 -- where the URLs of a request begin: the scheme of the server, and the one `Host` of the request (RFC 9112 section 3.3)
 abbrev pub IsBase : Scheme → Entries FieldValue → Parts → Type 0

@@ -9,16 +9,16 @@ extension [] = None
 extension (b ∷ bs) = elim (extension bs) [ Some text ↦ Some text | None ↦ if nat_eq b 46 then Some bs else None ]
 
 -- an extension and a type
-abbrev pub Entry : Type 0
-Entry = List ℕ × List ℕ
+abbrev pub TypeEntry : Type 0
+TypeEntry = List ℕ × List ℕ
 
 -- the type of the first entry that has the extension, in either case of letters
-abbrev pub type_in : List Entry → List ℕ → Option (List ℕ)
+abbrev pub type_in : List TypeEntry → List ℕ → Option (List ℕ)
 type_in [] text = None
 type_in (entry ∷ table) text = if bytes_eq (map to_ascii_lowercase text) (map to_ascii_lowercase entry.0) then Some entry.1 else type_in table text
 
 -- the table of the code
-abbrev pub table : List Entry
+abbrev pub table : List TypeEntry
 table = map (λ e. (e.0.now, e.1.now)) TYPES
 
 -- the type of bytes of which nothing is known

@@ -38,5 +38,5 @@ sent_of response = record {
 }
 
 -- a token as `Lock-Token` has it (RFC 4918 section 10.5)
-abbrev pub bracketed : List ℕ → List ℕ
-bracketed token = codes "<" ++ (token ++ codes ">")
+abbrev pub in_brackets : List ℕ → List ℕ
+in_brackets token = codes "<" ++ (token ++ codes ">")

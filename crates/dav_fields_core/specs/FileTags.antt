@@ -1,6 +1,6 @@
 -- The entity tag of a file (RFC 9110 section 8.8.3): of its modified moment and its length, so that no byte of the file is read (own).
 use Rattle.std.specs.Prelude.{ℕ, false, List, ◌∷◌, ◌++◌, decimal, length, Option, None, Some}
-use Rattle.dav_headers_core.specs.Tags.{spelled}
+use Rattle.dav_headers_core.specs.Tags.{spelled_tag}
 use Rattle.dav_files_core.specs.declared.memfs.Kind.{Kind}
 use Rattle.dav_files_core.specs.declared.memfs.Kind.TheVariants.{Folder, File}
 use Rattle.dav_files_core.specs.Meta.{Meta, meta_at}
@@ -14,7 +14,7 @@ tag_text modified size = decimal modified ++ 45 ∷ decimal size
 
 -- the strong tag with this text between its quotes
 abbrev pub file_tag : ℕ → ℕ → List ℕ
-file_tag modified size = spelled false (tag_text modified size)
+file_tag modified size = spelled_tag false (tag_text modified size)
 
 -- of a resource that is a file
 abbrev pub tag_of : Resource → List ℕ

@@ -1,8 +1,8 @@
 pub mod Bases
 pub mod ContentTypes
 pub mod Dates
-pub mod Depths
-pub mod Destinations
+pub mod Reaches
+pub mod TransferDestinations
 pub mod Fields
 pub mod FileTags
 pub mod Getting
@@ -13,7 +13,7 @@ pub mod Marking
 pub mod Preconditions
 pub mod Private
 pub mod Ranges
-pub mod Refusals
+pub mod RequestRefusals
 pub mod Senders
 pub mod TagGrammar
 pub mod TaggedLists

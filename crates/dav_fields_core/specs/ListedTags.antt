@@ -4,7 +4,7 @@ use Rattle.std.specs.Char.{is_ascii_whitespace}
 use Rattle.std.specs.List.{list_all, list_any}
 use Rattle.std.specs.Option.{option_map_or}
 use Rattle.http_header.specs.FieldValue.{FieldValue}
-use Rattle.dav_headers_core.specs.Pieces.{is_comma, trimmed_by}
+use Rattle.dav_headers_core.specs.CommaPieces.{is_comma, trimmed_by}
 use Rattle.dav_headers_core.specs.Tags.{quote, is_tag, strong_eq}
 use Rattle.dav_headers_core.specs.Values.{one_value}
 use Rattle.dav_fields_core.specs.declared.listed_tags.Comparison.{Comparison}
@@ -30,25 +30,25 @@ in_first b [] = (b ∷ []) ∷ []
 in_first b (piece ∷ pieces) = (b ∷ piece) ∷ pieces
 
 -- what stands between the commas that are not inside of quotes; the text may begin inside of them
-abbrev pub parted : Bool → List ℕ → List (List ℕ)
-parted inside [] = [] ∷ []
-parted inside (b ∷ bytes) =
-    if is_comma b && not inside then [] ∷ parted inside bytes
-    else in_first b (parted (if b == quote then not inside else inside) bytes)
+abbrev pub parted_elements : Bool → List ℕ → List (List ℕ)
+parted_elements inside [] = [] ∷ []
+parted_elements inside (b ∷ bytes) =
+    if is_comma b && not inside then [] ∷ parted_elements inside bytes
+    else in_first b (parted_elements (if b == quote then not inside else inside) bytes)
 
 -- the elements of a value; an empty one counts, too (section 5.6.1)
 abbrev pub elements : List ℕ → List (List ℕ)
-elements value = map trim (parted false value)
+elements value = map trim (parted_elements false value)
 
 -- ---- what values list
 
 -- an element that is missing, or a tag
-abbrev pub is_element : List ℕ → Bool
-is_element element = length element == 0 || is_entity_tag element
+abbrev pub is_listed_element : List ℕ → Bool
+is_listed_element element = length element == 0 || is_entity_tag element
 
 -- each value is a list of tags
 abbrev pub are_tag_lists : List FieldValue → Bool
-are_tag_lists values = list_all (λ v. list_all is_element (elements v.bytes)) values
+are_tag_lists values = list_all (λ v. list_all is_listed_element (elements v.bytes)) values
 
 -- a tag that passes the test is among them
 abbrev pub list_some : (List ℕ → Bool) → List FieldValue → Bool

@@ -28,15 +28,15 @@ part_of size first last =
     if nat_le size first then extent.Unsatisfiable else extent.Part first (if nat_lt last size then last + 1 else size)
 
 -- the last bytes of so many; the last bytes of none are all of them
-abbrev pub last_of : ℕ → ℕ → Extent
-last_of size count = if count == 0 then extent.Unsatisfiable else if size == 0 then extent.Whole else extent.Part (size - count) size
+abbrev pub last_bytes : ℕ → ℕ → Extent
+last_bytes size count = if count == 0 then extent.Unsatisfiable else if size == 0 then extent.Whole else extent.Part (size - count) size
 
 -- Which bytes of so many a range asks for. One whose ends are turned round is no range (section 14.1.2).
 abbrev pub extent_by : ℕ → XUpdateRange → Extent
 extent_by size Append = extent.Whole
 extent_by size (FromTo first last) = if nat_lt last first then extent.Whole else part_of size first last
 extent_by size (AllFrom first) = part_of size first size
-extent_by size (Last count) = last_of size count
+extent_by size (Last count) = last_bytes size count
 
 -- Which bytes of so many the values of `Range` ask for. What is not one range of bytes asks for all of them (section 14.2).
 abbrev pub extent_of : ℕ → List FieldValue → Extent

@@ -15,8 +15,8 @@ spread_from tag [] = []
 spread_from tag (l ∷ lists) =
     let own = option_or l.tag tag in record l { tag = own } ∷ spread_from own lists
 
-abbrev pub spread : List Located → List Located
-spread lists = spread_from None lists
+abbrev pub spread_tags : List Located → List Located
+spread_tags lists = spread_from None lists
 
 -- where a server's URLs begin: a URL with its scheme, host and port, and the prefix of its paths
 pub record Base : Type 0 where
@@ -41,15 +41,15 @@ pub record IsNamed (base : Base) (url : Parts) (p : Path) : Type 0 where
   pub at : p ≡ segments path.bytes
 
 -- the path that the URL names on the server; nothing where it names none
-abbrev pub Names : Base → Parts → Option Path → Type 0
-Names base url (Some p) = IsNamed base url p
-Names base url None = (p : Path) → ¬ IsNamed base url p
+abbrev pub NamesByUrl : Base → Parts → Option Path → Type 0
+NamesByUrl base url (Some p) = IsNamed base url p
+NamesByUrl base url None = (p : Path) → ¬ IsNamed base url p
 
 -- the path that a list with this tag speaks of: the request's own without a tag
 abbrev pub SpeaksOf : Base → Path → Option Parts → Option Path → Type 0
 SpeaksOf base here None at = at ≡ Some here
-SpeaksOf base here (Some url) at = Names base url at
+SpeaksOf base here (Some url) at = NamesByUrl base url at
 
 -- what a contract sees of a path that a list speaks of
-abbrev pub spoken : Option PathText → Option Path
-spoken at = option_map (λ (path : PathText). segments path.bytes) at
+abbrev pub spoken_path : Option PathText → Option Path
+spoken_path at = option_map (λ (path : PathText). segments path.bytes) at

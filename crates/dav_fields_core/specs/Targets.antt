@@ -6,7 +6,7 @@ use Rattle.dav_path_core.specs.declared.davpath.ParseError.{ParseError}
 use Rattle.dav_path_core.specs.declared.davpath.ParseError.TheVariants as parse
 use Rattle.dav_path_core.specs.Fault as path
 use Rattle.dav_path_core.specs.PathText.{PathText, full}
-use Rattle.dav_path_core.specs.Reading.{Read}
+use Rattle.dav_path_core.specs.PathReading.{Read}
 use Rattle.dav_path_core.specs.Prefix.{SetsPrefix}
 
 -- the text is read as the path, behind the prefix

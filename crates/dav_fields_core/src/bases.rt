@@ -2,7 +2,7 @@
 ghost use Rattle.std.specs.Prelude.{◌≡◌, ◌⊎◌, IfErr, IfOk, MatchResult, None, Some};
 ghost use Rattle.url.specs.Parts.{Parts};
 ghost use Rattle.dav_headers_core.specs.Urls.{url_of};
-ghost use Rattle.dav_fields_core.specs.Bases.{IsBase, front_of};
+ghost use Rattle.dav_fields_core.specs.Bases.{IsBase, scheme_front};
 ghost use Rattle.dav_faults_core.specs.declared.faults.Fault.TheVariants as fault;
 
 use crate::senders::value_of;
@@ -22,7 +22,7 @@ pub enum Scheme {
 
 // What stands in front of the host in a URL.
 fn front_of(scheme: Scheme) -> &'static str
-    ensures { result.now ≡ front_of scheme }
+    ensures { result.now ≡ scheme_front scheme }
 {
     match scheme {
         Scheme::Http => "http://",

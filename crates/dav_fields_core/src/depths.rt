@@ -1,6 +1,6 @@
 //! How far down a request reaches.
 ghost use Rattle.std.specs.Prelude.{◌≡◌, None, Some, IfErr, IfOk, OnOk};
-ghost use Rattle.dav_fields_core.specs.Depths.{ReachesAll, copy_depth, depth_in};
+ghost use Rattle.dav_fields_core.specs.Reaches.{ReachesAll, reach_in, depth_in};
 ghost use Rattle.dav_faults_core.specs.declared.faults.Fault.TheVariants as fault;
 
 use crate::senders::value_of;
@@ -32,10 +32,11 @@ pub fn check_whole(headers: &HeaderMap<HeaderValue>) -> Result<(), Fault>
     }
 }
 
-/// Whether a COPY reaches all the way down, or to the one resource alone (RFC 4918 section 9.8.3). `BadRequest` for another depth, or where it can't be read.
-pub fn copy_depth(headers: &HeaderMap<HeaderValue>) -> Result<bool, Fault>
-    ensures ok { IfOk result (λ deep. copy_depth headers.now ≡ Some deep) }
-    ensures err { IfErr result (λ e. (e ≡ fault.BadRequest) × (copy_depth headers.now ≡ None)) }
+/// Whether a COPY or a LOCK reaches all the way down, or the one resource alone (RFC 4918 sections 9.8.3 and 9.10.3).
+/// `BadRequest` for another depth, or where it can't be read.
+pub fn reach_in(headers: &HeaderMap<HeaderValue>) -> Result<bool, Fault>
+    ensures ok { IfOk result (λ deep. reach_in headers.now ≡ Some deep) }
+    ensures err { IfErr result (λ e. (e ≡ fault.BadRequest) × (reach_in headers.now ≡ None)) }
 {
     match depth_in(headers)? {
         Depth::Infinity => Ok(true),

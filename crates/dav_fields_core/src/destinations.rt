@@ -2,7 +2,7 @@
 ghost use Rattle.std.specs.Prelude.{◌≡◌, ℕ, List, None, Some, IfErr, IfOk};
 ghost use Rattle.dav_path_core.specs.declared.davpath.ParseError.{ParseError};
 ghost use Rattle.dav_headers_core.specs.Destinations.{is_rooted};
-ghost use Rattle.dav_fields_core.specs.Destinations.{IsDestination, LeadsNowhere, NamesText, fault_of, overwrites};
+ghost use Rattle.dav_fields_core.specs.TransferDestinations.{IsDestination, LeadsNowhere, NamesText, fault_of, overwrites};
 ghost use Rattle.dav_fields_core.specs.Targets.{IsPathOf, RefusesPath};
 ghost use Rattle.dav_faults_core.specs.declared.faults.Fault.TheVariants as fault;
 

@@ -2,7 +2,7 @@
 ghost use Rattle.std.specs.Prelude.{◌≡◌, ◌++◌, ◌∷◌, [], ◌⊎◌, codes, IfErr, OnOk};
 ghost use Rattle.http_header.specs.FieldValue.{IsFieldValue};
 ghost use Rattle.http_server.specs.Response.{fields_of};
-ghost use Rattle.dav_fields_core.specs.Fields.{marks_of, bracketed};
+ghost use Rattle.dav_fields_core.specs.Fields.{marks_of, in_brackets};
 ghost use Rattle.dav_fields_core.specs.Getting.{tags_by};
 ghost use Rattle.dav_fields_core.specs.Marking.{HasShownTag, and_part, and_tags};
 ghost use Rattle.dav_fields_core.specs.Ranges.{part_text, unsatisfied_text};
@@ -107,8 +107,8 @@ pub fn add_tag(alloc: Global, response: &mut Response, standing: &Standing) -> R
 
 /// Says the token of a lock that is granted (RFC 4918 section 10.5).
 pub fn add_lock_token(alloc: Global, response: &mut Response, token: &str) -> Result<(), Fault>
-    requires { IsFieldValue (bracketed token.now) }
-    ensures fields { OnOk result (fields_of response.new ≡ fields_of response.old ++ (codes "lock-token", bracketed token.now) ∷ []) }
+    requires { IsFieldValue (in_brackets token.now) }
+    ensures fields { OnOk result (fields_of response.new ≡ fields_of response.old ++ (codes "lock-token", in_brackets token.now) ∷ []) }
     ensures body { response.new.body ≡ response.old.body }
     ensures err { IfErr result (λ e. e ≡ fault.InsufficientStorage) }
 {

@@ -6,7 +6,7 @@ ghost use Rattle.std.specs.List.{list_all};
 ghost use Rattle.dav_headers_core.specs.Tags as tags;
 ghost use Rattle.dav_headers_core.specs.Values.{one_value};
 ghost use Rattle.dav_fields_core.specs.ListedTags as spec;
-ghost use Rattle.dav_fields_core.specs.Private.Elements.{elements_left};
+ghost use Rattle.dav_fields_core.specs.Private.ListElements.{elements_left};
 
 use http_header::{GetAll, HeaderValue};
 
@@ -112,8 +112,8 @@ pub fn trim(bytes: &[u8]) -> &[u8]
 
 // The first comma that is not inside of quotes.
 fn comma_in(bytes: &[u8]) -> Option<usize>
-    ensures { MatchOption result (spec.parted false bytes.now ≡ bytes.now ∷ []) (λ i. (i < length bytes.now)
-        × (spec.parted false bytes.now ≡ take i bytes.now ∷ spec.parted false (drop (i + 1) bytes.now))) }
+    ensures { MatchOption result (spec.parted_elements false bytes.now ≡ bytes.now ∷ []) (λ i. (i < length bytes.now)
+        × (spec.parted_elements false bytes.now ≡ take i bytes.now ∷ spec.parted_elements false (drop (i + 1) bytes.now))) }
 {
     let mut inside = false;
     for (i, b) in bytes.iter().enumerate() {
@@ -164,13 +164,13 @@ pub fn elements_of(value: &[u8]) -> Elements<'_>
 
 // Whether it is missing or a tag.
 fn is_element(element: &[u8]) -> bool
-    ensures { result ≡ spec.is_element element.now }
+    ensures { result ≡ spec.is_listed_element element.now }
 {
     element.is_empty() || is_entity_tag(element)
 }
 
 fn is_tag_list(value: &[u8]) -> bool
-    ensures { result ≡ list_all spec.is_element (spec.elements value.now) }
+    ensures { result ≡ list_all spec.is_listed_element (spec.elements value.now) }
 {
     elements_of(value).all(|element| is_element(element))
 }

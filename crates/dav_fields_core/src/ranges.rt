@@ -60,7 +60,7 @@ fn part_of(size: u64, first: u64, last: u64) -> Extent
 }
 
 fn last_of(size: u64, count: u64) -> Extent
-    ensures { result ≡ spec.last_of size count }
+    ensures { result ≡ spec.last_bytes size count }
 {
     if count == 0 {
         return Extent::Unsatisfiable;

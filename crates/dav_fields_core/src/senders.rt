@@ -1,8 +1,8 @@
 //! Who sends a request, by its headers.
 ghost use Rattle.std.specs.Prelude.{◌≡◌, ◌<◌, ◌⊎◌, [], length, map, option_map, string_bytes, IfErr, IfOk, MatchOption, codes, option_copied, option_to_list};
 ghost use Rattle.http_header.specs.HeaderMap.{get_all};
-ghost use Rattle.dav_headers_core.specs.IfValues.{ReadsAs, located};
-ghost use Rattle.dav_fields_core.specs.Refusals.{RefusesPrincipal, HasBadIf};
+ghost use Rattle.dav_headers_core.specs.IfValues.{ReadsAs, located_list};
+ghost use Rattle.dav_fields_core.specs.RequestRefusals.{RefusesPrincipal, HasBadIf};
 ghost use Rattle.dav_fields_core.specs.Senders.{NamesPrincipal, Submits};
 ghost use Rattle.dav_faults_core.specs.declared.faults.Fault.TheVariants as fault;
 
@@ -53,7 +53,7 @@ pub fn tokens_of(alloc: Global, headers: &HeaderMap<HeaderValue>) -> Result<Vec<
 /// The `If` of a request, where it has one (RFC 4918 section 10.4). `BadRequest` where it can't be read, as where it has several values.
 pub fn if_of(alloc: Global, headers: &HeaderMap<HeaderValue>) -> Result<Option<If>, Fault>
     ensures ok { IfOk result (λ found. MatchOption found (get_all headers.now (codes "if") ≡ [])
-        (λ header. ReadsAs (get_all headers.now (codes "if")) (map located header.0.items))) }
+        (λ header. ReadsAs (get_all headers.now (codes "if")) (map located_list header.0.items))) }
     ensures err { IfErr result (λ e. (e ≡ fault.InsufficientStorage) ⊎ ((e ≡ fault.BadRequest) × HasBadIf headers.now)) }
 {
     let Some(value) = value_of(headers, &HeaderName::from_static("if"))? else {

@@ -1,6 +1,6 @@
 //! The state tokens of an `If`.
 ghost use Rattle.std.specs.Prelude.{◌≡◌, IfOk, OnOk, fold, map, string_bytes};
-ghost use Rattle.dav_headers_core.specs.IfValues.{condition_of, conditions_of, located};
+ghost use Rattle.dav_headers_core.specs.IfValues.{condition_of, conditions_of, located_list};
 ghost use Rattle.dav_fields_core.specs.IfTokens as spec;
 
 use dav_headers_core::davheaders::{If, IfCondition, IfItem, IfList};
@@ -39,7 +39,7 @@ fn add_tokens(tokens: &mut Vec<String>, conditions: &[IfCondition]) -> Result<()
 
 // The state tokens of some lists, each once.
 fn tokens_of(alloc: Global, lists: &[IfList]) -> Result<Vec<String>, AllocError>
-    ensures { IfOk result (λ tokens. map string_bytes tokens.items ≡ spec.tokens_of (map located lists.now)) }
+    ensures { IfOk result (λ tokens. map string_bytes tokens.items ≡ spec.tokens_of (map located_list lists.now)) }
 {
     let mut tokens = Vec::new(alloc);
     for list in lists {
@@ -50,7 +50,7 @@ fn tokens_of(alloc: Global, lists: &[IfList]) -> Result<Vec<String>, AllocError>
 
 /// All state tokens of an `If`, those behind `Not` too, in order, each once (RFC 4918 section 10.4).
 pub fn tokens(alloc: Global, header: &If) -> Result<Vec<String>, AllocError>
-    ensures { IfOk result (λ tokens. map string_bytes tokens.items ≡ spec.tokens_of (map located header.now.0.items)) }
+    ensures { IfOk result (λ tokens. map string_bytes tokens.items ≡ spec.tokens_of (map located_list header.now.0.items)) }
 {
     let If(lists) = header;
     tokens_of(alloc, lists)

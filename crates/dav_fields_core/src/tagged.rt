@@ -6,7 +6,7 @@ ghost use Rattle.dav_path_core.specs.declared.davpath.ParseError.TheVariants as 
 ghost use Rattle.dav_path_core.specs.Fronts.{Path};
 ghost use Rattle.dav_path_core.specs.PathText.{PathText};
 ghost use Rattle.dav_fields_core.specs.Targets.{IsPathOf};
-ghost use Rattle.dav_fields_core.specs.TaggedLists.{IsSameServer, Names, SpeaksOf, base_of, spoken};
+ghost use Rattle.dav_fields_core.specs.TaggedLists.{IsSameServer, NamesByUrl, SpeaksOf, base_of, spoken_path};
 ghost use Rattle.dav_faults_core.specs.declared.faults.Fault.TheVariants as fault;
 
 use crate::targets::path_behind;
@@ -50,7 +50,7 @@ fn path_of(alloc: Global, text: &str, prefix: &str) -> Result<Option<DavPath>, F
 
 // The path that a URL names on the server, where it names one.
 fn named(alloc: Global, url: &Url, base: &Url, here: &DavPath) -> Result<Option<DavPath>, Fault>
-    ensures ok { IfOk result (λ at. Names (base_of base.now here.now) url.now (spoken at)) }
+    ensures ok { IfOk result (λ at. NamesByUrl (base_of base.now here.now) url.now (spoken_path at)) }
     ensures err { IfErr result (λ e. e ≡ fault.InsufficientStorage) }
 {
     if !is_same_server(url, base) {
@@ -67,8 +67,8 @@ pub fn spoken_of(
     base: &Url,
     here: &DavPath,
 ) -> Result<Option<DavPath>, Fault>
-    ensures ok { IfOk result (λ at. (p : Path) (last : Option Parts) → SpeaksOf (base_of base.now here.now) p last (spoken before)
-        → SpeaksOf (base_of base.now here.now) p (option_or tag.now last) (spoken at)) }
+    ensures ok { IfOk result (λ at. (p : Path) (last : Option Parts) → SpeaksOf (base_of base.now here.now) p last (spoken_path before)
+        → SpeaksOf (base_of base.now here.now) p (option_or tag.now last) (spoken_path at)) }
     ensures err { IfErr result (λ e. e ≡ fault.InsufficientStorage) }
 {
     match tag {

@@ -2,7 +2,7 @@
 ghost use Rattle.std.specs.Prelude.{◌≡◌, ◌⊎◌, IfErr, IfOk};
 ghost use Rattle.dav_path_core.specs.declared.davpath.ParseError.TheVariants as parse;
 ghost use Rattle.dav_path_core.specs.PathText.{PathText};
-ghost use Rattle.dav_fields_core.specs.Refusals.{RefusesTarget};
+ghost use Rattle.dav_fields_core.specs.RequestRefusals.{RefusesTarget};
 ghost use Rattle.dav_fields_core.specs.Targets.{IsPathOf, IsTargetOf, RefusesPath};
 ghost use Rattle.dav_faults_core.specs.declared.faults.Fault.TheVariants as fault;
 

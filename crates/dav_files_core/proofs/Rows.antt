@@ -15,9 +15,9 @@ use Rattle.dav_files_core.specs.Resources.{Property, Properties, Resource, Resou
 use Rattle.dav_files_core.specs.Finding.{find, members, place}
 use Rattle.dav_files_core.specs.Outcomes.{Outcome, ◌>>=◌, start, new_file, new_folder}
 use Rattle.dav_files_core.specs.Describing.{metadata}
-use Rattle.dav_files_core.specs.Parts.{read_at}
-use Rattle.dav_files_core.specs.Putting.{put}
-use Rattle.dav_files_core.specs.Copying.{copy}
+use Rattle.dav_files_core.specs.ContentParts.{read_at}
+use Rattle.dav_files_core.specs.ResourcePutting.{put}
+use Rattle.dav_files_core.specs.ResourceCopying.{copy}
 use Rattle.dav_files_core.specs.Folders.{create_dir, remove as remove_at}
 use Rattle.dav_files_core.specs.Listing.{read_dir}
 use Rattle.dav_files_core.specs.OpenFiles.{read_bytes, seek, write_bytes}

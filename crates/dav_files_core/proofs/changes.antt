@@ -2,6 +2,7 @@ pub mod AddedLemmas
 pub mod ChangedLemmas
 pub mod LeavingLemmas
 pub mod LeftLemmas
+pub mod MadeFolders
 pub mod MakingLemmas
 pub mod PuttingLemmas
 pub mod RemovingLemmas

@@ -1,2 +1,4 @@
 pub mod FrontLemmas
 pub mod LengthLemmas
+pub mod RemovedMaps
+pub mod SubtreeMaps

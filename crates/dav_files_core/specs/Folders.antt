@@ -4,7 +4,7 @@ use Rattle.dav_path_core.specs.declared.errors.FsError.TheVariants.{Exists, Forb
 use Rattle.dav_path_core.specs.Fronts.{Path, parent}
 use Rattle.dav_files_core.specs.Resources.{ResourceMap, at_path}
 use Rattle.dav_files_core.specs.Finding.{find, has_members}
-use Rattle.dav_files_core.specs.Outcomes.{Outcome, ◌>>=◌, find_folder, added, touched, without, new_folder}
+use Rattle.dav_files_core.specs.Outcomes.{Outcome, ◌>>=◌, find_folder, with_new_entry, with_modified_time, without, new_folder}
 
 abbrev pub is_root : Path → Bool
 is_root [] = true
@@ -14,10 +14,10 @@ is_root (s ∷ p) = false
 abbrev pub create_dir : ResourceMap → Path → ℕ → Outcome (Unit {0})
 create_dir m p now =
     find_folder m (parent p) >>= λ _.
-    if is_some (at_path m p) then Err Exists else Ok (tt, touched (added m p (new_folder now)) (parent p) now)
+    if is_some (at_path m p) then Err Exists else Ok (tt, with_modified_time (with_new_entry m p (new_folder now)) (parent p) now)
 
 -- an entry without members goes, and its folder's modified time is set; the root stays
 abbrev pub remove : ResourceMap → Path → ℕ → Outcome (Unit {0})
 remove m p now =
     find m p >>= λ _.
-    if is_root p || has_members m p then Err Forbidden else Ok (tt, touched (without m p) (parent p) now)
+    if is_root p || has_members m p then Err Forbidden else Ok (tt, with_modified_time (without m p) (parent p) now)

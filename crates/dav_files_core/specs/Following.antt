@@ -13,12 +13,12 @@ abbrev pub TakesPlace : ResourceMap → Path → Path → ResourceMap → Type 0
 TakesPlace m from to m' = (n : ℕ) (s : Path) (r : Resource) → with_number m n ≡ Some (to ++ s, r) → behind from (to ++ s) ≡ None → with_number m' n ≡ None
 
 -- an entry with another modified time
-abbrev pub dated : ℕ → Resource → Resource
-dated now r = record { number = r.number; node = record r.node { modified = now } }
+abbrev pub dated_entry : ℕ → Resource → Resource
+dated_entry now r = record { number = r.number; node = record r.node { modified = now } }
 
 -- an entry elsewhere, as a rename leaves it
 abbrev pub dated_folder : Path → Path → ℕ → Path → Resource → Resource
-dated_folder from to now p r = if is_same_path p (parent from) || is_same_path p (parent to) then dated now r else r
+dated_folder from to now p r = if is_same_path p (parent from) || is_same_path p (parent to) then dated_entry now r else r
 
 -- what is neither at or below the source nor at or below the target stays
 abbrev pub OthersStay : ResourceMap → Path → Path → ℕ → ResourceMap → Type 0

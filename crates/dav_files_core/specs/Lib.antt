@@ -1,6 +1,6 @@
 pub mod Below
-pub mod Codes
-pub mod Copying
+pub mod ResourceCodes
+pub mod ResourceCopying
 pub mod Describing
 pub mod Exactly
 pub mod Finding
@@ -13,11 +13,11 @@ pub mod Moved
 pub mod OpenFiles
 pub mod Opening
 pub mod Outcomes
-pub mod Parts
+pub mod ContentParts
 pub mod Private
 pub mod Properties
 pub mod PropertyXml
-pub mod Putting
+pub mod ResourcePutting
 pub mod Refusing
 pub mod Renaming
 pub mod Resources

@@ -10,13 +10,13 @@ use Rattle.dav_files_core.specs.Meta.{Meta, meta_at, meta_of}
 use Rattle.dav_files_core.specs.Outcomes.{◌>>=◌, find_folder}
 
 -- a member as it is listed: its name, and what is known of it
-abbrev pub listed : Segment × Resource → Segment × Meta
-listed e = (e.0, meta_at e.1.node)
+abbrev pub listed_member : Segment × Resource → Segment × Meta
+listed_member e = (e.0, meta_at e.1.node)
 
 -- each member once, by the bytes of its name
 abbrev pub read_dir : ResourceMap → Path → Result (List (Segment × Meta)) FsError
-read_dir m p = find_folder m p >>= λ _. Ok (map listed (entries (members m p)))
+read_dir m p = find_folder m p >>= λ _. Ok (map listed_member (entries (members m p)))
 
 -- what an answer lists of a member
-abbrev pub entry_of : MemFsEntry → Segment × Meta
-entry_of e = (e.name, meta_of e.meta)
+abbrev pub listed_entry : MemFsEntry → Segment × Meta
+listed_entry e = (e.name, meta_of e.meta)

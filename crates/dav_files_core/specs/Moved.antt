@@ -16,5 +16,5 @@ abbrev pub moved_entry : Path → Path → Path × Resource → Option (Path × 
 moved_entry from to e = option_map (λ p. (p, e.1)) (path_after from to e.0)
 
 -- the map in which all at or below the source is at or below the target, with its numbers
-abbrev pub moved : ResourceMap → Path → Path → ResourceMap
-moved m from to = record { entries = from_entries (filter_map (moved_entry from to) (entries m.entries)); next = m.next }
+abbrev pub moved_map : ResourceMap → Path → Path → ResourceMap
+moved_map m from to = record { entries = from_entries (filter_map (moved_entry from to) (entries m.entries)); next = m.next }

@@ -9,7 +9,7 @@ use Rattle.dav_path_core.specs.Fronts.{Path}
 use Rattle.dav_files_core.specs.Resources.{Resource, ResourceMap}
 use Rattle.dav_files_core.specs.Meta.{Meta, meta_at}
 use Rattle.dav_files_core.specs.Opening.{OpenFile}
-use Rattle.dav_files_core.specs.Outcomes.{◌>>=◌, only_file, changed}
+use Rattle.dav_files_core.specs.Outcomes.{◌>>=◌, only_file, with_other_node}
 
 -- ---- the entry that is open
 
@@ -45,8 +45,8 @@ read_bytes m f count =
 -- ---- writing
 
 -- bytes put over others from a place on; a gap before it is filled with zeros
-abbrev pub overwritten : List ℕ → ℕ → List ℕ → List ℕ
-overwritten bytes at new = take at bytes ++ replicate (at - length bytes) 0 ++ new ++ drop (at + length new) bytes
+abbrev pub overwritten_at : List ℕ → ℕ → List ℕ → List ℕ
+overwritten_at bytes at new = take at bytes ++ replicate (at - length bytes) 0 ++ new ++ drop (at + length new) bytes
 
 -- where a write begins: at the end where the file appends, else at the position
 abbrev pub start_of_write : OpenFile → List ℕ → ℕ
@@ -58,7 +58,7 @@ write_bytes m f new =
     open_file m f >>= λ e.
     let start = start_of_write f e.1.node.bytes in
     if nat_lt (start + length new) (2 ^ 64)
-    then Ok (tt, (record f { position = start + length new }, changed m e.0 e.1 (record e.1.node { bytes = overwritten e.1.node.bytes start new })))
+    then Ok (tt, (record f { position = start + length new }, with_other_node m e.0 e.1 (record e.1.node { bytes = overwritten_at e.1.node.bytes start new })))
     else Err TooLarge
 
 -- ---- seeking

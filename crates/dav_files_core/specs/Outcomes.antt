@@ -33,12 +33,12 @@ abbrev pub added_as : ResourceMap → Path → Node → ℕ → ℕ → Resource
 added_as m p node number next = record { entries = insert m.entries p (record { number = number; node = node }); next = next }
 
 -- the same of an entry that takes the next number
-abbrev pub added : ResourceMap → Path → Node → ResourceMap
-added m p node = added_as m p node m.next (m.next + 1)
+abbrev pub with_new_entry : ResourceMap → Path → Node → ResourceMap
+with_new_entry m p node = added_as m p node m.next (m.next + 1)
 
 -- the map with another node at a path whose entry is given; the number stays
-abbrev pub changed : ResourceMap → Path → Resource → Node → ResourceMap
-changed m p r node = record { entries = insert m.entries p (record { number = r.number; node = node }); next = m.next }
+abbrev pub with_other_node : ResourceMap → Path → Resource → Node → ResourceMap
+with_other_node m p r node = record { entries = insert m.entries p (record { number = r.number; node = node }); next = m.next }
 
 -- the map without the entry at a path
 abbrev pub without : ResourceMap → Path → ResourceMap
@@ -46,11 +46,11 @@ without m p = record { entries = remove m.entries p; next = m.next }
 
 abbrev pub touched_at : ResourceMap → Path → ℕ → Option Resource → ResourceMap
 touched_at m p now None = m
-touched_at m p now (Some r) = changed m p r (record r.node { modified = now })
+touched_at m p now (Some r) = with_other_node m p r (record r.node { modified = now })
 
 -- the map with the modified time of the entry at a path set
-abbrev pub touched : ResourceMap → Path → ℕ → ResourceMap
-touched m p now = touched_at m p now (at_path m p)
+abbrev pub with_modified_time : ResourceMap → Path → ℕ → ResourceMap
+with_modified_time m p now = touched_at m p now (at_path m p)
 
 abbrev pub new_file : List ℕ → ℕ → Node
 new_file bytes now = record { kind = File; bytes = bytes; props = empty; created = now; modified = now }

@@ -3,8 +3,8 @@ pub mod Contents
 pub mod Entries
 pub mod Listed
 pub mod Numbered
-pub mod Patching
+pub mod PropertyChanges
 pub mod PropertyMaps
-pub mod Represents
+pub mod FileRepresents
 pub mod Stored
 pub mod TreeCalls

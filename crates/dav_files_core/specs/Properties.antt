@@ -9,7 +9,7 @@ use Rattle.dav_path_core.specs.Fronts.{Path}
 use Rattle.dav_files_core.specs.declared.fs.properties.DavProp.{DavProp}
 use Rattle.dav_files_core.specs.Resources.{Property, Properties, ResourceMap}
 use Rattle.dav_files_core.specs.Finding.{find}
-use Rattle.dav_files_core.specs.Outcomes.{Outcome, ◌>>=◌, changed}
+use Rattle.dav_files_core.specs.Outcomes.{Outcome, ◌>>=◌, with_other_node}
 
 -- a property of a call, as plain data
 abbrev pub property_of : DavProp → Property
@@ -34,8 +34,8 @@ abbrev pub patched_by : Properties → Bool × Property → Properties
 patched_by props e = if e.0 then insert props (key_of e.1) e.1 else remove props (key_of e.1)
 
 -- one after another
-abbrev pub patched : Properties → List (Bool × Property) → Properties
-patched props patch = fold patched_by props patch
+abbrev pub patched_properties : Properties → List (Bool × Property) → Properties
+patched_properties props patch = fold patched_by props patch
 
 -- each entry is answered by the status 200 and the property without xml
 abbrev pub patch_answers : List (Bool × Property) → List (ℕ × Property)
@@ -43,17 +43,17 @@ patch_answers patch = map (λ e. (200, without_xml e.1)) patch
 
 -- the times stay
 abbrev pub patch_props : ResourceMap → Path → List (Bool × Property) → Outcome (List (ℕ × Property))
-patch_props m p patch = find m p >>= λ r. Ok (patch_answers patch, changed m p r (record r.node { props = patched r.node.props patch }))
+patch_props m p patch = find m p >>= λ r. Ok (patch_answers patch, with_other_node m p r (record r.node { props = patched_properties r.node.props patch }))
 
 -- ---- listing and looking up
 
 -- with its xml, or without
-abbrev pub shown : Bool → Property → Property
-shown content p = if content then p else without_xml p
+abbrev pub shown_property : Bool → Property → Property
+shown_property content p = if content then p else without_xml p
 
 -- each property once, by the bytes of its namespace, then of its name
 abbrev pub get_props : ResourceMap → Path → Bool → Result (List Property) FsError
-get_props m p content = find m p >>= λ r. Ok (map (shown content) (values r.node.props))
+get_props m p content = find m p >>= λ r. Ok (map (shown_property content) (values r.node.props))
 
 -- the xml of the property with the key of the wanted one, which may be missing
 abbrev pub xml_of : Properties → Property → Option (List ℕ)
@@ -64,8 +64,8 @@ get_prop m p wanted = find m p >>= λ r. ok_or (xml_of r.node.props wanted) NotF
 
 -- ---- what calls are given and answer, as plain data
 
-abbrev pub entry_of : Bool × DavProp → Bool × Property
-entry_of e = (e.0, property_of e.1)
+abbrev pub patch_update : Bool × DavProp → Bool × Property
+patch_update e = (e.0, property_of e.1)
 
-abbrev pub answer_of : ℕ × DavProp → ℕ × Property
-answer_of a = (a.0, property_of a.1)
+abbrev pub patch_answer : ℕ × DavProp → ℕ × Property
+patch_answer a = (a.0, property_of a.1)

@@ -13,7 +13,7 @@ use Rattle.dav_files_core.specs.Finding.{has_any}
 use Rattle.dav_files_core.specs.Folders.{is_root}
 use Rattle.dav_files_core.specs.OpenFiles.{with_number}
 use Rattle.dav_files_core.specs.Properties.{patched_by, property_of}
-use Rattle.dav_files_core.specs.Outcomes.{Outcome, ◌>>=◌, find_folder, added_as, changed, start}
+use Rattle.dav_files_core.specs.Outcomes.{Outcome, ◌>>=◌, find_folder, added_as, with_other_node, start}
 
 -- a property at its key, in place of one that is there
 abbrev pub with_property : Properties → Property → Properties
@@ -39,21 +39,21 @@ abbrev pub is_root_folder : Path → Resource → Bool
 is_root_folder p r = is_root p && ((r.number == 1) && is_folder r.node.kind)
 
 -- the map with that entry at a path that had none; the next number is above its own
-abbrev pub restored : ResourceMap → Path → Resource → ResourceMap
-restored m p r = added_as m p r.node r.number (max m.next (r.number + 1))
+abbrev pub with_restored_entry : ResourceMap → Path → Resource → ResourceMap
+with_restored_entry m p r = added_as m p r.node r.number (max m.next (r.number + 1))
 
 -- by what stands at the path: the root alone, which is always there, is restored where it stands
 abbrev pub restore_at : ResourceMap → Path → Resource → Option Resource → Outcome (Unit {0})
-restore_at m p r (Some x) = if is_root_folder p r then Ok (tt, changed m p x r.node) else Err Exists
-restore_at m p r None = find_folder m (parent p) >>= λ _. if is_some (with_number m r.number) then Err Exists else Ok (tt, restored m p r)
+restore_at m p r (Some x) = if is_root_folder p r then Ok (tt, with_other_node m p x r.node) else Err Exists
+restore_at m p r None = find_folder m (parent p) >>= λ _. if is_some (with_number m r.number) then Err Exists else Ok (tt, with_restored_entry m p r)
 
 -- an entry that can stand is put at its path, under its number
 abbrev pub restore : ResourceMap → Path → Resource → Outcome (Unit {0})
 restore m p r = if can_stand r then restore_at m p r (at_path m p) else Err Forbidden
 
 -- no number below that is given any more
-abbrev pub raised : ResourceMap → ℕ → ResourceMap
-raised m next = record { entries = m.entries; next = max m.next next }
+abbrev pub with_later_next : ResourceMap → ℕ → ResourceMap
+with_later_next m next = record { entries = m.entries; next = max m.next next }
 
 -- one entry after another; the first refusal ends it
 abbrev pub restore_all : ResourceMap → List (Path × Resource) → Outcome (Unit {0})
@@ -62,4 +62,4 @@ restore_all m (e ∷ es) = restore m e.0 e.1 >>= λ r. restore_all r.1 es
 
 -- the entries of a map, restored in the order of a walk to a store that is new, with the next number make that map
 abbrev pub IsRestoredFrom : ResourceMap → List (Path × Resource) → ℕ → Type 0
-IsRestoredFrom m es now = (n : ResourceMap) × (restore_all (start now) es ≡ Ok (tt, n)) × (raised n m.next ≡ m)
+IsRestoredFrom m es now = (n : ResourceMap) × (restore_all (start now) es ≡ Ok (tt, n)) × (with_later_next n m.next ≡ m)

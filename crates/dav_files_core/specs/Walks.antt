@@ -11,8 +11,8 @@ pub record Stored : Type 0 where
   pub resource : Resource
   pub folder : Option ℕ
 
-abbrev pub entry_of : Stored → Path × Resource
-entry_of s = (s.path, s.resource)
+abbrev pub stored_entry : Stored → Path × Resource
+stored_entry s = (s.path, s.resource)
 
 -- the root stands in no folder, and each other in one that is in front
 abbrev pub StandsBehind : List Stored → Path → Option ℕ → Type 0
@@ -20,6 +20,6 @@ StandsBehind front p None = p ≡ []
 StandsBehind front p (Some folder) = (f : Stored) × (name : Segment) × Contains front f × (f.resource.number ≡ folder) × (p ≡ f.path ++ name ∷ [])
 
 -- the entries of the map, each once, and each behind the folder that it stands in
-pub record IsWalk (m : ResourceMap) (ss : List Stored) : Type 0 where
-  pub all : IsPermutation (entries m.entries) (map entry_of ss)
+pub record IsMapWalk (m : ResourceMap) (ss : List Stored) : Type 0 where
+  pub all : IsPermutation (entries m.entries) (map stored_entry ss)
   pub behind : (front rest : List Stored) (s : Stored) → ss ≡ front ++ s ∷ rest → StandsBehind front s.path s.folder

@@ -2,12 +2,12 @@
 ghost use Rattle.std.specs.Prelude.{◌≡◌, ◌↔◌, ◌==◌, ℕ, List, map, None, IsTrue, false, true, Ok, Err, IfOk, IfErr, OnErr, MatchResult};
 ghost use Rattle.dav_path_core.specs.Segments.{segments};
 ghost use Rattle.dav_files_core.specs.Describing.{metadata};
-ghost use Rattle.dav_files_core.specs.Copying.{copy};
+ghost use Rattle.dav_files_core.specs.ResourceCopying.{copy};
 ghost use Rattle.dav_files_core.specs.Folders.{create_dir, remove};
 ghost use Rattle.dav_files_core.specs.Listing.{read_dir};
 ghost use Rattle.dav_files_core.specs.Mapped.{AnswersOneOf};
 ghost use Rattle.dav_files_core.specs.Opening.{opening};
-ghost use Rattle.dav_files_core.specs.Properties.{answer_of, entry_of, get_prop, get_props, patch_props, property_of};
+ghost use Rattle.dav_files_core.specs.Properties.{patch_answer, patch_update, get_prop, get_props, patch_props, property_of};
 ghost use Rattle.dav_files_core.specs.Refusing.{RefusesAs, RefusesAsOffered};
 ghost use Rattle.dav_files_core.specs.Renaming.{rename};
 ghost use Rattle.dav_files_core.specs.Resources.{IsResourceMap};
@@ -261,10 +261,10 @@ pub trait DavFileSystem {
         path: &DavPath,
         patch: Vec<(bool, DavProp)>,
     ) -> FsResult<Vec<(StatusCode, DavProp)>>
-        ensures ok { IfOk result (λ v. patch_props (contents self.old) (segments path.now.bytes) (map entry_of patch.items) ≡ Ok (map answer_of v.items, contents self.new)) }
+        ensures ok { IfOk result (λ v. patch_props (contents self.old) (segments path.now.bytes) (map patch_update patch.items) ≡ Ok (map patch_answer v.items, contents self.new)) }
         ensures err { OnErr result (contents self.new ≡ contents self.old) }
         ensures offered { offers_props ≡ false → result ≡ Err FsError.NotImplemented }
-        ensures refused { IfErr result (λ e. RefusesAsOffered (patch_props (contents self.old) (segments path.now.bytes) (map entry_of patch.items)) e) }
+        ensures refused { IfErr result (λ e. RefusesAsOffered (patch_props (contents self.old) (segments path.now.bytes) (map patch_update patch.items)) e) }
     {
         Err(FsError::NotImplemented)
     }

@@ -3,14 +3,14 @@
 //! Read `put` first, and then `open` in `files`.
 ghost use Rattle.std.specs.Prelude.{◌≡◌, ◌∷◌, ◌++◌, [], Some, IfOk, MatchResult};
 ghost use Rattle.dav_path_core.specs.Segments.{segments};
-ghost use Rattle.dav_path_core.specs.Answers.{AnswersAs};
+ghost use Rattle.dav_path_core.specs.StoreAnswers.{AnswersAs};
 ghost use Rattle.dav_files_core.specs.Outcomes.{start};
 ghost use Rattle.dav_files_core.specs.Describing.{metadata};
-ghost use Rattle.dav_files_core.specs.Putting.{put};
+ghost use Rattle.dav_files_core.specs.ResourcePutting.{put};
 ghost use Rattle.dav_files_core.specs.Meta.{meta_of};
 ghost use Rattle.dav_files_core.specs.Resources.{Resource, IsResourceMap, at_path};
 ghost use Rattle.dav_files_core.specs.Private.Entries.{HasNumber};
-ghost use Rattle.dav_files_core.specs.Private.TreeCalls.{number_of, LeadsTo};
+ghost use Rattle.dav_files_core.specs.Private.TreeCalls.{entry_number, LeadsToTarget};
 ghost use Rattle.dav_path_core.specs.Fronts.{Path};
 
 mod contents;
@@ -83,8 +83,8 @@ pub struct MemFs {
 
 impl Model for MemFs {
     ghost use Rattle.dav_files_core.specs.Resources.{ResourceMap};
-    ghost use Rattle.dav_files_core.specs.Codes.{coded_resources};
-    ghost use Rattle.dav_files_core.specs.Private.Represents.{resource_map, IsStore};
+    ghost use Rattle.dav_files_core.specs.ResourceCodes.{coded_resources};
+    ghost use Rattle.dav_files_core.specs.Private.FileRepresents.{resource_map, IsStore};
 
     ghost Value = { ResourceMap };
 
@@ -111,7 +111,7 @@ impl MemFs {
 
     // The number of what is at a path.
     fn number_of(&self, path: &DavPath) -> FsResult<u64>
-        ensures found { result ≡ number_of self.now (segments path.now.bytes) }
+        ensures found { result ≡ entry_number self.now (segments path.now.bytes) }
         ensures number { IfOk result (HasNumber self.now) }
         ensures shape { IsResourceMap self.now }
     {
@@ -123,7 +123,7 @@ impl MemFs {
 
     // Where a path leads.
     fn target_of<'a>(&self, path: &'a DavPath) -> FsResult<Target<'a>>
-        ensures found { LeadsTo self.now (segments path.now.bytes) result }
+        ensures found { LeadsToTarget self.now (segments path.now.bytes) result }
         ensures shape { IsResourceMap self.now }
     {
         let _ = &self.tree;
@@ -140,7 +140,7 @@ impl MemFs {
     // Where a name leads from the entry with a number.
     fn target_below<'a>(&self, id: u64, name: &'a [u8]) -> FsResult<Target<'a>>
         ensures { (path : Path) (r : Resource) → at_path self.now path ≡ Some r → r.number ≡ id
-            → LeadsTo self.now (path ++ name.now ∷ []) result }
+            → LeadsToTarget self.now (path ++ name.now ∷ []) result }
     {
         if node_of(&self.tree, id)?.is_file() {
             return Err(FsError::Forbidden);

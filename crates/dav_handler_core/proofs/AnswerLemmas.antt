@@ -11,7 +11,7 @@ use Rattle.dav_path_core.specs.declared.util.DavMethod.TheVariants as method
 use Rattle.dav_path_core.specs.PathText.{PathText}
 use Rattle.dav_path_core.specs.Segments.{segments}
 use Rattle.dav_path_core.specs.Fronts.{Path}
-use Rattle.dav_files_core.specs.Putting.{put}
+use Rattle.dav_files_core.specs.ResourcePutting.{put}
 use Rattle.dav_files_core.specs.Resources.{IsResourceMap, ResourceMap, at_path}
 use Rattle.dav_locks_core.specs.Exclusive.{Exclusive}
 use Rattle.dav_locks_core.specs.Lock.{Lock}
@@ -21,18 +21,21 @@ use Rattle.dav_fields_core.specs.declared.bases.Scheme.{Scheme}
 use Rattle.dav_faults_core.specs.declared.faults.Fault.{Fault}
 use Rattle.dav_faults_core.specs.declared.faults.Fault.TheVariants as fault
 use Rattle.dav_methods_core.specs.Admitting.{IsAdmitted, IsHeldOff}
-use Rattle.dav_handler_core.specs.Answers.{Admits, AnswersTo, Begins, ChangeAnswers, EndsOne, Fails, GetAnswers, HoldsOff, IsFrom, IsWhole, Locks, Moves, Names, Options, PutAnswers, Server, Unread, as_found}
-use Rattle.dav_handler_core.specs.Answers.Unread.{memory, target, principal, tokens, moment}
+use Rattle.dav_handler_core.specs.MethodAnswers.{Admits, Begins, ChangeAnswers, Fails, GetAnswers, IsWhole, PutAnswers, Unread, as_found}
+use Rattle.dav_handler_core.specs.Answers.{AnswersTo, EndsOne, Locks, MayDo}
+use Rattle.dav_handler_core.specs.Server.{IsFrom, Names, Options, Server}
+use Rattle.dav_handler_core.specs.MethodAnswers.Unread.{memory, target, principal, tokens, moment}
 use Rattle.dav_session_core.specs.Callers.{Asks, Caller, RunBy, Runs, asking, live}
 use Rattle.dav_fields_core.specs.Fields.{Sent}
 use Rattle.dav_fields_core.specs.FileTags.{file_tag}
-use Rattle.dav_fields_core.specs.Getting.{FailsToGet, Gets, tagged}
+use Rattle.dav_methods_core.specs.GetMethod.{FailsToGet, Gets}
+use Rattle.dav_fields_core.specs.Getting.{tag_marks}
 use Rattle.dav_session_core.specs.LocksInTheWay.{IsPathOfOne}
 use Rattle.dav_handler_core.specs.Private.Begun.{IsHeld}
-use Rattle.dav_session_core.specs.Putting.{FailsToPut, Puts, in_the_way, props_of, put_course, put_status}
-use Rattle.dav_fields_core.specs.Refusals.{RefusesTarget, RefusesPrincipal, HasBadIf, HasPart, IsLastMoment}
+use Rattle.dav_methods_core.specs.PutMethod.{FailsToPut, Puts, locks_against_putting, props_of, put_course, put_status}
+use Rattle.dav_fields_core.specs.RequestRefusals.{RefusesTarget, RefusesPrincipal, HasBadIf, HasPart, IsLastMoment}
 use Rattle.dav_fields_core.specs.Senders.{NamesPrincipal}
-use Rattle.dav_session_core.specs.Unlocking.{Unlocks}
+use Rattle.dav_methods_core.specs.UnlockMethod.{Unlocks}
 use Rattle.dav_session_core.proofs.Asking.{asks_join, by_join}
 use Rattle.dav_session_core.proofs.CallerLaws.{asks_of, runs_by, runs_exclusive, runs_of, runs_shape}
 
@@ -86,9 +89,9 @@ held_there before request headers path e scheme now later s of at same is h =
     subst (λ n. IsHeldOff before.options.scheme (live n before.state) (head_of request).headers path e) at stores
 
 -- what the method does behind it is the caller's, too
-pub moves_on : (before mid after : Server) (request : Request (List ℕ)) (path : PathText) (who : Caller) → Begins before request mid path who → Moves before request mid
+pub moves_on : (before mid after : Server) (request : Request (List ℕ)) (path : PathText) (who : Caller) → Begins before request mid path who → MayDo before request mid
     → RunBy who before.state mid.state → RunBy who mid.state after.state → after.last ≡ mid.last → after.options ≡ mid.options → after.clock ≡ mid.clock
-    → Moves before request after
+    → MayDo before request after
 moves_on before mid after request path who begins moves first more last options clock = record {
   by_caller = inr (who, begins.from, begins.now ∙ sym last, inl (by_join who before.state mid.state after.state first more));
   moments = subst (λ n. before.last ≤ n) (sym last) moves.moments;
@@ -98,11 +101,11 @@ moves_on before mid after request path who begins moves first more last options 
 
 -- or it ends one of the caller's own locks
 pub moves_ended : (before mid after : Server) (request : Request (List ℕ)) (path : PathText) (who : Caller) (result : Result ℕ Fault)
-    → Begins before request mid path who → Moves before request mid → RunBy who before.state mid.state → Asks who mid.state after.state
+    → Begins before request mid path who → MayDo before request mid → RunBy who before.state mid.state → Asks who mid.state after.state
     → live mid.last mid.state ≡ live mid.last before.state
     → IfOk result (λ status. Unlocks (head_of request).headers (live who.now mid.state) who (segments path.bytes) status after.state)
     → OnErr result (RunBy who mid.state after.state) → after.last ≡ mid.last → after.options ≡ mid.options → after.clock ≡ mid.clock
-    → Moves before request after
+    → MayDo before request after
 moves_ended before mid after request path who (Ok status) begins moves first more still done failed last options clock = record {
   by_caller = inr (
     who,
@@ -183,7 +186,7 @@ pub put_short : (before after : Server) (request : Request (List ℕ)) (e : Faul
     → PutAnswers before request (Err e) sent after
 put_short before after request e sent whole h = inr (whole, inl (short before.options request before.last true e h))
 
-way : (s t : State) (who : Caller) (p : Path) (bytes : List ℕ) → live who.now s ≡ live who.now t → in_the_way s who p bytes ≡ in_the_way t who p bytes
+way : (s t : State) (who : Caller) (p : Path) (bytes : List ℕ) → live who.now s ≡ live who.now t → locks_against_putting s who p bytes ≡ locks_against_putting t who p bytes
 way s t who p bytes same = ap (λ (x : State). conflicts x (asking who (Command.Put p bytes))) same
 
 -- a refusal of a PUT looks at the map, and at the locks that last
@@ -209,7 +212,7 @@ module _ (before mid after : Server) (request : Request (List ℕ)) (path : Path
 
   pub put_done : (status : ℕ) (sent : Sent) → s.map ≡ before.state.map → live mid.last s ≡ live mid.last before.state → put_course s.map Here (head_of request).headers ≡ Ok tt
       → status ≡ put_status s.map Here → Puts s who.now Here (body_of request) after.state
-      → sent.marks ≡ tagged (file_tag who.now (length (body_of request)) ∷ []) → PutAnswers before request (Ok status) sent after
+      → sent.marks ≡ tag_marks (file_tag who.now (length (body_of request)) ∷ []) → PutAnswers before request (Ok status) sent after
   put_done status sent there alike course is puts marks =
       let now : who.now ≡ after.last = begins.now ∙ sym same in
       let put : Puts before.state after.last Here (body_of request) after.state = record {
@@ -233,8 +236,8 @@ module _ (before mid after : Server) (request : Request (List ℕ)) (path : Path
           course = subst (λ m. put_course m Here (head_of request).headers ≡ Ok tt) there course;
           status_is = is ∙ ap (λ m. put_status m Here) there;
           puts = put;
-          marks = marks ∙ ap (λ n. tagged (file_tag n (length (body_of request)) ∷ [])) (sym puts.modified)
-              ∙ ap (λ bytes. tagged (file_tag puts.file.node.modified (length bytes) ∷ [])) (sym puts.bytes_are);
+          marks = marks ∙ ap (λ n. tag_marks (file_tag n (length (body_of request)) ∷ [])) (sym puts.modified)
+              ∙ ap (λ bytes. tag_marks (file_tag puts.file.node.modified (length bytes) ∷ [])) (sym puts.bytes_are);
         },
       )
 
@@ -250,11 +253,11 @@ module _ (before mid after : Server) (request : Request (List ℕ)) (path : Path
   pub put_answered : (result : Result ℕ Fault) (sent : Sent) (bytes : List ℕ) (headers : Entries FieldValue) → bytes ≡ body_of request → headers ≡ (head_of request).headers
       → s.map ≡ before.state.map → live mid.last s ≡ live mid.last before.state
       → IfOk result (λ code. (code ≡ put_status s.map Here) × Puts s who.now Here bytes after.state) → OnOk result (put_course s.map Here headers ≡ Ok tt)
-      → OnOk result (sent.marks ≡ tagged (file_tag who.now (length bytes) ∷ [])) → IfErr result (λ e. FailsToPut s who Here bytes headers e)
+      → OnOk result (sent.marks ≡ tag_marks (file_tag who.now (length bytes) ∷ [])) → IfErr result (λ e. FailsToPut s who Here bytes headers e)
       → PutAnswers before request result sent after
   put_answered (Ok status) sent bytes headers body is there alike done course marks err =
       put_done status sent there alike (subst (λ h. put_course s.map Here h ≡ Ok tt) is course) done.0
-      (subst (λ b. Puts s who.now Here b after.state) body done.1) (subst (λ b. sent.marks ≡ tagged (file_tag who.now (length b) ∷ [])) body marks)
+      (subst (λ b. Puts s who.now Here b after.state) body done.1) (subst (λ b. sent.marks ≡ tag_marks (file_tag who.now (length b) ∷ [])) body marks)
   put_answered (Err e) sent bytes headers body is there alike done course marks err =
       put_refused e sent there (subst (λ n. live n s ≡ live n before.state) (sym begins.now) alike)
       (subst (λ h. FailsToPut s who Here (body_of request) h e) is (subst (λ b. FailsToPut s who Here b headers e) body err))
@@ -306,13 +309,13 @@ runs_of_caller before after request who (inr (inl one)) = runs_of who before.sta
 runs_of_caller before after request who (inr (inr locks)) = locks.runs
 
 -- what every run of requests keeps
-pub moves_exclusive : (before after : Server) (request : Request (List ℕ)) → Moves before request after → Exclusive before.state.locks → Exclusive after.state.locks
+pub moves_exclusive : (before after : Server) (request : Request (List ℕ)) → MayDo before request after → Exclusive before.state.locks → Exclusive after.state.locks
 moves_exclusive before after request h x = elim h.by_caller [
   | inl same ↦ subst (λ (s : State). Exclusive s.locks) (sym same) x
   | inr by ↦ runs_exclusive before.state after.state (runs_of_caller before after request by.0 by.3) x
 ]
 
-pub moves_shape : (before after : Server) (request : Request (List ℕ)) → Moves before request after → Exclusive before.state.locks → IsResourceMap before.state.map
+pub moves_shape : (before after : Server) (request : Request (List ℕ)) → MayDo before request after → Exclusive before.state.locks → IsResourceMap before.state.map
     → IsResourceMap after.state.map
 moves_shape before after request h x is_map = elim h.by_caller [
   | inl same ↦ subst (λ (s : State). IsResourceMap s.map) (sym same) is_map

@@ -22,27 +22,30 @@ use Rattle.dav_fields_core.specs.declared.preconditions.Course.{Course}
 use Rattle.dav_fields_core.specs.declared.preconditions.Course.TheVariants as course
 use Rattle.dav_fields_core.specs.declared.ranges.Extent.{Extent}
 use Rattle.dav_fields_core.specs.declared.ranges.Extent.TheVariants as extent
-use Rattle.dav_handler_core.specs.Answers.{AnswersTo, Fails, HoldsOff, IsGotten, IsLocked, Leaves, Options, Server, Unread, as_found, has_body, status_of}
-use Rattle.dav_handler_core.specs.Answers.Unread.{memory, target, principal, tokens, moment}
+use Rattle.dav_handler_core.specs.Answers.{AnswersTo, Leaves, status_of}
+use Rattle.dav_handler_core.specs.MethodAnswers.{Fails, HoldsOff, IsGotten, IsLocked, Unread, as_found, has_body}
+use Rattle.dav_handler_core.specs.Server.{Options, Server}
+use Rattle.dav_handler_core.specs.MethodAnswers.Unread.{memory, target, principal, tokens, moment}
 use Rattle.dav_session_core.specs.Callers.{Caller, SameLive}
-use Rattle.dav_session_core.specs.Copying.{FailsToCopy}
+use Rattle.dav_methods_core.specs.CopyMethod.{FailsToCopy}
 use Rattle.dav_handler_core.specs.Deciding.{HeldOff, SendsPart, SendsTag, Stops, WentOn, looks}
 use Rattle.dav_faults_core.specs.Faults.{fault_status}
 use Rattle.dav_fields_core.specs.Fields.{Sent}
 use Rattle.dav_fields_core.specs.FileTags.{standing_by, standing_of, tag_of}
-use Rattle.dav_methods_core.specs.Finding.{FailsToFind, FailsToTell}
-use Rattle.dav_fields_core.specs.Getting.{FailsToGet, Tells, own_tags, tags_by, told_by, told_of}
-use Rattle.dav_methods_core.specs.Locking.{FailsToLock}
-use Rattle.dav_session_core.specs.Making.{FailsToMake}
-use Rattle.dav_session_core.specs.Moving as moving
+use Rattle.dav_methods_core.specs.PropfindMethod.{FailsToFind, FailsToTell}
+use Rattle.dav_methods_core.specs.GetMethod.{FailsToGet, Tells, own_tags, get_outcome_by, get_outcome_of}
+use Rattle.dav_fields_core.specs.Getting.{tags_by}
+use Rattle.dav_methods_core.specs.LockMethod.{FailsToLock}
+use Rattle.dav_methods_core.specs.MkcolMethod.{FailsToMake}
+use Rattle.dav_methods_core.specs.MoveMethod as moving
 use Rattle.dav_fields_core.specs.Preconditions.{course_of}
-use Rattle.dav_session_core.specs.Putting.{FailsToPut, changes_by}
+use Rattle.dav_methods_core.specs.PutMethod.{FailsToPut, changes_by}
 use Rattle.dav_fields_core.specs.Ranges.{part_text}
-use Rattle.dav_session_core.specs.Refreshing.{FailsToRefresh, named_there}
-use Rattle.dav_fields_core.specs.Refusals.{RefusesPrincipal, RefusesTarget}
-use Rattle.dav_session_core.specs.Removing.{FailsToRemove}
-use Rattle.dav_session_core.specs.Patching.{FailsToPatch}
-use Rattle.dav_session_core.specs.Unlocking.{FailsToUnlock}
+use Rattle.dav_methods_core.specs.RefreshMethod.{FailsToRefresh, named_there}
+use Rattle.dav_fields_core.specs.RequestRefusals.{RefusesPrincipal, RefusesTarget}
+use Rattle.dav_methods_core.specs.DeleteMethod.{FailsToRemove}
+use Rattle.dav_methods_core.specs.ProppatchMethod.{FailsToPatch}
+use Rattle.dav_methods_core.specs.UnlockMethod.{FailsToUnlock}
 use Rattle.dav_handler_core.proofs.TransferLaws.{copy_kept, move_kept}
 
 -- ---- statuses of faults
@@ -208,7 +211,7 @@ other_fault : (e other : Fault) → IsOfMember e → (IsOfMember other → ⊥) 
 other_fault e other member apart same = apart (subst IsOfMember same member)
 
 told_alone : (m : DavMethod) (at : Standing) (size : ℕ) (headers : Entries FieldValue) (o : Option Course) (e : Fault) → IsOfMember e
-    → told_by m at size headers o ≢ Err e
+    → get_outcome_by m at size headers o ≢ Err e
 told_alone m at size headers None e member h = other_fault e fault.BadRequest member (λ x. x) (cc)
 told_alone m at size headers (Some course.PreconditionFailed) e member h = other_fault e fault.PreconditionFailed member (λ x. x) (cc)
 told_alone m at size headers (Some course.NotModified) e member h = cc
@@ -235,16 +238,16 @@ module _ (before after : Server) (request : Request (List ℕ)) (sent : Sent) wh
   Headers = (head_of request).headers
 
   -- what is told where it is done
-  told_done : (m : DavMethod) (r : Resource) (status : ℕ) (x : Result (Option Extent) Fault) → told_of m r Headers ≡ x → Tells x r status sent → status < 300
-      → (e : Extent) × (told_of m r Headers ≡ Ok (Some e))
+  told_done : (m : DavMethod) (r : Resource) (status : ℕ) (x : Result (Option Extent) Fault) → get_outcome_of m r Headers ≡ x → Tells x r status sent → status < 300
+      → (e : Extent) × (get_outcome_of m r Headers ≡ Ok (Some e))
   told_done m r status (Err e) is h low = absurd h
   told_done m r status (Ok None) is h low = absurd (omega (arith, h.0))
   told_done m r status (Ok (Some extent.Whole)) is h low = (extent.Whole, is)
   told_done m r status (Ok (Some (extent.Part first end))) is h low = (extent.Part first end, is)
   told_done m r status (Ok (Some extent.Unsatisfiable)) is h low = absurd (omega (arith, h.0))
 
-  told_off : (m : DavMethod) (r : Resource) (status : ℕ) (x : Result (Option Extent) Fault) → told_of m r Headers ≡ x → Tells x r status sent → IsOff status
-      → told_of m r Headers ≡ Ok None
+  told_off : (m : DavMethod) (r : Resource) (status : ℕ) (x : Result (Option Extent) Fault) → get_outcome_of m r Headers ≡ x → Tells x r status sent → IsOff status
+      → get_outcome_of m r Headers ≡ Ok None
   told_off m r status (Err e) is h off = absurd h
   told_off m r status (Ok None) is h off = is
   told_off m r status (Ok (Some extent.Whole)) is h (inl off) = absurd (omega (arith, h.0, off))
@@ -262,9 +265,9 @@ module _ (before after : Server) (request : Request (List ℕ)) (sent : Sent) wh
   told_tags r status (Ok (Some extent.Unsatisfiable)) h low = absurd (omega (arith, h.0))
 
   get_on : (m : DavMethod) (status : ℕ) (h : IsGotten m before request status sent after) → status < 300
-      → (x : Extent) × ((r : Resource) × (at_path before.state.map (segments h.path.bytes) ≡ Some r) × (told_of m r Headers ≡ Ok (Some x)))
+      → (x : Extent) × ((r : Resource) × (at_path before.state.map (segments h.path.bytes) ≡ Some r) × (get_outcome_of m r Headers ≡ Ok (Some x)))
   get_on m status h low =
-      let is = told_done m h.gets.resource status (told_of m h.gets.resource Headers) refl h.gets.tells low in
+      let is = told_done m h.gets.resource status (get_outcome_of m h.gets.resource Headers) refl h.gets.tells low in
       (is.0, (h.gets.resource, h.gets.here, is.1))
 
   get_tag : (m : DavMethod) (status : ℕ) → IsGotten m before request status sent after → SameLive after.last before.state after.state → status < 400
@@ -273,15 +276,15 @@ module _ (before after : Server) (request : Request (List ℕ)) (sent : Sent) wh
     path = h.path;
     who = h.who;
     begins = h.begins;
-    tags = told_tags h.gets.resource status (told_of m h.gets.resource Headers) h.gets.tells low
+    tags = told_tags h.gets.resource status (get_outcome_of m h.gets.resource Headers) h.gets.tells low
         ∙ ap (λ o. tags_by (standing_of o)) (sym (ap (λ (s : State). at_path s.map (segments h.path.bytes)) same ∙ h.gets.here));
   }
 
   -- a GET that is held off
   get_off : (m : DavMethod) (status : ℕ) (h : IsGotten m before request status sent after) → IsOff status
-      → (r : Resource) × (at_path before.state.map (segments h.path.bytes) ≡ Some r) × (told_of m r Headers ≡ Ok None)
+      → (r : Resource) × (at_path before.state.map (segments h.path.bytes) ≡ Some r) × (get_outcome_of m r Headers ≡ Ok None)
   get_off m status h off =
-      (h.gets.resource, h.gets.here, told_off m h.gets.resource status (told_of m h.gets.resource Headers) refl h.gets.tells off)
+      (h.gets.resource, h.gets.here, told_off m h.gets.resource status (get_outcome_of m h.gets.resource Headers) refl h.gets.tells off)
 
   -- ---- every method
 
@@ -474,8 +477,8 @@ module _ (before after : Server) (request : Request (List ℕ)) (sent : Sent) wh
 
   -- ---- parts and tags
 
-  told_part : (r : Resource) (status : ℕ) (x : Result (Option Extent) Fault) → told_of method.Get r Headers ≡ x → Tells x r status sent → status ≡ 206
-      → (first : ℕ) × ((end : ℕ) × (told_of method.Get r Headers ≡ Ok (Some (extent.Part first end))) × (sent.body ≡ take (end - first) (drop first r.node.bytes))
+  told_part : (r : Resource) (status : ℕ) (x : Result (Option Extent) Fault) → get_outcome_of method.Get r Headers ≡ x → Tells x r status sent → status ≡ 206
+      → (first : ℕ) × ((end : ℕ) × (get_outcome_of method.Get r Headers ≡ Ok (Some (extent.Part first end))) × (sent.body ≡ take (end - first) (drop first r.node.bytes))
       × (sent.marks.parts ≡ part_text first end (length r.node.bytes) ∷ []))
   told_part r status (Err e) is h part = absurd h
   told_part r status (Ok None) is h part = absurd (omega (arith, h.0, part))
@@ -484,7 +487,7 @@ module _ (before after : Server) (request : Request (List ℕ)) (sent : Sent) wh
   told_part r status (Ok (Some extent.Unsatisfiable)) is h part = absurd (omega (arith, h.0, part))
 
   -- a HEAD has no part
-  no_part : (standing : Standing) (size : ℕ) (o : Option Course) (status : ℕ) (r : Resource) → Tells (told_by method.Head standing size Headers o) r status sent → ¬ (status ≡ 206)
+  no_part : (standing : Standing) (size : ℕ) (o : Option Course) (status : ℕ) (r : Resource) → Tells (get_outcome_by method.Head standing size Headers o) r status sent → ¬ (status ≡ 206)
   no_part standing size None status r h part = h
   no_part standing size (Some course.PreconditionFailed) status r h part = h
   no_part standing size (Some course.NotModified) status r h part = omega (arith, h.0, part)
@@ -496,7 +499,7 @@ module _ (before after : Server) (request : Request (List ℕ)) (sent : Sent) wh
   sends_part m (Err e) h part = absurd (no_fault e 206 part (omega arith) (λ same. omega (arith, same)))
   sends_part (Some method.Get) (Ok status) h part =
       let r = h.0.gets.resource in
-      let told = told_part r status (told_of method.Get r Headers) refl h.0.gets.tells part in
+      let told = told_part r status (get_outcome_of method.Get r Headers) refl h.0.gets.tells part in
       record {
         path = h.0.path;
         who = h.0.who;

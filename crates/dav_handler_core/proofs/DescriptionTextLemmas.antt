@@ -1,15 +1,9 @@
 -- The texts that describe a resource are visible: its URL, its type, its tag and its dates.
-use Rattle.std.proofs.Common.{◌≡◌, refl, sym, subst, ℕ, suc, ◌+◌, ◌/◌, ◌%◌, ◌-◌, ◌<◌, ◌≤◌, arith, Bool, true, false, cond, ◌&&◌, ◌||◌, List, [], ◌∷◌, ◌++◌, Option, Some, None, codes}
-use Rattle.std.specs.Prelude.{◌==◌, T, nat_le, bytes_eq, decimal, map, ℤ, pos, negsuc}
+use Rattle.std.proofs.Common.{◌≡◌, refl, sym, subst, ℕ, suc, ◌/◌, ◌%◌, ◌<◌, arith, Bool, true, false, cond, ◌||◌, List, [], ◌∷◌, ◌++◌, Option, Some, None, codes}
+use Rattle.std.specs.Prelude.{◌==◌, bytes_eq, decimal, map, ℤ, pos, negsuc}
 use Rattle.std.specs.Char.{to_ascii_lowercase}
 use Rattle.std.specs.List.{list_all}
-use Rattle.std.proofs.lemmas.Bool.{and_parts, false≢true}
-use Rattle.std.proofs.lemmas.Bool.Decides.{nat_tests}
-use Rattle.httpdate.specs.declared.date.HttpDate.{HttpDate}
-use Rattle.httpdate.specs.declared.parts.Parts.{Parts}
-use Rattle.httpdate.specs.Calendar.{is_leap_year}
-use Rattle.httpdate.specs.Date.{date_text}
-use Rattle.httpdate.specs.Text.{day_name, four_digits, month_name, time_of_day, two_digits}
+use Rattle.std.proofs.lemmas.Bool.{and_parts}
 use Rattle.jiff_core.specs.Calendar as calendar
 use Rattle.jiff_core.specs.declared.civil.date.Date.{Date}
 use Rattle.jiff_core.specs.declared.civil.time.Time.{Time}
@@ -17,26 +11,16 @@ use Rattle.jiff_fmt.specs.Text as printed
 use Rattle.dav_path_core.specs.Fronts.{Path}
 use Rattle.dav_path_core.specs.Url.{url}
 use Rattle.dav_xml_core.specs.Scanning.{is_nil}
-use Rattle.dav_fields_core.specs.ContentTypes.{Entry, content_type, extension, other_type, table, type_in}
+use Rattle.dav_fields_core.specs.ContentTypes.{TypeEntry, content_type, extension, other_type, table, type_in}
 use Rattle.dav_fields_core.specs.FileTags.{file_tag, tag_text}
-use Rattle.dav_documents_core.specs.KeptElements.{IsVisible, is_visible}
+use Rattle.dav_documents_core.specs.KeptElements.{IsVisible}
 use Rattle.dav_methods_core.specs.PropertyAnswers.{place_url, segments_url}
 use Rattle.dav_fields_core.specs.Dates.{IsHttpDate, IsInternetDate}
 use Rattle.dav_documents_core.specs.RefusalBodies.{front}
-use Rattle.dav_documents_core.proofs.VisibleTextLemmas.{AreVisible, all_joined, decimal_visible, indexed, joined, one_more, some_before, some_behind, url_visible}
+use Rattle.dav_documents_core.proofs.VisibleTextLemmas.{AreVisible, all_joined, decimal_visible, joined, one_more, some_before, some_behind, url_visible}
+use Rattle.dav_handler_core.proofs.DescriptionTexts.{slashed, tail, tail_visible, is_seen, seen, pair, days_few, fixdate_seen, test_true, within}
 
 -- ---- URLs
-
-slashed : (segment : List ℕ) → AreVisible (codes "/" ++ url segment)
-slashed segment = joined (codes "/") (url segment) refl (url_visible segment)
-
-tail : Bool → List ℕ
-tail folder = cond folder (codes "/") []
-
-tail_visible : (folder : Bool) → AreVisible (tail folder)
-unfolding tail
-tail_visible true = refl
-tail_visible false = refl
 
 url_is : (prefix : List ℕ) (p : Path) (folder : Bool) → AreVisible (place_url prefix p folder)
 unfolding tail
@@ -59,15 +43,7 @@ member_url prefix s p folder = record {
 
 -- ---- types
 
-is_seen : List ℕ → Bool
-is_seen text = list_all is_visible text && (cond (is_nil text) false true)
-
-seen : (text : List ℕ) → is_seen text ≡ true → IsVisible text
-unfolding is_seen
-seen [] h = absurd (false≢true h)
-seen (b ∷ text) h = record { some = refl; each = (and_parts (list_all is_visible (b ∷ text)) true h).0 }
-
-type_found : (entries : List Entry) (text known : List ℕ) → list_all (λ e. is_seen e.1) entries ≡ true → type_in entries text ≡ Some known → IsVisible known
+type_found : (entries : List TypeEntry) (text known : List ℕ) → list_all (λ e. is_seen e.1) entries ≡ true → type_in entries text ≡ Some known → IsVisible known
 type_found [] text known h is = absurd (cc)
 type_found (entry ∷ entries) text known h is =
     let p = and_parts (is_seen entry.1) (list_all (λ e. is_seen e.1) entries) h in
@@ -77,7 +53,7 @@ type_found (entry ∷ entries) text known h is =
     by true one others found = let same : entry.1 ≡ known = cc in subst IsVisible same (seen entry.1 one)
     by false one others found = others found
 
-table_seen : list_all (λ (e : Entry). is_seen e.1) table ≡ true
+table_seen : list_all (λ (e : TypeEntry). is_seen e.1) table ≡ true
 unfolding is_seen
 table_seen = refl
 
@@ -109,71 +85,11 @@ tag_visible modified size =
 
 -- ---- dates
 
-pair : (n : ℕ) (text : List ℕ) → n < 780 → AreVisible text → AreVisible ((48 + n / 10) ∷ (48 + n % 10) ∷ text)
-pair n text small h =
-    one_more (48 + n / 10) ((48 + n % 10) ∷ text) (omega arith) (omega arith) (one_more (48 + n % 10) text (omega arith) (omega arith) h)
-
-two : (n : ℕ) → n < 780 → AreVisible (two_digits n)
-two n small = pair n [] small refl
-
-four : (n : ℕ) → n < 10_000 → AreVisible (four_digits n)
-four n small = joined (two_digits (n / 100)) (two_digits (n % 100)) (two (n / 100) (omega arith)) (two (n % 100) (omega arith))
-
-day_seen : (day : ℕ) → AreVisible (day_name day)
-day_seen day =
-    indexed (codes "Mon" ∷ codes "Tue" ∷ codes "Wed" ∷ codes "Thu" ∷ codes "Fri" ∷ codes "Sat" ∷ codes "Sun" ∷ []) (day - 1) (refl, (refl, (refl, (refl, (refl, (refl, (refl, tt)))))))
-
-month_seen : (month : ℕ) → AreVisible (month_name month)
-month_seen month =
-    indexed
-    (codes "Jan" ∷ codes "Feb" ∷ codes "Mar" ∷ codes "Apr" ∷ codes "May" ∷ codes "Jun" ∷ codes "Jul" ∷ codes "Aug" ∷ codes "Sep" ∷ codes "Oct" ∷ codes "Nov" ∷ codes "Dec" ∷ [])
-    (month - 1) (refl, (refl, (refl, (refl, (refl, (refl, (refl, (refl, (refl, (refl, (refl, (refl, tt))))))))))))
-
-days_few : (february leap short : Bool) → cond february (cond leap 29 28) (cond short 30 31) ≤ 31
-days_few true true short = omega arith
-days_few true false short = omega arith
-days_few false leap true = omega arith
-days_few false leap false = omega arith
-
-time_seen : (p : Parts) → p.hour < 24 → p.min < 60 → p.sec < 60 → AreVisible (time_of_day p)
-time_seen p hour min sec =
-    let h = two_digits p.hour ++ codes ":" in
-    let m = h ++ two_digits p.min in
-    joined (m ++ codes ":") (two_digits p.sec)
-    (joined m (codes ":") (joined h (two_digits p.min) (joined (two_digits p.hour) (codes ":") (two p.hour (omega (arith, hour))) refl) (two p.min (omega (arith, min)))) refl)
-    (two p.sec (omega (arith, sec)))
-
-date_seen : (d : HttpDate) → AreVisible (date_text d)
-date_seen d =
-    let p = d.parts in
-    let name = day_name p.wday ++ codes ", " in
-    let day = name ++ two_digits p.day in
-    let month = (day ++ codes " ") ++ month_name p.mon in
-    let year = (month ++ codes " ") ++ four_digits p.year in
-    let time = (year ++ codes " ") ++ time_of_day p in
-    let day_is : p.day < 780 = omega (arith, d.civil.2.1, days_few (p.mon == 2) (is_leap_year p.year) ((p.mon == 4) || (p.mon == 6) || (p.mon == 9) || (p.mon == 11))) in
-    let named = joined (day_name p.wday) (codes ", ") (day_seen p.wday) refl in
-    let dayed = joined name (two_digits p.day) named (two p.day day_is) in
-    let monthed = joined (day ++ codes " ") (month_name p.mon) (joined day (codes " ") dayed refl) (month_seen p.mon) in
-    let yeared = joined (month ++ codes " ") (four_digits p.year) (joined month (codes " ") monthed refl) (four p.year (omega (arith, d.civil.0.1))) in
-    let timed = joined (year ++ codes " ") (time_of_day p) (joined year (codes " ") yeared refl) (time_seen p d.time.0 d.time.1 d.time.2) in
-    joined time (codes " GMT") timed refl
-
-fixdate_seen : (d : HttpDate) → IsVisible (date_text d)
-fixdate_seen d = record { some = some_behind _ (codes " GMT") refl; each = date_seen d }
-
 pub http_date_visible : (seconds : ℕ) (text : List ℕ) → IsHttpDate seconds text → IsVisible text
 http_date_visible seconds text h = subst IsVisible (sym h.2) (fixdate_seen h.0)
 
 pad_four : (n : ℕ) → n < 10_000 → AreVisible (printed.pad4 n)
 pad_four n small = joined (printed.pad2 (n / 100)) (printed.pad2 (n % 100)) (pair (n / 100) [] (omega arith) refl) (pair (n % 100) [] (omega arith) refl)
-
-test_true : (b : Bool) → T b → b ≡ true
-test_true true h = refl
-test_true false h = absurd h
-
-within : (n m : ℕ) → nat_le n m ≡ true → n ≤ m
-within n m h = grind (arith, nat_tests)
 
 year_seen : (year : ℤ) → calendar.IsYear year → AreVisible (printed.year_text year)
 year_seen (pos n) h = pad_four n (omega (arith, within n 9999 (test_true _ h.1.le)))

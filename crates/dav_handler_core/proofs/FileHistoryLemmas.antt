@@ -7,7 +7,7 @@ use Rattle.dav_path_core.proofs.lists.FinMaps.{dec, none_some}
 use Rattle.dav_path_core.proofs.lists.Orders.{path_exact, path_total}
 use Rattle.dav_path_core.proofs.paths.FrontLemmas.{is_same_path-same}
 use Rattle.dav_files_core.specs.declared.memfs.Kind.TheVariants.{Folder, File}
-use Rattle.dav_files_core.specs.Following.{dated}
+use Rattle.dav_files_core.specs.Following.{dated_entry}
 use Rattle.dav_files_core.specs.Resources.{Node, Resource, ResourceMap, at_path}
 use Rattle.dav_resource_core.specs.Step.{State}
 use Rattle.dav_session_core.specs.Clearing.{IsCleared}
@@ -16,7 +16,7 @@ use Rattle.dav_session_core.specs.Ends.{HasFolder}
 use Rattle.dav_session_core.specs.Moving.{IsMoved}
 use Rattle.dav_session_core.specs.Removing.{IsRemoved}
 use Rattle.dav_handler_core.specs.TagHistories.{HasFile}
-use Rattle.dav_session_core.proofs.SubtreeLemmas.{rest_of}
+use Rattle.dav_path_core.proofs.paths.SubtreePaths.{rest_of}
 
 -- the map has a file with these bytes that was changed last at this moment
 abbrev pub Had : ResourceMap → ℕ → List ℕ → Type 0
@@ -44,10 +44,10 @@ removed_come now p s s' h = λ file has. elim (dec path_total path_exact has.0 (
   ]
 ]
   where
-    dated_file : (file : Resource) (o : Option Resource) → Some file ≡ option_map (dated now) o → (file.node.modified ≡ now) × (file.node.bytes ≡ bytes_of o)
+    dated_file : (file : Resource) (o : Option Resource) → Some file ≡ option_map (dated_entry now) o → (file.node.modified ≡ now) × (file.node.bytes ≡ bytes_of o)
     dated_file file None h = absurd (cc)
     dated_file file (Some r) h =
-        let is : file ≡ dated now r = cc in (ap (λ (x : Resource). x.node.modified) is, ap (λ (x : Resource). x.node.bytes) is)
+        let is : file ≡ dated_entry now r = cc in (ap (λ (x : Resource). x.node.modified) is, ap (λ (x : Resource). x.node.bytes) is)
 
 pub cleared_come : (now : ℕ) (to : Path) (s s' : State) → IsCleared now to s s' → Come s.map now (bytes_of (at_path s.map (parent to))) s'.map
 cleared_come now to s s' (inl h) = removed_come now to s s' h.1
@@ -58,8 +58,8 @@ pub cleared_folder : (now : ℕ) (to q : Path) (s s' : State) → IsCleared now 
 cleared_folder now to q s s' (inr h) out folder = subst (λ (t : State). HasFolder t.map q) (sym h.1) folder
 cleared_folder now to q s s' (inl h) out folder = elim (dec path_total path_exact q (parent to)) [
   | inl above ↦ (
-    dated now folder.0,
-    ap (at_path s'.map) above ∙ h.1.above ∙ ap (λ x. option_map (dated now) (at_path s.map x)) (sym above) ∙ ap (option_map (dated now)) folder.1,
+    dated_entry now folder.0,
+    ap (at_path s'.map) above ∙ h.1.above ∙ ap (λ x. option_map (dated_entry now) (at_path s.map x)) (sym above) ∙ ap (option_map (dated_entry now)) folder.1,
     folder.2,
   )
   | inr other ↦ (folder.0, h.1.others q out other ∙ folder.1, folder.2)
@@ -144,9 +144,9 @@ module _ (m : ResourceMap) (now : ℕ) (bytes : List ℕ) (s s' : State) (come :
       ]
 
       elsewhere : (b : Bool) → (is_same_path has.0 (parent from) || is_same_path has.0 (parent to)) ≡ b
-          → option_map (λ (r : Resource). cond b (dated now r) r) (at_path s.map has.0) ≡ Some file
+          → option_map (λ (r : Resource). cond b (dated_entry now r) r) (at_path s.map has.0) ≡ Some file
           → Had m file.node.modified file.node.bytes ⊎ ((file.node.modified ≡ now) × (file.node.bytes ≡ bytes))
-      elsewhere true is h' = absurd (no_file has.0 (λ (r : Resource). dated now r) file (λ r. refl) (folder_at is) h' has.2)
+      elsewhere true is h' = absurd (no_file has.0 (λ (r : Resource). dated_entry now r) file (λ r. refl) (folder_at is) h' has.2)
       elsewhere false is h' = come file (has.0, by (at_path s.map has.0) h', has.2)
         where
           by : (o : Option Resource) → option_map (λ (r : Resource). r) o ≡ Some file → o ≡ Some file

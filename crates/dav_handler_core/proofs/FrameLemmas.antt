@@ -5,14 +5,15 @@ use Rattle.std.proofs.lemmas.Grind.{flat_map-append}
 use Rattle.std.specs.Io.KnownBytes.{Appends, Consumes, Keeps}
 use Rattle.std.specs.List.{flat_map}
 use Rattle.http_server.specs.Exchange.{Call, Chain}
-use Rattle.dav_handler_core.specs.Answers.{Answers, Server}
+use Rattle.dav_handler_core.specs.Answers.{Answers}
+use Rattle.dav_handler_core.specs.Server.{Server}
 use Rattle.http_frames.specs.declared.clients.Clients.{Clients}
 use Rattle.http_frames.specs.declared.frames.Head.TheVariants.{Clock}
 use Rattle.http_frames.specs.Clients.{Turn, turn_text, config_of, Has, Takes}
 use Rattle.http_frames.specs.Frames.{IsLine, IsPiece, head}
 use Rattle.dav_handler_core.specs.declared.serving.End.{End}
 use Rattle.dav_handler_core.specs.Serving.{Done, Taken, Told, IsFrame, AreFrames, turn_of, turns_of, Leads, IsEnd, AreServed}
-use Rattle.dav_handler_core.specs.Private.Steps.{Serves, Follows}
+use Rattle.dav_handler_core.specs.Private.FrameSteps.{ServesFrame, ServesOrEnds}
 
 -- ---- the server
 
@@ -47,7 +48,7 @@ AreFrames-more (e ∷ done) text d last x is =
 -- ---- one frame
 
 pub told : (c : Clients) (before after : Server) (input input' output : Option (List ℕ)) (moment : ℕ) → ((line : List ℕ) × (text : List ℕ) × IsLine line text
-    × (head line ≡ Some (Clock moment)) × Consumes input input' text) → ((now : ℕ) × (after ≡ record before { clock = now })) → Serves c c before after input input' output output
+    × (head line ≡ Some (Clock moment)) × Consumes input input' text) → ((now : ℕ) × (after ≡ record before { clock = now })) → ServesFrame c c before after input input' output output
 told c before after input input' output moment x set = record {
   done = Told moment;
   text = x.1;
@@ -63,7 +64,7 @@ module _ {S : Type 0} (view : S → Server) where
   pub taken : (number : ℕ) (bytes text : List ℕ) (c c' : Clients) (old mid new : S) (i i' o o' o'' : Option (List ℕ)) → ((now : ℕ) × (view mid ≡ record (view old) { clock = now }))
       → IsPiece number bytes text → Consumes i i' text
       → Takes (λ before request response after. Answers (view before) request response (view after)) number bytes c c' mid new o o' → Keeps o' o'' → config_of c' ≡ config_of c
-      → Serves c c' (view old) (view new) i i' o o''
+      → ServesFrame c c' (view old) (view new) i i' o o''
   taken number bytes text c c' old mid new i i' o o' o'' set piece read x keeps config = record {
     done = Taken x.turn;
     text = text;
@@ -105,7 +106,7 @@ turns_more done d = flat_map-append turn_of done (d ∷ []) ∙ ap (λ (t : List
 texts_more : (done : List Done) (d : Done) → flat_map turn_text (turns_of (done ++ d ∷ [])) ≡ flat_map turn_text (turns_of done) ++ flat_map turn_text (turn_of d)
 texts_more done d = ap (λ (t : List Turn). flat_map turn_text t) (turns_more done d) ∙ flat_map-append turn_text (turns_of done) (turn_of d)
 
-pub served-more : (c c1 c2 : Clients) (s s1 s2 : Server) (i i1 i2 o o1 o2 : Option (List ℕ)) → Served c c1 s s1 i i1 o o1 → Serves c1 c2 s1 s2 i1 i2 o1 o2 → Served c c2 s s2 i i2 o o2
+pub served-more : (c c1 c2 : Clients) (s s1 s2 : Server) (i i1 i2 o o1 o2 : Option (List ℕ)) → Served c c1 s s1 i i1 o o1 → ServesFrame c1 c2 s1 s2 i1 i2 o1 o2 → Served c c2 s s2 i i2 o o2
 served-more c c1 c2 s s1 s2 i i1 i2 o o1 o2 x y = record {
   done = x.done ++ y.done ∷ [];
   text = x.text ++ y.text;
@@ -117,7 +118,7 @@ served-more c c1 c2 s s1 s2 i i1 i2 o o1 o2 x y = record {
   config = y.config ∙ x.config;
 }
 
-pub served-all : (end : End) (c c1 c2 : Clients) (s s1 s2 : Server) (i i1 i2 o o1 o2 : Option (List ℕ)) → Served c c1 s s1 i i1 o o1 → Follows (Some end) c1 c2 s1 s2 i1 i2 o1 o2
+pub served-all : (end : End) (c c1 c2 : Clients) (s s1 s2 : Server) (i i1 i2 o o1 o2 : Option (List ℕ)) → Served c c1 s s1 i i1 o o1 → ServesOrEnds (Some end) c1 c2 s1 s2 i1 i2 o1 o2
     → AreServed end c c2 s s2 i i2 o o2
 served-all end c c1 c2 s s1 s2 i i1 i2 o o1 o2 x y = record {
   done = x.done;

@@ -23,16 +23,18 @@ use Rattle.dav_locks_core.specs.Stale.{is_stale, without_stale}
 use Rattle.dav_locks_core.proofs.laws.EndedLemmas.{found_at}
 use Rattle.dav_locks_core.proofs.laws.StandInLemmas.{In-StandIn}
 use Rattle.dav_resource_core.specs.Step.{State}
-use Rattle.dav_handler_core.specs.Answers.{Answers, EndsOne, IsFrom, LocksOne, Server, as_found}
+use Rattle.dav_handler_core.specs.Answers.{Answers, EndsOne, LocksOne}
+use Rattle.dav_handler_core.specs.Server.{IsFrom, Server}
+use Rattle.dav_handler_core.specs.MethodAnswers.{as_found}
 use Rattle.dav_session_core.specs.Callers.{Caller, RunBy, as_caller, holds, is_own, refusing_at}
 use Rattle.dav_handler_core.specs.Holding.{IsHolders, IsKeptUnlessHeld, Lasts, StandsUnlessEnded}
-use Rattle.dav_methods_core.specs.Locking.{Grants, Wanted}
-use Rattle.dav_session_core.specs.Unlocking.{NamesToken}
+use Rattle.dav_methods_core.specs.LockMethod.{Grants, Wanted}
+use Rattle.dav_methods_core.specs.UnlockMethod.{NamesToken}
 use Rattle.dav_session_core.proofs.AnewLemmas.{of_filter}
 use Rattle.dav_session_core.proofs.CallerLaws.{keeps_apart}
-use Rattle.dav_session_core.proofs.OwnLemmas.{left_or_gone}
+use Rattle.dav_path_core.proofs.paths.AbovePaths.{left_or_gone}
 use Rattle.dav_session_core.proofs.RefreshLemmas.{set_or_same}
-use Rattle.dav_methods_core.proofs.UnderLockLemmas.{in_front}
+use Rattle.dav_locks_core.proofs.laws.WithLock.{in_front}
 
 module _ (before after : Server) (request : Request (List ℕ)) where
   by_holds : (who : Caller) (l : Lock) → IsFrom before.options request who → holds who l ≡ true → IsHolders before request l

@@ -1,50 +1,47 @@
 -- What the stores keep of XML can be read after each answer, if it could before.
-use Rattle.std.proofs.Common.{◌≡◌, inl, inr, ℕ, zero, suc, ◌+◌, ◌<◌, ◌≤◌, ◌^◌, arith, Bool, true, false, cond, not, ◌&&◌, ◌||◌, List, [], ◌∷◌, ◌++◌, length, Option, Some, None, Result, Ok, Err, refl, sym, ◌∙◌, ap, subst}
-use Rattle.std.specs.Prelude.{IfErr, drop, get_or, option_map, remove, set, take, ◌==◌}
-use Rattle.std.specs.FinMap as maps
-use Rattle.std.specs.FinMap.{empty, get, get-empty, insert}
+use Rattle.std.proofs.Common.{◌≡◌, inl, inr, ℕ, ◌<◌, ◌≤◌, ◌^◌, Bool, true, false, cond, not, ◌||◌, List, [], ◌∷◌, ◌++◌, length, Option, Some, None, Result, Ok, Err, refl, sym, ◌∙◌, ap, subst}
+use Rattle.std.specs.Prelude.{IfErr, option_map, remove, set}
 use Rattle.std.specs.List.{AllByRecursion}
-use Rattle.std.proofs.lemmas.Bool.{cases_Bool, true≢false}
-use Rattle.std.proofs.lemmas.Bool.Decides.{nat_tests}
+use Rattle.std.proofs.lemmas.Bool.{cases_Bool}
 use Rattle.http.specs.declared.request.Request.{Request}
 use Rattle.http.specs.Request.{body_of, head_of}
 use Rattle.http_server.specs.declared.response.Response.{Response}
 use Rattle.dav_path_core.specs.declared.util.DavMethod.{DavMethod}
 use Rattle.dav_path_core.specs.declared.util.DavMethod.TheVariants as method
-use Rattle.dav_path_core.specs.Fronts.{Path, is_front, is_same_path, parent, path_cmp}
+use Rattle.dav_path_core.specs.Fronts.{Path, is_front, is_same_path, parent}
 use Rattle.dav_path_core.specs.PathText.{PathText}
 use Rattle.dav_path_core.specs.Segments.{segments}
-use Rattle.dav_path_core.proofs.lists.FinMaps.{dec, inserted, none_some, one_some, removed}
+use Rattle.dav_path_core.proofs.lists.FinMaps.{dec, none_some, one_some}
 use Rattle.dav_path_core.proofs.lists.Orders.{path_exact, path_total}
-use Rattle.dav_files_core.specs.Following.{dated}
-use Rattle.dav_files_core.specs.Outcomes.{new_folder, start}
-use Rattle.dav_files_core.specs.Properties.{key_of, patched, patched_by}
-use Rattle.dav_files_core.specs.Resources.{IsResourceMap, Node, Properties, Property, Resource, ResourceMap, at_path, key_cmp}
+use Rattle.dav_files_core.specs.Following.{dated_entry}
+use Rattle.dav_files_core.specs.Resources.{IsResourceMap, Node, Resource, ResourceMap, at_path}
 use Rattle.dav_files_core.proofs.walks.StartLemmas.{IsResourceMap-start}
-use Rattle.dav_files_core.proofs.properties.PropertyMapLemmas.{key_exact, key_total}
 use Rattle.dav_locks_core.specs.Exclusive.{Exclusive}
 use Rattle.dav_locks_core.specs.Lock.{Lock}
-use Rattle.dav_locks_core.specs.Locks.{covering_at, covering_from, covers, discovered, height, is_at_or_below, refreshed, without_below}
-use Rattle.dav_locks_core.specs.Stale.{has_come, is_stale, without_stale}
+use Rattle.dav_locks_core.specs.Locks.{is_at_or_below, refreshed_lock, without_below}
+use Rattle.dav_locks_core.specs.Stale.{is_stale, without_stale}
 use Rattle.dav_resource_core.specs.Step.{State}
 use Rattle.dav_faults_core.specs.declared.faults.Fault.{Fault}
 use Rattle.dav_faults_core.specs.declared.faults.Fault.TheVariants as fault
-use Rattle.dav_handler_core.specs.Answers.{Answers, AnswersTo, IsLocked, Leaves, Server, as_found}
+use Rattle.dav_handler_core.specs.Answers.{Answers, AnswersTo, Leaves}
+use Rattle.dav_handler_core.specs.MethodAnswers.{IsLocked, as_found}
+use Rattle.dav_handler_core.specs.Server.{Server}
 use Rattle.dav_session_core.specs.Callers.{Caller, SameLive, live}
 use Rattle.dav_session_core.specs.Clearing.{IsCleared}
 use Rattle.dav_session_core.specs.Copying.{IsPartlyCopied, created_at, is_copied}
 use Rattle.dav_fields_core.specs.Fields.{Sent, sent_of}
 use Rattle.dav_session_core.specs.Granting.{granted_lock}
 use Rattle.dav_handler_core.specs.KeptDocuments.{IsNew, KeepsElements}
-use Rattle.dav_documents_core.specs.KeptElements.{AreKept, IsKeptLock, IsKeptProperty}
+use Rattle.dav_documents_core.specs.KeptElements.{AreKept, IsKeptLock}
 use Rattle.dav_documents_core.specs.LockInfos.{LockInfo, lock_info_in}
-use Rattle.dav_methods_core.specs.Locking.{IsGranted}
-use Rattle.dav_session_core.specs.Making.{Makes}
+use Rattle.dav_methods_core.specs.LockMethod.{IsGranted}
+use Rattle.dav_methods_core.specs.MkcolMethod.{Makes}
 use Rattle.dav_session_core.specs.Moving.{IsMoved}
 use Rattle.dav_documents_core.specs.PatchBodies.{any_protected}
-use Rattle.dav_session_core.specs.Patching.{Changes, IsPatched, with_updates}
+use Rattle.dav_methods_core.specs.ProppatchMethod.{Changes}
+use Rattle.dav_session_core.specs.Patching.{IsPatched, with_updates}
 use Rattle.dav_documents_core.specs.PropertyUpdates.{Update}
-use Rattle.dav_session_core.specs.Putting.{Puts, props_of}
+use Rattle.dav_methods_core.specs.PutMethod.{Puts, props_of}
 use Rattle.dav_documents_core.specs.RefusalReading.{IsRooted}
 use Rattle.dav_session_core.specs.Removing.{IsRemoved}
 use Rattle.dav_handler_core.specs.TagHistories.{Becomes}
@@ -54,99 +51,11 @@ use Rattle.dav_documents_core.proofs.AskedNameLemmas.{lock_owner}
 use Rattle.dav_documents_core.proofs.KeptReadingLaws.{IsKeptAsSent, updates_are_kept}
 use Rattle.dav_handler_core.proofs.LockTextLemmas.{target_rooted, token_visible}
 use Rattle.dav_documents_core.proofs.NamedLemmas.{passes_all}
-use Rattle.dav_session_core.proofs.PutLemmas.{Found, put_found}
-use Rattle.dav_session_core.proofs.SubtreeLemmas.{rest_of}
-
--- ---- locks
-
-abbrev pub AreKeptLocks : List Lock → Type 0
-AreKeptLocks locks = AllByRecursion IsKeptLock locks
-
-has_come_on : (last now : ℕ) (end : Option ℕ) → last ≤ now → has_come last end ≡ true → has_come now end ≡ true
-has_come_on last now None later h = h
-has_come_on last now (Some end) later h = grind (arith, nat_tests)
-
--- the locks that last at a later moment
-pub kept_later : (last now : ℕ) (locks : List Lock) → last ≤ now → AreKeptLocks (without_stale last locks) → AreKeptLocks (without_stale now locks)
-kept_later last now [] later h = tt
-kept_later last now (l ∷ locks) later h = by (is_stale last l) (is_stale now l) refl refl (kept_later last now locks later) h
-  where
-    by : (before after : Bool) → is_stale last l ≡ before → is_stale now l ≡ after → (AreKeptLocks (without_stale last locks) → AreKeptLocks (without_stale now locks))
-        → AreKeptLocks (cond (not before) (l ∷ without_stale last locks) (without_stale last locks))
-        → AreKeptLocks (cond (not after) (l ∷ without_stale now locks) (without_stale now locks))
-    by true true was is more k = more k
-    by true false was is more k = absurd (true≢false (sym (has_come_on last now l.timeout_at later was) ∙ is))
-    by false true was is more k = more k.1
-    by false false was is more k = (k.0, more k.1)
-
-pub all_behind : {X : Type 0} (P : X → Type 0) (xs ys : List X) → AllByRecursion P xs → AllByRecursion P ys → AllByRecursion P (xs ++ ys)
-all_behind P [] ys h k = k
-all_behind P (x ∷ xs) ys h k = (h.0, all_behind P xs ys h.1 k)
-
-all_taken : {X : Type 0} (P : X → Type 0) (n : ℕ) (xs : List X) → AllByRecursion P xs → AllByRecursion P (take n xs)
-all_taken P zero xs h = tt
-all_taken P (suc n) [] h = tt
-all_taken P (suc n) (x ∷ xs) h = (h.0, all_taken P n xs h.1)
-
-all_dropped : {X : Type 0} (P : X → Type 0) (n : ℕ) (xs : List X) → AllByRecursion P xs → AllByRecursion P (drop n xs)
-all_dropped P zero xs h = h
-all_dropped P (suc n) [] h = tt
-all_dropped P (suc n) (x ∷ xs) h = all_dropped P n xs h.1
-
-removed_one : {X : Type 0} (P : X → Type 0) (xs : List X) (at : ℕ) → AllByRecursion P xs → AllByRecursion P (remove xs at)
-removed_one P xs at h = all_behind P (take at xs) (drop (suc at) xs) (all_taken P at xs h) (all_dropped P (suc at) xs h)
-
--- one of them has another end
-set_one : (now : ℕ) (timeout : Option ℕ) (locks : List Lock) (at : ℕ) (lock : Lock) → lock ≡ refreshed now timeout (get_or locks at lock) → AreKeptLocks locks
-    → AreKeptLocks (set locks at lock)
-set_one now timeout [] at lock is h = tt
-set_one now timeout (l ∷ locks) zero lock is h =
-    (subst IsKeptLock (sym is) (record { token = h.0.token; rooted = h.0.rooted; owner = h.0.owner }), h.1)
-set_one now timeout (l ∷ locks) (suc at) lock is h = (h.0, set_one now timeout locks at lock is h.1)
-
-covering_kept : (locks : List Lock) (p : Path) (n more : ℕ) → AreKeptLocks locks → AreKeptLocks (covering_from locks p n more)
-covering_kept locks p n zero h = tt
-covering_kept locks p n (suc more) h =
-    all_behind IsKeptLock (covering_at locks p n) (covering_from locks p (n + 1) more) (passes_all IsKeptLock (λ l. covers l p && (height l == n)) locks h)
-    (covering_kept locks p (n + 1) more h)
-
--- the locks that cover a path
-pub discovered_kept : (locks : List Lock) (p : Path) → AreKeptLocks locks → AreKeptLocks (discovered locks p)
-discovered_kept locks p h = covering_kept locks p 0 (suc (length p)) h
-
--- ---- properties
-
-insert_kept : (props : Properties) (key : List ℕ × List ℕ) (p : Property) → AreKept props → IsKeptProperty p → AreKept (insert props key p)
-insert_kept props key p h is other q found = elim (inserted key_total key_exact props key p other q found) [
-  | inl new ↦ subst IsKeptProperty (sym new.1) is
-  | inr old ↦ h other q old.1
-]
-
-remove_kept : (props : Properties) (key : List ℕ × List ℕ) → AreKept props → AreKept (maps.remove props key)
-remove_kept props key h other q found = h other q (removed key_total key_exact props key other q found).1
-
-patched_kept : (props : Properties) (updates : List Update) → AreKept props → AllByRecursion IsKeptAsSent updates → AreKept (patched props updates)
-patched_kept props [] h is = h
-patched_kept props ((true, p) ∷ updates) h is = patched_kept (patched_by props (true, p)) updates (insert_kept props (key_of p) p h is.0.0) is.1
-patched_kept props ((false, p) ∷ updates) h is = patched_kept (patched_by props (false, p)) updates (remove_kept props (key_of p) h) is.1
-
-no_props : AreKept empty
-no_props key p found = none_some (get empty key) p (get-empty key_cmp key) found
+use Rattle.dav_methods_core.proofs.PutMethodLemmas.{Found, put_found}
+use Rattle.dav_path_core.proofs.paths.SubtreePaths.{rest_of}
+use Rattle.dav_documents_core.proofs.KeptLockTexts.{AreKeptLocks, kept_later, all_behind, removed_one, set_one, patched_kept, no_props, AllKept, IsKeptAt, mapped_kept, new_kept}
 
 -- ---- maps
-
-abbrev AllKept : ResourceMap → Type 0
-AllKept m = (p : Path) (r : Resource) → at_path m p ≡ Some r → AreKept r.node.props
-
--- what stands in the map
-abbrev IsKeptAt : Option Resource → Type 0
-IsKeptAt o = (r : Resource) → o ≡ Some r → AreKept r.node.props
-
-mapped_kept : (f : Resource → Resource) → ((r : Resource) → (f r).node.props ≡ r.node.props) → (o : Option Resource) → IsKeptAt o → IsKeptAt (option_map f o)
-mapped_kept f same None h r is = absurd (cc)
-mapped_kept f same (Some old) h r is =
-    let one : f old ≡ r = cc in
-    subst AreKept (sym (same old) ∙ ap (λ (x : Resource). x.node.props) one) (h old refl)
 
 found_kept : (m m' : ResourceMap) (p : Path) (bytes : List ℕ) (now : ℕ) → Found m p bytes now m' → AllKept m → AllKept m'
 found_kept m m' p bytes now h kept q r is = elim (dec path_total path_exact q p) [
@@ -162,7 +71,7 @@ found_kept m m' p bytes now h kept q r is = elim (dec path_total path_exact q p)
 
 removed_kept : (now : ℕ) (p : Path) (s s' : State) → IsRemoved now p s s' → AllKept s.map → AllKept s'.map
 removed_kept now p s s' h kept q r is = elim (dec path_total path_exact q (parent p)) [
-  | inl above ↦ mapped_kept (dated now) (λ r. refl) (at_path s.map (parent p)) (kept (parent p)) r (sym h.above ∙ subst (λ q. at_path s'.map q ≡ Some r) above is)
+  | inl above ↦ mapped_kept (dated_entry now) (λ r. refl) (at_path s.map (parent p)) (kept (parent p)) r (sym h.above ∙ subst (λ q. at_path s'.map q ≡ Some r) above is)
   | inr below ↦ elim (cases_Bool (is_front p q)) [
     | inl inside ↦ none_some (at_path s'.map q) r (h.gone q inside) is
     | inr out ↦ kept q r (sym (h.others q out below) ∙ is)
@@ -203,12 +112,12 @@ moved_kept now from to s s' h kept q r is = elim (cases_Bool (is_front from q)) 
         let at = rest_of to q inside in
         kept (from ++ at.0) r (sym (h.there at.0) ∙ subst (λ q. at_path s'.map q ≡ Some r) at.1 is)
     | inr away ↦
-        mapped_kept (λ (x : Resource). cond (is_same_path q (parent from) || is_same_path q (parent to)) (dated now x) x)
+        mapped_kept (λ (x : Resource). cond (is_same_path q (parent from) || is_same_path q (parent to)) (dated_entry now x) x)
         (λ x. either_way (is_same_path q (parent from) || is_same_path q (parent to)) x) (at_path s.map q) (kept q) r (sym (h.others q out away) ∙ is)
   ]
 ]
   where
-    either_way : (b : Bool) (x : Resource) → (cond b (dated now x) x).node.props ≡ x.node.props
+    either_way : (b : Bool) (x : Resource) → (cond b (dated_entry now x) x).node.props ≡ x.node.props
     either_way true x = refl
     either_way false x = refl
 
@@ -219,7 +128,7 @@ made_kept body s s' who p status h kept q r is = elim (dec path_total path_exact
       subst AreKept (sym (ap (λ (x : Resource). x.node.props) same ∙ ap (λ (n : Node). n.props) h.new)) no_props
   | inr apart ↦ elim (dec path_total path_exact q (parent p)) [
     | inl above ↦
-        let same = one_some (at_path s'.map (parent p)) r (dated who.now h.above) (subst (λ q. at_path s'.map q ≡ Some r) above is) h.changed in
+        let same = one_some (at_path s'.map (parent p)) r (dated_entry who.now h.above) (subst (λ q. at_path s'.map q ≡ Some r) above is) h.changed in
         subst AreKept (sym (ap (λ (x : Resource). x.node.props) same)) (kept (parent p) h.above h.stands)
     | inr below ↦ kept q r (sym (h.others q apart below) ∙ is)
   ]
@@ -357,12 +266,12 @@ module _ (before after : Server) (later : before.last ≤ after.last) (kept : Ke
           locks = subst (λ n. AreKeptLocks (without_stale n after.state.locks)) h.begins.now
               (subst AreKeptLocks (sym (ap (λ (s : State). s.locks) g.grants.left)) (with_one g.lock lock));
         }
-    | inr refreshed ↦
-        let r = refreshed.1.refreshes in
+    | inr refreshed_lock ↦
+        let r = refreshed_lock.1.refreshes in
         record {
           properties = subst AllKept (sym (ap (λ (s : State). s.map) r.left)) kept.properties;
           locks = from_locks (set (as_found before after).locks r.place r.lock) (ap (λ (s : State). s.locks) r.left)
-              (set_one h.who.now refreshed.1.timeout (as_found before after).locks r.place r.lock r.lock_is found_locks);
+              (set_one h.who.now refreshed_lock.1.timeout (as_found before after).locks r.place r.lock r.lock_is found_locks);
         }
   ]
 
@@ -452,12 +361,6 @@ answer_keeps before after request response h kept =
     }
 
 -- ---- a run
-
-new_kept : (now : ℕ) → AllKept (start now)
-new_kept now p r is = elim (inserted path_total path_exact empty [] (record { number = 1; node = new_folder now }) p r is) [
-  | inl root ↦ subst AreKept (ap (λ (x : Resource). x.node.props) (sym root.1)) no_props
-  | inr other ↦ none_some (get empty p) r (get-empty path_cmp p) other.1
-]
 
 pub begins_kept : (s : Server) → IsNew s → KeepsElements s
 begins_kept s h = record {

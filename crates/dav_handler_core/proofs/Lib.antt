@@ -1,6 +1,7 @@
 pub mod AnswerLemmas
 pub mod DecidingLaws
 pub mod DescriptionTextLemmas
+pub mod DescriptionTexts
 pub mod FileHistoryLemmas
 pub mod FrameLemmas
 pub mod HoldingLaws

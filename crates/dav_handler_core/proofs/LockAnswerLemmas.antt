@@ -12,14 +12,16 @@ use Rattle.dav_path_core.proofs.lists.MemberLemmas.{In, Contains-In}
 use Rattle.dav_resource_core.specs.Step.{State}
 use Rattle.dav_faults_core.specs.declared.faults.Fault.{Fault}
 use Rattle.dav_faults_core.specs.declared.faults.Fault.TheVariants as fault
-use Rattle.dav_handler_core.specs.Answers.{Admits, Begins, Leaves, LockAnswers, LocksOne, Moves, Server, Unread, as_found, has_body}
+use Rattle.dav_handler_core.specs.MethodAnswers.{Admits, Begins, LockAnswers, Unread, as_found, has_body}
+use Rattle.dav_handler_core.specs.Answers.{Leaves, LocksOne, MayDo}
+use Rattle.dav_handler_core.specs.Server.{Server}
 use Rattle.dav_session_core.specs.Callers.{Asks, Caller, RunBy, Runs, SameLive, live}
 use Rattle.dav_session_core.specs.Conditions.{has_token}
 use Rattle.dav_fields_core.specs.Fields.{Sent}
-use Rattle.dav_methods_core.specs.Locking.{FailsToLock, IsAskedBy, IsGranted, LeavesUntold}
+use Rattle.dav_methods_core.specs.LockMethod.{FailsToLock, IsAskedBy, IsGranted, LeavesUntold}
 use Rattle.dav_handler_core.specs.Private.Begun.{IsHeld}
 use Rattle.dav_methods_core.specs.Rooms.{LeavesLock}
-use Rattle.dav_session_core.specs.Refreshing.{FailsToRefresh, Refreshes}
+use Rattle.dav_methods_core.specs.RefreshMethod.{FailsToRefresh, Refreshes}
 use Rattle.dav_session_core.proofs.AnewLemmas.{of_filter}
 use Rattle.dav_handler_core.proofs.AnswerLemmas.{admits_on, begins_on, found_as, moves_on}
 use Rattle.dav_session_core.proofs.CallerLaws.{runs_by, runs_join, runs_of}
@@ -98,8 +100,8 @@ module _ (before mid after : Server) (request : Request (List ℕ)) (path : Path
 
   -- ---- what it asks of the stores
 
-  pub moves_locked : Moves before request mid → RunBy who before.state mid.state → Runs mid.state after.state → LocksOne (live who.now s) who path after.state
-      → after.options ≡ mid.options → after.clock ≡ mid.clock → Moves before request after
+  pub moves_locked : MayDo before request mid → RunBy who before.state mid.state → Runs mid.state after.state → LocksOne (live who.now s) who path after.state
+      → after.options ≡ mid.options → after.clock ≡ mid.clock → MayDo before request after
   moves_locked moves first more does options clock = record {
     by_caller = inr (
       who,
@@ -116,17 +118,17 @@ module _ (before mid after : Server) (request : Request (List ℕ)) (path : Path
     clock = clock ∙ moves.clock;
   }
 
-  pub moves_granted : (result : Result ℕ Fault) (sent : Sent) → s ≡ mid.state → Moves before request mid → RunBy who before.state mid.state → Runs mid.state after.state
+  pub moves_granted : (result : Result ℕ Fault) (sent : Sent) → s ≡ mid.state → MayDo before request mid → RunBy who before.state mid.state → Runs mid.state after.state
       → IfOk result (λ status. IsGranted before.options.longest before.options.prefix (head_of request).headers (body_of request) (live who.now s) who path status sent after.state)
-      → IfErr result (λ e. LeavesLock (IsAskedBy (body_of request) (live who.now s) who path) who (segments path.bytes) e s after.state) → after.options ≡ mid.options → after.clock ≡ mid.clock → Moves before request after
+      → IfErr result (λ e. LeavesLock (IsAskedBy (body_of request) (live who.now s) who path) who (segments path.bytes) e s after.state) → after.options ≡ mid.options → after.clock ≡ mid.clock → MayDo before request after
   moves_granted (Ok status) sent is moves first more done left options clock = moves_locked moves first more (LocksOne.grants done.wanted done.lock done.grants) options clock
   moves_granted (Err e) sent is moves first more done (inl kept) options clock =
       moves_on before mid after request path who begins moves first (subst (λ (t : State). RunBy who t after.state) is kept.0) same options clock
   moves_granted (Err e) sent is moves first more done (inr untold) options clock = moves_locked moves first more (LocksOne.takes_back (untold_by (live who.now s) after.state who (segments path.bytes) (λ l asked. tt) untold.1)) options clock
 
-  pub moves_refreshed : (result : Result ℕ Fault) (sent : Sent) → s ≡ mid.state → Moves before request mid → RunBy who before.state mid.state → Asks who mid.state after.state
+  pub moves_refreshed : (result : Result ℕ Fault) (sent : Sent) → s ≡ mid.state → MayDo before request mid → RunBy who before.state mid.state → Asks who mid.state after.state
       → IfOk result (λ status. Refreshes before.options.longest before.options.prefix (head_of request).headers (live who.now s) who (segments path.bytes) status sent after.state)
-      → OnErr result (RunBy who mid.state after.state) → after.options ≡ mid.options → after.clock ≡ mid.clock → Moves before request after
+      → OnErr result (RunBy who mid.state after.state) → after.options ≡ mid.options → after.clock ≡ mid.clock → MayDo before request after
   moves_refreshed (Ok status) sent is moves first more done looked options clock =
       let named = of_filter (has_token (live who.now s) (segments path.bytes)) who.tokens done.token (subst (In done.token) (sym done.names) (inl refl)) in
       moves_locked moves first (runs_of who mid.state after.state more) (LocksOne.refreshes done.token done.timeout (Contains-In who.tokens done.token named.0) done.refreshes) options clock

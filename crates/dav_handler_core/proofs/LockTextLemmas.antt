@@ -11,22 +11,22 @@ use Rattle.dav_path_core.specs.PathText.{PathText, full}
 use Rattle.dav_path_core.specs.Prefix.{SetsPrefix}
 use Rattle.dav_path_core.specs.Prefix.SetsPrefix.{cut, whole, front}
 use Rattle.dav_locks_core.specs.Tokens.{token_from}
-use Rattle.dav_documents_core.specs.KeptElements.{IsVisible, is_visible}
+use Rattle.dav_documents_core.specs.KeptElements.{IsVisible, is_printable}
 use Rattle.dav_documents_core.specs.RefusalReading.{IsRooted}
 use Rattle.dav_fields_core.specs.Targets.{IsTargetOf}
 use Rattle.dav_documents_core.proofs.VisibleTextLemmas.{AreVisible, joined}
 
 -- ---- tokens
 
-places_visible : (n : ℕ) (f : ℕ → ℕ) → ((k : ℕ) → is_visible (f k) ≡ true) → AreVisible (by_index n f)
+places_visible : (n : ℕ) (f : ℕ → ℕ) → ((k : ℕ) → is_printable (f k) ≡ true) → AreVisible (by_index n f)
 unfolding by_index
 places_visible zero f h = refl
 places_visible (suc n) f h = joined (by_index n f) (f n ∷ []) (places_visible n f h) (rw (h n) refl)
 
-digit_visible : (d : ℕ) → d < 16 → is_visible (hex_digit lower d) ≡ true
+digit_visible : (d : ℕ) → d < 16 → is_printable (hex_digit lower d) ≡ true
 digit_visible d small = grind (arith, nat_tests)
 
-place_visible : (hyphen_there : Bool) (d : ℕ) → d < 16 → is_visible (cond hyphen_there hyphen (hex_digit lower d)) ≡ true
+place_visible : (hyphen_there : Bool) (d : ℕ) → d < 16 → is_printable (cond hyphen_there hyphen (hex_digit lower d)) ≡ true
 place_visible true d small = refl
 place_visible false d small = digit_visible d small
 

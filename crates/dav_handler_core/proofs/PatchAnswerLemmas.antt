@@ -7,10 +7,11 @@ use Rattle.dav_path_core.specs.PathText.{PathText}
 use Rattle.dav_path_core.specs.Segments.{segments}
 use Rattle.dav_resource_core.specs.Step.{State}
 use Rattle.dav_faults_core.specs.declared.faults.Fault.{Fault}
-use Rattle.dav_handler_core.specs.Answers.{Admits, Begins, PatchAnswers, Server, Unread, as_found}
+use Rattle.dav_handler_core.specs.MethodAnswers.{Admits, Begins, PatchAnswers, Unread, as_found}
+use Rattle.dav_handler_core.specs.Server.{Server}
 use Rattle.dav_session_core.specs.Callers.{Caller, live}
 use Rattle.dav_fields_core.specs.Fields.{Sent}
-use Rattle.dav_session_core.specs.Patching.{FailsToPatch, Patches}
+use Rattle.dav_methods_core.specs.ProppatchMethod.{FailsToPatch, Patches}
 use Rattle.dav_handler_core.specs.Private.Begun.{IsHeld}
 use Rattle.dav_handler_core.proofs.AnswerLemmas.{admits_on, begins_on, found_as, held_off, refused_by}
 

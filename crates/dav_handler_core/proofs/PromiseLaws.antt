@@ -15,25 +15,28 @@ use Rattle.dav_path_core.specs.Segments.{segments}
 use Rattle.dav_path_core.proofs.lists.FinMaps.{dec, none_some, one_some}
 use Rattle.dav_path_core.proofs.lists.Orders.{path_exact, path_total}
 use Rattle.dav_files_core.specs.declared.memfs.Kind.TheVariants.{Folder, File}
-use Rattle.dav_files_core.specs.Following.{dated}
+use Rattle.dav_files_core.specs.Following.{dated_entry}
 use Rattle.dav_files_core.specs.Resources.{Node, Resource, ResourceMap, at_path}
 use Rattle.dav_resource_core.specs.Step.{State}
 use Rattle.dav_faults_core.specs.declared.faults.Fault.{Fault}
 use Rattle.dav_faults_core.specs.declared.faults.Fault.TheVariants as fault
 use Rattle.dav_fields_core.specs.declared.ranges.Extent.{Extent}
 use Rattle.dav_fields_core.specs.declared.ranges.Extent.TheVariants as extent
-use Rattle.dav_handler_core.specs.Answers.{Answers, AnswersTo, Leaves, Names, Server, as_found, status_of}
+use Rattle.dav_handler_core.specs.Answers.{Answers, AnswersTo, Leaves, status_of}
+use Rattle.dav_handler_core.specs.Server.{Names, Server}
+use Rattle.dav_handler_core.specs.MethodAnswers.{as_found}
 use Rattle.dav_session_core.specs.Callers.{Caller, SameLive, live}
 use Rattle.dav_session_core.specs.Clearing.{IsCleared}
 use Rattle.dav_session_core.specs.Copying.{IsPartlyCopied, created_at, is_copied}
-use Rattle.dav_fields_core.specs.Destinations.{IsDestination}
+use Rattle.dav_fields_core.specs.TransferDestinations.{IsDestination}
 use Rattle.dav_fields_core.specs.Fields.{Sent, sent_of}
-use Rattle.dav_fields_core.specs.Getting.{Tells, told_of}
+use Rattle.dav_methods_core.specs.GetMethod.{Tells, get_outcome_of}
 use Rattle.dav_handler_core.specs.KeptDocuments.{IsNew}
-use Rattle.dav_session_core.specs.Making.{Makes}
+use Rattle.dav_methods_core.specs.MkcolMethod.{Makes}
 use Rattle.dav_session_core.specs.Moving.{IsMoved}
 use Rattle.dav_documents_core.specs.PatchBodies.{any_protected}
-use Rattle.dav_session_core.specs.Patching.{Changes, with_updates}
+use Rattle.dav_methods_core.specs.ProppatchMethod.{Changes}
+use Rattle.dav_session_core.specs.Patching.{with_updates}
 use Rattle.dav_documents_core.specs.PropertyUpdates.{Update}
 use Rattle.dav_session_core.specs.Removing.{IsRemoved}
 use Rattle.dav_handler_core.specs.Promises.{Brings, EachAnswer, EachCall, GetsWhatIsLeft, IsLeft, KeepsTo, StandsAt}
@@ -43,8 +46,8 @@ use Rattle.dav_handler_core.specs.TagHistories.Becomes.{itself, by_clock, by_ans
 use Rattle.dav_handler_core.proofs.DecidingLaws.{no_fault}
 use Rattle.dav_handler_core.proofs.HoldingLaws.{kept_unless_held, stands_unless_ended}
 use Rattle.dav_handler_core.proofs.KeptStoreLaws.{begins_kept, run_keeps}
-use Rattle.dav_session_core.proofs.PutLemmas.{put_found}
-use Rattle.dav_session_core.proofs.SubtreeLemmas.{rest_of}
+use Rattle.dav_methods_core.proofs.PutMethodLemmas.{put_found}
+use Rattle.dav_path_core.proofs.paths.SubtreePaths.{rest_of}
 use Rattle.dav_handler_core.proofs.TagLaws.{new_stores}
 
 -- ---- where the bytes at a path come from
@@ -71,7 +74,7 @@ mapped m p f file keeps is kind = by (at_path m p) refl is
 removed_from : (now : ℕ) (p : Path) (s s' : State) → IsRemoved now p s s' → (q : Path) (bytes : List ℕ) → StandsAt s'.map q bytes → StandsAt s.map q bytes
 removed_from now p s s' h q bytes stands = elim (dec path_total path_exact q (parent p)) [
   | inl above ↦
-      let old = mapped s.map (parent p) (dated now) stands.0 (λ r. (refl, refl)) (sym h.above ∙ subst (λ q. at_path s'.map q ≡ Some stands.0) above stands.1) stands.2 in
+      let old = mapped s.map (parent p) (dated_entry now) stands.0 (λ r. (refl, refl)) (sym h.above ∙ subst (λ q. at_path s'.map q ≡ Some stands.0) above stands.1) stands.2 in
       subst (λ q. StandsAt s.map q bytes) (sym above) (subst (StandsAt s.map (parent p)) stands.3 old)
   | inr below ↦ elim (cases_Bool (is_front p q)) [
     | inl inside ↦ none_some (at_path s'.map q) stands.0 (h.gone q inside) stands.1
@@ -120,12 +123,12 @@ moved_from now from to s s' h q file here kind = elim (cases_Bool (is_front from
         let r = rest_of to q inside in
         inr (r.0, r.1, at s.map (from ++ r.0) file (sym (h.there r.0) ∙ subst (λ q. at_path s'.map q ≡ Some file) r.1 here) kind)
     | inr away ↦
-        inl (mapped s.map q (λ (x : Resource). cond (is_same_path q (parent from) || is_same_path q (parent to)) (dated now x) x) file
+        inl (mapped s.map q (λ (x : Resource). cond (is_same_path q (parent from) || is_same_path q (parent to)) (dated_entry now x) x) file
         (λ x. either_way (is_same_path q (parent from) || is_same_path q (parent to)) x) (sym (h.others q out away) ∙ here) kind)
   ]
 ]
   where
-    either_way : (b : Bool) (x : Resource) → ((cond b (dated now x) x).node.kind ≡ x.node.kind) × ((cond b (dated now x) x).node.bytes ≡ x.node.bytes)
+    either_way : (b : Bool) (x : Resource) → ((cond b (dated_entry now x) x).node.kind ≡ x.node.kind) × ((cond b (dated_entry now x) x).node.bytes ≡ x.node.bytes)
     either_way true x = (refl, refl)
     either_way false x = (refl, refl)
 
@@ -181,7 +184,7 @@ module _ (before after : Server) (request : Request (List ℕ)) (p : Path) (file
         absurd (cc)
     | inr apart ↦ elim (dec path_total path_exact p (parent at_folder)) [
       | inl above ↦
-          let is = one_some (at_path after.state.map (parent at_folder)) file (dated who.now h.above) (subst (λ q. at_path after.state.map q ≡ Some file) above here) h.changed in
+          let is = one_some (at_path after.state.map (parent at_folder)) file (dated_entry who.now h.above) (subst (λ q. at_path after.state.map q ≡ Some file) above here) h.changed in
           let kinds : File ≡ Folder = sym kind ∙ ap (λ (r : Resource). r.node.kind) is ∙ h.kind in
           absurd (cc)
       | inr below ↦ other (Some method.MkCol) result (h.others p apart below)
@@ -328,7 +331,7 @@ module _ (begun : Server) (new : IsNew begun) where
         g.begins.names,
         λ file there kind.
             let same = one_some (at_path before.state.map (segments g.path.bytes)) file g.gets.resource there g.gets.here in
-            let told = whole_file (told_of method.Get g.gets.resource (head_of request).headers) g.gets.resource status (sent_of response) g.gets.tells (sym is ∙ two_hundred)
+            let told = whole_file (get_outcome_of method.Get g.gets.resource (head_of request).headers) g.gets.resource status (sent_of response) g.gets.tells (sym is ∙ two_hundred)
             (ap (λ (r : Resource). r.node.kind) (sym same) ∙ kind) in
             (told ∙ ap (λ (r : Resource). r.node.bytes) (sym same), left before run (segments g.path.bytes) file.node.bytes (file, there, kind, refl)),
       )

@@ -16,34 +16,37 @@ use Rattle.dav_path_core.proofs.lists.FinMaps.{dec, inserted, one_some, none_som
 use Rattle.dav_path_core.proofs.lists.Orders.{path_total, path_exact}
 use Rattle.dav_path_core.proofs.paths.FrontLemmas.{is_front-trans}
 use Rattle.dav_files_core.specs.declared.memfs.Kind.TheVariants.{Folder, File}
-use Rattle.dav_files_core.specs.Following.{dated}
+use Rattle.dav_files_core.specs.Following.{dated_entry}
 use Rattle.dav_files_core.specs.Outcomes.{new_folder, start}
-use Rattle.dav_files_core.specs.Putting.{put}
+use Rattle.dav_files_core.specs.ResourcePutting.{put}
 use Rattle.dav_files_core.specs.Resources.{Node, Resource, at_path}
 use Rattle.dav_resource_core.specs.Step.{State}
 use Rattle.dav_faults_core.specs.declared.faults.Fault.{Fault}
 use Rattle.dav_faults_core.specs.declared.faults.Fault.TheVariants as fault
-use Rattle.dav_handler_core.specs.Answers.{Answers, AnswersTo, IsLocked, Leaves, Server, as_found}
+use Rattle.dav_handler_core.specs.Answers.{Answers, AnswersTo, Leaves}
+use Rattle.dav_handler_core.specs.MethodAnswers.{IsLocked, as_found}
+use Rattle.dav_handler_core.specs.Server.{Server}
 use Rattle.dav_session_core.specs.Callers.{Caller, SameLive, live}
 use Rattle.dav_session_core.specs.Clearing.{IsCleared}
 use Rattle.dav_session_core.specs.Copying.{IsCopied, IsPartlyCopied}
 use Rattle.dav_session_core.specs.Ends.{HasFolder}
 use Rattle.dav_fields_core.specs.Fields.{Sent, sent_of}
-use Rattle.dav_session_core.specs.Making.{Makes}
+use Rattle.dav_methods_core.specs.MkcolMethod.{Makes}
 use Rattle.dav_session_core.specs.Moving.{IsMoved}
 use Rattle.dav_documents_core.specs.PatchBodies.{any_protected}
-use Rattle.dav_session_core.specs.Patching.{Changes, IsPatched, with_updates}
+use Rattle.dav_methods_core.specs.ProppatchMethod.{Changes}
+use Rattle.dav_session_core.specs.Patching.{IsPatched, with_updates}
 use Rattle.dav_documents_core.specs.PropertyUpdates.{Update}
-use Rattle.dav_session_core.specs.Putting.{Puts}
+use Rattle.dav_methods_core.specs.PutMethod.{Puts}
 use Rattle.dav_session_core.specs.Removing.{IsRemoved}
 use Rattle.dav_handler_core.specs.Serving.{Leads}
 use Rattle.dav_handler_core.specs.TagHistories.{HasFile, HasNoFiles, MomentsTell, TagsTell, Becomes}
 use Rattle.dav_handler_core.specs.TagHistories.Becomes.{itself, by_clock, by_answer}
 use Rattle.dav_handler_core.proofs.FileHistoryLemmas.{Come, Had, bytes_of, cleared_come, cleared_folder, copied_come, moved_come, removed_come}
 use Rattle.dav_fields_core.proofs.FileTagLemmas.{tells}
-use Rattle.dav_session_core.proofs.OwnLemmas.{parent_front}
-use Rattle.dav_session_core.proofs.PutLemmas.{Found, put_found}
-use Rattle.dav_session_core.proofs.RemovalLemmas.{above_out}
+use Rattle.dav_path_core.proofs.paths.AbovePaths.{parent_front}
+use Rattle.dav_methods_core.proofs.PutMethodLemmas.{Found, put_found}
+use Rattle.dav_files_core.proofs.paths.RemovedMaps.{above_out}
 
 -- ---- one answer
 
@@ -110,7 +113,7 @@ make_dates before after body who p status later h = record {
         absurd (cc)
     | inr apart ↦ elim (dec path_total path_exact has.0 (parent p)) [
       | inl above ↦
-          let is = one_some (at_path after.state.map (parent p)) file (dated who.now h.above) (subst (λ q. at_path after.state.map q ≡ Some file) above has.1) h.changed in
+          let is = one_some (at_path after.state.map (parent p)) file (dated_entry who.now h.above) (subst (λ q. at_path after.state.map q ≡ Some file) above has.1) h.changed in
           let kinds : File ≡ Folder = sym has.2 ∙ ap (λ (r : Resource). r.node.kind) is ∙ h.kind in
           absurd (cc)
       | inr below ↦ inl (file, (has.0, sym (h.others has.0 apart below) ∙ has.1, has.2), refl, refl)

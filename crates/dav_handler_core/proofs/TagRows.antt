@@ -7,7 +7,7 @@ use Rattle.dav_path_core.proofs.lists.FinMaps.{get_same, get_other}
 use Rattle.dav_path_core.proofs.lists.Orders.{path_total, path_exact}
 use Rattle.dav_files_core.specs.Outcomes.{new_file}
 use Rattle.dav_files_core.specs.Resources.{Resource, ResourceMap}
-use Rattle.dav_handler_core.specs.Answers.{Server}
+use Rattle.dav_handler_core.specs.Server.{Server}
 use Rattle.dav_fields_core.specs.FileTags.{tag_of}
 use Rattle.dav_handler_core.specs.TagHistories.{HasFile, HasNoFiles, MomentsTell}
 

@@ -14,25 +14,28 @@ use Rattle.dav_path_core.proofs.lists.FinMaps.{one_some}
 use Rattle.dav_files_core.specs.Resources.{Resource, at_path, is_folder}
 use Rattle.dav_files_core.proofs.properties.PropertyMapLemmas.{key_total}
 use Rattle.dav_locks_core.specs.Lock.{Lock}
-use Rattle.dav_locks_core.specs.Locks.{discovered}
+use Rattle.dav_locks_core.specs.Locks.{discovered_locks}
 use Rattle.dav_resource_core.specs.Step.{State}
 use Rattle.dav_xml_core.specs.Reading.{document_of}
 use Rattle.dav_faults_core.specs.declared.faults.Fault.{Fault}
-use Rattle.dav_handler_core.specs.Answers.{Answers, AnswersTo, IsLocked, IsPropPatched, Server, as_found}
+use Rattle.dav_handler_core.specs.Answers.{Answers, AnswersTo}
+use Rattle.dav_handler_core.specs.MethodAnswers.{IsLocked, IsPropPatched, as_found}
+use Rattle.dav_handler_core.specs.Server.{Server}
 use Rattle.dav_fields_core.specs.Fields.{Sent, sent_of}
-use Rattle.dav_methods_core.specs.Finding.{DescribesEach}
+use Rattle.dav_methods_core.specs.PropfindMethod.{DescribesEach}
 use Rattle.dav_handler_core.specs.KeptDocuments.{IsNew, KeepsElements, TellsXml, is_told_in_xml}
 use Rattle.dav_documents_core.specs.KeptElements.{IsDocument, IsKeptLock, IsKeptProperty, IsVisible}
 use Rattle.dav_documents_core.specs.PatchBodies.{patch_nodes}
 use Rattle.dav_methods_core.specs.PropertyAnswers.{Describes, last_or, place_url}
 use Rattle.dav_documents_core.specs.PropertyDocuments.{Description}
 use Rattle.dav_documents_core.specs.PropertyUpdates.{Update}
-use Rattle.dav_session_core.specs.Refreshing.{retimed}
+use Rattle.dav_methods_core.specs.RefreshMethod.{retimed_locks}
 use Rattle.dav_handler_core.specs.TagHistories.{Becomes}
 use Rattle.dav_documents_core.proofs.AskedNameLemmas.{question_names}
 use Rattle.dav_handler_core.proofs.DescriptionTextLemmas.{folder_url, http_date_visible, internet_date_visible, member_url, tag_visible, type_visible}
 use Rattle.dav_documents_core.proofs.KeptReadingLaws.{IsKeptAsSent, updates_are_kept}
-use Rattle.dav_handler_core.proofs.KeptStoreLaws.{AreKeptLocks, all_behind, begins_kept, discovered_kept, granted_lock_kept, kept_later, run_keeps}
+use Rattle.dav_documents_core.proofs.KeptLockTexts.{AreKeptLocks, all_behind, discovered_kept, kept_later}
+use Rattle.dav_handler_core.proofs.KeptStoreLaws.{begins_kept, granted_lock_kept, run_keeps}
 use Rattle.dav_handler_core.proofs.LockTextLemmas.{target_rooted}
 use Rattle.dav_documents_core.proofs.MapValueLemmas.{in_values}
 use Rattle.dav_documents_core.proofs.PatchDocumentLemmas.{patch_is_read}
@@ -75,7 +78,7 @@ module _ (before after : Server) (later : before.last ≤ after.last) (kept : Ke
 
   -- ---- locks
 
-  retimed_kept : (token : List ℕ) (timeout : Option ℕ) (locks : List Lock) → AreKeptLocks locks → AreKeptLocks (retimed token timeout locks)
+  retimed_kept : (token : List ℕ) (timeout : Option ℕ) (locks : List Lock) → AreKeptLocks locks → AreKeptLocks (retimed_locks token timeout locks)
   retimed_kept token timeout [] h = tt
   retimed_kept token timeout (l ∷ locks) h = (by (bytes_eq l.token token), retimed_kept token timeout locks h.1)
     where
@@ -91,16 +94,16 @@ module _ (before after : Server) (later : before.last ≤ after.last) (kept : Ke
         let lock = granted_lock_kept before after later kept request status sent fits h g in
         record {
           document = subst IsDocument (sym g.told)
-              (locks_are_read before.options.prefix h.who.principal (discovered (s.locks ++ g.lock ∷ []) p)
+              (locks_are_read before.options.prefix h.who.principal (discovered_locks (s.locks ++ g.lock ∷ []) p)
               (discovered_kept (s.locks ++ g.lock ∷ []) p (all_behind IsKeptLock s.locks (g.lock ∷ []) live_kept (lock, tt))));
           typed = g.typed;
         }
     | inr refreshed ↦
         let r = refreshed.1 in
-        let locks = discovered s.locks (segments h.path.bytes) in
+        let locks = discovered_locks s.locks (segments h.path.bytes) in
         record {
           document = subst IsDocument (sym r.told)
-              (locks_are_read before.options.prefix h.who.principal (retimed r.token r.timeout locks)
+              (locks_are_read before.options.prefix h.who.principal (retimed_locks r.token r.timeout locks)
               (retimed_kept r.token r.timeout locks (discovered_kept s.locks (segments h.path.bytes) live_kept)));
           typed = r.typed;
         }

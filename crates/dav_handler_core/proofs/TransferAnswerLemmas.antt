@@ -1,6 +1,6 @@
 -- What is left by refusals, as answers of the server say it.
 use Rattle.std.proofs.Common.{◌≡◌, inl, inr, ℕ, ◌<◌, List, Option, Some, Result, Ok, Err, ◌∙◌, sym, ap, subst}
-use Rattle.std.specs.Prelude.{IfErr, OnErr}
+use Rattle.std.specs.Prelude.{IfErr}
 use Rattle.http.specs.declared.request.Request.{Request}
 use Rattle.http.specs.Request.{head_of}
 use Rattle.http_header.specs.FieldValue.{FieldValue}
@@ -12,10 +12,12 @@ use Rattle.dav_path_core.specs.Segments.{segments}
 use Rattle.dav_resource_core.specs.Step.{State}
 use Rattle.dav_faults_core.specs.declared.faults.Fault.{Fault}
 use Rattle.dav_faults_core.specs.declared.faults.Fault.TheVariants as fault
-use Rattle.dav_handler_core.specs.Answers.{Begins, Leaves, Server, as_found}
+use Rattle.dav_handler_core.specs.MethodAnswers.{Begins, as_found}
+use Rattle.dav_handler_core.specs.Answers.{Leaves}
+use Rattle.dav_handler_core.specs.Server.{Server}
 use Rattle.dav_session_core.specs.Callers.{Caller, SameLive, live}
-use Rattle.dav_session_core.specs.Copying.{CopyLeaves, StartsToCopy}
-use Rattle.dav_session_core.specs.Moving.{MoveLeaves, StartsToMove}
+use Rattle.dav_methods_core.specs.CopyMethod.{CopyLeaves, StartsToCopy}
+use Rattle.dav_methods_core.specs.MoveMethod.{MoveLeaves, StartsToMove}
 use Rattle.dav_handler_core.proofs.AnswerLemmas.{found_as}
 
 -- where nothing has changed, any refusal may have come

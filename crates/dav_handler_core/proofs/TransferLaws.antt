@@ -13,12 +13,12 @@ use Rattle.dav_fields_core.specs.declared.bases.Scheme.{Scheme}
 use Rattle.dav_faults_core.specs.declared.faults.Fault.{Fault}
 use Rattle.dav_faults_core.specs.declared.faults.Fault.TheVariants as fault
 use Rattle.dav_session_core.specs.Callers.{Caller}
-use Rattle.dav_session_core.specs.Copying.{FailsToCopy}
-use Rattle.dav_fields_core.specs.Destinations.{LeadsNowhere, fault_of, overwrites}
-use Rattle.dav_fields_core.specs.Destinations.LeadsNowhere.{memory, no_text, no_url, no_host, another, no_path}
-use Rattle.dav_session_core.specs.Ends.{FailsAtEnds}
-use Rattle.dav_session_core.specs.LocksInTheWay.{by_place, is_below}
-use Rattle.dav_session_core.specs.Moving.{FailsToMove}
+use Rattle.dav_methods_core.specs.CopyMethod.{FailsToCopy}
+use Rattle.dav_fields_core.specs.TransferDestinations.{LeadsNowhere, fault_of, overwrites}
+use Rattle.dav_fields_core.specs.TransferDestinations.LeadsNowhere.{memory, no_text, no_url, no_host, another, no_path}
+use Rattle.dav_methods_core.specs.TransferEnds.{FailsAtEnds}
+use Rattle.dav_session_core.specs.LocksInTheWay.{by_place, is_lock_below}
+use Rattle.dav_methods_core.specs.MoveMethod.{FailsToMove}
 
 -- a path that is refused is told otherwise
 path_told : (e : ParseError) → fault_of e ≡ fault.PreconditionFailed → ⊥
@@ -30,7 +30,7 @@ path_told parse.OutOfMemory is = cc
 -- so is a lock
 lock_told : (p : Path) (e : Fault) → by_place p e ≡ fault.PreconditionFailed → e ≡ fault.PreconditionFailed
 lock_told p fault.PreconditionFailed is = is
-lock_told p (fault.Locked path) is = elim (cases_Bool (is_below p path)) [
+lock_told p (fault.Locked path) is = elim (cases_Bool (is_lock_below p path)) [
   | inl below ↦ let no : fault.MemberLocked path ≡ fault.PreconditionFailed = subst (λ b. cond b (fault.MemberLocked path) (fault.Locked path) ≡ fault.PreconditionFailed) below is in absurd (cc)
   | inr here ↦ let no : fault.Locked path ≡ fault.PreconditionFailed = subst (λ b. cond b (fault.MemberLocked path) (fault.Locked path) ≡ fault.PreconditionFailed) here is in absurd (cc)
 ]

@@ -16,15 +16,17 @@ use Rattle.dav_faults_core.specs.declared.faults.Fault.TheVariants as fault
 use Rattle.dav_fields_core.specs.declared.ranges.Extent.{Extent}
 use Rattle.dav_fields_core.specs.declared.ranges.Extent.TheVariants as extent
 use Rattle.dav_methods_core.specs.Admitting.{Weighs}
-use Rattle.dav_handler_core.specs.Answers.{Admits, Begins, Server, as_found}
+use Rattle.dav_handler_core.specs.MethodAnswers.{Admits, Begins, as_found}
+use Rattle.dav_handler_core.specs.Server.{Server}
 use Rattle.dav_session_core.specs.Callers.{Caller, live}
-use Rattle.dav_fields_core.specs.Destinations.{overwrites}
+use Rattle.dav_fields_core.specs.TransferDestinations.{overwrites}
 use Rattle.dav_fields_core.specs.Fields.{Sent}
 use Rattle.dav_fields_core.specs.FileTags.{standing_of}
-use Rattle.dav_fields_core.specs.Getting.{tags_by, told_of}
-use Rattle.dav_session_core.specs.Putting.{put_course}
+use Rattle.dav_fields_core.specs.Getting.{tags_by}
+use Rattle.dav_methods_core.specs.GetMethod.{get_outcome_of}
+use Rattle.dav_methods_core.specs.PutMethod.{put_course}
 use Rattle.dav_fields_core.specs.Ranges.{part_text}
-use Rattle.dav_session_core.specs.Refreshing.{named_there}
+use Rattle.dav_methods_core.specs.RefreshMethod.{named_there}
 
 -- a GET, a HEAD or a PUT, which look at conditions
 abbrev pub looks : Option DavMethod → Bool
@@ -35,11 +37,11 @@ looks _ = false
 
 -- what stands at the path is told to a GET or a HEAD
 abbrev pub IsToldAs : DavMethod → ResourceMap → Path → Entries FieldValue → Option Extent → Type 0
-IsToldAs m map p headers told = (r : Resource) × (at_path map p ≡ Some r) × (told_of m r headers ≡ Ok told)
+IsToldAs m map p headers told = (r : Resource) × (at_path map p ≡ Some r) × (get_outcome_of m r headers ≡ Ok told)
 
 -- one of its conditions doesn't hold there
 abbrev pub IsToldFailed : DavMethod → ResourceMap → Path → Entries FieldValue → Type 0
-IsToldFailed m map p headers = (r : Resource) × (at_path map p ≡ Some r) × (told_of m r headers ≡ Err fault.PreconditionFailed)
+IsToldFailed m map p headers = (r : Resource) × (at_path map p ≡ Some r) × (get_outcome_of m r headers ≡ Err fault.PreconditionFailed)
 
 -- the conditions of HTTP let the method be done at the path
 abbrev pub Lets : Option DavMethod → ResourceMap → Path → Entries FieldValue → Type 0
@@ -84,7 +86,7 @@ pub record SendsPart (before : Server) (request : Request (List ℕ)) (sent : Se
   pub here : at_path before.state.map (segments path.bytes) ≡ Some resource
   pub first : ℕ
   pub end : ℕ
-  pub asked : told_of method.Get resource (head_of request).headers ≡ Ok (Some (extent.Part first end))
+  pub asked : get_outcome_of method.Get resource (head_of request).headers ≡ Ok (Some (extent.Part first end))
   pub bytes : sent.body ≡ take (end - first) (drop first resource.node.bytes)
   pub says : sent.marks.parts ≡ part_text first end (length resource.node.bytes) ∷ []
 

@@ -7,9 +7,9 @@ use Rattle.dav_files_core.specs.Finding.{place}
 use Rattle.dav_locks_core.specs.Lock.{Lock}
 use Rattle.dav_locks_core.specs.Locks.{covers}
 use Rattle.dav_locks_core.specs.Stale.{is_stale}
-use Rattle.dav_handler_core.specs.Answers.{IsFrom, Server}
+use Rattle.dav_handler_core.specs.Server.{IsFrom, Server}
 use Rattle.dav_session_core.specs.Callers.{Caller, is_own}
-use Rattle.dav_session_core.specs.Unlocking.{NamesToken}
+use Rattle.dav_methods_core.specs.UnlockMethod.{NamesToken}
 
 -- the request comes from the lock's principal and names its token, in its `If` or its `Lock-Token`
 pub record IsHolders (before : Server) (request : Request (List ℕ)) (l : Lock) : Type 0 where

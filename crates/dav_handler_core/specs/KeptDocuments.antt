@@ -8,7 +8,7 @@ use Rattle.dav_files_core.specs.Outcomes.{start}
 use Rattle.dav_files_core.specs.Resources.{IsResourceMap, Resource, at_path}
 use Rattle.dav_locks_core.specs.Exclusive.{Exclusive}
 use Rattle.dav_locks_core.specs.Stale.{without_stale}
-use Rattle.dav_handler_core.specs.Answers.{Server}
+use Rattle.dav_handler_core.specs.Server.{Server}
 use Rattle.dav_fields_core.specs.Fields.{Sent}
 use Rattle.dav_documents_core.specs.KeptElements.{AreKept, IsDocument, IsKeptLock}
 use Rattle.dav_documents_core.specs.RefusalBodies.{xml_type}

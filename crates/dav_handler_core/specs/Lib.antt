@@ -5,6 +5,7 @@ pub mod KeptDocuments
 pub mod MethodAnswers
 pub mod Private
 pub mod Promises
-pub mod Servers
+pub mod Server
+pub mod ServerViews
 pub mod Serving
 pub mod TagHistories

@@ -13,9 +13,10 @@ use Rattle.dav_path_core.specs.Segments.{segments}
 use Rattle.dav_files_core.specs.declared.memfs.Kind.TheVariants.{File}
 use Rattle.dav_files_core.specs.Resources.{Resource, ResourceMap, at_path}
 use Rattle.dav_faults_core.specs.declared.faults.Fault.TheVariants as fault
-use Rattle.dav_handler_core.specs.Answers.{Answers, Names, Server}
+use Rattle.dav_handler_core.specs.Answers.{Answers}
+use Rattle.dav_handler_core.specs.Server.{Names, Server}
 use Rattle.dav_session_core.specs.Callers.{SameLive}
-use Rattle.dav_fields_core.specs.Destinations.{IsDestination}
+use Rattle.dav_fields_core.specs.TransferDestinations.{IsDestination}
 use Rattle.dav_handler_core.specs.Holding.{IsKeptUnlessHeld, StandsUnlessEnded}
 use Rattle.dav_handler_core.specs.Serving.{Leads}
 use Rattle.dav_handler_core.specs.TagHistories.{Becomes}
@@ -37,20 +38,20 @@ pub record Brings (before : Server) (request : Request (List ℕ)) (from to : Pa
   pub to_is : to ≡ segments target.bytes ++ rest
 
 -- the answer is to this method, and it was done
-abbrev pub IsDone : {before after : Server} {request : Request (List ℕ)} {response : Response} → Answers before request response after → DavMethod → Type 0
-IsDone h m = (h.method ≡ Some m) × ((status : ℕ) × (h.result ≡ Ok status))
+abbrev pub DoesMethod : {before after : Server} {request : Request (List ℕ)} {response : Response} → Answers before request response after → DavMethod → Type 0
+DoesMethod h m = (h.method ≡ Some m) × ((status : ℕ) × (h.result ≡ Ok status))
 
 -- The bytes that stand at a path, and how they came there since the server began: they were put there; a COPY or a MOVE brought them from a path where they had been left;
 -- or a LOCK made an empty file where nothing stood. Each other answer, and each moment that the clock tells, leaves them.
 pub data IsLeft (begun : Server) : Server → Path → List ℕ → Type 0 where
   by_put : (before after : Server) (request : Request (List ℕ)) (response : Response) (path : PathText) → Becomes begun before → (h : Answers before request response after)
-      → IsDone h method.Put → Names before.options request path → StandsAt after.state.map (segments path.bytes) (body_of request)
+      → DoesMethod h method.Put → Names before.options request path → StandsAt after.state.map (segments path.bytes) (body_of request)
       → IsLeft begun after (segments path.bytes) (body_of request)
   by_transfer : (before after : Server) (request : Request (List ℕ)) (response : Response) (from to : Path) (bytes : List ℕ) → Becomes begun before
       → (h : Answers before request response after) → (h.method ≡ Some method.Copy) ⊎ (h.method ≡ Some method.Move) → Brings before request from to
       → IsLeft begun before from bytes → StandsAt after.state.map to bytes → IsLeft begun after to bytes
   by_lock : (before after : Server) (request : Request (List ℕ)) (response : Response) (path : PathText) → Becomes begun before → (h : Answers before request response after)
-      → IsDone h method.Lock → Names before.options request path → at_path before.state.map (segments path.bytes) ≡ None → StandsAt after.state.map (segments path.bytes) []
+      → DoesMethod h method.Lock → Names before.options request path → at_path before.state.map (segments path.bytes) ≡ None → StandsAt after.state.map (segments path.bytes) []
       → IsLeft begun after (segments path.bytes) []
   by_answer : (before after : Server) (request : Request (List ℕ)) (response : Response) (p : Path) (bytes : List ℕ) → Answers before request response after
       → IsLeft begun before p bytes → StandsAt after.state.map p bytes → IsLeft begun after p bytes

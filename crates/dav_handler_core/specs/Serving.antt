@@ -3,10 +3,11 @@ use Rattle.std.specs.Prelude.{◌≡◌, ◌⊎◌, ℕ, ◌<◌, ◌≤◌, ◌
 use Rattle.std.specs.Io.KnownBytes.{Appends, Consumes, IsAtEnd}
 use Rattle.std.specs.List.{flat_map}
 use Rattle.http_server.specs.Exchange.{Chain}
-use Rattle.dav_handler_core.specs.Answers.{Answers, Server}
+use Rattle.dav_handler_core.specs.Answers.{Answers}
+use Rattle.dav_handler_core.specs.Server.{Server}
 use Rattle.http_frames.specs.declared.clients.Clients.{Clients}
 use Rattle.http_frames.specs.declared.frames.Head.TheVariants as head
-use Rattle.http_frames.specs.Clients.{Turn, turn_text, begun, config_of, Has}
+use Rattle.http_frames.specs.Clients.{Turn, turn_text, count_begun, config_of, Has}
 use Rattle.http_frames.specs.Frames.{IsLine, IsPiece}
 use Rattle.http_frames.specs.Frames as frames
 use Rattle.dav_handler_core.specs.declared.serving.End.{End}
@@ -46,7 +47,7 @@ abbrev pub IsEnd : End → Clients → Option (List ℕ) → Option (List ℕ) �
 IsEnd Whole c before after = IsAtEnd before
 IsEnd Wrong c before after = (text : List ℕ) × Consumes before after text
     × (((line : List ℕ) × IsLine line text × (frames.head line ≡ None))
-    ⊎ ((number : ℕ) × (bytes : List ℕ) × IsPiece number bytes text × (((0 < number) × (number ≤ begun c + 1)) → ⊥)))
+    ⊎ ((number : ℕ) × (bytes : List ℕ) × IsPiece number bytes text × (((0 < number) × (number ≤ count_begun c + 1)) → ⊥)))
 
 -- The frames up to the end were served: each connection as if it were alone, and all by one server.
 pub record AreServed (end : End) (c c' : Clients) (before after : Server) (input input' output output' : Option (List ℕ)) : Type 0 where

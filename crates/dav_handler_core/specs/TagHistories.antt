@@ -5,7 +5,8 @@ use Rattle.http_server.specs.declared.response.Response.{Response}
 use Rattle.dav_path_core.specs.Fronts.{Path}
 use Rattle.dav_files_core.specs.declared.memfs.Kind.TheVariants.{File}
 use Rattle.dav_files_core.specs.Resources.{Resource, ResourceMap, at_path}
-use Rattle.dav_handler_core.specs.Answers.{Answers, Server}
+use Rattle.dav_handler_core.specs.Answers.{Answers}
+use Rattle.dav_handler_core.specs.Server.{Server}
 use Rattle.dav_fields_core.specs.FileTags.{tag_of}
 
 -- ---- the files of a map

@@ -5,16 +5,20 @@ ghost use Rattle.http_server.specs.Response.{IsBlank};
 ghost use Rattle.dav_path_core.specs.declared.util.DavMethod.{DavMethod};
 ghost use Rattle.dav_path_core.specs.declared.util.DavMethod.TheVariants as method;
 ghost use Rattle.dav_resource_core.specs.Stores.{state_of};
-ghost use Rattle.dav_handler_core.specs.Answers.{Admits, Answers, AnswersTo, GetAnswers, IsFrom};
-ghost use Rattle.dav_handler_core.specs.Answers.{IsMethod, LockAnswers, Moves, Names, PatchAnswers};
-ghost use Rattle.dav_handler_core.specs.Answers.{PutAnswers, Unread};
+ghost use Rattle.dav_handler_core.specs.MethodAnswers.{Admits, GetAnswers};
+ghost use Rattle.dav_handler_core.specs.Answers.{Answers, AnswersTo};
+ghost use Rattle.dav_handler_core.specs.Server.{IsFrom};
+ghost use Rattle.dav_handler_core.specs.Answers.{IsMethod, MayDo};
+ghost use Rattle.dav_handler_core.specs.MethodAnswers.{LockAnswers, PatchAnswers};
+ghost use Rattle.dav_handler_core.specs.Server.{Names};
+ghost use Rattle.dav_handler_core.specs.MethodAnswers.{PutAnswers, Unread};
 ghost use Rattle.dav_handler_core.specs.MethodAnswers.{CopyAnswers, FindAnswers, MakeAnswers};
 ghost use Rattle.dav_handler_core.specs.MethodAnswers.{MoveAnswers, RemoveAnswers, UnlockAnswers};
 ghost use Rattle.dav_session_core.specs.Callers.{RunBy};
 ghost use Rattle.dav_handler_core.specs.Private.Begun.{IsBegun, IsHeld};
-ghost use Rattle.dav_fields_core.specs.Refusals.{IsLastMoment};
-ghost use Rattle.dav_handler_core.specs.Servers.{Answered, Changed, LeftBy, Unchanged};
-ghost use Rattle.dav_handler_core.specs.Servers.{options_of, server};
+ghost use Rattle.dav_fields_core.specs.RequestRefusals.{IsLastMoment};
+ghost use Rattle.dav_handler_core.specs.ServerViews.{IsAnswered, Changed, LeftBy, Unchanged};
+ghost use Rattle.dav_handler_core.specs.ServerViews.{options_of, server};
 ghost use Rattle.dav_session_core.specs.Sessions.{caller};
 ghost use Rattle.dav_faults_core.specs.declared.faults.Fault.TheVariants as fault;
 
@@ -157,7 +161,7 @@ impl<R: Rng> Dav<R> {
         ensures run { RunBy (caller self.new.session) (server R.stream self.old).state
             (server R.stream self.new).state }
         ensures live { Unchanged R.stream self.old self.new }
-        ensures moves { Moves (server R.stream self.old) request.now (server R.stream self.new) }
+        ensures moves { MayDo (server R.stream self.old) request.now (server R.stream self.new) }
     {
         let path = self.begin(request, changes)?;
         admit(
@@ -178,10 +182,10 @@ impl<R: Rng> Dav<R> {
         response: &mut Response,
     ) -> Result<StatusCode, Fault>
         requires { IsBlank response.old }
-        ensures answers { Answered R.stream (GetAnswers method) self.old request.now result
+        ensures answers { IsAnswered R.stream (GetAnswers method) self.old request.now result
             response.new self.new }
         ensures live { Unchanged R.stream self.old self.new }
-        ensures moves { Moves (server R.stream self.old) request.now (server R.stream self.new) }
+        ensures moves { MayDo (server R.stream self.old) request.now (server R.stream self.new) }
     {
         let path = self.begin_admitted(request, false)?;
         get::get(
@@ -201,10 +205,10 @@ impl<R: Rng> Dav<R> {
         response: &mut Response,
     ) -> Result<StatusCode, Fault>
         requires { IsBlank response.old }
-        ensures answers { Answered R.stream FindAnswers self.old request.now result response.new
+        ensures answers { IsAnswered R.stream FindAnswers self.old request.now result response.new
             self.new }
         ensures live { Unchanged R.stream self.old self.new }
-        ensures moves { Moves (server R.stream self.old) request.now (server R.stream self.new) }
+        ensures moves { MayDo (server R.stream self.old) request.now (server R.stream self.new) }
     {
         let path = self.begin_admitted(request, false)?;
         propfind::propfind(
@@ -226,10 +230,10 @@ impl<R: Rng> Dav<R> {
         response: &mut Response,
     ) -> Result<StatusCode, Fault>
         requires { IsBlank response.old }
-        ensures answers { Answered R.stream PutAnswers self.old request.now result response.new
+        ensures answers { IsAnswered R.stream PutAnswers self.old request.now result response.new
             self.new }
         ensures refused { OnErr result (Unchanged R.stream self.old self.new) }
-        ensures moves { Moves (server R.stream self.old) request.now (server R.stream self.new) }
+        ensures moves { MayDo (server R.stream self.old) request.now (server R.stream self.new) }
     {
         if request.headers().contains_key("content-range") {
             return Err(Fault::BadRequest);
@@ -249,7 +253,7 @@ impl<R: Rng> Dav<R> {
     fn serve_delete(&mut self, request: &Request<Bytes>) -> Result<StatusCode, Fault>
         ensures answers { Changed R.stream RemoveAnswers self.old request.now result self.new }
         ensures refused { OnErr result (Unchanged R.stream self.old self.new) }
-        ensures moves { Moves (server R.stream self.old) request.now (server R.stream self.new) }
+        ensures moves { MayDo (server R.stream self.old) request.now (server R.stream self.new) }
     {
         let path = self.begin_admitted(request, true)?;
         delete::delete(self.alloc, &mut self.session, request.headers(), path)
@@ -260,7 +264,7 @@ impl<R: Rng> Dav<R> {
         ensures answers { Changed R.stream CopyAnswers self.old request.now result self.new }
         ensures refused { IfErr result (LeftBy R.stream (Some method.Copy) self.old request.now
             self.new) }
-        ensures moves { Moves (server R.stream self.old) request.now (server R.stream self.new) }
+        ensures moves { MayDo (server R.stream self.old) request.now (server R.stream self.new) }
     {
         let path = self.begin_admitted(request, true)?;
         let scheme = self.settings.scheme;
@@ -279,7 +283,7 @@ impl<R: Rng> Dav<R> {
         ensures answers { Changed R.stream MoveAnswers self.old request.now result self.new }
         ensures refused { IfErr result (LeftBy R.stream (Some method.Move) self.old request.now
             self.new) }
-        ensures moves { Moves (server R.stream self.old) request.now (server R.stream self.new) }
+        ensures moves { MayDo (server R.stream self.old) request.now (server R.stream self.new) }
     {
         let path = self.begin_admitted(request, true)?;
         let scheme = self.settings.scheme;
@@ -297,7 +301,7 @@ impl<R: Rng> Dav<R> {
     fn serve_mkcol(&mut self, request: &Request<Bytes>) -> Result<StatusCode, Fault>
         ensures answers { Changed R.stream MakeAnswers self.old request.now result self.new }
         ensures refused { OnErr result (Unchanged R.stream self.old self.new) }
-        ensures moves { Moves (server R.stream self.old) request.now (server R.stream self.new) }
+        ensures moves { MayDo (server R.stream self.old) request.now (server R.stream self.new) }
     {
         let path = self.begin_admitted(request, true)?;
         mkcol::mkcol(&mut self.session, path, request.body())
@@ -310,10 +314,10 @@ impl<R: Rng> Dav<R> {
         response: &mut Response,
     ) -> Result<StatusCode, Fault>
         requires { IsBlank response.old }
-        ensures answers { Answered R.stream PatchAnswers self.old request.now result response.new
+        ensures answers { IsAnswered R.stream PatchAnswers self.old request.now result response.new
             self.new }
         ensures refused { OnErr result (Unchanged R.stream self.old self.new) }
-        ensures moves { Moves (server R.stream self.old) request.now (server R.stream self.new) }
+        ensures moves { MayDo (server R.stream self.old) request.now (server R.stream self.new) }
     {
         let path = self.begin_admitted(request, false)?;
         proppatch::proppatch(
@@ -330,7 +334,7 @@ impl<R: Rng> Dav<R> {
     fn serve_unlock(&mut self, request: &Request<Bytes>) -> Result<StatusCode, Fault>
         ensures answers { Changed R.stream UnlockAnswers self.old request.now result self.new }
         ensures refused { OnErr result (Unchanged R.stream self.old self.new) }
-        ensures moves { Moves (server R.stream self.old) request.now (server R.stream self.new) }
+        ensures moves { MayDo (server R.stream self.old) request.now (server R.stream self.new) }
     {
         let path = self.begin_admitted(request, false)?;
         unlock::unlock(self.alloc, &mut self.session, request.headers(), path)
@@ -343,11 +347,11 @@ impl<R: Rng> Dav<R> {
         response: &mut Response,
     ) -> Result<StatusCode, Fault>
         requires { IsBlank response.old }
-        ensures answers { Answered R.stream LockAnswers self.old request.now result response.new
+        ensures answers { IsAnswered R.stream LockAnswers self.old request.now result response.new
             self.new }
         ensures refused { IfErr result (LeftBy R.stream (Some method.Lock) self.old request.now
             self.new) }
-        ensures moves { Moves (server R.stream self.old) request.now (server R.stream self.new) }
+        ensures moves { MayDo (server R.stream self.old) request.now (server R.stream self.new) }
     {
         if request.body().is_empty() {
             return self.serve_refresh(request, response);
@@ -373,10 +377,10 @@ impl<R: Rng> Dav<R> {
     ) -> Result<StatusCode, Fault>
         requires blank { IsBlank response.old }
         requires no_body { body_of request.now ≡ [] }
-        ensures answers { Answered R.stream LockAnswers self.old request.now result response.new
+        ensures answers { IsAnswered R.stream LockAnswers self.old request.now result response.new
             self.new }
         ensures refused { OnErr result (Unchanged R.stream self.old self.new) }
-        ensures moves { Moves (server R.stream self.old) request.now (server R.stream self.new) }
+        ensures moves { MayDo (server R.stream self.old) request.now (server R.stream self.new) }
     {
         let path = self.begin_admitted(request, false)?;
         refresh::refresh(
@@ -398,11 +402,11 @@ impl<R: Rng> Dav<R> {
         response: &mut Response,
     ) -> Result<StatusCode, Fault>
         requires { IsBlank response.old }
-        ensures done { Answered R.stream (AnswersTo (Some method)) self.old request.now result
+        ensures done { IsAnswered R.stream (AnswersTo (Some method)) self.old request.now result
             response.new self.new }
         ensures refused { IfErr result (LeftBy R.stream (Some method) self.old request.now
             self.new) }
-        ensures moves { Moves (server R.stream self.old) request.now (server R.stream self.new) }
+        ensures moves { MayDo (server R.stream self.old) request.now (server R.stream self.new) }
     {
         match method {
             DavMethod::Options => return options::options(response),
@@ -429,9 +433,10 @@ impl<R: Rng> Dav<R> {
     ) -> Result<StatusCode, Fault>
         requires { IsBlank response.old }
         ensures done { (method : Option DavMethod) × IsMethod method (head_of request.now).method
-            × Answered R.stream (AnswersTo method) self.old request.now result response.new self.new
+            × IsAnswered R.stream (AnswersTo method) self.old request.now result response.new
+            self.new
             × IfErr result (LeftBy R.stream method self.old request.now self.new) }
-        ensures moves { Moves (server R.stream self.old) request.now (server R.stream self.new) }
+        ensures moves { MayDo (server R.stream self.old) request.now (server R.stream self.new) }
     {
         let Ok(method) = DavMethod::try_from(request.method()) else {
             return Err(Fault::NotImplemented);

@@ -4,15 +4,16 @@ ghost use Rattle.std.specs.Io.KnownBytes.{Appends, Consumes};
 ghost use Rattle.http_server.specs.Connection.{config_of, history};
 ghost use Rattle.http_server.specs.Exchange.{Calls};
 ghost use Rattle.dav_path_core.specs.Fronts.{Path};
-ghost use Rattle.dav_handler_core.specs.Answers.{Answers, Server};
+ghost use Rattle.dav_handler_core.specs.Answers.{Answers};
+ghost use Rattle.dav_handler_core.specs.Server.{Server};
 ghost use Rattle.dav_handler_core.specs.KeptDocuments.{IsNew};
 ghost use Rattle.dav_handler_core.specs.Promises.{EachAnswer, IsLeft, KeepsTo, StandsAt};
-ghost use Rattle.dav_handler_core.specs.Servers.{server};
+ghost use Rattle.dav_handler_core.specs.ServerViews.{server};
 ghost use Rattle.http_frames.specs.Clients.{Has};
 ghost use Rattle.http_frames.specs.declared.clients.Clients as held;
 ghost use Rattle.dav_handler_core.specs.Serving.{AreServed, turns_of};
 ghost use Rattle.dav_handler_core.specs.declared.serving.End as spec_end;
-ghost use Rattle.dav_handler_core.specs.Private.Steps.{Follows};
+ghost use Rattle.dav_handler_core.specs.Private.FrameSteps.{ServesOrEnds};
 
 use crate::dav::Dav;
 use dav_resource_core::fs::Moment;
@@ -99,7 +100,7 @@ fn serve_frame<R: Rng, C: Clock, I: BufRead, O: Write>(
     bytes: &mut Vec<u8>,
     output: &mut O,
 ) -> Result<Option<End>, Fault>
-    ensures { IfOk result (λ end. Follows end clients.old clients.new (server R.stream dav.old)
+    ensures { IfOk result (λ end. ServesOrEnds end clients.old clients.new (server R.stream dav.old)
         (server R.stream dav.new) (I.remaining input.old) (I.remaining input.new)
         (O.contents output.old) (O.contents output.new)) }
 {

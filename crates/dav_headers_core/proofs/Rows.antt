@@ -4,7 +4,7 @@ use Rattle.std.specs.Prelude.{codes}
 use Rattle.std.specs.Fmt.{digits}
 use Rattle.http_header.specs.FieldValue.{FieldValue, plain_value}
 use Rattle.dav_headers_core.specs.Numbers.{number}
-use Rattle.dav_headers_core.specs.Values.{written}
+use Rattle.dav_headers_core.specs.Values.{value_of_text}
 use Rattle.dav_headers_core.specs.Depths.{depth_header}
 use Rattle.dav_headers_core.specs.Timeouts.{timeout_of, timeout_header, timeouts_text}
 use Rattle.dav_headers_core.specs.UpdateRanges.{range_between, range_header, range_text}
@@ -147,8 +147,8 @@ empty_language = refl
 rooted : destination_header (one (codes "/a?b")) ≡ Some (codes "/a?b")
 rooted = refl
 
-delete_is_not_written : written (127 ∷ []) ≡ None
+delete_is_not_written : value_of_text (127 ∷ []) ≡ None
 delete_is_not_written = refl
 
-accent_is_written : written (195 ∷ 169 ∷ []) ≡ Some (plain_value (195 ∷ 169 ∷ []))
+accent_is_written : value_of_text (195 ∷ 169 ∷ []) ≡ Some (plain_value (195 ∷ 169 ∷ []))
 accent_is_written = refl

@@ -1,6 +1,6 @@
 -- The bytes of an `If` value (RFC 4918 section 10.4), and what a reading of it is.
 use Rattle.std.specs.Prelude.{ℕ, Bool, false, not, ◌&&◌, ◌||◌, ◌==◌, nat_lt, if◌then◌else◌, List, [], ◌∷◌, Option}
-use Rattle.dav_headers_core.specs.Pieces.{is_blank}
+use Rattle.dav_headers_core.specs.CommaPieces.{is_blank}
 use Rattle.dav_headers_core.specs.Tags.{quote}
 
 -- `b':'`

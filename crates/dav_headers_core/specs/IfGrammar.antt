@@ -2,7 +2,7 @@
 -- `XAt whole x rest` says that `whole` is a spelling of `x`, and then `rest`.
 use Rattle.std.specs.Prelude.{◌≡◌, ◌≢◌, ◌⊎◌, ◌==◌, ℕ, Bool, true, false, List, [], ◌∷◌, ◌++◌, codes, Option, None, Some, IsUtf8}
 use Rattle.std.specs.List.{AllByRecursion, list_any}
-use Rattle.dav_headers_core.specs.Pieces.{is_blank}
+use Rattle.dav_headers_core.specs.CommaPieces.{is_blank}
 use Rattle.dav_headers_core.specs.Tags.{IsTag}
 use Rattle.dav_headers_core.specs.IfBytes.{colon, is_word_byte, ends_word, odd_quotes, Item, Token, Tag, Condition, Group}
 

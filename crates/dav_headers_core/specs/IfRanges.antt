@@ -24,9 +24,9 @@ pub data Shown : Type 0 where
   ShownTag : List ℕ → Shown
   ShownSecond : ℕ → Shown
 
-abbrev pub shown : IfRange → Shown
-shown (ETag tag) = ShownTag tag
-shown (Date date) = ShownSecond (unix_secs date)
+abbrev pub shown_of : IfRange → Shown
+shown_of (ETag tag) = ShownTag tag
+shown_of (Date date) = ShownSecond (unix_secs date)
 
 -- the date as IMF-fixdate, or the spelling
 abbrev pub if_range_text : IfRange → List ℕ

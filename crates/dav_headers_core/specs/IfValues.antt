@@ -24,8 +24,8 @@ conditions_of conditions = map condition_of conditions
 abbrev pub Located : Type 0
 Located = Tagged Parts
 
-abbrev pub located : IfList → Located
-located list = record { tag = list.resource_tag; conditions = conditions_of list.conditions.items }
+abbrev pub located_list : IfList → Located
+located_list list = record { tag = list.resource_tag; conditions = conditions_of list.conditions.items }
 
 -- the URL of a resource tag is the one that its text spells
 abbrev pub TagIs : Option (List ℕ) → Option Parts → Type 0

@@ -4,7 +4,7 @@ use Rattle.std.specs.List.{flat_map}
 use Rattle.http_header.specs.FieldValue.{FieldValue}
 use Rattle.dav_headers_core.specs.Optional.{◌>>=◌, when, every}
 use Rattle.dav_headers_core.specs.Values.{text_of}
-use Rattle.dav_headers_core.specs.Pieces.{pieces}
+use Rattle.dav_headers_core.specs.CommaPieces.{comma_pieces}
 
 -- two bytes, or more than four of which the third is a dash
 abbrev pub is_language : List ℕ → Bool
@@ -15,7 +15,7 @@ language_of piece = when (is_language piece) piece
 
 -- the languages of a text, one a piece
 abbrev pub languages_of_bytes : List ℕ → Option (List (List ℕ))
-languages_of_bytes bytes = text_of bytes >>= λ text. every language_of (pieces text)
+languages_of_bytes bytes = text_of bytes >>= λ text. every language_of (comma_pieces text)
 
 -- the languages of the values, one value after another
 abbrev pub languages_of_all_values : List FieldValue → Option (List (List ℕ))

@@ -1,7 +1,7 @@
 pub mod Behind
 pub mod Depths
 pub mod Destinations
-pub mod Gives
+pub mod HeaderGives
 pub mod IfBytes
 pub mod IfGrammar
 pub mod IfRanges
@@ -12,7 +12,7 @@ pub mod Numbers
 pub mod Optional
 pub mod Overwrites
 pub mod Pairwise
-pub mod Pieces
+pub mod CommaPieces
 pub mod Private
 pub mod TagLists
 pub mod Tags

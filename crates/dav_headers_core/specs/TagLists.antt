@@ -4,7 +4,7 @@ use Rattle.http_header.specs.FieldValue.{FieldValue}
 use Rattle.dav_headers_core.specs.Optional.{◌>>=◌}
 use Rattle.dav_headers_core.specs.Pairwise.{pairwise}
 use Rattle.dav_headers_core.specs.Values.{text_of}
-use Rattle.dav_headers_core.specs.Pieces.{trimmed, pieces, joined}
+use Rattle.dav_headers_core.specs.CommaPieces.{without_blanks, comma_pieces, joined_by_commas}
 use Rattle.dav_headers_core.specs.Tags.{is_tag, strong_eq}
 use Rattle.dav_headers_core.specs.declared.davheaders.tag_lists.ETagList.{ETagList}
 use Rattle.dav_headers_core.specs.declared.davheaders.tag_lists.ETagList.TheVariants as list
@@ -21,7 +21,7 @@ tag_list (list.Tags tags) = TheseTags tags.items
 
 -- the pieces of the text that spell a tag
 abbrev pub tags_in : List ℕ → List (List ℕ)
-tags_in text = filter is_tag (pieces text)
+tags_in text = filter is_tag (comma_pieces text)
 
 abbrev pub in_front : List (List ℕ) → TagList → TagList
 in_front tags AnyTag = AnyTag
@@ -32,7 +32,7 @@ in_front tags (TheseTags more) = TheseTags (tags ++ more)
 abbrev pub tags_of_values : List FieldValue → Option TagList
 tags_of_values [] = Some (TheseTags [])
 tags_of_values (value ∷ values) = text_of value.bytes >>= λ text.
-    if bytes_eq (trimmed text) (codes "*") then Some AnyTag
+    if bytes_eq (without_blanks text) (codes "*") then Some AnyTag
     else (tags_of_values values >>= λ more. Some (in_front (tags_in text) more))
 
 -- what one or more values say
@@ -42,7 +42,7 @@ tag_list_header (value ∷ values) = tags_of_values (value ∷ values)
 
 abbrev pub tag_list_text : TagList → List ℕ
 tag_list_text AnyTag = codes "*"
-tag_list_text (TheseTags tags) = joined tags
+tag_list_text (TheseTags tags) = joined_by_commas tags
 
 -- as many tags, each equal to the one at its place
 abbrev pub tags_strong_eq : List (List ℕ) → List (List ℕ) → Bool

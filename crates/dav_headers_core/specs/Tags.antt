@@ -15,15 +15,15 @@ mark true = codes "W/"
 mark false = []
 
 -- a tag with this text between its quotes
-abbrev pub spelled : Bool → List ℕ → List ℕ
-spelled weak opaque_tag = mark weak ++ (quote ∷ opaque_tag ++ quote ∷ [])
+abbrev pub spelled_tag : Bool → List ℕ → List ℕ
+spelled_tag weak opaque_tag = mark weak ++ (quote ∷ opaque_tag ++ quote ∷ [])
 
 -- the spelling of a tag: `W/` or nothing, a quote, bytes but quotes, a quote
 pub record IsTag (text : List ℕ) : Type 0 where
   pub weak : Bool
   pub opaque_tag : List ℕ
   pub no_quote : AllByRecursion (λ b. b ≢ quote) opaque_tag
-  pub parts : text ≡ spelled weak opaque_tag
+  pub parts : text ≡ spelled_tag weak opaque_tag
 
 -- ---- the same as a test
 
@@ -44,20 +44,20 @@ is_tag (b ∷ c ∷ bytes) = if b == 87 && c == 47 then is_quoted bytes else is_
 -- ---- what texts and values say
 
 -- the tag that the text spells
-abbrev pub tag_of : List ℕ → Option (List ℕ)
-tag_of text = when (is_tag text) text
+abbrev pub tag_in : List ℕ → Option (List ℕ)
+tag_in text = when (is_tag text) text
 
 -- the tag with this text between its quotes
 abbrev pub new_tag : Bool → List ℕ → Option (List ℕ)
-new_tag weak text = when (not (list_any (λ b. b == quote) text)) (spelled weak text)
+new_tag weak text = when (not (list_any (λ b. b == quote) text)) (spelled_tag weak text)
 
 -- the tag of one value
 abbrev pub tag_of_value : FieldValue → Option (List ℕ)
-tag_of_value value = text_of value.bytes >>= tag_of
+tag_of_value value = text_of value.bytes >>= tag_in
 
 -- the tag of the one text
 abbrev pub tag_header : List FieldValue → Option (List ℕ)
-tag_header values = one_text values >>= tag_of
+tag_header values = one_text values >>= tag_in
 
 -- a spelling begins with `W` exactly where its tag is weak
 abbrev pub is_weak : List ℕ → Bool

@@ -5,12 +5,12 @@ use Rattle.http_header.specs.FieldValue.{FieldValue}
 use Rattle.dav_headers_core.specs.Optional.{◌>>=◌}
 use Rattle.dav_headers_core.specs.Values.{one_text}
 use Rattle.dav_headers_core.specs.Numbers.{number}
-use Rattle.dav_headers_core.specs.Behind.{behind}
+use Rattle.dav_headers_core.specs.Behind.{rest_after}
 use Rattle.dav_headers_core.specs.declared.davheaders.update_ranges.XUpdateRange.{XUpdateRange}
 use Rattle.dav_headers_core.specs.declared.davheaders.update_ranges.XUpdateRange.TheVariants.{FromTo, AllFrom, Last, Append}
 
-abbrev pub is_dash : ℕ → Bool
-is_dash b = b == 45
+abbrev pub is_hyphen : ℕ → Bool
+is_hyphen b = b == 45
 
 -- the range between two texts, of which one may be empty
 unfoldable pub range_between : List ℕ → List ℕ → Option XUpdateRange
@@ -30,7 +30,7 @@ two (first ∷ last ∷ other ∷ more) = None
 abbrev pub range_of : List ℕ → Option XUpdateRange
 range_of text =
     if bytes_eq text (codes "append") then Some Append
-    else (behind (codes "bytes=") text >>= λ range. two (slice_split is_dash range) >>= λ ends. range_between ends.0 ends.1)
+    else (rest_after (codes "bytes=") text >>= λ range. two (slice_split is_hyphen range) >>= λ ends. range_between ends.0 ends.1)
 
 -- the range of the one text
 abbrev pub range_header : List FieldValue → Option XUpdateRange
@@ -43,8 +43,8 @@ range_text (AllFrom m) = codes "bytes=" ++ (decimal m ++ 45 ∷ [])
 range_text (Last n) = codes "bytes=" ++ (45 ∷ decimal n)
 
 -- its numbers are within u64
-abbrev pub IsWithin : XUpdateRange → Type 0
-IsWithin Append = Unit {0}
-IsWithin (FromTo m n) = (m < 2 ^ 64) × (n < 2 ^ 64)
-IsWithin (AllFrom m) = m < 2 ^ 64
-IsWithin (Last n) = n < 2 ^ 64
+abbrev pub IsRangeWithin : XUpdateRange → Type 0
+IsRangeWithin Append = Unit {0}
+IsRangeWithin (FromTo m n) = (m < 2 ^ 64) × (n < 2 ^ 64)
+IsRangeWithin (AllFrom m) = m < 2 ^ 64
+IsRangeWithin (Last n) = n < 2 ^ 64

@@ -36,5 +36,5 @@ abbrev pub is_control : ℕ → Bool
 is_control b = (nat_lt b 32 && not (b == 9)) || b == 127
 
 -- the value that a text is written as
-abbrev pub written : List ℕ → Option FieldValue
-written text = when (not (list_any is_control text)) (plain_value text)
+abbrev pub value_of_text : List ℕ → Option FieldValue
+value_of_text text = when (not (list_any is_control text)) (plain_value text)

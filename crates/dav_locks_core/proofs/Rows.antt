@@ -5,7 +5,7 @@ use Rattle.std.proofs.lemmas.Bool.{false≢true}
 use Rattle.dav_path_core.specs.Segments.{segments}
 use Rattle.dav_path_core.specs.Fronts.{Path}
 use Rattle.dav_locks_core.specs.Lock.{Lock}
-use Rattle.dav_locks_core.specs.Locks.{Caller, lock_conflicts, check_conflicts, found, end_of, refreshed, discovered, without_below}
+use Rattle.dav_locks_core.specs.Locks.{LockCaller, lock_conflicts, check_conflicts, found_token, end_of, refreshed_lock, discovered_locks, without_below}
 use Rattle.dav_locks_core.specs.LockFronts.{lock_fronts, front_count}
 use Rattle.dav_locks_core.specs.Stale.{is_stale, without_stale}
 use Rattle.dav_locks_core.specs.Exclusive.{Exclusive}
@@ -25,7 +25,7 @@ lock token path who shared deep = record {
   deep = deep;
 }
 
-abbrev ann : List (List ℕ) → Caller
+abbrev ann : List (List ℕ) → LockCaller
 ann tokens = record { principal = Some (codes "ann"); ignore = false; tokens = tokens }
 
 -- ann's shared deep lock of /a and bob's shared shallow one of /a/b
@@ -94,12 +94,12 @@ unfolding segments
 both_tokens_shallow = refl
 
 -- the token of a shallow lock of /a is found at /a/b, and not once it has ended
-found_above : found (exclusive_a ∷ []) ab (codes "t1") ≡ Some 0
-unfolding segments found
+found_above : found_token (exclusive_a ∷ []) ab (codes "t1") ≡ Some 0
+unfolding segments found_token
 found_above = refl
 
-not_found_again : found (remove (exclusive_a ∷ []) 0) ab (codes "t1") ≡ None
-unfolding segments found
+not_found_again : found_token (remove (exclusive_a ∷ []) 0) ab (codes "t1") ≡ None
+unfolding segments found_token
 not_found_again = refl
 
 -- two seconds after moment 5, and a timeout past the greatest moment
@@ -113,11 +113,11 @@ end_at_most = refl
 abbrev shared_root : Lock
 shared_root = lock (codes "t3") (codes "/") (codes "ann") true true
 
-discovered_down : discovered (shared_ab ∷ shared_root ∷ []) ab ≡ shared_root ∷ shared_ab ∷ []
+discovered_down : discovered_locks (shared_ab ∷ shared_root ∷ []) ab ≡ shared_root ∷ shared_ab ∷ []
 unfolding segments
 discovered_down = refl
 
-discovered_shallow : discovered (exclusive_a ∷ []) ab ≡ []
+discovered_shallow : discovered_locks (exclusive_a ∷ []) ab ≡ []
 unfolding segments
 discovered_shallow = refl
 
@@ -134,7 +134,7 @@ unfolding segments
 none_left = refl
 
 -- another timeout, and nothing else
-refreshed_at_seven : refreshed 7 (Some 3) exclusive_a ≡ record exclusive_a { timeout_at = Some 3000000007; timeout = Some 3 }
+refreshed_at_seven : refreshed_lock 7 (Some 3) exclusive_a ≡ record exclusive_a { timeout_at = Some 3000000007; timeout = Some 3 }
 refreshed_at_seven = refl
 
 -- the root, and each lock's path with those above it
@@ -167,12 +167,12 @@ left_at_nine = refl
 abbrev same_token_below : Lock
 same_token_below = lock (codes "t1") (codes "/a/b") (codes "bob") true false
 
-found_nearest_to_root : found (same_token_below ∷ shared_a ∷ []) ab (codes "t1") ≡ Some 1
-unfolding segments found
+found_nearest_to_root : found_token (same_token_below ∷ shared_a ∷ []) ab (codes "t1") ≡ Some 1
+unfolding segments found_token
 found_nearest_to_root = refl
 
-found_first_granted : found (same_token_below ∷ shared_a ∷ exclusive_a ∷ []) ab (codes "t1") ≡ Some 1
-unfolding segments found
+found_first_granted : found_token (same_token_below ∷ shared_a ∷ exclusive_a ∷ []) ab (codes "t1") ≡ Some 1
+unfolding segments found_token
 found_first_granted = refl
 
 -- the lock that is granted at moment 5 for two seconds

@@ -1,4 +1,5 @@
 pub mod ConflictLemmas
+pub mod CoveringTokens
 pub mod DeepConflictLemmas
 pub mod DiscoverLemmas
 pub mod FrontCountLemmas

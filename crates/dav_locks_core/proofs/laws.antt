@@ -1,4 +1,5 @@
 pub mod CheckLemmas
+pub mod CoveredBelow
 pub mod DiscoveredLemmas
 pub mod EndedLemmas
 pub mod ExclusiveLemmas
@@ -6,3 +7,4 @@ pub mod FoundLemmas
 pub mod RestoredLaws
 pub mod StaleLemmas
 pub mod StandInLemmas
+pub mod WithLock

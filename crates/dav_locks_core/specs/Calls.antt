@@ -3,7 +3,7 @@ use Rattle.std.specs.Prelude.{◌≡◌, ◌≢◌, ℕ, List, [], Bool, Option,
 use Rattle.std.specs.Borrow.{Bor}
 use Rattle.std.specs.declared.alloc.Global.{Global}
 use Rattle.dav_locks_core.specs.Lock.{Lock}
-use Rattle.dav_locks_core.specs.Locks.{Caller}
+use Rattle.dav_locks_core.specs.Locks.{LockCaller}
 use Rattle.dav_locks_core.specs.declared.ls.RefreshError.{RefreshError}
 use Rattle.dav_locks_core.specs.declared.ls.RefreshError.TheVariants.{NoLock, OutOfMemory as NoRoom}
 use Rattle.dav_locks_core.specs.declared.ls.LockError.{LockError}
@@ -14,8 +14,8 @@ abbrev pub lent_text : Option (Bor (List ℕ)) → Option (List ℕ)
 lent_text text = option_map (λ t. t.now) text
 
 -- who asks
-abbrev pub caller : Option (Bor (List ℕ)) → Bool → List (String Global) → Caller
-caller principal ignore tokens = record { principal = lent_text principal; ignore = ignore; tokens = map string_bytes tokens }
+abbrev pub lock_caller : Option (Bor (List ℕ)) → Bool → List (String Global) → LockCaller
+lock_caller principal ignore tokens = record { principal = lent_text principal; ignore = ignore; tokens = map string_bytes tokens }
 
 -- a conflict that is shown is one of these
 abbrev pub Shows : List Lock → LockError → Type 0

@@ -1,5 +1,5 @@
 pub mod Calls
-pub mod Codes
+pub mod LockCodes
 pub mod Ended
 pub mod Exclusive
 pub mod Held

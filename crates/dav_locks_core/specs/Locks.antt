@@ -32,14 +32,14 @@ same_text (Some a) None = false
 same_text (Some a) (Some b) = bytes_eq a b
 
 -- who asks, whether principals are ignored, and the tokens that are submitted
-pub record Caller : Type 0 where
+pub record LockCaller : Type 0 where
   pub principal : Option (List ℕ)
   pub ignore : Bool
   pub tokens : List (List ℕ)
 
 -- the lock's token is submitted, under its principal unless principals are ignored
-abbrev pub held : Lock → Caller → Bool
-held l who = list_any (λ token. bytes_eq token l.token) who.tokens && (who.ignore || same_text l.principal who.principal)
+abbrev pub is_held_by : Lock → LockCaller → Bool
+is_held_by l who = list_any (λ token. bytes_eq token l.token) who.tokens && (who.ignore || same_text l.principal who.principal)
 
 -- whether a lock refuses a wanted one
 abbrev pub refuses_lock : Path → Bool → Bool → Lock → Bool
@@ -50,17 +50,17 @@ abbrev pub lock_conflicts : List Lock → Path → Bool → Bool → List Lock
 lock_conflicts locks p shared deep = filter (refuses_lock p shared deep) locks
 
 -- whether a lock that covers the path is held
-abbrev pub any_held : List Lock → Path → Caller → Bool
-any_held locks p who = list_any (λ l. covers l p && held l who) locks
+abbrev pub any_held : List Lock → Path → LockCaller → Bool
+any_held locks p who = list_any (λ l. covers l p && is_held_by l who) locks
 
 -- whether a lock of the list refuses a change: one that isn't held, and covers the path as an exclusive one or with no
 -- covering lock held, or for a deep check is at or below it
-abbrev pub refuses_change : List Lock → Path → Bool → Caller → Lock → Bool
+abbrev pub refuses_change : List Lock → Path → Bool → LockCaller → Lock → Bool
 refuses_change locks p deep who l =
-    not (held l who) && ((covers l p && (not l.shared || not (any_held locks p who))) || (deep && is_at_or_below l p))
+    not (is_held_by l who) && ((covers l p && (not l.shared || not (any_held locks p who))) || (deep && is_at_or_below l p))
 
 -- the locks that refuse a change
-abbrev pub check_conflicts : List Lock → Path → Bool → Caller → List Lock
+abbrev pub check_conflicts : List Lock → Path → Bool → LockCaller → List Lock
 check_conflicts locks p deep who = filter (refuses_change locks p deep who) locks
 
 abbrev pub found_here : Path → List ℕ → Lock → Bool
@@ -84,16 +84,16 @@ found_from k (l ∷ locks) p token =
 
 -- the found lock, by its place in the list: of those with that token at the path or above, the one with the fewest
 -- segments; of these the first
-unfoldable pub found : List Lock → Path → List ℕ → Option ℕ
-found locks p token = option_map (λ f. f.0) (found_from 0 locks p token)
+unfoldable pub found_token : List Lock → Path → List ℕ → Option ℕ
+found_token locks p token = option_map (λ f. f.0) (found_from 0 locks p token)
 
 -- the moment, in nanoseconds, at which a timeout of so many seconds ends: at most the greatest moment
 abbrev pub end_of : ℕ → Option ℕ → Option ℕ
 end_of now timeout = option_map (λ seconds. min (now + seconds * 1000000000) 18446744073709551615) timeout
 
 -- the lock that a refresh at a moment makes of one
-abbrev pub refreshed : ℕ → Option ℕ → Lock → Lock
-refreshed now timeout l = record l { timeout_at = end_of now timeout; timeout = timeout }
+abbrev pub refreshed_lock : ℕ → Option ℕ → Lock → Lock
+refreshed_lock now timeout l = record l { timeout_at = end_of now timeout; timeout = timeout }
 
 -- the locks that cover a path and stand at paths of so many segments, in the order of granting
 abbrev pub covering_at : List Lock → Path → ℕ → List Lock
@@ -105,8 +105,8 @@ covering_from locks p n zero = []
 covering_from locks p n (suc more) = covering_at locks p n ++ covering_from locks p (n + 1) more
 
 -- the covering locks, from the root down: by the number of segments of their paths, then in the order of granting
-abbrev pub discovered : List Lock → Path → List Lock
-discovered locks p = covering_from locks p 0 (suc (length p))
+abbrev pub discovered_locks : List Lock → Path → List Lock
+discovered_locks locks p = covering_from locks p 0 (suc (length p))
 
 -- the locks that neither stand at the path nor below it
 abbrev pub without_below : Path → List Lock → List Lock

@@ -1,11 +1,11 @@
 -- Words that private contracts alone name.
-pub mod Ends
+pub mod NotedEnds
 pub mod Expiring
 pub mod LockRequests
 pub mod LockTree
-pub mod Places
+pub mod LockPlaces
 pub mod Pruning
-pub mod Represents
+pub mod LockRepresents
 pub mod SubtreeWalks
-pub mod Walking
+pub mod LockWalking
 pub mod WayTests

@@ -1,11 +1,11 @@
 //! What calls on locks share, and the trait of a lock system.
 ghost use Rattle.std.specs.Prelude.{◌≡◌, ◌≢◌, ◌++◌, ◌∷◌, [], ℕ, true, Some, None, remove, set, get_or, IfOk, IfErr, OnOk, OnErr};
 ghost use Rattle.dav_path_core.specs.Segments.{segments};
-ghost use Rattle.dav_locks_core.specs.Locks.{lock_conflicts, check_conflicts, found, refreshed, discovered, without_below};
+ghost use Rattle.dav_locks_core.specs.Locks.{lock_conflicts, check_conflicts, found_token, refreshed_lock, discovered_locks, without_below};
 ghost use Rattle.dav_locks_core.specs.Exclusive.{Exclusive};
 ghost use Rattle.dav_locks_core.specs.Held.{HoldsExclusive, HoldsBelow};
 ghost use Rattle.dav_locks_core.specs.Tokens.{token_from};
-ghost use Rattle.dav_locks_core.specs.Calls.{Shows, ShowsOnly, RefusesRefresh, lent_text, caller};
+ghost use Rattle.dav_locks_core.specs.Calls.{Shows, ShowsOnly, RefusesRefresh, lent_text, lock_caller};
 ghost use Rattle.dav_locks_core.specs.NewLock.{new_lock};
 ghost use Rattle.dav_locks_core.specs.Stale.{without_stale};
 
@@ -158,9 +158,9 @@ pub trait DavLockSystem {
     /// Ends the lock with that token at the path or above it: the one nearest to the root, of these the first granted
     /// (RFC 4918 section 9.11). The principal isn't looked at. Takes no memory.
     fn unlock(&mut self, path: &DavPath, token: &str, now: Moment) -> Result<(), NoLock>
-        ensures done { OnOk result ((k : ℕ) × (found (without_stale now.0 (locks self.old)) (segments path.now.bytes) token.now ≡ Some k)
+        ensures done { OnOk result ((k : ℕ) × (found_token (without_stale now.0 (locks self.old)) (segments path.now.bytes) token.now ≡ Some k)
             × (locks self.new ≡ remove (without_stale now.0 (locks self.old)) k)) }
-        ensures none { OnErr result ((found (without_stale now.0 (locks self.old)) (segments path.now.bytes) token.now ≡ None)
+        ensures none { OnErr result ((found_token (without_stale now.0 (locks self.old)) (segments path.now.bytes) token.now ≡ None)
             × (locks self.new ≡ without_stale now.0 (locks self.old))) }
         ensures exclusive { Exclusive (locks self.new) };
 
@@ -173,10 +173,10 @@ pub trait DavLockSystem {
         timeout: Option<u64>,
         now: Moment,
     ) -> Result<DavLock, RefreshError>
-        ensures done { IfOk result (λ lock. (k : ℕ) × (found (without_stale now.0 (locks self.old)) (segments path.now.bytes) token.now ≡ Some k)
-            × (lock ≡ refreshed now.0 timeout (get_or (without_stale now.0 (locks self.old)) k lock))
+        ensures done { IfOk result (λ lock. (k : ℕ) × (found_token (without_stale now.0 (locks self.old)) (segments path.now.bytes) token.now ≡ Some k)
+            × (lock ≡ refreshed_lock now.0 timeout (get_or (without_stale now.0 (locks self.old)) k lock))
             × (locks self.new ≡ set (without_stale now.0 (locks self.old)) k lock)) }
-        ensures refused { IfErr result (λ e. RefusesRefresh (found (without_stale now.0 (locks self.old)) (segments path.now.bytes) token.now) e) }
+        ensures refused { IfErr result (λ e. RefusesRefresh (found_token (without_stale now.0 (locks self.old)) (segments path.now.bytes) token.now) e) }
         ensures left { OnErr result (locks self.new ≡ without_stale now.0 (locks self.old)) }
         ensures exclusive { Exclusive (locks self.new) };
 
@@ -192,21 +192,21 @@ pub trait DavLockSystem {
         now: Moment,
     ) -> Result<(), LockError>
         ensures passes { OnOk result (check_conflicts (without_stale now.0 (locks self.old)) (segments path.now.bytes) deep
-            (caller principal.entry ignore_principal tokens.now) ≡ []) }
+            (lock_caller principal.entry ignore_principal tokens.now) ≡ []) }
         ensures shown { IfErr result (λ e. ShowsOnly (check_conflicts (without_stale now.0 (locks self.old)) (segments path.now.bytes) deep
-            (caller principal.entry ignore_principal tokens.now)) e) }
+            (lock_caller principal.entry ignore_principal tokens.now)) e) }
         // Where it passes, every exclusive lock that covers the path is held, and where it is deep every lock at or below.
         ensures held { OnOk result (HoldsExclusive (without_stale now.0 (locks self.old)) (segments path.now.bytes)
-            (caller principal.entry ignore_principal tokens.now)) }
+            (lock_caller principal.entry ignore_principal tokens.now)) }
         ensures held_below { OnOk result (deep ≡ true → HoldsBelow (without_stale now.0 (locks self.old)) (segments path.now.bytes)
-            (caller principal.entry ignore_principal tokens.now)) }
+            (lock_caller principal.entry ignore_principal tokens.now)) }
         ensures left { locks self.new ≡ without_stale now.0 (locks self.old) }
         ensures exclusive { Exclusive (locks self.new) };
 
     /// The locks that cover a path, from the root down, then in the order of granting. `AllocError` only where there is one.
     fn discover(&mut self, path: &DavPath, now: Moment) -> Result<Vec<DavLock>, AllocError>
-        ensures discovered { IfOk result (λ v. v.items ≡ discovered (without_stale now.0 (locks self.old)) (segments path.now.bytes)) }
-        ensures refused { OnErr result (discovered (without_stale now.0 (locks self.old)) (segments path.now.bytes) ≢ []) }
+        ensures discovered { IfOk result (λ v. v.items ≡ discovered_locks (without_stale now.0 (locks self.old)) (segments path.now.bytes)) }
+        ensures refused { OnErr result (discovered_locks (without_stale now.0 (locks self.old)) (segments path.now.bytes) ≢ []) }
         ensures left { locks self.new ≡ without_stale now.0 (locks self.old) }
         ensures exclusive { Exclusive (locks self.new) };
 

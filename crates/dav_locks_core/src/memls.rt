@@ -1,10 +1,10 @@
 //! Locks in memory. A clause sees a `MemLs` as one list: its locks, in the order of granting. How they are kept is private: in
 //! a tree of the segments of their paths. Read `lock` first; what each call promises stands with the trait `DavLockSystem`.
-ghost use Rattle.std.specs.Prelude.{◌≡◌, ◌≤◌, ◌+◌, [], true, sum_by, IfOk, IfErr, OnOk};
+ghost use Rattle.std.specs.Prelude.{◌≡◌, ◌≢◌, ◌≤◌, ◌+◌, [], true, sum_by, IfOk, IfErr, OnOk, OnErr};
 ghost use Rattle.dav_path_core.specs.Segments.{segments};
-ghost use Rattle.dav_locks_core.specs.Calls.{ShowsOnly, caller};
+ghost use Rattle.dav_locks_core.specs.Calls.{ShowsOnly, lock_caller};
 ghost use Rattle.dav_locks_core.specs.Held.{HoldsExclusive, HoldsBelow};
-ghost use Rattle.dav_locks_core.specs.Locks.{check_conflicts, height};
+ghost use Rattle.dav_locks_core.specs.Locks.{check_conflicts, discovered_locks, height};
 ghost use Rattle.dav_locks_core.specs.Stale.{without_stale};
 ghost use Rattle.dav_locks_core.specs.LockFronts.{front_count};
 ghost use Rattle.dav_locks_core.specs.Exclusive.{Exclusive};
@@ -31,7 +31,7 @@ use dav_path_core::errors::{FsError, FsResult};
 use dav_path_core::tree::Tree;
 use dav_path_core::util::Moment;
 use ends::Ends;
-use expiring::end_stale;
+use expiring::{drop_stale_copies, end_stale};
 use rand_core::Rng;
 pub use restoring::walked_locks_are_restored;
 use std::alloc::{AllocError, Global};
@@ -71,7 +71,7 @@ impl Model for MemLs {
     ghost Value = { List Lock };
 
     ghost use Rattle.dav_locks_core.specs.Private.LockTree.{lock_list};
-    ghost use Rattle.dav_locks_core.specs.Private.Ends.{IsStored};
+    ghost use Rattle.dav_locks_core.specs.Private.NotedEnds.{IsStored};
 
     ghost view = { λ m. lock_list m.tree.keyed };
 
@@ -115,6 +115,17 @@ impl MemLs {
         MemLsLocks::new(&self.tree, self.ends.nodes.iter())
     }
 
+    /// Copies of the locks that cover a path, as `discover` of `DavLockSystem` answers them; here the expired ones stay in the list
+    /// (own). Memory is asked for only where some lock covers the path, expired or not.
+    pub fn live_covering(&self, path: &DavPath, now: Moment) -> Result<Vec<DavLock>, AllocError>
+        ensures copies { IfOk result (λ v. v.items ≡ discovered_locks (without_stale now.0 self.now) (segments path.now.bytes)) }
+        ensures refused { OnErr result (discovered_locks self.now (segments path.now.bytes) ≢ []) }
+    {
+        let mut locks = self.covering(path)?;
+        drop_stale_copies(&mut locks, now);
+        Ok(locks)
+    }
+
     /// As `check` of `DavLockSystem`, of a lent path (own).
     pub fn check_ref(
         &mut self,
@@ -126,13 +137,13 @@ impl MemLs {
         now: Moment,
     ) -> Result<(), LockError>
         ensures passes { OnOk result (check_conflicts (without_stale now.0 self.old) (segments path.now) deep
-            (caller principal.entry ignore_principal tokens.now) ≡ []) }
+            (lock_caller principal.entry ignore_principal tokens.now) ≡ []) }
         ensures shown { IfErr result (λ e. ShowsOnly (check_conflicts (without_stale now.0 self.old) (segments path.now) deep
-            (caller principal.entry ignore_principal tokens.now)) e) }
+            (lock_caller principal.entry ignore_principal tokens.now)) e) }
         ensures held { OnOk result (HoldsExclusive (without_stale now.0 self.old) (segments path.now)
-            (caller principal.entry ignore_principal tokens.now)) }
+            (lock_caller principal.entry ignore_principal tokens.now)) }
         ensures held_below { OnOk result (deep ≡ true → HoldsBelow (without_stale now.0 self.old) (segments path.now)
-            (caller principal.entry ignore_principal tokens.now)) }
+            (lock_caller principal.entry ignore_principal tokens.now)) }
         ensures left { self.new ≡ without_stale now.0 self.old }
         ensures exclusive { Exclusive self.new }
     {

@@ -14,7 +14,7 @@ use Rattle.dav_path_core.specs.Fronts.{Path}
 use Rattle.dav_path_core.specs.PathText.{PathText, full}
 use Rattle.dav_path_core.specs.Prefix.{SetsPrefix}
 use Rattle.dav_path_core.specs.Prefix.SetsPrefix.{cut, whole, front}
-use Rattle.dav_path_core.specs.Reading.{ends_in_slash}
+use Rattle.dav_path_core.specs.PathReading.{ends_in_slash}
 use Rattle.dav_path_core.specs.Segments.{segments}
 use Rattle.dav_path_core.proofs.paths.Laws.{one_path}
 use Rattle.dav_headers_core.specs.IfBytes.{Condition, Token}
@@ -22,9 +22,9 @@ use Rattle.dav_headers_core.specs.IfValues.{Located}
 use Rattle.dav_locks_core.specs.Lock.{Lock}
 use Rattle.dav_locks_core.specs.Locks.{covers}
 use Rattle.dav_resource_core.specs.Step.{State}
-use Rattle.dav_session_core.specs.Conditions.{IfIs, ListsAre, OneHolds, NoneHolds, Production, ProductionIs, ProductionsAre, conditions_hold, has_token, lists_of, untagged}
+use Rattle.dav_session_core.specs.Conditions.{IfIs, ListsAre, OneHolds, NoneHolds, Production, ProductionIs, ProductionsAre, conditions_hold, has_token, lists_of, untagged_list}
 use Rattle.dav_fields_core.specs.Targets.{IsPathOf}
-use Rattle.dav_fields_core.specs.TaggedLists.{Base, IsNamed, SpeaksOf, spread, spread_from}
+use Rattle.dav_fields_core.specs.TaggedLists.{Base, IsNamed, SpeaksOf, spread_tags, spread_from}
 use Rattle.dav_session_core.proofs.ConditionLemmas.{goes_on, holds_here}
 
 -- ---- a token
@@ -78,20 +78,20 @@ module _ (s : State) (base : Base) (here : Path) where
 
   module _ (url : Parts) (at : Option Path) (speaks : SpeaksOf base here (Some url) at) where
     one_behind : (more : List (List Condition)) (rest : List Located) → list_any (conditions_hold s at) more ≡ true
-        → ListsAre s base here (spread_from (Some url) (map untagged more ++ rest)) true
+        → ListsAre s base here (spread_from (Some url) (map untagged_list more ++ rest)) true
     one_behind [] rest h = absurd (false≢true h)
     one_behind (c ∷ more) rest h = elim (cases_Bool (conditions_hold s at c)) [
-      | inl e ↦ holds_here s base here (Some url) (untagged c) (map untagged more ++ rest) at speaks e
-      | inr e ↦ goes_on s base here (Some url) (untagged c) (map untagged more ++ rest) at speaks e true
+      | inl e ↦ holds_here s base here (Some url) (untagged_list c) (map untagged_list more ++ rest) at speaks e
+      | inr e ↦ goes_on s base here (Some url) (untagged_list c) (map untagged_list more ++ rest) at speaks e true
           (one_behind more rest (sym (ap (λ b. b || list_any (conditions_hold s at) more) e) ∙ h))
     ]
 
     none_behind : (more : List (List Condition)) (rest : List Located) (holds : Bool) → list_any (conditions_hold s at) more ≡ false
-        → ListsAre s base here (spread_from (Some url) rest) holds → ListsAre s base here (spread_from (Some url) (map untagged more ++ rest)) holds
+        → ListsAre s base here (spread_from (Some url) rest) holds → ListsAre s base here (spread_from (Some url) (map untagged_list more ++ rest)) holds
     none_behind [] rest holds h later = later
     none_behind (c ∷ more) rest holds h later =
         let parts = or_parts (conditions_hold s at c) (list_any (conditions_hold s at) more) h in
-        goes_on s base here (Some url) (untagged c) (map untagged more ++ rest) at speaks parts.0 holds (none_behind more rest holds parts.1 later)
+        goes_on s base here (Some url) (untagged_list c) (map untagged_list more ++ rest) at speaks parts.0 holds (none_behind more rest holds parts.1 later)
 
   -- ---- productions
 
@@ -104,8 +104,8 @@ module _ (s : State) (base : Base) (here : Path) where
 
   one_here : (p : Production) (rest : List Located) → ProductionIs s base here true p → ListsAre s base here (spread_from None (lists_of p ++ rest)) true
   one_here p rest (at, speaks, h) = elim (cases_Bool (conditions_hold s at p.first)) [
-    | inl e ↦ holds_here s base here None (record { tag = Some p.tag; conditions = p.first }) (map untagged p.more ++ rest) at speaks e
-    | inr e ↦ goes_on s base here None (record { tag = Some p.tag; conditions = p.first }) (map untagged p.more ++ rest) at speaks e true
+    | inl e ↦ holds_here s base here None (record { tag = Some p.tag; conditions = p.first }) (map untagged_list p.more ++ rest) at speaks e
+    | inr e ↦ goes_on s base here None (record { tag = Some p.tag; conditions = p.first }) (map untagged_list p.more ++ rest) at speaks e true
         (one_behind p.tag at speaks p.more rest (sym (ap (λ b. b || list_any (conditions_hold s at) p.more) e) ∙ h))
   ]
 
@@ -113,14 +113,14 @@ module _ (s : State) (base : Base) (here : Path) where
       → ListsAre s base here (spread_from None (lists_of p ++ rest)) holds
   none_here p rest holds (at, speaks, h) later =
       let parts = or_parts (conditions_hold s at p.first) (list_any (conditions_hold s at) p.more) h in
-      goes_on s base here None (record { tag = Some p.tag; conditions = p.first }) (map untagged p.more ++ rest) at speaks parts.0 holds
+      goes_on s base here None (record { tag = Some p.tag; conditions = p.first }) (map untagged_list p.more ++ rest) at speaks parts.0 holds
       (none_behind p.tag at speaks p.more rest holds parts.1 later)
 
   -- a later one holds, whatever the first comes to
   later_holds : (p : Production) (rest : List Located) → OneHolds s base here (spread_from (Some p.tag) rest) → OneHolds s base here (spread_from None (lists_of p ++ rest))
   later_holds p rest h = inr (behind p.more)
     where
-      behind : (more : List (List Condition)) → OneHolds s base here (spread_from (Some p.tag) (map untagged more ++ rest))
+      behind : (more : List (List Condition)) → OneHolds s base here (spread_from (Some p.tag) (map untagged_list more ++ rest))
       behind [] = h
       behind (c ∷ more) = inr (behind more)
 
@@ -181,6 +181,6 @@ not_both s base here (l ∷ lists) (inr h) k = not_both s base here lists h k.1
 
 pub one_truth : (s : State) (base : Base) (here : Path) (lists : List Located) (holds also : Bool) → IfIs s base here lists holds → IfIs s base here lists also → holds ≡ also
 one_truth s base here lists true true h k = refl
-one_truth s base here lists true false h k = absurd (not_both s base here (spread lists) h k)
-one_truth s base here lists false true h k = absurd (not_both s base here (spread lists) k h)
+one_truth s base here lists true false h k = absurd (not_both s base here (spread_tags lists) h k)
+one_truth s base here lists false true h k = absurd (not_both s base here (spread_tags lists) k h)
 one_truth s base here lists false false h k = refl

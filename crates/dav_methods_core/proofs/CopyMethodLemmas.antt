@@ -17,12 +17,14 @@ use Rattle.dav_faults_core.specs.declared.faults.Fault.{Fault}
 use Rattle.dav_faults_core.specs.declared.faults.Fault.TheVariants as fault
 use Rattle.dav_session_core.specs.Callers.{Caller, RunBy, SameLive, as_caller, live}
 use Rattle.dav_session_core.specs.Clearing.{IsCleared, refusing_clearing}
-use Rattle.dav_session_core.specs.Copying.{AreCopied, Copies, CopyLeaves, FailsToCopy, IsCopied, IsPartlyCopied, IsReady, between, refusing_copies, refusing_copy}
-use Rattle.dav_fields_core.specs.Depths.{copy_depth}
-use Rattle.dav_session_core.specs.Ends.{FailsAtEnds, GoesFrom}
+use Rattle.dav_session_core.specs.Copying.{AreCopied, IsCopied, IsPartlyCopied, IsReady, source_and_target, refusing_copies}
+use Rattle.dav_methods_core.specs.CopyMethod.{Copies, CopyLeaves, FailsToCopy, refusing_copy}
+use Rattle.dav_fields_core.specs.Reaches.{reach_in}
+use Rattle.dav_methods_core.specs.TransferEnds.{FailsAtEnds, AreEnds, ArePlaces, LacksPlaces, copies_of}
+use Rattle.dav_methods_core.specs.CopyMethod.{IsPlanned}
+use Rattle.dav_session_core.specs.Ends.{GoesFrom}
 use Rattle.dav_session_core.specs.LocksInTheWay.{IsRefusedBy, by_place}
-use Rattle.dav_session_core.specs.Placing.{target_by}
-use Rattle.dav_session_core.specs.TransferEnds.{AreEnds, ArePlaces, IsPlanned, LacksPlaces, copies_of}
+use Rattle.dav_methods_core.specs.Placing.{target_by}
 use Rattle.dav_session_core.proofs.CallerLaws.{asks_of, asks_shape}
 use Rattle.dav_methods_core.proofs.CopyPlanLemmas.{are_copied, pairs_are, rests_of}
 use Rattle.dav_methods_core.proofs.CopyReadyLemmas.{copy_ready}
@@ -30,14 +32,14 @@ use Rattle.dav_methods_core.proofs.CopyReadyLemmas.{copy_ready}
 -- ---- the locks that are asked for
 
 -- the check of each copy, by the place that it is written to
-pub checks_are : {A : Type 0} (view : A → Path × Path) (from to : Path) (xs : List A) (rests : List Path) → map view xs ≡ map (between from to) rests
+pub checks_are : {A : Type 0} (view : A → Path × Path) (from to : Path) (xs : List A) (rests : List Path) → map view xs ≡ map (source_and_target from to) rests
     → map (λ x. shallow (view x).1) xs ≡ map (λ rest. shallow (to ++ rest)) rests
 checks_are view from to [] [] h = refl
 checks_are view from to [] (r ∷ rests) h = absurd (cc)
 checks_are view from to (x ∷ xs) [] h = absurd (cc)
 checks_are view from to (x ∷ xs) (r ∷ rests) h =
-    let one : view x ≡ between from to r = cc in
-    let others : map view xs ≡ map (between from to) rests = cc in
+    let one : view x ≡ source_and_target from to r = cc in
+    let others : map view xs ≡ map (source_and_target from to) rests = cc in
     ap (λ (pair : Path × Path). shallow pair.1 ∷ map (λ x. shallow (view x).1) xs) one ∙ ap (λ ks. shallow (to ++ r) ∷ ks) (checks_are view from to xs rests others)
 
 -- the locks that refuse to clear a place, or one of some checks
@@ -55,7 +57,7 @@ module _ (scheme : Scheme) (prefix : List ℕ) (headers : Entries FieldValue) (w
 
   -- ---- a COPY that is refused
 
-  pub copy_halted : (e : Fault) → (e ≡ fault.BadRequest) × (copy_depth headers ≡ None) → FailsToCopy scheme prefix headers (live who.now start) who from e
+  pub copy_halted : (e : Fault) → (e ≡ fault.BadRequest) × (reach_in headers ≡ None) → FailsToCopy scheme prefix headers (live who.now start) who from e
   copy_halted e h = subst Fails (sym h.0) (FailsToCopy.depth h.1)
 
   pub copy_lost : (e : Fault) → e ≡ fault.InsufficientStorage → FailsToCopy scheme prefix headers (live who.now start) who from e
@@ -66,7 +68,7 @@ module _ (scheme : Scheme) (prefix : List ℕ) (headers : Entries FieldValue) (w
   copy_left fault.InsufficientStorage s' h = inl h
   copy_left _ s' h = h
 
-  module _ (deep : Bool) (reaches : copy_depth headers ≡ Some deep) where
+  module _ (deep : Bool) (reaches : reach_in headers ≡ Some deep) where
     pub copy_unfit : (e : Fault) → FailsAtEnds scheme prefix headers start.map from true e → FailsToCopy scheme prefix headers (live who.now start) who from e
     copy_unfit e h = FailsToCopy.ends deep e reaches h
 
@@ -146,7 +148,7 @@ module _ (scheme : Scheme) (prefix : List ℕ) (headers : Entries FieldValue) (w
     module _ (copier : Caller) (s' : State) (same' : copier ≡ who) where
       -- what is said of all that is ready
       abbrev pub OfReady : (State → Caller → Bool → Path → Path → Type 0) → Type 0
-      OfReady P = (deep : Bool) (from to : Path) (rests : List Path) → IsReady (live copier.now m) copier deep from to rests → pairs ≡ map (between from to) rests
+      OfReady P = (deep : Bool) (from to : Path) (rests : List Path) → IsReady (live copier.now m) copier deep from to rests → pairs ≡ map (source_and_target from to) rests
           → P m copier deep from to
 
       of_ready : (P : State → Caller → Bool → Path → Path → Type 0) → OfReady P → P m who plan.deep from to

@@ -7,11 +7,12 @@ use Rattle.dav_path_core.specs.Fronts.{Path, behind, is_front}
 use Rattle.dav_path_core.proofs.lists.MemberLemmas.{In, In-Contains, Contains-In}
 use Rattle.dav_path_core.proofs.paths.FrontLemmas.{behind_append, behind_is}
 use Rattle.dav_files_core.specs.Resources.{ResourceMap, at_path}
-use Rattle.dav_session_core.specs.Copying.{AreCopied, between, is_copied}
-use Rattle.dav_session_core.specs.TransferEnds.{ArePlaces, copies_of, copy_target}
-use Rattle.dav_session_core.specs.Subtrees.{IsWalk}
+use Rattle.dav_session_core.specs.Copying.{AreCopied, source_and_target, is_copied}
+use Rattle.dav_methods_core.specs.TransferEnds.{ArePlaces, copies_of, copy_target}
+use Rattle.dav_session_core.specs.Subtrees.{IsSubtreeWalk}
 use Rattle.dav_session_core.proofs.CopyingLemmas.{cross_at}
-use Rattle.dav_session_core.proofs.SubtreeLemmas.{Later, front_of, later_pairs, rest_of}
+use Rattle.dav_path_core.proofs.paths.SubtreePaths.{Later, front_of, rest_of}
+use Rattle.dav_path_core.proofs.paths.SubtreePaths.{later_pairs}
 
 -- ---- lists of which some elements are taken over
 
@@ -58,21 +59,21 @@ module _ (from to : Path) where
   abbrev pub rests_of : List Path → List Path
   rests_of places = filter_map rest_at places
 
-  pair_of : (q : Path) → option_map (λ t. (q, t)) (copy_target from to q) ≡ option_map (between from to) (rest_at q)
+  pair_of : (q : Path) → option_map (λ t. (q, t)) (copy_target from to q) ≡ option_map (source_and_target from to) (rest_at q)
   pair_of q = by (is_front to q) (behind from q) refl
     where
       by : (b : Bool) (o : Option Path) → behind from q ≡ o
-          → option_map (λ t. (q, t)) (cond b None (option_map (λ rest. to ++ rest) o)) ≡ option_map (between from to) (cond b None o)
+          → option_map (λ t. (q, t)) (cond b None (option_map (λ rest. to ++ rest) o)) ≡ option_map (source_and_target from to) (cond b None o)
       by true o is = refl
       by false None is = refl
       by false (Some rest) is = ap (λ p. Some (p, to ++ rest)) (behind_is from q rest is)
 
-  pub pairs_are : (places : List Path) → copies_of from to places ≡ map (between from to) (rests_of places)
+  pub pairs_are : (places : List Path) → copies_of from to places ≡ map (source_and_target from to) (rests_of places)
   pairs_are [] = refl
   pairs_are (q ∷ places) =
-      ap (λ o. cons_option o (copies_of from to places)) (pair_of q) ∙ ap (cons_option (option_map (between from to) (rest_at q))) (pairs_are places) ∙ by (rest_at q)
+      ap (λ o. cons_option o (copies_of from to places)) (pair_of q) ∙ ap (cons_option (option_map (source_and_target from to) (rest_at q))) (pairs_are places) ∙ by (rest_at q)
     where
-      by : (o : Option Path) → cons_option (option_map (between from to) o) (map (between from to) (rests_of places)) ≡ map (between from to) (cons_option o (rests_of places))
+      by : (o : Option Path) → cons_option (option_map (source_and_target from to) o) (map (source_and_target from to) (rests_of places)) ≡ map (source_and_target from to) (cons_option o (rests_of places))
       by None = refl
       by (Some rest) = refl
 
@@ -87,7 +88,7 @@ module _ (from to : Path) where
   takes rest out = ap (λ b. cond b None (behind from (from ++ rest))) out ∙ behind_append from rest
 
   -- all the way down
-  module _ (m : ResourceMap) (places : List Path) (walk : IsWalk m from places) (apart : is_front to from ≡ false) where
+  module _ (m : ResourceMap) (places : List Path) (walk : IsSubtreeWalk m from places) (apart : is_front to from ≡ false) where
     copied_so : (rest : Path) → is_front to (from ++ rest) ≡ false → is_copied true from to rest ≡ true
     copied_so [] out = refl
     copied_so (x ∷ rest) out = ap not out

@@ -1,89 +1,30 @@
 -- That all is ready to be copied once the target is cleared.
-use Rattle.std.proofs.Common.{◌≡◌, inl, inr, ℕ, Bool, true, false, cond, not, ◌&&◌, ◌||◌, List, [], ◌∷◌, ◌++◌, map, Option, Some, None, is_some, refl, sym, ap, ◌∙◌, subst}
+use Rattle.std.proofs.Common.{◌≡◌, inl, inr, ℕ, Bool, true, false, cond, List, [], ◌∷◌, ◌++◌, map, Option, Some, None, is_some, refl, sym, ap, ◌∙◌, subst}
 use Rattle.std.specs.Prelude.{option_map}
-use Rattle.std.proofs.lemmas.Bool.{cases_Bool, true≢false, false_from_ne_true}
-use Rattle.std.proofs.lemmas.List.Elements.{filter_agree}
-use Rattle.dav_path_core.specs.Fronts.{Path, is_front, is_same_path, parent}
+use Rattle.std.proofs.lemmas.Bool.{true≢false}
+use Rattle.dav_path_core.specs.Fronts.{Path, is_front, parent}
 use Rattle.dav_path_core.proofs.lists.FinMaps.{dec, none_some}
 use Rattle.dav_path_core.proofs.lists.MemberLemmas.{append_none}
 use Rattle.dav_path_core.proofs.lists.Orders.{path_exact, path_total}
-use Rattle.dav_path_core.proofs.lists.PlaceLemmas.{filter-filter}
-use Rattle.dav_path_core.proofs.paths.FrontLemmas.{fronts_of_one, is_front-refl, is_front-trans, is_same_path-same}
-use Rattle.dav_files_core.specs.Following.{dated}
+use Rattle.dav_path_core.proofs.paths.FrontLemmas.{is_front-refl}
+use Rattle.dav_files_core.specs.Following.{dated_entry}
 use Rattle.dav_files_core.specs.Resources.{IsResourceMap, Resource, at_path}
 use Rattle.dav_locks_core.specs.Lock.{Lock}
-use Rattle.dav_locks_core.specs.Locks.{Caller as LocksCaller, any_held, check_conflicts, covers, held, is_at_or_below, lock_path, refuses_change, without_below}
+use Rattle.dav_locks_core.specs.Locks.{check_conflicts, without_below}
 use Rattle.dav_resource_core.specs.Checks.{has, member, refusing, shallow, target}
 use Rattle.dav_resource_core.specs.Step.{State}
 use Rattle.dav_session_core.specs.Callers.{Caller, as_caller}
 use Rattle.dav_session_core.specs.Clearing.{IsCleared, refusing_anew, refusing_clearing}
-use Rattle.dav_session_core.specs.Copying.{AreCopied, IsReady, is_copied, refusing_copies, refusing_copy}
-use Rattle.dav_session_core.specs.Ends.{EndsFit, GoesFrom}
+use Rattle.dav_session_core.specs.Copying.{AreCopied, IsReady, is_copied, refusing_copies}
+use Rattle.dav_methods_core.specs.CopyMethod.{refusing_copy}
+use Rattle.dav_methods_core.specs.TransferEnds.{EndsFit}
+use Rattle.dav_session_core.specs.Ends.{GoesFrom}
 use Rattle.dav_session_core.specs.Removing.{IsRemoved, refusing_removal}
 use Rattle.dav_session_core.proofs.CopyingLemmas.{out_of_target}
 use Rattle.dav_session_core.proofs.MoveLemmas.{removal_of, target_in}
-use Rattle.dav_session_core.proofs.RemovalLemmas.{above_out, free_stays}
-use Rattle.dav_session_core.proofs.SubtreeLemmas.{front_of}
-use Rattle.dav_session_core.proofs.TokenLemmas.{any_agree, any_filter}
-
--- ---- locks of which none stands at a path or below it
-
-module _ (p rest : Path) where
-  -- one of them that covers the path covers what is below it
-  covers_below : (l : Lock) → is_at_or_below l p ≡ false → covers l (p ++ rest) ≡ covers l p
-  covers_below l out = ap (λ b. b || (l.deep && is_front (lock_path l) (p ++ rest))) (elsewhere (p ++ rest) (front_of p rest))
-      ∙ ap (λ b. l.deep && b) (same_front (is_front (lock_path l) p) refl) ∙ sym (ap (λ b. b || (l.deep && is_front (lock_path l) p)) (elsewhere p (is_front-refl p)))
-    where
-      elsewhere : (q : Path) → is_front p q ≡ true → is_same_path (lock_path l) q ≡ false
-      elsewhere q below = false_from_ne_true _ (λ same. true≢false (sym below ∙ ap (is_front p) (sym (is_same_path-same (lock_path l) q same)) ∙ out))
-
-      same_front : (b : Bool) → is_front (lock_path l) p ≡ b → is_front (lock_path l) (p ++ rest) ≡ is_front (lock_path l) p
-      same_front true is = is_front-trans (lock_path l) p (p ++ rest) is (front_of p rest) ∙ sym is
-      same_front false is = false_from_ne_true _ (λ h. elim (fronts_of_one (lock_path l) p (p ++ rest) h (front_of p rest)) [
-        | inl above ↦ true≢false (sym above ∙ is)
-        | inr below ↦ true≢false (sym below ∙ out)
-      ]) ∙ sym is
-
-  kept_alike : (f g : Lock → Bool) → ((l : Lock) → is_at_or_below l p ≡ false → f l ≡ g l) → (l : Lock) → (not (is_at_or_below l p) && f l) ≡ (not (is_at_or_below l p) && g l)
-  kept_alike f g same l = elim (cases_Bool (is_at_or_below l p)) [
-    | inl below ↦ rw (below) refl
-    | inr out ↦ rw (out) (same l out)
-  ]
-
-  held_alike : (who : LocksCaller) (locks : List Lock) → any_held (without_below p locks) (p ++ rest) who ≡ any_held (without_below p locks) p who
-  held_alike who locks =
-      any_filter (λ l. covers l (p ++ rest) && held l who) (λ l. not (is_at_or_below l p)) locks
-      ∙ any_agree (λ l. (covers l (p ++ rest) && held l who) && not (is_at_or_below l p)) (λ l. (covers l p && held l who) && not (is_at_or_below l p)) same locks
-      ∙ sym (any_filter (λ l. covers l p && held l who) (λ l. not (is_at_or_below l p)) locks)
-    where
-      same : (l : Lock) → ((covers l (p ++ rest) && held l who) && not (is_at_or_below l p)) ≡ ((covers l p && held l who) && not (is_at_or_below l p))
-      same l = elim (cases_Bool (is_at_or_below l p)) [
-        | inl below ↦ rw (below) (none (covers l (p ++ rest) && held l who) ∙ sym (none (covers l p && held l who)))
-        | inr out ↦ rw (out) (ap (λ b. (b && held l who) && true) (covers_below l out))
-      ]
-        where
-          none : (b : Bool) → (b && false) ≡ false
-          none true = refl
-          none false = refl
-
-  -- so what they refuse below the path they refuse there
-  pub anew_below : (who : LocksCaller) (locks : List Lock)
-      → check_conflicts (without_below p locks) (p ++ rest) false who ≡ check_conflicts (without_below p locks) p false who
-  anew_below who locks =
-      filter-filter (refuses (p ++ rest)) (λ l. not (is_at_or_below l p)) locks ∙ filter_agree _ _ (kept_alike (refuses (p ++ rest)) (refuses p) same) locks
-      ∙ sym (filter-filter (refuses p) (λ l. not (is_at_or_below l p)) locks)
-    where
-      left : List Lock
-      left = without_below p locks
-
-      refuses : Path → Lock → Bool
-      refuses q = refuses_change left q false who
-
-      same : (l : Lock) → is_at_or_below l p ≡ false → refuses (p ++ rest) l ≡ refuses p l
-      same l out = ap (λ b. not (held l who) && ((b && (not l.shared || not (any_held left (p ++ rest) who))) || false)) (covers_below l out)
-          ∙ ap (λ b. not (held l who) && ((covers l p && (not l.shared || not b)) || false)) (held_alike who locks)
-
--- ---- ready
+use Rattle.dav_files_core.proofs.paths.RemovedMaps.{above_out}
+use Rattle.dav_session_core.proofs.RemovalLemmas.{free_stays}
+use Rattle.dav_locks_core.proofs.laws.CoveredBelow.{anew_below}
 
 -- what stands elsewhere stands after a folder has gone
 elsewhere_stands : (now : ℕ) (to q : Path) (s mid : State) → IsRemoved now to s mid → is_front to q ≡ false → is_some (at_path mid.map q) ≡ is_some (at_path s.map q)
@@ -92,7 +33,7 @@ elsewhere_stands now to q s mid h out = elim (dec path_total path_exact q (paren
   | inr other ↦ ap is_some (h.others q out other)
 ]
   where
-    still : (o : Option Resource) → is_some (option_map (dated now) o) ≡ is_some o
+    still : (o : Option Resource) → is_some (option_map (dated_entry now) o) ≡ is_some o
     still None = refl
     still (Some r) = refl
 
@@ -124,7 +65,7 @@ module _ (who : Caller) (deep : Bool) (from to : Path) (s mid : State) (replaces
     shape = shape;
     apart = apart;
     stands = elsewhere_stands who.now to from s mid h apart ∙ fit.stands;
-    above = (dated who.now fit.above.0, h.above ∙ ap (option_map (dated who.now)) fit.above.1, fit.above.2);
+    above = (dated_entry who.now fit.above.0, h.above ∙ ap (option_map (dated_entry who.now)) fit.above.1, fit.above.2);
     no_folder = λ folder. none_some (at_path mid.map to) folder.0 nothing folder.1;
     are = still_copied h;
     free = subst (λ locks. refusing locks (as_caller who) (target mid.map to ++ map (λ rest. shallow (to ++ rest)) rests) ≡ []) (sym h.locks)

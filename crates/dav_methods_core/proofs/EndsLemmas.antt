@@ -11,9 +11,8 @@ use Rattle.dav_files_core.specs.Resources.{ResourceMap, at_path}
 use Rattle.dav_fields_core.specs.declared.bases.Scheme.{Scheme}
 use Rattle.dav_faults_core.specs.declared.faults.Fault.{Fault}
 use Rattle.dav_faults_core.specs.declared.faults.Fault.TheVariants as fault
-use Rattle.dav_fields_core.specs.Destinations.{overwrites}
-use Rattle.dav_session_core.specs.Ends.{EndsFit, FailsAtEnds, LeadsOn}
-use Rattle.dav_session_core.specs.TransferEnds.{FailsToFit, FailsToLead}
+use Rattle.dav_fields_core.specs.TransferDestinations.{overwrites}
+use Rattle.dav_methods_core.specs.TransferEnds.{EndsFit, FailsAtEnds, LeadsOn, FailsToFit, FailsToLead}
 use Rattle.dav_session_core.specs.Subtrees.{HasOddName}
 
 -- what isn't known of the target isn't in the way

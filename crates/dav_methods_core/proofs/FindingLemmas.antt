@@ -12,9 +12,9 @@ use Rattle.dav_files_core.specs.Resources.{ResourceMap}
 use Rattle.dav_resource_core.specs.Step.{State}
 use Rattle.dav_faults_core.specs.declared.faults.Fault.{Fault}
 use Rattle.dav_faults_core.specs.declared.faults.Fault.TheVariants as fault
-use Rattle.dav_fields_core.specs.Depths.{depth_in}
-use Rattle.dav_methods_core.specs.Finding.{FailsToFind}
-use Rattle.dav_documents_core.specs.Pieces.{with_pieces}
+use Rattle.dav_fields_core.specs.Reaches.{depth_in}
+use Rattle.dav_methods_core.specs.PropfindMethod.{FailsToFind}
+use Rattle.dav_documents_core.specs.Pieces.{and_pieces}
 use Rattle.dav_methods_core.specs.Private.Telling.{TellsEach, TellsOne}
 use Rattle.dav_session_core.specs.Placed.{IsNowhere}
 use Rattle.dav_documents_core.specs.PropertyDocuments.{response_pieces}
@@ -32,7 +32,7 @@ module _ (prefix : List ℕ) (s : State) (principal : Option (List ℕ)) (questi
   tells_more p places was mid now one rest = record {
     resources = one.resource ∷ rest.resources;
     described = (one.described, rest.described);
-    written = rest.written ∙ ap (λ (w : Writing). with_pieces w (flat_map (response_pieces prefix principal question) rest.resources)) one.written
+    written = rest.written ∙ ap (λ (w : Writing). and_pieces w (flat_map (response_pieces prefix principal question) rest.resources)) one.written
         ∙ sym (in_turn was (response_pieces prefix principal question one.resource) (flat_map (response_pieces prefix principal question) rest.resources));
   }
 

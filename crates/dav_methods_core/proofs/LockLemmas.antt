@@ -13,10 +13,10 @@ use Rattle.dav_path_core.specs.Segments.{segments}
 use Rattle.dav_headers_core.specs.declared.davheaders.timeouts.DavTimeout.{DavTimeout}
 use Rattle.dav_headers_core.specs.declared.davheaders.timeouts.DavTimeout.TheVariants.{Seconds, Infinite}
 use Rattle.dav_files_core.specs.Meta.{Meta as Known, meta_at}
-use Rattle.dav_files_core.specs.Putting.{put}
+use Rattle.dav_files_core.specs.ResourcePutting.{put}
 use Rattle.dav_files_core.specs.Resources.{Resource, at_path}
 use Rattle.dav_locks_core.specs.Lock.{Lock}
-use Rattle.dav_locks_core.specs.Locks.{discovered, end_of, lock_conflicts, lock_path}
+use Rattle.dav_locks_core.specs.Locks.{discovered_locks, end_of, lock_conflicts, lock_path}
 use Rattle.dav_locks_core.specs.Stale.{has_come, is_stale, without_stale}
 use Rattle.dav_resource_core.specs.Requests.{Command, Refusal, Reply}
 use Rattle.dav_resource_core.specs.Step.{Serves, State}
@@ -25,17 +25,17 @@ use Rattle.dav_faults_core.specs.declared.faults.Fault.{Fault}
 use Rattle.dav_faults_core.specs.declared.faults.Fault.TheVariants as fault
 use Rattle.dav_session_core.specs.Callers.{Caller, SameLive, asking, live, refusing_at}
 use Rattle.dav_session_core.specs.Ends.{HasFolder}
-use Rattle.dav_fields_core.specs.Fields.{Sent, bracketed}
+use Rattle.dav_fields_core.specs.Fields.{Sent, in_brackets}
 use Rattle.dav_session_core.specs.Granting.{AreAbove, HaveTokens, also_naming, granted_lock, stands_above, with_lock, with_token_drawn}
 use Rattle.dav_fields_core.specs.IfTokens.{is_among}
 use Rattle.dav_documents_core.specs.LockDocuments.{discovery_pieces}
 use Rattle.dav_fields_core.specs.LockTimeouts.{can_be_given, given_of, seconds_of}
-use Rattle.dav_methods_core.specs.Locking.{CantBeRead, FailsToLock, Grants, HasRoom, IsGranted, LeavesUntold, Wanted, Wants, lock_status}
+use Rattle.dav_methods_core.specs.LockMethod.{CantBeRead, FailsToLock, Grants, HasRoom, IsGranted, LeavesUntold, Wanted, Wants, lock_status}
 use Rattle.dav_documents_core.specs.Pieces.{written_pieces}
 use Rattle.dav_session_core.specs.StoreRefusals.{put_fault}
-use Rattle.dav_methods_core.specs.Rooms.{FoundRoom, IsConflictAt, IsGrantedNow, IsMadeUnder, IsReady, IsUnmade, LacksRoom}
+use Rattle.dav_methods_core.specs.Rooms.{FoundRoom, IsConflictAt, IsGrantedNow, IsMadeUnder, IsReadyToLock, IsUnmade, LacksRoom}
 use Rattle.dav_documents_core.specs.RefusalBodies.{xml_type}
-use Rattle.dav_fields_core.specs.Refusals.{IsLastMoment}
+use Rattle.dav_fields_core.specs.RequestRefusals.{IsLastMoment}
 use Rattle.dav_session_core.proofs.Asking.{live_once}
 use Rattle.dav_session_core.proofs.PutLemmas.{rebuilt}
 use Rattle.dav_methods_core.proofs.UnderLockLemmas.{memory_alone}
@@ -234,7 +234,7 @@ unmade_as s who token p missing e s' is (inr h) = inr (is, h)
 -- ---- a lock that was granted right before
 
 module _ (s0 mid : State) (who asker : Caller) (path : PathText) (wanted : Wanted) (missing : Bool) (above : List (List ℕ)) (lock : Lock) (same : asker ≡ who)
-    (ready : IsReady (live who.now s0) who path wanted missing above)
+    (ready : IsReadyToLock (live who.now s0) who path wanted missing above)
     (is : lock ≡ granted_lock (live who.now s0) who path wanted.owner wanted.timeout wanted.shared wanted.deep)
     (left : mid ≡ with_lock (live who.now s0) lock) where
   fresh_now : is_stale who.now lock ≡ false
@@ -244,8 +244,8 @@ module _ (s0 mid : State) (who asker : Caller) (path : PathText) (wanted : Wante
   still_there = ap (live who.now) left ∙ lock_stays who.now (live who.now s0) lock (live_once who.now s0) fresh_now
 
   module _ (free : lock_conflicts (live who.now s0).locks (segments path.bytes) wanted.shared wanted.deep ≡ []) (token : List ℕ) (named : token ≡ lock.token) where
-    pub granted_now : (prefix : List ℕ) (status : ℕ) (sent : Sent) (s' : State) → status ≡ (if missing then 201 else 200) → sent.tokens ≡ bracketed token ∷ []
-        → sent.body ≡ written_pieces (discovery_pieces prefix asker.principal (discovered (live asker.now mid).locks (segments path.bytes)))
+    pub granted_now : (prefix : List ℕ) (status : ℕ) (sent : Sent) (s' : State) → status ≡ (if missing then 201 else 200) → sent.tokens ≡ in_brackets token ∷ []
+        → sent.body ≡ written_pieces (discovery_pieces prefix asker.principal (discovered_locks (live asker.now mid).locks (segments path.bytes)))
         → sent.types ≡ xml_type ∷ [] → IsMadeUnder mid asker token (segments path.bytes) missing s' → IsGrantedNow prefix (live who.now s0) who path wanted missing lock status sent s'
     granted_now prefix status sent s' status_is shown told typed made =
         let made_by = subst (λ w. IsMadeUnder mid w lock.token (segments path.bytes) missing s') same
@@ -253,10 +253,10 @@ module _ (s0 mid : State) (who asker : Caller) (path : PathText) (wanted : Wante
         record {
           grants = grants_by (live who.now s0) who path wanted lock (live_once who.now s0) is free fresh_now mid s' missing still_there ready.room made_by;
           status_is = status_is;
-          named = shown ∙ ap (λ t. bracketed t ∷ []) named;
+          named = shown ∙ ap (λ t. in_brackets t ∷ []) named;
           typed = typed;
-          told = told ∙ ap (λ (w : Caller). written_pieces (discovery_pieces prefix w.principal (discovered (live w.now mid).locks (segments path.bytes)))) same
-              ∙ ap (λ (t : State). written_pieces (discovery_pieces prefix who.principal (discovered t.locks (segments path.bytes)))) still_there;
+          told = told ∙ ap (λ (w : Caller). written_pieces (discovery_pieces prefix w.principal (discovered_locks (live w.now mid).locks (segments path.bytes)))) same
+              ∙ ap (λ (t : State). written_pieces (discovery_pieces prefix who.principal (discovered_locks t.locks (segments path.bytes)))) still_there;
         }
 
     pub short_of : (e : Fault) (s' : State) → IsUnmade mid asker token (segments path.bytes) missing e s' → e ≡ fault.InsufficientStorage

@@ -10,13 +10,12 @@ use Rattle.dav_locks_core.specs.Lock.{Lock}
 use Rattle.dav_locks_core.specs.Locks.{lock_conflicts}
 use Rattle.dav_resource_core.specs.Step.{State}
 use Rattle.dav_faults_core.specs.declared.faults.Fault.{Fault}
-use Rattle.dav_session_core.specs.Callers.{live}
 use Rattle.dav_fields_core.specs.Fields.{Sent}
 use Rattle.dav_session_core.specs.declared.session.Session.{Session}
 use Rattle.dav_session_core.specs.Sessions.{Looks, caller, live_of, state}
 use Rattle.dav_session_core.specs.Granting.{AreAbove, HaveTokens, granted_lock}
-use Rattle.dav_methods_core.specs.Locking.{FailsToLock, IsAskedBy, IsGranted, LeavesUntold, Wanted, Wants}
-use Rattle.dav_methods_core.specs.Rooms.{FoundRoom, IsConflictAt, IsGrantedNow, IsReady, LeavesLock}
+use Rattle.dav_methods_core.specs.LockMethod.{FailsToLock, IsAskedBy, IsGranted, LeavesUntold, Wanted, Wants}
+use Rattle.dav_methods_core.specs.Rooms.{FoundRoom, IsConflictAt, IsGrantedNow, IsReadyToLock, LeavesLock}
 use Rattle.dav_session_core.proofs.Asking.{join_as, live_as}
 use Rattle.dav_methods_core.proofs.Acting.{held_before, held_behind}
 use Rattle.dav_methods_core.proofs.LockLemmas.{conflict_by, granted_by, lasts, untold_by}
@@ -25,8 +24,8 @@ module _ (most : Option ℕ) (headers : Entries FieldValue) (body : List ℕ) (p
     {R : Type 0} (stream : R → Stream) (old : Session R) (room : FoundRoom (live_of stream old) (caller old) (segments path.bytes) missing) where
   pub ready : {mid last : Session R} (above : List (List ℕ)) → Looks stream old mid → Looks stream old last → (caller old).now < 2 ^ 64 - 1
       → HaveTokens (live_of stream mid) (segments path.bytes) above → AreAbove (live_of stream mid) (segments path.bytes) above
-      → IsReady (live_of stream last) (caller last) path wanted missing above
-  ready above first second early have only = held_behind (λ w t. IsReady t w path wanted missing above) second (record {
+      → IsReadyToLock (live_of stream last) (caller last) path wanted missing above
+  ready above first second early have only = held_behind (λ w t. IsReadyToLock t w path wanted missing above) second (record {
     room = room;
     lasts = lasts (live_of stream old) (caller old) path wanted.owner wanted.timeout wanted.shared wanted.deep most wants.timeouts early wants.given;
     have = held_before (λ w t. HaveTokens t (segments path.bytes) above) first have;

@@ -12,7 +12,7 @@ use Rattle.uuid.specs.Parts.{v4_of_fill}
 use Rattle.uuid.specs.Text.{by_index, digit_place, hex_digit, hyphen, hyphenated_text, is_hyphen_place, lower, nibble, urn_prefix, urn_text}
 use Rattle.uuid.proofs.TextLemmas.{nibble_small}
 use Rattle.dav_locks_core.specs.Tokens.{token_from}
-use Rattle.dav_fields_core.specs.Fields.{bracketed}
+use Rattle.dav_fields_core.specs.Fields.{in_brackets}
 
 abbrev CanBeHeld : ℕ → Type 0
 CanBeHeld b = IsTrue (is_value_byte b)
@@ -39,7 +39,7 @@ token_held : (stream : Stream) → All CanBeHeld (token_from stream).0
 unfolding token_from
 token_held stream = text_held (v4_of_fill (fill_bytes 16 stream)).0
 
-pub is_held : (stream : Stream) → IsFieldValue (bracketed (token_from stream).0)
+pub is_held : (stream : Stream) → IsFieldValue (in_brackets (token_from stream).0)
 is_held stream =
     All-append CanBeHeld (codes "<") ((token_from stream).0 ++ codes ">") (AllPass-from_list_all is_value_byte (codes "<") refl)
     (All-append CanBeHeld (token_from stream).0 (codes ">") (token_held stream) (AllPass-from_list_all is_value_byte (codes ">") refl))

@@ -17,17 +17,19 @@ use Rattle.dav_faults_core.specs.declared.faults.Fault.{Fault}
 use Rattle.dav_faults_core.specs.declared.faults.Fault.TheVariants as fault
 use Rattle.dav_session_core.specs.Callers.{Caller, RunBy, SameLive, live}
 use Rattle.dav_session_core.specs.Clearing.{IsCleared, refusing_clearing}
-use Rattle.dav_fields_core.specs.Depths.{ReachesAll}
-use Rattle.dav_session_core.specs.Ends.{FailsAtEnds, GoesFrom, HasFolder}
+use Rattle.dav_fields_core.specs.Reaches.{ReachesAll}
+use Rattle.dav_methods_core.specs.TransferEnds.{FailsAtEnds, AreEnds}
+use Rattle.dav_session_core.specs.Ends.{GoesFrom, HasFolder}
 use Rattle.dav_session_core.specs.LocksInTheWay.{IsRefusedBy, by_place}
-use Rattle.dav_session_core.specs.Moving.{CanMove, FailsToMove, IsMoved, MoveLeaves, Moves, refusing_move, refusing_place}
-use Rattle.dav_session_core.specs.Moving.FailsToMove.{memory, depth, ends, locked}
-use Rattle.dav_session_core.specs.TransferEnds.{AreEnds}
+use Rattle.dav_session_core.specs.Moving.{CanMove, IsMoved, refusing_move, refusing_place}
+use Rattle.dav_methods_core.specs.MoveMethod.{FailsToMove, MoveLeaves, Moves}
+use Rattle.dav_methods_core.specs.MoveMethod.FailsToMove.{memory, depth, ends, locked}
 use Rattle.dav_session_core.specs.Removing.{refusing_removal}
 use Rattle.dav_session_core.proofs.Asking.{live_as}
 use Rattle.dav_session_core.proofs.CallerLaws.{asks_of, asks_shape}
 use Rattle.dav_session_core.proofs.MakeLemmas.{nothing_in}
-use Rattle.dav_session_core.proofs.MoveLemmas.{can_move_then, clearing_free, source_no_root, stands_in, target_no_root}
+use Rattle.dav_methods_core.proofs.MoveMethodLemmas.{can_move_then}
+use Rattle.dav_session_core.proofs.MoveLemmas.{clearing_free, source_no_root, stands_in, target_no_root}
 use Rattle.dav_session_core.proofs.PutLemmas.{more_refused}
 
 -- ---- the checks of a MOVE

@@ -1,7 +1,7 @@
 -- The token between the angle brackets of a value.
 use Rattle.std.proofs.Common.{◌≡◌, ◌≢◌, ℕ, List, [], ◌∷◌, ◌++◌, Option, Some, None, Bor, MatchOption, sym, ◌∙◌, ap}
 use Rattle.std.specs.Prelude.{IsUtf8}
-use Rattle.dav_session_core.specs.Unlocking.{IsBracketed}
+use Rattle.dav_methods_core.specs.UnlockMethod.{IsBracketed}
 
 tail_of : (x y : ℕ) (xs ys : List ℕ) → x ∷ xs ≡ y ∷ ys → xs ≡ ys
 tail_of x y xs ys h = cc

@@ -1,18 +1,18 @@
 -- What a lock that was granted right before lets its holder make.
 use Rattle.std.proofs.Common.{◌≡◌, inl, inr, ℕ, Bool, true, false, not, ◌&&◌, ◌||◌, List, [], ◌∷◌, ◌++◌, Option, Some, None, Ok, Err, refl, sym, ◌∙◌, ap, subst}
 use Rattle.std.specs.Prelude.{bytes_eq, cond, is_some, option_map, Contains}
-use Rattle.std.specs.List.{AllByRecursion, list_any}
-use Rattle.std.proofs.lemmas.Bool.{and_from, and_parts, false≢true, true≢false}
+use Rattle.std.specs.List.{list_any}
+use Rattle.std.proofs.lemmas.Bool.{and_from, and_parts}
 use Rattle.std.proofs.lemmas.List.Folds.{list_any-append}
 use Rattle.dav_path_core.specs.declared.errors.FsError.TheVariants as fs
 use Rattle.dav_path_core.specs.Fronts.{Path, parent}
 use Rattle.dav_path_core.proofs.lists.EachLemmas.{filter_none, none_passes}
-use Rattle.dav_path_core.proofs.lists.MemberLemmas.{In, In-Contains, all_in, find_any}
-use Rattle.dav_files_core.specs.Putting.{put}
+use Rattle.dav_path_core.proofs.lists.MemberLemmas.{In-Contains, all_in, find_any}
+use Rattle.dav_files_core.specs.ResourcePutting.{put}
 use Rattle.dav_files_core.specs.Meta.{meta_at}
 use Rattle.dav_files_core.specs.Resources.{Resource, ResourceMap, at_path}
 use Rattle.dav_locks_core.specs.Lock.{Lock}
-use Rattle.dav_locks_core.specs.Locks.{Caller as LocksCaller, any_held, check_conflicts, covers, held, is_at_or_below, lock_conflicts, lock_path, refuses_change, refuses_lock, same_text}
+use Rattle.dav_locks_core.specs.Locks.{LockCaller as LocksCaller, any_held, check_conflicts, covers, is_held_by, is_at_or_below, lock_conflicts, lock_path, refuses_change, refuses_lock, same_text}
 use Rattle.dav_resource_core.specs.Checks.{member, refusing, shallow, target}
 use Rattle.dav_resource_core.specs.Requests.{Command, Refusal, Fs, Locked, NoLock, OutOfMemory}
 use Rattle.dav_resource_core.specs.Step.{Serves, State, conflicts}
@@ -23,59 +23,23 @@ use Rattle.dav_session_core.specs.Granting.{also_naming, with_lock}
 use Rattle.dav_session_core.specs.StoreRefusals.{put_fault}
 use Rattle.dav_session_core.proofs.GrantLemmas.{any_of, text_same}
 use Rattle.dav_session_core.proofs.OwnLemmas.{at_covers}
-use Rattle.dav_session_core.proofs.PutLemmas.{change_err, has_place}
+use Rattle.dav_session_core.proofs.PutLemmas.{change_err}
+use Rattle.dav_methods_core.proofs.PutMethodLemmas.{has_place}
+use Rattle.dav_locks_core.proofs.laws.WithLock.{refuse_less, shared_passes, compatible_shared, all_with, in_front, in_last, or_more, or_last}
 
 -- ---- locks that refuse a change
 
--- who holds more locks is refused by no other
-refuse_less : (h more c s a any b : Bool) → (h ≡ true → more ≡ true) → (a ≡ true → any ≡ true) → (not h && ((c && (not s || not a)) || (false && b))) ≡ false
-    → (not more && ((c && (not s || not any)) || (false && b))) ≡ false
-refuse_less h true c s a any b holds some passes = refl
-refuse_less true false c s a any b holds some passes = absurd (false≢true (holds refl))
-refuse_less false false false s a any b holds some passes = refl
-refuse_less false false true false a any b holds some passes = absurd (true≢false passes)
-refuse_less false false true true false any b holds some passes = absurd (true≢false passes)
-refuse_less false false true true true true b holds some passes = refl
-refuse_less false false true true true false b holds some passes = absurd (false≢true (some refl))
-
--- a shared lock refuses nobody who holds another
-shared_passes : (h c s a b : Bool) → (c ≡ true → s ≡ true) → a ≡ true → (not h && ((c && (not s || not a)) || (false && b))) ≡ false
-shared_passes true c s a b both any = refl
-shared_passes false false s a b both any = refl
-shared_passes false true true true b both any = refl
-shared_passes false true true false b both any = absurd (false≢true any)
-shared_passes false true false a b both any = absurd (false≢true (both refl))
-
--- a lock that stands in the way of none is shared where it covers the path
-compatible_shared : (k s c d : Bool) → (not (k && s) && (c || d)) ≡ false → c ≡ true → k ≡ true
-compatible_shared true s c d passes covered = refl
-compatible_shared false s true d passes covered = absurd (true≢false passes)
-compatible_shared false s false d passes covered = absurd (false≢true covered)
-
-all_with : {P : Lock → Type 0} (xs : List Lock) (new : Lock) → ((l : Lock) → In l xs → P l) → P new → AllByRecursion P (xs ++ new ∷ [])
-all_with [] new each last = (last, tt)
-all_with (x ∷ xs) new each last = (each x (inl refl), all_with xs new (λ l i. each l (inr i)) last)
-
-pub in_front : (xs more : List Lock) (l : Lock) → In l xs → In l (xs ++ more)
-in_front [] more l i = absurd i
-in_front (x ∷ xs) more l (inl e) = inl e
-in_front (x ∷ xs) more l (inr i) = inr (in_front xs more l i)
-
-in_last : (xs : List Lock) (l : Lock) → In l (xs ++ l ∷ [])
-in_last [] l = inl refl
-in_last (x ∷ xs) l = inr (in_last xs l)
-
-module _ (locks : List Lock) (new : Lock) (who more : LocksCaller) (p : Path) (grows : (l : Lock) → held l who ≡ true → held l more ≡ true) (own : held new more ≡ true) where
+module _ (locks : List Lock) (new : Lock) (who more : LocksCaller) (p : Path) (grows : (l : Lock) → is_held_by l who ≡ true → is_held_by l more ≡ true) (own : is_held_by new more ≡ true) where
   own_passes : refuses_change (locks ++ new ∷ []) p false more new ≡ false
   own_passes =
       ap (λ h. not h && ((covers new p && (not new.shared || not (any_held (locks ++ new ∷ []) p more))) || (false && is_at_or_below new p))) own
 
   any_more : any_held locks p who ≡ true → any_held (locks ++ new ∷ []) p more ≡ true
   any_more any =
-      let found = find_any (λ l. covers l p && held l who) locks any in
-      let parts = and_parts (covers found.0 p) (held found.0 who) found.2 in
-      any_of (λ l. covers l p && held l more) (locks ++ new ∷ []) found.0 (in_front locks (new ∷ []) found.0 found.1)
-      (and_from (covers found.0 p) (held found.0 more) parts.0 (grows found.0 parts.1))
+      let found = find_any (λ l. covers l p && is_held_by l who) locks any in
+      let parts = and_parts (covers found.0 p) (is_held_by found.0 who) found.2 in
+      any_of (λ l. covers l p && is_held_by l more) (locks ++ new ∷ []) found.0 (in_front locks (new ∷ []) found.0 found.1)
+      (and_from (covers found.0 p) (is_held_by found.0 more) parts.0 (grows found.0 parts.1))
 
   -- what nothing refused before is refused by nothing now
   pub still_free : check_conflicts locks p false who ≡ [] → check_conflicts (locks ++ new ∷ []) p false more ≡ []
@@ -83,17 +47,17 @@ module _ (locks : List Lock) (new : Lock) (who more : LocksCaller) (p : Path) (g
       let each = none_passes (refuses_change locks p false who) locks none in
       filter_none (refuses_change (locks ++ new ∷ []) p false more) (locks ++ new ∷ [])
       (all_with locks new (λ l i.
-      refuse_less (held l who) (held l more) (covers l p) l.shared (any_held locks p who) (any_held (locks ++ new ∷ []) p more) (is_at_or_below l p) (grows l) any_more
+      refuse_less (is_held_by l who) (is_held_by l more) (covers l p) l.shared (any_held locks p who) (any_held (locks ++ new ∷ []) p more) (is_at_or_below l p) (grows l) any_more
       (all_in (λ l. refuses_change locks p false who l ≡ false) locks l each i)) own_passes)
 
   -- nothing refuses a change at the path of the new lock, which no lock stood in the way of
   pub free_there : (deep : Bool) → covers new p ≡ true → lock_conflicts locks p new.shared deep ≡ [] → check_conflicts (locks ++ new ∷ []) p false more ≡ []
   free_there deep covered none =
       let each = none_passes (refuses_lock p new.shared deep) locks none in
-      let any = any_of (λ l. covers l p && held l more) (locks ++ new ∷ []) new (in_last locks new) (and_from (covers new p) (held new more) covered own) in
+      let any = any_of (λ l. covers l p && is_held_by l more) (locks ++ new ∷ []) new (in_last locks new) (and_from (covers new p) (is_held_by new more) covered own) in
       filter_none (refuses_change (locks ++ new ∷ []) p false more) (locks ++ new ∷ [])
       (all_with locks new (λ l i.
-      shared_passes (held l more) (covers l p) l.shared (any_held (locks ++ new ∷ []) p more) (is_at_or_below l p)
+      shared_passes (is_held_by l more) (covers l p) l.shared (any_held (locks ++ new ∷ []) p more) (is_at_or_below l p)
       (compatible_shared l.shared new.shared (covers l p) (deep && is_at_or_below l p) (all_in (λ l. refuses_lock p new.shared deep l ≡ false) locks l each i)) any) own_passes)
 
 -- ---- a caller who names one token more
@@ -102,21 +66,14 @@ same_principal : (principal : Option (List ℕ)) → same_text principal princip
 same_principal None = refl
 same_principal (Some text) = text_same text
 
-or_more : (a b : Bool) → a ≡ true → (a || b) ≡ true
-or_more a b h = ap (λ x. x || b) h
-
-or_last : (a b : Bool) → b ≡ true → (a || (b || false)) ≡ true
-or_last true b h = refl
-or_last false b h = ap (λ x. x || false) h
-
-names_more : (who : Caller) (token : List ℕ) (l : Lock) → held l (as_caller who) ≡ true → held l (as_caller (also_naming who token)) ≡ true
+names_more : (who : Caller) (token : List ℕ) (l : Lock) → is_held_by l (as_caller who) ≡ true → is_held_by l (as_caller (also_naming who token)) ≡ true
 names_more who token l h =
     let parts = and_parts (list_any (λ t. bytes_eq t l.token) who.tokens) (same_text l.principal who.principal) h in
     let named : list_any (λ t. bytes_eq t l.token) (who.tokens ++ token ∷ []) ≡ true =
     list_any-append (λ t. bytes_eq t l.token) who.tokens (token ∷ []) ∙ or_more _ _ parts.0 in
     and_from _ _ named parts.1
 
-names_own : (who : Caller) (l : Lock) → l.principal ≡ who.principal → held l (as_caller (also_naming who l.token)) ≡ true
+names_own : (who : Caller) (l : Lock) → l.principal ≡ who.principal → is_held_by l (as_caller (also_naming who l.token)) ≡ true
 names_own who l same =
     let named : list_any (λ t. bytes_eq t l.token) (who.tokens ++ l.token ∷ []) ≡ true =
     list_any-append (λ t. bytes_eq t l.token) who.tokens (l.token ∷ []) ∙ or_last _ _ (text_same l.token) in

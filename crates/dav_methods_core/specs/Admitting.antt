@@ -12,7 +12,7 @@ use Rattle.dav_faults_core.specs.declared.faults.Fault.{Fault}
 use Rattle.dav_faults_core.specs.declared.faults.Fault.TheVariants as fault
 use Rattle.dav_fields_core.specs.Bases.{IsBase}
 use Rattle.dav_session_core.specs.Conditions.{IfIs}
-use Rattle.dav_fields_core.specs.Refusals.{HasBadIf}
+use Rattle.dav_fields_core.specs.RequestRefusals.{HasBadIf}
 use Rattle.dav_fields_core.specs.TaggedLists.{base_of}
 
 -- a reading of its `If` for a path, and whether it holds there

@@ -7,7 +7,7 @@ use Rattle.dav_path_core.specs.Url.{url}
 use Rattle.dav_files_core.specs.Meta.{Meta, meta_at}
 use Rattle.dav_files_core.specs.Resources.{Property, Resource, at_path, is_folder}
 use Rattle.dav_locks_core.specs.Lock.{Lock}
-use Rattle.dav_locks_core.specs.Locks.{discovered}
+use Rattle.dav_locks_core.specs.Locks.{discovered_locks}
 use Rattle.dav_resource_core.specs.Step.{State}
 use Rattle.dav_fields_core.specs.ContentTypes.{content_type}
 use Rattle.dav_fields_core.specs.Dates.{IsHttpDate, IsInternetDate}
@@ -48,4 +48,4 @@ pub record Describes (prefix : List ℕ) (s : State) (p : Path) (d : Description
   pub resource : Resource
   pub here : at_path s.map p ≡ Some resource
   pub described : IsDescribed prefix p (meta_at resource.node) (values resource.node.props)
-      (discovered s.locks p) d
+      (discovered_locks s.locks p) d

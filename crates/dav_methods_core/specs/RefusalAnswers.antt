@@ -3,7 +3,7 @@ use Rattle.std.specs.Prelude.{◌≡◌, ◌⊎◌, ℕ, List, [], ◌∷◌, co
 use Rattle.http_server.specs.Response.{fields_of}
 use Rattle.http_server.specs.declared.response.Response.{Response}
 use Rattle.dav_xml_core.specs.Documents.{Node}
-use Rattle.dav_xml_core.specs.Writing.{written}
+use Rattle.dav_xml_core.specs.Writing.{document_bytes}
 use Rattle.dav_faults_core.specs.declared.faults.Fault.{Fault}
 use Rattle.dav_fields_core.specs.Fields.{values_in}
 use Rattle.dav_documents_core.specs.RefusalBodies.{refusal_nodes, xml_type}
@@ -16,7 +16,7 @@ types_of response = values_in (fields_of response) (codes "content-type")
 pub record TellsDocument (prefix : List ℕ) (e : Fault) (response : Response) : Type 0 where
   pub nodes : List Node
   pub are : refusal_nodes prefix e ≡ Some nodes
-  pub body : response.body.items ≡ written nodes
+  pub body : response.body.items ≡ document_bytes nodes
   pub types : types_of response ≡ xml_type ∷ []
 
 -- no body, and no type of one

@@ -1,5 +1,4 @@
--- What a LOCK finds at its path, and which locks stand in its way. Private contracts alone speak of
--- it.
+-- What a LOCK finds at its path, which locks stand in its way, and what it leaves step by step.
 use Rattle.std.specs.Prelude.{◌≡◌, ◌⊎◌, ℕ, Bool, true, false, List, [], ◌∷◌, ◌++◌, None, Err, Ok}
 use Rattle.std.specs.Prelude.{IsSome, option_map, string_bytes, if◌then◌else◌}
 use Rattle.dav_path_core.specs.Fronts.{Path, parent}
@@ -8,7 +7,7 @@ use Rattle.dav_path_core.specs.Segments.{segments}
 use Rattle.dav_files_core.specs.declared.memfs.Kind.TheVariants.{Folder}
 use Rattle.dav_files_core.specs.Resources.{at_path}
 use Rattle.dav_locks_core.specs.Lock.{Lock}
-use Rattle.dav_locks_core.specs.Locks.{discovered, lock_path}
+use Rattle.dav_locks_core.specs.Locks.{discovered_locks, lock_path}
 use Rattle.dav_locks_core.specs.Stale.{is_stale}
 use Rattle.dav_resource_core.specs.Requests.{Command, Refusal, Reply}
 use Rattle.dav_resource_core.specs.Step.{Serves, State}
@@ -17,12 +16,12 @@ use Rattle.dav_faults_core.specs.declared.faults.Fault.TheVariants as fault
 use Rattle.dav_methods_core.specs.declared.methods.lock.Wanted.{Wanted}
 use Rattle.dav_session_core.specs.Callers.{Caller, RunBy, SameLive, asking, live, refusing_at}
 use Rattle.dav_session_core.specs.Ends.{HasFolder}
-use Rattle.dav_fields_core.specs.Fields.{Sent, bracketed}
+use Rattle.dav_fields_core.specs.Fields.{Sent, in_brackets}
 use Rattle.dav_session_core.specs.Granting.{AreAbove, HaveTokens, also_naming, granted_lock}
 use Rattle.dav_session_core.specs.Granting.{with_lock}
 use Rattle.dav_documents_core.specs.LockDocuments.{discovery_pieces}
-use Rattle.dav_methods_core.specs.Locking as locking
-use Rattle.dav_session_core.specs.LocksInTheWay.{IsPathOfOne, is_below}
+use Rattle.dav_methods_core.specs.LockMethod as locking
+use Rattle.dav_session_core.specs.LocksInTheWay.{IsPathOfOne, is_lock_below}
 use Rattle.dav_documents_core.specs.Pieces.{written_pieces}
 use Rattle.dav_fields_core.specs.Marking.{IsNone}
 use Rattle.dav_session_core.specs.StoreRefusals.{put_fault}
@@ -57,7 +56,7 @@ LacksRoom s who p e = ⊥
 
 -- All that is known before a lock is asked for: what stands there, that the lock doesn't end at
 -- once, and the tokens of the locks at the path and above.
-pub record IsReady (s : State) (who : Caller) (path : PathText) (wanted : locking.Wanted)
+pub record IsReadyToLock (s : State) (who : Caller) (path : PathText) (wanted : locking.Wanted)
     (missing : Bool) (above : List (List ℕ)) : Type 0 where
   pub room : FoundRoom s who (segments path.bytes) missing
   pub lasts : is_stale who.now (granted_lock s who path wanted.owner wanted.timeout wanted.shared
@@ -70,7 +69,7 @@ pub record IsReady (s : State) (who : Caller) (path : PathText) (wanted : lockin
 -- a lock below the path is told as a member's
 abbrev pub conflict_at : PathText → Fault → Fault
 conflict_at path (fault.ConflictingLock at) =
-    if is_below (segments path.bytes) at then fault.ConflictingMember at path
+    if is_lock_below (segments path.bytes) at then fault.ConflictingMember at path
     else fault.ConflictingLock at
 conflict_at path e = e
 
@@ -78,9 +77,9 @@ conflict_at path e = e
 abbrev pub IsConflictAt : List Lock → PathText → Fault → Type 0
 IsConflictAt locks path fault.InsufficientStorage = Unit {0}
 IsConflictAt locks path (fault.ConflictingLock at) =
-    IsPathOfOne locks at × (is_below (segments path.bytes) at ≡ false)
+    IsPathOfOne locks at × (is_lock_below (segments path.bytes) at ≡ false)
 IsConflictAt locks path (fault.ConflictingMember at other) =
-    IsPathOfOne locks at × (is_below (segments path.bytes) at ≡ true) × (other ≡ path)
+    IsPathOfOne locks at × (is_lock_below (segments path.bytes) at ≡ true) × (other ≡ path)
 IsConflictAt locks path e = ⊥
 
 -- ---- once it is granted
@@ -104,9 +103,9 @@ pub record IsGrantedNow (prefix : List ℕ) (s : State) (who : Caller) (path : P
     (s' : State) : Type 0 where
   pub grants : locking.Grants s who path wanted lock s'
   pub status_is : status ≡ (if missing then 201 else 200)
-  pub named : sent.tokens ≡ bracketed lock.token ∷ []
+  pub named : sent.tokens ≡ in_brackets lock.token ∷ []
   pub told : sent.body ≡ written_pieces (discovery_pieces prefix who.principal
-      (discovered (s.locks ++ lock ∷ []) (segments path.bytes)))
+      (discovered_locks (s.locks ++ lock ∷ []) (segments path.bytes)))
   pub typed : sent.types ≡ xml_type ∷ []
 
 -- What a LOCK leaves that is refused: all is as it was; or memory was lacking once the lock was

@@ -1,15 +1,17 @@
 //! Whether the `If` of a request holds (RFC 4918 section 10.4).
+#![tactic(auto, using(crate::proofs::Acting::requests))]
+
 ghost use Rattle.std.specs.Prelude.{◌≡◌, IfOk, IfErr, OnOk, map};
 ghost use Rattle.dav_path_core.specs.Segments.{segments};
 ghost use Rattle.dav_files_core.specs.Resources.{at_path};
-ghost use Rattle.dav_headers_core.specs.IfValues.{condition_of, conditions_of, item_of, located};
+ghost use Rattle.dav_headers_core.specs.IfValues.{condition_of, conditions_of, item_of, located_list};
 ghost use Rattle.dav_methods_core.specs.Admitting.{IsAdmitted, IsHeldOff};
 ghost use Rattle.dav_session_core.specs.Conditions.{IfIs, condition_holds, conditions_hold};
 ghost use Rattle.dav_session_core.specs.Conditions.{has_item};
 ghost use Rattle.dav_fields_core.specs.FileTags.{standing_of};
 ghost use Rattle.dav_fields_core.specs.Preconditions.{has_tag};
 ghost use Rattle.dav_session_core.specs.Sessions.{Looks, live_of, state};
-ghost use Rattle.dav_fields_core.specs.TaggedLists.{base_of, spoken};
+ghost use Rattle.dav_fields_core.specs.TaggedLists.{base_of, spoken_path};
 ghost use Rattle.dav_fields_core.specs.declared.listed_tags.Comparison.TheVariants.{Strong};
 ghost use Rattle.dav_faults_core.specs.declared.faults.Fault.TheVariants as fault;
 
@@ -60,8 +62,8 @@ fn has_item<R: Rng>(
     at: &Option<DavPath>,
     item: &IfItem,
 ) -> Result<bool, Fault>
-    ensures ok { IfOk result (λ has. has ≡ has_item (live_of R.stream session.old) (spoken at.now)
-        (item_of item.now)) }
+    ensures ok { IfOk result (λ has. has ≡ has_item (live_of R.stream session.old)
+        (spoken_path at.now) (item_of item.now)) }
     ensures err { IfErr result (λ e. e ≡ fault.InsufficientStorage) }
     ensures looks { Looks R.stream session.old session.new }
 {
@@ -82,7 +84,7 @@ fn condition_holds<R: Rng>(
     condition: &IfCondition,
 ) -> Result<bool, Fault>
     ensures ok { IfOk result (λ holds. holds ≡ condition_holds (live_of R.stream session.old)
-        (spoken at.now) (condition_of condition.now)) }
+        (spoken_path at.now) (condition_of condition.now)) }
     ensures err { IfErr result (λ e. e ≡ fault.InsufficientStorage) }
     ensures looks { Looks R.stream session.old session.new }
 {
@@ -98,7 +100,7 @@ fn conditions_hold<R: Rng>(
     conditions: &[IfCondition],
 ) -> Result<bool, Fault>
     ensures ok { IfOk result (λ hold. hold ≡ conditions_hold (live_of R.stream session.old)
-        (spoken at.now) (conditions_of conditions.now)) }
+        (spoken_path at.now) (conditions_of conditions.now)) }
     ensures err { IfErr result (λ e. e ≡ fault.InsufficientStorage) }
     ensures looks { Looks R.stream session.old session.new }
 {
@@ -119,7 +121,7 @@ fn one_holds<R: Rng>(
     base: &Url,
 ) -> Result<bool, Fault>
     ensures ok { IfOk result (IfIs (live_of R.stream session.old) (base_of base.now here.now)
-        (segments here.now.bytes) (map located lists.now)) }
+        (segments here.now.bytes) (map located_list lists.now)) }
     ensures err { IfErr result (λ e. e ≡ fault.InsufficientStorage) }
     ensures looks { Looks R.stream session.old session.new }
 {
@@ -150,7 +152,7 @@ pub fn evaluate<R: Rng>(
     base: &Url,
 ) -> Result<bool, Fault>
     ensures ok { IfOk result (IfIs (live_of R.stream session.old) (base_of base.now here.now)
-        (segments here.now.bytes) (map located header.now.0.items)) }
+        (segments here.now.bytes) (map located_list header.now.0.items)) }
     ensures err { IfErr result (λ e. e ≡ fault.InsufficientStorage) }
     ensures looks { Looks R.stream session.old session.new }
 {

@@ -8,7 +8,7 @@ ghost use Rattle.dav_files_core.specs.Resources.{at_path, is_folder};
 ghost use Rattle.dav_fields_core.specs.FileTags.{file_tag};
 ghost use Rattle.dav_methods_core.specs.PropertyAnswers as spec_of;
 ghost use Rattle.dav_documents_core.specs.DescriptionViews.{description_of};
-ghost use Rattle.dav_session_core.specs.Sessions.{Looks, live_of, state};
+ghost use Rattle.dav_session_core.specs.Sessions.{live_of, state};
 ghost use Rattle.dav_faults_core.specs.declared.faults.Fault.TheVariants as fault;
 
 use dav_documents_core::documents::front_of;
@@ -18,10 +18,10 @@ use dav_fields_core::content_types::content_type;
 use dav_fields_core::dates::{http_date, internet_date};
 use dav_fields_core::etags::file_tag;
 use dav_resource_core::davpath::{DavPath, escaped};
-use dav_resource_core::fs::{DavMetaData, DavProp, Moment};
-use dav_resource_core::ls::DavLock;
+use dav_resource_core::fs::{DavMetaData, Moment};
+use dav_resource_core::guarded::Inspection;
 use dav_resource_core::memfs::MemFsMeta;
-use dav_session_core::session::{Session, copy_of};
+use dav_session_core::session::Session;
 use rand_core::Rng;
 use std::alloc::{AllocError, Global};
 use std::convert::AsStr;
@@ -30,36 +30,31 @@ use std::convert::AsStr;
 /// where nothing stands there.
 pub fn describe<R: Rng>(
     alloc: Global,
-    session: &mut Session<R>,
+    session: &Session<R>,
     prefix: &str,
     place: &DavPath,
 ) -> Result<Description, Fault>
-    ensures ok { IfOk result (λ d. spec_of.Describes prefix.now (live_of R.stream session.old)
+    ensures ok { IfOk result (λ d. spec_of.Describes prefix.now (live_of R.stream session.now)
         (segments place.now.bytes) (description_of d)) }
     ensures err { IfErr result (λ e. (e ≡ fault.InsufficientStorage) ⊎ ((e ≡ fault.NotFound)
-        × (at_path (state R.stream session.old).map (segments place.now.bytes) ≡ None))) }
-    ensures looks { Looks R.stream session.old session.new }
+        × (at_path (state R.stream session.now).map (segments place.now.bytes) ≡ None))) }
 {
-    let Some(meta) = session.meta(copy_of(place)?) else {
-        return Err(Fault::NotFound);
-    };
-    let props = session.props(copy_of(place)?)?;
-    let locks = session.locks_at(copy_of(place)?)?;
-    described(alloc, prefix, place, &meta, props, locks)
+    let found = session.inspect(place)?;
+    described(alloc, prefix, place, found)
 }
 
 fn described(
     alloc: Global,
     prefix: &str,
     place: &DavPath,
-    meta: &MemFsMeta,
-    props: Vec<DavProp>,
-    locks: Vec<DavLock>,
+    found: Inspection,
 ) -> Result<Description, Fault>
     ensures ok { IfOk result (λ d. spec_of.IsDescribed prefix.now (segments place.now.bytes)
-        (meta_of meta.now) (map property_of props.items) locks.items (description_of d)) }
+        (meta_of found.meta) (map property_of found.props.items) found.locks.items
+        (description_of d)) }
     ensures err { IfErr result (λ e. e ≡ fault.InsufficientStorage) }
 {
+    let meta = &found.meta;
     let folder = is_folder(meta);
     Ok(Description {
         url: place_url(alloc, prefix, place, folder)?,
@@ -69,8 +64,8 @@ fn described(
         tag: tag_of(alloc, modified_of(meta), meta.len())?,
         created: internet_date(alloc, created_of(meta))?,
         modified: http_date(alloc, modified_of(meta))?,
-        props,
-        locks,
+        props: found.props,
+        locks: found.locks,
     })
 }
 

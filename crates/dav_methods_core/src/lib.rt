@@ -1,5 +1,5 @@
 //! What each method of a WebDAV server does in a session, and what it tells.
-#![tactic(auto, using(crate::proofs::Acting::requests))]
+#![tactic(auto)]
 
 pub mod conditions;
 pub mod describing;

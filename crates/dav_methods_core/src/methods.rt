@@ -1,4 +1,6 @@
 //! The methods, each on a session.
+#![tactic(auto, using(crate::proofs::Acting::requests))]
+
 mod changes;
 pub mod copy;
 pub mod delete;

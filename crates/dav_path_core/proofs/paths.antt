@@ -1,3 +1,4 @@
+pub mod AbovePaths
 pub mod ChildLemmas
 pub mod FrontLemmas
 pub mod JoinedLemmas
@@ -12,5 +13,6 @@ pub mod ReadableLemmas
 pub mod Rewriting
 pub mod SegmentLemmas
 pub mod SlashedLemmas
+pub mod SubtreePaths
 pub mod TrimLemmas
 pub mod UrlLemmas

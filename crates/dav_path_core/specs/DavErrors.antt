@@ -40,10 +40,10 @@ closes_after fs.Forbidden = false
 closes_after fs.Exists = false
 closes_after _ = true
 
-abbrev pub closes : DavError → Bool
-closes (Status code) = false
-closes (OfFiles e) = closes_after e
-closes _ = true
+abbrev pub closes_connection : DavError → Bool
+closes_connection (Status code) = false
+closes_connection (OfFiles e) = closes_after e
+closes_connection _ = true
 
 abbrev pub dav_kind : DavError → ErrorKind
 dav_kind (OfFiles e) = fs_kind e
@@ -51,8 +51,8 @@ dav_kind (IoError k) = k
 dav_kind _ = kind.Other
 
 -- the error of a request whose path is refused
-abbrev pub of_path : ParseError → DavError
-of_path parse.InvalidPath = InvalidPath
-of_path parse.PrefixMismatch = IllegalPath
-of_path parse.ForbiddenPath = ForbiddenPath
-of_path parse.OutOfMemory = OfFiles fs.InsufficientStorage
+abbrev pub error_of_path : ParseError → DavError
+error_of_path parse.InvalidPath = InvalidPath
+error_of_path parse.PrefixMismatch = IllegalPath
+error_of_path parse.ForbiddenPath = ForbiddenPath
+error_of_path parse.OutOfMemory = OfFiles fs.InsufficientStorage

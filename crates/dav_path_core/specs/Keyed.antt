@@ -35,9 +35,9 @@ abbrev pub is_out_of_range : ℕ → Bool
 is_out_of_range n = (n == 0) || (n == 18446744073709551615)
 
 -- n leads to 1 by the parents that f gives
-pub data Leads (f : ℕ → Option ℕ) : ℕ → Type 0 where
-  root : Leads f 1
-  up : {n p : ℕ} → f n ≡ Some p → Leads f p → Leads f n
+pub data LeadsToRoot (f : ℕ → Option ℕ) : ℕ → Type 0 where
+  root : LeadsToRoot f 1
+  up : {n p : ℕ} → f n ≡ Some p → LeadsToRoot f p → LeadsToRoot f n
 
 -- k is n or leads to it by the parents that f gives
 pub data Under (f : ℕ → Option ℕ) (n : ℕ) : ℕ → Type 0 where
@@ -77,8 +77,8 @@ module _ {K D : Type 0} where
   parent_and_key t n = parent_and_key_of (entry t n)
 
   -- the parent of a number
-  abbrev pub parent : Keyed K D → ℕ → Option ℕ
-  parent t n = option_map (λ q. q.0) (parent_and_key t n)
+  abbrev pub parent_number : Keyed K D → ℕ → Option ℕ
+  parent_number t n = option_map (λ q. q.0) (parent_and_key t n)
 
   -- n is the child of p at the key k
   abbrev pub IsChild : Keyed K D → ℕ → K → ℕ → Type 0
@@ -106,12 +106,12 @@ module _ {K D : Type 0} where
   add t p k d = add_as t t.next (t.next + 1) p k d
 
   -- no number below that is given any more
-  abbrev pub raised : Keyed K D → ℕ → Keyed K D
-  raised t next = record t { next = max t.next next }
+  abbrev pub with_next_at_least : Keyed K D → ℕ → Keyed K D
+  with_next_at_least t next = record t { next = max t.next next }
 
   -- t with a node below p at k that has its number already; the next one is above it
-  abbrev pub restored : Keyed K D → ℕ → K → D → ℕ → Keyed K D
-  restored t p k d n = add_as t n (max t.next (n + 1)) p k d
+  abbrev pub with_restored_node : Keyed K D → ℕ → K → D → ℕ → Keyed K D
+  with_restored_node t p k d n = add_as t n (max t.next (n + 1)) p k d
 
   -- why such a node can't be added
   abbrev pub restore_refusal : Keyed K D → ℕ → ℕ → Option FsError
@@ -134,21 +134,21 @@ module _ {K D : Type 0} where
   pub record IsTree (eq : K → K → Bool) (t : Keyed K D) : Type 0 where
     pub root : IsKnown t 1 × (parent_and_key t 1 ≡ None)
     pub numbered : (n : ℕ) → IsKnown t n → (0 < n) × (n < t.next)
-    pub attached : (n : ℕ) → IsKnown t n → Leads (parent t) n
+    pub attached : (n : ℕ) → IsKnown t n → LeadsToRoot (parent_number t) n
     pub distinct : (p : ℕ) (k l : K) (m n : ℕ) → IsChild t p k m → IsChild t p l n → eq k l ≡ true → m ≡ n
 
   -- whether k is n or leads to it
   abbrev pub is_under : Keyed K D → ℕ → ℕ → Bool
-  is_under t n k = meets (parent t) t.next n k
+  is_under t n k = meets (parent_number t) t.next n k
 
   -- t without n and all that lead to it
-  abbrev pub cut : Keyed K D → ℕ → Keyed K D
-  cut t n = record t { nodes = retain_keys t.nodes (λ k. not (is_under t n k)) }
+  abbrev pub without_subtree : Keyed K D → ℕ → Keyed K D
+  without_subtree t n = record t { nodes = retain_keys t.nodes (λ k. not (is_under t n k)) }
 
   -- u is t without the numbers whose parents lead to n, and those alone
   pub record IsCut (t u : Keyed K D) (n : ℕ) : Type 0 where
-    pub gone : (q : ℕ) → Under (parent t) n q → entry u q ≡ None
-    pub kept : (q : ℕ) → (Under (parent t) n q → ⊥) → entry u q ≡ entry t q
+    pub gone : (q : ℕ) → Under (parent_number t) n q → entry u q ≡ None
+    pub kept : (q : ℕ) → (Under (parent_number t) n q → ⊥) → entry u q ≡ entry t q
     pub next : u.next ≡ t.next
 
   -- why a child can't be added
@@ -160,27 +160,27 @@ module _ {K D : Type 0} where
 
   abbrev pub cleared_at : Keyed K D → Option ℕ → Keyed K D
   cleared_at t None = t
-  cleared_at t (Some c) = cut t c
+  cleared_at t (Some c) = without_subtree t c
 
   -- t without what stands below p at k
-  abbrev pub cleared : (K → K → Bool) → Keyed K D → ℕ → K → Keyed K D
-  cleared eq t p k = cleared_at t (child (eq k) t p)
+  abbrev pub without_key : (K → K → Bool) → Keyed K D → ℕ → K → Keyed K D
+  without_key eq t p k = cleared_at t (child (eq k) t p)
 
   -- whether n is the parent of some number
   abbrev pub has_child : Keyed K D → ℕ → Bool
   has_child t n = is_some (child (λ _. true) t n)
 
   -- t without the one node n
-  abbrev pub without : Keyed K D → ℕ → Keyed K D
-  without t n = record t { nodes = remove t.nodes n }
+  abbrev pub without_node : Keyed K D → ℕ → Keyed K D
+  without_node t n = record t { nodes = remove t.nodes n }
 
   abbrev pub placed_at : Keyed K D → ℕ → ℕ → K → Option (Entry K D) → Keyed K D
   placed_at t n p k None = t
   placed_at t n p k (Some e) = record t { nodes = insert t.nodes n (record e { parent_and_key = Some (p, k) }) }
 
   -- t with n below p at k
-  abbrev pub placed : Keyed K D → ℕ → ℕ → K → Keyed K D
-  placed t n p k = placed_at t n p k (entry t n)
+  abbrev pub with_new_place : Keyed K D → ℕ → ℕ → K → Keyed K D
+  with_new_place t n p k = placed_at t n p k (entry t n)
 
   -- why a node can't be deleted
   abbrev pub delete_refusal : Keyed K D → ℕ → Option FsError
@@ -210,9 +210,9 @@ module _ {K D : Type 0} where
       else Some NotFound
 
   abbrev pub moved_over : Keyed K D → ℕ → ℕ → K → Option ℕ → Keyed K D
-  moved_over t n p k None = placed t n p k
-  moved_over t n p k (Some c) = if c == n then t else placed (without t c) n p k
+  moved_over t n p k None = with_new_place t n p k
+  moved_over t n p k (Some c) = if c == n then t else with_new_place (without_node t c) n p k
 
   -- t with n moved to p at k, where a node may stand that goes; if n is there already, t stays
-  abbrev pub moved : (K → K → Bool) → Keyed K D → ℕ → ℕ → K → Keyed K D
-  moved eq t n p k = moved_over t n p k (child (eq k) t p)
+  abbrev pub with_moved : (K → K → Bool) → Keyed K D → ℕ → ℕ → K → Keyed K D
+  with_moved eq t n p k = moved_over t n p k (child (eq k) t p)

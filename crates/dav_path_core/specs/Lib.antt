@@ -1,4 +1,4 @@
-pub mod Answers
+pub mod StoreAnswers
 pub mod ChildIndex
 pub mod Children
 pub mod DavErrors
@@ -10,13 +10,13 @@ pub mod Keyed
 pub mod Lends
 pub mod MethodSets
 pub mod Methods
-pub mod Names
+pub mod PathNames
 pub mod Normal
 pub mod OsErrors
 pub mod PathText
 pub mod Prefix
 pub mod Private
-pub mod Reading
+pub mod PathReading
 pub mod Respelling
 pub mod Segments
 pub mod Shown

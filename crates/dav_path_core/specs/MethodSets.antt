@@ -23,8 +23,8 @@ abbrev pub has_method : ℕ → DavMethod → Bool
 has_method set method = not (bit_and set (bit method) == 0)
 
 -- each word with its bits
-unfoldable pub words : List (List ℕ × ℕ)
-words =
+unfoldable pub method_words : List (List ℕ × ℕ)
+method_words =
     (codes "head", 0x1) ∷ (codes "get", 0x2) ∷ (codes "put", 0x4) ∷ (codes "patch", 0x8)
     ∷ (codes "options", 0x10) ∷ (codes "propfind", 0x20) ∷ (codes "proppatch", 0x40) ∷ (codes "mkcol", 0x80)
     ∷ (codes "copy", 0x100) ∷ (codes "move", 0x200) ∷ (codes "delete", 0x400) ∷ (codes "lock", 0x800)
@@ -44,7 +44,7 @@ bits_in (entry ∷ entries) word = if is_same_word word entry.0 then Some entry.
 -- the bits so far with those of one word more; none where it is no word
 abbrev pub with_word : Option ℕ → List ℕ → Option ℕ
 with_word None word = None
-with_word (Some so_far) word = option_map (λ more. bit_or so_far more) (bits_in words word)
+with_word (Some so_far) word = option_map (λ more. bit_or so_far more) (bits_in method_words word)
 
 -- the bits of the words together; none where one of them is no word
 abbrev pub bits_of_words : List (List ℕ) → Option ℕ

@@ -1,6 +1,6 @@
 -- The prefix split: which prefix a path gets, and which whole path it is set in (own).
 use Rattle.std.specs.Prelude.{◌≡◌, ℕ, List, [], ◌∷◌, ◌++◌, false}
-use Rattle.dav_path_core.specs.Reading.{ends_in_slash}
+use Rattle.dav_path_core.specs.PathReading.{ends_in_slash}
 
 -- For the asked prefix, the prefix that is set and the whole path after it. The asked one ends in a slash and is set without
 -- it; or it is the whole path, which gets a slash; or a slash stands right behind it.

@@ -1,6 +1,6 @@
 -- What the URL text of a path keeps of it: it is read as that path again, and it is no other path's text (own).
 use Rattle.std.specs.Prelude.{◌≡◌, ℕ, ◌<◌, List, All}
-use Rattle.dav_path_core.specs.Reading.{Read}
+use Rattle.dav_path_core.specs.PathReading.{Read}
 use Rattle.dav_path_core.specs.Url.{url}
 
 pub record KeepsPath (text path : List ℕ) : Type 0 where

@@ -7,11 +7,11 @@ abbrev pub is_slash : ℕ → Bool
 is_slash b = b == 47
 
 -- the pieces between slashes, the empty ones too
-abbrev pub pieces : List ℕ → List (List ℕ)
-pieces bytes = slice_split is_slash bytes
+abbrev pub slash_pieces : List ℕ → List (List ℕ)
+slash_pieces bytes = slice_split is_slash bytes
 
 abbrev pub is_nonempty : List ℕ → Bool
 is_nonempty piece = not (length piece == 0)
 
 unfoldable pub segments : List ℕ → List (List ℕ)
-segments bytes = filter is_nonempty (pieces bytes)
+segments bytes = filter is_nonempty (slash_pieces bytes)

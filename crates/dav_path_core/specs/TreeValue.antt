@@ -6,7 +6,7 @@ use Rattle.std.specs.List.{IsDistinct}
 use Rattle.std.specs.Option.{option_map}
 use Rattle.std.specs.Coded.{Coded, code_by, coded×, coded_ℕ, coded_option}
 use Rattle.std.specs.FinMap.{FinMap, get, code}
-use Rattle.dav_path_core.specs.Keyed.{Keyed, keyed_code, IsIn, IsKnown, IsTree, entry, parent}
+use Rattle.dav_path_core.specs.Keyed.{Keyed, keyed_code, IsIn, IsKnown, IsTree, entry, parent_number}
 
 -- the first child of a node, and the sibling after it
 pub record Links : Type 0 where
@@ -54,7 +54,7 @@ module _ {K D : Type 0} where
   pub record IsChildList (t : TreeValue K D) (p : ℕ) (ks : List ℕ) : Type 0 where
     pub linked : Siblings (after t) (first t p) ks
     pub once : IsDistinct eqb ks
-    pub members : (n : ℕ) → IsIn n ks ↔ (parent t.keyed n ≡ Some p)
+    pub members : (n : ℕ) → IsIn n ks ↔ (parent_number t.keyed n ≡ Some p)
 
   -- what every tree keeps
   pub record IsTreeValue (eq : K → K → Bool) (t : TreeValue K D) : Type 0 where

@@ -12,11 +12,11 @@ module _ {K D : Type 0} where
   abbrev pub links_of : Node K D → Links
   links_of n = record { first = n.first_child; after = n.next_sibling }
 
-  abbrev pub seen : {Y : Type 0} → (Node K D → Y) → List (ℕ × Node K D) → List (ℕ × Y)
-  seen f es = map (λ e. (e.0, f e.1)) es
+  abbrev pub views_of : {Y : Type 0} → (Node K D → Y) → List (ℕ × Node K D) → List (ℕ × Y)
+  views_of f es = map (λ e. (e.0, f e.1)) es
 
   abbrev pub keyed_of : List (ℕ × Node K D) → ℕ → Keyed K D
-  keyed_of es next = record { nodes = from_entries (seen entry_of es); next = next }
+  keyed_of es next = record { nodes = from_entries (views_of entry_of es); next = next }
 
   abbrev pub tree_value_of : List (ℕ × Node K D) → ℕ → TreeValue K D
-  tree_value_of es next = record { keyed = keyed_of es next; links = from_entries (seen links_of es) }
+  tree_value_of es next = record { keyed = keyed_of es next; links = from_entries (views_of links_of es) }

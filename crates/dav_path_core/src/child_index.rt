@@ -4,10 +4,10 @@ ghost use Rattle.std.specs.Prelude.{◌≡◌, ◌≢◌, ◌⊎◌, true, false
 ghost use Rattle.std.specs.Option.{ok_or};
 ghost use Rattle.std.specs.Cmp.Lexicographic.{pointwise};
 ghost use Rattle.std.specs.FinMap.{empty, get, insert, remove};
-ghost use Rattle.dav_path_core.specs.Answers.{Answers};
-ghost use Rattle.dav_path_core.specs.ChildIndex.{IsIndex, told, is_named, noted, forgotten};
+ghost use Rattle.dav_path_core.specs.StoreAnswers.{AnswersUnlessRefused};
+ghost use Rattle.dav_path_core.specs.ChildIndex.{IsIndex, index_answer, is_key_named, with_noted, without_noted};
 ghost use Rattle.dav_path_core.specs.Fronts.{Segment};
-ghost use Rattle.dav_path_core.specs.Keyed.{IsChild, IsKnown, item, parent, child, is_under, add, add_refusal, restored, restore_refusal, delete_refusal, without, move_refusal, placed};
+ghost use Rattle.dav_path_core.specs.Keyed.{IsChild, IsKnown, item, parent_number, child, is_under, add, add_refusal, with_restored_node, restore_refusal, delete_refusal, without_node, move_refusal, with_new_place};
 ghost use Rattle.dav_path_core.specs.TreeValue.{IsTreeValue};
 ghost use Rattle.dav_path_core.specs.Private.ChildNames.{index_of};
 
@@ -55,7 +55,7 @@ impl ChildIndex {
     /// where there is none, and for an unknown number. Takes no memory.
     pub fn find_child<D>(&self, tree: &Tree<Bytes, D>, folder: u64, name: &[u8]) -> FsResult<u64>
         requires indexed { IsIndex tree.now.keyed self.now }
-        ensures { result ≡ ok_or (child (is_named name.now) tree.now.keyed folder) FsError.NotFound }
+        ensures { result ≡ ok_or (child (is_key_named name.now) tree.now.keyed folder) FsError.NotFound }
     {
         match self.look_up(folder, name) {
             Some(Some(id)) => Ok(id),
@@ -74,7 +74,7 @@ impl ChildIndex {
     ) -> FsResult<u64>
         requires indexed { IsIndex tree.old.keyed self.old }
         requires free { child (pointwise nat_eq name) tree.old.keyed folder ≡ None }
-        ensures answer { Answers (add_refusal (pointwise nat_eq) tree.old.keyed folder name false) result
+        ensures answer { AnswersUnlessRefused (add_refusal (pointwise nat_eq) tree.old.keyed folder name false) result
             (λ n. (n ≡ tree.old.keyed.next) × (tree.new.keyed ≡ add tree.old.keyed folder name item))
             (tree.new ≡ tree.old) }
         // It is refused for memory or numbers only where nothing else refuses.
@@ -100,8 +100,8 @@ impl ChildIndex {
     ) -> FsResult<()>
         requires indexed { IsIndex tree.old.keyed self.old }
         requires free { child (pointwise nat_eq name) tree.old.keyed folder ≡ None }
-        ensures answer { Answers (restore_refusal tree.old.keyed folder number) result
-            (λ _. tree.new.keyed ≡ restored tree.old.keyed folder name item number)
+        ensures answer { AnswersUnlessRefused (restore_refusal tree.old.keyed folder number) result
+            (λ _. tree.new.keyed ≡ with_restored_node tree.old.keyed folder name item number)
             (tree.new ≡ tree.old) }
         // It is refused for memory only where nothing else refuses.
         ensures room { IfErr result (λ e. e ≡ FsError.InsufficientStorage
@@ -120,7 +120,7 @@ impl ChildIndex {
         requires indexed { IsIndex tree.old.keyed self.old }
         ensures answer { MatchResult result
             (λ x. (delete_refusal tree.old.keyed id ≡ None) × (item tree.old.keyed id ≡ Some x.item)
-            × (tree.new.keyed ≡ without tree.old.keyed id))
+            × (tree.new.keyed ≡ without_node tree.old.keyed id))
             (λ e. (delete_refusal tree.old.keyed id ≡ Some e) × (tree.new ≡ tree.old)) }
         ensures shape { IsTreeValue (pointwise nat_eq) tree.new }
         ensures indexed { IsIndex tree.new.keyed self.new }
@@ -143,7 +143,7 @@ impl ChildIndex {
         requires free { child (pointwise nat_eq name) tree.old.keyed folder ≡ None }
         ensures answer { MatchResult result
             (λ _. (move_refusal (pointwise nat_eq) tree.old.keyed id folder name false ≡ None)
-            × (tree.new.keyed ≡ placed tree.old.keyed id folder name))
+            × (tree.new.keyed ≡ with_new_place tree.old.keyed id folder name))
             (λ e. (move_refusal (pointwise nat_eq) tree.old.keyed id folder name false ≡ Some e)
             × (tree.new ≡ tree.old)) }
         ensures shape { IsTreeValue (pointwise nat_eq) tree.new }
@@ -162,7 +162,7 @@ impl ChildIndex {
         requires not_root { id ≢ 1 }
         requires outside { is_under tree.old.keyed id folder ≡ false }
         requires free { child (pointwise nat_eq name) tree.old.keyed folder ≡ None }
-        ensures placed { tree.new.keyed ≡ placed tree.old.keyed id folder name }
+        ensures placed { tree.new.keyed ≡ with_new_place tree.old.keyed id folder name }
         ensures shape { IsTreeValue (pointwise nat_eq) tree.new }
         ensures indexed { IsIndex tree.new.keyed self.new }
     {
@@ -174,9 +174,9 @@ impl ChildIndex {
 
     // Notes a new child of a folder under the name that it has.
     fn note_child<D>(&mut self, tree: &Tree<Bytes, D>, folder: u64, id: u64)
-        requires { IsSome (parent tree.now.keyed id) }
+        requires { IsSome (parent_number tree.now.keyed id) }
         ensures { (k : Segment) → IsChild tree.now.keyed folder k id
-            → (self.new ≡ noted self.old folder k id) ⊎ (self.new ≡ remove self.old folder) }
+            → (self.new ≡ with_noted self.old folder k id) ⊎ (self.new ≡ remove self.old folder) }
     {
         let (name, _after) = tree.child_at(id);
         self.note(folder, name.as_slice(), id);
@@ -184,7 +184,7 @@ impl ChildIndex {
 
     // Forgets the name of a node that has a parent.
     fn forget_child<D>(&mut self, tree: &Tree<Bytes, D>, id: u64)
-        ensures forgotten { (p : ℕ) (k : Segment) → IsChild tree.now.keyed p k id → self.new ≡ forgotten self.old p k }
+        ensures forgotten { (p : ℕ) (k : Segment) → IsChild tree.now.keyed p k id → self.new ≡ without_noted self.old p k }
         ensures shape { IsTreeValue (pointwise nat_eq) tree.now }
     {
         if let Some(folder) = tree.above(id) {
@@ -212,7 +212,7 @@ impl ChildIndex {
 
     // What it says of a name in a folder, if it knows the folder.
     fn look_up(&self, folder: u64, name: &[u8]) -> Option<Option<u64>>
-        ensures { result ≡ told self.now folder name.now }
+        ensures { result ≡ index_answer self.now folder name.now }
     {
         match self.folders.get(&folder) {
             Some(names) => Some(names.number_of(name)),
@@ -222,7 +222,7 @@ impl ChildIndex {
 
     // Notes a new child of a folder that it knows. Out of memory, it does not know the folder from then on.
     fn note(&mut self, folder: u64, name: &[u8], id: u64)
-        ensures { (self.new ≡ noted self.old folder name.now id) ⊎ (self.new ≡ remove self.old folder) }
+        ensures { (self.new ≡ with_noted self.old folder name.now id) ⊎ (self.new ≡ remove self.old folder) }
     {
         if !note_in(&mut self.folders, self.alloc, folder, name, id) {
             self.drop_folder(folder);
@@ -231,7 +231,7 @@ impl ChildIndex {
 
     // Forgets a name in a folder.
     fn forget(&mut self, folder: u64, name: &[u8])
-        ensures { self.new ≡ forgotten self.old folder name.now }
+        ensures { self.new ≡ without_noted self.old folder name.now }
     {
         forget_in(&mut self.folders, folder, name);
     }
@@ -271,7 +271,7 @@ fn is_wide<D>(tree: &Tree<Bytes, D>, folder: u64) -> bool {
 
 // The names of a folder's children; `None` where it is out of memory.
 fn names_in<D>(tree: &Tree<Bytes, D>, alloc: Global, folder: u64) -> Option<Names>
-    ensures { IfSome result (λ names. (s : Segment) → get names s ≡ child (is_named s) tree.now.keyed folder) }
+    ensures { IfSome result (λ names. (s : Segment) → get names s ≡ child (is_key_named s) tree.now.keyed folder) }
 {
     let mut names = Names::new(alloc);
     let mut at = tree.first_child(folder).ok()?;
@@ -293,7 +293,7 @@ fn note_in(
     name: &[u8],
     id: u64,
 ) -> bool
-    ensures added { result ≡ true → index_of folders.new.entries ≡ noted (index_of folders.old.entries) folder name.now id }
+    ensures added { result ≡ true → index_of folders.new.entries ≡ with_noted (index_of folders.old.entries) folder name.now id }
     ensures left { result ≡ false → index_of folders.new.entries ≡ index_of folders.old.entries }
 {
     match folders.get_mut(&folder) {
@@ -304,7 +304,7 @@ fn note_in(
 
 // Forgets a name in a folder that is there.
 fn forget_in(folders: &mut HashMap<u64, Names>, folder: u64, name: &[u8])
-    ensures { index_of folders.new.entries ≡ forgotten (index_of folders.old.entries) folder name.now }
+    ensures { index_of folders.new.entries ≡ without_noted (index_of folders.old.entries) folder name.now }
 {
     match folders.get_mut(&folder) {
         Some(names) => {

@@ -2,18 +2,18 @@
 ghost use Rattle.std.specs.Prelude.{◌++◌, if◌then◌else◌, take, false, ◌≡◌, ◌≤◌, ◌<◌, ◌^◌, ◌⊎◌, ◌↔◌, ℕ, List, [], ◌∷◌, length, string_bytes, IfOk, IfErr, OnOk, OnErr, IsSome, IfSome, MatchResult, option_map, true};
 ghost use Rattle.std.specs.Str.{IsUtf8};
 ghost use Rattle.http_uri.specs.Uri.{uri_path};
-ghost use Rattle.dav_path_core.specs.Reading.{CanBeSegment, Read, ends_in_slash, path_of};
+ghost use Rattle.dav_path_core.specs.PathReading.{CanBeSegment, Read, ends_in_slash, path_of};
 ghost use Rattle.dav_path_core.specs.Fault.{Fault};
 ghost use Rattle.dav_path_core.specs.Segments.{segments};
 ghost use Rattle.dav_path_core.specs.Fronts.{parent, rebased as rebased_path, is_front};
 ghost use Rattle.dav_path_core.specs.PathText.{full, folder_bytes};
 ghost use Rattle.dav_path_core.specs.Prefix.{SetsPrefix, NeedsSlash};
-ghost use Rattle.dav_path_core.specs.Trimmed.{trimmed};
+ghost use Rattle.dav_path_core.specs.Trimmed.{without_last_slash};
 ghost use Rattle.dav_path_core.specs.Url.{url};
 ghost use Rattle.dav_path_core.specs.Respelling.{KeepsPath, IsReadAsItself};
 ghost use Rattle.dav_path_core.specs.Normal.{IsNormal};
-ghost use Rattle.dav_path_core.specs.Names.{file_name as name_of, relative};
-ghost use Rattle.dav_path_core.specs.Private.Keeping.{slashed};
+ghost use Rattle.dav_path_core.specs.PathNames.{file_name as name_of, relative};
+ghost use Rattle.dav_path_core.specs.Private.Keeping.{behind_slashes};
 
 mod iter;
 mod lent;
@@ -243,8 +243,8 @@ impl DavPath {
 
     /// As `DavPathRef::as_pathbuf`, of the path behind the prefix.
     pub fn as_pathbuf(&self, alloc: Global) -> Result<Option<String>, ParseError>
-        ensures ok { IfOk result (λ found. (IsSome found ↔ IsUtf8 (trimmed self.now.bytes))
-            × IfSome found (λ text. string_bytes text ≡ trimmed self.now.bytes)) }
+        ensures ok { IfOk result (λ found. (IsSome found ↔ IsUtf8 (without_last_slash self.now.bytes))
+            × IfSome found (λ text. string_bytes text ≡ without_last_slash self.now.bytes)) }
         ensures err { IfErr result (λ e. e ≡ ParseError.OutOfMemory) }
     {
         self.behind_prefix().as_pathbuf(alloc)
@@ -421,7 +421,7 @@ fn joined(
 
 // Each of the segments behind a slash.
 fn push_segments(path: &mut Vec<u8>, names: Segments<'_>) -> Result<(), AllocError>
-    ensures { OnOk result (path.new.items ≡ path.old.items ++ slashed (segments names.entry)) }
+    ensures { OnOk result (path.new.items ≡ path.old.items ++ behind_slashes (segments names.entry)) }
 {
     for segment in names {
         path.push(b'/')?;

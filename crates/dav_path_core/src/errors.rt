@@ -2,7 +2,7 @@
 ghost use Rattle.std.specs.Prelude.{◌≡◌};
 ghost use Rattle.dav_path_core.specs.Errors.{fs_status, fs_kind};
 ghost use Rattle.dav_path_core.specs.OsErrors.{error_of_os};
-ghost use Rattle.dav_path_core.specs.DavErrors.{dav_status, dav_kind, closes};
+ghost use Rattle.dav_path_core.specs.DavErrors.{dav_status, dav_kind, closes_connection};
 
 use crate::davpath::ParseError;
 use http::StatusCode;
@@ -211,7 +211,7 @@ impl DavError {
 
     /// Whether the connection is to be closed after the reply.
     pub fn must_close(&self) -> bool
-        ensures { result ≡ closes self.now }
+        ensures { result ≡ closes_connection self.now }
     {
         !matches!(
             self,
@@ -235,9 +235,9 @@ impl DavError {
 }
 
 impl From<ParseError> for DavError {
-    ghost use Rattle.dav_path_core.specs.DavErrors.{of_path};
+    ghost use Rattle.dav_path_core.specs.DavErrors.{error_of_path};
 
-    ghost from_gives = { λ error e. e ≡ of_path error };
+    ghost from_gives = { λ error e. e ≡ error_of_path error };
 
     fn from(error: ParseError) -> Self {
         match error {

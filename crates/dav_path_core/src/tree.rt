@@ -7,8 +7,8 @@ ghost use Rattle.std.specs.Option.{ok_or, option_map};
 ghost use Rattle.std.specs.Borrow.{sem};
 ghost use Rattle.std.specs.Map.{IsKeyTest};
 ghost use Rattle.std.specs.FinMap.{len};
-ghost use Rattle.dav_path_core.specs.Answers.{Answers};
-ghost use Rattle.dav_path_core.specs.Keyed.{item, parent as parent_number, parent_and_key, IsChild, child, lone, add, add_refusal, cleared, with_item, delete_refusal, without, entry, has_child as has_child_of, is_kept as is_kept_in, is_under, move_refusal, placed, moved, Under, cut, cut_refusal, IsCut, IsKnown};
+ghost use Rattle.dav_path_core.specs.StoreAnswers.{AnswersUnlessRefused};
+ghost use Rattle.dav_path_core.specs.Keyed.{item, parent_number, parent_and_key, IsChild, child, lone, add, add_refusal, without_key, with_item, delete_refusal, without_node, entry, has_child as has_child_of, is_kept as is_kept_in, is_under, move_refusal, with_new_place, with_moved, Under, without_subtree, cut_refusal, IsCut, IsKnown};
 ghost use Rattle.dav_path_core.specs.TreeValue.{IsTreeValue, first, after, if_known};
 
 mod changing;
@@ -206,7 +206,7 @@ impl<K: Eq + Hash + Clone, D> Tree<K, D> {
     pub fn delete_node(&mut self, id: u64) -> FsResult<Node<K, D>>
         ensures answer { MatchResult result
             (λ x. (delete_refusal self.old.keyed id ≡ None) × (item self.old.keyed id ≡ Some x.item)
-            × (self.new.keyed ≡ without self.old.keyed id))
+            × (self.new.keyed ≡ without_node self.old.keyed id))
             (λ e. (delete_refusal self.old.keyed id ≡ Some e) × (self.new ≡ self.old)) }
         ensures shape { IsTreeValue K.eq self.new }
     {
@@ -359,7 +359,7 @@ impl<K: Eq + Hash + Clone, D> Tree<K, D> {
         requires free { child (K.eq new_name) self.old.keyed new_parent ≡ None }
         ensures answer { MatchResult result
             (λ _. (move_refusal K.eq self.old.keyed id new_parent new_name false ≡ None)
-            × (self.new.keyed ≡ placed self.old.keyed id new_parent new_name))
+            × (self.new.keyed ≡ with_new_place self.old.keyed id new_parent new_name))
             (λ e. (move_refusal K.eq self.old.keyed id new_parent new_name false ≡ Some e)
             × (self.new ≡ self.old)) }
         ensures shape { IsTreeValue K.eq self.new }
@@ -376,7 +376,7 @@ impl<K: Eq + Hash + Clone, D> Tree<K, D> {
         requires not_root { id ≢ 1 }
         requires outside { is_under self.old.keyed id new_parent ≡ false }
         requires free { child (K.eq new_name) self.old.keyed new_parent ≡ None }
-        ensures placed { self.new.keyed ≡ placed self.old.keyed id new_parent new_name }
+        ensures placed { self.new.keyed ≡ with_new_place self.old.keyed id new_parent new_name }
         ensures shape { IsTreeValue K.eq self.new }
     {
         let Some(node) = self.nodes.get(&id) else {

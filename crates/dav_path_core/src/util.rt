@@ -1,8 +1,8 @@
 //! The methods of HTTP and WebDAV requests, sets of methods, and moments.
 ghost use Rattle.std.specs.Prelude.{◌≡◌, map, MatchResult};
 ghost use Rattle.std.specs.Borrow.{sem};
-ghost use Rattle.dav_path_core.specs.MethodSets.{bits, with_method, without_method, has_method, words, bits_in, bits_of_words};
-ghost use Rattle.dav_path_core.specs.Private.Tables.{entry_of};
+ghost use Rattle.dav_path_core.specs.MethodSets.{bits, with_method, without_method, has_method, method_words, bits_in, bits_of_words};
+ghost use Rattle.dav_path_core.specs.Private.Tables.{table_entry};
 
 use http::Method;
 use thiserror::Error;
@@ -181,14 +181,14 @@ const WORDS: [(&str, u32); 20] = [
 
 // The bits of a word, if it is one.
 fn word_bits(word: &str) -> Option<u32>
-    ensures { result ≡ bits_in words word.now }
+    ensures { result ≡ bits_in method_words word.now }
 {
     bits_beside(&WORDS, word)
 }
 
 // The bits beside a word in a table.
 fn bits_beside(table: &[(&str, u32)], word: &str) -> Option<u32>
-    ensures { result ≡ bits_in (map entry_of table.now) word.now }
+    ensures { result ≡ bits_in (map table_entry table.now) word.now }
 {
     for (name, bits) in table {
         if word.eq_ignore_ascii_case(name) {

@@ -10,7 +10,7 @@ use Rattle.dav_files_core.specs.Resources.{at_path}
 use Rattle.dav_files_core.specs.Below.{is_below, SameBelow, AgreeBelow}
 use Rattle.dav_files_core.proofs.laws.AgreeingLemmas.{not_front}
 use Rattle.dav_locks_core.specs.Lock.{Lock}
-use Rattle.dav_locks_core.specs.Locks.{lock_path, covers, discovered, is_at_or_below, without_below}
+use Rattle.dav_locks_core.specs.Locks.{lock_path, covers, discovered_locks, is_at_or_below, without_below}
 use Rattle.dav_locks_core.specs.Stale.{is_stale, without_stale}
 use Rattle.dav_locks_core.specs.Exclusive.{Exclusive}
 use Rattle.dav_path_core.proofs.lists.EachLemmas.{all_filter}
@@ -23,7 +23,7 @@ use Rattle.dav_resource_core.specs.Checks.{Check, caller_of, checks, has, refusi
 use Rattle.dav_resource_core.specs.ResourceStep.{is_on_map, Does, MayLackOnMap, locks_left}
 use Rattle.dav_resource_core.specs.Naming.{names_as, names, unlocks, refreshes}
 use Rattle.dav_resource_core.specs.Step.{State, IsState, Same, conflicts, conflicts_by, FindsNone, MayLackMemory, Effect, Serves, start_of, Run}
-use Rattle.dav_resource_core.specs.Alone.{is_within, under, requests_under, answers_under, NamedUnder, Lasts, IsLetIn, raised, RaisedRun, Alone, HoldersAlone}
+use Rattle.dav_resource_core.specs.Alone.{is_within, under, requests_under, answers_under, NamedUnder, LastsThrough, IsLetIn, with_next_number, RaisedRun, HasRunAlone, HoldersAlone}
 use Rattle.dav_resource_core.proofs.StepLaws.{Same-refl, Same-equal, outcome, untouched, serves_exclusive, serves_stands, serves_isolated, serves_moves}
 use Rattle.dav_resource_core.proofs.BelowLaws.{does_below, does_refused, checks_below, same_next, does_next}
 
@@ -110,7 +110,7 @@ module _ (l : Lock) (own : l.shared ≡ false) (deep : l.deep ≡ true) where
   no_lock_shown s r k u st shown = In-Contains [] k (subst (λ locks. Contains locks k) (no_conflict s r u st) shown)
 
   -- what is discovered at or below its path is the lock alone
-  discovers_same : (locks others : List Lock) (p : Path) → is_front (lock_path l) p ≡ true → Stands locks → Stands others → discovered others p ≡ discovered locks p
+  discovers_same : (locks others : List Lock) (p : Path) → is_front (lock_path l) p ≡ true → Stands locks → Stands others → discovered_locks others p ≡ discovered_locks locks p
   discovers_same locks others p front st too =
       let here : covers l p ≡ true = or_right (is_same_path (lock_path l) p) _ (and_from l.deep (is_front (lock_path l) p) deep front) in
       same_discovered locks others p (covers_alone others l p too.exclusive too.lock own here ∙ sym (covers_alone locks l p st.exclusive st.lock own here))
@@ -147,14 +147,14 @@ module _ (l : Lock) (own : l.shared ≡ false) (deep : l.deep ≡ true) where
   ]
 
   -- so no answer to it shows a lock
-  all_let_in : (s end : State) (rs : List Request) (answers : List Answer) → AllByRecursion (λ r. under r l ≡ true) rs → Lasts rs l → Stands s.locks → RaisedRun s rs answers end
+  all_let_in : (s end : State) (rs : List Request) (answers : List Answer) → AllByRecursion (λ r. under r l ≡ true) rs → LastsThrough rs l → Stands s.locks → RaisedRun s rs answers end
       → AllByRecursion IsLetIn answers
   all_let_in s end [] [] all lasts st h = tt
   all_let_in s end [] (a ∷ answers) all lasts st h = absurd h
   all_let_in s end (r ∷ rs) [] all lasts st h = absurd h
   all_let_in s end (r ∷ rs) (a ∷ answers) all lasts st h =
       let u = is_under r all.0 in
-      let from : State = start_of r (raised s h.1.0) in
+      let from : State = start_of r (with_next_number s h.1.0) in
       let stands : Stands from.locks = stands_lasting r.now s.locks lasts.0.0 st in (
         λ k is. no_lock_shown from r k u stands (subst (λ a. Serves from r a h.0) is h.1.2).0,
         all_let_in h.0 end rs answers all.1 lasts.1 (stands_after from h.0 r a u h.1.2 stands) h.2,
@@ -233,7 +233,7 @@ module _ (l : Lock) (own : l.shared ≡ false) (deep : l.deep ≡ true) where
     here : Stands s.locks
     alone : Stands t.locks
 
-  caught_up : (s t : State) → Ahead s t → Lone s (raised t s.map.next)
+  caught_up : (s t : State) → Ahead s t → Lone s (with_next_number t s.map.next)
   caught_up s t ahead = record { agree = record { there = ahead.there; same = ahead.same; next = refl }; here = ahead.here; alone = ahead.alone }
 
   goes_on : (s t : State) → Lone s t → Ahead s t
@@ -278,7 +278,7 @@ module _ (l : Lock) (own : l.shared ≡ false) (deep : l.deep ≡ true) where
       kept_itself : at_path s'.map (lock_path l) ≡ at_path s.map (lock_path l)
       kept_itself = reached (lock_path l) (is_front-refl (lock_path l))
 
-  alone_run : (s t s' : State) (rs : List Request) (answers : List Answer) → Ahead s t → Lasts rs l → NamedUnder rs l → Run s rs answers s' → Alone t rs answers l
+  alone_run : (s t s' : State) (rs : List Request) (answers : List Answer) → Ahead s t → LastsThrough rs l → NamedUnder rs l → Run s rs answers s' → HasRunAlone t rs answers l
   alone_run s t s' [] [] ahead lasts only h = (t, Same-refl t)
   alone_run s t s' [] (a ∷ answers) ahead lasts only h = absurd h
   alone_run s t s' (r ∷ rs) [] ahead lasts only h = absurd h
@@ -286,8 +286,8 @@ module _ (l : Lock) (own : l.shared ≡ false) (deep : l.deep ≡ true) where
     | inl is ↦
         let from : State = start_of r s in
         let to : State = start_of r t in
-        let lone : Lone from (raised to from.map.next) = caught_up from to (starts s t r lasts.0.0 ahead) in
-        let served = serves_lone from h.0 (raised to from.map.next) r a (is_under r is) lone h.1 in
+        let lone : Lone from (with_next_number to from.map.next) = caught_up from to (starts s t r lasts.0.0 ahead) in
+        let served = serves_lone from h.0 (with_next_number to from.map.next) r a (is_under r is) lone h.1 in
         let rest = alone_run h.0 served.0 s' rs answers (goes_on h.0 served.0 served.2) lasts.1 only.1 h.2 in
         subst (λ b. (end : State) × RaisedRun t (cond b (r ∷ requests_under l rs) (requests_under l rs)) (cond b (a ∷ answers_under l rs answers) (answers_under l rs answers)) end) (sym is)
         (rest.0, (served.0, (from.map.next, ahead.next, served.1), rest.1))
@@ -306,7 +306,7 @@ run_alone s s' rs answers x h l i own deep there lasts only =
 
 -- such a run shows no lock to a request under the lock
 pub alone_let_in : (s : State) (rs : List Request) (answers : List Answer) (l : Lock) → Exclusive s.locks → Contains s.locks l → l.shared ≡ false → l.deep ≡ true
-    → Lasts rs l → Alone s rs answers l → AllByRecursion IsLetIn (answers_under l rs answers)
+    → LastsThrough rs l → HasRunAlone s rs answers l → AllByRecursion IsLetIn (answers_under l rs answers)
 alone_let_in s rs answers l x i own deep lasts alone =
     all_let_in l own deep s alone.0 (requests_under l rs) (answers_under l rs answers)
     (recursion_from_All (λ r. under r l ≡ true) (requests_under l rs) (filter_passes (λ r. under r l) rs)) (all_filter _ (λ r. under r l) rs lasts)

@@ -9,9 +9,9 @@ use Rattle.dav_files_core.specs.Resources.{Property, ResourceMap, at_path}
 use Rattle.dav_files_core.specs.Below.{is_below, SameBelow, AgreeBelow, Alike, SameAnswer}
 use Rattle.dav_files_core.specs.Outcomes.{Outcome}
 use Rattle.dav_files_core.specs.Describing.{metadata}
-use Rattle.dav_files_core.specs.Parts.{read_at, write_at}
-use Rattle.dav_files_core.specs.Putting.{put}
-use Rattle.dav_files_core.specs.Copying.{copy}
+use Rattle.dav_files_core.specs.ContentParts.{read_at, write_at}
+use Rattle.dav_files_core.specs.ResourcePutting.{put}
+use Rattle.dav_files_core.specs.ResourceCopying.{copy}
 use Rattle.dav_files_core.specs.Folders.{create_dir, remove}
 use Rattle.dav_files_core.specs.Listing.{read_dir}
 use Rattle.dav_files_core.specs.Properties.{patch_props, get_props, get_prop}

@@ -10,16 +10,16 @@ use Rattle.dav_files_core.specs.Resources.{Property, ResourceMap}
 use Rattle.dav_files_core.specs.Finding.{place}
 use Rattle.dav_files_core.specs.Outcomes.{Outcome}
 use Rattle.dav_files_core.specs.Describing.{metadata}
-use Rattle.dav_files_core.specs.Parts.{read_at, write_at}
-use Rattle.dav_files_core.specs.Putting.{put}
-use Rattle.dav_files_core.specs.Copying.{copy}
+use Rattle.dav_files_core.specs.ContentParts.{read_at, write_at}
+use Rattle.dav_files_core.specs.ResourcePutting.{put}
+use Rattle.dav_files_core.specs.ResourceCopying.{copy}
 use Rattle.dav_files_core.specs.Folders.{create_dir, remove}
 use Rattle.dav_files_core.specs.Listing.{read_dir}
 use Rattle.dav_files_core.specs.Properties.{patch_props, get_props, get_prop}
 use Rattle.dav_files_core.specs.Renaming.{rename}
 use Rattle.dav_files_core.proofs.laws.PlaceLemmas.{put_places, copy_places, create_dir_places, remove_places, rename_places, write_places, patch_places}
 use Rattle.dav_resource_core.specs.Requests.{Command, Reply, Done, Bytes, Entries, Meta, Patched, Props, Value}
-use Rattle.dav_resource_core.specs.Checks.{IsApart, has, is_reached, reached, shallow, member, target, checks}
+use Rattle.dav_resource_core.specs.Checks.{IsApart, has, is_reached, reach_check, shallow, member, target, checks}
 use Rattle.dav_resource_core.specs.ResourceStep.{changes, patches, tells, Does}
 
 -- a shallow check that doesn't reach a path is of another path
@@ -63,14 +63,14 @@ member_apart q p h =
     (not_reached q p parts.0, not_reached (parent q) p (or_parts (is_reached (shallow (parent q)) p) false parts.1).0)
 
 -- the same where what is below is reached, too
-deep_apart : (q p : Path) → is_reached (reached q true) p ≡ false → ¬ (p ≡ q) × (is_front q p ≡ false)
+deep_apart : (q p : Path) → is_reached (reach_check q true) p ≡ false → ¬ (p ≡ q) × (is_front q p ≡ false)
 deep_apart q p h =
     let parts = or_parts (is_same_path q p) (is_front q p) h in
     ((λ same. false≢true (sym parts.0 ∙ ap (is_same_path q) same ∙ is_same_path-refl q)), parts.1)
 
 deep_member_apart : (q p : Path) → IsApart (member q true) p → ¬ (p ≡ q) × (is_front q p ≡ false) × ¬ (p ≡ parent q)
 deep_member_apart q p h =
-    let parts = or_parts (is_reached (reached q true) p) (is_reached (shallow (parent q)) p || false) h in
+    let parts = or_parts (is_reached (reach_check q true) p) (is_reached (shallow (parent q)) p || false) h in
     let below = deep_apart q p parts.0 in
     (below.0, below.1, not_reached (parent q) p (or_parts (is_reached (shallow (parent q)) p) false parts.1).0)
 
@@ -78,7 +78,7 @@ deep_member_apart q p h =
 ends_apart : (from to p : Path) → IsApart (member from true ++ member to true) p
     → (is_front from p ≡ false) × (is_front to p ≡ false) × ¬ (p ≡ parent from) × ¬ (p ≡ parent to)
 ends_apart from to p h =
-    let source = or_parts (is_reached (reached from true) p) (is_reached (shallow (parent from)) p || list_any (λ k. is_reached k p) (member to true)) h in
+    let source = or_parts (is_reached (reach_check from true) p) (is_reached (shallow (parent from)) p || list_any (λ k. is_reached k p) (member to true)) h in
     let folder = or_parts (is_reached (shallow (parent from)) p) (list_any (λ k. is_reached k p) (member to true)) source.1 in
     let target = deep_member_apart to p folder.1 in
     ((deep_apart from p source.0).1, target.1, not_reached (parent from) p folder.0, target.2)

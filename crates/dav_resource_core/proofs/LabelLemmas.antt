@@ -3,7 +3,7 @@ use Rattle.std.proofs.Common.{◌≡◌, ℕ, suc, ◌+◌, List, [], ◌∷◌,
 use Rattle.std.specs.List.{position_from}
 use Rattle.std.proofs.lemmas.Slice.Eq.{bytes_eq-Decides}
 use Rattle.dav_resource_core.specs.Labels.{smallest_label}
-use Rattle.dav_resource_core.specs.Private.Labels.{AreSmallest}
+use Rattle.dav_resource_core.specs.Private.LabelMaps.{AreSmallest}
 
 found_still : (b : Bool) (i n : ℕ) (old new : Option ℕ) → (old ≡ Some n → new ≡ Some n) → cond b (Some i) old ≡ Some n → cond b (Some i) new ≡ Some n
 found_still true i n old new still found = found

@@ -6,4 +6,5 @@ pub mod PlayingLaws
 pub mod RunLaws
 pub mod Serving
 pub mod StepLaws
+pub mod Telling
 pub mod Texts

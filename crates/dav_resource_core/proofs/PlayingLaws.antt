@@ -20,8 +20,8 @@ use Rattle.std.proofs.Math.Seq.{take-append_seam}
 use Rattle.dav_resource_core.specs.declared.guarded.requests.Request.{Request}
 use Rattle.dav_resource_core.specs.declared.davreplay.lines.Unread.{Unread}
 use Rattle.dav_resource_core.specs.declared.davreplay.lines.Unread.TheVariants.{Malformed, BadPath, OutOfMemory}
-use Rattle.dav_resource_core.specs.Private.Playing.{Played, Follows, LinePlayed, LineStopped, LinesPlayed, AreLines, BeginWith, InputPlayed, PlayedPart, WroteNext}
-use Rattle.dav_resource_core.specs.Private.Reading.{LineIs}
+use Rattle.dav_resource_core.specs.Private.Playing.{Played, PlaysLine, LinePlayed, LineStopped, LinesPlayed, AreLines, BeginWith, InputPlayed, PlayedPart, WroteNext}
+use Rattle.dav_resource_core.specs.Private.LineReading.{LineIs}
 use Rattle.dav_resource_core.specs.Replaying.{ReplayedPart, ReplayedTo, generator}
 use Rattle.dav_resource_core.specs.Stores.{Stores, start_stores, state_of}
 
@@ -235,7 +235,7 @@ part_of (Err e) p p' input old new new' ok err same = kept_part p input old new 
 
 -- of a line whose text was made, a front was written
 pub part_written : (p p' : Played) (line : List ℕ) (said : Result (Option Request) Unread) (on : Bool) (before after text written : List ℕ) (old new : Option (List ℕ)) (count : ℕ)
-    → LineIs p.1 line said → Follows p said on p' written → before ≡ [] → Appends (Some before) (Some after) written → text ≡ after → Appends old new (take count text)
+    → LineIs p.1 line said → PlaysLine p said on p' written → before ≡ [] → Appends (Some before) (Some after) written → text ≡ after → Appends old new (take count text)
     → LineStopped p line old new
 part_written p p' line said on before after text written old new count is follows none grown same more =
     let made : text ≡ written = same ∙ grown ∙ ap (λ l. l ++ written) none in

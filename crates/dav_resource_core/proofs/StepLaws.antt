@@ -7,7 +7,7 @@ use Rattle.std.proofs.lemmas.List.Elements.{filter_agree}
 use Rattle.rand_core.specs.Stream.{Stream}
 use Rattle.dav_path_core.specs.Fronts.{Path, parent}
 use Rattle.dav_locks_core.specs.Lock.{Lock}
-use Rattle.dav_locks_core.specs.Locks.{Caller, is_at_or_below, check_conflicts, without_below}
+use Rattle.dav_locks_core.specs.Locks.{LockCaller, is_at_or_below, check_conflicts, without_below}
 use Rattle.dav_locks_core.specs.Exclusive.{Exclusive}
 use Rattle.dav_locks_core.specs.Ended.{LocksEnded, StandIn}
 use Rattle.dav_locks_core.specs.Stale.{is_stale, without_stale}
@@ -21,7 +21,7 @@ use Rattle.dav_locks_core.proofs.laws.EndedLemmas.{LocksEnded-refl, LocksEnded-p
 use Rattle.dav_files_core.specs.Resources.{ResourceMap}
 use Rattle.dav_files_core.specs.Finding.{place}
 use Rattle.dav_resource_core.specs.Requests.{Command, Request, Reply, Granted, Fs, Locked, NoLock, OutOfMemory, Answer}
-use Rattle.dav_resource_core.specs.Checks.{Check, caller_of, checks, is_reached, reached, shallow, member, refusing}
+use Rattle.dav_resource_core.specs.Checks.{Check, caller_of, checks, is_reached, reach_check, shallow, member, refusing}
 use Rattle.dav_resource_core.specs.Step.{State, IsState, Same, conflicts_by, Effect, Serves, Step, start_of}
 use Rattle.dav_resource_core.specs.ResourceStep.{Does}
 use Rattle.dav_resource_core.specs.Naming.{names_as, names, unlocks, refreshes, touches}
@@ -73,13 +73,13 @@ serves_exclusive s s' r a h x = elim (outcome s s' r a h) [
 -- ---- a lock that ends is named
 
 -- what a deep check reaches and finds free is held
-below_is_named : (s : State) (r : Request) (p : Path) (ks : List Check) → refusing s.locks (caller_of r) (reached p true ∷ ks) ≡ []
+below_is_named : (s : State) (r : Request) (p : Path) (ks : List Check) → refusing s.locks (caller_of r) (reach_check p true ∷ ks) ≡ []
     → (l : Lock) → In l s.locks → not (is_at_or_below l p) ≡ false → names r l ≡ true
 below_is_named s r p ks free l i gone =
     let none = (append_none (check_conflicts s.locks p true (caller_of r)) (refusing s.locks (caller_of r) ks) free).0 in
     or_left (names_as r l) (unlocks r.command l.token) (below_held s.locks p (caller_of r) none l i (not-false (is_at_or_below l p) gone))
 
-below_named : (s : State) (r : Request) (p : Path) (ks : List Check) → refusing s.locks (caller_of r) (reached p true ∷ ks) ≡ []
+below_named : (s : State) (r : Request) (p : Path) (ks : List Check) → refusing s.locks (caller_of r) (reach_check p true ∷ ks) ≡ []
     → LocksEnded (names r) s.locks (without_below p s.locks)
 below_named s r p ks free = LocksEnded-filter (names r) (λ l. not (is_at_or_below l p)) s.locks (below_is_named s r p ks free)
 
@@ -210,7 +210,7 @@ serves_moves s s' r a h = elim (outcome s s' r a h) [
 ]
 
 -- of checks that none refuses, the one that reaches a path finds no conflict
-each_check : (locks : List Lock) (who : Caller) (ks : List Check) → refusing locks who ks ≡ [] → (p : Path) → list_any (λ k. is_reached k p) ks ≡ true
+each_check : (locks : List Lock) (who : LockCaller) (ks : List Check) → refusing locks who ks ≡ [] → (p : Path) → list_any (λ k. is_reached k p) ks ≡ true
     → (k : Check) × (check_conflicts locks k.path k.deep who ≡ []) × (is_reached k p ≡ true)
 each_check locks who [] none p h = absurd (false≢true h)
 each_check locks who (k ∷ ks) none p h =

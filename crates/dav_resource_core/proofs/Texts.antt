@@ -7,7 +7,7 @@ use Rattle.std.proofs.lemmas.Bool.{eqb-true, false≢true}
 use Rattle.std.proofs.KnownBytes.{Appends-nil, Appends-trans}
 use Rattle.std.proofs.lemmas.List.{take_more, take_all}
 use Rattle.hex.specs.Hex.{encode_lower, encode_with, lower_digits}
-use Rattle.dav_resource_core.specs.AnswerTexts.{hex_text, ok_line, spaced}
+use Rattle.dav_resource_core.specs.AnswerTexts.{hex_text, ok_line, spaced_word}
 
 module _ {A B : Type 0} (text : B → List ℕ) (view : A → B) where
   abbrev of_all : List A → List ℕ
@@ -57,7 +57,7 @@ front_more a b c bytes left left' chunk h is one = (
 )
 
 pub front_all : (a b c d : Option (List ℕ)) (bytes left : List ℕ) → nat_eq (length bytes) 0 ≡ false → length left ≡ 0 → Appends a b (codes "ok ") → WroteFront b c bytes left → Appends c d (codes "\n")
-    → Appends a d (ok_line (spaced (hex_text bytes)))
+    → Appends a d (ok_line (spaced_word (hex_text bytes)))
 front_all a b c d [] left some none start h end = absurd (false≢true (sym some))
 front_all a b c d (x ∷ bytes) (y ∷ left) some none start h end = absurd (omega (arith, none))
 front_all a b c d (x ∷ bytes) [] some none start h end =
@@ -65,6 +65,6 @@ front_all a b c d (x ∷ bytes) [] some none start h end =
     (Appends-trans b c d (encode_lower (x ∷ bytes)) (codes "\n")
     (subst (λ l. Appends b c (encode_lower l)) (sym (h.1 ∙ append-nil h.0)) h.2) end)
 
-pub no_bytes : (a b : Option (List ℕ)) (bytes : List ℕ) → nat_eq (length bytes) 0 ≡ true → Appends a b (codes "ok -\n") → Appends a b (ok_line (spaced (hex_text bytes)))
+pub no_bytes : (a b : Option (List ℕ)) (bytes : List ℕ) → nat_eq (length bytes) 0 ≡ true → Appends a b (codes "ok -\n") → Appends a b (ok_line (spaced_word (hex_text bytes)))
 no_bytes a b [] none h = h
 no_bytes a b (x ∷ bytes) none h = let long : length (x ∷ bytes) ≡ 0 = eqb-true (length (x ∷ bytes)) 0 none in absurd (omega (arith, long))

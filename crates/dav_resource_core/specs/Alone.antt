@@ -51,31 +51,31 @@ NamedUnder rs l = AllByRecursion (λ r. names r l ≡ true → under r l ≡ tru
 -- ---- alone
 
 -- the state with another next number, which no answer shows
-abbrev pub raised : State → ℕ → State
-raised s n = record s { map = record s.map { next = n } }
+abbrev pub with_next_number : State → ℕ → State
+with_next_number s n = record s { map = record s.map { next = n } }
 
 -- a step before which the next number may be raised
 abbrev pub RaisedStep : State → Request → Answer → State → Type 0
-RaisedStep s r a s' = (n : ℕ) × (s.map.next ≤ n) × Step (raised s n) r a s'
+RaisedStep s r a s' = (n : ℕ) × (s.map.next ≤ n) × Step (with_next_number s n) r a s'
 
 -- a run in which the next number may be raised before each request
 abbrev pub RaisedRun : State → List Request → List Answer → State → Type 0
 RaisedRun = Chain RaisedStep
 
 -- the requests under the lock, in order, have with their own answers such a run from the state to some state
-abbrev pub Alone : State → List Request → List Answer → Lock → Type 0
-Alone s rs answers l = (end : State) × RaisedRun s (requests_under l rs) (answers_under l rs answers) end
+abbrev pub HasRunAlone : State → List Request → List Answer → Lock → Type 0
+HasRunAlone s rs answers l = (end : State) × RaisedRun s (requests_under l rs) (answers_under l rs answers) end
 
 -- the answer shows no lock that is in the way
 abbrev pub IsLetIn : Answer → Type 0
 IsLetIn a = (l : Lock) → ¬ (a ≡ Err (Locked l))
 
 -- no request comes at the lock's end or later, and none refreshes its token
-abbrev pub Lasts : List Request → Lock → Type 0
-Lasts rs l = AllByRecursion (λ r. (is_stale r.now l ≡ false) × (refreshes r.command l.token ≡ false)) rs
+abbrev pub LastsThrough : List Request → Lock → Type 0
+LastsThrough rs l = AllByRecursion (λ r. (is_stale r.now l ≡ false) × (refreshes r.command l.token ≡ false)) rs
 
 -- for every exclusive deep lock of the start at a path of the start's map, which lasts, and where each request that names the
 -- lock is under it
 abbrev pub HoldersAlone : State → List Request → List Answer → Type 0
 HoldersAlone s rs answers = (l : Lock) → Contains s.locks l → l.shared ≡ false → l.deep ≡ true → has s.map (lock_path l) ≡ true
-    → Lasts rs l → NamedUnder rs l → Alone s rs answers l
+    → LastsThrough rs l → NamedUnder rs l → HasRunAlone s rs answers l

@@ -22,8 +22,8 @@ abbrev pub ok_line : List ℕ → List ℕ
 ok_line told = codes "ok" ++ told ++ codes "\n"
 
 -- a word behind a space
-abbrev pub spaced : List ℕ → List ℕ
-spaced word = codes " " ++ word
+abbrev pub spaced_word : List ℕ → List ℕ
+spaced_word word = codes " " ++ word
 
 -- ---- files
 
@@ -38,7 +38,7 @@ kind_text File = codes "file"
 
 -- the kind, the length, and the moments at which it was modified and created
 abbrev pub meta_text : Meta → List ℕ
-meta_text meta = spaced (kind_text meta.kind) ++ spaced (decimal meta.length) ++ spaced (decimal meta.modified) ++ spaced (decimal meta.created)
+meta_text meta = spaced_word (kind_text meta.kind) ++ spaced_word (decimal meta.length) ++ spaced_word (decimal meta.modified) ++ spaced_word (decimal meta.created)
 
 -- what stands behind the name of a member
 abbrev pub slash_behind : Kind → List ℕ
@@ -47,17 +47,17 @@ slash_behind File = []
 
 -- its name as a URL text
 abbrev pub member_text : Segment × Meta → List ℕ
-member_text e = spaced (url e.0) ++ slash_behind e.1.kind
+member_text e = spaced_word (url e.0) ++ slash_behind e.1.kind
 
 -- ---- properties
 
 -- the status of a property that was set or removed
 abbrev pub status_text : ℕ × Property → List ℕ
-status_text answer = spaced (decimal answer.0)
+status_text answer = spaced_word (decimal answer.0)
 
 -- its namespace, `-` for none, and its name
 abbrev pub property_text : Property → List ℕ
-property_text p = spaced (unwrap_or p.namespace (codes "-")) ++ spaced p.name
+property_text p = spaced_word (unwrap_or p.namespace (codes "-")) ++ spaced_word p.name
 
 -- ---- locks, by the numbers of their labels
 
@@ -111,19 +111,19 @@ bad_path_line e = codes "bad path " ++ path_error_text e ++ codes "\n"
 
 -- a lock that was granted is told by its label, and one that was refreshed with its end
 abbrev pub lock_line : (List ℕ → ℕ) → Command → Lock → List ℕ
-lock_line number (Command.Refresh path token timeout) lock = ok_line (spaced (label_text (number lock.token)) ++ spaced (end_text lock.timeout_at))
-lock_line number command lock = ok_line (spaced (label_text (number lock.token)))
+lock_line number (Command.Refresh path token timeout) lock = ok_line (spaced_word (label_text (number lock.token)) ++ spaced_word (end_text lock.timeout_at))
+lock_line number command lock = ok_line (spaced_word (label_text (number lock.token)))
 
 abbrev pub reply_line : (List ℕ → ℕ) → Command → Reply → List ℕ
 reply_line number command Done = ok_line []
-reply_line number command (Bytes bytes) = ok_line (spaced (hex_text bytes))
+reply_line number command (Bytes bytes) = ok_line (spaced_word (hex_text bytes))
 reply_line number command (Entries entries) = ok_line (flat_map member_text entries)
 reply_line number command (Known meta) = ok_line (meta_text meta)
 reply_line number command (Patched answers) = ok_line (flat_map status_text answers)
 reply_line number command (Props props) = ok_line (flat_map property_text props)
-reply_line number command (Value xml) = ok_line (spaced (hex_text xml))
+reply_line number command (Value xml) = ok_line (spaced_word (hex_text xml))
 reply_line number command (Granted lock) = lock_line number command lock
-reply_line number command (Locks locks) = ok_line (flat_map (λ token. spaced (label_text (number token))) (map (λ lock. lock.token) locks))
+reply_line number command (Locks locks) = ok_line (flat_map (λ token. spaced_word (label_text (number token))) (map (λ lock. lock.token) locks))
 
 abbrev pub answer_line : (List ℕ → ℕ) → Command → Answer → List ℕ
 answer_line number command (Ok reply) = reply_line number command reply

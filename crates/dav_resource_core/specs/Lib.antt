@@ -3,7 +3,7 @@ pub mod AnswerTexts
 pub mod Checks
 pub mod Isolation
 pub mod Labels
-pub mod Lines
+pub mod RequestLines
 pub mod Naming
 pub mod Private
 pub mod Replaying

@@ -1,14 +1,14 @@
 -- The locks that a request names, refreshes or outlasts (RFC 4918 sections 6.4 and 6.6).
 use Rattle.std.specs.Prelude.{ℕ, List, [], ◌∷◌, Bool, false, ◌||◌, bytes_eq}
 use Rattle.dav_locks_core.specs.Lock.{Lock}
-use Rattle.dav_locks_core.specs.Locks.{held}
+use Rattle.dav_locks_core.specs.Locks.{is_held_by}
 use Rattle.dav_locks_core.specs.Stale.{is_stale}
 use Rattle.dav_resource_core.specs.Requests.{Command, Request}
 use Rattle.dav_resource_core.specs.Checks.{caller_of}
 
 -- the request names the lock's token under its principal
 abbrev pub names_as : Request → Lock → Bool
-names_as r l = held l (caller_of r)
+names_as r l = is_held_by l (caller_of r)
 
 -- the command ends a lock with that token
 abbrev pub unlocks : Command → List ℕ → Bool

@@ -1,5 +1,5 @@
 -- Words that private contracts alone name.
-pub mod Labels
+pub mod LabelMaps
 pub mod Playing
-pub mod Reading
-pub mod Serving
+pub mod LineReading
+pub mod RequestServing

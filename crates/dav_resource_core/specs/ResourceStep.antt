@@ -4,9 +4,9 @@ use Rattle.dav_path_core.specs.declared.errors.FsError.{FsError}
 use Rattle.dav_files_core.specs.Resources.{Property, ResourceMap}
 use Rattle.dav_files_core.specs.Outcomes.{Outcome, ◌>>=◌}
 use Rattle.dav_files_core.specs.Describing.{metadata}
-use Rattle.dav_files_core.specs.Parts.{read_at, write_at}
-use Rattle.dav_files_core.specs.Putting.{put}
-use Rattle.dav_files_core.specs.Copying.{copy}
+use Rattle.dav_files_core.specs.ContentParts.{read_at, write_at}
+use Rattle.dav_files_core.specs.ResourcePutting.{put}
+use Rattle.dav_files_core.specs.ResourceCopying.{copy}
 use Rattle.dav_files_core.specs.Folders.{create_dir, remove}
 use Rattle.dav_files_core.specs.Listing.{read_dir}
 use Rattle.dav_files_core.specs.Properties.{patch_props, get_props, get_prop}
@@ -78,12 +78,12 @@ takes_memory_early (Command.Move from to) = true
 takes_memory_early _ = false
 
 -- nothing on the map refuses it
-abbrev pub IsDone : ResourceMap → Command → ℕ → Type 0
-IsDone m command now = (reply : Reply) × (m' : ResourceMap) × Does m command now (Ok reply) m'
+abbrev pub CanBeDone : ResourceMap → Command → ℕ → Type 0
+CanBeDone m command now = (reply : Reply) × (m' : ResourceMap) × Does m command now (Ok reply) m'
 
 -- its work on the map may be out of memory
 unfoldable pub MayLackOnMap : ResourceMap → Command → ℕ → Type 0
-MayLackOnMap m command now = (takes_map_memory command ≡ true) × ((takes_memory_early command ≡ true) ⊎ IsDone m command now)
+MayLackOnMap m command now = (takes_map_memory command ≡ true) × ((takes_memory_early command ≡ true) ⊎ CanBeDone m command now)
 
 -- the locks that stand once it is done: where something goes, the locks there and below go with it
 abbrev pub locks_left : Command → List Lock → List Lock

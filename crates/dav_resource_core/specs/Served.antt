@@ -1,9 +1,9 @@
 -- Requests and answers of the code as plain data, without where they lie in memory.
 use Rattle.std.specs.Prelude.{map, option_map, string_bytes, Result, Ok, Err}
 use Rattle.dav_path_core.specs.Segments.{segments}
-use Rattle.dav_files_core.specs.Listing.{entry_of}
+use Rattle.dav_files_core.specs.Listing.{listed_entry}
 use Rattle.dav_files_core.specs.Meta.{meta_of}
-use Rattle.dav_files_core.specs.Properties.{property_of, entry_of as patch_of, answer_of as patched_of}
+use Rattle.dav_files_core.specs.Properties.{property_of, patch_update as patch_of, patch_answer as patched_of}
 use Rattle.dav_resource_core.specs.declared.guarded.requests.Command.{Command}
 use Rattle.dav_resource_core.specs.declared.guarded.requests.Command.TheVariants.{Put, Write, Read, List, Meta, MkCol, Remove, Move, Copy, PatchProps, GetProps, GetProp, Lock, Unlock, Refresh, Discover, Check}
 use Rattle.dav_resource_core.specs.declared.guarded.requests.Request.{Request}
@@ -43,7 +43,7 @@ request_of r = record {
 abbrev pub reply_of : Reply → plain.Reply
 reply_of Done = plain.Done
 reply_of (Bytes bytes) = plain.Bytes bytes
-reply_of (Entries entries) = plain.Entries (map entry_of entries.items)
+reply_of (Entries entries) = plain.Entries (map listed_entry entries.items)
 reply_of (Known meta) = plain.Meta (meta_of meta)
 reply_of (Patched answers) = plain.Patched (map patched_of answers.items)
 reply_of (Props props) = plain.Props (map property_of props.items)

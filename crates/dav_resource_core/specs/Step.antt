@@ -5,7 +5,7 @@ use Rattle.dav_path_core.specs.declared.errors.FsError.TheVariants.{Insufficient
 use Rattle.dav_path_core.specs.Segments.{segments}
 use Rattle.dav_files_core.specs.Resources.{ResourceMap}
 use Rattle.dav_locks_core.specs.Lock.{Lock}
-use Rattle.dav_locks_core.specs.Locks.{lock_conflicts, found, refreshed, discovered}
+use Rattle.dav_locks_core.specs.Locks.{lock_conflicts, found_token, refreshed_lock, discovered_locks}
 use Rattle.dav_locks_core.specs.Stale.{without_stale}
 use Rattle.dav_locks_core.specs.Tokens.{token_from}
 use Rattle.dav_locks_core.specs.NewLock.{new_lock}
@@ -41,15 +41,15 @@ conflicts s r = conflicts_by r.command s r
 
 -- the command ends or refreshes a lock, and there is no such lock
 abbrev pub FindsNone : Command → List Lock → Type 0
-FindsNone (Command.Unlock path token) locks = found locks path token ≡ None
-FindsNone (Command.Refresh path token timeout) locks = found locks path token ≡ None
+FindsNone (Command.Unlock path token) locks = found_token locks path token ≡ None
+FindsNone (Command.Refresh path token timeout) locks = found_token locks path token ≡ None
 FindsNone _ locks = ⊥
 
 -- its checks, or its work on the locks, may be out of memory
 abbrev pub MayLackMemory : Command → State → Request → Type 0
 MayLackMemory (Command.Lock path owner timeout shared deep) s r = Unit {0}
-MayLackMemory (Command.Refresh path token timeout) s r = is_some (found s.locks path token) ≡ true
-MayLackMemory (Command.Discover path) s r = discovered s.locks path ≢ []
+MayLackMemory (Command.Refresh path token timeout) s r = is_some (found_token s.locks path token) ≡ true
+MayLackMemory (Command.Discover path) s r = discovered_locks s.locks path ≢ []
 MayLackMemory command s r = MayLack s.locks (caller_of r) (checks s.map command)
 
 -- what a command does that meets no conflict
@@ -58,11 +58,11 @@ Effect (Command.Lock path owner timeout shared deep) s r reply s' =
     let lock = new_lock (token_from s.rng).0 path r.principal owner timeout shared deep r.now in
     (reply ≡ Granted lock) × IsState s' s.map (s.locks ++ (lock ∷ [])) (token_from s.rng).1
 Effect (Command.Unlock path token) s r reply s' =
-    (k : ℕ) × (found s.locks path token ≡ Some k) × (reply ≡ Done) × IsState s' s.map (remove s.locks k) s.rng
+    (k : ℕ) × (found_token s.locks path token ≡ Some k) × (reply ≡ Done) × IsState s' s.map (remove s.locks k) s.rng
 Effect (Command.Refresh path token timeout) s r reply s' =
-    (k : ℕ) × (lock : Lock) × (found s.locks path token ≡ Some k) × (lock ≡ refreshed r.now timeout (get_or s.locks k lock))
+    (k : ℕ) × (lock : Lock) × (found_token s.locks path token ≡ Some k) × (lock ≡ refreshed_lock r.now timeout (get_or s.locks k lock))
     × (reply ≡ Granted lock) × IsState s' s.map (set s.locks k lock) s.rng
-Effect (Command.Discover path) s r reply s' = (reply ≡ Locks (discovered s.locks path)) × Same s s'
+Effect (Command.Discover path) s r reply s' = (reply ≡ Locks (discovered_locks s.locks path)) × Same s s'
 Effect (Command.Check path deep) s r reply s' = (reply ≡ Done) × Same s s'
 Effect command s r reply s' = Does s.map command r.now (Ok reply) s'.map × IsState s' s'.map (locks_left command s.locks) s.rng
 

@@ -4,9 +4,9 @@ use Rattle.std.specs.Coded.{Coded, code_by, coded×, coded_list}
 use Rattle.rand_core.specs.Stream.{Stream}
 use Rattle.dav_files_core.specs.Resources.{ResourceMap}
 use Rattle.dav_files_core.specs.Outcomes.{start}
-use Rattle.dav_files_core.specs.Codes.{coded_resources}
+use Rattle.dav_files_core.specs.ResourceCodes.{coded_resources}
 use Rattle.dav_locks_core.specs.Lock.{Lock}
-use Rattle.dav_locks_core.specs.Codes.{coded_lock}
+use Rattle.dav_locks_core.specs.LockCodes.{coded_lock}
 use Rattle.dav_resource_core.specs.Step.{State}
 
 pub record Stores : Type 0 where

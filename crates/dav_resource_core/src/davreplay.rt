@@ -3,7 +3,7 @@ ghost use Rattle.std.specs.Prelude.{◌≡◌, ◌≤◌, ◌⊎◌, ℕ, List, 
 ghost use Rattle.std.specs.Io.Buffered.{reader_remaining, writer_contents};
 ghost use Rattle.std.specs.Io.KnownBytes.{Appends, Keeps};
 ghost use Rattle.std.specs.List.{concat};
-ghost use Rattle.dav_resource_core.specs.Private.Playing.{Follows, LinePlayed, LineStopped, InputPlayed, PlayedPart};
+ghost use Rattle.dav_resource_core.specs.Private.Playing.{PlaysLine, LinePlayed, LineStopped, InputPlayed, PlayedPart};
 ghost use Rattle.dav_resource_core.specs.Replaying.{Replayed, ReplayedPart, ReplayedTo};
 ghost use Rattle.dav_resource_core.specs.Stores.{state_of};
 ghost use Rattle.dav_resource_core.specs.Seeds.{seed};
@@ -213,7 +213,7 @@ fn follow<R: Rng + Drop, O: Write>(
     said: Result<Option<Request>, Unread>,
     output: &mut O,
 ) -> Result<bool, Fault>
-    ensures { IfOk result (λ right. (written : List ℕ) × Follows (state_of player.old.stores (R.stream player.old.rng), player.old.labels) said right
+    ensures { IfOk result (λ right. (written : List ℕ) × PlaysLine (state_of player.old.stores (R.stream player.old.rng), player.old.labels) said right
         (state_of player.new.stores (R.stream player.new.rng), player.new.labels) written
         × Appends (O.contents output.old) (O.contents output.new) written) }
 {

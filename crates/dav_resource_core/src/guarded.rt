@@ -15,6 +15,7 @@ ghost use Rattle.dav_resource_core.specs.Served.{request_of, answer_of};
 
 mod checks;
 mod files;
+mod inspecting;
 mod laws;
 mod locks;
 mod requests;
@@ -27,7 +28,8 @@ use dav_files_core::memfs::MemFs;
 use dav_locks_core::ls::DavLockSystem;
 use dav_locks_core::memls::MemLs;
 use dav_path_core::errors::{FsError, FsResult};
-use files::serve_files;
+use files::apply_to_files;
+pub use inspecting::Inspection;
 pub use laws::{commands_keep_to_folders, holders_are_let_in, runs_join, runs_keep_shape};
 use rand_core::Rng;
 pub use requests::{Command, Refusal, Reply, Request};
@@ -90,22 +92,12 @@ impl Guarded {
         // A lock that was not there as it is now is the one that the answer shows.
         ensures new_shown { NewShown (state_of self.old (R.stream rng.old)) (answer_of result) (state_of self.new (R.stream rng.new)) }
     {
-        self.serve(request, rng)
-    }
-
-    // One request, in the stores without the locks that have expired.
-    fn serve<R: Rng>(&mut self, request: &Request, rng: &mut R) -> Result<Reply, Refusal>
-        ensures step { Step (state_of self.old (R.stream rng.old)) (request_of request.entry.now) (answer_of result)
-            (state_of self.new (R.stream rng.new)) }
-        ensures exclusive { Exclusive self.new.locks }
-        ensures shape { IsResourceMap self.new.map }
-    {
         self.locks.expire(request.now);
-        self.serve_fresh(request, rng)
+        self.apply_to_live(request, rng)
     }
 
-    // One request: refused by its checks, else done on the files or on the locks.
-    fn serve_fresh<R: Rng>(&mut self, request: &Request, rng: &mut R) -> Result<Reply, Refusal>
+    // Answers one request in stores without expired locks: refused by its checks, else done on the files or on the locks.
+    fn apply_to_live<R: Rng>(&mut self, request: &Request, rng: &mut R) -> Result<Reply, Refusal>
         requires fresh { without_stale request.now.now.0 self.old.locks ≡ self.old.locks }
         requires exclusive { Exclusive self.old.locks }
         requires shape { IsResourceMap self.old.map }
@@ -120,9 +112,9 @@ impl Guarded {
             | Command::Unlock { .. }
             | Command::Refresh { .. }
             | Command::Discover { .. }
-            | Command::Check { .. } => return self.serve_locks(request, rng),
+            | Command::Check { .. } => return self.apply_to_locks(request, rng),
             _ => {
-                let reply = serve_files(&mut self.fs, &request.command, request.now)?;
+                let reply = apply_to_files(&mut self.fs, &request.command, request.now)?;
                 self.drop_locks(request);
                 return Ok(reply);
             }
@@ -194,7 +186,7 @@ impl Guarded {
     {
         let mut answers = Vec::with_capacity(self.alloc, requests.len())?;
         for request in requests {
-            let answer = self.serve(request, rng);
+            let answer = self.apply(request, rng);
             add_answer(&mut answers, answer);
         }
         Ok(answers)

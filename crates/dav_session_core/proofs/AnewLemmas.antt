@@ -7,14 +7,14 @@ use Rattle.dav_path_core.specs.Fronts.{Path, is_front, is_same_path, parent}
 use Rattle.dav_path_core.proofs.lists.MemberLemmas.{Contains-In, In, In-filter}
 use Rattle.dav_path_core.proofs.paths.FrontLemmas.{is_front-refl, is_front-trans, is_same_path-same}
 use Rattle.dav_locks_core.specs.Lock.{Lock}
-use Rattle.dav_locks_core.specs.Locks.{Caller as LocksCaller, any_held, covering_at, covering_from, covers, discovered, height, held, is_at_or_below, lock_path, refuses_change, without_below}
+use Rattle.dav_locks_core.specs.Locks.{LockCaller as LocksCaller, any_held, covering_at, covering_from, covers, discovered_locks, height, is_held_by, is_at_or_below, lock_path, refuses_change, without_below}
 use Rattle.dav_resource_core.specs.Step.{State}
 use Rattle.dav_session_core.specs.Callers.{Caller, as_caller}
 use Rattle.dav_session_core.specs.Clearing.{refusing_anew}
 use Rattle.dav_session_core.specs.Private.Anew.{any_leads, leads_to, refuses_anew, with_tokens}
-use Rattle.dav_session_core.proofs.OwnLemmas.{above, parent_front}
-use Rattle.dav_session_core.proofs.SubtreeLemmas.{in_either}
-use Rattle.dav_session_core.proofs.TokenLemmas.{and_false, and_true, any_agree, any_discovered, any_filter}
+use Rattle.dav_path_core.proofs.paths.AbovePaths.{above, parent_front}
+use Rattle.dav_path_core.proofs.paths.SubtreePaths.{in_either}
+use Rattle.dav_locks_core.proofs.answers.CoveringTokens.{and_false, and_true, any_agree, any_discovered, any_filter}
 
 -- ---- a lock above a path
 
@@ -124,28 +124,28 @@ module _ (locks : List Lock) (p : Path) (who : LocksCaller) where
   left = without_below p locks
 
   abbrev found : List Lock
-  found = discovered locks (parent p)
+  found = discovered_locks locks (parent p)
 
   -- a lock that is held is left and covers the path where one that leads there is found
   any_same : any_held left p who ≡ any_leads p who found
   any_same =
-      any_filter (λ l. covers l p && held l who) (λ l. not (is_at_or_below l p)) locks
-      ∙ any_agree (λ l. (covers l p && held l who) && not (is_at_or_below l p)) (λ l. (leads_to p l && held l who) && covers l (parent p)) each locks
-      ∙ sym (any_discovered (λ l. leads_to p l && held l who) locks (parent p))
+      any_filter (λ l. covers l p && is_held_by l who) (λ l. not (is_at_or_below l p)) locks
+      ∙ any_agree (λ l. (covers l p && is_held_by l who) && not (is_at_or_below l p)) (λ l. (leads_to p l && is_held_by l who) && covers l (parent p)) each locks
+      ∙ sym (any_discovered (λ l. leads_to p l && is_held_by l who) locks (parent p))
     where
-      each : (l : Lock) → ((covers l p && held l who) && not (is_at_or_below l p)) ≡ ((leads_to p l && held l who) && covers l (parent p))
+      each : (l : Lock) → ((covers l p && is_held_by l who) && not (is_at_or_below l p)) ≡ ((leads_to p l && is_held_by l who) && covers l (parent p))
       each l =
-          swapped (covers l p) (held l who) (not (is_at_or_below l p)) ∙ ap (λ b. b && held l who) (leads_up p l)
-          ∙ swapped (leads_to p l) (covers l (parent p)) (held l who)
+          swapped (covers l p) (is_held_by l who) (not (is_at_or_below l p)) ∙ ap (λ b. b && is_held_by l who) (leads_up p l)
+          ∙ swapped (leads_to p l) (covers l (parent p)) (is_held_by l who)
 
   -- so does one that refuses
   test_same : (l : Lock) → (refuses_change left p false who l && not (is_at_or_below l p)) ≡ (refuses_anew p who (any_leads p who found) l && covers l (parent p))
   test_same l =
       let may = not l.shared || not (any_leads p who found) in
-      ap (λ b. (not (held l who) && ((covers l p && (not l.shared || not b)) || false)) && not (is_at_or_below l p)) any_same
-      ∙ there (not (held l who)) (covers l p) may (not (is_at_or_below l p))
-      ∙ ap (λ b. (not (held l who) && may) && b) (leads_up p l)
-      ∙ sym (here (leads_to p l) (not (held l who)) may (covers l (parent p)))
+      ap (λ b. (not (is_held_by l who) && ((covers l p && (not l.shared || not b)) || false)) && not (is_at_or_below l p)) any_same
+      ∙ there (not (is_held_by l who)) (covers l p) may (not (is_at_or_below l p))
+      ∙ ap (λ b. (not (is_held_by l who) && may) && b) (leads_up p l)
+      ∙ sym (here (leads_to p l) (not (is_held_by l who)) may (covers l (parent p)))
 
   none_refuses : find (refuses_anew p who (any_leads p who found)) found ≡ None → filter (refuses_change left p false who) left ≡ []
   none_refuses h = no_filter (refuses_change left p false who) left
@@ -166,15 +166,15 @@ module _ (locks : List Lock) (p : Path) (who : LocksCaller) where
 -- ---- behind a question of the same caller
 
 module _ (who asker : Caller) (s : State) (p q : Path) (items : List Lock) (tokens : List (List ℕ)) (first : Option Lock) (same : asker ≡ who) (named : tokens ≡ asker.tokens)
-    (are : items ≡ discovered s.locks q) (up : q ≡ parent p)
+    (are : items ≡ discovered_locks s.locks q) (up : q ≡ parent p)
     (is : first ≡ find (refuses_anew p (with_tokens asker.principal tokens) (any_leads p (with_tokens asker.principal tokens) items)) items) where
   abbrev by_caller : LocksCaller → List Lock → Option Lock
   by_caller w xs = find (refuses_anew p w (any_leads p w xs)) xs
 
-  first_is : first ≡ by_caller (as_caller who) (discovered s.locks (parent p))
+  first_is : first ≡ by_caller (as_caller who) (discovered_locks s.locks (parent p))
   first_is =
       is ∙ ap (λ ts. by_caller (with_tokens asker.principal ts) items) named ∙ ap (λ w. by_caller (as_caller w) items) same
-      ∙ ap (by_caller (as_caller who)) (are ∙ ap (discovered s.locks) up)
+      ∙ ap (by_caller (as_caller who)) (are ∙ ap (discovered_locks s.locks) up)
 
   pub anew_free : first ≡ None → refusing_anew s who p ≡ []
   anew_free none = none_refuses s.locks p (as_caller who) (sym first_is ∙ none)

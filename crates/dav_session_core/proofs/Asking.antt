@@ -1,23 +1,18 @@
 -- What a caller's requests are answered, and what they leave.
-use Rattle.std.proofs.Common.{true, ◌≡◌, ◌⊎◌, inl, inr, ℕ, List, [], ◌∷◌, ◌++◌, map, take, drop, Option, Some, None, Result, Ok, Err, refl, sym, ◌∙◌, ap, subst}
-use Rattle.std.specs.Prelude.{ok_or}
-use Rattle.std.specs.FinMap.{entries, values}
+use Rattle.std.proofs.Common.{true, ◌≡◌, ◌⊎◌, inl, inr, ℕ, List, [], ◌∷◌, ◌++◌, map, Option, Some, None, Result, Ok, Err, refl, sym, ◌∙◌, ap, subst}
 use Rattle.std.proofs.lemmas.Bool.{false≢true, or_from}
 use Rattle.std.proofs.lemmas.List.{map-append}
 use Rattle.std.proofs.lemmas.List.Folds.{list_any-append}
 use Rattle.dav_path_core.specs.declared.errors.FsError.{FsError}
-use Rattle.dav_path_core.specs.declared.errors.FsError.TheVariants.{Forbidden, InsufficientStorage}
-use Rattle.dav_path_core.specs.Fronts.{Segment, Path}
+use Rattle.dav_path_core.specs.declared.errors.FsError.TheVariants.{InsufficientStorage}
+use Rattle.dav_path_core.specs.Fronts.{Path}
 use Rattle.dav_path_core.proofs.lists.MemberLemmas.{In-Contains}
-use Rattle.dav_files_core.specs.declared.memfs.Kind.{Kind}
-use Rattle.dav_files_core.specs.declared.memfs.Kind.TheVariants.{Folder, File}
+use Rattle.dav_files_core.specs.declared.memfs.Kind.TheVariants.{Folder}
 use Rattle.dav_files_core.specs.Describing.{metadata}
-use Rattle.dav_files_core.specs.Finding.{refusal_at, members}
-use Rattle.dav_files_core.specs.Listing.{listed, read_dir}
-use Rattle.dav_files_core.specs.Meta.{Meta as Known, meta_at}
-use Rattle.dav_files_core.specs.Outcomes.{◌>>=◌, only_file, only_folder}
-use Rattle.dav_files_core.specs.Parts.{read_at}
-use Rattle.dav_files_core.specs.Properties.{get_props, get_prop, shown}
+use Rattle.dav_files_core.specs.Finding.{refusal_at}
+use Rattle.dav_files_core.specs.Listing.{read_dir}
+use Rattle.dav_files_core.specs.ContentParts.{read_at}
+use Rattle.dav_files_core.specs.Properties.{get_props, get_prop}
 use Rattle.dav_files_core.specs.Resources.{Resource, ResourceMap, at_path}
 use Rattle.dav_locks_core.proofs.laws.StaleLemmas.{stale_once}
 use Rattle.dav_resource_core.specs.Requests.{Command, Reply, Meta, Bytes, Entries, Props, Value, Answer, Refusal, Fs, Locked, NoLock, OutOfMemory}
@@ -31,6 +26,7 @@ use Rattle.dav_faults_core.specs.declared.faults.Fault.TheVariants as fault
 use Rattle.dav_session_core.specs.StoreRefusals.{list_fault}
 use Rattle.dav_session_core.specs.Callers.{Asks, Caller, RunBy, asking, ends_or_refreshes, is_look, live, SameLive}
 use Rattle.dav_session_core.proofs.CallerLaws.{asks_of}
+use Rattle.dav_resource_core.proofs.Telling.{list_refused, meta_missing, props_missing}
 
 -- ---- runs that follow one another
 
@@ -112,49 +108,7 @@ refused_live who c s s' (Locked l) h = same_live who.now s s' h.1
 refused_live who c s s' NoLock h = same_live who.now s s' h.1
 refused_live who c s s' OutOfMemory h = same_live who.now s s' h.1
 
--- ---- what a `Read` tells
-
-told_ok : {A : Type 0} (m m' : ResourceMap) (tell : A → Reply) (x : A) (reply : Reply) → tells m tell (Ok x) ≡ Ok (reply, m') → reply ≡ tell x
-told_ok m m' tell x reply h =
-    let same : (tell x, m) ≡ (reply, m') = cc in
-    ap (λ (y : Reply × ResourceMap). y.0) (sym same)
-
--- a file stands there, and these are its bytes
-abbrev pub IsRead : ResourceMap → Path → ℕ → ℕ → Reply → Type 0
-IsRead m p at count reply =
-    (r : Resource) × (at_path m p ≡ Some r) × (r.node.kind ≡ File) × (reply ≡ Bytes (take count (drop at r.node.bytes)))
-
-pub read_tells : (m m' : ResourceMap) (p : Path) (at count : ℕ) (reply : Reply) → tells m Bytes (read_at m p at count) ≡ Ok (reply, m') → IsRead m p at count reply
-read_tells m m' p at count reply h = by (at_path m p) refl h
-  where
-    part : Resource → Result (List ℕ) FsError
-    part r = Ok (take count (drop at r.node.bytes))
-
-    by_kind : (r : Resource) (k : Kind) → at_path m p ≡ Some r → r.node.kind ≡ k → tells m Bytes (elim k [ Folder ↦ Err Forbidden | File ↦ Ok r ] >>= part) ≡ Ok (reply, m')
-        → IsRead m p at count reply
-    by_kind r Folder here kind h = absurd (cc)
-    by_kind r File here kind h = (r, here, kind, told_ok m m' Bytes (take count (drop at r.node.bytes)) reply h)
-
-    by : (o : Option Resource) → at_path m p ≡ o → tells m Bytes (ok_or o (refusal_at m p) >>= λ r. only_file r >>= part) ≡ Ok (reply, m') → IsRead m p at count reply
-    by (Some r) here h = by_kind r r.node.kind here refl h
-    by None here h = absurd (cc)
-
 -- ---- what a `List` tells
-
--- on a folder it is not refused
-list_refused : (m : ResourceMap) (p : Path) (r : Resource) (e : FsError) → at_path m p ≡ Some r → r.node.kind ≡ Folder → ¬ (tells m Entries (read_dir m p) ≡ Err e)
-list_refused m p r e here kind h = by (at_path m p) here h
-  where
-    tell : ResourceMap → List (Segment × Known)
-    tell m = map listed (entries (members m p))
-
-    by_kind : (q : Resource) (k : Kind) → k ≡ Folder → tells m Entries (elim k [ Folder ↦ Ok q | File ↦ Err Forbidden ] >>= λ (_ : Resource). Ok (tell m)) ≡ Err e → ⊥
-    by_kind q Folder is h = absurd (cc)
-    by_kind q File is h = absurd (cc)
-
-    by : (o : Option Resource) → o ≡ Some r → tells m Entries ((ok_or o (refusal_at m p) >>= only_folder) >>= λ (_ : Resource). Ok (tell m)) ≡ Err e → ⊥
-    by (Some q) same h = let one : q ≡ r = cc in by_kind q q.node.kind (ap (λ (x : Resource). x.node.kind) one ∙ kind) h
-    by None same h = absurd (cc)
 
 -- why a folder isn't listed
 abbrev pub Unlisted : ResourceMap → Path → Fault → Type 0
@@ -172,10 +126,6 @@ unlisted who p s s' OutOfMemory h = absurd (h.0 refl)
 
 -- ---- what a `Meta` tells
 
-meta_missing : (m : ResourceMap) (o : Option Resource) (e f : FsError) → tells m Meta (ok_or o e >>= λ r. Ok (meta_at r.node)) ≡ Err f → o ≡ None
-meta_missing m (Some r) e f h = absurd (cc)
-meta_missing m None e f h = refl
-
 -- it is refused only where nothing is there
 pub meta_refused : (who : Caller) (p : Path) (s s' : State) (e : Refusal) → Step s (asking who (Command.Meta p)) (Err e) s' → at_path s.map p ≡ None
 unfolding MayLackOnMap
@@ -186,23 +136,3 @@ meta_refused who p s s' (Fs e) h = elim h.0.2 [
 meta_refused who p s s' (Locked l) h = absurd (In-Contains [] l h.0)
 meta_refused who p s s' NoLock h = absurd h.0
 meta_refused who p s s' OutOfMemory h = absurd (h.0 refl)
-
--- ---- what a `GetProps` tells
-
-props_missing : (m : ResourceMap) (o : Option Resource) (e f : FsError) → tells m Props (ok_or o e >>= λ r. Ok (map (shown true) (values r.node.props))) ≡ Err f → o ≡ None
-props_missing m (Some r) e f h = absurd (cc)
-props_missing m None e f h = refl
-
--- why properties aren't listed
-abbrev pub Unkept : ResourceMap → Path → Fault → Type 0
-Unkept m p e = (e ≡ fault.InsufficientStorage) ⊎ ((e ≡ fault.NotFound) × (at_path m p ≡ None))
-
-pub unkept : (who : Caller) (p : Path) (s s' : State) (e : Refusal) → Step s (asking who (Command.GetProps p true)) (Err e) s' → Unkept s.map p (list_fault e)
-unkept who p s s' (Fs InsufficientStorage) h = inl refl
-unkept who p s s' (Fs _) h = elim h.0.2 [
-  | inl lacks ↦ absurd (cc)
-  | inr refused ↦ inr (refl, props_missing s.map (at_path s.map p) (refusal_at s.map p) _ refused.0)
-]
-unkept who p s s' (Locked l) h = absurd (In-Contains [] l h.0)
-unkept who p s s' NoLock h = absurd h.0
-unkept who p s s' OutOfMemory h = absurd (h.0 refl)

@@ -16,12 +16,11 @@ use Rattle.dav_resource_core.specs.Step.{State}
 use Rattle.dav_faults_core.specs.declared.faults.Fault.{Fault}
 use Rattle.dav_session_core.specs.Callers.{Caller, SameLive, live}
 use Rattle.dav_session_core.specs.Clearing.{IsCleared, refusing_anew, refusing_clearing}
-use Rattle.dav_session_core.specs.Ends.{GoesFrom, HasFolder}
+use Rattle.dav_session_core.specs.Ends.{GoesFrom, HasFolder, known_at}
 use Rattle.dav_session_core.specs.LocksInTheWay.{IsRefusedBy}
-use Rattle.dav_session_core.specs.TransferEnds.{known_at}
 use Rattle.dav_session_core.specs.Removing.{IsRemoved, refusing_removal}
-use Rattle.dav_session_core.specs.Subtrees.{IsWalk}
-use Rattle.dav_session_core.proofs.GetLemmas.{known_entry}
+use Rattle.dav_session_core.specs.Subtrees.{IsSubtreeWalk}
+use Rattle.dav_fields_core.proofs.ReadMarks.{known_entry}
 use Rattle.dav_session_core.proofs.PutLemmas.{more_refused, same_look}
 use Rattle.dav_session_core.proofs.RemovalLemmas.{fresh_below}
 
@@ -40,9 +39,9 @@ module _ (m : ResourceMap) (path copy : PathText) (same : copy ≡ path) where
 
   -- the walk of a folder is what goes
   pub walk_goes : {A : Type 0} (result : Result A Fault) (view : A → List Path) (m' : ResourceMap) → m' ≡ m → HasFolder m p
-      → IfOk result (λ x. IsWalk m' (segments copy.bytes) (view x)) → IfOk result (λ x. GoesFrom m p (view x))
+      → IfOk result (λ x. IsSubtreeWalk m' (segments copy.bytes) (view x)) → IfOk result (λ x. GoesFrom m p (view x))
   walk_goes (Ok x) view m' still folder h =
-      inl (folder, subst (λ n. IsWalk n p (view x)) still (subst (λ (q : PathText). IsWalk m' (segments q.bytes) (view x)) same h))
+      inl (folder, subst (λ n. IsSubtreeWalk n p (view x)) still (subst (λ (q : PathText). IsSubtreeWalk m' (segments q.bytes) (view x)) same h))
   walk_goes (Err e) view m' still folder h = tt
 
 -- ---- what is asked before it goes
@@ -94,13 +93,13 @@ module _ {A : Type 0} (view : A → Path) (xs : List A) (who : Caller) (p : Path
   -- where nothing goes, no folder stood there
   pub stays : xs ≡ [] → live who.now s' ≡ live who.now s → IsCleared who.now p (live who.now s) (live who.now s')
   stays none same = elim goes [
-    | inl there ↦ absurd (In-Contains [] p (((subst (λ ys. IsWalk s.map p (map view ys)) none there.1).members p).1 (is_front-refl p, ap is_some there.0.1)))
+    | inl there ↦ absurd (In-Contains [] p (((subst (λ ys. IsSubtreeWalk s.map p (map view ys)) none there.1).members p).1 (is_front-refl p, ap is_some there.0.1)))
     | inr h ↦ inr (h.0, same)
   ]
 
   -- where something does, a folder stood there, and it is gone
   pub goes_away : (length xs == 0) ≡ false → refusing_clearing (live who.now s) who p (map view xs) ≡ [] → p ≢ []
-      → (p ≢ [] → IsSome (at_path s.map p) → IsWalk s.map p (map view xs) → refusing_removal (live who.now s) who (map view xs) ≡ []
+      → (p ≢ [] → IsSome (at_path s.map p) → IsSubtreeWalk s.map p (map view xs) → refusing_removal (live who.now s) who (map view xs) ≡ []
       → IsRemoved who.now p (live who.now s) s') → IsCleared who.now p (live who.now s) (live who.now s')
   goes_away some free no_root removed = elim goes [
     | inl there ↦ inl (

@@ -11,9 +11,9 @@ use Rattle.dav_headers_core.specs.IfBytes.{Token, Condition}
 use Rattle.dav_headers_core.specs.IfValues.{Located}
 use Rattle.dav_locks_core.specs.Lock.{Lock}
 use Rattle.dav_resource_core.specs.Step.{State}
-use Rattle.dav_session_core.specs.Conditions.{conditions_hold, untagged}
+use Rattle.dav_session_core.specs.Conditions.{conditions_hold, untagged_list}
 use Rattle.dav_fields_core.specs.IfTokens.{tokens_of}
-use Rattle.dav_fields_core.specs.TaggedLists.{spread}
+use Rattle.dav_fields_core.specs.TaggedLists.{spread_tags}
 
 abbrev lock : List ℕ → List ℕ → Bool → Bool → Lock
 lock token path shared deep = record {
@@ -96,13 +96,13 @@ module _ (map : ResourceMap) (rng : Stream) where
 -- ---- tags and tokens
 
 -- a tag is for all lists up to the next one
-two_tags : spread (tagged (codes "/a") (is (codes "u:1") ∷ []) ∷ untagged (is (codes "u:2") ∷ []) ∷ tagged (codes "/c") (is (codes "u:3") ∷ []) ∷ [])
+two_tags : spread_tags (tagged (codes "/a") (is (codes "u:1") ∷ []) ∷ untagged_list (is (codes "u:2") ∷ []) ∷ tagged (codes "/c") (is (codes "u:3") ∷ []) ∷ [])
     ≡ tagged (codes "/a") (is (codes "u:1") ∷ []) ∷ tagged (codes "/a") (is (codes "u:2") ∷ []) ∷ tagged (codes "/c") (is (codes "u:3") ∷ []) ∷ []
 two_tags = refl
 
-late_tag : spread (untagged (is (codes "u:1") ∷ []) ∷ tagged (codes "/a") (is (codes "u:2") ∷ []) ∷ [])
-    ≡ untagged (is (codes "u:1") ∷ []) ∷ tagged (codes "/a") (is (codes "u:2") ∷ []) ∷ []
+late_tag : spread_tags (untagged_list (is (codes "u:1") ∷ []) ∷ tagged (codes "/a") (is (codes "u:2") ∷ []) ∷ [])
+    ≡ untagged_list (is (codes "u:1") ∷ []) ∷ tagged (codes "/a") (is (codes "u:2") ∷ []) ∷ []
 late_tag = refl
 
-each_once : tokens_of (untagged (is (codes "u:2") ∷ is_not (codes "u:1") ∷ []) ∷ untagged (is (codes "u:2") ∷ []) ∷ []) ≡ codes "u:2" ∷ codes "u:1" ∷ []
+each_once : tokens_of (untagged_list (is (codes "u:2") ∷ is_not (codes "u:1") ∷ []) ∷ untagged_list (is (codes "u:2") ∷ []) ∷ []) ≡ codes "u:2" ∷ codes "u:1" ∷ []
 each_once = refl

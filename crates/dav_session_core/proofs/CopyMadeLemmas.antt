@@ -8,9 +8,9 @@ use Rattle.dav_path_core.proofs.lists.MemberLemmas.{In-Contains}
 use Rattle.dav_path_core.proofs.lists.Orders.{path_exact, path_total}
 use Rattle.dav_files_core.specs.declared.memfs.Kind.{Kind}
 use Rattle.dav_files_core.specs.declared.memfs.Kind.TheVariants.{File, Folder}
-use Rattle.dav_files_core.specs.Copying.{copy, copy_to}
+use Rattle.dav_files_core.specs.ResourceCopying.{copy, copy_to}
 use Rattle.dav_files_core.specs.Finding.{refusal_at}
-use Rattle.dav_files_core.specs.Outcomes.{◌>>=◌, added, changed}
+use Rattle.dav_files_core.specs.Outcomes.{◌>>=◌, with_new_entry, with_other_node}
 use Rattle.dav_files_core.specs.Resources.{IsResourceMap, Node, Resource, ResourceMap, at_path}
 use Rattle.dav_files_core.proofs.changes.MakingLemmas.{folder_found}
 use Rattle.dav_files_core.proofs.moves.MovingLemmas.{front_there}
@@ -56,29 +56,29 @@ module _ (m : ResourceMap) (from to : Path) (now : ℕ) (r : Resource) (stands :
     others = others;
   }
 
-  made_anew : IsMade m (added m to copied) from to now
+  made_anew : IsMade m (with_new_entry m to copied) from to now
   made_anew =
       let x : Resource = record { number = m.next; node = copied } in
-      made_of (added m to copied) x refl (get_same path_total path_exact m.entries to x) (λ q other. get_other path_total path_exact m.entries to x q other)
+      made_of (with_new_entry m to copied) x refl (get_same path_total path_exact m.entries to x) (λ q other. get_other path_total path_exact m.entries to x q other)
 
-  made_over : (t : Resource) → IsMade m (changed m to t copied) from to now
+  made_over : (t : Resource) → IsMade m (with_other_node m to t copied) from to now
   made_over t =
       let x : Resource = record { number = t.number; node = copied } in
-      made_of (changed m to t copied) x refl (get_same path_total path_exact m.entries to x) (λ q other. get_other path_total path_exact m.entries to x q other)
+      made_of (with_other_node m to t copied) x refl (get_same path_total path_exact m.entries to x) (λ q other. get_other path_total path_exact m.entries to x q other)
 
   -- where it can be done, it is
   pub can_copy : HasFolder m (parent to) → ¬ HasFolder m to → (m' : ResourceMap) × (copy m from to now ≡ done m') × IsMade m m' from to now
   can_copy above none = by_source (at_path m from) stands
     where
       by_kind : (t : Resource) (k : Kind) → at_path m to ≡ Some t → t.node.kind ≡ k
-          → (m' : ResourceMap) × ((elim k [ Folder ↦ Err Forbidden | File ↦ Ok t ] >>= λ (t : Resource). done (changed m to t copied)) ≡ done m') × IsMade m m' from to now
+          → (m' : ResourceMap) × ((elim k [ Folder ↦ Err Forbidden | File ↦ Ok t ] >>= λ (t : Resource). done (with_other_node m to t copied)) ≡ done m') × IsMade m m' from to now
       by_kind t Folder there kind = absurd (none (t, there, kind))
-      by_kind t File there kind = (changed m to t copied, refl, made_over t)
+      by_kind t File there kind = (with_other_node m to t copied, refl, made_over t)
 
       by_target : (o : Option Resource) → at_path m to ≡ o → (m' : ResourceMap) × (copy_to m to copied o ≡ done m') × IsMade m m' from to now
       by_target (Some t) there = by_kind t t.node.kind there refl
       by_target None there =
-          (added m to copied, ap (λ f. f >>= λ (_ : Resource). done (added m to copied)) (folder_found m (parent to) above.0 above.1 above.2), made_anew)
+          (with_new_entry m to copied, ap (λ f. f >>= λ (_ : Resource). done (with_new_entry m to copied)) (folder_found m (parent to) above.0 above.1 above.2), made_anew)
 
       by_source : (o : Option Resource) → o ≡ Some r
           → (m' : ResourceMap) × ((ok_or o (refusal_at m from) >>= λ (x : Resource). copy_to m to (created_at now x.node) (at_path m to)) ≡ done m') × IsMade m m' from to now

@@ -12,21 +12,20 @@ use Rattle.dav_path_core.proofs.paths.FrontLemmas.{behind_append, is_front-trans
 use Rattle.dav_files_core.specs.Resources.{Node, Resource, ResourceMap, at_path}
 use Rattle.dav_files_core.proofs.walks.FoundLemmas.{parent-snoc}
 use Rattle.dav_locks_core.specs.Lock.{Lock}
-use Rattle.dav_locks_core.specs.Locks.{Caller as LocksCaller, check_conflicts}
+use Rattle.dav_locks_core.specs.Locks.{LockCaller as LocksCaller, check_conflicts}
 use Rattle.dav_resource_core.specs.Checks.{Check, has, member, refusing, shallow, target}
 use Rattle.dav_resource_core.specs.Requests.{Answer, Command, Reply}
 use Rattle.dav_resource_core.specs.Step.{State, Step}
 use Rattle.dav_session_core.specs.Callers.{Caller, as_caller, asking, live}
-use Rattle.dav_session_core.specs.Copying.{IsCopied, IsPartlyCopied, IsReady, between, copy_at, created_at, is_copied, node_at}
+use Rattle.dav_session_core.specs.Copying.{IsCopied, IsPartlyCopied, IsReady, source_and_target, copy_at, created_at, is_copied, node_at, NotCopied}
 use Rattle.dav_session_core.specs.Ends.{HasFolder}
 use Rattle.dav_session_core.specs.StoreRefusals.{put_fault}
-use Rattle.dav_session_core.specs.TransferEnds.{NotCopied}
 use Rattle.dav_faults_core.specs.declared.faults.Fault.{Fault}
 use Rattle.dav_faults_core.specs.declared.faults.Fault.TheVariants as fault
 use Rattle.dav_session_core.proofs.Asking.{live_once}
 use Rattle.dav_session_core.proofs.CopyMadeLemmas.{Ends, can_copy, copy_ends, nothing_below}
-use Rattle.dav_session_core.proofs.RemovalLemmas.{above_out}
-use Rattle.dav_session_core.proofs.SubtreeLemmas.{front_of, in_either, in_left, in_right, some_of}
+use Rattle.dav_files_core.proofs.paths.RemovedMaps.{above_out}
+use Rattle.dav_path_core.proofs.paths.SubtreePaths.{front_of, in_either, in_left, in_right, some_of}
 
 -- ---- lists
 
@@ -134,7 +133,7 @@ module _ (who : Caller) (deep : Bool) (from to : Path) (rests : List Path) (s : 
     copied : List Path
     rest : List Path
     split : rests ≡ copied ++ rest
-    left_is : left ≡ map (between from to) rest
+    left_is : left ≡ map (source_and_target from to) rest
     made : (r : Path) → In r copied → node_at t.map (to ++ r) ≡ option_map (created_at who.now) (node_at s.map (from ++ r))
     others : (q : Path) → ((r : Path) → In r copied → q ≢ to ++ r) → at_path t.map q ≡ at_path s.map q
     same : live who.now t ≡ record s { map = t.map }
@@ -261,7 +260,7 @@ module _ (who : Caller) (deep : Bool) (from to : Path) (rests : List Path) (s : 
           can.2.others,
         )
 
-  pub copying_begun : (start : State) (left : List (Path × Path)) → live who.now start ≡ s → left ≡ map (between from to) rests → Copying left start
+  pub copying_begun : (start : State) (left : List (Path × Path)) → live who.now start ≡ s → left ≡ map (source_and_target from to) rests → Copying left start
   copying_begun start left is same = record {
     copied = [];
     rest = rests;
@@ -293,7 +292,7 @@ module _ (who : Caller) (deep : Bool) (from to : Path) (rests : List Path) (s : 
       (made : (r : Path) → In r copied → node_at t.map (to ++ r) ≡ option_map (created_at who.now) (node_at s.map (from ++ r)))
       (others : (q : Path) → ((r : Path) → In r copied → q ≢ to ++ r) → at_path t.map q ≡ at_path s.map q)
       (same : live who.now t ≡ record s { map = t.map }) where
-    one_more : (left : List (Path × Path)) (m : ResourceMap) → left ≡ map (between from to) rest → t' ≡ record (live who.now t) { map = m }
+    one_more : (left : List (Path × Path)) (m : ResourceMap) → left ≡ map (source_and_target from to) rest → t' ≡ record (live who.now t) { map = m }
         → node_at m (to ++ r) ≡ option_map (created_at who.now) (node_at t.map (from ++ r)) → ((q : Path) → q ≢ to ++ r → at_path m q ≡ at_path t.map q) → Copying left t'
     one_more left m left_is is here elsewhere = record {
       copied = copied ++ (r ∷ []);
@@ -317,7 +316,7 @@ module _ (who : Caller) (deep : Bool) (from to : Path) (rests : List Path) (s : 
             (here ∙ ap (λ o. option_map (created_at who.now) (option_map (λ (r : Resource). r.node) o)) (source_stays t copied rest r split made others same))
         made_at q (inr (inr i)) = absurd i
 
-    by_answer : (left : List (Path × Path)) (a : Answer) → left ≡ map (between from to) rest → Step t (asking who (Command.Copy (from ++ r) (to ++ r))) a t'
+    by_answer : (left : List (Path × Path)) (a : Answer) → left ≡ map (source_and_target from to) rest → Step t (asking who (Command.Copy (from ++ r) (to ++ r))) a t'
         → After a (from ++ r, to ++ r) left t'
     by_answer left (Ok reply) left_is step =
         let ends = one_ends t copied rest r split made others same t' (Ok reply) step in
@@ -339,11 +338,11 @@ module _ (who : Caller) (deep : Bool) (from to : Path) (rests : List Path) (s : 
       → After a (f, g) left t'
   copying_on t t' f g left a h step = by h.rest h.split h.left_is
     where
-      by : (rest : List Path) → rests ≡ h.copied ++ rest → (f, g) ∷ left ≡ map (between from to) rest → After a (f, g) left t'
+      by : (rest : List Path) → rests ≡ h.copied ++ rest → (f, g) ∷ left ≡ map (source_and_target from to) rest → After a (f, g) left t'
       by [] split is = absurd (cc)
       by (r ∷ rest) split is =
           let pairs : (f, g) ≡ (from ++ r, to ++ r) = cc in
-          let lists : left ≡ map (between from to) rest = cc in
+          let lists : left ≡ map (source_and_target from to) rest = cc in
           subst (λ (pair : Path × Path). After a pair left t') (sym pairs)
           (by_answer t t' h.copied rest r split h.made h.others h.same left a lists
           (subst (λ (pair : Path × Path). Step t (asking who (Command.Copy pair.0 pair.1)) a t') pairs step))
@@ -361,7 +360,7 @@ module _ (who : Caller) (deep : Bool) (from to : Path) (rests : List Path) (s : 
 
   -- ---- what is left at the end
 
-  no_rest : (rest : List Path) → [] ≡ map (between from to) rest → rest ≡ []
+  no_rest : (rest : List Path) → [] ≡ map (source_and_target from to) rest → rest ≡ []
   no_rest [] h = refl
   no_rest (r ∷ rest) h = absurd (cc)
 

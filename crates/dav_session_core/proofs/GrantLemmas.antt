@@ -14,7 +14,7 @@ use Rattle.dav_path_core.specs.Segments.{segments}
 use Rattle.dav_path_core.proofs.lists.MemberLemmas.{In, In-Contains, Contains-In, find_any}
 use Rattle.dav_path_core.proofs.paths.FrontLemmas.{is_front-refl, is_front-trans}
 use Rattle.dav_locks_core.specs.Lock.{Lock}
-use Rattle.dav_locks_core.specs.Locks.{better, covers, discovered, found, found_from, found_here, height, lock_conflicts, lock_path}
+use Rattle.dav_locks_core.specs.Locks.{better, covers, discovered_locks, found_token, found_from, found_here, height, lock_conflicts, lock_path}
 use Rattle.dav_resource_core.specs.Requests.{Command, Granted, Refusal, Reply}
 use Rattle.dav_resource_core.specs.Served.{answer_of, refusal_of, reply_of}
 use Rattle.dav_resource_core.specs.declared.guarded.requests.Reply as served
@@ -24,8 +24,9 @@ use Rattle.dav_faults_core.specs.declared.faults.Fault.TheVariants as fault
 use Rattle.dav_session_core.specs.Callers.{Caller, asking, live}
 use Rattle.dav_fields_core.specs.IfTokens.{is_among}
 use Rattle.dav_session_core.specs.Granting.{AreAbove, HaveTokens, IsConflictOf, also_naming, granted_lock, stands_above, with_lock, with_token_drawn}
-use Rattle.dav_session_core.proofs.OwnLemmas.{above, at_covers, at_root, covers_here, not_unlocked}
-use Rattle.dav_session_core.proofs.TokenLemmas.{any_discovered}
+use Rattle.dav_path_core.proofs.paths.AbovePaths.{above}
+use Rattle.dav_session_core.proofs.OwnLemmas.{at_covers, at_root, covers_here, not_unlocked}
+use Rattle.dav_locks_core.proofs.answers.CoveringTokens.{any_discovered}
 
 -- ---- a lock that is granted
 
@@ -66,8 +67,8 @@ module _ (p : Path) (token : List ℕ) (l : Lock) (here : found_here p token l �
       let skipped : found_from n ((x ∷ xs) ++ l ∷ []) p token ≡ rest = ap (λ b. better (cond b (Some (n, height x)) None) rest) parts.0 in
       skipped ∙ last_from (n + 1) xs parts.1 ∙ ap (λ k. Some (k, height l)) (omega arith)
 
-  found_last : (xs : List Lock) → list_any (found_here p token) xs ≡ false → found (xs ++ l ∷ []) p token ≡ Some (length xs)
-  unfolding found
+  found_last : (xs : List Lock) → list_any (found_here p token) xs ≡ false → found_token (xs ++ l ∷ []) p token ≡ Some (length xs)
+  unfolding found_token
   found_last xs none = ap (option_map (λ (f : ℕ × ℕ). f.0)) (last_from 0 xs none) ∙ ap (λ k. Some k) (omega arith)
 
 without_last : (xs : List Lock) (l : Lock) → remove (xs ++ l ∷ []) (length xs) ≡ xs
@@ -82,7 +83,7 @@ token_here p token l path named =
 
 module _ (who : Caller) (old s' : State) (s : State) (l : Lock) (p : Path) (token : List ℕ) (is : live who.now old ≡ with_lock s l)
     (path : lock_path l ≡ p) (named : l.token ≡ token) (none : stands_above s p token ≡ false) where
-  last_found : found (with_lock s l).locks p token ≡ Some (length s.locks)
+  last_found : found_token (with_lock s l).locks p token ≡ Some (length s.locks)
   last_found = found_last p token l (token_here p token l path named) s.locks none
 
   pub taken : (reply : Reply) → Step old (asking who (Command.Unlock p token)) (Ok reply) s' → s' ≡ with_token_drawn s
@@ -129,9 +130,9 @@ module _ (s : State) (p : Path) where
   no_tokens_yet tokens l i front = inr front
 
   -- a lock that covers a place is one of those that are found there
-  covering_among : (here : Path) (l : Lock) → Contains s.locks l → covers l here ≡ true → is_among (map (λ (l : Lock). l.token) (discovered s.locks here)) l.token ≡ true
+  covering_among : (here : Path) (l : Lock) → Contains s.locks l → covers l here ≡ true → is_among (map (λ (l : Lock). l.token) (discovered_locks s.locks here)) l.token ≡ true
   covering_among here l i covered =
-      any_map (λ (l : Lock). l.token) (λ t. bytes_eq t l.token) (discovered s.locks here)
+      any_map (λ (l : Lock). l.token) (λ t. bytes_eq t l.token) (discovered_locks s.locks here)
       ∙ any_discovered (λ (k : Lock). bytes_eq k.token l.token) s.locks here
       ∙ any_of (λ (k : Lock). bytes_eq k.token l.token && covers k here) s.locks l (In-Contains s.locks l i)
       (ap (λ b. b && covers l here) (text_same l.token) ∙ covered)
@@ -143,10 +144,10 @@ module _ (s : State) (p : Path) where
         | inr second ↦ ap (λ b. is_among tokens token || b) second ∙ or_true (is_among tokens token)
       ]
 
-  pub tokens_up : (here : Path) (tokens more : List (List ℕ)) → more ≡ tokens ++ map (λ (l : Lock). l.token) (discovered s.locks here) → TokensSoFar here tokens
+  pub tokens_up : (here : Path) (tokens more : List (List ℕ)) → more ≡ tokens ++ map (λ (l : Lock). l.token) (discovered_locks s.locks here) → TokensSoFar here tokens
       → TokensSoFar (parent here) more
   tokens_up here tokens more is so_far l i front =
-      let at = map (λ (l : Lock). l.token) (discovered s.locks here) in
+      let at = map (λ (l : Lock). l.token) (discovered_locks s.locks here) in
       elim (so_far l i front) [
         | inl among ↦ inl (ap (λ texts. is_among texts l.token) is ∙ among_more tokens at l.token (inl among))
         | inr up ↦ elim (above (lock_path l) here up) [
@@ -155,10 +156,10 @@ module _ (s : State) (p : Path) where
         ]
       ]
 
-  pub tokens_whole : (here : Path) (tokens more : List (List ℕ)) → length here ≡ 0 → more ≡ tokens ++ map (λ (l : Lock). l.token) (discovered s.locks here)
+  pub tokens_whole : (here : Path) (tokens more : List (List ℕ)) → length here ≡ 0 → more ≡ tokens ++ map (λ (l : Lock). l.token) (discovered_locks s.locks here)
       → TokensSoFar here tokens → HaveTokens s p more
   tokens_whole [] tokens more none_left is so_far l i front =
-      let at = map (λ (l : Lock). l.token) (discovered s.locks []) in
+      let at = map (λ (l : Lock). l.token) (discovered_locks s.locks []) in
       elim (so_far l i front) [
         | inl among ↦ ap (λ texts. is_among texts l.token) is ∙ among_more tokens at l.token (inl among)
         | inr up ↦ ap (λ texts. is_among texts l.token) is ∙ among_more tokens at l.token (inr (covering_among [] l i (at_root l up)))
@@ -166,10 +167,10 @@ module _ (s : State) (p : Path) where
   tokens_whole (x ∷ here) tokens more none_left is so_far l i front = absurd (omega (arith, none_left))
 
   -- each of the tokens is that of a lock at the path or above
-  pub only_more : (here : Path) (tokens more : List (List ℕ)) → is_front here p ≡ true → more ≡ tokens ++ map (λ (l : Lock). l.token) (discovered s.locks here)
+  pub only_more : (here : Path) (tokens more : List (List ℕ)) → is_front here p ≡ true → more ≡ tokens ++ map (λ (l : Lock). l.token) (discovered_locks s.locks here)
       → AreAbove s p tokens → AreAbove s p more
   only_more here tokens more front is so_far token among =
-      let at = map (λ (l : Lock). l.token) (discovered s.locks here) in
+      let at = map (λ (l : Lock). l.token) (discovered_locks s.locks here) in
       let either : (is_among tokens token || is_among at token) ≡ true =
       sym (list_any-append (λ t. bytes_eq t token) tokens at) ∙ ap (λ texts. is_among texts token) (sym is) ∙ among in
       elim (cases_Bool (is_among tokens token)) [
@@ -177,7 +178,7 @@ module _ (s : State) (p : Path) where
         | inr none ↦
             let here_named : is_among at token ≡ true = ap (λ b. b || is_among at token) (sym none) ∙ either in
             let named : list_any (λ (l : Lock). bytes_eq l.token token && covers l here) s.locks ≡ true =
-            sym (any_discovered (λ (l : Lock). bytes_eq l.token token) s.locks here) ∙ sym (any_map (λ (l : Lock). l.token) (λ t. bytes_eq t token) (discovered s.locks here))
+            sym (any_discovered (λ (l : Lock). bytes_eq l.token token) s.locks here) ∙ sym (any_map (λ (l : Lock). l.token) (λ t. bytes_eq t token) (discovered_locks s.locks here))
             ∙ here_named in
             let one = find_any (λ (l : Lock). bytes_eq l.token token && covers l here) s.locks named in
             let parts = and_parts (bytes_eq one.0.token token) (covers one.0 here) one.2 in
@@ -188,10 +189,10 @@ module _ (s : State) (p : Path) where
 pub not_above : (s : State) (p : Path) (tokens : List (List ℕ)) (token : List ℕ) → HaveTokens s p tokens → is_among tokens token ≡ false → stands_above s p token ≡ false
 not_above s p tokens token have none = elim (cases_Bool (stands_above s p token)) [
   | inl some ↦
-      let found = find_any (found_here p token) s.locks some in
-      let parts = and_parts (bytes_eq found.0.token token) (is_front (lock_path found.0) p) found.2 in
-      let same : found.0.token ≡ token = (bytes_eq-Decides found.0.token token).0 parts.0 in
-      let among = have found.0 (Contains-In s.locks found.0 found.1) parts.1 in
+      let found_token = find_any (found_here p token) s.locks some in
+      let parts = and_parts (bytes_eq found_token.0.token token) (is_front (lock_path found_token.0) p) found_token.2 in
+      let same : found_token.0.token ≡ token = (bytes_eq-Decides found_token.0.token token).0 parts.0 in
+      let among = have found_token.0 (Contains-In s.locks found_token.0 found_token.1) parts.1 in
       absurd (true≢false (sym (ap (is_among tokens) (sym same) ∙ among) ∙ none))
   | inr no_one ↦ no_one
 ]

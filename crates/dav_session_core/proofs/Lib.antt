@@ -6,7 +6,6 @@ pub mod ConditionLemmas
 mod ConditionRows
 pub mod CopyMadeLemmas
 pub mod CopyingLemmas
-pub mod GetLemmas
 pub mod GrantLemmas
 pub mod Looking
 pub mod MakeLemmas
@@ -19,5 +18,3 @@ pub mod RefreshLemmas
 pub mod RemovalCheckLemmas
 pub mod RemovalLemmas
 pub mod SubtreeLemmas
-pub mod TokenLemmas
-mod TransferRows

@@ -1,47 +1,43 @@
--- What a MOVE leaves of a map and of a list of locks, that only a lack of memory refuses it, and that it can be done once its target is cleared.
-use Rattle.std.proofs.Common.{◌≡◌, ◌≢◌, inl, inr, ℕ, Bool, true, false, cond, not, ◌&&◌, ◌||◌, List, [], ◌∷◌, ◌++◌, Option, Some, None, is_some, Result, Ok, Err, refl, sym, ap, ◌∙◌, subst}
+-- What a MOVE leaves of a map and of a list of locks, and that only a lack of memory refuses it.
+use Rattle.std.proofs.Common.{◌≡◌, ◌≢◌, inl, inr, ℕ, Bool, true, false, cond, ◌||◌, List, [], ◌∷◌, ◌++◌, Option, Some, None, is_some, Result, Ok, Err, refl, sym, ap, ◌∙◌, subst}
 use Rattle.std.specs.Prelude.{Contains, IsSome, option_map}
-use Rattle.std.proofs.lemmas.Bool.{cases_Bool, false≢true, false_from_ne_true, or_parts, true≢false}
-use Rattle.std.proofs.lemmas.List.Elements.{filter_agree}
+use Rattle.std.proofs.lemmas.Bool.{false≢true, false_from_ne_true, or_parts, true≢false}
 use Rattle.dav_path_core.specs.declared.errors.FsError.{FsError}
 use Rattle.dav_path_core.specs.declared.errors.FsError.TheVariants.{InsufficientStorage}
 use Rattle.dav_path_core.specs.Fronts.{Segment, Path, behind, is_front, is_same_path, parent}
-use Rattle.dav_path_core.proofs.lists.FinMaps.{dec, get_same, none_some, test_false}
+use Rattle.dav_path_core.proofs.lists.FinMaps.{dec, get_same, test_false}
 use Rattle.dav_path_core.proofs.lists.MemberLemmas.{In, In-Contains, append_none}
 use Rattle.dav_path_core.proofs.lists.Orders.{path_exact, path_total}
-use Rattle.dav_path_core.proofs.lists.PlaceLemmas.{filter-filter}
 use Rattle.dav_path_core.proofs.lists.Snoc.{by_last}
 use Rattle.dav_path_core.proofs.paths.FrontLemmas.{behind_append, fronts_of_one, is_front-refl, is_front-trans, is_same_path-refl}
 use Rattle.dav_files_core.specs.declared.memfs.Kind.TheVariants.{Folder}
 use Rattle.dav_files_core.specs.Finding.{has_members}
 use Rattle.dav_files_core.specs.Folders.{is_root}
-use Rattle.dav_files_core.specs.Following.{dated, dated_folder}
-use Rattle.dav_files_core.specs.Moved.{moved}
-use Rattle.dav_files_core.specs.Outcomes.{Outcome, ◌>>=◌, find_folder, touched, touched_at}
-use Rattle.dav_files_core.specs.Renaming.{relocated, rename}
+use Rattle.dav_files_core.specs.Following.{dated_entry, dated_folder}
+use Rattle.dav_files_core.specs.Moved.{moved_map}
+use Rattle.dav_files_core.specs.Outcomes.{Outcome, ◌>>=◌, find_folder, with_modified_time, touched_at}
+use Rattle.dav_files_core.specs.Renaming.{relocated_map, rename}
 use Rattle.dav_files_core.specs.Resources.{IsResourceMap, Resource, ResourceMap, at_path}
 use Rattle.dav_files_core.proofs.changes.MakingLemmas.{folder_found}
 use Rattle.dav_files_core.proofs.laws.DoneLemmas.{touched_none, touched_other}
 use Rattle.dav_files_core.proofs.moves.MovedLemmas.{moved_from, moved_other, moved_to}
 use Rattle.dav_files_core.proofs.walks.FoundLemmas.{find_there, parent-snoc}
 use Rattle.dav_files_core.proofs.walks.HasMembersLemmas.{has_none}
-use Rattle.dav_locks_core.specs.Lock.{Lock}
-use Rattle.dav_locks_core.specs.Locks.{Caller as LocksCaller, check_conflicts, is_at_or_below, refuses_change, without_below}
 use Rattle.dav_resource_core.specs.Requests.{Command, Reply, Refusal, Fs, Locked, NoLock, OutOfMemory}
 use Rattle.dav_resource_core.specs.Step.{Same, Serves, State}
 use Rattle.dav_resource_core.proofs.Frame.{change_left}
-use Rattle.dav_session_core.specs.Callers.{Caller, as_caller, asking}
-use Rattle.dav_session_core.specs.Clearing.{IsCleared, refusing_anew, refusing_clearing}
-use Rattle.dav_session_core.specs.Ends.{EndsFit, GoesFrom, HasFolder, is_related}
+use Rattle.dav_session_core.specs.Callers.{Caller, asking}
+use Rattle.dav_session_core.specs.Clearing.{refusing_clearing}
+use Rattle.dav_session_core.specs.Ends.{HasFolder, is_related}
 use Rattle.dav_session_core.specs.Moving.{CanMove, IsMoved, refusing_move}
-use Rattle.dav_session_core.specs.Removing.{IsRemoved, refusing_removal}
-use Rattle.dav_session_core.specs.Subtrees.{IsWalk}
+use Rattle.dav_session_core.specs.Removing.{refusing_removal}
+use Rattle.dav_session_core.specs.Subtrees.{IsSubtreeWalk}
 use Rattle.dav_session_core.proofs.MakeLemmas.{done, left_by}
-use Rattle.dav_session_core.proofs.OwnLemmas.{parent_front}
-use Rattle.dav_session_core.proofs.PutLemmas.{both_none, change_err}
+use Rattle.dav_path_core.proofs.paths.AbovePaths.{parent_front}
+use Rattle.dav_session_core.proofs.PutLemmas.{change_err}
 use Rattle.dav_session_core.proofs.RemovalCheckLemmas.{removal_split}
-use Rattle.dav_session_core.proofs.RemovalLemmas.{above_out, free_stays, removal_stays}
-use Rattle.dav_session_core.proofs.SubtreeLemmas.{rest_of, some_of}
+use Rattle.dav_files_core.proofs.paths.RemovedMaps.{above_out}
+use Rattle.dav_path_core.proofs.paths.SubtreePaths.{rest_of, some_of}
 
 -- ---- two ends of which neither is at or below the other
 
@@ -64,7 +60,7 @@ no_root_test [] h = absurd (h refl)
 no_root_test (s ∷ q) h = refl
 
 module _ (from to : Path) (apart : is_related false from to ≡ false) where
-  out_to : is_front to from ≡ false
+  pub out_to : is_front to from ≡ false
   out_to = (or_parts (is_front to from) (is_front from to) apart).0
 
   out_from : is_front from to ≡ false
@@ -77,13 +73,13 @@ module _ (from to : Path) (apart : is_related false from to ≡ false) where
   source_no_root = no_root_behind from to out_from
 
   -- neither folder above is at or below the target
-  own_above : is_front to (parent to) ≡ false
+  pub own_above : is_front to (parent to) ≡ false
   own_above = above_out to target_no_root
 
   source_above : is_front to (parent from) ≡ false
   source_above = false_from_ne_true _ (λ h. true≢false (sym (is_front-trans to (parent from) from h (parent_front from)) ∙ out_to))
 
-  source_apart : from ≢ parent to
+  pub source_apart : from ≢ parent to
   source_apart same = true≢false (sym (subst (λ q. is_front q to ≡ true) (sym same) (parent_front to)) ∙ out_from)
 
   -- what is behind the source isn't behind the target
@@ -96,17 +92,17 @@ module _ (from to : Path) (apart : is_related false from to ≡ false) where
 -- ---- a modified time that is set, at each path
 
 abbrev dated_by : Bool → ℕ → Resource → Resource
-dated_by b now r = cond b (dated now r) r
+dated_by b now r = cond b (dated_entry now r) r
 
-touched_once : (n : ResourceMap) (a : Path) (now : ℕ) (q : Path) → at_path (touched n a now) q ≡ option_map (dated_by (is_same_path q a) now) (at_path n q)
+touched_once : (n : ResourceMap) (a : Path) (now : ℕ) (q : Path) → at_path (with_modified_time n a now) q ≡ option_map (dated_by (is_same_path q a) now) (at_path n q)
 touched_once n a now q = elim (dec path_total path_exact q a) [
-  | inl same ↦ subst (λ p. at_path (touched n a now) p ≡ option_map (dated_by (is_same_path p a) now) (at_path n p)) (sym same) (own (at_path n a) refl)
+  | inl same ↦ subst (λ p. at_path (with_modified_time n a now) p ≡ option_map (dated_by (is_same_path p a) now) (at_path n p)) (sym same) (own (at_path n a) refl)
   | inr other ↦ touched_other n a now q other ∙ sym (kept (at_path n q) (test_false path_total path_exact q a other))
 ]
   where
     own : (o : Option Resource) → at_path n a ≡ o → at_path (touched_at n a now o) a ≡ option_map (dated_by (is_same_path a a) now) o
     own None e = e
-    own (Some r) e = get_same path_total path_exact n.entries a (dated now r) ∙ ap (λ b. Some (dated_by b now r)) (sym (is_same_path-refl a))
+    own (Some r) e = get_same path_total path_exact n.entries a (dated_entry now r) ∙ ap (λ b. Some (dated_by b now r)) (sym (is_same_path-refl a))
 
     kept : (o : Option Resource) → is_same_path q a ≡ false → option_map (dated_by (is_same_path q a) now) o ≡ o
     kept None e = refl
@@ -123,28 +119,28 @@ twice false false now (Some r) = refl
 
 module _ (m : ResourceMap) (from to : Path) (now : ℕ) where
   abbrev put : ResourceMap
-  put = moved m from to
+  put = moved_map m from to
 
   abbrev finish : ResourceMap → Outcome (Unit {0})
-  finish n = Ok (tt, touched (touched n (parent from) now) (parent to) now)
+  finish n = Ok (tt, with_modified_time (with_modified_time n (parent from) now) (parent to) now)
 
   abbrev left : ResourceMap
-  left = touched (touched put (parent from) now) (parent to) now
+  left = with_modified_time (with_modified_time put (parent from) now) (parent to) now
 
   -- where nothing refuses it
-  relocated_so : is_root to ≡ false → has_members m to ≡ false → is_root from ≡ false → behind from to ≡ None → relocated m from to ≡ Ok put
+  relocated_so : is_root to ≡ false → has_members m to ≡ false → is_root from ≡ false → behind from to ≡ None → relocated_map m from to ≡ Ok put
   relocated_so target bare source apart = rw (target, bare, source, apart) refl
 
-  renamed : (r f : Resource) → at_path m from ≡ Some r → at_path m (parent to) ≡ Some f → f.node.kind ≡ Folder → relocated m from to ≡ Ok put → rename m from to now ≡ done left
+  renamed : (r f : Resource) → at_path m from ≡ Some r → at_path m (parent to) ≡ Some f → f.node.kind ≡ Folder → relocated_map m from to ≡ Ok put → rename m from to now ≡ done left
   renamed r f here above kind away =
-      ap (λ (o : Result Resource FsError). o >>= λ (_ : Resource). find_folder m (parent to) >>= λ (_ : Resource). relocated m from to >>= finish) (find_there m from r here)
-      ∙ ap (λ (o : Result Resource FsError). o >>= λ (_ : Resource). relocated m from to >>= finish) (folder_found m (parent to) f above kind)
+      ap (λ (o : Result Resource FsError). o >>= λ (_ : Resource). find_folder m (parent to) >>= λ (_ : Resource). relocated_map m from to >>= finish) (find_there m from r here)
+      ∙ ap (λ (o : Result Resource FsError). o >>= λ (_ : Resource). relocated_map m from to >>= finish) (folder_found m (parent to) f above kind)
       ∙ ap (λ (o : Result ResourceMap FsError). o >>= finish) away
 
   module _ (apart : is_related false from to ≡ false) where
     left_there : (rest : Path) → at_path left (to ++ rest) ≡ at_path m (from ++ rest)
     left_there rest =
-        touched_other (touched put (parent from) now) (parent to) now (to ++ rest) (not_at (parent to) (own_above from to apart))
+        touched_other (with_modified_time put (parent from) now) (parent to) now (to ++ rest) (not_at (parent to) (own_above from to apart))
         ∙ touched_other put (parent from) now (to ++ rest) (not_at (parent from) (source_above from to apart)) ∙ moved_to m from to rest
       where
         not_at : (q : Path) → is_front to q ≡ false → to ++ rest ≢ q
@@ -153,12 +149,12 @@ module _ (m : ResourceMap) (from to : Path) (now : ℕ) where
     left_gone : (q : Path) → is_front from q ≡ true → at_path left q ≡ None
     left_gone q inside =
         let r = rest_of from q inside in
-        touched_none (touched put (parent from) now) (parent to) now q (touched_none put (parent from) now q
+        touched_none (with_modified_time put (parent from) now) (parent to) now q (touched_none put (parent from) now q
         (ap (at_path put) r.1 ∙ moved_from m from to r.0 (nothing_behind to (from ++ r.0) (out_behind from to apart r.0))))
 
     left_others : (q : Path) → is_front from q ≡ false → is_front to q ≡ false → at_path left q ≡ option_map (dated_folder from to now q) (at_path m q)
     left_others q f t =
-        touched_once (touched put (parent from) now) (parent to) now q
+        touched_once (with_modified_time put (parent from) now) (parent to) now q
         ∙ ap (option_map (dated_by (is_same_path q (parent to)) now)) (touched_once put (parent from) now q
         ∙ ap (option_map (dated_by (is_same_path q (parent from)) now)) (moved_other m from to q (nothing_behind from q f) (nothing_behind to q t)))
         ∙ twice (is_same_path q (parent from)) (is_same_path q (parent to)) now (at_path m q)
@@ -206,19 +202,7 @@ module _ (s : State) (who : Caller) (from to : Path) (can : CanMove s who from t
   move_lacks s' NoLock h = absurd h.0
   move_lacks s' OutOfMemory h = absurd (h.0 can.free)
 
--- ---- once the target is cleared
-
--- with no lock at the path or below it a deep check finds what a check of the path alone does
-deep_anew : (p : Path) (locks : List Lock) (who : LocksCaller) → check_conflicts (without_below p locks) p true who ≡ check_conflicts (without_below p locks) p false who
-deep_anew p locks who =
-    filter-filter (refuses_change (without_below p locks) p true who) (λ l. not (is_at_or_below l p)) locks ∙ filter_agree _ _ same locks
-    ∙ sym (filter-filter (refuses_change (without_below p locks) p false who) (λ l. not (is_at_or_below l p)) locks)
-  where
-    same : (l : Lock) → (not (is_at_or_below l p) && refuses_change (without_below p locks) p true who l) ≡ (not (is_at_or_below l p) && refuses_change (without_below p locks) p false who l)
-    same l = elim (cases_Bool (is_at_or_below l p)) [
-      | inl below ↦ rw (below) refl
-      | inr out ↦ rw (out) refl
-    ]
+-- ---- its source and its target
 
 -- what is free of all places is free of each
 pub removal_of : (s : State) (who : Caller) (places : List Path) (p : Path) → In p places → refusing_removal s who places ≡ [] → refusing_removal s who (p ∷ []) ≡ []
@@ -230,62 +214,8 @@ removal_of s who (q ∷ places) p i free =
       | inr j ↦ removal_of s who places p j parts.1
     ]
 
-both_ends : (s : State) (who : Caller) (from to : Path) → refusing_removal s who (from ∷ []) ≡ [] → refusing_removal s who (to ∷ []) ≡ []
-    → refusing_removal s who (from ∷ to ∷ []) ≡ []
-both_ends s who from to source target = removal_split s who from (to ∷ []) ∙ ap (λ ls. ls ++ refusing_removal s who (to ∷ [])) source ∙ target
-
--- a folder that stood at the target is gone
-module _ (s mid : State) (who : Caller) (from to : Path) (replaces : Bool) (fit : EndsFit s.map from to replaces) (apart : is_related false from to ≡ false) (shape : IsResourceMap mid.map)
-    (removed : IsRemoved who.now to s mid) (source : refusing_removal s who (from ∷ []) ≡ []) (target : refusing_removal s who (to ∷ []) ≡ []) (anew : refusing_anew s who to ≡ []) where
-  source_free : refusing_removal mid who (from ∷ []) ≡ []
-  source_free = subst (λ locks. refusing_removal (record mid { locks = locks }) who (from ∷ []) ≡ []) (sym removed.locks)
-      (removal_stays to s.locks (as_caller who) (from ∷ []) out source)
-    where
-      out : (q : Path) → In q (from ∷ []) → is_front to q ≡ false
-      out q (inl same) = ap (is_front to) (sym same) ∙ out_to from to apart
-      out q (inr none) = absurd none
-
-  target_free : refusing_removal mid who (to ∷ []) ≡ []
-  target_free =
-      let above = append_none (check_conflicts s.locks (parent to) false (as_caller who)) [] (append_none (check_conflicts s.locks to true (as_caller who)) _ target).1 in
-      subst (λ locks. refusing_removal (record mid { locks = locks }) who (to ∷ []) ≡ []) (sym removed.locks)
-      (both_none (check_conflicts (without_below to s.locks) to true (as_caller who)) (check_conflicts (without_below to s.locks) (parent to) false (as_caller who))
-      (deep_anew to s.locks (as_caller who) ∙ anew) (free_stays to s.locks (parent to) false (as_caller who) (own_above from to apart) above.0))
-
-  can_move_there : CanMove mid who from to
-  can_move_there = record {
-    shape = shape;
-    stands = subst (λ o. IsSome o) (sym (removed.others from (out_to from to apart) (source_apart from to apart))) fit.stands;
-    apart = apart;
-    above = (dated who.now fit.above.0, removed.above ∙ ap (option_map (dated who.now)) fit.above.1, fit.above.2);
-    no_folder = λ folder. none_some (at_path mid.map to) folder.0 (removed.gone to (is_front-refl to)) folder.1;
-    free = both_ends mid who from to source_free target_free;
-  }
-
-pub target_in : (m : ResourceMap) (to : Path) (places : List Path) → HasFolder m to → IsWalk m to places → In to places
+pub target_in : (m : ResourceMap) (to : Path) (places : List Path) → HasFolder m to → IsSubtreeWalk m to places → In to places
 target_in m to places folder walk = In-Contains places to ((walk.members to).1 (is_front-refl to, ap is_some folder.1))
-
-pub can_move_then : (s mid : State) (who : Caller) (from to : Path) (replaces : Bool) (gone : List Path) → EndsFit s.map from to replaces → is_related false from to ≡ false
-    → IsResourceMap mid.map → GoesFrom s.map to gone → refusing_move s who from to gone ≡ [] → IsCleared who.now to s mid → CanMove mid who from to
-can_move_then s mid who from to replaces [] fit apart shape (inl goes) free cleared = absurd (target_in s.map to [] goes.0 goes.1)
-can_move_then s mid who from to replaces (q ∷ gone) fit apart shape (inl goes) free (inl cleared) =
-    let parts = append_none (refusing_removal s who (from ∷ [])) (refusing_removal s who (q ∷ gone) ++ refusing_anew s who to) free in
-    let rest = append_none (refusing_removal s who (q ∷ gone)) (refusing_anew s who to) parts.1 in
-    can_move_there s mid who from to replaces fit apart shape cleared.1 parts.0 (removal_of s who (q ∷ gone) to (target_in s.map to (q ∷ gone) goes.0 goes.1) rest.0) rest.1
-can_move_then s mid who from to replaces (q ∷ gone) fit apart shape (inl goes) free (inr same) = absurd (same.0 goes.0)
-can_move_then s mid who from to replaces gone fit apart shape (inr none) free (inl cleared) = absurd (none.0 cleared.0)
-can_move_then s mid who from to replaces gone fit apart shape (inr none) free (inr same) =
-    subst (λ t. CanMove t who from to) (sym same.1) (record {
-      shape = subst (λ (t : State). IsResourceMap t.map) same.1 shape;
-      stands = fit.stands;
-      apart = apart;
-      above = fit.above;
-      no_folder = none.0;
-      free = both_ends s who from to parts.0 parts.1;
-    })
-  where
-    parts : (refusing_removal s who (from ∷ []) ≡ []) × (refusing_removal s who (to ∷ []) ≡ [])
-    parts = append_none (refusing_removal s who (from ∷ [])) (refusing_removal s who (to ∷ [])) (subst (λ xs. refusing_move s who from to xs ≡ []) none.1 free)
 
 -- what stands elsewhere than at the root stands in a folder
 pub stands_in : (m : ResourceMap) (p : Path) → IsResourceMap m → IsSome (at_path m p) → p ≢ [] → HasFolder m (parent p)

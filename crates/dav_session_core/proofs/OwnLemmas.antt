@@ -1,14 +1,14 @@
 -- Whose locks stand at a path and above, and what is left where one of them ends.
-use Rattle.std.proofs.Common.{◌≡◌, ◌⊎◌, inl, inr, ℕ, zero, suc, ◌+◌, ◌<◌, Bool, true, false, not, ◌&&◌, ◌||◌, cond, List, [], ◌∷◌, length, get_or, Option, Some, None, Result, Ok, Err, refl, sym, ◌∙◌, ap, subst, arith}
+use Rattle.std.proofs.Common.{◌≡◌, ◌⊎◌, inl, inr, ℕ, ◌+◌, ◌<◌, Bool, true, false, not, ◌&&◌, ◌||◌, cond, List, [], ◌∷◌, length, get_or, Option, Some, None, Result, Ok, Err, refl, sym, ◌∙◌, ap, subst, arith}
 use Rattle.std.specs.Prelude.{bytes_eq, nat_le, option_map, Contains, IfErr, OnOk, remove}
 use Rattle.std.specs.List.{list_any}
-use Rattle.std.proofs.lemmas.Bool.{cases_Bool, and_parts, or_parts, false≢true, true≢false, not-true}
+use Rattle.std.proofs.lemmas.Bool.{cases_Bool, and_parts, false≢true, true≢false, not-true}
 use Rattle.std.proofs.lemmas.List.Elements.{Contains-get_or}
 use Rattle.dav_path_core.specs.Fronts.{Path, is_front, is_same_path, parent}
-use Rattle.dav_path_core.proofs.lists.MemberLemmas.{In, In-Contains, Contains-In, find_any}
-use Rattle.dav_path_core.proofs.paths.FrontLemmas.{is_front-parts, is_front-cons, is_front-refl, is_front-trans, is_same_path-same, is_same_path-refl}
+use Rattle.dav_path_core.proofs.lists.MemberLemmas.{In-Contains, Contains-In, find_any}
+use Rattle.dav_path_core.proofs.paths.FrontLemmas.{is_front-refl, is_front-trans, is_same_path-same, is_same_path-refl}
 use Rattle.dav_locks_core.specs.Lock.{Lock}
-use Rattle.dav_locks_core.specs.Locks.{lock_path, covers, found, found_from, found_here, better, height}
+use Rattle.dav_locks_core.specs.Locks.{lock_path, covers, found_token, found_from, found_here, better, height}
 use Rattle.dav_locks_core.proofs.laws.EndedLemmas.{found_at, found_from_at}
 use Rattle.dav_resource_core.specs.Requests.{Command, Reply, Refusal, Fs, Locked, NoLock, OutOfMemory}
 use Rattle.dav_resource_core.specs.Step.{IsState, Serves, State}
@@ -19,49 +19,7 @@ use Rattle.dav_session_core.specs.Conditions.{has_token}
 use Rattle.dav_session_core.specs.Private.Owning.{AllOwn, is_anothers}
 use Rattle.dav_session_core.specs.Unlocking.{EndsOwn, IsAnothers}
 use Rattle.dav_session_core.proofs.ConditionLemmas.{Looks, same_state}
-
--- ---- a path and its parent
-
-pub above : (q h : Path) → is_front q h ≡ true → (q ≡ h) ⊎ (is_front q (parent h) ≡ true)
-above [] [] h = inl refl
-above [] (x ∷ []) h = inr refl
-above [] (x ∷ y ∷ p) h = inr refl
-above (s ∷ q) [] h = absurd (false≢true h)
-above (s ∷ q) (x ∷ []) h =
-    let parts = is_front-parts s x q [] h in
-    elim (above q [] parts.1) [
-      | inl e ↦ inl (ap (λ t. t ∷ q) parts.0 ∙ ap (λ r. x ∷ r) e)
-      | inr f ↦ elim q as (λ q. is_front q [] ≡ true → (s ∷ q ≡ x ∷ []) ⊎ (is_front (s ∷ q) [] ≡ true)) [
-        | [] ↦ λ _. inl (ap (λ t. t ∷ []) parts.0)
-        | (t ∷ r) ↦ λ g. absurd (false≢true g)
-      ] f
-    ]
-above (s ∷ q) (x ∷ y ∷ p) h =
-    let parts = is_front-parts s x q (y ∷ p) h in
-    elim (above q (y ∷ p) parts.1) [
-      | inl e ↦ inl (ap (λ t. t ∷ q) parts.0 ∙ ap (λ r. x ∷ r) e)
-      | inr f ↦ inr (is_front-cons s x q (parent (y ∷ p)) parts.0 f)
-    ]
-
-pub parent_front : (h : Path) → is_front (parent h) h ≡ true
-parent_front [] = refl
-parent_front (x ∷ []) = refl
-parent_front (x ∷ y ∷ p) = is_front-cons x x (parent (y ∷ p)) (y ∷ p) refl (parent_front (y ∷ p))
-
-pub parent_length : (h : Path) (n : ℕ) → length h ≡ n + 1 → length (parent h) ≡ n
-parent_length [] n h = absurd (omega (arith, h))
-parent_length (x ∷ []) n h = omega (arith, h)
-parent_length (x ∷ y ∷ p) zero h = absurd (omega (arith, h))
-parent_length (x ∷ y ∷ p) (suc n) h =
-    let rest = parent_length (y ∷ p) n (omega (arith, h)) in omega (arith, rest)
-
-pub one_less : (h : Path) (i n : ℕ) → length h + i ≡ n → i < n → length (parent h) + (i + 1) ≡ n
-one_less h i n e lt = by (length h) refl
-  where
-    by : (k : ℕ) → length h ≡ k → length (parent h) + (i + 1) ≡ n
-    by zero is = absurd (omega (arith, is, e, lt))
-    by (suc k) is =
-        let rest = parent_length h k (omega (arith, is)) in omega (arith, rest, is, e)
+use Rattle.dav_path_core.proofs.paths.AbovePaths.{above, any_false}
 
 -- ---- a lock at the path or above
 
@@ -80,11 +38,6 @@ at_root l h = by (lock_path l) refl h
     by : (q : Path) → lock_path l ≡ q → is_front q [] ≡ true → covers l [] ≡ true
     by [] is h = at_covers l [] is
     by (x ∷ q) is h = absurd (false≢true h)
-
-any_false : {A : Type 0} (test : A → Bool) (xs : List A) (x : A) → list_any test xs ≡ false → In x xs → test x ≡ false
-any_false test [] x h i = absurd i
-any_false test (y ∷ xs) x h (inl e) = ap test (sym e) ∙ (or_parts (test y) (list_any test xs) h).0
-any_false test (y ∷ xs) x h (inr i) = any_false test xs x (or_parts (test y) (list_any test xs) h).1 i
 
 -- ---- whether each lock with a token is the caller's own
 
@@ -106,7 +59,7 @@ module _ (s : State) (who : Caller) (p : Path) (token : List ℕ) where
   ]
 
   abbrev pub NoneAt : Path → Bool → Type 0
-  NoneAt here found = list_any (λ l. is_anothers who token l && covers l here) s.locks ≡ found
+  NoneAt here found_token = list_any (λ l. is_anothers who token l && covers l here) s.locks ≡ found_token
 
   pub one_up : (here : Path) → NoneAt here false → OwnSoFar here → OwnSoFar (parent here)
   one_up here none so_far l i h = elim (so_far l i h) [
@@ -143,10 +96,10 @@ module _ (s : State) (who : Caller) (p : Path) (token : List ℕ) where
 -- ---- behind questions of the same caller
 
 module _ (who : Caller) (start : State) (asker : Caller) (m : State) (p : Path) (token : List ℕ) (here : Path) where
-  pub none_as : (found : Bool) → Looks who start asker m → NoneAt (live asker.now m) asker p token here found → NoneAt (live who.now start) who p token here found
-  none_as found looks h =
-      subst (λ (w : Caller). NoneAt (live who.now start) w p token here found) looks.caller
-      (subst (λ (s : State). NoneAt s asker p token here found) (same_state who start asker m looks) h)
+  pub none_as : (found_token : Bool) → Looks who start asker m → NoneAt (live asker.now m) asker p token here found_token → NoneAt (live who.now start) who p token here found_token
+  none_as found_token looks h =
+      subst (λ (w : Caller). NoneAt (live who.now start) w p token here found_token) looks.caller
+      (subst (λ (s : State). NoneAt s asker p token here found_token) (same_state who start asker m looks) h)
 
   pub checked_own : {A : Type 0} (result : Result A Fault) → length here ≡ 0 → Looks who start asker m
       → OnOk result (NoneAt (live asker.now m) asker p token here false) → OwnSoFar (live who.now start) who p token here
@@ -186,16 +139,16 @@ module _ (p : Path) (token : List ℕ) where
         | inr f ↦ ap (λ b. b || list_any (λ l. bytes_eq l.token token && covers l p) locks) f ∙ none_from (n + 1) locks parts.1
       ]
 
-  pub none_covers : (s : State) → found s.locks p token ≡ None → has_token s p token ≡ false
-  unfolding found
+  pub none_covers : (s : State) → found_token s.locks p token ≡ None → has_token s p token ≡ false
+  unfolding found_token
   none_covers s h = by (found_from 0 s.locks p token) refl h
     where
       by : (o : Option (ℕ × ℕ)) → found_from 0 s.locks p token ≡ o → option_map (λ f. f.0) o ≡ None → has_token s p token ≡ false
       by None is g = none_from 0 s.locks is
       by (Some f) is g = absurd (cc)
 
-  pub found_within : (locks : List Lock) (k : ℕ) → found locks p token ≡ Some k → k < length locks
-  unfolding found
+  pub found_within : (locks : List Lock) (k : ℕ) → found_token locks p token ≡ Some k → k < length locks
+  unfolding found_token
   found_within locks k h = by (found_from 0 locks p token) refl h
     where
       by : (o : Option (ℕ × ℕ)) → found_from 0 locks p token ≡ o → option_map (λ f. f.0) o ≡ Some k → k < length locks
@@ -205,7 +158,7 @@ module _ (p : Path) (token : List ℕ) where
           let same : f.0 ≡ k = cc in
           omega (arith, r.1, r.2, same)
 
-  pub found_own : (s : State) (who : Caller) (k : ℕ) → found s.locks p token ≡ Some k → AllOwn s who p token → (l : Lock) → is_own who (get_or s.locks k l) ≡ true
+  pub found_own : (s : State) (who : Caller) (k : ℕ) → found_token s.locks p token ≡ Some k → AllOwn s who p token → (l : Lock) → is_own who (get_or s.locks k l) ≡ true
   found_own s who k h all l =
       all (get_or s.locks k l) (Contains-get_or s.locks k l (found_within s.locks k h)) (found_at s.locks p token k h l)
 
@@ -213,7 +166,7 @@ module _ (p : Path) (token : List ℕ) where
 
 -- it is refused only where no lock is found
 pub not_unlocked : (who : Caller) (s s' : State) (p : Path) (token : List ℕ) (e : Refusal) → Serves s (asking who (Command.Unlock p token)) (Err e) s'
-    → found s.locks p token ≡ None
+    → found_token s.locks p token ≡ None
 not_unlocked who s s' p token (Fs e) h = absurd (false≢true h.0.0)
 not_unlocked who s s' p token (Locked l) h = absurd (In-Contains [] l h.0)
 not_unlocked who s s' p token NoLock h = h.0
@@ -230,15 +183,3 @@ unlocked who s s' p token reply own h = record {
   own = found_own p token s who h.1.0 h.1.1 own;
   left = rest_of s s' (remove s.locks h.1.0) h.1.3;
 }
-
--- ---- what is left of a list
-
-pub left_or_gone : {A : Type 0} (xs : List A) (k : ℕ) (x : A) → In x xs → In x (remove xs k) ⊎ ((d : A) → get_or xs k d ≡ x)
-left_or_gone [] k x i = absurd i
-left_or_gone (y ∷ xs) zero x (inl e) = inr (λ d. e)
-left_or_gone (y ∷ xs) zero x (inr i) = inl i
-left_or_gone (y ∷ xs) (suc k) x (inl e) = inl (inl e)
-left_or_gone (y ∷ xs) (suc k) x (inr i) = elim (left_or_gone xs k x i) [
-  | inl j ↦ inl (inr j)
-  | inr gone ↦ inr gone
-]

@@ -8,8 +8,8 @@ use Rattle.dav_path_core.specs.Fronts.{Path}
 use Rattle.dav_path_core.proofs.lists.FinMaps.{get_same, get_other}
 use Rattle.dav_path_core.proofs.lists.Orders.{path_total, path_exact}
 use Rattle.dav_files_core.specs.Finding.{refusal_at}
-use Rattle.dav_files_core.specs.Outcomes.{Outcome, ◌>>=◌, changed}
-use Rattle.dav_files_core.specs.Properties.{patch_answers, patch_props, patched}
+use Rattle.dav_files_core.specs.Outcomes.{Outcome, ◌>>=◌, with_other_node}
+use Rattle.dav_files_core.specs.Properties.{patch_answers, patch_props, patched_properties}
 use Rattle.dav_files_core.specs.Resources.{Resource, ResourceMap, at_path}
 use Rattle.dav_resource_core.specs.Requests.{Command, Reply, Refusal, Fs, Locked, NoLock, OutOfMemory}
 use Rattle.dav_resource_core.specs.ResourceStep.{patches}
@@ -26,7 +26,7 @@ use Rattle.dav_session_core.proofs.PutLemmas.{rebuilt}
 record Placed (m : ResourceMap) (p : Path) (updates : List Update) (m' : ResourceMap) : Type 0 where
   resource : Resource
   stood : at_path m p ≡ Some resource
-  left : m' ≡ changed m p resource (record resource.node { props = patched resource.node.props updates })
+  left : m' ≡ with_other_node m p resource (record resource.node { props = patched_properties resource.node.props updates })
 
 abbrev told : Reply → ResourceMap → Outcome Reply
 told reply n = Ok (reply, n)
@@ -39,7 +39,7 @@ placed : (m m' : ResourceMap) (p : Path) (updates : List Update) (reply : Reply)
 placed m m' p updates reply h = by (at_path m p) refl h
   where
     by : (o : Option Resource) → at_path m p ≡ o
-        → patches (ok_or o (refusal_at m p) >>= λ (r : Resource). Ok (patch_answers updates, changed m p r (record r.node { props = patched r.node.props updates }))) ≡ told reply m'
+        → patches (ok_or o (refusal_at m p) >>= λ (r : Resource). Ok (patch_answers updates, with_other_node m p r (record r.node { props = patched_properties r.node.props updates }))) ≡ told reply m'
         → Placed m p updates m'
     by (Some r) there h = record { resource = r; stood = there; left = left_by _ reply _ m' h }
     by None there h = absurd (cc)
@@ -63,7 +63,7 @@ nothing_there : (m : ResourceMap) (p : Path) (updates : List Update) (e : FsErro
 nothing_there m p updates e h = by (at_path m p) refl h
   where
     by : (o : Option Resource) → at_path m p ≡ o
-        → patches (ok_or o (refusal_at m p) >>= λ (r : Resource). Ok (patch_answers updates, changed m p r (record r.node { props = patched r.node.props updates }))) ≡ Err e
+        → patches (ok_or o (refusal_at m p) >>= λ (r : Resource). Ok (patch_answers updates, with_other_node m p r (record r.node { props = patched_properties r.node.props updates }))) ≡ Err e
         → at_path m p ≡ None
     by (Some r) there h = absurd (cc)
     by None there h = there

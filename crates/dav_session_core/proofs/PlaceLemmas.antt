@@ -17,11 +17,11 @@ use Rattle.dav_session_core.specs.Subtrees.{HasOddName}
 use Rattle.dav_session_core.proofs.SubtreeLemmas.{member_stands}
 
 -- at the one that code is at
-pub stands_at : {A : Type 0} (view : A → Path) (m m' : ResourceMap) (xs : List A) (i : ℕ) (x : A) → i < length xs → x ≡ get_or xs i x → AllStand m (map view xs) → m' ≡ m → IsSome (at_path m' (view x))
-stands_at view m m' xs i x lt is all same =
+pub stands_at : {A : Type 0} (view : A → Path) (m : ResourceMap) (xs : List A) (i : ℕ) (x : A) → i < length xs → x ≡ get_or xs i x → AllStand m (map view xs) → IsSome (at_path m (view x))
+stands_at view m xs i x lt is all =
     let below : i < length (map view xs) = omega (arith, length-map xs view) in
     let at : get_or (map view xs) i (view x) ≡ view x = get_or-map view xs i x (view x) lt ∙ ap view (sym is) in
-    subst (λ n. IsSome (at_path n (view x))) (sym same) (all (view x) (subst (Contains (map view xs)) at (Contains-get_or (map view xs) i (view x) below)))
+    all (view x) (subst (Contains (map view xs)) at (Contains-get_or (map view xs) i (view x) below))
 
 pub one_stands : (m : ResourceMap) (p : Path) (places : List Path) → places ≡ p ∷ [] → IsSome (at_path m p) → AllStand m places
 one_stands m p places is here = subst (AllStand m) (sym is) (λ q c. elim (In-Contains (p ∷ []) q c) [

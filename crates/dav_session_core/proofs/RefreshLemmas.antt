@@ -1,36 +1,24 @@
--- How a lock gets another end.
+-- How a lock gets another end, and lists that are filtered or whose items are replaced.
 use Rattle.std.proofs.Common.{◌≡◌, ◌⊎◌, inl, inr, ℕ, zero, suc, ◌+◌, ◌<◌, Bool, true, false, cond, List, [], ◌∷◌, ◌++◌, length, get_or, take, drop, map, Option, Some, None, Ok, Err, refl, sym, ◌∙◌, ap, subst, add-one, arith}
-use Rattle.std.specs.Prelude.{bytes_eq, filter, is_some, set}
+use Rattle.std.specs.Prelude.{filter, is_some, set}
 use Rattle.std.proofs.lemmas.Bool.{false≢true, true≢false}
 use Rattle.std.proofs.lemmas.Iterator.{YieldsList}
 use Rattle.std.proofs.lemmas.Iterator.Consumers.{YieldsList-end, YieldsList-turn}
 use Rattle.std.proofs.lemmas.List.{length-map}
-use Rattle.std.proofs.lemmas.List.Elements.{filter_agree}
-use Rattle.http_header.specs.FieldValue.{FieldValue}
-use Rattle.http_header.specs.HeaderMap.{Entries}
-use Rattle.dav_headers_core.specs.declared.davheaders.timeouts.DavTimeout.{DavTimeout}
 use Rattle.dav_path_core.specs.Fronts.{Path}
 use Rattle.dav_path_core.proofs.lists.MemberLemmas.{In}
 use Rattle.dav_path_core.proofs.lists.PlaceLemmas.{map-filter}
-use Rattle.dav_locks_core.specs.Lock.{Lock}
-use Rattle.dav_locks_core.specs.Locks.{discovered}
+use Rattle.dav_locks_core.specs.Locks.{discovered_locks}
 use Rattle.dav_resource_core.specs.Requests.{Command, Reply, Refusal, Locks, Fs, Locked, NoLock, OutOfMemory}
 use Rattle.dav_resource_core.specs.Step.{Same, Serves, State, Step}
 use Rattle.dav_resource_core.proofs.StepLaws.{Same-equal}
-use Rattle.dav_faults_core.specs.declared.faults.Fault.{Fault}
-use Rattle.dav_faults_core.specs.declared.faults.Fault.TheVariants as fault
 use Rattle.dav_session_core.specs.Callers.{Asks, Caller, RunBy, asking, live}
-use Rattle.dav_session_core.specs.Conditions.{has_token}
-use Rattle.dav_fields_core.specs.LockTimeouts.{timeouts_in}
 use Rattle.dav_session_core.specs.Private.Owning.{AllOwn}
-use Rattle.dav_session_core.specs.OneToken.{NotOne, is_token_of_one}
-use Rattle.dav_session_core.specs.Refreshing.{FailsToRefresh, RefreshesOwn, named_there, told_with}
-use Rattle.dav_session_core.specs.Unlocking.{IsAnothers}
+use Rattle.dav_session_core.specs.Refreshing.{RefreshesOwn}
 use Rattle.dav_session_core.proofs.Asking.{asks_join}
 use Rattle.dav_session_core.proofs.CallerLaws.{asks_of, by_one}
 use Rattle.dav_session_core.proofs.ConditionLemmas.{Looks, same_state}
 use Rattle.dav_session_core.proofs.OwnLemmas.{found_own}
-use Rattle.dav_session_core.proofs.TokenLemmas.{any_discovered}
 
 -- ---- a `Refresh`
 
@@ -48,7 +36,7 @@ refreshed_own who s s' p token timeout reply own h = record {
 
 -- what a refusal leaves is what a question leaves
 pub refused_run : (who : Caller) (c : Command) (p : Path) (s s' : State) (e : Refusal) → Step s (asking who c) (Err e) s' → RunBy who s s'
-refused_run who c p s s' e h = by_one who s s' (Command.Discover p) (Ok (Locks (discovered (live who.now s).locks p))) refl (refl, (refl, left e h))
+refused_run who c p s s' e h = by_one who s s' (Command.Discover p) (Ok (Locks (discovered_locks (live who.now s).locks p))) refl (refl, (refl, left e h))
   where
     left : (e : Refusal) → Step s (asking who c) (Err e) s' → Same (live who.now s) s'
     left (Fs e) h = h.1
@@ -66,18 +54,9 @@ module _ (who : Caller) (s : State) (asker : Caller) (a : State) (looks : Looks 
   pub asks_behind : (s' : State) → Asks asker a s' → Asks who s s'
   asks_behind s' h = asks_join who s a s' (asks_of who s a looks.run) (subst (λ (w : Caller). Asks w a s') looks.caller h)
 
--- ---- which named token a lock has
+-- ---- what a filter keeps
 
--- of the locks that are discovered one has the token where one has it that covers the path
-pub named_is : (s : State) (who : Caller) (p : Path) (locks : List Lock) (tokens : List (List ℕ)) → locks ≡ discovered s.locks p → tokens ≡ who.tokens
-    → filter (is_token_of_one locks) tokens ≡ named_there s who p
-named_is s who p locks tokens found named =
-    ap (λ (ls : List Lock). filter (is_token_of_one ls) tokens) found
-    ∙ ap (filter (is_token_of_one (discovered s.locks p))) named
-    ∙ filter_agree (is_token_of_one (discovered s.locks p)) (has_token s p)
-    (λ token. any_discovered (λ (l : Lock). bytes_eq l.token token) s.locks p) who.tokens
-
--- what a filter keeps passes its test
+-- it passes the test
 pub first_has : {A : Type 0} (test : A → Bool) (xs : List A) (x : A) (others : List A) → filter test xs ≡ x ∷ others → test x ≡ true
 first_has test [] x others h = absurd (cc)
 first_has test (y ∷ xs) x others h = by (test y) refl h (first_has test xs x others)
@@ -105,7 +84,7 @@ module _ {S A B C : Type 0} {steps : S → Option A → S → Type 0} {v : A →
       rw (sym (map-filter f test xs), length-map) more
   gives_two q None t u x first step has next = absurd (false≢true has)
 
--- ---- locks as they are told
+-- ---- lists whose items are replaced
 
 -- a list whose items up to i are replaced, and which has the item x at i
 pub replaced_more : {A : Type 0} (f : A → A) (xs : List A) (i : ℕ) (x y : A) → i < length xs → x ≡ get_or xs i x → y ≡ f x
@@ -115,38 +94,6 @@ replaced_more f (z ∷ xs) zero x y lt is new = ap (λ w. w ∷ map f xs) (new �
 replaced_more f (z ∷ xs) (suc i) x y lt is new =
     let more = replaced_more f xs i x y (omega (arith, lt)) is new in
     rw (add-one) (rw add-one at (ap (λ ys. z ∷ ys) more))
-
--- one with the token has another timeout, and one without it stays
-pub told_one : (token : List ℕ) (timeout : Option ℕ) (l m : Lock) → l ≡ m → bytes_eq l.token token ≡ true → record l { timeout = timeout } ≡ told_with token timeout m
-told_one token timeout l m same named =
-    sym (ap (λ b. cond b (record l { timeout = timeout }) l) named) ∙ ap (told_with token timeout) same
-
-pub told_other : (token : List ℕ) (timeout : Option ℕ) (l m : Lock) → l ≡ m → bytes_eq l.token token ≡ false → l ≡ told_with token timeout m
-told_other token timeout l m same other = sym (ap (λ b. cond b (record l { timeout = timeout }) l) other) ∙ ap (told_with token timeout) same
-
--- ---- refusals
-
-module _ (headers : Entries FieldValue) (s : State) (who : Caller) (p : Path) (e : Fault) where
-  pub fails_short : e ≡ fault.InsufficientStorage → FailsToRefresh headers s who p e
-  fails_short short = subst (FailsToRefresh headers s who p) (sym short) FailsToRefresh.memory
-
-  pub fails_unread : (e ≡ fault.InsufficientStorage) ⊎ ((e ≡ fault.BadRequest) × (timeouts_in headers ≡ None)) → FailsToRefresh headers s who p e
-  fails_unread (inl short) = fails_short short
-  fails_unread (inr h) = subst (FailsToRefresh headers s who p) (sym h.0) (FailsToRefresh.unread h.1)
-
-  pub fails_anothers : (timeouts : List DavTimeout) (token : List ℕ) → timeouts_in headers ≡ Some timeouts → named_there s who p ≡ token ∷ []
-      → (e ≡ fault.InsufficientStorage) ⊎ ((e ≡ fault.Forbidden) × IsAnothers s who p token) → FailsToRefresh headers s who p e
-  fails_anothers timeouts token read names (inl short) = fails_short short
-  fails_anothers timeouts token read names (inr h) = subst (FailsToRefresh headers s who p) (sym h.0) (FailsToRefresh.anothers timeouts token read names h.1)
-
-pub fails_unnamed : (headers : Entries FieldValue) (s : State) (who : Caller) (p : Path) (e : Fault) (timeouts : List DavTimeout) → timeouts_in headers ≡ Some timeouts
-    → NotOne (named_there s who p) e → FailsToRefresh headers s who p e
-fails_unnamed headers s who p fault.InsufficientStorage timeouts read h = FailsToRefresh.memory
-fails_unnamed headers s who p fault.PreconditionFailed timeouts read h = FailsToRefresh.none timeouts read h
-fails_unnamed headers s who p fault.BadRequest timeouts read h = FailsToRefresh.several timeouts read h
-fails_unnamed headers s who p _ timeouts read h = absurd h
-
--- ---- what is left of a list
 
 -- a member stays, or it is the one that another takes the place of
 pub set_or_same : {A : Type 0} (xs : List A) (k : ℕ) (y x : A) → In x xs → In x (set xs k y) ⊎ ((d : A) → get_or xs k d ≡ x)

@@ -1,24 +1,18 @@
 -- What is asked before all at or below a path is taken away, one place after another.
-use Rattle.std.proofs.Common.{◌≡◌, ◌≢◌, ℕ, ◌+◌, ◌<◌, ◌≤◌, Bool, true, false, cond, List, [], ◌∷◌, ◌++◌, append_assoc, append-nil, drop, get_or, length, map, Result, Ok, Err, refl, sym, ap, ◌∙◌, subst}
+use Rattle.std.proofs.Common.{◌≡◌, ◌≢◌, ℕ, ◌+◌, ◌<◌, ◌≤◌, true, false, List, [], ◌∷◌, ◌++◌, append_assoc, append-nil, drop, get_or, length, map, Result, Ok, Err, sym, ap, ◌∙◌, subst}
 use Rattle.std.specs.Prelude.{Contains, IfErr}
 use Rattle.std.proofs.lemmas.Bool.{true≢false}
 use Rattle.std.proofs.lemmas.List.{drop_all}
 use Rattle.std.proofs.lemmas.List.Elements.{Contains-append_left, Contains-append_right}
-use Rattle.http_header.specs.FieldValue.{FieldValue}
-use Rattle.http_header.specs.HeaderMap.{Entries}
 use Rattle.dav_path_core.specs.Fronts.{Path, parent}
-use Rattle.dav_path_core.specs.PathText.{PathText}
 use Rattle.dav_files_core.specs.Folders.{is_root}
 use Rattle.dav_locks_core.specs.Lock.{Lock}
 use Rattle.dav_locks_core.specs.Locks.{check_conflicts}
 use Rattle.dav_resource_core.specs.Step.{State}
 use Rattle.dav_faults_core.specs.declared.faults.Fault.{Fault}
-use Rattle.dav_faults_core.specs.declared.faults.Fault.TheVariants as fault
 use Rattle.dav_session_core.specs.Callers.{Caller, SameLive, as_caller, live}
-use Rattle.dav_fields_core.specs.Depths.{ReachesAll}
-use Rattle.dav_session_core.specs.LocksInTheWay.{IsRefusedBy, by_place, is_below}
-use Rattle.dav_session_core.specs.Removing.{FailsToRemove, IsLockedIn, refusing_removal}
-use Rattle.dav_session_core.specs.Subtrees.{IsWalk}
+use Rattle.dav_session_core.specs.LocksInTheWay.{IsRefusedBy}
+use Rattle.dav_session_core.specs.Removing.{refusing_removal}
 use Rattle.dav_session_core.proofs.ConditionLemmas.{drop_seen}
 use Rattle.dav_session_core.proofs.PutLemmas.{more_refused}
 
@@ -79,28 +73,8 @@ module _ {A : Type 0} (s : State) (who : Caller) (view : A → Path) (xs : List 
   pub all_checked : length xs ≤ i → refusing_removal s who (map view xs) ≡ []
   all_checked le = sym left ∙ ap (λ ys. refusing_removal s who (map view ys)) (drop_all i xs le)
 
--- ---- a DELETE
+-- ---- the root
 
 pub no_root_there : (p : Path) → is_root p ≡ false → p ≢ []
 no_root_there [] h e = true≢false h
 no_root_there (x ∷ p) h e = cc
-
--- one that a lock refuses
-pub removal_fails : (headers : Entries FieldValue) (who asker : Caller) (s mid : State) (p : Path) (all : List Path) (e : Fault) → ReachesAll headers → p ≢ []
-    → IsWalk s.map p all → asker ≡ who → SameLive who.now s mid → IsRefusedBy (refusing_removal (live asker.now mid) asker all) e
-    → FailsToRemove headers (live who.now s) who p (by_place p e)
-removal_fails headers who asker s mid p all e reaches no_root walk same still h = told e here
-  where
-    here : IsRefusedBy (refusing_removal (live who.now s) who all) e
-    here = subst (λ (t : State). IsRefusedBy (refusing_removal t who all) e) still
-        (subst (λ (w : Caller). IsRefusedBy (refusing_removal (live w.now mid) w all) e) same h)
-
-    by_test : (path : PathText) (b : Bool) → is_below p path ≡ b → IsLockedIn (live who.now s) who p path
-        → FailsToRemove headers (live who.now s) who p (cond b (fault.MemberLocked path) (fault.Locked path))
-    by_test path true is k = (reaches, no_root, k, is)
-    by_test path false is k = (reaches, no_root, k, is)
-
-    told : (e : Fault) → IsRefusedBy (refusing_removal (live who.now s) who all) e → FailsToRemove headers (live who.now s) who p (by_place p e)
-    told fault.InsufficientStorage k = tt
-    told (fault.Locked path) k = by_test path (is_below p path) refl (record { places = all; walk = walk; refused = k })
-    told _ k = absurd k

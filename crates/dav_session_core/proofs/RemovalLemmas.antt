@@ -1,5 +1,5 @@
 -- What stays of a map and of a list of locks where all at or below a path is taken away, one place after another.
-use Rattle.std.proofs.Common.{◌≡◌, ◌≢◌, ◌⊎◌, inl, inr, ℕ, Bool, true, false, cond, not, ◌&&◌, ◌||◌, ◌↔◌, List, [], ◌∷◌, ◌++◌, length, length-append, map, Option, Some, None, is_some, Ok, Err, refl, sym, ap, ◌∙◌, subst, arith}
+use Rattle.std.proofs.Common.{◌≡◌, ◌≢◌, ◌⊎◌, inl, inr, ℕ, Bool, true, false, cond, not, ◌&&◌, ◌||◌, ◌↔◌, List, [], ◌∷◌, ◌++◌, map, Option, Some, None, is_some, Ok, Err, refl, sym, ap, ◌∙◌, subst}
 use Rattle.std.specs.Prelude.{Contains, IsSome, ok_or, option_map}
 use Rattle.std.specs.List.{flat_map}
 use Rattle.std.proofs.lemmas.Bool.{and_parts, cases_Bool, false≢true, true≢false, false_from_ne_true}
@@ -13,17 +13,16 @@ use Rattle.dav_path_core.proofs.lists.FinMaps.{dec, get_gone, get_left, get_same
 use Rattle.dav_path_core.proofs.lists.MemberLemmas.{In, In-Contains, Contains-In, append_none}
 use Rattle.dav_path_core.proofs.lists.Orders.{path_exact, path_total}
 use Rattle.dav_path_core.proofs.lists.PlaceLemmas.{filter-again, filter-filter}
-use Rattle.dav_path_core.proofs.lists.Snoc.{by_last, snoc_not_empty}
+use Rattle.dav_path_core.proofs.lists.Snoc.{snoc_not_empty}
 use Rattle.dav_path_core.proofs.paths.FrontLemmas.{is_front-refl, is_front-trans}
 use Rattle.dav_files_core.specs.Finding.{has_members, refusal_at}
 use Rattle.dav_files_core.specs.Folders.{is_root, remove}
-use Rattle.dav_files_core.specs.Following.{dated}
-use Rattle.dav_files_core.specs.Outcomes.{◌>>=◌, touched, touched_at, without}
+use Rattle.dav_files_core.specs.Following.{dated_entry}
+use Rattle.dav_files_core.specs.Outcomes.{◌>>=◌, with_modified_time, touched_at, without}
 use Rattle.dav_files_core.specs.Resources.{Resource, ResourceMap, at_path}
 use Rattle.dav_files_core.proofs.laws.DoneLemmas.{touched_none, touched_other}
-use Rattle.dav_files_core.proofs.walks.FoundLemmas.{parent-snoc}
 use Rattle.dav_locks_core.specs.Lock.{Lock}
-use Rattle.dav_locks_core.specs.Locks.{Caller as LocksCaller, any_held, check_conflicts, covers, held, is_at_or_below, lock_path, refuses_change, without_below}
+use Rattle.dav_locks_core.specs.Locks.{LockCaller as LocksCaller, any_held, check_conflicts, covers, is_held_by, is_at_or_below, lock_path, refuses_change, without_below}
 use Rattle.dav_locks_core.specs.Stale.{is_stale, without_stale}
 use Rattle.dav_resource_core.specs.Checks.{member, refusing}
 use Rattle.dav_resource_core.specs.Requests.{Answer, Command, Fs, Locked, NoLock, OutOfMemory}
@@ -32,42 +31,13 @@ use Rattle.dav_resource_core.specs.Step.{Serves, State, Step}
 use Rattle.dav_resource_core.proofs.Frame.{change_left}
 use Rattle.dav_session_core.specs.Callers.{Caller, as_caller, asking, live}
 use Rattle.dav_session_core.specs.Removing.{IsRemoved, refusing_removal}
-use Rattle.dav_session_core.specs.Subtrees.{IsWalk}
+use Rattle.dav_session_core.specs.Subtrees.{IsSubtreeWalk}
 use Rattle.dav_session_core.proofs.MakeLemmas.{done, left_by}
-use Rattle.dav_session_core.proofs.OwnLemmas.{covers_here, parent_front}
-use Rattle.dav_session_core.proofs.SubtreeLemmas.{in_left, in_one, in_right, last_bare, member_below, pair_at, rest_of, walk_left}
-
--- ---- a place and the folder above it
-
--- a path that isn't the root's stands in another folder
-above_other : (p : Path) → p ≢ [] → parent p ≢ p
-above_other p no_root same = elim (by_last p) [
-  | inl none ↦ no_root none
-  | inr last ↦ absurd (omega (arith, ap length (sym (parent-snoc last.0 last.1) ∙ ap parent (sym last.2) ∙ same ∙ last.2), length-append last.0 (last.1 ∷ [])))
-]
-
--- the folder of a path isn't at or below it
-pub above_out : (p : Path) → p ≢ [] → is_front p (parent p) ≡ false
-above_out p no_root = elim (by_last p) [
-  | inl none ↦ absurd (no_root none)
-  | inr last ↦ false_from_ne_true _ (λ h.
-      let r = rest_of p (parent p) h in
-      absurd (omega (arith, ap length r.1, length-append p r.0, ap length last.2, length-append last.0 (last.1 ∷ []), ap length (ap parent last.2 ∙ parent-snoc last.0 last.1))))
-]
-
-front_none : (p : Path) → is_front p [] ≡ true → p ≡ []
-front_none [] h = refl
-front_none (x ∷ p) h = absurd (false≢true h)
-
--- what is below a path stands in a folder at or below it
-folder_inside : (p q : Path) → is_front p q ≡ true → q ≢ p → is_front p (parent q) ≡ true
-folder_inside p q h other = elim (by_last q) [
-  | inl none ↦ absurd (other (none ∙ sym (front_none p (subst (λ x. is_front p x ≡ true) none h))))
-  | inr last ↦ elim (member_below p last.0 last.1 (subst (λ x. is_front p x ≡ true) last.2 h)) [
-    | inl k ↦ subst (λ x. is_front p x ≡ true) (sym (ap parent last.2 ∙ parent-snoc last.0 last.1)) k
-    | inr e ↦ absurd (other (last.2 ∙ sym e))
-  ]
-]
+use Rattle.dav_session_core.proofs.OwnLemmas.{covers_here}
+use Rattle.dav_path_core.proofs.paths.AbovePaths.{parent_front}
+use Rattle.dav_path_core.proofs.paths.SubtreePaths.{in_left, in_one, in_right, pair_at}
+use Rattle.dav_session_core.proofs.SubtreeLemmas.{last_bare, walk_left}
+use Rattle.dav_files_core.proofs.paths.RemovedMaps.{above_other, above_out, front_none, folder_inside}
 
 -- ---- one place of a map that is taken away
 
@@ -76,7 +46,7 @@ module _ (m : ResourceMap) (q : Path) (now : ℕ) where
   bare = without m q
 
   abbrev taken : ResourceMap
-  taken = touched bare (parent q) now
+  taken = with_modified_time bare (parent q) now
 
   pub can_remove : IsSome (at_path m q) → q ≢ [] → has_members m q ≡ false → remove m q now ≡ done taken
   can_remove there no_root alone = by (at_path m q) there (no_root_test q no_root)
@@ -96,13 +66,13 @@ module _ (m : ResourceMap) (q : Path) (now : ℕ) where
   taken_other : (p : Path) → p ≢ q → p ≢ parent q → at_path taken p ≡ at_path m p
   taken_other p other above = touched_other bare (parent q) now p above ∙ get_left path_total path_exact m.entries q p other
 
-  taken_above : q ≢ [] → at_path taken (parent q) ≡ option_map (dated now) (at_path m (parent q))
+  taken_above : q ≢ [] → at_path taken (parent q) ≡ option_map (dated_entry now) (at_path m (parent q))
   taken_above no_root =
-      by (at_path bare (parent q)) refl ∙ ap (option_map (dated now)) (get_left path_total path_exact m.entries q (parent q) (above_other q no_root))
+      by (at_path bare (parent q)) refl ∙ ap (option_map (dated_entry now)) (get_left path_total path_exact m.entries q (parent q) (above_other q no_root))
     where
-      by : (o : Option Resource) → at_path bare (parent q) ≡ o → at_path (touched_at bare (parent q) now o) (parent q) ≡ option_map (dated now) o
+      by : (o : Option Resource) → at_path bare (parent q) ≡ o → at_path (touched_at bare (parent q) now o) (parent q) ≡ option_map (dated_entry now) o
       by None here = here
-      by (Some r) here = get_same path_total path_exact bare.entries (parent q) (dated now r)
+      by (Some r) here = get_same path_total path_exact bare.entries (parent q) (dated_entry now r)
 
   -- something stands elsewhere exactly where it stood
   taken_stands : q ≢ [] → (p : Path) → p ≢ q → IsSome (at_path taken p) ↔ IsSome (at_path m p)
@@ -115,7 +85,7 @@ module _ (m : ResourceMap) (q : Path) (now : ℕ) where
         let e = ap is_some (taken_other p other above) in ((λ h. sym e ∙ h), λ h. e ∙ h)
   ]
     where
-      still : (o : Option Resource) → is_some (option_map (dated now) o) ≡ is_some o
+      still : (o : Option Resource) → is_some (option_map (dated_entry now) o) ≡ is_some o
       still None = refl
       still (Some r) = refl
 
@@ -128,14 +98,14 @@ module _ (last : Path) (locks : List Lock) where
       (λ below. true≢false (sym (is_front-trans last (lock_path l) q below (covers_here l q covered)) ∙ out)))
 
   held_stays : (q : Path) (who : LocksCaller) → is_front last q ≡ false → any_held (without_below last locks) q who ≡ any_held locks q who
-  held_stays q who out = any-filter_same (λ l. covers l q && held l who) (λ l. not (is_at_or_below l last)) true
-      (λ l h. covering_stays q out l (and_parts (covers l q) (held l who) h).0) locks
+  held_stays q who out = any-filter_same (λ l. covers l q && is_held_by l who) (λ l. not (is_at_or_below l last)) true
+      (λ l h. covering_stays q out l (and_parts (covers l q) (is_held_by l who) h).0) locks
 
   pub free_stays : (q : Path) (deep : Bool) (who : LocksCaller) → is_front last q ≡ false → check_conflicts locks q deep who ≡ []
       → check_conflicts (without_below last locks) q deep who ≡ []
   free_stays q deep who out free =
       filter_agree (refuses_change (without_below last locks) q deep who) (refuses_change locks q deep who)
-      (λ l. ap (λ b. not (held l who) && ((covers l q && (not l.shared || not b)) || (deep && is_at_or_below l q))) (held_stays q who out)) (without_below last locks)
+      (λ l. ap (λ b. not (is_held_by l who) && ((covers l q && (not l.shared || not b)) || (deep && is_at_or_below l q))) (held_stays q who out)) (without_below last locks)
       ∙ filter_none (refuses_change locks q deep who) (without_below last locks)
       (all_filter (λ l. refuses_change locks q deep who l ≡ false) (λ l. not (is_at_or_below l last)) locks (none_passes (refuses_change locks q deep who) locks free))
 
@@ -205,7 +175,7 @@ removal_done who s s' last (Err OutOfMemory) free can h = absurd (h.0 free)
 -- something is left to be taken away, and all else stands as it did
 pub record IsLeft (who : Caller) (p : Path) (s : State) (left : List Path) (t : State) : Type 0 where
   pub stands : IsSome (at_path t.map p)
-  pub walk : IsWalk t.map p left
+  pub walk : IsSubtreeWalk t.map p left
   pub free : refusing_removal (live who.now t) who left ≡ []
   pub above : at_path t.map (parent p) ≡ at_path s.map (parent p)
   pub others : (q : Path) → is_front p q ≡ false → at_path t.map q ≡ at_path s.map q
@@ -215,7 +185,7 @@ pub record IsLeft (who : Caller) (p : Path) (s : State) (left : List Path) (t : 
 abbrev pub Removing : Caller → Path → State → List Path → State → Type 0
 Removing who p s left t = IsLeft who p s left t ⊎ ((left ≡ []) × IsRemoved who.now p s t)
 
-pub removing_begun : (who : Caller) (p : Path) (start : State) (places : List Path) → IsSome (at_path start.map p) → IsWalk start.map p places
+pub removing_begun : (who : Caller) (p : Path) (start : State) (places : List Path) → IsSome (at_path start.map p) → IsSubtreeWalk start.map p places
     → refusing_removal (live who.now start) who places ≡ [] → Removing who p (live who.now start) places start
 removing_begun who p start places stood walk free = inl (record { stands = stood; walk = walk; free = free; above = refl; others = λ q out. refl; locks = refl; rng = refl })
 
@@ -256,7 +226,7 @@ module _ (who : Caller) (p : Path) (s t t' : State) (before : List Path) (last :
     gone_all same none = record {
       gone = gone;
       above = ap (λ x. at_path t'.map (parent x)) (sym same) ∙ ap (λ (n : ResourceMap). at_path n (parent last)) k.map_is ∙ taken_above t.map last who.now last_no_root
-          ∙ ap (λ x. option_map (dated who.now) (at_path t.map (parent x))) same ∙ ap (option_map (dated who.now)) h.above;
+          ∙ ap (λ x. option_map (dated_entry who.now) (at_path t.map (parent x))) same ∙ ap (option_map (dated_entry who.now)) h.above;
       others = λ q out above. elsewhere q (out_last q out) (λ e. above (e ∙ ap parent same)) ∙ h.others q out;
       locks = k.locks_are ∙ ap (λ x. without_below x locks) same ∙ h.locks;
       rng = k.rng_is ∙ h.rng;
@@ -279,7 +249,7 @@ module _ (who : Caller) (p : Path) (s t t' : State) (before : List Path) (last :
     gone_one : last ≢ p → IsLeft who p s before t'
     gone_one other = record {
       stands = subst (λ (n : ResourceMap). IsSome (at_path n p)) (sym k.map_is) ((taken_stands t.map last who.now last_no_root p (λ e. other (sym e))).1 h.stands);
-      walk = subst (λ n. IsWalk n p before) (sym k.map_is)
+      walk = subst (λ n. IsSubtreeWalk n p before) (sym k.map_is)
           (walk_left t.map (taken t.map last who.now) p last before h.walk (taken_here t.map last who.now) (taken_stands t.map last who.now last_no_root));
       free = subst (λ ls. refusing ls (as_caller who) (flat_map (λ q. member q true) before) ≡ []) kept
           (removal_stays last locks (as_caller who) before (λ q i. pair_at (λ q r. is_front r q ≡ false) before last q h.walk.order i) parts.0);

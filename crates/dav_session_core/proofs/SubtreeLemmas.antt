@@ -1,32 +1,20 @@
 -- How all that stands below a path is gathered: what is done, and what waits.
-use Rattle.std.proofs.Common.{◌≡◌, ◌≢◌, ◌⊎◌, inl, inr, ℕ, zero, suc, ◌↔◌, ◌<◌, ◌≤◌, Bool, true, false, cond, List, [], ◌∷◌, ◌++◌, length, map, Option, Some, None, is_some, Result, Ok, Err, refl, sym, ap, ◌∙◌, subst, append_assoc, append-nil, length-append, arith}
-use Rattle.std.specs.Prelude.{Contains, IsSome, T, option_map, slice_index_or}
-use Rattle.std.specs.List.{AllPairs, list_any}
-use Rattle.std.specs.declared.cmp.Ordering.{Ordering}
-use Rattle.std.specs.Cmp.{tied_itself}
-use Rattle.std.specs.Ordering.{eq_by_cmp, is_lt}
-use Rattle.std.specs.FinMap.{IsAntisymmetric, entries, entries_sorted, find, get-entries, is_sorted}
-use Rattle.std.specs.FinMap.Entries.{below_all}
-use Rattle.std.proofs.lemmas.Bool.{cases_Bool, false≢true, true≢false, false_from_ne_true, or_left, or_right}
+use Rattle.std.proofs.Common.{◌≡◌, ◌≢◌, ◌⊎◌, inl, inr, ◌↔◌, ◌<◌, Bool, true, false, List, [], ◌∷◌, ◌++◌, map, Option, Some, None, is_some, Ok, refl, sym, ap, ◌∙◌, subst, append_assoc, append-nil}
+use Rattle.std.specs.Prelude.{Contains, IsSome, T, slice_index_or}
+use Rattle.std.specs.List.{list_any}
+use Rattle.std.specs.FinMap.{entries, entries_sorted, get-entries, is_sorted}
+use Rattle.std.proofs.lemmas.Bool.{true≢false, false_from_ne_true}
 use Rattle.std.proofs.lemmas.List.{map-append}
-use Rattle.std.proofs.lemmas.List.Elements.{All-contains_itself}
-use Rattle.std.proofs.lemmas.Simd.{map-map}
-use Rattle.std.proofs.lemmas.List.Kept.{AllPairs-cons}
 use Rattle.dav_path_core.specs.Fronts.{Segment, Path, segment_cmp, behind, is_front}
-use Rattle.dav_path_core.proofs.lists.Every.{Every, first_so, second_so}
+use Rattle.dav_path_core.proofs.lists.Every.{first_so, second_so}
 use Rattle.dav_path_core.proofs.lists.MemberLemmas.{In, In-Contains, Contains-In, find_any}
-use Rattle.dav_path_core.proofs.lists.Orders.{path_exact, segment_exact, segment_total, eq_by_cmp_true}
-use Rattle.dav_path_core.proofs.lists.Snoc.{by_last, snoc_front, snoc_last}
-use Rattle.dav_path_core.proofs.paths.FrontLemmas.{behind_append, behind_is, is_front-refl, is_front-trans}
-use Rattle.dav_path_core.specs.declared.errors.FsError.{FsError}
-use Rattle.dav_path_core.specs.Reading.{CanBeSegment}
+use Rattle.dav_path_core.proofs.lists.Orders.{path_exact, segment_exact}
+use Rattle.dav_path_core.proofs.paths.FrontLemmas.{is_front-refl, is_front-trans}
+use Rattle.dav_path_core.specs.PathReading.{CanBeSegment}
 use Rattle.dav_files_core.specs.declared.memfs.listing.MemFsEntry.{MemFsEntry}
-use Rattle.dav_files_core.specs.Listing.{entry_of, listed, read_dir}
-use Rattle.dav_files_core.specs.Meta.{Meta as Known, meta_at, meta_of}
-use Rattle.dav_files_core.specs.Outcomes.{◌>>=◌, find_folder}
+use Rattle.dav_files_core.specs.Listing.{listed_entry, read_dir}
 use Rattle.dav_files_core.specs.Finding.{members, has_members}
 use Rattle.dav_files_core.specs.Resources.{Resource, ResourceMap, at_path, IsResourceMap}
-use Rattle.dav_files_core.proofs.listings.DescribingLemmas.{all_stand}
 use Rattle.dav_files_core.proofs.listings.MemberLemmas.{get-members}
 use Rattle.dav_files_core.proofs.moves.MovingLemmas.{front_there}
 use Rattle.dav_files_core.proofs.walks.HasMembersLemmas.{has_none}
@@ -34,129 +22,15 @@ use Rattle.dav_resource_core.specs.Step.{State}
 use Rattle.dav_faults_core.specs.declared.faults.Fault.{Fault}
 use Rattle.dav_faults_core.specs.declared.faults.Fault.TheVariants as fault
 use Rattle.dav_session_core.specs.Callers.{Caller}
-use Rattle.dav_files_core.specs.declared.memfs.MemFsMeta.{MemFsMeta}
 use Rattle.dav_session_core.proofs.ConditionLemmas.{Looks}
-use Rattle.dav_session_core.specs.Subtrees.{HasOddName, IsWalk}
+use Rattle.dav_session_core.specs.Subtrees.{HasOddName, IsSubtreeWalk}
 use Rattle.dav_session_core.specs.Private.Gathering.{HasOddMember, MembersAre, paths_in}
-
--- ---- elements of lists that are put together
-
-module _ {A : Type 0} where
-  pub in_either : (x : A) (xs ys : List A) → In x (xs ++ ys) → In x xs ⊎ In x ys
-  in_either x [] ys i = inr i
-  in_either x (y ∷ xs) ys i = elim i [
-    | inl e ↦ inl (inl e)
-    | inr j ↦ elim (in_either x xs ys j) [ inl k ↦ inl (inr k) | inr k ↦ inr k ]
-  ]
-
-  pub in_left : (x : A) (xs ys : List A) → In x xs → In x (xs ++ ys)
-  in_left x [] ys i = absurd i
-  in_left x (y ∷ xs) ys i = elim i [ inl e ↦ inl e | inr j ↦ inr (in_left x xs ys j) ]
-
-  pub in_right : (x : A) (xs ys : List A) → In x ys → In x (xs ++ ys)
-  in_right x [] ys i = i
-  in_right x (y ∷ xs) ys i = inr (in_right x xs ys i)
-
-  pub in_one : (x y : A) → In x (y ∷ []) → y ≡ x
-  in_one x y i = elim i [ inl e ↦ e | inr j ↦ absurd j ]
-
-  -- what holds of each element and each later one
-  abbrev pub Later : (A → A → Type 0) → List A → Type 0
-  Later R [] = Unit {0}
-  Later R (x ∷ xs) = ((y : A) → In y xs → R x y) × Later R xs
-
-  module _ (R : A → A → Type 0) where
-    later_both : (xs ys : List A) → Later R xs → Later R ys → ((x y : A) → In x xs → In y ys → R x y) → Later R (xs ++ ys)
-    later_both [] ys h k cross = k
-    later_both (x ∷ xs) ys h k cross =
-        ((λ y i. elim (in_either y xs ys i) [ inl j ↦ h.0 y j | inr j ↦ cross x y (inl refl) j ]), later_both xs ys h.1 k (λ a b i j. cross a b (inr i) j))
-
-    later_front : (xs ys : List A) → Later R (xs ++ ys) → Later R xs
-    later_front [] ys h = tt
-    later_front (x ∷ xs) ys h = ((λ y i. h.0 y (in_left y xs ys i)), later_front xs ys h.1)
-
-    later_cross : (xs ys : List A) (x y : A) → Later R (xs ++ ys) → In x xs → In y ys → R x y
-    later_cross [] ys x y h i j = absurd i
-    later_cross (z ∷ xs) ys x y h i j = elim i [
-      | inl e ↦ subst (λ w. R w y) e (h.0 y (in_right y xs ys j))
-      | inr k ↦ later_cross xs ys x y h.1 k j
-    ]
-
-    pub later_pairs : (xs : List A) → Later R xs → AllPairs R xs
-    later_pairs [] h = λ i j d lt inside. absurd (omega arith)
-    later_pairs (x ∷ xs) h = AllPairs-cons R x xs (λ i d inside. h.0 _ (In-Contains xs _ (All-contains_itself xs i d inside))) (later_pairs xs h.1)
-
--- ---- paths at or below others
-
-pub some_of : {A : Type 0} (o : Option A) → IsSome o → (x : A) × (o ≡ Some x)
-some_of (Some x) h = (x, refl)
-some_of None h = absurd (false≢true h)
-
-pub rest_of : (a q : Path) → is_front a q ≡ true → (s : Path) × (q ≡ a ++ s)
-rest_of a q h = let s = some_of (behind a q) h in (s.0, behind_is a q s.0 s.1)
-
-pub front_of : (a s : Path) → is_front a (a ++ s) ≡ true
-front_of a s = ap is_some (behind_append a s)
-
--- a member is not above its folder
-member_longer : (p : Path) (s : Segment) → is_front (p ++ (s ∷ [])) p ≡ false
-member_longer p s = false_from_ne_true _ (λ h.
-    let r = rest_of (p ++ (s ∷ [])) p h in
-    absurd (omega (arith, ap length r.1, length-append (p ++ (s ∷ [])) r.0, length-append p (s ∷ []))))
-
--- what a member is at or below
-pub member_below : (x p : Path) (s : Segment) → is_front x (p ++ (s ∷ [])) ≡ true → (is_front x p ≡ true) ⊎ (x ≡ p ++ (s ∷ []))
-member_below x p s h =
-    let r = rest_of x (p ++ (s ∷ [])) h in
-    elim (by_last r.0) [
-      | inl none ↦ inr (sym (append-nil x) ∙ ap (λ t. x ++ t) (sym none) ∙ sym r.1)
-      | inr l ↦
-          let split : p ++ (s ∷ []) ≡ (x ++ l.0) ++ (l.1 ∷ []) = r.1 ∙ ap (λ t. x ++ t) l.2 ∙ sym (append_assoc x l.0 (l.1 ∷ [])) in
-          inl (subst (λ q. is_front x q ≡ true) (sym (snoc_front p (x ++ l.0) s l.1 split)) (front_of x l.0))
-    ]
-
--- neither is at or below the other
-abbrev Apart : Path → Path → Type 0
-Apart x y = (is_front x y ≡ false) × (is_front y x ≡ false)
-
--- paths of which one is at or below the other are not apart
-not_front : (x y q : Path) → is_front x y ≡ false → is_front x q ≡ true → is_front q y ≡ true → ⊥
-not_front x y q apart h k = absurd (true≢false (sym (is_front-trans x q y h k) ∙ apart))
-
--- a member is apart from what its folder is apart from
-apart_member : (x p : Path) (s : Segment) → Apart x p → Apart x (p ++ (s ∷ []))
-apart_member x p s apart = (
-  false_from_ne_true _ (λ h. elim (member_below x p s h) [
-    | inl k ↦ true≢false (sym k ∙ apart.0)
-    | inr e ↦ true≢false (sym (subst (λ y. is_front p y ≡ true) (sym e) (front_of p (s ∷ []))) ∙ apart.1)
-  ]),
-  false_from_ne_true _ (λ h. not_front p x (p ++ (s ∷ [])) apart.1 (front_of p (s ∷ [])) h),
-)
-
--- two members are apart
-apart_members : (p : Path) (s t : Segment) → s ≢ t → Apart (p ++ (s ∷ [])) (p ++ (t ∷ []))
-apart_members p s t other = (one s t other, one t s (λ e. other (sym e)))
-  where
-    one : (s t : Segment) → s ≢ t → is_front (p ++ (s ∷ [])) (p ++ (t ∷ [])) ≡ false
-    one s t other = false_from_ne_true _ (λ h. elim (member_below (p ++ (s ∷ [])) p t h) [
-      | inl k ↦ true≢false (sym k ∙ member_longer p s)
-      | inr e ↦ other (snoc_last p p s t e)
-    ])
+use Rattle.dav_path_core.proofs.paths.SubtreePaths.{in_either, in_left, in_right, in_one, Later, some_of, rest_of, front_of, member_longer, Apart, not_front, apart_member, apart_members, pair_at, pairs_front, found_in, later_both, later_cross, later_front, later_pairs, one_fewer, any_of}
+use Rattle.dav_files_core.proofs.paths.SubtreeMaps.{not_below_itself, name_stands, Walking, left_below, names_told}
 
 -- ---- what stands last
 
-last_at : {A : Type 0} (xs : List A) (last d : A) → slice_index_or (xs ++ (last ∷ [])) (length xs) d ≡ last
-last_at [] last d = refl
-last_at (x ∷ xs) last d = last_at xs last d
-
-pub pair_at : {A : Type 0} (R : A → A → Type 0) (xs : List A) (last x : A) → AllPairs R (xs ++ (last ∷ [])) → In x xs → R x last
-pair_at R [] last x all i = absurd i
-pair_at R (y ∷ xs) last x all i = elim i [
-  | inl e ↦ subst (λ z. R z last) e (subst (R y) (last_at xs last y) (all 0 (suc (length xs)) y (omega arith) (omega (arith, length-append xs (last ∷ [])))))
-  | inr k ↦ pair_at R xs last x (λ i j d lt inside. all (suc i) (suc j) d (omega arith) (omega arith)) k
-]
-
-pub last_bare : (m : ResourceMap) (p last : Path) (before : List Path) → IsWalk m p (before ++ (last ∷ [])) → has_members m last ≡ false
+pub last_bare : (m : ResourceMap) (p last : Path) (before : List Path) → IsSubtreeWalk m p (before ++ (last ∷ [])) → has_members m last ≡ false
 last_bare m p last before walk = has_none m last (λ s. by s (at_path m (last ++ (s ∷ []))) refl)
   where
     by : (s : Segment) (o : Option Resource) → at_path m (last ++ (s ∷ [])) ≡ o → o ≡ None
@@ -170,19 +44,9 @@ last_bare m p last before walk = has_none m last (λ s. by s (at_path m (last ++
           | inr i ↦ (let same : last ≡ child = in_one child last i in true≢false (sym (subst (λ q. is_front q last ≡ true) same (is_front-refl last)) ∙ member_longer last s))
         ])
 
-get_front : {A : Type 0} (xs ys : List A) (i : ℕ) (d : A) → i < length xs → slice_index_or (xs ++ ys) i d ≡ slice_index_or xs i d
-get_front [] ys i d lt = absurd (omega (arith, lt))
-get_front (x ∷ xs) ys zero d lt = refl
-get_front (x ∷ xs) ys (suc i) d lt = get_front xs ys i d (omega (arith, lt))
-
-pairs_front : {A : Type 0} (R : A → A → Type 0) (xs ys : List A) → AllPairs R (xs ++ ys) → AllPairs R xs
-pairs_front R xs ys all = λ i j d lt inside.
-    subst (λ x. R x (slice_index_or xs j d)) (get_front xs ys i d (omega (arith, lt, inside)))
-    (subst (R (slice_index_or (xs ++ ys) i d)) (get_front xs ys j d inside) (all i j d lt (omega (arith, inside, length-append xs ys))))
-
 -- once it is gone, what stands before it is a walk of what is left
-pub walk_left : (m after : ResourceMap) (p last : Path) (before : List Path) → IsWalk m p (before ++ (last ∷ [])) → at_path after last ≡ None
-    → ((q : Path) → q ≢ last → IsSome (at_path after q) ↔ IsSome (at_path m q)) → IsWalk after p before
+pub walk_left : (m after : ResourceMap) (p last : Path) (before : List Path) → IsSubtreeWalk m p (before ++ (last ∷ [])) → at_path after last ≡ None
+    → ((q : Path) → q ≢ last → IsSome (at_path after q) ↔ IsSome (at_path m q)) → IsSubtreeWalk after p before
 walk_left m after p last before walk gone same = record {
   members = λ q. (stands q, listed_before q);
   once = pairs_front (λ q r. q ≢ r) before (last ∷ []) walk.once;
@@ -202,23 +66,6 @@ walk_left m after p last before walk gone same = record {
           | inl i ↦ Contains-In before q i
           | inr i ↦ absurd (other (sym (in_one q last i)))
         ]
-
--- ---- keys of entries
-
-found_in : {K X : Type 0} {R : K → K → Ordering} → IsAntisymmetric R → (es : List (K × X)) (k : K) (v : X) → find R k es ≡ Some v → In k (map (λ (e : K × X). e.0) es)
-found_in exact [] k v h = absurd (cc)
-found_in {R = R} exact (e ∷ es) k v h = elim (cases_Bool (eq_by_cmp R k e.0)) [
-  | inl t ↦ inl (sym (eq_by_cmp_true exact k e.0 t))
-  | inr f ↦ inr (found_in exact es k v (subst (λ b. cond b (Some e.1) (find R k es) ≡ Some v) f h))
-]
-
--- a name that is below others is none of them
-not_below_itself : (k s : Segment) (es : List (Segment × Resource)) → T (below_all segment_cmp k es) → In s (map (λ (e : Segment × Resource). e.0) es) → k ≢ s
-not_below_itself k s [] h i = absurd i
-not_below_itself k s (e ∷ es) h i = elim i [
-  | inl is ↦ λ same. subst T (ap is_lt (ap (segment_cmp k) (is ∙ sym same) ∙ tied_itself segment_total k)) (first_so _ _ h)
-  | inr j ↦ not_below_itself k s es (second_so _ _ h) j
-]
 
 -- ---- members
 
@@ -243,18 +90,6 @@ paths_apart p (e ∷ es) h = (
   (λ q i. let r = name_in_path p q _ i in subst (Apart (p ++ (e.0 ∷ []))) (sym r.2) (apart_members p e.0 r.0 (not_below_itself e.0 r.0 es (first_so _ _ h) r.1))),
   paths_apart p es (second_so _ _ h),
 )
-
--- something stands at the name of a member
-name_stands : (m : ResourceMap) (p : Path) (s : Segment) → In s (map (λ (e : Segment × Resource). e.0) (entries (members m p))) → IsSome (at_path m (p ++ (s ∷ [])))
-name_stands m p s i = by (entries (members m p)) (all_stand m p) i
-  where
-    by : (es : List (Segment × Resource)) → Every (λ (e : Segment × Resource). at_path m (p ++ (e.0 ∷ [])) ≡ Some e.1) es → In s (map (λ (e : Segment × Resource). e.0) es)
-        → IsSome (at_path m (p ++ (s ∷ [])))
-    by [] h i = absurd i
-    by (e ∷ es) h i = elim i [
-      | inl is ↦ subst (λ t. IsSome (at_path m (p ++ (t ∷ [])))) is (ap is_some h.0)
-      | inr j ↦ by es h.1 j
-    ]
 
 module _ (m : ResourceMap) (p : Path) where
   -- what is known of gathered members
@@ -282,13 +117,6 @@ module _ (m : ResourceMap) (p : Path) where
 
 -- ---- what is done, and what waits
 
-pub record Walking (m : ResourceMap) (p : Path) (done waiting : List Path) : Type 0 where
-  stand : (q : Path) → In q done ⊎ In q waiting → (is_front p q ≡ true) × IsSome (at_path m q)
-  all : IsResourceMap m → (q : Path) → is_front p q ≡ true → IsSome (at_path m q) → In q done ⊎ ((x : Path) × In x waiting × (is_front x q ≡ true))
-  order : Later (λ q r. is_front r q ≡ false) done
-  behind : (q x : Path) → In q done → In x waiting → is_front x q ≡ false
-  apart : Later Apart waiting
-
 module _ (m : ResourceMap) (p : Path) where
   pub walk_begun : IsSome (at_path m p) → Walking m p [] (p ∷ [])
   walk_begun here = record {
@@ -303,7 +131,7 @@ module _ (m : ResourceMap) (p : Path) where
   }
 
   -- all are done
-  pub walk_done : (done : List Path) → Walking m p done [] → IsResourceMap m → IsWalk m p done
+  pub walk_done : (done : List Path) → Walking m p done [] → IsResourceMap m → IsSubtreeWalk m p done
   walk_done done w is_map = record {
     members = λ q. (
       (λ h. w.stand q (inl (In-Contains done q h))),
@@ -383,41 +211,6 @@ module _ (m : ResourceMap) (p : Path) where
 
 -- ---- that it ends: fewer entries are at or below what waits
 
-counted : {A : Type 0} → (A → Bool) → List A → ℕ
-counted test [] = 0
-counted test (x ∷ xs) = cond (test x) (suc (counted test xs)) (counted test xs)
-
-module _ {A : Type 0} (less more : A → Bool) (weaker : (x : A) → less x ≡ true → more x ≡ true) where
-  no_more : (xs : List A) → counted less xs ≤ counted more xs
-  unfolding counted
-  no_more [] = omega arith
-  no_more (x ∷ xs) = let rest = no_more xs in elim (cases_Bool (less x)) [
-    | inl t ↦ rw (t, weaker x t) (omega (arith, rest))
-    | inr f ↦ rw f (elim (more x) as (λ b. counted less xs ≤ cond b (suc (counted more xs)) (counted more xs)) [ true ↦ omega (arith, rest) | false ↦ rest ])
-  ]
-
-  one_fewer : (xs : List A) (x : A) → In x xs → less x ≡ false → more x ≡ true → counted less xs < counted more xs
-  unfolding counted
-  one_fewer [] x i f t = absurd i
-  one_fewer (y ∷ xs) x i f t = elim i [
-    | inl e ↦ rw (ap less e ∙ f, ap more e ∙ t) (let rest = no_more xs in omega (arith, rest))
-    | inr j ↦ (let rest = one_fewer xs x j f t in elim (cases_Bool (less y)) [
-      | inl g ↦ rw (g, weaker y g) (omega (arith, rest))
-      | inr g ↦ rw g (elim (more y) as (λ b. counted less xs < cond b (suc (counted more xs)) (counted more xs)) [ true ↦ omega (arith, rest) | false ↦ rest ])
-    ])
-  ]
-
--- how many entries are at or below one of the paths
-pub left_below : ResourceMap → List Path → ℕ
-left_below m waiting = counted (λ q. list_any (λ x. is_front x q) waiting) (map (λ (e : Path × Resource). e.0) (entries m.entries))
-
-any_of : {A : Type 0} (test : A → Bool) (xs : List A) (x : A) → In x xs → test x ≡ true → list_any test xs ≡ true
-any_of test [] x i h = absurd i
-any_of test (y ∷ xs) x i h = elim i [
-  | inl e ↦ or_left (test y) (list_any test xs) (ap test e ∙ h)
-  | inr j ↦ or_right (test y) (list_any test xs) (any_of test xs x j h)
-]
-
 pub fewer_left : (m : ResourceMap) (p : Path) (done rest paths : List Path) (place : Path) → Walking m p done (rest ++ (place ∷ [])) → MembersAre m place paths
     → left_below m (rest ++ paths) < left_below m (rest ++ (place ∷ []))
 unfolding left_below
@@ -457,27 +250,11 @@ fewer_left m p done rest paths place w are =
 
 -- ---- what a listing tells of members
 
--- the names that a listing has are those of the members
-listed_names : (m : ResourceMap) (p : Path) (told : List (Segment × Known)) → read_dir m p ≡ Ok told
-    → map (λ (e : Segment × Known). e.0) told ≡ map (λ (e : Segment × Resource). e.0) (entries (members m p))
-listed_names m p told h = by (find_folder m p) h
-  where
-    by : (r : Result Resource FsError) → (r >>= λ (_ : Resource). Ok (map listed (entries (members m p)))) ≡ Ok told
-        → map (λ (e : Segment × Known). e.0) told ≡ map (λ (e : Segment × Resource). e.0) (entries (members m p))
-    by (Ok r) e =
-        let same : map listed (entries (members m p)) ≡ told = cc in
-        ap (map (λ (e : Segment × Known). e.0)) (sym same) ∙ map-map (λ (e : Segment × Known). e.0) listed (entries (members m p))
-    by (Err x) e = absurd (cc)
-
-names_told : (m : ResourceMap) (p : Path) (items : List MemFsEntry) → read_dir m p ≡ Ok (map entry_of items)
-    → map (λ e. e.name) items ≡ map (λ (e : Segment × Resource). e.0) (entries (members m p))
-names_told m p items h = sym (map-map (λ (e : Segment × Known). e.0) entry_of items) ∙ listed_names m p (map entry_of items) h
-
-pub members_told : (m : ResourceMap) (p : Path) (items : List MemFsEntry) (paths : List Path) → read_dir m p ≡ Ok (map entry_of items)
+pub members_told : (m : ResourceMap) (p : Path) (items : List MemFsEntry) (paths : List Path) → read_dir m p ≡ Ok (map listed_entry items)
     → paths ≡ paths_in p (map (λ e. e.name) items) → MembersAre m p paths
 members_told m p items paths h is = inl (is ∙ ap (paths_in p) (names_told m p items h))
 
-pub odd_told : (m : ResourceMap) (p : Path) (items : List MemFsEntry) (entry : MemFsEntry) → read_dir m p ≡ Ok (map entry_of items)
+pub odd_told : (m : ResourceMap) (p : Path) (items : List MemFsEntry) (entry : MemFsEntry) → read_dir m p ≡ Ok (map listed_entry items)
     → Contains items entry → ¬ CanBeSegment entry.name → HasOddMember m p
 odd_told m p items entry h there odd =
     (entry.name, name_stands m p entry.name (subst (In entry.name) (names_told m p items h) (in_map items (In-Contains items entry there))), odd)
@@ -490,16 +267,6 @@ odd_told m p items entry h there odd =
 
 pub same_map : (who : Caller) (s : State) (mid : Caller) (m : State) → Looks who s mid m → m.map ≡ s.map
 same_map who s mid m h = ap (λ (x : State). x.map) h.live
-
--- something is known of what stands there
-pub stands_as : (result : Option MemFsMeta) (o : Option Resource) → option_map meta_of result ≡ option_map (λ (r : Resource). meta_at r.node) o → is_some result ≡ true → IsSome o
-stands_as (Some x) (Some r) h e = refl
-stands_as (Some x) None h e = absurd (cc)
-stands_as None o h e = absurd (false≢true e)
-
-pub nothing_left : {A : Type 0} (xs : List A) (n : ℕ) → n ≡ length xs → n ≡ 0 → xs ≡ []
-nothing_left [] n h e = refl
-nothing_left (x ∷ xs) n h e = absurd (omega arith)
 
 module _ {A : Type 0} (f : A → Path) (m : ResourceMap) where
   pub begin : (place : A) (places none waiting : List A) → places ≡ [] → none ≡ [] → waiting ≡ none ++ (place ∷ []) → IsSome (at_path m (f place))
@@ -544,7 +311,7 @@ module _ {A : Type 0} (f : A → Path) (m : ResourceMap) where
           (subst (λ xs. left_below m xs < left_below m (map f rest ++ (f place ∷ []))) (sym (ap (map f) is ∙ map-append f rest members))
           (fewer_left m p (map f done) (map f rest) (map f members) (f place) apart_now (subst (λ n. MembersAre n (f place) (map f members)) same are)))
 
-  pub ended : (p : Path) (done waiting : List A) → waiting ≡ [] → Walking m p (map f done) (map f waiting) → IsResourceMap m → IsWalk m p (map f done)
+  pub ended : (p : Path) (done waiting : List A) → waiting ≡ [] → Walking m p (map f done) (map f waiting) → IsResourceMap m → IsSubtreeWalk m p (map f done)
   ended p done waiting none w = walk_done m p (map f done) (subst (λ xs. Walking m p (map f done) (map f xs)) none w)
 
 -- ---- something stands at each member

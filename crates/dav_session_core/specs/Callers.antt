@@ -9,7 +9,7 @@ use Rattle.dav_files_core.specs.Resources.{IsResourceMap}
 use Rattle.dav_locks_core.specs.Ended.{StandIn}
 use Rattle.dav_locks_core.specs.Exclusive.{Exclusive}
 use Rattle.dav_locks_core.specs.Lock.{Lock}
-use Rattle.dav_locks_core.specs.Locks.{Caller as LocksCaller, check_conflicts, covers, held, same_text}
+use Rattle.dav_locks_core.specs.Locks.{LockCaller as LocksCaller, check_conflicts, covers, is_held_by, same_text}
 use Rattle.dav_locks_core.specs.Stale.{is_stale, without_stale}
 use Rattle.dav_resource_core.specs.Requests.{Command, Request, Answer}
 use Rattle.dav_resource_core.specs.Step.{State, Run}
@@ -72,7 +72,7 @@ as_caller who = record { principal = who.principal; ignore = false; tokens = who
 
 -- the caller is the lock's principal and named its token
 abbrev pub holds : Caller → Lock → Bool
-holds who l = held l (as_caller who)
+holds who l = is_held_by l (as_caller who)
 
 -- the caller is the lock's principal
 abbrev pub is_own : Caller → Lock → Bool

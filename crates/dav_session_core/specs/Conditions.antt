@@ -11,7 +11,7 @@ use Rattle.dav_resource_core.specs.Step.{State}
 use Rattle.dav_fields_core.specs.declared.listed_tags.Comparison.TheVariants.{Strong}
 use Rattle.dav_fields_core.specs.FileTags.{standing_of}
 use Rattle.dav_fields_core.specs.Preconditions.{has_tag}
-use Rattle.dav_fields_core.specs.TaggedLists.{Base, SpeaksOf, spread}
+use Rattle.dav_fields_core.specs.TaggedLists.{Base, SpeaksOf, spread_tags}
 
 -- ---- a condition
 
@@ -52,7 +52,7 @@ ListsAre s base here lists false = NoneHolds s base here lists
 
 -- an `If` holds where one of its lists does
 abbrev pub IfIs : State → Base → Path → List Located → Bool → Type 0
-IfIs s base here lists holds = ListsAre s base here (spread lists) holds
+IfIs s base here lists holds = ListsAre s base here (spread_tags lists) holds
 
 -- ---- the lists as section 10.4.2 puts them together
 
@@ -62,11 +62,11 @@ pub record Production : Type 0 where
   pub first : List Condition
   pub more : List (List Condition)
 
-abbrev pub untagged : List Condition → Located
-untagged conditions = record { tag = None; conditions = conditions }
+abbrev pub untagged_list : List Condition → Located
+untagged_list conditions = record { tag = None; conditions = conditions }
 
 abbrev pub lists_of : Production → List Located
-lists_of production = record { tag = Some production.tag; conditions = production.first } ∷ map untagged production.more
+lists_of production = record { tag = Some production.tag; conditions = production.first } ∷ map untagged_list production.more
 
 -- one of its lists holds
 abbrev pub ProductionIs : State → Base → Path → Bool → Production → Type 0

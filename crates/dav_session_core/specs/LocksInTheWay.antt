@@ -18,10 +18,10 @@ IsRefusedBy locks (fault.Locked path) = IsPathOfOne locks path
 IsRefusedBy locks e = ⊥
 
 -- the path of a lock stands below the other
-abbrev pub is_below : Path → PathText → Bool
-is_below p path = is_front p (segments path.bytes) && not (is_front (segments path.bytes) p)
+abbrev pub is_lock_below : Path → PathText → Bool
+is_lock_below p path = is_front p (segments path.bytes) && not (is_front (segments path.bytes) p)
 
 -- a lock below the path is told as a member's (RFC 4918 sections 9.6.1, 9.8.3 and 9.9.2)
 abbrev pub by_place : Path → Fault → Fault
-by_place p (fault.Locked path) = if is_below p path then fault.MemberLocked path else fault.Locked path
+by_place p (fault.Locked path) = if is_lock_below p path then fault.MemberLocked path else fault.Locked path
 by_place p e = e

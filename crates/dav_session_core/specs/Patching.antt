@@ -1,26 +1,18 @@
--- What a PROPPATCH leaves and tells, and why it is refused (RFC 4918 section 9.2).
-use Rattle.std.specs.Prelude.{◌≡◌, ◌≢◌, ℕ, Bool, true, false, List, [], ◌∷◌, None, Some, IsSome}
+-- How the properties of what stands at a path are changed, and why they aren't (RFC 4918 section 9.2).
+use Rattle.std.specs.Prelude.{◌≡◌, ◌≢◌, List, None, Some}
 use Rattle.dav_path_core.specs.Fronts.{Path}
-use Rattle.dav_path_core.specs.PathText.{PathText}
-use Rattle.dav_path_core.specs.Segments.{segments}
-use Rattle.dav_files_core.specs.Properties.{patched}
+use Rattle.dav_files_core.specs.Properties.{patched_properties}
 use Rattle.dav_files_core.specs.Resources.{Resource, at_path}
 use Rattle.dav_resource_core.specs.Step.{State}
-use Rattle.dav_xml_core.specs.Writing.{written}
 use Rattle.dav_faults_core.specs.declared.faults.Fault.{Fault}
 use Rattle.dav_faults_core.specs.declared.faults.Fault.TheVariants as fault
-use Rattle.dav_session_core.specs.Callers.{Caller, SameLive, refusing_at}
-use Rattle.dav_fields_core.specs.Fields.{Sent}
+use Rattle.dav_session_core.specs.Callers.{Caller, refusing_at}
 use Rattle.dav_session_core.specs.LocksInTheWay.{IsPathOfOne}
-use Rattle.dav_documents_core.specs.PatchBodies.{any_protected, patch_nodes}
-use Rattle.dav_documents_core.specs.RefusalBodies.{xml_type}
-use Rattle.dav_documents_core.specs.PropertyUpdates.{Update, updates_in}
-
--- ---- what is changed
+use Rattle.dav_documents_core.specs.PropertyUpdates.{Update}
 
 -- the properties of a resource, set and removed one after another; its times stay
 abbrev pub with_updates : List Update → Resource → Resource
-with_updates updates r = record r { node = record r.node { props = patched r.node.props updates } }
+with_updates updates r = record r { node = record r.node { props = patched_properties r.node.props updates } }
 
 -- what stands at the path has its properties so, and nothing else has changed
 pub record IsPatched (p : Path) (updates : List Update) (s s' : State) : Type 0 where
@@ -36,29 +28,3 @@ KeepsProperties s who p fault.InsufficientStorage = Unit {0}
 KeepsProperties s who p fault.NotFound = at_path s.map p ≡ None
 KeepsProperties s who p (fault.Locked path) = IsPathOfOne (refusing_at s who p) path
 KeepsProperties s who p e = ⊥
-
--- all or none: where one of the properties is protected, nothing changes
-abbrev pub Changes : Bool → ℕ → Path → List Update → State → State → Type 0
-Changes true now p updates s s' = SameLive now s s'
-Changes false now p updates s s' = IsPatched p updates s s'
-
--- ---- the method
-
--- 207. The body asks for these updates of what stands at the path; no lock refuses it; all or none are done; and which is told by the body of the answer.
-pub record Patches (prefix : List ℕ) (body : List ℕ) (s : State) (who : Caller) (path : PathText) (status : ℕ) (sent : Sent) (s' : State) : Type 0 where
-  pub status_is : status ≡ 207
-  pub updates : List Update
-  pub asks : updates_in body ≡ Some updates
-  pub stood : IsSome (at_path s.map (segments path.bytes))
-  pub free : refusing_at s who (segments path.bytes) ≡ []
-  pub changes : Changes (any_protected updates) who.now (segments path.bytes) updates s s'
-  pub tells : sent.body ≡ written (patch_nodes prefix path updates)
-  pub typed : sent.types ≡ xml_type ∷ []
-
--- Each refusal of a PROPPATCH, and where it comes: first a body that asks for nothing, then that nothing stands there, and then a lock in its way, whose path is told.
-abbrev pub FailsToPatch : List ℕ → State → Caller → Path → Fault → Type 0
-FailsToPatch body s who p fault.InsufficientStorage = Unit {0}
-FailsToPatch body s who p fault.BadRequest = updates_in body ≡ None
-FailsToPatch body s who p fault.NotFound = IsSome (updates_in body) × (at_path s.map p ≡ None)
-FailsToPatch body s who p (fault.Locked path) = IsSome (updates_in body) × IsSome (at_path s.map p) × IsPathOfOne (refusing_at s who p) path
-FailsToPatch body s who p e = ⊥

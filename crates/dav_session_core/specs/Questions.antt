@@ -1,16 +1,16 @@
 -- What questions of a session tell, and why they tell nothing.
-use Rattle.std.specs.Prelude.{◌≡◌, ◌⊎◌, ℕ, Bool, List, Option, None, Some, drop, take}
+use Rattle.std.specs.Prelude.{◌≡◌, ◌⊎◌, Bool, List, Option, None, IsSome}
 use Rattle.rand_core.specs.Stream.{Stream}
 use Rattle.dav_path_core.specs.Fronts.{Path}
 use Rattle.dav_path_core.specs.PathText.{PathText}
 use Rattle.dav_path_core.specs.Segments.{segments}
 use Rattle.dav_files_core.specs.declared.memfs.Kind.{Kind}
-use Rattle.dav_files_core.specs.declared.memfs.Kind.TheVariants.{File}
 use Rattle.dav_files_core.specs.Resources.{Resource, ResourceMap, at_path}
 use Rattle.dav_locks_core.specs.Lock.{Lock}
-use Rattle.dav_locks_core.specs.Locks.{check_conflicts, discovered, lock_conflicts}
+use Rattle.dav_locks_core.specs.Locks.{check_conflicts, discovered_locks, lock_conflicts}
 use Rattle.dav_faults_core.specs.declared.faults.Fault.{Fault}
 use Rattle.dav_faults_core.specs.declared.faults.Fault.TheVariants as fault
+use Rattle.dav_fields_core.specs.Marking.{IsNone}
 use Rattle.dav_session_core.specs.declared.session.Session.{Session}
 use Rattle.dav_session_core.specs.Callers.{as_caller}
 use Rattle.dav_session_core.specs.Clearing.{refusing_anew, refusing_clearing}
@@ -24,22 +24,19 @@ use Rattle.dav_session_core.specs.Subtrees.{HasOddName}
 abbrev pub found_at : {R : Type 0} → (R → Stream) → Session R → PathText → Option Resource
 found_at stream s path = at_path (state stream s).map (segments path.bytes)
 
--- it is a file, and these are its bytes from a place on, so many at most
-abbrev pub IsPartOf : Option Resource → ℕ → ℕ → List ℕ → Type 0
-IsPartOf found at count bytes =
-    (r : Resource) × (found ≡ Some r) × (r.node.kind ≡ File)
-    × (bytes ≡ take count (drop at r.node.bytes))
-
--- nothing of the kind was found, or there is no memory
-abbrev pub LacksKind : Kind → Option Resource → Fault → Type 0
-LacksKind kind found e =
-    (e ≡ fault.InsufficientStorage) ⊎ ((e ≡ fault.NotFound)
-    × ((r : Resource) → found ≡ Some r → ¬ (r.node.kind ≡ kind)))
+-- nothing of the kind stands at the path, or there is no memory
+abbrev pub LacksKind : Kind → ResourceMap → Path → Fault → Type 0
+LacksKind kind m p e = (e ≡ fault.InsufficientStorage) ⊎ ((e ≡ fault.NotFound) × IsNone m p kind)
 
 -- nothing was found, or there is no memory
 abbrev pub LacksAny : Option Resource → Fault → Type 0
 LacksAny found e =
     (e ≡ fault.InsufficientStorage) ⊎ ((e ≡ fault.NotFound) × (found ≡ None))
+
+-- nothing was found, or there is no memory to tell what was found
+abbrev pub FailsToInspect : Option Resource → Fault → Type 0
+FailsToInspect found e =
+    ((e ≡ fault.InsufficientStorage) × IsSome found) ⊎ ((e ≡ fault.NotFound) × (found ≡ None))
 
 -- a name at or below the path is one that no path has which is read, or there is no memory
 abbrev pub FailsToGather : ResourceMap → Path → Fault → Type 0
@@ -56,7 +53,7 @@ FailsToWalk m p e =
 
 -- the locks that cover the path and have not expired
 abbrev pub covering : {R : Type 0} → (R → Stream) → Session R → PathText → List Lock
-covering stream s path = discovered (live_of stream s).locks (segments path.bytes)
+covering stream s path = discovered_locks (live_of stream s).locks (segments path.bytes)
 
 -- those that refuse the caller a change at the path, and where it is deep below it
 abbrev pub against_change : {R : Type 0} → (R → Stream) → Session R → PathText → Bool → List Lock

@@ -6,7 +6,7 @@ use Rattle.dav_resource_core.specs.Stores.{state_of}
 use Rattle.dav_resource_core.specs.Served.{request_of}
 use Rattle.dav_resource_core.specs.Requests as plain
 use Rattle.dav_session_core.specs.declared.session.Session.{Session}
-use Rattle.dav_session_core.specs.Callers.{Asks, Caller, RunBy, SameLive, live}
+use Rattle.dav_session_core.specs.Callers.{Asks, Caller, RunBy, SameLive, live, Runs}
 
 -- of what the generator still gives
 abbrev pub state : {R : Type 0} → (R → Stream) → Session R → State
@@ -44,4 +44,9 @@ pub record Acts {R : Type 0} (stream : R → Stream) (old new : Session R) : Typ
 -- what requests of one caller leave of a session, whatever they are
 pub record Requests {R : Type 0} (stream : R → Stream) (old new : Session R) : Type 0 where
   pub run : Asks (caller old) (state stream old) (state stream new)
+  pub who : caller new ≡ caller old
+
+-- what requests leave of a session, of which some may name one more token
+pub record Ran {R : Type 0} (stream : R → Stream) (old new : Session R) : Type 0 where
+  pub run : Runs (state stream old) (state stream new)
   pub who : caller new ≡ caller old

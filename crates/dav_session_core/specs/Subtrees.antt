@@ -2,10 +2,10 @@
 use Rattle.std.specs.Prelude.{◌≡◌, ◌≢◌, ◌↔◌, true, false, List, [], ◌∷◌, ◌++◌, Contains, IsSome}
 use Rattle.std.specs.List.{AllPairs}
 use Rattle.dav_path_core.specs.Fronts.{Segment, Path, is_front}
-use Rattle.dav_path_core.specs.Reading.{CanBeSegment}
+use Rattle.dav_path_core.specs.PathReading.{CanBeSegment}
 use Rattle.dav_files_core.specs.Resources.{ResourceMap, at_path}
 
-pub record IsWalk (m : ResourceMap) (p : Path) (places : List Path) : Type 0 where
+pub record IsSubtreeWalk (m : ResourceMap) (p : Path) (places : List Path) : Type 0 where
   -- a path is in the list exactly where it is at or below the given one and something stands there
   pub members : (q : Path) → Contains places q ↔ ((is_front p q ≡ true) × IsSome (at_path m q))
   -- no path twice

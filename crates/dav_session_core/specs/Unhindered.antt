@@ -8,10 +8,10 @@ use Rattle.dav_resource_core.specs.Step.{State}
 use Rattle.dav_session_core.specs.declared.session.copying.Transfer.{Transfer}
 use Rattle.dav_session_core.specs.Callers.{Caller}
 use Rattle.dav_session_core.specs.Clearing.{refusing_clearing}
-use Rattle.dav_session_core.specs.Copying.{IsReady, between}
+use Rattle.dav_session_core.specs.Copying.{IsReady, source_and_target}
 use Rattle.dav_session_core.specs.Ends.{GoesFrom}
 use Rattle.dav_session_core.specs.Removing.{refusing_removal}
-use Rattle.dav_session_core.specs.Subtrees.{IsWalk}
+use Rattle.dav_session_core.specs.Subtrees.{IsSubtreeWalk}
 
 -- paths by their segments
 abbrev pub paths_of : List PathText → List Path
@@ -24,7 +24,7 @@ ends_of transfers = map (λ t. (segments t.from.bytes, segments t.to.bytes)) tra
 -- it holds of each path but the root, of which the places are a walk that no lock refuses to remove
 abbrev pub WhereRemovable : State → Caller → List Path → (Path → Type 0) → Type 0
 WhereRemovable s who places Holds =
-    (p : Path) → p ≢ [] → IsSome (at_path s.map p) → IsWalk s.map p places
+    (p : Path) → p ≢ [] → IsSome (at_path s.map p) → IsSubtreeWalk s.map p places
     → refusing_removal s who places ≡ [] → Holds p
 
 -- it holds of each path but the root, from which the places go, and no lock refuses that
@@ -38,4 +38,4 @@ abbrev pub WhereReady : State → Caller → List (Path × Path) → (Bool → P
     → Type 0
 WhereReady s who ends Holds =
     (deep : Bool) (from to : Path) (rests : List Path) → IsReady s who deep from to rests
-    → ends ≡ map (between from to) rests → Holds deep from to
+    → ends ≡ map (source_and_target from to) rests → Holds deep from to

@@ -1,5 +1,7 @@
 //! Who asks, and the stores behind it. All requests of one HTTP request are made by `ask`, so they
 //! are a run of one caller's requests.
+#![tactic(auto, using(crate::proofs::Looking::looks_follow))]
+
 ghost use Rattle.std.specs.Prelude.{◌≡◌, true, false, None, [], IfOk, OnErr, option_map};
 ghost use Rattle.std.specs.Prelude.{string_bytes, map};
 ghost use Rattle.dav_locks_core.specs.Exclusive.{Exclusive};
@@ -86,6 +88,20 @@ impl<R: Rng> Session<R> {
     {
         self.request.command = command;
         self.stores.apply(&self.request, &mut self.rng)
+    }
+
+    /// Makes one request of the caller that ends or refreshes no lock (own). It is answered as by
+    /// `ask`.
+    pub fn change(&mut self, command: Command) -> Result<Reply, Refusal>
+        requires keeps { ends_or_refreshes (command_of command) ≡ false }
+        ensures step { Step (state R.stream self.old)
+            (asking (caller self.old) (command_of command)) (answer_of result)
+            (state R.stream self.new) }
+        ensures acts { Acts R.stream self.old self.new }
+        ensures refused { OnErr result (Looks R.stream self.old self.new) }
+        ensures shape { IsResourceMap (state R.stream self.new).map }
+    {
+        self.ask(command)
     }
 
     /// Names who asks from now on: the principal, the tokens that are submitted, and the moment

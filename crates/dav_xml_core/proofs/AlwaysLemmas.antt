@@ -6,9 +6,9 @@ use Rattle.std.proofs.lemmas.Option.{same_Some}
 use Rattle.std.proofs.lemmas.Slice.Eq.{bytes_eq-Decides}
 use Rattle.dav_xml_core.specs.Markup.{RawAttribute, Piece}
 use Rattle.dav_xml_core.specs.Names.{QName}
-use Rattle.dav_xml_core.specs.Namespaces.{Binding, Started, always_bound, xml_namespace, xmlns_namespace, bound_from, bound, declares, may_bind, binding_of, with_binding, with_bindings, element_name, names_of, are_distinct, attributes_of, started_of}
+use Rattle.dav_xml_core.specs.Namespaces.{Binding, Started, always_bound, xml_namespace, xmlns_namespace, bound_from, bound_namespace, declares, may_bind, declared_binding, with_binding, with_bindings, element_name, attribute_names, are_distinct, attributes_of, started_of}
 use Rattle.dav_xml_core.specs.Optional.{◌>>=◌, when, choose}
-use Rattle.dav_xml_core.specs.Reading.{Front, Element, nothing, is_empty, last_of, same_qname, started, ended, with_pieces}
+use Rattle.dav_xml_core.specs.Reading.{Front, Element, nothing, is_empty, last_of, same_qname, with_start_tag, with_end_tag, with_pieces}
 use Rattle.dav_xml_core.specs.References.{value_of}
 use Rattle.dav_xml_core.specs.Scanning.{is_nil}
 use Rattle.dav_xml_core.proofs.BindingLemmas.{binding, lacks, bound_before, not_true}
@@ -44,13 +44,13 @@ xmlns_lacks : (more : List Binding) → Each IsLawful more → lacks (codes "xml
 xmlns_lacks [] h = refl
 xmlns_lacks (b ∷ more) h = rw (h.0.xmlns, xmlns_lacks more h.1) refl
 
-xml_bound : (bindings : List Binding) → Always bindings → bound (codes "xml") bindings ≡ Some xml_namespace
-unfolding bound
-xml_bound bindings always = ap (bound (codes "xml")) always.is ∙ xml_from always.more always.each
+xml_bound : (bindings : List Binding) → Always bindings → bound_namespace (codes "xml") bindings ≡ Some xml_namespace
+unfolding bound_namespace
+xml_bound bindings always = ap (bound_namespace (codes "xml")) always.is ∙ xml_from always.more always.each
 
-xmlns_bound : (bindings : List Binding) → Always bindings → bound (codes "xmlns") bindings ≡ Some xmlns_namespace
-unfolding bound
-xmlns_bound bindings always = ap (bound (codes "xmlns")) always.is ∙ bound_before (codes "xmlns") always_bound always.more (xmlns_lacks always.more always.each)
+xmlns_bound : (bindings : List Binding) → Always bindings → bound_namespace (codes "xmlns") bindings ≡ Some xmlns_namespace
+unfolding bound_namespace
+xmlns_bound bindings always = ap (bound_namespace (codes "xmlns")) always.is ∙ bound_before (codes "xmlns") always_bound always.more (xmlns_lacks always.more always.each)
 
 may_lawful : (prefix namespace : List ℕ) → may_bind prefix namespace ≡ true → IsLawful (binding prefix namespace)
 unfolding may_bind
@@ -69,8 +69,8 @@ may_lawful prefix namespace h = go (bytes_eq prefix (codes "xml")) refl h
         let r = and_parts (not (bytes_eq prefix (codes "xmlns"))) (not (bytes_eq namespace xml_namespace)) q.0 in
         record { xml = λ f. absurd (false≢true (sym is ∙ f)); xmlns = not_true (bytes_eq prefix (codes "xmlns")) r.0 }
 
-one_lawful : (prefix raw : List ℕ) (found : Binding) → binding_of prefix raw ≡ Some found → IsLawful found
-unfolding binding_of
+one_lawful : (prefix raw : List ℕ) (found : Binding) → declared_binding prefix raw ≡ Some found → IsLawful found
+unfolding declared_binding
 one_lawful prefix raw found h =
     let a = bind_some (value_of raw) _ found h in
     let w = when_some (may_bind prefix (encode_utf8_all a.0)) (binding prefix (encode_utf8_all a.0)) found a.2 in
@@ -87,9 +87,9 @@ with_one : (around bindings : List Binding) (raw : RawAttribute) → Always arou
 unfolding with_binding
 with_one around bindings raw always h = go (declares raw.name) h
   where
-    go : (o : Option (List ℕ)) → choose o (λ prefix. binding_of prefix raw.raw >>= λ b. Some (around ++ b ∷ [])) (Some around) ≡ Some bindings → Always bindings
+    go : (o : Option (List ℕ)) → choose o (λ prefix. declared_binding prefix raw.raw >>= λ b. Some (around ++ b ∷ [])) (Some around) ≡ Some bindings → Always bindings
     go (Some prefix) e =
-        let a = bind_some (binding_of prefix raw.raw) _ bindings e in
+        let a = bind_some (declared_binding prefix raw.raw) _ bindings e in
         subst Always (same_Some (around ++ a.0 ∷ []) bindings a.2) (pushed around a.0 always (one_lawful prefix raw.raw a.0 a.1))
     go None e = subst Always (same_Some around bindings e) always
 
@@ -104,7 +104,7 @@ unfolding started_of
 start_always around name raws start always h =
     let a = bind_some (with_bindings around raws) _ start h in
     let b = bind_some (element_name a.0 name) _ start a.2 in
-    let d = bind_some (names_of a.0 raws) _ start b.2 in
+    let d = bind_some (attribute_names a.0 raws) _ start b.2 in
     let e = bind_some (when (are_distinct d.0) d.0) _ start d.2 in
     let f = bind_some (attributes_of a.0 raws) _ start e.2 in
     subst (λ (s : Started). Always s.bindings) {x = record { bindings = a.0; name = b.0; attributes = f.0 }} (same_Some (record { bindings = a.0; name = b.0; attributes = f.0 }) start f.2) (with_all raws around a.0 always a.1)
@@ -129,8 +129,8 @@ taken around k bindings e always = record {
   each = each_take IsLawful k always.more always.each;
 }
 
-by_start : (front more : Front) (name : QName) (raws : List RawAttribute) → FrontAlways front → started front name raws ≡ Some more → FrontAlways more
-unfolding started
+by_start : (front more : Front) (name : QName) (raws : List RawAttribute) → FrontAlways front → with_start_tag front name raws ≡ Some more → FrontAlways more
+unfolding with_start_tag
 by_start front more name raws always h =
     let allowed = not (is_empty front.elements) || is_empty front.nodes in
     let a = bind_some (when allowed front.bindings) _ more h in
@@ -145,8 +145,8 @@ by_start front more name raws always h =
     some : Front → Option Front
     some f = Some f
 
-by_end : (front more : Front) (name : QName) → FrontAlways front → ended front name ≡ Some more → FrontAlways more
-unfolding ended
+by_end : (front more : Front) (name : QName) → FrontAlways front → with_end_tag front name ≡ Some more → FrontAlways more
+unfolding with_end_tag
 by_end front more name always h =
     let a = bind_some (last_of front.elements) _ more h in
     let w = when_some (same_qname a.0.1.name name) (after_end front a.0.0 a.0.1.around) more a.2 in
@@ -164,7 +164,7 @@ first_always : FrontAlways nothing
 first_always = record { bindings = record { more = []; is = refl; each = tt }; elements = tt }
 
 pub always_bound_so : (pieces : List Piece) (front : Front) → with_pieces nothing pieces ≡ Some front
-    → (bound (codes "xml") front.bindings ≡ Some xml_namespace) × (bound (codes "xmlns") front.bindings ≡ Some xmlns_namespace)
+    → (bound_namespace (codes "xml") front.bindings ≡ Some xml_namespace) × (bound_namespace (codes "xmlns") front.bindings ≡ Some xmlns_namespace)
 always_bound_so pieces front h =
     let always : FrontAlways front =
     by_pieces FrontAlways (λ (p : Piece). Unit {0}) (λ (text : List ℕ). Unit {0}) (λ front more name raws empty u always h. by_start front more name raws always h) by_end by_text (λ raw text u h. tt) (λ raw u. tt)

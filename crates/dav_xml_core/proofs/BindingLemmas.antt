@@ -11,11 +11,11 @@ use Rattle.dav_xml_core.specs.Documents.{Name, Attribute}
 use Rattle.dav_xml_core.specs.Markup.{RawAttribute}
 use Rattle.dav_xml_core.specs.Characters.{is_char}
 use Rattle.dav_xml_core.specs.Names.{is_ncname}
-use Rattle.dav_xml_core.specs.Namespaces.{Binding, xml_namespace, xmlns_namespace, bound_from, bound, declares, may_bind, binding_of, with_binding, with_bindings}
+use Rattle.dav_xml_core.specs.Namespaces.{Binding, xml_namespace, xmlns_namespace, bound_from, bound_namespace, declares, may_bind, declared_binding, with_binding, with_bindings}
 use Rattle.dav_xml_core.specs.Optional.{◌>>=◌, when, choose}
 use Rattle.dav_xml_core.specs.Readable.{is_name, is_attribute}
 use Rattle.dav_xml_core.specs.Scanning.{is_nil}
-use Rattle.dav_xml_core.specs.Writing.{escaped, dav_namespace, is_other}
+use Rattle.dav_xml_core.specs.Writing.{escaped_character, dav_namespace, is_other}
 use Rattle.dav_xml_core.proofs.EscapeLemmas.{value_again}
 use Rattle.dav_xml_core.proofs.TagLemmas.{qname}
 
@@ -73,7 +73,7 @@ apart_first k h = nonempty (decimal k) (decimal_nonempty k h)
 
 -- what a name declares
 abbrev pub raws_for : List ℕ → Name → List RawAttribute
-raws_for own name = cond (is_other name.namespace) (record { name = qname (codes "xmlns") own; raw = flat_map (escaped true) name.namespace } ∷ []) []
+raws_for own name = cond (is_other name.namespace) (record { name = qname (codes "xmlns") own; raw = flat_map (escaped_character true) name.namespace } ∷ []) []
 
 abbrev pub binding : List ℕ → List ℕ → Binding
 binding prefix namespace = record { prefix = prefix; namespace = namespace }
@@ -82,7 +82,7 @@ abbrev pub bindings_for : List ℕ → Name → List Binding
 bindings_for own name = cond (is_other name.namespace) (binding own (encode_utf8_all name.namespace) ∷ []) []
 
 abbrev pub raw_of : List ℕ → Attribute → RawAttribute
-raw_of own attribute = record { name = qname (prefix_of own attribute.name) attribute.name.local; raw = flat_map (escaped true) attribute.value }
+raw_of own attribute = record { name = qname (prefix_of own attribute.name) attribute.name.local; raw = flat_map (escaped_character true) attribute.value }
 
 abbrev pub raws_of : ℕ → List Attribute → List RawAttribute
 raws_of k [] = []
@@ -157,8 +157,8 @@ own_may own namespace is other h =
     ∙ rw (bytes_not namespace xml_namespace xml_bytes parts.2, not_xmlns namespace h, nil_bytes namespace parts.0) refl
 
 declared_one : (own : List ℕ) (name : Name) → IsOwn own → is_name name ≡ true → is_other name.namespace ≡ true
-    → Binds (record { name = qname (codes "xmlns") own; raw = flat_map (escaped true) name.namespace } ∷ []) (binding own (encode_utf8_all name.namespace) ∷ [])
-unfolding with_binding declares binding_of
+    → Binds (record { name = qname (codes "xmlns") own; raw = flat_map (escaped_character true) name.namespace } ∷ []) (binding own (encode_utf8_all name.namespace) ∷ [])
+unfolding with_binding declares declared_binding
 declared_one own name is h other around =
     let p = and_parts (is_ncname name.local && list_all is_char name.namespace) (not (bytes_eq name.namespace xmlns_namespace)) h in
     ap (λ (o : Option (List ℕ)). put_binding around (o >>= λ value. may own (encode_utf8_all value)) >>= λ b. Some b) (value_again name.namespace)
@@ -167,8 +167,8 @@ declared_one own name is h other around =
 pub binds_for : (own : List ℕ) (name : Name) → IsOwn own → is_name name ≡ true → Binds (raws_for own name) (bindings_for own name)
 binds_for own name is h = go (is_other name.namespace) (λ other. declared_one own name is h other)
   where
-    go : (b : Bool) → (b ≡ true → Binds (record { name = qname (codes "xmlns") own; raw = flat_map (escaped true) name.namespace } ∷ []) (binding own (encode_utf8_all name.namespace) ∷ []))
-        → Binds (cond b (record { name = qname (codes "xmlns") own; raw = flat_map (escaped true) name.namespace } ∷ []) []) (cond b (binding own (encode_utf8_all name.namespace) ∷ []) [])
+    go : (b : Bool) → (b ≡ true → Binds (record { name = qname (codes "xmlns") own; raw = flat_map (escaped_character true) name.namespace } ∷ []) (binding own (encode_utf8_all name.namespace) ∷ []))
+        → Binds (cond b (record { name = qname (codes "xmlns") own; raw = flat_map (escaped_character true) name.namespace } ∷ []) []) (cond b (binding own (encode_utf8_all name.namespace) ∷ []) [])
     go true f = f refl
     go false f = binds_none
 
@@ -191,7 +191,7 @@ binds_one : (own : List ℕ) (attribute : Attribute) → IsOwn own → is_attrib
 unfolding with_binding
 binds_one own attribute is h around =
     let p = and_parts (is_name attribute.name && list_all is_char attribute.value) (not (is_nil attribute.name.namespace && bytes_eq attribute.name.local (codes "xmlns"))) h in
-    ap (λ (o : Option (List ℕ)). choose o (λ prefix. binding_of prefix (flat_map (escaped true) attribute.value) >>= λ b. some_bindings_of (around ++ b ∷ [])) (some_bindings_of around) >>= λ b. Some b)
+    ap (λ (o : Option (List ℕ)). choose o (λ prefix. declared_binding prefix (flat_map (escaped_character true) attribute.value) >>= λ b. some_bindings_of (around ++ b ∷ [])) (some_bindings_of around) >>= λ b. Some b)
     (not_declared own attribute.name is (not_true _ p.1))
     ∙ binds_none around
 
@@ -231,12 +231,12 @@ bound_lacking prefix found (b ∷ bindings) h =
     let p = and_parts (not (bytes_eq b.prefix prefix)) (lacks prefix bindings) h in
     ap (λ t. bound_from prefix (cond t (Some b.namespace) found) bindings) (not_true _ p.0) ∙ bound_lacking prefix found bindings p.1
 
-pub bound_before : (prefix : List ℕ) (first more : List Binding) → lacks prefix more ≡ true → bound prefix (first ++ more) ≡ bound prefix first
-unfolding bound
+pub bound_before : (prefix : List ℕ) (first more : List Binding) → lacks prefix more ≡ true → bound_namespace prefix (first ++ more) ≡ bound_namespace prefix first
+unfolding bound_namespace
 bound_before prefix first more h = bound_append prefix None first more ∙ bound_lacking prefix (bound_from prefix None first) more h
 
-pub bound_there : (prefix namespace : List ℕ) (first more : List Binding) → lacks prefix more ≡ true → bound prefix (first ++ binding prefix namespace ∷ more) ≡ Some namespace
-unfolding bound
+pub bound_there : (prefix namespace : List ℕ) (first more : List Binding) → lacks prefix more ≡ true → bound_namespace prefix (first ++ binding prefix namespace ∷ more) ≡ Some namespace
+unfolding bound_namespace
 bound_there prefix namespace first more h =
     bound_append prefix None first (binding prefix namespace ∷ more)
     ∙ ap (λ t. bound_from prefix (cond t (Some namespace) (bound_from prefix None first)) more) ((bytes_eq-Decides prefix prefix).1 refl)

@@ -4,7 +4,7 @@ use Rattle.dav_xml_core.specs.Documents.{Node, End}
 use Rattle.dav_xml_core.specs.Names.{QName}
 use Rattle.dav_xml_core.specs.Namespaces.{Binding}
 use Rattle.dav_xml_core.specs.Optional.{◌>>=◌, when, choose}
-use Rattle.dav_xml_core.specs.Reading.{Front, Element, last_of, same_qname, text_nodes, ended}
+use Rattle.dav_xml_core.specs.Reading.{Front, Element, last_of, same_qname, text_nodes, with_end_tag}
 
 pub last_pushed : {A : Type 0} (xs : List A) (x : A) → last_of (xs ++ x ∷ []) ≡ Some (xs, x)
 last_pushed [] x = refl
@@ -25,16 +25,16 @@ abbrev ends_as : Front → QName → Option (List Element × Element) → Option
 ends_as front name last = last >>= λ found. when (same_qname found.1.name name) (after_end front found.0 found.1.around)
 
 last_is : (front : Front) (name : QName) (before : List Element) (element : Element) → front.elements ≡ before ++ element ∷ []
-    → ended front name ≡ when (same_qname element.name name) (after_end front before element.around)
-unfolding ended
+    → with_end_tag front name ≡ when (same_qname element.name name) (after_end front before element.around)
+unfolding with_end_tag
 last_is front name before element e = ap (λ (all : List Element). ends_as front name (last_of all)) e ∙ ap (ends_as front name) (last_pushed before element)
 
 pub ended_with : (front : Front) (name : QName) (before : List Element) (element : Element) → front.elements ≡ before ++ element ∷ []
-    → same_qname element.name name ≡ true → ended front name ≡ Some (after_end front before element.around)
+    → same_qname element.name name ≡ true → with_end_tag front name ≡ Some (after_end front before element.around)
 ended_with front name before element e same = last_is front name before element e ∙ ap (λ b. when b (after_end front before element.around)) same
 
 pub ended_not : (front : Front) (name : QName) (before : List Element) (element : Element) → front.elements ≡ before ++ element ∷ []
-    → same_qname element.name name ≡ false → ended front name ≡ None
+    → same_qname element.name name ≡ false → with_end_tag front name ≡ None
 ended_not front name before element e same = last_is front name before element e ∙ ap (λ b. when b (after_end front before element.around)) same
 
 abbrev pub some_front : List Node → List ℕ → List Element → List Binding → Option Front

@@ -10,28 +10,28 @@ use Rattle.std.proofs.lemmas.List.Folds.{list_all-append}
 use Rattle.std.proofs.lemmas.Str.{chars-encodes, encode_ascii, inside_one, encodes-append, is_utf8-from_IsUtf8}
 use lib.Utf8.{scalar, scalars}
 use Rattle.dav_xml_core.specs.Characters.{is_char, lines_from, characters}
-use Rattle.dav_xml_core.specs.Writing.{escaped}
+use Rattle.dav_xml_core.specs.Writing.{escaped_character}
 
 -- ---- bytes and characters
 
 plain_true : (c : ℕ) → (c == 38) ≡ false → (c == 60) ≡ false → (c == 62) ≡ false → (c == 13) ≡ false → (c == 34) ≡ false → (c == 9) ≡ false → (c == 10) ≡ false
-    → escaped true c ≡ c ∷ []
+    → escaped_character true c ≡ c ∷ []
 plain_true c a b d e f g h = rw (a, b, d, e, f, g, h) refl
 
-plain_false : (c : ℕ) → (c == 38) ≡ false → (c == 60) ≡ false → (c == 62) ≡ false → (c == 13) ≡ false → escaped false c ≡ c ∷ []
+plain_false : (c : ℕ) → (c == 38) ≡ false → (c == 60) ≡ false → (c == 62) ≡ false → (c == 13) ≡ false → escaped_character false c ≡ c ∷ []
 plain_false c a b d e = rw (a, b, d, e) refl
 
-high_plain : (v : Bool) (c : ℕ) → 128 ≤ c → escaped v c ≡ c ∷ []
+high_plain : (v : Bool) (c : ℕ) → 128 ≤ c → escaped_character v c ≡ c ∷ []
 high_plain true c h =
     plain_true c (ne_eqb c 38 (λ e. omega arith)) (ne_eqb c 60 (λ e. omega arith)) (ne_eqb c 62 (λ e. omega arith)) (ne_eqb c 13 (λ e. omega arith))
     (ne_eqb c 34 (λ e. omega arith)) (ne_eqb c 9 (λ e. omega arith)) (ne_eqb c 10 (λ e. omega arith))
 high_plain false c h =
     plain_false c (ne_eqb c 38 (λ e. omega arith)) (ne_eqb c 60 (λ e. omega arith)) (ne_eqb c 62 (λ e. omega arith)) (ne_eqb c 13 (λ e. omega arith))
 
-all_high : (v : Bool) (xs : List ℕ) → ((k : ℕ) → k < length xs → 128 ≤ get_or xs k 0) → flat_map (escaped v) xs ≡ xs
+all_high : (v : Bool) (xs : List ℕ) → ((k : ℕ) → k < length xs → 128 ≤ get_or xs k 0) → flat_map (escaped_character v) xs ≡ xs
 all_high v [] h = refl
 all_high v (x ∷ xs) h =
-    ap (λ (l : List ℕ). l ++ flat_map (escaped v) xs) (high_plain v x (h 0 (omega arith)))
+    ap (λ (l : List ℕ). l ++ flat_map (escaped_character v) xs) (high_plain v x (h 0 (omega arith)))
     ∙ ap (λ (l : List ℕ). x ∷ l) (all_high v xs (λ k below. h (suc k) (omega arith)))
 
 -- texts of ASCII are their own bytes
@@ -74,14 +74,14 @@ low : (c : ℕ) → c < 128 → IsSame (c ∷ [])
 unfolding IsSame
 low c h = append-nil _ ∙ encode_ascii c h
 
-low_one : (v : Bool) (c : ℕ) → c < 128 → IsSame (escaped v c)
+low_one : (v : Bool) (c : ℕ) → c < 128 → IsSame (escaped_character v c)
 low_one v c h =
     same _ _ _ amp (same _ _ _ lt (same _ _ _ gt (same _ _ _ return (same _ _ _ quot (same _ _ _ tab (same _ _ _ line (low c h)))))))
 
-one_char : (v : Bool) (c : ℕ) → flat_map (escaped v) (encode_utf8 c) ≡ encode_utf8_all (escaped v c)
+one_char : (v : Bool) (c : ℕ) → flat_map (escaped_character v) (encode_utf8 c) ≡ encode_utf8_all (escaped_character v c)
 unfolding IsSame
 one_char v c = elim (cases_lt c 128) [
-  | inl small ↦ ap (flat_map (escaped v)) (encode_ascii c small) ∙ append-nil (escaped v c) ∙ sym (low_one v c small)
+  | inl small ↦ ap (flat_map (escaped_character v)) (encode_ascii c small) ∙ append-nil (escaped_character v c) ∙ sym (low_one v c small)
   | inr big ↦
       let high : (k : ℕ) → k < length (encode_utf8 c) → 128 ≤ get_or (encode_utf8 c) k 0 = λ k below. elim (cases_lt (get_or (encode_utf8 c) k 0) 128) [
         | inl less ↦ absurd (omega (arith, inside_one c [] (encode_utf8 c) k (sym (append-nil _)) below less))
@@ -91,13 +91,13 @@ one_char v c = elim (cases_lt c 128) [
 ]
 
 -- the bytes of an escaped text are those of its escaped characters
-pub escaped_bytes : (v : Bool) (text : List ℕ) → flat_map (escaped v) (encode_utf8_all text) ≡ encode_utf8_all (flat_map (escaped v) text)
+pub escaped_bytes : (v : Bool) (text : List ℕ) → flat_map (escaped_character v) (encode_utf8_all text) ≡ encode_utf8_all (flat_map (escaped_character v) text)
 escaped_bytes v [] = refl
 escaped_bytes v (c ∷ text) =
-    flat_map-append (escaped v) (encode_utf8 c) (encode_utf8_all text)
-    ∙ ap (λ (l : List ℕ). l ++ flat_map (escaped v) (encode_utf8_all text)) (one_char v c)
-    ∙ ap (λ (l : List ℕ). encode_utf8_all (escaped v c) ++ l) (escaped_bytes v text)
-    ∙ sym (encodes-append (escaped v c) (flat_map (escaped v) text))
+    flat_map-append (escaped_character v) (encode_utf8 c) (encode_utf8_all text)
+    ∙ ap (λ (l : List ℕ). l ++ flat_map (escaped_character v) (encode_utf8_all text)) (one_char v c)
+    ∙ ap (λ (l : List ℕ). encode_utf8_all (escaped_character v c) ++ l) (escaped_bytes v text)
+    ∙ sym (encodes-append (escaped_character v c) (flat_map (escaped_character v) text))
 
 -- ---- characters that are read as they are
 
@@ -190,19 +190,19 @@ char_kept : (c : ℕ) → is_char c ≡ true → (c == 13) ≡ false → IsKept 
 unfolding IsKept
 char_kept c h e = rw (h, e) refl
 
-one_kept : (v : Bool) (c : ℕ) → is_char c ≡ true → IsKept (escaped v c)
+one_kept : (v : Bool) (c : ℕ) → is_char c ≡ true → IsKept (escaped_character v c)
 one_kept v c h =
     kept _ _ _ amp_kept (kept _ _ _ lt_kept (kept _ _ _ gt_kept (kept_by (c == 13) _ _ return_kept (λ e. kept _ _ _ quot_kept (
     kept _ _ _ tab_kept (kept _ _ _ line_kept (char_kept c h e)))))))
 
-pub escaped_kept : (v : Bool) (text : List ℕ) → list_all is_char text ≡ true → list_all is_kept (flat_map (escaped v) text) ≡ true
+pub escaped_kept : (v : Bool) (text : List ℕ) → list_all is_char text ≡ true → list_all is_kept (flat_map (escaped_character v) text) ≡ true
 unfolding IsKept
 escaped_kept v [] h = refl
 escaped_kept v (c ∷ text) h =
     let p = and_parts _ _ h in
-    list_all-append is_kept (escaped v c) (flat_map (escaped v) text) ∙ rw (one_kept v c p.0, escaped_kept v text p.1) refl
+    list_all-append is_kept (escaped_character v c) (flat_map (escaped_character v) text) ∙ rw (one_kept v c p.0, escaped_kept v text p.1) refl
 
 -- the bytes that are written for the characters of a text are read as its escaped characters
 pub escaped_characters : (v : Bool) (text : List ℕ) → list_all is_char text ≡ true
-    → characters (flat_map (escaped v) (encode_utf8_all text)) ≡ Some (flat_map (escaped v) text)
-escaped_characters v text h = ap characters (escaped_bytes v text) ∙ characters_again (flat_map (escaped v) text) (escaped_kept v text h)
+    → characters (flat_map (escaped_character v) (encode_utf8_all text)) ≡ Some (flat_map (escaped_character v) text)
+escaped_characters v text h = ap characters (escaped_bytes v text) ∙ characters_again (flat_map (escaped_character v) text) (escaped_kept v text h)

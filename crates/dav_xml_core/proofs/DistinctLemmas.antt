@@ -10,7 +10,7 @@ use Rattle.std.proofs.lemmas.List.Folds.{list_any-append}
 use Rattle.std.proofs.lemmas.Slice.Eq.{bytes_eq-Decides}
 use Rattle.std.proofs.lemmas.Str.{encodes_same}
 use Rattle.dav_xml_core.specs.Scopes.{same_key, distinct_keys}
-use Rattle.dav_xml_core.specs.Views.{key_of}
+use Rattle.dav_xml_core.specs.Views.{attribute_key_of}
 
 abbrev Key : Type 0
 Key = ℕ × Bor (List ℕ)
@@ -38,7 +38,7 @@ local_is a b =
     is_eq-slice_cmp a b
     ∙ same_from_decides {P = a ≡ b} _ _ (bytes_eq-Decides a b) (λ e. encodes_same a b (sym (d.0 e)), λ e. d.1 (ap encode_utf8_all (sym e)))
 
-key_is : (a b : Key) → is_eq (key_cmp a b) ≡ same_key (key_of b) (key_of a)
+key_is : (a b : Key) → is_eq (key_cmp a b) ≡ same_key (attribute_key_of b) (attribute_key_of a)
 key_is a b = is_eq_then (nat_cmp a.0 b.0) (slice_cmp nat_cmp a.1.now b.1.now) ∙ both _ _ _ _ (number_is a.0 b.0) (local_is a.1.now b.1.now)
 
 as_or : (b x : Bool) → cond b true x ≡ (x || (b || false))
@@ -49,11 +49,11 @@ as_or false false = refl
 
 -- the keys with one more
 pub one_more : (other key : Key) (seen : List (ℕ × List ℕ))
-    → cond (is_eq (key_cmp key other)) true (list_any (same_key (key_of other)) seen) ≡ list_any (same_key (key_of other)) (seen ++ key_of key ∷ [])
+    → cond (is_eq (key_cmp key other)) true (list_any (same_key (attribute_key_of other)) seen) ≡ list_any (same_key (attribute_key_of other)) (seen ++ attribute_key_of key ∷ [])
 one_more other key seen =
-    ap (λ b. cond b true (list_any (same_key (key_of other)) seen)) (key_is key other)
-    ∙ as_or (same_key (key_of other) (key_of key)) (list_any (same_key (key_of other)) seen)
-    ∙ sym (list_any-append (same_key (key_of other)) seen (key_of key ∷ []))
+    ap (λ b. cond b true (list_any (same_key (attribute_key_of other)) seen)) (key_is key other)
+    ∙ as_or (same_key (attribute_key_of other) (attribute_key_of key)) (list_any (same_key (attribute_key_of other)) seen)
+    ∙ sym (list_any-append (same_key (attribute_key_of other)) seen (attribute_key_of key ∷ []))
 
 -- a key that was not there yet, and one that was
 pub new_key : (seen keys : List (ℕ × List ℕ)) (key : ℕ × List ℕ) (had : Bool) → had ≡ list_any (same_key key) seen → true ≡ not had

@@ -11,7 +11,7 @@ use Rattle.dav_xml_core.specs.Markup.{RawAttribute, Piece, Tag, EndTag, Characte
 use Rattle.dav_xml_core.specs.Names.{QName}
 use Rattle.dav_xml_core.specs.Namespaces.{Binding, Started, started_of}
 use Rattle.dav_xml_core.specs.Optional.{◌>>=◌, when}
-use Rattle.dav_xml_core.specs.Reading.{Front, Element, nothing, is_empty, last_of, text_nodes, started, ended, tagged, content_of, with_characters, with_cdata, with_piece, with_pieces, finished, nodes_of, content_nodes, without_mark, document_of}
+use Rattle.dav_xml_core.specs.Reading.{Front, Element, nothing, is_empty, last_of, text_nodes, with_start_tag, with_end_tag, with_tag, content_of, with_characters, with_cdata, with_piece, with_pieces, finished_nodes, nodes_of, content_nodes, without_mark, document_of}
 use Rattle.dav_xml_core.specs.Declarations.{after_declaration}
 use Rattle.dav_xml_core.specs.Sequences.{all_of}
 
@@ -139,27 +139,27 @@ after front name around start = record {
   bindings = start.bindings;
 }
 
-by_start : (front more : Front) (name : QName) (attributes : List RawAttribute) → IsFront front → started front name attributes ≡ Some more → IsFront more
-unfolding started
+by_start : (front more : Front) (name : QName) (attributes : List RawAttribute) → IsFront front → with_start_tag front name attributes ≡ Some more → IsFront more
+unfolding with_start_tag
 by_start front more name attributes state h =
     let a = bind_some _ _ more h in
     let allowed = when_some _ _ a.0 a.1 in
     let b : (start : Started) × (started_of a.0 name attributes ≡ Some start) × (some_front (after front name a.0 start) ≡ some_front more) = bind_some _ _ more a.2 in
     moved _ more (same_Some _ more b.2) (start_keeps front.nodes front.text front.elements _ b.0.name b.0.attributes state allowed.0)
 
-by_end : (front more : Front) (name : QName) → IsFront front → ended front name ≡ Some more → IsFront more
-unfolding ended
+by_end : (front more : Front) (name : QName) → IsFront front → with_end_tag front name ≡ Some more → IsFront more
+unfolding with_end_tag
 by_end front more name state h =
     let a = bind_some _ _ more h in
     let same = when_some _ _ more a.2 in
     moved _ more same.1 (end_keeps front.nodes front.text front.elements a.0.0 a.0.1 state (last_is front.elements a.0.0 a.0.1 a.1))
 
-or_begun : (empty : Bool) (begun more : Front) (name : QName) → IsFront begun → cond empty (ended begun name) (Some begun) ≡ Some more → IsFront more
+or_begun : (empty : Bool) (begun more : Front) (name : QName) → IsFront begun → cond empty (with_end_tag begun name) (Some begun) ≡ Some more → IsFront more
 or_begun true begun more name state h = by_end begun more name state h
 or_begun false begun more name state h = moved begun more (same_Some begun more h) state
 
-by_tag : (front more : Front) (name : QName) (attributes : List RawAttribute) (empty : Bool) → IsFront front → tagged front name attributes empty ≡ Some more → IsFront more
-unfolding tagged
+by_tag : (front more : Front) (name : QName) (attributes : List RawAttribute) (empty : Bool) → IsFront front → with_tag front name attributes empty ≡ Some more → IsFront more
+unfolding with_tag
 by_tag front more name attributes empty state h =
     let a = bind_some _ _ more h in
     or_begun empty a.0 more name (by_start front a.0 name attributes state a.1) a.2
@@ -211,8 +211,8 @@ at_last nodes text [] (inr inside) h = ap is_element (sym (append-nil nodes)) �
 by_nodes : (text : List ℕ) (nodes : List Node) → nodes_of text ≡ Some nodes → is_element nodes ≡ true
 unfolding nodes_of
 by_nodes text nodes h =
-    let a = bind_some (all_of piece_at text) (λ pieces. with_pieces nothing pieces >>= finished) nodes h in
-    let b = bind_some (with_pieces nothing a.0) finished nodes a.2 in
+    let a = bind_some (all_of piece_at text) (λ pieces. with_pieces nothing pieces >>= finished_nodes) nodes h in
+    let b = bind_some (with_pieces nothing a.0) finished_nodes nodes a.2 in
     let c = when_some (is_empty b.0.elements && not (is_empty b.0.nodes)) b.0.nodes nodes b.2 in
     ap is_element (sym c.1) ∙ at_last b.0.nodes b.0.text b.0.elements (by_pieces a.0 nothing b.0 (inl (record { no_nodes = refl; no_text = refl; no_elements = refl })) b.1) c.0
 

@@ -9,10 +9,10 @@ use Rattle.std.proofs.lemmas.List.{length-append, map-append}
 use Rattle.std.proofs.lemmas.List.Folds.{list_any-append}
 use Rattle.dav_xml_core.specs.Optional.{◌>>=◌, when, choose}
 use Rattle.dav_xml_core.specs.Reading.{content_of}
-use Rattle.dav_xml_core.specs.References.{referenced, expanded_at, expanded, as_blank, value_of}
+use Rattle.dav_xml_core.specs.References.{referenced_character, expanded_at, expanded_text, as_blank, value_of}
 use Rattle.dav_xml_core.specs.Scanning.{Found, until, with_char}
 use Rattle.dav_xml_core.specs.Sequences.{many, sequence, at_end}
-use Rattle.dav_xml_core.specs.Writing.{escaped}
+use Rattle.dav_xml_core.specs.Writing.{escaped_character}
 
 abbrev found : ℕ → List ℕ → Found ℕ
 found c rest = Some (c, rest)
@@ -33,38 +33,38 @@ at_if false k c first second rest y n = n
 
 plain : (c : ℕ) (rest : List ℕ) → (c == 38) ≡ false → expanded_at ((c ∷ []) ++ rest) ≡ found c rest
 unfolding expanded_at
-plain c rest e = ap (λ b. cond b (until (59 ∷ []) rest >>= λ name. referenced name.0 >>= λ r. found r name.1) (found c rest)) e
+plain c rest e = ap (λ b. cond b (until (59 ∷ []) rest >>= λ name. referenced_character name.0 >>= λ r. found r name.1) (found c rest)) e
 
 amp : (rest : List ℕ) → expanded_at (codes "&amp;" ++ rest) ≡ found 38 rest
-unfolding expanded_at referenced
+unfolding expanded_at referenced_character
 amp rest = refl
 
 lt : (rest : List ℕ) → expanded_at (codes "&lt;" ++ rest) ≡ found 60 rest
-unfolding expanded_at referenced
+unfolding expanded_at referenced_character
 lt rest = refl
 
 gt : (rest : List ℕ) → expanded_at (codes "&gt;" ++ rest) ≡ found 62 rest
-unfolding expanded_at referenced
+unfolding expanded_at referenced_character
 gt rest = refl
 
 quot : (rest : List ℕ) → expanded_at (codes "&quot;" ++ rest) ≡ found 34 rest
-unfolding expanded_at referenced
+unfolding expanded_at referenced_character
 quot rest = refl
 
 return : (rest : List ℕ) → expanded_at (codes "&#13;" ++ rest) ≡ found 13 rest
-unfolding expanded_at referenced
+unfolding expanded_at referenced_character
 return rest = refl
 
 tab : (rest : List ℕ) → expanded_at (codes "&#9;" ++ rest) ≡ found 9 rest
-unfolding expanded_at referenced
+unfolding expanded_at referenced_character
 tab rest = refl
 
 line : (rest : List ℕ) → expanded_at (codes "&#10;" ++ rest) ≡ found 10 rest
-unfolding expanded_at referenced
+unfolding expanded_at referenced_character
 line rest = refl
 
 -- one character, as it is written
-one : (v : Bool) (c : ℕ) (rest : List ℕ) → expanded_at (escaped v c ++ rest) ≡ found c rest
+one : (v : Bool) (c : ℕ) (rest : List ℕ) → expanded_at (escaped_character v c ++ rest) ≡ found c rest
 one v c rest =
     at 38 c _ _ rest (amp rest) (λ e.
     at 60 c _ _ rest (lt rest) (λ _.
@@ -84,9 +84,9 @@ unfolding expanded_at
 not_nil [] x e = absurd (none-some x e)
 not_nil (c ∷ text) x e = omega arith
 
-pub longer : (v : Bool) (xs : List ℕ) → length xs ≤ length (flat_map (escaped v) xs)
+pub longer : (v : Bool) (xs : List ℕ) → length xs ≤ length (flat_map (escaped_character v) xs)
 longer v [] = omega arith
-longer v (c ∷ xs) = omega (arith, longer v xs, length-append (escaped v c) (flat_map (escaped v) xs), not_nil (escaped v c ++ []) (c, []) (one v c []), length-append (escaped v c) [])
+longer v (c ∷ xs) = omega (arith, longer v xs, length-append (escaped_character v c) (flat_map (escaped_character v) xs), not_nil (escaped_character v c ++ []) (c, []) (one v c []), length-append (escaped_character v c) [])
 
 abbrev parts : ℕ → List ℕ → Option (List ℕ × List ℕ)
 parts n text = many at_end expanded_at n text
@@ -100,22 +100,22 @@ turn n ended part = choose ended (λ e. Some ([], e)) (more n part)
 abbrev put : ℕ → Option (List ℕ × List ℕ) → Option (List ℕ × List ℕ)
 put c others = others >>= λ o. Some (c ∷ o.0, o.1)
 
-each : (v : Bool) (xs : List ℕ) (n : ℕ) → length xs < n → parts n (flat_map (escaped v) xs) ≡ Some (xs, [])
+each : (v : Bool) (xs : List ℕ) (n : ℕ) → length xs < n → parts n (flat_map (escaped_character v) xs) ≡ Some (xs, [])
 unfolding many
 each v xs zero lt = absurd (omega arith)
 each v [] (suc n) lt = refl
 each v (c ∷ xs) (suc n) lt =
-    let rest = flat_map (escaped v) xs in
-    ap (λ o. turn n o (expanded_at (escaped v c ++ rest))) (not_end (escaped v c ++ rest) (c, rest) (one v c rest))
+    let rest = flat_map (escaped_character v) xs in
+    ap (λ o. turn n o (expanded_at (escaped_character v c ++ rest))) (not_end (escaped_character v c ++ rest) (c, rest) (one v c rest))
     ∙ ap (more n) (one v c rest)
     ∙ ap (put c) (each v xs n (omega arith))
 
 abbrev listed : Option (List ℕ × List ℕ) → Option (List ℕ)
 listed found = found >>= λ x. Some x.0
 
-pub expanded_again : (v : Bool) (xs : List ℕ) → expanded (flat_map (escaped v) xs) ≡ Some xs
+pub expanded_again : (v : Bool) (xs : List ℕ) → expanded_text (flat_map (escaped_character v) xs) ≡ Some xs
 unfolding sequence
-expanded_again v xs = ap listed (each v xs (suc (length (flat_map (escaped v) xs))) (omega (arith, longer v xs)))
+expanded_again v xs = ap listed (each v xs (suc (length (flat_map (escaped_character v) xs))) (omega (arith, longer v xs)))
 
 -- ---- no `<` and no `>`
 
@@ -193,12 +193,12 @@ line_62 : has 62 (codes "&#10;") ≡ false
 unfolding has
 line_62 = refl
 
-no_less : (v : Bool) (c : ℕ) → has 60 (escaped v c) ≡ false
+no_less : (v : Bool) (c : ℕ) → has 60 (escaped_character v c) ≡ false
 no_less v c =
     chosen 60 _ _ _ amp_60 (chosen_by 60 60 c _ _ lt_60 (λ e. chosen 60 _ _ _ gt_60 (chosen 60 _ _ _ return_60 (
     chosen 60 _ _ _ quot_60 (chosen 60 _ _ _ tab_60 (chosen 60 _ _ _ line_60 (alone 60 c e)))))))
 
-no_greater : (v : Bool) (c : ℕ) → has 62 (escaped v c) ≡ false
+no_greater : (v : Bool) (c : ℕ) → has 62 (escaped_character v c) ≡ false
 no_greater v c =
     chosen 62 _ _ _ amp_62 (chosen 62 _ _ _ lt_62 (chosen_by 62 62 c _ _ gt_62 (λ e. chosen 62 _ _ _ return_62 (
     chosen 62 _ _ _ quot_62 (chosen 62 _ _ _ tab_62 (chosen 62 _ _ _ line_62 (alone 62 c e)))))))
@@ -207,12 +207,12 @@ neither : (a b : Bool) → a ≡ false → b ≡ false → (a || b) ≡ false
 neither true b e f = e
 neither false b e f = f
 
-throughout : (k : ℕ) (v : Bool) → ((c : ℕ) → has k (escaped v c) ≡ false) → (xs : List ℕ) → has k (flat_map (escaped v) xs) ≡ false
+throughout : (k : ℕ) (v : Bool) → ((c : ℕ) → has k (escaped_character v c) ≡ false) → (xs : List ℕ) → has k (flat_map (escaped_character v) xs) ≡ false
 unfolding has
 throughout k v each [] = refl
-throughout k v each (c ∷ xs) = list_any-append (λ x. x == k) (escaped v c) (flat_map (escaped v) xs) ∙ neither _ _ (each c) (throughout k v each xs)
+throughout k v each (c ∷ xs) = list_any-append (λ x. x == k) (escaped_character v c) (flat_map (escaped_character v) xs) ∙ neither _ _ (each c) (throughout k v each xs)
 
-pub no_tag : (v : Bool) (text : List ℕ) → list_any (λ c. c == 60) (flat_map (escaped v) text) ≡ false
+pub no_tag : (v : Bool) (text : List ℕ) → list_any (λ c. c == 60) (flat_map (escaped_character v) text) ≡ false
 unfolding has
 no_tag v text = throughout 60 v (no_less v) text
 
@@ -259,13 +259,13 @@ nowhere (c ∷ text) h =
     ∙ ap (with_char c) (nowhere text (later c text h))
 
 abbrev allowed : List ℕ → Option (List ℕ × List ℕ) → Option (List ℕ)
-allowed raw end = when (is_none end) raw >>= expanded
+allowed raw end = when (is_none end) raw >>= expanded_text
 
 -- what is written for a text is read as the text
-pub text_again : (text : List ℕ) → content_of (flat_map (escaped false) text) ≡ Some text
+pub text_again : (text : List ℕ) → content_of (flat_map (escaped_character false) text) ≡ Some text
 unfolding content_of
 text_again text =
-    ap (allowed (flat_map (escaped false) text)) (nowhere (flat_map (escaped false) text) (throughout 62 false (no_greater false) text))
+    ap (allowed (flat_map (escaped_character false) text)) (nowhere (flat_map (escaped_character false) text) (throughout 62 false (no_greater false) text))
     ∙ expanded_again false text
 
 -- ---- white space in values
@@ -330,26 +330,26 @@ line_kept : IsKept (codes "&#10;")
 unfolding IsKept
 line_kept = refl
 
-kept_one : (c : ℕ) → IsKept (escaped true c)
+kept_one : (c : ℕ) → IsKept (escaped_character true c)
 kept_one c =
     kept _ _ _ amp_kept (kept _ _ _ lt_kept (kept _ _ _ gt_kept (kept_by 13 c _ _ return_kept (λ f. kept _ _ _ quot_kept (
     kept_by 9 c _ _ tab_kept (λ g. kept_by 10 c _ _ line_kept (λ h. kept_plain c f g h)))))))
 
-kept_all : (text : List ℕ) → map as_blank (flat_map (escaped true) text) ≡ flat_map (escaped true) text
+kept_all : (text : List ℕ) → map as_blank (flat_map (escaped_character true) text) ≡ flat_map (escaped_character true) text
 unfolding IsKept
 kept_all [] = refl
 kept_all (c ∷ text) =
-    map-append as_blank (escaped true c) (flat_map (escaped true) text)
-    ∙ ap (λ (x : List ℕ). x ++ map as_blank (flat_map (escaped true) text)) (kept_one c)
-    ∙ ap (λ (x : List ℕ). escaped true c ++ x) (kept_all text)
+    map-append as_blank (escaped_character true c) (flat_map (escaped_character true) text)
+    ∙ ap (λ (x : List ℕ). x ++ map as_blank (flat_map (escaped_character true) text)) (kept_one c)
+    ∙ ap (λ (x : List ℕ). escaped_character true c ++ x) (kept_all text)
 
 abbrev without_less : List ℕ → Bool → Option (List ℕ)
-without_less raw less = when (not less) (map as_blank raw) >>= expanded
+without_less raw less = when (not less) (map as_blank raw) >>= expanded_text
 
 -- what is written for a value is read as the value
-pub value_again : (text : List ℕ) → value_of (flat_map (escaped true) text) ≡ Some text
+pub value_again : (text : List ℕ) → value_of (flat_map (escaped_character true) text) ≡ Some text
 unfolding has
 value_again text =
-    ap (without_less (flat_map (escaped true) text)) (throughout 60 true (no_less true) text)
-    ∙ ap expanded (kept_all text)
+    ap (without_less (flat_map (escaped_character true) text)) (throughout 60 true (no_less true) text)
+    ∙ ap expanded_text (kept_all text)
     ∙ expanded_again true text

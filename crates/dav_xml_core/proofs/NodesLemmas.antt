@@ -10,16 +10,16 @@ use Rattle.dav_xml_core.specs.Characters.{characters, is_char, is_white}
 use Rattle.dav_xml_core.specs.Declarations.{declaration_at, fields_at, are_fields, after_declaration}
 use Rattle.dav_xml_core.specs.Documents.{Name, Attribute, Node, Start, Text, End, closes, is_element}
 use Rattle.dav_xml_core.specs.Names.{is_name_start}
-use Rattle.dav_xml_core.specs.Namespaces.{Binding, always_bound, bound, xml_namespace, xmlns_namespace}
+use Rattle.dav_xml_core.specs.Namespaces.{Binding, always_bound, bound_namespace, xml_namespace, xmlns_namespace}
 use Rattle.dav_xml_core.specs.Optional.{◌>>=◌, when, choose}
 use Rattle.dav_xml_core.specs.Parts.{Part, Made, Kept, nodes_in, with_parts, written_parts, part_bytes, is_part, are_parts, PartsCouldBeRead}
-use Rattle.dav_xml_core.specs.Places.{read_on, may_begin, with_element}
+use Rattle.dav_xml_core.specs.Places.{read_from_front, may_begin, with_element}
 use Rattle.dav_xml_core.specs.Readable.{IsReadBack, is_start}
 use Rattle.dav_xml_core.specs.ReadableDocuments.{node_bytes, is_node, are_apart, is_readable, CouldBeRead}
-use Rattle.dav_xml_core.specs.Reading.{Front, Element, nothing, is_empty, text_nodes, finished, nodes_of, content_nodes, document_of}
+use Rattle.dav_xml_core.specs.Reading.{Front, Element, nothing, is_empty, text_nodes, finished_nodes, nodes_of, content_nodes, document_of}
 use Rattle.dav_xml_core.specs.Scanning.{begins, is_nil}
 use Rattle.dav_xml_core.specs.Sequences.{many, sequence}
-use Rattle.dav_xml_core.specs.Writing.{Writing, escaped, declared, attributes_text, element_prefix, start_text, in_document, alone, unwritten, written, written_alone}
+use Rattle.dav_xml_core.specs.Writing.{Writing, escaped_character, declaration_bytes, attributes_text, element_prefix, start_text, in_document, alone, new_writing, document_bytes, written_alone}
 use Rattle.dav_xml_core.proofs.ElementLemmas.{some_pushed}
 use Rattle.dav_xml_core.proofs.AroundLemmas.{characters_around}
 use Rattle.dav_xml_core.proofs.BindingLemmas.{not_true}
@@ -37,8 +37,8 @@ use Rattle.dav_xml_core.proofs.WrittenLemmas.{SpellsAlone, IsOne, begun, end_tex
 
 -- an element that is written to stand alone is read as it is wherever one may begin
 record ReadsAlone (nodes : List Node) : Type 0 where
-  read : (front : Front) (rest : List ℕ) → may_begin front ≡ true → bound (codes "xml") front.bindings ≡ Some xml_namespace → bound (codes "xmlns") front.bindings ≡ Some xmlns_namespace
-      → read_on front (written_alone nodes ++ rest) ≡ read_on (with_element front (map node_bytes nodes)) rest
+  read : (front : Front) (rest : List ℕ) → may_begin front ≡ true → bound_namespace (codes "xml") front.bindings ≡ Some xml_namespace → bound_namespace (codes "xmlns") front.bindings ≡ Some xmlns_namespace
+      → read_from_front front (written_alone nodes ++ rest) ≡ read_from_front (with_element front (map node_bytes nodes)) rest
   tag : (after : List ℕ) × (written_alone nodes ≡ 60 ∷ after)
 
 one_of : (text : List ℕ) → is_nil text ≡ false → text_nodes text ≡ Text (encode_utf8_all text) ∷ []
@@ -65,12 +65,12 @@ rejoined start more last = ap (λ (n : List Node). n ++ last) (append-nil (start
 inside_on : (parts : List Part) (opened : List Opened) (base : List Element) (outer bindings : List Binding) (before : List Node) (text rest : List ℕ)
     → AreOpen opened outer bindings → closes (length opened) (nodes_in parts) ≡ true → list_all is_node (nodes_in parts) ≡ true → are_apart (not (is_nil text)) (nodes_in parts) ≡ true
     → list_all is_part parts ≡ true → EachKept ReadsAlone parts → (length opened ≡ 0 → text ≡ [])
-    → read_on (front_of before text (elements_of base opened) bindings) (text_of (names opened) parts ++ rest)
-    ≡ read_on (front_of (before ++ text_nodes text ++ map node_bytes (nodes_in parts)) [] base outer) rest
+    → read_from_front (front_of before text (elements_of base opened) bindings) (text_of (names opened) parts ++ rest)
+    ≡ read_from_front (front_of (before ++ text_nodes text ++ map node_bytes (nodes_in parts)) [] base outer) rest
 inside_on [] [] base outer bindings before text rest is h nodes apart are each over =
-    ap (λ (t : List ℕ). read_on (front_of before t base bindings) rest) (over refl)
-    ∙ ap (λ (b : List Binding). read_on (front_of before [] base b) rest) is
-    ∙ ap (λ (n : List Node). read_on (front_of n [] base outer) rest) (sym (append-nil (before ++ text_nodes text) ∙ none_of text (over refl) before))
+    ap (λ (t : List ℕ). read_from_front (front_of before t base bindings) rest) (over refl)
+    ∙ ap (λ (b : List Binding). read_from_front (front_of before [] base b) rest) is
+    ∙ ap (λ (n : List Node). read_from_front (front_of n [] base outer) rest) (sym (append-nil (before ++ text_nodes text) ∙ none_of text (over refl) before))
 inside_on [] (last ∷ opened) base outer bindings before text rest is h nodes apart are each over = absurd (false≢true h)
 inside_on (Made node ∷ parts) [] base outer bindings before text rest is h nodes apart are each over = absurd (false≢true h)
 inside_on (Kept inner ∷ parts) [] base outer bindings before text rest is h nodes apart are each over =
@@ -83,10 +83,10 @@ inside_on (Made (Start name attributes) ∷ parts) (last ∷ opened) base outer 
     let new : Opened = record { name = name; tag = back.tag; around = bindings } in
     let node = node_of name attributes in
     let behind = text_of (name ∷ names all) parts in
-    ap (read_on (front_of before text elements bindings)) (append_assoc (start_text [] name attributes) behind rest)
+    ap (read_from_front (front_of before text elements bindings)) (append_assoc (start_text [] name attributes) behind rest)
     ∙ start_on [] name attributes before text elements bindings (behind ++ rest) (ap (λ b. not b || is_empty before) (some_pushed (elements_of base opened) (element last))) back
     ∙ inside_on parts (new ∷ all) base outer back.inside (before ++ text_nodes text ++ node ∷ []) [] rest (opened_as bindings [] name attributes back, is) h p.1 apart are each (λ e. absurd (omega arith))
-    ∙ ap (λ (n : List Node). read_on (front_of n [] base outer) rest) (rejoined (before ++ text_nodes text) (node ∷ []) (map node_bytes (nodes_in parts)))
+    ∙ ap (λ (n : List Node). read_from_front (front_of n [] base outer) rest) (rejoined (before ++ text_nodes text) (node ∷ []) (map node_bytes (nodes_in parts)))
 inside_on (Made (Text more) ∷ parts) (last ∷ opened) base outer bindings before text rest is h nodes apart are each over =
     let p = and_parts (is_node (Text more)) (list_all is_node (nodes_in parts)) nodes in
     let some = not_true (is_nil more) (and_parts (not (is_nil more)) (list_all is_char more) p.0).0 in
@@ -94,22 +94,22 @@ inside_on (Made (Text more) ∷ parts) (last ∷ opened) base outer bindings bef
     let none = is_nil_is text (not_not (is_nil text) r.0) in
     let all = last ∷ opened in
     let elements = elements_of base all in
-    let raw = flat_map (escaped false) more in
+    let raw = flat_map (escaped_character false) more in
     let behind = text_of (names all) parts in
     let next = tag_next parts last.name (names opened) (length opened) rest h r.1 each in
-    ap (λ (t : List ℕ). read_on (front_of before t elements bindings) ((raw ++ behind) ++ rest)) none
-    ∙ ap (read_on (front_of before [] elements bindings)) (append_assoc raw behind rest)
+    ap (λ (t : List ℕ). read_from_front (front_of before t elements bindings) ((raw ++ behind) ++ rest)) none
+    ∙ ap (read_from_front (front_of before [] elements bindings)) (append_assoc raw behind rest)
     ∙ text_on before elements bindings more (behind ++ rest) next.0 (some_pushed (elements_of base opened) (element last)) some next.1
     ∙ inside_on parts all base outer bindings before more rest is h p.1 (ap (λ b. are_apart (not b) (nodes_in parts)) some ∙ r.1) are each (λ e. absurd (omega arith))
-    ∙ ap (λ (n : List Node). read_on (front_of n [] base outer) rest)
+    ∙ ap (λ (n : List Node). read_from_front (front_of n [] base outer) rest)
     (ap (λ (n : List Node). before ++ n ++ map node_bytes (nodes_in parts)) (one_of more some) ∙ append_assoc before (Text (encode_utf8_all more) ∷ []) (map node_bytes (nodes_in parts))
     ∙ ap (λ (n : List Node). n ++ Text (encode_utf8_all more) ∷ map node_bytes (nodes_in parts)) (sym (none_of text none before)))
 inside_on (Made End ∷ parts) (last ∷ opened) base outer bindings before text rest is h nodes apart are each over =
     let behind = text_of (names opened) parts in
-    ap (read_on (front_of before text (elements_of base (last ∷ opened)) bindings)) (append_assoc (end_text last.name) behind rest)
+    ap (read_from_front (front_of before text (elements_of base (last ∷ opened)) bindings)) (append_assoc (end_text last.name) behind rest)
     ∙ end_on last before text (elements_of base opened) bindings (behind ++ rest) is.0
     ∙ inside_on parts opened base outer last.around (before ++ text_nodes text ++ End ∷ []) [] rest is.1 h nodes apart are each (λ e. refl)
-    ∙ ap (λ (n : List Node). read_on (front_of n [] base outer) rest) (rejoined (before ++ text_nodes text) (End ∷ []) (map node_bytes (nodes_in parts)))
+    ∙ ap (λ (n : List Node). read_from_front (front_of n [] base outer) rest) (rejoined (before ++ text_nodes text) (End ∷ []) (map node_bytes (nodes_in parts)))
 inside_on (Kept inner ∷ parts) (last ∷ opened) base outer bindings before text rest is h nodes apart are each over =
     let p = and_parts (is_element inner) (list_all is_part parts) are in
     let q = and_parts (list_all is_node inner) (list_all is_node (nodes_in parts)) (sym (list_all-append is_node inner (nodes_in parts)) ∙ nodes) in
@@ -118,10 +118,10 @@ inside_on (Kept inner ∷ parts) (last ∷ opened) base outer bindings before te
     let elements = elements_of base all in
     let behind = text_of (names all) parts in
     let bytes = map node_bytes inner in
-    ap (read_on (front_of before text elements bindings)) (append_assoc (written_alone inner) behind rest)
+    ap (read_from_front (front_of before text elements bindings)) (append_assoc (written_alone inner) behind rest)
     ∙ each.0.read (front_of before text elements bindings) (behind ++ rest) (ap (λ b. not b || is_empty before) (some_pushed (elements_of base opened) (element last))) is.0.hold.xml is.0.hold.xmlns
     ∙ inside_on parts all base outer bindings (before ++ text_nodes text ++ bytes) [] rest is (sym (element_closes inner (length opened) (nodes_in parts) p.0) ∙ h) q.1 r.1 p.1 each.1 (λ e. absurd (omega arith))
-    ∙ ap (λ (n : List Node). read_on (front_of n [] base outer) rest)
+    ∙ ap (λ (n : List Node). read_from_front (front_of n [] base outer) rest)
     (rejoined (before ++ text_nodes text) bytes (map node_bytes (nodes_in parts)) ∙ ap (λ (n : List Node). before ++ text_nodes text ++ n) (sym (map-append node_bytes inner (nodes_in parts))))
 
 -- ---- an element
@@ -129,38 +129,38 @@ inside_on (Kept inner ∷ parts) (last ∷ opened) base outer bindings before te
 -- what is read at an element is what is read behind it
 element_on : (front : Front) (first : List ℕ) (name : Name) (attributes : List Attribute) (parts : List Part) (rest : List ℕ) → may_begin front ≡ true
     → IsReadBack front.bindings first name attributes → IsOne name attributes parts → EachKept ReadsAlone parts
-    → read_on front ((with_parts (unwritten first) (begun name attributes parts)).bytes ++ rest) ≡ read_on (with_element front (map node_bytes (Start name attributes ∷ nodes_in parts))) rest
+    → read_from_front front ((with_parts (new_writing first) (begun name attributes parts)).bytes ++ rest) ≡ read_from_front (with_element front (map node_bytes (Start name attributes ∷ nodes_in parts))) rest
 element_on front first name attributes parts rest allowed back one each =
     let new : Opened = record { name = name; tag = back.tag; around = front.bindings } in
     let node = node_of name attributes in
     let start = front.nodes ++ text_nodes front.text in
     let behind = text_of (name ∷ []) parts in
-    ap (λ (t : List ℕ). read_on front (t ++ rest)) (written_is first name attributes parts one.closed one.are)
-    ∙ ap (read_on front) (append_assoc (start_text first name attributes) behind rest)
+    ap (λ (t : List ℕ). read_from_front front (t ++ rest)) (written_is first name attributes parts one.closed one.are)
+    ∙ ap (read_from_front front) (append_assoc (start_text first name attributes) behind rest)
     ∙ start_on first name attributes front.nodes front.text front.elements front.bindings (behind ++ rest) allowed back
     ∙ inside_on parts (new ∷ []) front.elements front.bindings back.inside (start ++ node ∷ []) [] rest (opened_as front.bindings first name attributes back, refl) one.closed one.each one.apart one.are each
     (λ e. absurd (omega arith))
-    ∙ ap (λ (n : List Node). read_on (front_of n [] front.elements front.bindings) rest) (rejoined start (node ∷ []) (map node_bytes (nodes_in parts)))
+    ∙ ap (λ (n : List Node). read_from_front (front_of n [] front.elements front.bindings) rest) (rejoined start (node ∷ []) (map node_bytes (nodes_in parts)))
 
-alone_is : (nodes : List Node) → written_alone nodes ≡ (with_parts (unwritten alone) (made nodes)).bytes
+alone_is : (nodes : List Node) → written_alone nodes ≡ (with_parts (new_writing alone) (made nodes)).bytes
 unfolding written_alone
-alone_is nodes = sym (ap (λ (w : Writing). w.bytes) (with_made nodes (unwritten alone)))
+alone_is nodes = sym (ap (λ (w : Writing). w.bytes) (with_made nodes (new_writing alone)))
 
 -- a readable element is not empty, and begins with its start
 one_made : (name : Name) (attributes : List Attribute) (nodes : List Node) → is_readable (Start name attributes ∷ nodes) ≡ true → IsOne name attributes (made nodes)
 one_made name attributes nodes h = is_one name attributes (made nodes) (ap (λ (n : List Node). is_readable (Start name attributes ∷ n)) (nodes_made nodes) ∙ h) (part_made nodes)
 
-pub alone_on : (front : Front) (nodes : List Node) (rest : List ℕ) → may_begin front ≡ true → bound (codes "xml") front.bindings ≡ Some xml_namespace
-    → bound (codes "xmlns") front.bindings ≡ Some xmlns_namespace → is_readable nodes ≡ true
-    → read_on front (written_alone nodes ++ rest) ≡ read_on (with_element front (map node_bytes nodes)) rest
+pub alone_on : (front : Front) (nodes : List Node) (rest : List ℕ) → may_begin front ≡ true → bound_namespace (codes "xml") front.bindings ≡ Some xml_namespace
+    → bound_namespace (codes "xmlns") front.bindings ≡ Some xmlns_namespace → is_readable nodes ≡ true
+    → read_from_front front (written_alone nodes ++ rest) ≡ read_from_front (with_element front (map node_bytes nodes)) rest
 alone_on front [] rest may xml xmlns h = absurd (false≢true h)
 alone_on front (Text text ∷ nodes) rest may xml xmlns h = absurd (false≢true h)
 alone_on front (End ∷ nodes) rest may xml xmlns h = absurd (false≢true h)
 alone_on front (Start name attributes ∷ nodes) rest may xml xmlns h =
     let one = one_made name attributes nodes h in
-    ap (λ (t : List ℕ). read_on front (t ++ rest)) (alone_is (Start name attributes ∷ nodes))
+    ap (λ (t : List ℕ). read_from_front front (t ++ rest)) (alone_is (Start name attributes ∷ nodes))
     ∙ element_on front alone name attributes (made nodes) rest may (read_back_alone front.bindings name attributes xml xmlns one.start) one (each_made ReadsAlone nodes)
-    ∙ ap (λ (n : List Node). read_on (with_element front (map node_bytes (Start name attributes ∷ n))) rest) (nodes_made nodes)
+    ∙ ap (λ (n : List Node). read_from_front (with_element front (map node_bytes (Start name attributes ∷ n))) rest) (nodes_made nodes)
 
 alone_spells : (nodes : List Node) → is_readable nodes ≡ true → SpellsAlone nodes
 alone_spells [] h = absurd (false≢true h)
@@ -169,7 +169,7 @@ alone_spells (End ∷ nodes) h = absurd (false≢true h)
 alone_spells (Start name attributes ∷ nodes) h =
     let all = Start name attributes ∷ nodes in
     let s = whole_spells alone name attributes (made nodes) lone (one_made name attributes nodes h) (each_made SpellsAlone nodes) in
-    let bytes = alone_is (map node_bytes all) ∙ ap (λ (p : List Part). (with_parts (unwritten alone) p).bytes) (sym (bytes_made all)) in
+    let bytes = alone_is (map node_bytes all) ∙ ap (λ (p : List Part). (with_parts (new_writing alone) p).bytes) (sym (bytes_made all)) in
     record { is = bytes ∙ s.is ∙ ap encode_utf8_all (sym (alone_is all)); kept = ap (list_all is_kept) (alone_is all) ∙ s.kept }
 
 alone_tag : (nodes : List Node) → is_readable nodes ≡ true → (after : List ℕ) × (written_alone nodes ≡ 60 ∷ after)
@@ -217,21 +217,21 @@ start_first first name attributes rest h =
     (s.first, _, s.start, ap start_by (tag_name_is element_prefix name ([], refl) ∙ s.is))
   where
     start_by : List ℕ → List ℕ
-    start_by t = (codes "<" ++ t ++ first ++ declared element_prefix name ++ attributes_text 0 attributes ++ codes ">") ++ rest
+    start_by t = (codes "<" ++ t ++ first ++ declaration_bytes element_prefix name ++ attributes_text 0 attributes ++ codes ">") ++ rest
 
-at_last : (front : Front) → read_on front [] ≡ finished front
-unfolding read_on sequence many
+at_last : (front : Front) → read_from_front front [] ≡ finished_nodes front
+unfolding read_from_front sequence many
 at_last front = refl
 
 -- a document of parts, in characters
 written_text : (first : List ℕ) (name : Name) (attributes : List Attribute) (parts : List Part) → IsReadBack always_bound first name attributes → IsOne name attributes parts → EachKept ReadsAlone parts
-    → content_nodes (with_parts (unwritten first) (begun name attributes parts)).bytes ≡ Some (map node_bytes (Start name attributes ∷ nodes_in parts))
+    → content_nodes (with_parts (new_writing first) (begun name attributes parts)).bytes ≡ Some (map node_bytes (Start name attributes ∷ nodes_in parts))
 written_text first name attributes parts back one each =
-    let text = (with_parts (unwritten first) (begun name attributes parts)).bytes in
+    let text = (with_parts (new_writing first) (begun name attributes parts)).bytes in
     let start = start_first first name attributes (text_of (name ∷ []) parts) one.start in
     let is = written_is first name attributes parts one.closed one.are ∙ start.3 in
     ap content_nodes is ∙ no_declaration start.0 start.1 start.2 ∙ ap nodes_of (sym is)
-    ∙ whole_document text ∙ ap (read_on nothing) (sym (append-nil text))
+    ∙ whole_document text ∙ ap (read_from_front nothing) (sym (append-nil text))
     ∙ element_on nothing first name attributes parts [] refl back one each
     ∙ at_last (with_element nothing (map node_bytes (Start name attributes ∷ nodes_in parts)))
 
@@ -260,8 +260,8 @@ made_parts [] h = absurd (false≢true h)
 made_parts (node ∷ nodes) h = part_made nodes
 
 -- and what is written for nodes that could have been read is read as they are
-pub written_again : (nodes : List Node) → CouldBeRead nodes → document_of (written nodes) ≡ Some nodes
-unfolding written written_parts
+pub written_again : (nodes : List Node) → CouldBeRead nodes → document_of (document_bytes nodes) ≡ Some nodes
+unfolding document_bytes written_parts
 written_again nodes could =
     let parts : PartsCouldBeRead (made nodes) = record {
       characters = made could.characters;
@@ -269,10 +269,10 @@ written_again nodes could =
       readable = ap is_readable (nodes_made could.characters) ∙ could.readable;
       kept = made_parts could.characters could.readable;
     } in
-    ap (λ (w : Writing). document_of w.bytes) (sym (with_made nodes (unwritten in_document))) ∙ parts_again (made nodes) parts ∙ ap some_nodes (nodes_made nodes)
+    ap (λ (w : Writing). document_of w.bytes) (sym (with_made nodes (new_writing in_document))) ∙ parts_again (made nodes) parts ∙ ap some_nodes (nodes_made nodes)
 
 alone_document : (nodes : List Node) → is_readable nodes ≡ true → document_of (written_alone (map node_bytes nodes)) ≡ Some (map node_bytes nodes)
-unfolding document_of bound
+unfolding document_of bound_namespace
 alone_document [] h = absurd (false≢true h)
 alone_document (Text text ∷ nodes) h = absurd (false≢true h)
 alone_document (End ∷ nodes) h = absurd (false≢true h)

@@ -25,9 +25,9 @@ use Rattle.dav_xml_core.specs.Documents.{Name}
 use Rattle.dav_xml_core.specs.Gives.{Gives, Refuses}
 use Rattle.dav_xml_core.specs.Markup.{RawAttribute}
 use Rattle.dav_xml_core.specs.Names.{QName}
-use Rattle.dav_xml_core.specs.Namespaces.{Binding, bound, attribute_name, prefixed_name, names_of, same_name, distinct_behind, are_distinct}
+use Rattle.dav_xml_core.specs.Namespaces.{Binding, bound_namespace, attribute_name, prefixed_name, attribute_names, same_name, distinct_behind, are_distinct}
 use Rattle.dav_xml_core.specs.Scanning.{is_nil}
-use Rattle.dav_xml_core.specs.Scopes.{Numbers, number_of, number_at, numbered, same_key, distinct_keys, last_place}
+use Rattle.dav_xml_core.specs.Scopes.{Numbers, namespace_number, number_at, numbered_name, same_key, distinct_keys, last_place}
 use Rattle.dav_xml_core.specs.ScopeTrees.{binding_of, IsNumbered}
 use Rattle.dav_xml_core.proofs.EachLemmas.{Each, each_append}
 use Rattle.dav_xml_core.proofs.ElementLemmas.{bind_some}
@@ -35,27 +35,27 @@ use Rattle.dav_xml_core.proofs.ScopeLemmas.{namespace_at, bound-reads}
 
 -- ---- the number of a namespace
 
-pub number_most : (t : List ℕ) (bs : List Binding) → number_of t bs ≤ length bs
+pub number_most : (t : List ℕ) (bs : List Binding) → namespace_number t bs ≤ length bs
 number_most t [] = omega arith
 number_most t (b ∷ bs) = go (number_most t bs) (bytes_eq b.namespace t)
   where
-    go : number_of t bs ≤ length bs → (same : Bool) → cond same 0 (suc (number_of t bs)) ≤ length (b ∷ bs)
+    go : namespace_number t bs ≤ length bs → (same : Bool) → cond same 0 (suc (namespace_number t bs)) ≤ length (b ∷ bs)
     go h true = omega arith
     go h false = omega arith
 
 -- one that is bound keeps it as bindings begin
-pub number_stays : (t : List ℕ) (bs more : List Binding) → number_of t bs < length bs → number_of t (bs ++ more) ≡ number_of t bs
+pub number_stays : (t : List ℕ) (bs more : List Binding) → namespace_number t bs < length bs → namespace_number t (bs ++ more) ≡ namespace_number t bs
 number_stays t [] more h = absurd (omega arith)
 number_stays t (b ∷ bs) more h = go (number_stays t bs more) (bytes_eq b.namespace t) h
   where
-    go : (number_of t bs < length bs → number_of t (bs ++ more) ≡ number_of t bs)
-        → (same : Bool) → cond same 0 (suc (number_of t bs)) < length (b ∷ bs) → cond same 0 (suc (number_of t (bs ++ more))) ≡ cond same 0 (suc (number_of t bs))
+    go : (namespace_number t bs < length bs → namespace_number t (bs ++ more) ≡ namespace_number t bs)
+        → (same : Bool) → cond same 0 (suc (namespace_number t bs)) < length (b ∷ bs) → cond same 0 (suc (namespace_number t (bs ++ more))) ≡ cond same 0 (suc (namespace_number t bs))
     go rest true lt = refl
     go rest false lt = ap suc (rest (omega arith))
 
 -- one that is not bound gets that of the next binding, where that is of it
-pub number_new : (t : List ℕ) (bs : List Binding) (b : Binding) → number_of t bs ≡ length bs
-    → number_of t (bs ++ b ∷ []) ≡ cond (bytes_eq b.namespace t) (length bs) (length bs + 1)
+pub number_new : (t : List ℕ) (bs : List Binding) (b : Binding) → namespace_number t bs ≡ length bs
+    → namespace_number t (bs ++ b ∷ []) ≡ cond (bytes_eq b.namespace t) (length bs) (length bs + 1)
 number_new t [] b h = refl
 number_new t (x ∷ bs) b h = go (number_new t bs b) (bytes_eq x.namespace t) h
   where
@@ -63,40 +63,40 @@ number_new t (x ∷ bs) b h = go (number_new t bs b) (bytes_eq x.namespace t) h
     next true = omega arith
     next false = omega arith
 
-    go : (number_of t bs ≡ length bs → number_of t (bs ++ b ∷ []) ≡ cond (bytes_eq b.namespace t) (length bs) (length bs + 1))
-        → (same : Bool) → cond same 0 (suc (number_of t bs)) ≡ length (x ∷ bs)
-        → cond same 0 (suc (number_of t (bs ++ b ∷ []))) ≡ cond (bytes_eq b.namespace t) (length (x ∷ bs)) (length (x ∷ bs) + 1)
+    go : (namespace_number t bs ≡ length bs → namespace_number t (bs ++ b ∷ []) ≡ cond (bytes_eq b.namespace t) (length bs) (length bs + 1))
+        → (same : Bool) → cond same 0 (suc (namespace_number t bs)) ≡ length (x ∷ bs)
+        → cond same 0 (suc (namespace_number t (bs ++ b ∷ []))) ≡ cond (bytes_eq b.namespace t) (length (x ∷ bs)) (length (x ∷ bs) + 1)
     go rest true e = absurd (omega arith)
     go rest false e = ap suc (rest (omega arith)) ∙ next (bytes_eq b.namespace t)
 
 -- the binding at the number is of the namespace
-pub number_reads : (t : List ℕ) (bs : List Binding) → number_of t bs < length bs → namespace_at bs (number_of t bs) ≡ Some t
+pub number_reads : (t : List ℕ) (bs : List Binding) → namespace_number t bs < length bs → namespace_at bs (namespace_number t bs) ≡ Some t
 number_reads t [] h = absurd (omega arith)
 number_reads t (b ∷ bs) h = go (number_reads t bs) (bytes_eq b.namespace t) refl h
   where
     some : List ℕ → Option (List ℕ)
     some x = Some x
 
-    go : (number_of t bs < length bs → namespace_at bs (number_of t bs) ≡ Some t)
-        → (same : Bool) → bytes_eq b.namespace t ≡ same → cond same 0 (suc (number_of t bs)) < length (b ∷ bs) → namespace_at (b ∷ bs) (cond same 0 (suc (number_of t bs))) ≡ Some t
+    go : (namespace_number t bs < length bs → namespace_at bs (namespace_number t bs) ≡ Some t)
+        → (same : Bool) → bytes_eq b.namespace t ≡ same → cond same 0 (suc (namespace_number t bs)) < length (b ∷ bs) → namespace_at (b ∷ bs) (cond same 0 (suc (namespace_number t bs))) ≡ Some t
     go rest true e lt = ap some ((bytes_eq-Decides b.namespace t).0 e)
     go rest false e lt = rest (omega arith)
 
 -- and none before it is
-pub number_before : (t : List ℕ) (bs : List Binding) (place : ℕ) → namespace_at bs place ≡ Some t → number_of t bs ≤ place
+pub number_before : (t : List ℕ) (bs : List Binding) (place : ℕ) → namespace_at bs place ≡ Some t → namespace_number t bs ≤ place
 number_before t [] place e = absurd cc
 number_before t (b ∷ bs) zero e =
     let same : b.namespace ≡ t = cc in
     let test : bytes_eq b.namespace t ≡ true = (bytes_eq-Decides b.namespace t).1 same in
-    subst (λ s. cond s 0 (suc (number_of t bs)) ≤ 0) (sym test) (omega arith)
+    subst (λ s. cond s 0 (suc (namespace_number t bs)) ≤ 0) (sym test) (omega arith)
 number_before t (b ∷ bs) (suc place) e = go (number_before t bs place e) (bytes_eq b.namespace t)
   where
-    go : number_of t bs ≤ place → (same : Bool) → cond same 0 (suc (number_of t bs)) ≤ suc place
+    go : namespace_number t bs ≤ place → (same : Bool) → cond same 0 (suc (namespace_number t bs)) ≤ suc place
     go h true = omega arith
     go h false = omega arith
 
 -- a binding's own number is that before it
-number_own : (bs : List Binding) (b : Binding) → number_of b.namespace (bs ++ b ∷ []) ≡ number_of b.namespace bs
+number_own : (bs : List Binding) (b : Binding) → namespace_number b.namespace (bs ++ b ∷ []) ≡ namespace_number b.namespace bs
 number_own [] b = ap (λ s. cond s 0 1) ((bytes_eq-Decides b.namespace b.namespace).1 refl)
 number_own (x ∷ bs) b = ap (λ n. cond (bytes_eq x.namespace b.namespace) 0 (suc n)) (number_own bs b)
 
@@ -104,59 +104,59 @@ number_own (x ∷ bs) b = ap (λ n. cond (bytes_eq x.namespace b.namespace) 0 (s
 
 -- one that is bound, or none
 abbrev pub Known : List Binding → List ℕ → Type 0
-Known bs t = (number_of t bs < length bs) ⊎ (t ≡ [])
+Known bs t = (namespace_number t bs < length bs) ⊎ (t ≡ [])
 
-same_bound : (bs : List Binding) (a b : List ℕ) → number_of a bs < length bs → number_of a bs ≡ number_of b bs → a ≡ b
+same_bound : (bs : List Binding) (a b : List ℕ) → namespace_number a bs < length bs → namespace_number a bs ≡ namespace_number b bs → a ≡ b
 same_bound bs a b h e =
-    let left : namespace_at bs (number_of a bs) ≡ Some a = number_reads a bs h in
-    let right : namespace_at bs (number_of b bs) ≡ Some b = number_reads b bs (omega arith) in
-    let moved : namespace_at bs (number_of a bs) ≡ namespace_at bs (number_of b bs) = ap (namespace_at bs) e in
+    let left : namespace_at bs (namespace_number a bs) ≡ Some a = number_reads a bs h in
+    let right : namespace_at bs (namespace_number b bs) ≡ Some b = number_reads b bs (omega arith) in
+    let moved : namespace_at bs (namespace_number a bs) ≡ namespace_at bs (namespace_number b bs) = ap (namespace_at bs) e in
     cc
 
-same_number : (bs : List Binding) (a b : List ℕ) → Known bs a → Known bs b → number_of a bs ≡ number_of b bs → a ≡ b
+same_number : (bs : List Binding) (a b : List ℕ) → Known bs a → Known bs b → namespace_number a bs ≡ namespace_number b bs → a ≡ b
 same_number bs a b (inl h) k e = same_bound bs a b h e
 same_number bs a b (inr h) (inl k) e = sym (same_bound bs b a k (sym e))
 same_number bs a b (inr h) (inr k) e = h ∙ sym k
 
-numbers_eq : (bs : List Binding) (a b : List ℕ) → Known bs a → Known bs b → (number_of a bs == number_of b bs) ≡ bytes_eq a b
+numbers_eq : (bs : List Binding) (a b : List ℕ) → Known bs a → Known bs b → (namespace_number a bs == namespace_number b bs) ≡ bytes_eq a b
 numbers_eq bs a b h k =
-    let d = Decides-eqb (number_of a bs) (number_of b bs) in
-    same_from_decides {P = a ≡ b} _ _ (λ e. same_number bs a b h k (d.0 e), λ e. d.1 (ap (λ (t : List ℕ). number_of t bs) e)) (bytes_eq-Decides a b)
+    let d = Decides-eqb (namespace_number a bs) (namespace_number b bs) in
+    same_from_decides {P = a ≡ b} _ _ (λ e. same_number bs a b h k (d.0 e), λ e. d.1 (ap (λ (t : List ℕ). namespace_number t bs) e)) (bytes_eq-Decides a b)
 
 abbrev pub KnownName : List Binding → Name → Type 0
 KnownName bs name = Known bs name.namespace
 
 any_same : (bs : List Binding) (name : Name) (seen : List Name) → KnownName bs name → Each (KnownName bs) seen
-    → list_any (same_key (numbered bs name)) (map (numbered bs) seen) ≡ list_any (same_name name) seen
+    → list_any (same_key (numbered_name bs name)) (map (numbered_name bs) seen) ≡ list_any (same_name name) seen
 any_same bs name [] h k = refl
 any_same bs name (x ∷ seen) h k =
-    let here : same_key (numbered bs name) (numbered bs x) ≡ same_name name x = ap (λ b. b && bytes_eq name.local x.local) (numbers_eq bs name.namespace x.namespace h k.0) in
+    let here : same_key (numbered_name bs name) (numbered_name bs x) ≡ same_name name x = ap (λ b. b && bytes_eq name.local x.local) (numbers_eq bs name.namespace x.namespace h k.0) in
     let rest = any_same bs name seen h k.1 in
     cc
 
 pub distinct_same : (bs : List Binding) (seen names : List Name) → Each (KnownName bs) seen → Each (KnownName bs) names
-    → distinct_keys (map (numbered bs) seen) (map (numbered bs) names) ≡ distinct_behind seen names
+    → distinct_keys (map (numbered_name bs) seen) (map (numbered_name bs) names) ≡ distinct_behind seen names
 distinct_same bs seen [] h k = refl
 distinct_same bs seen (name ∷ names) h k =
-    ap (λ b. not b && distinct_keys (map (numbered bs) seen ++ numbered bs name ∷ []) (map (numbered bs) names)) (any_same bs name seen k.0 h)
-    ∙ ap (λ (xs : List (ℕ × List ℕ)). not (list_any (same_name name) seen) && distinct_keys xs (map (numbered bs) names)) (sym (map_push (numbered bs) seen name))
+    ap (λ b. not b && distinct_keys (map (numbered_name bs) seen ++ numbered_name bs name ∷ []) (map (numbered_name bs) names)) (any_same bs name seen k.0 h)
+    ∙ ap (λ (xs : List (ℕ × List ℕ)). not (list_any (same_name name) seen) && distinct_keys xs (map (numbered_name bs) names)) (sym (map_push (numbered_name bs) seen name))
     ∙ ap (λ b. not (list_any (same_name name) seen) && b) (distinct_same bs (seen ++ name ∷ []) names (each_append (KnownName bs) seen (name ∷ []) h (k.0, tt)) k.1)
 
-known_bound : (bs : List Binding) (prefix t : List ℕ) → bound prefix bs ≡ Some t → Known bs t
+known_bound : (bs : List Binding) (prefix t : List ℕ) → bound_namespace prefix bs ≡ Some t → Known bs t
 known_bound bs prefix t e = go (last_place prefix bs) (sym (bound-reads prefix bs) ∙ e)
   where
     go : (o : Option ℕ) → option_and_then (namespace_at bs) o ≡ Some t → Known bs t
     go None f = absurd cc
     go (Some place) f = inl (within (slice_get bs place) refl)
       where
-        within : (o : Option Binding) → slice_get bs place ≡ o → number_of t bs < length bs
+        within : (o : Option Binding) → slice_get bs place ≡ o → namespace_number t bs < length bs
         within None g = absurd (nothing (sym (ap (option_map (λ (b : Binding). b.namespace)) g) ∙ f))
           where
             nothing : option_map (λ (b : Binding). b.namespace) None ≡ Some t → ⊥
             nothing x = cc
         within (Some b) g =
             let lt : place < length bs = slice_get_within bs place b g in
-            let le : number_of t bs ≤ place = number_before t bs place f in
+            let le : namespace_number t bs ≤ place = number_before t bs place f in
             omega arith
 
 known_name : (bs : List Binding) (name : QName) (n : Name) → attribute_name bs name ≡ Some n → KnownName bs n
@@ -166,25 +166,25 @@ known_name bs name n e = go (is_nil name.prefix) e
     go : (b : Bool) → cond b (Some (record { namespace = []; local = encode_utf8_all name.local })) (prefixed_name bs name) ≡ Some n → KnownName bs n
     go true f = inr (sym (ap (λ (x : Name). x.namespace) (same_Some _ n f)))
     go false f =
-        let a = bind_some (bound name.prefix bs) _ n f in
+        let a = bind_some (bound_namespace name.prefix bs) _ n f in
         subst (KnownName bs) (same_Some _ n a.2) (known_bound bs name.prefix a.0 a.1)
 
-known_names : (bs : List Binding) (raws : List RawAttribute) (names : List Name) → names_of bs raws ≡ Some names → Each (KnownName bs) names
+known_names : (bs : List Binding) (raws : List RawAttribute) (names : List Name) → attribute_names bs raws ≡ Some names → Each (KnownName bs) names
 known_names bs [] names e = subst (Each (KnownName bs)) (same_Some [] names e) tt
 known_names bs (raw ∷ raws) names e =
     let a = bind_some (attribute_name bs raw.name) _ names e in
-    let b = bind_some (names_of bs raws) _ names a.2 in
+    let b = bind_some (attribute_names bs raws) _ names a.2 in
     subst (Each (KnownName bs)) (same_Some (a.0 ∷ b.0) names b.2) (known_name bs raw.name a.0 a.1, known_names bs raws b.0 b.1)
 
 pub keys_distinct : (bs : List Binding) (raws : List RawAttribute)
-    → option_map (distinct_keys []) (option_map (map (numbered bs)) (names_of bs raws)) ≡ option_map are_distinct (names_of bs raws)
+    → option_map (distinct_keys []) (option_map (map (numbered_name bs)) (attribute_names bs raws)) ≡ option_map are_distinct (attribute_names bs raws)
 unfolding are_distinct
-keys_distinct bs raws = go (names_of bs raws) refl
+keys_distinct bs raws = go (attribute_names bs raws) refl
   where
     some : Bool → Option Bool
     some x = Some x
 
-    go : (o : Option (List Name)) → names_of bs raws ≡ o → option_map (distinct_keys []) (option_map (map (numbered bs)) o) ≡ option_map are_distinct o
+    go : (o : Option (List Name)) → attribute_names bs raws ≡ o → option_map (distinct_keys []) (option_map (map (numbered_name bs)) o) ≡ option_map are_distinct o
     go None e = refl
     go (Some names) e = ap some (distinct_same bs [] names tt (known_names bs raws names e))
 
@@ -202,7 +202,7 @@ abbrev namespace_of : code.Binding → List ℕ
 namespace_of b = rc_str_bytes b.namespace
 
 abbrev number_in : List ℕ → List code.Binding → ℕ
-number_in t bindings = number_of t (map binding_of bindings)
+number_in t bindings = namespace_number t (map binding_of bindings)
 
 abbrev key_cmp : RcStr Global → RcStr Global → Ordering
 key_cmp x y = slice_cmp nat_cmp (rc_str_bytes x) (rc_str_bytes y)
@@ -302,12 +302,12 @@ number_other bindings numbers h t place is other = go (number_cases t bindings)
             let there : namespace_at (map binding_of bindings) place ≡ Some (namespace_of b) =
             ap (option_map (λ (x : Binding). x.namespace)) (slice_get-map binding_of bindings place ∙ ap (option_map binding_of) e) in
             let moved : namespace_at (map binding_of bindings) place ≡ namespace_at (map binding_of bindings) (number_in t bindings) = ap (namespace_at (map binding_of bindings)) here in
-            let bound = reads in
+            let bound_namespace = reads in
             let same : namespace_of b ≡ t = cc in
             other b e same
 
-push_is : (t : List ℕ) (bindings : List code.Binding) (b : code.Binding) → number_in t (bindings ++ b ∷ []) ≡ number_of t (map binding_of bindings ++ binding_of b ∷ [])
-push_is t bindings b = ap (number_of t) (map_push binding_of bindings b)
+push_is : (t : List ℕ) (bindings : List code.Binding) (b : code.Binding) → number_in t (bindings ++ b ∷ []) ≡ namespace_number t (map binding_of bindings ++ binding_of b ∷ [])
+push_is t bindings b = ap (namespace_number t) (map_push binding_of bindings b)
 
 push_stays : (t : List ℕ) (bindings : List code.Binding) (b : code.Binding) → number_in t bindings < length bindings → number_in t (bindings ++ b ∷ []) ≡ number_in t bindings
 push_stays t bindings b h = push_is t bindings b ∙ number_stays t (map binding_of bindings) (binding_of b ∷ []) (rw length-map h)

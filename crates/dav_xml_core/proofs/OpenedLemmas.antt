@@ -9,13 +9,13 @@ use Rattle.dav_xml_core.specs.Characters.{is_white}
 use Rattle.dav_xml_core.specs.Documents.{Name, Attribute, Node, Start, End}
 use Rattle.dav_xml_core.specs.Markup.{RawAttribute, Piece, Tag, EndTag, Characters, piece_at}
 use Rattle.dav_xml_core.specs.Names.{QName}
-use Rattle.dav_xml_core.specs.Namespaces.{Binding, Started, with_binding, with_bindings, element_name, names_of, are_distinct, attributes_of, binding_of, declares, started_of}
+use Rattle.dav_xml_core.specs.Namespaces.{Binding, Started, with_binding, with_bindings, element_name, attribute_names, are_distinct, attributes_of, declared_binding, declares, started_of}
 use Rattle.dav_xml_core.specs.Optional.{◌>>=◌, when, choose}
-use Rattle.dav_xml_core.specs.Places.{read_on}
+use Rattle.dav_xml_core.specs.Places.{read_from_front}
 use Rattle.dav_xml_core.specs.Readable.{HoldWritten as Holds, IsReadBack, name_bytes, attribute_bytes}
-use Rattle.dav_xml_core.specs.Reading.{Front, Element, is_empty, text_nodes, same_qname, started, tagged, content_of, with_characters, with_piece}
+use Rattle.dav_xml_core.specs.Reading.{Front, Element, is_empty, text_nodes, same_qname, with_start_tag, with_tag, content_of, with_characters, with_piece}
 use Rattle.dav_xml_core.specs.Scanning.{is_nil}
-use Rattle.dav_xml_core.specs.Writing.{escaped, start_text}
+use Rattle.dav_xml_core.specs.Writing.{escaped_character, start_text}
 use Rattle.dav_xml_core.proofs.BuilderLemmas.{ended_with}
 use Rattle.dav_xml_core.proofs.ElementLemmas.{bind_some, after}
 use Rattle.dav_xml_core.proofs.EscapeLemmas.{text_again}
@@ -33,9 +33,9 @@ by_one : (around bindings : List Binding) (attribute : RawAttribute) → with_bi
 unfolding with_binding
 by_one around bindings attribute h = go (declares attribute.name) h
   where
-    go : (o : Option (List ℕ)) → choose o (λ prefix. binding_of prefix attribute.raw >>= λ binding. Some (around ++ binding ∷ [])) (Some around) ≡ Some bindings → Extends around bindings
+    go : (o : Option (List ℕ)) → choose o (λ prefix. declared_binding prefix attribute.raw >>= λ binding. Some (around ++ binding ∷ [])) (Some around) ≡ Some bindings → Extends around bindings
     go (Some prefix) e =
-        let a = bind_some (binding_of prefix attribute.raw) _ bindings e in
+        let a = bind_some (declared_binding prefix attribute.raw) _ bindings e in
         (a.0 ∷ [], sym (same_Some (around ++ a.0 ∷ []) bindings a.2))
     go None e = ([], sym (same_Some around bindings e) ∙ sym (append-nil around))
 
@@ -52,7 +52,7 @@ unfolding started_of
 by_start around name attributes start h =
     let a = bind_some (with_bindings around attributes) _ start h in
     let b = bind_some (element_name a.0 name) _ start a.2 in
-    let d = bind_some (names_of a.0 attributes) _ start b.2 in
+    let d = bind_some (attribute_names a.0 attributes) _ start b.2 in
     let e = bind_some (when (are_distinct d.0) d.0) _ start d.2 in
     let f = bind_some (attributes_of a.0 attributes) _ start e.2 in
     let all = by_all attributes around a.0 a.1 in
@@ -65,7 +65,7 @@ front_of nodes text elements bindings = record { nodes = nodes; text = text; ele
 
 tagged_as : (front : Front) (name : QName) (attributes : List RawAttribute) (start : Started) → (not (is_empty front.elements) || is_empty front.nodes) ≡ true
     → started_of front.bindings name attributes ≡ Some start → with_piece front (Tag name attributes false) ≡ Some (after front name front.bindings start)
-unfolding tagged started
+unfolding with_tag with_start_tag
 tagged_as front name attributes start allowed h =
     ap (λ b. (when b front.bindings >>= λ around. started_of around name attributes >>= λ s. some (after front name around s)) >>= λ begun. some begun) allowed
     ∙ ap (λ (o : Option Started). (o >>= λ s. some (after front name front.bindings s)) >>= λ begun. some begun) h
@@ -74,14 +74,14 @@ tagged_as front name attributes start allowed h =
     some f = Some f
 
 text_as : (nodes : List Node) (elements : List Element) (bindings : List Binding) (text : List ℕ) → is_empty elements ≡ false
-    → with_piece (front_of nodes [] elements bindings) (Characters (flat_map (escaped false) text)) ≡ Some (front_of nodes text elements bindings)
+    → with_piece (front_of nodes [] elements bindings) (Characters (flat_map (escaped_character false) text)) ≡ Some (front_of nodes text elements bindings)
 unfolding with_characters
 text_as nodes elements bindings text h =
     ap (λ b. cond b (when (list_all is_white raw) (front_of nodes [] elements bindings)) (content_of raw >>= λ t. some (front_of nodes t elements bindings))) h
     ∙ ap (λ (o : Option (List ℕ)). o >>= λ t. some (front_of nodes t elements bindings)) (text_again text)
   where
     raw : List ℕ
-    raw = flat_map (escaped false) text
+    raw = flat_map (escaped_character false) text
 
     some : Front → Option Front
     some f = Some f
@@ -135,30 +135,30 @@ node_of name attributes = Start (name_bytes name) (map attribute_bytes attribute
 -- an element begins
 pub start_on : (first : List ℕ) (name : Name) (attributes : List Attribute) (before : List Node) (text : List ℕ) (elements : List Element) (bindings : List Binding) (behind : List ℕ)
     → (not (is_empty elements) || is_empty before) ≡ true → (back : IsReadBack bindings first name attributes)
-    → read_on (front_of before text elements bindings) (start_text first name attributes ++ behind)
-    ≡ read_on (front_of (before ++ text_nodes text ++ node_of name attributes ∷ []) [] (elements ++ element (record { name = name; tag = back.tag; around = bindings }) ∷ []) back.inside) behind
+    → read_from_front (front_of before text elements bindings) (start_text first name attributes ++ behind)
+    ≡ read_from_front (front_of (before ++ text_nodes text ++ node_of name attributes ∷ []) [] (elements ++ element (record { name = name; tag = back.tag; around = bindings }) ∷ []) back.inside) behind
 start_on first name attributes before text elements bindings behind allowed back =
     step_on (front_of before text elements bindings) _ (start_text first name attributes ++ behind) behind (Tag back.tag back.written false) (back.start behind)
     (tagged_as (front_of before text elements bindings) back.tag back.written _ allowed back.element)
 
 -- text, behind which stands a tag
 pub text_on : (before : List Node) (elements : List Element) (bindings : List Binding) (text behind after : List ℕ) → is_empty elements ≡ false → is_nil text ≡ false → behind ≡ 60 ∷ after
-    → read_on (front_of before [] elements bindings) (flat_map (escaped false) text ++ behind) ≡ read_on (front_of before text elements bindings) behind
+    → read_from_front (front_of before [] elements bindings) (flat_map (escaped_character false) text ++ behind) ≡ read_from_front (front_of before text elements bindings) behind
 text_on before elements bindings text behind after some nonempty next =
     step_on (front_of before [] elements bindings) (front_of before text elements bindings) (raw ++ behind) behind (Characters raw)
     (ap (λ (t : List ℕ). piece_at (raw ++ t)) next ∙ text_piece_again text after nonempty ∙ ap (λ (t : List ℕ). found (Characters raw) t) (sym next))
     (text_as before elements bindings text some)
   where
     raw : List ℕ
-    raw = flat_map (escaped false) text
+    raw = flat_map (escaped_character false) text
 
 -- an element ends
 pub end_on : (last : Opened) (before : List Node) (text : List ℕ) (elements : List Element) (bindings : List Binding) (behind : List ℕ) → IsOpen last bindings
-    → read_on (front_of before text (elements ++ element last ∷ []) bindings) (end_text last.name ++ behind)
-    ≡ read_on (front_of (before ++ text_nodes text ++ End ∷ []) [] elements last.around) behind
+    → read_from_front (front_of before text (elements ++ element last ∷ []) bindings) (end_text last.name ++ behind)
+    ≡ read_from_front (front_of (before ++ text_nodes text ++ End ∷ []) [] elements last.around) behind
 end_on last before text elements bindings behind is =
     let front = front_of before text (elements ++ element last ∷ []) bindings in
     let left : take (length last.around) bindings ≡ last.around = ap (take (length last.around)) is.extends.1 ∙ take-append_seam last.around is.extends.0 in
     step_on front (front_of (before ++ text_nodes text ++ End ∷ []) [] elements (take (length last.around) bindings)) (end_text last.name ++ behind) behind (EndTag last.tag) (is.ends behind)
     (ended_with front last.tag elements (element last) refl (same_name last.tag))
-    ∙ ap (λ (b : List Binding). read_on (front_of (before ++ text_nodes text ++ End ∷ []) [] elements b) behind) left
+    ∙ ap (λ (b : List Binding). read_from_front (front_of (before ++ text_nodes text ++ End ∷ []) [] elements b) behind) left

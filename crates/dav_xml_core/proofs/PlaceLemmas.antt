@@ -5,8 +5,8 @@ use Rattle.std.proofs.lemmas.Option.{none-some}
 use Rattle.dav_xml_core.specs.Documents.{Node}
 use Rattle.dav_xml_core.specs.Markup.{Piece, piece_at}
 use Rattle.dav_xml_core.specs.Optional.{◌>>=◌}
-use Rattle.dav_xml_core.specs.Places.{read_on}
-use Rattle.dav_xml_core.specs.Reading.{Front, nothing, with_piece, with_pieces, finished, nodes_of}
+use Rattle.dav_xml_core.specs.Places.{read_from_front}
+use Rattle.dav_xml_core.specs.Reading.{Front, nothing, with_piece, with_pieces, finished_nodes, nodes_of}
 use Rattle.dav_xml_core.specs.Scanning.{Found}
 use Rattle.dav_xml_core.specs.Sequences.{many, sequence, at_end}
 use Rattle.dav_xml_core.proofs.ProductionLemmas.{piece_found}
@@ -46,22 +46,22 @@ enough (suc n) (suc m) (c ∷ text) a b =
     go None r = refl
 
 abbrev told : Front → Option (List Piece × List ℕ) → Option (List Node)
-told front found = found >>= λ all. with_pieces front all.0 >>= finished
+told front found = found >>= λ all. with_pieces front all.0 >>= finished_nodes
 
-told_on : (front : Front) (text : List ℕ) → read_on front text ≡ told front (pieces (suc (length text)) text)
-unfolding read_on sequence
+told_on : (front : Front) (text : List ℕ) → read_from_front front text ≡ told front (pieces (suc (length text)) text)
+unfolding read_from_front sequence
 told_on front text = go (pieces (suc (length text)) text)
   where
-    go : (found : Option (List Piece × List ℕ)) → ((found >>= λ x. Some x.0) >>= λ all. with_pieces front all >>= finished) ≡ told front found
+    go : (found : Option (List Piece × List ℕ)) → ((found >>= λ x. Some x.0) >>= λ all. with_pieces front all >>= finished_nodes) ≡ told front found
     go (Some found) = refl
     go None = refl
 
 one_piece : (front more : Front) (piece : Piece) (others : Option (List Piece × List ℕ)) → with_piece front piece ≡ Some more → told front (put piece others) ≡ told more others
 one_piece front more piece None h = refl
-one_piece front more piece (Some others) h = ap (λ (o : Option Front). (o >>= λ next. with_pieces next others.0) >>= finished) h
+one_piece front more piece (Some others) h = ap (λ (o : Option Front). (o >>= λ next. with_pieces next others.0) >>= finished_nodes) h
 
 -- what is read at a piece is what is read behind it
-pub step_on : (front more : Front) (text after : List ℕ) (piece : Piece) → piece_at text ≡ Some (piece, after) → with_piece front piece ≡ Some more → read_on front text ≡ read_on more after
+pub step_on : (front more : Front) (text after : List ℕ) (piece : Piece) → piece_at text ≡ Some (piece, after) → with_piece front piece ≡ Some more → read_from_front front text ≡ read_from_front more after
 unfolding piece_at many
 step_on front more [] after piece h i = absurd (none-some (piece, after) h)
 step_on front more (c ∷ text) after piece h i =
@@ -72,6 +72,6 @@ step_on front more (c ∷ text) after piece h i =
     ∙ ap (told more) (enough n (suc (length after)) after (omega (arith, rest_shorter c text (piece, after) h)) (omega arith))
     ∙ sym (told_on more after)
 
-pub whole_document : (text : List ℕ) → nodes_of text ≡ read_on nothing text
-unfolding nodes_of read_on
+pub whole_document : (text : List ℕ) → nodes_of text ≡ read_from_front nothing text
+unfolding nodes_of read_from_front
 whole_document text = refl

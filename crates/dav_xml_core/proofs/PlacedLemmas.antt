@@ -8,7 +8,7 @@ use Rattle.dav_xml_core.specs.Documents.{Node}
 use Rattle.dav_xml_core.specs.Markup.{Piece, piece_at}
 use Rattle.dav_xml_core.specs.Names.{is_name_start}
 use Rattle.dav_xml_core.specs.Optional.{◌>>=◌, when, choose}
-use Rattle.dav_xml_core.specs.Places.{read_on, front_at, may_begin, with_element}
+use Rattle.dav_xml_core.specs.Places.{read_from_front, front_at, may_begin, with_element}
 use Rattle.dav_xml_core.specs.ReadableDocuments.{node_bytes, is_readable}
 use Rattle.dav_xml_core.specs.Reading.{Front, nothing, with_piece, with_pieces, nodes_of, without_mark, content_nodes, document_of}
 use Rattle.dav_xml_core.specs.Scanning.{begins, after_mark}
@@ -66,12 +66,12 @@ module _ (c : ℕ) (others : List ℕ) (start : is_name_start c ≡ true) where
 
   -- what is read of whole pieces with a tag behind them, is what is read at the tag
   pieces_on : (n : ℕ) (text : List ℕ) (found : List Piece × List ℕ) (before front : Front) → many at_end piece_at n text ≡ Some found → with_pieces before found.0 ≡ Some front
-      → read_on before (longer tag text) ≡ read_on front (60 ∷ tag)
+      → read_from_front before (longer tag text) ≡ read_from_front front (60 ∷ tag)
   unfolding many
   pieces_on zero text found before front h i = absurd (none-some found h)
   pieces_on (suc n) [] found before front h i =
       let none : found.0 ≡ [] = ap (λ (f : List Piece × List ℕ). f.0) (sym (same_Some ([], []) found h)) in
-      ap (λ (f : Front). read_on f (60 ∷ tag)) (same_Some before front (ap (with_pieces before) (sym none) ∙ i))
+      ap (λ (f : Front). read_from_front f (60 ∷ tag)) (same_Some before front (ap (with_pieces before) (sym none) ∙ i))
   pieces_on (suc n) (x ∷ text) found before front h i =
       let a = bind_some (piece_at (x ∷ text)) _ found h in
       let b = bind_some (many at_end piece_at n a.0.1) _ found a.2 in
@@ -82,7 +82,7 @@ module _ (c : ℕ) (others : List ℕ) (start : is_name_start c ≡ true) where
 
   -- the characters of a document that goes on with a tag
   text_on : (text rest : List ℕ) (pieces : List Piece) (front : Front) → after_declaration (without_mark text) ≡ Some rest → all_of piece_at rest ≡ Some pieces → with_pieces nothing pieces ≡ Some front
-      → content_nodes (longer tag text) ≡ read_on front (60 ∷ tag)
+      → content_nodes (longer tag text) ≡ read_from_front front (60 ∷ tag)
   unfolding content_nodes sequence
   text_on text rest pieces front h i j =
       let a = bind_some (many at_end piece_at (suc (length rest)) rest) _ pieces i in
@@ -91,7 +91,7 @@ module _ (c : ℕ) (others : List ℕ) (start : is_name_start c ≡ true) where
 
 -- the bytes of an element, where it may begin in a document, are read as its nodes
 pub placed : (before behind rest : List ℕ) (front : Front) (nodes : List Node) → front_at before ≡ Some front → may_begin front ≡ true → characters behind ≡ Some rest
-    → is_readable nodes ≡ true → document_of (before ++ written_alone (map node_bytes nodes) ++ behind) ≡ read_on (with_element front (map node_bytes nodes)) rest
+    → is_readable nodes ≡ true → document_of (before ++ written_alone (map node_bytes nodes) ++ behind) ≡ read_from_front (with_element front (map node_bytes nodes)) rest
 unfolding front_at document_of tag
 placed before behind rest front nodes h allowed i readable =
     let a = bind_some (characters before) _ front h in
@@ -103,5 +103,5 @@ placed before behind rest front nodes h allowed i readable =
     (alone_bytes before behind a.0 rest nodes readable a.1 i)
     (ap content_nodes (append_assoc a.0 (written_alone nodes) rest ∙ ap (λ (t : List ℕ). a.0 ++ t) first.3)
     ∙ text_on first.0 first.1 first.2 a.0 b.0 d.0 front b.1 d.1 d.2
-    ∙ ap (read_on front) (sym first.3)
+    ∙ ap (read_from_front front) (sym first.3)
     ∙ alone_on front nodes rest allowed always.0 always.1 readable)

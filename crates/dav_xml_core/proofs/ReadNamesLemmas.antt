@@ -10,7 +10,7 @@ use Rattle.dav_xml_core.specs.Characters.{is_char}
 use Rattle.dav_xml_core.specs.Documents.{Name, Attribute}
 use Rattle.dav_xml_core.specs.Markup.{RawAttribute}
 use Rattle.dav_xml_core.specs.Names.{QName, is_ncname}
-use Rattle.dav_xml_core.specs.Namespaces.{Binding, Started, always_bound, xml_namespace, xmlns_namespace, bound_from, bound, declares, may_bind, binding_of, with_binding, with_bindings, prefixed_name, element_name, attribute_name, attribute_of, attributes_of, names_of, same_name, distinct_behind, are_distinct, started_of}
+use Rattle.dav_xml_core.specs.Namespaces.{Binding, Started, always_bound, xml_namespace, xmlns_namespace, bound_from, bound_namespace, declares, may_bind, declared_binding, with_binding, with_bindings, prefixed_name, element_name, attribute_name, bound_attribute, attributes_of, attribute_names, same_name, distinct_behind, are_distinct, started_of}
 use Rattle.dav_xml_core.specs.Optional.{◌>>=◌, when, choose}
 use Rattle.dav_xml_core.specs.Readable.{is_name, is_attribute, is_start, name_bytes, attribute_bytes, names_bytes}
 use Rattle.dav_xml_core.specs.References.{value_of}
@@ -58,8 +58,8 @@ bound_from_is prefix found (b ∷ bindings) is are =
     go true e = subst (λ (p : List ℕ). IsNamespace p b.namespace) ((bytes_eq-Decides b.prefix prefix).0 e) are.0
     go false e = is
 
-bound_is : (prefix : List ℕ) (bindings : List Binding) → AreBindings bindings → IsBound prefix (bound prefix bindings)
-unfolding bound
+bound_is : (prefix : List ℕ) (bindings : List Binding) → AreBindings bindings → IsBound prefix (bound_namespace prefix bindings)
+unfolding bound_namespace
 bound_is prefix bindings are = bound_from_is prefix None bindings tt are
 
 or_other : (a b : Bool) → (a || b) ≡ true → a ≡ false → b ≡ true
@@ -89,8 +89,8 @@ may_is prefix value all h = go (bytes_eq prefix (codes "xml")) h
           some = λ n. sym (same_nil value) ∙ not_true (is_nil namespace) (or_other (is_nil prefix) (not (is_nil namespace)) p.1 n);
         }
 
-binding_is : (prefix raw : List ℕ) (found : Binding) → list_all is_char raw ≡ true → binding_of prefix raw ≡ Some found → IsBinding found
-unfolding binding_of
+binding_is : (prefix raw : List ℕ) (found : Binding) → list_all is_char raw ≡ true → declared_binding prefix raw ≡ Some found → IsBinding found
+unfolding declared_binding
 binding_is prefix raw found all h =
     let a = bind_some (value_of raw) _ found h in
     let w = when_some (may_bind prefix (encode_utf8_all a.0)) (binding prefix (encode_utf8_all a.0)) found a.2 in
@@ -104,9 +104,9 @@ module _ (n : ℕ) where
   unfolding with_binding
   one_more around bindings raw are is h = go (declares raw.name) h
     where
-      go : (o : Option (List ℕ)) → choose o (λ prefix. binding_of prefix raw.raw >>= λ b. Some (around ++ b ∷ [])) (Some around) ≡ Some bindings → AreBindings bindings
+      go : (o : Option (List ℕ)) → choose o (λ prefix. declared_binding prefix raw.raw >>= λ b. Some (around ++ b ∷ [])) (Some around) ≡ Some bindings → AreBindings bindings
       go (Some prefix) e =
-          let a = bind_some (binding_of prefix raw.raw) _ bindings e in
+          let a = bind_some (declared_binding prefix raw.raw) _ bindings e in
           subst AreBindings (same_Some (around ++ a.0 ∷ []) bindings a.2) (each_append IsBinding around (a.0 ∷ []) are (binding_is prefix raw.raw a.0 is.1 a.1, tt))
       go None e = subst AreBindings (same_Some around bindings e) are
 
@@ -136,7 +136,7 @@ with_prefix prefix namespace local is other h = record {
 prefixed_is : (inside : List Binding) (name : QName) (found : Name) → AreBindings inside → bytes_eq name.prefix (codes "xmlns") ≡ false → is_ncname name.local ≡ true
     → prefixed_name inside name ≡ Some found → IsRead found
 unfolding prefixed_name
-prefixed_is inside name found are other h e = go (bound name.prefix inside) (bound_is name.prefix inside are) e
+prefixed_is inside name found are other h e = go (bound_namespace name.prefix inside) (bound_is name.prefix inside are) e
   where
     go : (o : Option (List ℕ)) → IsBound name.prefix o → (o >>= λ namespace. Some (named namespace (encode_utf8_all name.local))) ≡ Some found → IsRead found
     go (Some namespace) is i = subst IsRead (same_Some (named namespace (encode_utf8_all name.local)) found i) (with_prefix name.prefix namespace name.local is other h)
@@ -151,8 +151,8 @@ element_is inside name found are h e = go (is_nil name.prefix) (bytes_eq name.pr
     by_default (Some namespace) is = with_prefix [] namespace name.local is refl h
 
     go : (a b : Bool) → bytes_eq name.prefix (codes "xmlns") ≡ b
-        → cond a (Some (named (unwrap_or (bound [] inside) []) (encode_utf8_all name.local))) (cond b None (prefixed_name inside name)) ≡ Some found → IsRead found
-    go true b is i = subst IsRead (same_Some _ found i) (by_default (bound [] inside) (bound_is [] inside are))
+        → cond a (Some (named (unwrap_or (bound_namespace [] inside) []) (encode_utf8_all name.local))) (cond b None (prefixed_name inside name)) ≡ Some found → IsRead found
+    go true b is i = subst IsRead (same_Some _ found i) (by_default (bound_namespace [] inside) (bound_is [] inside are))
     go false true is i = absurd (none-some found i)
     go false false is i = prefixed_is inside name found are is h i
 
@@ -171,7 +171,7 @@ when_none false x h = refl
 plain_prefixed : (inside : List Binding) (name : QName) (found : Name) → AreBindings inside → bytes_eq name.prefix (codes "xmlns") ≡ false → is_nil name.prefix ≡ false → is_ncname name.local ≡ true
     → prefixed_name inside name ≡ Some found → IsPlain found
 unfolding prefixed_name with_prefix
-plain_prefixed inside name found are other some h e = go (bound name.prefix inside) (bound_is name.prefix inside are) e
+plain_prefixed inside name found are other some h e = go (bound_namespace name.prefix inside) (bound_is name.prefix inside are) e
   where
     go : (o : Option (List ℕ)) → IsBound name.prefix o → (o >>= λ namespace. Some (named namespace (encode_utf8_all name.local))) ≡ Some found → IsPlain found
     go (Some namespace) is i =
@@ -256,23 +256,23 @@ module _ (n : ℕ) (inside : List Binding) (are : AreBindings inside) where
         (rw (by_cover name seen before c (not_true _ p.0), more) refl);
   }
 
-  kept : (raws : List RawAttribute) (names : List Name) (all : List Attribute) → AreFound n raws → names_of inside raws ≡ Some names → attributes_of inside raws ≡ Some all
+  kept : (raws : List RawAttribute) (names : List Name) (all : List Attribute) → AreFound n raws → attribute_names inside raws ≡ Some names → attributes_of inside raws ≡ Some all
       → Kept names all (length raws)
-  unfolding attribute_of
+  unfolding bound_attribute
   kept [] names all found h i = record { attributes = []; bytes = sym (same_Some [] all i); are = refl; few = omega arith; distinct = λ seen plain c d. refl }
   kept (raw ∷ raws) names all found h i =
       let a = bind_some (attribute_name inside raw.name) _ names h in
-      let b = bind_some (names_of inside raws) _ names a.2 in
+      let b = bind_some (attribute_names inside raws) _ names a.2 in
       subst (λ (x : List Name). Kept x all (suc (length raws))) (same_Some (a.0 ∷ b.0) names b.2)
       (go (declares raw.name) refl a.0 a.1 b.0 (λ others e. kept raws b.0 others found.1 b.1 e) i)
     where
       go : (o : Option (List ℕ)) → declares raw.name ≡ o → (name : Name) → attribute_name inside raw.name ≡ Some name → (more : List Name)
           → ((others : List Attribute) → attributes_of inside raws ≡ Some others → Kept more others (length raws))
-          → cond (choose o (λ prefix. true) false) (attributes_of inside raws) (attribute_of inside raw >>= λ first. attributes_of inside raws >>= λ others. Some (first ∷ others)) ≡ Some all
+          → cond (choose o (λ prefix. true) false) (attributes_of inside raws) (bound_attribute inside raw >>= λ first. attributes_of inside raws >>= λ others. Some (first ∷ others)) ≡ Some all
           → Kept (name ∷ more) all (suc (length raws))
       go (Some prefix) d name is more rest e = declared raw name more all (length raws) (rest all e)
       go None d name is more rest e =
-          let x = bind_some (attribute_of inside raw) _ all e in
+          let x = bind_some (bound_attribute inside raw) _ all e in
           let y = bind_some (attributes_of inside raws) _ all x.2 in
           let u = bind_some (attribute_name inside raw.name) _ x.0 x.1 in
           let v = bind_some (value_of raw.raw) _ x.0 u.2 in
@@ -304,7 +304,7 @@ unfolding started_of are_distinct
 start_is n around name raws start small are local found few h =
     let a = bind_some (with_bindings around raws) _ start h in
     let b = bind_some (element_name a.0 name) _ start a.2 in
-    let d = bind_some (names_of a.0 raws) _ start b.2 in
+    let d = bind_some (attribute_names a.0 raws) _ start b.2 in
     let e = bind_some (when (distinct_behind [] d.0) d.0) _ start d.2 in
     let w = when_some (distinct_behind [] d.0) d.0 e.0 e.1 in
     let f = bind_some (attributes_of a.0 raws) _ start e.2 in

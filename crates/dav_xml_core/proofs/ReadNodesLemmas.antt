@@ -14,7 +14,7 @@ use Rattle.dav_xml_core.specs.Names.{QName, is_ncname}
 use Rattle.dav_xml_core.specs.Namespaces.{Binding, Started, started_of}
 use Rattle.dav_xml_core.specs.Optional.{◌>>=◌, when, choose}
 use Rattle.dav_xml_core.specs.ReadableDocuments.{node_bytes, is_node, has_room, are_apart, CouldBeRead}
-use Rattle.dav_xml_core.specs.Reading.{Front, nothing, is_empty, last_of, text_nodes, same_qname, started, ended, with_pieces, finished, nodes_of, without_mark, content_nodes, document_of}
+use Rattle.dav_xml_core.specs.Reading.{Front, nothing, is_empty, last_of, text_nodes, same_qname, with_start_tag, with_end_tag, with_pieces, finished_nodes, nodes_of, without_mark, content_nodes, document_of}
 use Rattle.dav_xml_core.specs.Readable.{attribute_bytes}
 use Rattle.dav_xml_core.specs.Scanning.{begins, skip_white, after_mark, is_nil}
 use Rattle.dav_xml_core.specs.Sequences.{sequence, at_end}
@@ -108,8 +108,8 @@ end_divides after_text more = refl
 
 module _ (n : ℕ) (small : n + 1 < 2 ^ 64) where
   by_start : (front more : Front) (name : QName) (raws : List RawAttribute) → FrontIs front → is_ncname name.local ≡ true → AreFound n raws → length raws ≤ n
-      → started front name raws ≡ Some more → FrontIs more
-  unfolding started
+      → with_start_tag front name raws ≡ Some more → FrontIs more
+  unfolding with_start_tag
   by_start front more name raws read local found few h =
       let allowed = not (is_empty front.elements) || is_empty front.nodes in
       let a = bind_some (when allowed front.bindings) _ more h in
@@ -124,8 +124,8 @@ module _ (n : ℕ) (small : n + 1 < 2 ^ 64) where
       some : Front → Option Front
       some f = Some f
 
-  by_end : (front more : Front) (name : QName) → FrontIs front → ended front name ≡ Some more → FrontIs more
-  unfolding ended
+  by_end : (front more : Front) (name : QName) → FrontIs front → with_end_tag front name ≡ Some more → FrontIs more
+  unfolding with_end_tag
   by_end front more name read h =
       let a = bind_some (last_of front.elements) _ more h in
       let same = when_some (same_qname a.0.1.name name) _ more a.2 in
@@ -169,10 +169,10 @@ module _ (n : ℕ) (small : n + 1 < 2 ^ 64) where
   nodes_are : (text : List ℕ) (nodes : List Node) → Fine is_char (suc n) text → nodes_of text ≡ Some nodes → IsRead nodes [] []
   unfolding nodes_of
   nodes_are text nodes f h =
-      let a : (pieces : List Piece) × ((sequence at_end piece_at text >>= λ found. Some found.0) ≡ Some pieces) × ((with_pieces nothing pieces >>= finished) ≡ Some nodes) = bind_some _ _ nodes h in
+      let a : (pieces : List Piece) × ((sequence at_end piece_at text >>= λ found. Some found.0) ≡ Some pieces) × ((with_pieces nothing pieces >>= finished_nodes) ≡ Some nodes) = bind_some _ _ nodes h in
       let p = bind_some (sequence at_end piece_at text) _ a.0 a.1 in
       let each = subst (λ (x : List Piece). Each (PieceIs is_char n) x) (same_Some p.0.0 a.0 p.2) (pieces_are text p.0 f p.1) in
-      let b = bind_some (with_pieces nothing a.0) finished nodes a.2 in
+      let b = bind_some (with_pieces nothing a.0) finished_nodes nodes a.2 in
       let w = when_some (is_empty b.0.elements && not (is_empty b.0.nodes)) b.0.nodes nodes b.2 in
       let read = all_pieces a.0 nothing b.0 each nothing_is b.1 in
       record { characters = read.characters; bytes = sym w.1 ∙ read.bytes; each = read.each; room = read.room; apart = read.apart; said = refl; named = tt }

@@ -10,7 +10,7 @@ use Rattle.std.proofs.lemmas.Str.{IsUtf8-from_is_utf8, chars-encodes, length-le-
 use Rattle.dav_xml_core.specs.Characters.{is_char, is_white, lines_from, characters}
 use Rattle.dav_xml_core.specs.Optional.{◌>>=◌, when}
 use Rattle.dav_xml_core.specs.Reading.{content_of}
-use Rattle.dav_xml_core.specs.References.{named, digits_of, referenced, expanded_at, expanded, as_blank, value_of}
+use Rattle.dav_xml_core.specs.References.{named_entity, digits_of, referenced_character, expanded_at, expanded_text, as_blank, value_of}
 use Rattle.dav_xml_core.specs.Scanning.{until}
 use Rattle.dav_xml_core.specs.Sequences.{many, sequence, at_end}
 use Rattle.dav_xml_core.proofs.EachLemmas.{Each}
@@ -26,19 +26,19 @@ chosen : (b : Bool) (k r : ℕ) (other : Option ℕ) → is_char k ≡ true → 
 chosen true k r other is more h = subst (λ (c : ℕ). is_char c ≡ true) (same_Some k r h) is
 chosen false k r other is more h = more h
 
-named_char : (name : List ℕ) (r : ℕ) → named name ≡ Some r → is_char r ≡ true
+named_char : (name : List ℕ) (r : ℕ) → named_entity name ≡ Some r → is_char r ≡ true
 named_char name r h =
     chosen _ 60 r _ refl (chosen _ 62 r _ refl (chosen _ 38 r _ refl (chosen _ 39 r _ refl (chosen _ 34 r _ refl (λ (e : none ≡ Some r). absurd (none-some r e)))))) h
   where
     none : Option ℕ
     none = None
 
-referenced_char : (name : List ℕ) (r : ℕ) → referenced name ≡ Some r → is_char r ≡ true
-unfolding referenced
+referenced_char : (name : List ℕ) (r : ℕ) → referenced_character name ≡ Some r → is_char r ≡ true
+unfolding referenced_character
 referenced_char [] r h = absurd (none-some r h)
 referenced_char (c ∷ name) r h = go (c == 35) h
   where
-    go : (b : Bool) → cond b (digits_of name >>= λ n. when (is_char n) n) (named (c ∷ name)) ≡ Some r → is_char r ≡ true
+    go : (b : Bool) → cond b (digits_of name >>= λ n. when (is_char n) n) (named_entity (c ∷ name)) ≡ Some r → is_char r ≡ true
     go true e =
         let a = bind_some (digits_of name) _ r e in
         let w = when_some (is_char a.0) a.0 r a.2 in
@@ -54,11 +54,11 @@ module _ (n : ℕ) where
   expanded_char [] found f h = absurd (none-some found h)
   expanded_char (c ∷ text) found f h = go (c == 38) h
     where
-      go : (b : Bool) → cond b (until (59 ∷ []) text >>= λ name. referenced name.0 >>= λ r. Some (r, name.1)) (Some (c, text)) ≡ Some found → CharAt found
+      go : (b : Bool) → cond b (until (59 ∷ []) text >>= λ name. referenced_character name.0 >>= λ r. Some (r, name.1)) (Some (c, text)) ≡ Some found → CharAt found
       go true e =
           let a = bind_some (until (59 ∷ []) text) _ found e in
           let cut = searched is_char n (59 ∷ []) text a.0 (others_pass is_char n c text f) a.1 in
-          let b = bind_some (referenced a.0.0) _ found a.2 in
+          let b = bind_some (referenced_character a.0.0) _ found a.2 in
           subst CharAt (same_Some (b.0, a.0.1) found b.2) (referenced_char a.0.0 b.0 b.1, cut.1)
       go false e = subst CharAt (same_Some (c, text) found e) (first_passes is_char n c text f, others_pass is_char n c text f)
 
@@ -66,7 +66,7 @@ from_each : (text : List ℕ) → Each (λ (c : ℕ). is_char c ≡ true) text �
 from_each [] h = refl
 from_each (c ∷ text) h = rw (h.0, from_each text h.1) refl
 
-expanded_chars : (text result : List ℕ) → AllChars text → expanded text ≡ Some result → AllChars result
+expanded_chars : (text result : List ℕ) → AllChars text → expanded_text text ≡ Some result → AllChars result
 unfolding sequence
 expanded_chars text result all h =
     let n = length text in
@@ -89,14 +89,14 @@ blank_chars (c ∷ raw) h =
 
 pub value_chars : (raw value : List ℕ) → AllChars raw → value_of raw ≡ Some value → AllChars value
 value_chars raw value all h =
-    let a = bind_some (when (not (list_any (λ c. c == 60) raw)) (map as_blank raw)) expanded value h in
+    let a = bind_some (when (not (list_any (λ c. c == 60) raw)) (map as_blank raw)) expanded_text value h in
     let w = when_some (not (list_any (λ c. c == 60) raw)) (map as_blank raw) a.0 a.1 in
     expanded_chars a.0 value (subst AllChars w.1 (blank_chars raw all)) a.2
 
 pub content_chars : (raw text : List ℕ) → AllChars raw → content_of raw ≡ Some text → AllChars text
 unfolding content_of
 content_chars raw text all h =
-    let a = bind_some (when (is_none (until (codes "]]>") raw)) raw) expanded text h in
+    let a = bind_some (when (is_none (until (codes "]]>") raw)) raw) expanded_text text h in
     let w = when_some (is_none (until (codes "]]>") raw)) raw a.0 a.1 in
     expanded_chars a.0 text (subst AllChars w.1 all) a.2
 

@@ -3,7 +3,7 @@ use Rattle.std.proofs.Common.{◌≡◌, refl, sym, ◌∙◌, ℕ, suc, List, [
 use Rattle.dav_xml_core.specs.Documents.{Node}
 use Rattle.dav_xml_core.specs.Markup.{Piece, piece_at}
 use Rattle.dav_xml_core.specs.Optional.{◌>>=◌}
-use Rattle.dav_xml_core.specs.Reading.{Front, nothing, with_piece, with_pieces, finished, nodes_of, step}
+use Rattle.dav_xml_core.specs.Reading.{Front, nothing, with_piece, with_pieces, finished_nodes, nodes_of, step}
 use Rattle.dav_xml_core.specs.Scanning.{Found}
 use Rattle.dav_xml_core.specs.Sequences.{many, sequence, at_end}
 
@@ -11,7 +11,7 @@ abbrev pieces : ℕ → List ℕ → Option (List Piece × List ℕ)
 pieces n text = many at_end piece_at n text
 
 abbrev told : Front → Option (List Piece × List ℕ) → Option (List Node)
-told front found = found >>= λ all. with_pieces front all.0 >>= finished
+told front found = found >>= λ all. with_pieces front all.0 >>= finished_nodes
 
 -- the nodes of a front and of a rest with at most so many pieces
 unfoldable pub rest_of : Front → ℕ → List ℕ → Option (List Node)
@@ -21,7 +21,7 @@ pub starts : (text : List ℕ) → rest_of nothing (suc (length text)) text ≡ 
 unfolding rest_of nodes_of sequence
 starts text = sym (regrouped (pieces (suc (length text)) text))
   where
-    regrouped : (found : Option (List Piece × List ℕ)) → ((found >>= λ x. Some x.0) >>= λ all. with_pieces nothing all >>= finished) ≡ told nothing found
+    regrouped : (found : Option (List Piece × List ℕ)) → ((found >>= λ x. Some x.0) >>= λ all. with_pieces nothing all >>= finished_nodes) ≡ told nothing found
     regrouped (Some x) = refl
     regrouped None = refl
 
@@ -29,7 +29,7 @@ pub none_are : (front : Front) (text : List ℕ) → rest_of front 0 text ≡ No
 unfolding rest_of many
 none_are front text = refl
 
-pub at_the_end : (front : Front) (n : ℕ) → rest_of front (suc n) [] ≡ finished front
+pub at_the_end : (front : Front) (n : ℕ) → rest_of front (suc n) [] ≡ finished_nodes front
 unfolding rest_of many
 at_the_end front n = refl
 
@@ -37,12 +37,12 @@ abbrev after_step : ℕ → Option (Front × List ℕ) → Option (List Node)
 after_step n stepped = stepped >>= λ x. rest_of x.0 n x.1
 
 moved : (front : Front) (piece : Piece) (others : Option (List Piece × List ℕ))
-    → told front (others >>= λ o. Some (piece ∷ o.0, o.1)) ≡ (others >>= λ o. (with_piece front piece >>= λ more. with_pieces more o.0) >>= finished)
+    → told front (others >>= λ o. Some (piece ∷ o.0, o.1)) ≡ (others >>= λ o. (with_piece front piece >>= λ more. with_pieces more o.0) >>= finished_nodes)
 moved front piece (Some o) = refl
 moved front piece None = refl
 
 split : (others : Option (List Piece × List ℕ)) (more : Option Front)
-    → (others >>= λ o. (more >>= λ m. with_pieces m o.0) >>= finished) ≡ (more >>= λ m. told m others)
+    → (others >>= λ o. (more >>= λ m. with_pieces m o.0) >>= finished_nodes) ≡ (more >>= λ m. told m others)
 split (Some o) (Some m) = refl
 split None (Some m) = refl
 split (Some o) None = refl

@@ -13,8 +13,8 @@ use Rattle.std.proofs.lemmas.Option.{slice_get-get_or, slice_get-map}
 use Rattle.std.proofs.lemmas.Map.Text.{btree_map_updates_str}
 use Rattle.std.proofs.lemmas.Slice.Eq.{bytes_eq-Decides}
 use Rattle.dav_xml_core.specs.declared.davxml.scope.Binding as code
-use Rattle.dav_xml_core.specs.Namespaces.{Binding, bound_from, bound}
-use Rattle.dav_xml_core.specs.Scopes.{Places, last_from, last_place, place_at, Puts}
+use Rattle.dav_xml_core.specs.Namespaces.{Binding, bound_from, bound_namespace}
+use Rattle.dav_xml_core.specs.Scopes.{Places, last_from, last_place, place_at, PutsPlace}
 use Rattle.dav_xml_core.specs.ScopeTrees.{binding_of, CoverEach, IsFound}
 
 -- ---- the last place of a prefix
@@ -70,12 +70,12 @@ bound_from-reads prefix all (b ∷ bindings) at found e =
     go rest true = ap (λ o. bound_from prefix o bindings) (sym here) ∙ rest (Some at)
     go rest false = rest found
 
-pub bound-reads : (prefix : List ℕ) (all : List Binding) → bound prefix all ≡ option_and_then (namespace_at all) (last_place prefix all)
-unfolding bound last_place
+pub bound-reads : (prefix : List ℕ) (all : List Binding) → bound_namespace prefix all ≡ option_and_then (namespace_at all) (last_place prefix all)
+unfolding bound_namespace last_place
 bound-reads prefix all = bound_from-reads prefix all all 0 None refl
 
 pub found_bound : (bindings : List code.Binding) (innermost : Places) → IsFound bindings innermost → (prefix : List ℕ)
-    → bound prefix (map binding_of bindings) ≡ option_and_then (λ i. option_map (λ b. rc_str_bytes b.namespace) (slice_get bindings i)) (place_at innermost prefix)
+    → bound_namespace prefix (map binding_of bindings) ≡ option_and_then (λ i. option_map (λ b. rc_str_bytes b.namespace) (slice_get bindings i)) (place_at innermost prefix)
 found_bound bindings innermost h prefix =
     bound-reads prefix (map binding_of bindings)
     ∙ go (last_place prefix (map binding_of bindings))
@@ -110,7 +110,7 @@ abbrev key_cmp : Bor (List ℕ) → Bor (List ℕ) → Ordering
 key_cmp x y = slice_cmp nat_cmp x.now y.now
 
 pub puts_from : (prefix : List ℕ) (old new : Places) (place : Option ℕ)
-    → tree.UpdatesBy key_cmp (λ k. slice_cmp nat_cmp prefix k.now) old new place → Puts old new prefix place
+    → tree.UpdatesBy key_cmp (λ k. slice_cmp nat_cmp prefix k.now) old new place → PutsPlace old new prefix place
 puts_from prefix old new place h = btree_map_updates_str prefix old new place h
 
 pub found_none : (tree : Places) → tree.entries ≡ [] → IsFound [] tree
@@ -124,7 +124,7 @@ found_unchanged bindings old new e h = record {
 }
 
 pub found_push : (bindings : List code.Binding) (b : code.Binding) (old new : Places) → IsFound bindings old → b.covered ≡ place_at old b.prefix.now
-    → Puts old new b.prefix.now (Some (length bindings)) → IsFound (bindings ++ b ∷ []) new
+    → PutsPlace old new b.prefix.now (Some (length bindings)) → IsFound (bindings ++ b ∷ []) new
 found_push bindings b old new h covered puts = record {
   places = λ prefix.
       puts prefix
@@ -146,7 +146,7 @@ found_last bindings b tree h =
     subst IsSome (sym (last_is bindings b tree h b.prefix.now ∙ ap (λ s. cond s (Some (length (map binding_of bindings))) (last_place b.prefix.now (map binding_of bindings))) same)) refl
 
 pub found_pop : (bindings : List code.Binding) (b : code.Binding) (old new : Places) → IsFound (bindings ++ b ∷ []) old
-    → Puts old new b.prefix.now b.covered → IsFound bindings new
+    → PutsPlace old new b.prefix.now b.covered → IsFound bindings new
 found_pop bindings b old new h puts = record {
   places = λ prefix. puts prefix ∙ go prefix (bytes_eq b.prefix.now prefix) refl;
   covers = (cover_pop [] bindings b h.covers).0;

@@ -7,19 +7,19 @@ use Rattle.std.proofs.lemmas.Slice.Eq.{bytes_eq-Decides}
 use Rattle.dav_xml_core.specs.Characters.{is_char}
 use Rattle.dav_xml_core.specs.Documents.{Name, Attribute}
 use Rattle.dav_xml_core.specs.Markup.{RawAttribute}
-use Rattle.dav_xml_core.specs.Namespaces.{Binding, xml_namespace, bound, declares, element_name, attribute_name, prefixed_name, attribute_of, attributes_of}
+use Rattle.dav_xml_core.specs.Namespaces.{Binding, xml_namespace, bound_namespace, declares, element_name, attribute_name, prefixed_name, bound_attribute, attributes_of}
 use Rattle.dav_xml_core.specs.Optional.{◌>>=◌, choose}
 use Rattle.dav_xml_core.specs.Readable.{HoldWritten as Holds, is_name, is_attribute, name_bytes, attribute_bytes}
 use Rattle.dav_xml_core.specs.References.{value_of}
 use Rattle.dav_xml_core.specs.Scanning.{is_nil}
-use Rattle.dav_xml_core.specs.Writing.{escaped, dav_namespace, is_other}
+use Rattle.dav_xml_core.specs.Writing.{escaped_character, dav_namespace, is_other}
 use Rattle.dav_xml_core.proofs.EscapeLemmas.{value_again}
 use Rattle.dav_xml_core.proofs.TagLemmas.{qname}
 use Rattle.dav_xml_core.proofs.BindingLemmas.{dav_bytes, xml_bytes, numbered, prefix_of, raws_for, raw_of, raws_of, IsOwn, is_own, not_declared, not_true}
 
 -- the prefix of a name is bound to its namespace
 abbrev pub Knows : List Binding → List ℕ → Name → Type 0
-Knows inside own name = is_other name.namespace ≡ true → bound own inside ≡ Some (encode_utf8_all name.namespace)
+Knows inside own name = is_other name.namespace ≡ true → bound_namespace own inside ≡ Some (encode_utf8_all name.namespace)
 
 abbrev pub named : List ℕ → List ℕ → Name
 named namespace local = record { namespace = namespace; local = local }
@@ -54,7 +54,7 @@ element_again inside own name holds is knows =
     (λ e. ap (expanded_name (encode_utf8_all name.local)) holds.dav ∙ ap (λ (n : List ℕ). named_again n) (sym dav_bytes) ∙ ap (λ (n : List ℕ). named_again (encode_utf8_all n)) (sym e))
     (λ e. ap (expanded_name (encode_utf8_all name.local)) holds.xml ∙ ap (λ (n : List ℕ). named_again n) (sym xml_bytes) ∙ ap (λ (n : List ℕ). named_again (encode_utf8_all n)) (sym e))
     (λ o. ap (λ (p : List ℕ). element_name inside (qname p name.local)) is.1
-    ∙ ap (λ (p : List ℕ). expanded_name (encode_utf8_all name.local) (bound p inside)) (sym is.1)
+    ∙ ap (λ (p : List ℕ). expanded_name (encode_utf8_all name.local) (bound_namespace p inside)) (sym is.1)
     ∙ ap (expanded_name (encode_utf8_all name.local)) (knows o))
   where
     named_again : List ℕ → Option Name
@@ -70,7 +70,7 @@ name_again inside own name holds is knows =
     (λ e. ap (expanded_name (encode_utf8_all name.local)) holds.dav ∙ ap (λ (n : List ℕ). named_again n) (sym dav_bytes) ∙ ap (λ (n : List ℕ). named_again (encode_utf8_all n)) (sym e))
     (λ e. ap (expanded_name (encode_utf8_all name.local)) holds.xml ∙ ap (λ (n : List ℕ). named_again n) (sym xml_bytes) ∙ ap (λ (n : List ℕ). named_again (encode_utf8_all n)) (sym e))
     (λ o. ap (λ (p : List ℕ). attribute_name inside (qname p name.local)) is.1
-    ∙ ap (λ (p : List ℕ). expanded_name (encode_utf8_all name.local) (bound p inside)) (sym is.1)
+    ∙ ap (λ (p : List ℕ). expanded_name (encode_utf8_all name.local) (bound_namespace p inside)) (sym is.1)
     ∙ ap (expanded_name (encode_utf8_all name.local)) (knows o))
   where
     named_again : List ℕ → Option Name
@@ -86,13 +86,13 @@ KnowsAll inside k (attribute ∷ attributes) = Knows inside (numbered k) attribu
 -- raw attributes that are declarations
 abbrev one_attribute : List Binding → RawAttribute → List RawAttribute → Bool → Option (List Attribute)
 one_attribute inside raw raws declared =
-    cond declared (attributes_of inside raws) (attribute_of inside raw >>= λ first. attributes_of inside raws >>= λ others. Some (first ∷ others))
+    cond declared (attributes_of inside raws) (bound_attribute inside raw >>= λ first. attributes_of inside raws >>= λ others. Some (first ∷ others))
 
 pub skipped_for : (inside : List Binding) (own : List ℕ) (name : Name) (more : List RawAttribute) → attributes_of inside (raws_for own name ++ more) ≡ attributes_of inside more
 unfolding declares
 skipped_for inside own name more = go (is_other name.namespace)
   where
-    go : (b : Bool) → attributes_of inside (cond b (record { name = qname (codes "xmlns") own; raw = flat_map (escaped true) name.namespace } ∷ []) [] ++ more) ≡ attributes_of inside more
+    go : (b : Bool) → attributes_of inside (cond b (record { name = qname (codes "xmlns") own; raw = flat_map (escaped_character true) name.namespace } ∷ []) [] ++ more) ≡ attributes_of inside more
     go true = refl
     go false = refl
 
@@ -104,10 +104,10 @@ value_put : Name → Option (List ℕ) → Option Attribute
 value_put name found = found >>= λ value. Some (record { name = name; value = encode_utf8_all value })
 
 attribute_again : (inside : List Binding) (own : List ℕ) (attribute : Attribute) → Holds inside → IsOwn own → Knows inside own attribute.name
-    → attribute_of inside (raw_of own attribute) ≡ Some (attribute_bytes attribute)
-unfolding attribute_of value_put
+    → bound_attribute inside (raw_of own attribute) ≡ Some (attribute_bytes attribute)
+unfolding bound_attribute value_put
 attribute_again inside own attribute holds is knows =
-    ap (λ (o : Option Name). o >>= λ name. value_put name (value_of (flat_map (escaped true) attribute.value))) (name_again inside own attribute.name holds is knows)
+    ap (λ (o : Option Name). o >>= λ name. value_put name (value_of (flat_map (escaped_character true) attribute.value))) (name_again inside own attribute.name holds is knows)
     ∙ ap (value_put (name_bytes attribute.name)) (value_again attribute.value)
 
 abbrev attribute_put : Option Attribute → Option (List Attribute) → Option (List Attribute)

@@ -12,13 +12,13 @@ use Rattle.dav_xml_core.specs.Characters.{is_char, between}
 use Rattle.dav_xml_core.specs.Documents.{Name, Attribute}
 use Rattle.dav_xml_core.specs.Markup.{RawAttribute, Tag, EndTag, piece_at}
 use Rattle.dav_xml_core.specs.Names.{is_name_char, is_name_start, is_ncname}
-use Rattle.dav_xml_core.specs.Namespaces.{Binding, always_bound, xml_namespace, xmlns_namespace, bound, declares, may_bind, binding_of, with_binding, attribute_name, prefixed_name, are_distinct}
+use Rattle.dav_xml_core.specs.Namespaces.{Binding, always_bound, xml_namespace, xmlns_namespace, bound_namespace, declares, may_bind, declared_binding, with_binding, attribute_name, prefixed_name, are_distinct}
 use Rattle.dav_xml_core.specs.Optional.{◌>>=◌}
 use Rattle.dav_xml_core.specs.Readable.{HoldWritten as Holds, IsReadBack, is_name, is_attribute, is_start, names_bytes}
 use Rattle.dav_xml_core.specs.References.{expanded_at}
 use Rattle.dav_xml_core.specs.Scanning.{is_nil}
 use Rattle.dav_xml_core.specs.Sequences.{many, sequence}
-use Rattle.dav_xml_core.specs.Writing.{escaped, dav_namespace, is_other, tag_name, declared, attribute_text, attributes_text, start_text, element_prefix, in_document, alone}
+use Rattle.dav_xml_core.specs.Writing.{escaped_character, dav_namespace, is_other, tag_name, declaration_bytes, attribute_text, attributes_text, start_text, element_prefix, in_document, alone}
 use Rattle.dav_xml_core.proofs.TagLemmas.{qname, spelled, is_prefix, raw_text, AllRaw, tag_text, tag_again, end_tag_again}
 use Rattle.dav_xml_core.proofs.BindingLemmas.{numbered, prefix_of, raws_for, raw_of, raws_of, binding, bound_there, bound_before, IsOwn, is_own, attribute_name_is}
 use Rattle.dav_xml_core.proofs.StartLemmas.{named}
@@ -69,7 +69,7 @@ either : (b : Bool) (first second : List ℕ) → has first ≡ false → has se
 either true first second f s = f
 either false first second f s = s
 
-one : (c : ℕ) → has (escaped true c) ≡ false
+one : (c : ℕ) → has (escaped_character true c) ≡ false
 one c =
     either (c == 38) _ _ amp (either (c == 60) _ _ lt (either (c == 62) _ _ gt (either (c == 13) _ _ return (chosen (c == 34) _ _ quot (λ e.
     either (c == 9) _ _ tab (either (c == 10) _ _ line (single c e)))))))
@@ -78,10 +78,10 @@ or_both : (a b : Bool) → a ≡ false → b ≡ false → (a || b) ≡ false
 or_both true b e f = e
 or_both false b e f = f
 
-no_quote : (text : List ℕ) → list_any (λ c. c == 34) (flat_map (escaped true) text) ≡ false
+no_quote : (text : List ℕ) → list_any (λ c. c == 34) (flat_map (escaped_character true) text) ≡ false
 unfolding has
 no_quote [] = refl
-no_quote (c ∷ text) = list_any-append (λ x. x == 34) (escaped true c) (flat_map (escaped true) text) ∙ or_both _ _ (one c) (no_quote text)
+no_quote (c ∷ text) = list_any-append (λ x. x == 34) (escaped_character true c) (flat_map (escaped_character true) text) ∙ or_both _ _ (one c) (no_quote text)
 
 -- ---- prefixes are names
 
@@ -127,12 +127,12 @@ tag_name_is own name is = ap (λ (o : List ℕ). tag_name o name) is.1 ∙ go (i
     go false false true = refl
     go false false false = append_assoc (110 ∷ is.0) (codes ":") name.local
 
-declared_is : (own : List ℕ) (name : Name) → declared own name ≡ flat_map raw_text (raws_for own name)
-unfolding declared
+declared_is : (own : List ℕ) (name : Name) → declaration_bytes own name ≡ flat_map raw_text (raws_for own name)
+unfolding declaration_bytes
 declared_is own name = go (is_other name.namespace)
   where
     text : List ℕ
-    text = flat_map (escaped true) name.namespace
+    text = flat_map (escaped_character true) name.namespace
 
     go : (b : Bool) → cond b (codes " xmlns:" ++ own ++ codes "=\"" ++ text ++ codes "\"") [] ≡ flat_map raw_text (cond b (record { name = qname (codes "xmlns") own; raw = text } ∷ []) [])
     go true =
@@ -145,9 +145,9 @@ declared_is own name = go (is_other name.namespace)
 attribute_is : (own : List ℕ) (attribute : Attribute) → IsOwn own → attribute_text own attribute ≡ raw_text (raw_of own attribute) ++ flat_map raw_text (raws_for own attribute.name)
 unfolding attribute_text
 attribute_is own attribute is =
-    let text = flat_map (escaped true) attribute.value in
+    let text = flat_map (escaped_character true) attribute.value in
     let name = tag_name own attribute.name in
-    ap (λ (t : List ℕ). t ++ declared own attribute.name)
+    ap (λ (t : List ℕ). t ++ declaration_bytes own attribute.name)
     (append_assoc (codes " " ++ name ++ codes "=\"") text (codes "\"")
     ∙ append_assoc (codes " " ++ name) (codes "=\"") (text ++ codes "\"")
     ∙ append_assoc (codes " ") name (codes "=\"" ++ (text ++ codes "\""))
@@ -170,7 +170,7 @@ unfolding start_text
 start_text_is first firsts name attributes e =
     let own = codes "n" in
     let tag = tag_name own name in
-    let said = declared own name in
+    let said = declaration_bytes own name in
     let all = attributes_text 0 attributes in
     append_assoc ((codes "<" ++ tag) ++ first ++ said) all (codes ">")
     ∙ append_assoc ((codes "<" ++ tag) ++ first) said (all ++ codes ">")
@@ -201,7 +201,7 @@ name_local name h =
 raw_for : (own : List ℕ) (name : Name) → is_ncname own ≡ true → AllRaw (raws_for own name)
 raw_for own name h = go (is_other name.namespace)
   where
-    go : (b : Bool) → AllRaw (cond b (record { name = qname (codes "xmlns") own; raw = flat_map (escaped true) name.namespace } ∷ []) [])
+    go : (b : Bool) → AllRaw (cond b (record { name = qname (codes "xmlns") own; raw = flat_map (escaped_character true) name.namespace } ∷ []) [])
     go true = (record { prefix = refl; local = h; raw = no_quote name.namespace }, tt)
     go false = tt
 
@@ -244,10 +244,10 @@ pub leads_none : (around : List Binding) → Holds around → Leads around [] []
 leads_none around holds = record {
   binds = λ b. ap (λ (l : List Binding). some l) (sym (append-nil b));
   holds = record {
-    dav = ap (bound (codes "D")) (append-nil around) ∙ holds.dav;
-    xml = ap (bound (codes "xml")) (append-nil around) ∙ holds.xml;
-    xmlns = ap (bound (codes "xmlns")) (append-nil around) ∙ holds.xmlns;
-    default = ap (λ (b : List Binding). unwrap_or (bound [] b) []) (append-nil around) ∙ holds.default;
+    dav = ap (bound_namespace (codes "D")) (append-nil around) ∙ holds.dav;
+    xml = ap (bound_namespace (codes "xml")) (append-nil around) ∙ holds.xml;
+    xmlns = ap (bound_namespace (codes "xmlns")) (append-nil around) ∙ holds.xmlns;
+    default = ap (λ (b : List Binding). unwrap_or (bound_namespace [] b) []) (append-nil around) ∙ holds.default;
   };
   names_are = λ inside h. refl;
   skipped = λ inside more. refl;
@@ -260,11 +260,11 @@ leads_none around holds = record {
     some b = Some b
 
 holds_first : Holds (always_bound ++ binding (codes "D") dav_namespace ∷ [])
-unfolding bound
+unfolding bound_namespace
 holds_first = record { dav = refl; xml = refl; xmlns = refl; default = refl }
 
 pub leads_first : Leads always_bound (dav_raw ∷ []) (binding (codes "D") dav_namespace ∷ []) (declaring (codes "D") ∷ [])
-unfolding declares with_binding binding_of may_bind attribute_name prefixed_name encode_utf8 expanded_at sequence many
+unfolding declares with_binding declared_binding may_bind attribute_name prefixed_name encode_utf8 expanded_at sequence many
 leads_first = record {
   binds = λ b. refl;
   holds = holds_first;
@@ -280,9 +280,9 @@ leads_first = record {
     one_name false b e = refl
 
 -- the whole start
-pub read_back : (around : List Binding) (first : List ℕ) (firsts : List RawAttribute) (declared : List Binding) (names : List Name) (name : Name) (attributes : List Attribute)
-    → Leads around firsts declared names → first ≡ flat_map raw_text firsts → AllRaw firsts → is_start name attributes ≡ true → IsReadBack around first name attributes
-read_back around first firsts declared names name attributes leads e raw h =
+pub read_back : (around : List Binding) (first : List ℕ) (firsts : List RawAttribute) (declaration_bytes : List Binding) (names : List Name) (name : Name) (attributes : List Attribute)
+    → Leads around firsts declaration_bytes names → first ≡ flat_map raw_text firsts → AllRaw firsts → is_start name attributes ≡ true → IsReadBack around first name attributes
+read_back around first firsts declaration_bytes names name attributes leads e raw h =
     let p = and_parts (is_name name && list_all is_attribute attributes && are_distinct (names_bytes attributes)) (nat_lt (length attributes) (2 ^ 64)) h in
     let q = and_parts (is_name name && list_all is_attribute attributes) (are_distinct (names_bytes attributes)) p.0 in
     let r = and_parts (is_name name) (list_all is_attribute attributes) q.0 in
@@ -290,11 +290,11 @@ read_back around first firsts declared names name attributes leads e raw h =
     record {
       tag = qname (prefix_of (codes "n") name) name.local;
       written = all_raws firsts name attributes;
-      inside = around ++ (declared ++ own_bindings name attributes);
+      inside = around ++ (declaration_bytes ++ own_bindings name attributes);
       start = λ rest. start_again first firsts name attributes rest e raw r.0 r.1 lt;
       end = λ rest. end_again name rest r.0;
-      element = started_again around firsts declared names name attributes leads r.0 r.1 q.1 lt;
-      hold = subst Holds (append_assoc around declared (own_bindings name attributes)) (holds_inside (around ++ declared) name attributes leads.holds);
+      element = started_again around firsts declaration_bytes names name attributes leads r.0 r.1 q.1 lt;
+      hold = subst Holds (append_assoc around declaration_bytes (own_bindings name attributes)) (holds_inside (around ++ declaration_bytes) name attributes leads.holds);
     }
 
 pub read_back_first : (name : Name) (attributes : List Attribute) → is_start name attributes ≡ true → IsReadBack always_bound in_document name attributes
@@ -308,16 +308,16 @@ read_back_inside around name attributes holds h = read_back around [] [] [] [] n
 abbrev alone_bindings : List Binding
 alone_bindings = binding (codes "D") dav_namespace ∷ binding [] [] ∷ []
 
-pub leads_alone : (around : List Binding) → bound (codes "xml") around ≡ Some xml_namespace → bound (codes "xmlns") around ≡ Some xmlns_namespace
+pub leads_alone : (around : List Binding) → bound_namespace (codes "xml") around ≡ Some xml_namespace → bound_namespace (codes "xmlns") around ≡ Some xmlns_namespace
     → Leads around (dav_raw ∷ none_raw ∷ []) alone_bindings (declaring (codes "D") ∷ named [] (codes "xmlns") ∷ [])
-unfolding declares with_binding binding_of may_bind attribute_name prefixed_name encode_utf8 expanded_at sequence many
+unfolding declares with_binding declared_binding may_bind attribute_name prefixed_name encode_utf8 expanded_at sequence many
 leads_alone around xml xmlns = record {
   binds = λ b. ap (λ (l : List Binding). some l) (append_assoc b (binding (codes "D") dav_namespace ∷ []) (binding [] [] ∷ []));
   holds = record {
     dav = bound_there (codes "D") dav_namespace around (binding [] [] ∷ []) refl;
     xml = bound_before (codes "xml") around alone_bindings refl ∙ xml;
     xmlns = bound_before (codes "xmlns") around alone_bindings refl ∙ xmlns;
-    default = ap (λ (l : List Binding). unwrap_or (bound [] l) []) (sym (append_assoc around (binding (codes "D") dav_namespace ∷ []) (binding [] [] ∷ [])))
+    default = ap (λ (l : List Binding). unwrap_or (bound_namespace [] l) []) (sym (append_assoc around (binding (codes "D") dav_namespace ∷ []) (binding [] [] ∷ [])))
         ∙ ap (λ (o : Option (List ℕ)). unwrap_or o []) (bound_there [] [] (around ++ binding (codes "D") dav_namespace ∷ []) [] refl);
   };
   names_are = λ inside h. ap (λ (o : Option (List ℕ)). (o >>= λ n. Some (named n (encode_utf8_all (codes "D")))) >>= λ first. Some (first ∷ named [] (codes "xmlns") ∷ [])) h.xmlns;
@@ -335,7 +335,7 @@ leads_alone around xml xmlns = record {
     two_names [] local e f = ap (λ b. b || false) f
     two_names (c ∷ namespace) local e f = ap (λ b. (b && bytes_eq local (encode_utf8_all (codes "D"))) || false) e
 
-pub read_back_alone : (around : List Binding) (name : Name) (attributes : List Attribute) → bound (codes "xml") around ≡ Some xml_namespace → bound (codes "xmlns") around ≡ Some xmlns_namespace
+pub read_back_alone : (around : List Binding) (name : Name) (attributes : List Attribute) → bound_namespace (codes "xml") around ≡ Some xml_namespace → bound_namespace (codes "xmlns") around ≡ Some xmlns_namespace
     → is_start name attributes ≡ true → IsReadBack around alone name attributes
 read_back_alone around name attributes xml xmlns h =
     read_back around alone (dav_raw ∷ none_raw ∷ []) alone_bindings (declaring (codes "D") ∷ named [] (codes "xmlns") ∷ []) name attributes (leads_alone around xml xmlns) refl

@@ -10,11 +10,11 @@ use Rattle.dav_xml_core.specs.Characters.{is_char}
 use Rattle.dav_xml_core.specs.Documents.{Name, Attribute}
 use Rattle.dav_xml_core.specs.Markup.{RawAttribute}
 use Rattle.dav_xml_core.specs.Names.{QName, is_ncname}
-use Rattle.dav_xml_core.specs.Namespaces.{Binding, Started, xmlns_namespace, bound, with_bindings, element_name, attribute_name, prefixed_name, attributes_of, names_of, same_name, distinct_behind, are_distinct, started_of}
+use Rattle.dav_xml_core.specs.Namespaces.{Binding, Started, xmlns_namespace, bound_namespace, with_bindings, element_name, attribute_name, prefixed_name, attributes_of, attribute_names, same_name, distinct_behind, are_distinct, started_of}
 use Rattle.dav_xml_core.specs.Optional.{◌>>=◌, when}
 use Rattle.dav_xml_core.specs.Readable.{HoldWritten as Holds, is_name, is_attribute, name_bytes, attribute_bytes, names_bytes}
 use Rattle.dav_xml_core.specs.Scanning.{is_nil}
-use Rattle.dav_xml_core.specs.Writing.{escaped, is_other}
+use Rattle.dav_xml_core.specs.Writing.{escaped_character, is_other}
 use Rattle.dav_xml_core.proofs.TagLemmas.{qname}
 use Rattle.dav_xml_core.proofs.BindingLemmas.{false_eq, not_eq, bytes_not, nil_bytes, not_xmlns, numbered, prefix_of, apart, apart_first, raws_for, binding, bindings_for, raws_of, bindings_of, Binds, binds_append, binds_for, binds_of, IsOwn, is_own, attribute_name_is, not_true, lacks, lacks_append, bound_before, bound_there, lacks_for, lacks_of}
 use Rattle.dav_xml_core.proofs.StartLemmas.{Knows, KnowsAll, named, element_again, name_again, attributes_again, skipped_for, plain_parts}
@@ -23,7 +23,7 @@ use Rattle.dav_xml_core.proofs.StartLemmas.{Knows, KnowsAll, named, element_agai
 
 knows_one : (own : List ℕ) (name : Name) (front more : List Binding) → lacks own more ≡ true → Knows (front ++ (bindings_for own name ++ more)) own name
 knows_one own name front more h other =
-    ap (λ b. bound own (front ++ (cond b (binding own (encode_utf8_all name.namespace) ∷ []) [] ++ more))) other
+    ap (λ b. bound_namespace own (front ++ (cond b (binding own (encode_utf8_all name.namespace) ∷ []) [] ++ more))) other
     ∙ bound_there own (encode_utf8_all name.namespace) front more h
 
 knows_all : (k : ℕ) (attributes : List Attribute) (front : List Binding) → k + length attributes < 2 ^ 64 → KnowsAll (front ++ bindings_of k attributes) k attributes
@@ -187,7 +187,7 @@ distinct_from k (attribute ∷ attributes) seen plain h lt covers free d =
 -- ---- the names of all attributes, with those that declare
 
 Names : List Binding → List RawAttribute → List Name → Type 0
-Names inside raws names = names_of inside raws ≡ Some names
+Names inside raws names = attribute_names inside raws ≡ Some names
 
 abbrev name_put : Option Name → Option (List Name) → Option (List Name)
 name_put found more = found >>= λ first. more >>= λ others. Some (first ∷ others)
@@ -195,16 +195,16 @@ name_put found more = found >>= λ first. more >>= λ others. Some (first ∷ ot
 names_append : (inside : List Binding) (raws more : List RawAttribute) (names others : List Name) → Names inside raws names → Names inside more others → Names inside (raws ++ more) (names ++ others)
 unfolding Names
 names_append inside raws more names others h i =
-    appended raws ∙ ap (λ (o : Option (List Name)). o >>= λ a. names_of inside more >>= λ b. Some (a ++ b)) h ∙ ap (λ (o : Option (List Name)). o >>= λ b. Some (names ++ b)) i
+    appended raws ∙ ap (λ (o : Option (List Name)). o >>= λ a. attribute_names inside more >>= λ b. Some (a ++ b)) h ∙ ap (λ (o : Option (List Name)). o >>= λ b. Some (names ++ b)) i
   where
-    appended : (all : List RawAttribute) → names_of inside (all ++ more) ≡ (names_of inside all >>= λ a. names_of inside more >>= λ b. Some (a ++ b))
-    appended [] = same (names_of inside more)
+    appended : (all : List RawAttribute) → attribute_names inside (all ++ more) ≡ (attribute_names inside all >>= λ a. attribute_names inside more >>= λ b. Some (a ++ b))
+    appended [] = same (attribute_names inside more)
       where
         same : (o : Option (List Name)) → o ≡ (o >>= λ b. Some b)
         same (Some b) = refl
         same None = refl
     appended (raw ∷ all) =
-        ap (name_put (attribute_name inside raw.name)) (appended all) ∙ moved (attribute_name inside raw.name) (names_of inside all) (names_of inside more)
+        ap (name_put (attribute_name inside raw.name)) (appended all) ∙ moved (attribute_name inside raw.name) (attribute_names inside all) (attribute_names inside more)
       where
         moved : (o : Option Name) (a b : Option (List Name)) → name_put o (a >>= λ x. b >>= λ y. Some (x ++ y)) ≡ (name_put o a >>= λ x. b >>= λ y. Some (x ++ y))
         moved None a b = refl
@@ -216,7 +216,7 @@ names_for : (inside : List Binding) (own : List ℕ) (name : Name) → Holds ins
 unfolding Names attribute_name prefixed_name
 names_for inside own name holds = go (is_other name.namespace)
   where
-    go : (b : Bool) → names_of inside (cond b (record { name = qname (codes "xmlns") own; raw = flat_map (escaped true) name.namespace } ∷ []) []) ≡ Some (cond b (declaring own ∷ []) [])
+    go : (b : Bool) → attribute_names inside (cond b (record { name = qname (codes "xmlns") own; raw = flat_map (escaped_character true) name.namespace } ∷ []) []) ≡ Some (cond b (declaring own ∷ []) [])
     go true = ap (λ (o : Option (List ℕ)). (o >>= λ n. Some (named n (encode_utf8_all own))) >>= λ first. Some (first ∷ [])) holds.xmlns
     go false = refl
 
@@ -224,7 +224,7 @@ names_all : (inside : List Binding) (k : ℕ) (attributes : List Attribute) → 
 unfolding Names
 names_all inside k [] holds knows = refl
 names_all inside k (attribute ∷ attributes) holds knows =
-    ap (λ (o : Option Name). name_put o (names_of inside (raws_for (numbered k) attribute.name ++ raws_of (suc k) attributes))) (name_again inside (numbered k) attribute.name holds (is_own k) knows.0)
+    ap (λ (o : Option Name). name_put o (attribute_names inside (raws_for (numbered k) attribute.name ++ raws_of (suc k) attributes))) (name_again inside (numbered k) attribute.name holds (is_own k) knows.0)
     ∙ ap (name_put (Some (name_bytes attribute.name)))
     (names_append inside (raws_for (numbered k) attribute.name) (raws_of (suc k) attributes) (declared_names (numbered k) attribute.name) (names_from (suc k) attributes)
     (names_for inside (numbered k) attribute.name holds) (names_all inside (suc k) attributes holds knows.1))
@@ -235,7 +235,7 @@ names_all inside k (attribute ∷ attributes) holds knows =
 pub record Leads (around : List Binding) (firsts : List RawAttribute) (declared : List Binding) (names : List Name) : Type 0 where
   pub binds : Binds firsts declared
   pub holds : Holds (around ++ declared)
-  pub names_are : (inside : List Binding) → Holds inside → names_of inside firsts ≡ Some names
+  pub names_are : (inside : List Binding) → Holds inside → attribute_names inside firsts ≡ Some names
   pub skipped : (inside : List Binding) (more : List RawAttribute) → attributes_of inside (firsts ++ more) ≡ attributes_of inside more
   pub distinct : (more : List Name) → distinct_behind [] (names ++ more) ≡ distinct_behind names more
   pub free : (rest : List ℕ) → list_any (same_name (declaring (110 ∷ rest))) names ≡ false
@@ -251,7 +251,7 @@ abbrev by_inside : QName → List RawAttribute → Option (List Binding) → Opt
 by_inside name raws found =
     found >>= λ inside.
     element_name inside name >>= λ expanded.
-    names_of inside raws >>= λ names.
+    attribute_names inside raws >>= λ names.
     when (are_distinct names) names >>= λ distinct.
     attributes_of inside raws >>= λ all.
     Some (record { bindings = inside; name = expanded; attributes = all })
@@ -279,7 +279,7 @@ started_again around firsts declared names name attributes leads is h d lt =
     let all : KnowsAll inside 0 attributes =
     subst (λ (bs : List Binding). KnowsAll bs 0 attributes) together (knows_all 0 attributes ((around ++ declared) ++ bindings_for own name) short) in
     let others = declared_names own name ++ names_from 0 attributes in
-    let read : names_of inside raws ≡ Some (names ++ others) =
+    let read : attribute_names inside raws ≡ Some (names ++ others) =
     names_append inside firsts (raws_for own name ++ raws_of 0 attributes) names others (leads.names_are inside holds)
     (names_append inside (raws_for own name) (raws_of 0 attributes) (declared_names own name) (names_from 0 attributes) (names_for inside own name holds) (names_all inside 0 attributes holds all)) in
     let distinct : distinct_behind [] (names ++ others) ≡ true =
@@ -291,7 +291,7 @@ started_again around firsts declared names name attributes leads is h d lt =
     ∙ skipped_for inside own name (raws_of 0 attributes)
     ∙ attributes_again inside 0 attributes holds h all in
     ap (by_inside (qname (prefix_of own name) name.local) raws) binds
-    ∙ ap (λ (o : Option Name). o >>= λ expanded. names_of inside raws >>= λ ns. when (are_distinct ns) ns >>= λ u. attributes_of inside raws >>= λ a. begun inside expanded a) (element_again inside own name holds n_own knows)
+    ∙ ap (λ (o : Option Name). o >>= λ expanded. attribute_names inside raws >>= λ ns. when (are_distinct ns) ns >>= λ u. attributes_of inside raws >>= λ a. begun inside expanded a) (element_again inside own name holds n_own knows)
     ∙ ap (λ (o : Option (List Name)). o >>= λ ns. when (are_distinct ns) ns >>= λ u. attributes_of inside raws >>= λ a. begun inside (name_bytes name) a) read
     ∙ ap (λ b. when b (names ++ others) >>= λ u. attributes_of inside raws >>= λ a. begun inside (name_bytes name) a) distinct
     ∙ ap (λ (o : Option (List Attribute)). o >>= λ a. begun inside (name_bytes name) a) kept

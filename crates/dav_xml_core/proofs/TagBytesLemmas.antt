@@ -15,7 +15,7 @@ use Rattle.dav_xml_core.specs.Names.{is_name_char, is_name_start, is_ncname}
 use Rattle.dav_xml_core.specs.Namespaces.{xml_namespace, xmlns_namespace, are_distinct}
 use Rattle.dav_xml_core.specs.Readable.{is_name, is_attribute, is_start, name_bytes, attribute_bytes, names_bytes}
 use Rattle.dav_xml_core.specs.Scanning.{is_nil}
-use Rattle.dav_xml_core.specs.Writing.{escaped, dav_namespace, is_other, tag_name, declared, attribute_text, attributes_text, start_text, in_document, alone}
+use Rattle.dav_xml_core.specs.Writing.{escaped_character, dav_namespace, is_other, tag_name, declaration_bytes, attribute_text, attributes_text, start_text, in_document, alone}
 use Rattle.dav_xml_core.proofs.BytesLemmas.{is_kept, characters_again, escaped_bytes, escaped_kept}
 use Rattle.dav_xml_core.proofs.BindingLemmas.{numbered, bytes_not, dav_bytes, xml_bytes, nil_bytes}
 use Rattle.dav_xml_core.proofs.StartTextLemmas.{numbered_name}
@@ -99,7 +99,7 @@ number k h = record {
   kept = (and_parts (is_kept 110) (list_all is_kept (decimal k)) (local_kept (numbered k) (numbered_name k h))).1;
 }
 
-value : (text : List ℕ) → list_all is_char text ≡ true → Spells (flat_map (escaped true) (encode_utf8_all text)) (flat_map (escaped true) text)
+value : (text : List ℕ) → list_all is_char text ≡ true → Spells (flat_map (escaped_character true) (encode_utf8_all text)) (flat_map (escaped_character true) text)
 value text h = record { is = escaped_bytes true text; kept = escaped_kept true text h }
 
 pub same_test : (text other : List ℕ) → encode_utf8_all other ≡ other → bytes_eq (encode_utf8_all text) other ≡ bytes_eq text other
@@ -131,15 +131,15 @@ tag_bytes prefix name s h =
     go l false false true = both _ _ _ _ xml l
     go l false false false = both _ _ _ _ (both _ _ _ _ s colon) l
 
-declared_bytes : (prefix : List ℕ) (name : Name) → Spells prefix prefix → is_name name ≡ true → Spells (declared prefix (name_bytes name)) (declared prefix name)
-unfolding declared
+declared_bytes : (prefix : List ℕ) (name : Name) → Spells prefix prefix → is_name name ≡ true → Spells (declaration_bytes prefix (name_bytes name)) (declaration_bytes prefix name)
+unfolding declaration_bytes
 declared_bytes prefix name s h =
     rw (same_nil name.namespace, same_test name.namespace dav_namespace dav_bytes, same_test name.namespace xml_namespace xml_bytes)
     (go (value name.namespace (name_parts name h).1) (is_other name.namespace))
   where
-    go : Spells (flat_map (escaped true) (encode_utf8_all name.namespace)) (flat_map (escaped true) name.namespace) → (b : Bool)
-        → Spells (cond b (codes " xmlns:" ++ prefix ++ codes "=\"" ++ flat_map (escaped true) (encode_utf8_all name.namespace) ++ codes "\"") [])
-        (cond b (codes " xmlns:" ++ prefix ++ codes "=\"" ++ flat_map (escaped true) name.namespace ++ codes "\"") [])
+    go : Spells (flat_map (escaped_character true) (encode_utf8_all name.namespace)) (flat_map (escaped_character true) name.namespace) → (b : Bool)
+        → Spells (cond b (codes " xmlns:" ++ prefix ++ codes "=\"" ++ flat_map (escaped_character true) (encode_utf8_all name.namespace) ++ codes "\"") [])
+        (cond b (codes " xmlns:" ++ prefix ++ codes "=\"" ++ flat_map (escaped_character true) name.namespace ++ codes "\"") [])
     go v true = both _ _ _ _ (both _ _ _ _ (both _ _ _ _ (both _ _ _ _ xmlns s) equals) v) quote
     go v false = none
 

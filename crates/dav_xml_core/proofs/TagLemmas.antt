@@ -9,7 +9,7 @@ use Rattle.dav_xml_core.specs.Markup.{RawAttribute, Piece, Tag, EndTag, Characte
 use Rattle.dav_xml_core.specs.Names.{QName, is_name_start, is_name_char, is_ncname, ncname_at, qname_at}
 use Rattle.dav_xml_core.specs.Optional.{◌>>=◌, when, choose}
 use Rattle.dav_xml_core.specs.Scanning.{Found, after_char, skip_white, until, with_char, is_nil}
-use Rattle.dav_xml_core.specs.Writing.{escaped}
+use Rattle.dav_xml_core.specs.Writing.{escaped_character}
 use Rattle.dav_xml_core.proofs.EscapeLemmas.{no_tag, longer}
 use Rattle.dav_xml_core.specs.Sequences.{many, sequence}
 
@@ -332,8 +332,8 @@ characters_again c raw rest h =
     first false b e = refl
 
 -- what is written for a text is read up to the next tag
-pub text_piece_again : (text rest : List ℕ) → is_nil text ≡ false → piece_at (flat_map (escaped false) text ++ 60 ∷ rest) ≡ Some (Characters (flat_map (escaped false) text), 60 ∷ rest)
-text_piece_again text rest h = go (flat_map (escaped false) text) (no_tag false text) (omega (arith, some text h, longer false text))
+pub text_piece_again : (text rest : List ℕ) → is_nil text ≡ false → piece_at (flat_map (escaped_character false) text ++ 60 ∷ rest) ≡ Some (Characters (flat_map (escaped_character false) text), 60 ∷ rest)
+text_piece_again text rest h = go (flat_map (escaped_character false) text) (no_tag false text) (omega (arith, some text h, longer false text))
   where
     some : (xs : List ℕ) → is_nil xs ≡ false → 1 ≤ length xs
     some [] e = absurd (false≢true (sym e))

@@ -6,7 +6,7 @@ use Rattle.dav_xml_core.specs.Characters.{is_white}
 use Rattle.dav_xml_core.specs.Markup.{RawAttribute, Piece, Tag, EndTag, Characters, CData, Aside}
 use Rattle.dav_xml_core.specs.Names.{QName}
 use Rattle.dav_xml_core.specs.Optional.{◌>>=◌, when}
-use Rattle.dav_xml_core.specs.Reading.{Front, is_empty, started, ended, tagged, content_of, with_characters, with_cdata, with_piece, with_pieces}
+use Rattle.dav_xml_core.specs.Reading.{Front, is_empty, with_start_tag, with_end_tag, with_tag, content_of, with_characters, with_cdata, with_piece, with_pieces}
 use Rattle.dav_xml_core.proofs.EachLemmas.{Each}
 use Rattle.dav_xml_core.proofs.ElementLemmas.{bind_some, when_some}
 
@@ -15,17 +15,17 @@ with_text front text = record front { text = front.text ++ text }
 
 -- of pieces that are such, whose texts are such
 module _ (P : Front → Type 0) (R : Piece → Type 0) (T : List ℕ → Type 0)
-    (by_start : (front more : Front) (name : QName) (raws : List RawAttribute) (empty : Bool) → R (Tag name raws empty) → P front → started front name raws ≡ Some more → P more)
-    (by_end : (front more : Front) (name : QName) → P front → ended front name ≡ Some more → P more)
+    (by_start : (front more : Front) (name : QName) (raws : List RawAttribute) (empty : Bool) → R (Tag name raws empty) → P front → with_start_tag front name raws ≡ Some more → P more)
+    (by_end : (front more : Front) (name : QName) → P front → with_end_tag front name ≡ Some more → P more)
     (by_text : (front : Front) (text : List ℕ) → T text → P front → P (with_text front text))
     (content : (raw text : List ℕ) → R (Characters raw) → content_of raw ≡ Some text → T text) (section : (raw : List ℕ) → R (CData raw) → T raw) where
-  by_tag : (front more : Front) (name : QName) (raws : List RawAttribute) (empty : Bool) → R (Tag name raws empty) → P front → tagged front name raws empty ≡ Some more → P more
-  unfolding tagged
+  by_tag : (front more : Front) (name : QName) (raws : List RawAttribute) (empty : Bool) → R (Tag name raws empty) → P front → with_tag front name raws empty ≡ Some more → P more
+  unfolding with_tag
   by_tag front more name raws empty is p h =
-      let a = bind_some (started front name raws) _ more h in
+      let a = bind_some (with_start_tag front name raws) _ more h in
       go empty a.0 (by_start front a.0 name raws empty is p a.1) a.2
     where
-      go : (b : Bool) (begun : Front) → P begun → cond b (ended begun name) (Some begun) ≡ Some more → P more
+      go : (b : Bool) (begun : Front) → P begun → cond b (with_end_tag begun name) (Some begun) ≡ Some more → P more
       go true begun q e = by_end begun more name q e
       go false begun q e = subst P (same_Some begun more e) q
 

@@ -11,7 +11,7 @@ use Rattle.dav_xml_core.specs.Namespaces.{are_distinct}
 use Rattle.dav_xml_core.specs.Parts.{Part, Made, Kept, nodes_in, with_parts, part_bytes, is_part}
 use Rattle.dav_xml_core.specs.Readable.{is_name, is_attribute, is_start, name_bytes, attribute_bytes, names_bytes}
 use Rattle.dav_xml_core.specs.ReadableDocuments.{node_bytes, is_node, are_apart, is_readable}
-use Rattle.dav_xml_core.specs.Writing.{Writing, escaped, tag_name, element_prefix, start_text, unwritten, with_start, with_text, written_alone}
+use Rattle.dav_xml_core.specs.Writing.{Writing, escaped_character, tag_name, element_prefix, start_text, new_writing, with_start, with_text, written_alone}
 use Rattle.dav_xml_core.proofs.BytesLemmas.{is_kept, escaped_bytes, escaped_kept}
 use Rattle.dav_xml_core.proofs.ElementLemmas.{some_pushed}
 use Rattle.dav_xml_core.proofs.InsideLemmas.{EachKept, element_closes, not_outside, nodes_bytes}
@@ -28,7 +28,7 @@ end_text name = codes "</" ++ tag_of name ++ codes ">"
 abbrev pub text_of : List Name → List Part → List ℕ
 text_of names [] = []
 text_of names (Made (Start name attributes) ∷ parts) = start_text [] name attributes ++ text_of (name ∷ names) parts
-text_of names (Made (Text text) ∷ parts) = flat_map (escaped false) text ++ text_of names parts
+text_of names (Made (Text text) ∷ parts) = flat_map (escaped_character false) text ++ text_of names parts
 text_of [] (Made End ∷ parts) = text_of [] parts
 text_of (name ∷ names) (Made End ∷ parts) = end_text name ++ text_of names parts
 text_of names (Kept nodes ∷ parts) = written_alone nodes ++ text_of names parts
@@ -59,8 +59,8 @@ written_inside (Made (Start name attributes) ∷ parts) (last ∷ names) first b
     ∙ written_inside parts (name ∷ last ∷ names) first (bytes ++ start_text [] name attributes) h are
     ∙ append_assoc bytes (start_text [] name attributes) (text_of (name ∷ last ∷ names) parts)
 written_inside (Made (Text text) ∷ parts) (last ∷ names) first bytes h are =
-    written_inside parts (last ∷ names) first (bytes ++ flat_map (escaped false) text) h are
-    ∙ append_assoc bytes (flat_map (escaped false) text) (text_of (last ∷ names) parts)
+    written_inside parts (last ∷ names) first (bytes ++ flat_map (escaped_character false) text) h are
+    ∙ append_assoc bytes (flat_map (escaped_character false) text) (text_of (last ∷ names) parts)
 written_inside (Made End ∷ parts) (last ∷ names) first bytes h are =
     ap (λ (w : Writing). (with_parts w parts).bytes) (end_of first bytes (begun_of (last ∷ names)) (begun_of names) (tag_of last) refl)
     ∙ written_inside parts names first (bytes ++ codes "</" ++ tag_of last ++ codes ">") h are
@@ -74,7 +74,7 @@ abbrev pub begun : Name → List Attribute → List Part → List Part
 begun name attributes parts = Made (Start name attributes) ∷ parts
 
 pub written_is : (first : List ℕ) (name : Name) (attributes : List Attribute) (parts : List Part) → closes 1 (nodes_in parts) ≡ true → list_all is_part parts ≡ true
-    → (with_parts (unwritten first) (begun name attributes parts)).bytes ≡ start_text first name attributes ++ text_of (name ∷ []) parts
+    → (with_parts (new_writing first) (begun name attributes parts)).bytes ≡ start_text first name attributes ++ text_of (name ∷ []) parts
 unfolding with_start
 written_is first name attributes parts h are = written_inside parts (name ∷ []) first (start_text first name attributes) h are
 
@@ -84,7 +84,7 @@ slash : Spells (codes "</") (codes "</")
 unfolding encode_utf8
 slash = record { is = refl; kept = refl }
 
-text_spells : (text : List ℕ) → list_all is_char text ≡ true → Spells (flat_map (escaped false) (encode_utf8_all text)) (flat_map (escaped false) text)
+text_spells : (text : List ℕ) → list_all is_char text ≡ true → Spells (flat_map (escaped_character false) (encode_utf8_all text)) (flat_map (escaped_character false) text)
 text_spells text h = record { is = escaped_bytes false text; kept = escaped_kept false text h }
 
 end_spells : (name : Name) → is_name name ≡ true → Spells (end_text (name_bytes name)) (end_text name)
@@ -152,7 +152,7 @@ is_one name attributes parts h are =
     record { closed = q.0; start = r.0; each = r.1; apart = p.1; are = are }
 
 pub whole_spells : (first : List ℕ) (name : Name) (attributes : List Attribute) (parts : List Part) → Spells first first → IsOne name attributes parts → EachKept SpellsAlone parts
-    → Spells (with_parts (unwritten first) (map part_bytes (begun name attributes parts))).bytes (with_parts (unwritten first) (begun name attributes parts)).bytes
+    → Spells (with_parts (new_writing first) (map part_bytes (begun name attributes parts))).bytes (with_parts (new_writing first) (begun name attributes parts)).bytes
 whole_spells first name attributes parts s one each =
     let said = both _ _ _ _ (start_spells first name attributes s one.start) (parts_spell parts (name ∷ []) (rw (start_name name attributes one.start) refl) one.each each) in
     let bytes = written_is first (name_bytes name) (map attribute_bytes attributes) (map part_bytes parts)

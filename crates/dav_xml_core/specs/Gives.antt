@@ -1,6 +1,6 @@
 -- What a call answers, by what its definition gives.
 use Rattle.std.specs.Prelude.{◌≡◌, Option, None, Some, Result, Ok, Err, IfSome}
-use Rattle.dav_xml_core.specs.Refusals.{Refusal, NotWellFormed, DocumentType, Encoding}
+use Rattle.dav_xml_core.specs.Refusals.{XmlRefusal, NotWellFormed, DocumentType, Encoding}
 use Rattle.dav_xml_core.specs.declared.davxml.errors.Fault.{Fault}
 use Rattle.dav_xml_core.specs.declared.davxml.errors.Fault.TheVariants.{Malformed, Memory}
 use Rattle.dav_xml_core.specs.declared.davxml.errors.Halt.{Halt}
@@ -19,26 +19,26 @@ Gives view (Ok x) expected = expected ≡ Some (view x)
 Gives view (Err e) expected = Refuses e expected
 
 -- why a part isn't read, where its place is this; nothing where there is no memory
-abbrev pub fault_refusal : Fault → Refusal → Option Refusal
+abbrev pub fault_refusal : Fault → XmlRefusal → Option XmlRefusal
 fault_refusal Malformed refusal = Some refusal
 fault_refusal Memory refusal = None
 
-abbrev pub halt_refusal : Halt → Option Refusal
+abbrev pub halt_refusal : Halt → Option XmlRefusal
 halt_refusal (halts.Malformed left) = Some (NotWellFormed left)
 halt_refusal halts.DocumentType = Some DocumentType
 halt_refusal halts.Encoding = Some Encoding
 halt_refusal halts.Memory = None
 
-abbrev pub error_refusal : XmlError → Option Refusal
+abbrev pub error_refusal : XmlError → Option XmlRefusal
 error_refusal (errors.NotWellFormed at) = Some (NotWellFormed at)
 error_refusal errors.DocumentType = Some DocumentType
 error_refusal errors.Encoding = Some Encoding
 error_refusal errors.OutOfMemory = None
 
 -- Ok or a refusal, each exactly as expected. It may run out of memory in place of either.
-abbrev pub Answers : {T U E : Type 0} → (T → U) → (E → Option Refusal) → Result T E → Result U Refusal → Type 0
-Answers view reason (Ok x) expected = expected ≡ Ok (view x)
-Answers view reason (Err e) expected = IfSome (reason e) (λ refusal. expected ≡ Err refusal)
+abbrev pub AnswersWithReason : {T U E : Type 0} → (T → U) → (E → Option XmlRefusal) → Result T E → Result U XmlRefusal → Type 0
+AnswersWithReason view reason (Ok x) expected = expected ≡ Ok (view x)
+AnswersWithReason view reason (Err e) expected = IfSome (reason e) (λ refusal. expected ≡ Err refusal)
 
 abbrev pub IsRefused : {U : Type 0} → XmlError → Option U → Type 0
 IsRefused (errors.NotWellFormed at) expected = expected ≡ None

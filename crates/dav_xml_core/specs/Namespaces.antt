@@ -31,8 +31,8 @@ bound_from prefix found (binding ∷ bindings) =
     bound_from prefix (if bytes_eq binding.prefix prefix then Some binding.namespace else found) bindings
 
 -- section 6: the last of the bindings counts
-unfoldable pub bound : List ℕ → List Binding → Option (List ℕ)
-bound prefix bindings = bound_from prefix None bindings
+unfoldable pub bound_namespace : List ℕ → List Binding → Option (List ℕ)
+bound_namespace prefix bindings = bound_from prefix None bindings
 
 -- section 3: the prefix that an attribute of this name binds
 unfoldable pub declares : QName → Option (List ℕ)
@@ -48,8 +48,8 @@ may_bind prefix namespace =
     && not (bytes_eq namespace xmlns_namespace) && (is_nil prefix || not (is_nil namespace)))
 
 -- the binding that a declaration with this value adds
-unfoldable pub binding_of : List ℕ → List ℕ → Option Binding
-binding_of prefix raw =
+unfoldable pub declared_binding : List ℕ → List ℕ → Option Binding
+declared_binding prefix raw =
     value_of raw >>= λ value.
     when (may_bind prefix (encode_utf8_all value)) (record { prefix = prefix; namespace = encode_utf8_all value })
 
@@ -57,7 +57,7 @@ binding_of prefix raw =
 unfoldable pub with_binding : List Binding → RawAttribute → Option (List Binding)
 with_binding bindings attribute =
     choose (declares attribute.name)
-    (λ prefix. binding_of prefix attribute.raw >>= λ binding. Some (bindings ++ binding ∷ []))
+    (λ prefix. declared_binding prefix attribute.raw >>= λ binding. Some (bindings ++ binding ∷ []))
     (Some bindings)
 
 -- the bindings inside an element with these attributes
@@ -68,13 +68,13 @@ with_bindings bindings (attribute ∷ attributes) = with_binding bindings attrib
 -- the name with the namespace of its prefix
 unfoldable pub prefixed_name : List Binding → QName → Option Name
 prefixed_name bindings name =
-    bound name.prefix bindings >>= λ namespace. Some (record { namespace = namespace; local = encode_utf8_all name.local })
+    bound_namespace name.prefix bindings >>= λ namespace. Some (record { namespace = namespace; local = encode_utf8_all name.local })
 
 -- section 6.2: the default namespace is that of elements without a prefix; section 3: no element has the prefix `xmlns`
 unfoldable pub element_name : List Binding → QName → Option Name
 element_name bindings name =
     if is_nil name.prefix
-    then Some (record { namespace = unwrap_or (bound [] bindings) []; local = encode_utf8_all name.local })
+    then Some (record { namespace = unwrap_or (bound_namespace [] bindings) []; local = encode_utf8_all name.local })
     else (if bytes_eq name.prefix (codes "xmlns") then None else prefixed_name bindings name)
 
 -- an attribute without a prefix has no namespace
@@ -86,8 +86,8 @@ attribute_name bindings name =
 abbrev pub is_declaration : RawAttribute → Bool
 is_declaration attribute = choose (declares attribute.name) (λ prefix. true) false
 
-unfoldable pub attribute_of : List Binding → RawAttribute → Option Attribute
-attribute_of bindings attribute =
+unfoldable pub bound_attribute : List Binding → RawAttribute → Option Attribute
+bound_attribute bindings attribute =
     attribute_name bindings attribute.name >>= λ name.
     value_of attribute.raw >>= λ value.
     Some (record { name = name; value = encode_utf8_all value })
@@ -97,10 +97,10 @@ abbrev pub attributes_of : List Binding → List RawAttribute → Option (List A
 attributes_of bindings [] = Some []
 attributes_of bindings (attribute ∷ attributes) =
     if is_declaration attribute then attributes_of bindings attributes
-    else (attribute_of bindings attribute >>= λ first. attributes_of bindings attributes >>= λ others. Some (first ∷ others))
+    else (bound_attribute bindings attribute >>= λ first. attributes_of bindings attributes >>= λ others. Some (first ∷ others))
 
-abbrev pub names_of : List Binding → List RawAttribute → Option (List Name)
-names_of bindings attributes = every (λ attribute. attribute_name bindings attribute.name) attributes
+abbrev pub attribute_names : List Binding → List RawAttribute → Option (List Name)
+attribute_names bindings attributes = every (λ attribute. attribute_name bindings attribute.name) attributes
 
 abbrev pub same_name : Name → Name → Bool
 same_name a b = bytes_eq a.namespace b.namespace && bytes_eq a.local b.local
@@ -125,7 +125,7 @@ unfoldable pub started_of : List Binding → QName → List RawAttribute → Opt
 started_of bindings name attributes =
     with_bindings bindings attributes >>= λ inside.
     element_name inside name >>= λ expanded.
-    names_of inside attributes >>= λ names.
+    attribute_names inside attributes >>= λ names.
     when (are_distinct names) names >>= λ distinct.
     attributes_of inside attributes >>= λ all.
     Some (record { bindings = inside; name = expanded; attributes = all })

@@ -3,7 +3,7 @@ use Rattle.std.specs.Prelude.{◌≡◌, ℕ, Bool, true, false, List, [], ◌�
 use Rattle.std.specs.List.{list_all}
 use Rattle.dav_xml_core.specs.Documents.{Node, is_element}
 use Rattle.dav_xml_core.specs.ReadableDocuments.{node_bytes, is_readable}
-use Rattle.dav_xml_core.specs.Writing.{Writing, in_document, unwritten, with_node, written_alone}
+use Rattle.dav_xml_core.specs.Writing.{Writing, in_document, new_writing, with_node, written_alone}
 
 -- a node, or the nodes of an element whose bytes were kept
 pub data Part : Type 0 where
@@ -29,7 +29,7 @@ with_parts writing (part ∷ parts) = with_parts (with_part writing part) parts
 
 -- the bytes of a document of these parts
 unfoldable pub written_parts : List Part → List ℕ
-written_parts parts = (with_parts (unwritten in_document) parts).bytes
+written_parts parts = (with_parts (new_writing in_document) parts).bytes
 
 -- the same in bytes
 abbrev pub part_bytes : Part → Part

@@ -5,12 +5,12 @@ use Rattle.dav_xml_core.specs.Declarations.{after_declaration}
 use Rattle.dav_xml_core.specs.Documents.{Node}
 use Rattle.dav_xml_core.specs.Markup.{piece_at}
 use Rattle.dav_xml_core.specs.Optional.{◌>>=◌}
-use Rattle.dav_xml_core.specs.Reading.{Front, nothing, is_empty, text_nodes, with_pieces, finished, without_mark}
+use Rattle.dav_xml_core.specs.Reading.{Front, nothing, is_empty, text_nodes, with_pieces, finished_nodes, without_mark}
 use Rattle.dav_xml_core.specs.Sequences.{all_of}
 
 -- the nodes of a document, by its front and the text behind that
-unfoldable pub read_on : Front → List ℕ → Option (List Node)
-read_on front text = all_of piece_at text >>= λ pieces. with_pieces front pieces >>= finished
+unfoldable pub read_from_front : Front → List ℕ → Option (List Node)
+read_from_front front text = all_of piece_at text >>= λ pieces. with_pieces front pieces >>= finished_nodes
 
 -- what bytes say that end where a piece ends
 unfoldable pub front_at : List ℕ → Option Front

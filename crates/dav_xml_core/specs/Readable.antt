@@ -5,7 +5,7 @@ use Rattle.dav_xml_core.specs.Characters.{is_char}
 use Rattle.dav_xml_core.specs.Documents.{Name, Attribute}
 use Rattle.dav_xml_core.specs.Markup.{RawAttribute, Tag, EndTag, piece_at}
 use Rattle.dav_xml_core.specs.Names.{QName, is_ncname}
-use Rattle.dav_xml_core.specs.Namespaces.{Binding, xml_namespace, xmlns_namespace, bound, are_distinct, started_of}
+use Rattle.dav_xml_core.specs.Namespaces.{Binding, xml_namespace, xmlns_namespace, bound_namespace, are_distinct, started_of}
 use Rattle.dav_xml_core.specs.Scanning.{is_nil}
 use Rattle.dav_xml_core.specs.Writing.{dav_namespace, element_prefix, tag_name, start_text}
 
@@ -41,10 +41,10 @@ is_start name attributes =
 
 -- the bindings that hold inside each element that is written: of `D`, `xml` and `xmlns`, and of no default namespace
 pub record HoldWritten (bindings : List Binding) : Type 0 where
-  pub dav : bound (codes "D") bindings ≡ Some dav_namespace
-  pub xml : bound (codes "xml") bindings ≡ Some xml_namespace
-  pub xmlns : bound (codes "xmlns") bindings ≡ Some xmlns_namespace
-  pub default : unwrap_or (bound [] bindings) [] ≡ []
+  pub dav : bound_namespace (codes "D") bindings ≡ Some dav_namespace
+  pub xml : bound_namespace (codes "xml") bindings ≡ Some xml_namespace
+  pub xmlns : bound_namespace (codes "xmlns") bindings ≡ Some xmlns_namespace
+  pub default : unwrap_or (bound_namespace [] bindings) [] ≡ []
 
 -- What is written for an element's start is a start tag [40], and for its end the end tag of the same name [42]. Where these bindings hold
 -- around it, the tag starts an element of this name and these attributes, and inside it hold bindings as inside each that is written.

@@ -8,7 +8,7 @@ use Rattle.dav_xml_core.specs.Markup.{RawAttribute, Piece, Tag, EndTag, Characte
 use Rattle.dav_xml_core.specs.Names.{QName}
 use Rattle.dav_xml_core.specs.Namespaces.{Binding, always_bound, started_of}
 use Rattle.dav_xml_core.specs.Optional.{◌>>=◌, when, choose}
-use Rattle.dav_xml_core.specs.References.{expanded, value_of}
+use Rattle.dav_xml_core.specs.References.{expanded_text, value_of}
 use Rattle.dav_xml_core.specs.Scanning.{is_nil, until}
 use Rattle.dav_xml_core.specs.Sequences.{all_of}
 
@@ -45,8 +45,8 @@ abbrev pub same_qname : QName → QName → Bool
 same_qname a b = bytes_eq a.prefix b.prefix && bytes_eq a.local b.local
 
 -- a start tag: inside an element, or as the first
-unfoldable pub started : Front → QName → List RawAttribute → Option Front
-started front name attributes =
+unfoldable pub with_start_tag : Front → QName → List RawAttribute → Option Front
+with_start_tag front name attributes =
     when (not (is_empty front.elements) || is_empty front.nodes) front.bindings >>= λ around.
     started_of around name attributes >>= λ start.
     Some (record {
@@ -57,8 +57,8 @@ started front name attributes =
     })
 
 -- an end tag: its name is as the start tag's is written (Element Type Match), and its bindings end
-unfoldable pub ended : Front → QName → Option Front
-ended front name =
+unfoldable pub with_end_tag : Front → QName → Option Front
+with_end_tag front name =
     last_of front.elements >>= λ found.
     when (same_qname found.1.name name) (record {
       nodes = front.nodes ++ text_nodes front.text ++ End ∷ [];
@@ -68,12 +68,12 @@ ended front name =
     })
 
 -- [44] an empty tag is a start tag and an end tag
-unfoldable pub tagged : Front → QName → List RawAttribute → Bool → Option Front
-tagged front name attributes empty = started front name attributes >>= λ begun. if empty then ended begun name else Some begun
+unfoldable pub with_tag : Front → QName → List RawAttribute → Bool → Option Front
+with_tag front name attributes empty = with_start_tag front name attributes >>= λ begun. if empty then with_end_tag begun name else Some begun
 
 -- [14] CharData and references: no `]]>`
 unfoldable pub content_of : List ℕ → Option (List ℕ)
-content_of raw = when (is_none (until (codes "]]>") raw)) raw >>= expanded
+content_of raw = when (is_none (until (codes "]]>") raw)) raw >>= expanded_text
 
 -- the text that bytes between tags stand for, and the value that bytes between quotes stand for
 abbrev pub text_in : List ℕ → Option (List ℕ)
@@ -94,8 +94,8 @@ with_cdata front raw = when (not (is_empty front.elements)) (record front { text
 
 -- the front with one more piece
 abbrev pub with_piece : Front → Piece → Option Front
-with_piece front (Tag name attributes empty) = tagged front name attributes empty
-with_piece front (EndTag name) = ended front name
+with_piece front (Tag name attributes empty) = with_tag front name attributes empty
+with_piece front (EndTag name) = with_end_tag front name
 with_piece front (Characters raw) = with_characters front raw
 with_piece front (CData raw) = with_cdata front raw
 with_piece front Aside = Some front
@@ -105,12 +105,12 @@ with_pieces front [] = Some front
 with_pieces front (piece ∷ pieces) = with_piece front piece >>= λ more. with_pieces more pieces
 
 -- one element, which has ended
-abbrev pub finished : Front → Option (List Node)
-finished front = when (is_empty front.elements && not (is_empty front.nodes)) front.nodes
+abbrev pub finished_nodes : Front → Option (List Node)
+finished_nodes front = when (is_empty front.elements && not (is_empty front.nodes)) front.nodes
 
 -- the nodes of a text behind its declaration
 unfoldable pub nodes_of : List ℕ → Option (List Node)
-nodes_of text = all_of piece_at text >>= λ pieces. with_pieces nothing pieces >>= finished
+nodes_of text = all_of piece_at text >>= λ pieces. with_pieces nothing pieces >>= finished_nodes
 
 -- the piece at the front of a text, and the front of the document with it
 unfoldable pub step : Front → List ℕ → Option (Front × List ℕ)

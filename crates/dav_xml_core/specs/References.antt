@@ -7,8 +7,8 @@ use Rattle.dav_xml_core.specs.Scanning.{Found, until}
 use Rattle.dav_xml_core.specs.Sequences.{all_of}
 
 -- [68] EntityRef, of the five names that are always declared
-abbrev pub named : List ℕ → Option ℕ
-named name =
+abbrev pub named_entity : List ℕ → Option ℕ
+named_entity name =
     if bytes_eq name (codes "lt") then Some 60 else (
     if bytes_eq name (codes "gt") then Some 62 else (
     if bytes_eq name (codes "amp") then Some 38 else (
@@ -22,40 +22,40 @@ digit_of hex c =
     if hex && between 97 102 c then Some (c - 87) else (
     if hex && between 65 70 c then Some (c - 55) else None))
 
-abbrev pub base_of : Bool → ℕ
-base_of hex = if hex then 16 else 10
+abbrev pub radix_of : Bool → ℕ
+radix_of hex = if hex then 16 else 10
 
 -- the number that the digits continue, up to the last code of a character
 abbrev pub number_from : Bool → ℕ → List ℕ → Option ℕ
 number_from hex n [] = Some n
 number_from hex n (c ∷ digits) =
-    digit_of hex c >>= λ d. when (nat_le (n * base_of hex + d) 0x10FFFF) (n * base_of hex + d) >>= λ m. number_from hex m digits
+    digit_of hex c >>= λ d. when (nat_le (n * radix_of hex + d) 0x10FFFF) (n * radix_of hex + d) >>= λ m. number_from hex m digits
 
 -- one digit or more
-abbrev pub number_of : Bool → List ℕ → Option ℕ
-number_of hex [] = None
-number_of hex (c ∷ digits) = number_from hex 0 (c ∷ digits)
+abbrev pub character_number : Bool → List ℕ → Option ℕ
+character_number hex [] = None
+character_number hex (c ∷ digits) = number_from hex 0 (c ∷ digits)
 
 -- the digits of a character reference, behind `#`
 abbrev pub digits_of : List ℕ → Option ℕ
 digits_of [] = None
-digits_of (c ∷ digits) = if c == 120 then number_of true digits else number_of false (c ∷ digits)
+digits_of (c ∷ digits) = if c == 120 then character_number true digits else character_number false (c ∷ digits)
 
 -- [67] Reference, between `&` and `;`: the character that it stands for
-unfoldable pub referenced : List ℕ → Option ℕ
-referenced [] = None
-referenced (c ∷ name) =
-    if c == 35 then (digits_of name >>= λ n. when (is_char n) n) else named (c ∷ name)
+unfoldable pub referenced_character : List ℕ → Option ℕ
+referenced_character [] = None
+referenced_character (c ∷ name) =
+    if c == 35 then (digits_of name >>= λ n. when (is_char n) n) else named_entity (c ∷ name)
 
 -- a reference or a character
 unfoldable pub expanded_at : List ℕ → Found ℕ
 expanded_at [] = None
 expanded_at (c ∷ text) =
-    if c == 38 then (until (59 ∷ []) text >>= λ name. referenced name.0 >>= λ r. Some (r, name.1)) else Some (c, text)
+    if c == 38 then (until (59 ∷ []) text >>= λ name. referenced_character name.0 >>= λ r. Some (r, name.1)) else Some (c, text)
 
 -- the text with each reference replaced
-abbrev pub expanded : List ℕ → Option (List ℕ)
-expanded text = all_of expanded_at text
+abbrev pub expanded_text : List ℕ → Option (List ℕ)
+expanded_text text = all_of expanded_at text
 
 -- white space in a value counts as blanks
 abbrev pub as_blank : ℕ → ℕ
@@ -63,4 +63,4 @@ as_blank c = if is_white c then 32 else c
 
 -- [10] AttValue, between the quotes: no `<`, and what its text stands for
 abbrev pub value_of : List ℕ → Option (List ℕ)
-value_of raw = when (not (list_any (λ c. c == 60) raw)) (map as_blank raw) >>= expanded
+value_of raw = when (not (list_any (λ c. c == 60) raw)) (map as_blank raw) >>= expanded_text

@@ -11,38 +11,38 @@ use Rattle.dav_xml_core.specs.Declarations.{is_called, is_utf8_name, are_fields,
 use Rattle.dav_xml_core.specs.Documents.{Node}
 use Rattle.dav_xml_core.specs.Markup.{RawAttribute}
 use Rattle.dav_xml_core.specs.Optional.{choose}
-use Rattle.dav_xml_core.specs.Reading.{Front, nothing, finished, step, without_mark}
+use Rattle.dav_xml_core.specs.Reading.{Front, nothing, finished_nodes, step, without_mark}
 
-pub data Refusal : Type 0 where
+pub data XmlRefusal : Type 0 where
   -- it is no well-formed document with namespaces: what can't be read begins at this place
-  NotWellFormed : ℕ → Refusal
+  NotWellFormed : ℕ → XmlRefusal
   -- a document type declaration stands where it can't be read
-  DocumentType : Refusal
+  DocumentType : XmlRefusal
   -- it is, or says that it is, in another encoding than UTF-8
-  Encoding : Refusal
+  Encoding : XmlRefusal
 
 -- the second reading, of what the first gives
 infixl 10 ◌>=>◌
-abbrev pub ◌>=>◌ : {A B : Type 0} → Result A Refusal → (A → Result B Refusal) → Result B Refusal
+abbrev pub ◌>=>◌ : {A B : Type 0} → Result A XmlRefusal → (A → Result B XmlRefusal) → Result B XmlRefusal
 (Ok x) >=> f = f x
 (Err e) >=> f = Err e
 
 -- ---- a text
 
 -- where a text can't be read any further: [28] doctypedecl begins there, or something else
-abbrev pub refusal_at : List ℕ → Refusal
-refusal_at text = if starts_with nat_eq text (codes "<!DOCTYPE") then DocumentType else NotWellFormed (length text)
+abbrev pub refusal_of_text : List ℕ → XmlRefusal
+refusal_of_text text = if starts_with nat_eq text (codes "<!DOCTYPE") then DocumentType else NotWellFormed (length text)
 
 -- what follows a front of a document, of at most so many pieces: the place is that of the first piece that is none or doesn't fit what
 -- stands before it, and the end where the element hasn't ended there
-unfoldable pub read_on : Front → ℕ → List ℕ → Result (List Node) Refusal
+unfoldable pub read_on : Front → ℕ → List ℕ → Result (List Node) XmlRefusal
 read_on front zero text = Err (NotWellFormed 0)
-read_on front (suc n) [] = ok_or (finished front) (NotWellFormed 0)
+read_on front (suc n) [] = ok_or (finished_nodes front) (NotWellFormed 0)
 read_on front (suc n) (c ∷ text) =
-    choose (step front (c ∷ text)) (λ next. read_on next.0 n next.1) (Err (refusal_at (c ∷ text)))
+    choose (step front (c ∷ text)) (λ next. read_on next.0 n next.1) (Err (refusal_of_text (c ∷ text)))
 
 -- a text behind its declaration; each piece takes a character, so there are no more than characters
-unfoldable pub nodes_answer : List ℕ → Result (List Node) Refusal
+unfoldable pub nodes_answer : List ℕ → Result (List Node) XmlRefusal
 nodes_answer text = read_on nothing (suc (length text)) text
 
 -- [80] EncodingDecl, of another encoding
@@ -51,16 +51,16 @@ names_another_encoding (a ∷ b ∷ fields) = is_called (codes "encoding") b && 
 names_another_encoding _ = false
 
 -- what follows the declaration, where there is one; the place is that of the declaration
-unfoldable pub declaration_answer : List ℕ → Result (List ℕ) Refusal
+unfoldable pub declaration_answer : List ℕ → Result (List ℕ) XmlRefusal
 declaration_answer text =
     choose (declaration_at text)
     (λ rest. choose (fields_at rest)
-    (λ found. if are_fields found.0 then Ok found.1 else (if names_another_encoding found.0 then Err Encoding else Err (refusal_at text)))
-    (Err (refusal_at text)))
+    (λ found. if are_fields found.0 then Ok found.1 else (if names_another_encoding found.0 then Err Encoding else Err (refusal_of_text text)))
+    (Err (refusal_of_text text)))
     (Ok text)
 
 -- the nodes of a text
-unfoldable pub content_answer : List ℕ → Result (List Node) Refusal
+unfoldable pub content_answer : List ℕ → Result (List Node) XmlRefusal
 content_answer text = declaration_answer (without_mark text) >=> nodes_answer
 
 -- ---- bytes
@@ -74,12 +74,12 @@ bytes_before after_return (suc n) (c ∷ text) =
     if c == 10 && after_return then 1 + bytes_before false (suc n) text else len_utf8 c + bytes_before (c == 13) n text
 
 -- the place in the bytes of these characters, by the place in their lines
-abbrev pub in_bytes : List ℕ → Refusal → Refusal
+abbrev pub in_bytes : List ℕ → XmlRefusal → XmlRefusal
 in_bytes text (NotWellFormed left) = NotWellFormed (bytes_before false (length (lines_from false text) - left) text)
 in_bytes text DocumentType = DocumentType
 in_bytes text Encoding = Encoding
 
-abbrev pub with_place : {A : Type 0} → List ℕ → Result A Refusal → Result A Refusal
+abbrev pub with_place : {A : Type 0} → List ℕ → Result A XmlRefusal → Result A XmlRefusal
 with_place text (Ok x) = Ok x
 with_place text (Err refusal) = Err (in_bytes text refusal)
 
@@ -94,11 +94,11 @@ no_char_at at [] = None
 no_char_at at (c ∷ text) = if is_char c then no_char_at (at + len_utf8 c) text else Some at
 
 -- the characters of the bytes; the place is that of the first byte that is no UTF-8 or no character
-unfoldable pub characters_answer : List ℕ → Result (List ℕ) Refusal
+unfoldable pub characters_answer : List ℕ → Result (List ℕ) XmlRefusal
 characters_answer bytes =
     if is_utf8 bytes then choose (no_char_at 0 (chars bytes)) (λ at. Err (NotWellFormed at)) (Ok (chars bytes))
     else (if has_utf16_mark bytes then Err Encoding else Err (NotWellFormed (utf8_valid_len bytes)))
 
 -- what bytes are read as: `document_of` where they spell a document
-unfoldable pub answer_of : List ℕ → Result (List Node) Refusal
-answer_of bytes = characters_answer bytes >=> λ text. with_place text (content_answer (lines_from false text))
+unfoldable pub reading_answer : List ℕ → Result (List Node) XmlRefusal
+reading_answer bytes = characters_answer bytes >=> λ text. with_place text (content_answer (lines_from false text))

@@ -6,7 +6,7 @@ use Rattle.std.specs.Rc.{rc_str_bytes}
 use Rattle.std.specs.declared.rc.RcStr.{RcStr}
 use Rattle.dav_xml_core.specs.declared.davxml.scope.Binding as code
 use Rattle.dav_xml_core.specs.Namespaces.{Binding}
-use Rattle.dav_xml_core.specs.Scopes.{Places, last_place, place_at, Numbers, number_of, number_at}
+use Rattle.dav_xml_core.specs.Scopes.{Places, last_place, place_at, Numbers, namespace_number, number_at}
 
 abbrev pub binding_of : code.Binding → Binding
 binding_of binding = record { prefix = binding.prefix.now; namespace = rc_str_bytes binding.namespace }
@@ -23,9 +23,9 @@ pub record IsFound (bindings : List code.Binding) (innermost : Places) : Type 0 
 
 -- A namespace that is bound has its number in the tree. Others may have any.
 pub record IsNumbered (bindings : List code.Binding) (numbers : Numbers) : Type 0 where
-  pub each : (place : ℕ) (b : code.Binding) → slice_get bindings place ≡ Some b → b.number ≡ number_of (rc_str_bytes b.namespace) (map binding_of bindings)
-  pub tree : (namespace : List ℕ) → number_of namespace (map binding_of bindings) < length bindings
-      → number_at numbers namespace ≡ Some (number_of namespace (map binding_of bindings))
+  pub each : (place : ℕ) (b : code.Binding) → slice_get bindings place ≡ Some b → b.number ≡ namespace_number (rc_str_bytes b.namespace) (map binding_of bindings)
+  pub tree : (namespace : List ℕ) → namespace_number namespace (map binding_of bindings) < length bindings
+      → number_at numbers namespace ≡ Some (namespace_number namespace (map binding_of bindings))
 
 pub record IsKept (bindings : List code.Binding) (innermost : Places) (numbers : Numbers) (empty : RcStr Global) : Type 0 where
   pub found : IsFound bindings innermost

@@ -33,13 +33,13 @@ abbrev pub place_at : Places → List ℕ → Option ℕ
 place_at places prefix = get_by (λ k. slice_cmp nat_cmp prefix k.now) places
 
 -- new has this place, or none, at a prefix, and at each other what old has
-abbrev pub Puts : Places → Places → List ℕ → Option ℕ → Type 0
-Puts old new prefix place = (other : List ℕ) → place_at new other ≡ cond (bytes_eq prefix other) place (place_at old other)
+abbrev pub PutsPlace : Places → Places → List ℕ → Option ℕ → Type 0
+PutsPlace old new prefix place = (other : List ℕ) → place_at new other ≡ cond (bytes_eq prefix other) place (place_at old other)
 
 -- how many bindings stand before the first one of a namespace; all of them, where none has it
-abbrev pub number_of : List ℕ → List Binding → ℕ
-number_of namespace [] = 0
-number_of namespace (binding ∷ bindings) = if bytes_eq binding.namespace namespace then 0 else suc (number_of namespace bindings)
+abbrev pub namespace_number : List ℕ → List Binding → ℕ
+namespace_number namespace [] = 0
+namespace_number namespace (binding ∷ bindings) = if bytes_eq binding.namespace namespace then 0 else suc (namespace_number namespace bindings)
 
 -- numbers by namespaces
 abbrev pub Numbers : Type 0
@@ -50,8 +50,8 @@ abbrev pub number_at : Numbers → List ℕ → Option ℕ
 number_at numbers namespace = get_by (λ k. slice_cmp nat_cmp namespace (rc_str_bytes k)) numbers
 
 -- a name, with the number of its namespace in place of it
-abbrev pub numbered : List Binding → Name → ℕ × List ℕ
-numbered bindings name = (number_of name.namespace bindings, name.local)
+abbrev pub numbered_name : List Binding → Name → ℕ × List ℕ
+numbered_name bindings name = (namespace_number name.namespace bindings, name.local)
 
 abbrev pub same_key : ℕ × List ℕ → ℕ × List ℕ → Bool
 same_key a b = a.0 == b.0 && bytes_eq a.1 b.1

@@ -39,8 +39,8 @@ abbrev pub name_of : code_name.Name → documents.Name
 name_of name = record { namespace = rc_str_bytes name.namespace; local = string_bytes name.local }
 
 -- the name of an attribute, by the number of its namespace
-abbrev pub key_of : ℕ × Bor (List ℕ) → ℕ × List ℕ
-key_of key = (key.0, encode_utf8_all key.1.now)
+abbrev pub attribute_key_of : ℕ × Bor (List ℕ) → ℕ × List ℕ
+attribute_key_of key = (key.0, encode_utf8_all key.1.now)
 
 abbrev pub attribute_of : code_attribute.Attribute → documents.Attribute
 attribute_of attribute = record { name = name_of attribute.name; value = string_bytes attribute.value }

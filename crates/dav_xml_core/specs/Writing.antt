@@ -9,8 +9,8 @@ use Rattle.dav_xml_core.specs.Reading.{is_empty, last_of}
 use Rattle.dav_xml_core.specs.Scanning.{is_nil}
 
 -- a byte of a text, or of a value between quotes: what would be read as something else is a reference
-abbrev pub escaped : Bool → ℕ → List ℕ
-escaped in_value b =
+abbrev pub escaped_character : Bool → ℕ → List ℕ
+escaped_character in_value b =
     if b == 38 then codes "&amp;" else (
     if b == 60 then codes "&lt;" else (
     if b == 62 then codes "&gt;" else (
@@ -37,15 +37,15 @@ abbrev pub is_other : List ℕ → Bool
 is_other namespace = not (is_nil namespace || bytes_eq namespace dav_namespace || bytes_eq namespace xml_namespace)
 
 -- what declares the prefix of a name
-unfoldable pub declared : List ℕ → Name → List ℕ
-declared prefix name =
+unfoldable pub declaration_bytes : List ℕ → Name → List ℕ
+declaration_bytes prefix name =
     if is_other name.namespace
-    then codes " xmlns:" ++ prefix ++ codes "=\"" ++ flat_map (escaped true) name.namespace ++ codes "\"" else []
+    then codes " xmlns:" ++ prefix ++ codes "=\"" ++ flat_map (escaped_character true) name.namespace ++ codes "\"" else []
 
 unfoldable pub attribute_text : List ℕ → Attribute → List ℕ
 attribute_text prefix attribute =
-    codes " " ++ tag_name prefix attribute.name ++ codes "=\"" ++ flat_map (escaped true) attribute.value ++ codes "\""
-    ++ declared prefix attribute.name
+    codes " " ++ tag_name prefix attribute.name ++ codes "=\"" ++ flat_map (escaped_character true) attribute.value ++ codes "\""
+    ++ declaration_bytes prefix attribute.name
 
 -- the attributes, from the one of this number on
 abbrev pub attributes_text : ℕ → List Attribute → List ℕ
@@ -66,7 +66,7 @@ alone = codes " xmlns:D=\"DAV:\" xmlns=\"\""
 
 unfoldable pub start_text : List ℕ → Name → List Attribute → List ℕ
 start_text first name attributes =
-    codes "<" ++ tag_name element_prefix name ++ first ++ declared element_prefix name
+    codes "<" ++ tag_name element_prefix name ++ first ++ declaration_bytes element_prefix name
     ++ attributes_text 0 attributes ++ codes ">"
 
 -- what is written so far, the names of the elements that have begun and not ended, and what the first element declares
@@ -75,8 +75,8 @@ pub record Writing : Type 0 where
   pub bytes : List ℕ
   pub begun : List (List ℕ)
 
-abbrev pub unwritten : List ℕ → Writing
-unwritten first = record { first = first; bytes = []; begun = [] }
+abbrev pub new_writing : List ℕ → Writing
+new_writing first = record { first = first; bytes = []; begun = [] }
 
 unfoldable pub with_start : Writing → Name → List Attribute → Writing
 with_start writing name attributes = record {
@@ -92,7 +92,7 @@ with_end writing =
     (λ found. record { first = writing.first; bytes = writing.bytes ++ codes "</" ++ found.1 ++ codes ">"; begun = found.0 }) writing
 
 unfoldable pub with_text : Writing → List ℕ → Writing
-with_text writing text = record { first = writing.first; bytes = writing.bytes ++ flat_map (escaped false) text; begun = writing.begun }
+with_text writing text = record { first = writing.first; bytes = writing.bytes ++ flat_map (escaped_character false) text; begun = writing.begun }
 
 abbrev pub with_node : Writing → Node → Writing
 with_node writing (Start name attributes) = with_start writing name attributes
@@ -104,9 +104,9 @@ with_nodes writing [] = writing
 with_nodes writing (node ∷ nodes) = with_nodes (with_node writing node) nodes
 
 -- the bytes of a document
-unfoldable pub written : List Node → List ℕ
-written nodes = (with_nodes (unwritten in_document) nodes).bytes
+unfoldable pub document_bytes : List Node → List ℕ
+document_bytes nodes = (with_nodes (new_writing in_document) nodes).bytes
 
 -- the bytes of an element that stands alone
 unfoldable pub written_alone : List Node → List ℕ
-written_alone nodes = (with_nodes (unwritten alone) nodes).bytes
+written_alone nodes = (with_nodes (new_writing alone) nodes).bytes

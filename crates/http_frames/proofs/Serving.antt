@@ -17,9 +17,9 @@ use Rattle.http_server.specs.Connection.{config_of as connection_config, history
 use Rattle.http_server.specs.Exchange.{Call}
 use Rattle.http_server.specs.History.{History, IsServed, Rests, new_history}
 use Rattle.http_frames.specs.declared.clients.Clients.{Clients}
-use Rattle.http_frames.specs.Clients.{Turn, of, came_of, made_of, went_of, turn_text, AreFull, GoesOn, IsOver, Alone, begun, config_of, connection_at, IsAt, Has, Takes}
+use Rattle.http_frames.specs.Clients.{Turn, of, came_of, made_of, went_of, turn_text, AreFull, GoesOn, IsOver, Alone, count_begun, config_of, connection_at, IsAt, Has, Takes}
 use Rattle.http_frames.specs.Frames.{piece_text}
-use Rattle.http_frames.specs.Private.Steps.{Works, Puts, Begins, Worked, PassesTo, Passes}
+use Rattle.http_frames.specs.Private.Steps.{Works, PutsConnection, BeginsConnection, Worked, PassesTo, Passes}
 
 -- ---- the turns of one connection
 
@@ -193,16 +193,16 @@ stands-same o o' config config' came came' made made' went went' p q r t u x = r
 abbrev ServedAt : Clients → List Turn → ℕ → Type 0
 ServedAt c ts n = Stands (connection_at c n) (config_of c) (came_of n ts) (made_of n ts) (went_of n ts)
 
-module _ (before after : Clients) (ts : List Turn) (t : Turn) (h : Has before ts) (same : config_of after ≡ config_of before) (some : 0 < t.number) (within : t.number ≤ begun after)
-    (grows : begun before ≤ begun after) (fewer : (q : ℕ) → q ≤ begun after → q ≢ t.number → q ≤ begun before)
+module _ (before after : Clients) (ts : List Turn) (t : Turn) (h : Has before ts) (same : config_of after ≡ config_of before) (some : 0 < t.number) (within : t.number ≤ count_begun after)
+    (grows : count_begun before ≤ count_begun after) (fewer : (q : ℕ) → q ≤ count_begun after → q ≢ t.number → q ≤ count_begun before)
     (others : (q : ℕ) → (t.number == q) ≡ false → connection_at after q ≡ connection_at before q) (here : ServedAt after (ts ++ t ∷ []) t.number) where
-  another : (q : ℕ) → 0 < q → q ≤ begun after → (t.number ≡ q → ⊥) → (t.number == q) ≡ false → ServedAt after (ts ++ t ∷ []) q
+  another : (q : ℕ) → 0 < q → q ≤ count_begun after → (t.number ≡ q → ⊥) → (t.number == q) ≡ false → ServedAt after (ts ++ t ∷ []) q
   another q pos le ne test =
       stands-same (connection_at before q) (connection_at after q) (config_of before) (config_of after) (came_of q ts) (came_of q (ts ++ t ∷ [])) (made_of q ts) (made_of q (ts ++ t ∷ []))
       (went_of q ts) (went_of q (ts ++ t ∷ [])) (others q test) same (of-other (λ t. t.came ∷ []) q ts t test) (of-other (λ t. t.made) q ts t test) (of-other (λ t. t.went) q ts t test)
       (h.serves q pos (fewer q le (λ e. ne (sym e))))
 
-  each : (q : ℕ) → 0 < q → q ≤ begun after → ServedAt after (ts ++ t ∷ []) q
+  each : (q : ℕ) → 0 < q → q ≤ count_begun after → ServedAt after (ts ++ t ∷ []) q
   each q pos le = elim (eqb_tells t.number q) [
     | inl e ↦ subst (λ n. ServedAt after (ts ++ t ∷ []) n) e.1 here
     | inr e ↦ another q pos le e.1 e.0
@@ -210,8 +210,8 @@ module _ (before after : Clients) (ts : List Turn) (t : Turn) (h : Has before ts
 
   kept : Has after (ts ++ t ∷ [])
   kept = record {
-    numbers = All-push (λ (t : Turn). (0 < t.number) × (t.number ≤ begun after)) ts t
-        (All-weaker (λ (t : Turn). (0 < t.number) × (t.number ≤ begun before)) (λ (t : Turn). (0 < t.number) × (t.number ≤ begun after))
+    numbers = All-push (λ (t : Turn). (0 < t.number) × (t.number ≤ count_begun after)) ts t
+        (All-weaker (λ (t : Turn). (0 < t.number) × (t.number ≤ count_begun before)) (λ (t : Turn). (0 < t.number) × (t.number ≤ count_begun after))
         (λ t x. (x.0, omega (arith, x.1, grows))) ts h.numbers) (some, within);
     serves = each;
   }
@@ -222,10 +222,10 @@ going-same k config config' came came' made made' went went' p q r t x = rw (p, 
 
 -- what one that begins has, and what one that goes on has
 module _ (number : ℕ) (before mid : Clients) (ts : List Turn) (h : Has before ts) (same : config_of mid ≡ config_of before) where
-  at_itself : (k : Option Connection) → Puts number k before mid → connection_at mid number ≡ k
+  at_itself : (k : Option Connection) → PutsConnection number k before mid → connection_at mid number ≡ k
   at_itself k puts = puts number ∙ ap (λ (b : Bool). if b then k else connection_at before number) (eq-eqb number number refl)
 
-  before_it : Begins number before mid → (0 < number) × (number ≤ begun mid) × (begun before ≤ begun mid) × ((q : ℕ) → q ≤ begun mid → q ≢ number → q ≤ begun before)
+  before_it : BeginsConnection number before mid → (0 < number) × (number ≤ count_begun mid) × (count_begun before ≤ count_begun mid) × ((q : ℕ) → q ≤ count_begun mid → q ≢ number → q ≤ count_begun before)
       × ((q : ℕ) → (number == q) ≡ false → connection_at mid q ≡ connection_at before q)
   before_it (inl x) = rw x.2 (x.0, x.1, omega arith, λ q le ne. le, λ q test. refl)
   before_it (inr x) = (
@@ -236,7 +236,7 @@ module _ (number : ℕ) (before mid : Clients) (ts : List Turn) (h : Has before 
     λ q test. x.1.puts q ∙ ap (λ (b : Bool). if b then Some x.1.connection else connection_at before q) test,
   )
 
-  stood : Begins number before mid → (k : Connection) → connection_at mid number ≡ Some k → Going k (config_of mid) (came_of number ts) (made_of number ts) (went_of number ts)
+  stood : BeginsConnection number before mid → (k : Connection) → connection_at mid number ≡ Some k → Going k (config_of mid) (came_of number ts) (made_of number ts) (went_of number ts)
   stood (inl x) k is =
       let s = h.serves number x.0 x.1 in
       let at = subst (λ o. IsAt o (config_of before) s.0.history) (ap (λ (c : Clients). connection_at c number) (sym x.2) ∙ is) s.1 in
@@ -244,19 +244,19 @@ module _ (number : ℕ) (before mid : Clients) (ts : List Turn) (h : Has before 
       (going-at k (config_of before) (came_of number ts) (made_of number ts) (went_of number ts) s.0 at)
   stood (inr x) k is =
       let itself : k ≡ x.1.connection = ap (λ (o : Option Connection). unwrap_or o k) (sym is ∙ at_itself (Some x.1.connection) x.1.puts) in
-      let above : begun before < number = omega (arith, x.0) in
-      going-same k (config_of mid) (config_of mid) [] (came_of number ts) [] (made_of number ts) [] (went_of number ts) refl (of-none (λ t. t.came ∷ []) number (begun before) ts above h.numbers)
-      (of-none (λ t. t.made) number (begun before) ts above h.numbers) (of-none (λ t. t.went) number (begun before) ts above h.numbers)
+      let above : count_begun before < number = omega (arith, x.0) in
+      going-same k (config_of mid) (config_of mid) [] (came_of number ts) [] (made_of number ts) [] (went_of number ts) refl (of-none (λ t. t.came ∷ []) number (count_begun before) ts above h.numbers)
+      (of-none (λ t. t.made) number (count_begun before) ts above h.numbers) (of-none (λ t. t.went) number (count_begun before) ts above h.numbers)
       (going-new k (config_of mid) (ap connection_config itself ∙ x.1.config ∙ sym same) (ap history itself ∙ x.1.new))
 
-  gone : Begins number before mid → connection_at mid number ≡ None → Stands None (config_of mid) (came_of number ts) (made_of number ts) (went_of number ts)
+  gone : BeginsConnection number before mid → connection_at mid number ≡ None → Stands None (config_of mid) (came_of number ts) (made_of number ts) (went_of number ts)
   gone (inl x) is =
       stands-same (connection_at before number) None (config_of before) (config_of mid) (came_of number ts) (came_of number ts) (made_of number ts) (made_of number ts) (went_of number ts)
       (went_of number ts) (sym is ∙ ap (λ (c : Clients). connection_at c number) x.2) same refl refl refl (h.serves number x.0 x.1)
   gone (inr x) is = let some = sym is ∙ at_itself (Some x.1.connection) x.1.puts in cc
 
 module _ {S : Type 0} (answers : S → Request (List ℕ) → Response → S → Type 0) (number : ℕ) (bytes : List ℕ) (before mid after : Clients) (s s' : S) (held holds : Option (List ℕ))
-    (begins : Begins number before mid) (same : config_of mid ≡ config_of before) (same_begun : begun after ≡ begun mid) (same_config : config_of after ≡ config_of mid) where
+    (begins : BeginsConnection number before mid) (same : config_of mid ≡ config_of before) (same_begun : count_begun after ≡ count_begun mid) (same_config : config_of after ≡ config_of mid) where
   -- one more turn, once it is known how the connection stands behind it
   keeps-with : (t : Turn) → t.number ≡ number → ((q : ℕ) → (number == q) ≡ false → connection_at after q ≡ connection_at mid q)
       → ((ts : List Turn) → Has before ts → ServedAt after (ts ++ t ∷ []) number) → (ts : List Turn) → Has before ts → Has after (ts ++ t ∷ [])
@@ -285,13 +285,13 @@ module _ {S : Type 0} (answers : S → Request (List ℕ) → Response → S →
       }
 
   module _ (k : Connection) (some : connection_at mid number ≡ Some k) (w : Worked answers number bytes k mid after s s' held holds) where
-    elsewhere : (o : Option Connection) → Puts number o mid after → (q : ℕ) → (number == q) ≡ false → connection_at after q ≡ connection_at mid q
+    elsewhere : (o : Option Connection) → PutsConnection number o mid after → (q : ℕ) → (number == q) ≡ false → connection_at after q ≡ connection_at mid q
     elsewhere o puts q test = puts q ∙ ap (λ (b : Bool). if b then o else connection_at mid q) test
 
-    itself : (o : Option Connection) → Puts number o mid after → connection_at after number ≡ o
+    itself : (o : Option Connection) → PutsConnection number o mid after → connection_at after number ≡ o
     itself o puts = puts number ∙ ap (λ (b : Bool). if b then o else connection_at mid number) (eq-eqb number number refl)
 
-    taken-on : ((history w.new).state ≡ Open) × Puts number (Some w.new) mid after × (holds ≡ w.between) → Takes answers number bytes before after s s' held holds
+    taken-on : ((history w.new).state ≡ Open) × PutsConnection number (Some w.new) mid after × (holds ≡ w.between) → Takes answers number bytes before after s s' held holds
     unfolding worked-on stood
     taken-on x =
         let sends = w.works.sends in
@@ -312,7 +312,7 @@ module _ {S : Type 0} (answers : S → Request (List ℕ) → Response → S →
               ));
         }
 
-    taken-out : ((history w.new).state ≢ Open) × Puts number None mid after × Appends w.between holds (piece_text number []) → Takes answers number bytes before after s s' held holds
+    taken-out : ((history w.new).state ≢ Open) × PutsConnection number None mid after × Appends w.between holds (piece_text number []) → Takes answers number bytes before after s s' held holds
     unfolding worked-out stood
     taken-out x =
         let sends = w.works.sends in

@@ -16,7 +16,7 @@ use Rattle.std.specs.Str.Parse.{digits_value}
 use Rattle.line_streams.proofs.Numerals.{no_digits}
 use Rattle.line_streams.specs.Numerals.{numeral}
 use Rattle.http_frames.specs.declared.frames.Head.{Head}
-use Rattle.http_frames.specs.Frames.{is_blank, piece_of, head_of, head}
+use Rattle.http_frames.specs.Frames.{is_single_space, piece_head, head_of, head}
 
 abbrev Low : List ℕ → Type 0
 Low bytes = All (λ b. b < 128) bytes
@@ -27,19 +27,19 @@ one_more n = omega arith
 one_less : (n : ℕ) → 1 + n + 1 ≡ suc (n + 1)
 one_less n = omega arith
 
-around-cons : (b : ℕ) (line : List ℕ) (test : Bool) → is_blank b ≡ test → (Low (before_first is_blank line) → Low (after_first is_blank line) → Low line)
-    → Low (before_first is_blank (b ∷ line)) → Low (after_first is_blank (b ∷ line)) → Low (b ∷ line)
+around-cons : (b : ℕ) (line : List ℕ) (test : Bool) → is_single_space b ≡ test → (Low (before_first is_single_space line) → Low (after_first is_single_space line) → Low line)
+    → Low (before_first is_single_space (b ∷ line)) → Low (after_first is_single_space (b ∷ line)) → Low (b ∷ line)
 around-cons b line true is rest before after =
     All-cons (λ x. x < 128) b line (omega (arith, eqb-true b 32 is)) (rw is at after)
 around-cons b line false is rest before after =
-    let n = position_or_len is_blank line in
+    let n = position_or_len is_single_space line in
     let front = subst (λ k. Low (take k (b ∷ line))) (one_more n) (rw is at before) in
     let back = subst (λ k. Low (drop k (b ∷ line))) (one_less n) (rw is at after) in
     All-cons (λ x. x < 128) b line (All-head (λ x. x < 128) b (take n line) front) (rest (All-tail (λ x. x < 128) b (take n line) front) back)
 
-around : (line : List ℕ) → Low (before_first is_blank line) → Low (after_first is_blank line) → Low line
+around : (line : List ℕ) → Low (before_first is_single_space line) → Low (after_first is_single_space line) → Low line
 around [] before after = before
-around (b ∷ line) before after = around-cons b line (is_blank b) refl (around line) before after
+around (b ∷ line) before after = around-cons b line (is_single_space b) refl (around line) before after
 
 tells : IsDigitsTest (λ ds. list_all is_ascii_digit ds ≡ true)
 tells = search rules
@@ -61,7 +61,7 @@ clock_low : Low (codes "clock")
 clock_low =
     All-weaker (λ b. nat_lt b 128 ≡ true) (λ b. b < 128) (λ b low. ltb-true b 128 low) (codes "clock") (AllPass-from_list_all (λ b. nat_lt b 128) (codes "clock") refl)
 
-number_low : (word : List ℕ) (value : ℕ) (n : Option ℕ) (h : Head) → numeral word ≡ n → piece_of n value ≡ Some h → Low word
+number_low : (word : List ℕ) (value : ℕ) (n : Option ℕ) (h : Head) → numeral word ≡ n → piece_head n value ≡ Some h → Low word
 number_low word value None h is says = cc
 number_low word value (Some n) h is says = numeral_low word n (list_all is_ascii_digit word) refl is
 
@@ -69,14 +69,14 @@ word_low : (word : List ℕ) (value : ℕ) (h : Head) (test : Bool) → bytes_eq
 word_low word value h true is says = subst Low (sym (is_clock word is)) clock_low
 word_low word value h false is says = number_low word value (numeral word) h refl (rw is at says)
 
-words_low : (line : List ℕ) (value : Option ℕ) (h : Head) → numeral (after_first is_blank line) ≡ value → head_of (before_first is_blank line) value ≡ Some h → Low line
+words_low : (line : List ℕ) (value : Option ℕ) (h : Head) → numeral (after_first is_single_space line) ≡ value → head_of (before_first is_single_space line) value ≡ Some h → Low line
 words_low line None h is says = cc
 words_low line (Some value) h is says =
-    around line (word_low (before_first is_blank line) value h (bytes_eq (before_first is_blank line) (codes "clock")) refl says)
-    (numeral_low (after_first is_blank line) value (list_all is_ascii_digit (after_first is_blank line)) refl is)
+    around line (word_low (before_first is_single_space line) value h (bytes_eq (before_first is_single_space line) (codes "clock")) refl says)
+    (numeral_low (after_first is_single_space line) value (list_all is_ascii_digit (after_first is_single_space line)) refl is)
 
 head_is_text : (line : List ℕ) (h : Head) → head line ≡ Some h → IsUtf8 line
-head_is_text line h is = IsUtf8-from_ascii line (IsAscii-from_all line (words_low line (numeral (after_first is_blank line)) h refl is))
+head_is_text line h is = IsUtf8-from_ascii line (IsAscii-from_all line (words_low line (numeral (after_first is_single_space line)) h refl is))
 
 no_text-by : (line : List ℕ) (h : Option Head) → ¬ (IsUtf8 line) → head line ≡ h → h ≡ None
 no_text-by line None not_text is = refl
@@ -86,7 +86,7 @@ no_text-by line (Some h) not_text is = absurd (not_text (head_is_text line h is)
 pub no_text : (line : List ℕ) → ¬ (IsUtf8 line) → head line ≡ None
 no_text line not_text = no_text-by line (head line) not_text refl
 
-pub no_blank : (line : List ℕ) → position_or_len is_blank line ≡ length line → head line ≡ None
+pub no_blank : (line : List ℕ) → position_or_len is_single_space line ≡ length line → head line ≡ None
 unfolding numeral
 no_blank line is =
-    ap (λ t. head_of (before_first is_blank line) (numeral t)) (drop_of_length-le line {i = position_or_len is_blank line + 1} (omega (arith, is)))
+    ap (λ t. head_of (before_first is_single_space line) (numeral t)) (drop_of_length-le line {i = position_or_len is_single_space line + 1} (omega (arith, is)))

@@ -74,14 +74,14 @@ pub record Alone (config : Config) (came : List (List ℕ)) (made : List Call) (
   pub stands : GoesOn history came went ⊎ IsOver history came went
 
 -- the connection under a number, after these turns
-abbrev pub Serves : Config → List Turn → ℕ → Type 0
-Serves config turns number = Alone config (came_of number turns) (made_of number turns) (went_of number turns)
+abbrev pub ServesAlone : Config → List Turn → ℕ → Type 0
+ServesAlone config turns number = Alone config (came_of number turns) (made_of number turns) (went_of number turns)
 
 -- ---- what a contract sees of the clients
 
 -- how many connections have begun
-abbrev pub begun : Clients → ℕ
-begun c = c.begun
+abbrev pub count_begun : Clients → ℕ
+count_begun c = c.begun
 
 -- the configuration of each connection
 abbrev pub config_of : Clients → Config
@@ -99,8 +99,8 @@ IsAt None config h = h.state ≢ Open
 -- the clients, after these turns
 pub record Has (c : Clients) (turns : List Turn) : Type 0 where
   -- the numbers are those of the connections that have begun
-  pub numbers : All (λ t. (0 < t.number) × (t.number ≤ begun c)) turns
-  pub serves : (number : ℕ) → 0 < number → number ≤ begun c → (s : Serves (config_of c) turns number) × IsAt (connection_at c number) (config_of c) s.history
+  pub numbers : All (λ t. (0 < t.number) × (t.number ≤ count_begun c)) turns
+  pub serves : (number : ℕ) → 0 < number → number ≤ count_begun c → (s : ServesAlone (config_of c) turns number) × IsAt (connection_at c number) (config_of c) s.history
 
 -- ---- what is done with a piece
 

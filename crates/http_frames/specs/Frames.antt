@@ -13,22 +13,22 @@ use Rattle.http_frames.specs.declared.frames.Next.TheVariants as next
 
 -- ---- the head of a frame: two words with one blank between them
 
-abbrev pub is_blank : ℕ → Bool
-is_blank b = b == 32
+abbrev pub is_single_space : ℕ → Bool
+is_single_space b = b == 32
 
 -- so many bytes of a connection, where they are not too many
-abbrev pub piece_of : Option ℕ → ℕ → Option Head
-piece_of None length = None
-piece_of (Some number) length = if nat_lt LARGEST length then None else Some (Piece number length)
+abbrev pub piece_head : Option ℕ → ℕ → Option Head
+piece_head None length = None
+piece_head (Some number) length = if nat_lt LARGEST length then None else Some (Piece number length)
 
 -- a moment behind `clock`, else a length behind a number
 abbrev pub head_of : List ℕ → Option ℕ → Option Head
 head_of word None = None
-head_of word (Some value) = if bytes_eq word (codes "clock") then Some (Clock value) else piece_of (numeral word) value
+head_of word (Some value) = if bytes_eq word (codes "clock") then Some (Clock value) else piece_head (numeral word) value
 
 -- what a line says, without its end
 abbrev pub head : List ℕ → Option Head
-head line = head_of (before_first is_blank line) (numeral (after_first is_blank line))
+head line = head_of (before_first is_single_space line) (numeral (after_first is_single_space line))
 
 -- ---- a frame that comes in
 

@@ -1,7 +1,7 @@
 //! The connections of many clients, one service behind them all.
 ghost use Rattle.std.specs.Prelude.{◌≡◌, ◌<◌, ◌≤◌, ◌+◌, ◌↔◌, [], true, false, Ok, IfOk, OnOk, IsTrue, max};
-ghost use Rattle.http_frames.specs.Clients.{Has, Takes, begun, config_of};
-ghost use Rattle.http_frames.specs.Private.Steps.{Adds, AddsPiece, Begins, HandsOut, Passes, Works};
+ghost use Rattle.http_frames.specs.Clients.{Has, Takes, count_begun, config_of};
+ghost use Rattle.http_frames.specs.Private.Steps.{Adds, AddsPiece, BeginsConnection, HandsOut, Passes, Works};
 
 use crate::frames::write_piece;
 use http_server::{Config, Connection, Service};
@@ -25,7 +25,7 @@ impl Clients {
     /// No client yet. Each connection will have the configuration; the keys are for maps whose keys strangers choose.
     pub fn new(alloc: Global, keys: RandomState, config: Config) -> Clients
         ensures has { Has result [] }
-        ensures begun { begun result ≡ 0 }
+        ensures begun { count_begun result ≡ 0 }
         ensures config { config_of result ≡ config }
     {
         Clients {
@@ -49,9 +49,9 @@ impl Clients {
         service: &mut S,
         output: &mut O,
     ) -> Result<bool, Fault>
-        ensures order { IfOk result (λ taken. IsTrue taken ↔ ((0 < number) × (number ≤ begun self.old + 1))) }
+        ensures order { IfOk result (λ taken. IsTrue taken ↔ ((0 < number) × (number ≤ count_begun self.old + 1))) }
         ensures takes { result ≡ Ok true → Takes S.answers number bytes.now self.old self.new service.old service.new (O.contents output.old) (O.contents output.new) }
-        ensures begun { result ≡ Ok true → begun self.new ≡ max (begun self.old) number }
+        ensures begun { result ≡ Ok true → count_begun self.new ≡ max (count_begun self.old) number }
         ensures refused { result ≡ Ok false → (self.new ≡ self.old) × (service.new ≡ service.old) × (output.new ≡ output.old) }
         ensures config { config_of self.new ≡ config_of self.old }
     {
@@ -64,8 +64,8 @@ impl Clients {
 
     // Begins the connection where its number is the next; whether it has begun.
     fn begin(&mut self, number: u64) -> Result<bool, Fault>
-        ensures order { IfOk result (λ has_begun. IsTrue has_begun ↔ ((0 < number) × (number ≤ begun self.old + 1))) }
-        ensures begins { result ≡ Ok true → Begins number self.old self.new }
+        ensures order { IfOk result (λ has_begun. IsTrue has_begun ↔ ((0 < number) × (number ≤ count_begun self.old + 1))) }
+        ensures begins { result ≡ Ok true → BeginsConnection number self.old self.new }
         ensures refused { result ≡ Ok false → self.new ≡ self.old }
         ensures config { config_of self.new ≡ config_of self.old }
     {
@@ -102,7 +102,7 @@ impl Clients {
         output: &mut O,
     ) -> Result<(), Fault>
         ensures passes { OnOk result (Passes S.answers number bytes.now self.old self.new service.old service.new (O.contents output.old) (O.contents output.new)) }
-        ensures begun { begun self.new ≡ begun self.old }
+        ensures begun { count_begun self.new ≡ count_begun self.old }
         ensures config { config_of self.new ≡ config_of self.old }
     {
         let Some(connection) = self.connections.get_mut(&number) else {

@@ -1,6 +1,6 @@
 //! Clones of `If` values and of their parts: each is equal to its source as contracts see it, and can be had.
 ghost use Rattle.std.specs.Prelude.{◌≡◌, map, IfOk};
-ghost use Rattle.dav_headers_core.specs.IfValues.{item_of, condition_of, located};
+ghost use Rattle.dav_headers_core.specs.IfValues.{item_of, condition_of, located_list};
 
 use dav_headers_core::davheaders::*;
 use http_header::HeaderValue;
@@ -42,13 +42,13 @@ fn show_list(text: &mut String, list: &IfList) -> Result<(), AllocError> {
 }
 
 fn of_if(header: &If) -> Result<If, AllocError>
-    ensures { IfOk result (λ copy. map located copy.0.items ≡ map located header.now.0.items) }
+    ensures { IfOk result (λ copy. map located_list copy.0.items ≡ map located_list header.now.0.items) }
 {
     header.clone()
 }
 
 fn of_list(list: &IfList) -> Result<IfList, AllocError>
-    ensures { IfOk result (λ copy. located copy ≡ located list.now) }
+    ensures { IfOk result (λ copy. located_list copy ≡ located_list list.now) }
 {
     list.clone()
 }

@@ -5,7 +5,7 @@ use dav_files_core::memfs::{Kind, MemFsRestored};
 use dav_locks_core::ls::{DavLock, LockError};
 use dav_path_core::davpath::DavPath;
 use dav_path_core::errors::FsResult;
-use dav_resource_core::guarded::{Command, Guarded, Refusal, Reply, Request};
+use dav_resource_core::guarded::{Command, Guarded, Inspection, Refusal, Reply, Request};
 use rand_pcg::Pcg64;
 use std::alloc::{AllocError, Global};
 use std::test::Fail;
@@ -16,6 +16,10 @@ pub(crate) fn apply(
     rng: &mut Pcg64,
 ) -> Result<Reply, Refusal> {
     stores.apply(request, rng)
+}
+
+pub(crate) fn inspect(stores: &Guarded, path: &DavPath, now: u64) -> FsResult<Inspection> {
+    stores.inspect(path, Moment(now))
 }
 
 pub(crate) fn restore(stores: &mut Guarded, path: &DavPath, entry: MemFsRestored) -> FsResult<()> {

@@ -1,8 +1,10 @@
-//! Rows of stores that are walked and restored: tests alone.
+//! Rows of stores that are walked and restored, and looked at: tests alone.
 #![tactic(auto)]
 
 #[cfg(test)]
 mod calls;
+#[cfg(test)]
+mod inspected;
 #[cfg(test)]
 mod restored;
 #[cfg(test)]

@@ -77,7 +77,7 @@ fn entries_are_refused(rt: HostRuntime) -> Result<(), Fail> {
 }
 
 // Stores behind the calls.
-fn played(alloc: Global) -> Result<Guarded, Fail> {
+pub(crate) fn played(alloc: Global) -> Result<Guarded, Fail> {
     let mut stores = Guarded::new(alloc, Moment(0))?;
     let mut rng = Pcg64::seed_from_u64(1);
     let mut now = 0_u64;

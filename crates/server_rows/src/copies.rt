@@ -1,14 +1,5 @@
-//! The rows of COPY (RFC 4918 section 9.8), in the form of `rows`.
-pub(crate) const COPIES: &str = r#"at / - 1000000000
-folder /d
-folder /d/e
-folder /g
-folder /g/h
-PUT /a{h}|Content-Length: 1||a = {made 1000000000-1}
-PUT /b{h}|Content-Length: 2||bb = {made 1000000001-2}
-PUT /d/f{h}|Content-Length: 3||fff = {made 1000000002-3}
-PUT /d/e/g{h}|Content-Length: 4||gggg = {made 1000000003-4}
-PUT /g/h/i{h}|Content-Length: 5||iiiii = {made 1000000004-5}
+//! The rows of COPY (RFC 4918 section 9.8), in the form of `rows`, each text behind one of `beginnings`.
+pub(crate) const COPIES: &str = r#"behind tree
 COPY /d{h}|Destination: /n|Depth: 1|| = {bare 400 Bad Request}
 COPY /d{h}|Destination: /n|Depth: all|| = {bare 400 Bad Request}
 COPY /d{h}|Destination: /n|Depth: infinity|Depth: infinity|| = {bare 400 Bad Request}
@@ -62,22 +53,11 @@ GET /b{h}|| = {file 1000000001-2}bb
 GET /d/f{h}|| = {file 1000000002-3}fff
 GET /d/e/g{h}|| = {file 1000000003-4}gggg
 GET /g/h/i{h}|| = {file 1000000004-5}iiiii
+GET /k/l/m{h}|| = {file 1000000005-6}mmmmmm
 GET /n{h}|| = {bare 404 Not Found}
 GET /d/n{h}|| = {bare 404 Not Found}
 
-at / - 1000000000
-folder /d
-folder /d/e
-folder /g
-folder /g/h
-folder /k
-folder /k/l
-PUT /a{h}|Content-Length: 1||a = {made 1000000000-1}
-PUT /b{h}|Content-Length: 2||bb = {made 1000000001-2}
-PUT /d/f{h}|Content-Length: 3||fff = {made 1000000002-3}
-PUT /d/e/g{h}|Content-Length: 4||gggg = {made 1000000003-4}
-PUT /g/h/i{h}|Content-Length: 5||iiiii = {made 1000000004-5}
-PUT /k/l/m{h}|Content-Length: 6||mmmmmm = {made 1000000005-6}
+behind tree
 COPY /a{h}|Destination: /n1|| = {bare 201 Created}
 GET /a{h}|| = {file 1000000000-1}a
 GET /n1{h}|| = {file 1000000000-1}a
@@ -146,15 +126,7 @@ COPY /s{h}|Destination: /t|If: (Not ["1000000003-4"])|| = {bare 412 Precondition
 GET /s{h}|| = {file 1000000003-4}gggg
 GET /t{h}|| = {bare 404 Not Found}
 
-at / - 1000000000
-folder /d
-folder /d/e
-folder /g
-folder /g/h
-PUT /a{h}|Content-Length: 1||a = {made 1000000000-1}
-PUT /d/f{h}|Content-Length: 3||fff = {made 1000000001-3}
-PUT /d/e/g{h}|Content-Length: 4||gggg = {made 1000000002-4}
-PUT /g/h/i{h}|Content-Length: 5||iiiii = {made 1000000003-5}
+behind tree
 COPY /d{h}|Destination: /d0|Depth: 0|| = {bare 201 Created}
 GET /d0{h}|If-None-Match: *|| = HTTP/1.1 304 Not Modified||
 GET /d0/f{h}|| = {bare 404 Not Found}
@@ -168,41 +140,41 @@ GET /g/f{h}|| = {bare 404 Not Found}
 COPY /d{h}|Destination: /a0|Depth: 0|| = HTTP/1.1 204 No Content||
 GET /a0{h}|If-None-Match: *|| = HTTP/1.1 304 Not Modified||
 COPY /d{h}|Destination: /d1|| = {bare 201 Created}
-GET /d1/e/g{h}|| = {file 1000000002-4}gggg
+GET /d1/e/g{h}|| = {file 1000000003-4}gggg
 COPY /d{h}|Destination: /d2|Depth: infinity|| = {bare 201 Created}
-GET /d2/e/g{h}|| = {file 1000000002-4}gggg
-GET /d2/f{h}|| = {file 1000000001-3}fff
+GET /d2/e/g{h}|| = {file 1000000003-4}gggg
+GET /d2/f{h}|| = {file 1000000002-3}fff
 COPY /d{h}|Destination: /d/n|| = {bare 201 Created}
-GET /d/n/f{h}|| = {file 1000000001-3}fff
-GET /d/n/e/g{h}|| = {file 1000000002-4}gggg
+GET /d/n/f{h}|| = {file 1000000002-3}fff
+GET /d/n/e/g{h}|| = {file 1000000003-4}gggg
 GET /d/n/n{h}|| = {bare 404 Not Found}
 COPY /d{h}|Destination: /d/n|| = HTTP/1.1 204 No Content||
-GET /d/n/f{h}|| = {file 1000000001-3}fff
-GET /d/n/e/g{h}|| = {file 1000000002-4}gggg
+GET /d/n/f{h}|| = {file 1000000002-3}fff
+GET /d/n/e/g{h}|| = {file 1000000003-4}gggg
 GET /d/n/n{h}|| = {bare 404 Not Found}
 COPY /d{h}|Destination: /d/z|Depth: 0|| = {bare 201 Created}
 GET /d/z{h}|If-None-Match: *|| = HTTP/1.1 304 Not Modified||
 GET /d/z/f{h}|| = {bare 404 Not Found}
 COPY /d{h}|Destination: /d/e/o|| = {bare 201 Created}
-GET /d/e/o/e/g{h}|| = {file 1000000002-4}gggg
-GET /d/e/o/n/e/g{h}|| = {file 1000000002-4}gggg
+GET /d/e/o/e/g{h}|| = {file 1000000003-4}gggg
+GET /d/e/o/n/e/g{h}|| = {file 1000000003-4}gggg
 GET /d/e/o/e/o{h}|| = {bare 404 Not Found}
 COPY /d{h}|Destination: /d/e|| = HTTP/1.1 204 No Content||
-GET /d/e/f{h}|| = {file 1000000001-3}fff
-GET /d/e/n/e/g{h}|| = {file 1000000002-4}gggg
+GET /d/e/f{h}|| = {file 1000000002-3}fff
+GET /d/e/n/e/g{h}|| = {file 1000000003-4}gggg
 GET /d/e/e{h}|| = {bare 404 Not Found}
 GET /d/e/g{h}|| = {bare 404 Not Found}
-GET /d/f{h}|| = {file 1000000001-3}fff
+GET /d/f{h}|| = {file 1000000002-3}fff
 COPY /d{h}|Destination: /d/f|| = HTTP/1.1 204 No Content||
 GET /d/f{h}|If-None-Match: *|| = HTTP/1.1 304 Not Modified||
 GET /d/f/f{h}|| = {bare 404 Not Found}
-GET /d/f/e/f{h}|| = {file 1000000001-3}fff
+GET /d/f/e/f{h}|| = {file 1000000002-3}fff
 COPY /{h}|Destination: /r|| = {bare 201 Created}
 GET /r/a{h}|| = {file 1000000000-1}a
-GET /r/d1/e/g{h}|| = {file 1000000002-4}gggg
+GET /r/d1/e/g{h}|| = {file 1000000003-4}gggg
 GET /r/r{h}|| = {bare 404 Not Found}
 COPY /{h}|Destination: /r|Overwrite: T|| = HTTP/1.1 204 No Content||
-GET /r/d2/f{h}|| = {file 1000000001-3}fff
+GET /r/d2/f{h}|| = {file 1000000002-3}fff
 GET /r/r{h}|| = {bare 404 Not Found}
 COPY /{h}|Destination: /r|Overwrite: F|| = {bare 412 Precondition Failed}
 COPY /{h}|Destination: /r/z|Depth: 0|| = {bare 201 Created}
@@ -210,12 +182,10 @@ GET /r/z{h}|If-None-Match: *|| = HTTP/1.1 304 Not Modified||
 GET /r/z/a{h}|| = {bare 404 Not Found}
 COPY /r/a{h}|Destination: /d1/e|| = HTTP/1.1 204 No Content||
 GET /d1/e{h}|| = {file 1000000000-1}a
-PUT /r/a{h}|Content-Length: 3||new = {kept 1000000021-3}
+PUT /r/a{h}|Content-Length: 3||new = {kept 1000000023-3}
 GET /a{h}|| = {file 1000000000-1}a
 
-at /dav x-user 1000000000
-folder /d
-PUT /dav/a{h}|X-User: ann|Content-Length: 1||a = {made 1000000000-1}
+behind prefix
 COPY /dav/a{h}|X-User: ann|Destination: /n|| = {bare 502 Bad Gateway}
 COPY /dav/a{h}|X-User: ann|Destination: /|| = {bare 502 Bad Gateway}
 COPY /dav/a{h}|X-User: ann|Destination: /davx|| = {bare 502 Bad Gateway}
@@ -242,8 +212,7 @@ COPY /dav{h}|X-User: ann|Destination: /dav/r|| = {bare 201 Created}
 GET /dav/r/d/o{h}|X-User: ann|| = {file 1000000000-1}a
 GET /dav/r/r{h}|X-User: ann|| = {bare 404 Not Found}
 
-at / - 1000000000 https
-PUT /a{h}|Content-Length: 1||a = {made 1000000000-1}
+behind https
 COPY /a{h}|Destination: http://h/n|| = {bare 502 Bad Gateway}
 COPY /a{h}|Destination: http://h:443/n|| = {bare 502 Bad Gateway}
 COPY /a{h}|Destination: https://h:444/n|| = {bare 502 Bad Gateway}
@@ -252,32 +221,7 @@ GET /n{h}|| = {file 1000000000-1}a
 COPY /n{h}|Destination: https://h:443/o|| = {bare 201 Created}
 GET /o{h}|| = {file 1000000000-1}a
 
-at /dav x-user 1000000000
-folder /w
-folder /p
-folder /p/f
-folder /p/f/g
-folder /q
-folder /q/r
-folder /g
-folder /g/h
-folder /k
-folder /k/l
-lock bob exclusive deep /t
-lock bob exclusive shallow /p
-lock bob exclusive deep /q
-lock bob exclusive shallow /g/h
-lock bob exclusive shallow /n/f
-lock bob exclusive deep /no
-lock ann exclusive deep /k
-lock ann exclusive deep /m
-PUT /dav/w/f{h}|X-User: ann|Content-Length: 3||fff = {made 1000000000-3}
-PUT /dav/w/a{h}|X-User: ann|Content-Length: 1||a = {made 1000000001-1}
-PUT /dav/w/b{h}|X-User: ann|Content-Length: 2||bb = {made 1000000002-2}
-PUT /dav/k/l/i{h}|X-User: ann|If: <http://h/dav/k> (<{6}>)|Content-Length: 5||iiiii = {made 1000000003-5}
-PUT /dav/p/i{h}|X-User: bob|If: <http://h/dav/p> (<{1}>)|Content-Length: 2||ii = {made 1000000004-2}
-PUT /dav/g/h/i{h}|X-User: bob|If: <http://h/dav/g/h> (<{3}>)|Content-Length: 4||iiii = {made 1000000005-4}
-PUT /dav/m{h}|X-User: ann|If: <http://h/dav/m> (<{7}>)|Content-Length: 1||m = {made 1000000006-1}
+behind targets
 COPY /dav/w/a{h}|X-User: ann|Destination: /dav/t|| = {locked /dav/t}
 COPY /dav/w/a{h}|X-User: ann|Destination: /dav/t|If: <http://h/dav/t> (Not <a:b>)|| = {locked /dav/t}
 COPY /dav/w/a{h}|X-User: ann|Destination: /dav/t|If: <http://h/dav/t> (<{0}>)|| = {locked /dav/t}
@@ -355,26 +299,8 @@ COPY /dav/w/a{h}|X-User: ann|Destination: /dav/m|If: <http://h/dav/m> (<{7}>)|| 
 GET /dav/m{h}|X-User: ann|| = {file 1000000001-1}a
 UNLOCK /dav/m{h}|X-User: ann|Lock-Token: <{7}>|| = HTTP/1.1 204 No Content||
 
-at /dav x-user 1000000000
-folder /f
-folder /f/g
-folder /p
-folder /p/q
-folder /r
-folder /r/x
-lock bob exclusive deep /a
-lock bob exclusive shallow /f/g
-lock bob exclusive shallow /p
-lock bob exclusive deep /r
-lock bob shared deep /s
-lock ann shared deep /s
+behind sources
 lock bob exclusive shallow /f/none
-PUT /dav/a{h}|X-User: bob|If: <http://h/dav/a> (<{0}>)|Content-Length: 1||a = {made 1000000000-1}
-PUT /dav/f/g/i{h}|X-User: bob|If: <http://h/dav/f/g> (<{1}>)|Content-Length: 1||i = {made 1000000001-1}
-PUT /dav/p/b{h}|X-User: bob|If: <http://h/dav/p> (<{2}>)|Content-Length: 2||bb = {made 1000000002-2}
-PUT /dav/p/q/c{h}|X-User: ann|Content-Length: 3||ccc = {made 1000000003-3}
-PUT /dav/r/x/d{h}|X-User: bob|If: <http://h/dav/r> (<{3}>)|Content-Length: 4||dddd = {made 1000000004-4}
-PUT /dav/s{h}|X-User: ann|If: <http://h/dav/s> (<{5}>)|Content-Length: 1||s = {made 1000000005-1}
 COPY /dav/a{h}|X-User: ann|Destination: /dav/a1|| = {bare 201 Created}
 GET /dav/a1{h}|X-User: ann|| = {file 1000000000-1}a
 PUT /dav/a1{h}|X-User: ann|Content-Length: 3||new = {kept 1000000007-3}
@@ -400,28 +326,7 @@ COPY /dav/f{h}|X-User: bob|Destination: /dav/f/none|If: <http://h/dav/f/none> (<
 GET /dav/f/none/g/i{h}|X-User: ann|| = {file 1000000001-1}i
 UNLOCK /dav/f/none{h}|X-User: bob|Lock-Token: <{6}>|| = HTTP/1.1 204 No Content||
 
-at / x-user 1000000000
-folder /f
-folder /s
-folder /s/t
-folder /s/v
-folder /s/z
-folder /w
-folder /w/x
-lock ann shared deep /n
-lock bob shared deep /n
-lock ann shared shallow /f
-lock bob shared shallow /f
-lock bob shared deep /s
-lock ann shared shallow /s
-lock ann shared deep /s/t
-lock ann shared shallow /s/u
-lock ann shared deep /w
-lock bob shared shallow /w/x
-lock ann shared deep /s/z
-PUT /a{h}|X-User: ann|Content-Length: 1||a = {made 1000000000-1}
-PUT /b{h}|X-User: ann|Content-Length: 2||bb = {made 1000000001-2}
-PUT /s/u{h}|X-User: ann|If: <http://h/s> (<{5}>) <http://h/s/u> (<{7}>)|Content-Length: 1||u = {made 1000000002-1}
+behind shared
 COPY /a{h}|X-User: ann|Destination: /n|| = {locked /n}
 COPY /a{h}|X-User: ann|Destination: /n|If: <http://h/n> (<{1}>)|| = {locked /n}
 COPY /a{h}|X-User: ann|Destination: /n|If: <http://h/n> (<{0}>)|| = {bare 201 Created}
@@ -464,13 +369,7 @@ COPY /a{h}|X-User: ann|Destination: /w/x|If: <http://h/w> (<{8}>)|| = HTTP/1.1 2
 GET /w/x{h}|X-User: ann|| = {file 1000000000-1}a
 UNLOCK /w/x{h}|X-User: ann|Lock-Token: <{8}>|| = HTTP/1.1 204 No Content||
 
-at / x-user 999999995
-folder /f
-folder /f/g
-lock bob exclusive deep /t 1
-lock bob exclusive shallow /f/g 1
-lock bob exclusive shallow /f 2
-PUT /a{h}|X-User: ann|Content-Length: 1||a = {made 999999995-1}
+behind timeouts
 COPY /a{h}|X-User: ann|Destination: /t|| = {locked /t}
 COPY /a{h}|X-User: ann|Destination: /f/g|| = {locked /f/g}
 COPY /a{h}|X-User: bob|Destination: /f/g|If: <http://h/f/g> (<{1}>)|| = {locked /f}
@@ -484,8 +383,7 @@ GET /f/g{h}|X-User: ann|| = HTTP/1.1 200 OK|etag: "999999995-1"|last-modified: T
 UNLOCK /f/g{h}|X-User: bob|Lock-Token: <{1}>|| = {no lock}
 UNLOCK /f{h}|X-User: bob|Lock-Token: <{2}>|| = HTTP/1.1 204 No Content||
 
-at / - 18446744073709551615
-folder /d
+behind last
 COPY /d{h}|Destination: /e|| = {bare 201 Created}
 GET /e{h}|If-None-Match: *|| = HTTP/1.1 304 Not Modified||
 COPY /e{h}|Destination: /f|| = {bare 503 Service Unavailable}

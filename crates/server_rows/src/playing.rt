@@ -1,4 +1,5 @@
 //! Plays the rows over bytes, in pieces of several sizes.
+use crate::beginnings::with_beginning;
 use crate::conditions::CONDITIONS;
 use crate::copies::COPIES;
 use crate::finds::FINDS;
@@ -121,6 +122,7 @@ fn play_rows(rt: &HostRuntime, first: &str, rows: &str, size: usize) -> Result<(
 // Plays each text of rows on a server of its own, in pieces of several sizes.
 fn play(rt: &HostRuntime, texts: &str) -> Result<(), Fail> {
     for text in texts.split("\n\n") {
+        let text = with_beginning(rt.alloc(), text)?;
         let (first, rows) = text.split_once('\n').ok_or("no rows")?;
         for size in [1, 100, 8192] {
             play_rows(rt, first, rows, size)?;

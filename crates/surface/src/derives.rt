@@ -7,7 +7,7 @@ use dav_resource_core::davheaders::{
 use dav_resource_core::davpath::{DavPath, DavPathRef, ParseError};
 use dav_resource_core::errors::{DavError, FsError};
 use dav_resource_core::fs::{DavProp, OpenOptions, ReadDirMeta};
-use dav_resource_core::guarded::{Command, Guarded, Refusal, Reply, Request};
+use dav_resource_core::guarded::{Command, Guarded, Inspection, Refusal, Reply, Request};
 use dav_resource_core::ls::{DavLock, LockError, NoLock, RefreshError};
 use dav_resource_core::memfs::{Kind, MemFs, MemFsEntry, MemFsFile, MemFsMeta};
 use dav_resource_core::memls::MemLs;
@@ -159,12 +159,14 @@ pub fn of_guarded(
     command: &Command,
     reply: &Reply,
     refusal: &Refusal,
+    found: &Inspection,
 ) {
     debug(stores);
     debug(request);
     debug(command);
     debug(reply);
     debug(refusal);
+    debug(found);
 }
 
 #[cfg(test)]

@@ -4,7 +4,7 @@ use dav_resource_core::davpath::DavPath;
 use dav_resource_core::davreplay;
 use dav_resource_core::errors::{FsError, FsResult};
 use dav_resource_core::fs::DavProp;
-use dav_resource_core::guarded::{Command, Guarded, Refusal, Reply, Request};
+use dav_resource_core::guarded::{Command, Guarded, Inspection, Refusal, Reply, Request};
 use dav_resource_core::ls::DavLock;
 use dav_resource_core::memfs::{MemFsEntry, MemFsMeta};
 use dav_resource_core::util::Moment;
@@ -31,6 +31,15 @@ pub fn run<R: Rng>(
     rng: &mut R,
 ) -> Result<Vec<Result<Reply, Refusal>>, AllocError> {
     stores.run(requests, rng)
+}
+
+pub fn inspect(stores: &Guarded, path: &DavPath, now: Moment) -> FsResult<Inspection> {
+    stores.inspect(path, now)
+}
+
+pub fn known(found: Inspection) -> (MemFsMeta, Vec<DavProp>, Vec<DavLock>) {
+    let Inspection { meta, props, locks } = found;
+    (meta, props, locks)
 }
 
 pub fn seed_of(args: &[String]) -> Option<u64> {

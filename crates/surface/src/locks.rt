@@ -76,6 +76,14 @@ pub fn check_ref(
     locks.check_ref(path, principal, ignore_principal, deep, tokens, now)
 }
 
+pub fn live_covering(
+    locks: &MemLs,
+    path: &DavPath,
+    now: Moment,
+) -> Result<Vec<DavLock>, AllocError> {
+    locks.live_covering(path, now)
+}
+
 pub fn discover<L: DavLockSystem>(
     locks: &mut L,
     path: &DavPath,

@@ -1,6 +1,6 @@
 //! Of `tree`, for one type of keys and one of data.
 ghost use Rattle.std.specs.Prelude.{◌≡◌, None, nat_eq};
-ghost use Rattle.dav_path_core.specs.Keyed.{child, parent, IsKnown, Under};
+ghost use Rattle.dav_path_core.specs.Keyed.{child, parent_number, IsKnown, Under};
 
 use dav_resource_core::errors::FsResult;
 use dav_resource_core::tree::{Children, Node, ROOT_ID, Tree, Walk};
@@ -133,7 +133,7 @@ pub fn next_met(walk: &mut Walk<'_, u64, u8>) -> Option<u64> {
 
 pub fn next_below(tree: &Tree<u64, u8>, top: u64, id: u64) -> Option<u64>
     requires known { IsKnown tree.now.keyed id }
-    requires under { Under (parent tree.now.keyed) top id }
+    requires under { Under (parent_number tree.now.keyed) top id }
 {
     tree.next_below(top, id)
 }

@@ -7,9 +7,9 @@ use Rattle.dav_path_core.proofs.lists.FinMaps.{none_some, get_same}
 use Rattle.dav_path_core.proofs.lists.Orders.{path_total, path_exact}
 use Rattle.dav_path_core.proofs.lists.Snoc.{by_last}
 use Rattle.dav_files_core.specs.Folders.{create_dir}
-use Rattle.dav_files_core.specs.Moved.{moved}
-use Rattle.dav_files_core.specs.Outcomes.{added, touched, new_folder}
-use Rattle.dav_files_core.specs.Renaming.{rename, relocated}
+use Rattle.dav_files_core.specs.Moved.{moved_map}
+use Rattle.dav_files_core.specs.Outcomes.{with_new_entry, with_modified_time, new_folder}
+use Rattle.dav_files_core.specs.Renaming.{rename, relocated_map}
 use Rattle.dav_files_core.specs.Resources.{Resource, ResourceMap, at_path, IsResourceMap}
 use Rattle.dav_files_core.proofs.walks.FoundLemmas.{parent-snoc}
 use Rattle.dav_path_core.proofs.paths.FrontLemmas.{behind_none}
@@ -32,9 +32,9 @@ module _ (m mid new : ResourceMap) (is_map : IsResourceMap m) (p : Path) (now : 
   there : at_path mid p ≡ Some folder
   there =
       let h = made_folder m mid p now made in
-      ap (λ m. at_path m p) h.left ∙ touched_other (added m p (new_folder now)) (parent p) now p own_folder ∙ get_same path_total path_exact m.entries p folder
+      ap (λ m. at_path m p) h.left ∙ touched_other (with_new_entry m p (new_folder now)) (parent p) now p own_folder ∙ get_same path_total path_exact m.entries p folder
 
-  module _ (q : Path) (s : Segment) (apart : p ≢ q ++ (s ∷ [])) (x : ResourceMap) (h : relocated mid p (q ++ (s ∷ [])) ≡ Ok x) where
+  module _ (q : Path) (s : Segment) (apart : p ≢ q ++ (s ∷ [])) (x : ResourceMap) (h : relocated_map mid p (q ++ (s ∷ [])) ≡ Ok x) where
     abbrev to : Path
     to = q ++ (s ∷ [])
 
@@ -55,14 +55,14 @@ module _ (m mid new : ResourceMap) (is_map : IsResourceMap m) (p : Path) (now : 
     at_target = elim ((put mid p q s x h).put) [
       | inl same ↦ absurd (apart same.0)
       | inr away ↦
-          ap (λ m. at_path m to) away.1 ∙ ap (at_path (moved mid p to)) (sym (append-nil to)) ∙ moved_to mid p to [] ∙ ap (at_path mid) (append-nil p) ∙ there
+          ap (λ m. at_path m to) away.1 ∙ ap (at_path (moved_map mid p to)) (sym (append-nil to)) ∙ moved_to mid p to [] ∙ ap (at_path mid) (append-nil p) ∙ there
     ]
 
     at_source : at_path x p ≡ None
     at_source = elim ((put mid p q s x h).put) [
       | inl same ↦ absurd (apart same.0)
       | inr away ↦
-          ap (λ m. at_path m p) away.1 ∙ ap (at_path (moved mid p to)) (sym (append-nil p)) ∙ moved_from mid p to [] (ap (behind to) (append-nil p) ∙ behind_target)
+          ap (λ m. at_path m p) away.1 ∙ ap (at_path (moved_map mid p to)) (sym (append-nil p)) ∙ moved_from mid p to [] (ap (behind to) (append-nil p) ∙ behind_target)
     ]
 
     -- the target is the folder of neither
@@ -75,20 +75,20 @@ module _ (m mid new : ResourceMap) (is_map : IsResourceMap m) (p : Path) (now : 
     not_own : ¬ (to ≡ parent to)
     not_own e = longer q s (sym (e ∙ parent-snoc q s))
 
-    pub elsewhere_in : new ≡ touched (touched x (parent p) now) (parent to) now → (at_path new to ≡ Some folder) × (at_path new p ≡ None)
+    pub elsewhere_in : new ≡ with_modified_time (with_modified_time x (parent p) now) (parent to) now → (at_path new to ≡ Some folder) × (at_path new p ≡ None)
     elsewhere_in left = (
-      ap (λ m. at_path m to) left ∙ touched_other (touched x (parent p) now) (parent to) now to not_own ∙ touched_other x (parent p) now to not_above ∙ at_target,
-      ap (λ m. at_path m p) left ∙ touched_none (touched x (parent p) now) (parent to) now p (touched_none x (parent p) now p at_source),
+      ap (λ m. at_path m to) left ∙ touched_other (with_modified_time x (parent p) now) (parent to) now to not_own ∙ touched_other x (parent p) now to not_above ∙ at_target,
+      ap (λ m. at_path m p) left ∙ touched_none (with_modified_time x (parent p) now) (parent to) now p (touched_none x (parent p) now p at_source),
     )
 
   pub elsewhere : (to : Path) → rename mid p to now ≡ Ok (tt, new) → p ≢ to → (at_path new to ≡ Some folder) × (at_path new p ≡ None)
   elsewhere to renamed apart = by (by_last to) (renamed_entry mid new p to now renamed)
     where
       by : (to ≡ []) ⊎ ((q : Path) × (s : Segment) × (to ≡ q ++ (s ∷ []))) → RenamedEntry mid new p to now → (at_path new to ≡ Some folder) × (at_path new p ≡ None)
-      by (inl empty) r = absurd (let both : relocated mid p [] ≡ Ok r.between.0 = ap (relocated mid p) (sym empty) ∙ r.between.1 in cc)
+      by (inl empty) r = absurd (let both : relocated_map mid p [] ≡ Ok r.between.0 = ap (relocated_map mid p) (sym empty) ∙ r.between.1 in cc)
       by (inr last) r =
           subst (λ to. (at_path new to ≡ Some folder) × (at_path new p ≡ None)) (sym last.2)
-          (elsewhere_in last.0 last.1 (λ e. apart (e ∙ sym last.2)) r.between.0 (ap (relocated mid p) (sym last.2) ∙ r.between.1) (r.between.2 ∙ ap (λ to. touched (touched r.between.0 (parent p) now) (parent to) now) last.2))
+          (elsewhere_in last.0 last.1 (λ e. apart (e ∙ sym last.2)) r.between.0 (ap (relocated_map mid p) (sym last.2) ∙ r.between.1) (r.between.2 ∙ ap (λ to. with_modified_time (with_modified_time r.between.0 (parent p) now) (parent to) now) last.2))
 
 pub stands_elsewhere : (m mid new : ResourceMap) (p q : Path) (now : ℕ) (result : Result (Unit {0}) FsError) → create_dir m p now ≡ Ok (tt, mid) → IfOk result (λ x. rename mid p q now ≡ Ok (x, new))
     → IfOk result (λ _. IsResourceMap m → p ≢ q → (at_path new q ≡ Some (record { number = m.next; node = new_folder now })) × (at_path new p ≡ None))

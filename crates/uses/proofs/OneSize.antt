@@ -9,7 +9,7 @@ use Rattle.dav_files_core.specs.declared.memfs.Kind.{Kind}
 use Rattle.dav_files_core.specs.declared.memfs.Kind.TheVariants.{Folder, File}
 use Rattle.dav_files_core.specs.Describing.{metadata}
 use Rattle.dav_files_core.specs.Finding.{members, find}
-use Rattle.dav_files_core.specs.Listing.{listed, read_dir}
+use Rattle.dav_files_core.specs.Listing.{listed_member, read_dir}
 use Rattle.dav_files_core.specs.Meta.{Meta, meta_at}
 use Rattle.dav_files_core.specs.Outcomes.{◌>>=◌, only_folder}
 use Rattle.dav_files_core.specs.Resources.{Resource, ResourceMap}
@@ -28,11 +28,11 @@ module _ (m : ResourceMap) where
   not_listed p meta es = by (find m p)
     where
       kinds : (kind : Kind) (r : Resource) (meta : Meta) → r.node.kind ≡ kind → meta_at r.node ≡ meta → meta.kind ≡ File
-          → ((elim kind [ Folder ↦ Ok r | File ↦ Err Forbidden ]) >>= λ (_ : Resource). Ok (map listed (entries (members m p)))) ≡ Ok es → ⊥
+          → ((elim kind [ Folder ↦ Ok r | File ↦ Err Forbidden ]) >>= λ (_ : Resource). Ok (map listed_member (entries (members m p)))) ≡ Ok es → ⊥
       kinds Folder r meta is told kind lists = not_both r.node.kind is (ap (λ (x : Meta). x.kind) told ∙ kind)
       kinds File r meta is told kind lists = absurd (cc)
 
-      by : (o : Result Resource FsError) → (o >>= λ (r : Resource). Ok (meta_at r.node)) ≡ Ok meta → meta.kind ≡ File → ((o >>= only_folder) >>= λ (_ : Resource). Ok (map listed (entries (members m p)))) ≡ Ok es → ⊥
+      by : (o : Result Resource FsError) → (o >>= λ (r : Resource). Ok (meta_at r.node)) ≡ Ok meta → meta.kind ≡ File → ((o >>= only_folder) >>= λ (_ : Resource). Ok (map listed_member (entries (members m p)))) ≡ Ok es → ⊥
       by (Ok r) told kind lists = let same : meta_at r.node ≡ meta = cc in kinds r.node.kind r meta refl same kind lists
       by (Err e) told kind lists = absurd (cc)
 

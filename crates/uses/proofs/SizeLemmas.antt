@@ -10,7 +10,7 @@ use Rattle.dav_files_core.specs.declared.memfs.Kind.{Kind}
 use Rattle.dav_files_core.specs.declared.memfs.Kind.TheVariants.{Folder, File}
 use Rattle.dav_files_core.specs.Describing.{metadata}
 use Rattle.dav_files_core.specs.Finding.{members, refusal_at}
-use Rattle.dav_files_core.specs.Listing.{listed, read_dir}
+use Rattle.dav_files_core.specs.Listing.{listed_member, read_dir}
 use Rattle.dav_files_core.specs.Meta.{Meta, meta_at}
 use Rattle.dav_files_core.specs.Outcomes.{◌>>=◌, find_folder}
 use Rattle.dav_files_core.specs.Resources.{Resource, ResourceMap, at_path}
@@ -45,15 +45,15 @@ module _ (m : ResourceMap) where
   abbrev pub Known : Path → Segment × Meta → Type 0
   Known p member = metadata m (p ++ (member.0 ∷ [])) ≡ Ok member.1
 
-  all_known : (p : Path) (es : List (Segment × Resource)) → Every (λ (e : Segment × Resource). at_path m (p ++ (e.0 ∷ [])) ≡ Some e.1) es → Every (Known p) (map listed es)
+  all_known : (p : Path) (es : List (Segment × Resource)) → Every (λ (e : Segment × Resource). at_path m (p ++ (e.0 ∷ [])) ≡ Some e.1) es → Every (Known p) (map listed_member es)
   all_known p [] h = tt
   all_known p (e ∷ es) h = (ap (λ (o : Option Resource). ok_or o (refusal_at m (p ++ (e.0 ∷ []))) >>= λ (r : Resource). Ok (meta_at r.node)) h.0, all_known p es h.1)
 
   pub listing_known : (p : Path) (es : List (Segment × Meta)) → read_dir m p ≡ Ok es → Every (Known p) es
   listing_known p es h = by (find_folder m p) h
     where
-      by : (r : Result Resource FsError) → (r >>= λ (_ : Resource). Ok (map listed (entries (members m p)))) ≡ Ok es → Every (Known p) es
-      by (Ok r) e = let same : map listed (entries (members m p)) ≡ es = cc in subst (Every (Known p)) same (all_known p (entries (members m p)) (all_stand m p))
+      by : (r : Result Resource FsError) → (r >>= λ (_ : Resource). Ok (map listed_member (entries (members m p)))) ≡ Ok es → Every (Known p) es
+      by (Ok r) e = let same : map listed_member (entries (members m p)) ≡ es = cc in subst (Every (Known p)) same (all_known p (entries (members m p)) (all_stand m p))
       by (Err x) e = absurd (cc)
 
   module _ {E : Type 0} (told : E → Segment × Meta) (p : Path) where

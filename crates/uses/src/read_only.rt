@@ -18,7 +18,7 @@ pub struct ReadOnly {
 }
 
 impl Model for ReadOnly {
-    ghost use Rattle.dav_files_core.specs.Codes.{coded_resources};
+    ghost use Rattle.dav_files_core.specs.ResourceCodes.{coded_resources};
     ghost use Rattle.dav_files_core.specs.Resources.{ResourceMap, IsResourceMap};
 
     ghost Value = { ResourceMap };

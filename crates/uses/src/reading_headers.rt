@@ -1,6 +1,6 @@
 //! Headers of a COPY, read.
 ghost use Rattle.std.specs.Prelude.{◌≡◌};
-ghost use Rattle.dav_headers_core.specs.Gives.{exactly};
+ghost use Rattle.dav_headers_core.specs.HeaderGives.{exactly};
 ghost use Rattle.uses.specs.Copies as spec;
 
 use dav_resource_core::davheaders::{Depth, HeaderError, Overwrite};

@@ -3,7 +3,7 @@ ghost use Rattle.std.specs.Prelude.{◌≡◌, ◌++◌, true, map, option_map, 
 ghost use Rattle.std.specs.List.{flat_map, list_any};
 ghost use Rattle.dav_xml_core.specs.Views.{name_of, writing_of};
 ghost use Rattle.dav_xml_core.specs.Writing.{with_nodes};
-ghost use Rattle.dav_documents_core.specs.Pieces.{with_pieces};
+ghost use Rattle.dav_documents_core.specs.Pieces.{and_pieces};
 ghost use Rattle.dav_documents_core.specs.QuestionViews.{question_of};
 ghost use Rattle.dav_documents_core.specs.DescriptionViews.{description_of};
 ghost use Rattle.dav_documents_core.specs.Private.Rising.{Rise};
@@ -53,7 +53,7 @@ pub(super) fn write_found(
     risen: bool,
 ) -> Result<(), AllocError>
     requires { risen ≡ true → Rise description.now.props.items }
-    ensures { OnOk result (writing_of writer.new ≡ with_pieces (writing_of writer.old)
+    ensures { OnOk result (writing_of writer.new ≡ and_pieces (writing_of writer.old)
         (spec.found_pieces prefix.now (option_map string_bytes principal.now) (description_of description.now) (question_of question.now))) }
 {
     match question {
@@ -80,7 +80,7 @@ fn write_all(
     principal: &Option<String>,
     description: &Description,
 ) -> Result<(), AllocError>
-    ensures { OnOk result (writing_of writer.new ≡ with_pieces (writing_of writer.old)
+    ensures { OnOk result (writing_of writer.new ≡ and_pieces (writing_of writer.old)
         (flat_map (spec.own_pieces prefix.now (option_map string_bytes principal.now) (description_of description.now)) LIVE
         ++ flat_map spec.dead_pieces (description_of description.now).props)) }
 {

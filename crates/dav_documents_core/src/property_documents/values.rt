@@ -4,7 +4,7 @@ ghost use Rattle.std.specs.List.{flat_map};
 ghost use Rattle.dav_xml_core.specs.Views.{name_of, writing_of};
 ghost use Rattle.dav_xml_core.specs.Writing.{with_nodes};
 ghost use Rattle.dav_files_core.specs.Properties.{property_of};
-ghost use Rattle.dav_documents_core.specs.Pieces.{with_pieces};
+ghost use Rattle.dav_documents_core.specs.Pieces.{and_pieces};
 ghost use Rattle.dav_documents_core.specs.DescriptionViews.{description_of};
 ghost use Rattle.dav_documents_core.specs.Private.Rising.{Rise};
 ghost use Rattle.dav_documents_core.specs.PropertyDocuments as spec;
@@ -30,7 +30,7 @@ pub(super) fn write_listed(
     names: &[Name],
 ) -> Result<(), AllocError>
     requires { risen ≡ true → Rise description.now.props.items }
-    ensures { OnOk result (writing_of writer.new ≡ with_pieces (writing_of writer.old)
+    ensures { OnOk result (writing_of writer.new ≡ and_pieces (writing_of writer.old)
         (flat_map (spec.value_pieces prefix.now (option_map string_bytes principal.now) (description_of description.now)) (map name_of names.now))) }
 {
     for name in names {
@@ -50,7 +50,7 @@ fn write_value(
     name: &Name,
 ) -> Result<(), AllocError>
     requires { risen ≡ true → Rise description.now.props.items }
-    ensures { OnOk result (writing_of writer.new ≡ with_pieces (writing_of writer.old)
+    ensures { OnOk result (writing_of writer.new ≡ and_pieces (writing_of writer.old)
         (spec.value_pieces prefix.now (option_map string_bytes principal.now) (description_of description.now) (name_of name.now))) }
 {
     match live_named(name) {
@@ -68,7 +68,7 @@ pub(super) fn write_all_own(
     principal: &Option<String>,
     description: &Description,
 ) -> Result<(), AllocError>
-    ensures { OnOk result (writing_of writer.new ≡ with_pieces (writing_of writer.old)
+    ensures { OnOk result (writing_of writer.new ≡ and_pieces (writing_of writer.old)
         (flat_map (spec.own_pieces prefix.now (option_map string_bytes principal.now) (description_of description.now)) LIVE)) }
 {
     for live in &LIVE {
@@ -86,7 +86,7 @@ fn write_own(
     description: &Description,
     live: Live,
 ) -> Result<(), AllocError>
-    ensures { OnOk result (writing_of writer.new ≡ with_pieces (writing_of writer.old)
+    ensures { OnOk result (writing_of writer.new ≡ and_pieces (writing_of writer.old)
         (spec.own_pieces prefix.now (option_map string_bytes principal.now) (description_of description.now) live)) }
 {
     if has_live(description.folder, live) {
@@ -103,7 +103,7 @@ fn write_live(
     description: &Description,
     live: Live,
 ) -> Result<(), AllocError>
-    ensures { OnOk result (writing_of writer.new ≡ with_pieces (writing_of writer.old)
+    ensures { OnOk result (writing_of writer.new ≡ and_pieces (writing_of writer.old)
         (spec.live_pieces prefix.now (option_map string_bytes principal.now) (description_of description.now) live)) }
 {
     match live {
@@ -121,7 +121,7 @@ fn write_live(
 // How many bytes a file has.
 fn write_size(alloc: Global, writer: &mut Writer, size: u64) -> Result<(), AllocError>
     ensures { OnOk result (writing_of writer.new
-        ≡ with_nodes (writing_of writer.old) (spec.text_nodes (codes "getcontentlength") (decimal size))) }
+        ≡ with_nodes (writing_of writer.old) (spec.text_element (codes "getcontentlength") (decimal size))) }
 {
     let text = format!(in alloc; "{size}")?;
     write_text(writer, "getcontentlength", &text)
@@ -144,7 +144,7 @@ pub(super) fn write_all_dead(
     writer: &mut Writer,
     props: &[DavProp],
 ) -> Result<(), AllocError>
-    ensures { OnOk result (writing_of writer.new ≡ with_pieces (writing_of writer.old)
+    ensures { OnOk result (writing_of writer.new ≡ and_pieces (writing_of writer.old)
         (flat_map spec.dead_pieces (map property_of props.now))) }
 {
     for prop in props {
@@ -154,7 +154,7 @@ pub(super) fn write_all_dead(
 }
 
 fn write_dead(alloc: Global, writer: &mut Writer, prop: &DavProp) -> Result<(), AllocError>
-    ensures { OnOk result (writing_of writer.new ≡ with_pieces (writing_of writer.old) (spec.dead_pieces (property_of prop.now))) }
+    ensures { OnOk result (writing_of writer.new ≡ and_pieces (writing_of writer.old) (spec.dead_pieces (property_of prop.now))) }
 {
     if is_dead(alloc, prop)? {
         return write_kept(writer, prop.xml.as_ref());
@@ -164,7 +164,7 @@ fn write_dead(alloc: Global, writer: &mut Writer, prop: &DavProp) -> Result<(), 
 
 // An element that was kept, where there is one.
 fn write_kept(writer: &mut Writer, xml: Option<&Vec<u8>>) -> Result<(), AllocError>
-    ensures { OnOk result (writing_of writer.new ≡ with_pieces (writing_of writer.old)
+    ensures { OnOk result (writing_of writer.new ≡ and_pieces (writing_of writer.old)
         (spec.kept_pieces (option_map (λ bytes. bytes.items) (option_copied xml.entry)))) }
 {
     match xml {

@@ -1,8 +1,8 @@
 //! The names of properties that a body gives, each once.
 ghost use Rattle.std.specs.Prelude.{◌≡◌, [], map, IfOk, OnOk};
 ghost use Rattle.dav_xml_core.specs.Views.{name_of, node_of};
-ghost use Rattle.dav_documents_core.specs.Elements.{children, element_name};
-ghost use Rattle.dav_documents_core.specs.Private.Naming.{AreSeen, name_at};
+ghost use Rattle.dav_documents_core.specs.Elements.{children, name_of_element};
+ghost use Rattle.dav_documents_core.specs.Private.LentKeys.{AreSeen, name_at};
 ghost use Rattle.dav_documents_core.specs.PropertyQuestions as spec;
 
 use crate::elements::{children, element_name, is_dav};
@@ -87,7 +87,7 @@ fn add_names<'a>(found: &mut Found<'a>, elements: &[&'a [Node]]) -> Result<(), A
 
 fn add_name<'a>(found: &mut Found<'a>, element: &'a [Node]) -> Result<(), AllocError>
     requires { AreSeen found.old }
-    ensures names { OnOk result (map name_of found.new.names.items ≡ spec.and_name (map name_of found.old.names.items) (element_name (map node_of element.now))) }
+    ensures names { OnOk result (map name_of found.new.names.items ≡ spec.and_name (map name_of found.old.names.items) (name_of_element (map node_of element.now))) }
     ensures seen { OnOk result (AreSeen found.new) }
 {
     match element_name(element) {

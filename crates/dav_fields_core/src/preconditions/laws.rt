@@ -6,7 +6,7 @@ ghost use Rattle.http_header.specs.HeaderMap.{Entries, get_all};
 ghost use Rattle.dav_path_core.specs.declared.util.DavMethod.{DavMethod};
 ghost use Rattle.dav_fields_core.specs.declared.etags.Standing.{Standing};
 ghost use Rattle.dav_fields_core.specs.declared.preconditions.Course.TheVariants.{Proceed, NotModified, Whole};
-ghost use Rattle.dav_fields_core.specs.ListedTags.{elements, is_element};
+ghost use Rattle.dav_fields_core.specs.ListedTags.{elements, is_listed_element};
 ghost use Rattle.dav_fields_core.specs.TagGrammar.{ReadsAsTags};
 ghost use Rattle.dav_fields_core.specs.Preconditions.{course_of, is_get, is_get_or_head, is_missing};
 
@@ -32,5 +32,5 @@ pub fn parts_alone_become_whole()
 
 /// The law that the elements of a list of tags are those of the grammar of RFC 9110 sections 5.6.1 and 8.8.3. It does nothing.
 pub fn tags_are_read_by_their_grammar()
-    ensures { (whole : List ℕ) (es : List (List ℕ)) → ReadsAsTags whole es ↔ ((elements whole ≡ es) × (list_all is_element es ≡ true)) }
+    ensures { (whole : List ℕ) (es : List (List ℕ)) → ReadsAsTags whole es ↔ ((elements whole ≡ es) × (list_all is_listed_element es ≡ true)) }
 {}

@@ -3,8 +3,8 @@ use Rattle.std.proofs.Common.{◌≡◌, ◌⊎◌, inl, inr, ℕ, ◌+◌, ◌<
 use Rattle.std.specs.Cmp.{nat_cmp_total}
 use Rattle.std.specs.FinMap.{get, nat_cmp-IsAntisymmetric}
 use Rattle.dav_files_core.specs.declared.memfs.Kind.TheVariants.{Folder}
-use Rattle.dav_files_core.specs.Outcomes.{added, added_as}
-use Rattle.dav_files_core.specs.Private.Represents.{FileEntry, FileTree, PlaceFits, Shown, Represents}
+use Rattle.dav_files_core.specs.Outcomes.{with_new_entry, added_as}
+use Rattle.dav_files_core.specs.Private.FileRepresents.{FileEntry, FileTree, PlaceFits, ShowsNode, Represents}
 use Rattle.dav_files_core.specs.Resources.{Node, Resource, ResourceMap, at_path, IsResourceMap}
 use Rattle.dav_path_core.specs.Fronts.{Segment, Path}
 use Rattle.dav_path_core.specs.Keyed.{add, add_as}
@@ -81,14 +81,14 @@ module _ (m : ResourceMap) (is_map : IsResourceMap m) (p : Path) (s : Segment) (
   below_next : (q : Path) (x : Resource) → at_path m q ≡ Some x → ¬ (x.number ≡ m.next)
   below_next q x h e = let lt = is_map.below q x h in absurd (omega (arith, lt, e))
 
-  pub added_kept : (q : Path) (x : Resource) → at_path m q ≡ Some x → at_path (added m (p ++ (s ∷ [])) new) q ≡ Some x
+  pub added_kept : (q : Path) (x : Resource) → at_path m q ≡ Some x → at_path (with_new_entry m (p ++ (s ∷ [])) new) q ≡ Some x
   added_kept = added_as_kept m is_map p s r new m.next (m.next + 1) below_next (next_positive m is_map) (omega arith) (omega arith) here folder free new_bare
 
-  pub added_cases : (q : Path) (x : Resource) → at_path (added m (p ++ (s ∷ [])) new) q ≡ Some x
+  pub added_cases : (q : Path) (x : Resource) → at_path (with_new_entry m (p ++ (s ∷ [])) new) q ≡ Some x
       → ((q ≡ p ++ (s ∷ [])) × (x ≡ record { number = m.next; node = new })) ⊎ (¬ (q ≡ p ++ (s ∷ [])) × (at_path m q ≡ Some x))
   added_cases = added_as_cases m is_map p s r new m.next (m.next + 1) below_next (next_positive m is_map) (omega arith) (omega arith) here folder free new_bare
 
-  pub IsResourceMap-added : IsResourceMap (added m (p ++ (s ∷ [])) new)
+  pub IsResourceMap-added : IsResourceMap (with_new_entry m (p ++ (s ∷ [])) new)
   IsResourceMap-added = IsResourceMap-added_as m is_map p s r new m.next (m.next + 1) below_next (next_positive m is_map) (omega arith) (omega arith) here folder free new_bare
 
 -- adding a child is adding an entry
@@ -116,7 +116,7 @@ module _ (t : FileTree) (m : ResourceMap) (rep : Represents t m)
   keeps : KeepsNumbers m map
   keeps q x h = (x, kept q x h, refl)
 
-  old_shown : (q : Path) (x : Resource) → at_path m q ≡ Some x → Shown t m q x → Shown tree map q x
+  old_shown : (q : Path) (x : Resource) → at_path m q ≡ Some x → ShowsNode t m q x → ShowsNode tree map q x
   old_shown q x h shown = record {
     placed = shown.placed;
     stored = get_other nat_cmp_total nat_cmp-IsAntisymmetric t.nodes number placed x.number (not_number q x h) ∙ shown.stored;
@@ -124,7 +124,7 @@ module _ (t : FileTree) (m : ResourceMap) (rep : Represents t m)
     fits = fits_kept m map keeps q shown.placed.parent_and_key shown.fits;
   }
 
-  new_shown : Shown tree map path (record { number = number; node = item })
+  new_shown : ShowsNode tree map path (record { number = number; node = item })
   new_shown = record {
     placed = placed;
     stored = get_same nat_cmp_total nat_cmp-IsAntisymmetric t.nodes number placed;
@@ -137,7 +137,7 @@ module _ (t : FileTree) (m : ResourceMap) (rep : Represents t m)
     is_map = IsResourceMap-added_as m rep.is_map p k r item number next not_number positive small grows here folder free new_bare;
     next = refl;
     shown = λ q x h. elim (added_as_cases m rep.is_map p k r item number next not_number positive small grows here folder free new_bare q x h) [
-      | inl new ↦ let f : (q : Path) (x : Resource) → path ≡ q → record { number = number; node = item } ≡ x → Shown tree map q x = λ q x e e'. subst (λ (x : Resource). Shown tree map q x) e' (subst (λ q. Shown tree map q (record { number = number; node = item })) e new_shown) in f q x (sym new.0) (sym new.1)
+      | inl new ↦ let f : (q : Path) (x : Resource) → path ≡ q → record { number = number; node = item } ≡ x → ShowsNode tree map q x = λ q x e e'. subst (λ (x : Resource). ShowsNode tree map q x) e' (subst (λ q. ShowsNode tree map q (record { number = number; node = item })) e new_shown) in f q x (sym new.0) (sym new.1)
       | inr old ↦ old_shown q x old.1 (rep.shown q x old.1)
     ];
     all = λ id n h. elim (inserted nat_cmp_total nat_cmp-IsAntisymmetric t.nodes number placed id n h) [
@@ -157,7 +157,7 @@ next_unused t m rep = by (get t.nodes t.next) refl
 module _ (t : FileTree) (m : ResourceMap) (rep : Represents t m)
     (p : Path) (r : Resource) (k : Segment) (item : Node)
     (here : at_path m p ≡ Some r) (folder : r.node.kind ≡ Folder) (free : at_path m (p ++ (k ∷ [])) ≡ None) (new_bare : item.kind ≡ Folder → item.bytes ≡ []) where
-  pub Represents-added : Represents (add t r.number k item) (added m (p ++ (k ∷ [])) item)
+  pub Represents-added : Represents (add t r.number k item) (with_new_entry m (p ++ (k ∷ [])) item)
   Represents-added =
       let grows : m.next ≤ t.next + 1 = let same = rep.next in omega (arith, same) in
       subst (λ n. Represents (add t r.number k item) (added_as m (p ++ (k ∷ [])) item n (n + 1))) (sym rep.next)

@@ -3,8 +3,8 @@ use Rattle.std.proofs.Common.{◌≡◌, ◌⊎◌, inl, inr, ◌<◌, [], ◌�
 use Rattle.std.specs.Cmp.{nat_cmp_total}
 use Rattle.std.specs.FinMap.{get, nat_cmp-IsAntisymmetric}
 use Rattle.dav_files_core.specs.declared.memfs.Kind.TheVariants.{Folder}
-use Rattle.dav_files_core.specs.Outcomes.{changed}
-use Rattle.dav_files_core.specs.Private.Represents.{FileEntry, FileTree, PlaceFits, Shown, Represents}
+use Rattle.dav_files_core.specs.Outcomes.{with_other_node}
+use Rattle.dav_files_core.specs.Private.FileRepresents.{FileEntry, FileTree, PlaceFits, ShowsNode, Represents}
 use Rattle.dav_files_core.specs.Resources.{Node, Resource, ResourceMap, at_path, IsResourceMap}
 use Rattle.dav_path_core.specs.Fronts.{Path}
 use Rattle.dav_path_core.specs.Keyed.{with_item_at}
@@ -18,7 +18,7 @@ module _ (m : ResourceMap) (is_map : IsResourceMap m) (p : Path) (r : Resource) 
   entry = record { number = r.number; node = new }
 
   abbrev m' : ResourceMap
-  m' = changed m p r new
+  m' = with_other_node m p r new
 
   pub changed_cases : (q : Path) (x : Resource) → at_path m' q ≡ Some x → ((q ≡ p) × (x ≡ entry)) ⊎ (¬ (q ≡ p) × (at_path m q ≡ Some x))
   changed_cases q x h = inserted path_total path_exact m.entries p entry q x h
@@ -56,7 +56,7 @@ module _ (t : FileTree) (m : ResourceMap) (rep : Represents t m)
     (p : Path) (r : Resource) (n : FileEntry) (item : Node)
     (here : at_path m p ≡ Some r) (stored : get t.nodes r.number ≡ Some n) (still_folder : r.node.kind ≡ Folder → item.kind ≡ Folder) (new_bare : item.kind ≡ Folder → item.bytes ≡ []) where
   abbrev map : ResourceMap
-  map = changed m p r item
+  map = with_other_node m p r item
 
   abbrev tree : FileTree
   tree = with_item_at t r.number (Some n) item
@@ -67,7 +67,7 @@ module _ (t : FileTree) (m : ResourceMap) (rep : Represents t m)
   keeps : KeepsNumbers m map
   keeps q x h = let k = changed_keeps m rep.is_map p r item here still_folder new_bare q x h in (k.0, k.1, k.2)
 
-  new_shown : (s : Shown t m p r) → Shown tree map p (record { number = r.number; node = item })
+  new_shown : (s : ShowsNode t m p r) → ShowsNode tree map p (record { number = r.number; node = item })
   new_shown s = record {
     placed = placed;
     stored = get_same nat_cmp_total nat_cmp-IsAntisymmetric t.nodes r.number placed;
@@ -75,7 +75,7 @@ module _ (t : FileTree) (m : ResourceMap) (rep : Represents t m)
     fits = fits_kept m map keeps p n.parent_and_key (subst (λ (n : FileEntry). PlaceFits m p n.parent_and_key) (one_some (get t.nodes r.number) s.placed n s.stored stored) s.fits);
   }
 
-  old_shown : (q : Path) (x : Resource) → ¬ (q ≡ p) → at_path m q ≡ Some x → Shown t m q x → Shown tree map q x
+  old_shown : (q : Path) (x : Resource) → ¬ (q ≡ p) → at_path m q ≡ Some x → ShowsNode t m q x → ShowsNode tree map q x
   old_shown q x other h s = record {
     placed = s.placed;
     stored = get_other nat_cmp_total nat_cmp-IsAntisymmetric t.nodes r.number placed x.number (λ e. other (rep.is_map.apart q p x r h here e)) ∙ s.stored;
@@ -88,7 +88,7 @@ module _ (t : FileTree) (m : ResourceMap) (rep : Represents t m)
     is_map = IsResourceMap-changed m rep.is_map p r item here still_folder new_bare;
     next = rep.next;
     shown = λ q x h. elim (changed_cases m rep.is_map p r item here still_folder new_bare q x h) [
-      | inl new ↦ subst (λ (x : Resource). Shown tree map q x) (sym new.1) (subst (λ q. Shown tree map q (record { number = r.number; node = item })) (sym new.0) (new_shown (rep.shown p r here)))
+      | inl new ↦ subst (λ (x : Resource). ShowsNode tree map q x) (sym new.1) (subst (λ q. ShowsNode tree map q (record { number = r.number; node = item })) (sym new.0) (new_shown (rep.shown p r here)))
       | inr old ↦ old_shown q x old.0 old.1 (rep.shown q x old.1)
     ];
     all = λ id n' h. elim (inserted nat_cmp_total nat_cmp-IsAntisymmetric t.nodes r.number placed id n' h) [

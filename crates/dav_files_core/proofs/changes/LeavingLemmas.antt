@@ -6,14 +6,14 @@ use Rattle.std.specs.FinMap.{get}
 use Rattle.dav_path_core.specs.declared.errors.FsError.{FsError}
 use Rattle.dav_path_core.specs.declared.errors.FsError.TheVariants.{NotFound, Forbidden}
 use Rattle.dav_path_core.specs.Fronts.{Path}
-use Rattle.dav_path_core.specs.Keyed.{has_child, delete_refusal, without as without_node}
+use Rattle.dav_path_core.specs.Keyed.{has_child, delete_refusal, without_node}
 use Rattle.dav_path_core.proofs.lists.FinMaps.{none_some, one_some}
 use Rattle.dav_files_core.specs.Exactly.{AnswersExactly}
 use Rattle.dav_files_core.specs.Finding.{has_members}
 use Rattle.dav_files_core.specs.Folders.{is_root}
 use Rattle.dav_files_core.specs.Outcomes.{without}
 use Rattle.dav_files_core.specs.Private.Entries.{taken_out}
-use Rattle.dav_files_core.specs.Private.Represents.{FileTree, Represents, resource_map}
+use Rattle.dav_files_core.specs.Private.FileRepresents.{FileTree, Represents, resource_map}
 use Rattle.dav_files_core.specs.Resources.{Resource, ResourceMap, at_path, IsResourceMap}
 use Rattle.dav_files_core.proofs.walks.HasMembersLemmas.{no_members, has_child_is}
 use Rattle.dav_files_core.proofs.changes.LeftLemmas.{stands_itself, is_view}

@@ -2,15 +2,15 @@
 use Rattle.std.proofs.Common.{◌≡◌, ℕ, ◌+◌, ◌<◌, ◌≤◌, max, arith, List, [], ◌∷◌, ◌++◌, Some, None, Ok, Err, refl, sym, ap, ◌∙◌, subst}
 use Rattle.std.specs.FinMap.{get}
 use Rattle.dav_files_core.specs.declared.memfs.Kind.TheVariants.{Folder, File}
-use Rattle.dav_files_core.specs.Outcomes.{added, added_as, changed, new_file}
-use Rattle.dav_files_core.specs.Private.Represents.{IsStore, FileEntry, FileTree, Represents, resource_map}
+use Rattle.dav_files_core.specs.Outcomes.{with_new_entry, added_as, with_other_node, new_file}
+use Rattle.dav_files_core.specs.Private.FileRepresents.{IsStore, FileEntry, FileTree, Represents, resource_map}
 use Rattle.dav_files_core.specs.Resources.{Node, Resource, ResourceMap, at_path}
-use Rattle.dav_files_core.specs.Restoring.{restored as restored_entry}
+use Rattle.dav_files_core.specs.Restoring.{with_restored_entry as restored_entry}
 use Rattle.dav_files_core.specs.Private.TreeCalls.{IsMember, IsMissing, IsThere, FindsMember, WritesFile}
 use Rattle.dav_path_core.specs.declared.errors.FsError.TheVariants.{NotFound}
 use Rattle.dav_path_core.specs.ChildIndex.{Index}
 use Rattle.dav_path_core.specs.Fronts.{Segment, Path, parent}
-use Rattle.dav_path_core.specs.Keyed.{add, restored, with_item_at}
+use Rattle.dav_path_core.specs.Keyed.{add, with_restored_node, with_item_at}
 use Rattle.dav_path_core.proofs.lists.FinMaps.{none_some, one_some}
 use Rattle.dav_files_core.proofs.walks.FoundLemmas.{folder_there, not_there}
 use Rattle.dav_files_core.proofs.walks.WalkLemmas.{child_at}
@@ -49,14 +49,14 @@ child_entry t m rep p r here id number name c child = (
 
 -- a file's bytes written
 pub written : (t : FileTree) (m : ResourceMap) → Represents t m → (p : Path) (r : Resource) → at_path m p ≡ Some r → r.node.kind ≡ File → (id : ℕ) → r.number ≡ id → (bytes : List ℕ) (now : ℕ) (t' : FileTree)
-    → WritesFile t id bytes now (Ok tt) t' → Represents t' (changed m p r (record r.node { bytes = bytes; modified = now }))
+    → WritesFile t id bytes now (Ok tt) t' → Represents t' (with_other_node m p r (record r.node { bytes = bytes; modified = now }))
 written t m rep p r here file id number bytes now t' h =
     let item : h.0.item ≡ r.node = item_is t m rep p r here id number h.0 h.1 in
     let new : record h.0.item { bytes = bytes; modified = now } ≡ record r.node { bytes = bytes; modified = now } = ap (λ (node : Node). record node { bytes = bytes; modified = now }) item in
     let kind : h.0.item.kind ≡ File = ap (λ (n : Node). n.kind) item ∙ file in
     let rep' = Represents-changed t m rep p r h.0 (record h.0.item { bytes = bytes; modified = now }) here (ap (λ id. get t.nodes id) number ∙ h.1)
     (λ f. let both : Folder ≡ File = sym f ∙ file in absurd (cc)) (λ f. let both : Folder ≡ File = sym f ∙ kind in absurd (cc)) in
-    subst (λ (node : Node). Represents t' (changed m p r node)) new (subst (λ t'. Represents t' (changed m p r (record h.0.item { bytes = bytes; modified = now }))) (ap (λ id. with_item_at t id (Some h.0) (record h.0.item { bytes = bytes; modified = now })) number ∙ sym h.2) rep')
+    subst (λ (node : Node). Represents t' (with_other_node m p r node)) new (subst (λ t'. Represents t' (with_other_node m p r (record h.0.item { bytes = bytes; modified = now }))) (ap (λ id. with_item_at t id (Some h.0) (record h.0.item { bytes = bytes; modified = now })) number ∙ sym h.2) rep')
 
 -- where nothing stands yet, in a folder
 module _ (t : FileTree) (m : ResourceMap) (rep : Represents t m) (path : Path) (id : ℕ) (name : Segment) (h : IsMissing m path id name) where
@@ -78,25 +78,25 @@ module _ (t : FileTree) (m : ResourceMap) (rep : Represents t m) (path : Path) (
   )
 
   -- a node restored there
-  pub with_restored : (key : Segment) → key ≡ name → (node : Node) (number : ℕ) → get t.nodes number ≡ None → 0 < number → (node.kind ≡ Folder → node.bytes ≡ []) → (t' : FileTree) → t' ≡ restored t id key node number
+  pub with_restored : (key : Segment) → key ≡ name → (node : Node) (number : ℕ) → get t.nodes number ≡ None → 0 < number → (node.kind ≡ Folder → node.bytes ≡ []) → (t' : FileTree) → t' ≡ with_restored_node t id key node number
       → Represents t' (restored_entry m path (record { number = number; node = node }))
   with_restored key is node number unused positive bare t' e =
       let grows : m.next ≤ max t.next (number + 1) = let same = rep.next in omega (arith, same) in
       let rep' = Represents-added_as t m rep (parent path) h.2.0 name node number (max t.next (number + 1)) unused positive (omega arith) grows folder.0 folder.1 free bare in
       subst (λ p. Represents t' (restored_entry m p (record { number = number; node = node }))) (sym h.1)
       (subst (λ n. Represents t' (added_as m (parent path ++ (name ∷ [])) node number (max n (number + 1)))) (sym rep.next)
-      (subst (λ t'. Represents t' (added_as m (parent path ++ (name ∷ [])) node number (max t.next (number + 1)))) (sym (e ∙ (λ j. restored t (sym h.2.2 j) (is j) node number))) rep'))
+      (subst (λ t'. Represents t' (added_as m (parent path ++ (name ∷ [])) node number (max t.next (number + 1)))) (sym (e ∙ (λ j. with_restored_node t (sym h.2.2 j) (is j) node number))) rep'))
 
   -- a node added there
-  pub with_node : (key : Segment) → key ≡ name → (node : Node) → (node.kind ≡ Folder → node.bytes ≡ []) → (t' : FileTree) → t' ≡ add t id key node → Represents t' (added m path node)
+  pub with_node : (key : Segment) → key ≡ name → (node : Node) → (node.kind ≡ Folder → node.bytes ≡ []) → (t' : FileTree) → t' ≡ add t id key node → Represents t' (with_new_entry m path node)
   with_node key is node bare t' e =
       let rep' = Represents-added t m rep (parent path) h.2.0 name node folder.0 folder.1 free bare in
-      subst (λ p. Represents t' (added m p node)) (sym h.1)
-      (subst (λ t'. Represents t' (added m (parent path ++ (name ∷ [])) node)) (sym (e ∙ (λ j. add t (sym h.2.2 j) (is j) node))) rep')
+      subst (λ p. Represents t' (with_new_entry m p node)) (sym h.1)
+      (subst (λ t'. Represents t' (with_new_entry m (parent path ++ (name ∷ [])) node)) (sym (e ∙ (λ j. add t (sym h.2.2 j) (is j) node))) rep')
 
   -- a file added there
-  pub with_file : (key : Segment) → key ≡ name → (bytes : List ℕ) (now : ℕ) (node : Node) → node ≡ new_file bytes now → (t' : FileTree) → t' ≡ add t id key node → Represents t' (added m path (new_file bytes now))
+  pub with_file : (key : Segment) → key ≡ name → (bytes : List ℕ) (now : ℕ) (node : Node) → node ≡ new_file bytes now → (t' : FileTree) → t' ≡ add t id key node → Represents t' (with_new_entry m path (new_file bytes now))
   with_file key is bytes now node node_is t' e =
       let rep' = Represents-added t m rep (parent path) h.2.0 name (new_file bytes now) folder.0 folder.1 free (λ f. absurd (cc)) in
-      subst (λ p. Represents t' (added m p (new_file bytes now))) (sym h.1)
-      (subst (λ t'. Represents t' (added m (parent path ++ (name ∷ [])) (new_file bytes now))) (sym (e ∙ (λ j. add t (sym h.2.2 j) (is j) (node_is j)))) rep')
+      subst (λ p. Represents t' (with_new_entry m p (new_file bytes now))) (sym h.1)
+      (subst (λ t'. Represents t' (with_new_entry m (parent path ++ (name ∷ [])) (new_file bytes now))) (sym (e ∙ (λ j. add t (sym h.2.2 j) (is j) (node_is j)))) rep')

@@ -10,7 +10,7 @@ use Rattle.dav_path_core.proofs.lists.Snoc.{by_last}
 use Rattle.dav_files_core.specs.declared.memfs.Kind.TheVariants.{Folder, File}
 use Rattle.dav_files_core.specs.Finding.{refusal_at}
 use Rattle.dav_files_core.specs.Folders.{create_dir}
-use Rattle.dav_files_core.specs.Outcomes.{Outcome, ◌>>=◌, find_folder, only_folder, added, touched, new_folder}
+use Rattle.dav_files_core.specs.Outcomes.{Outcome, ◌>>=◌, find_folder, only_folder, with_new_entry, with_modified_time, new_folder}
 use Rattle.dav_files_core.specs.Private.TreeCalls.{IsMissing}
 use Rattle.dav_files_core.specs.Resources.{Node, Resource, ResourceMap, at_path, IsResourceMap}
 use Rattle.dav_files_core.proofs.walks.FoundLemmas.{parent-snoc, not_there, folder_there}
@@ -31,26 +31,26 @@ folder_above m is_map p r here = elim (by_last p) [
 
 module _ (m : ResourceMap) (p : Path) (now : ℕ) where
   rest : (f : Result Resource FsError) → Outcome (Unit {0})
-  rest f = f >>= λ (_ : Resource). if is_some (at_path m p) then Err Exists else Ok (tt, touched (added m p (new_folder now)) (parent p) now)
+  rest f = f >>= λ (_ : Resource). if is_some (at_path m p) then Err Exists else Ok (tt, with_modified_time (with_new_entry m p (new_folder now)) (parent p) now)
 
   pub made_taken : IsResourceMap m → (r : Resource) → at_path m p ≡ Some r → create_dir m p now ≡ Err Exists
   unfolding rest
   made_taken is_map r here =
       ap rest (folder_above m is_map p r here).1
-      ∙ ap (λ (o : Option Resource). if is_some o then Err Exists else Ok (tt {0}, touched (added m p (new_folder now)) (parent p) now)) here
+      ∙ ap (λ (o : Option Resource). if is_some o then Err Exists else Ok (tt {0}, with_modified_time (with_new_entry m p (new_folder now)) (parent p) now)) here
 
   module _ (folder : ℕ) (name : Segment) (h : IsMissing m p folder name) where
     none : at_path m p ≡ None
     none = not_there m p NotFound h.0
 
-    pub made_free : create_dir m p now ≡ Ok (tt, touched (added m p (new_folder now)) (parent p) now)
+    pub made_free : create_dir m p now ≡ Ok (tt, with_modified_time (with_new_entry m p (new_folder now)) (parent p) now)
     unfolding rest
     made_free =
         ap rest h.2.1
-        ∙ ap (λ (o : Option Resource). if is_some o then Err Exists else Ok (tt {0}, touched (added m p (new_folder now)) (parent p) now)) none
+        ∙ ap (λ (o : Option Resource). if is_some o then Err Exists else Ok (tt {0}, with_modified_time (with_new_entry m p (new_folder now)) (parent p) now)) none
 
     -- the folder stays where it is
-    pub folder_stays : (node : Node) → (f : Resource) × (at_path (added m p node) (parent p) ≡ Some f) × (f.number ≡ folder)
+    pub folder_stays : (node : Node) → (f : Resource) × (at_path (with_new_entry m p node) (parent p) ≡ Some f) × (f.number ≡ folder)
     folder_stays node =
         let above = folder_there m (parent p) h.2.0 h.2.1 in (
           h.2.0,

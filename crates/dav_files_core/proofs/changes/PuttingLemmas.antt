@@ -4,16 +4,16 @@ use Rattle.std.specs.Prelude.{ok_or}
 use Rattle.dav_path_core.specs.declared.errors.FsError.{FsError}
 use Rattle.dav_path_core.specs.declared.errors.FsError.TheVariants.{NotFound, Forbidden}
 use Rattle.dav_files_core.specs.declared.memfs.Kind.TheVariants.{Folder, File}
-use Rattle.dav_files_core.specs.Putting.{put, put_at}
+use Rattle.dav_files_core.specs.ResourcePutting.{put, put_at}
 use Rattle.dav_files_core.specs.Finding.{refusal_at}
-use Rattle.dav_files_core.specs.Outcomes.{◌>>=◌, added, changed, new_file}
+use Rattle.dav_files_core.specs.Outcomes.{◌>>=◌, with_new_entry, with_other_node, new_file}
 use Rattle.dav_files_core.specs.Resources.{Resource, ResourceMap, at_path}
-use Rattle.dav_files_core.specs.Private.TreeCalls.{number_of, IsMissing}
+use Rattle.dav_files_core.specs.Private.TreeCalls.{entry_number, IsMissing}
 use Rattle.dav_path_core.specs.Fronts.{Segment, Path}
 use Rattle.dav_files_core.proofs.walks.FoundLemmas.{not_there}
 
 -- a number that was found
-pub found_number : (m : ResourceMap) (p : Path) (id : ℕ) → Ok id ≡ number_of m p → (r : Resource) × (at_path m p ≡ Some r) × (r.number ≡ id)
+pub found_number : (m : ResourceMap) (p : Path) (id : ℕ) → Ok id ≡ entry_number m p → (r : Resource) × (at_path m p ≡ Some r) × (r.number ≡ id)
 found_number m p id h = by (at_path m p) refl
   where
     by : (o : Option Resource) → at_path m p ≡ o → (r : Resource) × (at_path m p ≡ Some r) × (r.number ≡ id)
@@ -21,12 +21,12 @@ found_number m p id h = by (at_path m p) refl
     by (Some r) e = let both : ◌≡◌ {A = Result ℕ FsError} (Ok id) (Ok r.number) = h ∙ ap (λ o. ok_or o (refusal_at m p) >>= (λ (r : Resource). Ok r.number)) e in (r, e, cc)
 
 module _ (m : ResourceMap) (p : Path) (bytes : List ℕ) (now : ℕ) where
-  pub put_missing : (folder : ℕ) (name : Segment) → IsMissing m p folder name → put m p bytes now ≡ Ok (tt, added m p (new_file bytes now))
-  put_missing folder name h = ap (put_at m p bytes now) (not_there m p NotFound h.0) ∙ ap (λ (f : Result Resource FsError). f >>= λ (_ : Resource). Ok (tt, added m p (new_file bytes now))) h.2.1
+  pub put_missing : (folder : ℕ) (name : Segment) → IsMissing m p folder name → put m p bytes now ≡ Ok (tt, with_new_entry m p (new_file bytes now))
+  put_missing folder name h = ap (put_at m p bytes now) (not_there m p NotFound h.0) ∙ ap (λ (f : Result Resource FsError). f >>= λ (_ : Resource). Ok (tt, with_new_entry m p (new_file bytes now))) h.2.1
 
   module _ (r : Resource) (here : at_path m p ≡ Some r) where
     pub put_folder : r.node.kind ≡ Folder → put m p bytes now ≡ Err Forbidden
-    put_folder k = ap (put_at m p bytes now) here ∙ ap (λ k. elim k [ Folder ↦ Err Forbidden | File ↦ Ok r ] >>= (λ (r : Resource). Ok (tt, changed m p r (record r.node { bytes = bytes; modified = now })))) k
+    put_folder k = ap (put_at m p bytes now) here ∙ ap (λ k. elim k [ Folder ↦ Err Forbidden | File ↦ Ok r ] >>= (λ (r : Resource). Ok (tt, with_other_node m p r (record r.node { bytes = bytes; modified = now })))) k
 
-    pub put_file : r.node.kind ≡ File → put m p bytes now ≡ Ok (tt, changed m p r (record r.node { bytes = bytes; modified = now }))
-    put_file k = ap (put_at m p bytes now) here ∙ ap (λ k. elim k [ Folder ↦ Err Forbidden | File ↦ Ok r ] >>= (λ (r : Resource). Ok (tt, changed m p r (record r.node { bytes = bytes; modified = now })))) k
+    pub put_file : r.node.kind ≡ File → put m p bytes now ≡ Ok (tt, with_other_node m p r (record r.node { bytes = bytes; modified = now }))
+    put_file k = ap (put_at m p bytes now) here ∙ ap (λ k. elim k [ Folder ↦ Err Forbidden | File ↦ Ok r ] >>= (λ (r : Resource). Ok (tt, with_other_node m p r (record r.node { bytes = bytes; modified = now })))) k

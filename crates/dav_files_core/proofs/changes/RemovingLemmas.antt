@@ -7,7 +7,7 @@ use Rattle.dav_path_core.proofs.lists.FinMaps.{get_left}
 use Rattle.dav_path_core.proofs.lists.Orders.{path_total, path_exact}
 use Rattle.dav_files_core.specs.Finding.{has_members, refusal_at}
 use Rattle.dav_files_core.specs.Folders.{is_root, remove}
-use Rattle.dav_files_core.specs.Outcomes.{Outcome, ◌>>=◌, touched, without}
+use Rattle.dav_files_core.specs.Outcomes.{Outcome, ◌>>=◌, with_modified_time, without}
 use Rattle.dav_files_core.specs.Private.Entries.{StandsIn, taken_out}
 use Rattle.dav_files_core.specs.Resources.{Resource, ResourceMap, at_path}
 use Rattle.dav_files_core.proofs.walks.FoundLemmas.{parent-snoc}
@@ -24,10 +24,10 @@ module _ (m : ResourceMap) (p : Path) (r : Resource) (here : at_path m p ≡ Som
       by true e h = absurd (cc)
       by false e h = let pairs : (tt {0}, without m p) ≡ (tt {0}, new) = cc in (e, ap (λ (x : Unit {0} × ResourceMap). x.1) (sym pairs))
 
-  pub removed : (now : ℕ) → remove m p now ≡ Ok (tt, touched new (parent p) now)
+  pub removed : (now : ℕ) → remove m p now ≡ Ok (tt, with_modified_time new (parent p) now)
   removed now =
-      ap (λ o. ok_or o (refusal_at m p) >>= λ (_ : Resource). if stays then Err Forbidden else Ok (tt, touched (without m p) (parent p) now)) here
-      ∙ ap (λ b. if b then Err Forbidden else Ok (tt {0}, touched (without m p) (parent p) now)) both.0 ∙ ap (λ m. Ok (tt {0}, touched m (parent p) now)) (sym both.1)
+      ap (λ o. ok_or o (refusal_at m p) >>= λ (_ : Resource). if stays then Err Forbidden else Ok (tt, with_modified_time (without m p) (parent p) now)) here
+      ∙ ap (λ b. if b then Err Forbidden else Ok (tt {0}, with_modified_time (without m p) (parent p) now)) both.0 ∙ ap (λ m. Ok (tt {0}, with_modified_time m (parent p) now)) (sym both.1)
 
   -- the folder of what was taken out
   pub folder_left : (folder : ℕ) → StandsIn m p (Some folder) → (f : Resource) × (at_path new (parent p) ≡ Some f) × (f.number ≡ folder)

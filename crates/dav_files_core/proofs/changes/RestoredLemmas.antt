@@ -7,12 +7,12 @@ use Rattle.dav_path_core.proofs.lists.FinMaps.{one_some}
 use Rattle.dav_files_core.specs.declared.memfs.Kind.{Kind}
 use Rattle.dav_files_core.specs.declared.memfs.Kind.TheVariants.{Folder, File}
 use Rattle.dav_files_core.specs.Folders.{is_root}
-use Rattle.dav_files_core.specs.Outcomes.{Outcome, changed}
+use Rattle.dav_files_core.specs.Outcomes.{Outcome, with_other_node}
 use Rattle.dav_files_core.specs.Private.Entries.{IsBare}
 use Rattle.dav_files_core.specs.Resources.{is_folder, Resource, ResourceMap, at_path, IsResourceMap}
-use Rattle.dav_files_core.specs.Restoring.{can_stand, is_root_folder, raised, restore_at}
-use Rattle.dav_path_core.specs.Keyed.{raised as raised_tree}
-use Rattle.dav_files_core.specs.Private.Represents.{FileTree, Represents}
+use Rattle.dav_files_core.specs.Restoring.{can_stand, is_root_folder, with_later_next, restore_at}
+use Rattle.dav_path_core.specs.Keyed.{with_next_at_least as raised_tree}
+use Rattle.dav_files_core.specs.Private.FileRepresents.{FileTree, Represents}
 
 -- the root alone has the number 1
 pub root_number : (m : ResourceMap) → IsResourceMap m → (p : Path) (x : Resource) → at_path m p ≡ Some x → (x.number == 1) ≡ is_root p
@@ -45,13 +45,13 @@ module _ (m : ResourceMap) (is_map : IsResourceMap m) (p : Path) (x r : Resource
   asked = ap (λ b. b && ((r.number == 1) && is_folder r.node.kind)) (sym (root_number m is_map p x here) ∙ ap (λ n. n == 1) number)
 
   pub not_root_there : ((id == 1) && ((r.number == 1) && is_folder r.node.kind)) ≡ false → restore_at m p r (Some x) ≡ Err Exists
-  not_root_there e = ap (λ b. let o : Outcome (Unit {0}) = cond b (Ok (tt, changed m p x r.node)) (Err Exists) in o) (asked ∙ e)
+  not_root_there e = ap (λ b. let o : Outcome (Unit {0}) = cond b (Ok (tt, with_other_node m p x r.node)) (Err Exists) in o) (asked ∙ e)
 
-  pub root_there : ((id == 1) && ((r.number == 1) && is_folder r.node.kind)) ≡ true → restore_at m p r (Some x) ≡ Ok (tt, changed m p x r.node)
-  root_there e = ap (λ b. let o : Outcome (Unit {0}) = cond b (Ok (tt, changed m p x r.node)) (Err Exists) in o) (asked ∙ e)
+  pub root_there : ((id == 1) && ((r.number == 1) && is_folder r.node.kind)) ≡ true → restore_at m p r (Some x) ≡ Ok (tt, with_other_node m p x r.node)
+  root_there e = ap (λ b. let o : Outcome (Unit {0}) = cond b (Ok (tt, with_other_node m p x r.node)) (Err Exists) in o) (asked ∙ e)
 
 -- a next number that is raised, in the tree and in the map
-pub Represents-raised : (t : FileTree) (m : ResourceMap) → Represents t m → (next : ℕ) → Represents (raised_tree t next) (raised m next)
+pub Represents-raised : (t : FileTree) (m : ResourceMap) → Represents t m → (next : ℕ) → Represents (raised_tree t next) (with_later_next m next)
 Represents-raised t m rep next = record {
   is_map = record {
     root = rep.is_map.root;

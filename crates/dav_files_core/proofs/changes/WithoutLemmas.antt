@@ -3,11 +3,11 @@ use Rattle.std.proofs.Common.{◌≡◌, ℕ, [], ◌∷◌, ◌++◌, Option, S
 use Rattle.std.specs.Cmp.{nat_cmp_total}
 use Rattle.std.specs.FinMap.{nat_cmp-IsAntisymmetric}
 use Rattle.dav_path_core.specs.Fronts.{Segment, Path}
-use Rattle.dav_path_core.specs.Keyed.{without as without_node}
+use Rattle.dav_path_core.specs.Keyed.{without_node}
 use Rattle.dav_path_core.proofs.lists.FinMaps.{none_some, one_some, get_left, removed}
 use Rattle.dav_path_core.proofs.lists.Orders.{path_total, path_exact}
 use Rattle.dav_files_core.specs.Outcomes.{without}
-use Rattle.dav_files_core.specs.Private.Represents.{FileTree, PlaceFits, Represents}
+use Rattle.dav_files_core.specs.Private.FileRepresents.{FileTree, PlaceFits, Represents}
 use Rattle.dav_files_core.specs.Resources.{Resource, ResourceMap, at_path, IsResourceMap}
 
 -- an entry other than the root, without members

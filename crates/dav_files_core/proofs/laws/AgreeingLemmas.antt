@@ -12,20 +12,20 @@ use Rattle.dav_path_core.proofs.paths.FrontLemmas.{is_same_path-refl, behind_app
 use Rattle.dav_files_core.specs.declared.fs.OpenOptions.{OpenOptions}
 use Rattle.dav_files_core.specs.Resources.{Node, Property, Resource, ResourceMap, at_path}
 use Rattle.dav_files_core.specs.Finding.{find, members, has_any, has_members}
-use Rattle.dav_files_core.specs.Outcomes.{Outcome, ◌>>=◌, only_file, only_folder, find_folder, added, changed, touched, touched_at, without, new_file, new_folder}
+use Rattle.dav_files_core.specs.Outcomes.{Outcome, ◌>>=◌, only_file, only_folder, find_folder, with_new_entry, with_other_node, with_modified_time, touched_at, without, new_file, new_folder}
 use Rattle.dav_files_core.specs.Below.{is_below, AgreeBelow, Alike, SameAnswer}
 use Rattle.dav_files_core.specs.Describing.{metadata}
-use Rattle.dav_files_core.specs.Parts.{read_at, write_at}
-use Rattle.dav_files_core.specs.Putting.{put, put_at}
-use Rattle.dav_files_core.specs.Copying.{copy, copy_to}
+use Rattle.dav_files_core.specs.ContentParts.{read_at, write_at}
+use Rattle.dav_files_core.specs.ResourcePutting.{put, put_at}
+use Rattle.dav_files_core.specs.ResourceCopying.{copy, copy_to}
 use Rattle.dav_files_core.specs.Folders.{is_root, create_dir, remove}
-use Rattle.dav_files_core.specs.Listing.{listed, read_dir}
+use Rattle.dav_files_core.specs.Listing.{listed_member, read_dir}
 use Rattle.dav_files_core.specs.Meta.{meta_at}
-use Rattle.dav_files_core.specs.Moved.{moved, path_after}
-use Rattle.dav_files_core.specs.OpenFiles.{overwritten}
-use Rattle.dav_files_core.specs.Opening.{OpenFile, opened, opening, opening_at, truncated}
-use Rattle.dav_files_core.specs.Properties.{patch_answers, patched, patch_props, shown, get_props, xml_of, get_prop}
-use Rattle.dav_files_core.specs.Renaming.{put_elsewhere, relocated, rename}
+use Rattle.dav_files_core.specs.Moved.{moved_map, path_after}
+use Rattle.dav_files_core.specs.OpenFiles.{overwritten_at}
+use Rattle.dav_files_core.specs.Opening.{OpenFile, opened_file, opening, opening_at, emptied_if}
+use Rattle.dav_files_core.specs.Properties.{patch_answers, patched_properties, patch_props, shown_property, get_props, xml_of, get_prop}
+use Rattle.dav_files_core.specs.Renaming.{put_elsewhere, relocated_map, rename}
 use Rattle.dav_files_core.proofs.walks.FoundLemmas.{find_there, find_below, parent-append}
 use Rattle.dav_files_core.proofs.paths.FrontLemmas.{after_cases}
 use Rattle.dav_files_core.proofs.listings.MemberLemmas.{get-members}
@@ -179,10 +179,10 @@ module _ (folder : Path) (m n : ResourceMap) (agree : AgreeBelow folder m n) whe
           ∙ sym (ap (get (insert m.entries p e)) here ∙ get_same path_total path_exact m.entries p e)
       same_at q before (inr other) = get_other path_total path_exact n.entries p d q other ∙ before ∙ sym (get_other path_total path_exact m.entries p e q other)
 
-  changed_agree : (p : Path) (r : Resource) (node : Node) → AgreeBelow folder (changed m p r node) (changed n p r node)
+  changed_agree : (p : Path) (r : Resource) (node : Node) → AgreeBelow folder (with_other_node m p r node) (with_other_node n p r node)
   changed_agree p r node = set_agree p (record { number = r.number; node = node }) (record { number = r.number; node = node }) m.next n.next refl agree.next
 
-  added_agree : (p : Path) (node : Node) → AgreeBelow folder (added m p node) (added n p node)
+  added_agree : (p : Path) (node : Node) → AgreeBelow folder (with_new_entry m p node) (with_new_entry n p node)
   added_agree p node = set_agree p (record { number = m.next; node = node }) (record { number = n.next; node = node }) (m.next + 1) (n.next + 1)
       (ap (λ (k : ℕ). record { number = k; node = node }) agree.next) (ap (λ k. k + 1) agree.next)
 
@@ -199,14 +199,14 @@ module _ (folder : Path) (m n : ResourceMap) (agree : AgreeBelow folder m n) whe
           ∙ sym (ap (at_path (without m p)) same ∙ get_gone path_total path_exact m.entries p)
       same_at q e (inr other) = get_left path_total path_exact n.entries p q other ∙ e ∙ sym (get_left path_total path_exact m.entries p q other)
 
-  touched_agree : (p : Path) (now : ℕ) → Within folder p → AgreeBelow folder (touched m p now) (touched n p now)
-  touched_agree p now w = subst (λ o. AgreeBelow folder (touched m p now) (touched_at n p now o)) (sym (at_within p w)) (by (at_path m p))
+  touched_agree : (p : Path) (now : ℕ) → Within folder p → AgreeBelow folder (with_modified_time m p now) (with_modified_time n p now)
+  touched_agree p now w = subst (λ o. AgreeBelow folder (with_modified_time m p now) (touched_at n p now o)) (sym (at_within p w)) (by (at_path m p))
     where
       by : (o : Option Resource) → AgreeBelow folder (touched_at m p now o) (touched_at n p now o)
       by None = agree
       by (Some r) = changed_agree p r (record r.node { modified = now })
 
-  moved_agree : (from to : Path) → Inside folder from → Inside folder to → AgreeBelow folder (moved m from to) (moved n from to)
+  moved_agree : (from to : Path) → Inside folder from → Inside folder to → AgreeBelow folder (moved_map m from to) (moved_map n from to)
   moved_agree from to w v = record {
     there = ap is_some (moved_other m from to folder (behind_none from folder (not_above folder from w)) (behind_none to folder (not_above folder to v))) ∙ agree.there;
     same = λ s. get-moved n from to (folder ++ s) ∙ by s (path_after to from (folder ++ s)) refl ∙ sym (get-moved m from to (folder ++ s));
@@ -229,11 +229,11 @@ module _ (folder : Path) (m n : ResourceMap) (agree : AgreeBelow folder m n) whe
   put_alike p bytes now w = subst (λ o. Alike (SameAnswer folder) (put m p bytes now) (put_at n p bytes now o)) (sym (at_within folder m n agree p (within folder p w))) (by (at_path m p))
     where
       by : (o : Option Resource) → Alike (SameAnswer folder) (put_at m p bytes now o) (put_at n p bytes now o)
-      by (Some r) = alike_on (SameAnswer folder) (only_file r) (only_file r) (λ (r : Resource). Ok (tt, changed m p r (record r.node { bytes = bytes; modified = now })))
-          (λ (r : Resource). Ok (tt, changed n p r (record r.node { bytes = bytes; modified = now }))) refl
+      by (Some r) = alike_on (SameAnswer folder) (only_file r) (only_file r) (λ (r : Resource). Ok (tt, with_other_node m p r (record r.node { bytes = bytes; modified = now })))
+          (λ (r : Resource). Ok (tt, with_other_node n p r (record r.node { bytes = bytes; modified = now }))) refl
           (λ r. (refl, changed_agree folder m n agree p r (record r.node { bytes = bytes; modified = now })))
-      by None = alike_on (SameAnswer folder) (find_folder m (parent p)) (find_folder n (parent p)) (λ (_ : Resource). Ok (tt, added m p (new_file bytes now)))
-          (λ (_ : Resource). Ok (tt, added n p (new_file bytes now))) (find_folder_within folder m n agree (parent p) (parent_within folder p w))
+      by None = alike_on (SameAnswer folder) (find_folder m (parent p)) (find_folder n (parent p)) (λ (_ : Resource). Ok (tt, with_new_entry m p (new_file bytes now)))
+          (λ (_ : Resource). Ok (tt, with_new_entry n p (new_file bytes now))) (find_folder_within folder m n agree (parent p) (parent_within folder p w))
           (λ _. (refl, added_agree folder m n agree p (new_file bytes now)))
 
   pub write_alike : (p : Path) (at : Option ℕ) (new : List ℕ) → Within folder p → AlikeHere (λ m. write_at m p at new)
@@ -241,7 +241,7 @@ module _ (folder : Path) (m n : ResourceMap) (agree : AgreeBelow folder m n) whe
       (find_within folder m n agree p w)
       (λ r. alike_on (SameAnswer folder) (only_file r) (only_file r) (written m) (written n) refl
       (λ r. alike_if (SameAnswer folder) (fits r) (fits r) (Ok (tt, left m r)) (Ok (tt, left n r)) (Err TooLarge) (Err TooLarge) refl
-      (refl, changed_agree folder m n agree p r (record r.node { bytes = overwritten r.node.bytes (start r) new })) refl))
+      (refl, changed_agree folder m n agree p r (record r.node { bytes = overwritten_at r.node.bytes (start r) new })) refl))
     where
       start : Resource → ℕ
       start r = unwrap_or at (length r.node.bytes)
@@ -250,7 +250,7 @@ module _ (folder : Path) (m n : ResourceMap) (agree : AgreeBelow folder m n) whe
       fits r = nat_lt (start r + length new) (2 ^ 64)
 
       left : ResourceMap → Resource → ResourceMap
-      left m r = changed m p r (record r.node { bytes = overwritten r.node.bytes (start r) new })
+      left m r = with_other_node m p r (record r.node { bytes = overwritten_at r.node.bytes (start r) new })
 
       written : ResourceMap → Resource → Outcome (Unit {0})
       written m r = if fits r then Ok (tt, left m r) else Err TooLarge
@@ -260,10 +260,10 @@ module _ (folder : Path) (m n : ResourceMap) (agree : AgreeBelow folder m n) whe
       (find_folder_within folder m n agree (parent p) (parent_within folder p w))
       (λ _. alike_if (SameAnswer folder) (is_some (at_path m p)) (is_some (at_path n p)) (Err Exists) (Err Exists) (Ok (tt, left m)) (Ok (tt, left n))
       (ap is_some (at_within folder m n agree p (within folder p w))) refl
-      (refl, touched_agree folder (added m p (new_folder now)) (added n p (new_folder now)) (added_agree folder m n agree p (new_folder now)) (parent p) now (parent_within folder p w)))
+      (refl, touched_agree folder (with_new_entry m p (new_folder now)) (with_new_entry n p (new_folder now)) (added_agree folder m n agree p (new_folder now)) (parent p) now (parent_within folder p w)))
     where
       left : ResourceMap → ResourceMap
-      left m = touched (added m p (new_folder now)) (parent p) now
+      left m = with_modified_time (with_new_entry m p (new_folder now)) (parent p) now
 
       made : ResourceMap → Outcome (Unit {0})
       made m = if is_some (at_path m p) then Err Exists else Ok (tt, left m)
@@ -276,12 +276,12 @@ module _ (folder : Path) (m n : ResourceMap) (agree : AgreeBelow folder m n) whe
       (refl, touched_agree folder (without m p) (without n p) (without_agree folder m n agree p w) (parent p) now (parent_within folder p w)))
     where
       left : ResourceMap → ResourceMap
-      left m = touched (without m p) (parent p) now
+      left m = with_modified_time (without m p) (parent p) now
 
       gone : ResourceMap → Outcome (Unit {0})
       gone m = if is_root p || has_members m p then Err Forbidden else Ok (tt, left m)
 
-  relocated_alike : (from to : Path) → Inside folder from → Inside folder to → Alike (AgreeBelow folder) (relocated m from to) (relocated n from to)
+  relocated_alike : (from to : Path) → Inside folder from → Inside folder to → Alike (AgreeBelow folder) (relocated_map m from to) (relocated_map n from to)
   relocated_alike from to w v =
       alike_if (AgreeBelow folder) (is_root to) (is_root to) (Err (if is_root from then Forbidden else Exists)) (Err (if is_root from then Forbidden else Exists)) (free m) (free n) refl refl
       (alike_if (AgreeBelow folder) (has_members m to) (has_members n to) (Err Exists) (Err Exists) (other m) (other n) (has_members_within folder m n agree to (within folder to v)) refl
@@ -303,14 +303,14 @@ module _ (folder : Path) (m n : ResourceMap) (agree : AgreeBelow folder m n) whe
       (find_within folder m n agree from (within folder from w))
       (λ _. alike_on (SameAnswer folder) (find_folder m (parent to)) (find_folder n (parent to)) (λ (_ : Resource). put_there m) (λ (_ : Resource). put_there n)
       (find_folder_within folder m n agree (parent to) (parent_within folder to v))
-      (λ _. alike_then (SameAnswer folder) (AgreeBelow folder) (relocated m from to) (relocated n from to) last last (relocated_alike from to w v)
-      (λ x y h. (refl, touched_agree folder (touched x (parent from) now) (touched y (parent from) now) (touched_agree folder x y h (parent from) now (parent_within folder from w)) (parent to) now (parent_within folder to v)))))
+      (λ _. alike_then (SameAnswer folder) (AgreeBelow folder) (relocated_map m from to) (relocated_map n from to) last last (relocated_alike from to w v)
+      (λ x y h. (refl, touched_agree folder (with_modified_time x (parent from) now) (with_modified_time y (parent from) now) (touched_agree folder x y h (parent from) now (parent_within folder from w)) (parent to) now (parent_within folder to v)))))
     where
       last : ResourceMap → Outcome (Unit {0})
-      last m = Ok (tt, touched (touched m (parent from) now) (parent to) now)
+      last m = Ok (tt, with_modified_time (with_modified_time m (parent from) now) (parent to) now)
 
       put_there : ResourceMap → Outcome (Unit {0})
-      put_there m = relocated m from to >>= last
+      put_there m = relocated_map m from to >>= last
 
       into : ResourceMap → Outcome (Unit {0})
       into m = find_folder m (parent to) >>= λ (_ : Resource). put_there m
@@ -327,24 +327,24 @@ module _ (folder : Path) (m n : ResourceMap) (agree : AgreeBelow folder m n) whe
       copied m r = copy_to m to (source r) (at_path m to)
 
       by : (node : Node) (o : Option Resource) → Alike (SameAnswer folder) (copy_to m to node o) (copy_to n to node o)
-      by node (Some r) = alike_on (SameAnswer folder) (only_file r) (only_file r) (λ (r : Resource). Ok (tt, changed m to r node)) (λ (r : Resource). Ok (tt, changed n to r node)) refl
+      by node (Some r) = alike_on (SameAnswer folder) (only_file r) (only_file r) (λ (r : Resource). Ok (tt, with_other_node m to r node)) (λ (r : Resource). Ok (tt, with_other_node n to r node)) refl
           (λ r. (refl, changed_agree folder m n agree to r node))
-      by node None = alike_on (SameAnswer folder) (find_folder m (parent to)) (find_folder n (parent to)) (λ (_ : Resource). Ok (tt, added m to node)) (λ (_ : Resource). Ok (tt, added n to node))
+      by node None = alike_on (SameAnswer folder) (find_folder m (parent to)) (find_folder n (parent to)) (λ (_ : Resource). Ok (tt, with_new_entry m to node)) (λ (_ : Resource). Ok (tt, with_new_entry n to node))
           (find_folder_within folder m n agree (parent to) (parent_within folder to v)) (λ _. (refl, added_agree folder m n agree to node))
 
   pub opening_alike : (p : Path) (options : OpenOptions) (now : ℕ) → Inside folder p → AlikeHere (λ m. opening m p options now)
   opening_alike p options now w = subst (λ o. Alike (SameAnswer folder) (opening m p options now) (opening_at n p options now o)) (sym (at_within folder m n agree p (within folder p w))) (by (at_path m p))
     where
       there : ResourceMap → Resource → Outcome OpenFile
-      there m r = Ok (opened r.number options, truncated m p r options.truncate now)
+      there m r = Ok (opened_file r.number options, emptied_if m p r options.truncate now)
 
       made : ResourceMap → Outcome OpenFile
-      made m = Ok (opened m.next options, added m p (new_file [] now))
+      made m = Ok (opened_file m.next options, with_new_entry m p (new_file [] now))
 
       found : ResourceMap → Resource → Outcome OpenFile
-      found m r = Ok (opened r.number options, m)
+      found m r = Ok (opened_file r.number options, m)
 
-      emptied : (r : Resource) (b : Bool) → AgreeBelow folder (truncated m p r b now) (truncated n p r b now)
+      emptied : (r : Resource) (b : Bool) → AgreeBelow folder (emptied_if m p r b now) (emptied_if n p r b now)
       emptied r true = changed_agree folder m n agree p r (record r.node { bytes = []; modified = now })
       emptied r false = agree
 
@@ -353,15 +353,15 @@ module _ (folder : Path) (m n : ResourceMap) (agree : AgreeBelow folder m n) whe
           (alike_on (SameAnswer folder) (only_file r) (only_file r) (there m) (there n) refl (λ r. (refl, emptied r options.truncate)))
       by None = alike_if (SameAnswer folder) options.create options.create (find_folder m (parent p) >>= λ (_ : Resource). made m) (find_folder n (parent p) >>= λ (_ : Resource). made n) (find m p >>= found m) (find n p >>= found n) refl
           (alike_on (SameAnswer folder) (find_folder m (parent p)) (find_folder n (parent p)) (λ (_ : Resource). made m) (λ (_ : Resource). made n) (find_folder_within folder m n agree (parent p) (parent_within folder p w))
-          (λ _. (ap (λ k. opened k options) agree.next, added_agree folder m n agree p (new_file [] now))))
+          (λ _. (ap (λ k. opened_file k options) agree.next, added_agree folder m n agree p (new_file [] now))))
           (alike_on (SameAnswer folder) (find m p) (find n p) (found m) (found n) (find_within folder m n agree p (within folder p w)) (λ r. (refl, agree)))
 
   pub patch_alike : (p : Path) (patch : List (Bool × Property)) → Within folder p → AlikeHere (λ m. patch_props m p patch)
   patch_alike p patch w = alike_on (SameAnswer folder) (find m p) (find n p)
-      (λ (r : Resource). Ok (patch_answers patch, changed m p r (record r.node { props = patched r.node.props patch })))
-      (λ (r : Resource). Ok (patch_answers patch, changed n p r (record r.node { props = patched r.node.props patch })))
+      (λ (r : Resource). Ok (patch_answers patch, with_other_node m p r (record r.node { props = patched_properties r.node.props patch })))
+      (λ (r : Resource). Ok (patch_answers patch, with_other_node n p r (record r.node { props = patched_properties r.node.props patch })))
       (find_within folder m n agree p w)
-      (λ r. (refl, changed_agree folder m n agree p r (record r.node { props = patched r.node.props patch })))
+      (λ r. (refl, changed_agree folder m n agree p r (record r.node { props = patched_properties r.node.props patch })))
 
   -- what is told of a path that is found
   told_same : {A : Type 0} (p : Path) (tell : Resource → Result A FsError) → Within folder p → (find n p >>= tell) ≡ (find m p >>= tell)
@@ -374,12 +374,12 @@ module _ (folder : Path) (m n : ResourceMap) (agree : AgreeBelow folder m n) whe
   read_same p at count = told_same p (λ r. only_file r >>= λ r. Ok (take count (drop at r.node.bytes)))
 
   pub get_props_same : (p : Path) (content : Bool) → Within folder p → get_props n p content ≡ get_props m p content
-  get_props_same p content = told_same p (λ r. Ok (map (shown content) (values r.node.props)))
+  get_props_same p content = told_same p (λ r. Ok (map (shown_property content) (values r.node.props)))
 
   pub get_prop_same : (p : Path) (wanted : Property) → Within folder p → get_prop n p wanted ≡ get_prop m p wanted
   get_prop_same p wanted = told_same p (λ r. ok_or (xml_of r.node.props wanted) NotFound)
 
   pub read_dir_same : (p : Path) → Within folder p → read_dir n p ≡ read_dir m p
   read_dir_same p w =
-      ap (λ ms. find_folder n p >>= λ (_ : Resource). Ok (map listed (entries ms))) (members_within folder m n agree p w)
-      ∙ ap (λ (f : Result Resource FsError). f >>= λ (_ : Resource). Ok (map listed (entries (members m p)))) (find_folder_within folder m n agree p w)
+      ap (λ ms. find_folder n p >>= λ (_ : Resource). Ok (map listed_member (entries ms))) (members_within folder m n agree p w)
+      ∙ ap (λ (f : Result Resource FsError). f >>= λ (_ : Resource). Ok (map listed_member (entries (members m p)))) (find_folder_within folder m n agree p w)

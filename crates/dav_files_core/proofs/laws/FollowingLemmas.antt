@@ -7,11 +7,11 @@ use Rattle.dav_path_core.proofs.lists.FinMaps.{none_some, get_same, dec, test_fa
 use Rattle.dav_path_core.proofs.lists.Orders.{path_total, path_exact}
 use Rattle.dav_path_core.proofs.lists.Snoc.{by_last}
 use Rattle.dav_path_core.proofs.paths.FrontLemmas.{is_same_path-refl, behind_append}
-use Rattle.dav_files_core.specs.Following.{TakesAlong, TakesPlace, OthersStay, dated, dated_folder}
+use Rattle.dav_files_core.specs.Following.{TakesAlong, TakesPlace, OthersStay, dated_entry, dated_folder}
 use Rattle.dav_files_core.specs.Folders.{is_root}
-use Rattle.dav_files_core.specs.Moved.{moved, path_after}
-use Rattle.dav_files_core.specs.Outcomes.{touched, touched_at}
-use Rattle.dav_files_core.specs.Renaming.{rename, relocated}
+use Rattle.dav_files_core.specs.Moved.{moved_map, path_after}
+use Rattle.dav_files_core.specs.Outcomes.{with_modified_time, touched_at}
+use Rattle.dav_files_core.specs.Renaming.{rename, relocated_map}
 use Rattle.dav_files_core.specs.Resources.{Resource, ResourceMap, at_path, IsResourceMap}
 use Rattle.dav_files_core.proofs.walks.FoundLemmas.{parent-snoc}
 use Rattle.dav_files_core.proofs.walks.HasMembersLemmas.{has_member}
@@ -25,7 +25,7 @@ use Rattle.dav_files_core.proofs.opens.NumberedLemmas.{numbered_is, number_gone,
 use Rattle.dav_files_core.proofs.moves.RenamedLemmas.{put}
 
 module _ (m : ResourceMap) (is_map : IsResourceMap m) (from : Path) (r : Resource) (source : at_path m from ≡ Some r) (now : ℕ) where
-  module _ (q : Path) (name : Segment) (x : ResourceMap) (h : relocated m from (q ++ (name ∷ [])) ≡ Ok x) where
+  module _ (q : Path) (name : Segment) (x : ResourceMap) (h : relocated_map m from (q ++ (name ∷ [])) ≡ Ok x) where
     abbrev to : Path
     to = q ++ (name ∷ [])
 
@@ -59,36 +59,36 @@ module _ (m : ResourceMap) (is_map : IsResourceMap m) (from : Path) (r : Resourc
     not_own s e = no_longer q name s (sym (e ∙ parent-snoc q name))
 
     -- what is behind the target once all is done
-    pub behind_target : (s : Path) → at_path (touched (touched x (parent from) now) (parent to) now) (to ++ s) ≡ at_path m (from ++ s)
+    pub behind_target : (s : Path) → at_path (with_modified_time (with_modified_time x (parent from) now) (parent to) now) (to ++ s) ≡ at_path m (from ++ s)
     behind_target s =
-        touched_other (touched x (parent from) now) (parent to) now (to ++ s) (not_own s) ∙ touched_other x (parent from) now (to ++ s) (not_above s) ∙ came_along s
+        touched_other (with_modified_time x (parent from) now) (parent to) now (to ++ s) (not_own s) ∙ touched_other x (parent from) now (to ++ s) (not_above s) ∙ came_along s
 
 -- ---- a modified time that is set, at each path
 dated_at : ℕ → Path → Path → Resource → Resource
-dated_at now q p r = if is_same_path p q then dated now r else r
+dated_at now q p r = if is_same_path p q then dated_entry now r else r
 
-touched_at_path : (m : ResourceMap) (q : Path) (now : ℕ) (p : Path) → at_path (touched m q now) p ≡ option_map (dated_at now q p) (at_path m p)
+touched_at_path : (m : ResourceMap) (q : Path) (now : ℕ) (p : Path) → at_path (with_modified_time m q now) p ≡ option_map (dated_at now q p) (at_path m p)
 unfolding dated_at
 touched_at_path m q now p = elim (dec path_total path_exact p q) [
-  | inl same ↦ subst (λ p. at_path (touched m q now) p ≡ option_map (dated_at now q p) (at_path m p)) (sym same) (own (at_path m q) refl)
+  | inl same ↦ subst (λ p. at_path (with_modified_time m q now) p ≡ option_map (dated_at now q p) (at_path m p)) (sym same) (own (at_path m q) refl)
   | inr other ↦ touched_other m q now p other ∙ sym (kept (at_path m p) (test_false path_total path_exact p q other))
 ]
   where
     own : (o : Option Resource) → at_path m q ≡ o → at_path (touched_at m q now o) q ≡ option_map (dated_at now q q) o
     own None e = e
-    own (Some r) e = get_same path_total path_exact m.entries q (dated now r) ∙ ap (λ b. Some (if b then dated now r else r)) (sym (is_same_path-refl q))
+    own (Some r) e = get_same path_total path_exact m.entries q (dated_entry now r) ∙ ap (λ b. Some (if b then dated_entry now r else r)) (sym (is_same_path-refl q))
 
     kept : (o : Option Resource) → is_same_path p q ≡ false → option_map (dated_at now q p) o ≡ o
     kept None e = refl
-    kept (Some r) e = ap (λ b. Some (if b then dated now r else r)) e
+    kept (Some r) e = ap (λ b. Some (if b then dated_entry now r else r)) e
 
-both_dated : (a b : Bool) (now : ℕ) (r : Resource) → (if b then dated now (if a then dated now r else r) else (if a then dated now r else r)) ≡ (if a || b then dated now r else r)
+both_dated : (a b : Bool) (now : ℕ) (r : Resource) → (if b then dated_entry now (if a then dated_entry now r else r) else (if a then dated_entry now r else r)) ≡ (if a || b then dated_entry now r else r)
 both_dated true true now r = refl
 both_dated true false now r = refl
 both_dated false true now r = refl
 both_dated false false now r = refl
 
-dated_number : (b : Bool) (now : ℕ) (r : Resource) → (if b then dated now r else r).number ≡ r.number
+dated_number : (b : Bool) (now : ℕ) (r : Resource) → (if b then dated_entry now r else r).number ≡ r.number
 dated_number true now r = refl
 dated_number false now r = refl
 
@@ -109,20 +109,20 @@ module _ (m m' : ResourceMap) (from to : Path) (now : ℕ) (is_map : IsResourceM
   between = done.between.0
 
   not_to_root : ¬ (to ≡ [])
-  not_to_root empty = let both : relocated m from [] ≡ Ok between = ap (relocated m from) (sym empty) ∙ done.between.1 in absurd (cc)
+  not_to_root empty = let both : relocated_map m from [] ≡ Ok between = ap (relocated_map m from) (sym empty) ∙ done.between.1 in absurd (cc)
 
-  how : ((from ≡ to) × (between ≡ m)) ⊎ ((behind from to ≡ None) × (between ≡ moved m from to))
+  how : ((from ≡ to) × (between ≡ m)) ⊎ ((behind from to ≡ None) × (between ≡ moved_map m from to))
   how = elim (by_last to) [
     | inl empty ↦ absurd (not_to_root empty)
-    | inr last ↦ elim ((put m from last.0 last.1 between (ap (relocated m from) (sym last.2) ∙ done.between.1)).put) [
+    | inr last ↦ elim ((put m from last.0 last.1 between (ap (relocated_map m from) (sym last.2) ∙ done.between.1)).put) [
       | inl same ↦ inl (same.0 ∙ sym last.2, same.1)
-      | inr away ↦ inr (ap (behind from) last.2 ∙ away.0, away.1 ∙ ap (moved m from) (sym last.2))
+      | inr away ↦ inr (ap (behind from) last.2 ∙ away.0, away.1 ∙ ap (moved_map m from) (sym last.2))
     ]
   ]
 
   left_at : (p : Path) → at_path m' p ≡ option_map (dated_at now (parent to) p) (option_map (dated_at now (parent from) p) (at_path between p))
   left_at p =
-      ap (λ m. at_path m p) done.between.2 ∙ touched_at_path (touched between (parent from) now) (parent to) now p
+      ap (λ m. at_path m p) done.between.2 ∙ touched_at_path (with_modified_time between (parent from) now) (parent to) now p
       ∙ ap (option_map (dated_at now (parent to) p)) (touched_at_path between (parent from) now p)
 
   pub takes_along : TakesAlong m from to m'
@@ -131,8 +131,8 @@ module _ (m m' : ResourceMap) (from to : Path) (now : ℕ) (is_map : IsResourceM
     | inr last ↦
         let old = numbered_is m n (from ++ s, r) at in
         let there : at_path m' (to ++ s) ≡ Some r =
-        ap (λ (p : Path). at_path m' (p ++ s)) last.2 ∙ ap (λ m. at_path m ((last.0 ++ (last.1 ∷ [])) ++ s)) (done.between.2 ∙ ap (λ to. touched (touched done.between.0 (parent from) now) (parent to) now) last.2)
-        ∙ behind_target m is_map from done.source.0 done.source.1 now last.0 last.1 done.between.0 (ap (relocated m from) (sym last.2) ∙ done.between.1) s ∙ old.0 in
+        ap (λ (p : Path). at_path m' (p ++ s)) last.2 ∙ ap (λ m. at_path m ((last.0 ++ (last.1 ∷ [])) ++ s)) (done.between.2 ∙ ap (λ to. with_modified_time (with_modified_time done.between.0 (parent from) now) (parent to) now) last.2)
+        ∙ behind_target m is_map from done.source.0 done.source.1 now last.0 last.1 done.between.0 (ap (relocated_map m from) (sym last.2) ∙ done.between.1) s ∙ old.0 in
         number_is m' is_map' (to ++ s) r there n old.1
   ]
 

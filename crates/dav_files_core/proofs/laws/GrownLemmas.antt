@@ -12,19 +12,19 @@ use Rattle.dav_path_core.proofs.trees.Trees.{none_from_is_some}
 use Rattle.dav_files_core.specs.declared.fs.OpenOptions.{OpenOptions}
 use Rattle.dav_files_core.specs.declared.memfs.Kind.{Kind}
 use Rattle.dav_files_core.specs.declared.memfs.Kind.TheVariants.{Folder, File}
-use Rattle.dav_files_core.specs.Parts.{write_at}
-use Rattle.dav_files_core.specs.Putting.{put, put_at}
-use Rattle.dav_files_core.specs.Copying.{copy, copy_to}
+use Rattle.dav_files_core.specs.ContentParts.{write_at}
+use Rattle.dav_files_core.specs.ResourcePutting.{put, put_at}
+use Rattle.dav_files_core.specs.ResourceCopying.{copy, copy_to}
 use Rattle.dav_files_core.specs.Finding.{find, has_members}
 use Rattle.dav_files_core.specs.Folders.{create_dir, is_root, remove}
 use Rattle.dav_files_core.specs.Following.{NeverAgain}
-use Rattle.dav_files_core.specs.Moved.{moved, path_after}
-use Rattle.dav_files_core.specs.OpenFiles.{open_file, overwritten, start_of_write, write_bytes}
-use Rattle.dav_files_core.specs.Opening.{OpenFile, opened, opening, opening_at, truncated}
-use Rattle.dav_files_core.specs.Outcomes.{Outcome, ◌>>=◌, only_file, find_folder, added, changed, without, touched, touched_at, new_file, new_folder}
+use Rattle.dav_files_core.specs.Moved.{moved_map, path_after}
+use Rattle.dav_files_core.specs.OpenFiles.{open_file, overwritten_at, start_of_write, write_bytes}
+use Rattle.dav_files_core.specs.Opening.{OpenFile, opened_file, opening, opening_at, emptied_if}
+use Rattle.dav_files_core.specs.Outcomes.{Outcome, ◌>>=◌, only_file, find_folder, with_new_entry, with_other_node, without, with_modified_time, touched_at, new_file, new_folder}
 use Rattle.dav_files_core.specs.Private.Entries.{HasNumber, IsBare}
-use Rattle.dav_files_core.specs.Properties.{patch_answers, patch_props, patched}
-use Rattle.dav_files_core.specs.Renaming.{rename, relocated, put_elsewhere}
+use Rattle.dav_files_core.specs.Properties.{patch_answers, patch_props, patched_properties}
+use Rattle.dav_files_core.specs.Renaming.{rename, relocated_map, put_elsewhere}
 use Rattle.dav_files_core.specs.Resources.{Node, Property, Resource, ResourceMap, at_path, IsResourceMap}
 use Rattle.dav_files_core.proofs.changes.ChangedLemmas.{IsResourceMap-changed}
 use Rattle.dav_files_core.proofs.changes.WithoutLemmas.{IsResourceMap-without, stays}
@@ -60,10 +60,10 @@ module _ (m : ResourceMap) (is_map : IsResourceMap m) (from : Path) (r : Resourc
   not_folder : ¬ (p ≡ to)
   not_folder e = no_longer p name [] (e ∙ sym (append-nil to))
 
-  IsResourceMap-put_over : IsResourceMap (moved m from to)
+  IsResourceMap-put_over : IsResourceMap (moved_map m from to)
   IsResourceMap-put_over = by (at_path m to) refl
     where
-      by : (o : Option Resource) → at_path m to ≡ o → IsResourceMap (moved m from to)
+      by : (o : Option Resource) → at_path m to ≡ o → IsResourceMap (moved_map m from to)
       by None e = IsResourceMap-moved m is_map from r p f name source not_root folder is_folder e apart
       by (Some x) e =
           let left = IsResourceMap-without m is_map to x e (snoc_not_empty p name) (no_members m to leaf) in
@@ -88,7 +88,7 @@ module _ (m : ResourceMap) where
   pub itself : Grows m m
   itself = record { on = omega arith; known = λ q x h. inl (q, x, h, refl); shape = λ is_map. is_map }
 
-  by_added : (p : Path) (node : Node) (f : Resource) → at_path m p ≡ None → find_folder m (parent p) ≡ Ok f → (IsResourceMap m → IsBare node) → Grows m (added m p node)
+  by_added : (p : Path) (node : Node) (f : Resource) → at_path m p ≡ None → find_folder m (parent p) ≡ Ok f → (IsResourceMap m → IsBare node) → Grows m (with_new_entry m p node)
   by_added p node f free folder bare = record {
     on = omega arith;
     known = λ q x h. elim (inserted path_total path_exact m.entries p (record { number = m.next; node = node }) q x h) [
@@ -98,7 +98,7 @@ module _ (m : ResourceMap) where
     shape = λ is_map. IsResourceMap-added_free m p node f is_map free folder (bare is_map);
   }
 
-  by_changed : (p : Path) (r : Resource) (node : Node) → at_path m p ≡ Some r → (r.node.kind ≡ Folder → node.kind ≡ Folder) → (IsResourceMap m → IsBare node) → Grows m (changed m p r node)
+  by_changed : (p : Path) (r : Resource) (node : Node) → at_path m p ≡ Some r → (r.node.kind ≡ Folder → node.kind ≡ Folder) → (IsResourceMap m → IsBare node) → Grows m (with_other_node m p r node)
   by_changed p r node here still_folder bare = record {
     on = omega arith;
     known = λ q x h. elim (inserted path_total path_exact m.entries p (record { number = r.number; node = node }) q x h) [
@@ -109,7 +109,7 @@ module _ (m : ResourceMap) where
   }
 
   -- a file that gets another node
-  by_file : (p : Path) (r x : Resource) (node : Node) → at_path m p ≡ Some r → only_file r ≡ Ok x → (IsResourceMap m → IsBare node) → Grows m (changed m p x node)
+  by_file : (p : Path) (r x : Resource) (node : Node) → at_path m p ≡ Some r → only_file r ≡ Ok x → (IsResourceMap m → IsBare node) → Grows m (with_other_node m p x node)
   by_file p r x node here h bare =
       let is = only_file_is r x h in
       by_changed p x node (here ∙ ap Some (sym is.0)) (λ folder. let both : File ≡ Folder = sym is.1 ∙ folder in absurd (cc)) bare
@@ -121,7 +121,7 @@ module _ (m : ResourceMap) where
     shape = λ is_map. IsResourceMap-without m is_map p r here (λ e. true≢false (sym (ap is_root e) ∙ root)) (no_members m p leaf);
   }
 
-  by_touched : (p : Path) (now : ℕ) → Grows m (touched m p now)
+  by_touched : (p : Path) (now : ℕ) → Grows m (with_modified_time m p now)
   by_touched p now = record { on = (steps (at_path m p) refl).0; known = (steps (at_path m p) refl).1; shape = IsResourceMap-touched m p now }
     where
       steps : (o : Option Resource) → at_path m p ≡ o → (m.next ≤ (touched_at m p now o).next) × Known m (touched_at m p now o)
@@ -134,7 +134,7 @@ module _ (m : ResourceMap) where
         ],
       )
 
-  by_moved : (from to : Path) (r f : Resource) → at_path m from ≡ Some r → is_root from ≡ false → find_folder m (parent to) ≡ Ok f → is_root to ≡ false → has_members m to ≡ false → behind from to ≡ None → Grows m (moved m from to)
+  by_moved : (from to : Path) (r f : Resource) → at_path m from ≡ Some r → is_root from ≡ false → find_folder m (parent to) ≡ Ok f → is_root to ≡ false → has_members m to ≡ false → behind from to ≡ None → Grows m (moved_map m from to)
   by_moved from to r f source not_root folder away leaf apart = record {
     on = omega arith;
     known = λ q x h. by q x (path_after to from q) (sym (get-moved m from to q) ∙ h);
@@ -145,12 +145,12 @@ module _ (m : ResourceMap) where
       by q x None h = absurd (cc)
       by q x (Some p) h = inl (p, x, h, refl)
 
-      over : IsResourceMap m → (to ≡ []) ⊎ ((q : Path) × (s : Segment) × (to ≡ q ++ (s ∷ []))) → IsResourceMap (moved m from to)
+      over : IsResourceMap m → (to ≡ []) ⊎ ((q : Path) × (s : Segment) × (to ≡ q ++ (s ∷ []))) → IsResourceMap (moved_map m from to)
       over is_map (inl empty) = absurd (true≢false (sym (ap is_root empty) ∙ away))
       over is_map (inr last) =
           let above = folder_there m (parent to) f folder in
           let at : at_path m last.0 ≡ Some f = ap (at_path m) (sym (ap parent last.2 ∙ parent-snoc last.0 last.1)) ∙ above.0 in
-          subst (λ to. IsResourceMap (moved m from to)) (sym last.2)
+          subst (λ to. IsResourceMap (moved_map m from to)) (sym last.2)
           (IsResourceMap-put_over m is_map from r source (λ e. true≢false (sym (ap is_root e) ∙ not_root)) last.0 last.1 f at above.1
           (ap (has_members m) (sym last.2) ∙ leaf) (ap (behind from) (sym last.2) ∙ apart))
 
@@ -195,17 +195,17 @@ module _ (m : ResourceMap) where
   put_grows p bytes now = by (at_path m p) refl
     where
       by : (o : Option Resource) → at_path m p ≡ o → Grown m map_of (put_at m p bytes now o)
-      by (Some r) e = first m map_of (only_file r) (λ (r : Resource). Ok (tt, changed m p r (record r.node { bytes = bytes; modified = now })))
-          (λ x h. ok m map_of (tt, changed m p x (record x.node { bytes = bytes; modified = now })) (by_file m p r x (record x.node { bytes = bytes; modified = now }) e h
+      by (Some r) e = first m map_of (only_file r) (λ (r : Resource). Ok (tt, with_other_node m p r (record r.node { bytes = bytes; modified = now })))
+          (λ x h. ok m map_of (tt, with_other_node m p x (record x.node { bytes = bytes; modified = now })) (by_file m p r x (record x.node { bytes = bytes; modified = now }) e h
           (λ _. file_bare (record x.node { bytes = bytes; modified = now }) (only_file_is r x h).1)))
-      by None e = first m map_of (find_folder m (parent p)) (λ (_ : Resource). Ok (tt, added m p (new_file bytes now)))
-          (λ x h. ok m map_of (tt, added m p (new_file bytes now)) (by_added m p (new_file bytes now) x e h (λ _. file_bare (new_file bytes now) refl)))
+      by None e = first m map_of (find_folder m (parent p)) (λ (_ : Resource). Ok (tt, with_new_entry m p (new_file bytes now)))
+          (λ x h. ok m map_of (tt, with_new_entry m p (new_file bytes now)) (by_added m p (new_file bytes now) x e h (λ _. file_bare (new_file bytes now) refl)))
 
   abbrev with_folder : Path → ℕ → ResourceMap
-  with_folder p now = added m p (new_folder now)
+  with_folder p now = with_new_entry m p (new_folder now)
 
   abbrev made : Path → ℕ → ResourceMap
-  made p now = touched (with_folder p now) (parent p) now
+  made p now = with_modified_time (with_folder p now) (parent p) now
 
   pub create_dir_grows : (p : Path) (now : ℕ) → Grown m map_of (create_dir m p now)
   create_dir_grows p now = first m map_of (find_folder m (parent p)) (λ (_ : Resource). if is_some (at_path m p) then Err Exists else Ok (tt {0}, made p now))
@@ -213,12 +213,12 @@ module _ (m : ResourceMap) where
       (λ free. ok m map_of (tt, made p now) (both m (with_folder p now) (made p now) (by_added m p (new_folder now) x (none_from_is_some (at_path m p) free) h (λ _ _. refl)) (by_touched (with_folder p now) (parent p) now))))
 
   pub remove_grows : (p : Path) (now : ℕ) → Grown m map_of (remove m p now)
-  remove_grows p now = first m map_of (find m p) (λ (_ : Resource). if is_root p || has_members m p then Err Forbidden else Ok (tt, touched (without m p) (parent p) now))
-      (λ x h. chosen m map_of (is_root p || has_members m p) (Err Forbidden) (Ok (tt, touched (without m p) (parent p) now)) (err m map_of Forbidden)
+  remove_grows p now = first m map_of (find m p) (λ (_ : Resource). if is_root p || has_members m p then Err Forbidden else Ok (tt, with_modified_time (without m p) (parent p) now))
+      (λ x h. chosen m map_of (is_root p || has_members m p) (Err Forbidden) (Ok (tt, with_modified_time (without m p) (parent p) now)) (err m map_of Forbidden)
       (λ leaf. let parts = or_parts (is_root p) (has_members m p) leaf in
-      ok m map_of (tt, touched (without m p) (parent p) now) (both m (without m p) (touched (without m p) (parent p) now) (by_without m p x (found_there m p x h) parts.0 parts.1) (by_touched (without m p) (parent p) now))))
+      ok m map_of (tt, with_modified_time (without m p) (parent p) now) (both m (without m p) (with_modified_time (without m p) (parent p) now) (by_without m p x (found_there m p x h) parts.0 parts.1) (by_touched (without m p) (parent p) now))))
 
-  relocated_grows : (from to : Path) (r f : Resource) → at_path m from ≡ Some r → find_folder m (parent to) ≡ Ok f → Grown m (λ (x : ResourceMap). x) (relocated m from to)
+  relocated_grows : (from to : Path) (r f : Resource) → at_path m from ≡ Some r → find_folder m (parent to) ≡ Ok f → Grown m (λ (x : ResourceMap). x) (relocated_map m from to)
   relocated_grows from to r f source folder =
       chosen m (λ x. x) (is_root to) (Err (if is_root from then Forbidden else Exists)) _ (err m (λ x. x) (if is_root from then Forbidden else Exists))
       (λ away. chosen m (λ x. x) (has_members m to) (Err Exists) _ (err m (λ x. x) Exists)
@@ -227,55 +227,55 @@ module _ (m : ResourceMap) where
       by : is_root to ≡ false → has_members m to ≡ false → is_root from ≡ false → (o : Option Path) → behind from to ≡ o → Grown m (λ (x : ResourceMap). x) (put_elsewhere m from to o)
       by away leaf not_root (Some []) e = ok m (λ x. x) m (itself m)
       by away leaf not_root (Some (s ∷ below)) e = err m (λ x. x) Forbidden
-      by away leaf not_root None e = ok m (λ x. x) (moved m from to) (by_moved m from to r f source not_root folder away leaf e)
+      by away leaf not_root None e = ok m (λ x. x) (moved_map m from to) (by_moved m from to r f source not_root folder away leaf e)
 
   abbrev last : Path → Path → ℕ → ResourceMap → Outcome (Unit {0})
-  last from to now z = Ok (tt, touched (touched z (parent from) now) (parent to) now)
+  last from to now z = Ok (tt, with_modified_time (with_modified_time z (parent from) now) (parent to) now)
 
   pub rename_grows : (from to : Path) (now : ℕ) → Grown m map_of (rename m from to now)
   rename_grows from to now =
-      first m map_of (find m from) (λ (_ : Resource). find_folder m (parent to) >>= λ (_ : Resource). relocated m from to >>= last from to now)
-      (λ x h. first m map_of (find_folder m (parent to)) (λ (_ : Resource). relocated m from to >>= last from to now)
-      (λ y g. first m map_of (relocated m from to) (last from to now)
-      (λ z e. ok m map_of (tt, touched (touched z (parent from) now) (parent to) now)
-      (both m z (touched (touched z (parent from) now) (parent to) now) (relocated_grows from to x y (found_there m from x h) g z e)
-      (both z (touched z (parent from) now) (touched (touched z (parent from) now) (parent to) now) (by_touched z (parent from) now) (by_touched (touched z (parent from) now) (parent to) now))))))
+      first m map_of (find m from) (λ (_ : Resource). find_folder m (parent to) >>= λ (_ : Resource). relocated_map m from to >>= last from to now)
+      (λ x h. first m map_of (find_folder m (parent to)) (λ (_ : Resource). relocated_map m from to >>= last from to now)
+      (λ y g. first m map_of (relocated_map m from to) (last from to now)
+      (λ z e. ok m map_of (tt, with_modified_time (with_modified_time z (parent from) now) (parent to) now)
+      (both m z (with_modified_time (with_modified_time z (parent from) now) (parent to) now) (relocated_grows from to x y (found_there m from x h) g z e)
+      (both z (with_modified_time z (parent from) now) (with_modified_time (with_modified_time z (parent from) now) (parent to) now) (by_touched z (parent from) now) (by_touched (with_modified_time z (parent from) now) (parent to) now))))))
 
   pub copy_grows : (from to : Path) (now : ℕ) → Grown m map_of (copy m from to now)
   copy_grows from to now = first m map_of (find m from) (λ (r : Resource). copy_to m to (record r.node { created = now }) (at_path m to)) (λ r h. by (record r.node { created = now }) (λ is_map. is_map.bare from r (found_there m from r h)) (at_path m to) refl)
     where
       by : (node : Node) → (IsResourceMap m → IsBare node) → (o : Option Resource) → at_path m to ≡ o → Grown m map_of (copy_to m to node o)
-      by node bare (Some target) e = first m map_of (only_file target) (λ (target : Resource). Ok (tt, changed m to target node))
-          (λ x h. ok m map_of (tt, changed m to x node) (by_file m to target x node e h bare))
-      by node bare None e = first m map_of (find_folder m (parent to)) (λ (_ : Resource). Ok (tt, added m to node)) (λ x h. ok m map_of (tt, added m to node) (by_added m to node x e h bare))
+      by node bare (Some target) e = first m map_of (only_file target) (λ (target : Resource). Ok (tt, with_other_node m to target node))
+          (λ x h. ok m map_of (tt, with_other_node m to x node) (by_file m to target x node e h bare))
+      by node bare None e = first m map_of (find_folder m (parent to)) (λ (_ : Resource). Ok (tt, with_new_entry m to node)) (λ x h. ok m map_of (tt, with_new_entry m to node) (by_added m to node x e h bare))
 
   pub opening_grows : (p : Path) (options : OpenOptions) (now : ℕ) → Grown m map_of (opening m p options now)
   opening_grows p options now = by (at_path m p) refl
     where
-      emptied : (r : Resource) (b : Bool) → at_path m p ≡ Some r → Grows m (truncated m p r b now)
+      emptied : (r : Resource) (b : Bool) → at_path m p ≡ Some r → Grows m (emptied_if m p r b now)
       emptied r true here = by_changed m p r (record r.node { bytes = []; modified = now }) here (λ folder. folder) (λ _ _. refl)
       emptied r false here = itself m
 
       by : (o : Option Resource) → at_path m p ≡ o → Grown m map_of (opening_at m p options now o)
       by (Some r) e =
-          chosen m map_of options.create_new (Err Exists) (only_file r >>= λ (r : Resource). Ok (opened r.number options, truncated m p r options.truncate now)) (err m map_of Exists)
-          (λ _. first m map_of (only_file r) (λ (r : Resource). Ok (opened r.number options, truncated m p r options.truncate now))
-          (λ x h. ok m map_of (opened x.number options, truncated m p x options.truncate now) (emptied x options.truncate (e ∙ ap Some (sym (only_file_is r x h).0)))))
+          chosen m map_of options.create_new (Err Exists) (only_file r >>= λ (r : Resource). Ok (opened_file r.number options, emptied_if m p r options.truncate now)) (err m map_of Exists)
+          (λ _. first m map_of (only_file r) (λ (r : Resource). Ok (opened_file r.number options, emptied_if m p r options.truncate now))
+          (λ x h. ok m map_of (opened_file x.number options, emptied_if m p x options.truncate now) (emptied x options.truncate (e ∙ ap Some (sym (only_file_is r x h).0)))))
       by None e =
-          chosen m map_of options.create (find_folder m (parent p) >>= λ (_ : Resource). Ok (opened m.next options, added m p (new_file [] now))) (find m p >>= λ (r : Resource). Ok (opened r.number options, m))
-          (first m map_of (find_folder m (parent p)) (λ (_ : Resource). Ok (opened m.next options, added m p (new_file [] now)))
-          (λ x h. ok m map_of (opened m.next options, added m p (new_file [] now)) (by_added m p (new_file [] now) x e h (λ _ _. refl))))
-          (λ _. first m map_of (find m p) (λ (r : Resource). Ok (opened r.number options, m)) (λ x h. ok m map_of (opened x.number options, m) (itself m)))
+          chosen m map_of options.create (find_folder m (parent p) >>= λ (_ : Resource). Ok (opened_file m.next options, with_new_entry m p (new_file [] now))) (find m p >>= λ (r : Resource). Ok (opened_file r.number options, m))
+          (first m map_of (find_folder m (parent p)) (λ (_ : Resource). Ok (opened_file m.next options, with_new_entry m p (new_file [] now)))
+          (λ x h. ok m map_of (opened_file m.next options, with_new_entry m p (new_file [] now)) (by_added m p (new_file [] now) x e h (λ _ _. refl))))
+          (λ _. first m map_of (find m p) (λ (r : Resource). Ok (opened_file r.number options, m)) (λ x h. ok m map_of (opened_file x.number options, m) (itself m)))
 
   pub patch_grows : (p : Path) (patch : List (Bool × Property)) → Grown m map_of (patch_props m p patch)
-  patch_grows p patch = first m map_of (find m p) (λ (r : Resource). Ok (patch_answers patch, changed m p r (record r.node { props = patched r.node.props patch })))
-      (λ r h. ok m map_of (patch_answers patch, changed m p r (record r.node { props = patched r.node.props patch })) (by_changed m p r (record r.node { props = patched r.node.props patch }) (found_there m p r h) (λ folder. folder) (λ is_map. is_map.bare p r (found_there m p r h))))
+  patch_grows p patch = first m map_of (find m p) (λ (r : Resource). Ok (patch_answers patch, with_other_node m p r (record r.node { props = patched_properties r.node.props patch })))
+      (λ r h. ok m map_of (patch_answers patch, with_other_node m p r (record r.node { props = patched_properties r.node.props patch })) (by_changed m p r (record r.node { props = patched_properties r.node.props patch }) (found_there m p r h) (λ folder. folder) (λ is_map. is_map.bare p r (found_there m p r h))))
 
   pub write_at_grows : (p : Path) (at : Option ℕ) (new : List ℕ) → Grown m map_of (write_at m p at new)
   write_at_grows p at new =
       first m map_of (find m p) (λ (r : Resource). only_file r >>= written) (λ r h. first m map_of (only_file r) written
-      (λ x e. chosen m map_of (fits x) (Ok (tt, changed m p x (node x))) (Err TooLarge)
-      (ok m map_of (tt, changed m p x (node x)) (by_file m p r x (node x) (found_there m p r h) e (λ _. file_bare (node x) (only_file_is r x e).1)))
+      (λ x e. chosen m map_of (fits x) (Ok (tt, with_other_node m p x (node x))) (Err TooLarge)
+      (ok m map_of (tt, with_other_node m p x (node x)) (by_file m p r x (node x) (found_there m p r h) e (λ _. file_bare (node x) (only_file_is r x e).1)))
       (λ _. err m map_of TooLarge)))
     where
       start : Resource → ℕ
@@ -285,20 +285,20 @@ module _ (m : ResourceMap) where
       fits r = nat_lt (start r + length new) (2 ^ 64)
 
       node : Resource → Node
-      node r = record r.node { bytes = overwritten r.node.bytes (start r) new }
+      node r = record r.node { bytes = overwritten_at r.node.bytes (start r) new }
 
       written : Resource → Outcome (Unit {0})
-      written r = if fits r then Ok (tt, changed m p r (node r)) else Err TooLarge
+      written r = if fits r then Ok (tt, with_other_node m p r (node r)) else Err TooLarge
 
   abbrev file_map : Unit {0} × (OpenFile × ResourceMap) → ResourceMap
   file_map x = x.1.1
 
   abbrev written : OpenFile → List ℕ → Path × Resource → Node
-  written f bytes e = record e.1.node { bytes = overwritten e.1.node.bytes (start_of_write f e.1.node.bytes) bytes }
+  written f bytes e = record e.1.node { bytes = overwritten_at e.1.node.bytes (start_of_write f e.1.node.bytes) bytes }
 
   abbrev after : OpenFile → List ℕ → Path × Resource → OpenFile × ResourceMap
   after f bytes e =
-      (record f { position = start_of_write f e.1.node.bytes + length bytes }, changed m e.0 e.1 (written f bytes e))
+      (record f { position = start_of_write f e.1.node.bytes + length bytes }, with_other_node m e.0 e.1 (written f bytes e))
 
   pub write_grows : (f : OpenFile) (bytes : List ℕ) → Grown m file_map (write_bytes m f bytes)
   write_grows f bytes = first m file_map (open_file m f) (λ (e : Path × Resource). if nat_lt (start_of_write f e.1.node.bytes + length bytes) (2 ^ 64) then Ok (tt {0}, after f bytes e) else Err TooLarge)

@@ -12,36 +12,36 @@ use Rattle.dav_files_core.specs.declared.memfs.Kind.{Kind}
 use Rattle.dav_files_core.specs.declared.memfs.Kind.TheVariants.{Folder, File}
 use Rattle.dav_files_core.specs.Resources.{Node, Property, Resource, ResourceMap, at_path}
 use Rattle.dav_files_core.specs.Finding.{find, has_members, place}
-use Rattle.dav_files_core.specs.Outcomes.{Outcome, ◌>>=◌, only_file, find_folder, added, changed, touched, touched_at, without, new_file, new_folder}
-use Rattle.dav_files_core.specs.Parts.{write_at}
-use Rattle.dav_files_core.specs.Putting.{put, put_at}
-use Rattle.dav_files_core.specs.Copying.{copy, copy_to}
+use Rattle.dav_files_core.specs.Outcomes.{Outcome, ◌>>=◌, only_file, find_folder, with_new_entry, with_other_node, with_modified_time, touched_at, without, new_file, new_folder}
+use Rattle.dav_files_core.specs.ContentParts.{write_at}
+use Rattle.dav_files_core.specs.ResourcePutting.{put, put_at}
+use Rattle.dav_files_core.specs.ResourceCopying.{copy, copy_to}
 use Rattle.dav_files_core.specs.Folders.{is_root, create_dir, remove}
-use Rattle.dav_files_core.specs.Moved.{moved}
-use Rattle.dav_files_core.specs.OpenFiles.{overwritten}
-use Rattle.dav_files_core.specs.Properties.{patch_answers, patched, patch_props}
-use Rattle.dav_files_core.specs.Renaming.{put_elsewhere, relocated, rename}
+use Rattle.dav_files_core.specs.Moved.{moved_map}
+use Rattle.dav_files_core.specs.OpenFiles.{overwritten_at}
+use Rattle.dav_files_core.specs.Properties.{patch_answers, patched_properties, patch_props}
+use Rattle.dav_files_core.specs.Renaming.{put_elsewhere, relocated_map, rename}
 use Rattle.dav_files_core.proofs.listings.MemberLemmas.{same_place}
 use Rattle.dav_files_core.proofs.walks.FoundLemmas.{found_there, parent-snoc}
 use Rattle.dav_files_core.proofs.moves.MovedLemmas.{moved_other}
 
 module _ (m : ResourceMap) (q : Path) (p : Path) (apart : ¬ (p ≡ q)) where
   -- another node of an entry changes no other place
-  changed_places : (r : Resource) (node : Node) → at_path m q ≡ Some r → place (changed m q r node) p ≡ place m p
-  changed_places r node here = same_place m (changed m q r node) p (get_other path_total path_exact m.entries q entry p apart) (λ s. below s (dec path_total path_exact (p ++ (s ∷ [])) q))
+  changed_places : (r : Resource) (node : Node) → at_path m q ≡ Some r → place (with_other_node m q r node) p ≡ place m p
+  changed_places r node here = same_place m (with_other_node m q r node) p (get_other path_total path_exact m.entries q entry p apart) (λ s. below s (dec path_total path_exact (p ++ (s ∷ [])) q))
     where
       entry : Resource
       entry = record { number = r.number; node = node }
 
-      below : (s : Segment) → ((p ++ (s ∷ [])) ≡ q) ⊎ ¬ ((p ++ (s ∷ [])) ≡ q) → is_some (at_path (changed m q r node) (p ++ (s ∷ []))) ≡ is_some (at_path m (p ++ (s ∷ [])))
+      below : (s : Segment) → ((p ++ (s ∷ [])) ≡ q) ⊎ ¬ ((p ++ (s ∷ [])) ≡ q) → is_some (at_path (with_other_node m q r node) (p ++ (s ∷ []))) ≡ is_some (at_path m (p ++ (s ∷ [])))
       below s (inl same) =
-          ap (λ x. is_some (at_path (changed m q r node) x)) same ∙ ap is_some (get_same path_total path_exact m.entries q entry)
+          ap (λ x. is_some (at_path (with_other_node m q r node) x)) same ∙ ap is_some (get_same path_total path_exact m.entries q entry)
           ∙ sym (ap (λ x. is_some (at_path m x)) same ∙ ap is_some here)
       below s (inr other) = ap is_some (get_other path_total path_exact m.entries q entry (p ++ (s ∷ [])) other)
 
   -- a new entry changes the place of its parent, too
-  added_places : (node : Node) → ¬ (p ≡ parent q) → place (added m q node) p ≡ place m p
-  added_places node above = same_place m (added m q node) p (get_other path_total path_exact m.entries q entry p apart) (λ s. ap is_some (get_other path_total path_exact m.entries q entry (p ++ (s ∷ [])) (other s)))
+  added_places : (node : Node) → ¬ (p ≡ parent q) → place (with_new_entry m q node) p ≡ place m p
+  added_places node above = same_place m (with_new_entry m q node) p (get_other path_total path_exact m.entries q entry p apart) (λ s. ap is_some (get_other path_total path_exact m.entries q entry (p ++ (s ∷ [])) (other s)))
     where
       entry : Resource
       entry = record { number = m.next; node = node }
@@ -55,7 +55,7 @@ module _ (m : ResourceMap) (q : Path) (p : Path) (apart : ¬ (p ≡ q)) where
       other : (s : Segment) → ¬ ((p ++ (s ∷ [])) ≡ q)
       other s same = above (sym (parent-snoc p s) ∙ ap parent same)
 
-  touched_places : (now : ℕ) → place (touched m q now) p ≡ place m p
+  touched_places : (now : ℕ) → place (with_modified_time m q now) p ≡ place m p
   touched_places now = by (at_path m q) refl
     where
       by : (o : Option Resource) → at_path m q ≡ o → place (touched_at m q now o) p ≡ place m p
@@ -101,10 +101,10 @@ put_places m m' q bytes now h p apart above = by (at_path m q) refl
     by : (o : Option Resource) → at_path m q ≡ o → place m' p ≡ place m p
     by (Some r) e =
         let node : Resource → Node = λ r. record r.node { bytes = bytes; modified = now } in
-        let left = left_by_file r (λ r. changed m q r (node r)) m' (sym (ap (put_at m q bytes now) e) ∙ h) in
+        let left = left_by_file r (λ r. with_other_node m q r (node r)) m' (sym (ap (put_at m q bytes now) e) ∙ h) in
         ap (λ m. place m p) left ∙ changed_places m q p apart r (node r) e
     by None e =
-        let left = left_by_folder m (find_folder m (parent q)) (added m q (new_file bytes now)) m' (sym (ap (put_at m q bytes now) e) ∙ h) in
+        let left = left_by_folder m (find_folder m (parent q)) (with_new_entry m q (new_file bytes now)) m' (sym (ap (put_at m q bytes now) e) ∙ h) in
         ap (λ m. place m p) left ∙ added_places m q p apart (new_file bytes now) (above (ap is_some e))
 
 -- the same of a copy, for its target
@@ -115,25 +115,25 @@ copy_places m m' from to now h p apart above =
     by (record source.0.node { created = now }) (at_path m to) refl source.2
   where
     by : (node : Node) (o : Option Resource) → at_path m to ≡ o → copy_to m to node o ≡ done m' → place m' p ≡ place m p
-    by node (Some r) e h = ap (λ m. place m p) (left_by_file r (λ r. changed m to r node) m' h) ∙ changed_places m to p apart r node e
+    by node (Some r) e h = ap (λ m. place m p) (left_by_file r (λ r. with_other_node m to r node) m' h) ∙ changed_places m to p apart r node e
     by node None e h =
-        ap (λ m. place m p) (left_by_folder m (find_folder m (parent to)) (added m to node) m' h) ∙ added_places m to p apart node (above (ap is_some e))
+        ap (λ m. place m p) (left_by_folder m (find_folder m (parent to)) (with_new_entry m to node) m' h) ∙ added_places m to p apart node (above (ap is_some e))
 
 -- where a folder is made, or an entry removed, each place stays but for those of the path and of its parent
 pub create_dir_places : (m m' : ResourceMap) (q : Path) (now : ℕ) → create_dir m q now ≡ done m'
     → (p : Path) → ¬ (p ≡ q) → ¬ (p ≡ parent q) → place m' p ≡ place m p
 create_dir_places m m' q now h p apart above =
-    let new : ResourceMap = added m q (new_folder now) in
-    let folder = bound (find_folder m (parent q)) (λ _. if is_some (at_path m q) then Err Exists else done (touched new (parent q) now)) (tt, m') h in
-    let left = left_by (touched new (parent q) now) m' (allowed (is_some (at_path m q)) Exists (done (touched new (parent q) now)) (tt, m') folder.2) in
+    let new : ResourceMap = with_new_entry m q (new_folder now) in
+    let folder = bound (find_folder m (parent q)) (λ _. if is_some (at_path m q) then Err Exists else done (with_modified_time new (parent q) now)) (tt, m') h in
+    let left = left_by (with_modified_time new (parent q) now) m' (allowed (is_some (at_path m q)) Exists (done (with_modified_time new (parent q) now)) (tt, m') folder.2) in
     ap (λ m. place m p) left ∙ touched_places new (parent q) p above now ∙ added_places m q p apart (new_folder now) above
 
 pub remove_places : (m m' : ResourceMap) (q : Path) (now : ℕ) → remove m q now ≡ done m'
     → (p : Path) → ¬ (p ≡ q) → ¬ (p ≡ parent q) → place m' p ≡ place m p
 remove_places m m' q now h p apart above =
     let new : ResourceMap = without m q in
-    let found = bound (find m q) (λ _. if is_root q || has_members m q then Err Forbidden else done (touched new (parent q) now)) (tt, m') h in
-    let left = left_by (touched new (parent q) now) m' (allowed (is_root q || has_members m q) Forbidden (done (touched new (parent q) now)) (tt, m') found.2) in
+    let found = bound (find m q) (λ _. if is_root q || has_members m q then Err Forbidden else done (with_modified_time new (parent q) now)) (tt, m') h in
+    let left = left_by (with_modified_time new (parent q) now) m' (allowed (is_root q || has_members m q) Forbidden (done (with_modified_time new (parent q) now)) (tt, m') found.2) in
     ap (λ m. place m p) left ∙ touched_places new (parent q) p above now ∙ without_places m q p apart above
 
 -- where something is written, or properties are patched, each other place stays
@@ -147,25 +147,25 @@ write_places m m' q at new h p apart =
     start r = unwrap_or at (length r.node.bytes)
 
     node : Resource → Node
-    node r = record r.node { bytes = overwritten r.node.bytes (start r) new }
+    node r = record r.node { bytes = overwritten_at r.node.bytes (start r) new }
 
     written : Resource → Outcome (Unit {0})
-    written r = if nat_lt (start r + length new) (2 ^ 64) then done (changed m q r (node r)) else Err TooLarge
+    written r = if nat_lt (start r + length new) (2 ^ 64) then done (with_other_node m q r (node r)) else Err TooLarge
 
-    by : (r : Resource) (k : Kind) → (elim k [ Folder ↦ Err Forbidden | File ↦ Ok r ] >>= written) ≡ done m' → m' ≡ changed m q r (node r)
+    by : (r : Resource) (k : Kind) → (elim k [ Folder ↦ Err Forbidden | File ↦ Ok r ] >>= written) ≡ done m' → m' ≡ with_other_node m q r (node r)
     by r Folder h = absurd (cc)
-    by r File h = left_by (changed m q r (node r)) m' (fitting (nat_lt (start r + length new) (2 ^ 64)) TooLarge (done (changed m q r (node r))) (tt, m') h)
+    by r File h = left_by (with_other_node m q r (node r)) m' (fitting (nat_lt (start r + length new) (2 ^ 64)) TooLarge (done (with_other_node m q r (node r))) (tt, m') h)
 
 pub patch_places : (m m' : ResourceMap) (q : Path) (patch : List (Bool × Property)) (answers : List (ℕ × Property)) → patch_props m q patch ≡ Ok (answers, m')
     → (p : Path) → ¬ (p ≡ q) → place m' p ≡ place m p
 patch_places m m' q patch answers h p apart =
-    let found = bound (find m q) (λ r. Ok (patch_answers patch, changed m q r (node r))) (answers, m') h in
+    let found = bound (find m q) (λ r. Ok (patch_answers patch, with_other_node m q r (node r))) (answers, m') h in
     let r : Resource = found.0 in
-    let pairs : (patch_answers patch, changed m q r (node r)) ≡ (answers, m') = ok_same (found.2) in
+    let pairs : (patch_answers patch, with_other_node m q r (node r)) ≡ (answers, m') = ok_same (found.2) in
     ap (λ m. place m p) (ap (λ (x : List (ℕ × Property) × ResourceMap). x.1) (sym pairs)) ∙ changed_places m q p apart r (node r) (found_there m q r found.1)
   where
     node : Resource → Node
-    node r = record r.node { props = patched r.node.props patch }
+    node r = record r.node { props = patched_properties r.node.props patch }
 
     ok_same : {x y : List (ℕ × Property) × ResourceMap} → ◌≡◌ {A = Outcome (List (ℕ × Property))} (Ok x) (Ok y) → x ≡ y
     ok_same h = cc
@@ -197,21 +197,21 @@ nothing_behind f p h = by (behind f p) h
     by (Some s) h = absurd (cc)
 
 moved_places : (m : ResourceMap) (from to p : Path) → is_front from p ≡ false → is_front to p ≡ false → ¬ (p ≡ parent from) → ¬ (p ≡ parent to)
-    → place (moved m from to) p ≡ place m p
-moved_places m from to p f t above_from above_to = same_place m (moved m from to) p (other p f t)
+    → place (moved_map m from to) p ≡ place m p
+moved_places m from to p f t above_from above_to = same_place m (moved_map m from to) p (other p f t)
     (λ s. ap is_some (other (p ++ (s ∷ [])) (apart_below from p s f above_from) (apart_below to p s t above_to)))
   where
-    other : (q : Path) → is_front from q ≡ false → is_front to q ≡ false → at_path (moved m from to) q ≡ at_path m q
+    other : (q : Path) → is_front from q ≡ false → is_front to q ≡ false → at_path (moved_map m from to) q ≡ at_path m q
     other q f t = moved_other m from to q (nothing_behind from q f) (nothing_behind to q t)
 
 -- an entry put elsewhere is moved, or stands where it stood
-relocated_left : (m : ResourceMap) (from to : Path) (n : ResourceMap) → relocated m from to ≡ Ok n → (n ≡ m) ⊎ (n ≡ moved m from to)
+relocated_left : (m : ResourceMap) (from to : Path) (n : ResourceMap) → relocated_map m from to ≡ Ok n → (n ≡ m) ⊎ (n ≡ moved_map m from to)
 relocated_left m from to n h =
     let open_target = allowed (is_root to) (if is_root from then Forbidden else Exists) _ n h in
     let bare_target = allowed (has_members m to) Exists _ n open_target in
     by (behind from to) (allowed (is_root from) Forbidden (put_elsewhere m from to (behind from to)) n bare_target)
   where
-    by : (o : Option Path) → put_elsewhere m from to o ≡ Ok n → (n ≡ m) ⊎ (n ≡ moved m from to)
+    by : (o : Option Path) → put_elsewhere m from to o ≡ Ok n → (n ≡ m) ⊎ (n ≡ moved_map m from to)
     by None h = inr (cc)
     by (Some []) h = inl (cc)
     by (Some (s ∷ p)) h = absurd (cc)
@@ -220,13 +220,13 @@ relocated_left m from to n h =
 pub rename_places : (m m' : ResourceMap) (from to : Path) (now : ℕ) → rename m from to now ≡ done m'
     → (p : Path) → is_front from p ≡ false → is_front to p ≡ false → ¬ (p ≡ parent from) → ¬ (p ≡ parent to) → place m' p ≡ place m p
 rename_places m m' from to now h p f t above_from above_to =
-    let last : ResourceMap → ResourceMap = λ n. touched (touched n (parent from) now) (parent to) now in
-    let source = bound (find m from) (λ _. find_folder m (parent to) >>= λ _. relocated m from to >>= λ m. done (touched (touched m (parent from) now) (parent to) now)) (tt, m') h in
-    let folder = bound (find_folder m (parent to)) (λ _. relocated m from to >>= λ m. done (touched (touched m (parent from) now) (parent to) now)) (tt, m') source.2 in
-    let put = bound (relocated m from to) (λ m. done (touched (touched m (parent from) now) (parent to) now)) (tt, m') folder.2 in
+    let last : ResourceMap → ResourceMap = λ n. with_modified_time (with_modified_time n (parent from) now) (parent to) now in
+    let source = bound (find m from) (λ _. find_folder m (parent to) >>= λ _. relocated_map m from to >>= λ m. done (with_modified_time (with_modified_time m (parent from) now) (parent to) now)) (tt, m') h in
+    let folder = bound (find_folder m (parent to)) (λ _. relocated_map m from to >>= λ m. done (with_modified_time (with_modified_time m (parent from) now) (parent to) now)) (tt, m') source.2 in
+    let put = bound (relocated_map m from to) (λ m. done (with_modified_time (with_modified_time m (parent from) now) (parent to) now)) (tt, m') folder.2 in
     let n : ResourceMap = put.0 in
     ap (λ m. place m p) (left_by (last n) m' put.2)
-    ∙ touched_places (touched n (parent from) now) (parent to) p above_to now ∙ touched_places n (parent from) p above_from now
+    ∙ touched_places (with_modified_time n (parent from) now) (parent to) p above_to now ∙ touched_places n (parent from) p above_from now
     ∙ elim (relocated_left m from to n put.1) [
       | inl same ↦ ap (λ m. place m p) same
       | inr new ↦ ap (λ m. place m p) new ∙ moved_places m from to p f t above_from above_to

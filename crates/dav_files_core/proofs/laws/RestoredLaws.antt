@@ -19,11 +19,11 @@ use Rattle.dav_path_core.proofs.lists.SameMembers.{In-map, In-there}
 use Rattle.dav_files_core.specs.declared.memfs.Kind.{Kind}
 use Rattle.dav_files_core.specs.declared.memfs.Kind.TheVariants.{Folder, File}
 use Rattle.dav_files_core.specs.Finding.{has_any}
-use Rattle.dav_files_core.specs.Outcomes.{Outcome, ◌>>=◌, changed, find_folder, only_folder, start, new_folder}
+use Rattle.dav_files_core.specs.Outcomes.{Outcome, ◌>>=◌, with_other_node, find_folder, only_folder, start, new_folder}
 use Rattle.dav_files_core.specs.OpenFiles.{with_number}
 use Rattle.dav_files_core.specs.Resources.{is_folder, Resource, ResourceMap, at_path, IsResourceMap}
-use Rattle.dav_files_core.specs.Restoring.{can_stand, restore, restore_all, restore_at, restored, IsRestoredFrom}
-use Rattle.dav_files_core.specs.Walks.{Stored, entry_of, StandsBehind, IsWalk}
+use Rattle.dav_files_core.specs.Restoring.{can_stand, restore, restore_all, restore_at, with_restored_entry, IsRestoredFrom}
+use Rattle.dav_files_core.specs.Walks.{Stored, stored_entry, StandsBehind, IsMapWalk}
 use Rattle.dav_files_core.proofs.changes.AddedLemmas.{IsResourceMap-added_as, added_as_kept, added_as_cases}
 use Rattle.dav_files_core.proofs.changes.ChangedLemmas.{IsResourceMap-changed, changed_cases}
 use Rattle.dav_files_core.proofs.opens.NumberedLemmas.{number_gone}
@@ -78,7 +78,7 @@ module _ (m : ResourceMap) (is_map : IsResourceMap m) (given : m.next ≤ 184467
     place = f ++ name ∷ []
 
     abbrev n' : ResourceMap
-    n' = restored n place r
+    n' = with_restored_entry n place r
 
     found : find_folder n (parent place) ≡ Ok folder
     found = ap (find_folder n) (parent-snoc f name) ∙ ap (λ o. o >>= only_folder) (find_there n f folder in_front) ∙ kind folder.node.kind refl
@@ -126,7 +126,7 @@ module _ (m : ResourceMap) (is_map : IsResourceMap m) (given : m.next ≤ 184467
     old_root = record { number = 1; node = new_folder now }
 
     abbrev n1 : ResourceMap
-    n1 = changed (start now) [] old_root r.node
+    n1 = with_other_node (start now) [] old_root r.node
 
     is_root : r ≡ is_map.root.0
     is_root = one_some (at_path m []) r is_map.root.0 here is_map.root.1
@@ -163,9 +163,9 @@ module _ (m : ResourceMap) (is_map : IsResourceMap m) (given : m.next ≤ 184467
     }
 
   -- ---- one entry after another
-  module _ (ss : List Stored) (walk : IsWalk m ss) where
+  module _ (ss : List Stored) (walk : IsMapWalk m ss) where
     abbrev es : List (Path × Resource)
-    es = map entry_of ss
+    es = map stored_entry ss
 
     in_map : (p : Path) (r : Resource) → In (p, r) es → at_path m p ≡ Some r
     in_map p r i =
@@ -179,28 +179,28 @@ module _ (m : ResourceMap) (is_map : IsResourceMap m) (given : m.next ≤ 184467
     once : IsDistinct same_path es
     once = IsDistinct-IsPermutation same_path (λ a b. (eq_by_cmp_equiv path_total).symm a.0 b.0) (entries m.entries) es walk.all (distinct_entries path_total m.entries)
 
-    module _ (front rest : List Stored) (s : Stored) (split : ss ≡ front ++ s ∷ rest) (n : ResourceMap) (at : At m (map entry_of front) n) where
+    module _ (front rest : List Stored) (s : Stored) (split : ss ≡ front ++ s ∷ rest) (n : ResourceMap) (at : At m (map stored_entry front) n) where
       abbrev before : List (Path × Resource)
-      before = map entry_of front
+      before = map stored_entry front
 
       abbrev r : Resource
       r = s.resource
 
-      split_es : es ≡ before ++ (s.path, r) ∷ map entry_of rest
-      split_es = ap (map entry_of) split ∙ map-append entry_of front (s ∷ rest)
+      split_es : es ≡ before ++ (s.path, r) ∷ map stored_entry rest
+      split_es = ap (map stored_entry) split ∙ map-append stored_entry front (s ∷ rest)
 
       here : at_path m s.path ≡ Some r
-      here = in_map s.path r (subst (In (s.path, r)) (sym split_es) (In-there before (s.path, r) (map entry_of rest)))
+      here = in_map s.path r (subst (In (s.path, r)) (sym split_es) (In-there before (s.path, r) (map stored_entry rest)))
 
       in_m : (p : Path) (x : Resource) → at_path n p ≡ Some x → at_path m p ≡ Some x
-      in_m p x h = in_map p x (subst (In (p, x)) (sym split_es) (In-front before ((s.path, r) ∷ map entry_of rest) (p, x) (at.only p x h)))
+      in_m p x h = in_map p x (subst (In (p, x)) (sym split_es) (In-front before ((s.path, r) ∷ map stored_entry rest) (p, x) (at.only p x h)))
 
       none : at_path n s.path ≡ None
       none = by (at_path n s.path) refl
         where
           by : (o : Option Resource) → at_path n s.path ≡ o → o ≡ None
           by None e = refl
-          by (Some x) e = absurd (not_again before (map entry_of rest) s.path r x (subst (IsDistinct same_path) split_es once) (at.only s.path x e))
+          by (Some x) e = absurd (not_again before (map stored_entry rest) s.path r x (subst (IsDistinct same_path) split_es once) (at.only s.path x e))
 
       unused : (q : Path) (x : Resource) → at_path n q ≡ Some x → ¬ (x.number ≡ r.number)
       unused q x h e = none_some (at_path n s.path) x none (ap (at_path n) (sym (is_map.apart q s.path x r (in_m q x h) here e)) ∙ h)
@@ -214,13 +214,13 @@ module _ (m : ResourceMap) (is_map : IsResourceMap m) (given : m.next ≤ 184467
           let f : Stored = b.0 in
           let name : Segment = b.1 in
           let is : s.path ≡ f.path ++ name ∷ [] = b.4 in
-          let in_front : at_path n f.path ≡ Some f.resource = at.has f.path f.resource (In-map entry_of front f (In-Contains front f b.2)) in
+          let in_front : at_path n f.path ≡ Some f.resource = at.has f.path f.resource (In-map stored_entry front f (In-Contains front f b.2)) in
           let there : at_path m (f.path ++ name ∷ []) ≡ Some r = ap (at_path m) (sym is) ∙ here in
           let parent = is_map.parents f.path name r there in
           let folder : f.resource.node.kind ≡ Folder = ap (λ (r : Resource). r.node.kind) (one_some (at_path m f.path) f.resource parent.0 (in_m f.path f.resource in_front) parent.1) ∙ parent.2 in
           let free : at_path n (f.path ++ name ∷ []) ≡ None = ap (at_path n) (sym is) ∙ none in
           subst Goes (sym is) (
-            restored n (f.path ++ name ∷ []) r,
+            with_restored_entry n (f.path ++ name ∷ []) r,
             put_there before n at f.path name f.resource r in_front folder there free unused,
             At-more before n at f.path name f.resource r in_front folder there free unused,
           )
@@ -228,12 +228,12 @@ module _ (m : ResourceMap) (is_map : IsResourceMap m) (given : m.next ≤ 184467
       goes_on : Goes s.path
       goes_on = goes s.folder (walk.behind front rest s split)
 
-    loop : (rest front : List Stored) → ss ≡ front ++ rest → (n : ResourceMap) → At m (map entry_of front) n → (n' : ResourceMap) × (restore_all n (map entry_of rest) ≡ Ok (tt, n')) × At m es n'
-    loop [] front split n at = (n, refl, subst (λ l. At m (map entry_of l) n) (sym (split ∙ append-nil front)) at)
+    loop : (rest front : List Stored) → ss ≡ front ++ rest → (n : ResourceMap) → At m (map stored_entry front) n → (n' : ResourceMap) × (restore_all n (map stored_entry rest) ≡ Ok (tt, n')) × At m es n'
+    loop [] front split n at = (n, refl, subst (λ l. At m (map stored_entry l) n) (sym (split ∙ append-nil front)) at)
     loop (s ∷ rest) front split n at =
         let w = goes_on front rest s split n at in
-        let more = loop rest (front ++ s ∷ []) (split ∙ sym (append_assoc front (s ∷ []) rest)) w.0 (subst (λ l. At m l w.0) (sym (map-append entry_of front (s ∷ []))) w.2) in
-        (more.0, ap (λ o. o >>= λ (r : Unit {0} × ResourceMap). restore_all r.1 (map entry_of rest)) w.1 ∙ more.1, more.2)
+        let more = loop rest (front ++ s ∷ []) (split ∙ sym (append_assoc front (s ∷ []) rest)) w.0 (subst (λ l. At m l w.0) (sym (map-append stored_entry front (s ∷ []))) w.2) in
+        (more.0, ap (λ o. o >>= λ (r : Unit {0} × ResourceMap). restore_all r.1 (map stored_entry rest)) w.1 ∙ more.1, more.2)
 
     same_entries : (n : ResourceMap) → At m es n → n.entries ≡ m.entries
     same_entries n at = same_map path_total path_exact n.entries m.entries agree
@@ -249,16 +249,16 @@ module _ (m : ResourceMap) (is_map : IsResourceMap m) (given : m.next ≤ 184467
         agree : (p : Path) → get n.entries p ≡ get m.entries p
         agree p = there p (at_path m p) refl
 
-    ends : (now : ℕ) (l : List Stored) → ss ≡ l → IsRestoredFrom m (map entry_of l) now
-    ends now [] is = let root = is_map.root in absurd (subst (λ l. In ([], root.0) (map entry_of l)) is (in_list [] root.0 root.1))
+    ends : (now : ℕ) (l : List Stored) → ss ≡ l → IsRestoredFrom m (map stored_entry l) now
+    ends now [] is = let root = is_map.root in absurd (subst (λ l. In ([], root.0) (map stored_entry l)) is (in_list [] root.0 root.1))
     ends now (s ∷ rest) is =
         let top : s.path ≡ [] = first s.folder (walk.behind [] rest s is) in
-        let here : at_path m [] ≡ Some s.resource = ap (at_path m) (sym top) ∙ in_map s.path s.resource (subst (λ l. In (s.path, s.resource) (map entry_of l)) (sym is) (inl refl)) in
-        let at : At m (map entry_of (s ∷ [])) (n1 now s.resource here) = subst (λ p. At m ((p, s.resource) ∷ []) (n1 now s.resource here)) (sym top) (At-root now s.resource here) in
+        let here : at_path m [] ≡ Some s.resource = ap (at_path m) (sym top) ∙ in_map s.path s.resource (subst (λ l. In (s.path, s.resource) (map stored_entry l)) (sym is) (inl refl)) in
+        let at : At m (map stored_entry (s ∷ [])) (n1 now s.resource here) = subst (λ p. At m ((p, s.resource) ∷ []) (n1 now s.resource here)) (sym top) (At-root now s.resource here) in
         let done = loop rest (s ∷ []) is (n1 now s.resource here) at in (
           done.0,
-          ap (λ p. restore (start now) p s.resource >>= λ (r : Unit {0} × ResourceMap). restore_all r.1 (map entry_of rest)) top
-              ∙ ap (λ o. o >>= λ (r : Unit {0} × ResourceMap). restore_all r.1 (map entry_of rest)) (root_restored now s.resource here)
+          ap (λ p. restore (start now) p s.resource >>= λ (r : Unit {0} × ResourceMap). restore_all r.1 (map stored_entry rest)) top
+              ∙ ap (λ o. o >>= λ (r : Unit {0} × ResourceMap). restore_all r.1 (map stored_entry rest)) (root_restored now s.resource here)
               ∙ done.1,
           (λ i. record { entries = same_entries done.0 done.2 i; next = top_next done.0 done.2 i }),
         )
@@ -270,5 +270,5 @@ module _ (m : ResourceMap) (is_map : IsResourceMap m) (given : m.next ≤ 184467
         top_next : (n : ResourceMap) → At m es n → max n.next m.next ≡ m.next
         top_next n at = let up = at.next in omega (arith, up)
 
-  pub restored_from_walk : (ss : List Stored) (walk : IsWalk m ss) (now : ℕ) → IsRestoredFrom m (map entry_of ss) now
+  pub restored_from_walk : (ss : List Stored) (walk : IsMapWalk m ss) (now : ℕ) → IsRestoredFrom m (map stored_entry ss) now
   restored_from_walk ss walk now = ends ss walk now ss refl

@@ -13,9 +13,9 @@ use Rattle.std.proofs.lemmas.Bool.{true≢false, false≢true, cases_eq, eq-eqb,
 use Rattle.std.proofs.lemmas.List.Elements.{All-head, All-tail}
 use Rattle.std.proofs.lemmas.List.Sorted.{All-permutation, Contains-permutation, IsPermutation-map}
 use Rattle.std.proofs.lemmas.Map.Keys.{IsDistinct-IsPermutation}
-use Rattle.dav_path_core.specs.Children.{ListsChildren, IsNamed}
+use Rattle.dav_path_core.specs.Children.{ListsChildren, IsChildNamed}
 use Rattle.dav_path_core.specs.Fronts.{Segment, Path, segment_cmp}
-use Rattle.dav_path_core.specs.Keyed.{parent as parent_number, parent_and_key_of}
+use Rattle.dav_path_core.specs.Keyed.{parent_number, parent_and_key_of}
 use Rattle.dav_path_core.specs.TreeValue.{TreeValue}
 use Rattle.dav_path_core.proofs.children.Chains.{in_here, none_twice, later_distinct}
 use Rattle.dav_path_core.proofs.lists.Every.{Every, first_so, second_so}
@@ -23,8 +23,8 @@ use Rattle.dav_path_core.proofs.lists.FinMaps.{none_some, one_some, dec, test_fa
 use Rattle.dav_path_core.proofs.lists.Orders.{segment_total, segment_exact, eq_by_cmp_same}
 use Rattle.dav_path_core.proofs.lists.Snoc.{snoc_last}
 use Rattle.dav_files_core.specs.Finding.{members}
-use Rattle.dav_files_core.specs.Private.Listed.{numbered}
-use Rattle.dav_files_core.specs.Private.Represents.{FileEntry, Represents}
+use Rattle.dav_files_core.specs.Private.Listed.{numbered_member}
+use Rattle.dav_files_core.specs.Private.FileRepresents.{FileEntry, Represents}
 use Rattle.dav_files_core.specs.Private.TreeCalls.{IsMember}
 use Rattle.dav_files_core.specs.Resources.{Node, Resource, ResourceMap, at_path}
 use Rattle.dav_files_core.proofs.listings.MemberLemmas.{get-members}
@@ -75,20 +75,20 @@ in_pairs n (e ∷ ps) h = elim (or_cases (eqb n e.1) (list_any (eqb n) (map (λ 
 ]
 
 -- ---- the members by number
-numbered_find : (q : Segment) (es : List (Segment × Resource)) → find segment_cmp q (map numbered es) ≡ option_map (λ (r : Resource). r.number) (find segment_cmp q es)
+numbered_find : (q : Segment) (es : List (Segment × Resource)) → find segment_cmp q (map numbered_member es) ≡ option_map (λ (r : Resource). r.number) (find segment_cmp q es)
 numbered_find q [] = refl
-numbered_find q (e ∷ es) = elim (eq_by_cmp segment_cmp q e.0) as (λ b. cond b (Some e.1.number) (find segment_cmp q (map numbered es)) ≡ option_map (λ (r : Resource). r.number) (cond b (Some e.1) (find segment_cmp q es))) [
+numbered_find q (e ∷ es) = elim (eq_by_cmp segment_cmp q e.0) as (λ b. cond b (Some e.1.number) (find segment_cmp q (map numbered_member es)) ≡ option_map (λ (r : Resource). r.number) (cond b (Some e.1) (find segment_cmp q es))) [
   | true ↦ refl
   | false ↦ numbered_find q es
 ]
 
-numbered_below : (k : Segment) (es : List (Segment × Resource)) → below_all segment_cmp k (map numbered es) ≡ below_all segment_cmp k es
+numbered_below : (k : Segment) (es : List (Segment × Resource)) → below_all segment_cmp k (map numbered_member es) ≡ below_all segment_cmp k es
 numbered_below k [] = refl
 numbered_below k (e ∷ es) = ap (λ b. is_lt (segment_cmp k e.0) && b) (numbered_below k es)
 
-numbered_sorted : (es : List (Segment × Resource)) → is_sorted segment_cmp (map numbered es) ≡ is_sorted segment_cmp es
+numbered_sorted : (es : List (Segment × Resource)) → is_sorted segment_cmp (map numbered_member es) ≡ is_sorted segment_cmp es
 numbered_sorted [] = refl
-numbered_sorted (e ∷ es) = ap (λ b. b && is_sorted segment_cmp (map numbered es)) (numbered_below e.0 es) ∙ ap (λ b. below_all segment_cmp e.0 es && b) (numbered_sorted es)
+numbered_sorted (e ∷ es) = ap (λ b. b && is_sorted segment_cmp (map numbered_member es)) (numbered_below e.0 es) ∙ ap (λ b. below_all segment_cmp e.0 es && b) (numbered_sorted es)
 
 -- ---- strictly rising names
 below_on : (x y : Segment) (ps : List Pair) → segment_cmp x y ≡ Less → T (below_all segment_cmp y ps) → T (below_all segment_cmp x ps)
@@ -144,7 +144,7 @@ eqb_flip x y = elim (cases_eq x y) [ inl e ↦ eq-eqb x y e ∙ sym (eq-eqb y x 
 module _ (t : TreeValue Segment Node) (m : ResourceMap) (rep : Represents t.keyed m) (p : Path) (r : Resource) (here : at_path m p ≡ Some r) (id : ℕ) (number : r.number ≡ id)
     (children : List Pair) (lists : ListsChildren (pointwise nat_eq) t id children)
     (pairs : List Pair) (moved : IsPermutation children pairs) (up : IsSortedBy (λ x y. is_lt (pair_cmp x y)) pairs) where
-  named_one : (e : Pair) → IsNamed (pointwise nat_eq) t id e → Named m p e
+  named_one : (e : Pair) → IsChildNamed (pointwise nat_eq) t id e → Named m p e
   named_one e h =
       let key : h.0 ≡ e.0 = (bytes_decides h.0 e.0).0 h.2 in
       child_entry t.keyed m rep p r here id number e.0 e.1 (subst (λ k. IsMember t.keyed id k e.1) key (stands t.keyed e.1 id h.0 h.1))
@@ -160,7 +160,7 @@ module _ (t : TreeValue Segment Node) (m : ResourceMap) (rep : Represents t.keye
       let above : parent_number t.keyed x.number ≡ Some id = subst (λ n. parent_number t.keyed x.number ≡ Some n) number up in
       let e = in_pairs x.number children ((lists.listed.members x.number).1 above) in
       let inside = Contains-permutation children pairs e.0 moved e.1 in
-      let at = named_one e.0 (subst (IsNamed (pointwise nat_eq) t id) e.1.2 (lists.named e.1.0 e.0 e.1.1)) in
+      let at = named_one e.0 (subst (IsChildNamed (pointwise nat_eq) t id) e.1.2 (lists.named e.1.0 e.0 e.1.1)) in
       let name : e.0.0 ≡ q = snoc_last p p e.0.0 q (rep.is_map.apart (p ++ (e.0.0 ∷ [])) (p ++ (q ∷ [])) at.0 x at.1 there (at.2 ∙ e.2)) in
       missed pairs q none inside.0 e.0 inside.1 (subst (λ (s : Segment). (get_or pairs inside.0 e.0).0 ≡ s) name (ap (λ (e : Pair). e.0) inside.2))
 
@@ -175,8 +175,8 @@ module _ (t : TreeValue Segment Node) (m : ResourceMap) (rep : Represents t.keye
   apart : IsDistinct eqb (map (λ (e : Pair). e.1) pairs)
   apart = IsDistinct-IsPermutation eqb eqb_flip (map (λ (e : Pair). e.1) children) (map (λ (e : Pair). e.1) pairs) (IsPermutation-map (λ (e : Pair). e.1) children pairs moved) lists.listed.once
 
-  pub are_members : pairs ≡ map numbered (entries (members m p))
-  are_members = same_entries segment_cmp segment_total segment_exact pairs (map numbered (entries (members m p)))
+  pub are_members : pairs ≡ map numbered_member (entries (members m p))
+  are_members = same_entries segment_cmp segment_total segment_exact pairs (map numbered_member (entries (members m p)))
       (strict m p pairs up named apart)
       (subst T (sym (numbered_sorted (entries (members m p)))) (entries_sorted (members m p)))
       (λ q. look q ∙ ap (option_map (λ (r : Resource). r.number)) (sym (get-members m p q) ∙ get-entries (members m p) q) ∙ sym (numbered_find q (entries (members m p))))

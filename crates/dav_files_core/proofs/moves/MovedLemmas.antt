@@ -7,7 +7,7 @@ use Rattle.std.specs.FinMap.{entries, find, get-entries, get-from_entries, same_
 use Rattle.dav_path_core.specs.Fronts.{Path, path_cmp, behind}
 use Rattle.dav_path_core.proofs.lists.FinMaps.{none_some, one_some, dec, test_false, get_left}
 use Rattle.dav_path_core.proofs.lists.Orders.{path_total, path_exact, eq_by_cmp_same}
-use Rattle.dav_files_core.specs.Moved.{path_after, moved_entry, moved}
+use Rattle.dav_files_core.specs.Moved.{path_after, moved_entry, moved_map}
 use Rattle.dav_files_core.specs.Outcomes.{without}
 use Rattle.dav_files_core.specs.Resources.{Resource, ResourceMap, at_path}
 use Rattle.dav_path_core.proofs.paths.FrontLemmas.{behind_append}
@@ -47,7 +47,7 @@ find-moved from to (e ∷ es) q =
               ∙ passed e es (path_after to from q) (λ back. other (one_some (path_after from to e.0) q p (after_back to from q e.0 back) h))
         ]
 
-pub get-moved : (m : ResourceMap) (from to q : Path) → at_path (moved m from to) q ≡ option_and_then (at_path m) (path_after to from q)
+pub get-moved : (m : ResourceMap) (from to q : Path) → at_path (moved_map m from to) q ≡ option_and_then (at_path m) (path_after to from q)
 get-moved m from to q =
     get-from_entries path_total (filter_map (moved_entry from to) (entries m.entries)) q ∙ find-moved from to (entries m.entries) q ∙ back (path_after to from q)
   where
@@ -56,21 +56,21 @@ get-moved m from to q =
     back (Some p) = sym (get-entries m.entries p)
 
 -- behind the target is what was behind the source
-pub moved_to : (m : ResourceMap) (from to s : Path) → at_path (moved m from to) (to ++ s) ≡ at_path m (from ++ s)
+pub moved_to : (m : ResourceMap) (from to s : Path) → at_path (moved_map m from to) (to ++ s) ≡ at_path m (from ++ s)
 moved_to m from to s = get-moved m from to (to ++ s) ∙ ap (option_and_then (at_path m)) (after_from to from s)
 
 -- nothing is at or below the source
-pub moved_from : (m : ResourceMap) (from to s : Path) → behind to (from ++ s) ≡ None → at_path (moved m from to) (from ++ s) ≡ None
+pub moved_from : (m : ResourceMap) (from to s : Path) → behind to (from ++ s) ≡ None → at_path (moved_map m from to) (from ++ s) ≡ None
 moved_from m from to s h = get-moved m from to (from ++ s) ∙ ap (option_and_then (at_path m)) (after_gone to from (from ++ s) s h (behind_append from s))
 
 -- and every other path has what it had
-pub moved_other : (m : ResourceMap) (from to p : Path) → behind from p ≡ None → behind to p ≡ None → at_path (moved m from to) p ≡ at_path m p
+pub moved_other : (m : ResourceMap) (from to p : Path) → behind from p ≡ None → behind to p ≡ None → at_path (moved_map m from to) p ≡ at_path m p
 moved_other m from to p f t = get-moved m from to p ∙ ap (option_and_then (at_path m)) (after_other to from p t f)
 
 -- what stood at the target plays no part
-pub moved-without : (m : ResourceMap) (from to : Path) → behind from to ≡ None → moved (without m to) from to ≡ moved m from to
+pub moved-without : (m : ResourceMap) (from to : Path) → behind from to ≡ None → moved_map (without m to) from to ≡ moved_map m from to
 moved-without m from to h =
-    let same = same_map path_total path_exact (moved (without m to) from to).entries (moved m from to).entries
+    let same = same_map path_total path_exact (moved_map (without m to) from to).entries (moved_map m from to).entries
     (λ q. get-moved (without m to) from to q ∙ by q (path_after to from q) refl ∙ sym (get-moved m from to q)) in
     λ i. record { entries = same i; next = m.next }
   where

@@ -9,8 +9,8 @@ use Rattle.dav_path_core.proofs.lists.FinMaps.{none_some, one_some, get_same, ge
 use Rattle.dav_path_core.proofs.lists.Orders.{path_total, path_exact}
 use Rattle.dav_path_core.proofs.lists.Snoc.{snoc_not_empty, snoc_front}
 use Rattle.dav_files_core.specs.declared.memfs.Kind.TheVariants.{Folder}
-use Rattle.dav_files_core.specs.Moved.{path_after, moved}
-use Rattle.dav_files_core.specs.Private.Represents.{FileEntry, FileTree, PlaceFits, Shown, Represents}
+use Rattle.dav_files_core.specs.Moved.{path_after, moved_map}
+use Rattle.dav_files_core.specs.Private.FileRepresents.{FileEntry, FileTree, PlaceFits, ShowsNode, Represents}
 use Rattle.dav_files_core.specs.Resources.{Resource, ResourceMap, at_path, IsResourceMap}
 use Rattle.dav_path_core.proofs.paths.FrontLemmas.{behind_is, behind_none, none_behind}
 use Rattle.dav_files_core.proofs.paths.FrontLemmas.{after_from, after_other, after_back, after_snoc}
@@ -35,7 +35,7 @@ module _ (m : ResourceMap) (is_map : IsResourceMap m) (from : Path) (r : Resourc
   to = p ++ (name ∷ [])
 
   abbrev m' : ResourceMap
-  m' = moved m from to
+  m' = moved_map m from to
 
   -- nothing is at or below the target
   none_below : (s : Path) (x : Resource) → ¬ (at_path m (to ++ s) ≡ Some x)
@@ -106,7 +106,7 @@ module _ (t : FileTree) (m : ResourceMap) (rep : Represents t m)
   target = p ++ (k ∷ [])
 
   abbrev map : ResourceMap
-  map = moved m from target
+  map = moved_map m from target
 
   abbrev tree : FileTree
   tree = placed_at t r.number q.number k (Some n)
@@ -117,10 +117,10 @@ module _ (t : FileTree) (m : ResourceMap) (rep : Represents t m)
   stay : (b a : Path) (x : Resource) → at_path m b ≡ Some x → path_after from target b ≡ Some a → at_path map a ≡ Some x
   stay = went m rep.is_map from r p q k source not_root folder is_folder free not_below
 
-  source_item : (s : Shown t m from r) → n.item ≡ r.node
+  source_item : (s : ShowsNode t m from r) → n.item ≡ r.node
   source_item s = ap (λ (n : FileEntry). n.item) (one_some (get t.nodes r.number) n s.placed stored s.stored) ∙ s.shown
 
-  new_shown : Shown tree map target r
+  new_shown : ShowsNode tree map target r
   new_shown = record {
     placed = placed;
     stored = get_same nat_cmp_total nat_cmp-IsAntisymmetric t.nodes r.number placed;
@@ -134,7 +134,7 @@ module _ (t : FileTree) (m : ResourceMap) (rep : Represents t m)
       let above = after_snoc from target fits.0 (place.1) a (λ e. other (fits.2 ∙ e)) (ap (path_after from target) (sym fits.2) ∙ goes) in
       (above.0, fits.1, above.2, stay fits.0 above.0 fits.1 fits.3 above.1, fits.4)
 
-  old_shown : (a b : Path) (x : Resource) → ¬ (b ≡ from) → path_after from target b ≡ Some a → at_path m b ≡ Some x → Shown t m b x → Shown tree map a x
+  old_shown : (a b : Path) (x : Resource) → ¬ (b ≡ from) → path_after from target b ≡ Some a → at_path m b ≡ Some x → ShowsNode t m b x → ShowsNode tree map a x
   old_shown a b x other goes here shown = record {
     placed = shown.placed;
     stored = get_other nat_cmp_total nat_cmp-IsAntisymmetric t.nodes r.number placed x.number (λ e. other (rep.is_map.apart b from x r here source e)) ∙ shown.stored;
@@ -142,12 +142,12 @@ module _ (t : FileTree) (m : ResourceMap) (rep : Represents t m)
     fits = old_fits a b shown.placed.parent_and_key other goes shown.fits;
   }
 
-  all_shown : (a b : Path) (x : Resource) → path_after from target b ≡ Some a → at_path m b ≡ Some x → Shown tree map a x
+  all_shown : (a b : Path) (x : Resource) → path_after from target b ≡ Some a → at_path m b ≡ Some x → ShowsNode tree map a x
   all_shown a b x goes here = elim (dec path_total path_exact b from) [
     | inl same ↦
         let at_target : target ≡ a = one_some (path_after from target from) target a (source_goes m rep.is_map from r p q k source not_root folder is_folder free not_below) (ap (path_after from target) (sym same) ∙ goes) in
         let is_source : r ≡ x = one_some (at_path m from) r x source (ap (at_path m) (sym same) ∙ here) in
-        subst (λ (x : Resource). Shown tree map a x) is_source (subst (λ a. Shown tree map a r) at_target new_shown)
+        subst (λ (x : Resource). ShowsNode tree map a x) is_source (subst (λ a. ShowsNode tree map a r) at_target new_shown)
     | inr other ↦ old_shown a b x other goes here (rep.shown b x here)
   ]
 

@@ -5,11 +5,11 @@ use Rattle.std.specs.Cmp.Lexicographic.{pointwise, bytes_decides}
 use Rattle.std.specs.Cmp.{nat_cmp_total}
 use Rattle.std.specs.FinMap.{get, nat_cmp-IsAntisymmetric}
 use Rattle.std.proofs.lemmas.Bool.{true≢false, eq-eqb, ne_eqb}
-use Rattle.dav_path_core.specs.Answers.{AnswersWithRoom}
+use Rattle.dav_path_core.specs.StoreAnswers.{AnswersWithRoom}
 use Rattle.dav_path_core.specs.declared.errors.FsError.{FsError}
 use Rattle.dav_path_core.specs.declared.errors.FsError.TheVariants.{NotFound, Exists, Forbidden}
 use Rattle.dav_path_core.specs.Fronts.{Segment, Path, behind}
-use Rattle.dav_path_core.specs.Keyed.{child, has_child, is_kept, is_under, move_refusal, moved as moved_node, moved_over, placed, placed_at, without as without_node, parent as parent_number, parent_and_key_of, Under}
+use Rattle.dav_path_core.specs.Keyed.{child, has_child, is_kept, is_under, move_refusal, with_moved as moved_node, moved_over, with_new_place, placed_at, without_node, parent_number, parent_and_key_of, Under}
 use Rattle.dav_path_core.proofs.lists.FinMaps.{none_some, one_some, get_left, get_gone}
 use Rattle.dav_path_core.proofs.lists.Orders.{path_total, path_exact}
 use Rattle.dav_path_core.proofs.lists.Snoc.{snoc_not_empty, by_last, snoc_front}
@@ -17,11 +17,11 @@ use Rattle.dav_path_core.proofs.trees.Trees.{child-some, child-none, none≢some
 use Rattle.dav_files_core.specs.declared.memfs.Kind.TheVariants.{Folder}
 use Rattle.dav_files_core.specs.Finding.{has_members}
 use Rattle.dav_files_core.specs.Folders.{is_root}
-use Rattle.dav_files_core.specs.Moved.{moved}
+use Rattle.dav_files_core.specs.Moved.{moved_map}
 use Rattle.dav_files_core.specs.Outcomes.{◌>>=◌, without}
-use Rattle.dav_files_core.specs.Renaming.{relocated, put_elsewhere}
+use Rattle.dav_files_core.specs.Renaming.{relocated_map, put_elsewhere}
 use Rattle.dav_files_core.specs.Private.Entries.{put_there as put_there_outcome}
-use Rattle.dav_files_core.specs.Private.Represents.{FileEntry, FileTree, Represents, resource_map}
+use Rattle.dav_files_core.specs.Private.FileRepresents.{FileEntry, FileTree, Represents, resource_map}
 use Rattle.dav_files_core.specs.Private.TreeCalls.{IsMember}
 use Rattle.dav_files_core.specs.Resources.{Resource, ResourceMap, at_path}
 use Rattle.dav_path_core.proofs.paths.FrontLemmas.{behind_append, behind_is, none_behind}
@@ -90,11 +90,11 @@ module _ (t : FileTree) (m : ResourceMap) (rep : Represents t m)
       else (if root then Err Forbidden
       else put_elsewhere m from to (behind from to)))
 
-  by_members : (b : Bool) → has_members m to ≡ b → relocated m from to ≡ answer false b (is_root from)
+  by_members : (b : Bool) → has_members m to ≡ b → relocated_map m from to ≡ answer false b (is_root from)
   unfolding answer
   by_members b e = ap (λ x. answer x (has_members m to) (is_root from)) (snoc_no_root p name) ∙ ap (λ x. answer false x (is_root from)) e
 
-  by_root : (b : Bool) → has_members m to ≡ false → is_root from ≡ b → relocated m from to ≡ answer false false b
+  by_root : (b : Bool) → has_members m to ≡ false → is_root from ≡ b → relocated_map m from to ≡ answer false false b
   unfolding answer
   by_root b e h = by_members false e ∙ ap (λ x. answer false false x) h
 
@@ -128,7 +128,7 @@ module _ (t : FileTree) (m : ResourceMap) (rep : Represents t m)
 
   -- ---- a move that is done
   abbrev Done : FileTree → Type 0
-  Done t' = (m' : ResourceMap) × (relocated m from to ≡ Ok m') × Represents t' m'
+  Done t' = (m' : ResourceMap) × (relocated_map m from to ≡ Ok m') × Represents t' m'
 
   module _ (not_up : ¬ (from ≡ [])) (leaf : has_members m to ≡ false) where
     -- at its own place
@@ -140,7 +140,7 @@ module _ (t : FileTree) (m : ResourceMap) (rep : Represents t m)
         by (Some c) e =
             let x = full c e in
             let is : c ≡ id = sym x.2 ∙ ap (λ (r : Resource). r.number) (one_some (at_path m to) x.0 r x.1 (ap (at_path m) (sym same) ∙ source)) ∙ number in
-            ap (λ b. if b then t else placed (without_node t c) id into name) (eq-eqb c id is)
+            ap (λ b. if b then t else with_new_place (without_node t c) id into name) (eq-eqb c id is)
 
     module _ (elsewhere : behind from to ≡ None) where
       stored : (n : FileEntry) × (get t.nodes id ≡ Some n)
@@ -152,12 +152,12 @@ module _ (t : FileTree) (m : ResourceMap) (rep : Represents t m)
       abbrev put_there : FileTree → ℕ → ℕ → FileTree
       put_there t id into = placed_at t id into name (Some stored.0)
 
-      into_free : at_path m to ≡ None → Represents (placed t id into name) (moved m from to)
+      into_free : at_path m to ≡ None → Represents (with_new_place t id into name) (moved_map m from to)
       into_free none =
           let rep' = Represents-moved t m rep from r stored.0 p f name source not_up (ap (λ id. get t.nodes id) number ∙ stored.1) folder is_folder none elsewhere in
-          subst (λ t'. Represents t' (moved m from to)) ((λ j. put_there t (number j) (into_number j)) ∙ ap (placed_at t id into name) (sym stored.1)) rep'
+          subst (λ t'. Represents t' (moved_map m from to)) ((λ j. put_there t (number j) (into_number j)) ∙ ap (placed_at t id into name) (sym stored.1)) rep'
 
-      in_place_of : (c : ℕ) (x : Resource) → at_path m to ≡ Some x → x.number ≡ c → ¬ (c ≡ id) → Represents (placed (without_node t c) id into name) (moved m from to)
+      in_place_of : (c : ℕ) (x : Resource) → at_path m to ≡ Some x → x.number ≡ c → ¬ (c ≡ id) → Represents (with_new_place (without_node t c) id into name) (moved_map m from to)
       in_place_of c x there is other =
           let cut = Represents-without t m rep to x there (snoc_not_empty p name) (no_members m to leaf) in
           let cut' : Represents (without_node t c) (without m to) = subst (λ c. Represents (without_node t c) (without m to)) is cut in
@@ -165,24 +165,24 @@ module _ (t : FileTree) (m : ResourceMap) (rep : Represents t m)
           let folder' : at_path (without m to) p ≡ Some f = get_left path_total path_exact m.entries to p (longer p name) ∙ folder in
           let stored' : get (without_node t c).nodes id ≡ Some stored.0 = get_left nat_cmp_total nat_cmp-IsAntisymmetric t.nodes c id (λ e. other (sym e)) ∙ stored.1 in
           let rep' = Represents-moved (without_node t c) (without m to) cut' from r stored.0 p f name source' not_up (ap (λ id. get (without_node t c).nodes id) number ∙ stored') folder' is_folder (get_gone path_total path_exact m.entries to) elsewhere in
-          subst (λ m. Represents (placed (without_node t c) id into name) m) (moved-without m from to elsewhere)
-          (subst (λ t'. Represents t' (moved (without m to) from to)) ((λ j. put_there (without_node t c) (number j) (into_number j)) ∙ ap (placed_at (without_node t c) id into name) (sym stored')) rep')
+          subst (λ m. Represents (with_new_place (without_node t c) id into name) m) (moved-without m from to elsewhere)
+          (subst (λ t'. Represents t' (moved_map (without m to) from to)) ((λ j. put_there (without_node t c) (number j) (into_number j)) ∙ ap (placed_at (without_node t c) id into name) (sym stored')) rep')
 
-      over : Represents (moved_over t id into name taken) (moved m from to)
+      over : Represents (moved_over t id into name taken) (moved_map m from to)
       over = by taken refl
         where
-          by : (o : Option ℕ) → taken ≡ o → Represents (moved_over t id into name o) (moved m from to)
+          by : (o : Option ℕ) → taken ≡ o → Represents (moved_over t id into name o) (moved_map m from to)
           by None e = into_free (free e)
           by (Some c) e =
               let x = full c e in
               let other : ¬ (c ≡ id) = λ same. apart (rep.is_map.apart from to r x.0 source x.1 (number ∙ sym same ∙ sym x.2)) in
-              subst (λ t'. Represents t' (moved m from to)) (sym (ap (λ b. if b then t else placed (without_node t c) id into name) (ne_eqb c id other))) (in_place_of c x.0 x.1 x.2 other)
+              subst (λ t'. Represents t' (moved_map m from to)) (sym (ap (λ b. if b then t else with_new_place (without_node t c) id into name) (ne_eqb c id other))) (in_place_of c x.0 x.1 x.2 other)
 
     outcome : ¬ IsBelow → (m' : ResourceMap) × (put_elsewhere m from to (behind from to) ≡ Ok m') × Represents (moved_over t id into name taken) m'
     outcome outside = by (behind from to) refl
       where
         by : (o : Option Path) → behind from to ≡ o → (m' : ResourceMap) × (put_elsewhere m from to (behind from to) ≡ Ok m') × Represents (moved_over t id into name taken) m'
-        by None e = (moved m from to, ap (put_elsewhere m from to) e, over e)
+        by None e = (moved_map m from to, ap (put_elsewhere m from to) e, over e)
         by (Some []) e =
             let same : from ≡ to = sym (append-nil from) ∙ sym (behind_is from to [] e) in
             (m, ap (put_elsewhere m from to) e, subst (λ t'. Represents t' m) (sym (own_place same)) rep)
@@ -203,7 +203,7 @@ module _ (t : FileTree) (m : ResourceMap) (rep : Represents t m)
           (o.0, by_root false h g ∙ o.1, subst (λ t'. Represents t' o.0) (sym e) o.2)
 
   -- ---- and one that is refused
-  pub refused : (e : FsError) → move_refusal (pointwise nat_eq) t id into name true ≡ Some e → (e ≡ Forbidden → IsBelow) → relocated m from to ≡ Err e
+  pub refused : (e : FsError) → move_refusal (pointwise nat_eq) t id into name true ≡ Some e → (e ≡ Forbidden → IsBelow) → relocated_map m from to ≡ Err e
   unfolding answer
   refused e h up = by (has_members m to) refl (is_root from) refl (is_under t id into) refl
     where
@@ -211,10 +211,10 @@ module _ (t : FileTree) (m : ResourceMap) (rep : Represents t m)
       is members root under h1 h2 h3 =
           ap (λ b. refusal b root under) (sym h1) ∙ ap (λ b. refusal (has_members m to) b under) (sym h2) ∙ ap (λ b. refusal (has_members m to) (is_root from) b) (sym h3) ∙ sym refusal_is ∙ h
 
-      error : (x : FsError) → relocated m from to ≡ Err x → Some x ≡ Some e → relocated m from to ≡ Err e
+      error : (x : FsError) → relocated_map m from to ≡ Err x → Some x ≡ Some e → relocated_map m from to ≡ Err e
       error x h same = h ∙ ap (λ (x : FsError). Err x) (same_some x e same)
 
-      by : (members : Bool) → has_members m to ≡ members → (root : Bool) → is_root from ≡ root → (under : Bool) → is_under t id into ≡ under → relocated m from to ≡ Err e
+      by : (members : Bool) → has_members m to ≡ members → (root : Bool) → is_root from ≡ root → (under : Bool) → is_under t id into ≡ under → relocated_map m from to ≡ Err e
       by true h1 root h2 under h3 = error Exists (by_members true h1) (is true root under h1 h2 h3)
       by false h1 true h2 under h3 = error Forbidden (by_root true h1 h2) (is false true under h1 h2 h3)
       by false h1 false h2 true h3 =

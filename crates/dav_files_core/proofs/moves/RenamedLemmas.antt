@@ -11,11 +11,11 @@ use Rattle.dav_path_core.proofs.lists.FinMaps.{one_some, get_same, get_other, de
 use Rattle.dav_path_core.proofs.lists.Orders.{path_total, path_exact}
 use Rattle.dav_files_core.specs.Finding.{refusal_at, has_members}
 use Rattle.dav_files_core.specs.Folders.{is_root}
-use Rattle.dav_files_core.specs.Moved.{moved}
-use Rattle.dav_files_core.specs.Outcomes.{Outcome, ◌>>=◌, find_folder, changed, touched, touched_at}
+use Rattle.dav_files_core.specs.Moved.{moved_map}
+use Rattle.dav_files_core.specs.Outcomes.{Outcome, ◌>>=◌, find_folder, with_other_node, with_modified_time, touched_at}
 use Rattle.dav_files_core.specs.Private.Entries.{StandsIn, FindsFolder, put_there}
-use Rattle.dav_files_core.specs.Private.TreeCalls.{number_of}
-use Rattle.dav_files_core.specs.Renaming.{rename, relocated, put_elsewhere}
+use Rattle.dav_files_core.specs.Private.TreeCalls.{entry_number}
+use Rattle.dav_files_core.specs.Renaming.{rename, relocated_map, put_elsewhere}
 use Rattle.dav_files_core.specs.Resources.{Node, Resource, ResourceMap, at_path, IsResourceMap}
 use Rattle.dav_files_core.proofs.walks.FoundLemmas.{parent-snoc, folder_there}
 use Rattle.dav_path_core.proofs.paths.FrontLemmas.{behind_is, behind_none, none_behind}
@@ -35,14 +35,14 @@ module _ (m : ResourceMap) (q : Path) (a : Resource) (at : at_path m q ≡ Some 
   abbrev entry : Resource
   entry = record { number = a.number; node = node }
 
-  touched_is : touched m q now ≡ changed m q a node
+  touched_is : with_modified_time m q now ≡ with_other_node m q a node
   touched_is = ap (touched_at m q now) at
 
-  pub touched_keeps : (p : Path) (f : Resource) → at_path m p ≡ Some f → (f' : Resource) × (at_path (touched m q now) p ≡ Some f') × (f'.number ≡ f.number)
+  pub touched_keeps : (p : Path) (f : Resource) → at_path m p ≡ Some f → (f' : Resource) × (at_path (with_modified_time m q now) p ≡ Some f') × (f'.number ≡ f.number)
   touched_keeps p f there = elim (dec path_total path_exact p q) [
     | inl same ↦ (
       entry,
-      ap (λ m. at_path m p) touched_is ∙ ap (at_path (changed m q a node)) same ∙ get_same path_total path_exact m.entries q entry,
+      ap (λ m. at_path m p) touched_is ∙ ap (at_path (with_other_node m q a node)) same ∙ get_same path_total path_exact m.entries q entry,
       ap (λ (r : Resource). r.number) (one_some (at_path m q) a f at (ap (at_path m) (sym same) ∙ there)),
     )
     | inr other ↦ (f, ap (λ m. at_path m p) touched_is ∙ get_other path_total path_exact m.entries q entry p other ∙ there, refl)
@@ -64,12 +64,12 @@ module _ (m : ResourceMap) (from p : Path) (name : Segment) where
   pub record Put (m' : ResourceMap) : Type 0 where
     pub leaf : has_members m to ≡ false
     pub not_up : is_root from ≡ false
-    pub put : ((from ≡ to) × (m' ≡ m)) ⊎ ((behind from to ≡ None) × (m' ≡ moved m from to))
+    pub put : ((from ≡ to) × (m' ≡ m)) ⊎ ((behind from to ≡ None) × (m' ≡ moved_map m from to))
 
-  pub put : (m' : ResourceMap) → relocated m from to ≡ Ok m' → Put m'
+  pub put : (m' : ResourceMap) → relocated_map m from to ≡ Ok m' → Put m'
   put m' h = by (has_members m to) refl (is_root from) refl (sym (ap (λ b. rest b (has_members m to) (is_root from)) (snoc_no_root p name)) ∙ h)
     where
-      how : (o : Option Path) → behind from to ≡ o → put_elsewhere m from to o ≡ Ok m' → ((from ≡ to) × (m' ≡ m)) ⊎ ((behind from to ≡ None) × (m' ≡ moved m from to))
+      how : (o : Option Path) → behind from to ≡ o → put_elsewhere m from to o ≡ Ok m' → ((from ≡ to) × (m' ≡ m)) ⊎ ((behind from to ≡ None) × (m' ≡ moved_map m from to))
       how None e h = inr (e, cc)
       how (Some []) e h = inl (sym (behind_is from to [] e ∙ append-nil from), cc)
       how (Some (s ∷ below)) e h = absurd (cc)
@@ -90,15 +90,15 @@ module _ (m : ResourceMap) (is_map : IsResourceMap m) (from : Path) (r : Resourc
   target = p ++ (name ∷ [])
 
   abbrev done : ℕ → Path → ResourceMap → Outcome (Unit {0})
-  done now q m = Ok (tt, touched (touched m (parent from) now) q now)
+  done now q m = Ok (tt, with_modified_time (with_modified_time m (parent from) now) q now)
 
-  in_folder : (now : ℕ) → rename m from target now ≡ (relocated m from target >>= done now p)
+  in_folder : (now : ℕ) → rename m from target now ≡ (relocated_map m from target >>= done now p)
   in_folder now =
-      ap (λ o. ok_or o (refusal_at m from) >>= λ (_ : Resource). find_folder m (parent target) >>= λ (_ : Resource). relocated m from target >>= done now (parent target)) source
-      ∙ ap (λ q. find_folder m q >>= λ (_ : Resource). relocated m from target >>= done now q) (parent-snoc p name)
-      ∙ ap (λ (o : Result Resource FsError). o >>= λ (_ : Resource). relocated m from target >>= done now p) folder
+      ap (λ o. ok_or o (refusal_at m from) >>= λ (_ : Resource). find_folder m (parent target) >>= λ (_ : Resource). relocated_map m from target >>= done now (parent target)) source
+      ∙ ap (λ q. find_folder m q >>= λ (_ : Resource). relocated_map m from target >>= done now q) (parent-snoc p name)
+      ∙ ap (λ (o : Result Resource FsError). o >>= λ (_ : Resource). relocated_map m from target >>= done now p) folder
 
-  module _ (m' : ResourceMap) (h : relocated m from target ≡ Ok m') where
+  module _ (m' : ResourceMap) (h : relocated_map m from target ≡ Ok m') where
     -- the folder of the target stays
     pub target_stays : at_path m' p ≡ Some f
     target_stays = elim ((put m from p name m' h).put) [
@@ -137,10 +137,10 @@ module _ (m : ResourceMap) (is_map : IsResourceMap m) (from : Path) (r : Resourc
     never_root e = true≢false (sym (ap is_root e) ∙ (put m from p name m' h).not_up)
 
     -- the whole call
-    pub renamed : (now : ℕ) → rename m from target now ≡ Ok (tt, touched (touched m' (parent from) now) p now)
+    pub renamed : (now : ℕ) → rename m from target now ≡ Ok (tt, with_modified_time (with_modified_time m' (parent from) now) p now)
     renamed now = in_folder now ∙ ap (λ (o : Result ResourceMap FsError). o >>= done now p) h
 
-  pub not_renamed : (e : FsError) → relocated m from target ≡ Err e → (now : ℕ) → rename m from target now ≡ Err e
+  pub not_renamed : (e : FsError) → relocated_map m from target ≡ Err e → (now : ℕ) → rename m from target now ≡ Err e
   not_renamed e h now = in_folder now ∙ ap (λ (o : Result ResourceMap FsError). o >>= done now p) h
 
 -- what is there finds its folder by its number
@@ -165,8 +165,8 @@ Target m p folder = (q : Path) × (s : Segment) × (f : Resource) × (p ≡ q ++
 -- what is left where an entry was put elsewhere, and where both folders are in it
 pub record Away (m m' : ResourceMap) (from to : Path) (above folder : ℕ) : Type 0 where
   pub upper : (a : Resource) × (at_path m' (parent from) ≡ Some a) × (a.number ≡ above)
-  pub lower : (now : ℕ) → (f : Resource) × (at_path (touched m' (parent from) now) (parent to) ≡ Some f) × (f.number ≡ folder)
-  pub done : (now : ℕ) → rename m from to now ≡ Ok (tt, touched (touched m' (parent from) now) (parent to) now)
+  pub lower : (now : ℕ) → (f : Resource) × (at_path (with_modified_time m' (parent from) now) (parent to) ≡ Some f) × (f.number ≡ folder)
+  pub done : (now : ℕ) → rename m from to now ≡ Ok (tt, with_modified_time (with_modified_time m' (parent from) now) (parent to) now)
 
 module _ (m : ResourceMap) (is_map : IsResourceMap m) (from : Path) (r : Resource) (source : at_path m from ≡ Some r) (to : Path) (folder : ℕ) (target : Target m to folder) where
   abbrev q : Path
@@ -176,8 +176,8 @@ module _ (m : ResourceMap) (is_map : IsResourceMap m) (from : Path) (r : Resourc
   name = target.1
 
   module _ (m' : ResourceMap) (h : put_there m from (q ++ (name ∷ [])) ≡ Ok (tt, m')) where
-    relocated_is : relocated m from (q ++ (name ∷ [])) ≡ Ok m'
-    relocated_is = by (relocated m from (q ++ (name ∷ []))) h
+    relocated_is : relocated_map m from (q ++ (name ∷ [])) ≡ Ok m'
+    relocated_is = by (relocated_map m from (q ++ (name ∷ []))) h
       where
         by : (o : Result ResourceMap FsError) → ◌≡◌ {A = Outcome (Unit {0})} (o >>= λ (m : ResourceMap). Ok (tt, m)) (Ok (tt, m')) → o ≡ Ok m'
         by (Ok x) h = let pairs : (tt {0}, x) ≡ (tt {0}, m') = cc in ap (λ (x : Unit {0} × ResourceMap). Ok x.1) pairs
@@ -197,7 +197,7 @@ module _ (m : ResourceMap) (is_map : IsResourceMap m) (from : Path) (r : Resourc
           lower = λ now. let k = touched_keeps m' (parent from) s.2 up now (parent to) target.2 low in (k.0, k.1, k.2 ∙ target.5);
           done = λ now.
               ap (λ to. rename m from to now) target.3 ∙ renamed m is_map from r source q name target.2 target.4 m' relocated_is now
-              ∙ ap (λ q. Ok (tt {0}, touched (touched m' (parent from) now) q now)) (sym parent_to);
+              ∙ ap (λ q. Ok (tt {0}, with_modified_time (with_modified_time m' (parent from) now) q now)) (sym parent_to);
         }
 
   pub put_named : (bytes : Segment) (outcome : Outcome (Unit {0})) → bytes ≡ unwrap_or (last_or None to) [] → put_there m from (q ++ (bytes ∷ [])) ≡ outcome → put_there m from (q ++ (name ∷ [])) ≡ outcome
@@ -205,7 +205,7 @@ module _ (m : ResourceMap) (is_map : IsResourceMap m) (from : Path) (r : Resourc
 
   -- a refusal
   pub rename_refused : (e : FsError) (now : ℕ) → put_there m from (q ++ (name ∷ [])) ≡ Err e → rename m from to now ≡ Err e
-  rename_refused e now h = ap (λ to. rename m from to now) target.3 ∙ not_renamed m is_map from r source q name target.2 target.4 e (by (relocated m from (q ++ (name ∷ []))) h) now
+  rename_refused e now h = ap (λ to. rename m from to now) target.3 ∙ not_renamed m is_map from r source q name target.2 target.4 e (by (relocated_map m from (q ++ (name ∷ []))) h) now
     where
       by : (o : Result ResourceMap FsError) → ◌≡◌ {A = Outcome (Unit {0})} (o >>= λ (m : ResourceMap). Ok (tt, m)) (Err e) → o ≡ Err e
       by (Ok x) h = absurd (cc)
@@ -221,7 +221,7 @@ pub record Ends (m : ResourceMap) (from to : Path) (source folder : ℕ) : Type 
   pub above : at_path m target.0 ≡ Some target.2
   pub is_folder : target.2.node.kind ≡ Folder
 
-pub ends : (m : ResourceMap) (from to : Path) (source : ℕ) → Ok source ≡ number_of m from → (o : Option ℕ) (folder : ℕ) → o ≡ Some folder → FindsFolder m to (Ok o) → Ends m from to source folder
+pub ends : (m : ResourceMap) (from to : Path) (source : ℕ) → Ok source ≡ entry_number m from → (o : Option ℕ) (folder : ℕ) → o ≡ Some folder → FindsFolder m to (Ok o) → Ends m from to source folder
 ends m from to source found o folder is finds =
     let here = found_number m from source found in
     let target : Target m to folder = subst (λ (o : Option ℕ). FindsFolder m to (Ok o)) is finds in

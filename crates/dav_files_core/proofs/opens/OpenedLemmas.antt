@@ -12,7 +12,7 @@ use Rattle.dav_files_core.specs.OpenFiles.{open_file, with_number}
 use Rattle.dav_files_core.specs.Opening.{OpenFile}
 use Rattle.dav_files_core.specs.Outcomes.{◌>>=◌, only_file}
 use Rattle.dav_files_core.specs.Private.Numbered.{node_with}
-use Rattle.dav_files_core.specs.Private.Represents.{FileEntry, FileTree, Represents}
+use Rattle.dav_files_core.specs.Private.FileRepresents.{FileEntry, FileTree, Represents}
 use Rattle.dav_files_core.specs.Private.TreeCalls.{FindsNode}
 use Rattle.dav_files_core.specs.Resources.{Node, Resource, ResourceMap, at_path}
 use Rattle.dav_path_core.proofs.lists.FinMaps.{none_some}

@@ -5,7 +5,7 @@ use Rattle.std.proofs.lemmas.Bool.{cases_lt}
 use Rattle.std.proofs.lemmas.List.{take_all, drop_all, take-append-le, take-replicate, drop-drop, length-replicate}
 use Rattle.std.proofs.Math.Seq.{take-append-add}
 use borrow.Rule.Slice.PartMut.{put_mid}
-use Rattle.dav_files_core.specs.OpenFiles.{overwritten}
+use Rattle.dav_files_core.specs.OpenFiles.{overwritten_at}
 
 none_left : (n : ℕ) → n ≡ 0 → replicate {A = ℕ} n 0 ≡ []
 none_left n e = ap (λ n. replicate {A = ℕ} n 0) e
@@ -51,7 +51,7 @@ module _ (bytes new : List ℕ) (at : ℕ) where
         ap (drop end) (filled_is n (omega arith) ∙ ap (λ l. bytes ++ l) (none_left (n - length bytes) (omega arith)) ∙ append-nil bytes)
   ]
 
-  pub written_over : (n k : ℕ) → n ≡ max (length bytes) end → k ≡ length new → put_mid at k (filled n) new ≡ overwritten bytes at new
+  pub written_over : (n k : ℕ) → n ≡ max (length bytes) end → k ≡ length new → put_mid at k (filled n) new ≡ overwritten_at bytes at new
   written_over n k is long =
       let rest : drop k (drop at (filled n)) ≡ drop end bytes = drop-drop k at (filled n) ∙ ap (λ k. drop (at + k) (filled n)) long ∙ back n is in
       (λ i. front n (omega arith) (omega arith) i ++ (new ++ rest i)) ∙ sym (append_assoc (take at bytes ++ replicate (at - length bytes) 0) new (drop end bytes))
@@ -73,7 +73,7 @@ module _ (bytes new : List ℕ) (at : ℕ) where
         let slice : length (take size (drop at xs)) ≡ length new = length-take size (drop at xs) ∙ room (length (drop at xs)) (length-drop at xs ∙ ap (λ k. k - at) long) in
         dst_is ∙ ap (λ k. take k new) slice ∙ take_all (length new) new (omega arith)
 
-    stored : put_mid at size xs dst ≡ overwritten bytes at new
+    stored : put_mid at size xs dst ≡ overwritten_at bytes at new
     stored = (λ i. put_mid at size (xs_is i) (all i)) ∙ written_over n size (n_is ∙ ap (λ k. max (length bytes) k) stop_is) (omega arith)
 
     in_all : (a b c : ℕ) → a ≡ at → b ≡ length new → c ≡ n - at - size → a + (b + c) ≡ n
@@ -88,7 +88,7 @@ module _ (bytes new : List ℕ) (at : ℕ) where
         ∙ in_all (length (take at xs)) (length dst) (length (drop size (drop at xs))) front_length (ap length all)
         (length-drop size (drop at xs) ∙ ap (λ k. k - size) (length-drop at xs ∙ ap (λ k. k - at) long))
 
-    pub stored_in : (ys zs : List ℕ) → ys ≡ xs → take (length ys) (put_mid at size xs dst ++ zs) ≡ overwritten bytes at new
+    pub stored_in : (ys zs : List ℕ) → ys ≡ xs → take (length ys) (put_mid at size xs dst ++ zs) ≡ overwritten_at bytes at new
     stored_in ys zs is =
         ap (λ k. take k (put_mid at size xs dst ++ zs)) (ap length is ∙ long ∙ sym length-stored)
         ∙ take-append-le (length (put_mid at size xs dst)) (put_mid at size xs dst) zs (omega arith)

@@ -3,7 +3,7 @@ use Rattle.std.proofs.Common.{◌≡◌, inl, inr, ℕ, ◌+◌, ◌^◌, Bool, 
 use Rattle.std.specs.Option.{ok_or}
 use Rattle.std.specs.Prelude.{nat_lt, unwrap_or, is_none, is_ok, if◌then◌else◌}
 use Rattle.std.proofs.lemmas.Bool.{false≢true}
-use Rattle.dav_path_core.specs.Answers.{AnswersAs, Tells}
+use Rattle.dav_path_core.specs.StoreAnswers.{AnswersAs, TellsOutcome}
 use Rattle.dav_path_core.specs.declared.errors.FsError.{FsError}
 use Rattle.dav_path_core.specs.declared.errors.FsError.TheVariants.{NotFound, Forbidden, TooLarge}
 use Rattle.dav_path_core.specs.Fronts.{Path}
@@ -11,13 +11,13 @@ use Rattle.dav_files_core.specs.declared.fs.OpenOptions.{OpenOptions}
 use Rattle.dav_files_core.specs.declared.memfs.Kind.{Kind}
 use Rattle.dav_files_core.specs.declared.memfs.Kind.TheVariants.{Folder, File}
 use Rattle.dav_files_core.specs.Describing.{metadata}
-use Rattle.dav_files_core.specs.Parts.{read_at, write_at}
+use Rattle.dav_files_core.specs.ContentParts.{read_at, write_at}
 use Rattle.dav_files_core.specs.Finding.{find, refusal_at}
 use Rattle.dav_files_core.specs.Meta.{meta_at}
-use Rattle.dav_files_core.specs.OpenFiles.{open_file, overwritten, part, read_bytes, start_of_write, write_bytes}
-use Rattle.dav_files_core.specs.Opening.{OpenFile, opened, opening, opening_at}
-use Rattle.dav_files_core.specs.Outcomes.{Outcome, ◌>>=◌, only_file, changed}
-use Rattle.dav_files_core.specs.Private.TreeCalls.{number_of}
+use Rattle.dav_files_core.specs.OpenFiles.{open_file, overwritten_at, part, read_bytes, start_of_write, write_bytes}
+use Rattle.dav_files_core.specs.Opening.{OpenFile, opened_file, opening, opening_at}
+use Rattle.dav_files_core.specs.Outcomes.{Outcome, ◌>>=◌, only_file, with_other_node}
+use Rattle.dav_files_core.specs.Private.TreeCalls.{entry_number}
 use Rattle.dav_files_core.specs.Resources.{Resource, ResourceMap, at_path, IsResourceMap}
 use Rattle.dav_files_core.proofs.opens.NumberedLemmas.{number_is}
 
@@ -39,7 +39,7 @@ module _ (read write append : Bool) (m : ResourceMap) (p : Path) (now : ℕ) whe
   by_kind r k = elim k [ Folder ↦ Err Forbidden | File ↦ Ok r ]
 
   abbrev opens : Resource → Outcome OpenFile
-  opens r = Ok (opened r.number (using read write append), m)
+  opens r = Ok (opened_file r.number (using read write append), m)
 
   pub opened_there : (f : OpenFile) (m' : ResourceMap) → opening m p (using read write append) now ≡ Ok (f, m') → OpenedAt append m p f m'
   opened_there f m' h = by (at_path m p) refl h
@@ -47,7 +47,7 @@ module _ (read write append : Bool) (m : ResourceMap) (p : Path) (now : ℕ) whe
       kind : (r : Resource) → at_path m p ≡ Some r → (k : Kind) → r.node.kind ≡ k → by_kind r k >>= opens ≡ Ok (f, m') → OpenedAt append m p f m'
       kind r here Folder is h = absurd (cc)
       kind r here File is h =
-          let pairs : (opened r.number (using read write append), m) ≡ (f, m') = cc in
+          let pairs : (opened_file r.number (using read write append), m) ≡ (f, m') = cc in
           record { entry = r; here = here; file = is; left = ap (λ (x : OpenFile × ResourceMap). x.1) (sym pairs); number = ap (λ (x : OpenFile × ResourceMap). x.0) (sym pairs) }
 
       by : (o : Option Resource) → at_path m p ≡ o → opening_at m p (using read write append) now o ≡ Ok (f, m') → OpenedAt append m p f m'
@@ -92,7 +92,7 @@ module _ (read write append : Bool) (m : ResourceMap) (p : Path) (now : ℕ) whe
       pub read_is : read_at m p at count ≡ Ok bytes
       read_is = found o.entry o.here ∙ ap (λ k. by_kind o.entry k >>= λ (r : Resource). Ok (part r.node.bytes at count)) o.file
 
-      pub read_through : (result : Result (List ℕ) FsError) (g g' : OpenFile) → AnswersAs (λ b. b) result (read_bytes m file count) g g' → Tells (λ b. b) result (read_at m p at count)
+      pub read_through : (result : Result (List ℕ) FsError) (g g' : OpenFile) → AnswersAs (λ b. b) result (read_bytes m file count) g g' → TellsOutcome (λ b. b) result (read_at m p at count)
       read_through (Ok b) g g' h =
           let both : ◌≡◌ {A = Result (List ℕ × OpenFile) FsError} (Ok (bytes, record file { position = at + length bytes })) (Ok (b, g')) = sym reads ∙ h in
           let pairs : (bytes, record file { position = at + length bytes }) ≡ (b, g') = cc in
@@ -113,7 +113,7 @@ module _ (m : ResourceMap) (p : Path) (is_map : IsResourceMap m) (at : Option �
   behind = record f { position = unwrap_or at 0 }
 
   abbrev written : ResourceMap
-  written = changed m p o.entry (record o.entry.node { bytes = overwritten old start new })
+  written = with_other_node m p o.entry (record o.entry.node { bytes = overwritten_at old start new })
 
   abbrev fits : Bool
   fits = nat_lt (start + length new) (2 ^ 64)
@@ -128,7 +128,7 @@ module _ (m : ResourceMap) (p : Path) (is_map : IsResourceMap m) (at : Option �
   abbrev through : Path × Resource → ℕ → Result (Unit {0} × (OpenFile × ResourceMap)) FsError
   through e n =
       if nat_lt (n + length new) (2 ^ 64)
-      then Ok (tt, (record behind { position = n + length new }, changed m e.0 e.1 (record e.1.node { bytes = overwritten e.1.node.bytes n new })))
+      then Ok (tt, (record behind { position = n + length new }, with_other_node m e.0 e.1 (record e.1.node { bytes = overwritten_at e.1.node.bytes n new })))
       else Err TooLarge
 
   its_place : open_file m behind ≡ Ok (p, o.entry)
@@ -152,7 +152,7 @@ module _ (m : ResourceMap) (p : Path) (is_map : IsResourceMap m) (at : Option �
       rest : Resource → Outcome (Unit {0})
       rest r =
           let n = unwrap_or at (length r.node.bytes) in
-          if nat_lt (n + length new) (2 ^ 64) then Ok (tt, changed m p r (record r.node { bytes = overwritten r.node.bytes n new })) else Err TooLarge
+          if nat_lt (n + length new) (2 ^ 64) then Ok (tt, with_other_node m p r (record r.node { bytes = overwritten_at r.node.bytes n new })) else Err TooLarge
 
   -- a write through the file is a write at the path
   pub write_through : (result : Result (Unit {0}) FsError) (g : OpenFile) (m'' : ResourceMap) → AnswersAs {S = OpenFile × ResourceMap} (λ x. x) result (write_bytes m behind new) (behind, m) (g, m'')

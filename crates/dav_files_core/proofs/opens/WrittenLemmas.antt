@@ -2,14 +2,14 @@
 use Rattle.std.proofs.Common.{◌≡◌, inl, inr, ℕ, ◌+◌, ◌<◌, ◌^◌, List, length, Some, Result, Ok, Err, sym, ap, ◌∙◌, subst}
 use Rattle.std.specs.Prelude.{nat_lt, Bool, true, false, if◌then◌else◌, IsOk}
 use Rattle.std.proofs.lemmas.Bool.{cases_Bool, ltb-true, lt-ltb}
-use Rattle.dav_path_core.specs.Answers.{AnswersAs, Refused}
+use Rattle.dav_path_core.specs.StoreAnswers.{AnswersAs, Refused}
 use Rattle.dav_path_core.specs.declared.errors.FsError.{FsError}
 use Rattle.dav_path_core.specs.declared.errors.FsError.TheVariants.{TooLarge}
 use Rattle.dav_path_core.specs.Fronts.{Path}
-use Rattle.dav_files_core.specs.OpenFiles.{open_file, overwritten, start_of_write, write_bytes}
+use Rattle.dav_files_core.specs.OpenFiles.{open_file, overwritten_at, start_of_write, write_bytes}
 use Rattle.dav_files_core.specs.Opening.{OpenFile}
-use Rattle.dav_files_core.specs.Outcomes.{Outcome, ◌>>=◌, changed}
-use Rattle.dav_files_core.specs.Private.Entries.{HasFile}
+use Rattle.dav_files_core.specs.Outcomes.{Outcome, ◌>>=◌, with_other_node}
+use Rattle.dav_files_core.specs.Private.Entries.{HasFileNumbered}
 use Rattle.dav_files_core.specs.Private.Numbered.{by_number, length_with}
 use Rattle.dav_files_core.specs.Resources.{Node, Resource, ResourceMap, at_path}
 use Rattle.dav_files_core.proofs.opens.OpenedLemmas.{IsOpen, is_open, found_open}
@@ -31,14 +31,14 @@ module _ (m : ResourceMap) (f : OpenFile) (n : ℕ) (number : n ≡ f.number) (l
   pub its_number : entry.0.1.number ≡ n
   its_number = open_is.number ∙ sym number
 
-  pub has_file : HasFile m n
+  pub has_file : HasFileNumbered m n
   has_file = (entry.0.0, entry.0.1, there, its_number, open_is.file)
 
   module _ (new : List ℕ) (start : ℕ) (starts : start ≡ (if f.append then long else f.position)) where
     abbrev outcome : Bool → Written
     outcome b =
         if b
-        then Ok (tt, (record f { position = start + length new }, changed m entry.0.0 entry.0.1 (record entry.0.1.node { bytes = overwritten entry.0.1.node.bytes start new })))
+        then Ok (tt, (record f { position = start + length new }, with_other_node m entry.0.0 entry.0.1 (record entry.0.1.node { bytes = overwritten_at entry.0.1.node.bytes start new })))
         else Err TooLarge
 
     begins : start ≡ start_of_write f entry.0.1.node.bytes
@@ -48,10 +48,10 @@ module _ (m : ResourceMap) (f : OpenFile) (n : ℕ) (number : n ≡ f.number) (l
     answer =
         ap (λ (o : Result (Path × Resource) FsError). o >>= λ (e : Path × Resource).
         if nat_lt (start_of_write f e.1.node.bytes + length new) (2 ^ 64)
-        then Ok (tt {0}, (record f { position = start_of_write f e.1.node.bytes + length new }, changed m e.0 e.1 (record e.1.node { bytes = overwritten e.1.node.bytes (start_of_write f e.1.node.bytes) new })))
+        then Ok (tt {0}, (record f { position = start_of_write f e.1.node.bytes + length new }, with_other_node m e.0 e.1 (record e.1.node { bytes = overwritten_at e.1.node.bytes (start_of_write f e.1.node.bytes) new })))
         else Err TooLarge) entry.1
         ∙ ap (λ (s : ℕ). if nat_lt (s + length new) (2 ^ 64)
-        then Ok (tt {0}, (record f { position = s + length new }, changed m entry.0.0 entry.0.1 (record entry.0.1.node { bytes = overwritten entry.0.1.node.bytes s new })))
+        then Ok (tt {0}, (record f { position = s + length new }, with_other_node m entry.0.0 entry.0.1 (record entry.0.1.node { bytes = overwritten_at entry.0.1.node.bytes s new })))
         else Err TooLarge) (sym begins)
 
     module _ (rem : ℕ) (counted : rem ≡ length new) where
@@ -68,7 +68,7 @@ module _ (m : ResourceMap) (f : OpenFile) (n : ℕ) (number : n ≡ f.number) (l
         behind : start + length new ≡ end
         behind = ap (λ k. start + k) (sym counted) ∙ ends
 
-        pub done : (m' : ResourceMap) → changed m entry.0.0 entry.0.1 (record entry.0.1.node { bytes = overwritten entry.0.1.node.bytes start new }) ≡ m'
+        pub done : (m' : ResourceMap) → with_other_node m entry.0.0 entry.0.1 (record entry.0.1.node { bytes = overwritten_at entry.0.1.node.bytes start new }) ≡ m'
             → write_bytes m f new ≡ Ok (tt, (record f { position = end }, m'))
         done m' left = fits_is true (lt-ltb (start + rem) (2 ^ 64) fits) ∙ (λ i. Ok (tt {0}, (record f { position = behind i }, left i)))
 

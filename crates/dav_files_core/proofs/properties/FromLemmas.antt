@@ -7,7 +7,7 @@ use Rattle.dav_files_core.specs.declared.fs.properties.DavProp.{DavProp}
 use Rattle.dav_files_core.specs.Properties.{key_of, property_of}
 use Rattle.dav_files_core.specs.Resources.{Properties}
 use Rattle.dav_files_core.specs.Restoring.{properties_from, with_property}
-use Rattle.dav_files_core.specs.Private.Patching.{Key}
+use Rattle.dav_files_core.specs.Private.PropertyChanges.{Key}
 
 pub one_more : (props : List DavProp) (p : DavProp) (before after : Properties) (key : Key) → before ≡ properties_from (map property_of props) → key ≡ key_of (property_of p) → after ≡ insert before key (property_of p)
     → after ≡ properties_from (map property_of (props ++ p ∷ []))

@@ -7,7 +7,7 @@ use Rattle.dav_path_core.proofs.lists.FinMaps.{dec, get_other, get_same, inserte
 use Rattle.dav_path_core.proofs.lists.MemberLemmas.{In}
 use Rattle.dav_path_core.proofs.lists.SameMembers.{In-map}
 use Rattle.dav_files_core.specs.Private.PropertyMaps.{AreKeyed}
-use Rattle.dav_files_core.specs.Properties.{key_of, patched, patched_by}
+use Rattle.dav_files_core.specs.Properties.{key_of, patched_properties, patched_by}
 use Rattle.dav_files_core.specs.Resources.{Property, Properties, key_cmp}
 use Rattle.dav_files_core.specs.Restoring.{properties_from, with_property}
 use Rattle.dav_files_core.proofs.properties.PropertyMapLemmas.{key_total, key_exact}
@@ -31,7 +31,7 @@ keyed_patched_by props keyed e = elim (e.0) as (λ b. AreKeyed (if b then insert
   | false ↦ keyed_remove props keyed (key_of e.1)
 ]
 
-pub keyed_patched : (patch : List (Bool × Property)) (props : Properties) → AreKeyed props → AreKeyed (patched props patch)
+pub keyed_patched : (patch : List (Bool × Property)) (props : Properties) → AreKeyed props → AreKeyed (patched_properties props patch)
 keyed_patched [] props keyed = keyed
 keyed_patched (e ∷ patch) props keyed = keyed_patched patch (patched_by props e) (keyed_patched_by props keyed e)
 

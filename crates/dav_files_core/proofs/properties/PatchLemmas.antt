@@ -11,9 +11,9 @@ use Rattle.std.proofs.lemmas.List.Sums.{fold-append}
 use Rattle.dav_path_core.proofs.lists.Orders.{eq_by_cmp_same, eq_by_cmp_true}
 use Rattle.dav_path_core.proofs.lists.FinMaps.{none_some}
 use Rattle.dav_files_core.specs.declared.fs.properties.DavProp.{DavProp}
-use Rattle.dav_files_core.specs.Private.Patching.{Key, Changes, ComesTo, AreMissing, NotesKey, changes_of, is_among}
+use Rattle.dav_files_core.specs.Private.PropertyChanges.{Key, KeyChanges, ComesTo, AreMissing, NotesKey, changes_of, is_among_keys}
 use Rattle.dav_files_core.specs.Private.PropertyMaps.{properties_of}
-use Rattle.dav_files_core.specs.Properties.{property_of, entry_of, answer_of, key_of, without_xml, patched, patched_by, patch_answers}
+use Rattle.dav_files_core.specs.Properties.{property_of, patch_update, patch_answer, key_of, without_xml, patched_properties, patched_by, patch_answers}
 use Rattle.dav_files_core.specs.Resources.{Property, Properties, key_cmp}
 use Rattle.dav_files_core.proofs.properties.FinMapLemmas.{get-as_map, map_remove}
 use Rattle.dav_files_core.proofs.properties.PropertyMapLemmas.{Kept, key_total, key_exact}
@@ -58,7 +58,7 @@ module _ (props new : Properties) (k : Key) (change : Option DavProp) where
   gone_at none is q = ap (λ m. get m q) is ∙ get-remove key_total props k q ∙ ap (λ c. cond (eq_by_cmp key_cmp q k) (option_map property_of c) (get props q)) (sym none)
 
 -- what is left of the changes comes to the same after one of them
-module _ (changes changes' : Changes) (props props' : Properties) (k : Key) (p : Option Property) (here : get changes k ≡ Some p) (rest : changes' ≡ remove changes k)
+module _ (changes changes' : KeyChanges) (props props' : Properties) (k : Key) (p : Option Property) (here : get changes k ≡ Some p) (rest : changes' ≡ remove changes k)
     (made : (q : Key) → get props' q ≡ cond (eq_by_cmp key_cmp q k) p (get props q)) where
   left : (q : Key) → get changes' q ≡ cond (eq_by_cmp key_cmp q k) None (get changes q)
   left q = ap (λ m. get m q) rest ∙ get-remove key_total changes k q
@@ -78,15 +78,15 @@ module _ (changes changes' : Changes) (props props' : Properties) (k : Key) (p :
       by false e = ap is_some (made q ∙ ap (λ b. cond b p (get props q)) e) ∙ room q x (sym (left q ∙ ap (λ b. cond b None (get changes q)) e) ∙ there)
 
 -- ---- keys that are missing
-pub among_more : (keys new : List Key) (k q : Key) → new ≡ keys ++ (k ∷ []) → is_among new q ≡ (is_among keys q || (eq_by_cmp key_cmp q k || false))
-among_more keys new k q is = ap (λ keys. is_among keys q) is ∙ list_any-append (eq_by_cmp key_cmp q) keys (k ∷ [])
+pub among_more : (keys new : List Key) (k q : Key) → new ≡ keys ++ (k ∷ []) → is_among_keys new q ≡ (is_among_keys keys q || (eq_by_cmp key_cmp q k || false))
+among_more keys new k q is = ap (λ keys. is_among_keys keys q) is ∙ list_any-append (eq_by_cmp key_cmp q) keys (k ∷ [])
 
 -- one that has nothing is
 pub is_noted : (props : Properties) (keys : List Key) (k : Key) (new : List Key) → is_some (get props k) ≡ false → new ≡ keys ++ (k ∷ []) → NotesKey props keys k new
 is_noted props keys k new free is = record {
-  only = λ q h. by q (is_among keys q) (eq_by_cmp key_cmp q k) refl refl (sym (among_more keys new k q is) ∙ h);
+  only = λ q h. by q (is_among_keys keys q) (eq_by_cmp key_cmp q k) refl refl (sym (among_more keys new k q is) ∙ h);
   others = λ q h. among_more keys new k q is ∙ ap (λ b. b || (eq_by_cmp key_cmp q k || false)) h;
-  noted = inr (among_more keys new k k is ∙ ap (λ b. is_among keys k || (b || false)) (eq_by_cmp_same key_total k) ∙ either (is_among keys k));
+  noted = inr (among_more keys new k k is ∙ ap (λ b. is_among_keys keys k || (b || false)) (eq_by_cmp_same key_total k) ∙ either (is_among_keys keys k));
 }
   where
     none : (o : Option Property) → is_some o ≡ false → o ≡ None
@@ -97,12 +97,12 @@ is_noted props keys k new free is = record {
     either true = refl
     either false = refl
 
-    by : (q : Key) (a b : Bool) → is_among keys q ≡ a → eq_by_cmp key_cmp q k ≡ b → (a || (b || false)) ≡ true → (is_among keys q ≡ true) ⊎ ((q ≡ k) × (get props q ≡ None))
+    by : (q : Key) (a b : Bool) → is_among_keys keys q ≡ a → eq_by_cmp key_cmp q k ≡ b → (a || (b || false)) ≡ true → (is_among_keys keys q ≡ true) ⊎ ((q ≡ k) × (get props q ≡ None))
     by q true b old same h = inl old
     by q false true old same h = let e = eq_by_cmp_true key_exact q k same in inr (e, ap (get props) e ∙ none (get props k) free)
     by q false false old same h = absurd (cc)
 
-module _ (props : Properties) (changes changes' : Changes) (k : Key) (change : Option Property) (is : changes' ≡ insert changes k change) where
+module _ (props : Properties) (changes changes' : KeyChanges) (k : Key) (change : Option Property) (is : changes' ≡ insert changes k change) where
   after : (q : Key) → get changes' q ≡ cond (eq_by_cmp key_cmp q k) (Some change) (get changes q)
   after q = ap (λ m. get m q) is ∙ get-insert key_total changes k change q
 
@@ -114,8 +114,8 @@ module _ (props : Properties) (changes changes' : Changes) (k : Key) (change : O
       by false e = e ∙ h
 
   -- one change more
-  missing_more : (old new : List Key) → AreMissing props changes old → ((q : Key) → is_among new q ≡ true → (is_among old q ≡ true) ⊎ ((q ≡ k) × (get props q ≡ None)))
-      → ((q : Key) → is_among old q ≡ true → is_among new q ≡ true) → (IsSome change → IsSome (get props k) ⊎ (is_among new k ≡ true)) → AreMissing props changes' new
+  missing_more : (old new : List Key) → AreMissing props changes old → ((q : Key) → is_among_keys new q ≡ true → (is_among_keys old q ≡ true) ⊎ ((q ≡ k) × (get props q ≡ None)))
+      → ((q : Key) → is_among_keys old q ≡ true → is_among_keys new q ≡ true) → (IsSome change → IsSome (get props k) ⊎ (is_among_keys new k ≡ true)) → AreMissing props changes' new
   missing_more old new missing only others noted = record {
     absent = λ q h. elim (only q h) [
       | inl among ↦ missing.absent q among
@@ -128,16 +128,16 @@ module _ (props : Properties) (changes changes' : Changes) (k : Key) (change : O
     complete = λ q p h. by q p (eq_by_cmp key_cmp q k) refl (sym (after q) ∙ h);
   }
     where
-      by : (q : Key) (p : Property) (b : Bool) → eq_by_cmp key_cmp q k ≡ b → cond b (Some change) (get changes q) ≡ Some (Some p) → IsSome (get props q) ⊎ (is_among new q ≡ true)
+      by : (q : Key) (p : Property) (b : Bool) → eq_by_cmp key_cmp q k ≡ b → cond b (Some change) (get changes q) ≡ Some (Some p) → IsSome (get props q) ⊎ (is_among_keys new q ≡ true)
       by q p true same h =
           let set : change ≡ Some p = cc in
-          subst (λ x. IsSome (get props x) ⊎ (is_among new x ≡ true)) (sym (eq_by_cmp_true key_exact q k same)) (noted (ap is_some set))
+          subst (λ x. IsSome (get props x) ⊎ (is_among_keys new x ≡ true)) (sym (eq_by_cmp_true key_exact q k same)) (noted (ap is_some set))
       by q p false same h = elim (missing.complete q p h) [
         | inl there ↦ inl there
         | inr among ↦ inr (others q among)
       ]
 
-module _ {A E : Type 0} (props : Properties) (changes changes' : Changes) (k : Key) (old : List Key) where
+module _ {A E : Type 0} (props : Properties) (changes changes' : KeyChanges) (k : Key) (old : List Key) where
   pub taken_more : (r : Result A E) → OnOk r (changes' ≡ insert changes k None) → AreMissing props changes old → OnOk r (AreMissing props changes' old)
   taken_more (Ok x) is missing = missing_more props changes changes' k None is old old missing (λ q h. inl h) (λ q h. h) (λ set. absurd (cc))
   taken_more (Err e) is missing = tt
@@ -158,16 +158,16 @@ none_missing props es keys empty is = record {
   complete = λ q p h. none_some (get (changes_of es) q) (Some p) (ap (λ es. get (changes_of es) q) empty ∙ get-empty key_cmp q) h;
 }
   where
-    nothing : {A : Type 0} (q : Key) → is_among keys q ≡ true → A
-    nothing q h = let both : false ≡ true = sym (ap (λ keys. is_among keys q) is) ∙ h in absurd (cc)
+    nothing : {A : Type 0} (q : Key) → is_among_keys keys q ≡ true → A
+    nothing q h = let both : false ≡ true = sym (ap (λ keys. is_among_keys keys q) is) ∙ h in absurd (cc)
 
-pub comes_more : (patch : List (Bool × Property)) (changes changes' : Changes) (e : Bool × Property) → ComesTo patch changes
+pub comes_more : (patch : List (Bool × Property)) (changes changes' : KeyChanges) (e : Bool × Property) → ComesTo patch changes
     → changes' ≡ insert changes (key_of e.1) (if e.0 then Some e.1 else None) → ComesTo (patch ++ (e ∷ [])) changes'
 comes_more patch changes changes' e comes is props q =
     ap (λ m. get m q) (fold-append patched_by props patch (e ∷ [])) ∙ step e.0 is
   where
     m : Properties
-    m = patched props patch
+    m = patched_properties props patch
 
     k : Key
     k = key_of e.1
@@ -184,49 +184,49 @@ comes_more patch changes changes' e comes is props q =
     step false is = get-remove key_total m k q ∙ noted None is
 
 -- the same in the words of the code
-pub entry_more : (entries : List (Bool × DavProp)) (changes changes' : Changes) (e : Bool × DavProp) → ComesTo (map entry_of entries) changes
-    → changes' ≡ insert changes (key_of (property_of e.1)) (if e.0 then Some (property_of e.1) else None) → ComesTo (map entry_of (entries ++ (e ∷ []))) changes'
+pub entry_more : (entries : List (Bool × DavProp)) (changes changes' : KeyChanges) (e : Bool × DavProp) → ComesTo (map patch_update entries) changes
+    → changes' ≡ insert changes (key_of (property_of e.1)) (if e.0 then Some (property_of e.1) else None) → ComesTo (map patch_update (entries ++ (e ∷ []))) changes'
 entry_more entries changes changes' e comes is =
-    subst (λ patch. ComesTo patch changes') (sym (map-append entry_of entries (e ∷ []))) (comes_more (map entry_of entries) changes changes' (entry_of e) comes is)
+    subst (λ patch. ComesTo patch changes') (sym (map-append patch_update entries (e ∷ []))) (comes_more (map patch_update entries) changes changes' (patch_update e) comes is)
 
-pub answer_more : (entries : List (Bool × DavProp)) (answers answers' : List (ℕ × DavProp)) (e : Bool × DavProp) (a : DavProp) → map answer_of answers ≡ patch_answers (map entry_of entries)
-    → answers' ≡ answers ++ ((200, a) ∷ []) → property_of a ≡ without_xml (property_of e.1) → map answer_of answers' ≡ patch_answers (map entry_of (entries ++ (e ∷ [])))
+pub answer_more : (entries : List (Bool × DavProp)) (answers answers' : List (ℕ × DavProp)) (e : Bool × DavProp) (a : DavProp) → map patch_answer answers ≡ patch_answers (map patch_update entries)
+    → answers' ≡ answers ++ ((200, a) ∷ []) → property_of a ≡ without_xml (property_of e.1) → map patch_answer answers' ≡ patch_answers (map patch_update (entries ++ (e ∷ [])))
 answer_more entries answers answers' e a answered is seen =
-    ap (map answer_of) is ∙ map-append answer_of answers ((200, a) ∷ []) ∙ (λ i. answered i ++ ((200, seen i) ∷ []))
-    ∙ sym (ap patch_answers (map-append entry_of entries (e ∷ [])) ∙ map-append (λ (e : Bool × Property). (200, without_xml e.1)) (map entry_of entries) (entry_of e ∷ []))
+    ap (map patch_answer) is ∙ map-append patch_answer answers ((200, a) ∷ []) ∙ (λ i. answered i ++ ((200, seen i) ∷ []))
+    ∙ sym (ap patch_answers (map-append patch_update entries (e ∷ [])) ∙ map-append (λ (e : Bool × Property). (200, without_xml e.1)) (map patch_update entries) (patch_update e ∷ []))
 
 -- ---- room for what is new
 module _ (keys : List Key) (i : ℕ) (k : Key) (inside : i < length keys) (is : k ≡ get_or keys i k) where
-  other_key : (q : Key) → is_among keys q ≡ false → eq_by_cmp key_cmp q k ≡ false
+  other_key : (q : Key) → is_among_keys keys q ≡ false → eq_by_cmp key_cmp q k ≡ false
   other_key q h = by (eq_by_cmp key_cmp q k) refl
     where
       by : (b : Bool) → eq_by_cmp key_cmp q k ≡ b → b ≡ false
       by true e = let both : true ≡ false = sym (list_any_at (eq_by_cmp key_cmp q) keys i k inside (ap (eq_by_cmp key_cmp q) (sym is) ∙ e)) ∙ h in absurd (cc)
       by false e = refl
 
-  among_next : (q : Key) → is_among (take (i + 1) keys) q ≡ (is_among (take i keys) q || eq_by_cmp key_cmp q k)
-  among_next q = list_any_more (eq_by_cmp key_cmp q) keys i k inside ∙ ap (λ x. is_among (take i keys) q || eq_by_cmp key_cmp q x) (sym is)
+  among_next : (q : Key) → is_among_keys (take (i + 1) keys) q ≡ (is_among_keys (take i keys) q || eq_by_cmp key_cmp q k)
+  among_next q = list_any_more (eq_by_cmp key_cmp q) keys i k inside ∙ ap (λ x. is_among_keys (take i keys) q || eq_by_cmp key_cmp q x) (sym is)
 
   module _ (props between new : Properties) (copy : Key) (same : copy ≡ k) (x : Property) (set : new ≡ insert between copy x) where
     filled : (q : Key) → get new q ≡ cond (eq_by_cmp key_cmp q k) (Some x) (get between q)
     filled q = ap (λ m. get m q) set ∙ get-insert key_total between copy x q ∙ ap (λ k. cond (eq_by_cmp key_cmp q k) (Some x) (get between q)) same
 
-    pub others_stay : ((q : Key) → is_among keys q ≡ false → get between q ≡ get props q) → (q : Key) → is_among keys q ≡ false → get new q ≡ get props q
+    pub others_stay : ((q : Key) → is_among_keys keys q ≡ false → get between q ≡ get props q) → (q : Key) → is_among_keys keys q ≡ false → get new q ≡ get props q
     others_stay stay q h = filled q ∙ ap (λ b. cond b (Some x) (get between q)) (other_key q h) ∙ stay q h
 
-    pub room_made : ((q : Key) → is_among (take i keys) q ≡ true → IsSome (get between q)) → (q : Key) → is_among (take (i + 1) keys) q ≡ true → IsSome (get new q)
-    room_made made q h = by (eq_by_cmp key_cmp q k) (is_among (take i keys) q) refl (sym (among_next q) ∙ h) (ap is_some (filled q))
+    pub room_made : ((q : Key) → is_among_keys (take i keys) q ≡ true → IsSome (get between q)) → (q : Key) → is_among_keys (take (i + 1) keys) q ≡ true → IsSome (get new q)
+    room_made made q h = by (eq_by_cmp key_cmp q k) (is_among_keys (take i keys) q) refl (sym (among_next q) ∙ h) (ap is_some (filled q))
       where
-        by : (b a : Bool) → is_among (take i keys) q ≡ a → (a || b) ≡ true → is_some (get new q) ≡ is_some (cond b (Some x) (get between q)) → IsSome (get new q)
+        by : (b a : Bool) → is_among_keys (take i keys) q ≡ a → (a || b) ≡ true → is_some (get new q) ≡ is_some (cond b (Some x) (get between q)) → IsSome (get new q)
         by true a is h e = e
         by false true is h e = e ∙ made q is
         by false false is h e = absurd (cc)
 
-  pub taken_next : (props between new : Properties) → new ≡ remove between k → ((q : Key) → get between q ≡ cond (is_among (take i keys) q) None (get props q))
-      → (q : Key) → get new q ≡ cond (is_among (take (i + 1) keys) q) None (get props q)
+  pub taken_next : (props between new : Properties) → new ≡ remove between k → ((q : Key) → get between q ≡ cond (is_among_keys (take i keys) q) None (get props q))
+      → (q : Key) → get new q ≡ cond (is_among_keys (take (i + 1) keys) q) None (get props q)
   taken_next props between new gone taken q =
       ap (λ m. get m q) gone ∙ get-remove key_total between k q ∙ ap (cond (eq_by_cmp key_cmp q k) None) (taken q)
-      ∙ by (is_among (take i keys) q) (eq_by_cmp key_cmp q k) ∙ ap (λ b. cond b None (get props q)) (sym (among_next q))
+      ∙ by (is_among_keys (take i keys) q) (eq_by_cmp key_cmp q k) ∙ ap (λ b. cond b None (get props q)) (sym (among_next q))
     where
       by : (a b : Bool) → cond b None (cond a None (get props q)) ≡ cond (a || b) None (get props q)
       by true true = refl
@@ -235,32 +235,32 @@ module _ (keys : List Key) (i : ℕ) (k : Key) (inside : i < length keys) (is : 
       by false false = refl
 
 -- what was put at keys that had nothing, and taken out there, is as if it had not been put
-pub undone : (props between new : Properties) (keys : List Key) → ((q : Key) → is_among keys q ≡ true → get props q ≡ None)
-    → ((q : Key) → is_among keys q ≡ false → get between q ≡ get props q) → ((q : Key) → get new q ≡ (if is_among keys q then None else get between q)) → new ≡ props
-undone props between new keys absent others gone = same_map key_total key_exact new props (λ q. gone q ∙ by q (is_among keys q) refl)
+pub undone : (props between new : Properties) (keys : List Key) → ((q : Key) → is_among_keys keys q ≡ true → get props q ≡ None)
+    → ((q : Key) → is_among_keys keys q ≡ false → get between q ≡ get props q) → ((q : Key) → get new q ≡ (if is_among_keys keys q then None else get between q)) → new ≡ props
+undone props between new keys absent others gone = same_map key_total key_exact new props (λ q. gone q ∙ by q (is_among_keys keys q) refl)
   where
-    by : (q : Key) (b : Bool) → is_among keys q ≡ b → (if b then None else get between q) ≡ get props q
+    by : (q : Key) (b : Bool) → is_among_keys keys q ≡ b → (if b then None else get between q) ≡ get props q
     by q true e = sym (absent q e)
     by q false e = others q e
 
 -- ---- the whole of a patch
-module _ (props room new : Properties) (patch : List (Bool × Property)) (changes : Changes) (keys : List Key) (missing : AreMissing props changes keys)
-    (others : (q : Key) → is_among keys q ≡ false → get room q ≡ get props q) (made : (q : Key) → is_among keys q ≡ true → IsSome (get room q)) where
+module _ (props room new : Properties) (patch : List (Bool × Property)) (changes : KeyChanges) (keys : List Key) (missing : AreMissing props changes keys)
+    (others : (q : Key) → is_among_keys keys q ≡ false → get room q ≡ get props q) (made : (q : Key) → is_among_keys keys q ≡ true → IsSome (get room q)) where
   pub has_room : (q : Key) (p : Property) → get changes q ≡ Some (Some p) → IsSome (get room q)
-  has_room q p h = by (is_among keys q) refl (missing.complete q p h)
+  has_room q p h = by (is_among_keys keys q) refl (missing.complete q p h)
     where
-      by : (b : Bool) → is_among keys q ≡ b → IsSome (get props q) ⊎ (is_among keys q ≡ true) → IsSome (get room q)
+      by : (b : Bool) → is_among_keys keys q ≡ b → IsSome (get props q) ⊎ (is_among_keys keys q ≡ true) → IsSome (get room q)
       by true e kept = made q e
       by false e (inl there) = ap is_some (others q e) ∙ there
       by false e (inr among) = made q among
 
-  pub all_patched : ComesTo patch changes → ((q : Key) → get new q ≡ unwrap_or (get changes q) (get room q)) → new ≡ patched props patch
-  all_patched comes done = same_map key_total key_exact new (patched props patch) (λ q. done q ∙ by q (get changes q) refl ∙ sym (comes props q))
+  pub all_patched : ComesTo patch changes → ((q : Key) → get new q ≡ unwrap_or (get changes q) (get room q)) → new ≡ patched_properties props patch
+  all_patched comes done = same_map key_total key_exact new (patched_properties props patch) (λ q. done q ∙ by q (get changes q) refl ∙ sym (comes props q))
     where
       by : (q : Key) (o : Option (Option Property)) → get changes q ≡ o → unwrap_or o (get room q) ≡ unwrap_or o (get props q)
       by q (Some x) e = refl
-      by q None e = others q (unchanged (is_among keys q) refl)
+      by q None e = others q (unchanged (is_among_keys keys q) refl)
         where
-          unchanged : (b : Bool) → is_among keys q ≡ b → b ≡ false
+          unchanged : (b : Bool) → is_among_keys keys q ≡ b → b ≡ false
           unchanged true among = let both : false ≡ true = sym (ap is_some e) ∙ missing.changed q among in absurd (cc)
           unchanged false among = refl

@@ -11,7 +11,7 @@ use Rattle.std.specs.Map.{lookup, keys_of}
 use Rattle.dav_path_core.specs.Fronts.{segment_cmp}
 use Rattle.dav_path_core.proofs.lists.Orders.{segment_total, segment_exact}
 use Rattle.dav_files_core.specs.declared.fs.properties.DavProp.{DavProp}
-use Rattle.dav_files_core.specs.Private.PropertyMaps.{kept, properties_of}
+use Rattle.dav_files_core.specs.Private.PropertyMaps.{keyed_property, properties_of}
 use Rattle.dav_files_core.specs.Properties.{property_of}
 use Rattle.dav_files_core.specs.Resources.{Property, Properties, key_cmp}
 use Rattle.dav_files_core.proofs.properties.FinMapLemmas.{get-as_map, entries-as_map}
@@ -35,7 +35,7 @@ Kept = (List ℕ × List ℕ) × DavProp
 pub same_key : (k l : List ℕ × List ℕ) → (l.0 ≡ k.0) × (l.1 ≡ k.1) → l ≡ k
 same_key k l h i = (h.0 i, h.1 i)
 
-shown_values : (f : Property → Property) (es : List Kept) → map (λ (p : DavProp). f (property_of p)) (map (λ (e : Kept). e.1) es) ≡ map f (map (λ e. e.1) (map kept es))
+shown_values : (f : Property → Property) (es : List Kept) → map (λ (p : DavProp). f (property_of p)) (map (λ (e : Kept). e.1) es) ≡ map f (map (λ e. e.1) (map keyed_property es))
 shown_values f [] = refl
 shown_values f (e ∷ es) = ap (λ l. f (property_of e.1) ∷ l) (shown_values f es)
 
@@ -54,7 +54,7 @@ listed f es props is up ps all =
 -- the same without references
 pub kept_values : (es : List Kept) (props : Properties) → properties_of es ≡ props → IsStrictlySortedBy key_cmp (keys_of es) → map property_of (map (λ (e : Kept). e.1) es) ≡ values props
 kept_values es props is up =
-    shown_values (λ p. p) es ∙ unmapped (map (λ (e : (List ℕ × List ℕ) × Property). e.1) (map kept es))
+    shown_values (λ p. p) es ∙ unmapped (map (λ (e : (List ℕ × List ℕ) × Property). e.1) (map keyed_property es))
     ∙ ap (map (λ (e : (List ℕ × List ℕ) × Property). e.1)) (sym (entries-as_map key_total key_exact property_of es up)) ∙ ap values is
   where
     unmapped : (ps : List Property) → map (λ p. p) ps ≡ ps

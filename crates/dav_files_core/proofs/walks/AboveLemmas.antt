@@ -5,9 +5,9 @@ use Rattle.std.specs.FinMap.{get}
 use Rattle.dav_path_core.specs.declared.errors.FsError.{FsError}
 use Rattle.dav_path_core.specs.declared.errors.FsError.TheVariants.{NotFound}
 use Rattle.dav_path_core.specs.Fronts.{Segment, Path}
-use Rattle.dav_path_core.specs.Keyed.{parent as parent_number, parent_and_key_of}
+use Rattle.dav_path_core.specs.Keyed.{parent_number, parent_and_key_of}
 use Rattle.dav_files_core.specs.Private.Entries.{StandsIn}
-use Rattle.dav_files_core.specs.Private.Represents.{FileEntry, FileTree, PlaceFits, Represents}
+use Rattle.dav_files_core.specs.Private.FileRepresents.{FileEntry, FileTree, PlaceFits, Represents}
 use Rattle.dav_files_core.specs.Resources.{Resource, ResourceMap, at_path}
 
 pub place_in : (m : ResourceMap) (p : Path) (place : Option (ℕ × Segment)) → PlaceFits m p place → StandsIn m p (option_map (λ q. q.0) place)

@@ -8,7 +8,7 @@ use Rattle.dav_files_core.specs.declared.memfs.Kind.{Kind}
 use Rattle.dav_files_core.specs.declared.memfs.Kind.TheVariants.{Folder, File}
 use Rattle.dav_files_core.specs.Finding.{find, first_found, refusal_at, refusal_below}
 use Rattle.dav_files_core.specs.Outcomes.{◌>>=◌, find_folder, only_folder}
-use Rattle.dav_files_core.specs.Private.TreeCalls.{IsRefused}
+use Rattle.dav_files_core.specs.Private.TreeCalls.{IsRefusedAlike}
 use Rattle.dav_files_core.specs.Resources.{Resource, ResourceMap, at_path, IsResourceMap}
 use Rattle.dav_path_core.specs.Fronts.{Segment, Path, parent, shorter_fronts}
 use Rattle.dav_path_core.proofs.lists.FinMaps.{none_some, one_some}
@@ -83,13 +83,13 @@ module _ (m : ResourceMap) (is_map : IsResourceMap m) where
   all_on p e h [] = ap (find m) (append-nil p) ∙ h
   all_on p e h (s ∷ rest) = ap (find m) (sym (append_assoc p (s ∷ []) rest)) ∙ all_on (p ++ (s ∷ [])) e (one_on p e h s) rest
 
-  pub lost_below : (p : Path) (e : FsError) → find m p ≡ Err e → (s : Segment) (rest : Path) → IsRefused m (p ++ (s ∷ rest)) e
+  pub lost_below : (p : Path) (e : FsError) → find m p ≡ Err e → (s : Segment) (rest : Path) → IsRefusedAlike m (p ++ (s ∷ rest)) e
   lost_below p e h s rest = (
     all_on p e h (s ∷ rest),
     ap (find_folder m) (parent-append p s rest) ∙ ap (λ (f : Result Resource FsError). f >>= only_folder) (all_on p e h (parent (s ∷ rest))),
   )
 
-  pub refused_below : (p : Path) (e : FsError) → IsRefused m p e → (rest : Path) → IsRefused m (p ++ rest) e
+  pub refused_below : (p : Path) (e : FsError) → IsRefusedAlike m p e → (rest : Path) → IsRefusedAlike m (p ++ rest) e
   refused_below p e h [] = (ap (find m) (append-nil p) ∙ h.0, ap (λ q. find_folder m (parent q)) (append-nil p) ∙ h.1)
   refused_below p e h (s ∷ rest) = lost_below p e h.0 s rest
 

@@ -9,7 +9,7 @@ use Rattle.dav_path_core.proofs.lists.FinMaps.{none_some}
 use Rattle.dav_path_core.proofs.lists.Orders.{segment_total}
 use Rattle.dav_path_core.proofs.trees.Trees.{child-some, child-none}
 use Rattle.dav_files_core.specs.Finding.{members, has_members, has_any}
-use Rattle.dav_files_core.specs.Private.Represents.{FileTree, Represents}
+use Rattle.dav_files_core.specs.Private.FileRepresents.{FileTree, Represents}
 use Rattle.dav_files_core.specs.Resources.{Resource, ResourceMap, at_path}
 use Rattle.dav_files_core.proofs.listings.MemberLemmas.{get-members}
 use Rattle.dav_files_core.proofs.changes.LeftLemmas.{child_entry}

@@ -4,7 +4,7 @@ use Rattle.std.specs.Ordering.{nat_cmp}
 use Rattle.std.specs.Cmp.{nat_cmp_total}
 use Rattle.std.specs.FinMap.{get, empty, nat_cmp-IsAntisymmetric, get-empty}
 use Rattle.dav_files_core.specs.Outcomes.{start, new_folder}
-use Rattle.dav_files_core.specs.Private.Represents.{FileEntry, FileTree, Shown, Represents}
+use Rattle.dav_files_core.specs.Private.FileRepresents.{FileEntry, FileTree, ShowsNode, Represents}
 use Rattle.dav_files_core.specs.Resources.{Node, Resource, at_path, IsResourceMap}
 use Rattle.dav_path_core.specs.Fronts.{Path, path_cmp}
 use Rattle.dav_path_core.specs.Keyed.{lone}
@@ -42,7 +42,7 @@ module _ (now : ℕ) (item : Node) (is : item ≡ new_folder now) where
   abbrev placed : FileEntry
   placed = record { parent_and_key = None; item = item }
 
-  root_shown : (p : Path) (r : Resource) → p ≡ [] → r ≡ root_entry now → Shown tree (start now) p r
+  root_shown : (p : Path) (r : Resource) → p ≡ [] → r ≡ root_entry now → ShowsNode tree (start now) p r
   root_shown p r e h = record {
     placed = placed;
     stored = ap (λ (r : Resource). get tree.nodes r.number) h ∙ get_same nat_cmp_total nat_cmp-IsAntisymmetric empty 1 placed;

@@ -8,9 +8,9 @@ use Rattle.dav_path_core.specs.declared.errors.FsError.TheVariants.{NotFound, Fo
 use Rattle.dav_files_core.specs.declared.memfs.Kind.{Kind}
 use Rattle.dav_files_core.specs.declared.memfs.Kind.TheVariants.{Folder, File}
 use Rattle.dav_files_core.specs.Outcomes.{◌>>=◌, find_folder, only_folder}
-use Rattle.dav_files_core.specs.Private.Represents.{FileEntry, FileTree, Represents}
+use Rattle.dav_files_core.specs.Private.FileRepresents.{FileEntry, FileTree, Represents}
 use Rattle.dav_files_core.specs.Resources.{Node, Resource, ResourceMap, at_path, IsResourceMap}
-use Rattle.dav_files_core.specs.Private.TreeCalls.{IsEntry, IsMissing, IsRefused, IsMember}
+use Rattle.dav_files_core.specs.Private.TreeCalls.{IsEntry, IsMissing, IsRefusedAlike, IsMember}
 use Rattle.dav_path_core.specs.Fronts.{Segment, Path}
 use Rattle.dav_files_core.proofs.walks.WalkLemmas.{node_below}
 use Rattle.dav_files_core.proofs.walks.FoundLemmas.{parent-snoc, find_there, find_below, lost_below, refused_below, file_stuck}
@@ -34,7 +34,7 @@ pub one_more : (path : Path) (i : ℕ) (name : Segment) → i < length path → 
 one_more path i name inside is = take_more path i [] inside ∙ ap (λ s. take i path ++ (s ∷ [])) is
 
 module _ (t : FileTree) (m : ResourceMap) (rep : Represents t m) (p : Path) (r : Resource) (here : at_path m p ≡ Some r) (id : ℕ) (number : r.number ≡ id) (name : Segment) where
-  pub below_file : (n : FileEntry) → get t.nodes id ≡ Some n → n.item.kind ≡ File → IsRefused m (p ++ (name ∷ [])) Forbidden
+  pub below_file : (n : FileEntry) → get t.nodes id ≡ Some n → n.item.kind ≡ File → IsRefusedAlike m (p ++ (name ∷ [])) Forbidden
   below_file n stored file =
       let kind : r.node.kind ≡ File = ap (λ (n : Node). n.kind) (sym (item_is t m rep p r here id number n stored)) ∙ file in
       let above : find_folder m p ≡ Err Forbidden = ap (λ (f : Result Resource FsError). f >>= only_folder) (find_there m p r here) ∙ ap (λ k. elim k [ Folder ↦ Ok r | File ↦ Err Forbidden ]) kind in (
@@ -67,10 +67,10 @@ pub at_root : (m : ResourceMap) → IsResourceMap m → IsEntry m [] 1
 at_root m is_map = let root = is_map.root in (root.0, find_there m [] root.0 root.1, root.2)
 
 module _ (m : ResourceMap) (is_map : IsResourceMap m) (path : Path) (i : ℕ) (name : Segment) (inside : i < length path) (is : get_or path i [] ≡ name) where
-  pub behind_refused : (e : FsError) → IsRefused m (take i path ++ (name ∷ [])) e → IsRefused m path e
+  pub behind_refused : (e : FsError) → IsRefusedAlike m (take i path ++ (name ∷ [])) e → IsRefusedAlike m path e
   behind_refused e h =
       let whole : (take i path ++ (name ∷ [])) ++ drop (suc i) path ≡ path = append_assoc (take i path) (name ∷ []) (drop (suc i) path) ∙ cut_at path i name inside is in
-      subst (λ q. IsRefused m q e) whole (refused_below m is_map (take i path ++ (name ∷ [])) e h (drop (suc i) path))
+      subst (λ q. IsRefusedAlike m q e) whole (refused_below m is_map (take i path ++ (name ∷ [])) e h (drop (suc i) path))
 
-  pub behind_missing : (folder : ℕ) (s : Segment) → IsMissing m (take i path) folder s → IsRefused m path NotFound
-  behind_missing folder s h = subst (λ q. IsRefused m q NotFound) (cut_at path i name inside is) (lost_below m is_map (take i path) NotFound h.0 name (drop (suc i) path))
+  pub behind_missing : (folder : ℕ) (s : Segment) → IsMissing m (take i path) folder s → IsRefusedAlike m path NotFound
+  behind_missing folder s h = subst (λ q. IsRefusedAlike m q NotFound) (cut_at path i name inside is) (lost_below m is_map (take i path) NotFound h.0 name (drop (suc i) path))

@@ -8,8 +8,8 @@ use Rattle.std.specs.Cmp.{nat_cmp_total}
 use Rattle.std.specs.FinMap.{get, entries, len}
 use Rattle.std.proofs.lemmas.Bool.{eqb-true, false≢true}
 use Rattle.dav_path_core.specs.Fronts.{Segment, Path}
-use Rattle.dav_path_core.specs.Keyed.{item, parent, parent_and_key, parent_and_key_of, IsKnown, IsIn}
-use Rattle.dav_path_core.specs.Walking.{IsWalk as IsTreeWalk}
+use Rattle.dav_path_core.specs.Keyed.{item, parent_number, parent_and_key, parent_and_key_of, IsKnown, IsIn}
+use Rattle.dav_path_core.specs.Walking.{IsTreeWalk}
 use Rattle.dav_path_core.proofs.children.Chains.{in_here, in_later, none_twice, later_distinct}
 use Rattle.dav_path_core.proofs.lists.EntryLemmas.{In-entries, entries-In, entries_once}
 use Rattle.dav_path_core.proofs.lists.Every.{not_empty}
@@ -19,10 +19,10 @@ use Rattle.dav_path_core.proofs.lists.SameMembers.{NoneTwice, In-there, In-map, 
 use Rattle.dav_path_core.proofs.trees.Trees.{none≢some, same_some}
 use Rattle.dav_files_core.specs.Outcomes.{new_folder}
 use Rattle.dav_files_core.specs.Private.Entries.{StandsIn}
-use Rattle.dav_files_core.specs.Private.Represents.{FileEntry, FileTree, Represents, path_of}
+use Rattle.dav_files_core.specs.Private.FileRepresents.{FileEntry, FileTree, Represents, node_path}
 use Rattle.dav_files_core.specs.Private.Stored.{stored_with, stored_at, AreKnown}
 use Rattle.dav_files_core.specs.Resources.{Node, Resource, ResourceMap, at_path}
-use Rattle.dav_files_core.specs.Walks.{entry_of, StandsBehind, IsWalk}
+use Rattle.dav_files_core.specs.Walks.{stored_entry, StandsBehind, IsMapWalk}
 use Rattle.dav_files_core.proofs.moves.RenamedLemmas.{last_is}
 use Rattle.dav_files_core.proofs.walks.AboveLemmas.{place_in}
 use Rattle.dav_files_core.proofs.walks.RecoverLemmas.{entry_is}
@@ -71,21 +71,21 @@ module _ (t : FileTree) (n : ℕ) (known : IsKnown t n) where
 
   -- the path of a number ends in its key
   ends : (place : Option (ℕ × Segment)) → parent_and_key t n ≡ place → (steps : ℕ) → 0 < steps
-      → unwrap_or (last_or None (path_of t.nodes steps n)) [] ≡ option_map_or (λ q. q.1) place []
+      → unwrap_or (last_or None (node_path t.nodes steps n)) [] ≡ option_map_or (λ q. q.1) place []
   ends place is zero some = absurd (omega (arith, some))
   ends place is (suc steps) some =
       let e = stored_there in
       let up : e.0.parent_and_key ≡ place = sym (ap parent_and_key_of e.1) ∙ is in
-      let g : Option (ℕ × Segment) → Path = λ o. option_map_or (λ (place : ℕ × Segment). path_of t.nodes steps place.0 ++ (place.1 ∷ [])) o [] in
-      let path : path_of t.nodes (suc steps) n ≡ g place = ap (λ (o : Option FileEntry). g (option_and_then (λ n. n.parent_and_key) o)) e.1 ∙ ap g up in
+      let g : Option (ℕ × Segment) → Path = λ o. option_map_or (λ (place : ℕ × Segment). node_path t.nodes steps place.0 ++ (place.1 ∷ [])) o [] in
+      let path : node_path t.nodes (suc steps) n ≡ g place = ap (λ (o : Option FileEntry). g (option_and_then (λ n. n.parent_and_key) o)) e.1 ∙ ap g up in
       ap (λ (p : Path). unwrap_or (last_or None p) []) path ∙ by place
     where
       by : (place : Option (ℕ × Segment))
-          → unwrap_or (last_or None (option_map_or (λ (place : ℕ × Segment). path_of t.nodes steps place.0 ++ (place.1 ∷ [])) place [])) [] ≡ option_map_or (λ q. q.1) place []
+          → unwrap_or (last_or None (option_map_or (λ (place : ℕ × Segment). node_path t.nodes steps place.0 ++ (place.1 ∷ [])) place [])) [] ≡ option_map_or (λ q. q.1) place []
       by None = refl
-      by (Some place) = ap (λ (o : Option Segment). unwrap_or o []) (last_is None (path_of t.nodes steps place.0) place.1)
+      by (Some place) = ap (λ (o : Option Segment). unwrap_or o []) (last_is None (node_path t.nodes steps place.0) place.1)
 
-  pub name_of : (place : Option (ℕ × Segment)) → parent_and_key t n ≡ place → unwrap_or (last_or None (path_of t.nodes (len t.nodes) n)) [] ≡ option_map_or (λ q. q.1) place []
+  pub name_of : (place : Option (ℕ × Segment)) → parent_and_key t n ≡ place → unwrap_or (last_or None (node_path t.nodes (len t.nodes) n)) [] ≡ option_map_or (λ q. q.1) place []
   name_of place is = ends place is (len t.nodes) (not_empty nat_cmp_total t.nodes n stored_there.0 stored_there.1)
 
 module _ (t : FileTree) (m : ResourceMap) (rep : Represents t m) where
@@ -99,7 +99,7 @@ module _ (t : FileTree) (m : ResourceMap) (rep : Represents t m) where
   stands_here n known = let e = stored_there t n known in here_with n e.0 e.1
 
   -- and each entry is what stands at its number
-  entry_stored : (p : Path) (r : Resource) → at_path m p ≡ Some r → entry_of (stored_at t r.number) ≡ (p, r)
+  entry_stored : (p : Path) (r : Resource) → at_path m p ≡ Some r → stored_entry (stored_at t r.number) ≡ (p, r)
   entry_stored p r here =
       let s = rep.shown p r here in
       let there = here_with r.number s.placed s.stored in
@@ -110,19 +110,19 @@ module _ (t : FileTree) (m : ResourceMap) (rep : Represents t m) where
   entry_known : (p : Path) (r : Resource) → at_path m p ≡ Some r → IsKnown t r.number
   entry_known p r here = ap is_some (rep.shown p r here).stored
 
-  folder_stored : (n : ℕ) → IsKnown t n → StandsIn m (stored_at t n).path (parent t n)
+  folder_stored : (n : ℕ) → IsKnown t n → StandsIn m (stored_at t n).path (parent_number t n)
   folder_stored n known =
       let e = stored_there t n known in
       let (p, here, fits) = entry_of_node t m rep n e.0 e.1 in
       let path : (stored_at t n).path ≡ p = rep.is_map.apart (stored_at t n).path p (stored_at t n).resource _ (stands_here n known) here refl in
-      let up : parent t n ≡ option_map (λ q. q.0) e.0.parent_and_key = ap (λ (o : Option FileEntry). option_map (λ q. q.0) (parent_and_key_of o)) e.1 in
-      subst (λ q. StandsIn m q (parent t n)) (sym path) (subst (StandsIn m p) (sym up) (place_in m p e.0.parent_and_key fits))
+      let up : parent_number t n ≡ option_map (λ q. q.0) e.0.parent_and_key = ap (λ (o : Option FileEntry). option_map (λ q. q.0) (parent_and_key_of o)) e.1 in
+      subst (λ q. StandsIn m q (parent_number t n)) (sym path) (subst (StandsIn m p) (sym up) (place_in m p e.0.parent_and_key fits))
 
   module _ (ns : List ℕ) (w : IsTreeWalk t ns) where
     abbrev entry_at : ℕ → Path × Resource
-    entry_at n = entry_of (stored_at t n)
+    entry_at n = stored_entry (stored_at t n)
 
-    permuted : IsPermutation (entries m.entries) (map (λ n. entry_of (stored_at t n)) ns)
+    permuted : IsPermutation (entries m.entries) (map (λ n. stored_entry (stored_at t n)) ns)
     permuted =
         permutes (map entry_at ns) (entries m.entries) (entries_once path_total m.entries)
         (NoneTwice-map entry_at (λ x y e. ap (λ (q : Path × Resource). q.1.number) e) ns (once_numbers ns w.once))
@@ -135,13 +135,13 @@ module _ (t : FileTree) (m : ResourceMap) (rep : Represents t m) where
         subst (λ v. In v (entries m.entries)) n.2
         (entries-In path_total path_exact m.entries _ _ (stands_here n.0 ((w.members n.0).0 (In_any n.0 ns n.1)))))
 
-    behind_here : (a b : List ℕ) (x : ℕ) → ns ≡ a ++ x ∷ b → StandsBehind (map (stored_at t) a) (stored_at t x).path (parent t x)
-    behind_here a b x split = by (parent t x) refl
+    behind_here : (a b : List ℕ) (x : ℕ) → ns ≡ a ++ x ∷ b → StandsBehind (map (stored_at t) a) (stored_at t x).path (parent_number t x)
+    behind_here a b x split = by (parent_number t x) refl
       where
         known : IsKnown t x
         known = (w.members x).0 (subst (IsIn x) (sym split) (In_any x (a ++ x ∷ b) (In-there a x b)))
 
-        by : (o : Option ℕ) → parent t x ≡ o → StandsBehind (map (stored_at t) a) (stored_at t x).path o
+        by : (o : Option ℕ) → parent_number t x ≡ o → StandsBehind (map (stored_at t) a) (stored_at t x).path o
         by None e = subst (StandsIn m (stored_at t x).path) e (folder_stored x known)
         by (Some k) e =
             let s = subst (StandsIn m (stored_at t x).path) e (folder_stored x known) in
@@ -149,9 +149,9 @@ module _ (t : FileTree) (m : ResourceMap) (rep : Represents t m) where
             let path : (stored_at t k).path ≡ s.0 = ap (λ v. (stored_at t v).path) (sym s.5) ∙ ap (λ (q : Path × Resource). q.0) (entry_stored s.0 s.2 s.4) in
             (stored_at t k, s.1, Contains-In (map (stored_at t) a) (stored_at t k) (In-map (stored_at t) a k before), refl, s.3 ∙ ap (λ q. q ++ s.1 ∷ []) (sym path))
 
-    pub walks : IsWalk m (map (stored_at t) ns)
+    pub walks : IsMapWalk m (map (stored_at t) ns)
     walks = record {
-      all = subst (IsPermutation (entries m.entries)) (sym (two_maps (stored_at t) entry_of ns)) permuted;
+      all = subst (IsPermutation (entries m.entries)) (sym (two_maps (stored_at t) stored_entry ns)) permuted;
       behind = λ front rest s e.
           let r = map_front (stored_at t) ns front s rest e in
           subst (λ f. StandsBehind f s.path s.folder) (sym r.4) (subst (λ v. StandsBehind (map (stored_at t) r.0) v.path v.folder) (sym r.5) (behind_here r.0 r.2 r.1 r.3));

@@ -2,9 +2,9 @@
 use Rattle.std.proofs.Common.{◌≡◌, ℕ, [], ◌∷◌, ◌++◌, Option, Some, None, refl, sym, ap, ◌∙◌, subst, append_assoc, append-nil}
 use Rattle.std.specs.Option.{option_map}
 use Rattle.dav_path_core.specs.Fronts.{Segment, Path}
-use Rattle.dav_path_core.specs.Keyed.{Under, here, below, parent as parent_number, parent_and_key_of}
+use Rattle.dav_path_core.specs.Keyed.{Under, here, below, parent_number, parent_and_key_of}
 use Rattle.dav_path_core.proofs.trees.Trees.{none≢some, same_some}
-use Rattle.dav_files_core.specs.Private.Represents.{FileEntry, FileTree, PlaceFits, Shown, Represents}
+use Rattle.dav_files_core.specs.Private.FileRepresents.{FileEntry, FileTree, PlaceFits, ShowsNode, Represents}
 use Rattle.dav_files_core.specs.Resources.{Resource, ResourceMap, at_path}
 use Rattle.dav_files_core.proofs.moves.MovingLemmas.{front_there}
 use Rattle.dav_files_core.proofs.walks.WalkLemmas.{node_below}
@@ -20,7 +20,7 @@ module _ (t : FileTree) (m : ResourceMap) (rep : Represents t m) where
       → (q' : Path) × (name : Segment) × (f : Resource) × (q ≡ q' ++ (name ∷ [])) × (at_path m q' ≡ Some f) × (f.number ≡ par)
   above q s there par h = by shown.placed.parent_and_key refl shown.fits
     where
-      shown : Shown t m q s
+      shown : ShowsNode t m q s
       shown = rep.shown q s there
 
       number : (o : Option (ℕ × Segment)) → shown.placed.parent_and_key ≡ o → Some par ≡ option_map (λ (q : ℕ × Segment). q.0) o

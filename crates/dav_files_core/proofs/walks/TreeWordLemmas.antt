@@ -7,12 +7,12 @@ use Rattle.std.specs.Cmp.Lexicographic.{pointwise, bytes_decides}
 use Rattle.std.proofs.lemmas.Bool.{true≢false, ne_eqb}
 use Rattle.dav_path_core.specs.declared.errors.FsError.{FsError}
 use Rattle.dav_path_core.specs.declared.errors.FsError.TheVariants.{NotFound, Exists, Forbidden, InsufficientStorage}
-use Rattle.dav_files_core.specs.Properties.{patched}
+use Rattle.dav_files_core.specs.Properties.{patched_properties}
 use Rattle.dav_files_core.specs.Resources.{Node, Properties, Property}
-use Rattle.dav_files_core.specs.Private.Represents.{FileTree, FileEntry}
+use Rattle.dav_files_core.specs.Private.FileRepresents.{FileTree, FileEntry}
 use Rattle.dav_files_core.specs.Private.TreeCalls.{IsMember, FindsMember, FindsNode, WritesFile, SetsNode, IsThere}
-use Rattle.dav_path_core.specs.Answers.{Answers}
-use Rattle.dav_path_core.specs.Keyed.{entry, item, parent_and_key, parent_and_key_of, child, add, add_refusal, restored, restore_refusal, with_item, with_item_at}
+use Rattle.dav_path_core.specs.StoreAnswers.{AnswersUnlessRefused}
+use Rattle.dav_path_core.specs.Keyed.{entry, item, parent_and_key, parent_and_key_of, child, add, add_refusal, with_restored_node, restore_refusal, with_item, with_item_at}
 use Rattle.dav_path_core.specs.TreeValue.{TreeValue}
 use Rattle.dav_path_core.specs.Fronts.{Segment}
 use Rattle.dav_path_core.proofs.lists.FinMaps.{insert_same}
@@ -62,7 +62,7 @@ module _ (old new : TreeValue Segment Node) (folder : ℕ) (name : Segment) (nod
           absurd (free.1 c (subst (λ k. IsMember old.keyed folder k c) (sym ((bytes_decides name w.0).0 w.2)) (stands old.keyed c folder w.0 w.1)))
 
   abbrev Added : Result ℕ FsError → Type 0
-  Added r = Answers (add_refusal (pointwise nat_eq) old.keyed folder name false) r
+  Added r = AnswersUnlessRefused (add_refusal (pointwise nat_eq) old.keyed folder name false) r
       (λ n. (n ≡ old.keyed.next) × (new.keyed ≡ add old.keyed folder name node)) (new ≡ old)
 
   pub added_ok : (r : Result ℕ FsError) → Added r → IfOk r (λ id. (id ≡ old.keyed.next) × (new.keyed ≡ add old.keyed folder name node))
@@ -79,9 +79,9 @@ module _ (old new : TreeValue Segment Node) (folder : ℕ) (name : Segment) (nod
   -- the same of one that has its number
   module _ (number : ℕ) where
     abbrev Restored : Result (Unit {0}) FsError → Type 0
-    Restored r = Answers (restore_refusal old.keyed folder number) r (λ _. new.keyed ≡ restored old.keyed folder name node number) (new ≡ old)
+    Restored r = AnswersUnlessRefused (restore_refusal old.keyed folder number) r (λ _. new.keyed ≡ with_restored_node old.keyed folder name node number) (new ≡ old)
 
-    pub restored_ok : (r : Result (Unit {0}) FsError) → Restored r → OnOk r (new.keyed ≡ restored old.keyed folder name node number)
+    pub restored_ok : (r : Result (Unit {0}) FsError) → Restored r → OnOk r (new.keyed ≡ with_restored_node old.keyed folder name node number)
     restored_ok (Ok n) a = a.1
     restored_ok (Err e) a = tt
 
@@ -138,8 +138,8 @@ module _ (t : FileTree) where
 
 -- a node whose properties are patched, if it can be done
 module _ {A : Type 0} (old now : Node) (is : old ≡ now) (props : Properties) (patch : List (Bool × Property)) where
-  pub patched_ok : (r : Result A FsError) → OnOk r (props ≡ patched old.props patch) → OnOk r (record old { props = props } ≡ record now { props = patched now.props patch })
-  patched_ok (Ok x) h = ap (λ props. record old { props = props }) h ∙ ap (λ (n : Node). record n { props = patched n.props patch }) is
+  pub patched_ok : (r : Result A FsError) → OnOk r (props ≡ patched_properties old.props patch) → OnOk r (record old { props = props } ≡ record now { props = patched_properties now.props patch })
+  patched_ok (Ok x) h = ap (λ props. record old { props = props }) h ∙ ap (λ (n : Node). record n { props = patched_properties n.props patch }) is
   patched_ok (Err e) h = tt
 
   pub patched_err : (P : A → Type 0) (r : Result A FsError) → MatchResult r P (λ e. e ≡ InsufficientStorage) → OnErr r (props ≡ old.props)

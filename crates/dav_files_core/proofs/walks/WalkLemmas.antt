@@ -1,7 +1,7 @@
 -- Looking a path up is walking the tree by keys, one key at a time.
 use Rattle.std.proofs.Common.{◌≡◌, ℕ, [], ◌∷◌, ◌++◌, Some, None, refl, sym, ap, ◌∙◌, subst}
 use Rattle.std.specs.FinMap.{get}
-use Rattle.dav_files_core.specs.Private.Represents.{FileEntry, FileTree, PlaceFits, Shown, Represents}
+use Rattle.dav_files_core.specs.Private.FileRepresents.{FileEntry, FileTree, PlaceFits, ShowsNode, Represents}
 use Rattle.dav_files_core.specs.Resources.{Node, Resource, ResourceMap, at_path}
 use Rattle.dav_path_core.specs.Fronts.{Segment, Path}
 use Rattle.dav_path_core.proofs.lists.FinMaps.{one_some}
@@ -21,7 +21,7 @@ module _ (t : FileTree) (m : ResourceMap) where
       → (p : Path) × (at_path m p ≡ Some (record { number = id; node = n.item })) × PlaceFits m p n.parent_and_key
   entry_of_node rep id n stored =
       let e : (p : Path) × (r : Resource) × (at_path m p ≡ Some r) × (r.number ≡ id) = rep.all id n stored in
-      let shown : Shown t m e.0 e.1 = rep.shown e.0 e.1 e.2 in
+      let shown : ShowsNode t m e.0 e.1 = rep.shown e.0 e.1 e.2 in
       let both = same_node id n e.0 e.1 shown.placed stored e.2 e.3 shown.stored shown.shown shown.fits in
       (e.0, both.0, both.1)
 
@@ -38,7 +38,7 @@ module _ (t : FileTree) (m : ResourceMap) where
   pub node_below : Represents t m → (p : Path) (r : Resource) (s : Segment) (c : Resource) → at_path m p ≡ Some r → at_path m (p ++ (s ∷ [])) ≡ Some c
       → (k : Segment) × (item : Node) × (get t.nodes c.number ≡ Some (record { parent_and_key = Some (r.number, k); item = item })) × (k ≡ s) × (item ≡ c.node)
   node_below rep p r s c here below =
-      let shown : Shown t m (p ++ (s ∷ [])) c = rep.shown _ c below in
+      let shown : ShowsNode t m (p ++ (s ∷ [])) c = rep.shown _ c below in
       by_place shown.placed shown.stored shown.shown shown.fits
     where
       by_place : (n : FileEntry) → get t.nodes c.number ≡ Some n → n.item ≡ c.node → PlaceFits m (p ++ (s ∷ [])) n.parent_and_key

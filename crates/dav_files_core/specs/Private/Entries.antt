@@ -7,18 +7,18 @@ use Rattle.dav_files_core.specs.declared.memfs.Kind.TheVariants.{Folder, File}
 use Rattle.dav_files_core.specs.Resources.{Node, Resource, ResourceMap, at_path}
 use Rattle.dav_files_core.specs.Finding.{has_members}
 use Rattle.dav_files_core.specs.Folders.{is_root}
-use Rattle.dav_files_core.specs.Renaming.{relocated}
+use Rattle.dav_files_core.specs.Renaming.{relocated_map}
 use Rattle.dav_files_core.specs.Outcomes.{Outcome, ◌>>=◌, find_folder, without}
 
 -- some entry has the number
 abbrev pub HasNumber : ResourceMap → ℕ → Type 0
 HasNumber m id = (p : Path) × (r : Resource) × (at_path m p ≡ Some r) × (r.number ≡ id)
 
-abbrev pub HasFile : ResourceMap → ℕ → Type 0
-HasFile m id = (p : Path) × (r : Resource) × (at_path m p ≡ Some r) × (r.number ≡ id) × (r.node.kind ≡ File)
+abbrev pub HasFileNumbered : ResourceMap → ℕ → Type 0
+HasFileNumbered m id = (p : Path) × (r : Resource) × (at_path m p ≡ Some r) × (r.number ≡ id) × (r.node.kind ≡ File)
 
-abbrev pub HasFolder : ResourceMap → ℕ → Type 0
-HasFolder m id = (p : Path) × (r : Resource) × (at_path m p ≡ Some r) × (r.number ≡ id) × (r.node.kind ≡ Folder)
+abbrev pub HasFolderNumbered : ResourceMap → ℕ → Type 0
+HasFolderNumbered m id = (p : Path) × (r : Resource) × (at_path m p ≡ Some r) × (r.number ≡ id) × (r.node.kind ≡ Folder)
 
 -- the folder in which a path stands, by its number; the root stands in none
 abbrev pub StandsIn : ResourceMap → Path → Option ℕ → Type 0
@@ -41,4 +41,4 @@ taken_out m p = if is_root p || has_members m p then Err Forbidden else Ok (tt, 
 
 -- an entry is put elsewhere, with all below it
 abbrev pub put_there : ResourceMap → Path → Path → Outcome (Unit {0})
-put_there m from to = relocated m from to >>= λ m. Ok (tt, m)
+put_there m from to = relocated_map m from to >>= λ m. Ok (tt, m)

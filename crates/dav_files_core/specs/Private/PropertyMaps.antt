@@ -6,11 +6,11 @@ use Rattle.dav_files_core.specs.Properties.{key_of, property_of}
 use Rattle.dav_files_core.specs.Resources.{Property, Properties}
 
 -- a key and its property
-abbrev pub kept : (List ℕ × List ℕ) × DavProp → (List ℕ × List ℕ) × Property
-kept e = (e.0, property_of e.1)
+abbrev pub keyed_property : (List ℕ × List ℕ) × DavProp → (List ℕ × List ℕ) × Property
+keyed_property e = (e.0, property_of e.1)
 
 abbrev pub properties_of : List ((List ℕ × List ℕ) × DavProp) → Properties
-properties_of es = from_entries (map kept es)
+properties_of es = from_entries (map keyed_property es)
 
 -- each property stands at its own key
 abbrev pub AreKeyed : Properties → Type 0

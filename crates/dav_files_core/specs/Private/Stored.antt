@@ -2,15 +2,15 @@
 use Rattle.std.specs.Prelude.{◌≡◌, ℕ, List, Some, unwrap_or}
 use Rattle.std.specs.FinMap.{len}
 use Rattle.std.specs.List.{AllByRecursion}
-use Rattle.dav_path_core.specs.Keyed.{item, parent, IsKnown}
+use Rattle.dav_path_core.specs.Keyed.{item, parent_number, IsKnown}
 use Rattle.dav_files_core.specs.Outcomes.{new_folder}
 use Rattle.dav_files_core.specs.Resources.{Node}
 use Rattle.dav_files_core.specs.Walks.{Stored}
-use Rattle.dav_files_core.specs.Private.Represents.{FileTree, path_of}
+use Rattle.dav_files_core.specs.Private.FileRepresents.{FileTree, node_path}
 
 -- at a number, with that node
 abbrev pub stored_with : FileTree → ℕ → Node → Stored
-stored_with t id node = record { path = path_of t.nodes (len t.nodes) id; resource = record { number = id; node = node }; folder = parent t id }
+stored_with t id node = record { path = node_path t.nodes (len t.nodes) id; resource = record { number = id; node = node }; folder = parent_number t id }
 
 -- an empty folder where nothing stands
 abbrev pub stored_at : FileTree → ℕ → Stored

@@ -10,11 +10,11 @@ use Rattle.dav_files_core.specs.declared.memfs.Target.TheVariants.{Entry, Missin
 use Rattle.dav_files_core.specs.Resources.{Node, Resource, ResourceMap}
 use Rattle.dav_files_core.specs.Finding.{find}
 use Rattle.dav_files_core.specs.Outcomes.{◌>>=◌, find_folder}
-use Rattle.dav_files_core.specs.Private.Represents.{FileTree, FileEntry}
+use Rattle.dav_files_core.specs.Private.FileRepresents.{FileTree, FileEntry}
 
 -- the number of the entry at a path
-abbrev pub number_of : ResourceMap → Path → Result ℕ FsError
-number_of m p = find m p >>= λ r. Ok r.number
+abbrev pub entry_number : ResourceMap → Path → Result ℕ FsError
+entry_number m p = find m p >>= λ r. Ok r.number
 
 -- an entry with a number
 abbrev pub IsEntry : ResourceMap → Path → ℕ → Type 0
@@ -25,14 +25,14 @@ abbrev pub IsMissing : ResourceMap → Path → ℕ → Segment → Type 0
 IsMissing m p folder name = (find m p ≡ Err NotFound) × (p ≡ parent p ++ (name ∷ [])) × ((r : Resource) × (find_folder m (parent p) ≡ Ok r) × (r.number ≡ folder))
 
 -- neither an entry nor its folder is found, and both for one reason
-abbrev pub IsRefused : ResourceMap → Path → FsError → Type 0
-IsRefused m p e = (find m p ≡ Err e) × (find_folder m (parent p) ≡ Err e)
+abbrev pub IsRefusedAlike : ResourceMap → Path → FsError → Type 0
+IsRefusedAlike m p e = (find m p ≡ Err e) × (find_folder m (parent p) ≡ Err e)
 
 -- where a path is found to lead
-abbrev pub LeadsTo : ResourceMap → Path → Result Target FsError → Type 0
-LeadsTo m p (Ok (Entry id)) = IsEntry m p id
-LeadsTo m p (Ok (Missing folder name)) = IsMissing m p folder name.now
-LeadsTo m p (Err e) = IsRefused m p e
+abbrev pub LeadsToTarget : ResourceMap → Path → Result Target FsError → Type 0
+LeadsToTarget m p (Ok (Entry id)) = IsEntry m p id
+LeadsToTarget m p (Ok (Missing folder name)) = IsMissing m p folder name.now
+LeadsToTarget m p (Err e) = IsRefusedAlike m p e
 
 -- the member of a folder with a name, by its number
 abbrev pub IsMember : FileTree → ℕ → Segment → ℕ → Type 0

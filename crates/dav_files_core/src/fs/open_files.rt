@@ -2,9 +2,9 @@
 ghost use Rattle.std.specs.Prelude.{◌≡◌, ℕ, Bool, List, [], Option, Ok, IfOk, IfErr, OnOk, OnErr};
 ghost use Rattle.dav_path_core.specs.Fronts.{Path};
 ghost use Rattle.dav_files_core.specs.declared.fs.OpenOptions.{OpenOptions};
-ghost use Rattle.dav_files_core.specs.Parts.{write_at};
-ghost use Rattle.dav_files_core.specs.Putting.{put};
-ghost use Rattle.dav_files_core.specs.Copying.{copy};
+ghost use Rattle.dav_files_core.specs.ContentParts.{write_at};
+ghost use Rattle.dav_files_core.specs.ResourcePutting.{put};
+ghost use Rattle.dav_files_core.specs.ResourceCopying.{copy};
 ghost use Rattle.dav_files_core.specs.Folders.{create_dir, remove};
 ghost use Rattle.dav_files_core.specs.Following.{NeverAgain, OthersStay, TakesAlong, TakesPlace};
 ghost use Rattle.dav_files_core.specs.OpenFiles.{open_metadata, read_bytes, seek, write_bytes};

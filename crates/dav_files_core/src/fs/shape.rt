@@ -2,13 +2,13 @@
 ghost use Rattle.std.specs.Prelude.{◌≡◌, ℕ, Bool, List, Option, Ok};
 ghost use Rattle.dav_path_core.specs.Fronts.{Path};
 ghost use Rattle.dav_files_core.specs.declared.fs.OpenOptions.{OpenOptions};
-ghost use Rattle.dav_files_core.specs.Copying.{copy};
+ghost use Rattle.dav_files_core.specs.ResourceCopying.{copy};
 ghost use Rattle.dav_files_core.specs.Folders.{create_dir, remove};
 ghost use Rattle.dav_files_core.specs.OpenFiles.{write_bytes};
 ghost use Rattle.dav_files_core.specs.Opening.{OpenFile, opening};
-ghost use Rattle.dav_files_core.specs.Parts.{write_at};
+ghost use Rattle.dav_files_core.specs.ContentParts.{write_at};
 ghost use Rattle.dav_files_core.specs.Properties.{patch_props};
-ghost use Rattle.dav_files_core.specs.Putting.{put};
+ghost use Rattle.dav_files_core.specs.ResourcePutting.{put};
 ghost use Rattle.dav_files_core.specs.Renaming.{rename};
 ghost use Rattle.dav_files_core.specs.Resources.{Property, ResourceMap, IsResourceMap};
 

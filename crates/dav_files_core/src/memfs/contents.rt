@@ -1,6 +1,6 @@
 //! The bytes of a file, which its copies and what is read of it share.
 ghost use Rattle.std.specs.Prelude.{◌≡◌, ◌+◌, ◌<◌, ◌≤◌, ◌^◌, [], length, max, IfOk, IfErr, IfSome, IfNone, OnOk, OnErr, MatchResult};
-ghost use Rattle.dav_files_core.specs.OpenFiles.{overwritten, part};
+ghost use Rattle.dav_files_core.specs.OpenFiles.{overwritten_at, part};
 ghost use Rattle.dav_files_core.specs.Private.Contents.{bytes_of};
 
 use bytes::{Buf, Bytes, BytesMut};
@@ -125,7 +125,7 @@ impl Content {
         buf: &mut B,
     ) -> FsResult<()>
         requires { start + length (B.unread buf.old) < 2 ^ 64 }
-        ensures ok { OnOk result (self.new ≡ overwritten self.old start (B.unread buf.old)) }
+        ensures ok { OnOk result (self.new ≡ overwritten_at self.old start (B.unread buf.old)) }
         ensures err { IfErr result (λ e. (e ≡ FsError.InsufficientStorage) × (self.new ≡ self.old)) }
         ensures spent { OnOk result (B.unread buf.new ≡ []) }
         ensures unread { OnErr result (buf.new ≡ buf.old) }
@@ -209,7 +209,7 @@ fn write_over<B: Buf>(bytes: &mut BytesMut, size: usize, start: usize, end: usiz
     requires end { end ≡ start + length (B.unread buf.old) }
     requires size { size ≡ max (length bytes.old.items) end }
     requires room { size ≤ length bytes.old.items + bytes.old.spare }
-    ensures bytes { bytes.new.items ≡ overwritten bytes.old.items start (B.unread buf.old) }
+    ensures bytes { bytes.new.items ≡ overwritten_at bytes.old.items start (B.unread buf.old) }
     ensures spent { B.unread buf.new ≡ [] }
     ensures kept { B.kept buf.new ≡ B.kept buf.old }
 {

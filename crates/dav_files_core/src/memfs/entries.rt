@@ -1,15 +1,15 @@
 //! Single changes of the map of files, by the number of an entry.
 ghost use Rattle.std.specs.Prelude.{◌≡◌, ◌∷◌, ◌++◌, ◌+◌, ◌<◌, ◌^◌, [], length, map, Some, None, Ok, OnOk, OnErr};
-ghost use Rattle.dav_path_core.specs.Answers.{AnswersAs, AnswersWithRoom};
+ghost use Rattle.dav_path_core.specs.StoreAnswers.{AnswersAs, AnswersWithRoom};
 ghost use Rattle.dav_path_core.specs.Fronts.{Path};
 ghost use Rattle.dav_files_core.specs.Exactly.{AnswersExactly};
-ghost use Rattle.dav_files_core.specs.OpenFiles.{overwritten, with_number};
-ghost use Rattle.dav_files_core.specs.Outcomes.{added, changed, touched};
-ghost use Rattle.dav_files_core.specs.Properties.{answer_of, entry_of, patch_answers, patched};
+ghost use Rattle.dav_files_core.specs.OpenFiles.{overwritten_at, with_number};
+ghost use Rattle.dav_files_core.specs.Outcomes.{with_new_entry, with_other_node, with_modified_time};
+ghost use Rattle.dav_files_core.specs.Properties.{patch_answer, patch_update, patch_answers, patched_properties};
 ghost use Rattle.dav_files_core.specs.Resources.{Node, Resource, IsResourceMap, at_path};
-ghost use Rattle.dav_files_core.specs.Restoring.{restored};
+ghost use Rattle.dav_files_core.specs.Restoring.{with_restored_entry};
 ghost use Rattle.dav_files_core.specs.Private.TreeCalls.{IsMissing};
-ghost use Rattle.dav_files_core.specs.Private.Entries.{HasNumber, HasFile, HasFolder, StandsIn, IsBare, taken_out, put_there};
+ghost use Rattle.dav_files_core.specs.Private.Entries.{HasNumber, HasFileNumbered, HasFolderNumbered, StandsIn, IsBare, taken_out, put_there};
 
 use super::contents::Content;
 use super::nodes::{
@@ -50,7 +50,7 @@ impl MemFs {
         requires free { (p : Path) × IsMissing self.old p folder name.now }
         requires bare { IsBare node }
         ensures answer { (p : Path) → IsMissing self.old p folder name.now
-            → AnswersAs (λ id. id) result (Ok (self.old.next, added self.old p node)) self.old self.new }
+            → AnswersAs (λ id. id) result (Ok (self.old.next, with_new_entry self.old p node)) self.old self.new }
         ensures shape { IsResourceMap self.new }
     {
         let name = Bytes::copy_from_slice(self.alloc, name)?;
@@ -72,7 +72,7 @@ impl MemFs {
         requires given { number < 18446744073709551615 }
         requires bare { IsBare node }
         ensures answer { (p : Path) → IsMissing self.old p folder name.now
-            → AnswersAs (λ x. x) result (Ok (tt, restored self.old p (record { number = number; node = node }))) self.old self.new }
+            → AnswersAs (λ x. x) result (Ok (tt, with_restored_entry self.old p (record { number = number; node = node }))) self.old self.new }
         ensures shape { IsResourceMap self.new }
     {
         let name = Bytes::copy_from_slice(self.alloc, name)?;
@@ -83,7 +83,7 @@ impl MemFs {
     // Sets the modified time of an entry.
     pub(super) fn touch(&mut self, id: u64, now: Moment)
         requires { HasNumber self.old id }
-        ensures change { (p : Path) (r : Resource) → at_path self.old p ≡ Some r → r.number ≡ id → self.new ≡ touched self.old p now.0 }
+        ensures change { (p : Path) (r : Resource) → at_path self.old p ≡ Some r → r.number ≡ id → self.new ≡ with_modified_time self.old p now.0 }
         ensures shape { IsResourceMap self.new }
     {
         match set_modified(&mut self.tree, id, now) {
@@ -94,9 +94,9 @@ impl MemFs {
 
     // Writes the bytes of a file and its modified time.
     pub(super) fn write(&mut self, id: u64, content: Content, now: Moment)
-        requires { HasFile self.old id }
+        requires { HasFileNumbered self.old id }
         ensures change { (p : Path) (r : Resource) → at_path self.old p ≡ Some r → r.number ≡ id
-            → self.new ≡ changed self.old p r (record r.node { bytes = content; modified = now.0 }) }
+            → self.new ≡ with_other_node self.old p r (record r.node { bytes = content; modified = now.0 }) }
         ensures shape { IsResourceMap self.new }
     {
         match write_file(&mut self.tree, id, content, now) {
@@ -110,7 +110,7 @@ impl MemFs {
         requires known { HasNumber self.old id }
         requires still { (p : Path) (r : Resource) → at_path self.old p ≡ Some r → r.number ≡ id → r.node.kind ≡ Kind.Folder → node.kind ≡ Kind.Folder }
         requires bare { IsBare node }
-        ensures change { (p : Path) (r : Resource) → at_path self.old p ≡ Some r → r.number ≡ id → self.new ≡ changed self.old p r node }
+        ensures change { (p : Path) (r : Resource) → at_path self.old p ≡ Some r → r.number ≡ id → self.new ≡ with_other_node self.old p r node }
         ensures shape { IsResourceMap self.new }
     {
         match set_node(&mut self.tree, id, node) {
@@ -127,7 +127,7 @@ impl MemFs {
     ) -> FsResult<Vec<(StatusCode, DavProp)>>
         requires { HasNumber self.old id }
         ensures answer { (p : Path) (r : Resource) → at_path self.old p ≡ Some r → r.number ≡ id
-            → AnswersAs (λ v. map answer_of v.items) result (Ok (patch_answers (map entry_of patch.items), changed self.old p r (record r.node { props = patched r.node.props (map entry_of patch.items) }))) self.old self.new }
+            → AnswersAs (λ v. map patch_answer v.items) result (Ok (patch_answers (map patch_update patch.items), with_other_node self.old p r (record r.node { props = patched_properties r.node.props (map patch_update patch.items) }))) self.old self.new }
         ensures shape { IsResourceMap self.new }
     {
         patch_props(&mut self.tree, self.alloc, id, patch)
@@ -135,10 +135,10 @@ impl MemFs {
 
     // Puts bytes over those of a file from a place on, with zeros in a gap; the times stay.
     pub(super) fn overwrite<B: Buf>(&mut self, id: u64, start: usize, buf: &mut B) -> FsResult<()>
-        requires file { HasFile self.old id }
+        requires file { HasFileNumbered self.old id }
         requires fits { start + length (B.unread buf.old) < 2 ^ 64 }
         ensures answer { (p : Path) (r : Resource) → at_path self.old p ≡ Some r → r.number ≡ id
-            → AnswersAs (λ x. x) result (Ok (tt, changed self.old p r (record r.node { bytes = overwritten r.node.bytes start (B.unread buf.old) }))) self.old self.new }
+            → AnswersAs (λ x. x) result (Ok (tt, with_other_node self.old p r (record r.node { bytes = overwritten_at r.node.bytes start (B.unread buf.old) }))) self.old self.new }
         ensures spent { OnOk result (B.unread buf.new ≡ []) }
         ensures unread { OnErr result (buf.new ≡ buf.old) }
         ensures kept { B.kept buf.new ≡ B.kept buf.old }
@@ -160,7 +160,7 @@ impl MemFs {
     // Puts an entry, with all below it, into a folder under a name.
     pub(super) fn relocate(&mut self, id: u64, folder: u64, name: &[u8]) -> FsResult<()>
         requires known { HasNumber self.old id }
-        requires folder { HasFolder self.old folder }
+        requires folder { HasFolderNumbered self.old folder }
         ensures answer { (p q : Path) (r f : Resource) → at_path self.old p ≡ Some r → r.number ≡ id → at_path self.old q ≡ Some f → f.number ≡ folder
             → AnswersWithRoom (λ _. tt) result (put_there self.old p (q ++ (name.now ∷ []))) self.old self.new }
         ensures shape { IsResourceMap self.new }

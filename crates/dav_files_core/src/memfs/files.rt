@@ -1,16 +1,16 @@
 //! The calls of a file system on files in memory.
 ghost use Rattle.std.specs.Prelude.{◌≡◌, Some, Ok, Err, IsSome, true, map, refl};
 ghost use Rattle.dav_path_core.specs.Segments.{segments};
-ghost use Rattle.dav_path_core.specs.Answers.{AnswersAs, AnswersWithRoom, Tells};
+ghost use Rattle.dav_path_core.specs.StoreAnswers.{AnswersAs, AnswersWithRoom, TellsOutcome};
 ghost use Rattle.dav_files_core.specs.Describing.{metadata};
-ghost use Rattle.dav_files_core.specs.Copying.{copy};
+ghost use Rattle.dav_files_core.specs.ResourceCopying.{copy};
 ghost use Rattle.dav_files_core.specs.Exactly.{AnswersExactly, TellsExactly};
 ghost use Rattle.dav_files_core.specs.Folders.{create_dir, remove};
-ghost use Rattle.dav_files_core.specs.Listing.{entry_of as member_of, read_dir};
+ghost use Rattle.dav_files_core.specs.Listing.{listed_entry as member_of, read_dir};
 ghost use Rattle.dav_files_core.specs.Meta.{meta_of};
 ghost use Rattle.dav_files_core.specs.Opening.{opening};
 ghost use Rattle.dav_files_core.specs.Private.Entries.{FindsFolder};
-ghost use Rattle.dav_files_core.specs.Properties.{answer_of, entry_of, get_prop, get_props, patch_props, property_of};
+ghost use Rattle.dav_files_core.specs.Properties.{patch_answer, patch_update, get_prop, get_props, patch_props, property_of};
 ghost use Rattle.dav_files_core.specs.Renaming.{rename};
 ghost use Rattle.dav_files_core.specs.Resources.{IsResourceMap, at_path};
 
@@ -117,7 +117,7 @@ impl DavFileSystem for MemFs {
 
     /// As finding refuses; `Forbidden` for a file; `InsufficientStorage` where it is out of memory.
     fn read_dir(&self, path: &DavPath, meta: ReadDirMeta) -> FsResult<Vec<MemFsEntry>>
-        ensures answer { Tells (λ v. map member_of v.items) result (read_dir self.now (segments path.now.bytes)) }
+        ensures answer { TellsOutcome (λ v. map member_of v.items) result (read_dir self.now (segments path.now.bytes)) }
         ensures shape { IsResourceMap self.now }
     {
         let id = self.number_of(path)?;
@@ -254,7 +254,7 @@ impl DavFileSystem for MemFs {
         path: &DavPath,
         patch: Vec<(bool, DavProp)>,
     ) -> FsResult<Vec<(StatusCode, DavProp)>>
-        ensures answer { AnswersAs (λ v. map answer_of v.items) result (patch_props self.old (segments path.now.bytes) (map entry_of patch.items)) self.old self.new }
+        ensures answer { AnswersAs (λ v. map patch_answer v.items) result (patch_props self.old (segments path.now.bytes) (map patch_update patch.items)) self.old self.new }
         ensures shape { IsResourceMap self.new }
     {
         let id = self.number_of(path)?;
@@ -263,7 +263,7 @@ impl DavFileSystem for MemFs {
 
     /// The path as finding refuses; `InsufficientStorage` where it is out of memory.
     fn get_props(&self, path: &DavPath, do_content: bool) -> FsResult<Vec<DavProp>>
-        ensures { Tells (λ v. map property_of v.items) result (get_props self.now (segments path.now.bytes) do_content) }
+        ensures { TellsOutcome (λ v. map property_of v.items) result (get_props self.now (segments path.now.bytes) do_content) }
     {
         let id = self.number_of(path)?;
         self.node_at(id).props.list(self.alloc, do_content)
@@ -272,7 +272,7 @@ impl DavFileSystem for MemFs {
     /// The path as finding refuses, then `NotFound` without such a property, or without its xml; `InsufficientStorage` where it is
     /// out of memory.
     fn get_prop(&self, path: &DavPath, prop: &DavProp) -> FsResult<Vec<u8>>
-        ensures { Tells (λ v. v.items) result (get_prop self.now (segments path.now.bytes) (property_of prop.now)) }
+        ensures { TellsOutcome (λ v. v.items) result (get_prop self.now (segments path.now.bytes) (property_of prop.now)) }
     {
         let id = self.number_of(path)?;
         self.node_at(id).props.xml_of(self.alloc, prop)

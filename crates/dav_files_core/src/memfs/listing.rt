@@ -1,15 +1,15 @@
 //! Listings of folders in memory.
 ghost use Rattle.std.specs.Prelude.{◌≡◌, ◌↔◌, IsTrue, Some, Ok, false, map, IfOk, MatchResult};
 ghost use Rattle.std.specs.FinMap.{entries};
-ghost use Rattle.dav_path_core.specs.Answers.{Tells};
+ghost use Rattle.dav_path_core.specs.StoreAnswers.{TellsOutcome};
 ghost use Rattle.dav_path_core.specs.Fronts.{Path};
 ghost use Rattle.dav_path_core.specs.Segments.{segments};
 ghost use Rattle.dav_files_core.specs.Finding.{members};
-ghost use Rattle.dav_files_core.specs.Listing.{entry_of, read_dir};
+ghost use Rattle.dav_files_core.specs.Listing.{listed_entry, read_dir};
 ghost use Rattle.dav_files_core.specs.Meta.{meta_of};
 ghost use Rattle.dav_files_core.specs.Resources.{Resource, at_path};
 ghost use Rattle.dav_files_core.specs.Private.Entries.{HasNumber};
-ghost use Rattle.dav_files_core.specs.Private.Listed.{numbered, AllNumbers, Described};
+ghost use Rattle.dav_files_core.specs.Private.Listed.{numbered_member, AllNumbers, Described};
 
 use super::{Kind, MemFs, MemFsMeta};
 use crate::fs::DavDirEntry;
@@ -28,7 +28,7 @@ pub struct MemFsEntry {
 impl DavDirEntry for MemFsEntry {
     type Meta = MemFsMeta;
 
-    ghost listed = { entry_of };
+    ghost listed = { listed_entry };
 
     ghost metadata_answers = { λ e told. told ≡ Ok (meta_of e.meta) };
 
@@ -68,7 +68,7 @@ impl MemFs {
     pub(super) fn members_of(&self, id: u64) -> FsResult<Vec<(Bytes, u64)>>
         requires { HasNumber self.now id }
         ensures { MatchResult result
-            (λ v. (p : Path) (r : Resource) → at_path self.now p ≡ Some r → r.number ≡ id → v.items ≡ map numbered (entries (members self.now p)))
+            (λ v. (p : Path) (r : Resource) → at_path self.now p ≡ Some r → r.number ≡ id → v.items ≡ map numbered_member (entries (members self.now p)))
             (λ e. e ≡ FsError.InsufficientStorage) }
     {
         let mut pairs: Vec<(Bytes, u64)> = self.tree.get_children(id)?.collect(self.alloc)?;

@@ -4,11 +4,11 @@ ghost use Rattle.std.specs.FinMap.{get};
 ghost use Rattle.std.specs.Option.{ok_or};
 ghost use Rattle.std.specs.Cmp.Lexicographic.{pointwise};
 ghost use Rattle.dav_path_core.specs.ChildIndex.{Index, IsIndex};
-ghost use Rattle.dav_path_core.specs.Keyed.{child, add, restored, delete_refusal, without, move_refusal, moved, parent, Under};
+ghost use Rattle.dav_path_core.specs.Keyed.{child, add, with_restored_node, delete_refusal, without_node, move_refusal, with_moved, parent_number, Under};
 ghost use Rattle.dav_files_core.specs.Outcomes.{new_file, new_folder};
 ghost use Rattle.dav_files_core.specs.Meta.{meta_of, meta_at};
-ghost use Rattle.dav_files_core.specs.OpenFiles.{overwritten};
-ghost use Rattle.dav_files_core.specs.Properties.{answer_of, entry_of, patch_answers, patched};
+ghost use Rattle.dav_files_core.specs.OpenFiles.{overwritten_at};
+ghost use Rattle.dav_files_core.specs.Properties.{patch_answer, patch_update, patch_answers, patched_properties};
 ghost use Rattle.dav_files_core.specs.Private.TreeCalls.{FindsMember, FindsNode, WritesFile, SetsNode, IsThere};
 
 use super::contents::Content;
@@ -35,7 +35,7 @@ pub(super) struct Node {
 
 impl Model for Node {
     ghost use Rattle.dav_files_core.specs.Resources.{Node};
-    ghost use Rattle.dav_files_core.specs.Codes.{coded_node};
+    ghost use Rattle.dav_files_core.specs.ResourceCodes.{coded_node};
 
     ghost Value = { Node };
 
@@ -102,7 +102,7 @@ impl Node {
     // Puts bytes over its own from a place on, with zeros in a gap.
     fn overwrite<B: Buf>(&mut self, alloc: Global, start: usize, buf: &mut B) -> FsResult<()>
         requires { start + length (B.unread buf.old) < 2 ^ 64 }
-        ensures ok { OnOk result (self.new ≡ record self.old { bytes = overwritten self.old.bytes start (B.unread buf.old) }) }
+        ensures ok { OnOk result (self.new ≡ record self.old { bytes = overwritten_at self.old.bytes start (B.unread buf.old) }) }
         ensures err { IfErr result (λ e. (e ≡ FsError.InsufficientStorage) × (self.new ≡ self.old)) }
         ensures spent { OnOk result (B.unread buf.new ≡ []) }
         ensures unread { OnErr result (buf.new ≡ buf.old) }
@@ -183,7 +183,7 @@ pub(super) fn restore_node(
     requires positive { 0 < number }
     requires given { number < 18446744073709551615 }
     requires indexed { IsIndex tree.old.keyed index.old }
-    ensures ok { OnOk result (tree.new.keyed ≡ restored tree.old.keyed folder name node number) }
+    ensures ok { OnOk result (tree.new.keyed ≡ with_restored_node tree.old.keyed folder name node number) }
     ensures err { IfErr result (λ e. (e ≡ FsError.InsufficientStorage) × (tree.new.keyed ≡ tree.old.keyed)) }
     ensures indexed { IsIndex tree.new.keyed index.new }
 {
@@ -218,8 +218,8 @@ pub(super) fn patch_props(
     patch: Vec<(bool, DavProp)>,
 ) -> FsResult<Vec<(StatusCode, DavProp)>>
     requires { IsThere tree.old.keyed id }
-    ensures answer { IfOk result (λ v. map answer_of v.items ≡ patch_answers (map entry_of patch.items)) }
-    ensures ok { OnOk result (SetsNode tree.old.keyed id (λ n. record n { props = patched n.props (map entry_of patch.items) }) (Ok tt) tree.new.keyed) }
+    ensures answer { IfOk result (λ v. map patch_answer v.items ≡ patch_answers (map patch_update patch.items)) }
+    ensures ok { OnOk result (SetsNode tree.old.keyed id (λ n. record n { props = patched_properties n.props (map patch_update patch.items) }) (Ok tt) tree.new.keyed) }
     ensures err { IfErr result (λ e. (e ≡ FsError.InsufficientStorage) × (tree.new.keyed ≡ tree.old.keyed)) }
     ensures indexed { (ix : Index) → IsIndex tree.old.keyed ix → IsIndex tree.new.keyed ix }
 {
@@ -237,7 +237,7 @@ pub(super) fn overwrite<B: Buf>(
 ) -> FsResult<()>
     requires known { IsThere tree.old.keyed id }
     requires fits { start + length (B.unread buf.old) < 2 ^ 64 }
-    ensures ok { OnOk result (SetsNode tree.old.keyed id (λ n. record n { bytes = overwritten n.bytes start (B.unread buf.old) }) (Ok tt) tree.new.keyed) }
+    ensures ok { OnOk result (SetsNode tree.old.keyed id (λ n. record n { bytes = overwritten_at n.bytes start (B.unread buf.old) }) (Ok tt) tree.new.keyed) }
     ensures err { IfErr result (λ e. (e ≡ FsError.InsufficientStorage) × (tree.new.keyed ≡ tree.old.keyed)) }
     ensures indexed { (ix : Index) → IsIndex tree.old.keyed ix → IsIndex tree.new.keyed ix }
     ensures spent { OnOk result (B.unread buf.new ≡ []) }
@@ -257,7 +257,7 @@ pub(super) fn delete_node(
 ) -> FsResult<()>
     requires { IsIndex tree.old.keyed index.old }
     ensures answer { MatchResult result
-        (λ _. (delete_refusal tree.old.keyed id ≡ None) × (tree.new.keyed ≡ without tree.old.keyed id))
+        (λ _. (delete_refusal tree.old.keyed id ≡ None) × (tree.new.keyed ≡ without_node tree.old.keyed id))
         (λ e. (delete_refusal tree.old.keyed id ≡ Some e) × (tree.new.keyed ≡ tree.old.keyed)) }
     ensures indexed { IsIndex tree.new.keyed index.new }
 {
@@ -276,10 +276,10 @@ pub(super) fn move_node(
     requires { IsIndex tree.old.keyed index.old }
     ensures answer { MatchResult result
         (λ _. (move_refusal (pointwise nat_eq) tree.old.keyed id folder name true ≡ None)
-        × (tree.new.keyed ≡ moved (pointwise nat_eq) tree.old.keyed id folder name))
+        × (tree.new.keyed ≡ with_moved (pointwise nat_eq) tree.old.keyed id folder name))
         (λ e. (move_refusal (pointwise nat_eq) tree.old.keyed id folder name true ≡ Some e) × (tree.new.keyed ≡ tree.old.keyed)) }
-    ensures outside { IfOk result (λ _. ¬ Under (parent tree.old.keyed) id folder) }
-    ensures below { IfErr result (λ e. e ≡ FsError.Forbidden → Under (parent tree.old.keyed) id folder) }
+    ensures outside { IfOk result (λ _. ¬ Under (parent_number tree.old.keyed) id folder) }
+    ensures below { IfErr result (λ e. e ≡ FsError.Forbidden → Under (parent_number tree.old.keyed) id folder) }
     ensures indexed { IsIndex tree.new.keyed index.new }
 {
     index.move_node(tree, id, folder, name, true)

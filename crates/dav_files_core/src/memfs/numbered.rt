@@ -1,6 +1,6 @@
 //! What is open, by the number of its entry.
 ghost use Rattle.std.specs.Prelude.{◌≡◌, ◌+◌, ◌<◌, ◌^◌, length, IfOk};
-ghost use Rattle.dav_path_core.specs.Answers.{Tells};
+ghost use Rattle.dav_path_core.specs.StoreAnswers.{TellsOutcome};
 ghost use Rattle.dav_files_core.specs.Exactly.{TellsExactly};
 ghost use Rattle.dav_files_core.specs.Resources.{IsResourceMap};
 ghost use Rattle.dav_files_core.specs.Private.Numbered.{node_with, file_with, part_with, length_with};
@@ -42,7 +42,7 @@ impl MemFs {
 
     // Some bytes of a file, `count` at most, from `at` on.
     pub(super) fn part(&self, number: u64, at: usize, count: usize) -> FsResult<Bytes>
-        ensures answer { Tells (λ b. b) result (part_with self.now number at count) }
+        ensures answer { TellsOutcome (λ b. b) result (part_with self.now number at count) }
         ensures fits { IfOk result (λ b. at + length b < 2 ^ 64) }
     {
         let node = self.file_with(number)?;

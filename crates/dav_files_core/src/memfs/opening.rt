@@ -1,6 +1,6 @@
 //! Open files in memory.
 ghost use Rattle.std.specs.Prelude.{◌≡◌, [], pos, ◌+ℤ◌, if◌then◌else◌, Ok, None, OnOk, OnErr};
-ghost use Rattle.dav_path_core.specs.Answers.{AnswersAs};
+ghost use Rattle.dav_path_core.specs.StoreAnswers.{AnswersAs};
 ghost use Rattle.dav_files_core.specs.Exactly.{AnswersExactly, TellsExactly};
 ghost use Rattle.dav_files_core.specs.Meta.{meta_of};
 ghost use Rattle.dav_files_core.specs.OpenFiles.{open_metadata, position_of, read_bytes, seek, write_bytes};
@@ -23,7 +23,7 @@ pub struct MemFsFile {
 
 impl Model for MemFsFile {
     ghost use Rattle.dav_files_core.specs.Opening.{OpenFile};
-    ghost use Rattle.dav_files_core.specs.Codes.{coded_file};
+    ghost use Rattle.dav_files_core.specs.ResourceCodes.{coded_file};
 
     ghost Value = { OpenFile };
 

@@ -4,9 +4,9 @@ ghost use Rattle.std.specs.Option.{ok_or};
 ghost use Rattle.std.specs.Ordering.{is_eq};
 ghost use Rattle.std.specs.FinMap.{empty, get, insert, remove, values};
 ghost use Rattle.dav_files_core.specs.Private.PropertyMaps.{properties_of};
-ghost use Rattle.dav_path_core.specs.Answers.{AnswersAs, Tells};
+ghost use Rattle.dav_path_core.specs.StoreAnswers.{AnswersAs, TellsOutcome};
 ghost use Rattle.dav_path_core.specs.Segments.{segments};
-ghost use Rattle.dav_files_core.specs.Properties.{property_of, entry_of, answer_of, key_of, patched_by, patched, patch_answers, patch_props, shown, get_props, xml_of, get_prop};
+ghost use Rattle.dav_files_core.specs.Properties.{property_of, patch_update, patch_answer, key_of, patched_by, patched_properties, patch_answers, patch_props, shown_property, get_props, xml_of, get_prop};
 ghost use Rattle.dav_files_core.specs.Resources.{IsResourceMap, key_cmp};
 ghost use Rattle.dav_files_core.specs.Restoring.{properties_from};
 
@@ -30,7 +30,7 @@ pub(super) struct Props {
 
 impl Model for Props {
     ghost use Rattle.dav_files_core.specs.Resources.{Properties};
-    ghost use Rattle.dav_files_core.specs.Codes.{coded_properties};
+    ghost use Rattle.dav_files_core.specs.ResourceCodes.{coded_properties};
     ghost use Rattle.dav_files_core.specs.Private.PropertyMaps.{AreKeyed, properties_of};
 
     ghost Value = { Properties };
@@ -81,8 +81,8 @@ impl Props {
         alloc: Global,
         patch: Vec<(bool, DavProp)>,
     ) -> FsResult<Vec<(StatusCode, DavProp)>>
-        ensures answer { MatchResult result (λ v. map answer_of v.items ≡ patch_answers (map entry_of patch.items)) (λ e. e ≡ FsError.InsufficientStorage) }
-        ensures ok { OnOk result (self.new ≡ patched self.old (map entry_of patch.items)) }
+        ensures answer { MatchResult result (λ v. map patch_answer v.items ≡ patch_answers (map patch_update patch.items)) (λ e. e ≡ FsError.InsufficientStorage) }
+        ensures ok { OnOk result (self.new ≡ patched_properties self.old (map patch_update patch.items)) }
         ensures err { OnErr result (self.new ≡ self.old) }
     {
         let (answers, changes) = read_patch(alloc, &self.map, patch)?;
@@ -93,7 +93,7 @@ impl Props {
 
     // Each, with its xml or without, by the bytes of namespace and name.
     pub(super) fn list(&self, alloc: Global, content: bool) -> FsResult<Vec<DavProp>>
-        ensures { MatchResult result (λ v. map property_of v.items ≡ map (shown content) (values self.now)) (λ e. e ≡ FsError.InsufficientStorage) }
+        ensures { MatchResult result (λ v. map property_of v.items ≡ map (shown_property content) (values self.now)) (λ e. e ≡ FsError.InsufficientStorage) }
     {
         let mut listed = Vec::new(alloc);
         for prop in self.map.values() {
@@ -114,7 +114,7 @@ impl Props {
 
     // The xml of the one with the namespace and name of another.
     pub(super) fn xml_of(&self, alloc: Global, wanted: &DavProp) -> FsResult<Vec<u8>>
-        ensures { Tells (λ v. v.items) result (ok_or (xml_of self.now (property_of wanted.now)) FsError.NotFound) }
+        ensures { TellsOutcome (λ v. v.items) result (ok_or (xml_of self.now (property_of wanted.now)) FsError.NotFound) }
     {
         match key_of(alloc, wanted) {
             Ok(key) => copy_of_xml(alloc, found_in(&self.map, &key)),
@@ -191,7 +191,7 @@ fn is_key(key: &(Bytes, Bytes), namespace: &[u8], name: &[u8]) -> bool
 
 // A copy of the xml of a property, if it is there and has one.
 fn copy_of_xml(alloc: Global, prop: Option<&DavProp>) -> FsResult<Vec<u8>>
-    ensures { Tells (λ v. v.items) result (ok_or (option_and_then (λ p. p.xml) (option_map (λ p. property_of p.now) prop.entry)) FsError.NotFound) }
+    ensures { TellsOutcome (λ v. v.items) result (ok_or (option_and_then (λ p. p.xml) (option_map (λ p. property_of p.now) prop.entry)) FsError.NotFound) }
 {
     let Some(prop) = prop else {
         return Err(FsError::NotFound);
@@ -227,7 +227,7 @@ fn take_out(map: &mut BTreeMap<(Bytes, Bytes), DavProp>, key: &(Bytes, Bytes))
 
 // A property with its xml, or without.
 fn shown(prop: &DavProp, content: bool) -> FsResult<DavProp>
-    ensures { MatchResult result (λ p. property_of p ≡ shown content (property_of prop.now)) (λ e. e ≡ FsError.InsufficientStorage) }
+    ensures { MatchResult result (λ p. property_of p ≡ shown_property content (property_of prop.now)) (λ e. e ≡ FsError.InsufficientStorage) }
 {
     if content {
         return Ok(prop.clone()?);

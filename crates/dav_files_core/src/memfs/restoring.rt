@@ -1,11 +1,11 @@
 //! Entries that stood before, as a store that was written down has them.
 ghost use Rattle.std.specs.Prelude.{◌≡◌, ◌==◌, ◌&&◌, ◌<◌, ◌^◌, ℕ, true, List, map, Some, None, MatchResult};
-ghost use Rattle.dav_path_core.specs.Answers.{AnswersAs};
+ghost use Rattle.dav_path_core.specs.StoreAnswers.{AnswersAs};
 ghost use Rattle.dav_path_core.specs.Segments.{segments};
 ghost use Rattle.dav_path_core.specs.Fronts.{Path};
 ghost use Rattle.dav_files_core.specs.Resources.{Resource, ResourceMap, IsResourceMap, at_path, is_folder};
-ghost use Rattle.dav_files_core.specs.Restoring.{IsRestoredFrom, resource_of, can_stand, raised, restore, restore_at};
-ghost use Rattle.dav_files_core.specs.Walks.{Stored, entry_of, IsWalk};
+ghost use Rattle.dav_files_core.specs.Restoring.{IsRestoredFrom, resource_of, can_stand, with_later_next, restore, restore_at};
+ghost use Rattle.dav_files_core.specs.Walks.{Stored, stored_entry, IsMapWalk};
 ghost use Rattle.dav_files_core.specs.Private.Entries.{HasNumber};
 ghost use Rattle.dav_files_core.specs.Private.TreeCalls.{IsMissing};
 
@@ -105,7 +105,7 @@ impl MemFs {
 
     /// Gives no number below that one to a new entry any more. Nothing else changes (own).
     pub fn raise_next_number(&mut self, next: u64)
-        ensures raised { self.new ≡ raised self.old next }
+        ensures raised { self.new ≡ with_later_next self.old next }
         ensures shape { IsResourceMap self.new }
     {
         self.tree.raise_next_number(next);
@@ -149,6 +149,6 @@ impl MemFs {
 /// A law for callers: the entries of files in memory, restored in the order of a walk into files that are new, and with the
 /// next number, make files that are equal, numbers and times included. It does nothing (own).
 pub fn walked_files_are_restored()
-    ensures { (m : ResourceMap) (ss : List Stored) (now : ℕ) → IsResourceMap m → m.next < 2 ^ 64 → IsWalk m ss
-        → IsRestoredFrom m (map entry_of ss) now }
+    ensures { (m : ResourceMap) (ss : List Stored) (now : ℕ) → IsResourceMap m → m.next < 2 ^ 64 → IsMapWalk m ss
+        → IsRestoredFrom m (map stored_entry ss) now }
 {}

@@ -5,7 +5,7 @@ ghost use Rattle.std.specs.FinMap.{values};
 ghost use Rattle.std.specs.List.{last_or};
 ghost use Rattle.dav_files_core.specs.Meta.{meta_of, meta_at};
 ghost use Rattle.dav_files_core.specs.Restoring.{properties_from};
-ghost use Rattle.dav_files_core.specs.Walks.{IsWalk};
+ghost use Rattle.dav_files_core.specs.Walks.{IsMapWalk};
 
 use super::nodes::{Node, node_of};
 use super::properties::MemFsProps;
@@ -27,7 +27,7 @@ pub struct MemFsStored<'a> {
 impl<'a> Model for MemFsStored<'a> {
     ghost use Rattle.dav_files_core.specs.Walks.{Stored};
     ghost use Rattle.dav_files_core.specs.Private.Stored.{stored_with, IsNodeOf};
-    ghost use Rattle.dav_files_core.specs.Codes.{coded_stored};
+    ghost use Rattle.dav_files_core.specs.ResourceCodes.{coded_stored};
 
     ghost Value = { Stored };
 
@@ -109,7 +109,7 @@ impl<'a> Model for MemFsWalk<'a> {
     ghost use Rattle.std.specs.Prelude.{List, map};
     ghost use Rattle.dav_files_core.specs.Walks.{Stored};
     ghost use Rattle.dav_files_core.specs.Private.Stored.{stored_at, AreKnown};
-    ghost use Rattle.dav_files_core.specs.Codes.{coded_walk};
+    ghost use Rattle.dav_files_core.specs.ResourceCodes.{coded_walk};
 
     ghost Value = { List Stored };
 
@@ -143,7 +143,7 @@ impl MemFs {
     /// All that stands here: each folder and file once, and each behind the folder that it stands in. It takes no
     /// memory.
     pub fn walk(&self) -> MemFsWalk<'_>
-        ensures { IsWalk self.now result }
+        ensures { IsMapWalk self.now result }
     {
         MemFsWalk {
             tree: &self.tree,

@@ -3,7 +3,8 @@ use Rattle.std.specs.Prelude.{◌≡◌, ℕ, ◌<◌, Bool, true, List}
 use Rattle.http.specs.declared.request.Request.{Request}
 use Rattle.dav_path_core.specs.PathText.{PathText}
 use Rattle.dav_faults_core.specs.declared.faults.Fault.{Fault}
-use Rattle.dav_handler_core.specs.Answers.{Begins, HoldsOff, Server}
+use Rattle.dav_handler_core.specs.MethodAnswers.{Begins, HoldsOff}
+use Rattle.dav_handler_core.specs.Server.{Server}
 use Rattle.dav_session_core.specs.Callers.{Caller}
 
 -- a request begins; one that may change something has a moment of its own

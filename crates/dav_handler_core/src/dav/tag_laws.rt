@@ -3,7 +3,8 @@ ghost use Rattle.std.specs.Prelude.{ℕ, List};
 ghost use Rattle.http_frames.specs.Clients.{Turn};
 ghost use Rattle.http_server.specs.Exchange.{Call, Chain};
 ghost use Rattle.dav_files_core.specs.Outcomes.{start};
-ghost use Rattle.dav_handler_core.specs.Answers.{Answers, Server};
+ghost use Rattle.dav_handler_core.specs.Answers.{Answers};
+ghost use Rattle.dav_handler_core.specs.Server.{Server};
 ghost use Rattle.dav_handler_core.specs.Serving.{Leads};
 ghost use Rattle.dav_handler_core.specs.TagHistories.{Becomes, HasNoFiles, MomentsTell, TagsTell};
 

@@ -1,7 +1,7 @@
 -- Skipping blanks.
 use Rattle.std.proofs.Common.{◌≡◌, refl, ap, ◌∙◌, ℕ, Bool, true, false, cond, List, [], ◌∷◌, ◌++◌}
 use Rattle.std.specs.List.{AllByRecursion}
-use Rattle.dav_headers_core.specs.Pieces.{is_blank}
+use Rattle.dav_headers_core.specs.CommaPieces.{is_blank}
 use Rattle.dav_headers_core.specs.IfGrammar.{SkipsTo}
 use Rattle.dav_headers_core.specs.Private.IfReading.{skip_blanks}
 

@@ -3,7 +3,7 @@ use Rattle.std.proofs.Common.{◌≡◌, ◌≢◌, refl, sym, ap, ◌∙◌, �
 use Rattle.std.specs.Prelude.{codes}
 use Rattle.std.proofs.lemmas.Bool.{eqb-true}
 use Rattle.std.proofs.lemmas.List.{length-append}
-use Rattle.dav_headers_core.specs.Pieces.{is_blank}
+use Rattle.dav_headers_core.specs.CommaPieces.{is_blank}
 use Rattle.dav_headers_core.specs.IfBytes.{Item, Token, Tag, Condition}
 use Rattle.dav_headers_core.specs.IfGrammar.{SkipsTo, Between, HoldsColon, WordAt, ItemAt, NotAt, ConditionAt, ConditionsAt, ListAt}
 use Rattle.dav_headers_core.specs.Optional.{◌>>=◌, when}

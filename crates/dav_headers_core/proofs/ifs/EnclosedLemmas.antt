@@ -3,7 +3,7 @@ use Rattle.std.proofs.Common.{◌≡◌, refl, sym, ap, ◌∙◌, ℕ, Bool, tr
 use Rattle.std.specs.List.{AllByRecursion}
 use Rattle.std.proofs.lemmas.Bool.{eqb-true, eq-eqb}
 use Rattle.dav_headers_core.specs.Tags.{quote}
-use Rattle.dav_headers_core.specs.Pieces.{is_blank}
+use Rattle.dav_headers_core.specs.CommaPieces.{is_blank}
 use Rattle.dav_headers_core.specs.IfBytes.{odd_quotes}
 use Rattle.dav_headers_core.specs.Private.IfReading.{Found, with_byte, enclosed_at}
 use Rattle.dav_headers_core.proofs.lists.OptionalLemmas.{some_is}

@@ -4,7 +4,7 @@ use Rattle.std.proofs.lemmas.List.{append_assoc, append-nil}
 use Rattle.dav_headers_core.specs.IfBytes.{Condition}
 use Rattle.dav_headers_core.specs.Private.IfReading.{Found, choose, is_empty, skip_blanks, after_byte, condition_at, conditions_at, group_at, groups_at}
 use Rattle.dav_headers_core.specs.Optional.{◌>>=◌}
-use Rattle.dav_headers_core.specs.Gives.{Refuses}
+use Rattle.dav_headers_core.specs.HeaderGives.{Refuses}
 use Rattle.dav_headers_core.specs.IfValues.{Located}
 use Rattle.dav_headers_core.specs.Urls.{url_of}
 use Rattle.dav_headers_core.specs.declared.davheaders.errors.HeaderError.{HeaderError}

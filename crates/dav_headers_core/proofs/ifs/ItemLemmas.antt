@@ -3,10 +3,10 @@ use Rattle.std.proofs.Common.{◌≡◌, refl, sym, ap, ◌∙◌, ℕ, Bool, tr
 use Rattle.std.specs.Str.{is_utf8}
 use Rattle.std.proofs.lemmas.Bool.{eqb-true, ne_eqb}
 use Rattle.std.proofs.lemmas.Str.{IsUtf8-from_is_utf8, is_utf8-from_IsUtf8}
-use Rattle.dav_headers_core.specs.Pieces.{is_blank}
+use Rattle.dav_headers_core.specs.CommaPieces.{is_blank}
 use Rattle.dav_headers_core.specs.IfBytes.{is_word_byte, Item, Token, Tag}
 use Rattle.dav_headers_core.specs.IfGrammar.{Between, HoldsColon, WordAt, ItemAt}
-use Rattle.dav_headers_core.specs.Tags.{IsTag, is_tag, tag_of}
+use Rattle.dav_headers_core.specs.Tags.{IsTag, is_tag, tag_in}
 use Rattle.dav_headers_core.specs.Optional.{◌>>=◌, when}
 use Rattle.dav_headers_core.specs.Private.IfReading.{enclosed_at, text_at, holds_colon, word_at, pointed_at, bracketed_at, worded_at, item_at}
 use Rattle.dav_headers_core.proofs.lists.OptionalLemmas.{bind_some, when_some, some_is}
@@ -53,10 +53,10 @@ pointed_sound bytes found e =
 bracketed_sound : (bytes : List ℕ) (found : Item × List ℕ) → bracketed_at bytes ≡ Some found → ItemAt (91 ∷ bytes) found.0 found.1
 unfolding bracketed_at
 bracketed_sound bytes found e =
-    let f : Pair → Option (Item × List ℕ) = λ text. tag_of text.0 >>= λ tag. Some (Tag tag, text.1) in
+    let f : Pair → Option (Item × List ℕ) = λ text. tag_in text.0 >>= λ tag. Some (Tag tag, text.1) in
     let r = bind_some (text_at 93 bytes) f found e in
     let g : List ℕ → Option (Item × List ℕ) = λ tag. Some (Tag tag, r.0.1) in
-    let t = bind_some (tag_of r.0.0) g found r.2 in
+    let t = bind_some (tag_in r.0.0) g found r.2 in
     let w = when_some (is_tag r.0.0) r.0.0 t.0 t.1 in
     rw (← some_is _ _ t.2, ← w.1) (text_sound 91 93 bytes r.0 r.1, tag_sound r.0.0 w.0)
 

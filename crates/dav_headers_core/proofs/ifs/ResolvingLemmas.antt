@@ -3,10 +3,10 @@ use Rattle.std.proofs.Common.{◌≡◌, refl, sym, ap, subst, ◌∙◌, ℕ, z
 use Rattle.http_header.specs.FieldValue.{FieldValue}
 use Rattle.dav_headers_core.specs.declared.davheaders.errors.HeaderError.{HeaderError}
 use Rattle.dav_headers_core.specs.declared.davheaders.errors.HeaderError.TheVariants.{Invalid, OutOfMemory}
-use Rattle.dav_headers_core.specs.Gives.{Refuses}
+use Rattle.dav_headers_core.specs.HeaderGives.{Refuses}
 use Rattle.dav_headers_core.specs.IfBytes.{Condition, Group}
 use Rattle.dav_headers_core.specs.IfGrammar.{IfText}
-use Rattle.dav_headers_core.specs.Private.IfReading.{Found, is_empty, choose, skip_blanks, after_byte, text_at, list_at, as_it_is, behind_tag, group_at, groups_at, decoded}
+use Rattle.dav_headers_core.specs.Private.IfReading.{Found, is_empty, choose, skip_blanks, after_byte, text_at, list_at, as_it_is, behind_tag, group_at, groups_at, decoded_lists}
 use Rattle.dav_headers_core.specs.Optional.{◌>>=◌, when}
 use Rattle.dav_headers_core.proofs.lists.OptionalLemmas.{bind_some, when_some, some_is}
 use Rattle.dav_headers_core.proofs.ifs.GroupLemmas.{reading_sound, reading_complete}
@@ -146,7 +146,7 @@ record Reads (bytes : List ℕ) (lists : List Located) : Type 0 where
   pub text : IfText bytes groups
   pub resolves : Resolves groups lists
 
-decoded_sound : (bytes : List ℕ) (lists : List Located) → decoded bytes ≡ Some lists → Reads bytes lists
+decoded_sound : (bytes : List ℕ) (lists : List Located) → decoded_lists bytes ≡ Some lists → Reads bytes lists
 decoded_sound bytes lists e =
     let f : List Located → Option (List Located) = λ lists. when (not (is_empty lists)) lists in
     let r = bind_some (groups_at url_of (suc (length bytes)) bytes) f lists e in
@@ -156,7 +156,7 @@ decoded_sound bytes lists e =
     let some : not (is_empty g.0) ≡ true = ap not (sym (empty_same g.0 r.0 res)) ∙ w.0 in
     rw (← w.1) record { groups = g.0; text = reading_sound bytes g.0 (ap (λ (o : Option (List Group)). o >>= λ groups. when (not (is_empty groups)) groups) g.1 ∙ rw some refl); resolves = res }
 
-decoded_complete : (bytes : List ℕ) (lists : List Located) → Reads bytes lists → decoded bytes ≡ Some lists
+decoded_complete : (bytes : List ℕ) (lists : List Located) → Reads bytes lists → decoded_lists bytes ≡ Some lists
 decoded_complete bytes lists h =
     let f : List Group → Option (List Group) = λ groups. when (not (is_empty groups)) groups in
     let r = bind_some (groups_at as_it_is (suc (length bytes)) bytes) f h.groups (reading_complete bytes h.groups h.text) in
@@ -180,14 +180,14 @@ pub refused_for_memory : {A : Type 0} (e : HeaderError) (o : Option A) (x : A) �
 refused_for_memory OutOfMemory o x r h = refl
 refused_for_memory Invalid o x r h = absurd cc
 
-pub decodes : (values : List FieldValue) (value : FieldValue) (lists : List Located) → values ≡ value ∷ [] → ReadsAs values lists → decoded value.bytes ≡ Some lists
+pub decodes : (values : List FieldValue) (value : FieldValue) (lists : List Located) → values ≡ value ∷ [] → ReadsAs values lists → decoded_lists value.bytes ≡ Some lists
 decodes values value lists e h =
     let same : h.value ≡ value = head_is h.value value (sym h.only ∙ e) in
-    ap (λ (v : FieldValue). decoded v.bytes) (sym same) ∙ decoded_complete h.value.bytes lists record { groups = h.groups; text = h.text; resolves = h.resolves }
+    ap (λ (v : FieldValue). decoded_lists v.bytes) (sym same) ∙ decoded_complete h.value.bytes lists record { groups = h.groups; text = h.text; resolves = h.resolves }
   where
     head_is : (x y : FieldValue) → x ∷ [] ≡ y ∷ [] → x ≡ y
     head_is x y e = cc
 
-pub reads : (values : List FieldValue) (value : FieldValue) (lists : List Located) → values ≡ value ∷ [] → decoded value.bytes ≡ Some lists → ReadsAs values lists
+pub reads : (values : List FieldValue) (value : FieldValue) (lists : List Located) → values ≡ value ∷ [] → decoded_lists value.bytes ≡ Some lists → ReadsAs values lists
 reads values value lists e h =
     let r = decoded_sound value.bytes lists h in record { value = value; only = e; groups = r.groups; text = r.text; resolves = r.resolves }

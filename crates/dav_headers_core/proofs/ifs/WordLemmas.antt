@@ -7,7 +7,7 @@ use Rattle.std.proofs.lemmas.Bool.{eqb-true, and_parts, and_right, or_cases, not
 use Rattle.std.proofs.lemmas.List.{take_at, drop_at, take-append-drop}
 use Rattle.std.proofs.lemmas.Str.{IsUtf8-from_is_utf8, is_utf8-from_IsUtf8}
 use Rattle.dav_headers_core.specs.IfBytes.{is_special, is_word_byte, ends_word}
-use Rattle.dav_headers_core.specs.Pieces.{is_blank}
+use Rattle.dav_headers_core.specs.CommaPieces.{is_blank}
 use Rattle.dav_headers_core.specs.IfGrammar.{WordAt, EndsWord}
 use Rattle.dav_headers_core.specs.Private.IfReading.{after_not, holds_colon, word_len, begins_ending, is_word, word_at}
 use Rattle.dav_headers_core.proofs.lists.OptionalLemmas.{when_some}

@@ -2,7 +2,7 @@
 use Rattle.std.proofs.Common.{Option, Result, Ok, Err}
 use Rattle.dav_headers_core.specs.declared.davheaders.errors.HeaderError.{HeaderError}
 use Rattle.dav_headers_core.specs.declared.davheaders.errors.HeaderError.TheVariants.{Invalid, OutOfMemory}
-use Rattle.dav_headers_core.specs.Gives.{Refuses, RefusesFirst, Gives, GivesFirst}
+use Rattle.dav_headers_core.specs.HeaderGives.{Refuses, RefusesFirst, Gives, GivesFirst}
 
 pub refused_anyhow : {U : Type 0} (e : HeaderError) (expected : Option U) → RefusesFirst e expected → Refuses e expected
 refused_anyhow Invalid expected refused = refused

@@ -10,7 +10,7 @@ use Rattle.http_header.specs.FieldValue.{plain_value}
 use Rattle.dav_headers_core.specs.Optional.{◌>>=◌}
 use Rattle.dav_headers_core.specs.Values.{is_text_byte}
 use Rattle.dav_headers_core.specs.Numbers.{number}
-use Rattle.dav_headers_core.specs.UpdateRanges.{range_between, range_header, range_text, IsWithin}
+use Rattle.dav_headers_core.specs.UpdateRanges.{range_between, range_header, range_text, IsRangeWithin}
 use Rattle.dav_headers_core.specs.declared.davheaders.update_ranges.XUpdateRange.{XUpdateRange}
 use Rattle.dav_headers_core.specs.declared.davheaders.update_ranges.XUpdateRange.TheVariants.{FromTo, AllFrom, Last, Append}
 use Rattle.dav_headers_core.proofs.numbers.DashLemmas.{NoDash, just_two}
@@ -52,7 +52,7 @@ reads first last range h k no_dash none_after e =
     let text = text-append is_text_byte first (45 ∷ last) h k in
     rw (text, just_two (first ++ 45 ∷ last) first last refl no_dash none_after) e
 
-pub range_round_trips : (range : XUpdateRange) → IsWithin range → range_header (plain_value (range_text range) ∷ []) ≡ Some range
+pub range_round_trips : (range : XUpdateRange) → IsRangeWithin range → range_header (plain_value (range_text range) ∷ []) ≡ Some range
 range_round_trips Append within = refl
 range_round_trips (FromTo m n) within =
     reads (decimal m) (decimal n) (FromTo m n) (decimal_is_text m within.0) (decimal_is_text n within.1) (decimal_no_dash m within.0) (decimal_no_dash n within.1)
@@ -64,7 +64,7 @@ range_round_trips (Last n) within =
     reads [] (decimal n) (Last n) refl (decimal_is_text n within) nil_no_dash (decimal_no_dash n within)
     (rw (between_last (decimal n) (decimal_nonempty n within), number-decimal 64 n within within) refl)
 
-pub range_is_text : (range : XUpdateRange) → IsWithin range → list_all is_text_byte (range_text range) ≡ true
+pub range_is_text : (range : XUpdateRange) → IsRangeWithin range → list_all is_text_byte (range_text range) ≡ true
 range_is_text Append within = refl
 range_is_text (FromTo m n) within = text-append is_text_byte (decimal m) (45 ∷ decimal n) (decimal_is_text m within.0) (decimal_is_text n within.1)
 range_is_text (AllFrom m) within = text-append is_text_byte (decimal m) (45 ∷ []) (decimal_is_text m within) refl

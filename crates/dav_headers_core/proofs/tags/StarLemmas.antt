@@ -5,7 +5,7 @@ use Rattle.std.specs.List.{flat_map}
 use Rattle.http_header.specs.FieldValue.{FieldValue}
 use Rattle.dav_headers_core.specs.Optional.{◌>>=◌}
 use Rattle.dav_headers_core.specs.Values.{text_of}
-use Rattle.dav_headers_core.specs.Pieces.{trimmed}
+use Rattle.dav_headers_core.specs.CommaPieces.{without_blanks}
 use Rattle.dav_headers_core.specs.TagLists.{TagList, AnyTag, TheseTags, in_front, tags_in, tags_of_values, tag_list_header}
 use Rattle.dav_headers_core.specs.Private.TagReading.{star_among, tags_of}
 
@@ -21,7 +21,7 @@ read_whole (value ∷ values) = at_text (text_of value.bytes) refl (read_whole v
   where
     at_text : (text : Option (List ℕ)) → text_of value.bytes ≡ text → tags_of_values values ≡ read_by (star_among values) values → tags_of_values (value ∷ values) ≡ read_by (star_among (value ∷ values)) (value ∷ values)
     at_text None e others = rw e refl
-    at_text (Some text) e others = rw e (at_star (bytes_eq (trimmed text) (codes "*")))
+    at_text (Some text) e others = rw e (at_star (bytes_eq (without_blanks text) (codes "*")))
       where
         behind : (star : Option Bool) → (read_by star values >>= λ more. Some (in_front (tags_in text) more)) ≡ read_by star (value ∷ values)
         behind None = refl

@@ -4,7 +4,7 @@ use Rattle.std.proofs.Common.{◌≡◌, ◌≢◌, refl, sym, ap, ◌∙◌, �
 use Rattle.std.specs.List.{AllByRecursion, list_any}
 use Rattle.std.proofs.lemmas.Bool.{eqb-true, eqb-false, eq-eqb, ne_eqb, and_parts, or_left, or_right, or_cases, or_parts, both_ways, false_from_ne_true}
 use Rattle.std.proofs.lemmas.List.{same_from_push}
-use Rattle.dav_headers_core.specs.Tags.{quote, mark, spelled, IsTag, ends_in_quote, is_quoted, is_tag, is_weak}
+use Rattle.dav_headers_core.specs.Tags.{quote, mark, spelled_tag, IsTag, ends_in_quote, is_quoted, is_tag, is_weak}
 
 -- bytes but quotes, and then a quote
 pub record EndsInQuote (bytes : List ℕ) : Type 0 where
@@ -93,10 +93,10 @@ quotes_in (b ∷ bytes) h = rw (ne_eqb b quote h.0) (quotes_in bytes h.1)
 
 -- ---- a text between quotes, as the code takes it apart
 
-pub spelled_is_tag : (weak : Bool) (text : List ℕ) → holds_quote text ≡ false → is_tag (spelled weak text) ≡ true
+pub spelled_is_tag : (weak : Bool) (text : List ℕ) → holds_quote text ≡ false → is_tag (spelled_tag weak text) ≡ true
 spelled_is_tag weak text none = complete_at weak text (no_quotes text none)
 
-pub spelled_is_weak : (weak : Bool) (text : List ℕ) → weak ≡ is_weak (spelled weak text)
+pub spelled_is_weak : (weak : Bool) (text : List ℕ) → weak ≡ is_weak (spelled_tag weak text)
 spelled_is_weak true text = refl
 spelled_is_weak false text = refl
 

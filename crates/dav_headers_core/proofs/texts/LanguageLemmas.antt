@@ -8,10 +8,10 @@ use Rattle.std.proofs.lemmas.List.Concat.{flat_map-append}
 use Rattle.http_header.specs.FieldValue.{FieldValue}
 use Rattle.dav_headers_core.specs.declared.davheaders.errors.HeaderError.{HeaderError}
 use Rattle.dav_headers_core.specs.declared.davheaders.errors.HeaderError.TheVariants.{Invalid, OutOfMemory}
-use Rattle.dav_headers_core.specs.Gives.{Refuses}
+use Rattle.dav_headers_core.specs.HeaderGives.{Refuses}
 use Rattle.dav_headers_core.specs.Optional.{◌>>=◌, when, every}
 use Rattle.dav_headers_core.specs.Values.{is_text_byte, text_of, are_texts, texts_of}
-use Rattle.dav_headers_core.specs.Pieces.{pieces}
+use Rattle.dav_headers_core.specs.CommaPieces.{comma_pieces}
 use Rattle.dav_headers_core.specs.Languages.{is_language, language_of, languages_of_bytes, languages_of_all_values, language_header}
 use Rattle.dav_headers_core.proofs.lists.EveryLemmas.{every_push, none_within}
 use Rattle.dav_headers_core.proofs.lists.OptionalLemmas.{bind_some, when_some, some_is}
@@ -59,12 +59,12 @@ same_languages (x ∷ xs) ys e =
     let both : x ∷ xs ≡ r.0 ∷ q.0 = cc (head, tail) in
     both ∙ some_is _ _ q.2
 
-pub languages_are_texts : (text : List ℕ) (ls : List (List ℕ)) → list_all is_text_byte text ≡ true → every language_of (pieces text) ≡ Some ls → are_texts ls ≡ true
-languages_are_texts text ls visible e = ap are_texts (sym (same_languages (pieces text) ls e)) ∙ pieces_are_texts text visible
+pub languages_are_texts : (text : List ℕ) (ls : List (List ℕ)) → list_all is_text_byte text ≡ true → every language_of (comma_pieces text) ≡ Some ls → are_texts ls ≡ true
+languages_are_texts text ls visible e = ap are_texts (sym (same_languages (comma_pieces text) ls e)) ∙ pieces_are_texts text visible
 
 bytes_are_texts : (bytes : List ℕ) (ls : List (List ℕ)) → languages_of_bytes bytes ≡ Some ls → are_texts ls ≡ true
 bytes_are_texts bytes ls e =
-    let f : List ℕ → Option (List (List ℕ)) = λ text. every language_of (pieces text) in
+    let f : List ℕ → Option (List (List ℕ)) = λ text. every language_of (comma_pieces text) in
     let r = bind_some (text_of bytes) f ls e in
     let w = when_some (list_all is_text_byte bytes) bytes r.0 r.1 in
     languages_are_texts r.0 ls (ap (λ (text : List ℕ). list_all is_text_byte text) (sym w.1) ∙ w.0) r.2
@@ -123,9 +123,9 @@ no_text_no_languages (value ∷ values) none = go (text_of value.bytes) (every (
   where
     go : (text : Option (List ℕ)) (others : Option (List (List ℕ))) → is_some (text >>= λ y. others >>= λ ys. Some (y ∷ ys)) ≡ false
         → (is_some others ≡ false → each values ≡ None)
-        → ((text >>= λ t. every language_of (pieces t)) >>= λ y. each values >>= λ ys. Some (y ∷ ys)) ≡ None
+        → ((text >>= λ t. every language_of (comma_pieces t)) >>= λ y. each values >>= λ ys. Some (y ∷ ys)) ≡ None
     go None others none hyp = refl
-    go (Some t) None none hyp = nothing_behind (every language_of (pieces t)) (each values) (hyp refl)
+    go (Some t) None none hyp = nothing_behind (every language_of (comma_pieces t)) (each values) (hyp refl)
     go (Some t) (Some ys) none hyp = absurd cc
 
 pub no_texts : (values : List FieldValue) → is_some (texts_of values) ≡ false → language_header values ≡ None

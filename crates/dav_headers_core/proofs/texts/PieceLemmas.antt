@@ -10,7 +10,7 @@ use Rattle.std.proofs.lemmas.List.Splits.{slice_split_none, slice_split_at}
 use Rattle.std.proofs.lemmas.List.Elements.{All-nil, All-cons, All-head, All-tail, All-drop, All-append, All-weaker}
 use Rattle.http_header.specs.FieldValue.{IsVisibleAscii}
 use Rattle.dav_headers_core.specs.Values.{is_text_byte}
-use Rattle.dav_headers_core.specs.Pieces.{is_blank, is_comma, trimmed_by, trimmed, pieces, joined}
+use Rattle.dav_headers_core.specs.CommaPieces.{is_blank, is_comma, trimmed_by, without_blanks, comma_pieces, joined_by_commas}
 
 -- ---- what holds of each byte of a text holds of each byte of its pieces
 
@@ -56,11 +56,11 @@ trims_agree p q xs all =
 space_is_blank : (b : ℕ) → is_text_byte b ≡ true → is_ascii_whitespace b ≡ is_blank b
 space_is_blank b h = grind (arith, nat_tests)
 
-pub trimmed_is : (text : List ℕ) → IsVisibleAscii text → trimmed_by is_ascii_whitespace text ≡ trimmed text
+pub trimmed_is : (text : List ℕ) → IsVisibleAscii text → trimmed_by is_ascii_whitespace text ≡ without_blanks text
 trimmed_is text visible =
     trims_agree is_ascii_whitespace is_blank text (All-weaker (λ b. is_text_byte b ≡ true) (λ b. is_ascii_whitespace b ≡ is_blank b) space_is_blank text visible)
 
-pub trimmed_pieces : (text : List ℕ) → IsVisibleAscii text → map (trimmed_by is_ascii_whitespace) (slice_split is_comma text) ≡ pieces text
+pub trimmed_pieces : (text : List ℕ) → IsVisibleAscii text → map (trimmed_by is_ascii_whitespace) (slice_split is_comma text) ≡ comma_pieces text
 trimmed_pieces text visible =
     let bytes : All (λ b. is_ascii_whitespace b ≡ is_blank b) text = All-weaker (λ b. is_text_byte b ≡ true) (λ b. is_ascii_whitespace b ≡ is_blank b) space_is_blank text visible in
     let parts = parts_all (λ b. is_ascii_whitespace b ≡ is_blank b) is_comma text bytes in
@@ -82,10 +82,10 @@ ends_stay bytes plain =
     let back : suffix_len is_blank bytes ≡ 0 = no_blanks (reverse bytes) (all_reverse IsPlain bytes plain) in
     take_all (length bytes - suffix_len is_blank bytes) bytes (omega (arith, back))
 
-trimmed_plain : (bytes : List ℕ) → All IsPlain bytes → trimmed bytes ≡ bytes
+trimmed_plain : (bytes : List ℕ) → All IsPlain bytes → without_blanks bytes ≡ bytes
 trimmed_plain bytes plain = rw (no_blanks bytes plain) (ends_stay bytes plain)
 
-trimmed_front : (bytes : List ℕ) → All IsPlain bytes → trimmed (32 ∷ bytes) ≡ bytes
+trimmed_front : (bytes : List ℕ) → All IsPlain bytes → without_blanks (32 ∷ bytes) ≡ bytes
 trimmed_front bytes plain = rw (no_blanks bytes plain) (ends_stay bytes plain)
 
 no_commas : (bytes : List ℕ) → All IsPlain bytes → All (λ b. is_comma b ≡ false) bytes
@@ -102,12 +102,12 @@ cut_again front (text ∷ texts) no_comma plain =
     let rest = cut_again (32 ∷ text) texts (All-cons (λ b. is_comma b ≡ false) 32 text refl head) (All-tail (All IsPlain) text texts plain) in
     slice_split_at is_comma front 44 (32 ∷ text ++ behind_first texts) no_comma refl ∙ ap (λ (parts : List (List ℕ)). front ∷ parts) rest
 
-trimmed_fronts : (texts : List (List ℕ)) → All (All IsPlain) texts → map trimmed (map (λ text. 32 ∷ text) texts) ≡ texts
+trimmed_fronts : (texts : List (List ℕ)) → All (All IsPlain) texts → map without_blanks (map (λ text. 32 ∷ text) texts) ≡ texts
 trimmed_fronts [] plain = refl
 trimmed_fronts (text ∷ texts) plain =
     rw (trimmed_front text (All-head (All IsPlain) text texts plain), trimmed_fronts texts (All-tail (All IsPlain) text texts plain)) refl
 
-pub pieces_joined : (texts : List (List ℕ)) → texts ≢ [] → All (All IsPlain) texts → pieces (joined texts) ≡ texts
+pub pieces_joined : (texts : List (List ℕ)) → texts ≢ [] → All (All IsPlain) texts → comma_pieces (joined_by_commas texts) ≡ texts
 pieces_joined [] some plain = absurd (some refl)
 pieces_joined (text ∷ texts) some plain =
     let head = All-head (All IsPlain) text texts plain in
@@ -115,7 +115,7 @@ pieces_joined (text ∷ texts) some plain =
     rw (cut_again text texts (no_commas text head) tail, trimmed_plain text head, trimmed_fronts texts tail) refl
 
 -- texts that are shown by `shown`, joined
-pub joined_by : {X : Type 0} (shown : X → List ℕ) (xs : List X) → join_by shown (codes ", ") xs ≡ joined (map shown xs)
+pub joined_by : {X : Type 0} (shown : X → List ℕ) (xs : List X) → join_by shown (codes ", ") xs ≡ joined_by_commas (map shown xs)
 joined_by shown [] = refl
 joined_by {X = X} shown (x ∷ xs) = ap (λ (rest : List ℕ). shown x ++ rest) (rest_by xs)
   where

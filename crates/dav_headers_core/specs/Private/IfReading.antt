@@ -4,9 +4,9 @@ use Rattle.std.specs.Prelude.{ℕ, zero, suc, ◌==◌, ◌&&◌, Bool, true, fa
 use Rattle.std.specs.List.{list_any}
 use Rattle.std.specs.Str.{is_utf8}
 use Rattle.dav_headers_core.specs.Optional.{◌>>=◌, when}
-use Rattle.dav_headers_core.specs.Tags.{quote, tag_of}
+use Rattle.dav_headers_core.specs.Tags.{quote, tag_in}
 use Rattle.dav_headers_core.specs.IfBytes.{colon, is_word_byte, ends_word, Item, Token, Tag, Condition, Tagged, Group}
-use Rattle.dav_headers_core.specs.Pieces.{is_blank}
+use Rattle.dav_headers_core.specs.CommaPieces.{is_blank}
 use Rattle.dav_headers_core.specs.IfValues.{Located}
 use Rattle.dav_headers_core.specs.Urls.{url_of}
 
@@ -69,7 +69,7 @@ pointed_at bytes = text_at 62 bytes >>= λ text. when (holds_colon text.0) (Toke
 
 -- behind `[`
 unfoldable pub bracketed_at : List ℕ → Found Item
-bracketed_at bytes = text_at 93 bytes >>= λ text. tag_of text.0 >>= λ tag. Some (Tag tag, text.1)
+bracketed_at bytes = text_at 93 bytes >>= λ text. tag_in text.0 >>= λ tag. Some (Tag tag, text.1)
 
 unfoldable pub worded_at : List ℕ → Found Item
 worded_at bytes = word_at bytes >>= λ word. Some (Token word.0, word.1)
@@ -143,5 +143,5 @@ abbrev pub if_reading : List ℕ → Option (List Group)
 if_reading bytes = reading as_it_is bytes
 
 -- with the URLs that they spell
-abbrev pub decoded : List ℕ → Option (List Located)
-decoded bytes = reading url_of bytes
+abbrev pub decoded_lists : List ℕ → Option (List Located)
+decoded_lists bytes = reading url_of bytes

@@ -2,7 +2,7 @@
 ghost use Rattle.std.specs.Prelude.{◌≡◌, ◌≢◌, ◌∷◌, [], Some};
 ghost use Rattle.dav_headers_core.specs.declared.davheaders.depths.Depth.TheVariants as Depth;
 ghost use Rattle.http_header.specs.FieldValue.{plain_value};
-ghost use Rattle.dav_headers_core.specs.Gives.{exactly};
+ghost use Rattle.dav_headers_core.specs.HeaderGives.{exactly};
 ghost use Rattle.dav_headers_core.specs.Depths.{depth_of, depth_header, depth_text};
 
 use super::HeaderError;

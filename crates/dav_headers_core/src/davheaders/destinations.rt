@@ -1,7 +1,7 @@
 //! `Destination`.
 ghost use Rattle.std.specs.Prelude.{◌≡◌, None, Err, string_bytes};
-ghost use Rattle.dav_headers_core.specs.Gives.{Gives, GivesFirst};
-ghost use Rattle.dav_headers_core.specs.Values.{one_text, written};
+ghost use Rattle.dav_headers_core.specs.HeaderGives.{Gives, GivesFirst};
+ghost use Rattle.dav_headers_core.specs.Values.{one_text, value_of_text};
 ghost use Rattle.dav_headers_core.specs.Destinations.{destination_header};
 ghost use Rattle.dav_headers_core.specs.declared.davheaders.errors.HeaderError.TheVariants as HeaderError;
 
@@ -33,7 +33,7 @@ impl Destination {
 
     /// The text as a value. `Invalid` exactly where it holds a byte below 32 but the tab, or 127.
     pub fn encode(&self, alloc: Global) -> Result<HeaderValue, HeaderError>
-        ensures { GivesFirst (λ value. value) result (written (string_bytes self.now.0)) }
+        ensures { GivesFirst (λ value. value) result (value_of_text (string_bytes self.now.0)) }
     {
         copied_value(alloc, &self.0)
     }

@@ -1,10 +1,10 @@
 //! Entity tags.
 ghost use Rattle.std.specs.Prelude.{◌≡◌, ◌↔◌, ◌==◌, ℕ, List, IfOk, IsTrue, string_bytes};
 ghost use Rattle.std.specs.List.{list_any};
-ghost use Rattle.dav_headers_core.specs.Gives.{GivesFirst};
+ghost use Rattle.dav_headers_core.specs.HeaderGives.{GivesFirst};
 ghost use Rattle.dav_headers_core.specs.Optional.{when};
-ghost use Rattle.dav_headers_core.specs.Values.{written};
-ghost use Rattle.dav_headers_core.specs.Tags.{IsTag, quote, spelled, is_quoted, is_tag, is_weak, tag_of, tag_of_value, tag_header, new_tag, strong_eq};
+ghost use Rattle.dav_headers_core.specs.Values.{value_of_text};
+ghost use Rattle.dav_headers_core.specs.Tags.{IsTag, quote, spelled_tag, is_quoted, is_tag, is_weak, tag_in, tag_of_value, tag_header, new_tag, strong_eq};
 
 use super::HeaderError;
 use super::values::{copied_value, one_text, text_of};
@@ -60,7 +60,7 @@ fn is_tag(text: &str) -> bool
 }
 
 fn spelled(alloc: Global, weak: bool, t: &str) -> Result<String, AllocError>
-    ensures { IfOk result (λ text. string_bytes text ≡ spelled weak t.now) }
+    ensures { IfOk result (λ text. string_bytes text ≡ spelled_tag weak t.now) }
 {
     if weak {
         format!(in alloc; "W/\"{t}\"")
@@ -86,7 +86,7 @@ impl ETag {
     /// The tag that the text spells: `W/` or nothing, a quote, any characters but a quote, a quote, and nothing round it.
     /// Anything else is `Invalid`.
     pub fn from_str(alloc: Global, t: &str) -> Result<ETag, HeaderError>
-        ensures { GivesFirst (λ tag. tag) result (tag_of t.now) }
+        ensures { GivesFirst (λ tag. tag) result (tag_in t.now) }
     {
         if !is_tag(t) {
             return Err(HeaderError::Invalid);
@@ -132,7 +132,7 @@ impl ETag {
 
     /// The spelling as a value. `Invalid` exactly where it holds a byte below 32 but the tab, or 127.
     pub fn encode(&self, alloc: Global) -> Result<HeaderValue, HeaderError>
-        ensures { GivesFirst (λ value. value) result (written self.now) }
+        ensures { GivesFirst (λ value. value) result (value_of_text self.now) }
     {
         copied_value(alloc, self.as_str())
     }

@@ -1,8 +1,8 @@
 //! `If-Range`.
 ghost use Rattle.std.specs.Prelude.{◌≡◌, Err, IfOk, IsAscii, MatchResult};
-ghost use Rattle.dav_headers_core.specs.Gives.{GivesFirst};
-ghost use Rattle.dav_headers_core.specs.Values.{written};
-ghost use Rattle.dav_headers_core.specs.IfRanges.{TextSays, ValuesSay, shown, if_range_text, if_range_strong_eq};
+ghost use Rattle.dav_headers_core.specs.HeaderGives.{GivesFirst};
+ghost use Rattle.dav_headers_core.specs.Values.{value_of_text};
+ghost use Rattle.dav_headers_core.specs.IfRanges.{TextSays, ValuesSay, shown_of, if_range_text, if_range_strong_eq};
 ghost use Rattle.dav_headers_core.specs.declared.davheaders.errors.HeaderError.TheVariants as HeaderError;
 ghost use Rattle.dav_headers_core.specs.declared.davheaders.if_ranges.IfRange.{IfRange as Range};
 
@@ -26,7 +26,7 @@ fn range_of(alloc: Global, text: &str) -> Result<IfRange, HeaderError>
     requires { IsAscii text.now }
     ensures ok { IfOk result (λ range. TextSays text.now range) }
     ensures only { (range : Range) → TextSays text.now range
-        → MatchResult result (λ r. shown r ≡ shown range) (λ e. e ≡ HeaderError.OutOfMemory) }
+        → MatchResult result (λ r. shown_of r ≡ shown_of range) (λ e. e ≡ HeaderError.OutOfMemory) }
     ensures memory { result ≡ Err HeaderError.OutOfMemory → (range : Range) × TextSays text.now range }
 {
     if let Ok(date) = text.parse::<HttpDate>() {
@@ -41,7 +41,7 @@ impl IfRange {
         ensures ok { IfOk result (λ range. ValuesSay values.now range) }
         // What the values say is read, unless memory runs out.
         ensures only { (range : Range) → ValuesSay values.now range
-            → MatchResult result (λ r. shown r ≡ shown range) (λ e. e ≡ HeaderError.OutOfMemory) }
+            → MatchResult result (λ r. shown_of r ≡ shown_of range) (λ e. e ≡ HeaderError.OutOfMemory) }
         // It may run out of memory only where the values say something; so `Invalid` comes exactly where they say nothing.
         ensures memory { result ≡ Err HeaderError.OutOfMemory → (range : Range) × ValuesSay values.now range }
     {
@@ -51,7 +51,7 @@ impl IfRange {
 
     /// The date as IMF-fixdate, or the tag's spelling. `Invalid` exactly where it holds a byte below 32 but the tab, or 127.
     pub fn encode(&self, alloc: Global) -> Result<HeaderValue, HeaderError>
-        ensures { GivesFirst (λ value. value) result (written (if_range_text self.now)) }
+        ensures { GivesFirst (λ value. value) result (value_of_text (if_range_text self.now)) }
     {
         match self {
             IfRange::ETag(tag) => tag.encode(alloc),

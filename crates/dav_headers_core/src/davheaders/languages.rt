@@ -2,10 +2,10 @@
 ghost use Rattle.std.specs.Prelude.{◌≡◌, None, Err, IfErr, is_some, option_copied, map, string_bytes};
 ghost use Rattle.std.specs.List.{list_all};
 ghost use Rattle.http_header.specs.FieldValue.{IsVisibleAscii};
-ghost use Rattle.dav_headers_core.specs.Gives.{Gives, GivesFirst};
+ghost use Rattle.dav_headers_core.specs.HeaderGives.{Gives, GivesFirst};
 ghost use Rattle.dav_headers_core.specs.Optional.{every};
-ghost use Rattle.dav_headers_core.specs.Values.{is_text_byte, text_of, texts_of, written};
-ghost use Rattle.dav_headers_core.specs.Pieces.{pieces, joined};
+ghost use Rattle.dav_headers_core.specs.Values.{is_text_byte, text_of, texts_of, value_of_text};
+ghost use Rattle.dav_headers_core.specs.CommaPieces.{comma_pieces, joined_by_commas};
 ghost use Rattle.dav_headers_core.specs.Languages.{is_language, language_of, languages_of_bytes, languages_of_all_values, language_header};
 ghost use Rattle.dav_headers_core.specs.declared.davheaders.errors.HeaderError.TheVariants as HeaderError;
 
@@ -64,7 +64,7 @@ fn languages_of_pieces(alloc: Global, pieces: &[&str]) -> Result<Vec<String>, He
 
 fn languages_of_text(alloc: Global, text: &str) -> Result<Vec<String>, HeaderError>
     requires { IsVisibleAscii text.now }
-    ensures { Gives (λ languages. map string_bytes languages.items) result (every language_of (pieces text.now)) }
+    ensures { Gives (λ languages. map string_bytes languages.items) result (every language_of (comma_pieces text.now)) }
 {
     let pieces = pieces(alloc, text)?;
     languages_of_pieces(alloc, &pieces)
@@ -142,7 +142,7 @@ impl ContentLanguage {
 
     /// The languages joined by `, `. `OutOfMemory` alone.
     pub fn encode(&self, alloc: Global) -> Result<HeaderValue, HeaderError>
-        ensures value { GivesFirst (λ value. value) result (written (joined self.now)) }
+        ensures value { GivesFirst (λ value. value) result (value_of_text (joined_by_commas self.now)) }
         ensures err { IfErr result (λ e. e ≡ HeaderError.OutOfMemory) }
     {
         value_of(self.languages.join(alloc, ", ")?)

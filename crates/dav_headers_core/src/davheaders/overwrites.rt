@@ -1,7 +1,7 @@
 //! `Overwrite`.
 ghost use Rattle.std.specs.Prelude.{◌≡◌, ◌∷◌, [], Some};
 ghost use Rattle.http_header.specs.FieldValue.{plain_value};
-ghost use Rattle.dav_headers_core.specs.Gives.{exactly};
+ghost use Rattle.dav_headers_core.specs.HeaderGives.{exactly};
 ghost use Rattle.dav_headers_core.specs.Overwrites.{overwrite_header, overwrite_text};
 
 use super::HeaderError;

@@ -2,9 +2,9 @@
 ghost use Rattle.std.specs.Prelude.{◌≡◌, ◌++◌, filter, map, IfOk};
 ghost use Rattle.std.specs.List.{flat_map, list_any};
 ghost use Rattle.http_header.specs.FieldValue.{IsVisibleAscii};
-ghost use Rattle.dav_headers_core.specs.Gives.{GivesFirst};
-ghost use Rattle.dav_headers_core.specs.Values.{is_control, written};
-ghost use Rattle.dav_headers_core.specs.Pieces.{joined};
+ghost use Rattle.dav_headers_core.specs.HeaderGives.{GivesFirst};
+ghost use Rattle.dav_headers_core.specs.Values.{is_control, value_of_text};
+ghost use Rattle.dav_headers_core.specs.CommaPieces.{joined_by_commas};
 ghost use Rattle.dav_headers_core.specs.Tags.{is_tag};
 ghost use Rattle.dav_headers_core.specs.TagLists.{tag_list, tags_in, tag_list_header, tag_list_text, tags_strong_eq, tag_list_strong_eq};
 ghost use Rattle.dav_headers_core.specs.Private.TagReading as reading;
@@ -96,14 +96,14 @@ fn list_of(alloc: Global, values: &[HeaderValue]) -> Result<ETagList, HeaderErro
 
 /// Whether a spelling holds a byte that no value may hold.
 fn hold_control(tags: &[ETag]) -> bool
-    ensures { result ≡ list_any is_control (joined tags.now) }
+    ensures { result ≡ list_any is_control (joined_by_commas tags.now) }
 {
     tags.iter()
         .any(|tag| holds_control(tag.as_str().as_bytes()))
 }
 
 fn joined_tags(alloc: Global, tags: &[ETag]) -> Result<HeaderValue, HeaderError>
-    ensures { GivesFirst (λ value. value) result (written (joined tags.now)) }
+    ensures { GivesFirst (λ value. value) result (value_of_text (joined_by_commas tags.now)) }
 {
     if hold_control(tags) {
         return Err(HeaderError::Invalid);
@@ -112,7 +112,7 @@ fn joined_tags(alloc: Global, tags: &[ETag]) -> Result<HeaderValue, HeaderError>
 }
 
 fn value_of_list(alloc: Global, list: &ETagList) -> Result<HeaderValue, HeaderError>
-    ensures { GivesFirst (λ value. value) result (written (tag_list_text (tag_list list.now))) }
+    ensures { GivesFirst (λ value. value) result (value_of_text (tag_list_text (tag_list list.now))) }
 {
     match list {
         ETagList::Tags(tags) => joined_tags(alloc, tags),
@@ -155,7 +155,7 @@ impl IfMatch {
 
     /// The value `*`, or the spellings joined by `, `. `Invalid` exactly where it would hold a byte below 32 but the tab, or 127.
     pub fn encode(&self, alloc: Global) -> Result<HeaderValue, HeaderError>
-        ensures { GivesFirst (λ value. value) result (written (tag_list_text (tag_list self.now.0))) }
+        ensures { GivesFirst (λ value. value) result (value_of_text (tag_list_text (tag_list self.now.0))) }
     {
         let IfMatch(list) = self;
         value_of_list(alloc, list)
@@ -180,7 +180,7 @@ impl IfNoneMatch {
 
     /// The value `*`, or the spellings joined by `, `. `Invalid` exactly where it would hold a byte below 32 but the tab, or 127.
     pub fn encode(&self, alloc: Global) -> Result<HeaderValue, HeaderError>
-        ensures { GivesFirst (λ value. value) result (written (tag_list_text (tag_list self.now.0))) }
+        ensures { GivesFirst (λ value. value) result (value_of_text (tag_list_text (tag_list self.now.0))) }
     {
         let IfNoneMatch(list) = self;
         value_of_list(alloc, list)

@@ -1,7 +1,7 @@
 //! Headers that are kept as the text of their one value, with no form asked of it.
 ghost use Rattle.std.specs.Prelude.{string_bytes};
-ghost use Rattle.dav_headers_core.specs.Gives.{GivesFirst};
-ghost use Rattle.dav_headers_core.specs.Values.{one_text, written};
+ghost use Rattle.dav_headers_core.specs.HeaderGives.{GivesFirst};
+ghost use Rattle.dav_headers_core.specs.Values.{one_text, value_of_text};
 
 use super::HeaderError;
 use super::values::{copied_value, one_string};
@@ -22,7 +22,7 @@ impl ContentType {
 
     /// The text as a value. `Invalid` exactly where it holds a byte below 32 but the tab, or 127.
     pub fn encode(&self, alloc: Global) -> Result<HeaderValue, HeaderError>
-        ensures { GivesFirst (λ value. value) result (written (string_bytes self.now.0)) }
+        ensures { GivesFirst (λ value. value) result (value_of_text (string_bytes self.now.0)) }
     {
         let ContentType(text) = self;
         copied_value(alloc, text)
@@ -43,7 +43,7 @@ impl ContentLocation {
 
     /// The text as a value. `Invalid` exactly where it holds a byte below 32 but the tab, or 127.
     pub fn encode(&self, alloc: Global) -> Result<HeaderValue, HeaderError>
-        ensures { GivesFirst (λ value. value) result (written (string_bytes self.now.0)) }
+        ensures { GivesFirst (λ value. value) result (value_of_text (string_bytes self.now.0)) }
     {
         let ContentLocation(text) = self;
         copied_value(alloc, text)
@@ -64,7 +64,7 @@ impl LockToken {
 
     /// The text as a value. `Invalid` exactly where it holds a byte below 32 but the tab, or 127.
     pub fn encode(&self, alloc: Global) -> Result<HeaderValue, HeaderError>
-        ensures { GivesFirst (λ value. value) result (written (string_bytes self.now.0)) }
+        ensures { GivesFirst (λ value. value) result (value_of_text (string_bytes self.now.0)) }
     {
         let LockToken(text) = self;
         copied_value(alloc, text)
@@ -85,7 +85,7 @@ impl XLitmus {
 
     /// The text as a value. `Invalid` exactly where it holds a byte below 32 but the tab, or 127.
     pub fn encode(&self, alloc: Global) -> Result<HeaderValue, HeaderError>
-        ensures { GivesFirst (λ value. value) result (written (string_bytes self.now.0)) }
+        ensures { GivesFirst (λ value. value) result (value_of_text (string_bytes self.now.0)) }
     {
         let XLitmus(text) = self;
         copied_value(alloc, text)

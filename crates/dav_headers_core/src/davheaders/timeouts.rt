@@ -1,11 +1,11 @@
 //! `Timeout`.
 ghost use Rattle.std.specs.Prelude.{◌≡◌, ◌≢◌, List, ◌∷◌, [], Some, None, Err, IfOk, IfErr, All, map, string_bytes};
 ghost use Rattle.http_header.specs.FieldValue.{plain_value};
-ghost use Rattle.dav_headers_core.specs.Gives.{Gives};
+ghost use Rattle.dav_headers_core.specs.HeaderGives.{Gives};
 ghost use Rattle.dav_headers_core.specs.Optional.{every};
-ghost use Rattle.dav_headers_core.specs.Values.{one_text, written};
+ghost use Rattle.dav_headers_core.specs.Values.{one_text, value_of_text};
 ghost use Rattle.dav_headers_core.specs.Numbers.{number};
-ghost use Rattle.dav_headers_core.specs.Timeouts.{timeout_of, timeout_header, timeout_text, timeouts_text, IsWithin};
+ghost use Rattle.dav_headers_core.specs.Timeouts.{timeout_of, timeout_header, timeout_text, timeouts_text, IsTimeoutWithin};
 ghost use Rattle.dav_headers_core.specs.declared.davheaders.errors.HeaderError.TheVariants as HeaderError;
 ghost use Rattle.dav_headers_core.specs.declared.davheaders.timeouts.DavTimeout.{DavTimeout as Wanted};
 
@@ -59,7 +59,7 @@ fn timeouts_of(alloc: Global, pieces: &[&str]) -> Result<Vec<DavTimeout>, Header
 
 fn text_of(alloc: Global, timeout: DavTimeout) -> Result<String, AllocError>
     ensures text { IfOk result (λ text. string_bytes text ≡ timeout_text timeout) }
-    ensures within { IsWithin timeout }
+    ensures within { IsTimeoutWithin timeout }
 {
     match timeout {
         DavTimeout::Seconds(count) => format!(in alloc; "Second-{count}"),
@@ -69,7 +69,7 @@ fn text_of(alloc: Global, timeout: DavTimeout) -> Result<String, AllocError>
 
 fn texts_of(alloc: Global, timeouts: &[DavTimeout]) -> Result<Vec<String>, AllocError>
     ensures texts { IfOk result (λ texts. map string_bytes texts.items ≡ map timeout_text timeouts.now) }
-    ensures within { IfOk result (λ _. All IsWithin timeouts.now) }
+    ensures within { IfOk result (λ _. All IsTimeoutWithin timeouts.now) }
 {
     let mut texts = Vec::new(alloc);
     for timeout in timeouts {
@@ -93,7 +93,7 @@ impl Timeout {
 
     /// The timeouts, joined by `, `: with at least one, the value is read as the same timeouts. `OutOfMemory` alone.
     pub fn encode(&self, alloc: Global) -> Result<HeaderValue, HeaderError>
-        ensures value { Gives (λ value. value) result (written (timeouts_text self.now.0.items)) }
+        ensures value { Gives (λ value. value) result (value_of_text (timeouts_text self.now.0.items)) }
         ensures reads_back { IfOk result (λ value. self.now.0.items ≢ []
             → timeout_header (value ∷ []) ≡ Some self.now.0.items) }
         ensures err { IfErr result (λ e. e ≡ HeaderError.OutOfMemory) }
@@ -114,6 +114,6 @@ impl Clone for Timeout {
 
 /// The law that timeouts whose numbers are within u32 are read as they are written, where there is at least one.
 pub fn timeouts_round_trip()
-    ensures { (timeouts : List Wanted) → timeouts ≢ [] → All IsWithin timeouts
+    ensures { (timeouts : List Wanted) → timeouts ≢ [] → All IsTimeoutWithin timeouts
         → timeout_header (plain_value (timeouts_text timeouts) ∷ []) ≡ Some timeouts }
 {}

@@ -2,10 +2,10 @@
 ghost use Rattle.std.specs.Prelude.{◌≡◌, ◌∷◌, [], Some, IfOk, IfErr, option_map, string_bytes};
 ghost use Rattle.std.specs.List.{slice_split};
 ghost use Rattle.http_header.specs.FieldValue.{plain_value};
-ghost use Rattle.dav_headers_core.specs.Gives.{GivesFirst, exactly};
-ghost use Rattle.dav_headers_core.specs.Values.{written};
+ghost use Rattle.dav_headers_core.specs.HeaderGives.{GivesFirst, exactly};
+ghost use Rattle.dav_headers_core.specs.Values.{value_of_text};
 ghost use Rattle.dav_headers_core.specs.Numbers.{number};
-ghost use Rattle.dav_headers_core.specs.UpdateRanges.{is_dash, two, range_between, range_of, range_header, range_text, IsWithin};
+ghost use Rattle.dav_headers_core.specs.UpdateRanges.{is_hyphen, two, range_between, range_of, range_header, range_text, IsRangeWithin};
 ghost use Rattle.dav_headers_core.specs.declared.davheaders.errors.HeaderError.TheVariants as HeaderError;
 ghost use Rattle.dav_headers_core.specs.declared.davheaders.update_ranges.XUpdateRange.{XUpdateRange as Range};
 
@@ -47,7 +47,7 @@ fn range_between(first: &str, last: &str) -> Option<XUpdateRange>
 
 /// What stands around the one dash.
 fn around_dash(range: &str) -> Option<(&str, &str)>
-    ensures { option_map (λ ends. (ends.0.now, ends.1.now)) result ≡ two (slice_split is_dash range.now) }
+    ensures { option_map (λ ends. (ends.0.now, ends.1.now)) result ≡ two (slice_split is_hyphen range.now) }
 {
     let (first, last) = range.split_once('-')?;
     if last.contains('-') {
@@ -70,7 +70,7 @@ fn range_of(text: &str) -> Option<XUpdateRange>
 
 fn text_of(alloc: Global, range: XUpdateRange) -> Result<String, AllocError>
     ensures text { IfOk result (λ text. string_bytes text ≡ range_text range) }
-    ensures within { IsWithin range }
+    ensures within { IsRangeWithin range }
 {
     match range {
         XUpdateRange::FromTo(first, last) => format!(in alloc; "bytes={first}-{last}"),
@@ -93,7 +93,7 @@ impl XUpdateRange {
 
     /// The value `append`, `bytes=A-B`, `bytes=A-` or `bytes=-B`, which is read as the same. `OutOfMemory` alone.
     pub fn encode(&self, alloc: Global) -> Result<HeaderValue, HeaderError>
-        ensures value { GivesFirst (λ value. value) result (written (range_text self.now)) }
+        ensures value { GivesFirst (λ value. value) result (value_of_text (range_text self.now)) }
         ensures reads_back { IfOk result (λ value. range_header (value ∷ []) ≡ Some self.now) }
         ensures err { IfErr result (λ e. e ≡ HeaderError.OutOfMemory) }
     {
@@ -103,5 +103,5 @@ impl XUpdateRange {
 
 /// The law that every range whose numbers are within u64 is read as it is written.
 pub fn ranges_round_trip()
-    ensures { (range : Range) → IsWithin range → range_header (plain_value (range_text range) ∷ []) ≡ Some range }
+    ensures { (range : Range) → IsRangeWithin range → range_header (plain_value (range_text range) ∷ []) ≡ Some range }
 {}

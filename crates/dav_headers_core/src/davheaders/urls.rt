@@ -1,5 +1,5 @@
 //! Texts that spell a URL.
-ghost use Rattle.dav_headers_core.specs.Gives.{Gives};
+ghost use Rattle.dav_headers_core.specs.HeaderGives.{Gives};
 ghost use Rattle.dav_headers_core.specs.Urls.{url_of};
 
 use super::HeaderError;

@@ -3,10 +3,10 @@ ghost use Rattle.std.specs.Prelude.{◌≡◌, IfOk, IfSome, option_copied, map,
 ghost use Rattle.std.specs.List.{list_all, list_any};
 ghost use Rattle.std.specs.Char.{is_ascii_whitespace};
 ghost use Rattle.http_header.specs.FieldValue.{IsVisibleAscii};
-ghost use Rattle.dav_headers_core.specs.Gives.{GivesFirst};
-ghost use Rattle.dav_headers_core.specs.Values.{one_value, one_text, text_of, is_text_byte, is_control, written};
-ghost use Rattle.dav_headers_core.specs.Pieces.{trimmed_by, pieces};
-ghost use Rattle.dav_headers_core.specs.Pieces as spelled;
+ghost use Rattle.dav_headers_core.specs.HeaderGives.{GivesFirst};
+ghost use Rattle.dav_headers_core.specs.Values.{one_value, one_text, text_of, is_text_byte, is_control, value_of_text};
+ghost use Rattle.dav_headers_core.specs.CommaPieces.{trimmed_by, comma_pieces};
+ghost use Rattle.dav_headers_core.specs.CommaPieces as spelled;
 
 use super::HeaderError;
 use http_header::HeaderValue;
@@ -72,7 +72,7 @@ fn trimmed(piece: &str) -> &str
 /// The text, trimmed.
 pub(super) fn trimmed_text(text: &str) -> &str
     requires { IsVisibleAscii text.now }
-    ensures { result.now ≡ spelled.trimmed text.now }
+    ensures { result.now ≡ spelled.without_blanks text.now }
 {
     trimmed(text)
 }
@@ -80,7 +80,7 @@ pub(super) fn trimmed_text(text: &str) -> &str
 /// What stands between the commas of a text, trimmed.
 pub(super) fn pieces(alloc: Global, text: &str) -> Result<Vec<&str>, AllocError>
     requires { IsVisibleAscii text.now }
-    ensures { IfOk result (λ list. map (λ piece. piece.now) list.items ≡ pieces text.now) }
+    ensures { IfOk result (λ list. map (λ piece. piece.now) list.items ≡ comma_pieces text.now) }
 {
     text.split(',').map(trimmed).collect(alloc)
 }
@@ -100,7 +100,7 @@ pub(super) fn holds_control(bytes: &[u8]) -> bool
 
 /// The value of this text. `Invalid` exactly where it holds a byte below 32 but the tab, or 127.
 pub(super) fn value_of(text: String) -> Result<HeaderValue, HeaderError>
-    ensures { GivesFirst (λ value. value) result (written (string_bytes text)) }
+    ensures { GivesFirst (λ value. value) result (value_of_text (string_bytes text)) }
 {
     if holds_control(text.as_bytes()) {
         return Err(HeaderError::Invalid);
@@ -110,7 +110,7 @@ pub(super) fn value_of(text: String) -> Result<HeaderValue, HeaderError>
 
 /// The value of a copy of these bytes, refused as by `value_of`.
 pub(super) fn value_of_bytes(alloc: Global, bytes: &[u8]) -> Result<HeaderValue, HeaderError>
-    ensures { GivesFirst (λ value. value) result (written bytes.now) }
+    ensures { GivesFirst (λ value. value) result (value_of_text bytes.now) }
 {
     if holds_control(bytes) {
         return Err(HeaderError::Invalid);
@@ -120,7 +120,7 @@ pub(super) fn value_of_bytes(alloc: Global, bytes: &[u8]) -> Result<HeaderValue,
 
 /// The value of a copy of this text, refused as by `value_of`.
 pub(super) fn copied_value(alloc: Global, text: &str) -> Result<HeaderValue, HeaderError>
-    ensures { GivesFirst (λ value. value) result (written text.now) }
+    ensures { GivesFirst (λ value. value) result (value_of_text text.now) }
 {
     value_of_bytes(alloc, text.as_bytes())
 }

@@ -8,10 +8,10 @@ use Rattle.std.proofs.lemmas.List.Folds.{list_any_at}
 use Rattle.dav_path_core.specs.Fronts.{Path, is_front, is_same_path}
 use Rattle.dav_path_core.proofs.paths.FrontLemmas.{is_same_path-same, is_front-refl}
 use Rattle.dav_locks_core.specs.Lock.{Lock}
-use Rattle.dav_locks_core.specs.Locks.{lock_path, covers, height, held, Caller, refuses_lock, refuses_change, is_at_or_below, any_held, found_here, found}
-use Rattle.dav_locks_core.specs.Private.LockTree.{NumberedLock, LockTree, locks_at, node_at, lookup_lock, locks_of}
+use Rattle.dav_locks_core.specs.Locks.{lock_path, covers, height, is_held_by, LockCaller, refuses_lock, refuses_change, is_at_or_below, any_held, found_here, found_token}
+use Rattle.dav_locks_core.specs.Private.LockTree.{NumberedLock, LockTree, locks_at, node_below, lookup_lock, locks_of}
 use Rattle.dav_locks_core.specs.Private.WayTests.{refuses_wanted, is_covering_held, is_covering_unheld, has_that_token}
-use Rattle.dav_locks_core.specs.Private.Represents.{Represents}
+use Rattle.dav_locks_core.specs.Private.LockRepresents.{Represents}
 use Rattle.dav_locks_core.proofs.lists.NumberedLemmas.{place_of_found, found_at_place, lower_at}
 use Rattle.dav_path_core.proofs.lists.PlaceLemmas.{filter_none_at, filter-contains, any-none}
 use Rattle.dav_locks_core.proofs.laws.FoundLemmas.{IsBest, found-none, found-best}
@@ -30,7 +30,7 @@ module _ (t : LockTree) (granted : List NumberedLock) (next : ℕ) (r : Represen
     pub at : ℕ
     pub within : at < length (locks_at t node)
     pub is : get_or (locks_at t node) at d ≡ get_or granted j d
-    pub leads : node_at t 1 (lock_path (get_or granted j d).1) ≡ Some node
+    pub leads : node_below t 1 (lock_path (get_or granted j d).1) ≡ Some node
 
   stands_at : (j : ℕ) (d : NumberedLock) → j < length granted → StandsAt j d
   stands_at j d lt =
@@ -177,16 +177,16 @@ wanted shared p = record {
   aside = λ l h. ap (λ b. not (l.shared && shared) && b) (or_false (covers l p) ∙ covers-aside l p h) ∙ and_false (not (l.shared && shared));
 }
 
-pub covering : (who : Caller) (p : Path) → Agrees (is_covering_held who) (λ l. covers l p && held l who) p
+pub covering : (who : LockCaller) (p : Path) → Agrees (is_covering_held who) (λ l. covers l p && is_held_by l who) p
 covering who p = record {
-  above = λ l h. ap (λ b. b && held l who) (covers-above l p h);
-  aside = λ l h. ap (λ b. b && held l who) (covers-aside l p h);
+  above = λ l h. ap (λ b. b && is_held_by l who) (covers-above l p h);
+  aside = λ l h. ap (λ b. b && is_held_by l who) (covers-aside l p h);
 }
 
-pub uncovered : (who : Caller) (p : Path) → Agrees (is_covering_unheld who) (λ l. covers l p && not (held l who)) p
+pub uncovered : (who : LockCaller) (p : Path) → Agrees (is_covering_unheld who) (λ l. covers l p && not (is_held_by l who)) p
 uncovered who p = record {
-  above = λ l h. ap (λ b. b && not (held l who)) (covers-above l p h);
-  aside = λ l h. ap (λ b. b && not (held l who)) (covers-aside l p h);
+  above = λ l h. ap (λ b. b && not (is_held_by l who)) (covers-above l p h);
+  aside = λ l h. ap (λ b. b && not (is_held_by l who)) (covers-aside l p h);
 }
 
 -- where no lock is held, those refuse that cover the path
@@ -197,16 +197,16 @@ none_held false true true z = refl
 none_held false true false z = refl
 none_held false false s z = refl
 
-pub asked : (locks : List Lock) (who : Caller) (p : Path) → any_held locks p who ≡ false → Agrees (is_covering_unheld who) (refuses_change locks p false who) p
+pub asked : (locks : List Lock) (who : LockCaller) (p : Path) → any_held locks p who ≡ false → Agrees (is_covering_unheld who) (refuses_change locks p false who) p
 asked locks who p none = record {
-  above = λ l h. same l ∙ ap (λ b. b && not (held l who)) (covers-above l p h);
-  aside = λ l h. same l ∙ ap (λ b. b && not (held l who)) (covers-aside l p h);
+  above = λ l h. same l ∙ ap (λ b. b && not (is_held_by l who)) (covers-above l p h);
+  aside = λ l h. same l ∙ ap (λ b. b && not (is_held_by l who)) (covers-aside l p h);
 }
   where
-    same : (l : Lock) → refuses_change locks p false who l ≡ (covers l p && not (held l who))
+    same : (l : Lock) → refuses_change locks p false who l ≡ (covers l p && not (is_held_by l who))
     same l =
-        ap (λ a. not (held l who) && ((covers l p && (not l.shared || not a)) || (false && is_at_or_below l p))) none
-        ∙ none_held (held l who) (covers l p) l.shared (is_at_or_below l p)
+        ap (λ a. not (is_held_by l who) && ((covers l p && (not l.shared || not a)) || (false && is_at_or_below l p))) none
+        ∙ none_held (is_held_by l who) (covers l p) l.shared (is_at_or_below l p)
 
 pub named : (token : List ℕ) (p : Path) → Agrees (has_that_token token) (found_here p token) p
 named token p = record {
@@ -217,12 +217,12 @@ named token p = record {
 -- ---- the lock that is found
 
 module _ (t : LockTree) (granted : List NumberedLock) (next : ℕ) (r : Represents t granted next) (p : Path) (token : List ℕ) where
-  pub not_found : lookup_lock (has_that_token token) t 1 p ≡ None → found (locks_of granted) p token ≡ None
+  pub not_found : lookup_lock (has_that_token token) t 1 p ≡ None → found_token (locks_of granted) p token ≡ None
   not_found h = found-none p token (locks_of granted) (none_of_locks t granted next r p (has_that_token token) (found_here p token) (named token p) h)
 
   -- the first on the way is found, at its place in the list
   pub found_first : (m k : ℕ) (d : NumberedLock) → lookup_lock (has_that_token token) t 1 p ≡ Some (m, k)
-      → (j : ℕ) × (found (locks_of granted) p token ≡ Some j) × (k < length (locks_at t m)) × (j < length granted) × (get_or granted j d ≡ get_or (locks_at t m) k d)
+      → (j : ℕ) × (found_token (locks_of granted) p token ≡ Some j) × (k < length (locks_at t m)) × (j < length granted) × (get_or granted j d ≡ get_or (locks_at t m) k d)
   found_first m k d h =
       let f = first_of t granted next r p (has_that_token token) (found_here p token) (named token p) m k d h in
       (f.at, found-best p token (locks_of granted) f.at d.1 (best f), f.at_node, f.within, f.is)

@@ -5,11 +5,11 @@ use Rattle.std.proofs.lemmas.Bool.{true≢false}
 use Rattle.std.proofs.lemmas.List.{get_or-map, length-map}
 use Rattle.dav_path_core.specs.Fronts.{Path}
 use Rattle.dav_locks_core.specs.Lock.{Lock}
-use Rattle.dav_locks_core.specs.Locks.{Caller, lock_path, covers, held, any_held, is_at_or_below, refuses_lock, refuses_change, lock_conflicts, check_conflicts}
-use Rattle.dav_locks_core.specs.Private.LockTree.{NumberedLock, LockTree, locks_at, node_at, locks_of}
+use Rattle.dav_locks_core.specs.Locks.{LockCaller, lock_path, covers, is_held_by, any_held, is_at_or_below, refuses_lock, refuses_change, lock_conflicts, check_conflicts}
+use Rattle.dav_locks_core.specs.Private.LockTree.{NumberedLock, LockTree, locks_at, node_below, locks_of}
 use Rattle.dav_locks_core.specs.Private.SubtreeWalks.{StandsUnder, NoneBelow}
 use Rattle.dav_locks_core.specs.Private.WayTests.{refuses_wanted, is_covering_unheld}
-use Rattle.dav_locks_core.specs.Private.Represents.{Represents}
+use Rattle.dav_locks_core.specs.Private.LockRepresents.{Represents}
 use Rattle.dav_path_core.proofs.lists.PlaceLemmas.{position-none, position-first, filter_none_at, filter-contains}
 use Rattle.dav_path_core.proofs.lists.EachLemmas.{none_passes}
 use Rattle.dav_path_core.proofs.lists.MemberLemmas.{In, In-Contains, all_in, Contains-In}
@@ -55,7 +55,7 @@ module _ (t : LockTree) (granted : List NumberedLock) (next : ℕ) (r : Represen
       ap test same ∙ sym (ap (λ (h : NumberedLock). test h.1) (place.2 d)) ∙ refused
 
   -- what the walk finds is a lock of the list that stands at or below the path and passes
-  pub found_below : (top : ℕ) (f : ℕ × ℕ) (d : NumberedLock) → node_at t 1 p ≡ Some top → StandsUnder test t top f → (of_all : Lock → Bool)
+  pub found_below : (top : ℕ) (f : ℕ × ℕ) (d : NumberedLock) → node_below t 1 p ≡ Some top → StandsUnder test t top f → (of_all : Lock → Bool)
       → ((l : Lock) → is_at_or_below l p ≡ true → test l ≡ true → of_all l ≡ true) → Contains (filter of_all (locks_of granted)) (get_or (locks_at t f.0) f.1 d).1
   found_below top f d leads s of_all implies =
       let g = get_or (locks_at t f.0) f.1 d in
@@ -90,25 +90,25 @@ module _ (t : LockTree) (granted : List NumberedLock) (next : ℕ) (r : Represen
       split (not (l.shared && shared)) (covers l p) deep (is_at_or_below l p) (none_at (refuses_lock p shared false) (locks_of granted) none k e lt)
       (λ is under. sym (and_true (not (l.shared && shared))) ∙ none_below t granted next r p (refuses_wanted shared true) (below is) k e lt under))
 
-  pub deep_lock_shown : (shared : Bool) (top : ℕ) (f : ℕ × ℕ) (d : NumberedLock) → node_at t 1 p ≡ Some top → StandsUnder (refuses_wanted shared true) t top f
+  pub deep_lock_shown : (shared : Bool) (top : ℕ) (f : ℕ × ℕ) (d : NumberedLock) → node_below t 1 p ≡ Some top → StandsUnder (refuses_wanted shared true) t top f
       → Contains (lock_conflicts (locks_of granted) p shared true) (get_or (locks_at t f.0) f.1 d).1
   deep_lock_shown shared top f d leads s = found_below t granted next r p (refuses_wanted shared true) top f d leads s (refuses_lock p shared true) (λ l under passes.
       ap (λ b. not (l.shared && shared) && (covers l p || b)) under ∙ ap (λ b. b && (covers l p || true)) (sym (and_true (not (l.shared && shared))) ∙ passes) ∙ or_true (covers l p))
 
-  pub deep_check_free : (deep : Bool) (who : Caller) → check_conflicts (locks_of granted) p false who ≡ [] → (deep ≡ true → NoneBelow (is_covering_unheld who true) t p)
+  pub deep_check_free : (deep : Bool) (who : LockCaller) → check_conflicts (locks_of granted) p false who ≡ [] → (deep ≡ true → NoneBelow (is_covering_unheld who true) t p)
       → check_conflicts (locks_of granted) p deep who ≡ []
   deep_check_free deep who none below = filter_none_at (refuses_change (locks_of granted) p deep who) (locks_of granted) (λ k e lt.
       let l = get_or (locks_of granted) k e in
-      split (not (held l who)) (covers l p && (not l.shared || not (any_held (locks_of granted) p who))) deep (is_at_or_below l p)
+      split (not (is_held_by l who)) (covers l p && (not l.shared || not (any_held (locks_of granted) p who))) deep (is_at_or_below l p)
       (none_at (refuses_change (locks_of granted) p false who) (locks_of granted) none k e lt)
       (λ is under. none_below t granted next r p (is_covering_unheld who true) (below is) k e lt under))
 
-  pub deep_check_shown : (who : Caller) (top : ℕ) (f : ℕ × ℕ) (d : NumberedLock) → node_at t 1 p ≡ Some top → StandsUnder (is_covering_unheld who true) t top f
+  pub deep_check_shown : (who : LockCaller) (top : ℕ) (f : ℕ × ℕ) (d : NumberedLock) → node_below t 1 p ≡ Some top → StandsUnder (is_covering_unheld who true) t top f
       → Contains (check_conflicts (locks_of granted) p true who) (get_or (locks_at t f.0) f.1 d).1
   deep_check_shown who top f d leads s = found_below t granted next r p (is_covering_unheld who true) top f d leads s (refuses_change (locks_of granted) p true who) (λ l under passes.
-      ap (λ b. not (held l who) && (alone l who || b)) under ∙ ap (λ b. b && (alone l who || true)) passes ∙ or_true (alone l who))
+      ap (λ b. not (is_held_by l who) && (alone l who || b)) under ∙ ap (λ b. b && (alone l who || true)) passes ∙ or_true (alone l who))
     where
-      alone : Lock → Caller → Bool
+      alone : Lock → LockCaller → Bool
       alone l who = covers l p && (not l.shared || not (any_held (locks_of granted) p who))
 
 -- what refuses a shallow call refuses a deep one
@@ -130,7 +130,7 @@ pub lock_shown_wider : (locks : List Lock) (p : Path) (shared deep : Bool) (l : 
 lock_shown_wider locks p shared deep l c =
     Contains-wider (refuses_lock p shared false) (refuses_lock p shared deep) locks l (λ l h. wider (not (l.shared && shared)) (covers l p) deep (is_at_or_below l p) h) c
 
-pub check_shown_wider : (locks : List Lock) (p : Path) (deep : Bool) (who : Caller) (l : Lock) → Contains (check_conflicts locks p false who) l → Contains (check_conflicts locks p deep who) l
+pub check_shown_wider : (locks : List Lock) (p : Path) (deep : Bool) (who : LockCaller) (l : Lock) → Contains (check_conflicts locks p false who) l → Contains (check_conflicts locks p deep who) l
 check_shown_wider locks p deep who l c =
     Contains-wider (refuses_change locks p false who) (refuses_change locks p deep who) locks l
-    (λ l h. wider (not (held l who)) (covers l p && (not l.shared || not (any_held locks p who))) deep (is_at_or_below l p) h) c
+    (λ l h. wider (not (is_held_by l who)) (covers l p && (not l.shared || not (any_held locks p who))) deep (is_at_or_below l p) h) c

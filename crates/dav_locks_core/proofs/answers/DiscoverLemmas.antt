@@ -13,9 +13,9 @@ use Rattle.dav_path_core.specs.Fronts.{Segment, Path, is_front, is_same_path}
 use Rattle.dav_path_core.proofs.paths.FrontLemmas.{is_same_path-same, is_same_path-refl, is_front-refl, is_front-parts, is_front-cons}
 use Rattle.dav_path_core.proofs.trees.Trees.{none≢some, same_some}
 use Rattle.dav_locks_core.specs.Lock.{Lock}
-use Rattle.dav_locks_core.specs.Locks.{lock_path, covers, height, covering_at, covering_from, discovered, is_at_or_below, without_below}
-use Rattle.dav_locks_core.specs.Private.LockTree.{NumberedLock, LockTree, locks_at, child_at, node_at, locks_of, covering_down}
-use Rattle.dav_locks_core.specs.Private.Represents.{Represents}
+use Rattle.dav_locks_core.specs.Locks.{lock_path, covers, height, covering_at, covering_from, discovered_locks, is_at_or_below, without_below}
+use Rattle.dav_locks_core.specs.Private.LockTree.{NumberedLock, LockTree, locks_at, child_at, node_below, locks_of, covering_down}
+use Rattle.dav_locks_core.specs.Private.LockRepresents.{Represents}
 use Rattle.dav_locks_core.proofs.lists.NumberedLemmas.{kept_if, find-filter, InOrder-filter, found_at_place}
 use Rattle.dav_path_core.proofs.lists.MemberLemmas.{append_none}
 use Rattle.dav_path_core.proofs.lists.PlaceLemmas.{filter_none_at, filter_all_at, filter-contains, filter-filter, map-filter}
@@ -146,7 +146,7 @@ module _ (t : LockTree) (granted : List NumberedLock) (next : ℕ) (r : Represen
   at_path q g = is_same_path (lock_path g.1) q
 
   -- a lock is found at a node exactly where its path leads there
-  found_there : (q : Path) (m : ℕ) → node_at t 1 q ≡ Some m → (k : ℕ) → find nat_cmp k (locks_at t m) ≡ kept_if (at_path q) k (find nat_cmp k granted)
+  found_there : (q : Path) (m : ℕ) → node_below t 1 q ≡ Some m → (k : ℕ) → find nat_cmp k (locks_at t m) ≡ kept_if (at_path q) k (find nat_cmp k granted)
   found_there q m leads k = by (find nat_cmp k granted) refl
     where
       none : (o : Option Lock) → find nat_cmp k (locks_at t m) ≡ o → ((l : Lock) → o ≡ Some l → ⊥) → o ≡ None
@@ -161,29 +161,29 @@ module _ (t : LockTree) (granted : List NumberedLock) (next : ℕ) (r : Represen
           test true same =
               let w = r.stands k l e in
               let path : lock_path l ≡ q = is_same_path-same (lock_path l) q same in
-              let node : w.0 ≡ m = same_some w.0 m (sym (r.listed w.0 k l w.1).1 ∙ ap (node_at t 1) path ∙ leads) in
+              let node : w.0 ≡ m = same_some w.0 m (sym (r.listed w.0 k l w.1).1 ∙ ap (node_below t 1) path ∙ leads) in
               ap (λ n. find nat_cmp k (locks_at t n)) (sym node) ∙ w.1
           test false apart = none (find nat_cmp k (locks_at t m)) refl (λ o h.
               let w = r.listed m k o h in
               let same : l ≡ o = same_some l o (sym e ∙ w.0) in
-              let path : lock_path l ≡ q = one_path t r.tree (lock_path l) q m (ap (λ (l : Lock). node_at t 1 (lock_path l)) same ∙ w.1) leads in
+              let path : lock_path l ≡ q = one_path t r.tree (lock_path l) q m (ap (λ (l : Lock). node_below t 1 (lock_path l)) same ∙ w.1) leads in
               true≢false (sym (subst (λ p. is_same_path (lock_path l) p ≡ true) path (is_same_path-refl (lock_path l))) ∙ apart))
 
-  pub locks_at_path : (q : Path) (m : ℕ) → node_at t 1 q ≡ Some m → locks_of (locks_at t m) ≡ filter (λ l. is_same_path (lock_path l) q) (locks_of granted)
+  pub locks_at_path : (q : Path) (m : ℕ) → node_below t 1 q ≡ Some m → locks_of (locks_at t m) ≡ filter (λ l. is_same_path (lock_path l) q) (locks_of granted)
   locks_at_path q m leads =
       ap locks_of (same_entries nat_cmp nat_cmp_total nat_cmp-IsAntisymmetric (locks_at t m) (filter (at_path q) granted) (r.nodes_in_order m) (InOrder-filter (at_path q) granted r.in_order)
       (λ k. found_there q m leads k ∙ sym (find-filter (at_path q) granted k r.in_order)))
       ∙ map-filter (λ (g : NumberedLock). g.1) (λ l. is_same_path (lock_path l) q) granted
 
   -- the covering locks at a node on the way
-  covering_here : (q s : Path) (m : ℕ) → node_at t 1 q ≡ Some m → filter (λ l. cond (goes_on s) l.deep true) (locks_of (locks_at t m)) ≡ covering_at (locks_of granted) (q ++ s) (length q)
+  covering_here : (q s : Path) (m : ℕ) → node_below t 1 q ≡ Some m → filter (λ l. cond (goes_on s) l.deep true) (locks_of (locks_at t m)) ≡ covering_at (locks_of granted) (q ++ s) (length q)
   covering_here q s m leads =
       ap (filter (λ (l : Lock). cond (goes_on s) l.deep true)) (locks_at_path q m leads)
       ∙ filter-filter (λ (l : Lock). cond (goes_on s) l.deep true) (λ l. is_same_path (lock_path l) q) (locks_of granted)
       ∙ filter_agree _ _ (λ l. sym (covering_test l q s)) (locks_of granted)
 
   -- no lock stands at or below a path that leads nowhere
-  no_lock : (q : Path) → node_at t 1 q ≡ None → (j : ℕ) (d : NumberedLock) → j < length granted → is_front q (lock_path (get_or granted j d).1) ≡ true → ⊥
+  no_lock : (q : Path) → node_below t 1 q ≡ None → (j : ℕ) (d : NumberedLock) → j < length granted → is_front q (lock_path (get_or granted j d).1) ≡ true → ⊥
   no_lock q stuck j d lt f =
       let g = get_or granted j d in
       let w = r.stands g.0 g.1 (found_at_place granted j d r.in_order lt) in
@@ -197,7 +197,7 @@ module _ (t : LockTree) (granted : List NumberedLock) (next : ℕ) (r : Represen
       (lt', get_or-map (λ (g : NumberedLock). g.1) granted j (0, e) e lt')
 
   -- so none covers what is below it from there on
-  none_beyond : (q s : Path) → node_at t 1 q ≡ None → (n more : ℕ) → length q ≤ n → covering_from (locks_of granted) (q ++ s) n more ≡ []
+  none_beyond : (q s : Path) → node_below t 1 q ≡ None → (n more : ℕ) → length q ≤ n → covering_from (locks_of granted) (q ++ s) n more ≡ []
   none_beyond q s stuck n zero le = refl
   none_beyond q s stuck n (suc more) le =
       ap (λ xs. xs ++ covering_from (locks_of granted) (q ++ s) (n + 1) more) (filter_none_at _ (locks_of granted) none) ∙ none_beyond q s stuck (n + 1) more (omega (arith, le))
@@ -212,7 +212,7 @@ module _ (t : LockTree) (granted : List NumberedLock) (next : ℕ) (r : Represen
           let below : is_front q (lock_path l) ≡ true = front_longer (lock_path l) q s (covers_front l q s w.0) tall in
           no_lock q stuck j (0, e) at.0 (ap (λ (l : Lock). is_front q (lock_path l)) (sym at.1) ∙ below))
 
-  covering_on : (s : Path) (q : Path) (m : ℕ) → node_at t 1 q ≡ Some m → covering_down t m s ≡ covering_from (locks_of granted) (q ++ s) (length q) (suc (length s))
+  covering_on : (s : Path) (q : Path) (m : ℕ) → node_below t 1 q ≡ Some m → covering_down t m s ≡ covering_from (locks_of granted) (q ++ s) (length q) (suc (length s))
   unfolding covering_down
   covering_on [] q m leads = sym (filter_all_at (λ _. true) (locks_of (locks_at t m)) (λ _ _ _. refl)) ∙ covering_here q [] m leads ∙ sym (append-nil (covering_at (locks_of granted) (q ++ []) (length q)))
   covering_on (x ∷ s) q m leads = by (λ c. covering_on s (q ++ x ∷ []) c) (child_at t m x) refl
@@ -223,27 +223,27 @@ module _ (t : LockTree) (granted : List NumberedLock) (next : ℕ) (r : Represen
       longer : length (q ++ x ∷ []) ≡ length q + 1
       longer = omega (arith, length-append q (x ∷ []))
 
-      by : ((c : ℕ) → node_at t 1 (q ++ x ∷ []) ≡ Some c → covering_down t c s ≡ covering_from (locks_of granted) ((q ++ x ∷ []) ++ s) (length (q ++ x ∷ [])) (suc (length s)))
+      by : ((c : ℕ) → node_below t 1 (q ++ x ∷ []) ≡ Some c → covering_down t c s ≡ covering_from (locks_of granted) ((q ++ x ∷ []) ++ s) (length (q ++ x ∷ [])) (suc (length s)))
           → (o : Option ℕ) → child_at t m x ≡ o
           → filter (λ (l : Lock). l.deep) (locks_of (locks_at t m)) ++ unwrap_or (option_map (λ c. covering_down t c s) o) []
           ≡ covering_at (locks_of granted) (q ++ x ∷ s) (length q) ++ covering_from (locks_of granted) (q ++ x ∷ s) (length q + 1) (suc (length s))
       by rec None e =
-          let stuck : node_at t 1 (q ++ x ∷ []) ≡ None = node_at-append t 1 q (x ∷ []) ∙ ap (λ o. option_and_then (λ v. node_at t v (x ∷ [])) o) leads ∙ node_at-stuck t m x [] e in
+          let stuck : node_below t 1 (q ++ x ∷ []) ≡ None = node_at-append t 1 q (x ∷ []) ∙ ap (λ o. option_and_then (λ v. node_below t v (x ∷ [])) o) leads ∙ node_at-stuck t m x [] e in
           let rest : covering_from (locks_of granted) (q ++ x ∷ s) (length q + 1) (suc (length s)) ≡ [] =
           ap (λ p. covering_from (locks_of granted) p (length q + 1) (suc (length s))) (sym whole) ∙ none_beyond (q ++ x ∷ []) s stuck (length q + 1) (suc (length s)) (omega (arith, longer)) in
           ap (λ xs. xs ++ []) (covering_here q (x ∷ s) m leads) ∙ ap (λ xs. covering_at (locks_of granted) (q ++ x ∷ s) (length q) ++ xs) (sym rest)
       by rec (Some c) e =
-          let led : node_at t 1 (q ++ x ∷ []) ≡ Some c =
-          node_at-append t 1 q (x ∷ []) ∙ ap (λ o. option_and_then (λ v. node_at t v (x ∷ [])) o) leads ∙ node_at-step t m c x [] e ∙ node_at-here t c in
+          let led : node_below t 1 (q ++ x ∷ []) ≡ Some c =
+          node_at-append t 1 q (x ∷ []) ∙ ap (λ o. option_and_then (λ v. node_below t v (x ∷ [])) o) leads ∙ node_at-step t m c x [] e ∙ node_at-here t c in
           let rest : covering_down t c s ≡ covering_from (locks_of granted) (q ++ x ∷ s) (length q + 1) (suc (length s)) =
           rec c led ∙ (λ i. covering_from (locks_of granted) (whole i) (longer i) (suc (length s))) in
           (λ i. covering_here q (x ∷ s) m leads i ++ rest i)
 
-  pub discovered_down : (p : Path) → covering_down t 1 p ≡ discovered (locks_of granted) p
+  pub discovered_down : (p : Path) → covering_down t 1 p ≡ discovered_locks (locks_of granted) p
   discovered_down p = covering_on p [] 1 (node_at-here t 1)
 
   -- and none goes with it
-  pub all_stay : (q : Path) → node_at t 1 q ≡ None → without_below q (locks_of granted) ≡ locks_of granted
+  pub all_stay : (q : Path) → node_below t 1 q ≡ None → without_below q (locks_of granted) ≡ locks_of granted
   all_stay q stuck = filter_all_at (λ l. not (is_at_or_below l q)) (locks_of granted) (λ j e lt.
       let at = locks_of_at j e lt in
       let l = get_or (locks_of granted) j e in

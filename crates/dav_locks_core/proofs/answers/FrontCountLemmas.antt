@@ -12,7 +12,7 @@ use Rattle.std.proofs.lemmas.List.Concat.{length-flat_map}
 use Rattle.std.proofs.lemmas.List.Folds.{list_any-append}
 use Rattle.std.proofs.lemmas.Map.Made.{distinct_count-le, length-from_keys}
 use Rattle.dav_path_core.specs.Fronts.{Segment, Path, is_front, is_same_path}
-use Rattle.dav_path_core.specs.Keyed.{Entry, Under, entry, parent, IsKnown, IsTree, IsIn}
+use Rattle.dav_path_core.specs.Keyed.{Entry, Under, entry, parent_number, IsKnown, IsTree, IsIn}
 use Rattle.dav_path_core.proofs.lists.Orders.{path_total}
 use Rattle.dav_path_core.proofs.children.Chains.{in_here, in_later, in_cases, none_twice, later_distinct}
 use Rattle.dav_path_core.proofs.paths.FrontLemmas.{is_same_path-same, is_same_path-refl, is_front-cons, is_front-parts}
@@ -23,9 +23,9 @@ use Rattle.std.proofs.lemmas.Map.Keys.{IsDistinct-cons}
 use Rattle.dav_locks_core.specs.Lock.{Lock}
 use Rattle.dav_locks_core.specs.Locks.{lock_path, height}
 use Rattle.dav_locks_core.specs.LockFronts.{fronts_below_root, lock_fronts, front_count}
-use Rattle.dav_locks_core.specs.Private.LockTree.{NumberedLock, LockTree, is_segment, locks_at, node_at, locks_of}
+use Rattle.dav_locks_core.specs.Private.LockTree.{NumberedLock, LockTree, is_segment, locks_at, node_below, locks_of}
 use Rattle.dav_locks_core.specs.Private.Pruning.{AllNeeded}
-use Rattle.dav_locks_core.specs.Private.Represents.{Represents}
+use Rattle.dav_locks_core.specs.Private.LockRepresents.{Represents}
 use Rattle.dav_path_core.proofs.lists.MemberLemmas.{In}
 use Rattle.dav_locks_core.proofs.lists.NumberedLemmas.{place_of_found, found_at_place}
 use Rattle.dav_locks_core.proofs.trees.StandingLemmas.{locks_of_entry}
@@ -139,7 +139,7 @@ abbrev LeadTo : LockTree → List Path → List ℕ → Type 0
 LeadTo t [] [] = Unit {0}
 LeadTo t [] (k ∷ ks) = ⊥
 LeadTo t (p ∷ ps) [] = ⊥
-LeadTo t (p ∷ ps) (k ∷ ks) = (node_at t 1 p ≡ Some k) × LeadTo t ps ks
+LeadTo t (p ∷ ps) (k ∷ ks) = (node_below t 1 p ≡ Some k) × LeadTo t ps ks
 
 none_distinct : IsDistinct is_same_path []
 unfolding IsDistinct
@@ -160,16 +160,16 @@ module _ (t : LockTree) (tree : IsTree is_segment t) where
   as_many (p ∷ ps) (k ∷ ks) h = ap suc (as_many ps ks h.1)
 
   -- a path of the list leads to a number of the list
-  led : (q : Path) (ps : List Path) (ks : List ℕ) → LeadTo t ps ks → has q ps ≡ true → (k : ℕ) × (node_at t 1 q ≡ Some k) × IsIn k ks
+  led : (q : Path) (ps : List Path) (ks : List ℕ) → LeadTo t ps ks → has q ps ≡ true → (k : ℕ) × (node_below t 1 q ≡ Some k) × IsIn k ks
   led q [] ks h i = absurd (has-none q i)
   led q (p ∷ ps) [] h i = absurd h
   led q (p ∷ ps) (k ∷ ks) h i = elim (has-cons q p ps i) [
-    | inl is ↦ (k, ap (node_at t 1) is ∙ h.0, in_here k ks)
+    | inl is ↦ (k, ap (node_below t 1) is ∙ h.0, in_here k ks)
     | inr later ↦ let w = led q ps ks h.1 later in (w.0, w.1, in_later w.0 k ks w.2)
   ]
 
   -- and a path that leads to one is of the list
-  has_led : (q : Path) (n : ℕ) (ps : List Path) (ks : List ℕ) → LeadTo t ps ks → IsIn n ks → node_at t 1 q ≡ Some n → has q ps ≡ true
+  has_led : (q : Path) (n : ℕ) (ps : List Path) (ks : List ℕ) → LeadTo t ps ks → IsIn n ks → node_below t 1 q ≡ Some n → has q ps ≡ true
   has_led q n [] [] h i e = absurd (false≢true i)
   has_led q n [] (k ∷ ks) h i e = absurd h
   has_led q n (p ∷ ps) [] h i e = absurd h
@@ -192,7 +192,7 @@ module _ (t : LockTree) (tree : IsTree is_segment t) where
       apart (q ∷ qs) [] l out = absurd l
       apart (q ∷ qs) (j ∷ js) l out = (
         false_from_ne_true _ (λ same.
-            let number : j ≡ k = same_some j k (sym l.0 ∙ ap (node_at t 1) (sym (is_same_path-same p q same)) ∙ h.0) in
+            let number : j ≡ k = same_some j k (sym l.0 ∙ ap (node_below t 1) (sym (is_same_path-same p q same)) ∙ h.0) in
             out (subst (λ v. IsIn v (j ∷ js)) number (in_here j js))),
         apart qs js l.1 (λ i. out (in_later k j js i)),
       )
@@ -223,9 +223,9 @@ module _ (t : LockTree) (granted : List NumberedLock) (next : ℕ) (r : Represen
       by (Some x) e = ap is_some e
 
   -- a front leads to a node
-  front_node : (q : Path) → has q (lock_fronts (locks_of granted)) ≡ true → (n : ℕ) × (node_at t 1 q ≡ Some n) × IsKnown t n
+  front_node : (q : Path) → has q (lock_fronts (locks_of granted)) ≡ true → (n : ℕ) × (node_below t 1 q ≡ Some n) × IsKnown t n
   front_node q h = elim (has-cons q [] (of_locks (locks_of granted)) h) [
-    | inl root ↦ (1, ap (node_at t 1) root ∙ node_at-here t 1, r.tree.root.0)
+    | inl root ↦ (1, ap (node_below t 1) root ∙ node_at-here t 1, r.tree.root.0)
     | inr later ↦
         let w = has-of_locks q (locks_of granted) later in
         let j = found-In w.0 granted w.1 in
@@ -238,7 +238,7 @@ module _ (t : LockTree) (granted : List NumberedLock) (next : ℕ) (r : Represen
   ]
 
   -- and each node is led to by one
-  node_front : (n : ℕ) → IsKnown t n → (q : Path) → node_at t 1 q ≡ Some n → has q (lock_fronts (locks_of granted)) ≡ true
+  node_front : (n : ℕ) → IsKnown t n → (q : Path) → node_below t 1 q ≡ Some n → has q (lock_fronts (locks_of granted)) ≡ true
   node_front n known q e = elim (needed n known) [
     | inl one ↦
         let root : q ≡ [] = one_path t r.tree q [] n e (node_at-here t 1 ∙ ap (λ (x : ℕ). Some x) (sym one)) in
@@ -246,7 +246,7 @@ module _ (t : LockTree) (granted : List NumberedLock) (next : ℕ) (r : Represen
     | inr m ↦ by m.0 m.1 (locks_at t m.0) refl m.2
   ]
     where
-      by : (m : ℕ) → Under (parent t) n m → (ls : List NumberedLock) → locks_at t m ≡ ls → locks_at t m ≢ [] → has q (lock_fronts (locks_of granted)) ≡ true
+      by : (m : ℕ) → Under (parent_number t) n m → (ls : List NumberedLock) → locks_at t m ≡ ls → locks_at t m ≢ [] → has q (lock_fronts (locks_of granted)) ≡ true
       by m u [] at some = absurd (some at)
       by m u (g ∷ ls) at some =
           let here : find nat_cmp g.0 (locks_at t m) ≡ Some g.1 = ap (find nat_cmp g.0) at ∙ find-here g ls in

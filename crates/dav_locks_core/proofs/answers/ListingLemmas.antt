@@ -11,10 +11,10 @@ use Rattle.std.specs.Ordering.{nat_cmp}
 use Rattle.std.proofs.lemmas.List.Elements.{recursion_from_All}
 use Rattle.dav_path_core.proofs.trees.Trees.{none≢some}
 use Rattle.dav_locks_core.specs.Lock.{Lock}
-use Rattle.dav_locks_core.specs.Private.Ends.{Ends, IsKept}
+use Rattle.dav_locks_core.specs.Private.NotedEnds.{Ends, IsNotedTree}
 use Rattle.dav_locks_core.specs.Private.LockTree.{LockTree, locks_at, all_granted, locks_of, lock_list}
-use Rattle.dav_locks_core.specs.Private.Represents.{Represents}
-use Rattle.dav_locks_core.specs.Private.Walking.{AllStand, locks_by, with_first}
+use Rattle.dav_locks_core.specs.Private.LockRepresents.{Represents}
+use Rattle.dav_locks_core.specs.Private.LockWalking.{AllThere, locks_by, with_lock_first}
 use Rattle.dav_locks_core.proofs.lists.NumberedLemmas.{InOrder, with_value, values_by, InOrder-values, find-values, found_in_map, InOrder-map}
 
 abbrev stands : LockTree → ℕ → ℕ → Option Lock
@@ -26,19 +26,19 @@ none_by t = refl
 
 pub first_by : (t : LockTree) (p : ℕ × ℕ) (places : List (ℕ × ℕ)) (l : Lock) → find nat_cmp p.0 (locks_at t p.1) ≡ Some l → locks_by t (p ∷ places) ≡ l ∷ locks_by t places
 unfolding locks_by
-first_by t p places l found = ap (λ o. with_first o (locks_by t places)) found
+first_by t p places l found = ap (λ o. with_lock_first o (locks_by t places)) found
 
 locks_of_values : (t : LockTree) (places : List (ℕ × ℕ)) → locks_by t places ≡ locks_of (values_by (stands t) places)
 unfolding locks_by values_by
 locks_of_values t [] = refl
 locks_of_values t (p ∷ places) = by (locks_of_values t places) (find nat_cmp p.0 (locks_at t p.1))
   where
-    by : locks_by t places ≡ locks_of (values_by (stands t) places) → (o : Option Lock) → with_first o (locks_by t places) ≡ locks_of (with_value (stands t) p.0 o (values_by (stands t) places))
+    by : locks_by t places ≡ locks_of (values_by (stands t) places) → (o : Option Lock) → with_lock_first o (locks_by t places) ≡ locks_of (with_value (stands t) p.0 o (values_by (stands t) places))
     by rest None = rest
     by rest (Some l) = ap (λ r. l ∷ r) rest
 
-module _ (t : LockTree) (next : ℕ) (ends : Ends) (keeps : IsKept t next ends) where
-  pub all_stand : All (λ e. get nat_cmp ends.nodes e.0 ≡ Some e.1) ends.nodes.entries → AllStand t ends.nodes.entries
+module _ (t : LockTree) (next : ℕ) (ends : Ends) (keeps : IsNotedTree t next ends) where
+  pub all_stand : All (λ e. get nat_cmp ends.nodes e.0 ≡ Some e.1) ends.nodes.entries → AllThere t ends.nodes.entries
   all_stand found = record {
     in_order = keeps.tree.list.represents.nodes_in_order;
     stand = recursion_from_All _ ends.nodes.entries (λ k d lt. ap is_some (keeps.are_ends.only None _ _ (found k d lt)).1);

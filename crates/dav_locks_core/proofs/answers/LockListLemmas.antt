@@ -7,10 +7,10 @@ use Rattle.std.proofs.lemmas.List.{map_push, get_or-map}
 use Rattle.dav_path_core.specs.Fronts.{Segment, Path}
 use Rattle.dav_path_core.specs.Keyed.{Entry, entry, IsKnown, IsTree, with_item}
 use Rattle.dav_locks_core.specs.Lock.{Lock}
-use Rattle.dav_locks_core.specs.Locks.{lock_path, lock_conflicts, check_conflicts, refuses_lock, refuses_change, any_held, found, discovered, without_below, is_at_or_below, refreshed, Caller, covers, held}
-use Rattle.dav_locks_core.specs.Private.LockTree.{NumberedLock, LockTree, locks_at, is_segment, node_at, all_granted, locks_of, lock_list, lookup_lock, ShowsAt, covering_down}
+use Rattle.dav_locks_core.specs.Locks.{lock_path, lock_conflicts, check_conflicts, refuses_lock, refuses_change, any_held, found_token, discovered_locks, without_below, is_at_or_below, refreshed_lock, LockCaller, covers, is_held_by}
+use Rattle.dav_locks_core.specs.Private.LockTree.{NumberedLock, LockTree, locks_at, is_segment, node_below, all_granted, locks_of, lock_list, lookup_lock, ShowsAt, covering_down}
 use Rattle.dav_locks_core.specs.Private.Pruning.{AllNeeded, NeededBut, SameLocks, Cleared}
-use Rattle.dav_locks_core.specs.Private.Represents.{Represents, IsLockList, IsLockTree}
+use Rattle.dav_locks_core.specs.Private.LockRepresents.{Represents, IsLockList, IsLockTree}
 use Rattle.dav_locks_core.specs.Private.SubtreeWalks.{NoneBelow, ShowsBelow}
 use Rattle.dav_locks_core.specs.Exclusive.{Exclusive}
 use Rattle.dav_locks_core.specs.Calls.{Shows, ShowsOnly}
@@ -55,7 +55,7 @@ pub seen-same : (t u : LockTree) (next : ℕ) (locks : List Lock) → IsSeenAs t
 seen-same t u next locks k same =
     subst (IsSeenAs u next) k.seen (seen_from u (all_granted t) next (Represents-same t u (all_granted t) next k.keeps.represents same) k.keeps.exclusive)
 
-pub seen-push : (t u : LockTree) (next n : ℕ) (l : Lock) (locks : List Lock) → IsSeenAs t next locks → node_at t 1 (lock_path l) ≡ Some n → IsKnown t n → lock_conflicts locks (lock_path l) l.shared l.deep ≡ []
+pub seen-push : (t u : LockTree) (next n : ℕ) (l : Lock) (locks : List Lock) → IsSeenAs t next locks → node_below t 1 (lock_path l) ≡ Some n → IsKnown t n → lock_conflicts locks (lock_path l) l.shared l.deep ≡ []
     → u ≡ with_item t n (locks_at t n ++ (next, l) ∷ []) → IsSeenAs u (next + 1) (locks ++ l ∷ [])
 seen-push t u next n l locks k leads known free is =
     let changes : Changes t u n (locks_at t n ++ (next, l) ∷ []) =
@@ -109,7 +109,7 @@ pub record EndsAt (t u : LockTree) (next n at : ℕ) : Type 0 where
 -- the first with the token on the way is ended, which is the found one
 pub record Ends (t u : LockTree) (next n : ℕ) (p : Path) (token : List ℕ) : Type 0 where
   pub at : ℕ
-  pub is_found : found (lock_list t) p token ≡ Some at
+  pub is_found : found_token (lock_list t) p token ≡ Some at
   pub ends : EndsAt t u next n at
 
 pub place_within : (t : LockTree) (next m k : ℕ) (p : Path) (token : List ℕ) → IsLockList t next → lookup_lock (has_that_token token) t 1 p ≡ Some (m, k) → k < length (locks_at t m)
@@ -143,24 +143,24 @@ seen-end t u next m k p token keeps h is =
     let f = found_first t (all_granted t) next keeps.list.represents p token m k some_granted h in
     record { at = f.0; is_found = f.1; ends = seen-end_at t u next m k f.0 keeps f.2 f.3 f.4 is }
 
-pub none_found : (t : LockTree) (next : ℕ) (p : Path) (token : List ℕ) → IsLockList t next → lookup_lock (has_that_token token) t 1 p ≡ None → found (lock_list t) p token ≡ None
+pub none_found : (t : LockTree) (next : ℕ) (p : Path) (token : List ℕ) → IsLockList t next → lookup_lock (has_that_token token) t 1 p ≡ None → found_token (lock_list t) p token ≡ None
 none_found t next p token keeps h = not_found t (all_granted t) next keeps.represents p token h
 
 -- the same place is found for a refresh that is out of memory
-pub some_found : (t : LockTree) (next m k : ℕ) (p : Path) (token : List ℕ) → IsLockList t next → lookup_lock (has_that_token token) t 1 p ≡ Some (m, k) → IsSome (found (lock_list t) p token)
+pub some_found : (t : LockTree) (next m k : ℕ) (p : Path) (token : List ℕ) → IsLockList t next → lookup_lock (has_that_token token) t 1 p ≡ Some (m, k) → IsSome (found_token (lock_list t) p token)
 some_found t next m k p token keeps h = ap is_some (found_first t (all_granted t) next keeps.represents p token m k some_granted h).1
 
 -- ---- another timeout
 
 pub record Refreshes (t u : LockTree) (next : ℕ) (p : Path) (token : List ℕ) (now : ℕ) (timeout : Option ℕ) (l : Lock) : Type 0 where
   pub at : ℕ
-  pub is_found : found (lock_list t) p token ≡ Some at
-  pub is : l ≡ refreshed now timeout (get_or (lock_list t) at l)
+  pub is_found : found_token (lock_list t) p token ≡ Some at
+  pub is : l ≡ refreshed_lock now timeout (get_or (lock_list t) at l)
   pub after : IsSeenAs u next (set (lock_list t) at l)
   pub needed : AllNeeded u
 
 pub seen-refresh : (t u : LockTree) (next m k : ℕ) (p : Path) (token : List ℕ) (now : ℕ) (timeout : Option ℕ) (l : Lock) → IsLockTree t next → lookup_lock (has_that_token token) t 1 p ≡ Some (m, k)
-    → l ≡ refreshed now timeout (get_or (locks_at t m) k some_granted).1 → u ≡ with_item t m (set (locks_at t m) k ((get_or (locks_at t m) k some_granted).0, l))
+    → l ≡ refreshed_lock now timeout (get_or (locks_at t m) k some_granted).1 → u ≡ with_item t m (set (locks_at t m) k ((get_or (locks_at t m) k some_granted).0, l))
     → Refreshes t u next p token now timeout l
 seen-refresh t u next m k p token now timeout l keeps h is changed =
     let f = found_first t (all_granted t) next keeps.list.represents p token m k some_granted h in
@@ -169,12 +169,12 @@ seen-refresh t u next m k p token now timeout l keeps h is changed =
     let known : IsKnown t m = known_from_lock t m k f.2 in
     let changes : Changes t u m standing = subst (λ u. Changes t u m standing) (sym changed) (Changes-with_item t m standing keeps.list.represents.tree known) in
     let old : Lock = (get_or (all_granted t) f.0 d).1 in
-    let same : l ≡ refreshed now timeout old = is ∙ ap (λ (g : NumberedLock). refreshed now timeout g.1) (sym f.4) in
+    let same : l ≡ refreshed_lock now timeout old = is ∙ ap (λ (g : NumberedLock). refreshed_lock now timeout g.1) (sym f.4) in
     let listed : (e : Lock) → get_or (lock_list t) f.0 e ≡ old = λ e. get_or-map (λ (g : NumberedLock). g.1) (all_granted t) f.0 d e f.3 in
     let path : lock_path l ≡ lock_path old = ap lock_path same in
     let r = Represents-set t u (all_granted t) next keeps.list.represents m k f.0 l d f.2 f.3 f.4 path changes in
     let shown : locks_of (set (all_granted t) f.0 ((get_or (all_granted t) f.0 d).0, l)) ≡ set (lock_list t) f.0 l = map-set (λ (g : NumberedLock). g.1) (all_granted t) f.0 ((get_or (all_granted t) f.0 d).0, l) in
-    let whole : l ≡ refreshed now timeout (get_or (lock_list t) f.0 l) = same ∙ ap (refreshed now timeout) (sym (listed l)) in
+    let whole : l ≡ refreshed_lock now timeout (get_or (lock_list t) f.0 l) = same ∙ ap (refreshed_lock now timeout) (sym (listed l)) in
     record {
       at = f.0;
       is_found = f.1;
@@ -196,7 +196,7 @@ pub record Deletes (t u : LockTree) (next top : ℕ) (p : Path) : Type 0 where
   pub after : IsSeenAs u next (without_below p (lock_list t))
   pub needed : NeededBut u top
 
-pub seen-delete : (t u : LockTree) (next top : ℕ) (p : Path) → IsLockTree t next → node_at t 1 p ≡ Some top → IsKnown t top → Cleared t u top → Deletes t u next top p
+pub seen-delete : (t u : LockTree) (next top : ℕ) (p : Path) → IsLockTree t next → node_below t 1 p ≡ Some top → IsKnown t top → Cleared t u top → Deletes t u next top p
 seen-delete t u next top p keeps leads known g =
     let stays : NumberedLock → Bool = λ g. not (is_at_or_below g.1 p) in
     let shown : locks_of (filter stays (all_granted t)) ≡ without_below p (lock_list t) = map-filter (λ (g : NumberedLock). g.1) (λ l. not (is_at_or_below l p)) (all_granted t) in
@@ -208,12 +208,12 @@ seen-delete t u next top p keeps leads known g =
     }
 
 -- nothing stands at or below a path that leads nowhere
-pub none_deleted : (t : LockTree) (next : ℕ) (p : Path) → IsLockTree t next → node_at t 1 p ≡ None → without_below p (lock_list t) ≡ lock_list t
+pub none_deleted : (t : LockTree) (next : ℕ) (p : Path) → IsLockTree t next → node_below t 1 p ≡ None → without_below p (lock_list t) ≡ lock_list t
 none_deleted t next p keeps stuck = all_stay t (all_granted t) next keeps.list.represents p stuck
 
 -- ---- the locks that cover a path
 
-pub seen-discovered : (t : LockTree) (next : ℕ) (p : Path) → IsLockList t next → covering_down t 1 p ≡ discovered (lock_list t) p
+pub seen-discovered : (t : LockTree) (next : ℕ) (p : Path) → IsLockList t next → covering_down t 1 p ≡ discovered_locks (lock_list t) p
 seen-discovered t next p keeps = discovered_down t (all_granted t) next keeps.represents p
 
 -- ---- refusals
@@ -250,10 +250,10 @@ module _ (t : LockTree) (next : ℕ) (keeps : IsLockList t next) (p : Path) wher
       (deep_lock_shown t (all_granted t) next keeps.represents p shared h.0 h.1 some_granted h.2 h.3)) e h.4)
 
   -- what a check answers, by the locks on the way that are held and those that aren't
-  module _ (who : Caller) where
+  module _ (who : LockCaller) where
     pub check_free : lookup_lock (is_covering_unheld who) t 1 p ≡ None → check_conflicts (lock_list t) p false who ≡ []
     check_free h =
-        all_held (lock_list t) p who (no_conflict t (all_granted t) next keeps.represents p (is_covering_unheld who) (λ l. covers l p && not (held l who)) (uncovered who p) h)
+        all_held (lock_list t) p who (no_conflict t (all_granted t) next keeps.represents p (is_covering_unheld who) (λ l. covers l p && not (is_held_by l who)) (uncovered who p) h)
 
     pub check_held : IsSome (lookup_lock (is_covering_held who) t 1 p) → check_conflicts (lock_list t) p false who ≡ []
     check_held some = by (lookup_lock (is_covering_held who) t 1 p) refl some
@@ -262,11 +262,11 @@ module _ (t : LockTree) (next : ℕ) (keeps : IsLockList t next) (p : Path) wher
         by None e some = absurd (false≢true some)
         by (Some f) e some =
             held_is_enough (lock_list t) p who keeps.exclusive
-            (some_is_any t (all_granted t) next keeps.represents p (is_covering_held who) (λ l. covers l p && held l who) (covering who p) f.0 f.1 some_granted e)
+            (some_is_any t (all_granted t) next keeps.represents p (is_covering_held who) (λ l. covers l p && is_held_by l who) (covering who p) f.0 f.1 some_granted e)
 
     pub check_shown : (deep : Bool) → lookup_lock (is_covering_held who) t 1 p ≡ None → (e : LockError) → ShowsAt t (lookup_lock (is_covering_unheld who) t 1 p) e → ShowsOnly (check_conflicts (lock_list t) p deep who) e
     check_shown deep none e h =
-        let nobody : any_held (lock_list t) p who ≡ false = none_is_any t (all_granted t) next keeps.represents p (is_covering_held who) (λ l. covers l p && held l who) (covering who p) none in
+        let nobody : any_held (lock_list t) p who ≡ false = none_is_any t (all_granted t) next keeps.represents p (is_covering_held who) (λ l. covers l p && is_held_by l who) (covering who p) none in
         shows_at (check_conflicts (lock_list t) p deep who) t (lookup_lock (is_covering_unheld who) t 1 p)
         (λ f is. check_shown_wider (lock_list t) p deep who _ (shows (is_covering_unheld who) (refuses_change (lock_list t) p false who) (asked (lock_list t) who p nobody) f is)) e h
 
@@ -294,7 +294,7 @@ kept_from t next locks k needed = record { keeps = record { list = k.keeps; need
 pub kept-same : (t u : LockTree) (next : ℕ) (locks : List Lock) → IsLockTree t next → lock_list t ≡ locks → SameLocks t u → AllNeeded u → IsKeptAs u next locks
 kept-same t u next locks keeps seen same needed = kept_from u next locks (seen-same t u next locks (seen-start t next locks keeps.list seen) same) needed
 
-pub kept-grant : (t v u : LockTree) (next n : ℕ) (l : Lock) (locks : List Lock) → IsLockTree t next → lock_list t ≡ locks → SameLocks t v → node_at v 1 (lock_path l) ≡ Some n → IsKnown v n → NeededBut v n
+pub kept-grant : (t v u : LockTree) (next n : ℕ) (l : Lock) (locks : List Lock) → IsLockTree t next → lock_list t ≡ locks → SameLocks t v → node_below v 1 (lock_path l) ≡ Some n → IsKnown v n → NeededBut v n
     → lock_conflicts locks (lock_path l) l.shared l.deep ≡ [] → u ≡ with_item v n (locks_at v n ++ (next, l) ∷ []) → IsKeptAs u (next + 1) (locks ++ l ∷ [])
 kept-grant t v u next n l locks keeps seen same leads known needed free is =
     let before : IsSeenAs v next locks = seen-same t v next locks (seen-start t next locks keeps.list seen) same in

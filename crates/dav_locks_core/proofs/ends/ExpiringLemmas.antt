@@ -13,10 +13,10 @@ use Rattle.dav_locks_core.specs.Lock.{Lock}
 use Rattle.dav_locks_core.specs.Locks.{lock_path}
 use Rattle.dav_locks_core.specs.Exclusive.{Exclusive}
 use Rattle.dav_locks_core.specs.Stale.{has_come, is_stale, without_stale}
-use Rattle.dav_locks_core.specs.Private.Ends.{Ends, node_of, IsKeyOf, SameEnds, NoneEnds, TakesEnded, AreEnds, IsKept}
-use Rattle.dav_locks_core.specs.Private.LockTree.{NumberedLock, LockTree, is_segment, locks_at, node_at, all_granted, locks_of, lock_list}
+use Rattle.dav_locks_core.specs.Private.NotedEnds.{Ends, noted_node, IsKeyOf, SameEnds, NoneEnds, TakesEnded, AreEndsNoted, IsNotedTree}
+use Rattle.dav_locks_core.specs.Private.LockTree.{NumberedLock, LockTree, is_segment, locks_at, node_below, all_granted, locks_of, lock_list}
 use Rattle.dav_locks_core.specs.Private.Pruning.{AllNeeded, NeededBut, SameLocks}
-use Rattle.dav_locks_core.specs.Private.Represents.{Represents}
+use Rattle.dav_locks_core.specs.Private.LockRepresents.{Represents}
 use Rattle.dav_locks_core.proofs.answers.LockListLemmas.{IsSeenAs, seen_from, known_still}
 use Rattle.dav_locks_core.proofs.laws.ExclusiveLemmas.{Exclusive-filter}
 use Rattle.dav_locks_core.proofs.ends.EndLemmas.{cases_key, one_node}
@@ -38,10 +38,10 @@ pub record Thins (t u : LockTree) (old new : Ends) (now : ℕ) : Type 0 where
   pub tree : IsTree is_segment u
   pub needed : AllNeeded u
   pub locks : (n : ℕ) → (locks_at u n ≡ locks_at t n) ⊎ (locks_at u n ≡ lasting_at now t n)
-  pub ways : (n : ℕ) (p : Path) → locks_at u n ≢ [] → node_at t 1 p ≡ Some n → node_at u 1 p ≡ Some n
-  pub noted : (k : Option ℕ) (g n : ℕ) (l : Lock) → find nat_cmp g (locks_at u n) ≡ Some l → IsKeyOf l.timeout_at k → node_of new k g ≡ Some n
-  pub only : (k : Option ℕ) (g n : ℕ) → node_of new k g ≡ Some n → node_of old k g ≡ Some n
-  pub whole : (k j : Option ℕ) (g n : ℕ) → node_of new k g ≡ Some n → node_of old j g ≡ Some n → node_of new j g ≡ Some n
+  pub ways : (n : ℕ) (p : Path) → locks_at u n ≢ [] → node_below t 1 p ≡ Some n → node_below u 1 p ≡ Some n
+  pub noted : (k : Option ℕ) (g n : ℕ) (l : Lock) → find nat_cmp g (locks_at u n) ≡ Some l → IsKeyOf l.timeout_at k → noted_node new k g ≡ Some n
+  pub only : (k : Option ℕ) (g n : ℕ) → noted_node new k g ≡ Some n → noted_node old k g ≡ Some n
+  pub whole : (k j : Option ℕ) (g n : ℕ) → noted_node new k g ≡ Some n → noted_node old j g ≡ Some n → noted_node new j g ≡ Some n
 
 -- ---- moments
 
@@ -84,7 +84,7 @@ known_of_lock t n g h = by (entry t n) refl
     by None e = absurd (false≢true (sym (ap (λ granted. is_some (find nat_cmp g granted)) (locks_of_entry t n None e)) ∙ h))
     by (Some x) e = ap is_some e
 
-module _ (t : LockTree) (next now : ℕ) (old : Ends) (keeps : IsKept t next old) where
+module _ (t : LockTree) (next now : ℕ) (old : Ends) (keeps : IsNotedTree t next old) where
   sorted : (n : ℕ) → InOrder (locks_at t n)
   sorted = keeps.tree.list.represents.nodes_in_order
 
@@ -124,7 +124,7 @@ module _ (t : LockTree) (next now : ℕ) (old : Ends) (keeps : IsKept t next old
           (ap (λ (l : Lock). l.timeout_at) o.0 ∙ w.2, o.1)
 
       -- nothing is noted of it any more
-      none_left : (k : Option ℕ) (n : ℕ) → node_of mid k number ≡ Some n → ⊥
+      none_left : (k : Option ℕ) (n : ℕ) → noted_node mid k number ≡ Some n → ⊥
       none_left k n h = elim (cases_key (Some taken.end) k) [
         | inl is ↦ none≢some n (sym (taken.gone.this k is) ∙ h)
         | inr other ↦
@@ -132,18 +132,18 @@ module _ (t : LockTree) (next now : ℕ) (old : Ends) (keeps : IsKept t next old
             other (subst (λ end. IsKeyOf end k) (one n w.0 w.1).0 w.2)
       ]
 
-      others : (k : Option ℕ) (g : ℕ) → g ≢ number → node_of mid k g ≡ node_of new k g
+      others : (k : Option ℕ) (g : ℕ) → g ≢ number → noted_node mid k g ≡ noted_node new k g
       others k g ne = taken.gone.others k g (λ _ i. ne i)
 
-      fewer : (k : Option ℕ) (g n : ℕ) → node_of mid k g ≡ Some n → node_of old k g ≡ Some n
+      fewer : (k : Option ℕ) (g n : ℕ) → noted_node mid k g ≡ Some n → noted_node old k g ≡ Some n
       fewer k g n h = elim (cases_eq g number) [
-        | inl i ↦ absurd (none_left k n (sym (ap (node_of mid k) i) ∙ h))
+        | inl i ↦ absurd (none_left k n (sym (ap (noted_node mid k) i) ∙ h))
         | inr ne ↦ th.only k g n (sym (others k g ne) ∙ h)
       ]
 
-      whole_on : (k j : Option ℕ) (g n : ℕ) → node_of mid k g ≡ Some n → node_of old j g ≡ Some n → node_of mid j g ≡ Some n
+      whole_on : (k j : Option ℕ) (g n : ℕ) → noted_node mid k g ≡ Some n → noted_node old j g ≡ Some n → noted_node mid j g ≡ Some n
       whole_on k j g n h was = elim (cases_eq g number) [
-        | inl i ↦ absurd (none_left k n (sym (ap (node_of mid k) i) ∙ h))
+        | inl i ↦ absurd (none_left k n (sym (ap (noted_node mid k) i) ∙ h))
         | inr ne ↦ others j g ne ∙ th.whole k j g n (sym (others k g ne) ∙ h) was
       ]
 
@@ -198,7 +198,7 @@ module _ (t : LockTree) (next now : ℕ) (old : Ends) (keeps : IsKept t next old
                 | inr e ↦ ap (filter (lasts now)) e ∙ twice (lasts now) (locks_at t node)
               ]
 
-          ways_on : (n : ℕ) (p : Path) → locks_at v n ≢ [] → node_at t 1 p ≡ Some n → node_at v 1 p ≡ Some n
+          ways_on : (n : ℕ) (p : Path) → locks_at v n ≢ [] → node_below t 1 p ≡ Some n → node_below v 1 p ≡ Some n
           ways_on n p some leads =
               let before : locks_at u n ≢ [] = λ none. some (elim (cases_eq n node) [
                 | inl i ↦ here n i ∙ ap (filter (lasts now)) (sym (ap (locks_at u) i) ∙ none)
@@ -223,7 +223,7 @@ module _ (t : LockTree) (next now : ℕ) (old : Ends) (keeps : IsKept t next old
             | inr ne ↦ sym (ap (find nat_cmp g) (elsewhere n ne)) ∙ h
           ]
 
-          noted_on : (k : Option ℕ) (g n : ℕ) (l : Lock) → find nat_cmp g (locks_at v n) ≡ Some l → IsKeyOf l.timeout_at k → node_of mid k g ≡ Some n
+          noted_on : (k : Option ℕ) (g n : ℕ) (l : Lock) → find nat_cmp g (locks_at v n) ≡ Some l → IsKeyOf l.timeout_at k → noted_node mid k g ≡ Some n
           noted_on k g n l h key = elim (cases_eq g number) [
             | inl i ↦ absurd (gone_on n l (sym (ap (λ g. find nat_cmp g (locks_at v n)) i) ∙ h))
             | inr ne ↦ others k g ne ∙ th.noted k g n l (stood g n l h) key
@@ -288,7 +288,7 @@ module _ (t : LockTree) (next now : ℕ) (old : Ends) (keeps : IsKept t next old
           subst (IsSeenAs u next) shown
           (seen_from u (filter (lasts now) (all_granted t)) next represents_lasting (subst Exclusive (sym shown) (Exclusive-filter (λ l. not (is_stale now l)) (lock_list t) keeps.tree.list.exclusive)))
 
-      ends_lasting : AreEnds u new
+      ends_lasting : AreEndsNoted u new
       ends_lasting = record {
         noted = th.noted;
         only = λ k g n h.
@@ -297,7 +297,7 @@ module _ (t : LockTree) (next now : ℕ) (old : Ends) (keeps : IsKept t next old
             (w.0, ap (find nat_cmp g) (all_lasting n) ∙ to_filter (lasts now) (locks_at t n) (sorted n) g w.0 w.1 lasting, w.2);
       }
 
-      pub thinned_kept : IsKept u next new
+      pub thinned_kept : IsNotedTree u next new
       thinned_kept = record { tree = record { list = seen_lasting.keeps; needed = th.needed }; are_ends = ends_lasting }
 
       pub thinned_left : lock_list u ≡ without_stale now (lock_list t)

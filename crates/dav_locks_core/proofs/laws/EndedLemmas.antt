@@ -5,7 +5,7 @@ use Rattle.std.proofs.lemmas.Bool.{cases_Bool, false≢true, or_left, or_right}
 use Rattle.std.proofs.lemmas.Option.{none-some}
 use Rattle.dav_path_core.specs.Fronts.{Path}
 use Rattle.dav_locks_core.specs.Lock.{Lock}
-use Rattle.dav_locks_core.specs.Locks.{found, found_from, found_here, better, height, refreshed}
+use Rattle.dav_locks_core.specs.Locks.{found_token, found_from, found_here, better, height, refreshed_lock}
 use Rattle.dav_locks_core.specs.Ended.{SameButTimes, LocksEnded}
 use Rattle.dav_path_core.proofs.lists.MemberLemmas.{In}
 
@@ -37,13 +37,13 @@ LocksEnded-filter gone keep (a ∷ locks) h =
       | false ↦ λ e. LocksEnded-one gone a locks (filter keep locks) (h a (inl refl) e) rest
     ] refl
 
-pub LocksEnded-set : (gone : Lock → Bool) (locks : List Lock) (k : ℕ) (l : Lock) (now : ℕ) (timeout : Option ℕ) → l ≡ refreshed now timeout (get_or locks k l)
+pub LocksEnded-set : (gone : Lock → Bool) (locks : List Lock) (k : ℕ) (l : Lock) (now : ℕ) (timeout : Option ℕ) → l ≡ refreshed_lock now timeout (get_or locks k l)
     → LocksEnded gone locks (set locks k l)
 LocksEnded-set gone [] zero l now timeout h = tt
 LocksEnded-set gone [] (suc k) l now timeout h = tt
 LocksEnded-set gone (a ∷ locks) zero l now timeout h = inl (times h, LocksEnded-refl gone locks)
   where
-    times : l ≡ refreshed now timeout a → SameButTimes a l
+    times : l ≡ refreshed_lock now timeout a → SameButTimes a l
     times h = h ∙ ap (λ (m : Lock). record a { timeout_at = m.timeout_at; timeout = m.timeout }) (sym h)
 LocksEnded-set gone (a ∷ locks) (suc k) l now timeout h = inl (refl, LocksEnded-set gone locks k l now timeout h)
 
@@ -114,8 +114,8 @@ found_from_at n (l ∷ locks) p token f h = elim (better_one (cond (found_here p
 ]
 
 -- at the found place stands a lock with that token, at the path or above
-pub found_at : (locks : List Lock) (p : Path) (token : List ℕ) (k : ℕ) → found locks p token ≡ Some k → (d : Lock) → found_here p token (get_or locks k d) ≡ true
-unfolding found
+pub found_at : (locks : List Lock) (p : Path) (token : List ℕ) (k : ℕ) → found_token locks p token ≡ Some k → (d : Lock) → found_here p token (get_or locks k d) ≡ true
+unfolding found_token
 found_at locks p token k h d = by (found_from 0 locks p token) refl h
   where
     by : (o : Option (ℕ × ℕ)) → found_from 0 locks p token ≡ o → option_map (λ f. f.0) o ≡ Some k → found_here p token (get_or locks k d) ≡ true

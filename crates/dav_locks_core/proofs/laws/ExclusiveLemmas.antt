@@ -6,7 +6,7 @@ use Rattle.std.proofs.lemmas.Bool.{and_parts, and_from, or_cases, or_left, or_pa
 use Rattle.dav_path_core.specs.Fronts.{Path, is_front, is_same_path}
 use Rattle.dav_path_core.proofs.paths.FrontLemmas.{is_same_path-same, is_same_path-refl, is_front-trans, fronts_of_one}
 use Rattle.dav_locks_core.specs.Lock.{Lock}
-use Rattle.dav_locks_core.specs.Locks.{Caller, lock_path, covers, held, any_held, compatible, refuses_lock, lock_conflicts, refuses_change, check_conflicts, is_at_or_below, refreshed}
+use Rattle.dav_locks_core.specs.Locks.{LockCaller, lock_path, covers, is_held_by, any_held, compatible, refuses_lock, lock_conflicts, refuses_change, check_conflicts, is_at_or_below, refreshed_lock}
 use Rattle.dav_locks_core.specs.Exclusive.{Compat, Exclusive}
 use Rattle.dav_path_core.proofs.lists.MemberLemmas.{In, all_in, find_any}
 use Rattle.dav_path_core.proofs.lists.EachLemmas.{none_passes, filter_none, weaker, all_filter, all_push, all_remove, all_set}
@@ -64,12 +64,12 @@ Exclusive-remove (l ∷ locks) zero h = h.1
 Exclusive-remove (l ∷ locks) (suc k) h = (all_remove (Compat l) locks k h.0, Exclusive-remove locks k h.1)
 
 -- another timeout changes nothing of what a lock covers
-pub Exclusive-refreshed : (locks : List Lock) (k now : ℕ) (timeout : Option ℕ) (d : Lock) → Exclusive locks → Exclusive (set locks k (refreshed now timeout (get_or locks k d)))
+pub Exclusive-refreshed : (locks : List Lock) (k now : ℕ) (timeout : Option ℕ) (d : Lock) → Exclusive locks → Exclusive (set locks k (refreshed_lock now timeout (get_or locks k d)))
 Exclusive-refreshed [] zero now timeout d h = tt
 Exclusive-refreshed [] (suc k) now timeout d h = tt
 Exclusive-refreshed (l ∷ locks) zero now timeout d h = h
 Exclusive-refreshed (l ∷ locks) (suc k) now timeout d h =
-    (all_set (Compat l) locks k (refreshed now timeout (get_or locks k d)) d (λ c. c) h.0, Exclusive-refreshed locks k now timeout d h.1)
+    (all_set (Compat l) locks k (refreshed_lock now timeout (get_or locks k d)) d (λ c. c) h.0, Exclusive-refreshed locks k now timeout d h.1)
 
 -- ---- locks that cover one path, one of which is held
 
@@ -94,17 +94,17 @@ held_or_shared false true true false z one any = absurd (false≢true any)
 held_or_shared false true false a z (inl e) any = absurd (false≢true e)
 held_or_shared false true false a z (inr e) any = absurd (false≢true (e refl))
 
-pub held_is_enough : (locks : List Lock) (p : Path) (who : Caller) → Exclusive locks → any_held locks p who ≡ true → check_conflicts locks p false who ≡ []
+pub held_is_enough : (locks : List Lock) (p : Path) (who : LockCaller) → Exclusive locks → any_held locks p who ≡ true → check_conflicts locks p false who ≡ []
 held_is_enough locks p who exclusive any =
-    let m = find_any (λ l. covers l p && held l who) locks any in
-    let parts = and_parts (covers m.0 p) (held m.0 who) m.2 in
-    let one : (l : Lock) → In l locks → (held l who ≡ true) ⊎ (covers l p ≡ true → l.shared ≡ true) = λ l i.
+    let m = find_any (λ l. covers l p && is_held_by l who) locks any in
+    let parts = and_parts (covers m.0 p) (is_held_by m.0 who) m.2 in
+    let one : (l : Lock) → In l locks → (is_held_by l who ≡ true) ⊎ (covers l p ≡ true → l.shared ≡ true) = λ l i.
     elim (two_in locks exclusive l m.0 i m.1) [
-      | inl same ↦ inl (ap (λ l. held l who) same ∙ parts.1)
+      | inl same ↦ inl (ap (λ l. is_held_by l who) same ∙ parts.1)
       | inr both ↦ inr (λ c. both p c parts.0)
     ] in
     filter_none (refuses_change locks p false who) locks
-    (all_of locks (λ l i. held_or_shared (held l who) (covers l p) l.shared (any_held locks p who) (is_at_or_below l p) (one l i) any))
+    (all_of locks (λ l i. held_or_shared (is_held_by l who) (covers l p) l.shared (any_held locks p who) (is_at_or_below l p) (one l i) any))
 
 -- under an exclusive deep lock that is held there is no other, so no check finds a conflict
 no_other : (h c b s a deep : Bool) → (h ≡ true) ⊎ ((c ≡ false) × (b ≡ false)) → (not h && ((c && (not s || not a)) || (deep && b))) ≡ false
@@ -113,17 +113,17 @@ no_other false c b s a deep (inl e) = absurd (false≢true e)
 no_other false c b s a true (inr e) = ap (λ c. (c && (not s || not a)) || b) e.0 ∙ e.1
 no_other false c b s a false (inr e) = ap (λ c. (c && (not s || not a)) || false) e.0
 
-pub held_above : (locks : List Lock) (l : Lock) (p : Path) (deep : Bool) (who : Caller) → Exclusive locks → In l locks → l.shared ≡ false → l.deep ≡ true → held l who ≡ true
+pub held_above : (locks : List Lock) (l : Lock) (p : Path) (deep : Bool) (who : LockCaller) → Exclusive locks → In l locks → l.shared ≡ false → l.deep ≡ true → is_held_by l who ≡ true
     → is_front (lock_path l) p ≡ true → check_conflicts locks p deep who ≡ []
 held_above locks l p deep who exclusive i own is_deep is_held above =
-    filter_none (refuses_change locks p deep who) locks (all_of locks (λ k j. no_other (held k who) (covers k p) (is_at_or_below k p) k.shared (any_held locks p who) deep (one k j)))
+    filter_none (refuses_change locks p deep who) locks (all_of locks (λ k j. no_other (is_held_by k who) (covers k p) (is_at_or_below k p) k.shared (any_held locks p who) deep (one k j)))
   where
     over : (q : Path) → is_front (lock_path l) q ≡ true → covers l q ≡ true
     over q h = or_right (is_same_path (lock_path l) q) (l.deep && is_front (lock_path l) q) (and_from _ _ is_deep h)
 
-    one : (k : Lock) → In k locks → (held k who ≡ true) ⊎ ((covers k p ≡ false) × (is_at_or_below k p ≡ false))
+    one : (k : Lock) → In k locks → (is_held_by k who ≡ true) ⊎ ((covers k p ≡ false) × (is_at_or_below k p ≡ false))
     one k j = elim (two_in locks exclusive l k i j) [
-      | inl same ↦ inl (ap (λ l. held l who) (sym same) ∙ is_held)
+      | inl same ↦ inl (ap (λ l. is_held_by l who) (sym same) ∙ is_held)
       | inr both ↦ inr (
         false_from_ne_true (covers k p) (λ c. false≢true (sym own ∙ both p (over p above) c)),
         false_from_ne_true (is_at_or_below k p) (λ b. false≢true (sym own ∙ both (lock_path k) (over (lock_path k) (is_front-trans (lock_path l) p (lock_path k) above b)) (or_left (is_same_path (lock_path k) (lock_path k)) (k.deep && is_front (lock_path k) (lock_path k)) (is_same_path-refl (lock_path k))))),
@@ -136,8 +136,8 @@ covered_held true c s a z e = refl
 covered_held false false s a z e = refl
 covered_held false true s a z e = absurd (false≢true (sym e))
 
-pub all_held : (locks : List Lock) (p : Path) (who : Caller) → filter (λ l. covers l p && not (held l who)) locks ≡ [] → check_conflicts locks p false who ≡ []
+pub all_held : (locks : List Lock) (p : Path) (who : LockCaller) → filter (λ l. covers l p && not (is_held_by l who)) locks ≡ [] → check_conflicts locks p false who ≡ []
 all_held locks p who none =
     filter_none (refuses_change locks p false who) locks
-    (weaker (λ l. (covers l p && not (held l who)) ≡ false) (λ l. refuses_change locks p false who l ≡ false)
-    (λ l e. covered_held (held l who) (covers l p) l.shared (any_held locks p who) (is_at_or_below l p) e) locks (none_passes (λ l. covers l p && not (held l who)) locks none))
+    (weaker (λ l. (covers l p && not (is_held_by l who)) ≡ false) (λ l. refuses_change locks p false who l ≡ false)
+    (λ l e. covered_held (is_held_by l who) (covers l p) l.shared (any_held locks p who) (is_at_or_below l p) e) locks (none_passes (λ l. covers l p && not (is_held_by l who)) locks none))

@@ -4,7 +4,7 @@ use Rattle.std.specs.Prelude.{nat_le, option_map}
 use Rattle.std.proofs.lemmas.Bool.{cases_Bool, le-leb, lt-leb}
 use Rattle.dav_path_core.specs.Fronts.{Path}
 use Rattle.dav_locks_core.specs.Lock.{Lock}
-use Rattle.dav_locks_core.specs.Locks.{found, found_from, found_here, better, height}
+use Rattle.dav_locks_core.specs.Locks.{found_token, found_from, found_here, better, height}
 
 module _ (p : Path) (token : List ℕ) where
   abbrev here : Lock → Bool
@@ -96,10 +96,10 @@ module _ (p : Path) (token : List ℕ) where
           ap (better (Some (i, height l))) rest
           ∙ ap (λ b. cond b (Some (i, height l)) (Some ((i + 1) + k, height (get_or ls k d)))) (lt-leb (height l) (height (get_or ls k d)) (lower e))
 
-  pub found-none : (ls : List Lock) → NoneHere ls → found ls p token ≡ None
-  unfolding found
+  pub found-none : (ls : List Lock) → NoneHere ls → found_token ls p token ≡ None
+  unfolding found_token
   found-none ls h = ap (option_map (λ f. f.0)) (found_from-none 0 ls h)
 
-  pub found-best : (ls : List Lock) (k : ℕ) (d : Lock) → IsBest ls k → found ls p token ≡ Some k
-  unfolding found
+  pub found-best : (ls : List Lock) (k : ℕ) (d : Lock) → IsBest ls k → found_token ls p token ≡ Some k
+  unfolding found_token
   found-best ls k d b = let first : 0 + k ≡ k = omega arith in ap (option_map (λ f. f.0)) (found_from-best 0 ls k d b) ∙ ap (λ (n : ℕ). Some n) first

@@ -5,17 +5,17 @@ use Rattle.std.specs.Ordering.{nat_cmp}
 use Rattle.std.specs.FinMap.{find}
 use Rattle.std.proofs.lemmas.Bool.{cases_eq, cases_Bool, false≢true, true≢false}
 use Rattle.dav_path_core.specs.Fronts.{Segment, Path, is_front}
-use Rattle.dav_path_core.specs.Keyed.{Entry, Under, here, below, entry, parent, parent_and_key, parent_and_key_of, is_under, with_item, with_item_at, IsKnown, IsTree, IsCut}
+use Rattle.dav_path_core.specs.Keyed.{Entry, Under, here, below, entry, parent_number, parent_and_key, parent_and_key_of, is_under, with_item, with_item_at, IsKnown, IsTree, IsCut}
 use Rattle.dav_path_core.specs.TreeValue.{first, IsTreeValue}
 use Rattle.dav_path_core.proofs.trees.Cutting.{Under-trans, known_below, fewer_gone}
 use Rattle.dav_path_core.proofs.trees.KeyedDepth.{is_under-true}
 use Rattle.dav_path_core.proofs.trees.Trees.{Sets, Sets-insert, IsTree-with_item, none≢some, same_some, none_from_is_some}
 use Rattle.dav_locks_core.specs.Lock.{Lock}
 use Rattle.dav_locks_core.specs.Locks.{lock_path, is_at_or_below}
-use Rattle.dav_locks_core.specs.Private.LockTree.{NumberedLock, LockTree, is_segment, locks_at, node_at}
+use Rattle.dav_locks_core.specs.Private.LockTree.{NumberedLock, LockTree, is_segment, locks_at, node_below}
 use Rattle.dav_locks_core.specs.Private.Pruning.{AllNeeded, NeededBut, Cleared}
 use Rattle.dav_locks_core.specs.Private.SubtreeWalks.{LinkedLocks}
-use Rattle.dav_locks_core.specs.Private.Represents.{Represents}
+use Rattle.dav_locks_core.specs.Private.LockRepresents.{Represents}
 use Rattle.dav_locks_core.proofs.lists.NumberedLemmas.{InOrder, kept_if, find-filter, InOrder-filter}
 use Rattle.dav_locks_core.proofs.trees.PruningLemmas.{Under-kept, Under-before, way_kept}
 use Rattle.dav_path_core.proofs.walks.SiblingLemmas.{no_first}
@@ -30,7 +30,7 @@ pub record ClearsTo (t u : LockTree) (top : ℕ) : Type 0 where
   pub tree : IsTree is_segment u
   pub known : IsKnown u top
   pub inside : (n : ℕ) → IsKnown u n → entry u n ≡ entry t n
-  pub kept : (n : ℕ) → (Under (parent t) top n → ⊥) → entry u n ≡ entry t n
+  pub kept : (n : ℕ) → (Under (parent_number t) top n → ⊥) → entry u n ≡ entry t n
 
 pub clears_from : (t : LockTree) (top : ℕ) → IsTree is_segment t → IsKnown t top → ClearsTo t t top
 clears_from t top tree known = record { tree = tree; known = known; inside = λ n k. refl; kept = λ n u. refl }
@@ -38,8 +38,8 @@ clears_from t top tree known = record { tree = tree; known = known; inside = λ 
 same_places : (t u : LockTree) (top : ℕ) → ClearsTo t u top → (q : ℕ) → IsKnown u q → parent_and_key u q ≡ parent_and_key t q
 same_places t u top g q known = ap parent_and_key_of (g.inside q known)
 
-module _ (t u w : LockTree) (top c : ℕ) (g : ClearsTo t u top) (up : parent u c ≡ Some top) (known : IsKnown u c) (cut : IsCut u w c) where
-  stays : (n : ℕ) → IsKnown w n → Under (parent u) c n → ⊥
+module _ (t u w : LockTree) (top c : ℕ) (g : ClearsTo t u top) (up : parent_number u c ≡ Some top) (known : IsKnown u c) (cut : IsCut u w c) where
+  stays : (n : ℕ) → IsKnown w n → Under (parent_number u) c n → ⊥
   stays n k v = false≢true (sym (ap is_some (cut.gone n v)) ∙ k)
 
   left : (n : ℕ) → IsKnown w n → entry w n ≡ entry u n
@@ -87,17 +87,17 @@ clears_end t u top shape g last = by (entry u.keyed top) refl
                 absurd (no_first is_segment u shape top w.0 last w.1)
             | inr none ↦ none_from_is_some _ none
           ];
-          kept = λ n outside. s.other n (λ is. outside (subst (λ v. Under (parent t) top v) (sym is) here)) ∙ g.kept n outside;
+          kept = λ n outside. s.other n (λ is. outside (subst (λ v. Under (parent_number t) top v) (sym is) here)) ∙ g.kept n outside;
         }
 
 -- ---- the list that is left
 
 module _ (t u : LockTree) (top : ℕ) (g : Cleared t u top) where
   -- what is known outside the subtree, or where locks stand
-  outside_known : (n : ℕ) → IsKnown u n → n ≢ top → Under (parent t) top n → ⊥
+  outside_known : (n : ℕ) → IsKnown u n → n ≢ top → Under (parent_number t) top n → ⊥
   outside_known n known ne v = false≢true (sym (ap is_some (g.below n v ne)) ∙ known)
 
-  pub outside_locked : (n : ℕ) → locks_at u n ≢ [] → Under (parent t) top n → ⊥
+  pub outside_locked : (n : ℕ) → locks_at u n ≢ [] → Under (parent_number t) top n → ⊥
   outside_locked n some v = elim (cases_eq n top) [
     | inl is ↦ some (ap (locks_at u) is ∙ g.here)
     | inr ne ↦ some (locks_of_entry u n None (g.below n v ne))
@@ -109,7 +109,7 @@ module _ (t u : LockTree) (top : ℕ) (g : Cleared t u top) where
     | inr ne ↦ ap parent_and_key_of (g.kept q (outside_known q known ne))
   ]
 
-  pub locks_left : (n : ℕ) → (Under (parent t) top n → ⊥) → locks_at u n ≡ locks_at t n
+  pub locks_left : (n : ℕ) → (Under (parent_number t) top n → ⊥) → locks_at u n ≡ locks_at t n
   locks_left n outside = locks_of_entry u n (entry t n) (g.kept n outside)
 
   known_of_locks : (v : LockTree) (n : ℕ) → locks_at v n ≢ [] → IsKnown v n
@@ -129,12 +129,12 @@ module _ (t u : LockTree) (top : ℕ) (g : Cleared t u top) where
       | inl is ↦ elim (one_above m.1 ((is_under-true is_segment t tree top m.0 (known_of_locks t m.0 m.2)).0 is)) [
         | inl above ↦ inr (Under-kept t u g.tree places_left above g.known)
         | inr under ↦ elim (cases_eq k top) [
-          | inl same ↦ inr (subst (λ v. Under (parent u) v top) (sym same) here)
+          | inl same ↦ inr (subst (λ v. Under (parent_number u) v top) (sym same) here)
           | inr ne ↦ absurd (outside_known k known ne under)
         ]
       ]
       | inr aside ↦
-          let outside : Under (parent t) top m.0 → ⊥ = λ v. true≢false (sym ((is_under-true is_segment t tree top m.0 (known_of_locks t m.0 m.2)).1 v) ∙ aside) in
+          let outside : Under (parent_number t) top m.0 → ⊥ = λ v. true≢false (sym ((is_under-true is_segment t tree top m.0 (known_of_locks t m.0 m.2)).1 v) ∙ aside) in
           let left : IsKnown u m.0 = ap is_some (g.kept m.0 outside) ∙ known_of_locks t m.0 m.2 in
           inl (inr (m.0, Under-kept t u g.tree places_left m.1 left, λ e. m.2 (sym (locks_left m.0 outside) ∙ e)))
     ]
@@ -146,7 +146,7 @@ module _ (t u : LockTree) (top : ℕ) (g : Cleared t u top) where
         | inr ne ↦ ap is_some (sym (g.kept k (outside_known k known ne))) ∙ known
       ]
 
-  module _ (granted : List NumberedLock) (next : ℕ) (r : Represents t granted next) (p : Path) (leads : node_at t 1 p ≡ Some top) where
+  module _ (granted : List NumberedLock) (next : ℕ) (r : Represents t granted next) (p : Path) (leads : node_below t 1 p ≡ Some top) where
     abbrev stays_listed : NumberedLock → Bool
     stays_listed g = not (is_at_or_below g.1 p)
 
@@ -165,11 +165,11 @@ module _ (t u : LockTree) (top : ℕ) (g : Cleared t u top) where
     found_kept k l h = kept_listed (find nat_cmp k granted) k l (sym (find-filter stays_listed granted k r.in_order) ∙ h)
 
     -- a lock stands in the subtree where its path is at or below p
-    outside_path : (n : ℕ) (l : Lock) → node_at t 1 (lock_path l) ≡ Some n → (Under (parent t) top n → ⊥) → is_at_or_below l p ≡ false
+    outside_path : (n : ℕ) (l : Lock) → node_below t 1 (lock_path l) ≡ Some n → (Under (parent_number t) top n → ⊥) → is_at_or_below l p ≡ false
     outside_path n l h outside = elim (cases_Bool (is_front p (lock_path l))) [
       | inl is ↦
           let w = through t 1 n p (lock_path l) is h in
-          absurd (outside (subst (λ v. Under (parent t) v n) (same_some w.0 top (sym w.1 ∙ leads)) w.2))
+          absurd (outside (subst (λ v. Under (parent_number t) v n) (same_some w.0 top (sym w.1 ∙ leads)) w.2))
       | inr aside ↦ aside
     ]
 

@@ -8,10 +8,10 @@ use Rattle.std.specs.FinMap.{FinMap, get, insert, same_map, nat_cmp-IsAntisymmet
 use Rattle.std.specs.Cmp.Lexicographic.{bytes_decides}
 use Rattle.std.proofs.lemmas.Bool.{cases_eq, true≢false}
 use Rattle.dav_path_core.specs.Fronts.{Segment, Path}
-use Rattle.dav_path_core.specs.Keyed.{Entry, Under, here, below, entry, item, parent, parent_and_key_of, child, IsKnown, IsTree, add, with_item, with_item_at}
+use Rattle.dav_path_core.specs.Keyed.{Entry, Under, here, below, entry, item, parent_number, parent_and_key_of, child, IsKnown, IsTree, add, with_item, with_item_at}
 use Rattle.dav_path_core.proofs.trees.Trees.{Sets, Sets-insert, child-some, child-none, known_from_child, same_some}
 use Rattle.dav_path_core.proofs.trees.KeyedCuts.{parent_child, Under-mono}
-use Rattle.dav_locks_core.specs.Private.LockTree.{NumberedLock, LockTree, is_segment, child_at, node_at, Grown}
+use Rattle.dav_locks_core.specs.Private.LockTree.{NumberedLock, LockTree, is_segment, child_at, node_below, Grown}
 use Rattle.dav_locks_core.specs.Private.Pruning.{AllNeeded, NeededBut, SameLocks}
 use Rattle.dav_locks_core.proofs.walks.SubtreeLemmas.{is_parent, way_stays}
 use Rattle.dav_locks_core.proofs.trees.WayLemmas.{child_at-is, child_at-from, is_segment-refl}
@@ -103,12 +103,12 @@ Grown-trans t u v g h = record {
 }
 
 -- what lay above a node lies above it still
-pub parents-grown : (t u : LockTree) → IsTree is_segment t → Grown t u → (k p : ℕ) → parent t k ≡ Some p → parent u k ≡ Some p
+pub parents-grown : (t u : LockTree) → IsTree is_segment t → Grown t u → (k p : ℕ) → parent_number t k ≡ Some p → parent_number u k ≡ Some p
 parents-grown t u tree g k p e =
     let c = parent_child (entry t k) p e in
     is_parent u p k c.0 (g.ways p k c.0 (child_at-from t tree p c.0 k c.1))
 
-pub Under-grown : (t u : LockTree) → IsTree is_segment t → Grown t u → {n m : ℕ} → Under (parent t) n m → Under (parent u) n m
+pub Under-grown : (t u : LockTree) → IsTree is_segment t → Grown t u → {n m : ℕ} → Under (parent_number t) n m → Under (parent_number u) n m
 Under-grown t u tree g v = Under-mono (parents-grown t u tree g) v
 
 pub SameLocks-grown : (t u : LockTree) → Grown t u → IsTree is_segment u → SameLocks t u
@@ -123,32 +123,32 @@ pub record IsMade (t u : LockTree) (p rest : Path) (n : ℕ) : Type 0 where
   pub shape : IsTree is_segment u
   pub known : IsKnown u n
   pub grown : Grown t u
-  pub leads : (v : LockTree) → Grown u v → node_at v 1 p ≡ node_at v n rest
-  pub on_way : (q : ℕ) → IsKnown u q → IsKnown t q ⊎ Under (parent u) q n
+  pub leads : (v : LockTree) → Grown u v → node_below v 1 p ≡ node_below v n rest
+  pub on_way : (q : ℕ) → IsKnown u q → IsKnown t q ⊎ Under (parent_number u) q n
 
 pub IsMade-none : (t : LockTree) (p : Path) → IsTree is_segment t → IsMade t t p p 1
 IsMade-none t p tree = record { shape = tree; known = tree.root.0; grown = Grown-refl t; leads = λ v g. refl; on_way = λ q h. inl h }
 
 pub IsMade-more : (t u v : LockTree) (p rest : Path) (s : Segment) (n c : ℕ) → IsMade t u p (s ∷ rest) n → Grown u v → IsTree is_segment v → child_at v n s ≡ Some c → IsKnown v c
     → ((k : ℕ) → IsKnown v k → IsKnown u k ⊎ (k ≡ c)) → IsMade t v p rest c
-unfolding node_at
+unfolding node_below
 IsMade-more t u v p rest s n c m g tree child known alone = record {
   shape = tree;
   known = known;
   grown = Grown-trans t u v m.grown g;
-  leads = λ w h. m.leads w (Grown-trans u v w g h) ∙ ap (λ o. option_and_then (λ c. node_at w c rest) o) (h.ways n c s child);
+  leads = λ w h. m.leads w (Grown-trans u v w g h) ∙ ap (λ o. option_and_then (λ c. node_below w c rest) o) (h.ways n c s child);
   on_way = λ q h. elim (alone q h) [
     | inl old ↦ elim (m.on_way q old) [
       | inl older ↦ inl older
       | inr way ↦ inr (below (is_parent v n c s child) (Under-grown u v m.shape g way))
     ]
-    | inr is ↦ inr (subst (λ k. Under (parent v) k c) (sym is) here)
+    | inr is ↦ inr (subst (λ k. Under (parent_number v) k c) (sym is) here)
   ];
 }
 
-pub IsMade-end : (t u : LockTree) (p rest : Path) (n : ℕ) → IsMade t u p rest n → rest ≡ [] → node_at u 1 p ≡ Some n
-unfolding node_at
-IsMade-end t u p rest n m e = m.leads u (Grown-refl u) ∙ ap (node_at u n) e
+pub IsMade-end : (t u : LockTree) (p rest : Path) (n : ℕ) → IsMade t u p rest n → rest ≡ [] → node_below u 1 p ≡ Some n
+unfolding node_below
+IsMade-end t u p rest n m e = m.leads u (Grown-refl u) ∙ ap (node_below u n) e
 
 -- where each node was needed, all but those on the way are
 pub IsMade-needed : (t u : LockTree) (p rest : Path) (n : ℕ) → IsTree is_segment t → AllNeeded t → IsMade t u p rest n → NeededBut u n

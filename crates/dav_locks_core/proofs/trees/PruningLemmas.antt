@@ -4,12 +4,12 @@ use Rattle.std.specs.Option.{option_map}
 use Rattle.std.specs.Prelude.{option_and_then}
 use Rattle.std.proofs.lemmas.Bool.{cases_eq, false≢true}
 use Rattle.dav_path_core.specs.Fronts.{Segment, Path}
-use Rattle.dav_path_core.specs.Keyed.{Entry, Under, here, below, entry, parent, parent_and_key, parent_and_key_of, has_child, without, lone, IsKnown, IsTree, child}
+use Rattle.dav_path_core.specs.Keyed.{Entry, Under, here, below, entry, parent_number, parent_and_key, parent_and_key_of, has_child, without_node, lone, IsKnown, IsTree, child}
 use Rattle.dav_path_core.proofs.trees.Cutting.{Under-trans}
 use Rattle.dav_path_core.proofs.trees.KeyedCuts.{IsLeaf, leaf, entry-without, apart, parent-without, known-without, IsTree-without}
 use Rattle.dav_path_core.proofs.trees.Trees.{none≢some, child-some, known_from_child, known_from_parent, IsTree-lone}
 use Rattle.dav_path_core.proofs.children.Walks.{parent_known}
-use Rattle.dav_locks_core.specs.Private.LockTree.{NumberedLock, LockTree, is_segment, locks_at, child_at, node_at}
+use Rattle.dav_locks_core.specs.Private.LockTree.{NumberedLock, LockTree, is_segment, locks_at, child_at, node_below}
 use Rattle.dav_locks_core.specs.Private.Pruning.{IsNeeded, AllNeeded, NeededBut, SameLocks}
 use Rattle.dav_locks_core.proofs.trees.StandingLemmas.{Changes, locks_of_entry}
 use Rattle.dav_path_core.proofs.walks.AboveLemmas.{Under-up, not_below_child, root_top, not_root}
@@ -29,31 +29,31 @@ SameLocks-trans t u v g h = record {
 -- ---- a tree with fewer nodes, at their places
 
 module _ (t u : LockTree) (tree : IsTree is_segment u) (same : (q : ℕ) → IsKnown u q → parent_and_key u q ≡ parent_and_key t q) where
-  same_parent : (q : ℕ) → IsKnown u q → parent u q ≡ parent t q
+  same_parent : (q : ℕ) → IsKnown u q → parent_number u q ≡ parent_number t q
   same_parent q known = ap (option_map (λ w. w.0)) (same q known)
 
   -- a number that is left lies below what it lay below
-  pub Under-kept : {n q : ℕ} → Under (parent t) n q → IsKnown u q → Under (parent u) n q
+  pub Under-kept : {n q : ℕ} → Under (parent_number t) n q → IsKnown u q → Under (parent_number u) n q
   Under-kept here known = here
   Under-kept {q = q} (below {p = p} e v) known =
-      let up : parent u q ≡ Some p = same_parent q known ∙ e in
+      let up : parent_number u q ≡ Some p = same_parent q known ∙ e in
       below up (Under-kept v (parent_known is_segment u tree q p up))
 
-  pub Under-before : {n q : ℕ} → Under (parent u) n q → Under (parent t) n q
+  pub Under-before : {n q : ℕ} → Under (parent_number u) n q → Under (parent_number t) n q
   Under-before here = here
   Under-before {q = q} (below {p = p} e v) = below (sym (same_parent q (known_from_parent u q p e)) ∙ e) (Under-before v)
 
   -- and the way to it is left
-  pub way_kept : (c n : ℕ) (p : Path) → node_at t c p ≡ Some n → IsKnown u n → IsKnown u c × (node_at u c p ≡ Some n)
-  unfolding node_at
+  pub way_kept : (c n : ℕ) (p : Path) → node_below t c p ≡ Some n → IsKnown u n → IsKnown u c × (node_below u c p ≡ Some n)
+  unfolding node_below
   way_kept c n [] h known = (subst (IsKnown u) (sym is) known, h)
     where
       is : c ≡ n
       is = cc
   way_kept c n (s ∷ p) h known = by (λ d h. way_kept d n p h known) (child_at t c s) refl h
     where
-      by : ((d : ℕ) → node_at t d p ≡ Some n → IsKnown u d × (node_at u d p ≡ Some n))
-          → (o : Option ℕ) → child_at t c s ≡ o → option_and_then (λ d. node_at t d p) o ≡ Some n → IsKnown u c × (node_at u c (s ∷ p) ≡ Some n)
+      by : ((d : ℕ) → node_below t d p ≡ Some n → IsKnown u d × (node_below u d p ≡ Some n))
+          → (o : Option ℕ) → child_at t c s ≡ o → option_and_then (λ d. node_below t d p) o ≡ Some n → IsKnown u c × (node_below u c (s ∷ p) ≡ Some n)
       by rec None e h = absurd (none≢some n h)
       by rec (Some d) e h =
           let w = rec d h in
@@ -106,10 +106,10 @@ module _ (t u : LockTree) (node : ℕ) (g : PrunesTo t u node) where
   pub prunes_tree : IsTree is_segment u
   prunes_tree = g.pruned.tree
 
-  pub prunes_on : (p : ℕ) → parent u node ≡ Some p → locks_at u node ≡ [] → has_child u node ≡ false → PrunesTo t (without u node) p
+  pub prunes_on : (p : ℕ) → parent_number u node ≡ Some p → locks_at u node ≡ [] → has_child u node ≡ false → PrunesTo t (without_node u node) p
   prunes_on p up empty childless =
       let alone : IsLeaf u node = leaf u node childless in
-      let v : LockTree = without u node in
+      let v : LockTree = without_node u node in
       let gone = entry-without u node in
       let apart_up : p ≢ node = λ is. alone node (up ∙ ap (λ (x : ℕ). Some x) is) in
       record {
@@ -131,7 +131,7 @@ module _ (t u : LockTree) (node : ℕ) (g : PrunesTo t u node) where
         ];
       }
     where
-      still : IsLeaf u node → {k m : ℕ} → Under (parent u) k m → m ≢ node → Under (parent (without u node)) k m
+      still : IsLeaf u node → {k m : ℕ} → Under (parent_number u) k m → m ≢ node → Under (parent_number (without_node u node)) k m
       still alone here ne = here
       still alone {m = m} (below {p = q} e w) ne = below (parent-without u node m ne ∙ e) (still alone w (λ is. alone m (e ∙ ap (λ (x : ℕ). Some x) is)))
 
@@ -145,7 +145,7 @@ module _ (t u : LockTree) (node : ℕ) (g : PrunesTo t u node) where
       by None e h = absurd (false≢true h)
       by (Some c) e h =
           let w = child-some u (λ _. true) node c e in
-          let up : parent u c ≡ Some node = ap (option_map (λ q. q.0)) w.1 in
+          let up : parent_number u c ≡ Some node = ap (option_map (λ q. q.0)) w.1 in
           elim (g.needed c (known_from_child u node w.0 c w.1)) [
             | inl (inl one) ↦ absurd (not_root is_segment u g.pruned.tree c node up one)
             | inl (inr m) ↦ inr (m.0, Under-trans (below up here) m.1, m.2)
@@ -158,7 +158,7 @@ module _ (t u : LockTree) (node : ℕ) (g : PrunesTo t u node) where
     λ k known. elim (g.needed k known) [
       | inl needed ↦ needed
       | inr way ↦ elim (node_needed stays) [
-        | inl one ↦ inl (root_top is_segment u g.pruned.tree k (subst (λ v. Under (parent u) k v) one way))
+        | inl one ↦ inl (root_top is_segment u g.pruned.tree k (subst (λ v. Under (parent_number u) k v) one way))
         | inr m ↦ inr (m.0, Under-trans way m.1, m.2)
       ]
     ],
@@ -167,7 +167,7 @@ module _ (t u : LockTree) (node : ℕ) (g : PrunesTo t u node) where
 -- ---- other locks at one node
 
 module _ (t u : LockTree) (n : ℕ) (standing : List NumberedLock) (c : Changes t u n standing) where
-  still_under : {k m : ℕ} → Under (parent t) k m → Under (parent u) k m
+  still_under : {k m : ℕ} → Under (parent_number t) k m → Under (parent_number u) k m
   still_under here = here
   still_under {m = m} (below e w) = below (ap (option_map (λ w. w.0)) (c.places m) ∙ e) (still_under w)
 
@@ -175,7 +175,7 @@ module _ (t u : LockTree) (n : ℕ) (standing : List NumberedLock) (c : Changes 
   NeededBut-changes needed k known = elim (needed k (c.known k known)) [
     | inl (inl one) ↦ inl (inl one)
     | inl (inr m) ↦ elim (cases_eq m.0 n) [
-      | inl is ↦ inr (subst (λ v. Under (parent u) k v) is (still_under m.1))
+      | inl is ↦ inr (subst (λ v. Under (parent_number u) k v) is (still_under m.1))
       | inr ne ↦ inl (inr (m.0, still_under m.1, λ e. m.2 (sym (c.other m.0 ne) ∙ e)))
     ]
     | inr way ↦ inr (still_under way)

@@ -12,9 +12,9 @@ use Rattle.dav_path_core.specs.Keyed.{Entry, entry, parent_and_key, parent_and_k
 use Rattle.dav_path_core.proofs.trees.Trees.{Sets, Sets-insert, IsTree-with_item, find-here, find-head, same_some, none≢some}
 use Rattle.dav_locks_core.specs.Lock.{Lock}
 use Rattle.dav_locks_core.specs.Locks as locks
-use Rattle.dav_locks_core.specs.Private.LockTree.{NumberedLock, LockTree, locks_at, is_segment, child_at, node_at, all_standing, all_granted}
+use Rattle.dav_locks_core.specs.Private.LockTree.{NumberedLock, LockTree, locks_at, is_segment, child_at, node_below, all_standing, all_granted}
 use Rattle.dav_locks_core.specs.Private.Pruning.{SameLocks}
-use Rattle.dav_locks_core.specs.Private.Represents.{Represents}
+use Rattle.dav_locks_core.specs.Private.LockRepresents.{Represents}
 use Rattle.dav_locks_core.proofs.walks.SubtreeLemmas.{way_stays}
 use Rattle.dav_locks_core.proofs.lists.NumberedLemmas.{InOrder, AllBelow, find-later, in_order_tail, found_at_place, find-push, InOrder-push, InOrder-remove, found-removed, found-kept, InOrder-set, find-set}
 use Rattle.dav_locks_core.proofs.trees.WayLemmas.{child_at-is, child_at-from}
@@ -156,7 +156,7 @@ module _ (t u : LockTree) (granted : List NumberedLock) (next : ℕ) (r : Repres
   apart_from_next : (g : ℕ) (l : Lock) → find nat_cmp g granted ≡ Some l → g ≢ next
   apart_from_next g l h e = omega (arith, r.below g l h, e)
 
-  module _ (n : ℕ) (l : Lock) (leads : node_at t 1 (locks.lock_path l) ≡ Some n) (c : Changes t u n (locks_at t n ++ (next, l) ∷ [])) where
+  module _ (n : ℕ) (l : Lock) (leads : node_below t 1 (locks.lock_path l) ≡ Some n) (c : Changes t u n (locks_at t n ++ (next, l) ∷ [])) where
     here : List NumberedLock
     here = locks_at t n ++ (next, l) ∷ []
 
@@ -180,12 +180,12 @@ module _ (t u : LockTree) (granted : List NumberedLock) (next : ℕ) (r : Repres
     new_here = find-push (locks_at t n) next l next (all_below_at n) ∙ ap (λ b. cond b (Some l) (find nat_cmp next (locks_at t n))) (eq-eqb next next refl)
 
     -- a lock that was there is listed still
-    still : (m g : ℕ) (k : Lock) → find nat_cmp g (locks_at t m) ≡ Some k → (find nat_cmp g longer ≡ Some k) × (node_at u 1 (locks.lock_path k) ≡ Some m)
+    still : (m g : ℕ) (k : Lock) → find nat_cmp g (locks_at t m) ≡ Some k → (find nat_cmp g longer ≡ Some k) × (node_below u 1 (locks.lock_path k) ≡ Some m)
     still m g k h =
         let w = r.listed m g k h in
         (old g (apart_from_next g k w.0) ∙ w.0, way_stays t u c.ways 1 m (locks.lock_path k) w.1)
 
-    listed : (m g : ℕ) (k : Lock) → find nat_cmp g (locks_at u m) ≡ Some k → (find nat_cmp g longer ≡ Some k) × (node_at u 1 (locks.lock_path k) ≡ Some m)
+    listed : (m g : ℕ) (k : Lock) → find nat_cmp g (locks_at u m) ≡ Some k → (find nat_cmp g longer ≡ Some k) × (node_below u 1 (locks.lock_path k) ≡ Some m)
     unfolding here
     listed m g k h = elim (cases_eq m n) [
       | inl e ↦
@@ -193,7 +193,7 @@ module _ (t u : LockTree) (granted : List NumberedLock) (next : ℕ) (r : Repres
           elim (cases_eq g next) [
             | inl i ↦
                 let same : l ≡ k = same_some l k (sym (ap (λ g. find nat_cmp g here) i ∙ new_here) ∙ at) in
-                (ap (λ g. find nat_cmp g longer) i ∙ new ∙ ap (λ (k : Lock). Some k) same, ap (λ (k : Lock). node_at u 1 (locks.lock_path k)) (sym same) ∙ way_stays t u c.ways 1 n (locks.lock_path l) leads ∙ ap (λ (m : ℕ). Some m) (sym e))
+                (ap (λ g. find nat_cmp g longer) i ∙ new ∙ ap (λ (k : Lock). Some k) same, ap (λ (k : Lock). node_below u 1 (locks.lock_path k)) (sym same) ∙ way_stays t u c.ways 1 n (locks.lock_path l) leads ∙ ap (λ (m : ℕ). Some m) (sym e))
             | inr ne ↦ still m g k (ap (λ m. find nat_cmp g (locks_at t m)) e ∙ sym (old_here g ne) ∙ at)
           ]
       | inr ne ↦ still m g k (sym (ap (find nat_cmp g) (c.other m ne)) ∙ h)
@@ -252,7 +252,7 @@ module _ (t u : LockTree) (granted : List NumberedLock) (next : ℕ) (r : Repres
         let a = r.listed m g l h in
         let b = r.listed n gone _ was in
         let same : l ≡ (get_or (locks_at t n) k d).1 = same_some _ _ (sym a.0 ∙ ap (λ g. find nat_cmp g granted) e ∙ b.0) in
-        apart (same_some m n (sym a.1 ∙ ap (λ (l : Lock). node_at t 1 (locks.lock_path l)) same ∙ b.1))
+        apart (same_some m n (sym a.1 ∙ ap (λ (l : Lock). node_below t 1 (locks.lock_path l)) same ∙ b.1))
 
     keeps : (g : ℕ) (l : Lock) → g ≢ gone → find nat_cmp g granted ≡ Some l → find nat_cmp g (remove granted j) ≡ Some l
     keeps g l ne h = found-kept granted j d g l r.in_order listed_at (λ e. ne (e ∙ same_number)) h
@@ -260,7 +260,7 @@ module _ (t u : LockTree) (granted : List NumberedLock) (next : ℕ) (r : Repres
     loses : (g : ℕ) (l : Lock) → find nat_cmp g (remove granted j) ≡ Some l → (g ≢ gone) × (find nat_cmp g granted ≡ Some l)
     loses g l h = let w = found-removed granted j d g l r.in_order listed_at h in (λ e. w.0 (e ∙ sym same_number), w.1)
 
-    shorter_listed : (m g : ℕ) (l : Lock) → find nat_cmp g (locks_at u m) ≡ Some l → (find nat_cmp g (remove granted j) ≡ Some l) × (node_at u 1 (locks.lock_path l) ≡ Some m)
+    shorter_listed : (m g : ℕ) (l : Lock) → find nat_cmp g (locks_at u m) ≡ Some l → (find nat_cmp g (remove granted j) ≡ Some l) × (node_below u 1 (locks.lock_path l) ≡ Some m)
     unfolding gone
     shorter_listed m g l h = elim (cases_eq m n) [
       | inl e ↦
@@ -318,8 +318,8 @@ module _ (t u : LockTree) (granted : List NumberedLock) (next : ℕ) (r : Repres
     unfolding number
     was_here = found_at_place (locks_at t n) k d (r.nodes_in_order n) within ∙ ap (λ (g : NumberedLock). Some g.1) (sym one)
 
-    was_led : node_at t 1 (locks.lock_path l) ≡ Some n
-    was_led = ap (node_at t 1) same_path ∙ (r.listed n number _ was_here).1
+    was_led : node_below t 1 (locks.lock_path l) ≡ Some n
+    was_led = ap (node_below t 1) same_path ∙ (r.listed n number _ was_here).1
 
     found_list : (g : ℕ) → find nat_cmp g (set granted j (number, l)) ≡ cond (g == number) (Some l) (find nat_cmp g granted)
     found_list g = find-set granted j number l d g r.in_order listed_at listed_number
@@ -334,10 +334,10 @@ module _ (t u : LockTree) (granted : List NumberedLock) (next : ℕ) (r : Repres
     new_list : (g : ℕ) → g ≡ number → find nat_cmp g (set granted j (number, l)) ≡ Some l
     new_list g e = found_list g ∙ ap (λ b. cond b (Some l) (find nat_cmp g granted)) (eq-eqb g number e)
 
-    other_listed : (m g : ℕ) (o : Lock) → g ≢ number → find nat_cmp g (locks_at t m) ≡ Some o → (find nat_cmp g (set granted j (number, l)) ≡ Some o) × (node_at u 1 (locks.lock_path o) ≡ Some m)
+    other_listed : (m g : ℕ) (o : Lock) → g ≢ number → find nat_cmp g (locks_at t m) ≡ Some o → (find nat_cmp g (set granted j (number, l)) ≡ Some o) × (node_below u 1 (locks.lock_path o) ≡ Some m)
     other_listed m g o ne h = let a = r.listed m g o h in (other_list g o ne a.0, way_stays t u c.ways 1 m (locks.lock_path o) a.1)
 
-    set_listed : (m g : ℕ) (o : Lock) → find nat_cmp g (locks_at u m) ≡ Some o → (find nat_cmp g (set granted j (number, l)) ≡ Some o) × (node_at u 1 (locks.lock_path o) ≡ Some m)
+    set_listed : (m g : ℕ) (o : Lock) → find nat_cmp g (locks_at u m) ≡ Some o → (find nat_cmp g (set granted j (number, l)) ≡ Some o) × (node_below u 1 (locks.lock_path o) ≡ Some m)
     unfolding number
     set_listed m g o h = elim (cases_eq m n) [
       | inl e ↦
@@ -346,7 +346,7 @@ module _ (t u : LockTree) (granted : List NumberedLock) (next : ℕ) (r : Repres
             | inl i ↦
                 let same : l ≡ o = same_some l o (sym (found_node g ∙ ap (λ b. cond b (Some l) (find nat_cmp g (locks_at t n))) (eq-eqb g number i)) ∙ at) in (
                   new_list g i ∙ ap (λ (o : Lock). Some o) same,
-                  ap (λ (o : Lock). node_at u 1 (locks.lock_path o)) (sym same) ∙ way_stays t u c.ways 1 n (locks.lock_path l) was_led ∙ ap (λ (m : ℕ). Some m) (sym e),
+                  ap (λ (o : Lock). node_below u 1 (locks.lock_path o)) (sym same) ∙ way_stays t u c.ways 1 n (locks.lock_path l) was_led ∙ ap (λ (m : ℕ). Some m) (sym e),
                 )
             | inr ne ↦
                 let before : find nat_cmp g (locks_at t n) ≡ Some o = sym (found_node g ∙ ap (λ b. cond b (Some l) (find nat_cmp g (locks_at t n))) (ne_eqb g number ne)) ∙ at in
@@ -362,7 +362,7 @@ module _ (t u : LockTree) (granted : List NumberedLock) (next : ℕ) (r : Repres
         only_there m g o apart before i =
             let a = r.listed m g o before in
             let same : o ≡ (get_or granted j d).1 = same_some _ _ (sym a.0 ∙ ap (λ g. find nat_cmp g granted) i ∙ was_listed) in
-            apart (same_some m n (sym a.1 ∙ ap (λ (o : Lock). node_at t 1 (locks.lock_path o)) same ∙ ap (node_at t 1) (sym same_path) ∙ was_led))
+            apart (same_some m n (sym a.1 ∙ ap (λ (o : Lock). node_below t 1 (locks.lock_path o)) same ∙ ap (node_below t 1) (sym same_path) ∙ was_led))
 
     set_stands : (g : ℕ) (o : Lock) → find nat_cmp g (set granted j (number, l)) ≡ Some o → (m : ℕ) × (find nat_cmp g (locks_at u m) ≡ Some o)
     unfolding number

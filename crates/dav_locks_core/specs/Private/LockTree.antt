@@ -30,9 +30,9 @@ abbrev pub child_at : LockTree → ℕ → Segment → Option ℕ
 child_at t n s = child (λ k. is_segment k s) t n
 
 -- the node to which a path leads down from a node
-unfoldable pub node_at : LockTree → ℕ → Path → Option ℕ
-node_at t n [] = Some n
-node_at t n (s ∷ p) = option_and_then (λ c. node_at t c p) (child_at t n s)
+unfoldable pub node_below : LockTree → ℕ → Path → Option ℕ
+node_below t n [] = Some n
+node_below t n (s ∷ p) = option_and_then (λ c. node_below t c p) (child_at t n s)
 
 abbrev pub all_standing : List (ℕ × Entry Segment (List NumberedLock)) → List NumberedLock
 all_standing [] = []
@@ -51,8 +51,8 @@ lock_list t = locks_of (all_granted t)
 -- ---- the way down to a path
 
 -- a place at a node, if there is one
-abbrev pub with_node : ℕ → Option ℕ → Option (ℕ × ℕ)
-with_node n o = option_map {U = ℕ × ℕ} (λ k. (n, k)) o
+abbrev pub at_node : ℕ → Option ℕ → Option (ℕ × ℕ)
+at_node n o = option_map {U = ℕ × ℕ} (λ k. (n, k)) o
 
 -- the place among the locks at a node of the first that passes
 abbrev pub first_at : (Lock → Bool) → LockTree → ℕ → Option ℕ
@@ -61,9 +61,9 @@ first_at test t n = position (λ g. test g.1) (locks_at t n)
 -- the node, and the place there, of the first lock that passes on the way down from a node; the test is told whether the lock
 -- stands where the way ends
 unfoldable pub lookup_lock : (Bool → Lock → Bool) → LockTree → ℕ → Path → Option (ℕ × ℕ)
-lookup_lock test t n [] = with_node n (first_at (test true) t n)
+lookup_lock test t n [] = at_node n (first_at (test true) t n)
 lookup_lock test t n (s ∷ p) =
-    option_or (with_node n (first_at (test false) t n)) (option_and_then (λ c. lookup_lock test t c p) (child_at t n s))
+    option_or (at_node n (first_at (test false) t n)) (option_and_then (λ c. lookup_lock test t c p) (child_at t n s))
 
 -- the locks that cover a path, on the way down to it from a node: the deep ones above it and those at its end
 unfoldable pub covering_down : LockTree → ℕ → Path → List Lock

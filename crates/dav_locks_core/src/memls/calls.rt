@@ -1,11 +1,11 @@
 //! The calls on locks, once those whose end has come are dropped.
 ghost use Rattle.std.specs.Prelude.{◌≡◌, ◌≢◌, ◌++◌, ◌∷◌, [], ℕ, true, Some, None, remove, set, get_or, IfOk, IfErr, OnOk, OnErr};
 ghost use Rattle.dav_path_core.specs.Segments.{segments};
-ghost use Rattle.dav_locks_core.specs.Locks.{lock_conflicts, check_conflicts, found, refreshed, discovered, without_below};
+ghost use Rattle.dav_locks_core.specs.Locks.{lock_conflicts, check_conflicts, found_token, refreshed_lock, discovered_locks, without_below};
 ghost use Rattle.dav_locks_core.specs.Exclusive.{Exclusive};
 ghost use Rattle.dav_locks_core.specs.Held.{HoldsExclusive, HoldsBelow};
 ghost use Rattle.dav_locks_core.specs.Tokens.{token_from};
-ghost use Rattle.dav_locks_core.specs.Calls.{Shows, ShowsOnly, RefusesRefresh, lent_text, caller};
+ghost use Rattle.dav_locks_core.specs.Calls.{Shows, ShowsOnly, RefusesRefresh, lent_text, lock_caller};
 ghost use Rattle.dav_locks_core.specs.NewLock.{new_lock};
 
 use super::MemLs;
@@ -109,9 +109,9 @@ impl MemLs {
 
     // Ends the lock with that token at the path or above it.
     pub(super) fn end_found(&mut self, path: &DavPath, token: &str) -> Result<(), NoLock>
-        ensures done { OnOk result ((k : ℕ) × (found self.old (segments path.now.bytes) token.now ≡ Some k)
+        ensures done { OnOk result ((k : ℕ) × (found_token self.old (segments path.now.bytes) token.now ≡ Some k)
             × (self.new ≡ remove self.old k)) }
-        ensures none { OnErr result ((found self.old (segments path.now.bytes) token.now ≡ None)
+        ensures none { OnErr result ((found_token self.old (segments path.now.bytes) token.now ≡ None)
             × (self.new ≡ self.old)) }
         ensures exclusive { Exclusive self.new }
     {
@@ -135,9 +135,9 @@ impl MemLs {
         timeout: Option<u64>,
         now: Moment,
     ) -> Result<DavLock, RefreshError>
-        ensures done { IfOk result (λ lock. (k : ℕ) × (found self.old (segments path.now.bytes) token.now ≡ Some k)
-            × (lock ≡ refreshed now.0 timeout (get_or self.old k lock)) × (self.new ≡ set self.old k lock)) }
-        ensures refused { IfErr result (λ e. RefusesRefresh (found self.old (segments path.now.bytes) token.now) e) }
+        ensures done { IfOk result (λ lock. (k : ℕ) × (found_token self.old (segments path.now.bytes) token.now ≡ Some k)
+            × (lock ≡ refreshed_lock now.0 timeout (get_or self.old k lock)) × (self.new ≡ set self.old k lock)) }
+        ensures refused { IfErr result (λ e. RefusesRefresh (found_token self.old (segments path.now.bytes) token.now) e) }
         ensures unchanged { OnErr result (self.new ≡ self.old) }
         ensures exclusive { Exclusive self.new }
     {
@@ -163,13 +163,13 @@ impl MemLs {
         tokens: &[String],
     ) -> Result<(), LockError>
         ensures passes { OnOk result (check_conflicts self.now (segments path.now) deep
-            (caller principal.entry ignore_principal tokens.now) ≡ []) }
+            (lock_caller principal.entry ignore_principal tokens.now) ≡ []) }
         ensures shown { IfErr result (λ e. ShowsOnly (check_conflicts self.now (segments path.now) deep
-            (caller principal.entry ignore_principal tokens.now)) e) }
+            (lock_caller principal.entry ignore_principal tokens.now)) e) }
         ensures held { OnOk result (HoldsExclusive self.now (segments path.now)
-            (caller principal.entry ignore_principal tokens.now)) }
+            (lock_caller principal.entry ignore_principal tokens.now)) }
         ensures held_below { OnOk result (deep ≡ true → HoldsBelow self.now (segments path.now)
-            (caller principal.entry ignore_principal tokens.now)) }
+            (lock_caller principal.entry ignore_principal tokens.now)) }
     {
         let caller = Caller {
             principal,
@@ -189,8 +189,8 @@ impl MemLs {
 
     // Copies of the locks that cover a path.
     pub(super) fn covering(&self, path: &DavPath) -> Result<Vec<DavLock>, AllocError>
-        ensures copies { IfOk result (λ v. v.items ≡ discovered self.now (segments path.now.bytes)) }
-        ensures refused { OnErr result (discovered self.now (segments path.now.bytes) ≢ []) }
+        ensures copies { IfOk result (λ v. v.items ≡ discovered_locks self.now (segments path.now.bytes)) }
+        ensures refused { OnErr result (discovered_locks self.now (segments path.now.bytes) ≢ []) }
     {
         covering_locks(&self.tree, &self.index, self.alloc, path)
     }

@@ -3,9 +3,9 @@ ghost use Rattle.std.specs.Prelude.{◌≡◌, ◌<◌, ℕ, T, Option, Some, No
 ghost use Rattle.std.specs.BTreeMap.{btree_map_len};
 ghost use Rattle.std.specs.FinMap.{is_sorted};
 ghost use Rattle.std.specs.Ordering.{nat_cmp};
-ghost use Rattle.dav_path_core.specs.Keyed.{IsKnown, Under, parent};
+ghost use Rattle.dav_path_core.specs.Keyed.{IsKnown, Under, parent_number};
 ghost use Rattle.dav_locks_core.specs.Private.LockTree.{locks_at};
-ghost use Rattle.dav_locks_core.specs.Private.Ends.{AreEnds, Forgets, ForgetsFirst, IsKeyOf, NoneEnds, Notes, NotesEnd, Renotes, SameEnds, TakesEnded, node_of, same_end};
+ghost use Rattle.dav_locks_core.specs.Private.NotedEnds.{AreEndsNoted, ForgetsEnds, ForgetsFirst, IsKeyOf, NoneEnds, Notes, NotesEnd, Renotes, SameEnds, TakesEnded, noted_node, same_end};
 
 use super::NodeLocks;
 use super::way::locks_at;
@@ -27,7 +27,7 @@ pub(super) struct Ends {
 
 impl Ends {
     pub(super) fn new(alloc: Global) -> Ends
-        ensures { (k : Option ℕ) (g : ℕ) → node_of result k g ≡ None }
+        ensures { (k : Option ℕ) (g : ℕ) → noted_node result k g ≡ None }
     {
         Ends {
             nodes: BTreeMap::new(alloc),
@@ -43,7 +43,7 @@ pub(super) fn note(
     number: u64,
     node: u64,
 ) -> Result<(), AllocError>
-    requires { (k : Option ℕ) (n : ℕ) → node_of ends.old k number ≡ Some n → ⊥ }
+    requires { (k : Option ℕ) (n : ℕ) → noted_node ends.old k number ≡ Some n → ⊥ }
     ensures noted { OnOk result (Notes ends.old ends.new (option_map (λ m. m.0) end) number (Some node)) }
     ensures left { OnErr result (SameEnds ends.old ends.new) }
 {
@@ -91,8 +91,8 @@ pub(super) fn renote(
     number: u64,
     node: u64,
 ) -> Result<(), AllocError>
-    requires stands { node_of ends.old None number ≡ Some node }
-    requires only { (k : Option ℕ) (n : ℕ) → node_of ends.old k number ≡ Some n
+    requires stands { noted_node ends.old None number ≡ Some node }
+    requires only { (k : Option ℕ) (n : ℕ) → noted_node ends.old k number ≡ Some n
         → IsKeyOf (option_map (λ m. m.0) was) k }
     ensures noted { OnOk result (Renotes ends.old ends.new number (IsKeyOf (option_map (λ m. m.0) end)) node) }
     ensures left { OnErr result (SameEnds ends.old ends.new) }
@@ -136,9 +136,9 @@ pub(super) fn take_ended(ends: &mut Ends, now: Moment) -> Option<(u64, u64)>
 // Forgets the locks at a node and below it.
 pub(super) fn forget_below(tree: &Tree<Bytes, NodeLocks>, ends: &mut Ends, top: u64)
     requires known { IsKnown tree.now.keyed top }
-    requires ends { AreEnds tree.now.keyed ends.old }
+    requires ends { AreEndsNoted tree.now.keyed ends.old }
     requires in_order { (n : ℕ) → T (is_sorted nat_cmp (locks_at tree.now.keyed n)) }
-    ensures { Forgets tree.now.keyed ends.old ends.new (Under (parent tree.now.keyed) top) }
+    ensures { ForgetsEnds tree.now.keyed ends.old ends.new (Under (parent_number tree.now.keyed) top) }
 {
     let mut node = top;
     // No walk is longer, since it meets each node once.

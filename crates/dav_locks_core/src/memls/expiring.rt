@@ -4,9 +4,9 @@ ghost use Rattle.std.specs.Ordering.{nat_cmp};
 ghost use Rattle.std.specs.FinMap.{find, is_sorted};
 ghost use Rattle.dav_path_core.specs.ChildIndex.{Index, IsIndex};
 ghost use Rattle.dav_path_core.specs.Keyed.{IsKnown, with_item};
-ghost use Rattle.dav_locks_core.specs.Stale.{is_stale};
+ghost use Rattle.dav_locks_core.specs.Stale.{is_stale, without_stale};
 ghost use Rattle.dav_locks_core.specs.Private.LockTree as spec;
-ghost use Rattle.dav_locks_core.specs.Private.Ends.{IsKept};
+ghost use Rattle.dav_locks_core.specs.Private.NotedEnds.{IsNotedTree};
 ghost use Rattle.dav_locks_core.specs.Private.Expiring.{Expires};
 
 use super::NodeLocks;
@@ -26,7 +26,7 @@ pub(super) fn end_stale(
     ends: &mut Ends,
     now: Moment,
 )
-    requires kept { (next : ℕ) × IsKept tree.old.keyed next ends.old }
+    requires kept { (next : ℕ) × IsNotedTree tree.old.keyed next ends.old }
     requires indexed { IsIndex tree.old.keyed index.old }
     ensures expires { Expires tree.old.keyed tree.new.keyed ends.old ends.new now.0 }
     ensures indexed { IsIndex tree.new.keyed index.new }
@@ -65,6 +65,13 @@ fn drop_stale_in(locks: &mut Vec<(u64, DavLock)>, now: Moment)
     ensures { locks.new.items ≡ filter (λ g. not (is_stale now.0 g.1)) locks.old.items }
 {
     locks.retain(|granted| !is_stale(&granted.1, now));
+}
+
+// Drops the copies of locks whose end has come.
+pub(super) fn drop_stale_copies(locks: &mut Vec<DavLock>, now: Moment)
+    ensures { locks.new.items ≡ without_stale now.0 locks.old.items }
+{
+    locks.retain(|lock| !is_stale(lock, now));
 }
 
 // Whether the lock's end has come.

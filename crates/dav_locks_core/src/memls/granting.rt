@@ -2,7 +2,7 @@
 ghost use Rattle.std.specs.Prelude.{◌≡◌, ◌≤◌, ◌<◌, ◌+◌, ◌++◌, ◌∷◌, [], option_map, length, remove, IfOk, IfErr, OnOk, OnErr, string_bytes, string_len, string_capacity, slice_index_or, slice_set};
 ghost use Rattle.dav_path_core.specs.ChildIndex.{Index, IsIndex};
 ghost use Rattle.dav_path_core.specs.Keyed.{IsKnown, with_item};
-ghost use Rattle.dav_locks_core.specs.Locks.{end_of, refreshed};
+ghost use Rattle.dav_locks_core.specs.Locks.{end_of, refreshed_lock};
 ghost use Rattle.dav_locks_core.specs.Tokens.{token_from};
 ghost use Rattle.dav_locks_core.specs.Calls.{lent_text};
 ghost use Rattle.dav_locks_core.specs.Private.LockTree as spec;
@@ -125,7 +125,7 @@ pub(super) fn refreshed_copy(
 ) -> Result<DavLock, AllocError>
     requires { place < length (spec.locks_at tree.now.keyed node) }
     ensures { IfOk result (λ lock. (d : spec.NumberedLock)
-        → lock ≡ refreshed now.0 timeout (slice_index_or (spec.locks_at tree.now.keyed node) place d).1) }
+        → lock ≡ refreshed_lock now.0 timeout (slice_index_or (spec.locks_at tree.now.keyed node) place d).1) }
 {
     let mut lock = copy_at(tree, node, place)?;
     set_timeout(&mut lock, timeout, end_of_timeout(now, timeout));
@@ -144,7 +144,7 @@ pub(super) fn refresh_lock(
     ensures set { (d : spec.NumberedLock) → tree.new.keyed ≡ with_item tree.old.keyed node
         (slice_set (spec.locks_at tree.old.keyed node) place (
           (slice_index_or (spec.locks_at tree.old.keyed node) place d).0,
-          refreshed now.0 timeout (slice_index_or (spec.locks_at tree.old.keyed node) place d).1,
+          refreshed_lock now.0 timeout (slice_index_or (spec.locks_at tree.old.keyed node) place d).1,
         )) }
     ensures indexed { (ix : Index) → IsIndex tree.old.keyed ix → IsIndex tree.new.keyed ix }
 {
@@ -158,7 +158,7 @@ pub(super) fn refresh_lock(
 fn refresh_in(locks: &mut Vec<(u64, DavLock)>, place: usize, timeout: Option<u64>, now: Moment)
     requires { place < length locks.old.items }
     ensures { (d : spec.NumberedLock) → locks.new.items ≡ slice_set locks.old.items place
-        ((slice_index_or locks.old.items place d).0, refreshed now.0 timeout (slice_index_or locks.old.items place d).1) }
+        ((slice_index_or locks.old.items place d).0, refreshed_lock now.0 timeout (slice_index_or locks.old.items place d).1) }
 {
     set_timeout(&mut locks[place].1, timeout, end_of_timeout(now, timeout));
 }

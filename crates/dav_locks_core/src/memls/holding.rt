@@ -2,8 +2,8 @@
 ghost use Rattle.std.specs.Prelude.{◌≡◌, Bool, map, string_bytes, bytes_eq};
 ghost use Rattle.std.specs.List.{list_any};
 ghost use Rattle.dav_locks_core.specs.Lock.{Lock};
-ghost use Rattle.dav_locks_core.specs.Locks.{same_text, held};
-ghost use Rattle.dav_locks_core.specs.Calls.{lent_text, caller};
+ghost use Rattle.dav_locks_core.specs.Locks.{same_text, is_held_by};
+ghost use Rattle.dav_locks_core.specs.Calls.{lent_text, lock_caller};
 
 use crate::ls::DavLock;
 
@@ -55,10 +55,10 @@ impl LockTest for Wanted {
 
 /// The locks that cover the path and are held.
 impl LockTest for Caller<'_> {
-    ghost use Rattle.dav_locks_core.specs.Calls.{caller};
+    ghost use Rattle.dav_locks_core.specs.Calls.{lock_caller};
     ghost use Rattle.dav_locks_core.specs.Private.WayTests.{is_covering_held};
 
-    ghost test = { λ a. is_covering_held (caller a.principal a.ignore_principal a.tokens.now) };
+    ghost test = { λ a. is_covering_held (lock_caller a.principal a.ignore_principal a.tokens.now) };
 
     fn passes(&self, at_path: bool, lock: &DavLock) -> bool {
         (at_path || lock.deep) && is_held(lock, self)
@@ -67,10 +67,10 @@ impl LockTest for Caller<'_> {
 
 /// The locks that cover the path and aren't held.
 impl LockTest for Unheld<'_> {
-    ghost use Rattle.dav_locks_core.specs.Calls.{caller};
+    ghost use Rattle.dav_locks_core.specs.Calls.{lock_caller};
     ghost use Rattle.dav_locks_core.specs.Private.WayTests.{is_covering_unheld};
 
-    ghost test = { λ c. is_covering_unheld (caller c.caller.principal c.caller.ignore_principal c.caller.tokens.now) };
+    ghost test = { λ c. is_covering_unheld (lock_caller c.caller.principal c.caller.ignore_principal c.caller.tokens.now) };
 
     fn passes(&self, at_path: bool, lock: &DavLock) -> bool {
         (at_path || lock.deep) && !is_held(lock, &self.caller)
@@ -90,7 +90,7 @@ impl LockTest for WithToken<'_> {
 
 // Whether the lock's token is submitted, under its principal unless principals are ignored.
 fn is_held(lock: &DavLock, who: &Caller) -> bool
-    ensures { result ≡ held lock.now (caller who.now.principal who.now.ignore_principal who.now.tokens.now) }
+    ensures { result ≡ is_held_by lock.now (lock_caller who.now.principal who.now.ignore_principal who.now.tokens.now) }
 {
     has_token(who.tokens, &lock.token)
         && (who.ignore_principal || is_principal(lock, who.principal))

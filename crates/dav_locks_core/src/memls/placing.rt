@@ -3,9 +3,9 @@ ghost use Rattle.std.specs.Prelude.{◌≡◌, ◌<◌, ℕ, Option, Some, None,
 ghost use Rattle.dav_path_core.specs.Segments.{segments};
 ghost use Rattle.dav_path_core.specs.ChildIndex.{IsIndex};
 ghost use Rattle.dav_path_core.specs.Keyed.{IsKnown, IsTree};
-ghost use Rattle.dav_locks_core.specs.Private.Ends.{Notes, node_of};
+ghost use Rattle.dav_locks_core.specs.Private.NotedEnds.{Notes, noted_node};
 ghost use Rattle.dav_locks_core.specs.Private.LockTree.{is_segment};
-ghost use Rattle.dav_locks_core.specs.Private.Places.{IsPlace, IsLeft};
+ghost use Rattle.dav_locks_core.specs.Private.LockPlaces.{IsPlace, IsPruned};
 ghost use Rattle.dav_locks_core.specs.Private.Pruning.{AllNeeded, NeededBut, SameLocks};
 
 use super::NodeLocks;
@@ -34,11 +34,11 @@ pub(super) fn open_place(
     requires shape { IsTree is_segment tree.old.keyed }
     requires needed { AllNeeded tree.old.keyed }
     requires indexed { IsIndex tree.old.keyed index.old }
-    requires fresh { (k : Option ℕ) (n : ℕ) → node_of ends.old k number ≡ Some n → ⊥ }
+    requires fresh { (k : Option ℕ) (n : ℕ) → noted_node ends.old k number ≡ Some n → ⊥ }
     ensures open { IfOk result (λ n. IsPlace tree.old.keyed tree.new.keyed ends.old ends.new
         (segments path.now.bytes) (option_map (λ m. m.0) end) number n) }
     ensures number { OnOk result (number < 18446744073709551615) }
-    ensures left { OnErr result (IsLeft tree.old.keyed tree.new.keyed ends.old ends.new) }
+    ensures left { OnErr result (IsPruned tree.old.keyed tree.new.keyed ends.old ends.new) }
     ensures error { IfErr result (λ e. e ≡ LockError.OutOfMemory) }
     ensures indexed { IsIndex tree.new.keyed index.new }
 {

@@ -1,7 +1,7 @@
 //! Taking nodes that no lock needs out of the tree of locks.
 ghost use Rattle.std.specs.Prelude.{◌≡◌, ◌⊎◌, ◌≢◌, ℕ, [], true, false, Some, None, MatchOption};
 ghost use Rattle.dav_path_core.specs.ChildIndex.{Index, IsIndex};
-ghost use Rattle.dav_path_core.specs.Keyed.{IsKnown, IsTree, IsCut, parent, has_child, without, with_item};
+ghost use Rattle.dav_path_core.specs.Keyed.{IsKnown, IsTree, IsCut, parent_number, has_child, without_node, with_item};
 ghost use Rattle.dav_locks_core.specs.Private.LockTree.{is_segment};
 ghost use Rattle.dav_locks_core.specs.Private.LockTree as spec;
 ghost use Rattle.dav_locks_core.specs.Private.Pruning.{AllNeeded, NeededBut, SameLocks, Cleared};
@@ -36,8 +36,8 @@ fn take_out(tree: &mut Tree<Bytes, NodeLocks>, index: &mut ChildIndex, node: u64
     ensures taken { MatchOption result
         ((tree.new.keyed ≡ tree.old.keyed)
         × ((node ≡ 1) ⊎ ((spec.locks_at tree.old.keyed node ≢ []) ⊎ (has_child tree.old.keyed node ≡ true))))
-        (λ p. (parent tree.old.keyed node ≡ Some p) × (spec.locks_at tree.old.keyed node ≡ [])
-        × (has_child tree.old.keyed node ≡ false) × (tree.new.keyed ≡ without tree.old.keyed node)) }
+        (λ p. (parent_number tree.old.keyed node ≡ Some p) × (spec.locks_at tree.old.keyed node ≡ [])
+        × (has_child tree.old.keyed node ≡ false) × (tree.new.keyed ≡ without_node tree.old.keyed node)) }
     ensures indexed { IsIndex tree.new.keyed index.new }
 {
     if !locks_at(tree, node).is_empty() {

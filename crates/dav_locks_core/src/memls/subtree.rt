@@ -2,7 +2,7 @@
 ghost use Rattle.std.specs.Prelude.{◌≡◌, true, MatchOption, OnOk, IfErr};
 ghost use Rattle.dav_path_core.specs.Segments.{segments};
 ghost use Rattle.dav_path_core.specs.ChildIndex.{IsIndex};
-ghost use Rattle.dav_path_core.specs.Keyed.{IsKnown, IsTree, parent};
+ghost use Rattle.dav_path_core.specs.Keyed.{IsKnown, IsTree, parent_number};
 ghost use Rattle.dav_path_core.specs.TreeValue.{IsTreeValue, first};
 ghost use Rattle.dav_locks_core.specs.Private.LockTree.{is_segment};
 ghost use Rattle.dav_locks_core.specs.Private.SubtreeWalks.{NoneUnder, StandsUnder, NoneBelow, ShowsBelow};
@@ -31,7 +31,7 @@ pub(super) fn first_child(tree: &Tree<Bytes, NodeLocks>, node: u64) -> Option<u6
 // The parent of a node.
 pub(super) fn parent_of(tree: &Tree<Bytes, NodeLocks>, node: u64) -> Option<u64>
     requires { IsKnown tree.now.keyed node }
-    ensures parent { result ≡ parent tree.now.keyed node }
+    ensures parent { result ≡ parent_number tree.now.keyed node }
     ensures shape { IsTreeValue is_segment tree.now }
 {
     match tree.parent_of(node) {

@@ -1,6 +1,6 @@
 //! The locks, one after another.
 ghost use Rattle.std.specs.Prelude.{◌≡◌};
-ghost use Rattle.dav_locks_core.specs.Private.Walking.{AllStand, locks_by};
+ghost use Rattle.dav_locks_core.specs.Private.LockWalking.{AllThere, locks_by};
 
 use super::NodeLocks;
 use super::way::lock_at;
@@ -24,11 +24,11 @@ impl<'a> Model for MemLsLocks<'a> {
 
     ghost Value = { List Lock };
 
-    ghost use Rattle.dav_locks_core.specs.Private.Walking.{AllStand, locks_by};
+    ghost use Rattle.dav_locks_core.specs.Private.LockWalking.{AllThere, locks_by};
 
     ghost view = { λ w. locks_by w.tree.now.keyed w.nodes };
 
-    ghost invariant = { λ w. AllStand w.tree.now.keyed w.nodes };
+    ghost invariant = { λ w. AllThere w.tree.now.keyed w.nodes };
 }
 
 impl<'a> MemLsLocks<'a> {
@@ -36,7 +36,7 @@ impl<'a> MemLsLocks<'a> {
         tree: &'a Tree<Bytes, NodeLocks>,
         nodes: btree_map::Iter<'a, u64, u64>,
     ) -> Self
-        requires { AllStand tree.now.keyed nodes }
+        requires { AllThere tree.now.keyed nodes }
         ensures { result ≡ locks_by tree.now.keyed nodes.entry }
     {
         MemLsLocks { tree, nodes }

@@ -5,7 +5,7 @@ ghost use Rattle.std.specs.Ordering.{nat_cmp};
 ghost use Rattle.dav_path_core.specs.Segments.{segments};
 ghost use Rattle.dav_path_core.specs.ChildIndex.{IsIndex};
 ghost use Rattle.dav_path_core.specs.Keyed.{IsKnown, IsTree};
-ghost use Rattle.dav_locks_core.specs.Private.LockTree.{NumberedLock, child_at, node_at, is_segment, ShowsAt, Grown};
+ghost use Rattle.dav_locks_core.specs.Private.LockTree.{NumberedLock, child_at, node_below, is_segment, ShowsAt, Grown};
 ghost use Rattle.dav_locks_core.specs.Private.LockTree as spec;
 ghost use Rattle.dav_locks_core.specs.Private.Pruning.{AllNeeded, NeededBut, SameLocks};
 
@@ -78,7 +78,7 @@ pub(super) fn lookup_node(
     path: &DavPath,
 ) -> Option<u64>
     requires { IsIndex tree.now.keyed index.now }
-    ensures { result ≡ node_at tree.now.keyed 1 (segments path.now.bytes) }
+    ensures { result ≡ node_below tree.now.keyed 1 (segments path.now.bytes) }
 {
     lookup_node_ref(tree, index, &path.behind_prefix())
 }
@@ -90,7 +90,7 @@ pub(super) fn lookup_node_ref(
     path: &DavPathRef<'_>,
 ) -> Option<u64>
     requires { IsIndex tree.now.keyed index.now }
-    ensures { result ≡ node_at tree.now.keyed 1 (segments path.now) }
+    ensures { result ≡ node_below tree.now.keyed 1 (segments path.now) }
 {
     let mut node = ROOT_ID;
     for segment in path.segments() {
@@ -279,7 +279,7 @@ pub(super) fn get_or_create_path_node(
     requires needed { AllNeeded tree.old.keyed }
     requires indexed { IsIndex tree.old.keyed index.old }
     ensures same { SameLocks tree.old.keyed tree.new.keyed }
-    ensures node { IfOk result (λ n. (node_at tree.new.keyed 1 (segments path.now.bytes) ≡ Some n)
+    ensures node { IfOk result (λ n. (node_below tree.new.keyed 1 (segments path.now.bytes) ≡ Some n)
         × IsKnown tree.new.keyed n) }
     ensures needed { MatchResult result (λ n. NeededBut tree.new.keyed n) (λ _. AllNeeded tree.new.keyed) }
     ensures error { IfErr result (λ e. e ≡ LockError.OutOfMemory) }

@@ -3,8 +3,8 @@ use Rattle.std.specs.Prelude.{◌≡◌, ℕ, List, flat_map, Option}
 use Rattle.dav_xml_core.specs.Writing.{Writing}
 use Rattle.dav_path_core.specs.Fronts.{Path}
 use Rattle.dav_resource_core.specs.Step.{State}
-use Rattle.dav_methods_core.specs.Finding.{DescribesEach}
-use Rattle.dav_documents_core.specs.Pieces.{with_pieces}
+use Rattle.dav_methods_core.specs.PropfindMethod.{DescribesEach}
+use Rattle.dav_documents_core.specs.Pieces.{and_pieces}
 use Rattle.dav_methods_core.specs.PropertyAnswers.{Describes}
 use Rattle.dav_documents_core.specs.PropertyDocuments.{Description, response_pieces}
 use Rattle.dav_documents_core.specs.PropertyQuestions.{Question}
@@ -14,12 +14,12 @@ pub record TellsOne (prefix : List ℕ) (s : State) (principal : Option (List �
     (question : Question) (p : Path) (was now : Writing) : Type 0 where
   pub resource : Description
   pub described : Describes prefix s p resource
-  pub written : now ≡ with_pieces was (response_pieces prefix principal question resource)
+  pub written : now ≡ and_pieces was (response_pieces prefix principal question resource)
 
 -- of each of the places, in order
 pub record TellsEach (prefix : List ℕ) (s : State) (principal : Option (List ℕ))
     (question : Question) (places : List Path) (was now : Writing) : Type 0 where
   pub resources : List Description
   pub described : DescribesEach prefix s places resources
-  pub written : now ≡ with_pieces was (flat_map (response_pieces prefix principal question)
+  pub written : now ≡ and_pieces was (flat_map (response_pieces prefix principal question)
       resources)

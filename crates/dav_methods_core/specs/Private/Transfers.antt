@@ -8,7 +8,7 @@ use Rattle.dav_resource_core.specs.Step.{State}
 use Rattle.dav_session_core.specs.declared.session.copying.Transfer.{Transfer}
 use Rattle.dav_session_core.specs.Callers.{Caller, as_caller}
 use Rattle.dav_session_core.specs.Clearing.{refusing_clearing}
-use Rattle.dav_session_core.specs.Placing.{target_by}
+use Rattle.dav_methods_core.specs.Placing.{target_by}
 
 -- what is checked before each is made
 abbrev pub checks_of : List Transfer → List Check

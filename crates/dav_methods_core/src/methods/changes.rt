@@ -6,9 +6,9 @@ ghost use Rattle.dav_files_core.specs.declared.memfs.Kind.TheVariants.{Folder};
 ghost use Rattle.dav_files_core.specs.Resources.{IsResourceMap};
 ghost use Rattle.dav_session_core.specs.Callers.{as_caller};
 ghost use Rattle.dav_session_core.specs.Ends.{HasFolder};
-ghost use Rattle.dav_session_core.specs.LocksInTheWay.{IsRefusedBy, by_place, is_below};
+ghost use Rattle.dav_session_core.specs.LocksInTheWay.{IsRefusedBy, by_place, is_lock_below};
 ghost use Rattle.dav_fields_core.specs.Marking.{IsNone};
-ghost use Rattle.dav_session_core.specs.Placing.{target_by};
+ghost use Rattle.dav_methods_core.specs.Placing.{target_by};
 ghost use Rattle.dav_session_core.specs.Sessions.{Looks, caller, live_of, state};
 ghost use Rattle.dav_faults_core.specs.declared.faults.Fault.TheVariants as fault;
 ghost use Rattle.dav_resource_core.specs.Checks.{refusing};
@@ -93,7 +93,7 @@ pub(super) fn by_place(path: &DavPath, fault: Fault) -> Fault
 
 // Whether the second path stands below the first.
 pub(super) fn is_below(path: &DavPath, other: &DavPath) -> bool
-    ensures { result ≡ is_below (segments path.now.bytes) other.now }
+    ensures { result ≡ is_lock_below (segments path.now.bytes) other.now }
 {
     other.behind_prefix().is_at_or_below(path.behind_prefix())
         && !path.behind_prefix().is_at_or_below(other.behind_prefix())

@@ -5,10 +5,11 @@ ghost use Rattle.dav_files_core.specs.Meta.{meta_of};
 ghost use Rattle.dav_files_core.specs.Resources.{IsResourceMap};
 ghost use Rattle.dav_resource_core.specs.Checks.{refusing};
 ghost use Rattle.dav_session_core.specs.Callers.{as_caller};
-ghost use Rattle.dav_session_core.specs.Copying.{Copies, CopyLeaves, FailsToCopy};
+ghost use Rattle.dav_methods_core.specs.CopyMethod.{Copies, CopyLeaves, FailsToCopy};
 ghost use Rattle.dav_session_core.specs.LocksInTheWay.{IsRefusedBy};
-ghost use Rattle.dav_session_core.specs.TransferEnds.{ArePlaces, IsPlanned, LacksPlaces};
-ghost use Rattle.dav_session_core.specs.TransferEnds.{copies_of, copy_target};
+ghost use Rattle.dav_methods_core.specs.TransferEnds.{ArePlaces, LacksPlaces};
+ghost use Rattle.dav_methods_core.specs.CopyMethod.{IsPlanned};
+ghost use Rattle.dav_methods_core.specs.TransferEnds.{copies_of, copy_target};
 ghost use Rattle.dav_methods_core.specs.Private.Transfers.{checks_of};
 ghost use Rattle.dav_session_core.specs.Unhindered.{ends_of, paths_of};
 ghost use Rattle.dav_methods_core.specs.Private.Transfers.{refusing_transfers};
@@ -19,7 +20,7 @@ use super::changes::{by_place, check_locks, done};
 use super::ends::{Ends, ends_of};
 use dav_faults_core::faults::Fault;
 use dav_fields_core::bases::Scheme;
-use dav_fields_core::depths::copy_depth;
+use dav_fields_core::depths::reach_in;
 use dav_resource_core::davpath::DavPath;
 use dav_resource_core::memfs::MemFsMeta;
 use dav_session_core::session::{Session, Transfer, copy_of};
@@ -35,6 +36,7 @@ use std::alloc::Global;
 /// name below the path is one that no path has which is read; `Locked` where a lock stands in the
 /// way, and `MemberLocked` where one below the target does; with the path of that lock.
 /// `InsufficientStorage` may come once some resources are copied.
+#[tactic(auto, using(crate::proofs::Acting::long_requests))]
 pub fn copy<R: Rng>(
     alloc: Global,
     session: &mut Session<R>,
@@ -72,6 +74,7 @@ struct Plan {
     transfers: Vec<Transfer>,
 }
 
+#[tactic(auto, using(crate::proofs::Acting::long_requests))]
 fn planned<R: Rng>(
     alloc: Global,
     session: &mut Session<R>,
@@ -88,7 +91,7 @@ fn planned<R: Rng>(
         (live_of R.stream session.old) (caller session.old) (segments path.now.bytes) e) }
     ensures looks { Looks R.stream session.old session.new }
 {
-    let deep = copy_depth(headers)?;
+    let deep = reach_in(headers)?;
     let Ends {
         target,
         known,
@@ -180,6 +183,7 @@ fn target_of(place: &DavPath, from: &DavPath, to: &DavPath) -> Result<Option<Dav
 }
 
 // Whether the locks let the caller clear the target and write each copy.
+#[tactic(auto, using(crate::proofs::Acting::long_requests))]
 fn check_copy<R: Rng>(
     session: &mut Session<R>,
     to: &DavPath,

@@ -2,7 +2,7 @@
 ghost use Rattle.std.specs.Prelude.{◌≡◌, IfErr, IfOk, OnErr};
 ghost use Rattle.dav_path_core.specs.Segments.{segments};
 ghost use Rattle.dav_files_core.specs.Folders.{is_root};
-ghost use Rattle.dav_session_core.specs.Removing.{FailsToRemove, Removes};
+ghost use Rattle.dav_methods_core.specs.DeleteMethod.{FailsToRemove, Removes};
 ghost use Rattle.dav_session_core.specs.Sessions.{Acts, Stays, caller, live_of, state};
 
 use super::changes::by_place;
@@ -21,6 +21,7 @@ use std::alloc::Global;
 /// `NotFound` where nothing stands there; `BadRequest` where a name below it is one that no path
 /// has which is read; `Locked` where a lock at the path or above it refuses that any of it goes,
 /// and `MemberLocked` where one below it does; with the path of that lock.
+#[tactic(auto, using(crate::proofs::Acting::long_requests))]
 pub fn delete<R: Rng>(
     alloc: Global,
     session: &mut Session<R>,

@@ -2,9 +2,10 @@
 ghost use Rattle.std.specs.Prelude.{◌≡◌, option_map, IfErr, IfOk};
 ghost use Rattle.dav_path_core.specs.Segments.{segments};
 ghost use Rattle.dav_files_core.specs.Meta.{meta_of};
-ghost use Rattle.dav_session_core.specs.Ends.{FailsAtEnds, LeadsOn, is_related};
-ghost use Rattle.dav_session_core.specs.TransferEnds.{AreEnds, FailsToFit, FailsToLead};
-ghost use Rattle.dav_session_core.specs.TransferEnds.{Fits};
+ghost use Rattle.dav_methods_core.specs.TransferEnds.{FailsAtEnds, LeadsOn};
+ghost use Rattle.dav_session_core.specs.Ends.{is_related};
+ghost use Rattle.dav_methods_core.specs.TransferEnds.{AreEnds, FailsToFit, FailsToLead};
+ghost use Rattle.dav_methods_core.specs.TransferEnds.{Fits};
 ghost use Rattle.dav_session_core.specs.Unhindered.{paths_of};
 ghost use Rattle.dav_session_core.specs.Sessions.{Looks, state};
 ghost use Rattle.dav_faults_core.specs.declared.faults.Fault.TheVariants as fault;
@@ -104,6 +105,7 @@ fn is_related(from: &DavPath, to: &DavPath, within: bool) -> bool
 
 // What is known of the target; whether something stands at the source, what stands at the target
 // may be replaced, and a folder stands above it.
+#[tactic(auto, using(crate::proofs::Acting::long_requests))]
 fn check_fit<R: Rng>(
     session: &mut Session<R>,
     from: &DavPath,

@@ -6,7 +6,8 @@ ghost use Rattle.dav_files_core.specs.Meta.{meta_of};
 ghost use Rattle.http_server.specs.Response.{IsBlank};
 ghost use Rattle.dav_fields_core.specs.Fields.{marks_of, sent_of};
 ghost use Rattle.dav_fields_core.specs.FileTags.{standing_as};
-ghost use Rattle.dav_fields_core.specs.Getting.{FailsToGet, Gets, extent_in, tags_by, told};
+ghost use Rattle.dav_methods_core.specs.GetMethod.{FailsToGet, Gets, extent_in, get_outcome};
+ghost use Rattle.dav_fields_core.specs.Getting.{tags_by};
 ghost use Rattle.dav_fields_core.specs.Marking.{HasShownTag, IsNone, IsRead, and_part};
 ghost use Rattle.dav_fields_core.specs.Marking.{and_tags};
 ghost use Rattle.dav_fields_core.specs.Ranges.{part_text, unsatisfied_text};
@@ -89,7 +90,7 @@ fn told(
     size: u64,
     headers: &HeaderMap<HeaderValue>,
 ) -> Result<Option<Extent>, Fault>
-    ensures { result ≡ told method standing.now size headers.now }
+    ensures { result ≡ get_outcome method standing.now size headers.now }
 {
     match read_course(method, standing, headers) {
         None => Err(Fault::BadRequest),

@@ -5,19 +5,19 @@ ghost use Rattle.http_header.specs.FieldValue.{IsFieldValue};
 ghost use Rattle.http_server.specs.Response.{IsBlank};
 ghost use Rattle.dav_path_core.specs.Segments.{segments};
 ghost use Rattle.dav_locks_core.specs.Lock.{Lock};
-ghost use Rattle.dav_locks_core.specs.Locks.{discovered, lock_conflicts};
-ghost use Rattle.dav_fields_core.specs.Fields.{sent_of, bracketed};
+ghost use Rattle.dav_locks_core.specs.Locks.{discovered_locks, lock_conflicts};
+ghost use Rattle.dav_fields_core.specs.Fields.{sent_of, in_brackets};
 ghost use Rattle.dav_session_core.specs.Granting.{granted_lock, with_lock};
 ghost use Rattle.dav_documents_core.specs.LockDocuments.{discovery_pieces};
-ghost use Rattle.dav_methods_core.specs.Locking as locking;
+ghost use Rattle.dav_methods_core.specs.LockMethod as locking;
 ghost use Rattle.dav_documents_core.specs.Pieces.{written_pieces};
 ghost use Rattle.dav_methods_core.specs.Rooms.{FoundRoom, IsConflictAt, IsGrantedNow};
 ghost use Rattle.dav_methods_core.specs.Rooms.{Forgets};
-ghost use Rattle.dav_methods_core.specs.Rooms.{IsMadeUnder, IsReady, IsUnmade, LacksRoom};
+ghost use Rattle.dav_methods_core.specs.Rooms.{IsMadeUnder, IsReadyToLock, IsUnmade, LacksRoom};
 ghost use Rattle.dav_methods_core.specs.Rooms.{LeavesLock, conflict_at, wanted_of};
 ghost use Rattle.dav_documents_core.specs.RefusalBodies.{xml_type};
-ghost use Rattle.dav_fields_core.specs.Refusals.{IsLastMoment};
-ghost use Rattle.dav_methods_core.specs.Asking.{Ran};
+ghost use Rattle.dav_fields_core.specs.RequestRefusals.{IsLastMoment};
+ghost use Rattle.dav_session_core.specs.Sessions.{Ran};
 ghost use Rattle.dav_session_core.specs.Sessions.{Requests};
 ghost use Rattle.dav_session_core.specs.Sessions.{Acts, Looks, Stays, caller, live_of, state};
 ghost use Rattle.dav_faults_core.specs.declared.faults.Fault.TheVariants as fault;
@@ -27,7 +27,7 @@ use crate::refusals::say_document;
 use dav_documents_core::lock_documents::discovery_document;
 use dav_documents_core::lock_infos::{LockInfo, lock_info};
 use dav_faults_core::faults::Fault;
-use dav_fields_core::depths::copy_depth;
+use dav_fields_core::depths::reach_in;
 use dav_fields_core::fields::add_lock_token;
 use dav_fields_core::lock_timeouts::{given_of, timeouts_in};
 use dav_fields_core::state_tokens::is_among;
@@ -107,7 +107,7 @@ fn wanted_in(
     ensures err { IfErr result (λ e. (e ≡ fault.InsufficientStorage)
         ⊎ ((e ≡ fault.BadRequest) × locking.CantBeRead headers.now body.now)) }
 {
-    let deep = copy_depth(headers)?;
+    let deep = reach_in(headers)?;
     let timeouts = timeouts_in(alloc, headers)?;
     let LockInfo { shared, owner } = lock_info(alloc, body)?;
     Ok(Wanted {
@@ -130,6 +130,7 @@ fn check_moment(now: Moment) -> Result<(), Fault>
 }
 
 // Whether nothing stands there; then a file can be made.
+#[tactic(auto, using(crate::proofs::Acting::long_requests))]
 fn find_room<R: Rng>(session: &mut Session<R>, path: &DavPath) -> Result<bool, Fault>
     ensures ok { IfOk result (λ missing. FoundRoom (live_of R.stream session.old)
         (caller session.old) (segments path.now.bytes) missing) }
@@ -159,7 +160,7 @@ fn grant<R: Rng>(
     response: &mut Response,
 ) -> Result<StatusCode, Fault>
     requires blank { IsBlank response.old }
-    requires ready { IsReady (live_of R.stream session.old) (caller session.old) path
+    requires ready { IsReadyToLock (live_of R.stream session.old) (caller session.old) path
         (wanted_of wanted) missing (map string_bytes above.now) }
     ensures done { IfOk result (λ code. (lock : Lock)
         × IsGrantedNow prefix.now (live_of R.stream session.old) (caller session.old) path
@@ -250,12 +251,12 @@ fn finish<R: Rng>(
     response: &mut Response,
 ) -> Result<StatusCode, Fault>
     requires blank { IsBlank response.old }
-    requires value { IsFieldValue (bracketed token.now) }
+    requires value { IsFieldValue (in_brackets token.now) }
     ensures ok { IfOk result (λ status. status ≡ (if missing then 201 else 200)) }
-    ensures named { OnOk result ((sent_of response.new).tokens ≡ bracketed token.now ∷ []) }
+    ensures named { OnOk result ((sent_of response.new).tokens ≡ in_brackets token.now ∷ []) }
     ensures told { OnOk result ((sent_of response.new).body
         ≡ written_pieces (discovery_pieces prefix.now (caller session.old).principal
-        (discovered (live_of R.stream session.old).locks (segments path.now.bytes)))) }
+        (discovered_locks (live_of R.stream session.old).locks (segments path.now.bytes)))) }
     ensures typed { OnOk result ((sent_of response.new).types ≡ xml_type ∷ []) }
     ensures made { OnOk result (IsMadeUnder (state R.stream session.old) (caller session.old)
         token.now (segments path.now.bytes) missing (state R.stream session.new)) }
@@ -277,8 +278,8 @@ fn finish<R: Rng>(
 // Tells of a lock: its token in a header field, and a document.
 fn tell(alloc: Global, response: &mut Response, document: Vec<u8>, token: &str) -> Result<(), Fault>
     requires blank { IsBlank response.old }
-    requires value { IsFieldValue (bracketed token.now) }
-    ensures named { OnOk result ((sent_of response.new).tokens ≡ bracketed token.now ∷ []) }
+    requires value { IsFieldValue (in_brackets token.now) }
+    ensures named { OnOk result ((sent_of response.new).tokens ≡ in_brackets token.now ∷ []) }
     ensures told { OnOk result ((sent_of response.new).body ≡ document.items) }
     ensures typed { OnOk result ((sent_of response.new).types ≡ xml_type ∷ []) }
     ensures err { IfErr result (λ e. e ≡ fault.InsufficientStorage) }

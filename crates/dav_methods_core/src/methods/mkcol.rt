@@ -1,7 +1,7 @@
 //! MKCOL.
 ghost use Rattle.std.specs.Prelude.{IfErr, IfOk, OnErr};
 ghost use Rattle.dav_path_core.specs.Segments.{segments};
-ghost use Rattle.dav_session_core.specs.Making.{FailsToMake, Makes};
+ghost use Rattle.dav_methods_core.specs.MkcolMethod.{FailsToMake, Makes};
 ghost use Rattle.dav_session_core.specs.Sessions.{Acts, Stays, caller, live_of, state};
 
 use dav_faults_core::faults::Fault;
@@ -32,7 +32,7 @@ pub fn mkcol<R: Rng>(
         return Err(Fault::UnsupportedMediaType);
     }
     let known = session.meta(copy_of(&path)?);
-    match session.ask(Command::MkCol { path }) {
+    match session.change(Command::MkCol { path }) {
         Ok(_) => Ok(StatusCode::CREATED),
         Err(refusal) => Err(refused(&known, refusal)),
     }

@@ -3,7 +3,8 @@ ghost use Rattle.std.specs.Prelude.{◌≡◌, [], IfErr, IfOk, OnOk};
 ghost use Rattle.dav_path_core.specs.Segments.{segments};
 ghost use Rattle.dav_files_core.specs.Resources.{IsResourceMap};
 ghost use Rattle.dav_session_core.specs.LocksInTheWay.{IsRefusedBy};
-ghost use Rattle.dav_session_core.specs.Moving.{FailsToMove, MoveLeaves, Moves, refusing_move};
+ghost use Rattle.dav_methods_core.specs.MoveMethod.{FailsToMove, MoveLeaves, Moves};
+ghost use Rattle.dav_session_core.specs.Moving.{refusing_move};
 ghost use Rattle.dav_session_core.specs.Unhindered.{paths_of};
 ghost use Rattle.dav_session_core.specs.Sessions.{Acts, Looks, caller, live_of, state};
 
@@ -26,6 +27,7 @@ use std::alloc::Global;
 /// `Locked` where a lock stands in the way, and `MemberLocked` where one below the path or below
 /// the target does; with the path of that lock. `InsufficientStorage` may come once a folder at the
 /// target is gone.
+#[tactic(auto, using(crate::proofs::Acting::long_requests))]
 pub fn relocate<R: Rng>(
     alloc: Global,
     session: &mut Session<R>,

@@ -6,9 +6,9 @@ ghost use Rattle.dav_path_core.specs.Segments.{segments};
 ghost use Rattle.dav_headers_core.specs.declared.davheaders.depths.Depth.TheVariants as reach;
 ghost use Rattle.dav_files_core.specs.Resources.{at_path};
 ghost use Rattle.dav_xml_core.specs.Views.{writing_of};
-ghost use Rattle.dav_fields_core.specs.Depths.{depth_in};
+ghost use Rattle.dav_fields_core.specs.Reaches.{depth_in};
 ghost use Rattle.dav_fields_core.specs.Fields.{sent_of};
-ghost use Rattle.dav_methods_core.specs.Finding.{DescribesEach, FailsToFind, Finds};
+ghost use Rattle.dav_methods_core.specs.PropfindMethod.{DescribesEach, FailsToFind, Finds};
 ghost use Rattle.dav_documents_core.specs.Pieces.{written_pieces};
 ghost use Rattle.dav_documents_core.specs.QuestionViews.{question_of};
 ghost use Rattle.dav_methods_core.specs.Private.Telling.{TellsEach, TellsOne};
@@ -90,18 +90,17 @@ fn depth_of(finite: bool, headers: &HeaderMap<HeaderValue>) -> Result<Depth, Fau
 // The document that tells of each of the places, where something stands.
 fn tell<R: Rng>(
     alloc: Global,
-    session: &mut Session<R>,
+    session: &Session<R>,
     prefix: &str,
     question: &Question,
     places: &[DavPath],
 ) -> Result<Vec<u8>, Fault>
-    requires { AllStand (state R.stream session.old).map (paths_of places.now) }
+    requires { AllStand (state R.stream session.now).map (paths_of places.now) }
     ensures ok { IfOk result (λ document. (resources : List Description)
-        × DescribesEach prefix.now (live_of R.stream session.old) (paths_of places.now) resources
-        × (document.items ≡ written_pieces (multistatus prefix.now (caller session.old).principal
+        × DescribesEach prefix.now (live_of R.stream session.now) (paths_of places.now) resources
+        × (document.items ≡ written_pieces (multistatus prefix.now (caller session.now).principal
         (question_of question.now) resources))) }
     ensures err { IfErr result (λ e. e ≡ fault.InsufficientStorage) }
-    ensures looks { Looks R.stream session.old session.new }
 {
     let mut writer = Writer::new(alloc);
     begin(&mut writer, "multistatus")?;
@@ -112,18 +111,17 @@ fn tell<R: Rng>(
 
 fn tell_each<R: Rng>(
     alloc: Global,
-    session: &mut Session<R>,
+    session: &Session<R>,
     writer: &mut Writer,
     prefix: &str,
     question: &Question,
     places: &[DavPath],
 ) -> Result<(), Fault>
-    requires { AllStand (state R.stream session.old).map (paths_of places.now) }
-    ensures ok { OnOk result (TellsEach prefix.now (live_of R.stream session.old)
-        (caller session.old).principal (question_of question.now) (paths_of places.now)
+    requires { AllStand (state R.stream session.now).map (paths_of places.now) }
+    ensures ok { OnOk result (TellsEach prefix.now (live_of R.stream session.now)
+        (caller session.now).principal (question_of question.now) (paths_of places.now)
         (writing_of writer.old) (writing_of writer.new)) }
     ensures err { IfErr result (λ e. e ≡ fault.InsufficientStorage) }
-    ensures looks { Looks R.stream session.old session.new }
 {
     for place in places {
         tell_one(alloc, session, writer, prefix, question, place)?;
@@ -133,18 +131,17 @@ fn tell_each<R: Rng>(
 
 fn tell_one<R: Rng>(
     alloc: Global,
-    session: &mut Session<R>,
+    session: &Session<R>,
     writer: &mut Writer,
     prefix: &str,
     question: &Question,
     place: &DavPath,
 ) -> Result<(), Fault>
-    requires { IsSome (at_path (state R.stream session.old).map (segments place.now.bytes)) }
-    ensures ok { OnOk result (TellsOne prefix.now (live_of R.stream session.old)
-        (caller session.old).principal (question_of question.now) (segments place.now.bytes)
+    requires { IsSome (at_path (state R.stream session.now).map (segments place.now.bytes)) }
+    ensures ok { OnOk result (TellsOne prefix.now (live_of R.stream session.now)
+        (caller session.now).principal (question_of question.now) (segments place.now.bytes)
         (writing_of writer.old) (writing_of writer.new)) }
     ensures err { IfErr result (λ e. e ≡ fault.InsufficientStorage) }
-    ensures looks { Looks R.stream session.old session.new }
 {
     let description = describe(alloc, session, prefix, place)?;
     write_response(

@@ -5,8 +5,8 @@ ghost use Rattle.dav_path_core.specs.Segments.{segments};
 ghost use Rattle.dav_files_core.specs.Resources.{at_path};
 ghost use Rattle.dav_session_core.specs.Callers.{refusing_at};
 ghost use Rattle.dav_fields_core.specs.Fields.{sent_of};
-ghost use Rattle.dav_session_core.specs.Patching.{FailsToPatch, Patches};
-ghost use Rattle.dav_session_core.specs.PatchRefusals.{LacksStanding};
+ghost use Rattle.dav_methods_core.specs.ProppatchMethod.{FailsToPatch, Patches};
+ghost use Rattle.dav_methods_core.specs.ProppatchMethod.{LacksStanding};
 ghost use Rattle.dav_session_core.specs.Sessions.{Acts, Looks, Stays, caller, live_of, state};
 
 use crate::refusals::say_document;

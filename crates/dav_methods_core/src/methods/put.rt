@@ -7,10 +7,10 @@ ghost use Rattle.dav_files_core.specs.Meta.{meta_of};
 ghost use Rattle.http_server.specs.Response.{IsBlank};
 ghost use Rattle.dav_fields_core.specs.Fields.{marks_of};
 ghost use Rattle.dav_fields_core.specs.FileTags.{file_tag};
-ghost use Rattle.dav_fields_core.specs.Getting.{tagged};
-ghost use Rattle.dav_session_core.specs.Putting.{FailsToPut, Puts, changes_by, put_course};
-ghost use Rattle.dav_session_core.specs.Putting.{put_status};
-ghost use Rattle.dav_session_core.specs.Placing.{HasPlace, LacksPlace, standing_known};
+ghost use Rattle.dav_fields_core.specs.Getting.{tag_marks};
+ghost use Rattle.dav_methods_core.specs.PutMethod.{FailsToPut, Puts, changes_by, put_course};
+ghost use Rattle.dav_methods_core.specs.PutMethod.{put_status};
+ghost use Rattle.dav_methods_core.specs.Placing.{HasPlace, LacksPlace, standing_known};
 ghost use Rattle.dav_fields_core.specs.Marking.{and_tags};
 ghost use Rattle.dav_fields_core.specs.Preconditions.{course_of};
 ghost use Rattle.dav_session_core.specs.Sessions.{Acts, Looks, Stays, caller, state};
@@ -40,6 +40,7 @@ use std::alloc::Global;
 /// `Locked` where a lock stands in the way; else `MethodNotAllowed` on a folder, and `Conflict`
 /// where there is no folder in which the file could stand; else `BadRequest` where a condition of
 /// HTTP can't be read, and `PreconditionFailed` where one doesn't hold.
+#[tactic(auto, using(crate::proofs::Acting::long_requests))]
 pub fn put<R: Rng>(
     alloc: Global,
     session: &mut Session<R>,
@@ -56,7 +57,7 @@ pub fn put<R: Rng>(
     ensures course { OnOk result (put_course (state R.stream session.old).map (segments path.bytes)
         headers.now ≡ Ok tt) }
     ensures marks { OnOk result (marks_of response.new
-        ≡ tagged (file_tag (caller session.old).now (length bytes) ∷ [])) }
+        ≡ tag_marks (file_tag (caller session.old).now (length bytes) ∷ [])) }
     ensures err { IfErr result (λ e. FailsToPut (state R.stream session.old) (caller session.old)
         (segments path.bytes) bytes headers.now e) }
     ensures refused { OnErr result (Stays R.stream session.old session.new) }
@@ -67,7 +68,7 @@ pub fn put<R: Rng>(
     check_place(session, &path, &known)?;
     check_conditions(alloc, headers, &known)?;
     say_tag(alloc, response, session.now(), bytes.len() as u64)?;
-    match session.ask(Command::Put { path, bytes }) {
+    match session.change(Command::Put { path, bytes }) {
         Ok(_) => Ok(done(&known)),
         Err(refusal) => Err(refused(&known, refusal)),
     }

@@ -3,8 +3,8 @@ ghost use Rattle.std.specs.Prelude.{◌≡◌, ◌∷◌, [], filter, map, strin
 ghost use Rattle.http_server.specs.Response.{IsBlank};
 ghost use Rattle.dav_path_core.specs.Segments.{segments};
 ghost use Rattle.dav_fields_core.specs.Fields.{sent_of};
-ghost use Rattle.dav_session_core.specs.Refreshing as spec_of;
-ghost use Rattle.dav_session_core.specs.OneToken.{NotOne, is_token_of_one};
+ghost use Rattle.dav_methods_core.specs.RefreshMethod as spec_of;
+ghost use Rattle.dav_methods_core.specs.RefreshMethod.{NotOne, is_token_of_one};
 ghost use Rattle.dav_session_core.specs.Sessions.{Requests};
 ghost use Rattle.dav_session_core.specs.Sessions.{Looks, caller, live_of, state};
 
@@ -123,7 +123,7 @@ fn timeout_among(token: &str, locks: &[DavLock]) -> Option<u64>
 
 // Some locks as they are told once the one with the token has another timeout.
 fn retime(locks: &mut [DavLock], token: &str, timeout: Option<u64>)
-    ensures { locks.new ≡ spec_of.retimed token.now timeout locks.old }
+    ensures { locks.new ≡ spec_of.retimed_locks token.now timeout locks.old }
 {
     for lock in locks {
         if lock.token.as_str() == token {

@@ -4,7 +4,7 @@ ghost use Rattle.std.specs.Prelude.{string_bytes};
 ghost use Rattle.dav_path_core.specs.Segments.{segments};
 ghost use Rattle.dav_session_core.specs.Sessions.{Requests};
 ghost use Rattle.dav_session_core.specs.Sessions.{Looks, caller, live_of, state};
-ghost use Rattle.dav_session_core.specs.Unlocking.{FailsToUnlock, IsBracketed, NamesToken, Unlocks};
+ghost use Rattle.dav_methods_core.specs.UnlockMethod.{FailsToUnlock, IsBracketed, NamesToken, Unlocks};
 ghost use Rattle.dav_faults_core.specs.declared.faults.Fault.TheVariants as fault;
 
 use dav_faults_core::faults::Fault;

@@ -3,7 +3,7 @@ use Rattle.std.proofs.Common.{◌≡◌, ◌≢◌, ℕ, ◌==◌, ◌||◌, fal
 use Rattle.std.specs.List.{list_any, IsDistinct, AllByRecursion}
 use Rattle.std.proofs.lemmas.Bool.{cases_eq, eq-eqb, ne_eqb, eqb-true, or_cases, false≢true, true≢false, false_from_ne_true, or_right}
 use Rattle.dav_path_core.specs.Keyed.{IsIn}
-use Rattle.dav_path_core.specs.Private.Chains.{Chain, IsChainOf, Linked}
+use Rattle.dav_path_core.specs.Private.Chains.{AreLinks, IsChainOf, Linked}
 use Rattle.dav_path_core.proofs.trees.Trees.{none≢some, same_some}
 
 -- ---- members
@@ -99,21 +99,21 @@ dropped_distinct n (k ∷ ks) d = elim (cases_eq k n) [
 -- ---- links
 module _ (after before : ℕ → Option ℕ) where
   -- the sibling after a member is a member
-  after_in_chain : (b o : Option ℕ) (ks : List ℕ) → Chain after before b o ks → (n m : ℕ) → IsIn n ks → after n ≡ Some m → IsIn m ks × (before m ≡ Some n)
+  after_in_chain : (b o : Option ℕ) (ks : List ℕ) → AreLinks after before b o ks → (n m : ℕ) → IsIn n ks → after n ≡ Some m → IsIn m ks × (before m ≡ Some n)
   after_in_chain b o [] c n m h e = absurd (false≢true h)
   after_in_chain b o (k ∷ ks) c n m h e = elim (in_cases n k ks h) [
     | inl is ↦ here ks (c.2) is
     | inr later ↦ let r = after_in_chain (Some k) (after k) ks c.2 n m later e in (in_later m k ks r.0, r.1)
   ]
     where
-      here : (ks : List ℕ) → Chain after before (Some k) (after k) ks → n ≡ k → IsIn m (k ∷ ks) × (before m ≡ Some n)
+      here : (ks : List ℕ) → AreLinks after before (Some k) (after k) ks → n ≡ k → IsIn m (k ∷ ks) × (before m ≡ Some n)
       here [] c is = absurd (none≢some m (sym c ∙ ap after (sym is) ∙ e))
       here (j ∷ js) c is =
           let jm : j ≡ m = same_some j m (sym c.0 ∙ ap after (sym is) ∙ e) in
           (in_later m k (j ∷ js) (subst (λ v. IsIn v (j ∷ js)) jm (in_here j js)), subst (λ v. before v ≡ Some n) jm (c.1 ∙ ap (λ (x : ℕ). Some x) (sym is)))
 
   -- so is the one before it, but for the first
-  before_in_chain : (b o : Option ℕ) (ks : List ℕ) → Chain after before b o ks → (n m : ℕ) → IsIn n ks → before n ≡ Some m → ((b ≡ Some m) × (o ≡ Some n)) ⊎ (IsIn m ks × (after m ≡ Some n))
+  before_in_chain : (b o : Option ℕ) (ks : List ℕ) → AreLinks after before b o ks → (n m : ℕ) → IsIn n ks → before n ≡ Some m → ((b ≡ Some m) × (o ≡ Some n)) ⊎ (IsIn m ks × (after m ≡ Some n))
   before_in_chain b o [] c n m h e = absurd (false≢true h)
   before_in_chain b o (k ∷ ks) c n m h e = elim (in_cases n k ks h) [
     | inl is ↦ inl (sym c.1 ∙ ap before (sym is) ∙ e, c.0 ∙ ap (λ (x : ℕ). Some x) (sym is))
@@ -124,12 +124,12 @@ module _ (after before : ℕ → Option ℕ) where
   ]
 
 module _ (after before after' before' : ℕ → Option ℕ) where
-  pub Chain-same : (b o : Option ℕ) (ks : List ℕ) → ((q : ℕ) → IsIn q ks → (after' q ≡ after q) × (before' q ≡ before q)) → Chain after before b o ks → Chain after' before' b o ks
+  pub Chain-same : (b o : Option ℕ) (ks : List ℕ) → ((q : ℕ) → IsIn q ks → (after' q ≡ after q) × (before' q ≡ before q)) → AreLinks after before b o ks → AreLinks after' before' b o ks
   Chain-same b o [] h c = c
   Chain-same b o (k ∷ ks) h c = (
     c.0,
     (h k (in_here k ks)).1 ∙ c.1,
-    subst (λ v. Chain after' before' (Some k) v ks) (sym (h k (in_here k ks)).0) (Chain-same (Some k) (after k) ks (λ q i. h q (in_later q k ks i)) c.2),
+    subst (λ v. AreLinks after' before' (Some k) v ks) (sym (h k (in_here k ks)).0) (Chain-same (Some k) (after k) ks (λ q i. h q (in_later q k ks i)) c.2),
   )
 
   module _ (n : ℕ)
@@ -147,7 +147,7 @@ module _ (after before after' before' : ℕ → Option ℕ) where
     unfolding skip
     skip_other o m e ne = ap skip e ∙ ap (λ b. cond b (after n) (Some m)) (ne_eqb m n ne)
 
-    from_head : (b : Option ℕ) (ks : List ℕ) → before n ≡ b → IsDistinct eqb (n ∷ ks) → ((x : ℕ) → b ≡ Some x → IsIn x ks → ⊥) → Chain after before (Some n) (after n) ks → Chain after' before' b (after n) ks
+    from_head : (b : Option ℕ) (ks : List ℕ) → before n ≡ b → IsDistinct eqb (n ∷ ks) → ((x : ℕ) → b ≡ Some x → IsIn x ks → ⊥) → AreLinks after before (Some n) (after n) ks → AreLinks after' before' b (after n) ks
     from_head b [] e d outside c = c
     from_head b (m ∷ ms) e d outside c =
         let m_in : IsIn m (m ∷ ms) = in_here m ms in
@@ -155,7 +155,7 @@ module _ (after before after' before' : ℕ → Option ℕ) where
         let not_b : (q : ℕ) → IsIn q (m ∷ ms) → before n ≢ Some q = λ q h is. outside q (sym e ∙ is) h in (
           c.0,
           b_skip m mn c.0 ∙ e,
-          subst (λ v. Chain after' before' (Some m) v ms) (sym (a_same m mn (not_b m m_in)))
+          subst (λ v. AreLinks after' before' (Some m) v ms) (sym (a_same m mn (not_b m m_in)))
               (Chain-same (Some m) (after m) ms
               (λ q h.
               let qn : q ≢ n = λ is. none_twice n (m ∷ ms) d (subst (λ v. IsIn v (m ∷ ms)) is (in_later q m ms h)) in (
@@ -165,26 +165,26 @@ module _ (after before after' before' : ℕ → Option ℕ) where
               c.2),
         )
 
-    chain_drop : (b o : Option ℕ) (ks : List ℕ) → Chain after before b o ks → IsDistinct eqb ks → IsIn n ks → ((x : ℕ) → b ≡ Some x → IsIn x ks → ⊥) → Chain after' before' b (skip o) (drop_one n ks)
+    chain_drop : (b o : Option ℕ) (ks : List ℕ) → AreLinks after before b o ks → IsDistinct eqb ks → IsIn n ks → ((x : ℕ) → b ≡ Some x → IsIn x ks → ⊥) → AreLinks after' before' b (skip o) (drop_one n ks)
     chain_drop b o [] c d h outside = absurd (false≢true h)
     chain_drop b o (k ∷ ks) c d h outside = elim (cases_eq k n) [
       | inl is ↦
-          subst (Chain after' before' b (skip o)) (sym (drop_here n k ks is))
-          (subst (λ v. Chain after' before' b v ks) (sym (skip_here o (c.0 ∙ ap (λ (x : ℕ). Some x) is)))
+          subst (AreLinks after' before' b (skip o)) (sym (drop_here n k ks is))
+          (subst (λ v. AreLinks after' before' b v ks) (sym (skip_here o (c.0 ∙ ap (λ (x : ℕ). Some x) is)))
           (from_head b ks (ap before (sym is) ∙ c.1) (subst (λ v. IsDistinct eqb (v ∷ ks)) is d) (λ x e i. outside x e (in_later x k ks i))
-          (subst (λ v. Chain after before (Some v) (after v) ks) is c.2)))
+          (subst (λ v. AreLinks after before (Some v) (after v) ks) is c.2)))
       | inr ne ↦
           let later : IsIn n ks = elim (in_cases n k ks h) [ inl is ↦ absurd (ne (sym is)) | inr i ↦ i ] in
           let away : IsIn k ks → ⊥ = none_twice k ks d in
-          subst (Chain after' before' b (skip o)) (sym (drop_later n k ks ne)) (
+          subst (AreLinks after' before' b (skip o)) (sym (drop_later n k ks ne)) (
             skip_other o k c.0 ne,
             b_same k ne (λ is. away (after_in_chain after before (Some k) (after k) ks c.2 n k later is).0) ∙ c.1,
-            subst (λ v. Chain after' before' (Some k) v (drop_one n ks)) (sym (reach ks c.2 later away ne))
+            subst (λ v. AreLinks after' before' (Some k) v (drop_one n ks)) (sym (reach ks c.2 later away ne))
                 (chain_drop (Some k) (after k) ks c.2 (later_distinct k ks d) later (λ x e i. away (subst (λ v. IsIn v ks) (sym (same_some k x e)) i))),
           )
     ]
       where
-        reach : (ks : List ℕ) → Chain after before (Some k) (after k) ks → IsIn n ks → (IsIn k ks → ⊥) → k ≢ n → after' k ≡ skip (after k)
+        reach : (ks : List ℕ) → AreLinks after before (Some k) (after k) ks → IsIn n ks → (IsIn k ks → ⊥) → k ≢ n → after' k ≡ skip (after k)
         reach [] c later away ne = absurd (false≢true later)
         reach (j ∷ js) c later away ne = elim (cases_eq j n) [
           | inl is ↦ a_skip k ne (ap before (sym is) ∙ c.1) ∙ sym (skip_here (after k) (c.0 ∙ ap (λ (x : ℕ). Some x) is))
@@ -208,20 +208,20 @@ module _ {parent first after before parent' first' after' before' : ℕ → Opti
   head_in : (r m : ℕ) (ks : List ℕ) → IsChainOf parent first after before r ks → first r ≡ Some m → IsIn m ks
   head_in r m ks l e = here ks l.linked
     where
-      here : (ks : List ℕ) → Chain after before None (first r) ks → IsIn m ks
+      here : (ks : List ℕ) → AreLinks after before None (first r) ks → IsIn m ks
       here [] c = absurd (none≢some m (sym c ∙ e))
       here (k ∷ ks) c = subst (λ v. IsIn v (k ∷ ks)) (same_some k m (sym c.0 ∙ e)) (in_here k ks)
 
-  tail : (ks : List ℕ) → IsChainOf parent first after before p ks → Chain after' before' (Some n) (first p) ks
+  tail : (ks : List ℕ) → IsChainOf parent first after before p ks → AreLinks after' before' (Some n) (first p) ks
   tail ks l = here ks l.linked l.once (λ q h. not_n p q ks l h)
     where
-      here : (ks : List ℕ) → Chain after before None (first p) ks → IsDistinct eqb ks → ((q : ℕ) → IsIn q ks → q ≢ n) → Chain after' before' (Some n) (first p) ks
+      here : (ks : List ℕ) → AreLinks after before None (first p) ks → IsDistinct eqb ks → ((q : ℕ) → IsIn q ks → q ≢ n) → AreLinks after' before' (Some n) (first p) ks
       here [] c d ne = c
       here (k ∷ ks) c d ne =
           let kn : k ≢ n = ne k (in_here k ks) in (
             c.0,
             b_old k kn c.0,
-            subst (λ v. Chain after' before' (Some k) v ks) (sym (a_same k kn))
+            subst (λ v. AreLinks after' before' (Some k) v ks) (sym (a_same k kn))
                 (Chain-same after before after' before' (Some k) (after k) ks
                 (λ q h. let qn : q ≢ n = ne q (in_later q k ks h) in (a_same q qn, b_same q qn (λ is. none_twice k ks d (subst (λ v. IsIn v ks) (sym (same_some k q (sym c.0 ∙ is))) h))))
                 c.2),
@@ -229,7 +229,7 @@ module _ {parent first after before parent' first' after' before' : ℕ → Opti
 
   grown : (ks : List ℕ) → IsChainOf parent first after before p ks → IsChainOf parent' first' after' before' p (n ∷ ks)
   grown ks l = record {
-    linked = (f_new, b_new, subst (λ v. Chain after' before' (Some n) v ks) (sym a_new) (tail ks l));
+    linked = (f_new, b_new, subst (λ v. AreLinks after' before' (Some n) v ks) (sym a_new) (tail ks l));
     once = more_distinct n ks (λ h. not_n p n ks l h refl) l.once;
     members = λ m. elim (cases_eq m n) [
       | inl is ↦ (λ h. subst (λ v. parent' v ≡ Some p) (sym is) p_new, λ e. subst (λ v. IsIn v (n ∷ ks)) (sym is) (in_here n ks))
@@ -239,7 +239,7 @@ module _ {parent first after before parent' first' after' before' : ℕ → Opti
 
   kept : (r : ℕ) (ks : List ℕ) → r ≢ p → IsChainOf parent first after before r ks → IsChainOf parent' first' after' before' r ks
   kept r ks rp l = record {
-    linked = subst (λ v. Chain after' before' None v ks) (sym (f_same r rp))
+    linked = subst (λ v. AreLinks after' before' None v ks) (sym (f_same r rp))
         (Chain-same after before after' before' None (first r) ks
         (λ q h. let qn = not_n r q ks l h in (
           a_same q qn,
@@ -268,7 +268,7 @@ module _ {parent first after before parent' first' after' before' : ℕ → Opti
     (f_first : before n ≡ None → first' p ≡ after n) (f_later : (b : ℕ) → before n ≡ Some b → first' p ≡ first p) (f_same : (q : ℕ) → q ≢ p → first' q ≡ first q)
     (a_skip : (k : ℕ) → k ≢ n → before n ≡ Some k → after' k ≡ after n) (a_same : (k : ℕ) → k ≢ n → before n ≢ Some k → after' k ≡ after k)
     (b_skip : (k : ℕ) → k ≢ n → after n ≡ Some k → before' k ≡ before n) (b_same : (k : ℕ) → k ≢ n → after n ≢ Some k → before' k ≡ before k) where
-  starts : (ks : List ℕ) → Chain after before None (first p) ks → IsDistinct eqb ks → IsIn n ks → first' p ≡ skip after before after' before' n a_skip a_same b_skip b_same (first p)
+  starts : (ks : List ℕ) → AreLinks after before None (first p) ks → IsDistinct eqb ks → IsIn n ks → first' p ≡ skip after before after' before' n a_skip a_same b_skip b_same (first p)
   starts [] c d h = absurd (false≢true h)
   starts (k ∷ ks) c d h = elim (cases_eq k n) [
     | inl is ↦ f_first (ap before (sym is) ∙ c.1) ∙ sym (skip_here after before after' before' n a_skip a_same b_skip b_same (first p) (c.0 ∙ ap (λ (x : ℕ). Some x) is))
@@ -278,7 +278,7 @@ module _ {parent first after before parent' first' after' before' : ℕ → Opti
         f_later w.0 w.1 ∙ c.0 ∙ sym (skip_other after before after' before' n a_skip a_same b_skip b_same (first p) k c.0 ne)
   ]
     where
-      has_before : (b o : Option ℕ) (ks : List ℕ) → Chain after before b o ks → (k : ℕ) → b ≡ Some k → IsIn n ks → (m : ℕ) × (before n ≡ Some m)
+      has_before : (b o : Option ℕ) (ks : List ℕ) → AreLinks after before b o ks → (k : ℕ) → b ≡ Some k → IsIn n ks → (m : ℕ) × (before n ≡ Some m)
       has_before b o [] c k e h = absurd (false≢true h)
       has_before b o (j ∷ js) c k e h = elim (in_cases n j js h) [ inl is ↦ (k, ap before is ∙ c.1 ∙ e) | inr later ↦ has_before (Some j) (after j) js c.2 j refl later ]
 
@@ -286,7 +286,7 @@ module _ {parent first after before parent' first' after' before' : ℕ → Opti
   lessened ks l =
       let here : IsIn n ks = (l.members n).1 child in
       record {
-        linked = subst (λ v. Chain after' before' None v (drop_one n ks)) (sym (starts ks l.linked l.once here))
+        linked = subst (λ v. AreLinks after' before' None v (drop_one n ks)) (sym (starts ks l.linked l.once here))
             (chain_drop after before after' before' n a_skip a_same b_skip b_same None (first p) ks l.linked l.once here (λ x e i. none≢some x e));
         once = dropped_distinct n ks l.once;
         members = λ m. elim (cases_eq m n) [
@@ -302,7 +302,7 @@ module _ {parent first after before parent' first' after' before' : ℕ → Opti
       let apart : (q : ℕ) → IsIn q ks → IsIn q lp.0 → ⊥ = λ q h i. rp (same_some r p (sym ((l.members q).0 h) ∙ (lp.1.members q).0 i)) in
       let not_n : (q : ℕ) → IsIn q ks → q ≢ n = λ q h is. apart q h (subst (λ v. IsIn v lp.0) (sym is) here) in
       record {
-        linked = subst (λ v. Chain after' before' None v ks) (sym (f_same r rp))
+        linked = subst (λ v. AreLinks after' before' None v ks) (sym (f_same r rp))
             (Chain-same after before after' before' None (first r) ks
             (λ q h. (
               a_same q (not_n q h) (λ is. elim (before_in_chain after before None (first p) lp.0 lp.1.linked n q here is) [ inl i ↦ none≢some q i.0 | inr i ↦ apart q h i.0 ]),
@@ -329,7 +329,7 @@ module _ {parent first after before : ℕ → Option ℕ} (linked : Linked paren
   pub first_child_of : (p m : ℕ) → first p ≡ Some m → (parent m ≡ Some p) × (before m ≡ None)
   first_child_of p m e = let l = linked.listed p in here l.0 l.1.linked (λ q h. (l.1.members q).0 h)
     where
-      here : (ks : List ℕ) → Chain after before None (first p) ks → ((q : ℕ) → IsIn q ks → parent q ≡ Some p) → (parent m ≡ Some p) × (before m ≡ None)
+      here : (ks : List ℕ) → AreLinks after before None (first p) ks → ((q : ℕ) → IsIn q ks → parent q ≡ Some p) → (parent m ≡ Some p) × (before m ≡ None)
       here [] c up = absurd (none≢some m (sym c ∙ e))
       here (k ∷ ks) c up = let is : k ≡ m = same_some k m (sym c.0 ∙ e) in (subst (λ v. parent v ≡ Some p) is (up k (in_here k ks)), ap before (sym is) ∙ c.1)
 
@@ -337,7 +337,7 @@ module _ {parent first after before : ℕ → Option ℕ} (linked : Linked paren
   pub no_child : (p : ℕ) → first p ≡ None → (m : ℕ) → parent m ≡ Some p → ⊥
   no_child p e m h = let l = linked.listed p in here l.0 l.1.linked ((l.1.members m).1 h)
     where
-      here : (ks : List ℕ) → Chain after before None (first p) ks → IsIn m ks → ⊥
+      here : (ks : List ℕ) → AreLinks after before None (first p) ks → IsIn m ks → ⊥
       here [] c i = false≢true i
       here (k ∷ ks) c i = none≢some k (sym e ∙ c.0)
 

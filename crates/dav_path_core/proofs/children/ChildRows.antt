@@ -6,9 +6,9 @@ use Rattle.std.specs.FinMap.{FinMap, get, insert, empty, get-empty, get-insert}
 use Rattle.std.specs.List.{list_any, IsDistinct}
 use Rattle.std.proofs.lemmas.Bool.{false≢true, ne_eqb}
 use Rattle.std.proofs.lemmas.List.Elements.{All-nil, All-cons, All-head}
-use Rattle.dav_path_core.specs.Keyed.{Entry, parent_and_key, parent}
+use Rattle.dav_path_core.specs.Keyed.{Entry, parent_and_key, parent_number}
 use Rattle.dav_path_core.specs.TreeValue.{TreeValue, Links, Siblings, done, more, first, after, IsChildList}
-use Rattle.dav_path_core.specs.Children.{IsNamed, ListsChildren}
+use Rattle.dav_path_core.specs.Children.{IsChildNamed, ListsChildren}
 use Rattle.dav_path_core.proofs.trees.Trees.{same_some, none≢some}
 
 abbrev node : Option (ℕ × ℕ) → Entry ℕ ℕ
@@ -59,22 +59,22 @@ parent_and_key_of_two = simp literals
 parent_and_key_of_three : parent_and_key tree.keyed 3 ≡ Some (1, 8)
 parent_and_key_of_three = simp literals
 
-parent_of_zero : parent tree.keyed 0 ≡ None
+parent_of_zero : parent_number tree.keyed 0 ≡ None
 parent_of_zero = simp literals
 
-parent_of_root : parent tree.keyed 1 ≡ None
+parent_of_root : parent_number tree.keyed 1 ≡ None
 parent_of_root = simp literals
 
-parent_of_two : parent tree.keyed 2 ≡ Some 1
+parent_of_two : parent_number tree.keyed 2 ≡ Some 1
 parent_of_two = simp literals
 
-parent_of_three : parent tree.keyed 3 ≡ Some 1
+parent_of_three : parent_number tree.keyed 3 ≡ Some 1
 parent_of_three = simp literals
 
-parent_of_four : parent tree.keyed 4 ≡ Some 2
+parent_of_four : parent_number tree.keyed 4 ≡ Some 2
 parent_of_four = simp literals
 
-parent_of_others : (n : ℕ) → parent tree.keyed (suc (suc (suc (suc (suc n))))) ≡ None
+parent_of_others : (n : ℕ) → parent_number tree.keyed (suc (suc (suc (suc (suc n))))) ≡ None
 parent_of_others n =
     let above = suc (suc (suc (suc (suc n)))) in
     let not_4 = apart above 4 (λ e. absurd (omega (arith, e))) in
@@ -90,7 +90,7 @@ outside n =
     let not_2 = ne_eqb above 2 (λ e. absurd (omega (arith, e))) in
     ap (λ b. b || list_any (eqb above) (2 ∷ [])) not_3 ∙ ap (λ b. b || false) not_2
 
-members : (n : ℕ) → (list_any (eqb n) (3 ∷ 2 ∷ []) ≡ true) ↔ (parent tree.keyed n ≡ Some 1)
+members : (n : ℕ) → (list_any (eqb n) (3 ∷ 2 ∷ []) ≡ true) ↔ (parent_number tree.keyed n ≡ Some 1)
 members zero = (λ h. absurd (false≢true h), λ e. absurd (none≢some 1 (sym parent_of_zero ∙ e)))
 members (suc zero) = (λ h. absurd (false≢true h), λ e. absurd (none≢some 1 (sym parent_of_root ∙ e)))
 members (suc (suc zero)) = (λ _. parent_of_two, λ _. refl)
@@ -114,8 +114,8 @@ children = record {
 listed : ListsChildren eqb tree 1 ((8, 3) ∷ (7, 2) ∷ [])
 listed = record {
   listed = children;
-  named = All-cons (IsNamed eqb tree 1) (8, 3) ((7, 2) ∷ []) (8, parent_and_key_of_three, refl)
-      (All-cons (IsNamed eqb tree 1) (7, 2) [] (7, parent_and_key_of_two, refl) (All-nil (IsNamed eqb tree 1)));
+  named = All-cons (IsChildNamed eqb tree 1) (8, 3) ((7, 2) ∷ []) (8, parent_and_key_of_three, refl)
+      (All-cons (IsChildNamed eqb tree 1) (7, 2) [] (7, parent_and_key_of_two, refl) (All-nil (IsChildNamed eqb tree 1)));
 }
 
 -- a child left out
@@ -134,5 +134,5 @@ not_twice l = false≢true (sym l.listed.once.1.0.0)
 -- a child under another's key
 not_misnamed : ¬ ListsChildren eqb tree 1 ((7, 3) ∷ (7, 2) ∷ [])
 not_misnamed l =
-    let n = All-head (IsNamed eqb tree 1) (7, 3) ((7, 2) ∷ []) l.named in
+    let n = All-head (IsChildNamed eqb tree 1) (7, 3) ((7, 2) ∷ []) l.named in
     false≢true (subst (λ k. eqb k 7 ≡ true) (sym (ap (λ (q : ℕ × ℕ). q.1) (same_some (1, 8) (1, n.0) (sym parent_and_key_of_three ∙ n.1)))) n.2)

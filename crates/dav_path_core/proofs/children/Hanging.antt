@@ -4,10 +4,10 @@ use Rattle.std.specs.Cmp.{IsEquivalence}
 use Rattle.std.specs.Option.{option_map}
 use Rattle.std.proofs.lemmas.Bool.{cases_eq}
 use Rattle.dav_path_core.specs.declared.tree.Node.{Node}
-use Rattle.dav_path_core.specs.Keyed.{Keyed, parent_and_key, parent_and_key_of, child, add, cut, is_under, placed, IsKnown, IsTree}
+use Rattle.dav_path_core.specs.Keyed.{Keyed, parent_and_key, parent_and_key_of, child, add, without_subtree, is_under, with_new_place, IsKnown, IsTree}
 use Rattle.dav_path_core.specs.TreeValue.{TreeValue}
 use Rattle.dav_path_core.specs.View.{entry_of, keyed_of, tree_value_of}
-use Rattle.dav_path_core.specs.Private.Nodes.{node_at, first_in, IsLinked, new_node, with_node, put_before, with_parent_and_key, with_parent, closed_up, led_on}
+use Rattle.dav_path_core.specs.Private.Nodes.{node_numbered, first_in, IsLinked, new_node, with_node_at, put_before, with_parent_and_key, with_parent, closed_up, led_on}
 use Rattle.dav_path_core.proofs.trees.Trees.{none≢some, next_positive}
 use Rattle.dav_path_core.proofs.children.Views.{get-seen, known-view, changed-here, changed-other}
 use Rattle.dav_path_core.proofs.children.Links.{next_unused, keyed-added, IsLinked-added, back_entry}
@@ -48,10 +48,10 @@ module _ {K D : Type 0} where
 
   module _ (eq : K → K → Bool) (laws : IsEquivalence eq) (es fs gs : List (ℕ × Node K D)) (next p : ℕ) (k : K) (d : D) (c : ℕ) (linked : IsLinked eq es next)
       (s : TreeValue K D) (view : tree_value_of es next ≡ s) (known_s : IsKnown s.keyed p) (taken_s : child (eq k) s.keyed p ≡ Some c)
-      (is_put : node_at fs ≡ put_before (with_node (node_at es) next (Some (new_node p k d (first_in (node_at es) p)))) p next (first_in (node_at es) p))
-      (is_hung : (x : Node K D) (r : ℕ) (l : K) → Some x ≡ node_at fs c → x.parent_and_key ≡ Some (r, l)
-      → node_at gs ≡ put_before (with_parent_and_key (closed_up (node_at fs) p x.previous_sibling x.next_sibling) c next l (first_in (closed_up (node_at fs) p x.previous_sibling x.next_sibling) next)) next c
-      (first_in (closed_up (node_at fs) p x.previous_sibling x.next_sibling) next)) where
+      (is_put : node_numbered fs ≡ put_before (with_node_at (node_numbered es) next (Some (new_node p k d (first_in (node_numbered es) p)))) p next (first_in (node_numbered es) p))
+      (is_hung : (x : Node K D) (r : ℕ) (l : K) → Some x ≡ node_numbered fs c → x.parent_and_key ≡ Some (r, l)
+      → node_numbered gs ≡ put_before (with_parent_and_key (closed_up (node_numbered fs) p x.previous_sibling x.next_sibling) c next l (first_in (closed_up (node_numbered fs) p x.previous_sibling x.next_sibling) next)) next c
+      (first_in (closed_up (node_numbered fs) p x.previous_sibling x.next_sibling) next)) where
     abbrev t : Keyed K D
     t = keyed_of es next
 
@@ -62,18 +62,18 @@ module _ {K D : Type 0} where
     taken = subst (λ u. child (eq k) u.keyed p ≡ Some c) (sym view) taken_s
 
     abbrev v : Node K D
-    v = new_node p k d (first_in (node_at es) p)
+    v = new_node p k d (first_in (node_numbered es) p)
 
     loose : IsLinked never es next
     loose = record { tree = IsTree-never eq t linked.tree; chained = linked.chained; root_alone = linked.root_alone }
 
-    unused : node_at es next ≡ None
+    unused : node_numbered es next ≡ None
     unused = next_unused never es next loose.tree
 
     positive : 0 < next
     positive = next_positive never t loose.tree
 
-    known_node : IsSome (node_at es p)
+    known_node : IsSome (node_numbered es p)
     known_node = sym (known-view es next p) ∙ known
 
     linked1 : IsLinked never fs (next + 1)
@@ -86,8 +86,8 @@ module _ {K D : Type 0} where
     abbrev l : K
     l = (found eq laws t p k d linked.tree known c taken).0
 
-    node_old : (x : Node K D) × (Some x ≡ node_at fs c) × (x.parent_and_key ≡ Some (p, l))
-    node_old = node_placed (node_at fs c) (p, l) (ap parent_and_key_of (sym (get-seen entry_of fs c)) ∙ ap (λ u. parent_and_key u c) keyed1 ∙ old_parent_and_key_added eq laws t p k d linked.tree known c taken)
+    node_old : (x : Node K D) × (Some x ≡ node_numbered fs c) × (x.parent_and_key ≡ Some (p, l))
+    node_old = node_placed (node_numbered fs c) (p, l) (ap parent_and_key_of (sym (get-seen entry_of fs c)) ∙ ap (λ u. parent_and_key u c) keyed1 ∙ old_parent_and_key_added eq laws t p k d linked.tree known c taken)
 
     tree1 : IsTree never (add t p k d)
     tree1 = subst (IsTree never) keyed1 linked1.tree
@@ -106,7 +106,7 @@ module _ {K D : Type 0} where
 
     keyed2 : keyed_of gs (next + 1) ≡ over eq laws t p k d linked.tree known c taken
     keyed2 = keyed-placed never never-symm fs gs (next + 1) c next p l l node_old.0 linked1 known1 over_not_root outside1 (child-never l (keyed_of fs (next + 1)) next) node_old.1 node_old.2 (is_hung node_old.0 p l node_old.1 node_old.2)
-        ∙ ap (λ u. placed u c next l) keyed1
+        ∙ ap (λ u. with_new_place u c next l) keyed1
 
     tree2 : IsTree never (over eq laws t p k d linked.tree known c taken)
     tree2 = subst (IsTree never) keyed2 linked2.tree
@@ -122,5 +122,5 @@ module _ {K D : Type 0} where
     known-over = subst (λ u. IsKnown u c) (sym keyed2) (old_known_over eq laws t p k d linked.tree known c taken tree2)
 
     -- what is left when the old one is cut
-    pub keyed-over : cut (keyed_of gs (next + 1)) c ≡ add (cut s.keyed c) p k d
-    keyed-over = ap (λ u. cut u c) keyed2 ∙ cut-over eq laws t p k d linked.tree known c taken tree2 ∙ ap (λ u. add (cut u.keyed c) p k d) view
+    pub keyed-over : without_subtree (keyed_of gs (next + 1)) c ≡ add (without_subtree s.keyed c) p k d
+    keyed-over = ap (λ u. without_subtree u c) keyed2 ∙ cut-over eq laws t p k d linked.tree known c taken tree2 ∙ ap (λ u. add (without_subtree u.keyed c) p k d) view

@@ -5,16 +5,16 @@ use Rattle.std.specs.HashMap.{HashMap, Updates, WritesThrough}
 use Rattle.std.proofs.lemmas.Bool.{cases_eq, false≢true}
 use Rattle.dav_path_core.specs.declared.errors.FsError.TheVariants.{NotFound}
 use Rattle.dav_path_core.specs.declared.tree.Node.{Node}
-use Rattle.dav_path_core.specs.Keyed.{Entry, entry, parent_and_key, parent_and_key_of, parent, child, add_as, IsKnown, IsTree}
+use Rattle.dav_path_core.specs.Keyed.{Entry, entry, parent_and_key, parent_and_key_of, parent_number, child, add_as, IsKnown, IsTree}
 use Rattle.dav_path_core.specs.TreeValue.{TreeValue, Siblings, done, more, IsTreeValue, if_known, first, after, links_first, links_after}
-use Rattle.dav_path_core.specs.Private.Chains.{Chain, Linked}
+use Rattle.dav_path_core.specs.Private.Chains.{AreLinks, Linked}
 use Rattle.dav_path_core.specs.View.{entry_of, links_of, keyed_of, tree_value_of}
-use Rattle.dav_path_core.specs.Private.Nodes.{node_at, parent_in, first_in, next_in, previous_in, previous_of, IsChained, IsLinked, with_node, changed, with_first, with_next, with_previous, led_back, put_before}
+use Rattle.dav_path_core.specs.Private.Nodes.{node_numbered, parent_in, first_in, next_in, previous_in, previous_of, IsChained, IsLinked, with_node_at, with_change_at, with_first_child, with_next, with_previous, led_back, put_before}
 use Rattle.dav_path_core.proofs.trees.Trees.{none≢some, none_from_is_some, same_some, known_from_parent, no_next, IsTree-add_as, IsTree-lone, IsTree-with_item}
 use Rattle.dav_path_core.proofs.children.Chains.{no_distinct, Linked-put, first_child_of}
 use Rattle.dav_path_core.proofs.children.Views.{Hasher, with_node-here, with_node-other, get-seen, known-view, entry-view, changed-here, changed-other, changed-keeps, view-add, view-lone, node_at-updated, mapped-some, view-write, write-keeps}
 
-siblings : (after before : ℕ → Option ℕ) (b o : Option ℕ) (ks : List ℕ) → Chain after before b o ks → Siblings after o ks
+siblings : (after before : ℕ → Option ℕ) (b o : Option ℕ) (ks : List ℕ) → AreLinks after before b o ks → Siblings after o ks
 siblings after before b o [] c = subst (λ v. Siblings after v []) (sym c) done
 siblings after before b o (k ∷ ks) c = subst (λ v. Siblings after v (k ∷ ks)) (sym c.0) (more (siblings after before (Some k) (after k) ks c.2))
 
@@ -23,13 +23,13 @@ first_of None h = absurd (false≢true h)
 first_of (Some m) h = (m, refl)
 
 module _ {K D : Type 0} where
-  pub parent-view : (es : List (ℕ × Node K D)) (next : ℕ) → parent (keyed_of es next) ≡ parent_in (node_at es)
+  pub parent-view : (es : List (ℕ × Node K D)) (next : ℕ) → parent_number (keyed_of es next) ≡ parent_in (node_numbered es)
   parent-view es next = λ i q. option_map (λ w. w.0) (parent_and_key_of (get-seen entry_of es q i))
 
-  pub first-view : (es : List (ℕ × Node K D)) (next : ℕ) → first (tree_value_of es next) ≡ first_in (node_at es)
+  pub first-view : (es : List (ℕ × Node K D)) (next : ℕ) → first (tree_value_of es next) ≡ first_in (node_numbered es)
   first-view es next = λ i q. links_first (get-seen links_of es q i)
 
-  pub after-view : (es : List (ℕ × Node K D)) (next : ℕ) → after (tree_value_of es next) ≡ next_in (node_at es)
+  pub after-view : (es : List (ℕ × Node K D)) (next : ℕ) → after (tree_value_of es next) ≡ next_in (node_numbered es)
   after-view es next = λ i q. links_after (get-seen links_of es q i)
 
   -- what callers may know of a tree
@@ -40,7 +40,7 @@ module _ {K D : Type 0} where
       l.0,
       record {
         linked = subst (λ f. Siblings f (first (tree_value_of es next) p) l.0) (sym (after-view es next))
-            (subst (λ f. Siblings (next_in (node_at es)) (f p) l.0) (sym (first-view es next)) (siblings _ _ None _ l.0 l.1.linked));
+            (subst (λ f. Siblings (next_in (node_numbered es)) (f p) l.0) (sym (first-view es next)) (siblings _ _ None _ l.0 l.1.linked));
         once = l.1.once;
         members = λ n. ((λ h. ap (λ f. f n) (parent-view es next) ∙ (l.1.members n).0 h), (λ e. (l.1.members n).1 (sym (ap (λ f. f n) (parent-view es next)) ∙ e)));
       },
@@ -54,16 +54,16 @@ module _ {K D : Type 0} where
 
   -- ---- what is told of a number
   module _ (es : List (ℕ × Node K D)) (next : ℕ) (t : TreeValue K D) (view : tree_value_of es next ≡ t) (n : ℕ) where
-    pub tells_none : None ≡ node_at es n → {X : Type 0} (y : X) → None ≡ if_known t n y
+    pub tells_none : None ≡ node_numbered es n → {X : Type 0} (y : X) → None ≡ if_known t n y
     tells_none at y = sym (ap (λ t. if_known t n y) (sym view) ∙ ap (option_map (λ _. y)) (entry-view es next n None at))
 
-    pub told_nowhere : None ≡ node_at es n → {X : Type 0} (y : X) → Err NotFound ≡ ok_or (if_known t n y) NotFound
+    pub told_nowhere : None ≡ node_numbered es n → {X : Type 0} (y : X) → Err NotFound ≡ ok_or (if_known t n y) NotFound
     told_nowhere at y = ap (λ o. ok_or o NotFound) (tells_none at y)
 
-    pub nothing_there : entry t.keyed n ≡ None → node_at es n ≡ None
-    nothing_there h = none_from_is_some (node_at es n) (sym (known-view es next n) ∙ ap (λ t. is_some (entry t.keyed n)) view ∙ ap is_some h)
+    pub nothing_there : entry t.keyed n ≡ None → node_numbered es n ≡ None
+    nothing_there h = none_from_is_some (node_numbered es n) (sym (known-view es next n) ∙ ap (λ t. is_some (entry t.keyed n)) view ∙ ap is_some h)
 
-    module _ (x : Node K D) (at : Some x ≡ node_at es n) where
+    module _ (x : Node K D) (at : Some x ≡ node_numbered es n) where
       pub known : {X : Type 0} (y : X) → Some y ≡ if_known t n y
       known y = sym (ap (λ t. if_known t n y) (sym view) ∙ ap (option_map (λ _. y)) (entry-view es next n (Some x) at))
 
@@ -80,10 +80,10 @@ module _ {K D : Type 0} where
       pub parent_and_key-told : parent_and_key t.keyed n ≡ x.parent_and_key
       parent_and_key-told = ap (λ t. parent_and_key t.keyed n) (sym view) ∙ ap parent_and_key_of (entry-view es next n (Some x) at)
 
-  pub next_unused : (eq : K → K → Bool) (es : List (ℕ × Node K D)) (next : ℕ) → IsTree eq (keyed_of es next) → node_at es next ≡ None
+  pub next_unused : (eq : K → K → Bool) (es : List (ℕ × Node K D)) (next : ℕ) → IsTree eq (keyed_of es next) → node_numbered es next ≡ None
   next_unused eq es next tree = nothing_there es next (tree_value_of es next) refl next (no_next eq (keyed_of es next) tree)
 
-  pub root_known : (eq : K → K → Bool) (es : List (ℕ × Node K D)) (next : ℕ) → IsLinked eq es next → (n : ℕ) → n ≡ 1 → None ≡ node_at es n → ⊥
+  pub root_known : (eq : K → K → Bool) (es : List (ℕ × Node K D)) (next : ℕ) → IsLinked eq es next → (n : ℕ) → n ≡ 1 → None ≡ node_numbered es n → ⊥
   root_known eq es next linked n e none = false≢true (ap is_some none ∙ sym (known-view es next n) ∙ subst (IsKnown (keyed_of es next)) (sym e) linked.tree.root.0)
 
   -- ---- a write of an item
@@ -94,20 +94,20 @@ module _ {K D : Type 0} where
       (subst (λ f. Linked (parent_in at) (first_in at) f (previous_in at')) (λ i q. sym (h (λ o. links_after (option_map links_of o)) (λ n w. refl) q) i)
       (subst (λ f. Linked (parent_in at) (first_in at) (next_in at) f) (λ i q. sym (h previous_of (λ n w. refl) q) i) chained)))
 
-  pub IsLinked-write : (eq : K → K → Bool) (m n : HashMap ℕ (Node K D) Hasher) (next k : ℕ) (v : Node K D) (w : D) → Some v ≡ node_at m.entries k → WritesThrough nat_eq (nat_eq k) m (record v { item = w }) n → IsLinked eq m.entries next → IsLinked eq n.entries next
+  pub IsLinked-write : (eq : K → K → Bool) (m n : HashMap ℕ (Node K D) Hasher) (next k : ℕ) (v : Node K D) (w : D) → Some v ≡ node_numbered m.entries k → WritesThrough nat_eq (nat_eq k) m (record v { item = w }) n → IsLinked eq m.entries next → IsLinked eq n.entries next
   IsLinked-write eq m n next k v w at h linked =
-      let keeps : (f : Option (Node K D) → Option ℕ) → ((x : Node K D) (d : D) → f (Some (record x { item = d })) ≡ f (Some x)) → (q : ℕ) → f (node_at n.entries q) ≡ f (node_at m.entries q) =
+      let keeps : (f : Option (Node K D) → Option ℕ) → ((x : Node K D) (d : D) → f (Some (record x { item = d })) ≡ f (Some x)) → (q : ℕ) → f (node_numbered n.entries q) ≡ f (node_numbered m.entries q) =
       λ f e. write-keeps m n next k v w at h f (e v w) in
       record {
         tree = subst (IsTree eq) (sym (view-write m n next k v w at h)) (IsTree-with_item eq (keyed_of m.entries next) k w linked.tree);
-        chained = same_chained (node_at m.entries) (node_at n.entries) keeps linked.chained;
+        chained = same_chained (node_numbered m.entries) (node_numbered n.entries) keeps linked.chained;
         root_alone = keeps (λ o. links_after (option_map links_of o)) (λ x d. refl) 1 ∙ linked.root_alone;
       }
 
   -- ---- a root alone
   pub IsLinked-lone : (eq : K → K → Bool) (m n : HashMap ℕ (Node K D) Hasher) (v : Node K D) → m.entries ≡ [] → v.parent_and_key ≡ None → v.first_child ≡ None → v.next_sibling ≡ None → Updates nat_eq m n 1 (Some v) → IsLinked eq n.entries 2
   IsLinked-lone eq m n v nil at first_none after_none h =
-      let is : node_at n.entries ≡ with_node (λ _. None) 1 (Some v) = node_at-updated m n 1 (Some v) h ∙ ap (λ (es : List (ℕ × Node K D)). with_node (node_at es) 1 (Some v)) nil in
+      let is : node_numbered n.entries ≡ with_node_at (λ _. None) 1 (Some v) = node_at-updated m n 1 (Some v) h ∙ ap (λ (es : List (ℕ × Node K D)). with_node_at (node_numbered es) 1 (Some v)) nil in
       record {
         tree = subst (IsTree eq) (sym (view-lone m n v nil at h)) (IsTree-lone eq v.item);
         chained = subst IsChained (sym is) (record {
@@ -123,50 +123,50 @@ module _ {K D : Type 0} where
         root_alone = ap (λ f. next_in f 1) is ∙ either 1 (λ o. links_after (option_map links_of o)) refl after_none;
       }
     where
-      either : (q : ℕ) (f : Option (Node K D) → Option ℕ) → f None ≡ None → f (Some v) ≡ None → f (with_node (λ _. None) 1 (Some v) q) ≡ None
+      either : (q : ℕ) (f : Option (Node K D) → Option ℕ) → f None ≡ None → f (Some v) ≡ None → f (with_node_at (λ _. None) 1 (Some v) q) ≡ None
       either q f e g = elim (q == 1) as (λ b. f (cond b (Some v) None) ≡ None) [ true ↦ g | false ↦ e ]
 
   -- ---- what a write of one link changes
   module _ (at : ℕ → Option (Node K D)) where
-    pub first_keeps : (n : ℕ) (f : Node K D → Node K D) → ((x : Node K D) → (f x).first_child ≡ x.first_child) → (q : ℕ) → first_in (changed at n f) q ≡ first_in at q
+    pub first_keeps : (n : ℕ) (f : Node K D → Node K D) → ((x : Node K D) → (f x).first_child ≡ x.first_child) → (q : ℕ) → first_in (with_change_at at n f) q ≡ first_in at q
     first_keeps n f e = changed-keeps at n f (λ o. links_first (option_map links_of o)) (each f e)
       where
         each : (f : Node K D → Node K D) → ((x : Node K D) → (f x).first_child ≡ x.first_child) → (o : Option (Node K D)) → links_first (option_map links_of (option_map f o)) ≡ links_first (option_map links_of o)
         each f e None = refl
         each f e (Some x) = e x
 
-    pub after_keeps : (n : ℕ) (f : Node K D → Node K D) → ((x : Node K D) → (f x).next_sibling ≡ x.next_sibling) → (q : ℕ) → next_in (changed at n f) q ≡ next_in at q
+    pub after_keeps : (n : ℕ) (f : Node K D → Node K D) → ((x : Node K D) → (f x).next_sibling ≡ x.next_sibling) → (q : ℕ) → next_in (with_change_at at n f) q ≡ next_in at q
     after_keeps n f e = changed-keeps at n f (λ o. links_after (option_map links_of o)) (each f e)
       where
         each : (f : Node K D → Node K D) → ((x : Node K D) → (f x).next_sibling ≡ x.next_sibling) → (o : Option (Node K D)) → links_after (option_map links_of (option_map f o)) ≡ links_after (option_map links_of o)
         each f e None = refl
         each f e (Some x) = e x
 
-    pub before_keeps : (n : ℕ) (f : Node K D → Node K D) → ((x : Node K D) → (f x).previous_sibling ≡ x.previous_sibling) → (q : ℕ) → previous_in (changed at n f) q ≡ previous_in at q
+    pub before_keeps : (n : ℕ) (f : Node K D → Node K D) → ((x : Node K D) → (f x).previous_sibling ≡ x.previous_sibling) → (q : ℕ) → previous_in (with_change_at at n f) q ≡ previous_in at q
     before_keeps n f e = changed-keeps at n f previous_of (each f e)
       where
         each : (f : Node K D → Node K D) → ((x : Node K D) → (f x).previous_sibling ≡ x.previous_sibling) → (o : Option (Node K D)) → previous_of (option_map f o) ≡ previous_of o
         each f e None = refl
         each f e (Some x) = e x
 
-    pub entry_keeps : (n : ℕ) (f : Node K D → Node K D) → ((x : Node K D) → entry_of (f x) ≡ entry_of x) → (q : ℕ) → option_map entry_of (changed at n f q) ≡ option_map entry_of (at q)
+    pub entry_keeps : (n : ℕ) (f : Node K D → Node K D) → ((x : Node K D) → entry_of (f x) ≡ entry_of x) → (q : ℕ) → option_map entry_of (with_change_at at n f q) ≡ option_map entry_of (at q)
     entry_keeps n f e = changed-keeps at n f (option_map entry_of) (each f e)
       where
         each : (f : Node K D → Node K D) → ((x : Node K D) → entry_of (f x) ≡ entry_of x) → (o : Option (Node K D)) → option_map entry_of (option_map f o) ≡ option_map entry_of o
         each f e None = refl
         each f e (Some x) = ap (λ (y : Entry K D). Some y) (e x)
 
-    pub some_node : (n : ℕ) (f : Node K D → Node K D) (q : ℕ) → is_some (changed at n f q) ≡ is_some (at q)
+    pub some_node : (n : ℕ) (f : Node K D → Node K D) (q : ℕ) → is_some (with_change_at at n f q) ≡ is_some (at q)
     some_node n f = changed-keeps at n f is_some (mapped-some f)
 
-    pub with_first-here : (n : ℕ) (o : Option ℕ) → IsSome (at n) → first_in (with_first at n o) n ≡ o
+    pub with_first-here : (n : ℕ) (o : Option ℕ) → IsSome (at n) → first_in (with_first_child at n o) n ≡ o
     with_first-here n o h = ap (λ v. links_first (option_map links_of v)) (changed-here at n (λ x. record x { first_child = o })) ∙ each (at n) h
       where
         each : (v : Option (Node K D)) → IsSome v → links_first (option_map links_of (option_map {T = Node K D} (λ x. record x { first_child = o }) v)) ≡ o
         each None h = absurd (false≢true h)
         each (Some x) h = refl
 
-    pub with_first-other : (n : ℕ) (o : Option ℕ) (q : ℕ) → q ≢ n → first_in (with_first at n o) q ≡ first_in at q
+    pub with_first-other : (n : ℕ) (o : Option ℕ) (q : ℕ) → q ≢ n → first_in (with_first_child at n o) q ≡ first_in at q
     with_first-other n o q ne = ap (λ v. links_first (option_map links_of v)) (changed-other at n (λ x. record x { first_child = o }) q ne)
 
     pub with_next-here : (n : ℕ) (o : Option ℕ) → IsSome (at n) → next_in (with_next at n o) n ≡ o
@@ -213,18 +213,18 @@ module _ {K D : Type 0} where
 
   -- ---- a new first child
   module _ (eq : K → K → Bool) (symm : (a b : K) → eq a b ≡ eq b a) (es fs : List (ℕ × Node K D)) (next id later p : ℕ) (k : K) (v : Node K D) (linked : IsLinked eq es next)
-      (none : node_at es id ≡ None) (positive : 0 < id) (small : id < later) (grows : next ≤ later)
-      (known_p : IsSome (node_at es p)) (free : child (eq k) (keyed_of es next) p ≡ None) (parent_and_key_v : v.parent_and_key ≡ Some (p, k)) (first_v : v.first_child ≡ None)
-      (after_v : v.next_sibling ≡ first_in (node_at es) p) (before_v : v.previous_sibling ≡ None)
-      (is : node_at fs ≡ put_before (with_node (node_at es) id (Some v)) p id (first_in (node_at es) p)) where
+      (none : node_numbered es id ≡ None) (positive : 0 < id) (small : id < later) (grows : next ≤ later)
+      (known_p : IsSome (node_numbered es p)) (free : child (eq k) (keyed_of es next) p ≡ None) (parent_and_key_v : v.parent_and_key ≡ Some (p, k)) (first_v : v.first_child ≡ None)
+      (after_v : v.next_sibling ≡ first_in (node_numbered es) p) (before_v : v.previous_sibling ≡ None)
+      (is : node_numbered fs ≡ put_before (with_node_at (node_numbered es) id (Some v)) p id (first_in (node_numbered es) p)) where
     abbrev at0 : ℕ → Option (Node K D)
-    at0 = node_at es
+    at0 = node_numbered es
 
     abbrev at1 : ℕ → Option (Node K D)
-    at1 = with_node at0 id (Some v)
+    at1 = with_node_at at0 id (Some v)
 
     kept_entry : (q : ℕ) → option_map entry_of (put_before at1 p id (first_in at0 p) q) ≡ option_map entry_of (at1 q)
-    kept_entry q = back_entry (with_first at1 p (Some id)) (first_in at0 p) (Some id) q ∙ entry_keeps at1 p (λ x. record x { first_child = Some id }) (λ x. refl) q
+    kept_entry q = back_entry (with_first_child at1 p (Some id)) (first_in at0 p) (Some id) q ∙ entry_keeps at1 p (λ x. record x { first_child = Some id }) (λ x. refl) q
 
     pub keyed-added : keyed_of fs later ≡ add_as (keyed_of es next) id later p k v.item
     keyed-added = view-add es fs next id later p k v parent_and_key_v (λ q. ap (λ f. option_map entry_of (f q)) is ∙ kept_entry q)
@@ -236,7 +236,7 @@ module _ {K D : Type 0} where
         let here1 : at1 id ≡ Some v = with_node-here at0 id (Some v) in
         let other1 : (q : ℕ) → q ≢ id → at1 q ≡ at0 q = with_node-other at0 id (Some v) in
         let head : (q : ℕ) → first_in at0 p ≡ Some q → IsSome (at0 q) = λ q e. child_below q p (first_child_of linked.chained p q e).0 in
-        let mid : ℕ → Option (Node K D) = with_first at1 p (Some id) in
+        let mid : ℕ → Option (Node K D) = with_first_child at1 p (Some id) in
         let known1 : (q : ℕ) → IsSome (at0 q) → IsSome (at1 q) = λ q h. ap is_some (other1 q (below q h)) ∙ h in
         record {
           tree = subst (IsTree eq) (sym keyed-added) (IsTree-add_as eq symm (keyed_of es next) id later p k v.item linked.tree (entry-view es next id None (sym none)) positive small grows (known-view es next p ∙ known_p) free);

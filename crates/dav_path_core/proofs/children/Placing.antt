@@ -5,11 +5,11 @@ use Rattle.std.specs.Ordering.{nat_cmp}
 use Rattle.std.specs.FinMap.{FinMap}
 use Rattle.std.proofs.lemmas.Bool.{cases_eq, eq-eqb, ne_eqb, false≢true}
 use Rattle.dav_path_core.specs.declared.tree.Node.{Node}
-use Rattle.dav_path_core.specs.Keyed.{Entry, Keyed, Leads, root, up, parent_and_key_of, parent, child, is_under, placed, placed_at, IsKnown, IsTree}
+use Rattle.dav_path_core.specs.Keyed.{Entry, Keyed, LeadsToRoot, root, up, parent_and_key_of, parent_number, child, is_under, with_new_place, placed_at, IsKnown, IsTree}
 use Rattle.dav_path_core.specs.TreeValue.{links_after}
 use Rattle.dav_path_core.specs.Private.Chains.{Linked}
 use Rattle.dav_path_core.specs.View.{entry_of, links_of, keyed_of}
-use Rattle.dav_path_core.specs.Private.Nodes.{node_at, parent_in, first_in, next_in, previous_in, previous_of, IsChained, IsLinked, with_node, with_first, put_before, with_parent_and_key, closed_up, changed}
+use Rattle.dav_path_core.specs.Private.Nodes.{node_numbered, parent_in, first_in, next_in, previous_in, previous_of, IsChained, IsLinked, with_node_at, with_first_child, put_before, with_parent_and_key, closed_up, with_change_at}
 use Rattle.dav_path_core.proofs.trees.Trees.{none≢some, same_some}
 use Rattle.dav_path_core.proofs.children.Chains.{Linked-put, first_child_of}
 use Rattle.dav_path_core.proofs.trees.KeyedMoves.{IsTree-placed}
@@ -19,7 +19,7 @@ use Rattle.dav_path_core.proofs.children.Links.{parent-view, first_keeps, after_
 use Rattle.dav_path_core.proofs.children.Unlinking.{some_from_parent, closed-entry, closed-first-here, closed-after, not_before, Linked-closed}
 
 -- no number is its own parent
-own_parent : {f : ℕ → Option ℕ} {m : ℕ} (n : ℕ) → f 1 ≡ None → Leads f m → m ≡ n → f n ≡ Some n → ⊥
+own_parent : {f : ℕ → Option ℕ} {m : ℕ} (n : ℕ) → f 1 ≡ None → LeadsToRoot f m → m ≡ n → f n ≡ Some n → ⊥
 own_parent {f = f} n top root is e = none≢some n (sym top ∙ ap f is ∙ e)
 own_parent {f = f} n top (up {p = p} g l) is e = own_parent n top l (same_some p n (sym g ∙ ap f is ∙ e)) e
 
@@ -29,11 +29,11 @@ known_node (Some x) h = (x, refl)
 
 module _ {K D : Type 0} (eq : K → K → Bool) (symm : (a b : K) → eq a b ≡ eq b a) (es fs : List (ℕ × Node K D)) (next n p r : ℕ) (k l : K) (x : Node K D) (linked : IsLinked eq es next)
     (known_p : IsKnown (keyed_of es next) p) (not_root : n ≢ 1) (outside : is_under (keyed_of es next) n p ≡ false) (free : child (eq k) (keyed_of es next) p ≡ None)
-    (here : Some x ≡ node_at es n) (parent_and_key : x.parent_and_key ≡ Some (r, l))
-    (is : node_at fs ≡ put_before (with_parent_and_key (closed_up (node_at es) r x.previous_sibling x.next_sibling) n p k (first_in (closed_up (node_at es) r x.previous_sibling x.next_sibling) p)) p n
-    (first_in (closed_up (node_at es) r x.previous_sibling x.next_sibling) p)) where
+    (here : Some x ≡ node_numbered es n) (parent_and_key : x.parent_and_key ≡ Some (r, l))
+    (is : node_numbered fs ≡ put_before (with_parent_and_key (closed_up (node_numbered es) r x.previous_sibling x.next_sibling) n p k (first_in (closed_up (node_numbered es) r x.previous_sibling x.next_sibling) p)) p n
+    (first_in (closed_up (node_numbered es) r x.previous_sibling x.next_sibling) p)) where
   abbrev at0 : ℕ → Option (Node K D)
-  at0 = node_at es
+  at0 = node_numbered es
 
   abbrev at1 : ℕ → Option (Node K D)
   at1 = closed_up at0 r (previous_in at0 n) (next_in at0 n)
@@ -45,21 +45,21 @@ module _ {K D : Type 0} (eq : K → K → Bool) (symm : (a b : K) → eq a b ≡
   set y = record y { parent_and_key = Some (p, k); next_sibling = head; previous_sibling = None }
 
   abbrev at2 : ℕ → Option (Node K D)
-  at2 = changed at1 n set
+  at2 = with_change_at at1 n set
 
   abbrev mid : ℕ → Option (Node K D)
-  mid = with_first at2 p (Some n)
+  mid = with_first_child at2 p (Some n)
 
-  is0 : node_at fs ≡ put_before at2 p n head
+  is0 : node_numbered fs ≡ put_before at2 p n head
   is0 = is ∙ ap (λ o. let at = closed_up at0 r (previous_of o) (links_after (option_map links_of o)) in put_before (with_parent_and_key at n p k (first_in at p)) p n (first_in at p)) here
 
   child_n : parent_in at0 n ≡ Some r
   child_n = ap (λ o. option_map (λ w. w.0) (parent_and_key_of (option_map entry_of o))) (sym here) ∙ ap (option_map (λ w. w.0)) parent_and_key
 
-  child_view : parent (keyed_of es next) n ≡ Some r
+  child_view : parent_number (keyed_of es next) n ≡ Some r
   child_view = ap (λ f. f n) (parent-view es next) ∙ child_n
 
-  top : parent (keyed_of es next) 1 ≡ None
+  top : parent_number (keyed_of es next) 1 ≡ None
   top = ap (option_map (λ w. w.0)) linked.tree.root.1
 
   known_n : IsKnown (keyed_of es next) n
@@ -130,9 +130,9 @@ module _ {K D : Type 0} (eq : K → K → Bool) (symm : (a b : K) → eq a b ≡
   abbrev replace : Option (Entry K D) → Option (Entry K D)
   replace o = option_map {T = Entry K D} (λ e. record e { parent_and_key = Some (p, k) }) o
 
-  entry_moved : (q : ℕ) → option_map entry_of (node_at fs q) ≡ option_map entry_of (with_node at0 n (Some moved_node) q)
+  entry_moved : (q : ℕ) → option_map entry_of (node_numbered fs q) ≡ option_map entry_of (with_node_at at0 n (Some moved_node) q)
   entry_moved q = ap (λ f. option_map entry_of (f q)) is0 ∙ entry3 q ∙ elim (cases_eq q n) [
-    | inl e ↦ subst (λ v. option_map entry_of (at2 v) ≡ option_map entry_of (with_node at0 n (Some moved_node) v)) (sym e)
+    | inl e ↦ subst (λ v. option_map entry_of (at2 v) ≡ option_map entry_of (with_node_at at0 n (Some moved_node) v)) (sym e)
         (ap (option_map entry_of) here2 ∙ same_item ∙ ap (option_map entry_of) (sym (with_node-here at0 n (Some moved_node))))
     | inr ne ↦ ap (option_map entry_of) (other2 q ne) ∙ entry1 q ∙ ap (option_map entry_of) (sym (with_node-other at0 n (Some moved_node) q ne))
   ]
@@ -140,7 +140,7 @@ module _ {K D : Type 0} (eq : K → K → Bool) (symm : (a b : K) → eq a b ≡
       same_item : Some (entry_of (set node1.0)) ≡ Some (entry_of moved_node)
       same_item = ap replace (ap (option_map entry_of) (sym node1.1) ∙ entry1 n ∙ ap (option_map entry_of) (sym here))
 
-  pub keyed-placed : keyed_of fs next ≡ placed (keyed_of es next) n p k
+  pub keyed-placed : keyed_of fs next ≡ with_new_place (keyed_of es next) n p k
   keyed-placed =
       ap (λ (m : FinMap nat_cmp (Entry K D)). let t : Keyed K D = record { nodes = m; next = next } in t) (seen-insert entry_of es fs n moved_node entry_moved)
       ∙ ap (placed_at (keyed_of es next) n p k) (sym (entry-view es next n (Some x) here))

@@ -6,11 +6,11 @@ use Rattle.std.specs.FinMap.{FinMap, get, from_entries, same_map, nat_cmp-IsAnti
 use Rattle.std.specs.Cmp.{nat_cmp_total}
 use Rattle.std.proofs.lemmas.Bool.{cases_eq}
 use Rattle.dav_path_core.specs.declared.tree.Node.{Node}
-use Rattle.dav_path_core.specs.Keyed.{Entry, Keyed, entry, parent_and_key_of, parent, without, IsTree}
+use Rattle.dav_path_core.specs.Keyed.{Entry, Keyed, entry, parent_and_key_of, parent_number, without_node, IsTree}
 use Rattle.dav_path_core.specs.TreeValue.{links_first, links_after}
 use Rattle.dav_path_core.specs.Private.Chains.{Linked}
-use Rattle.dav_path_core.specs.View.{entry_of, links_of, seen, keyed_of}
-use Rattle.dav_path_core.specs.Private.Nodes.{node_at, parent_in, first_in, next_in, previous_in, previous_of, IsChained, IsLinked, with_node, with_next, led_on, closed_up}
+use Rattle.dav_path_core.specs.View.{entry_of, links_of, views_of, keyed_of}
+use Rattle.dav_path_core.specs.Private.Nodes.{node_numbered, parent_in, first_in, next_in, previous_in, previous_of, IsChained, IsLinked, with_node_at, with_next, led_on, closed_up}
 use Rattle.dav_path_core.proofs.trees.Trees.{none≢some, same_some}
 use Rattle.dav_path_core.proofs.children.Chains.{Linked-out, no_child, sibling_after, sibling_before}
 use Rattle.dav_path_core.proofs.trees.KeyedCuts.{IsTree-without, entry-without}
@@ -97,9 +97,9 @@ module _ {K D : Type 0} where
 
   -- ---- a leaf is deleted
   module _ (eq : K → K → Bool) (es : List (ℕ × Node K D)) (next n p : ℕ) (k : K) (x : Node K D) (linked : IsLinked eq es next)
-      (here : Some x ≡ node_at es n) (parent_and_key : x.parent_and_key ≡ Some (p, k)) (no_first : x.first_child ≡ None) where
+      (here : Some x ≡ node_numbered es n) (parent_and_key : x.parent_and_key ≡ Some (p, k)) (no_first : x.first_child ≡ None) where
     abbrev at0 : ℕ → Option (Node K D)
-    at0 = node_at es
+    at0 = node_numbered es
 
     child_n : parent_in at0 n ≡ Some p
     child_n = ap (λ o. option_map (λ w. w.0) (parent_and_key_of (option_map entry_of o))) (sym here) ∙ ap (option_map (λ w. w.0)) parent_and_key
@@ -125,33 +125,33 @@ module _ {K D : Type 0} where
     closed-node = ap (λ o. option_map entry_of (closed_up at0 p (previous_of o) (links_after (option_map links_of o)) n)) here ∙ closed-entry at0 linked.chained n p child_n apart_n known_p n
 
     pub not_root : n ≢ 1
-    not_root e = none≢some p (sym (ap (option_map (λ w. w.0)) linked.tree.root.1) ∙ ap (parent (keyed_of es next)) (sym e) ∙ ap (λ f. f n) (parent-view es next) ∙ child_n)
+    not_root e = none≢some p (sym (ap (option_map (λ w. w.0)) linked.tree.root.1) ∙ ap (parent_number (keyed_of es next)) (sym e) ∙ ap (λ f. f n) (parent-view es next) ∙ child_n)
 
-    pub leaf_n : (m : ℕ) → parent (keyed_of es next) m ≢ Some n
+    pub leaf_n : (m : ℕ) → parent_number (keyed_of es next) m ≢ Some n
     leaf_n m e = no_child_n m (ap (λ f. f m) (sym (parent-view es next)) ∙ e)
 
-    module _ (fs : List (ℕ × Node K D)) (is : node_at fs ≡ with_node (closed_up (node_at es) p x.previous_sibling x.next_sibling) n None) where
-      is0 : node_at fs ≡ with_node closed0 n None
-      is0 = is ∙ ap (λ o. with_node (closed_up at0 p (previous_of o) (links_after (option_map links_of o))) n None) here
+    module _ (fs : List (ℕ × Node K D)) (is : node_numbered fs ≡ with_node_at (closed_up (node_numbered es) p x.previous_sibling x.next_sibling) n None) where
+      is0 : node_numbered fs ≡ with_node_at closed0 n None
+      is0 = is ∙ ap (λ o. with_node_at (closed_up at0 p (previous_of o) (links_after (option_map links_of o))) n None) here
 
-      gone : node_at fs n ≡ None
+      gone : node_numbered fs n ≡ None
       gone = ap (λ f. f n) is0 ∙ with_node-here closed0 n None
 
-      other : (q : ℕ) → q ≢ n → node_at fs q ≡ closed0 q
+      other : (q : ℕ) → q ≢ n → node_numbered fs q ≡ closed0 q
       other q ne = ap (λ f. f q) is0 ∙ with_node-other closed0 n None q ne
 
-      other_entry : (q : ℕ) → q ≢ n → option_map entry_of (node_at fs q) ≡ option_map entry_of (at0 q)
+      other_entry : (q : ℕ) → q ≢ n → option_map entry_of (node_numbered fs q) ≡ option_map entry_of (at0 q)
       other_entry q ne = ap (option_map entry_of) (other q ne) ∙ closed-entry at0 linked.chained n p child_n apart_n known_p q
 
-      same_entries : (q : ℕ) → get (from_entries {R = nat_cmp} (seen entry_of fs)) q ≡ entry (without (keyed_of es next) n) q
+      same_entries : (q : ℕ) → get (from_entries {R = nat_cmp} (views_of entry_of fs)) q ≡ entry (without_node (keyed_of es next) n) q
       same_entries q = get-seen entry_of fs q ∙ elim (cases_eq q n) [
-        | inl e ↦ subst (λ v. option_map entry_of (node_at fs v) ≡ entry (without (keyed_of es next) n) v) (sym e) (ap (option_map entry_of) gone ∙ sym (entry-without (keyed_of es next) n).here)
+        | inl e ↦ subst (λ v. option_map entry_of (node_numbered fs v) ≡ entry (without_node (keyed_of es next) n) v) (sym e) (ap (option_map entry_of) gone ∙ sym (entry-without (keyed_of es next) n).here)
         | inr ne ↦ other_entry q ne ∙ sym (get-seen entry_of es q) ∙ sym ((entry-without (keyed_of es next) n).other q ne)
       ]
 
-      pub keyed-removed : keyed_of fs next ≡ without (keyed_of es next) n
+      pub keyed-removed : keyed_of fs next ≡ without_node (keyed_of es next) n
       keyed-removed = ap (λ (m : FinMap nat_cmp (Entry K D)). let t : Keyed K D = record { nodes = m; next = next } in t)
-          (same_map nat_cmp_total nat_cmp-IsAntisymmetric (keyed_of fs next).nodes (without (keyed_of es next) n).nodes same_entries)
+          (same_map nat_cmp_total nat_cmp-IsAntisymmetric (keyed_of fs next).nodes (without_node (keyed_of es next) n).nodes same_entries)
 
       pub IsLinked-removed : IsLinked eq fs next
       IsLinked-removed = record {

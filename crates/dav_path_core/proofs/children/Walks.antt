@@ -7,7 +7,7 @@ use Rattle.std.proofs.lemmas.Bool.{eqb-true, or_cases, or_right, false≢true, t
 use Rattle.std.proofs.lemmas.List.{append-nil, append_assoc, length-append}
 use Rattle.std.proofs.lemmas.List.Folds.{list_any-append}
 use Rattle.std.proofs.lemmas.Map.Steps.{length-le_from_distinct_below}
-use Rattle.dav_path_core.specs.Keyed.{Keyed, parent_and_key, parent, child, IsChild, IsKnown, IsTree, Leads, root, up}
+use Rattle.dav_path_core.specs.Keyed.{Keyed, parent_and_key, parent_number, child, IsChild, IsKnown, IsTree, LeadsToRoot, root, up}
 use Rattle.dav_path_core.proofs.trees.Trees.{none≢some, same_some, known_from_parent, child-some, child-only}
 use Rattle.dav_path_core.proofs.children.Chains.{in_here}
 use Rattle.dav_path_core.specs.TreeValue.{TreeValue, Siblings, done, more, first, after, IsChildList, IsTreeValue}
@@ -34,19 +34,19 @@ parent_and_key_under : {K : Type 0} (o : Option (ℕ × K)) (p : ℕ) (w : ℕ �
 parent_and_key_under o p w h e = e ∙ ap (λ (n : ℕ). Some (n, w.1)) (same_some w.0 p (sym (ap (option_map (λ q. q.0)) e) ∙ h))
 
 module _ {K D : Type 0} where
-  leads_known : (eq : K → K → Bool) (t : Keyed K D) → IsTree eq t → (n : ℕ) → Leads (parent t) n → IsKnown t n
+  leads_known : (eq : K → K → Bool) (t : Keyed K D) → IsTree eq t → (n : ℕ) → LeadsToRoot (parent_number t) n → IsKnown t n
   leads_known eq t tree n root = tree.root.0
   leads_known eq t tree n (up {p = p} e l) = known_from_parent t n p e
 
-  above_known : (eq : K → K → Bool) (t : Keyed K D) → IsTree eq t → (n p : ℕ) → parent t n ≡ Some p → Leads (parent t) n → IsKnown t p
+  above_known : (eq : K → K → Bool) (t : Keyed K D) → IsTree eq t → (n p : ℕ) → parent_number t n ≡ Some p → LeadsToRoot (parent_number t) n → IsKnown t p
   above_known eq t tree n p e root = absurd (none≢some p (sym (ap (option_map (λ q. q.0)) tree.root.1) ∙ e))
   above_known eq t tree n p e (up {p = r} f l) = subst (IsKnown t) (same_some r p (sym f ∙ e)) (leads_known eq t tree r l)
 
   -- an unknown number has no children
-  pub parent_known : (eq : K → K → Bool) (t : Keyed K D) → IsTree eq t → (n p : ℕ) → parent t n ≡ Some p → IsKnown t p
+  pub parent_known : (eq : K → K → Bool) (t : Keyed K D) → IsTree eq t → (n p : ℕ) → parent_number t n ≡ Some p → IsKnown t p
   parent_known eq t tree n p e = above_known eq t tree n p e (tree.attached n (known_from_parent t n p e))
 
-  pub child_here : (t : Keyed K D) (n p r : ℕ) (k : K) → parent t n ≡ Some p → parent_and_key t n ≡ Some (r, k) → IsChild t p k n
+  pub child_here : (t : Keyed K D) (n p r : ℕ) (k : K) → parent_number t n ≡ Some p → parent_and_key t n ≡ Some (r, k) → IsChild t p k n
   child_here t n p r k h e = parent_and_key_under (parent_and_key t n) p (r, k) h e
 
   -- a walk along the children of p that stands at a number and has passed ks
@@ -63,7 +63,7 @@ module _ {K D : Type 0} where
     walk_end ks walk = subst (IsChildList t p) (ap (λ ns. ks ++ ns) (ended walk.linked) ∙ append-nil ks) walk.listed
 
     module _ (id : ℕ) (ks : List ℕ) (walk : Walk t p (Some id) ks) where
-      pub walk_here : parent t.keyed id ≡ Some p
+      pub walk_here : parent_number t.keyed id ≡ Some p
       walk_here =
           let s = split walk.linked in
           (walk.listed.members id).0 (list_any-append (eqb id) ks walk.rest ∙ or_right (list_any (eqb id) ks) (list_any (eqb id) walk.rest) (ap (list_any (eqb id)) s.1 ∙ in_here id s.0))

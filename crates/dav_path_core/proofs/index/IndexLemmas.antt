@@ -8,18 +8,18 @@ use Rattle.std.specs.Prelude.{nat_eq}
 use Rattle.std.specs.FinMap.{get, insert, remove, empty, get-empty, nat_cmp-IsAntisymmetric}
 use Rattle.std.proofs.lemmas.Bool.{true≢false, cases_eq}
 use Rattle.dav_path_core.specs.Fronts.{Segment}
-use Rattle.dav_path_core.specs.Keyed.{Entry, Keyed, IsTree, IsChild, child, add_as, without, placed, placed_at, with_item, with_item_at, entry, parent_and_key_of}
-use Rattle.dav_path_core.specs.ChildIndex.{Names, Index, IsIndex, told, is_named, noted, noted_at, forgotten, forgotten_at}
+use Rattle.dav_path_core.specs.Keyed.{Entry, Keyed, IsTree, IsChild, child, add_as, without_node, with_new_place, placed_at, with_item, with_item_at, entry, parent_and_key_of}
+use Rattle.dav_path_core.specs.ChildIndex.{NumbersByName, Index, IsIndex, index_answer, is_key_named, with_noted, noted_at, without_noted, forgotten_at}
 use Rattle.dav_path_core.proofs.lists.FinMaps.{dec, get_same, get_other, get_gone, get_left}
 use Rattle.dav_path_core.proofs.lists.Orders.{segment_total, segment_exact}
 use Rattle.dav_path_core.proofs.trees.Trees.{same_some, none≢some, child-some, child-none, Sets, Sets-insert}
 use Rattle.dav_path_core.proofs.trees.KeyedCuts.{entry-without}
 use Rattle.dav_path_core.proofs.trees.ChildChanges.{child-without, child-add_as, child-placed, child-with_item-at}
 
-same_name : (s k : Segment) → is_named s k ≡ true → k ≡ s
+same_name : (s k : Segment) → is_key_named s k ≡ true → k ≡ s
 same_name s k h = (bytes_decides k s).0 h
 
-own_name : (s : Segment) → is_named s s ≡ true
+own_name : (s : Segment) → is_key_named s s ≡ true
 own_name s = (bytes_decides s s).1 refl
 
 -- of two children of one node at equal keys, both are one
@@ -28,16 +28,16 @@ Distinct t = (p : ℕ) (k l : Segment) (m n : ℕ) → IsChild t p k m → IsChi
 
 -- ---- what an index says after a change of itself
 module _ (ix : Index) (p q : ℕ) (s : Segment) where
-  told-here : (names : Names) → q ≡ p → told (insert ix p names) q s ≡ Some (get names s)
-  told-here names is = ap (λ r. told (insert ix p names) r s) is ∙ ap (option_map (λ x. get x s)) (get_same nat_cmp_total nat_cmp-IsAntisymmetric ix p names)
+  told-here : (names : NumbersByName) → q ≡ p → index_answer (insert ix p names) q s ≡ Some (get names s)
+  told-here names is = ap (λ r. index_answer (insert ix p names) r s) is ∙ ap (option_map (λ x. get x s)) (get_same nat_cmp_total nat_cmp-IsAntisymmetric ix p names)
 
-  told-other : (names : Names) → q ≢ p → told (insert ix p names) q s ≡ told ix q s
+  told-other : (names : NumbersByName) → q ≢ p → index_answer (insert ix p names) q s ≡ index_answer ix q s
   told-other names ne = ap (option_map (λ x. get x s)) (get_other nat_cmp_total nat_cmp-IsAntisymmetric ix p names q ne)
 
-  told-gone : q ≡ p → told (remove ix p) q s ≡ None
-  told-gone is = ap (λ r. told (remove ix p) r s) is ∙ ap (option_map (λ x. get x s)) (get_gone nat_cmp_total nat_cmp-IsAntisymmetric ix p)
+  told-gone : q ≡ p → index_answer (remove ix p) q s ≡ None
+  told-gone is = ap (λ r. index_answer (remove ix p) r s) is ∙ ap (option_map (λ x. get x s)) (get_gone nat_cmp_total nat_cmp-IsAntisymmetric ix p)
 
-  told-left : q ≢ p → told (remove ix p) q s ≡ told ix q s
+  told-left : q ≢ p → index_answer (remove ix p) q s ≡ index_answer ix q s
   told-left ne = ap (option_map (λ x. get x s)) (get_left nat_cmp_total nat_cmp-IsAntisymmetric ix p q ne)
 
 numbers : (p q : ℕ) → (q ≡ p) ⊎ (q ≢ p)
@@ -48,31 +48,31 @@ names_apart s r = dec segment_total segment_exact r s
 
 module _ {D : Type 0} where
   -- the one child that has a name
-  pub only : (t : Keyed Segment D) → Distinct t → (p n : ℕ) (s : Segment) → IsChild t p s n → child (is_named s) t p ≡ Some n
+  pub only : (t : Keyed Segment D) → Distinct t → (p n : ℕ) (s : Segment) → IsChild t p s n → child (is_key_named s) t p ≡ Some n
   only t distinct p n s is =
-      elim (child (is_named s) t p) as (λ o. child (is_named s) t p ≡ o → o ≡ Some n) [
-        | None ↦ λ none. absurd (true≢false (sym (own_name s) ∙ child-none t (is_named s) p none n s is))
-        | Some m ↦ λ some. let w = child-some t (is_named s) p m some in ap (λ (x : ℕ). Some x) (distinct p w.0 s m n w.1 is w.2)
+      elim (child (is_key_named s) t p) as (λ o. child (is_key_named s) t p ≡ o → o ≡ Some n) [
+        | None ↦ λ none. absurd (true≢false (sym (own_name s) ∙ child-none t (is_key_named s) p none n s is))
+        | Some m ↦ λ some. let w = child-some t (is_key_named s) p m some in ap (λ (x : ℕ). Some x) (distinct p w.0 s m n w.1 is w.2)
       ] refl
 
-  pub nobody : (t : Keyed Segment D) (p : ℕ) (s : Segment) → ((n : ℕ) → IsChild t p s n → ⊥) → child (is_named s) t p ≡ None
+  pub nobody : (t : Keyed Segment D) (p : ℕ) (s : Segment) → ((n : ℕ) → IsChild t p s n → ⊥) → child (is_key_named s) t p ≡ None
   nobody t p s none =
-      elim (child (is_named s) t p) as (λ o. child (is_named s) t p ≡ o → o ≡ None) [
+      elim (child (is_key_named s) t p) as (λ o. child (is_key_named s) t p ≡ o → o ≡ None) [
         | None ↦ λ _. refl
-        | Some m ↦ λ some. let w = child-some t (is_named s) p m some in absurd (none m (subst (λ k. IsChild t p k m) (same_name s w.0 w.2) w.1))
+        | Some m ↦ λ some. let w = child-some t (is_key_named s) p m some in absurd (none m (subst (λ k. IsChild t p k m) (same_name s w.0 w.2) w.1))
       ] refl
 
   -- what tells the name of a child
-  child_is : (t : Keyed Segment D) (p : ℕ) (s : Segment) (n : ℕ) → child (is_named s) t p ≡ Some n → IsChild t p s n
-  child_is t p s n some = let w = child-some t (is_named s) p n some in subst (λ k. IsChild t p k n) (same_name s w.0 w.2) w.1
+  child_is : (t : Keyed Segment D) (p : ℕ) (s : Segment) (n : ℕ) → child (is_key_named s) t p ≡ Some n → IsChild t p s n
+  child_is t p s n some = let w = child-some t (is_key_named s) p n some in subst (λ k. IsChild t p k n) (same_name s w.0 w.2) w.1
 
-  child_is_not : (t : Keyed Segment D) (p : ℕ) (s : Segment) (n : ℕ) → child (is_named s) t p ≡ None → IsChild t p s n → ⊥
-  child_is_not t p s n none is = true≢false (sym (own_name s) ∙ child-none t (is_named s) p none n s is)
+  child_is_not : (t : Keyed Segment D) (p : ℕ) (s : Segment) (n : ℕ) → child (is_key_named s) t p ≡ None → IsChild t p s n → ⊥
+  child_is_not t p s n none is = true≢false (sym (own_name s) ∙ child-none t (is_key_named s) p none n s is)
 
   module _ (t u : Keyed Segment D) (distinct : Distinct u) (p : ℕ) (s : Segment) where
-    same_child : ((n : ℕ) → IsChild t p s n → IsChild u p s n) → ((n : ℕ) → IsChild u p s n → IsChild t p s n) → child (is_named s) u p ≡ child (is_named s) t p
+    same_child : ((n : ℕ) → IsChild t p s n → IsChild u p s n) → ((n : ℕ) → IsChild u p s n → IsChild t p s n) → child (is_key_named s) u p ≡ child (is_key_named s) t p
     same_child there back =
-        elim (child (is_named s) t p) as (λ o. child (is_named s) t p ≡ o → child (is_named s) u p ≡ o) [
+        elim (child (is_key_named s) t p) as (λ o. child (is_key_named s) t p ≡ o → child (is_key_named s) u p ≡ o) [
           | Some n ↦ λ some. only u distinct p n s (there n (child_is t p s n some))
           | None ↦ λ none. nobody u p s (λ n is. child_is_not t p s n none (back n is))
         ] refl
@@ -82,18 +82,18 @@ module _ {D : Type 0} where
   IsIndex-empty t p s o says = absurd (none≢some o (sym (ap (option_map (λ x. get x s)) (get-empty nat_cmp p)) ∙ says))
 
   -- a tree with the same children
-  pub IsIndex-same : (t u : Keyed Segment D) (ix : Index) → ((q : ℕ) (s : Segment) → child (is_named s) u q ≡ child (is_named s) t q) → IsIndex t ix → IsIndex u ix
+  pub IsIndex-same : (t u : Keyed Segment D) (ix : Index) → ((q : ℕ) (s : Segment) → child (is_key_named s) u q ≡ child (is_key_named s) t q) → IsIndex t ix → IsIndex u ix
   IsIndex-same t u ix same index q s o says = index q s o says ∙ sym (same q s)
 
   -- a folder whose names are known anew
-  pub IsIndex-kept : (t : Keyed Segment D) (ix : Index) (p : ℕ) (names : Names) → ((s : Segment) → get names s ≡ child (is_named s) t p) → IsIndex t ix → IsIndex t (insert ix p names)
+  pub IsIndex-kept : (t : Keyed Segment D) (ix : Index) (p : ℕ) (names : NumbersByName) → ((s : Segment) → get names s ≡ child (is_key_named s) t p) → IsIndex t ix → IsIndex t (insert ix p names)
   IsIndex-kept t ix p names whole index q s o says = elim (numbers p q) [
-    | inl is ↦ same_some o (get names s) (sym says ∙ told-here ix p q s names is) ∙ whole s ∙ ap (λ r. child (is_named s) t r) (sym is)
+    | inl is ↦ same_some o (get names s) (sym says ∙ told-here ix p q s names is) ∙ whole s ∙ ap (λ r. child (is_key_named s) t r) (sym is)
     | inr ne ↦ index q s o (sym (told-other ix p q s names ne) ∙ says)
   ]
 
   -- where only the children of one folder differ
-  module _ (t u : Keyed Segment D) (ix : Index) (p : ℕ) (others : (q : ℕ) → q ≢ p → (s : Segment) → child (is_named s) u q ≡ child (is_named s) t q) (index : IsIndex t ix) where
+  module _ (t u : Keyed Segment D) (ix : Index) (p : ℕ) (others : (q : ℕ) → q ≢ p → (s : Segment) → child (is_key_named s) u q ≡ child (is_key_named s) t q) (index : IsIndex t ix) where
     pub IsIndex-removed : IsIndex u (remove ix p)
     IsIndex-removed q s o says = elim (numbers p q) [
       | inl is ↦ absurd (none≢some o (sym (told-gone ix p q s is) ∙ says))
@@ -101,31 +101,31 @@ module _ {D : Type 0} where
     ]
 
     -- the folder has the names that it had, but for a change
-    changed : (names new : Names) → get ix p ≡ Some names → ((s : Segment) → get names s ≡ child (is_named s) t p → get new s ≡ child (is_named s) u p) → IsIndex u (insert ix p new)
+    changed : (names new : NumbersByName) → get ix p ≡ Some names → ((s : Segment) → get names s ≡ child (is_key_named s) t p → get new s ≡ child (is_key_named s) u p) → IsIndex u (insert ix p new)
     changed names new has right q s o says = elim (numbers p q) [
-      | inl is ↦ same_some o (get new s) (sym says ∙ told-here ix p q s new is) ∙ right s (index p s (get names s) (ap (option_map (λ x. get x s)) has)) ∙ ap (λ r. child (is_named s) u r) (sym is)
+      | inl is ↦ same_some o (get new s) (sym says ∙ told-here ix p q s new is) ∙ right s (index p s (get names s) (ap (option_map (λ x. get x s)) has)) ∙ ap (λ r. child (is_key_named s) u r) (sym is)
       | inr ne ↦ index q s o (sym (told-other ix p q s new ne) ∙ says) ∙ sym (others q ne s)
     ]
 
     unknown : get ix p ≡ None → IsIndex u ix
     unknown none q s o says = elim (numbers p q) [
-      | inl is ↦ absurd (none≢some o (sym (ap (option_map (λ x. get x s)) none) ∙ ap (λ r. told ix r s) (sym is) ∙ says))
+      | inl is ↦ absurd (none≢some o (sym (ap (option_map (λ x. get x s)) none) ∙ ap (λ r. index_answer ix r s) (sym is) ∙ says))
       | inr ne ↦ index q s o says ∙ sym (others q ne s)
     ]
 
     -- a child came
-    noted_by : (k : Segment) (n : ℕ) → child (is_named k) u p ≡ Some n → ((s : Segment) → s ≢ k → child (is_named s) u p ≡ child (is_named s) t p) → (o : Option Names) → get ix p ≡ o → IsIndex u (noted_at ix p k n o)
+    noted_by : (k : Segment) (n : ℕ) → child (is_key_named k) u p ≡ Some n → ((s : Segment) → s ≢ k → child (is_key_named s) u p ≡ child (is_key_named s) t p) → (o : Option NumbersByName) → get ix p ≡ o → IsIndex u (noted_at ix p k n o)
     noted_by k n here other None at = unknown at
     noted_by k n here other (Some names) at = changed names (insert names k n) at (λ s is. elim (names_apart k s) [
-      | inl same ↦ ap (get (insert names k n)) same ∙ get_same segment_total segment_exact names k n ∙ sym here ∙ ap (λ r. child (is_named r) u p) (sym same)
+      | inl same ↦ ap (get (insert names k n)) same ∙ get_same segment_total segment_exact names k n ∙ sym here ∙ ap (λ r. child (is_key_named r) u p) (sym same)
       | inr ne ↦ get_other segment_total segment_exact names k n s ne ∙ is ∙ sym (other s ne)
     ])
 
     -- a child went
-    forgotten_by : (k : Segment) → child (is_named k) u p ≡ None → ((s : Segment) → s ≢ k → child (is_named s) u p ≡ child (is_named s) t p) → (o : Option Names) → get ix p ≡ o → IsIndex u (forgotten_at ix p k o)
+    forgotten_by : (k : Segment) → child (is_key_named k) u p ≡ None → ((s : Segment) → s ≢ k → child (is_key_named s) u p ≡ child (is_key_named s) t p) → (o : Option NumbersByName) → get ix p ≡ o → IsIndex u (forgotten_at ix p k o)
     forgotten_by k here other None at = unknown at
     forgotten_by k here other (Some names) at = changed names (remove names k) at (λ s is. elim (names_apart k s) [
-      | inl same ↦ ap (get (remove names k)) same ∙ get_gone segment_total segment_exact names k ∙ sym here ∙ ap (λ r. child (is_named r) u p) (sym same)
+      | inl same ↦ ap (get (remove names k)) same ∙ get_gone segment_total segment_exact names k ∙ sym here ∙ ap (λ r. child (is_key_named r) u p) (sym same)
       | inr ne ↦ get_left segment_total segment_exact names k s ne ∙ is ∙ sym (other s ne)
     ])
 
@@ -138,13 +138,13 @@ module _ {D : Type 0} where
     distinct_rest : Distinct w
     distinct_rest q l m a b x y same = distinct q l m a b (back q a l x).0 (back q b m y).0 same
 
-    pub gone-same : (q : ℕ) (s : Segment) → ((m : ℕ) → IsChild t q s m → m ≢ n) → child (is_named s) w q ≡ child (is_named s) t q
+    pub gone-same : (q : ℕ) (s : Segment) → ((m : ℕ) → IsChild t q s m → m ≢ n) → child (is_key_named s) w q ≡ child (is_key_named s) t q
     gone-same q s apart = same_child t w distinct_rest q s (λ m x. there q m s x (apart m x)) (λ m x. (back q m s x).0)
 
-    gone-others : (q : ℕ) → q ≢ p → (s : Segment) → child (is_named s) w q ≡ child (is_named s) t q
+    gone-others : (q : ℕ) → q ≢ p → (s : Segment) → child (is_key_named s) w q ≡ child (is_key_named s) t q
     gone-others q ne s = gone-same q s (λ m x e. ne (ap (λ (v : ℕ × Segment). v.0) (same_some (q, s) (p, k) (sym (subst (λ v. IsChild t q s v) e x) ∙ is))))
 
-    pub IsIndex-gone : (ix : Index) → IsIndex t ix → IsIndex w (forgotten ix p k)
+    pub IsIndex-gone : (ix : Index) → IsIndex t ix → IsIndex w (without_noted ix p k)
     IsIndex-gone ix index = forgotten_by t w ix p gone-others index k
         (nobody w p k (λ m x. let b = back p m k x in b.1 (distinct p k k m n b.0 is ((bytes_decides k k).1 refl))))
         (λ s ne. gone-same p s (λ m x e. ne (ap (λ (v : ℕ × Segment). v.1) (same_some (p, s) (p, k) (sym (subst (λ v. IsChild t p s v) e x) ∙ is)))))
@@ -152,13 +152,13 @@ module _ {D : Type 0} where
 
   -- a child n of p at k comes
   module _ (w u : Keyed Segment D) (n p : ℕ) (k : Segment) (is : IsChild u p k n) (distinct : Distinct u) (there : (q m : ℕ) (l : Segment) → IsChild w q l m → IsChild u q l m) (back : (q m : ℕ) (l : Segment) → IsChild u q l m → ((q ≡ p) × (l ≡ k) × (m ≡ n)) ⊎ IsChild w q l m) where
-    come-same : (q : ℕ) (s : Segment) → ((q ≡ p) → (s ≡ k) → ⊥) → child (is_named s) u q ≡ child (is_named s) w q
+    come-same : (q : ℕ) (s : Segment) → ((q ≡ p) → (s ≡ k) → ⊥) → child (is_key_named s) u q ≡ child (is_key_named s) w q
     come-same q s apart = same_child w u distinct q s (λ m x. there q m s x) (λ m x. elim (back q m s x) [ inl new ↦ absurd (apart new.0 new.1) | inr old ↦ old ])
 
-    come-others : (q : ℕ) → q ≢ p → (s : Segment) → child (is_named s) u q ≡ child (is_named s) w q
+    come-others : (q : ℕ) → q ≢ p → (s : Segment) → child (is_key_named s) u q ≡ child (is_key_named s) w q
     come-others q ne s = come-same q s (λ e _. ne e)
 
-    pub IsIndex-come : (ix : Index) → IsIndex w ix → IsIndex u (noted ix p k n)
+    pub IsIndex-come : (ix : Index) → IsIndex w ix → IsIndex u (with_noted ix p k n)
     IsIndex-come ix index = noted_by w u ix p come-others index k n (only u distinct p n k is) (λ s ne. come-same p s (λ _ e. ne e)) (get ix p) refl
 
     pub IsIndex-lost : (ix : Index) → IsIndex w ix → IsIndex u (remove ix p)
@@ -172,8 +172,8 @@ module _ {D : Type 0} where
   IsChild-old t u n o s q m l x ne = ap parent_and_key_of (s.other m ne) ∙ x
 
   module _ (t : Keyed Segment D) (tree : IsTree (pointwise nat_eq) t) where
-    pub IsIndex-without : (n p : ℕ) (k : Segment) (ix : Index) → IsChild t p k n → IsIndex t ix → IsIndex (without t n) (forgotten ix p k)
-    IsIndex-without n p k ix is index = IsIndex-gone t (without t n) n p k is tree.distinct (IsChild-old t (without t n) n None (entry-without t n)) (λ q m l. child-without t n q m l) ix index
+    pub IsIndex-without : (n p : ℕ) (k : Segment) (ix : Index) → IsChild t p k n → IsIndex t ix → IsIndex (without_node t n) (without_noted ix p k)
+    IsIndex-without n p k ix is index = IsIndex-gone t (without_node t n) n p k is tree.distinct (IsChild-old t (without_node t n) n None (entry-without t n)) (λ q m l. child-without t n q m l) ix index
 
     -- a node is added under a number that is free
     module _ (n next p : ℕ) (k : Segment) (d : D) (unused : entry t n ≡ None) (after : IsTree (pointwise nat_eq) (add_as t n next p k d)) (ix : Index) (index : IsIndex t ix) where
@@ -199,19 +199,19 @@ module _ {D : Type 0} where
       pub IsChild-added : IsChild more p k n
       IsChild-added = IsChild-new t more n p k e refl sets
 
-      pub IsIndex-added : (new : Index) → (new ≡ noted ix p k n) ⊎ (new ≡ remove ix p) → IsIndex more new
+      pub IsIndex-added : (new : Index) → (new ≡ with_noted ix p k n) ⊎ (new ≡ remove ix p) → IsIndex more new
       IsIndex-added new how = elim how [
         | inl is ↦ subst (IsIndex more) (sym is) (IsIndex-come t more n p k IsChild-added after.distinct there back ix index)
         | inr is ↦ subst (IsIndex more) (sym is) (IsIndex-lost t more n p k IsChild-added after.distinct there back ix index)
       ]
 
     -- a node moves from p at k to r at l
-    module _ (n p r : ℕ) (k l : Segment) (is : IsChild t p k n) (after : IsTree (pointwise nat_eq) (placed t n r l)) where
+    module _ (n p r : ℕ) (k l : Segment) (is : IsChild t p k n) (after : IsTree (pointwise nat_eq) (with_new_place t n r l)) where
       abbrev w : Keyed Segment D
-      w = without t n
+      w = without_node t n
 
       abbrev u : Keyed Segment D
-      u = placed t n r l
+      u = with_new_place t n r l
 
       gone_there : (q m : ℕ) (x : Segment) → IsChild t q x m → m ≢ n → IsChild w q x m
       gone_there = IsChild-old t w n None (entry-without t n)
@@ -229,12 +229,12 @@ module _ {D : Type 0} where
       pub IsChild-placed : IsChild u r l n
       IsChild-placed = let s = placed_sets (entry t n) refl in IsChild-new t u n r l s.0 s.1 s.2
 
-      pub IsIndex-placed : (ix new : Index) → IsIndex t ix → (new ≡ noted (forgotten ix p k) r l n) ⊎ (new ≡ remove (forgotten ix p k) r) → IsIndex u new
+      pub IsIndex-placed : (ix new : Index) → IsIndex t ix → (new ≡ with_noted (without_noted ix p k) r l n) ⊎ (new ≡ remove (without_noted ix p k) r) → IsIndex u new
       IsIndex-placed ix new index how =
-          let gone : IsIndex w (forgotten ix p k) = IsIndex-gone t w n p k is tree.distinct gone_there (λ q m x. child-without t n q m x) ix index in
+          let gone : IsIndex w (without_noted ix p k) = IsIndex-gone t w n p k is tree.distinct gone_there (λ q m x. child-without t n q m x) ix index in
           elim how [
-            | inl e ↦ subst (IsIndex u) (sym e) (IsIndex-come w u n r l IsChild-placed after.distinct come_there come_back (forgotten ix p k) gone)
-            | inr e ↦ subst (IsIndex u) (sym e) (IsIndex-lost w u n r l IsChild-placed after.distinct come_there come_back (forgotten ix p k) gone)
+            | inl e ↦ subst (IsIndex u) (sym e) (IsIndex-come w u n r l IsChild-placed after.distinct come_there come_back (without_noted ix p k) gone)
+            | inr e ↦ subst (IsIndex u) (sym e) (IsIndex-lost w u n r l IsChild-placed after.distinct come_there come_back (without_noted ix p k) gone)
           ]
 
   -- ---- the item of a node

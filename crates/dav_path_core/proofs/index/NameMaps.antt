@@ -7,7 +7,7 @@ use Rattle.std.specs.Map.{lookup}
 use Rattle.std.specs.declared.vec.Vec.{Vec}
 use Rattle.std.proofs.lemmas.Map.Entries.{place_from_lookup}
 use Rattle.dav_path_core.specs.Fronts.{Segment, segment_cmp}
-use Rattle.dav_path_core.specs.Private.ChildNames.{named, names_of}
+use Rattle.dav_path_core.specs.Private.ChildNames.{name_and_number, names_of}
 use Rattle.dav_path_core.proofs.lists.Orders.{segment_total, segment_exact, eq_by_cmp_true}
 
 turned : (q k : Segment) → is_eq (segment_cmp k q) ≡ is_eq (segment_cmp q k)
@@ -18,12 +18,12 @@ module _ {Z : Type 0} where
   abbrev pub at_name : Segment → List (Vec ℕ Z × ℕ) → Option ℕ
   at_name q es = lookup (λ k. is_eq (segment_cmp q k.items)) es
 
-  find-named : (q : Segment) (es : List (Vec ℕ Z × ℕ)) → find segment_cmp q (map named es) ≡ at_name q es
+  find-named : (q : Segment) (es : List (Vec ℕ Z × ℕ)) → find segment_cmp q (map name_and_number es) ≡ at_name q es
   find-named q [] = refl
   find-named q (e ∷ es) = ap (cond (is_eq (segment_cmp q e.0.items)) (Some e.1)) (find-named q es)
 
   pub get-names : (es : List (Vec ℕ Z × ℕ)) (q : Segment) → get (names_of es) q ≡ at_name q es
-  get-names es q = get-from_entries segment_total (map named es) q ∙ find-named q es
+  get-names es q = get-from_entries segment_total (map name_and_number es) q ∙ find-named q es
 
   -- the key of a name that is there
   key_there : (q : Segment) (es : List (Vec ℕ Z × ℕ)) (v : ℕ) → at_name q es ≡ Some v → (k : Vec ℕ Z) × (q ≡ k.items)

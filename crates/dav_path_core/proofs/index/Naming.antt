@@ -10,7 +10,7 @@ use Rattle.std.proofs.lemmas.List.Folds.{list_any-append}
 use Rattle.dav_path_core.specs.Fronts.{Segment, segment_cmp}
 use Rattle.dav_path_core.specs.Keyed.{IsChild, IsKnown, child}
 use Rattle.dav_path_core.specs.TreeValue.{TreeValue, IsTreeValue, first, after}
-use Rattle.dav_path_core.specs.ChildIndex.{Names, is_named}
+use Rattle.dav_path_core.specs.ChildIndex.{NumbersByName, is_key_named}
 use Rattle.dav_path_core.proofs.lists.FinMaps.{dec, get_same, get_other}
 use Rattle.dav_path_core.proofs.lists.Orders.{segment_total, segment_exact}
 use Rattle.dav_path_core.proofs.trees.Trees.{none≢some, same_some}
@@ -18,7 +18,7 @@ use Rattle.dav_path_core.proofs.index.IndexLemmas.{only, nobody}
 use Rattle.dav_path_core.proofs.children.Walks.{Walk, walk_start, walk_next, walk_end}
 
 -- a walk along the children of p that stands at a number; the names are those of the children that it has passed
-pub record Naming {D : Type 0} (t : TreeValue Segment D) (p : ℕ) (names : Names) (at : Option ℕ) : Type 0 where
+pub record Naming {D : Type 0} (t : TreeValue Segment D) (p : ℕ) (names : NumbersByName) (at : Option ℕ) : Type 0 where
   pub passed : List ℕ
   pub walk : Walk t p at passed
   pub has : (n : ℕ) (s : Segment) → list_any (eqb n) passed ≡ true → IsChild t.keyed p s n → get names s ≡ Some n
@@ -33,7 +33,7 @@ module _ {D : Type 0} (t : TreeValue Segment D) (p : ℕ) (shape : IsTreeValue (
     all = λ s n is. absurd (none≢some n (sym (get-empty segment_cmp s) ∙ is));
   }
 
-  pub naming_next : (names : Names) (id : ℕ) (k : Segment) → Naming t p names (Some id) → IsChild t.keyed p k id → Naming t p (insert names k id) (after t id)
+  pub naming_next : (names : NumbersByName) (id : ℕ) (k : Segment) → Naming t p names (Some id) → IsChild t.keyed p k id → Naming t p (insert names k id) (after t id)
   naming_next names id k w is = record {
     passed = w.passed ++ id ∷ [];
     walk = walk_next t p id w.passed w.walk;
@@ -56,9 +56,9 @@ module _ {D : Type 0} (t : TreeValue Segment D) (p : ℕ) (shape : IsTreeValue (
     ];
   }
 
-  pub naming_end : (names : Names) → Naming t p names None → (s : Segment) → get names s ≡ child (is_named s) t.keyed p
+  pub naming_end : (names : NumbersByName) → Naming t p names None → (s : Segment) → get names s ≡ child (is_key_named s) t.keyed p
   naming_end names w s =
-      elim (get names s) as (λ o. get names s ≡ o → o ≡ child (is_named s) t.keyed p) [
+      elim (get names s) as (λ o. get names s ≡ o → o ≡ child (is_key_named s) t.keyed p) [
         | Some n ↦ λ some. sym (only t.keyed shape.tree.distinct p n s (w.all s n some))
         | None ↦ λ none. sym (nobody t.keyed p s (λ n is. none≢some n (sym none ∙ w.has n s (((walk_end t p w.passed w.walk).members n).1 (ap (option_map (λ q. q.0)) is)) is)))
       ] refl

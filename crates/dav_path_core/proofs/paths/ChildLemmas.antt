@@ -7,7 +7,7 @@ use Rattle.std.proofs.lemmas.List.{drop-append-le}
 use Rattle.std.proofs.lemmas.List.Elements.{Contains-append_right, Contains-get_or}
 use Rattle.std.proofs.lemmas.Slice.Eq.{ends_is}
 use Rattle.dav_path_core.specs.Segments.{segments}
-use Rattle.dav_path_core.specs.Reading.{CanBeSegment, ends_in_slash}
+use Rattle.dav_path_core.specs.PathReading.{CanBeSegment, ends_in_slash}
 use Rattle.dav_path_core.proofs.lists.Snoc.{by_last, snoc_last}
 use Rattle.dav_path_core.proofs.paths.NameLemmas.{NoSlashFrom}
 use Rattle.dav_path_core.proofs.paths.TrimLemmas.{segments-at_slash, segments-slash_end, segments-name}

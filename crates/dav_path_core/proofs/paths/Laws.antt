@@ -4,9 +4,9 @@ use Rattle.std.proofs.Math.Seq.{split_at}
 use Rattle.std.specs.Prelude.{IsTrue, Contains}
 use Rattle.std.proofs.lemmas.List.Elements.{recursion_from_All}
 use Rattle.dav_path_core.specs.Private.Keeping.{ComesDown}
-use Rattle.dav_path_core.specs.Reading.{IsTarget, Read, raw, decoded_pieces, path_of, ends_in_slash, is_ordinary, is_up, IsForeign}
+use Rattle.dav_path_core.specs.PathReading.{IsTarget, Read, raw, decoded_pieces, path_of, ends_in_slash, is_ordinary, is_up, IsForeign}
 use Rattle.std.proofs.lemmas.Bool.{cases_lt}
-use Rattle.dav_path_core.specs.Fault.{Fault, FirstFault, IsFaultAt, piece_at}
+use Rattle.dav_path_core.specs.Fault.{Fault, FirstFault, IsFaultAt, nth_piece}
 use Rattle.dav_path_core.specs.Fault.Fault.{no_target, first}
 use Rattle.dav_path_core.specs.Fault.IsFaultAt.{foreign, above}
 use Rattle.dav_path_core.specs.declared.davpath.ParseError.{ParseError}
@@ -43,8 +43,8 @@ up_not_foreign up u = ⊎_elim (up_lacks up 0 u (λ e. absurd (omega arith))) (u
 -- the first fault is one
 same_at : (pieces : List (List ℕ)) (k : ℕ) (e f : ParseError) → IsFaultAt pieces k e → IsFaultAt pieces k f → e ≡ f
 same_at pieces k _ _ (foreign h) (foreign i) = refl
-same_at pieces k _ _ (foreign h) (above i) = absurd (up_not_foreign (piece_at pieces k) i.0 h)
-same_at pieces k _ _ (above h) (foreign i) = absurd (up_not_foreign (piece_at pieces k) h.0 i)
+same_at pieces k _ _ (foreign h) (above i) = absurd (up_not_foreign (nth_piece pieces k) i.0 h)
+same_at pieces k _ _ (above h) (foreign i) = absurd (up_not_foreign (nth_piece pieces k) h.0 i)
 same_at pieces k _ _ (above h) (above i) = refl
 
 same_first : (pieces : List (List ℕ)) (e f : ParseError) → FirstFault pieces e → FirstFault pieces f → e ≡ f

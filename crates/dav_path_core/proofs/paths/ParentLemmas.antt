@@ -6,7 +6,7 @@ use Rattle.std.proofs.lemmas.Bool.{cond_both}
 use Rattle.std.proofs.lemmas.List.Elements.{All-from_recursion}
 use Rattle.std.proofs.lemmas.List.{take_more}
 use Rattle.std.proofs.lemmas.List.Splits.{slice_split_at}
-use Rattle.dav_path_core.specs.Segments.{segments, pieces, is_slash, is_nonempty}
+use Rattle.dav_path_core.specs.Segments.{segments, slash_pieces, is_slash, is_nonempty}
 use Rattle.dav_path_core.specs.Fronts.{Segment, Path, parent}
 use Rattle.dav_path_core.specs.PathText.{folder_bytes}
 
@@ -18,12 +18,12 @@ onto_first_clean : (b : ℕ) (parts : List (List ℕ)) → is_slash b ≡ false 
 onto_first_clean b [] e h = ((e, tt), tt)
 onto_first_clean b (part ∷ parts) e h = ((e, h.0), h.1)
 
-pieces_clean : (bs : List ℕ) → AllByRecursion HasNoSlash (pieces bs)
+pieces_clean : (bs : List ℕ) → AllByRecursion HasNoSlash (slash_pieces bs)
 pieces_clean [] = (tt, tt)
 pieces_clean (b ∷ bs) =
-    cond_both (is_slash b) ([] ∷ pieces bs) (onto_first b (pieces bs)) (λ l. AllByRecursion HasNoSlash l)
+    cond_both (is_slash b) ([] ∷ slash_pieces bs) (onto_first b (slash_pieces bs)) (λ l. AllByRecursion HasNoSlash l)
     (λ e. (tt, pieces_clean bs))
-    (λ e. onto_first_clean b (pieces bs) e (pieces_clean bs))
+    (λ e. onto_first_clean b (slash_pieces bs) e (pieces_clean bs))
 
 -- what a segment is: not empty, and without a slash
 pub record IsSegment (s : Segment) : Type 0 where
@@ -39,15 +39,15 @@ kept (part ∷ parts) h =
 
 pub all_segments : (bs : List ℕ) → AllByRecursion IsSegment (segments bs)
 unfolding segments
-all_segments bs = kept (pieces bs) (pieces_clean bs)
+all_segments bs = kept (slash_pieces bs) (pieces_clean bs)
 
-pieces_of_folder : (p : Path) → AllByRecursion IsSegment p → filter is_nonempty (pieces (flat_map (λ s. s ++ 47 ∷ []) p)) ≡ p
+pieces_of_folder : (p : Path) → AllByRecursion IsSegment p → filter is_nonempty (slash_pieces (flat_map (λ s. s ++ 47 ∷ []) p)) ≡ p
 pieces_of_folder [] h = refl
 pieces_of_folder (s ∷ p) h =
     let rest = flat_map (λ s. s ++ 47 ∷ []) p in
-    let split : pieces ((s ++ 47 ∷ []) ++ rest) ≡ s ∷ pieces rest =
-    ap pieces (append_assoc s (47 ∷ []) rest) ∙ slice_split_at is_slash s 47 rest (All-from_recursion (λ b. is_slash b ≡ false) s h.0.clean) refl in
-    ap (filter is_nonempty) split ∙ ap (λ b. cond b (s ∷ filter is_nonempty (pieces rest)) (filter is_nonempty (pieces rest))) h.0.nonempty ∙ ap (λ l. s ∷ l) (pieces_of_folder p h.1)
+    let split : slash_pieces ((s ++ 47 ∷ []) ++ rest) ≡ s ∷ slash_pieces rest =
+    ap slash_pieces (append_assoc s (47 ∷ []) rest) ∙ slice_split_at is_slash s 47 rest (All-from_recursion (λ b. is_slash b ≡ false) s h.0.clean) refl in
+    ap (filter is_nonempty) split ∙ ap (λ b. cond b (s ∷ filter is_nonempty (slash_pieces rest)) (filter is_nonempty (slash_pieces rest))) h.0.nonempty ∙ ap (λ l. s ∷ l) (pieces_of_folder p h.1)
 
 -- the segments of a folder's bytes
 pub segments-folder_bytes : (p : Path) → AllByRecursion IsSegment p → segments (folder_bytes p) ≡ p

@@ -11,12 +11,12 @@ use Rattle.std.proofs.lemmas.List.Sums.{position_or_len_is}
 use Rattle.std.proofs.lemmas.Slice.Eq.{ends_is}
 use Rattle.percent_encoding.specs.Percent.{percent_decode}
 use Rattle.percent_encoding.proofs.PercentLemmas.{IsByte, All-percent_decode, percent_decode-nil}
-use Rattle.dav_path_core.specs.Segments.{pieces, segments, is_nonempty}
+use Rattle.dav_path_core.specs.Segments.{slash_pieces, segments, is_nonempty}
 use Rattle.dav_path_core.specs.Url.{url, url_byte}
 use Rattle.dav_path_core.specs.Normal.{IsNormal}
-use Rattle.dav_path_core.specs.Reading.{Read, IsTarget, raw, decoded_pieces, path_of, ends_in_slash, is_idle, is_up, is_ordinary, IsForeign, Drops, Rewrites}
-use Rattle.dav_path_core.specs.Reading.IsDroppable.{idle}
-use Rattle.dav_path_core.specs.Reading.Rewrites.{none, more}
+use Rattle.dav_path_core.specs.PathReading.{Read, IsTarget, raw, decoded_pieces, path_of, ends_in_slash, is_idle, is_up, is_ordinary, IsForeign, Drops, Rewrites}
+use Rattle.dav_path_core.specs.PathReading.IsDroppable.{idle}
+use Rattle.dav_path_core.specs.PathReading.Rewrites.{none, more}
 use Rattle.dav_path_core.proofs.paths.Rewriting.{AllOrdinary, AllOrdinary-from_reduced, not_idle, not_up}
 use Rattle.dav_path_core.proofs.paths.KeptLemmas.{path_with_slash}
 use Rattle.dav_path_core.proofs.paths.SlashedLemmas.{nothing_in_none}
@@ -102,7 +102,7 @@ kept_of text path r =
     let parts = decoded_pieces (raw text) in
     all_kept r.kept (AllOrdinary-from_reduced r.kept r.reduced r.no_up)
     (All-Rewrites (λ piece. ¬ IsForeign piece) parts r.kept r.rewrites (recursion_from_All (λ piece. ¬ IsForeign piece) parts r.clean))
-    (All-Rewrites (AllByRecursion IsByte) parts r.kept r.rewrites (bytes_decoded (pieces (raw text)) (pieces-All IsByte (raw text) (taken _ text small))))
+    (All-Rewrites (AllByRecursion IsByte) parts r.kept r.rewrites (bytes_decoded (slash_pieces (raw text)) (pieces-All IsByte (raw text) (taken _ text small))))
 
 no_slashes : (kept : List (List ℕ)) → AllByRecursion IsKept kept → AllByRecursion HasNoSlash kept
 no_slashes [] h = tt
@@ -157,8 +157,8 @@ single path r front back e =
     let c = cuts path r in
     let f = first_piece front in
     let b = first_piece back in
-    let split : pieces path ≡ f.0 ∷ (f.1 ++ [] ∷ b.0 ∷ b.1) =
-    ap pieces e ∙ pieces-at_slash front (47 ∷ back) ∙ ap (λ l. l ++ [] ∷ pieces back) f.2 ∙ ap (λ l. f.0 ∷ (f.1 ++ [] ∷ l)) b.2 in
+    let split : slash_pieces path ≡ f.0 ∷ (f.1 ++ [] ∷ b.0 ∷ b.1) =
+    ap slash_pieces e ∙ pieces-at_slash front (47 ∷ back) ∙ ap (λ l. l ++ [] ∷ slash_pieces back) f.2 ∙ ap (λ l. f.0 ∷ (f.1 ++ [] ∷ l)) b.2 in
     let whole : [] ∷ (r.kept ++ c.tail) ≡ f.0 ∷ (f.1 ++ [] ∷ b.0 ∷ b.1) = sym c.pieces_are ∙ split in
     let rest : r.kept ++ c.tail ≡ f.1 ++ [] ∷ b.0 ∷ b.1 = cc in
     no_gap r.kept c.tail f.1 b.0 b.1 r.each (tail_short c.tail c.is_tail) rest
@@ -211,12 +211,12 @@ tail_all P _ h closed = tt
 tail_all P _ h slashed = (h, tt)
 
 -- what holds of the empty piece and of each that is kept holds of each piece of the path
-all_pieces : (P : List ℕ → Type 0) (path : List ℕ) (p : Parts path) → P [] → ((piece : List ℕ) → IsKept piece → P piece) → AllByRecursion P (pieces path)
+all_pieces : (P : List ℕ → Type 0) (path : List ℕ) (p : Parts path) → P [] → ((piece : List ℕ) → IsKept piece → P piece) → AllByRecursion P (slash_pieces path)
 all_pieces P path p h f =
     let c = cuts path p in
     subst (AllByRecursion P) (sym c.pieces_are) (h, All-both P p.kept c.tail (each IsKept P p.kept f p.each) (tail_all P c.tail h c.is_tail))
 
-decoded_again : (path : List ℕ) (p : Parts path) → decoded_pieces (url path) ≡ pieces path
+decoded_again : (path : List ℕ) (p : Parts path) → decoded_pieces (url path) ≡ slash_pieces path
 decoded_again path p = decoded_pieces-url path (all_pieces (AllByRecursion IsByte) path p tt (λ piece k. k.bytes))
 
 same_ending : (kept : List (List ℕ)) (a b : Bool) → (0 < length kept → a ≡ b) → path_of kept a ≡ path_of kept b
@@ -244,7 +244,7 @@ last_not_empty kept front h long e =
     not_empty l.1 last.ordinary (snoc_last ([] ∷ l.0) front l.1 [] (ap (λ k. [] ∷ k) (sym l.2) ∙ e)))
     (by_last kept)
 
-ends_by : (kept : List (List ℕ)) (slash : Bool) → AllByRecursion IsKept kept → 0 < length kept → decoded_pieces (url (path_of kept slash)) ≡ pieces (path_of kept slash) → ends_in_slash (url (path_of kept slash)) ≡ slash
+ends_by : (kept : List (List ℕ)) (slash : Bool) → AllByRecursion IsKept kept → 0 < length kept → decoded_pieces (url (path_of kept slash)) ≡ slash_pieces (path_of kept slash) → ends_in_slash (url (path_of kept slash)) ≡ slash
 ends_by kept true h long d =
     (ends_is Decides-eqb (url (path_of kept true)) (47 ∷ []) (ends_in_slash (url (path_of kept true))) refl).1 (url (flat_map (λ s. 47 ∷ s) kept))
     (ap url (sym (path_with_slash kept true (inl refl))) ∙ url-append (flat_map (λ s. 47 ∷ s) kept) (47 ∷ []) ∙ ap (λ l. url (flat_map (λ s. 47 ∷ s) kept) ++ l) url-slash)
@@ -254,9 +254,9 @@ ends_by kept false h long d =
     ⊎_elim
     (λ (yes : ends_in_slash spelled ≡ true).
     let cut : spelled ≡ front ++ 47 ∷ [] = (ends_is Decides-eqb spelled (47 ∷ []) (ends_in_slash spelled) refl).0 yes in
-    let split : decoded_pieces spelled ≡ map percent_decode (pieces front) ++ [] ∷ [] =
-    ap decoded_pieces cut ∙ ap (map percent_decode) (pieces-at_slash front []) ∙ map-append percent_decode (pieces front) ([] ∷ []) ∙ ap (λ l. map percent_decode (pieces front) ++ l ∷ []) percent_decode-nil in
-    absurd (last_not_empty kept (map percent_decode (pieces front)) h long
+    let split : decoded_pieces spelled ≡ map percent_decode (slash_pieces front) ++ [] ∷ [] =
+    ap decoded_pieces cut ∙ ap (map percent_decode) (pieces-at_slash front []) ∙ map-append percent_decode (slash_pieces front) ([] ∷ []) ∙ ap (λ l. map percent_decode (slash_pieces front) ++ l ∷ []) percent_decode-nil in
+    absurd (last_not_empty kept (map percent_decode (slash_pieces front)) h long
     (ap (λ l. [] ∷ l) (sym (append-nil kept)) ∙ sym (pieces-closed kept (no_slashes kept h) long) ∙ sym d ∙ split)))
     (λ (other : ends_in_slash spelled ≡ false). other)
     (cases_Bool (ends_in_slash spelled))
@@ -277,7 +277,7 @@ readable path p =
           (more _ _ _ (record { front = []; gone = [] ∷ []; back = p.kept ++ c.tail; droppable = idle [] refl; before = refl; after = refl }) (rewritten p.kept c.tail c.is_tail));
       ordinary = All-from_recursion (λ piece. IsTrue (is_ordinary piece)) p.kept (each IsKept (λ piece. IsTrue (is_ordinary piece)) p.kept (λ piece k. k.ordinary) p.each);
     })
-    (p.whole ∙ same_ending p.kept p.slash (ends_in_slash (url path)) (λ long. sym (ends_by p.kept p.slash p.each long (subst (λ l. decoded_pieces (url l) ≡ pieces l) p.whole decoded)) ∙ same))
+    (p.whole ∙ same_ending p.kept p.slash (ends_in_slash (url path)) (λ long. sym (ends_by p.kept p.slash p.each long (subst (λ l. decoded_pieces (url l) ≡ slash_pieces l) p.whole decoded)) ∙ same))
 
 pub read_again : (text path : List ℕ) → Read text path → Read (url path) path
 read_again text path r = readable path (parts_of text path r)

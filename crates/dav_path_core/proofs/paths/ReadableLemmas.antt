@@ -11,10 +11,10 @@ use Rattle.dav_path_core.specs.Fronts.{Path, parent, behind}
 use Rattle.dav_path_core.specs.PathText.{folder_bytes}
 use Rattle.dav_path_core.specs.Prefix.{SetsPrefix}
 use Rattle.dav_path_core.specs.Prefix.SetsPrefix.{cut, whole, front}
-use Rattle.dav_path_core.specs.Reading.{CanBeSegment, path_of, ends_in_slash}
+use Rattle.dav_path_core.specs.PathReading.{CanBeSegment, path_of, ends_in_slash}
 use Rattle.dav_path_core.specs.Respelling.{IsReadAsItself}
 use Rattle.dav_path_core.specs.Url.{url}
-use Rattle.dav_path_core.specs.Private.Keeping.{slashed}
+use Rattle.dav_path_core.specs.Private.Keeping.{behind_slashes}
 use Rattle.dav_path_core.proofs.lists.Snoc.{by_last}
 use Rattle.dav_path_core.proofs.paths.ChildLemmas.{slash_unless, no_slash-child}
 use Rattle.dav_path_core.proofs.paths.FrontLemmas.{behind_is}
@@ -51,12 +51,12 @@ from_kept kept slash path h e = readable path (record { kept = kept; slash = sla
 
 -- ---- the parent
 
-folder-slashed : (p : Path) → folder_bytes p ≡ slashed p ++ 47 ∷ []
+folder-slashed : (p : Path) → folder_bytes p ≡ behind_slashes p ++ 47 ∷ []
 folder-slashed [] = refl
 folder-slashed (s ∷ p) =
     let rest = flat_map (λ s. s ++ 47 ∷ []) p in
-    let turned : s ++ (47 ∷ rest) ≡ s ++ (slashed p ++ 47 ∷ []) = ap (λ l. s ++ l) (folder-slashed p) in
-    ap (λ l. 47 ∷ l) (append_assoc s (47 ∷ []) rest ∙ turned ∙ sym (append_assoc s (slashed p) (47 ∷ [])))
+    let turned : s ++ (47 ∷ rest) ≡ s ++ (behind_slashes p ++ 47 ∷ []) = ap (λ l. s ++ l) (folder-slashed p) in
+    ap (λ l. 47 ∷ l) (append_assoc s (47 ∷ []) rest ∙ turned ∙ sym (append_assoc s (behind_slashes p) (47 ∷ [])))
 
 pub readable-parent : (path above : List ℕ) → above ≡ folder_bytes (parent (segments path)) → IsReadAsItself path → IsReadAsItself above
 readable-parent path above e r =
@@ -68,21 +68,21 @@ readable-parent path above e r =
 ends_slashed : (bs : List ℕ) → ends_in_slash (bs ++ 47 ∷ []) ≡ true
 ends_slashed bs = (ends_is Decides-eqb (bs ++ 47 ∷ []) (47 ∷ []) (ends_in_slash (bs ++ 47 ∷ [])) refl).1 bs refl
 
-ends_named : (kept : Path) → AllByRecursion IsKept kept → 0 < length kept → ends_in_slash (slashed kept) ≡ false
+ends_named : (kept : Path) → AllByRecursion IsKept kept → 0 < length kept → ends_in_slash (behind_slashes kept) ≡ false
 ends_named kept h long = elim (by_last kept) [
   | inl none ↦ absurd (omega (arith, ap length none))
   | inr l ↦
       let last : IsKept l.1 = (All-back IsKept l.0 (l.1 ∷ []) (subst (AllByRecursion IsKept) l.2 h)).0 in
-      let split : slashed kept ≡ (slashed l.0 ++ 47 ∷ []) ++ l.1 =
-      ap slashed l.2 ∙ slashed-push l.0 l.1 ∙ sym (append_assoc (slashed l.0) (47 ∷ []) l.1) in
-      ap ends_in_slash split ∙ no_slash-child (slashed l.0 ++ 47 ∷ []) l.1 (name_of l.1 last)
+      let split : behind_slashes kept ≡ (behind_slashes l.0 ++ 47 ∷ []) ++ l.1 =
+      ap behind_slashes l.2 ∙ slashed-push l.0 l.1 ∙ sym (append_assoc (behind_slashes l.0) (47 ∷ []) l.1) in
+      ap ends_in_slash split ∙ no_slash-child (behind_slashes l.0 ++ 47 ∷ []) l.1 (name_of l.1 last)
 ]
 
 -- a path with a slash put behind it, unless it ends in one
-with_slash : (kept : Path) (slash ends : Bool) → AllByRecursion IsKept kept → ends ≡ ends_in_slash (path_of kept slash) → path_of kept slash ++ slash_unless ends ≡ slashed kept ++ 47 ∷ []
+with_slash : (kept : Path) (slash ends : Bool) → AllByRecursion IsKept kept → ends ≡ ends_in_slash (path_of kept slash) → path_of kept slash ++ slash_unless ends ≡ behind_slashes kept ++ 47 ∷ []
 with_slash kept true ends h e =
     let spelled = path_with_slash kept true (inl refl) in
-    let yes : ends ≡ true = e ∙ ap ends_in_slash (sym spelled) ∙ ends_slashed (slashed kept) in
+    let yes : ends ≡ true = e ∙ ap ends_in_slash (sym spelled) ∙ ends_slashed (behind_slashes kept) in
     ap (λ b. path_of kept true ++ slash_unless b) yes ∙ append-nil (path_of kept true) ∙ sym spelled
 with_slash [] false ends h e = ap (λ b. (47 ∷ []) ++ slash_unless b) e
 with_slash (s ∷ kept) false ends h e =
@@ -94,10 +94,10 @@ pub readable-child : (path below name : List ℕ) (ends : Bool) → below ≡ pa
 readable-child path below name ends e at can bytes r =
     let p = parts path r in
     let names = p.kept ++ name ∷ [] in
-    let body : path ++ slash_unless ends ≡ slashed p.kept ++ 47 ∷ [] =
+    let body : path ++ slash_unless ends ≡ behind_slashes p.kept ++ 47 ∷ [] =
     ap (λ l. l ++ slash_unless ends) p.whole ∙ with_slash p.kept p.slash ends p.each (at ∙ ap ends_in_slash p.whole) in
     from_kept names false below (All-both IsKept p.kept (name ∷ []) p.each (kept_of name can bytes, tt))
-    (e ∙ sym (append_assoc path (slash_unless ends) name) ∙ ap (λ l. l ++ name) body ∙ append_assoc (slashed p.kept) (47 ∷ []) name
+    (e ∙ sym (append_assoc path (slash_unless ends) name) ∙ ap (λ l. l ++ name) body ∙ append_assoc (behind_slashes p.kept) (47 ∷ []) name
     ∙ sym (slashed-push p.kept name) ∙ path_with_none names false refl (omega (arith, length-append p.kept (name ∷ []))))
 
 -- ---- a path elsewhere
@@ -119,7 +119,7 @@ readable-rebased from to self path rest slash e is r t =
 record IsBack (tail back : List ℕ) : Type 0 where
   names : Path
   each : AllByRecursion IsKept names
-  is : back ≡ slashed names ++ tail
+  is : back ≡ behind_slashes names ++ tail
 
 back_tail : (tail q rest : List ℕ) → (tail ≡ []) ⊎ (tail ≡ 47 ∷ []) → tail ≡ q ++ 47 ∷ rest → 47 ∷ rest ≡ tail
 back_tail tail [] rest h e = sym e
@@ -133,25 +133,25 @@ past [] back q rest h e = (q, e)
 past (c ∷ name) back [] rest h e = let here : c ≡ 47 = cc in absurd (true≢false (sym (ap is_slash here) ∙ h.0))
 past (c ∷ name) back (d ∷ q) rest h e = let more : name ++ back ≡ q ++ 47 ∷ rest = cc in past name back q rest h.1 more
 
-back_of : (kept : Path) (tail q rest : List ℕ) → AllByRecursion IsKept kept → (tail ≡ []) ⊎ (tail ≡ 47 ∷ []) → slashed kept ++ tail ≡ q ++ 47 ∷ rest → IsBack tail (47 ∷ rest)
+back_of : (kept : Path) (tail q rest : List ℕ) → AllByRecursion IsKept kept → (tail ≡ []) ⊎ (tail ≡ 47 ∷ []) → behind_slashes kept ++ tail ≡ q ++ 47 ∷ rest → IsBack tail (47 ∷ rest)
 back_of [] tail q rest h t e = record { names = []; each = tt; is = back_tail tail q rest t e }
 back_of (s ∷ kept) tail [] rest h t e = record { names = s ∷ kept; each = h; is = sym e }
 back_of (s ∷ kept) tail (b ∷ q) rest h t e =
-    let inner : (s ++ slashed kept) ++ tail ≡ q ++ 47 ∷ rest = cc in
-    let later = past s (slashed kept ++ tail) q rest (HasNoSlash-from_lack s (λ c. h.0.clean (inr c))) (sym (append_assoc s (slashed kept) tail) ∙ inner) in
+    let inner : (s ++ behind_slashes kept) ++ tail ≡ q ++ 47 ∷ rest = cc in
+    let later = past s (behind_slashes kept ++ tail) q rest (HasNoSlash-from_lack s (λ c. h.0.clean (inr c))) (sym (append_assoc s (behind_slashes kept) tail) ∙ inner) in
     back_of kept tail later.0 rest h.1 t later.1
 
 from_back : (tail back : List ℕ) → (tail ≡ []) ⊎ (tail ≡ 47 ∷ []) → 0 < length back → IsBack tail back → IsReadAsItself back
 from_back tail back (inr one) long b =
-    from_kept b.names true back b.each (b.is ∙ ap (λ l. slashed b.names ++ l) one ∙ path_with_slash b.names true (inl refl))
+    from_kept b.names true back b.each (b.is ∙ ap (λ l. behind_slashes b.names ++ l) one ∙ path_with_slash b.names true (inl refl))
 from_back tail back (inl none) long b =
-    let bare : back ≡ slashed b.names = b.is ∙ ap (λ l. slashed b.names ++ l) none ∙ append-nil (slashed b.names) in
+    let bare : back ≡ behind_slashes b.names = b.is ∙ ap (λ l. behind_slashes b.names ++ l) none ∙ append-nil (behind_slashes b.names) in
     from_kept b.names false back b.each (bare ∙ path_with_none b.names false refl (slashed-some b.names back bare long))
 
-spelled : (kept : Path) (slash : Bool) → (tail : List ℕ) × ((tail ≡ []) ⊎ (tail ≡ 47 ∷ [])) × (path_of kept slash ≡ slashed kept ++ tail)
+spelled : (kept : Path) (slash : Bool) → (tail : List ℕ) × ((tail ≡ []) ⊎ (tail ≡ 47 ∷ [])) × (path_of kept slash ≡ behind_slashes kept ++ tail)
 spelled kept true = (47 ∷ [], inr refl, sym (path_with_slash kept true (inl refl)))
 spelled [] false = (47 ∷ [], inr refl, refl)
-spelled (s ∷ kept) false = ([], inl refl, sym (path_with_none (s ∷ kept) false refl (omega arith)) ∙ sym (append-nil (slashed (s ∷ kept))))
+spelled (s ∷ kept) false = ([], inl refl, sym (path_with_none (s ∷ kept) false refl (omega arith)) ∙ sym (append-nil (behind_slashes (s ∷ kept))))
 
 -- what stands from a slash on
 readable-back : (path q rest : List ℕ) → path ≡ q ++ 47 ∷ rest → IsReadAsItself path → IsReadAsItself (47 ∷ rest)

@@ -8,9 +8,9 @@ use Rattle.std.proofs.lemmas.List.{reverse-append, reverse-reverse}
 use Rattle.std.proofs.lemmas.List.Elements.{recursion_from_All, All-from_recursion}
 use Rattle.std.proofs.lemmas.Bool.{false≢true, false_from_ne_true}
 use Rattle.std.proofs.lemmas.List.Sums.{sum_by-cons}
-use Rattle.dav_path_core.specs.Reading.{is_idle, is_up, is_ordinary, IsDroppable, Drops, Rewrites, IsReduced}
-use Rattle.dav_path_core.specs.Reading.IsDroppable.{idle, pair}
-use Rattle.dav_path_core.specs.Reading.Rewrites.{none, more}
+use Rattle.dav_path_core.specs.PathReading.{is_idle, is_up, is_ordinary, IsDroppable, Drops, Rewrites, IsReduced}
+use Rattle.dav_path_core.specs.PathReading.IsDroppable.{idle, pair}
+use Rattle.dav_path_core.specs.PathReading.Rewrites.{none, more}
 
 some_inj : (a b : List (List ℕ)) → Some a ≡ Some b → a ≡ b
 some_inj a b h = cc

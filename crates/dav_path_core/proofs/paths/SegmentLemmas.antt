@@ -10,7 +10,7 @@ use Rattle.std.proofs.lemmas.List.{drop_more, drop_all, get_or-drop}
 use Rattle.std.proofs.lemmas.List.Elements.{All-from_get_or}
 use Rattle.std.proofs.lemmas.List.Splits.{slice_split_none, slice_split_first}
 use Rattle.std.proofs.lemmas.List.Sums.{prefix_len-le-length, fails_before_first, passes_at_first}
-use Rattle.dav_path_core.specs.Segments.{segments, is_slash, is_nonempty, pieces}
+use Rattle.dav_path_core.specs.Segments.{segments, is_slash, is_nonempty, slash_pieces}
 
 pub position_or : (test : ℕ → Bool) (xs : List ℕ) (r : Option ℕ) (n : ℕ) → r ≡ cond (ltb (position_or_len test xs) (length xs)) (Some (position_or_len test xs)) None → n ≡ unwrap_or r (length xs) → n ≡ position_or_len test xs
 position_or test xs r n e u =
@@ -44,11 +44,11 @@ no_slash_at bs h =
 nonempty : (piece : List ℕ) → 0 < length piece → is_nonempty piece ≡ true
 nonempty piece h = grind (arith, nat_tests)
 
-segments_cons : (bs piece rest : List ℕ) (parts : List (List ℕ)) → pieces bs ≡ piece ∷ parts → 0 < length piece → filter is_nonempty parts ≡ segments rest → segments bs ≡ piece ∷ segments rest
+segments_cons : (bs piece rest : List ℕ) (parts : List (List ℕ)) → slash_pieces bs ≡ piece ∷ parts → 0 < length piece → filter is_nonempty parts ≡ segments rest → segments bs ≡ piece ∷ segments rest
 unfolding segments
 segments_cons bs piece rest parts e h f = rw (e, nonempty piece h, f) refl
 
-segments_is : (bs : List ℕ) → filter is_nonempty (pieces bs) ≡ segments bs
+segments_is : (bs : List ℕ) → filter is_nonempty (slash_pieces bs) ≡ segments bs
 unfolding segments
 segments_is bs = refl
 
@@ -62,7 +62,7 @@ segments-take bs h =
     let within : n ≤ length bs = prefix_len-le-length (λ b. not (is_slash b)) bs in
     let long : 0 < length (take n bs) = omega (arith, length-take n bs) in
     ⊎_elim
-    (λ (lt : n < length bs). segments_cons bs (take n bs) (drop n bs) (pieces (drop (n + 1) bs)) (slice_split_first is_slash bs 0 lt) long
+    (λ (lt : n < length bs). segments_cons bs (take n bs) (drop n bs) (slash_pieces (drop (n + 1) bs)) (slice_split_first is_slash bs 0 lt) long
     (segments_is (drop (n + 1) bs) ∙ sym (segments-slash (get_or bs n 0) (drop (n + 1) bs) (passes_at_first is_slash bs 0 lt)) ∙ ap segments (sym (drop_more bs n 0 lt))))
     (λ (ge : length bs ≤ n).
     segments_cons bs (take n bs) (drop n bs) []
@@ -110,12 +110,12 @@ sum_onto : (b : ℕ) (parts : List (List ℕ)) → sum_by length (onto_first b p
 sum_onto b [] = refl
 sum_onto b (part ∷ parts) = omega (arith, sum_by-cons length (b ∷ part) parts, sum_by-cons length part parts)
 
-sum_pieces : (bs : List ℕ) → sum_by length (pieces bs) ≤ length bs
+sum_pieces : (bs : List ℕ) → sum_by length (slash_pieces bs) ≤ length bs
 sum_pieces [] = omega arith
 sum_pieces (b ∷ bs) =
-    cond_both (is_slash b) ([] ∷ pieces bs) (onto_first b (pieces bs)) (λ l. sum_by length l ≤ length (b ∷ bs))
-    (λ e. omega (arith, sum_pieces bs, sum_by-cons length [] (pieces bs)))
-    (λ e. omega (arith, sum_pieces bs, sum_onto b (pieces bs)))
+    cond_both (is_slash b) ([] ∷ slash_pieces bs) (onto_first b (slash_pieces bs)) (λ l. sum_by length l ≤ length (b ∷ bs))
+    (λ e. omega (arith, sum_pieces bs, sum_by-cons length [] (slash_pieces bs)))
+    (λ e. omega (arith, sum_pieces bs, sum_onto b (slash_pieces bs)))
 
 from_nonempty : (part : List ℕ) → is_nonempty part ≡ true → 0 < length part
 from_nonempty part h = grind (arith, nat_tests)
@@ -129,4 +129,4 @@ few (part ∷ parts) =
 
 pub length-segments : (bs : List ℕ) → length (segments bs) ≤ length bs
 unfolding segments
-length-segments bs = omega (arith, few (pieces bs), sum_pieces bs)
+length-segments bs = omega (arith, few (slash_pieces bs), sum_pieces bs)

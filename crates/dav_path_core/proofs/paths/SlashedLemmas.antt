@@ -5,9 +5,9 @@ use Rattle.std.proofs.lemmas.Grind.{flat_map-append}
 use Rattle.std.proofs.lemmas.List.{append-nil, length-append}
 use Rattle.std.proofs.lemmas.List.Elements.{All-push, All-pop, Contains-append_right, Contains-append_cases, Contains-push_cases}
 use Rattle.percent_encoding.specs.Percent.{percent_decode}
-use Rattle.dav_path_core.specs.Segments.{pieces}
-use Rattle.dav_path_core.specs.Reading.{decoded_pieces, IsForeign}
-use Rattle.dav_path_core.specs.Private.Keeping.{slashed, Spells, Takes}
+use Rattle.dav_path_core.specs.Segments.{slash_pieces}
+use Rattle.dav_path_core.specs.PathReading.{decoded_pieces, IsForeign}
+use Rattle.dav_path_core.specs.Private.Keeping.{behind_slashes, Spells, TakesPiece}
 use Rattle.dav_path_core.proofs.paths.KeptLemmas.{Along, Along-turn}
 use Rattle.dav_path_core.proofs.lists.Snoc.{by_last}
 
@@ -42,8 +42,8 @@ pub no_slash_more : (b : ℕ) (rest : List ℕ) → ¬ (b ≡ 47) → ¬ Contain
 no_slash_more b rest p q h = ⊎_elim (λ w. ⊎_elim (nothing_in_none 47) p (Contains-push_cases [] b 47 w)) q (Contains-append_cases (b ∷ []) rest 47 h)
 
 -- one piece more
-pub slashed-push : (kept : List (List ℕ)) (s : List ℕ) → slashed (kept ++ s ∷ []) ≡ slashed kept ++ 47 ∷ s
-slashed-push kept s = flat_map-append (λ t. 47 ∷ t) kept (s ∷ []) ∙ ap (λ l. slashed kept ++ 47 ∷ l) (append-nil s)
+pub slashed-push : (kept : List (List ℕ)) (s : List ℕ) → behind_slashes (kept ++ s ∷ []) ≡ behind_slashes kept ++ 47 ∷ s
+slashed-push kept s = flat_map-append (λ t. 47 ∷ t) kept (s ∷ []) ∙ ap (λ l. behind_slashes kept ++ 47 ∷ l) (append-nil s)
 
 pub Spells-none : Spells [] []
 Spells-none = record { whole = λ k d lt. absurd (omega (arith, lt)); spelling = refl }
@@ -58,11 +58,11 @@ Spells-push kept path s clean h = record {
 pub Spells-pop : (kept : List (List ℕ)) (front last : List ℕ) → ¬ Contains last 47 → Spells kept (front ++ 47 ∷ last)
     → (new : List (List ℕ)) × (s : List ℕ) × (kept ≡ new ++ s ∷ []) × Spells new front
 Spells-pop kept front last clean h = elim (by_last kept) [
-  | inl e ↦ absurd (omega (arith, ap length (h.spelling ∙ ap slashed e), length-append front (47 ∷ last)))
+  | inl e ↦ absurd (omega (arith, ap length (h.spelling ∙ ap behind_slashes e), length-append front (47 ∷ last)))
   | inr w ↦
       let parts = All-pop (λ t. ¬ Contains t 47) kept w.0 (Some w.1) w.2 h.whole in
-      let e = h.spelling ∙ ap slashed w.2 ∙ slashed-push w.0 w.1 in
-      (w.0, w.1, w.2, record { whole = parts.0; spelling = same_front front (slashed w.0) last w.1 clean parts.1 e })
+      let e = h.spelling ∙ ap behind_slashes w.2 ∙ slashed-push w.0 w.1 in
+      (w.0, w.1, w.2, record { whole = parts.0; spelling = same_front front (behind_slashes w.0) last w.1 clean parts.1 e })
 ]
 
 -- without a slash nothing is kept
@@ -71,11 +71,11 @@ Spells-empty [] path clean h = refl
 Spells-empty (s ∷ kept) path clean h = absurd (clean (subst (λ l. Contains l 47) (sym h.spelling) (0, omega arith, refl)))
 
 -- a path is empty where nothing is kept, alone
-pub slashed-empty : (kept : List (List ℕ)) (path : List ℕ) → path ≡ slashed kept → length path ≡ 0 → length kept ≡ 0
+pub slashed-empty : (kept : List (List ℕ)) (path : List ℕ) → path ≡ behind_slashes kept → length path ≡ 0 → length kept ≡ 0
 slashed-empty [] path e h = refl
 slashed-empty (s ∷ kept) path e h = absurd (omega (arith, h, ap length e))
 
-pub slashed-some : (kept : List (List ℕ)) (path : List ℕ) → path ≡ slashed kept → 0 < length path → 0 < length kept
+pub slashed-some : (kept : List (List ℕ)) (path : List ℕ) → path ≡ behind_slashes kept → 0 < length path → 0 < length kept
 slashed-some [] path e h = absurd (omega (arith, h, ap length e))
 slashed-some (s ∷ kept) path e h = omega arith
 
@@ -86,8 +86,8 @@ abbrev pub KeptPath : (raw_text path : List ℕ) (n : ℕ) → Type 0
 KeptPath raw_text path n = (kept : List (List ℕ)) × Along (decoded_pieces raw_text) kept n × Spells kept path
 
 pub KeptPath-turn : (raw_text piece decoded old new : List ℕ) (n : ℕ) → KeptPath raw_text old n
-    → ((kept : List (List ℕ)) → Spells kept old → (more : List (List ℕ)) × Takes kept decoded more × Spells more new)
-    → (n < length (pieces raw_text)) × (piece ≡ get_or (pieces raw_text) n piece) → decoded ≡ percent_decode piece → ¬ IsForeign decoded
+    → ((kept : List (List ℕ)) → Spells kept old → (more : List (List ℕ)) × TakesPiece kept decoded more × Spells more new)
+    → (n < length (slash_pieces raw_text)) × (piece ≡ get_or (slash_pieces raw_text) n piece) → decoded ≡ percent_decode piece → ¬ IsForeign decoded
     → KeptPath raw_text new (n + 1)
 KeptPath-turn raw_text piece decoded old new n h takes t e clean =
     let next = takes h.0 h.2 in

@@ -8,14 +8,14 @@ use Rattle.std.proofs.lemmas.List.Elements.{All-from_get_or}
 use Rattle.dav_path_core.proofs.paths.NameLemmas.{NoSlashFrom}
 use Rattle.std.proofs.lemmas.List.{take_more}
 use Rattle.std.proofs.lemmas.List.Elements.{filter-append}
-use Rattle.dav_path_core.specs.Segments.{segments, is_slash, is_nonempty, pieces}
+use Rattle.dav_path_core.specs.Segments.{segments, is_slash, is_nonempty, slash_pieces}
 use Rattle.dav_path_core.specs.Fronts.{Path, parent}
 use Rattle.dav_path_core.proofs.paths.PieceLemmas.{pieces-at_slash}
 
 -- a slash parts the segments
 pub segments-at_slash : (front back : List ℕ) → segments (front ++ 47 ∷ back) ≡ segments front ++ segments back
 unfolding segments
-segments-at_slash front back = ap (filter is_nonempty) (pieces-at_slash front back) ∙ filter-append is_nonempty (pieces front) (pieces back)
+segments-at_slash front back = ap (filter is_nonempty) (pieces-at_slash front back) ∙ filter-append is_nonempty (slash_pieces front) (slash_pieces back)
 
 segments-none : segments [] ≡ []
 unfolding segments

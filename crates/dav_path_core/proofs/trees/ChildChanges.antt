@@ -1,6 +1,6 @@
 -- Who is a child after each change of a keyed tree.
 use Rattle.std.proofs.Common.{◌≡◌, ◌≢◌, ℕ, Some, None, Option, refl, ap, sym, ◌∙◌, subst, inl, inr, ◌⊎◌}
-use Rattle.dav_path_core.specs.Keyed.{Entry, Keyed, entry, add_as, without, placed, placed_at, with_item, with_item_at, parent_and_key_of, IsChild}
+use Rattle.dav_path_core.specs.Keyed.{Entry, Keyed, entry, add_as, without_node, with_new_place, placed_at, with_item, with_item_at, parent_and_key_of, IsChild}
 use Rattle.dav_path_core.proofs.trees.Trees.{none≢some, same_some, child_before, Sets, Sets-insert, known_from_child}
 use Rattle.dav_path_core.proofs.trees.KeyedCuts.{parent_and_key-without, apart}
 
@@ -13,8 +13,8 @@ module _ {K D : Type 0} where
   ]
 
 module _ {K D : Type 0} (t : Keyed K D) where
-  pub child-without : (n q m : ℕ) (l : K) → IsChild (without t n) q l m → IsChild t q l m × m ≢ n
-  child-without n q m l h = (parent_and_key-without t n m (q, l) h, apart t n m (known_from_child (without t n) q l m h))
+  pub child-without : (n q m : ℕ) (l : K) → IsChild (without_node t n) q l m → IsChild t q l m × m ≢ n
+  child-without n q m l h = (parent_and_key-without t n m (q, l) h, apart t n m (known_from_child (without_node t n) q l m h))
 
   pub child-add_as : (n next p : ℕ) (k : K) (d : D) (q m : ℕ) (l : K) → IsChild (add_as t n next p k d) q l m → ((q ≡ p) × (l ≡ k) × (m ≡ n)) ⊎ ((m ≢ n) × IsChild t q l m)
   child-add_as n next p k d q m l h =
@@ -28,7 +28,7 @@ module _ {K D : Type 0} (t : Keyed K D) where
         let e : Entry K D = record x { parent_and_key = Some (p, k) } in
         one_child t (placed_at t n p k (Some x)) n p k e refl (Sets-insert t.nodes n e) q m l h
 
-    pub child-placed : (q m : ℕ) (l : K) → IsChild (placed t n p k) q l m → ((q ≡ p) × (l ≡ k) × (m ≡ n)) ⊎ ((m ≢ n) × IsChild t q l m)
+    pub child-placed : (q m : ℕ) (l : K) → IsChild (with_new_place t n p k) q l m → ((q ≡ p) × (l ≡ k) × (m ≡ n)) ⊎ ((m ≢ n) × IsChild t q l m)
     child-placed = placed-entry (entry t n) refl
 
   module _ (n : ℕ) (d : D) where

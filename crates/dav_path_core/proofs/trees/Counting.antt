@@ -11,7 +11,7 @@ use Rattle.std.proofs.lemmas.Map.Entries.{length-keys_of}
 use Rattle.std.proofs.lemmas.Map.Keys.{IsDistinct-cons}
 use Rattle.std.proofs.lemmas.Map.Made.{is_some-lookup, length-le_from_is_member, length-from_same_keys}
 use Rattle.dav_path_core.specs.declared.tree.Node.{Node}
-use Rattle.dav_path_core.specs.Keyed.{Keyed, Leads, entry, parent, IsKnown, IsTree}
+use Rattle.dav_path_core.specs.Keyed.{Keyed, LeadsToRoot, entry, parent_number, IsKnown, IsTree}
 use Rattle.dav_path_core.specs.View.{entry_of, keyed_of}
 use Rattle.dav_path_core.proofs.lists.Every.{first_so, second_so}
 use Rattle.dav_path_core.proofs.children.Chains.{no_distinct}
@@ -55,10 +55,10 @@ module _ {K D : Type 0} where
       omega (arith, less, numbers-length t)
 
   -- the way from a node up to the root is shorter than there are nodes
-  pub way_short : (eq : K → K → Bool) (t : Keyed K D) → IsTree eq t → (n : ℕ) (l : Leads (parent t) n) → depth l < len t.nodes
+  pub way_short : (eq : K → K → Bool) (t : Keyed K D) → IsTree eq t → (n : ℕ) (l : LeadsToRoot (parent_number t) n) → depth l < len t.nodes
   way_short eq t tree n l =
-      let up : parent t 1 ≡ None = top eq t tree in
-      let fits : length (way l) ≤ len t.nodes = at_most_count t (way l) (once (parent t) up l) (λ q h. known_leads eq t tree q (on_way (parent t) up l q h).0) in
+      let up : parent_number t 1 ≡ None = top eq t tree in
+      let fits : length (way l) ≤ len t.nodes = at_most_count t (way l) (once (parent_number t) up l) (λ q h. known_leads eq t tree q (on_way (parent_number t) up l q h).0) in
       omega (arith, fits, length-way l)
 
   -- the nodes of the view are as many as its entries

@@ -3,17 +3,17 @@ use Rattle.std.proofs.Common.{◌≡◌, ◌≢◌, ℕ, Bool, true, false, Some
 use Rattle.std.specs.Cmp.{IsEquivalence}
 use Rattle.std.specs.Option.{option_map}
 use Rattle.std.proofs.lemmas.Bool.{cases_eq, false≢true, true≢false, false_from_ne_true}
-use Rattle.dav_path_core.specs.Keyed.{Entry, Keyed, Leads, root, up, Under, here, below, entry, parent_and_key, parent_and_key_of, parent, child, is_under, without, placed, placed_at, IsChild, IsKnown, IsTree}
+use Rattle.dav_path_core.specs.Keyed.{Entry, Keyed, LeadsToRoot, root, up, Under, here, below, entry, parent_and_key, parent_and_key_of, parent_number, child, is_under, without_node, with_new_place, placed_at, IsChild, IsKnown, IsTree}
 use Rattle.dav_path_core.proofs.trees.Trees.{same_some, none≢some, child-none, child-some, child_before, Sets, Sets-insert, known_from_child, known_from_parent}
 use Rattle.dav_path_core.proofs.trees.KeyedDepth.{is_under-true}
 use Rattle.dav_path_core.proofs.trees.KeyedCuts.{IsLeaf, Under-mono, IsTree-without, entry-without, apart, parent-without, parent_and_key-without}
 
 module _ {f g : ℕ → Option ℕ} (n : ℕ) (other : (q : ℕ) → q ≢ n → g q ≡ f q) where
-  beside : {r : ℕ} → Leads f r → (Under f n r → ⊥) → Leads g r
+  beside : {r : ℕ} → LeadsToRoot f r → (Under f n r → ⊥) → LeadsToRoot g r
   beside root no_way = root
   beside {r = r} (up e l) no_way = up (other r (λ is. no_way (subst (Under f n) (sym is) here)) ∙ e) (beside l (λ u. no_way (below e u)))
 
-  still : (p : ℕ) → g n ≡ Some p → Leads g p → {q : ℕ} → Leads f q → Leads g q
+  still : (p : ℕ) → g n ≡ Some p → LeadsToRoot g p → {q : ℕ} → LeadsToRoot f q → LeadsToRoot g q
   still p at lp root = root
   still p at lp {q = q} (up e l) = elim (cases_eq q n) [ inl is ↦ up (subst (λ v. g v ≡ Some p) (sym is) at) lp | inr ne ↦ up (other q ne ∙ e) (still p at lp l) ]
 
@@ -27,9 +27,9 @@ module _ {K D : Type 0} (eq : K → K → Bool) (symm : (a b : K) → eq a b ≡
       let same_known : (q : ℕ) → IsKnown u q → IsKnown t q =
       λ q h. elim (cases_eq q n) [ inl is ↦ subst (IsKnown t) (sym is) (ap is_some at) | inr ne ↦ ap is_some (sym (s.other q ne)) ∙ h ] in
       let one : 1 ≢ n = λ e. not_root (sym e) in
-      let other : (q : ℕ) → q ≢ n → parent u q ≡ parent t q = λ q ne. ap (λ o. option_map (λ x. x.0) (parent_and_key_of o)) (s.other q ne) in
-      let here_p : parent u n ≡ Some p = ap (λ o. option_map (λ x. x.0) (parent_and_key_of o)) s.here in
-      let lp : Leads (parent u) p = beside n other (tree.attached p known) (λ v. false≢true (sym outside ∙ (is_under-true eq t tree n p known).1 v)) in
+      let other : (q : ℕ) → q ≢ n → parent_number u q ≡ parent_number t q = λ q ne. ap (λ o. option_map (λ x. x.0) (parent_and_key_of o)) (s.other q ne) in
+      let here_p : parent_number u n ≡ Some p = ap (λ o. option_map (λ x. x.0) (parent_and_key_of o)) s.here in
+      let lp : LeadsToRoot (parent_number u) p = beside n other (tree.attached p known) (λ v. false≢true (sym outside ∙ (is_under-true eq t tree n p known).1 v)) in
       record {
         root = (ap is_some (s.other 1 one) ∙ tree.root.0, ap parent_and_key_of (s.other 1 one) ∙ tree.root.1);
         numbered = λ q h. tree.numbered q (same_known q h);
@@ -50,7 +50,7 @@ module _ {K D : Type 0} (eq : K → K → Bool) (symm : (a b : K) → eq a b ≡
         ];
       }
 
-  pub IsTree-placed : IsTree eq (placed t n p k)
+  pub IsTree-placed : IsTree eq (with_new_place t n p k)
   IsTree-placed = at_entry (entry t n) refl
 
 module _ {K D : Type 0} (eq : K → K → Bool) (laws : IsEquivalence eq) (t : Keyed K D) (n p : ℕ) (k : K) (tree : IsTree eq t) (known_n : IsKnown t n) (known : IsKnown t p) (not_root : n ≢ 1) (outside : is_under t n p ≡ false) where
@@ -59,7 +59,7 @@ module _ {K D : Type 0} (eq : K → K → Bool) (laws : IsEquivalence eq) (t : K
     found : (l : K) × IsChild t p l c × (eq k l ≡ true)
     found = child-some t (eq k) p c at
 
-    below_p : parent t c ≡ Some p
+    below_p : parent_number t c ≡ Some p
     below_p = ap (option_map (λ q. q.0)) found.1
 
     pub c_not_root : c ≢ 1
@@ -68,23 +68,23 @@ module _ {K D : Type 0} (eq : K → K → Bool) (laws : IsEquivalence eq) (t : K
     pub p_apart : p ≢ c
     p_apart is = alone c (below_p ∙ ap (λ (x : ℕ). Some x) is)
 
-    rest : IsTree eq (without t c)
+    rest : IsTree eq (without_node t c)
     rest = IsTree-without eq t c tree c_not_root alone
 
-    pub known_rest : IsKnown (without t c) p
+    pub known_rest : IsKnown (without_node t c) p
     known_rest = ap is_some ((entry-without t c).other p p_apart) ∙ known
 
-    up_before : (q r : ℕ) → parent (without t c) q ≡ Some r → parent t q ≡ Some r
-    up_before q r e = sym (parent-without t c q (apart t c q (known_from_parent (without t c) q r e))) ∙ e
+    up_before : (q r : ℕ) → parent_number (without_node t c) q ≡ Some r → parent_number t q ≡ Some r
+    up_before q r e = sym (parent-without t c q (apart t c q (known_from_parent (without_node t c) q r e))) ∙ e
 
-    pub outside_rest : is_under (without t c) n p ≡ false
-    outside_rest = false_from_ne_true _ (λ e. false≢true (sym outside ∙ (is_under-true eq t tree n p known).1 (Under-mono up_before ((is_under-true eq (without t c) rest n p known_rest).0 e))))
+    pub outside_rest : is_under (without_node t c) n p ≡ false
+    outside_rest = false_from_ne_true _ (λ e. false≢true (sym outside ∙ (is_under-true eq t tree n p known).1 (Under-mono up_before ((is_under-true eq (without_node t c) rest n p known_rest).0 e))))
 
-    pub free_rest : child (eq k) (without t c) p ≡ None
-    free_rest = elim (child (eq k) (without t c) p) as (λ o. child (eq k) (without t c) p ≡ o → o ≡ None) [
+    pub free_rest : child (eq k) (without_node t c) p ≡ None
+    free_rest = elim (child (eq k) (without_node t c) p) as (λ o. child (eq k) (without_node t c) p ≡ o → o ≡ None) [
       | None ↦ λ e. refl
       | Some m ↦ λ e.
-          let w = child-some (without t c) (eq k) p m e in
+          let w = child-some (without_node t c) (eq k) p m e in
           let same : c ≡ m = tree.distinct p found.0 w.0 c m found.1 (parent_and_key-without t c m (p, w.0) w.1) (sym (laws.congr k found.0 w.0 found.2) ∙ w.2) in
-          absurd (apart t c m (known_from_child (without t c) p w.0 m w.1) (sym same))
+          absurd (apart t c m (known_from_child (without_node t c) p w.0 m w.1) (sym same))
     ] refl

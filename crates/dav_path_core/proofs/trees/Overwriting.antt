@@ -4,7 +4,7 @@ use Rattle.std.specs.Cmp.{nat_cmp_total, IsEquivalence}
 use Rattle.std.specs.Option.{option_map}
 use Rattle.std.specs.FinMap.{same_map, nat_cmp-IsAntisymmetric}
 use Rattle.std.proofs.lemmas.Bool.{cases_eq, cases_Bool, false≢true, false_from_ne_true}
-use Rattle.dav_path_core.specs.Keyed.{Entry, Keyed, Under, here, below, entry, parent_and_key, parent_and_key_of, parent, child, add, cut, is_under, placed, placed_at, IsChild, IsKnown, IsTree}
+use Rattle.dav_path_core.specs.Keyed.{Entry, Keyed, Under, here, below, entry, parent_and_key, parent_and_key_of, parent_number, child, add, without_subtree, is_under, with_new_place, placed_at, IsChild, IsKnown, IsTree}
 use Rattle.dav_path_core.proofs.trees.Trees.{none≢some, same_some, none_from_is_some, known_from_child, known_from_parent, child-some, child_before, Sets, Sets-insert}
 use Rattle.dav_path_core.proofs.trees.KeyedDepth.{is_under-true, no_cycle, top}
 use Rattle.dav_path_core.proofs.trees.KeyedCuts.{same_truth, entry-cut, none-cut, cut-in, cut-out}
@@ -40,7 +40,7 @@ module _ {K D : Type 0} where
     pub old_known : IsKnown t c
     old_known = known_from_child t p found.0 c found.1
 
-    old_parent : parent t c ≡ Some p
+    old_parent : parent_number t c ≡ Some p
     old_parent = ap (option_map (λ q. q.0)) found.1
 
     pub old_not_root : c ≢ 1
@@ -53,26 +53,26 @@ module _ {K D : Type 0} where
     old_apart = new_apart c old_known
 
     p_apart : p ≢ c
-    p_apart is = no_cycle (parent t) (top eq t tree) old_parent (tree.attached p known) (subst (λ v. Under (parent t) v p) is here)
+    p_apart is = no_cycle (parent_number t) (top eq t tree) old_parent (tree.attached p known) (subst (λ v. Under (parent_number t) v p) is here)
 
     -- the parents of w are those of t but for the new number and the old child
-    module _ (w : Keyed K D) (same : (q : ℕ) → q ≢ t.next → q ≢ c → parent w q ≡ parent t q) where
-      back : {q : ℕ} → Under (parent w) c q → IsKnown t q → Under (parent t) c q
+    module _ (w : Keyed K D) (same : (q : ℕ) → q ≢ t.next → q ≢ c → parent_number w q ≡ parent_number t q) where
+      back : {q : ℕ} → Under (parent_number w) c q → IsKnown t q → Under (parent_number t) c q
       back here h = here
       back {q = q} (below {p = r} e u) h = elim (cases_eq q c) [
-        | inl is ↦ subst (Under (parent t) c) (sym is) here
-        | inr ne ↦ let e' : parent t q ≡ Some r = sym (same q (new_apart q h) ne) ∙ e in below e' (back u (parent_known eq t tree q r e'))
+        | inl is ↦ subst (Under (parent_number t) c) (sym is) here
+        | inr ne ↦ let e' : parent_number t q ≡ Some r = sym (same q (new_apart q h) ne) ∙ e in below e' (back u (parent_known eq t tree q r e'))
       ]
 
-      forth : {q : ℕ} → Under (parent t) c q → Under (parent w) c q
+      forth : {q : ℕ} → Under (parent_number t) c q → Under (parent_number w) c q
       forth u = under_but (λ q r ne e. same q (new_apart q (known_from_parent t q r e)) ne ∙ e) u
 
       -- the new number is not below the old child
-      not_below : parent w t.next ≡ Some p → {q : ℕ} → q ≡ t.next → Under (parent w) c q → ⊥
+      not_below : parent_number w t.next ≡ Some p → {q : ℕ} → q ≡ t.next → Under (parent_number w) c q → ⊥
       not_below at is here = old_apart is
       not_below at is (below {p = r} e u) =
-          let same_p : r ≡ p = same_some r p (sym e ∙ ap (parent w) is ∙ at) in
-          no_cycle (parent t) (top eq t tree) old_parent (tree.attached p known) (back (subst (Under (parent w) c) same_p u) known)
+          let same_p : r ≡ p = same_some r p (sym e ∙ ap (parent_number w) is ∙ at) in
+          no_cycle (parent_number t) (top eq t tree) old_parent (tree.attached p known) (back (subst (Under (parent_number w) c) same_p u) known)
 
     -- ---- with the new child
     abbrev added : Keyed K D
@@ -84,7 +84,7 @@ module _ {K D : Type 0} where
     s1 : Sets (entry t) (entry added) t.next (Some new_entry)
     s1 = Sets-insert t.nodes t.next new_entry
 
-    parent1 : (q : ℕ) → q ≢ t.next → parent added q ≡ parent t q
+    parent1 : (q : ℕ) → q ≢ t.next → parent_number added q ≡ parent_number t q
     parent1 q ne = ap (λ o. option_map (λ w. w.0) (parent_and_key_of o)) (s1.other q ne)
 
     pub new_known : IsKnown added t.next
@@ -98,7 +98,7 @@ module _ {K D : Type 0} where
 
     -- ---- with the old child below it
     abbrev pub over : Keyed K D
-    over = placed added c t.next found.0
+    over = with_new_place added c t.next found.0
 
     known_entry : (o : Option (Entry K D)) → IsSome o → (x : Entry K D) × (o ≡ Some x)
     known_entry None h = absurd (false≢true h)
@@ -125,7 +125,7 @@ module _ {K D : Type 0} where
     new2 : entry over t.next ≡ Some new_entry
     new2 = s2.other t.next (λ e. old_apart (sym e)) ∙ s1.here
 
-    parent2 : (q : ℕ) → q ≢ t.next → q ≢ c → parent over q ≡ parent t q
+    parent2 : (q : ℕ) → q ≢ t.next → q ≢ c → parent_number over q ≡ parent_number t q
     parent2 q new old = ap (λ o. option_map (λ w. w.0) (parent_and_key_of o)) (entry2 q new old)
 
     -- which child of r a number is under the key a
@@ -174,8 +174,8 @@ module _ {K D : Type 0} where
       new_not_under : is_under over c t.next ≡ false
       new_not_under = false_from_ne_true _ (λ e. not_below over parent2 (ap (λ o. option_map (λ w. w.0) (parent_and_key_of o)) new2) refl ((is_under-true never over loose c t.next (ap is_some new2)).0 e))
 
-      s3 : Sets (entry (cut t c)) (entry (add (cut t c) p k d)) t.next (Some new_entry)
-      s3 = Sets-insert (cut t c).nodes t.next new_entry
+      s3 : Sets (entry (without_subtree t c)) (entry (add (without_subtree t c) p k d)) t.next (Some new_entry)
+      s3 = Sets-insert (without_subtree t c).nodes t.next new_entry
 
       same_test : (q : ℕ) → IsKnown t q → q ≢ c → is_under over c q ≡ is_under t c q
       same_test q h ne =
@@ -187,9 +187,9 @@ module _ {K D : Type 0} where
       pub old_known_over : IsKnown over c
       old_known_over = ap is_some s2.here
 
-      left : (q : ℕ) → q ≢ t.next → entry (cut over c) q ≡ entry (cut t c) q
+      left : (q : ℕ) → q ≢ t.next → entry (without_subtree over c) q ≡ entry (without_subtree t c) q
       left q new = elim (cases_eq q c) [
-        | inl is ↦ subst (λ v. entry (cut over c) v ≡ entry (cut t c) v) (sym is)
+        | inl is ↦ subst (λ v. entry (without_subtree over c) v ≡ entry (without_subtree t c) v) (sym is)
             (cut-in never over c c ((is_under-true never over loose c c old_known_over).1 here) ∙ sym (cut-in eq t c c ((is_under-true eq t tree c c old_known).1 here)))
         | inr ne ↦ elim (cases_Bool (is_some (entry t q))) [
           | inl h ↦ entry-cut over c q ∙ ap (λ b. cond (not b) (entry over q) None) (same_test q h ne) ∙ ap (λ o. cond (not (is_under t c q)) o None) (entry2 q new ne) ∙ sym (entry-cut t c q)
@@ -197,15 +197,15 @@ module _ {K D : Type 0} where
         ]
       ]
 
-      same_entries : (q : ℕ) → entry (cut over c) q ≡ entry (add (cut t c) p k d) q
+      same_entries : (q : ℕ) → entry (without_subtree over c) q ≡ entry (add (without_subtree t c) p k d) q
       same_entries q = elim (cases_eq q t.next) [
-        | inl is ↦ subst (λ v. entry (cut over c) v ≡ entry (add (cut t c) p k d) v) (sym is) (cut-out never over c t.next new_not_under ∙ new2 ∙ sym s3.here)
+        | inl is ↦ subst (λ v. entry (without_subtree over c) v ≡ entry (add (without_subtree t c) p k d) v) (sym is) (cut-out never over c t.next new_not_under ∙ new2 ∙ sym s3.here)
         | inr new ↦ left q new ∙ sym (s3.other q new)
       ]
 
       -- it is the new child in the tree without the old one
-      pub cut-over : cut over c ≡ add (cut t c) p k d
+      pub cut-over : without_subtree over c ≡ add (without_subtree t c) p k d
       cut-over = λ i. record {
-        nodes = same_map nat_cmp_total nat_cmp-IsAntisymmetric (cut over c).nodes (add (cut t c) p k d).nodes same_entries i;
+        nodes = same_map nat_cmp_total nat_cmp-IsAntisymmetric (without_subtree over c).nodes (add (without_subtree t c) p k d).nodes same_entries i;
         next = over-next i;
       }

@@ -4,7 +4,7 @@ use Rattle.std.specs.Option.{option_map}
 use Rattle.std.proofs.lemmas.Bool.{cases_Bool, cases_eq, eq-eqb, ne_eqb, true≢false, and_parts, or_parts, or_right}
 use Rattle.dav_path_core.specs.declared.errors.FsError.{FsError}
 use Rattle.dav_path_core.specs.declared.errors.FsError.TheVariants.{Exists, NotFound, Forbidden}
-use Rattle.dav_path_core.specs.Keyed.{Keyed, Leads, root, up, Under, here, below, entry, parent_and_key, parent, child, has_child, delete_refusal, move_refusal, restore_refusal, is_kept, is_under, IsKnown, IsTree}
+use Rattle.dav_path_core.specs.Keyed.{Keyed, LeadsToRoot, root, up, Under, here, below, entry, parent_and_key, parent_number, child, has_child, delete_refusal, move_refusal, restore_refusal, is_kept, is_under, IsKnown, IsTree}
 use Rattle.dav_path_core.proofs.trees.Trees.{none≢some, none_from_is_some, child-none, child-some}
 use Rattle.dav_path_core.proofs.trees.KeyedDepth.{is_under-true}
 use Rattle.dav_path_core.proofs.trees.KeyedCuts.{parent_child}
@@ -16,13 +16,13 @@ apart_refusals-2 : ◌≡◌ {A = Option FsError} (Some NotFound) (Some Forbidde
 apart_refusals-2 e = cc
 
 -- what leads to the root lies below it
-under_root : {f : ℕ → Option ℕ} {n : ℕ} → Leads f n → Under f 1 n
+under_root : {f : ℕ → Option ℕ} {n : ℕ} → LeadsToRoot f n → Under f 1 n
 under_root root = here
 under_root (up e l) = below e (under_root l)
 
 module _ {K D : Type 0} (t : Keyed K D) where
   -- a node with no parent is the root
-  top_leads : {n : ℕ} → Leads (parent t) n → parent_and_key t n ≡ None → n ≡ 1
+  top_leads : {n : ℕ} → LeadsToRoot (parent_number t) n → parent_and_key t n ≡ None → n ≡ 1
   top_leads root e = refl
   top_leads (up {p = p} f l) e = absurd (none≢some p (sym (ap (option_map (λ q. q.0)) e) ∙ f))
 
@@ -38,14 +38,14 @@ module _ {K D : Type 0} (t : Keyed K D) where
       free true true o h = absurd (none≢some Exists (sym h))
       free false true o h = absurd (none≢some NotFound (sym h))
 
-  pub has_child-true : (n m : ℕ) → parent t m ≡ Some n → has_child t n ≡ true
+  pub has_child-true : (n m : ℕ) → parent_number t m ≡ Some n → has_child t n ≡ true
   has_child-true n m e =
       elim (child (λ _. true) t n) as (λ o. child (λ _. true) t n ≡ o → is_some o ≡ true) [
         | None ↦ λ none. let w = parent_child (entry t m) n e in absurd (true≢false (child-none t (λ _. true) n none m w.0 w.1))
         | Some c ↦ λ some. refl
       ] refl
 
-  pub has_child-false : (n : ℕ) → ((m : ℕ) → parent t m ≢ Some n) → has_child t n ≡ false
+  pub has_child-false : (n : ℕ) → ((m : ℕ) → parent_number t m ≢ Some n) → has_child t n ≡ false
   has_child-false n alone =
       elim (child (λ _. true) t n) as (λ o. child (λ _. true) t n ≡ o → is_some o ≡ false) [
         | None ↦ λ none. refl
@@ -53,7 +53,7 @@ module _ {K D : Type 0} (t : Keyed K D) where
       ] refl
 
   -- a node has a child where it has a first one
-  pub has_child-first : (n : ℕ) (o : Option ℕ) → MatchOption o (has_child t n ≡ false) (λ m. parent t m ≡ Some n) → is_some o ≡ has_child t n
+  pub has_child-first : (n : ℕ) (o : Option ℕ) → MatchOption o (has_child t n ≡ false) (λ m. parent_number t m ≡ Some n) → is_some o ≡ has_child t n
   has_child-first n None h = sym h
   has_child-first n (Some m) h = sym (has_child-true n m h)
 
@@ -126,10 +126,10 @@ module _ {K D : Type 0} (t : Keyed K D) where
         ]
 
     -- a move that is allowed leads out of the node's own subtree, and one that is forbidden leads into it
-    pub allowed-outside : IsTree eq t → move_refusal eq t n p k overwrite ≡ None → Under (parent t) n p → ⊥
+    pub allowed-outside : IsTree eq t → move_refusal eq t n p k overwrite ≡ None → Under (parent_number t) n p → ⊥
     allowed-outside tree h u = let a = allowed h in true≢false (sym ((is_under-true eq t tree n p a.known_parent).1 u) ∙ a.outside)
 
-    pub forbidden-below : IsTree eq t → move_refusal eq t n p k overwrite ≡ Some Forbidden → Under (parent t) n p
+    pub forbidden-below : IsTree eq t → move_refusal eq t n p k overwrite ≡ Some Forbidden → Under (parent_number t) n p
     forbidden-below tree h =
         let a = is_some (entry t n) && is_some (entry t p) in
         let b = is_kept t overwrite (child (eq k) t p) in
@@ -138,7 +138,7 @@ module _ {K D : Type 0} (t : Keyed K D) where
           | inl at ↦ elim (cases_Bool b) [
             | inl bt ↦ absurd (apart_refusals (sym (move-taken at bt) ∙ h))
             | inr bf ↦ elim (cases_eq n 1) [
-              | inl one ↦ subst (λ v. Under (parent t) v p) (sym one) (under_root (tree.attached p (and_parts _ _ at).1))
+              | inl one ↦ subst (λ v. Under (parent_number t) v p) (sym one) (under_root (tree.attached p (and_parts _ _ at).1))
               | inr ne ↦ elim (cases_Bool (is_under t n p)) [
                 | inl ut ↦ (is_under-true eq t tree n p (and_parts _ _ at).1).0 ut
                 | inr uf ↦ absurd (none≢some Forbidden (sym (move-allowed at bf ne uf) ∙ h))

@@ -2,7 +2,7 @@
 use Rattle.std.proofs.Common.{◌≡◌, ◌≢◌, ℕ, Bool, is_some, not, false, Some, None, ap, sym, ◌∙◌}
 use Rattle.std.proofs.lemmas.Bool.{or_parts}
 use Rattle.std.specs.Cmp.{IsEquivalence}
-use Rattle.dav_path_core.specs.Keyed.{Keyed, child, has_child, is_kept, is_under, without, delete_refusal, move_refusal, IsKnown, IsTree}
+use Rattle.dav_path_core.specs.Keyed.{Keyed, child, has_child, is_kept, is_under, without_node, delete_refusal, move_refusal, IsKnown, IsTree}
 use Rattle.dav_path_core.proofs.trees.Trees.{child-some, known_from_child}
 use Rattle.dav_path_core.proofs.trees.KeyedCuts.{IsLeaf, leaf, entry-without}
 use Rattle.dav_path_core.proofs.trees.KeyedMoves.{c_not_root, known_rest, outside_rest, free_rest}
@@ -25,14 +25,14 @@ module _ {K D : Type 0} (eq : K → K → Bool) (laws : IsEquivalence eq) (t : K
   pub replaced-leaf : delete_refusal t c ≡ None
   replaced-leaf = delete-leaf t c known_c (c_not_root eq laws t n p k tree is_allowed.known is_allowed.known_parent is_allowed.not_root is_allowed.outside c at leaf_c ne) no_child_c
 
-  pub replaced-known : IsKnown (without t c) n
+  pub replaced-known : IsKnown (without_node t c) n
   replaced-known = ap is_some ((entry-without t c).other n (λ e. ne (sym e))) ∙ is_allowed.known
 
-  pub replaced-known_parent : IsKnown (without t c) p
+  pub replaced-known_parent : IsKnown (without_node t c) p
   replaced-known_parent = known_rest eq laws t n p k tree is_allowed.known is_allowed.known_parent is_allowed.not_root is_allowed.outside c at leaf_c ne
 
-  pub replaced-outside : is_under (without t c) n p ≡ false
+  pub replaced-outside : is_under (without_node t c) n p ≡ false
   replaced-outside = outside_rest eq laws t n p k tree is_allowed.known is_allowed.known_parent is_allowed.not_root is_allowed.outside c at leaf_c ne
 
-  pub replaced-free : child (eq k) (without t c) p ≡ None
+  pub replaced-free : child (eq k) (without_node t c) p ≡ None
   replaced-free = free_rest eq laws t n p k tree is_allowed.known is_allowed.known_parent is_allowed.not_root is_allowed.outside c at leaf_c ne

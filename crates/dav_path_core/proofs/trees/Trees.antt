@@ -10,11 +10,11 @@ use Rattle.std.specs.FinMap.Entries.{below_all}
 use Rattle.std.proofs.lemmas.Bool.{cases_eq, eq-eqb, ne_eqb, eqb-true, true≢false, false≢true, ltb-true, and_parts, and_right}
 use Rattle.std.specs.Result.{result_ok}
 use Rattle.dav_path_core.proofs.lists.Every.{first_so, second_so}
-use Rattle.dav_path_core.specs.Keyed.{Entry, Keyed, Leads, root, up, entry, parent_and_key, parent_and_key_of, parent, IsKnown, IsChild, IsTree, matches_parent_and_key, child_in, child, lone, add, add_as, raised, with_item, with_item_at, add_refusal, cleared, cleared_at}
+use Rattle.dav_path_core.specs.Keyed.{Entry, Keyed, LeadsToRoot, root, up, entry, parent_and_key, parent_and_key_of, parent_number, IsKnown, IsChild, IsTree, matches_parent_and_key, child_in, child, lone, add, add_as, with_next_at_least, with_item, with_item_at, add_refusal, without_key, cleared_at}
 use Rattle.std.proofs.Common.{not}
 use Rattle.dav_path_core.specs.declared.errors.FsError.TheVariants.{Exists, NotFound}
 
-pub Leads-mono : {f g : ℕ → Option ℕ} {n : ℕ} → ((q p : ℕ) → f q ≡ Some p → g q ≡ Some p) → Leads f n → Leads g n
+pub Leads-mono : {f g : ℕ → Option ℕ} {n : ℕ} → ((q p : ℕ) → f q ≡ Some p → g q ≡ Some p) → LeadsToRoot f n → LeadsToRoot g n
 Leads-mono h root = root
 Leads-mono h (up e l) = up (h _ _ e) (Leads-mono h l)
 
@@ -80,7 +80,7 @@ module _ {K D : Type 0} where
   known_from_parent_of None p e = absurd (none≢some p e)
   known_from_parent_of (Some x) p e = refl
 
-  pub known_from_parent : (t : Keyed K D) (q p : ℕ) → parent t q ≡ Some p → IsKnown t q
+  pub known_from_parent : (t : Keyed K D) (q p : ℕ) → parent_number t q ≡ Some p → IsKnown t q
   known_from_parent t q p e = known_from_parent_of (entry t q) p e
 
   -- ---- a child by a test of its key
@@ -157,7 +157,7 @@ module _ {K D : Type 0} where
   next_positive eq t tree = omega (arith, (tree.numbered 1 tree.root.0).1)
 
   -- a tree whose next number is greater
-  pub IsTree-raised : (eq : K → K → Bool) (t : Keyed K D) (next : ℕ) → IsTree eq t → IsTree eq (raised t next)
+  pub IsTree-raised : (eq : K → K → Bool) (t : Keyed K D) (next : ℕ) → IsTree eq t → IsTree eq (with_next_at_least t next)
   IsTree-raised eq t next tree = record {
     root = tree.root;
     numbered = λ n h. let b = tree.numbered n h in (b.0, omega (arith, b.1));
@@ -175,7 +175,7 @@ module _ {K D : Type 0} where
         let s : Sets (entry t) (entry u) id (Some e) = Sets-insert t.nodes id e in
         let new : (q : ℕ) → IsKnown t q → q ≢ id = λ q h e. false≢true (sym (ap is_some none) ∙ subst (IsKnown t) e h) in
         let keeps : (q : ℕ) → IsKnown t q → entry u q ≡ entry t q = λ q h. s.other q (new q h) in
-        let leads : (n : ℕ) → Leads (parent t) n → Leads (parent u) n =
+        let leads : (n : ℕ) → LeadsToRoot (parent_number t) n → LeadsToRoot (parent_number u) n =
         λ n. Leads-mono (λ q r e. ap (λ o. option_map (λ w. w.0) (parent_and_key_of o)) (keeps q (known_from_parent t q r e)) ∙ e) in
         let was : (n : ℕ) → IsKnown u n → (n ≡ id) ⊎ IsKnown t n =
         λ n h. elim (cases_eq n id) [ inl e ↦ inl e | inr ne ↦ inr (subst IsSome (s.other n ne) h) ] in
@@ -187,7 +187,7 @@ module _ {K D : Type 0} where
             | inr before ↦ let b = tree.numbered n before in (b.0, omega (arith, b.1, grows))
           ];
           attached = λ n h. elim (was n h) [
-            | inl is ↦ up (subst (λ v. parent u v ≡ Some p) (sym is) (ap (λ o. option_map (λ w. w.0) (parent_and_key_of o)) s.here)) (leads p (tree.attached p known))
+            | inl is ↦ up (subst (λ v. parent_number u v ≡ Some p) (sym is) (ap (λ o. option_map (λ w. w.0) (parent_and_key_of o)) s.here)) (leads p (tree.attached p known))
             | inr before ↦ leads n (tree.attached n before)
           ];
           distinct = λ r a b m n x y same. elim (child_before t u id e s r a m x) [
@@ -221,7 +221,7 @@ module _ {K D : Type 0} where
       record {
         root = (ap is_some s.here, ap parent_and_key_of s.here);
         numbered = λ n h. let is = one n h in (omega (arith, is), omega (arith, is));
-        attached = λ n h. subst (Leads (parent (lone d))) (sym (one n h)) root;
+        attached = λ n h. subst (LeadsToRoot (parent_number (lone d))) (sym (one n h)) root;
         distinct = λ p k l m n x y same. absurd (no p k m x);
       }
 
@@ -261,5 +261,5 @@ module _ {K D : Type 0} where
         ∙ ap (λ b. cond b (Some Exists) None) (and_right (is_some (child (eq k) t p)) (not true) refl)
 
     -- nothing is cleared where the key is free
-    pub cleared-free : child (eq k) t p ≡ None → cleared eq t p k ≡ t
+    pub cleared-free : child (eq k) t p ≡ None → without_key eq t p k ≡ t
     cleared-free c = ap (cleared_at t) c

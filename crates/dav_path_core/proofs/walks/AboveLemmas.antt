@@ -1,7 +1,7 @@
 -- Numbers above others in a tree.
 use Rattle.std.proofs.Common.{◌≡◌, ◌≢◌, ◌⊎◌, inl, inr, ℕ, Bool, Option, Some, None, refl, sym, ap, ◌∙◌, subst}
 use Rattle.std.proofs.lemmas.Bool.{cases_eq}
-use Rattle.dav_path_core.specs.Keyed.{Keyed, Under, here, below, Leads, root, up, parent, IsKnown, IsTree}
+use Rattle.dav_path_core.specs.Keyed.{Keyed, Under, here, below, LeadsToRoot, root, up, parent_number, IsKnown, IsTree}
 use Rattle.dav_path_core.proofs.trees.KeyedDepth.{top, no_cycle}
 use Rattle.dav_path_core.proofs.trees.Trees.{none≢some, same_some}
 use Rattle.dav_path_core.proofs.children.Walks.{parent_known}
@@ -25,34 +25,34 @@ module _ {f : ℕ → Option ℕ} where
 
 module _ {K D : Type 0} (eq : K → K → Bool) (t : Keyed K D) (tree : IsTree eq t) where
   -- a number isn't below its own child
-  pub not_below_child : (n p : ℕ) → parent t n ≡ Some p → Under (parent t) n p → ⊥
-  not_below_child n p e u = no_cycle (parent t) (top eq t tree) e (tree.attached p (parent_known eq t tree n p e)) u
+  pub not_below_child : (n p : ℕ) → parent_number t n ≡ Some p → Under (parent_number t) n p → ⊥
+  not_below_child n p e u = no_cycle (parent_number t) (top eq t tree) e (tree.attached p (parent_known eq t tree n p e)) u
 
-  pub root_top : (n : ℕ) → Under (parent t) n 1 → n ≡ 1
+  pub root_top : (n : ℕ) → Under (parent_number t) n 1 → n ≡ 1
   root_top n u = elim (cases_eq 1 n) [
     | inl is ↦ sym is
     | inr ne ↦ let s = Under-step u ne in absurd (none≢some s.0 (sym (top eq t tree) ∙ s.1))
   ]
 
-  pub known_above : (n k : ℕ) → Under (parent t) n k → IsKnown t k → IsKnown t n
+  pub known_above : (n k : ℕ) → Under (parent_number t) n k → IsKnown t k → IsKnown t n
   known_above n k here known = known
   known_above n k (below {p = p} e u) known = known_above n p u (parent_known eq t tree k p e)
 
-  pub not_root : (n p : ℕ) → parent t n ≡ Some p → n ≢ 1
-  not_root n p e is = none≢some p (sym (top eq t tree) ∙ sym (ap (parent t) is) ∙ e)
+  pub not_root : (n p : ℕ) → parent_number t n ≡ Some p → n ≢ 1
+  not_root n p e is = none≢some p (sym (top eq t tree) ∙ sym (ap (parent_number t) is) ∙ e)
 
   -- the root alone has no parent
-  pub no_parent : (n : ℕ) → IsKnown t n → parent t n ≡ None → n ≡ 1
+  pub no_parent : (n : ℕ) → IsKnown t n → parent_number t n ≡ None → n ≡ 1
   no_parent n known none = by (tree.attached n known) none
     where
-      by : {n : ℕ} → Leads (parent t) n → parent t n ≡ None → n ≡ 1
+      by : {n : ℕ} → LeadsToRoot (parent_number t) n → parent_number t n ≡ None → n ≡ 1
       by root none = refl
       by (up {p = p} e l) none = absurd (none≢some p (sym none ∙ e))
 
-  leads_under : (n : ℕ) → Leads (parent t) n → Under (parent t) 1 n
+  leads_under : (n : ℕ) → LeadsToRoot (parent_number t) n → Under (parent_number t) 1 n
   leads_under n root = here
   leads_under n (up {p = p} e l) = below e (leads_under p l)
 
   -- each node is at or below the root
-  pub known_under : (n : ℕ) → IsKnown t n → Under (parent t) 1 n
+  pub known_under : (n : ℕ) → IsKnown t n → Under (parent_number t) 1 n
   known_under n known = leads_under n (tree.attached n known)

@@ -3,9 +3,9 @@ use Rattle.std.proofs.Common.{◌≡◌, ◌⊎◌, inl, inr, ℕ, zero, suc, �
 use Rattle.std.specs.FinMap.{len}
 use Rattle.std.specs.List.{IsDistinct}
 use Rattle.std.proofs.lemmas.Bool.{false≢true}
-use Rattle.dav_path_core.specs.Keyed.{parent, IsKnown, here, IsIn}
+use Rattle.dav_path_core.specs.Keyed.{parent_number, IsKnown, here, IsIn}
 use Rattle.dav_path_core.specs.TreeValue.{TreeValue, IsTreeValue}
-use Rattle.dav_path_core.specs.Walking.{following, numbers_from, IsWalk}
+use Rattle.dav_path_core.specs.Walking.{following, numbers_from, IsTreeWalk}
 use Rattle.dav_path_core.proofs.children.Chains.{in_here, in_later, in_cases, more_distinct, no_distinct}
 use Rattle.dav_path_core.proofs.walks.AboveLemmas.{known_under, not_root}
 use Rattle.dav_path_core.proofs.walks.WalkLemmas.{Met, Finds, following-found, met_none, met_few, met_on, met_all, parent_met}
@@ -22,7 +22,7 @@ module _ {K D : Type 0} {eq : K → K → Bool} (t : TreeValue K D) (shape : IsT
     known : (q : ℕ) → IsIn q ns → IsKnown t.keyed q
     apart : (q : ℕ) → IsIn q ns → IsIn q met → ⊥
     all : (q : ℕ) → IsKnown t.keyed q → IsIn q met ⊎ IsIn q ns
-    behind : (front rest : List ℕ) (n p : ℕ) → ns ≡ front ++ n ∷ rest → parent t.keyed n ≡ Some p → IsIn p met ⊎ IsIn p front
+    behind : (front rest : List ℕ) (n p : ℕ) → ns ≡ front ++ n ∷ rest → parent_number t.keyed n ≡ Some p → IsIn p met ⊎ IsIn p front
 
   nothing : (q : ℕ) → IsIn q [] → ⊥
   nothing q i = false≢true i
@@ -58,10 +58,10 @@ module _ {K D : Type 0} {eq : K → K → Bool} (t : TreeValue K D) (shape : IsT
     behind = behind;
   }
     where
-      behind : (front rest : List ℕ) (m p : ℕ) → n ∷ ns ≡ front ++ m ∷ rest → parent t.keyed m ≡ Some p → IsIn p met ⊎ IsIn p front
+      behind : (front rest : List ℕ) (m p : ℕ) → n ∷ ns ≡ front ++ m ∷ rest → parent_number t.keyed m ≡ Some p → IsIn p met ⊎ IsIn p front
       behind [] rest m p is e =
           let same : n ≡ m = cc in
-          let up : parent t.keyed n ≡ Some p = subst (λ v. parent t.keyed v ≡ Some p) (sym same) e in
+          let up : parent_number t.keyed n ≡ Some p = subst (λ v. parent_number t.keyed v ≡ Some p) (sym same) e in
           inl (parent_met t shape 1 met n w p (not_root eq t.keyed shape.tree n p up) up)
       behind (k ∷ front) rest m p is e =
           let heads : n ≡ k = cc in
@@ -86,7 +86,7 @@ module _ {K D : Type 0} {eq : K → K → Bool} (t : TreeValue K D) (shape : IsT
       one_more met n (numbers_from t left (following t 1 n)) w
       (rest_from left (n ∷ met) (following t 1 n) (next_stand met n w (following t 1 n) (following-found t shape 1 n w.under w.known)) (omega (arith, fits)))
 
-  pub walk_of_all : IsWalk t.keyed (numbers_from t (len t.keyed.nodes) (Some 1))
+  pub walk_of_all : IsTreeWalk t.keyed (numbers_from t (len t.keyed.nodes) (Some 1))
   walk_of_all =
       let r = rest_from (len t.keyed.nodes) [] (Some 1) (met_none t shape 1 shape.tree.root.0) (omega arith) in
       record {

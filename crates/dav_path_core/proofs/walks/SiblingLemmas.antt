@@ -2,7 +2,7 @@
 use Rattle.std.proofs.Common.{◌≡◌, ◌≢◌, ◌⊎◌, inl, inr, ℕ, Bool, List, [], ◌∷◌, Option, Some, None, refl, sym, ap, ◌∙◌, subst, eqb}
 use Rattle.std.specs.List.{IsDistinct}
 use Rattle.std.proofs.lemmas.Bool.{false≢true}
-use Rattle.dav_path_core.specs.Keyed.{parent, IsKnown, IsIn}
+use Rattle.dav_path_core.specs.Keyed.{parent_number, IsKnown, IsIn}
 use Rattle.dav_path_core.specs.TreeValue.{TreeValue, Siblings, done, more, first, after, IsChildList, IsTreeValue}
 use Rattle.dav_path_core.proofs.children.Chains.{in_here, in_later, in_cases, none_twice, later_distinct}
 use Rattle.dav_path_core.proofs.children.Walks.{split, ended, parent_known}
@@ -49,14 +49,14 @@ module _ {K D : Type 0} (eq : K → K → Bool) (t : TreeValue K D) (shape : IsT
   children p known = shape.listed p known
 
   -- the first child is a child
-  pub first_is_child : (n c : ℕ) → IsKnown t.keyed n → first t n ≡ Some c → parent t.keyed c ≡ Some n
+  pub first_is_child : (n c : ℕ) → IsKnown t.keyed n → first t n ≡ Some c → parent_number t.keyed c ≡ Some n
   first_is_child n c known e =
       let l = children n known in
       let w = split (subst (λ o. Siblings (after t) o l.0) e l.1.linked) in
       (l.1.members c).0 (subst (IsIn c) (sym w.1) (in_here c w.0))
 
   -- each child is the first or follows it
-  pub child_from_first : (n c q : ℕ) → first t n ≡ Some c → parent t.keyed q ≡ Some n → (q ≡ c) ⊎ Follows (after t) c q
+  pub child_from_first : (n c q : ℕ) → first t n ≡ Some c → parent_number t.keyed q ≡ Some n → (q ≡ c) ⊎ Follows (after t) c q
   child_from_first n c q e h =
       let l = children n (parent_known eq t.keyed shape.tree q n h) in
       let w = split (subst (λ o. Siblings (after t) o l.0) e l.1.linked) in
@@ -66,14 +66,14 @@ module _ {K D : Type 0} (eq : K → K → Bool) (t : TreeValue K D) (shape : IsT
       ]
 
   -- where there is no first child there is none
-  pub no_first : (n q : ℕ) → first t n ≡ None → parent t.keyed q ≡ Some n → ⊥
+  pub no_first : (n q : ℕ) → first t n ≡ None → parent_number t.keyed q ≡ Some n → ⊥
   no_first n q e h =
       let l = children n (parent_known eq t.keyed shape.tree q n h) in
       let none : l.0 ≡ [] = ended (subst (λ o. Siblings (after t) o l.0) e l.1.linked) in
       false≢true (subst (IsIn q) none ((l.1.members q).1 h))
 
   -- what follows a child is another child of its parent
-  pub follows_parent : (n s p : ℕ) → parent t.keyed n ≡ Some p → Follows (after t) n s → (parent t.keyed s ≡ Some p) × (s ≢ n)
+  pub follows_parent : (n s p : ℕ) → parent_number t.keyed n ≡ Some p → Follows (after t) n s → (parent_number t.keyed s ≡ Some p) × (s ≢ n)
   follows_parent n s p h g =
       let l = children p (parent_known eq t.keyed shape.tree n p h) in
       let w = follows_in (first t p) l.0 l.1.linked l.1.once n s ((l.1.members n).1 h) g in

@@ -4,13 +4,13 @@ use Rattle.std.specs.List.{IsDistinct}
 use Rattle.dav_path_core.specs.Keyed.{IsIn}
 
 -- the links from o on are ks, and each leads back to the one before, the first to b
-abbrev pub Chain : (ℕ → Option ℕ) → (ℕ → Option ℕ) → Option ℕ → Option ℕ → List ℕ → Type 0
-Chain after before b o [] = o ≡ None
-Chain after before b o (n ∷ ns) = (o ≡ Some n) × (before n ≡ b) × Chain after before (Some n) (after n) ns
+abbrev pub AreLinks : (ℕ → Option ℕ) → (ℕ → Option ℕ) → Option ℕ → Option ℕ → List ℕ → Type 0
+AreLinks after before b o [] = o ≡ None
+AreLinks after before b o (n ∷ ns) = (o ≡ Some n) × (before n ≡ b) × AreLinks after before (Some n) (after n) ns
 
 -- ks are the numbers with the parent p, each once
 pub record IsChainOf (parent first after before : ℕ → Option ℕ) (p : ℕ) (ks : List ℕ) : Type 0 where
-  pub linked : Chain after before None (first p) ks
+  pub linked : AreLinks after before None (first p) ks
   pub once : IsDistinct eqb ks
   pub members : (n : ℕ) → IsIn n ks ↔ (parent n ≡ Some p)
 

@@ -14,8 +14,8 @@ module _ {K D : Type 0} where
   previous_of (Some n) = n.previous_sibling
 
   -- what stands at a number
-  abbrev pub node_at : List (ℕ × Node K D) → ℕ → Option (Node K D)
-  node_at es n = lookup (nat_eq n) es
+  abbrev pub node_numbered : List (ℕ × Node K D) → ℕ → Option (Node K D)
+  node_numbered es n = lookup (nat_eq n) es
 
   abbrev pub parent_in : (ℕ → Option (Node K D)) → ℕ → Option ℕ
   parent_in at n = option_map (λ q. q.0) (parent_and_key_of (option_map entry_of (at n)))
@@ -36,29 +36,29 @@ module _ {K D : Type 0} where
   -- what the fields of a tree keep
   pub record IsLinked (eq : K → K → Bool) (es : List (ℕ × Node K D)) (next : ℕ) : Type 0 where
     pub tree : IsTree eq (keyed_of es next)
-    pub chained : IsChained (node_at es)
-    pub root_alone : next_in (node_at es) 1 ≡ None
+    pub chained : IsChained (node_numbered es)
+    pub root_alone : next_in (node_numbered es) 1 ≡ None
 
   -- a node with no child, before the sibling f, if there is one
   abbrev pub new_node : ℕ → K → D → Option ℕ → Node K D
   new_node p k d f = record { item = d; parent_and_key = Some (p, k); first_child = None; next_sibling = f; previous_sibling = None }
 
   -- the nodes with another, or none, at n
-  abbrev pub with_node : (ℕ → Option (Node K D)) → ℕ → Option (Node K D) → ℕ → Option (Node K D)
-  with_node at n o q = if q == n then o else at q
+  abbrev pub with_node_at : (ℕ → Option (Node K D)) → ℕ → Option (Node K D) → ℕ → Option (Node K D)
+  with_node_at at n o q = if q == n then o else at q
 
   -- the nodes with that at n changed
-  abbrev pub changed : (ℕ → Option (Node K D)) → ℕ → (Node K D → Node K D) → ℕ → Option (Node K D)
-  changed at n f q = if q == n then option_map f (at q) else at q
+  abbrev pub with_change_at : (ℕ → Option (Node K D)) → ℕ → (Node K D → Node K D) → ℕ → Option (Node K D)
+  with_change_at at n f q = if q == n then option_map f (at q) else at q
 
-  abbrev pub with_first : (ℕ → Option (Node K D)) → ℕ → Option ℕ → ℕ → Option (Node K D)
-  with_first at n o = changed at n (λ x. record x { first_child = o })
+  abbrev pub with_first_child : (ℕ → Option (Node K D)) → ℕ → Option ℕ → ℕ → Option (Node K D)
+  with_first_child at n o = with_change_at at n (λ x. record x { first_child = o })
 
   abbrev pub with_next : (ℕ → Option (Node K D)) → ℕ → Option ℕ → ℕ → Option (Node K D)
-  with_next at n o = changed at n (λ x. record x { next_sibling = o })
+  with_next at n o = with_change_at at n (λ x. record x { next_sibling = o })
 
   abbrev pub with_previous : (ℕ → Option (Node K D)) → ℕ → Option ℕ → ℕ → Option (Node K D)
-  with_previous at n o = changed at n (λ x. record x { previous_sibling = o })
+  with_previous at n o = with_change_at at n (λ x. record x { previous_sibling = o })
 
   -- the node at m, if there is one, with n before it
   abbrev pub led_back : (ℕ → Option (Node K D)) → Option ℕ → Option ℕ → ℕ → Option (Node K D)
@@ -67,11 +67,11 @@ module _ {K D : Type 0} where
 
   -- n put before the first child f of p
   abbrev pub put_before : (ℕ → Option (Node K D)) → ℕ → ℕ → Option ℕ → ℕ → Option (Node K D)
-  put_before at p n f = led_back (with_first at p (Some n)) f (Some n)
+  put_before at p n f = led_back (with_first_child at p (Some n)) f (Some n)
 
   -- the link that leads to a child of p, from the sibling b before it or from p, leads to o
   abbrev pub led_on : (ℕ → Option (Node K D)) → ℕ → Option ℕ → Option ℕ → ℕ → Option (Node K D)
-  led_on at p None o = with_first at p o
+  led_on at p None o = with_first_child at p o
   led_on at p (Some b) o = with_next at b o
 
   -- the neighbours b and a of a child of p led to each other
@@ -80,8 +80,8 @@ module _ {K D : Type 0} where
 
   -- the node at n with the parent p and the key k, before the sibling f, if there is one
   abbrev pub with_parent_and_key : (ℕ → Option (Node K D)) → ℕ → ℕ → K → Option ℕ → ℕ → Option (Node K D)
-  with_parent_and_key at n p k f = changed at n (λ x. record x { parent_and_key = Some (p, k); next_sibling = f; previous_sibling = None })
+  with_parent_and_key at n p k f = with_change_at at n (λ x. record x { parent_and_key = Some (p, k); next_sibling = f; previous_sibling = None })
 
   -- the node at n hung below p under the key that it has, before the sibling f, if there is one
   abbrev pub with_parent : (ℕ → Option (Node K D)) → ℕ → ℕ → Option ℕ → ℕ → Option (Node K D)
-  with_parent at n p f = changed at n (λ x. record x { parent_and_key = option_map (λ q. (p, q.1)) x.parent_and_key; next_sibling = f; previous_sibling = None })
+  with_parent at n p f = with_change_at at n (λ x. record x { parent_and_key = option_map (λ q. (p, q.1)) x.parent_and_key; next_sibling = f; previous_sibling = None })

@@ -3,5 +3,5 @@ use Rattle.std.specs.Prelude.{ℕ, List}
 use Rattle.std.specs.Borrow.{Bor}
 
 -- an entry by its bytes
-abbrev pub entry_of : Bor (List ℕ) × ℕ → List ℕ × ℕ
-entry_of entry = (entry.0.now, entry.1)
+abbrev pub table_entry : Bor (List ℕ) × ℕ → List ℕ × ℕ
+table_entry entry = (entry.0.now, entry.1)

@@ -2,7 +2,7 @@
 ghost use Rattle.std.specs.Prelude.{◌≡◌, ◌≢◌, Some, None, false, nat_eq, IfOk, IfErr, MatchResult};
 ghost use Rattle.std.specs.Cmp.Lexicographic.{pointwise};
 ghost use Rattle.dav_path_core.specs.ChildIndex.{IsIndex};
-ghost use Rattle.dav_path_core.specs.Keyed.{IsCut, IsKnown, Under, cut, cut_refusal, has_child, move_refusal, moved, parent, without};
+ghost use Rattle.dav_path_core.specs.Keyed.{IsCut, IsKnown, Under, without_subtree, cut_refusal, has_child, move_refusal, with_moved, parent_number, without_node};
 ghost use Rattle.dav_path_core.specs.TreeValue.{IsTreeValue};
 
 use super::ChildIndex;
@@ -24,11 +24,11 @@ impl ChildIndex {
         requires indexed { IsIndex tree.old.keyed self.old }
         ensures answer { MatchResult result
             (λ _. (move_refusal (pointwise nat_eq) tree.old.keyed id folder name overwrite ≡ None)
-            × (tree.new.keyed ≡ moved (pointwise nat_eq) tree.old.keyed id folder name))
+            × (tree.new.keyed ≡ with_moved (pointwise nat_eq) tree.old.keyed id folder name))
             (λ e. (move_refusal (pointwise nat_eq) tree.old.keyed id folder name overwrite ≡ Some e)
             × (tree.new ≡ tree.old)) }
-        ensures outside { IfOk result (λ _. ¬ Under (parent tree.old.keyed) id folder) }
-        ensures below { IfErr result (λ e. e ≡ FsError.Forbidden → Under (parent tree.old.keyed) id folder) }
+        ensures outside { IfOk result (λ _. ¬ Under (parent_number tree.old.keyed) id folder) }
+        ensures below { IfErr result (λ e. e ≡ FsError.Forbidden → Under (parent_number tree.old.keyed) id folder) }
         ensures shape { IsTreeValue (pointwise nat_eq) tree.new }
         ensures indexed { IsIndex tree.new.keyed self.new }
     {
@@ -60,7 +60,7 @@ impl ChildIndex {
     pub fn delete_subtree<D: Drop>(&mut self, tree: &mut Tree<Bytes, D>, id: u64) -> FsResult<()>
         requires indexed { IsIndex tree.old.keyed self.old }
         ensures answer { MatchResult result
-            (λ _. (cut_refusal tree.old.keyed id ≡ None) × (tree.new.keyed ≡ cut tree.old.keyed id))
+            (λ _. (cut_refusal tree.old.keyed id ≡ None) × (tree.new.keyed ≡ without_subtree tree.old.keyed id))
             (λ e. (cut_refusal tree.old.keyed id ≡ Some e) × (tree.new ≡ tree.old)) }
         ensures gone { IfOk result (λ _. IsCut tree.old.keyed tree.new.keyed id) }
         ensures shape { IsTreeValue (pointwise nat_eq) tree.new }
@@ -81,7 +81,7 @@ impl ChildIndex {
         requires indexed { IsIndex tree.old.keyed self.old }
         requires known { IsKnown tree.old.keyed id }
         requires not_root { id ≢ 1 }
-        ensures cut { tree.new.keyed ≡ cut tree.old.keyed id }
+        ensures cut { tree.new.keyed ≡ without_subtree tree.old.keyed id }
         ensures shape { IsTreeValue (pointwise nat_eq) tree.new }
         ensures indexed { IsIndex tree.new.keyed self.new }
     {
@@ -98,8 +98,8 @@ impl ChildIndex {
         requires known { IsKnown tree.old.keyed id }
         requires not_root { id ≢ 1 }
         requires leaf { has_child tree.old.keyed id ≡ false }
-        ensures parent { parent tree.old.keyed id ≡ Some result }
-        ensures dropped { tree.new.keyed ≡ without tree.old.keyed id }
+        ensures parent { parent_number tree.old.keyed id ≡ Some result }
+        ensures dropped { tree.new.keyed ≡ without_node tree.old.keyed id }
         ensures shape { IsTreeValue (pointwise nat_eq) tree.new }
         ensures indexed { IsIndex tree.new.keyed self.new }
     {

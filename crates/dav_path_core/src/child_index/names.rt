@@ -13,10 +13,10 @@ pub(super) struct Names {
 }
 
 impl Model for Names {
-    ghost use Rattle.dav_path_core.specs.ChildIndex.{Names, names_code};
+    ghost use Rattle.dav_path_core.specs.ChildIndex.{NumbersByName, names_code};
     ghost use Rattle.dav_path_core.specs.Private.ChildNames.{names_of};
 
-    ghost Value = { Names };
+    ghost Value = { NumbersByName };
 
     ghost coded = { names_code };
 

@@ -5,11 +5,11 @@ ghost use Rattle.std.specs.Str.{IsUtf8};
 ghost use Rattle.dav_path_core.specs.Segments.{segments, is_slash};
 ghost use Rattle.dav_path_core.specs.Fronts.{parent, is_front};
 ghost use Rattle.dav_path_core.specs.Private.Trimming.{EndsInName};
-ghost use Rattle.dav_path_core.specs.Reading.{ends_in_slash};
+ghost use Rattle.dav_path_core.specs.PathReading.{ends_in_slash};
 ghost use Rattle.dav_path_core.specs.Url.{url};
 ghost use Rattle.dav_path_core.specs.Respelling.{KeepsPath};
-ghost use Rattle.dav_path_core.specs.Trimmed.{trimmed};
-ghost use Rattle.dav_path_core.specs.Names.{file_name as name_of, lent_parent, relative};
+ghost use Rattle.dav_path_core.specs.Trimmed.{without_last_slash};
+ghost use Rattle.dav_path_core.specs.PathNames.{file_name as name_of, lent_parent, relative};
 
 use super::url::url_text;
 use super::{ParseError, Segments};
@@ -111,8 +111,8 @@ impl<'a> DavPathRef<'a> {
     /// The bytes as a text, without one slash at the end where there are more bytes. None where that is no UTF-8.
     /// `OutOfMemory` alone.
     pub fn as_pathbuf(&self, alloc: Global) -> Result<Option<String>, ParseError>
-        ensures ok { IfOk result (λ found. (IsSome found ↔ IsUtf8 (trimmed self.now))
-            × IfSome found (λ text. string_bytes text ≡ trimmed self.now)) }
+        ensures ok { IfOk result (λ found. (IsSome found ↔ IsUtf8 (without_last_slash self.now))
+            × IfSome found (λ text. string_bytes text ≡ without_last_slash self.now)) }
         ensures err { IfErr result (λ e. e ≡ ParseError.OutOfMemory) }
     {
         match str::from_utf8(trim_slash(self.bytes)) {
@@ -149,7 +149,7 @@ fn before_last_slash(bytes: &[u8]) -> Option<&[u8]>
 
 /// The bytes without one slash at the end, where there are more bytes.
 pub(super) fn trim_slash(bytes: &[u8]) -> &[u8]
-    ensures { result.now ≡ trimmed bytes.now }
+    ensures { result.now ≡ without_last_slash bytes.now }
 {
     if bytes.ends_with(b"/") && bytes.len() > 1 {
         &bytes[..bytes.len() - 1]

@@ -2,9 +2,9 @@
 ghost use Rattle.std.specs.Prelude.{◌≡◌, ◌⊎◌, ◌↔◌, ◌∷◌, ◌++◌, ℕ, List, Contains, IsTrue, IfOk, IfErr, OnOk};
 ghost use Rattle.std.specs.Cow.{cow_slice_items};
 ghost use Rattle.percent_encoding.specs.Percent.{percent_decode as decoded_bytes_of};
-ghost use Rattle.dav_path_core.specs.Reading.{is_idle, is_up, CanBeSegment, IsForeign, IsTarget, raw, path_of, decoded_pieces};
+ghost use Rattle.dav_path_core.specs.PathReading.{is_idle, is_up, CanBeSegment, IsForeign, IsTarget, raw, path_of, decoded_pieces};
 ghost use Rattle.dav_path_core.specs.Fault.{FirstFault};
-ghost use Rattle.dav_path_core.specs.Private.Keeping.{slashed, Spells, Takes, Refuses, ComesDown};
+ghost use Rattle.dav_path_core.specs.Private.Keeping.{behind_slashes, Spells, TakesPiece, RefusesPiece, ComesDown};
 
 use super::ParseError;
 use percent_encoding::percent_decode;
@@ -87,10 +87,10 @@ fn drop_last(path: &mut Vec<u8>) -> Result<(), ParseError>
 // Takes one piece more: drops it, drops the last one kept, or keeps it.
 fn take_piece(path: &mut Vec<u8>, piece: &[u8]) -> Result<(), ParseError>
     ensures ok { OnOk result ((kept : List (List ℕ)) → Spells kept path.old.items
-        → (new : List (List ℕ)) × Takes kept piece.now new × Spells new path.new.items) }
+        → (new : List (List ℕ)) × TakesPiece kept piece.now new × Spells new path.new.items) }
     ensures clean { OnOk result (¬ IsForeign piece.now) }
     ensures err { IfErr result (λ e. (e ≡ ParseError.OutOfMemory)
-        ⊎ ((kept : List (List ℕ)) → Spells kept path.old.items → Refuses kept piece.now e)) }
+        ⊎ ((kept : List (List ℕ)) → Spells kept path.old.items → RefusesPiece kept piece.now e)) }
 {
     if is_foreign_piece(piece) {
         return Err(ParseError::InvalidPath);
@@ -109,7 +109,7 @@ fn take_piece(path: &mut Vec<u8>, piece: &[u8]) -> Result<(), ParseError>
 /// The path of the pieces that are kept, decoded, each behind a slash: in the end ordinary ones alone.
 pub(super) fn kept_pieces(alloc: Global, raw: &[u8]) -> Result<Vec<u8>, ParseError>
     ensures ok { IfOk result (λ path. (kept : List (List ℕ))
-        × ComesDown (decoded_pieces raw.now) kept × (path.items ≡ slashed kept)) }
+        × ComesDown (decoded_pieces raw.now) kept × (path.items ≡ behind_slashes kept)) }
     ensures err { IfErr result (λ e. (e ≡ ParseError.OutOfMemory) ⊎ FirstFault (decoded_pieces raw.now) e) }
 {
     let mut path = Vec::new(alloc);
@@ -121,7 +121,7 @@ pub(super) fn kept_pieces(alloc: Global, raw: &[u8]) -> Result<Vec<u8>, ParseErr
 
 /// Puts a slash at the end of the path of the kept pieces where `slash` is set or none is kept.
 pub(super) fn end_in_slash(path: &mut Vec<u8>, slash: bool) -> Result<(), AllocError>
-    ensures { OnOk result ((kept : List (List ℕ)) → path.old.items ≡ slashed kept
+    ensures { OnOk result ((kept : List (List ℕ)) → path.old.items ≡ behind_slashes kept
         → path.new.items ≡ path_of kept slash) }
 {
     if slash || path.is_empty() {

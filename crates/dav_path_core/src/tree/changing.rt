@@ -1,7 +1,7 @@
 //! The calls of a tree that may drop data: a new tree, added children, cut subtrees and moves.
 ghost use Rattle.std.specs.Prelude.{◌≡◌, ◌≢◌, ◌<◌, ◌≤◌, ℕ, Some, None, false, IfOk, IfErr, MatchResult};
-ghost use Rattle.dav_path_core.specs.Answers.{Answers};
-ghost use Rattle.dav_path_core.specs.Keyed.{parent as parent_number, child, lone, entry, add, add_as, add_refusal, cleared, without, has_child as has_child_of, move_refusal, moved, Under, cut, cut_refusal, IsCut, IsKnown};
+ghost use Rattle.dav_path_core.specs.StoreAnswers.{AnswersUnlessRefused};
+ghost use Rattle.dav_path_core.specs.Keyed.{parent_number, child, lone, entry, add, add_as, add_refusal, without_key, without_node, has_child as has_child_of, move_refusal, with_moved, Under, without_subtree, cut_refusal, IsCut, IsKnown};
 ghost use Rattle.dav_path_core.specs.TreeValue.{IsTreeValue};
 
 use super::{Node, ROOT_ID, Tree, links};
@@ -13,7 +13,7 @@ use std::hash::Hash;
 impl<K: Eq + Hash + Clone, D: Drop> Tree<K, D> {
     /// A root alone, with number 1. `InsufficientStorage` where it is out of memory.
     pub fn new(alloc: Global, item: D) -> FsResult<Tree<K, D>>
-        ensures answer { Answers None result (λ t. t.keyed ≡ lone item) (Unit {0}) }
+        ensures answer { AnswersUnlessRefused None result (λ t. t.keyed ≡ lone item) (Unit {0}) }
         ensures shape { IfOk result (IsTreeValue K.eq) }
     {
         let mut nodes = HashMap::new(alloc);
@@ -40,16 +40,16 @@ impl<K: Eq + Hash + Clone, D: Drop> Tree<K, D> {
     /// `InsufficientStorage` where all numbers to 2^64 - 2 are used up and where it is out of memory. With `overwrite`
     /// the whole old subtree goes.
     pub fn add_child(&mut self, parent: u64, key: K, item: D, overwrite: bool) -> FsResult<u64>
-        ensures answer { Answers (add_refusal K.eq self.old.keyed parent key overwrite) result
+        ensures answer { AnswersUnlessRefused (add_refusal K.eq self.old.keyed parent key overwrite) result
             (λ n. (n ≡ self.old.keyed.next)
-            × (self.new.keyed ≡ add (cleared K.eq self.old.keyed parent key) parent key item))
+            × (self.new.keyed ≡ add (without_key K.eq self.old.keyed parent key) parent key item))
             (self.new ≡ self.old) }
         // It is refused for memory or numbers only where nothing else refuses.
         ensures room { IfErr result (λ e. e ≡ FsError.InsufficientStorage
             → add_refusal K.eq self.old.keyed parent key overwrite ≡ None) }
         // With `overwrite`, what goes is exactly the old child and the numbers whose parents lead to it.
         ensures replaced { IfOk result (λ _. (old : ℕ) → child (K.eq key) self.old.keyed parent ≡ Some old
-            → IsCut self.old.keyed (cleared K.eq self.old.keyed parent key) old) }
+            → IsCut self.old.keyed (without_key K.eq self.old.keyed parent key) old) }
         // No number above 2^64 - 2 is given, so a next number of 2^64 - 1 is always refused.
         ensures number { IfOk result (λ n. n < 18446744073709551615) }
         ensures next { self.new.keyed.next ≤ 18446744073709551615 }
@@ -78,7 +78,7 @@ impl<K: Eq + Hash + Clone, D: Drop> Tree<K, D> {
     /// out of memory.
     pub fn add_new_child(&mut self, parent: u64, key: K, item: D) -> FsResult<u64>
         requires free { child (K.eq key) self.old.keyed parent ≡ None }
-        ensures answer { Answers (add_refusal K.eq self.old.keyed parent key false) result
+        ensures answer { AnswersUnlessRefused (add_refusal K.eq self.old.keyed parent key false) result
             (λ n. (n ≡ self.old.keyed.next) × (self.new.keyed ≡ add self.old.keyed parent key item))
             (self.new ≡ self.old) }
         // It is refused for memory or numbers only where nothing else refuses.
@@ -105,7 +105,7 @@ impl<K: Eq + Hash + Clone, D: Drop> Tree<K, D> {
         requires known { IsKnown self.old.keyed parent }
         requires free { child (K.eq key) self.old.keyed parent ≡ None }
         requires room { self.old.keyed.next ≢ 18446744073709551615 }
-        ensures answer { Answers None result
+        ensures answer { AnswersUnlessRefused None result
             (λ n. (n ≡ self.old.keyed.next) × (self.new.keyed ≡ add self.old.keyed parent key item))
             (self.new ≡ self.old) }
         ensures shape { IsTreeValue K.eq self.new }
@@ -130,7 +130,7 @@ impl<K: Eq + Hash + Clone, D: Drop> Tree<K, D> {
         requires positive { 0 < id }
         requires below_next { id < next }
         requires grows { self.old.keyed.next ≤ next }
-        ensures answer { Answers None result
+        ensures answer { AnswersUnlessRefused None result
             (λ _. self.new.keyed ≡ add_as self.old.keyed id next parent key item)
             (self.new ≡ self.old) }
         ensures shape { IsTreeValue K.eq self.new }
@@ -145,8 +145,8 @@ impl<K: Eq + Hash + Clone, D: Drop> Tree<K, D> {
         requires known { IsKnown self.old.keyed parent }
         requires taken { child (K.eq key) self.old.keyed parent ≡ Some old }
         requires room { self.old.keyed.next ≢ 18446744073709551615 }
-        ensures answer { Answers None result
-            (λ n. (n ≡ self.old.keyed.next) × (self.new.keyed ≡ add (cut self.old.keyed old) parent key item))
+        ensures answer { AnswersUnlessRefused None result
+            (λ n. (n ≡ self.old.keyed.next) × (self.new.keyed ≡ add (without_subtree self.old.keyed old) parent key item))
             (self.new ≡ self.old) }
         ensures shape { IsTreeValue K.eq self.new }
     {
@@ -162,7 +162,7 @@ impl<K: Eq + Hash + Clone, D: Drop> Tree<K, D> {
     /// number, `Forbidden` for the root.
     pub fn delete_subtree(&mut self, id: u64) -> FsResult<()>
         ensures answer { MatchResult result
-            (λ _. (cut_refusal self.old.keyed id ≡ None) × (self.new.keyed ≡ cut self.old.keyed id))
+            (λ _. (cut_refusal self.old.keyed id ≡ None) × (self.new.keyed ≡ without_subtree self.old.keyed id))
             (λ e. (cut_refusal self.old.keyed id ≡ Some e) × (self.new ≡ self.old)) }
         ensures gone { IfOk result (λ _. IsCut self.old.keyed self.new.keyed id) }
         ensures shape { IsTreeValue K.eq self.new }
@@ -181,7 +181,7 @@ impl<K: Eq + Hash + Clone, D: Drop> Tree<K, D> {
     fn cut_out(&mut self, id: u64)
         requires known { IsKnown self.old.keyed id }
         requires not_root { id ≢ 1 }
-        ensures cut { self.new.keyed ≡ cut self.old.keyed id }
+        ensures cut { self.new.keyed ≡ without_subtree self.old.keyed id }
         ensures shape { IsTreeValue K.eq self.new }
     {
         // Shows the tree's shape.
@@ -199,7 +199,7 @@ impl<K: Eq + Hash + Clone, D: Drop> Tree<K, D> {
         requires not_root { id ≢ 1 }
         requires leaf { has_child_of self.old.keyed id ≡ false }
         ensures parent { parent_number self.old.keyed id ≡ Some result }
-        ensures dropped { self.new.keyed ≡ without self.old.keyed id }
+        ensures dropped { self.new.keyed ≡ without_node self.old.keyed id }
         ensures shape { IsTreeValue K.eq self.new }
     {
         let Some(parent) = self.above(id) else {
@@ -225,7 +225,7 @@ impl<K: Eq + Hash + Clone, D: Drop> Tree<K, D> {
     ) -> FsResult<()>
         ensures answer { MatchResult result
             (λ _. (move_refusal K.eq self.old.keyed id new_parent new_name overwrite ≡ None)
-            × (self.new.keyed ≡ moved K.eq self.old.keyed id new_parent new_name))
+            × (self.new.keyed ≡ with_moved K.eq self.old.keyed id new_parent new_name))
             (λ e. (move_refusal K.eq self.old.keyed id new_parent new_name overwrite ≡ Some e)
             × (self.new ≡ self.old)) }
         // So a move is allowed only to a parent outside the node's own subtree, and forbidden only to one within it.

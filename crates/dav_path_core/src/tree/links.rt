@@ -1,6 +1,6 @@
 //! Writes of the links between nodes.
 ghost use Rattle.std.specs.Prelude.{◌≡◌, ℕ, Some, OnOk, OnErr, IfErr};
-ghost use Rattle.dav_path_core.specs.Private.Nodes.{node_at, first_in, next_in, previous_in, new_node, with_node, with_first, with_next, with_previous, put_before, with_parent_and_key, with_parent, closed_up};
+ghost use Rattle.dav_path_core.specs.Private.Nodes.{node_numbered, first_in, next_in, previous_in, new_node, with_node_at, with_first_child, with_next, with_previous, put_before, with_parent_and_key, with_parent, closed_up};
 
 use super::Node;
 use crate::errors::{FsError, FsResult};
@@ -14,10 +14,10 @@ pub(super) fn put_new<K: Drop, D: Drop>(
     key: K,
     item: D,
 ) -> FsResult<()>
-    ensures ok { OnOk result (node_at nodes.new.entries ≡ put_before
-        (with_node (node_at nodes.old.entries) id
-        (Some (new_node parent key item (first_in (node_at nodes.old.entries) parent))))
-        parent id (first_in (node_at nodes.old.entries) parent)) }
+    ensures ok { OnOk result (node_numbered nodes.new.entries ≡ put_before
+        (with_node_at (node_numbered nodes.old.entries) id
+        (Some (new_node parent key item (first_in (node_numbered nodes.old.entries) parent))))
+        parent id (first_in (node_numbered nodes.old.entries) parent)) }
     ensures err { OnErr result (nodes.new.entries ≡ nodes.old.entries) }
     ensures error { IfErr result (λ e. e ≡ FsError.InsufficientStorage) }
 {
@@ -40,7 +40,7 @@ fn put_in<K: Drop, D: Drop>(
     id: u64,
     node: Node<K, D>,
 ) -> FsResult<()>
-    ensures ok { OnOk result (node_at nodes.new.entries ≡ with_node (node_at nodes.old.entries) id (Some node)) }
+    ensures ok { OnOk result (node_numbered nodes.new.entries ≡ with_node_at (node_numbered nodes.old.entries) id (Some node)) }
     ensures err { OnErr result (nodes.new.entries ≡ nodes.old.entries) }
     ensures error { IfErr result (λ e. e ≡ FsError.InsufficientStorage) }
 {
@@ -52,7 +52,7 @@ fn put_in<K: Drop, D: Drop>(
 
 /// The first child of a node, `None` for an unknown number too.
 pub(super) fn first_of<K, D>(nodes: &HashMap<u64, Node<K, D>>, id: u64) -> Option<u64>
-    ensures { result ≡ first_in (node_at nodes.now.entries) id }
+    ensures { result ≡ first_in (node_numbered nodes.now.entries) id }
 {
     match nodes.get(&id) {
         Some(node) => node.first_child,
@@ -61,7 +61,7 @@ pub(super) fn first_of<K, D>(nodes: &HashMap<u64, Node<K, D>>, id: u64) -> Optio
 }
 
 fn set_first<K, D>(nodes: &mut HashMap<u64, Node<K, D>>, id: u64, to: Option<u64>)
-    ensures { node_at nodes.new.entries ≡ with_first (node_at nodes.old.entries) id to }
+    ensures { node_numbered nodes.new.entries ≡ with_first_child (node_numbered nodes.old.entries) id to }
 {
     if let Some(node) = nodes.get_mut(&id) {
         node.first_child = to;
@@ -69,7 +69,7 @@ fn set_first<K, D>(nodes: &mut HashMap<u64, Node<K, D>>, id: u64, to: Option<u64
 }
 
 fn set_next<K, D>(nodes: &mut HashMap<u64, Node<K, D>>, id: u64, to: Option<u64>)
-    ensures { node_at nodes.new.entries ≡ with_next (node_at nodes.old.entries) id to }
+    ensures { node_numbered nodes.new.entries ≡ with_next (node_numbered nodes.old.entries) id to }
 {
     if let Some(node) = nodes.get_mut(&id) {
         node.next_sibling = to;
@@ -77,7 +77,7 @@ fn set_next<K, D>(nodes: &mut HashMap<u64, Node<K, D>>, id: u64, to: Option<u64>
 }
 
 fn set_previous<K, D>(nodes: &mut HashMap<u64, Node<K, D>>, id: u64, to: Option<u64>)
-    ensures { node_at nodes.new.entries ≡ with_previous (node_at nodes.old.entries) id to }
+    ensures { node_numbered nodes.new.entries ≡ with_previous (node_numbered nodes.old.entries) id to }
 {
     if let Some(node) = nodes.get_mut(&id) {
         node.previous_sibling = to;
@@ -91,7 +91,7 @@ pub(super) fn put_before<K, D>(
     id: u64,
     first: Option<u64>,
 )
-    ensures { node_at nodes.new.entries ≡ put_before (node_at nodes.old.entries) parent id first }
+    ensures { node_numbered nodes.new.entries ≡ put_before (node_numbered nodes.old.entries) parent id first }
 {
     set_first(nodes, parent, Some(id));
     if let Some(old) = first {
@@ -106,7 +106,7 @@ pub(super) fn close_up<K, D>(
     before: Option<u64>,
     after: Option<u64>,
 )
-    ensures { node_at nodes.new.entries ≡ closed_up (node_at nodes.old.entries) parent before after }
+    ensures { node_numbered nodes.new.entries ≡ closed_up (node_numbered nodes.old.entries) parent before after }
 {
     match before {
         Some(id) => set_next(nodes, id, after),
@@ -125,7 +125,7 @@ pub(super) fn set_parent_and_key<K: Drop, D>(
     key: K,
     first: Option<u64>,
 )
-    ensures { node_at nodes.new.entries ≡ with_parent_and_key (node_at nodes.old.entries) id parent key first }
+    ensures { node_numbered nodes.new.entries ≡ with_parent_and_key (node_numbered nodes.old.entries) id parent key first }
 {
     if let Some(node) = nodes.get_mut(&id) {
         node.parent_and_key = Some((parent, key));
@@ -136,11 +136,11 @@ pub(super) fn set_parent_and_key<K: Drop, D>(
 
 /// Hangs a child of `above` below another node, first there, under the key that it has.
 pub(super) fn hang<K, D>(nodes: &mut HashMap<u64, Node<K, D>>, id: u64, above: u64, parent: u64)
-    ensures { (x : Node K D) (r : ℕ) (k : K) → Some x ≡ node_at nodes.old.entries id → x.parent_and_key ≡ Some (r, k)
-        → node_at nodes.new.entries ≡ put_before
-        (with_parent_and_key (closed_up (node_at nodes.old.entries) above x.previous_sibling x.next_sibling) id parent k
-        (first_in (closed_up (node_at nodes.old.entries) above x.previous_sibling x.next_sibling) parent)) parent id
-        (first_in (closed_up (node_at nodes.old.entries) above x.previous_sibling x.next_sibling) parent) }
+    ensures { (x : Node K D) (r : ℕ) (k : K) → Some x ≡ node_numbered nodes.old.entries id → x.parent_and_key ≡ Some (r, k)
+        → node_numbered nodes.new.entries ≡ put_before
+        (with_parent_and_key (closed_up (node_numbered nodes.old.entries) above x.previous_sibling x.next_sibling) id parent k
+        (first_in (closed_up (node_numbered nodes.old.entries) above x.previous_sibling x.next_sibling) parent)) parent id
+        (first_in (closed_up (node_numbered nodes.old.entries) above x.previous_sibling x.next_sibling) parent) }
 {
     let (before, after) = neighbours(nodes, id);
     close_up(nodes, above, before, after);
@@ -150,7 +150,7 @@ pub(super) fn hang<K, D>(nodes: &mut HashMap<u64, Node<K, D>>, id: u64, above: u
 }
 
 fn neighbours<K, D>(nodes: &HashMap<u64, Node<K, D>>, id: u64) -> (Option<u64>, Option<u64>)
-    ensures { result ≡ (previous_in (node_at nodes.now.entries) id, next_in (node_at nodes.now.entries) id) }
+    ensures { result ≡ (previous_in (node_numbered nodes.now.entries) id, next_in (node_numbered nodes.now.entries) id) }
 {
     match nodes.get(&id) {
         Some(node) => (node.previous_sibling, node.next_sibling),
@@ -159,7 +159,7 @@ fn neighbours<K, D>(nodes: &HashMap<u64, Node<K, D>>, id: u64) -> (Option<u64>, 
 }
 
 fn set_parent<K, D>(nodes: &mut HashMap<u64, Node<K, D>>, id: u64, parent: u64, first: Option<u64>)
-    ensures { node_at nodes.new.entries ≡ with_parent (node_at nodes.old.entries) id parent first }
+    ensures { node_numbered nodes.new.entries ≡ with_parent (node_numbered nodes.old.entries) id parent first }
 {
     if let Some(node) = nodes.get_mut(&id) {
         if let Some(above) = &mut node.parent_and_key {

@@ -1,7 +1,7 @@
 //! Nodes that had their numbers already, as a tree that was written down has.
 ghost use Rattle.std.specs.Prelude.{◌≡◌, None, IfErr};
-ghost use Rattle.dav_path_core.specs.Answers.{Answers};
-ghost use Rattle.dav_path_core.specs.Keyed.{child, raised, restored, restore_refusal};
+ghost use Rattle.dav_path_core.specs.StoreAnswers.{AnswersUnlessRefused};
+ghost use Rattle.dav_path_core.specs.Keyed.{child, with_next_at_least, with_restored_node, restore_refusal};
 ghost use Rattle.dav_path_core.specs.TreeValue.{IsTreeValue};
 
 use super::Tree;
@@ -19,7 +19,7 @@ impl<K: Eq + Hash + Clone, D: Drop> Tree<K, D> {
 
     /// Gives no number below that one to a new node any more. Nothing else changes (own).
     pub fn raise_next_number(&mut self, next: u64)
-        ensures raised { self.new ≡ record self.old { keyed = raised self.old.keyed next } }
+        ensures raised { self.new ≡ record self.old { keyed = with_next_at_least self.old.keyed next } }
         ensures shape { IsTreeValue K.eq self.new }
     {
         self.next = self.next.max(next);
@@ -32,8 +32,8 @@ impl<K: Eq + Hash + Clone, D: Drop> Tree<K, D> {
     /// is given: 0 and 2^64 - 1. Where nothing of that refuses, `InsufficientStorage` where it is out of memory.
     pub fn restore_child(&mut self, parent: u64, key: K, item: D, number: u64) -> FsResult<()>
         requires free { child (K.eq key) self.old.keyed parent ≡ None }
-        ensures answer { Answers (restore_refusal self.old.keyed parent number) result
-            (λ _. self.new.keyed ≡ restored self.old.keyed parent key item number)
+        ensures answer { AnswersUnlessRefused (restore_refusal self.old.keyed parent number) result
+            (λ _. self.new.keyed ≡ with_restored_node self.old.keyed parent key item number)
             (self.new ≡ self.old) }
         // It is refused for memory only where nothing else refuses.
         ensures room { IfErr result (λ e. e ≡ FsError.InsufficientStorage

@@ -1,9 +1,9 @@
 //! Walks through a tree along the links of its nodes. They take no memory.
 ghost use Rattle.std.specs.Prelude.{◌≡◌, MatchOption};
 ghost use Rattle.std.specs.FinMap.{len};
-ghost use Rattle.dav_path_core.specs.Keyed.{IsKnown, Under, parent};
+ghost use Rattle.dav_path_core.specs.Keyed.{IsKnown, Under, parent_number};
 ghost use Rattle.dav_path_core.specs.TreeValue.{IsTreeValue, after};
-ghost use Rattle.dav_path_core.specs.Walking.{GoesOn, IsOver, IsWalk, climbs, following};
+ghost use Rattle.dav_path_core.specs.Walking.{WalkGoesOn, IsWalkOver, IsTreeWalk, climbs, following};
 
 use super::{ROOT_ID, Tree, links};
 use std::hash::Hash;
@@ -21,13 +21,13 @@ pub struct Walk<'a, K: Eq + Hash, D> {
 impl<'a, K: Eq + Hash, D> Model for Walk<'a, K, D> {
     ghost use Rattle.std.specs.Prelude.{List, ℕ};
     ghost use Rattle.dav_path_core.specs.Walking.{numbers_from};
-    ghost use Rattle.dav_path_core.specs.Private.Walked.{IsAt};
+    ghost use Rattle.dav_path_core.specs.Private.Walked.{IsWalkedTo};
 
     ghost Value = { List ℕ };
 
     ghost view = { λ w. numbers_from w.tree.now w.left w.at };
 
-    ghost invariant = { λ w. IsAt w.tree.now w.at };
+    ghost invariant = { λ w. IsWalkedTo w.tree.now w.at };
 }
 
 impl<'a, K: Eq + Hash + Clone, D> Iterator for Walk<'a, K, D> {
@@ -53,7 +53,7 @@ impl<'a, K: Eq + Hash + Clone, D> Iterator for Walk<'a, K, D> {
 impl<K: Eq + Hash + Clone, D> Tree<K, D> {
     /// The numbers of all nodes, each once, and each behind its parent. It takes no memory.
     pub fn walk(&self) -> Walk<'_, K, D>
-        ensures { IsWalk self.now.keyed result }
+        ensures { IsTreeWalk self.now.keyed result }
     {
         Walk {
             tree: self,
@@ -66,9 +66,9 @@ impl<K: Eq + Hash + Clone, D> Tree<K, D> {
     /// behind the last. It takes no memory.
     pub fn next_below(&self, top: u64, id: u64) -> Option<u64>
         requires known { IsKnown self.now.keyed id }
-        requires under { Under (parent self.now.keyed) top id }
+        requires under { Under (parent_number self.now.keyed) top id }
         ensures value { result ≡ following self.now top id }
-        ensures step { MatchOption result (IsOver self.now top id) (λ n. GoesOn self.now top id n) }
+        ensures step { MatchOption result (IsWalkOver self.now top id) (λ n. WalkGoesOn self.now top id n) }
         ensures shape { IsTreeValue K.eq self.now }
     {
         if let Some(child) = links::first_of(&self.nodes, id) {

@@ -8,7 +8,7 @@ use Rattle.dav_resource_core.specs.declared.davreplay.lines.Unread.TheVariants.{
 use Rattle.dav_resource_core.specs.declared.guarded.requests.Request.{Request}
 use Rattle.dav_resource_core.specs.AnswerTexts.{answer_line, bad_path_line, out_of_memory_line, tokens_after}
 use Rattle.dav_resource_core.specs.Labels.{label_in}
-use Rattle.dav_resource_core.specs.Private.Reading.{LineIs}
+use Rattle.dav_resource_core.specs.Private.LineReading.{LineIs}
 use Rattle.dav_resource_core.specs.Requests as plain
 use Rattle.dav_resource_core.specs.Served.{request_of}
 use Rattle.dav_resource_core.specs.Step.{State, Step}
@@ -20,22 +20,22 @@ Played = State × List (List ℕ)
 -- ---- a line
 
 -- a request is a step of the stores, the token of a lock that it was granted is kept, and the line of its answer is written
-abbrev pub Answered : Played → plain.Request → Played → List ℕ → Type 0
-Answered p r p' written =
+abbrev pub PlaysRequest : Played → plain.Request → Played → List ℕ → Type 0
+PlaysRequest p r p' written =
     (a : plain.Answer) × Step p.0 r a p'.0 × (p'.1 ≡ tokens_after r.command a p.1)
     × (written ≡ answer_line (label_in p'.1) r.command a)
 
 -- what follows what a line says, what is written, and whether the next line is read: a request alone changes the stores, and a malformed line ends the run
-abbrev pub Follows : Played → Result (Option Request) Unread → Bool → Played → List ℕ → Type 0
-Follows p (Ok (Some request)) on p' written = (on ≡ true) × Answered p (request_of request) p' written
-Follows p (Ok None) on p' written = (on ≡ true) × (p' ≡ p) × (written ≡ [])
-Follows p (Err Malformed) on p' written = (on ≡ false) × (p' ≡ p) × (written ≡ [])
-Follows p (Err (BadPath e)) on p' written = (on ≡ true) × (p' ≡ p) × (written ≡ bad_path_line e)
-Follows p (Err OutOfMemory) on p' written = (on ≡ true) × (p' ≡ p) × (written ≡ out_of_memory_line)
+abbrev pub PlaysLine : Played → Result (Option Request) Unread → Bool → Played → List ℕ → Type 0
+PlaysLine p (Ok (Some request)) on p' written = (on ≡ true) × PlaysRequest p (request_of request) p' written
+PlaysLine p (Ok None) on p' written = (on ≡ true) × (p' ≡ p) × (written ≡ [])
+PlaysLine p (Err Malformed) on p' written = (on ≡ false) × (p' ≡ p) × (written ≡ [])
+PlaysLine p (Err (BadPath e)) on p' written = (on ≡ true) × (p' ≡ p) × (written ≡ bad_path_line e)
+PlaysLine p (Err OutOfMemory) on p' written = (on ≡ true) × (p' ≡ p) × (written ≡ out_of_memory_line)
 
 -- a line of these bytes
 abbrev pub LinePlayed : Played → List ℕ → Bool → Played → List ℕ → Type 0
-LinePlayed p line on p' written = (said : Result (Option Request) Unread) × LineIs p.1 line said × Follows p said on p' written
+LinePlayed p line on p' written = (said : Result (Option Request) Unread) × LineIs p.1 line said × PlaysLine p said on p' written
 
 -- ---- all lines
 

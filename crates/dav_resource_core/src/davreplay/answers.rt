@@ -3,12 +3,12 @@ ghost use Rattle.std.specs.Prelude.{◌≡◌, ◌≤◌, ◌++◌, length, map,
 ghost use Rattle.hex.specs.Hex.{encode_lower};
 ghost use Rattle.std.specs.List.{flat_map};
 ghost use Rattle.std.specs.Io.KnownBytes.{Appends};
-ghost use Rattle.dav_files_core.specs.Listing.{entry_of};
+ghost use Rattle.dav_files_core.specs.Listing.{listed_entry};
 ghost use Rattle.dav_files_core.specs.Meta.{meta_of};
-ghost use Rattle.dav_files_core.specs.Properties.{answer_of, property_of};
-ghost use Rattle.dav_resource_core.specs.AnswerTexts.{error_line, ok_line, spaced, label_text, hex_text, meta_text, member_text, status_text, property_text, end_text};
+ghost use Rattle.dav_files_core.specs.Properties.{patch_answer, property_of};
+ghost use Rattle.dav_resource_core.specs.AnswerTexts.{error_line, ok_line, spaced_word, label_text, hex_text, meta_text, member_text, status_text, property_text, end_text};
 ghost use Rattle.dav_resource_core.specs.Labels.{label_in};
-ghost use Rattle.dav_resource_core.specs.Private.Reading.{refusal_line};
+ghost use Rattle.dav_resource_core.specs.Private.LineReading.{refusal_line};
 
 use super::OUT_OF_MEMORY;
 use super::labels::Labels;
@@ -28,7 +28,7 @@ const CHUNK: usize = 64;
 
 /// The bytes in lower-case hexadecimal digits, `-` for none.
 pub(super) fn write_bytes<O: Write>(bytes: &[u8], output: &mut O) -> Result<(), Fault>
-    ensures { OnOk result (Appends (O.contents output.old) (O.contents output.new) (ok_line (spaced (hex_text bytes.now)))) }
+    ensures { OnOk result (Appends (O.contents output.old) (O.contents output.new) (ok_line (spaced_word (hex_text bytes.now)))) }
 {
     if bytes.is_empty() {
         return Ok(output.write_all(b"ok -\n")?);
@@ -55,7 +55,7 @@ fn write_chunk<O: Write>(chunk: &[u8], output: &mut O) -> Result<(), Fault>
 
 /// The names of members as URL texts, with `/` after a folder's.
 pub(super) fn write_entries<O: Write>(entries: &[MemFsEntry], output: &mut O) -> Result<(), Fault>
-    ensures { OnOk result (Appends (O.contents output.old) (O.contents output.new) (ok_line (flat_map member_text (map entry_of entries.now)))) }
+    ensures { OnOk result (Appends (O.contents output.old) (O.contents output.new) (ok_line (flat_map member_text (map listed_entry entries.now)))) }
 {
     output.write_all(b"ok")?;
     for entry in entries {
@@ -65,7 +65,7 @@ pub(super) fn write_entries<O: Write>(entries: &[MemFsEntry], output: &mut O) ->
 }
 
 fn write_entry<O: Write>(entry: &MemFsEntry, output: &mut O) -> Result<(), Fault>
-    ensures { OnOk result (Appends (O.contents output.old) (O.contents output.new) (member_text (entry_of entry.now))) }
+    ensures { OnOk result (Appends (O.contents output.old) (O.contents output.new) (member_text (listed_entry entry.now))) }
 {
     write!(output, " {}", escaped(entry.name()))?;
     if entry.is_dir() == Ok(true) {
@@ -91,7 +91,7 @@ pub(super) fn write_statuses<O: Write>(
     answers: &[(StatusCode, DavProp)],
     output: &mut O,
 ) -> Result<(), Fault>
-    ensures { OnOk result (Appends (O.contents output.old) (O.contents output.new) (ok_line (flat_map status_text (map answer_of answers.now)))) }
+    ensures { OnOk result (Appends (O.contents output.old) (O.contents output.new) (ok_line (flat_map status_text (map patch_answer answers.now)))) }
 {
     output.write_all(b"ok")?;
     for answer in answers {
@@ -101,7 +101,7 @@ pub(super) fn write_statuses<O: Write>(
 }
 
 fn write_status<O: Write>(answer: &(StatusCode, DavProp), output: &mut O) -> Result<(), Fault>
-    ensures { OnOk result (Appends (O.contents output.old) (O.contents output.new) (status_text (answer_of answer.now))) }
+    ensures { OnOk result (Appends (O.contents output.old) (O.contents output.new) (status_text (patch_answer answer.now))) }
 {
     Ok(write!(output, " {}", answer.0.as_u16())?)
 }
@@ -133,7 +133,7 @@ pub(super) fn write_locks<O: Write>(
     locks: &[DavLock],
     output: &mut O,
 ) -> Result<(), Fault>
-    ensures { OnOk result (Appends (O.contents output.old) (O.contents output.new) (ok_line (flat_map (λ token. spaced (label_text (label_in labels.now token))) (map (λ lock. lock.token) locks.now)))) }
+    ensures { OnOk result (Appends (O.contents output.old) (O.contents output.new) (ok_line (flat_map (λ token. spaced_word (label_text (label_in labels.now token))) (map (λ lock. lock.token) locks.now)))) }
 {
     output.write_all(b"ok")?;
     for lock in locks {
@@ -143,7 +143,7 @@ pub(super) fn write_locks<O: Write>(
 }
 
 fn write_label<O: Write>(labels: &Labels, lock: &DavLock, output: &mut O) -> Result<(), Fault>
-    ensures { OnOk result (Appends (O.contents output.old) (O.contents output.new) (spaced (label_text (label_in labels.now lock.now.token)))) }
+    ensures { OnOk result (Appends (O.contents output.old) (O.contents output.new) (spaced_word (label_text (label_in labels.now lock.now.token)))) }
 {
     Ok(write!(output, " t{}", labels.number_of(&lock.token))?)
 }
@@ -155,7 +155,7 @@ pub(super) fn write_refreshed<O: Write>(
     output: &mut O,
 ) -> Result<(), Fault>
     ensures { OnOk result (Appends (O.contents output.old) (O.contents output.new)
-        (ok_line (spaced (label_text (label_in labels.now lock.now.token)) ++ spaced (end_text lock.now.timeout_at)))) }
+        (ok_line (spaced_word (label_text (label_in labels.now lock.now.token)) ++ spaced_word (end_text lock.now.timeout_at)))) }
 {
     let number = labels.number_of(&lock.token);
     match lock.timeout_at {

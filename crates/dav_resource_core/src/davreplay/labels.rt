@@ -1,7 +1,7 @@
 //! Labels of locks: `tN` stands for the token of the lock that was granted as the N-th.
 ghost use Rattle.std.specs.Prelude.{◌≡◌, [], ◌∷◌, ◌++◌, map, option_map, Some, None, string_bytes, IfOk, OnOk, OnErr};
 ghost use Rattle.dav_resource_core.specs.Labels.{label_in, smallest_label};
-ghost use Rattle.dav_resource_core.specs.Lines.{nth_token, token_at, token_of};
+ghost use Rattle.dav_resource_core.specs.RequestLines.{nth_token, token_at, labelled_token};
 
 use line_streams::numbers::number;
 use std::alloc::{AllocError, Global};
@@ -21,7 +21,7 @@ pub(super) struct Labels {
 impl Model for Labels {
     ghost use Rattle.std.specs.Prelude.{ℕ, List, map, string_bytes};
     ghost use Rattle.std.specs.HashMap.{get_by_text};
-    ghost use Rattle.dav_resource_core.specs.Private.Labels.{coded_tokens, AreSmallest};
+    ghost use Rattle.dav_resource_core.specs.Private.LabelMaps.{coded_tokens, AreSmallest};
 
     ghost Value = { List (List ℕ) };
 
@@ -86,7 +86,7 @@ impl Labels {
     /// The tokens that labels stand for.
     pub(super) fn tokens_of(&self, labels: &[&str]) -> Result<Vec<String>, AllocError>
         ensures { IfOk result (λ tokens. map string_bytes tokens.items
-            ≡ map (λ label. token_of self.now label.now) labels.now) }
+            ≡ map (λ label. labelled_token self.now label.now) labels.now) }
     {
         let mut tokens = Vec::new(self.alloc);
         for label in labels {
@@ -97,7 +97,7 @@ impl Labels {
 
     /// The token that a label stands for; where no such lock was granted its own text, which is no token.
     pub(super) fn token_of(&self, label: &str) -> Result<String, AllocError>
-        ensures { IfOk result (λ token. string_bytes token ≡ token_of self.now label.now) }
+        ensures { IfOk result (λ token. string_bytes token ≡ labelled_token self.now label.now) }
     {
         match self.granted_at(label) {
             Some(token) => String::from_str(self.alloc, token),
@@ -106,7 +106,7 @@ impl Labels {
     }
 
     // The token of the lock that a label names, if it was granted.
-    #[tactic(auto, unfolding(crate::specs::Lines::token_at))]
+    #[tactic(auto, unfolding(crate::specs::RequestLines::token_at))]
     fn granted_at(&self, label: &str) -> Option<&str>
         ensures { option_map (λ token. token.now) result ≡ token_at self.now label.now }
     {
@@ -114,7 +114,7 @@ impl Labels {
     }
 
     // The token of the lock that was granted as the N-th, from 1.
-    #[tactic(auto, unfolding(crate::specs::Lines::nth_token))]
+    #[tactic(auto, unfolding(crate::specs::RequestLines::nth_token))]
     fn nth(&self, number: u64) -> Option<&str>
         ensures { option_map (λ token. token.now) result ≡ nth_token (self.now) number }
     {

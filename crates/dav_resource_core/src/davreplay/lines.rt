@@ -3,11 +3,11 @@ ghost use Rattle.std.specs.Prelude.{◌≡◌, List, [], ◌∷◌, Ok, Some, No
 ghost use Rattle.std.specs.List.{list_all, slice_split};
 ghost use Rattle.dav_path_core.specs.Segments.{segments};
 ghost use Rattle.dav_files_core.specs.Properties.{property_of};
-ghost use Rattle.dav_headers_core.specs.Pieces.{is_comma};
+ghost use Rattle.dav_headers_core.specs.CommaPieces.{is_comma};
 ghost use Rattle.line_streams.specs.Numerals.{numeral};
-ghost use Rattle.dav_resource_core.specs.Lines.{words, depth_word, scope_word, timeout_word, place_word, number_or, head_form, text_word, hex_word, is_count, is_label, labels_word, put_form, write_form, read_form, move_form, copy_form, set_form, delete_form, props_form, prop_form, lock_form, check_form, unlock_form, refresh_form, form_alone, has_two_paths, form_of_ends, form_with_one, form_with_two, form_with_three};
+ghost use Rattle.dav_resource_core.specs.RequestLines.{words, depth_of_word, scope_of_word, timeout_word, place_word, number_or, head_form, text_word, hex_word, is_count, is_label, labels_word, put_form, write_form, read_form, move_form, copy_form, set_form, delete_form, props_form, prop_form, lock_form, check_form, unlock_form, refresh_form, form_alone, has_two_paths, form_of_ends, form_with_one, form_with_two, form_with_three};
 ghost use Rattle.dav_resource_core.specs.Requests.Command.{PatchProps};
-ghost use Rattle.dav_resource_core.specs.Private.Reading.{exactly, Gives, IsWithOne, CommandIs, both, reading, IsRead, IsReadOrRoom, IsAskedOrRoom, asking, WordsAre, LineIs};
+ghost use Rattle.dav_resource_core.specs.Private.LineReading.{exactly, Gives, IsWithOne, CommandIs, both, command_reading, IsReadCommand, IsReadOrRoom, IsAskedOrRoom, line_request, WordsAre, LineIs};
 
 use super::labels::Labels;
 use crate::guarded::{Command, Request};
@@ -29,7 +29,7 @@ pub(super) enum Unread {
 }
 
 impl From<ParseError> for Unread {
-    ghost use Rattle.dav_resource_core.specs.Private.Reading.{unread_by};
+    ghost use Rattle.dav_resource_core.specs.Private.LineReading.{unread_by};
 
     ghost from_gives = { λ e r. r ≡ unread_by e };
 
@@ -105,7 +105,7 @@ fn with_head(
     labels: &str,
     command: Result<Command, Unread>,
 ) -> Result<Option<Request>, Unread>
-    ensures { IsAskedOrRoom result (asking (head_form granted.now moment.now principal.now labels.now) command) }
+    ensures { IsAskedOrRoom result (line_request (head_form granted.now moment.now principal.now labels.now) command) }
 {
     let now = Moment(number_of(moment)?);
     let labels = labels_of(alloc, labels)?;
@@ -151,9 +151,9 @@ fn command_of(
     }
 }
 
-#[tactic(auto, unfolding(crate::specs::Lines::form_alone))]
+#[tactic(auto, unfolding(crate::specs::RequestLines::form_alone))]
 fn with_no_words(command: &str, path: Path) -> Result<Command, Unread>
-    ensures { IsRead result (reading (form_alone command.now) path) }
+    ensures { IsReadCommand result (command_reading (form_alone command.now) path) }
 {
     match command {
         "list" => Ok(Command::List { path: path? }),
@@ -188,9 +188,9 @@ fn has_two_paths(command: &str) -> bool
     command == "move" || command == "copy"
 }
 
-#[tactic(auto, unfolding(crate::specs::Lines::form_of_ends))]
+#[tactic(auto, unfolding(crate::specs::RequestLines::form_of_ends))]
 fn with_two_paths(command: &str, from: Path, to: Path) -> Result<Command, Unread>
-    ensures { IsRead result (reading (form_of_ends command.now) (both from to)) }
+    ensures { IsReadCommand result (command_reading (form_of_ends command.now) (both from to)) }
 {
     match command {
         "move" => move_to(from, to),
@@ -199,7 +199,7 @@ fn with_two_paths(command: &str, from: Path, to: Path) -> Result<Command, Unread
     }
 }
 
-#[tactic(auto, unfolding(crate::specs::Lines::form_with_one))]
+#[tactic(auto, unfolding(crate::specs::RequestLines::form_with_one))]
 fn at_one_path(
     alloc: Global,
     granted: &Labels,
@@ -207,7 +207,7 @@ fn at_one_path(
     path: Path,
     one: &str,
 ) -> Result<Command, Unread>
-    ensures { IsReadOrRoom result (reading (form_with_one granted.now command.now one.now) path) }
+    ensures { IsReadOrRoom result (command_reading (form_with_one granted.now command.now one.now) path) }
 {
     match command {
         "put" => put(alloc, path, one),
@@ -217,7 +217,7 @@ fn at_one_path(
     }
 }
 
-#[tactic(auto, unfolding(crate::specs::Lines::form_with_two))]
+#[tactic(auto, unfolding(crate::specs::RequestLines::form_with_two))]
 fn with_two_words(
     alloc: Global,
     granted: &Labels,
@@ -226,7 +226,7 @@ fn with_two_words(
     one: &str,
     two: &str,
 ) -> Result<Command, Unread>
-    ensures { IsReadOrRoom result (reading (form_with_two granted.now command.now one.now two.now) path) }
+    ensures { IsReadOrRoom result (command_reading (form_with_two granted.now command.now one.now two.now) path) }
 {
     match command {
         "write" => write(alloc, path, one, two),
@@ -238,7 +238,7 @@ fn with_two_words(
     }
 }
 
-#[tactic(auto, unfolding(crate::specs::Lines::form_with_three))]
+#[tactic(auto, unfolding(crate::specs::RequestLines::form_with_three))]
 fn with_three_words(
     alloc: Global,
     command: &str,
@@ -247,7 +247,7 @@ fn with_three_words(
     two: &str,
     three: &str,
 ) -> Result<Command, Unread>
-    ensures { IsReadOrRoom result (reading (form_with_three command.now one.now two.now three.now) path) }
+    ensures { IsReadOrRoom result (command_reading (form_with_three command.now one.now two.now three.now) path) }
 {
     match command {
         "setprop" => set_prop(alloc, path, one, two, three),
@@ -257,7 +257,7 @@ fn with_three_words(
 }
 
 fn put(alloc: Global, path: Path, hex: &str) -> Result<Command, Unread>
-    ensures { IsReadOrRoom result (reading (put_form hex.now) path) }
+    ensures { IsReadOrRoom result (command_reading (put_form hex.now) path) }
 {
     let bytes = bytes_of(alloc, hex)?;
     let path = path?;
@@ -265,7 +265,7 @@ fn put(alloc: Global, path: Path, hex: &str) -> Result<Command, Unread>
 }
 
 fn write(alloc: Global, path: Path, at: &str, hex: &str) -> Result<Command, Unread>
-    ensures { IsReadOrRoom result (reading (write_form at.now hex.now) path) }
+    ensures { IsReadOrRoom result (command_reading (write_form at.now hex.now) path) }
 {
     let at = place_of(at)?;
     let bytes = bytes_of(alloc, hex)?;
@@ -274,7 +274,7 @@ fn write(alloc: Global, path: Path, at: &str, hex: &str) -> Result<Command, Unre
 }
 
 fn read(path: Path, at: &str, count: &str) -> Result<Command, Unread>
-    ensures { IsRead result (reading (read_form at.now count.now) path) }
+    ensures { IsReadCommand result (command_reading (read_form at.now count.now) path) }
 {
     let at = number_of(at)? as usize;
     let count = number_of(count)? as usize;
@@ -283,7 +283,7 @@ fn read(path: Path, at: &str, count: &str) -> Result<Command, Unread>
 }
 
 fn move_to(from: Path, to: Path) -> Result<Command, Unread>
-    ensures { IsRead result (reading move_form (both from to)) }
+    ensures { IsReadCommand result (command_reading move_form (both from to)) }
 {
     let from = from?;
     let to = to?;
@@ -291,7 +291,7 @@ fn move_to(from: Path, to: Path) -> Result<Command, Unread>
 }
 
 fn copy_to(from: Path, to: Path) -> Result<Command, Unread>
-    ensures { IsRead result (reading copy_form (both from to)) }
+    ensures { IsReadCommand result (command_reading copy_form (both from to)) }
 {
     let from = from?;
     let to = to?;
@@ -305,7 +305,7 @@ fn set_prop(
     name: &str,
     hex: &str,
 ) -> Result<Command, Unread>
-    ensures { IsReadOrRoom result (reading (set_form space.now name.now hex.now) path) }
+    ensures { IsReadOrRoom result (command_reading (set_form space.now name.now hex.now) path) }
 {
     let xml = bytes_of(alloc, hex)?.as_slice().to_vec(alloc)?;
     let prop = prop_of(alloc, space, name, Some(xml))?;
@@ -313,7 +313,7 @@ fn set_prop(
 }
 
 fn delete_prop(alloc: Global, path: Path, space: &str, name: &str) -> Result<Command, Unread>
-    ensures { IsReadOrRoom result (reading (delete_form space.now name.now) path) }
+    ensures { IsReadOrRoom result (command_reading (delete_form space.now name.now) path) }
 {
     let prop = prop_of(alloc, space, name, None)?;
     patch(alloc, path?, false, prop)
@@ -329,7 +329,7 @@ fn patch(alloc: Global, path: DavPath, set: bool, prop: DavProp) -> Result<Comma
 }
 
 fn props(path: Path) -> Result<Command, Unread>
-    ensures { IsRead result (reading props_form path) }
+    ensures { IsReadCommand result (command_reading props_form path) }
 {
     let path = path?;
     let content = false;
@@ -337,7 +337,7 @@ fn props(path: Path) -> Result<Command, Unread>
 }
 
 fn prop(alloc: Global, path: Path, space: &str, name: &str) -> Result<Command, Unread>
-    ensures { IsReadOrRoom result (reading (prop_form space.now name.now) path) }
+    ensures { IsReadOrRoom result (command_reading (prop_form space.now name.now) path) }
 {
     let prop = prop_of(alloc, space, name, None)?;
     let path = path?;
@@ -345,7 +345,7 @@ fn prop(alloc: Global, path: Path, space: &str, name: &str) -> Result<Command, U
 }
 
 fn lock(path: Path, scope: &str, depth: &str, timeout: &str) -> Result<Command, Unread>
-    ensures { IsRead result (reading (lock_form scope.now depth.now timeout.now) path) }
+    ensures { IsReadCommand result (command_reading (lock_form scope.now depth.now timeout.now) path) }
 {
     let shared = is_shared(scope)?;
     let deep = is_deep(depth)?;
@@ -360,7 +360,7 @@ fn lock(path: Path, scope: &str, depth: &str, timeout: &str) -> Result<Command, 
 }
 
 fn unlock(granted: &Labels, path: Path, label: &str) -> Result<Command, Unread>
-    ensures { IsReadOrRoom result (reading (unlock_form granted.now label.now) path) }
+    ensures { IsReadOrRoom result (command_reading (unlock_form granted.now label.now) path) }
 {
     if !is_label(label) {
         return Err(Unread::Malformed);
@@ -371,7 +371,7 @@ fn unlock(granted: &Labels, path: Path, label: &str) -> Result<Command, Unread>
 }
 
 fn refresh(granted: &Labels, path: Path, label: &str, timeout: &str) -> Result<Command, Unread>
-    ensures { IsReadOrRoom result (reading (refresh_form granted.now label.now timeout.now) path) }
+    ensures { IsReadOrRoom result (command_reading (refresh_form granted.now label.now timeout.now) path) }
 {
     if !is_label(label) {
         return Err(Unread::Malformed);
@@ -387,7 +387,7 @@ fn refresh(granted: &Labels, path: Path, label: &str, timeout: &str) -> Result<C
 }
 
 fn check(path: Path, depth: &str) -> Result<Command, Unread>
-    ensures { IsRead result (reading (check_form depth.now) path) }
+    ensures { IsReadCommand result (command_reading (check_form depth.now) path) }
 {
     let deep = is_deep(depth)?;
     let path = path?;
@@ -405,9 +405,9 @@ fn number_of(word: &str) -> Result<u64, Unread>
 }
 
 // `shallow` or `deep`.
-#[tactic(auto, unfolding(crate::specs::Lines::depth_word))]
+#[tactic(auto, unfolding(crate::specs::RequestLines::depth_of_word))]
 fn is_deep(word: &str) -> Result<bool, Unread>
-    ensures { result ≡ exactly (depth_word word.now) }
+    ensures { result ≡ exactly (depth_of_word word.now) }
 {
     match word {
         "shallow" => Ok(false),
@@ -417,9 +417,9 @@ fn is_deep(word: &str) -> Result<bool, Unread>
 }
 
 // `exclusive` or `shared`.
-#[tactic(auto, unfolding(crate::specs::Lines::scope_word))]
+#[tactic(auto, unfolding(crate::specs::RequestLines::scope_of_word))]
 fn is_shared(word: &str) -> Result<bool, Unread>
-    ensures { result ≡ exactly (scope_word word.now) }
+    ensures { result ≡ exactly (scope_of_word word.now) }
 {
     match word {
         "exclusive" => Ok(false),
@@ -446,7 +446,7 @@ fn place_of(word: &str) -> Result<Option<usize>, Unread>
 }
 
 // A number within u64, or the word for none.
-#[tactic(auto, unfolding(crate::specs::Lines::number_or))]
+#[tactic(auto, unfolding(crate::specs::RequestLines::number_or))]
 fn number_or(none: &str, word: &str) -> Result<Option<u64>, Unread>
     ensures { result ≡ exactly (number_or none.now word.now) }
 {
@@ -460,7 +460,7 @@ fn number_or(none: &str, word: &str) -> Result<Option<u64>, Unread>
 }
 
 // A text, or `-` for none.
-#[tactic(auto, unfolding(crate::specs::Lines::text_word))]
+#[tactic(auto, unfolding(crate::specs::RequestLines::text_word))]
 fn text_of(alloc: Global, word: &str) -> Result<Option<String>, AllocError>
     ensures { IfOk result (λ text. option_map string_bytes text ≡ text_word word.now) }
 {
@@ -493,7 +493,7 @@ fn prop_of(
 }
 
 // An even number of hexadecimal digits, or `-` for no bytes.
-#[tactic(auto, unfolding(crate::specs::Lines::hex_word))]
+#[tactic(auto, unfolding(crate::specs::RequestLines::hex_word))]
 fn bytes_of(alloc: Global, word: &str) -> Result<Bytes, Unread>
     ensures { Gives (λ bytes. bytes) result (hex_word word.now) }
 {
@@ -508,7 +508,7 @@ fn bytes_of(alloc: Global, word: &str) -> Result<Bytes, Unread>
 }
 
 // Labels joined by commas, or `-` for none.
-#[tactic(auto, unfolding(crate::specs::Lines::labels_word))]
+#[tactic(auto, unfolding(crate::specs::RequestLines::labels_word))]
 fn labels_of<'a>(alloc: Global, word: &'a str) -> Result<Vec<&'a str>, Unread>
     ensures { Gives (λ labels. map (λ label. label.now) labels.items) result (labels_word word.now) }
 {
@@ -537,7 +537,7 @@ fn are_labels(words: &[&str]) -> bool
 }
 
 // `t` and a number from 1 without leading zeros.
-#[tactic(auto, unfolding(crate::specs::Lines::is_label))]
+#[tactic(auto, unfolding(crate::specs::RequestLines::is_label))]
 fn is_label(word: &str) -> bool
     ensures { result ≡ is_label word.now }
 {

@@ -1,12 +1,12 @@
 //! Answers to the lines of a scenario.
 ghost use Rattle.std.specs.Prelude.{◌≡◌, ◌∷◌, ◌++◌, [], ℕ, List, Ok, OnOk, string_bytes};
 ghost use Rattle.std.specs.Io.KnownBytes.{Appends};
-ghost use Rattle.dav_resource_core.specs.AnswerTexts.{answer_line, label_text, lock_line, ok_line, reply_line, spaced, tokens_after};
+ghost use Rattle.dav_resource_core.specs.AnswerTexts.{answer_line, label_text, lock_line, ok_line, reply_line, spaced_word, tokens_after};
 ghost use Rattle.dav_resource_core.specs.Labels.{label_in};
-ghost use Rattle.dav_resource_core.specs.Private.Reading.{IsNoLock};
+ghost use Rattle.dav_resource_core.specs.Private.LineReading.{IsNoLock};
 ghost use Rattle.dav_resource_core.specs.Requests as plain;
 ghost use Rattle.dav_resource_core.specs.declared.guarded.requests.Reply.TheVariants.{Lock as Granted};
-ghost use Rattle.dav_resource_core.specs.Private.Playing.{Answered};
+ghost use Rattle.dav_resource_core.specs.Private.Playing.{PlaysRequest};
 ghost use Rattle.dav_resource_core.specs.Served.{answer_of, command_of, reply_of, request_of};
 ghost use Rattle.dav_resource_core.specs.Stores.{state_of};
 
@@ -36,7 +36,7 @@ impl<R: Rng + Drop> Player<R> {
         request: &Request,
         output: &mut O,
     ) -> Result<(), Fault>
-        ensures { OnOk result ((written : List ℕ) × Answered (state_of self.old.stores (R.stream self.old.rng), self.old.labels) (request_of request.entry.now)
+        ensures { OnOk result ((written : List ℕ) × PlaysRequest (state_of self.old.stores (R.stream self.old.rng), self.old.labels) (request_of request.entry.now)
             (state_of self.new.stores (R.stream self.new.rng), self.new.labels) written
             × Appends (O.contents output.old) (O.contents output.new) written) }
     {
@@ -84,7 +84,7 @@ fn write_lock<O: Write>(
 fn write_granted<O: Write>(labels: &mut Labels, token: String, output: &mut O) -> Result<(), Fault>
     ensures tokens { OnOk result (labels.new ≡ labels.old ++ string_bytes token ∷ []) }
     ensures line { OnOk result (Appends (O.contents output.old) (O.contents output.new)
-        (ok_line (spaced (label_text (label_in labels.new (string_bytes token)))))) }
+        (ok_line (spaced_word (label_text (label_in labels.new (string_bytes token)))))) }
 {
     let number = labels.add(token)?;
     Ok(writeln!(output, "ok t{number}")?)

@@ -3,9 +3,9 @@ ghost use Rattle.std.specs.Prelude.{◌≡◌, ◌∷◌, [], ◌++◌, true, op
 ghost use Rattle.dav_locks_core.specs.Calls.{lent_text};
 ghost use Rattle.dav_locks_core.specs.Stale.{without_stale};
 ghost use Rattle.dav_path_core.specs.Segments.{segments};
-ghost use Rattle.dav_resource_core.specs.Checks.{caller_of, checks, refusing, reached, member, target};
+ghost use Rattle.dav_resource_core.specs.Checks.{caller_of, checks, refusing, reach_check, member, target};
 ghost use Rattle.dav_resource_core.specs.Served.{command_of, request_of};
-ghost use Rattle.dav_resource_core.specs.Private.Serving.{RefusedBy};
+ghost use Rattle.dav_resource_core.specs.Private.RequestServing.{RefusedBy};
 
 use super::{Command, Guarded, Refusal, Request};
 use dav_path_core::davpath::{DavPath, DavPathRef};
@@ -78,9 +78,9 @@ impl Guarded {
     fn check_path(&mut self, request: &Request, path: &DavPath, deep: bool) -> Result<(), Refusal>
         requires fresh { without_stale request.now.now.0 self.old.locks ≡ self.old.locks }
         ensures ok { OnOk result (refusing self.old.locks (caller_of (request_of request.entry.now))
-            (reached (segments path.now.bytes) deep ∷ []) ≡ []) }
+            (reach_check (segments path.now.bytes) deep ∷ []) ≡ []) }
         ensures err { IfErr result (RefusedBy self.old.locks (caller_of (request_of request.entry.now))
-            (reached (segments path.now.bytes) deep ∷ [])) }
+            (reach_check (segments path.now.bytes) deep ∷ [])) }
         ensures same { self.new ≡ self.old }
     {
         self.check_path_ref(request, &path.behind_prefix(), deep)
@@ -95,9 +95,9 @@ impl Guarded {
     ) -> Result<(), Refusal>
         requires fresh { without_stale request.now.now.0 self.old.locks ≡ self.old.locks }
         ensures ok { OnOk result (refusing self.old.locks (caller_of (request_of request.entry.now))
-            (reached (segments path.now) deep ∷ []) ≡ []) }
+            (reach_check (segments path.now) deep ∷ []) ≡ []) }
         ensures err { IfErr result (RefusedBy self.old.locks (caller_of (request_of request.entry.now))
-            (reached (segments path.now) deep ∷ [])) }
+            (reach_check (segments path.now) deep ∷ [])) }
         ensures same { self.new ≡ self.old }
     {
         let principal = text_of(&request.principal);

@@ -1,13 +1,13 @@
 //! Commands on the files.
 ghost use Rattle.std.specs.Prelude.{◌≡◌, true, map, MatchResult};
-ghost use Rattle.dav_path_core.specs.Answers.{AnswersAs, Tells};
+ghost use Rattle.dav_path_core.specs.StoreAnswers.{AnswersAs, TellsOutcome};
 ghost use Rattle.dav_path_core.specs.Segments.{segments};
-ghost use Rattle.dav_files_core.specs.Parts.{read_at, write_at};
-ghost use Rattle.dav_files_core.specs.Properties.{entry_of};
+ghost use Rattle.dav_files_core.specs.ContentParts.{read_at, write_at};
+ghost use Rattle.dav_files_core.specs.Properties.{patch_update};
 ghost use Rattle.dav_files_core.specs.Resources.{IsResourceMap};
 ghost use Rattle.dav_resource_core.specs.ResourceStep.{is_on_map};
 ghost use Rattle.dav_resource_core.specs.Served.{command_of};
-ghost use Rattle.dav_resource_core.specs.Private.Serving.{with_nothing, DoesOnMap};
+ghost use Rattle.dav_resource_core.specs.Private.RequestServing.{with_nothing, DoesOnMap};
 
 use super::{Command, Reply};
 use bytes::Bytes;
@@ -18,7 +18,7 @@ use dav_path_core::errors::{FsError, FsResult};
 use std::io::SeekFrom;
 
 /// Does a command on the files, at a moment.
-pub(super) fn serve_files(files: &mut MemFs, command: &Command, now: Moment) -> FsResult<Reply>
+pub(super) fn apply_to_files(files: &mut MemFs, command: &Command, now: Moment) -> FsResult<Reply>
     requires on_map { is_on_map (command_of command.now) ≡ true }
     requires shape { IsResourceMap files.old }
     ensures answer { DoesOnMap files.old (command_of command.now) now.0 result files.new }
@@ -62,7 +62,7 @@ fn done(answer: FsResult<()>) -> FsResult<Reply>
 
 // The same properties.
 fn copied(patch: &Vec<(bool, DavProp)>) -> FsResult<Vec<(bool, DavProp)>>
-    ensures { MatchResult result (λ v. map entry_of v.items ≡ map entry_of patch.now.items) (λ e. e ≡ FsError.InsufficientStorage) }
+    ensures { MatchResult result (λ v. map patch_update v.items ≡ map patch_update patch.now.items) (λ e. e ≡ FsError.InsufficientStorage) }
 {
     Ok(patch.clone()?)
 }
@@ -76,7 +76,7 @@ fn read_file(
     now: Moment,
 ) -> FsResult<Bytes>
     requires { IsResourceMap files.old }
-    ensures answer { Tells (λ b. b) result (read_at files.old (segments path.now.bytes) at count) }
+    ensures answer { TellsOutcome (λ b. b) result (read_at files.old (segments path.now.bytes) at count) }
     ensures same { files.new ≡ files.old }
 {
     let mut file = files.open(path, OpenOptions::read(), now)?;

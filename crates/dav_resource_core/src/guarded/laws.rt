@@ -7,7 +7,7 @@ ghost use Rattle.dav_files_core.specs.Below.{AgreeBelow, SameBelow};
 ghost use Rattle.dav_files_core.specs.Resources.{ResourceMap, IsResourceMap};
 ghost use Rattle.dav_locks_core.specs.Exclusive.{Exclusive};
 ghost use Rattle.dav_locks_core.specs.Lock.{Lock};
-ghost use Rattle.dav_resource_core.specs.Alone.{is_within, answers_under, Alone, IsLetIn, Lasts};
+ghost use Rattle.dav_resource_core.specs.Alone.{is_within, answers_under, HasRunAlone, IsLetIn, LastsThrough};
 ghost use Rattle.dav_resource_core.specs.Checks.{checks, IsApart};
 ghost use Rattle.dav_resource_core.specs.Isolation.{EachShape};
 ghost use Rattle.dav_resource_core.specs.Requests as plain;
@@ -28,7 +28,7 @@ pub fn commands_keep_to_folders()
 /// `Guarded::run` that refused a holder, be it after a stranger's refused request, would break its own clause `alone`.
 pub fn holders_are_let_in()
     ensures { (s : State) (requests : List plain.Request) (answers : List plain.Answer) (lock : Lock) → Exclusive s.locks → Contains s.locks lock
-        → lock.shared ≡ false → lock.deep ≡ true → Lasts requests lock → Alone s requests answers lock → AllByRecursion IsLetIn (answers_under lock requests answers) }
+        → lock.shared ≡ false → lock.deep ≡ true → LastsThrough requests lock → HasRunAlone s requests answers lock → AllByRecursion IsLetIn (answers_under lock requests answers) }
 {}
 
 /// The law of runs that follow one another: from the state that one run leaves the next goes on, and both are one run; and one step is a

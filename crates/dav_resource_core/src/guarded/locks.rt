@@ -16,7 +16,7 @@ use rand_core::Rng;
 
 impl Guarded {
     // Does a command on the locks, which none refuses.
-    pub(super) fn serve_locks<R: Rng>(
+    pub(super) fn apply_to_locks<R: Rng>(
         &mut self,
         request: &Request,
         rng: &mut R,

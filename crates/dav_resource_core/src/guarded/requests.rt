@@ -188,7 +188,7 @@ pub enum Refusal {
 }
 
 impl From<LockError> for Refusal {
-    ghost use Rattle.dav_resource_core.specs.Private.Serving.{refused_by};
+    ghost use Rattle.dav_resource_core.specs.Private.RequestServing.{refused_by};
 
     ghost from_gives = { λ e r. r ≡ refused_by e };
 
@@ -221,7 +221,7 @@ impl From<NoLock> for Refusal {
 }
 
 impl From<RefreshError> for Refusal {
-    ghost use Rattle.dav_resource_core.specs.Private.Serving.{unrefreshed_by};
+    ghost use Rattle.dav_resource_core.specs.Private.RequestServing.{unrefreshed_by};
 
     ghost from_gives = { λ e r. r ≡ unrefreshed_by e };
 

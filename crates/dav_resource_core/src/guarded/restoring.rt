@@ -1,10 +1,10 @@
 //! The stores walked, and restored from what a walk gave.
 ghost use Rattle.std.specs.Prelude.{◌≡◌, ◌++◌, ◌∷◌, [], IfErr, OnOk, OnErr};
-ghost use Rattle.dav_path_core.specs.Answers.{AnswersAs};
+ghost use Rattle.dav_path_core.specs.StoreAnswers.{AnswersAs};
 ghost use Rattle.dav_path_core.specs.Segments.{segments};
 ghost use Rattle.dav_files_core.specs.Resources.{IsResourceMap};
-ghost use Rattle.dav_files_core.specs.Restoring.{raised, resource_of, restore};
-ghost use Rattle.dav_files_core.specs.Walks.{IsWalk};
+ghost use Rattle.dav_files_core.specs.Restoring.{with_later_next, resource_of, restore};
+ghost use Rattle.dav_files_core.specs.Walks.{IsMapWalk};
 ghost use Rattle.dav_locks_core.specs.Calls.{Shows};
 ghost use Rattle.dav_locks_core.specs.Exclusive.{Exclusive};
 ghost use Rattle.dav_locks_core.specs.Locks.{lock_conflicts};
@@ -19,7 +19,7 @@ use dav_path_core::errors::FsResult;
 impl Guarded {
     /// The folders and files, each behind the folder that it stands in. It takes no memory (own).
     pub fn walk(&self) -> MemFsWalk<'_>
-        ensures { IsWalk self.now.map result }
+        ensures { IsMapWalk self.now.map result }
     {
         self.fs.walk()
     }
@@ -66,7 +66,7 @@ impl Guarded {
 
     /// Gives no number below that one to a new folder or file any more. Nothing else changes (own).
     pub fn raise_next_number(&mut self, next: u64)
-        ensures raised { self.new.map ≡ raised self.old.map next }
+        ensures raised { self.new.map ≡ with_later_next self.old.map next }
         ensures locks { self.new.locks ≡ self.old.locks }
         ensures shape { IsResourceMap self.new.map }
         ensures exclusive { Exclusive self.new.locks }

@@ -2,7 +2,7 @@
 use Rattle.std.specs.Prelude.{◌≡◌, ◌⊎◌, List, [], ◌∷◌, ◌++◌, map, Some, IsSome}
 use Rattle.std.specs.FinMap.{entries}
 use Rattle.dav_path_core.specs.Fronts.{Segment, Path}
-use Rattle.dav_path_core.specs.Reading.{CanBeSegment}
+use Rattle.dav_path_core.specs.PathReading.{CanBeSegment}
 use Rattle.dav_files_core.specs.declared.memfs.Kind.TheVariants.{Folder}
 use Rattle.dav_files_core.specs.Finding.{members}
 use Rattle.dav_files_core.specs.Resources.{Resource, ResourceMap, at_path}

@@ -3,7 +3,7 @@ ghost use Rattle.std.specs.Prelude.{◌≡◌, [], map, option_copied, option_ma
 ghost use Rattle.std.specs.Prelude.{IfOk, OnOk};
 ghost use Rattle.std.specs.List.{find};
 ghost use Rattle.dav_path_core.specs.Segments.{segments};
-ghost use Rattle.dav_locks_core.specs.Locks.{held};
+ghost use Rattle.dav_locks_core.specs.Locks.{is_held_by};
 ghost use Rattle.dav_session_core.specs.Clearing.{IsCleared};
 ghost use Rattle.dav_session_core.specs.Ends.{GoesFrom};
 ghost use Rattle.dav_session_core.specs.LocksInTheWay.{IsRefusedBy};
@@ -156,7 +156,7 @@ fn leads_to(lock: &DavLock, path: &DavPath) -> bool
 
 // Whether the caller with these tokens and this principal holds a lock.
 fn is_held(lock: &DavLock, tokens: &[String], principal: &Option<String>) -> bool
-    ensures { result ≡ held lock.now (with_tokens (option_map string_bytes principal.now)
+    ensures { result ≡ is_held_by lock.now (with_tokens (option_map string_bytes principal.now)
         (map string_bytes tokens.now)) }
 {
     is_among(tokens, &lock.token) && is_principal(lock, principal)

@@ -5,7 +5,7 @@ ghost use Rattle.dav_resource_core.specs.Requests.{Command as command, Reply};
 ghost use Rattle.dav_resource_core.specs.Step.{Step};
 ghost use Rattle.dav_session_core.specs.Callers.{asking};
 ghost use Rattle.dav_session_core.specs.Copying.{IsCopied, IsPartlyCopied};
-ghost use Rattle.dav_session_core.specs.TransferEnds.{NotCopied};
+ghost use Rattle.dav_session_core.specs.Copying.{NotCopied};
 ghost use Rattle.dav_session_core.specs.Sessions.{Acts, caller, live_after, live_of, state};
 ghost use Rattle.dav_faults_core.specs.declared.faults.Fault.TheVariants as fault;
 ghost use Rattle.dav_session_core.specs.Unhindered.{WhereReady, ends_of};

@@ -1,7 +1,7 @@
 //! How properties are set and removed.
 ghost use Rattle.std.specs.Prelude.{◌≡◌, map, IfErr, OnErr, OnOk};
 ghost use Rattle.dav_path_core.specs.Segments.{segments};
-ghost use Rattle.dav_files_core.specs.Properties.{entry_of};
+ghost use Rattle.dav_files_core.specs.Properties.{patch_update};
 ghost use Rattle.dav_session_core.specs.Patching.{IsPatched, KeepsProperties};
 ghost use Rattle.dav_session_core.specs.PatchRefusals.{patch_fault};
 ghost use Rattle.dav_session_core.specs.Sessions.{Acts, caller, live_of, state, Stays};
@@ -22,7 +22,7 @@ impl<R: Rng> Session<R> {
     /// `Locked` where a lock stands in the way, with its path; `NotFound` where nothing stands
     /// there.
     pub fn patch(&mut self, path: DavPath, patch: Vec<(bool, DavProp)>) -> Result<(), Fault>
-        ensures ok { OnOk result (IsPatched (segments path.bytes) (map entry_of patch.items)
+        ensures ok { OnOk result (IsPatched (segments path.bytes) (map patch_update patch.items)
             (live_of R.stream self.old) (state R.stream self.new)) }
         ensures err { IfErr result (λ e. KeepsProperties (live_of R.stream self.old)
             (caller self.old) (segments path.bytes) e) }

@@ -2,7 +2,7 @@
 ghost use Rattle.std.specs.Prelude.{◌≡◌, ◌∷◌, [], IfErr, IfOk, IsSome, OnOk};
 ghost use Rattle.dav_path_core.specs.Segments.{segments};
 ghost use Rattle.dav_headers_core.specs.declared.davheaders.depths.Depth.TheVariants as depth_of;
-ghost use Rattle.dav_session_core.specs.Places.{AreWithin};
+ghost use Rattle.dav_session_core.specs.DepthPlaces.{AreWithin};
 ghost use Rattle.dav_session_core.specs.Placed.{AllStand, IsNowhere};
 ghost use Rattle.dav_session_core.specs.Sessions.{Looks, state};
 ghost use Rattle.dav_session_core.specs.Questions.{LacksAny, found_at};

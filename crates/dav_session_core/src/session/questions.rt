@@ -1,23 +1,23 @@
 //! What methods ask a session for.
-ghost use Rattle.std.specs.Prelude.{◌≡◌, Ok, true, IfOk, IfErr, is_some, map, option_map};
+ghost use Rattle.std.specs.Prelude.{◌≡◌, Ok, Some, true, IfOk, IfErr, is_some, map, option_map};
 ghost use Rattle.dav_path_core.specs.Segments.{segments};
 ghost use Rattle.dav_files_core.specs.declared.memfs.Kind.TheVariants.{File, Folder};
-ghost use Rattle.dav_files_core.specs.Listing.{entry_of, read_dir};
+ghost use Rattle.dav_files_core.specs.Listing.{listed_entry, read_dir};
 ghost use Rattle.dav_files_core.specs.Meta.{meta_at, meta_of};
 ghost use Rattle.dav_files_core.specs.Properties.{get_props, property_of};
 ghost use Rattle.dav_files_core.specs.Resources.{IsResourceMap};
+ghost use Rattle.dav_fields_core.specs.Marking.{IsRead};
 ghost use Rattle.dav_session_core.specs.StoreRefusals.{list_fault, put_fault};
 ghost use Rattle.dav_session_core.specs.Sessions.{Looks, state};
 ghost use Rattle.dav_resource_core.specs.Served.{refusal_of};
-ghost use Rattle.dav_session_core.specs.Questions.{IsPartOf, LacksAny, LacksKind, found_at};
+ghost use Rattle.dav_session_core.specs.Questions.{FailsToInspect, LacksKind, covering, found_at};
 
 use super::Session;
 use bytes::Bytes;
 use dav_faults_core::faults::Fault;
 use dav_resource_core::davpath::DavPath;
 use dav_resource_core::errors::FsError;
-use dav_resource_core::fs::DavProp;
-use dav_resource_core::guarded::{Command, Refusal, Reply};
+use dav_resource_core::guarded::{Command, Inspection, Refusal, Reply};
 use dav_resource_core::memfs::{MemFsEntry, MemFsMeta};
 use rand_core::Rng;
 use std::alloc::AllocError;
@@ -39,9 +39,10 @@ impl<R: Rng> Session<R> {
 
     /// The bytes of a file from a place on, so many at most. `NotFound` where no file stands there.
     pub fn read(&mut self, path: DavPath, at: usize, count: usize) -> Result<Bytes, Fault>
-        ensures ok { IfOk result (λ bytes. IsPartOf (found_at R.stream self.old path) at count
-            bytes) }
-        ensures err { IfErr result (λ e. LacksKind File (found_at R.stream self.old path) e) }
+        ensures ok { IfOk result (λ bytes. IsRead (state R.stream self.old).map
+            (segments path.bytes) at count bytes) }
+        ensures err { IfErr result (λ e. LacksKind File (state R.stream self.old).map
+            (segments path.bytes) e) }
         ensures looks { Looks R.stream self.old self.new }
     {
         match self.ask(Command::Read { path, at, count }) {
@@ -55,8 +56,9 @@ impl<R: Rng> Session<R> {
     /// stands there.
     pub fn list(&mut self, path: DavPath) -> Result<Vec<MemFsEntry>, Fault>
         ensures ok { IfOk result (λ entries. read_dir (state R.stream self.old).map
-            (segments path.bytes) ≡ Ok (map entry_of entries.items)) }
-        ensures err { IfErr result (λ e. LacksKind Folder (found_at R.stream self.old path) e) }
+            (segments path.bytes) ≡ Ok (map listed_entry entries.items)) }
+        ensures err { IfErr result (λ e. LacksKind Folder (state R.stream self.old).map
+            (segments path.bytes) e) }
         ensures looks { Looks R.stream self.old self.new }
     {
         match self.ask(Command::List { path }) {
@@ -66,26 +68,27 @@ impl<R: Rng> Session<R> {
         }
     }
 
-    /// The properties that clients set of what stands at a path, by their namespaces and names (RFC
-    /// 4918 section 4). `NotFound` where nothing stands there.
-    pub fn props(&mut self, path: DavPath) -> Result<Vec<DavProp>, Fault>
-        ensures ok { IfOk result (λ props. get_props (state R.stream self.old).map
-            (segments path.bytes) true ≡ Ok (map property_of props.items)) }
-        ensures err { IfErr result (λ e. LacksAny (found_at R.stream self.old path) e) }
-        ensures looks { Looks R.stream self.old self.new }
+    /// What stands at a path: what is known of it, the properties that clients set (RFC 4918
+    /// section 4), and the locks that cover it, but those that have expired. `NotFound` where
+    /// nothing stands there. The stores stay, expired locks too.
+    pub fn inspect(&self, path: &DavPath) -> Result<Inspection, Fault>
+        ensures meta { IfOk result (λ found. Some (meta_of found.meta)
+            ≡ option_map (λ r. meta_at r.node) (found_at R.stream self.now path.now)) }
+        ensures props { IfOk result (λ found. get_props (state R.stream self.now).map
+            (segments path.now.bytes) true ≡ Ok (map property_of found.props.items)) }
+        ensures locks { IfOk result (λ found. found.locks.items
+            ≡ covering R.stream self.now path.now) }
+        ensures err { IfErr result (FailsToInspect (found_at R.stream self.now path.now)) }
     {
-        match self.ask(Command::GetProps {
-            path,
-            content: true,
-        }) {
-            Ok(Reply::Props(props)) => Ok(props),
-            Ok(_) => Err(Fault::NotFound),
-            Err(refusal) => Err(unlisted(&refusal)),
+        match self.stores.inspect(path, self.request.now) {
+            Ok(found) => Ok(found),
+            Err(FsError::InsufficientStorage) => Err(Fault::InsufficientStorage),
+            Err(_) => Err(Fault::NotFound),
         }
     }
 }
 
-// Why a folder isn't listed, or properties aren't.
+// Why a folder isn't listed.
 fn unlisted(refusal: &Refusal) -> Fault
     ensures { result ≡ list_fault (refusal_of refusal.now) }
 {

@@ -55,7 +55,7 @@ impl<R: Rng> Session<R> {
     {
         let mut places = places;
         while let Some(path) = places.pop() {
-            drop(self.ask(Command::Remove { path }));
+            drop(self.change(Command::Remove { path }));
         }
     }
 }

@@ -2,14 +2,14 @@
 ghost use Rattle.std.specs.Prelude.{◌≡◌, ◌≢◌, ◌⊎◌, ◌↔◌, List, None, [], ◌∷◌, ◌++◌, map, false};
 ghost use Rattle.std.specs.Prelude.{Contains, IfOk, IfErr, IsSome, OnOk};
 ghost use Rattle.dav_path_core.specs.Fronts.{Path};
-ghost use Rattle.dav_path_core.specs.Reading.{CanBeSegment};
+ghost use Rattle.dav_path_core.specs.PathReading.{CanBeSegment};
 ghost use Rattle.dav_path_core.specs.Segments.{segments};
 ghost use Rattle.dav_files_core.specs.declared.memfs.listing.MemFsEntry.{MemFsEntry};
 ghost use Rattle.dav_files_core.specs.Finding.{has_members};
 ghost use Rattle.dav_files_core.specs.Resources.{ResourceMap, at_path};
 ghost use Rattle.dav_session_core.specs.Private.Gathering.{MembersAre, paths_in, FailsToName};
 ghost use Rattle.dav_session_core.specs.Sessions.{Looks, state};
-ghost use Rattle.dav_session_core.specs.Subtrees.{IsWalk};
+ghost use Rattle.dav_session_core.specs.Subtrees.{IsSubtreeWalk};
 ghost use Rattle.dav_faults_core.specs.declared.faults.Fault.TheVariants as fault;
 ghost use Rattle.dav_session_core.specs.Questions.{FailsToWalk, found_at};
 ghost use Rattle.dav_session_core.specs.Unhindered.{paths_of};
@@ -31,7 +31,7 @@ impl<R: Rng> Session<R> {
     /// `NotFound` where nothing stands there; `BadRequest` where a name below it is one that no
     /// path has which is read, as only calls past path reading can make one.
     pub fn walk(&mut self, alloc: Global, path: DavPath) -> Result<Vec<DavPath>, Fault>
-        ensures ok { IfOk result (λ places. IsWalk (state R.stream self.old).map
+        ensures ok { IfOk result (λ places. IsSubtreeWalk (state R.stream self.old).map
             (segments path.bytes) (paths_of places.items)) }
         ensures found { OnOk result (IsSome (found_at R.stream self.old path)) }
         ensures err { IfErr result (λ e. FailsToWalk (state R.stream self.old).map
@@ -72,16 +72,16 @@ impl<R: Rng> Session<R> {
 /// nothing.
 pub fn last_place_is_bare()
     ensures { (m : ResourceMap) (p last : Path) (before : List Path)
-        → IsWalk m p (before ++ (last ∷ [])) → has_members m last ≡ false }
+        → IsSubtreeWalk m p (before ++ (last ∷ [])) → has_members m last ≡ false }
 {}
 
 /// The law of a walk whose last place is gone: what stands before it in the list is a walk of what
 /// is left (RFC 4918 section 9.6.1). It does nothing.
 pub fn walk_without_its_last()
     ensures { (m after : ResourceMap) (p last : Path) (before : List Path)
-        → IsWalk m p (before ++ (last ∷ [])) → at_path after last ≡ None
+        → IsSubtreeWalk m p (before ++ (last ∷ [])) → at_path after last ≡ None
         → ((q : Path) → q ≢ last → IsSome (at_path after q) ↔ IsSome (at_path m q))
-        → IsWalk after p before }
+        → IsSubtreeWalk after p before }
 {}
 
 // The paths of listed members of a folder.

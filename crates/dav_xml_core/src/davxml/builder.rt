@@ -88,7 +88,7 @@ fn all_white(raw: &[char]) -> bool
 }
 
 impl<'a> Builder<'a> {
-    #[tactic(auto, unfolding(crate::specs::Reading::started))]
+    #[tactic(auto, unfolding(crate::specs::Reading::with_start_tag))]
     fn start(
         &mut self,
         alloc: Global,
@@ -96,7 +96,7 @@ impl<'a> Builder<'a> {
         attributes: &[RawAttribute<'a>],
     ) -> Result<(), Fault>
         ensures { Gives (λ _. front_of self.new) result
-            (spec.started (front_of self.old) (qname_of name.entry) (map raw_attribute_of attributes.now)) }
+            (spec.with_start_tag (front_of self.old) (qname_of name.entry) (map raw_attribute_of attributes.now)) }
     {
         if self.elements.is_empty() && !self.nodes.is_empty() {
             return Err(Fault::Malformed);
@@ -109,9 +109,9 @@ impl<'a> Builder<'a> {
         Ok(())
     }
 
-    #[tactic(auto, unfolding(crate::specs::Reading::ended))]
+    #[tactic(auto, unfolding(crate::specs::Reading::with_end_tag))]
     fn end(&mut self, alloc: Global, name: QName<'a>) -> Result<(), Fault>
-        ensures { Gives (λ _. front_of self.new) result (spec.ended (front_of self.old) (qname_of name.entry)) }
+        ensures { Gives (λ _. front_of self.new) result (spec.with_end_tag (front_of self.old) (qname_of name.entry)) }
     {
         let Some(element) = self.elements.pop() else {
             return Err(Fault::Malformed);
@@ -125,7 +125,7 @@ impl<'a> Builder<'a> {
         Ok(())
     }
 
-    #[tactic(auto, unfolding(crate::specs::Reading::tagged))]
+    #[tactic(auto, unfolding(crate::specs::Reading::with_tag))]
     fn tag(
         &mut self,
         alloc: Global,
@@ -134,7 +134,7 @@ impl<'a> Builder<'a> {
         empty: bool,
     ) -> Result<(), Fault>
         ensures { Gives (λ _. front_of self.new) result
-            (spec.tagged (front_of self.old) (qname_of name.entry) (map raw_attribute_of attributes.now) empty) }
+            (spec.with_tag (front_of self.old) (qname_of name.entry) (map raw_attribute_of attributes.now) empty) }
     {
         self.start(alloc, name, attributes)?;
         if empty {

@@ -4,8 +4,8 @@ ghost use Rattle.std.specs.Rc.{rc_str_bytes};
 ghost use Rattle.dav_xml_core.specs.Gives.{Gives};
 ghost use Rattle.dav_xml_core.specs.declared.davxml.errors.Fault.TheVariants.{Memory};
 ghost use Rattle.dav_xml_core.specs.Namespaces as spec;
-ghost use Rattle.dav_xml_core.specs.Scopes.{binding, distinct_keys, numbered};
-ghost use Rattle.dav_xml_core.specs.Views.{key_of, qname_of, raw_attribute_of, name_of};
+ghost use Rattle.dav_xml_core.specs.Scopes.{binding, distinct_keys, numbered_name};
+ghost use Rattle.dav_xml_core.specs.Views.{attribute_key_of, qname_of, raw_attribute_of, name_of};
 ghost use Rattle.dav_xml_core.specs.Views as view;
 
 use super::characters::text_of;
@@ -66,9 +66,9 @@ fn may_bind(prefix: &[char], namespace: &str) -> bool
 }
 
 /// The namespace that a declaration with this value binds a prefix to.
-#[tactic(auto, unfolding(crate::specs::Namespaces::binding_of))]
+#[tactic(auto, unfolding(crate::specs::Namespaces::declared_binding))]
 fn declared_namespace(alloc: Global, prefix: &[char], raw: &[char]) -> Result<RcStr, Fault>
-    ensures { Gives (λ x. binding prefix.now (rc_str_bytes x)) result (spec.binding_of prefix.now raw.now) }
+    ensures { Gives (λ x. binding prefix.now (rc_str_bytes x)) result (spec.declared_binding prefix.now raw.now) }
 {
     let value = value_of(alloc, raw)?;
     let namespace = text_of(alloc, &value)?;
@@ -119,7 +119,7 @@ fn prefixed_name(alloc: Global, scope: &Scope, name: QName) -> Result<Name, Faul
 }
 
 fn default_namespace(scope: &Scope) -> Result<RcStr, AllocError>
-    ensures { IfOk result (λ x. rc_str_bytes x ≡ unwrap_or (spec.bound [] scope.now) []) }
+    ensures { IfOk result (λ x. rc_str_bytes x ≡ unwrap_or (spec.bound_namespace [] scope.now) []) }
 {
     match scope.bound(&[]) {
         Some(binding) => binding.namespace.clone(),
@@ -154,9 +154,9 @@ fn attribute_name(alloc: Global, scope: &Scope, name: QName) -> Result<Name, Fau
     prefixed_name(alloc, scope, name)
 }
 
-#[tactic(auto, unfolding(crate::specs::Namespaces::attribute_of))]
+#[tactic(auto, unfolding(crate::specs::Namespaces::bound_attribute))]
 fn attribute_of(alloc: Global, scope: &Scope, attribute: &RawAttribute) -> Result<Attribute, Fault>
-    ensures { Gives view.attribute_of result (spec.attribute_of scope.now (raw_attribute_of attribute.now)) }
+    ensures { Gives view.attribute_of result (spec.bound_attribute scope.now (raw_attribute_of attribute.now)) }
 {
     let name = attribute_name(alloc, scope, attribute.name)?;
     let value = value_of(alloc, attribute.raw)?;
@@ -186,7 +186,7 @@ fn attributes_of(
 /// The name of an attribute, by the number of its namespace, so that comparing two of them doesn't go over namespaces.
 #[tactic(auto, unfolding(crate::specs::Namespaces::attribute_name, crate::specs::Namespaces::prefixed_name))]
 fn attribute_key<'a>(scope: &Scope, name: QName<'a>) -> Option<(usize, &'a [char])>
-    ensures { option_map key_of result ≡ option_map (numbered scope.now) (spec.attribute_name scope.now (qname_of name.entry)) }
+    ensures { option_map attribute_key_of result ≡ option_map (numbered_name scope.now) (spec.attribute_name scope.now (qname_of name.entry)) }
 {
     if name.prefix.is_empty() {
         return Some((scope.number(""), name.local));
@@ -200,8 +200,8 @@ fn keys_of<'a>(
     scope: &Scope,
     attributes: &[RawAttribute<'a>],
 ) -> Result<Vec<(usize, &'a [char])>, Fault>
-    ensures { Gives (λ x. map key_of x.items) result
-        (option_map (map (numbered scope.now)) (spec.names_of scope.now (map raw_attribute_of attributes.now))) }
+    ensures { Gives (λ x. map attribute_key_of x.items) result
+        (option_map (map (numbered_name scope.now)) (spec.attribute_names scope.now (map raw_attribute_of attributes.now))) }
 {
     let mut keys = Vec::new(alloc);
     for attribute in attributes {
@@ -215,7 +215,7 @@ fn keys_of<'a>(
 
 /// Whether no two of the names are the same.
 fn are_distinct(alloc: Global, keys: &[(usize, &[char])]) -> Result<bool, Fault>
-    ensures value { IfOk result (λ x. x ≡ distinct_keys [] (map key_of keys.now)) }
+    ensures value { IfOk result (λ x. x ≡ distinct_keys [] (map attribute_key_of keys.now)) }
     ensures refused { IfErr result (λ e. e ≡ Memory) }
 {
     let mut seen = BTreeSet::new(alloc);
@@ -233,7 +233,7 @@ fn have_distinct_names(
     attributes: &[RawAttribute],
 ) -> Result<bool, Fault>
     ensures { Gives (λ x. x) result
-        (option_map spec.are_distinct (spec.names_of scope.now (map raw_attribute_of attributes.now))) }
+        (option_map spec.are_distinct (spec.attribute_names scope.now (map raw_attribute_of attributes.now))) }
 {
     let keys = keys_of(alloc, scope, attributes)?;
     are_distinct(alloc, &keys)

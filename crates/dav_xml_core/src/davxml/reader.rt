@@ -2,7 +2,7 @@
 ghost use Rattle.std.specs.Prelude.{◌≡◌, chars, false, length, map, option_map, true, IfOk, Err};
 ghost use Rattle.dav_xml_core.specs.Characters.{lines_from};
 ghost use Rattle.dav_xml_core.specs.Documents.{is_element};
-ghost use Rattle.dav_xml_core.specs.Gives.{Gives, Answers, IsReadAs, error_refusal, fault_refusal, halt_refusal};
+ghost use Rattle.dav_xml_core.specs.Gives.{Gives, AnswersWithReason, IsReadAs, error_refusal, fault_refusal, halt_refusal};
 ghost use Rattle.dav_xml_core.specs.Reading as spec;
 ghost use Rattle.dav_xml_core.specs.ReadableDocuments.{CouldBeRead};
 ghost use Rattle.dav_xml_core.specs.Refusals as refusals;
@@ -19,7 +19,7 @@ use std::alloc::Global;
 
 /// Why reading stops where this text is left.
 fn halt(fault: Fault, rest: &[char]) -> Halt
-    ensures { halt_refusal result ≡ fault_refusal fault (refusals.refusal_at rest.now) }
+    ensures { halt_refusal result ≡ fault_refusal fault (refusals.refusal_of_text rest.now) }
 {
     match fault {
         Fault::Memory => Halt::Memory,
@@ -45,7 +45,7 @@ fn step<'a>(alloc: Global, builder: &mut Builder<'a>, rest: &'a [char]) -> Resul
 
 /// The nodes, if the element has ended.
 fn finished(builder: Builder) -> Option<Vec<Node>>
-    ensures { option_map (λ x. map node_of x.items) result ≡ spec.finished (front_of builder.entry) }
+    ensures { option_map (λ x. map node_of x.items) result ≡ spec.finished_nodes (front_of builder.entry) }
 {
     let Builder {
         nodes,
@@ -61,7 +61,7 @@ fn finished(builder: Builder) -> Option<Vec<Node>>
 
 /// The nodes of a text behind its declaration. Each piece takes a character, so there are no more than characters.
 fn nodes_of(alloc: Global, text: &[char]) -> Result<Vec<Node>, Halt>
-    ensures { Answers (λ x. map node_of x.items) halt_refusal result (refusals.nodes_answer text.now) }
+    ensures { AnswersWithReason (λ x. map node_of x.items) halt_refusal result (refusals.nodes_answer text.now) }
 {
     let mut builder = new_builder(alloc)?;
     let mut rest = text;
@@ -84,7 +84,7 @@ fn nodes_of(alloc: Global, text: &[char]) -> Result<Vec<Node>, Halt>
 /// What follows the declaration, where there is one.
 #[tactic(auto, unfolding(crate::specs::Refusals::declaration_answer))]
 fn after_declaration(alloc: Global, text: &[char]) -> Result<&[char], Halt>
-    ensures { Answers (λ x. x.now) halt_refusal result (refusals.declaration_answer text.now) }
+    ensures { AnswersWithReason (λ x. x.now) halt_refusal result (refusals.declaration_answer text.now) }
 {
     let Some(rest) = declaration_at(text) else {
         return Ok(text);
@@ -114,7 +114,7 @@ fn without_mark(text: &[char]) -> &[char]
 
 #[tactic(auto, unfolding(crate::specs::Refusals::content_answer))]
 fn content_nodes(alloc: Global, text: &[char]) -> Result<Vec<Node>, Halt>
-    ensures { Answers (λ x. map node_of x.items) halt_refusal result (refusals.content_answer text.now) }
+    ensures { AnswersWithReason (λ x. map node_of x.items) halt_refusal result (refusals.content_answer text.now) }
 {
     let rest = after_declaration(alloc, without_mark(text))?;
     nodes_of(alloc, rest)
@@ -130,7 +130,7 @@ fn has_utf16_mark(bytes: &[u8]) -> bool
 /// The bytes as a text, of which a document may hold each character.
 #[tactic(auto, using(crate::proofs::Utf8Lemmas::utf8_test, crate::proofs::Utf8Lemmas::utf8_fails), unfolding(crate::specs::Refusals::characters_answer))]
 fn text_in(bytes: &[u8]) -> Result<&str, XmlError>
-    ensures { Answers (λ x. chars x.now) error_refusal result (refusals.characters_answer bytes.now) }
+    ensures { AnswersWithReason (λ x. chars x.now) error_refusal result (refusals.characters_answer bytes.now) }
 {
     match std::str::from_utf8(bytes) {
         Ok(text) => match no_char_at(text) {
@@ -160,9 +160,9 @@ fn error_of(halt: Halt, text: &str, characters: usize) -> XmlError
 }
 
 /// The nodes of the document that the bytes spell.
-#[tactic(auto, unfolding(crate::specs::Refusals::answer_of))]
+#[tactic(auto, unfolding(crate::specs::Refusals::reading_answer))]
 fn nodes_in(alloc: Global, bytes: &[u8]) -> Result<Vec<Node>, XmlError>
-    ensures { Answers (λ x. map node_of x.items) error_refusal result (refusals.answer_of bytes.now) }
+    ensures { AnswersWithReason (λ x. map node_of x.items) error_refusal result (refusals.reading_answer bytes.now) }
 {
     let text = text_in(bytes)?;
     let lines = lines_of(alloc, text)?;
@@ -181,7 +181,7 @@ fn nodes_in(alloc: Global, bytes: &[u8]) -> Result<Vec<Node>, XmlError>
 pub fn read(alloc: Global, bytes: &[u8]) -> Result<Document, XmlError>
     ensures document { IsReadAs (λ x. map node_of x.nodes.items) result (spec.document_of bytes.now) }
     // Each refusal exactly where it is due, and with its place.
-    ensures answer { Answers (λ x. map node_of x.nodes.items) error_refusal result (refusals.answer_of bytes.now) }
+    ensures answer { AnswersWithReason (λ x. map node_of x.nodes.items) error_refusal result (refusals.reading_answer bytes.now) }
     // Each element that begins ends, and they are all inside the first.
     ensures element { IfOk result (λ x. is_element (map node_of x.nodes.items) ≡ true) }
     // So what is written for it is read again as it is.

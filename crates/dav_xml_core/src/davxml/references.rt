@@ -13,7 +13,7 @@ use super::scan::until;
 use std::alloc::{AllocError, Global};
 
 fn named(name: &[char]) -> Option<char>
-    ensures { result ≡ spec.named name.now }
+    ensures { result ≡ spec.named_entity name.now }
 {
     match name {
         ['l', 't'] => Some('<'),
@@ -44,7 +44,7 @@ fn digit_of(hex: bool, c: char) -> Option<u32>
 
 /// The number, up to the last code of a character.
 fn number_of(hex: bool, digits: &[char]) -> Option<u32>
-    ensures { result ≡ spec.number_of hex digits.now }
+    ensures { result ≡ spec.character_number hex digits.now }
 {
     if digits.is_empty() {
         return None;
@@ -79,9 +79,9 @@ fn char_of(number: u32) -> Option<char>
 }
 
 /// The character that a reference stands for, by what is between `&` and `;`.
-#[tactic(auto, unfolding(crate::specs::References::referenced))]
+#[tactic(auto, unfolding(crate::specs::References::referenced_character))]
 fn referenced(name: &[char]) -> Option<char>
-    ensures { result ≡ spec.referenced name.now }
+    ensures { result ≡ spec.referenced_character name.now }
 {
     match name {
         [] => None,
@@ -107,7 +107,7 @@ fn expanded_at(text: &[char]) -> Option<(char, &[char])>
 
 /// The text with each reference replaced.
 pub(super) fn expanded(alloc: Global, text: &[char]) -> Result<Vec<char>, Fault>
-    ensures { Gives (λ x. x.items) result (spec.expanded text.now) }
+    ensures { Gives (λ x. x.items) result (spec.expanded_text text.now) }
 {
     let mut all = Vec::new(alloc);
     let mut rest = text;

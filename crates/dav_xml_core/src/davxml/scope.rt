@@ -2,7 +2,7 @@
 ghost use Rattle.std.specs.Prelude.{◌≡◌, ◌-◌, ◌++◌, ◌∷◌, [], length, option_map, take, List, ℕ, IfErr, IfOk, IfSome, IsSome, OnOk};
 ghost use Rattle.std.specs.Rc.{rc_str_bytes};
 ghost use Rattle.dav_xml_core.specs.Namespaces as spec;
-ghost use Rattle.dav_xml_core.specs.Scopes.{binding, number_at, number_of, place_at, Puts};
+ghost use Rattle.dav_xml_core.specs.Scopes.{binding, number_at, namespace_number, place_at, PutsPlace};
 
 use std::alloc::{AllocError, Global};
 use std::collections::BTreeMap;
@@ -66,7 +66,7 @@ fn put_back<'a>(
     covered: Option<usize>,
 )
     requires { IsSome (place_at innermost.old prefix.now) }
-    ensures { Puts innermost.old innermost.new prefix.now covered }
+    ensures { PutsPlace innermost.old innermost.new prefix.now covered }
 {
     match covered {
         Some(place) => {
@@ -109,8 +109,8 @@ impl<'a> Scope<'a> {
 
     /// What a prefix is bound to.
     pub(super) fn bound(&self, prefix: &[char]) -> Option<&Binding<'a>>
-        ensures namespace { option_map (λ x. rc_str_bytes x.now.namespace) result ≡ spec.bound prefix.now self.now }
-        ensures number { IfSome result (λ x. x.now.number ≡ number_of (rc_str_bytes x.now.namespace) self.now) }
+        ensures namespace { option_map (λ x. rc_str_bytes x.now.namespace) result ≡ spec.bound_namespace prefix.now self.now }
+        ensures number { IfSome result (λ x. x.now.number ≡ namespace_number (rc_str_bytes x.now.namespace) self.now) }
     {
         let place = place_of(&self.innermost, prefix)?;
         let binding = self.bindings.get(place)?;
@@ -119,7 +119,7 @@ impl<'a> Scope<'a> {
 
     /// How many bindings stand before the first one of a namespace: all of them, where none is of it.
     pub(super) fn number(&self, namespace: &str) -> usize
-        ensures { result ≡ number_of namespace.now self.now }
+        ensures { result ≡ namespace_number namespace.now self.now }
     {
         let last = self.bindings.len();
         let place = number_in(&self.numbers, namespace).unwrap_or(last);

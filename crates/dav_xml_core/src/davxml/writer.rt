@@ -5,9 +5,9 @@ ghost use Rattle.std.specs.List.{list_all};
 ghost use Rattle.dav_xml_core.specs.Characters.{characters, is_char};
 ghost use Rattle.dav_xml_core.specs.Documents as plain;
 ghost use Rattle.dav_xml_core.specs.Markup.{piece_at, Characters};
-ghost use Rattle.dav_xml_core.specs.Namespaces.{Binding, always_bound, bound, xml_namespace, xmlns_namespace};
+ghost use Rattle.dav_xml_core.specs.Namespaces.{Binding, always_bound, bound_namespace, xml_namespace, xmlns_namespace};
 ghost use Rattle.dav_xml_core.specs.Parts.{Part, PartsCouldBeRead, nodes_in, with_raw, written_parts};
-ghost use Rattle.dav_xml_core.specs.Places.{front_at, may_begin, read_on, with_element};
+ghost use Rattle.dav_xml_core.specs.Places.{front_at, may_begin, read_from_front, with_element};
 ghost use Rattle.dav_xml_core.specs.Readable.{is_start, name_bytes, attribute_bytes, HoldWritten, IsReadBack};
 ghost use Rattle.dav_xml_core.specs.ReadableDocuments.{CouldBeRead, has_room, is_readable, node_bytes};
 ghost use Rattle.dav_xml_core.specs.Reading.{Front, content_of, document_of, is_empty, text_in, value_in};
@@ -34,7 +34,7 @@ pub struct Writer {
 
 /// What stands for a byte that would be read as something else.
 fn reference_of(in_value: bool, b: u8) -> Option<&'static [u8]>
-    ensures { unwrap_or (option_map (λ x. x.now) result) (b ∷ []) ≡ spec.escaped in_value b }
+    ensures { unwrap_or (option_map (λ x. x.now) result) (b ∷ []) ≡ spec.escaped_character in_value b }
 {
     match b {
         b'&' => Some(b"&amp;"),
@@ -55,7 +55,7 @@ fn push(out: &mut Vec<u8>, bytes: &[u8]) -> Result<(), AllocError>
 }
 
 fn push_byte(out: &mut Vec<u8>, in_value: bool, b: u8) -> Result<(), AllocError>
-    ensures { OnOk result (out.new.items ≡ out.old.items ++ spec.escaped in_value b) }
+    ensures { OnOk result (out.new.items ≡ out.old.items ++ spec.escaped_character in_value b) }
 {
     match reference_of(in_value, b) {
         Some(reference) => push(out, reference),
@@ -65,7 +65,7 @@ fn push_byte(out: &mut Vec<u8>, in_value: bool, b: u8) -> Result<(), AllocError>
 
 /// Whether each byte stands for itself. Most texts are such, and are written at once.
 fn is_plain(in_value: bool, text: &[u8]) -> bool
-    ensures { result ≡ true → flat_map (spec.escaped in_value) text.now ≡ text.now }
+    ensures { result ≡ true → flat_map (spec.escaped_character in_value) text.now ≡ text.now }
 {
     for b in text {
         if reference_of(in_value, *b).is_some() {
@@ -76,7 +76,7 @@ fn is_plain(in_value: bool, text: &[u8]) -> bool
 }
 
 fn push_escaped(out: &mut Vec<u8>, in_value: bool, text: &[u8]) -> Result<(), AllocError>
-    ensures { OnOk result (out.new.items ≡ out.old.items ++ flat_map (spec.escaped in_value) text.now) }
+    ensures { OnOk result (out.new.items ≡ out.old.items ++ flat_map (spec.escaped_character in_value) text.now) }
 {
     if is_plain(in_value, text) {
         return push(out, text);
@@ -125,9 +125,9 @@ fn push_name(out: &mut Vec<u8>, prefix: &[u8], name: &Name) -> Result<(), AllocE
     push(out, name.local.as_bytes())
 }
 
-#[tactic(auto, using(std::proofs::lemmas::List::append_assoc), unfolding(crate::specs::Writing::declared))]
+#[tactic(auto, using(std::proofs::lemmas::List::append_assoc), unfolding(crate::specs::Writing::declaration_bytes))]
 fn push_declaration(out: &mut Vec<u8>, prefix: &[u8], name: &Name) -> Result<(), AllocError>
-    ensures { OnOk result (out.new.items ≡ out.old.items ++ spec.declared prefix.now (name_of name.now)) }
+    ensures { OnOk result (out.new.items ≡ out.old.items ++ spec.declaration_bytes prefix.now (name_of name.now)) }
 {
     if !is_other(&name.namespace) {
         return Ok(());
@@ -210,7 +210,7 @@ fn dav_tag(alloc: Global, local: &str) -> Result<Vec<u8>, AllocError>
 }
 
 // The start of an element of `DAV:` without attributes, by its name with the prefix.
-#[tactic(auto, using(std::proofs::lemmas::List::append_assoc), unfolding(crate::specs::Writing::start_text, crate::specs::Writing::declared))]
+#[tactic(auto, using(std::proofs::lemmas::List::append_assoc), unfolding(crate::specs::Writing::start_text, crate::specs::Writing::declaration_bytes))]
 fn push_dav_start(
     out: &mut Vec<u8>,
     first: &[u8],
@@ -229,7 +229,7 @@ fn push_dav_start(
 impl Writer {
     /// Nothing is written yet.
     pub fn new(alloc: Global) -> Writer
-        ensures { writing_of result ≡ spec.unwritten spec.in_document }
+        ensures { writing_of result ≡ spec.new_writing spec.in_document }
     {
         Writer {
             alloc,
@@ -241,7 +241,7 @@ impl Writer {
 
     /// Nothing is written yet of an element that is to mean the same in any document.
     pub fn alone(alloc: Global) -> Writer
-        ensures { writing_of result ≡ spec.unwritten spec.alone }
+        ensures { writing_of result ≡ spec.new_writing spec.alone }
     {
         Writer {
             alloc,
@@ -351,9 +351,9 @@ impl Writer {
 
 /// The bytes of a document: each element has an end tag, `DAV:` has the prefix `D`, which the first element declares, and any
 /// other namespace a prefix of its own, which its element declares (own). Refused for memory alone.
-#[tactic(auto, unfolding(crate::specs::Writing::written))]
+#[tactic(auto, unfolding(crate::specs::Writing::document_bytes))]
 pub fn write(alloc: Global, document: &Document) -> Result<Vec<u8>, AllocError>
-    ensures bytes { IfOk result (λ x. x.items ≡ spec.written (map node_of document.now.nodes.items)) }
+    ensures bytes { IfOk result (λ x. x.items ≡ spec.document_bytes (map node_of document.now.nodes.items)) }
     // A document that could have been read is read again as it is.
     ensures again { IfOk result (λ x. CouldBeRead (map node_of document.now.nodes.items) → document_of x.items ≡ Some (map node_of document.now.nodes.items)) }
 {
@@ -379,14 +379,14 @@ pub fn write_element(alloc: Global, nodes: &[Node]) -> Result<Vec<u8>, AllocErro
 /// `text_bytes` and `value_bytes` about the bytes that are written for the characters, and by `pieces` a text is read up to the tag behind it
 /// (XML 1.0 sections 2.2, 2.4 and 3.3.3).
 pub fn texts_round_trip()
-    ensures texts { (text : List ℕ) → content_of (flat_map (spec.escaped false) text) ≡ Some text }
-    ensures values { (text : List ℕ) → value_of (flat_map (spec.escaped true) text) ≡ Some text }
+    ensures texts { (text : List ℕ) → content_of (flat_map (spec.escaped_character false) text) ≡ Some text }
+    ensures values { (text : List ℕ) → value_of (flat_map (spec.escaped_character true) text) ≡ Some text }
     ensures text_bytes { (text : List ℕ) → list_all is_char text ≡ true
-        → text_in (flat_map (spec.escaped false) (encode_utf8_all text)) ≡ Some text }
+        → text_in (flat_map (spec.escaped_character false) (encode_utf8_all text)) ≡ Some text }
     ensures value_bytes { (text : List ℕ) → list_all is_char text ≡ true
-        → value_in (flat_map (spec.escaped true) (encode_utf8_all text)) ≡ Some text }
+        → value_in (flat_map (spec.escaped_character true) (encode_utf8_all text)) ≡ Some text }
     ensures pieces { (text rest : List ℕ) → is_nil text ≡ false
-        → piece_at (flat_map (spec.escaped false) text ++ codes "<" ++ rest) ≡ Some (Characters (flat_map (spec.escaped false) text), codes "<" ++ rest) }
+        → piece_at (flat_map (spec.escaped_character false) text ++ codes "<" ++ rest) ≡ Some (Characters (flat_map (spec.escaped_character false) text), codes "<" ++ rest) }
 {}
 
 /// A law (XML 1.0 section 3.1, Namespaces 1.0 sections 3 to 6): the characters that are written for an element's start and its end are read
@@ -395,8 +395,8 @@ pub fn texts_round_trip()
 /// The bytes that are written for the start are read as these characters (XML 1.0 section 2.2).
 pub fn elements_round_trip()
     ensures first { (name : plain.Name) (attributes : List plain.Attribute) → is_start name attributes ≡ true → IsReadBack always_bound spec.in_document name attributes }
-    ensures alone { (around : List Binding) (name : plain.Name) (attributes : List plain.Attribute) → bound (codes "xml") around ≡ Some xml_namespace
-        → bound (codes "xmlns") around ≡ Some xmlns_namespace → is_start name attributes ≡ true → IsReadBack around spec.alone name attributes }
+    ensures alone { (around : List Binding) (name : plain.Name) (attributes : List plain.Attribute) → bound_namespace (codes "xml") around ≡ Some xml_namespace
+        → bound_namespace (codes "xmlns") around ≡ Some xmlns_namespace → is_start name attributes ≡ true → IsReadBack around spec.alone name attributes }
     ensures inside { (around : List Binding) (name : plain.Name) (attributes : List plain.Attribute) → HoldWritten around → is_start name attributes ≡ true
         → IsReadBack around [] name attributes }
     ensures first_bytes { (name : plain.Name) (attributes : List plain.Attribute) → is_start name attributes ≡ true
@@ -413,15 +413,15 @@ pub fn elements_round_trip()
 /// (`kept`). Wherever an element may begin between other bytes, they are read as its nodes: the whole is read as what stands behind them, after a front that
 /// has the nodes, too (`placed`), and so it is in characters, whatever the prefixes are bound to there (`alone`).
 pub fn documents_round_trip()
-    ensures whole { (nodes : List plain.Node) → CouldBeRead nodes → document_of (spec.written nodes) ≡ Some nodes }
+    ensures whole { (nodes : List plain.Node) → CouldBeRead nodes → document_of (spec.document_bytes nodes) ≡ Some nodes }
     ensures element { (nodes : List plain.Node) → CouldBeRead nodes → document_of (spec.written_alone nodes) ≡ Some nodes }
     ensures read { (bytes : List ℕ) (nodes : List plain.Node) → length bytes < 2 ^ 64 → document_of bytes ≡ Some nodes → CouldBeRead nodes }
     ensures room { (bytes : List ℕ) (nodes : List plain.Node) → length bytes < 2 ^ 64 → document_of bytes ≡ Some nodes → list_all has_room nodes ≡ true }
     ensures kept { (parts : List Part) → PartsCouldBeRead parts → document_of (written_parts parts) ≡ Some (nodes_in parts) }
     ensures placed { (before behind rest : List ℕ) (front : Front) (nodes : List plain.Node) → front_at before ≡ Some front → may_begin front ≡ true
         → characters behind ≡ Some rest → is_readable nodes ≡ true
-        → document_of (before ++ spec.written_alone (map node_bytes nodes) ++ behind) ≡ read_on (with_element front (map node_bytes nodes)) rest }
-    ensures alone { (front : Front) (nodes : List plain.Node) (rest : List ℕ) → may_begin front ≡ true → bound (codes "xml") front.bindings ≡ Some xml_namespace
-        → bound (codes "xmlns") front.bindings ≡ Some xmlns_namespace → is_readable nodes ≡ true
-        → read_on front (spec.written_alone nodes ++ rest) ≡ read_on (with_element front (map node_bytes nodes)) rest }
+        → document_of (before ++ spec.written_alone (map node_bytes nodes) ++ behind) ≡ read_from_front (with_element front (map node_bytes nodes)) rest }
+    ensures alone { (front : Front) (nodes : List plain.Node) (rest : List ℕ) → may_begin front ≡ true → bound_namespace (codes "xml") front.bindings ≡ Some xml_namespace
+        → bound_namespace (codes "xmlns") front.bindings ≡ Some xmlns_namespace → is_readable nodes ≡ true
+        → read_from_front front (spec.written_alone nodes ++ rest) ≡ read_from_front (with_element front (map node_bytes nodes)) rest }
 {}

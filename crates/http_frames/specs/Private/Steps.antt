@@ -10,7 +10,7 @@ use Rattle.http_server.specs.Connection.{config_of as connection_config, history
 use Rattle.http_server.specs.Exchange.{Call, Chain}
 use Rattle.http_server.specs.History.{IsServed, Rests, new_history}
 use Rattle.http_frames.specs.declared.clients.Clients.{Clients}
-use Rattle.http_frames.specs.Clients.{AreFull, begun, config_of, connection_at}
+use Rattle.http_frames.specs.Clients.{AreFull, count_begun, config_of, connection_at}
 use Rattle.http_frames.specs.Frames.{piece_text}
 
 -- ---- one connection
@@ -63,21 +63,21 @@ module _ {S : Type 0} (answers : S → Request (List ℕ) → Response → S →
 -- ---- among the others
 
 -- the connection under the number is this one, each other one what it was
-abbrev pub Puts : ℕ → Option Connection → Clients → Clients → Type 0
-Puts number k before after = (q : ℕ) → connection_at after q ≡ (if number == q then k else connection_at before q)
+abbrev pub PutsConnection : ℕ → Option Connection → Clients → Clients → Type 0
+PutsConnection number k before after = (q : ℕ) → connection_at after q ≡ (if number == q then k else connection_at before q)
 
 -- a new connection stands under the number, the last one that began
 pub record Adds (number : ℕ) (before after : Clients) : Type 0 where
-  pub begins : begun after ≡ number
+  pub begins : count_begun after ≡ number
   pub connection : Connection
   pub config : connection_config connection ≡ config_of before
   pub new : history connection ≡ new_history
-  pub puts : Puts number (Some connection) before after
+  pub puts : PutsConnection number (Some connection) before after
 
 -- it had begun, or begins
-abbrev pub Begins : ℕ → Clients → Clients → Type 0
-Begins number before after =
-    ((0 < number) × (number ≤ begun before) × (after ≡ before)) ⊎ ((number ≡ begun before + 1) × Adds number before after)
+abbrev pub BeginsConnection : ℕ → Clients → Clients → Type 0
+BeginsConnection number before after =
+    ((0 < number) × (number ≤ count_begun before) × (after ≡ before)) ⊎ ((number ≡ count_begun before + 1) × Adds number before after)
 
 module _ {S : Type 0} (answers : S → Request (List ℕ) → Response → S → Type 0) (number : ℕ) where
   -- the connection got the bytes: it goes on, or it is done, and that was told
@@ -85,8 +85,8 @@ module _ {S : Type 0} (answers : S → Request (List ℕ) → Response → S →
     pub new : Connection
     pub between : Option (List ℕ)
     pub works : Works answers number bytes k new s s' held between
-    pub ends : (((history new).state ≡ Open) × Puts number (Some new) before after × (holds ≡ between))
-        ⊎ (((history new).state ≢ Open) × Puts number None before after × Appends between holds (piece_text number []))
+    pub ends : (((history new).state ≡ Open) × PutsConnection number (Some new) before after × (holds ≡ between))
+        ⊎ (((history new).state ≢ Open) × PutsConnection number None before after × Appends between holds (piece_text number []))
 
   -- the connection under the number, where it goes on; else nothing was done
   abbrev pub PassesTo : Option Connection → List ℕ → Clients → Clients → S → S → Option (List ℕ) → Option (List ℕ) → Type 0

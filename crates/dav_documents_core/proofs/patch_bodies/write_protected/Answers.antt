@@ -1,6 +1,6 @@
 use Rattle.std.proofs.Common.{◌≡◌, ◌∙◌, true, [], ◌++◌, codes, map, subst}
 use Rattle.std.specs.Prelude.{OnOk}
-use Rattle.dav_files_core.specs.Properties.{entry_of}
+use Rattle.dav_files_core.specs.Properties.{patch_update}
 use Rattle.dav_xml_core.specs.Views.{writing_of}
 use Rattle.dav_xml_core.specs.Writing.{Writing}
 use Rattle.dav_documents_core.specs.PatchBodies.{prop_nodes, status_nodes}
@@ -10,7 +10,7 @@ use Rattle.dav_documents_core.proofs.patch_bodies.write_protected.Goals as goal
 
 pub returns : goal.returns
 returns c =
-    let prop = prop_nodes true (map entry_of c.args.updates.now) in
+    let prop = prop_nodes true (map patch_update c.args.updates.now) in
     let status = status_nodes (codes "HTTP/1.1 403 Forbidden") in
     let why = element (codes "cannot-modify-protected-property") [] in
     let names = one_after prop status (writing_of c.begin.new.writer) (writing_of c.write_prop.new.writer) (writing_of c.write_text.new.writer) c.in_ok-write_prop.ensures

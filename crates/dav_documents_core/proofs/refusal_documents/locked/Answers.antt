@@ -1,10 +1,10 @@
 use Rattle.std.proofs.Common.{[], codes, ap, ◌∙◌}
-use Rattle.dav_xml_core.specs.Writing.{Writing, with_end, with_nodes, with_start, written}
+use Rattle.dav_xml_core.specs.Writing.{Writing, with_end, with_nodes, with_start, document_bytes}
 use Rattle.dav_documents_core.specs.RefusalBodies.{dav_name, href}
 use Rattle.dav_documents_core.proofs.refusal_documents.locked.Goals as goal
 
 pub returns : goal.returns
-unfolding written
+unfolding document_bytes
 returns c =
     let outer = c.in_ok-begin.ensures ∙ ap (λ (w : Writing). with_start w (dav_name (codes "error")) []) c.new-writer.ensures in
     let inner = c.in_ok-begin-2.ensures ∙ ap (λ (w : Writing). with_start w (dav_name (codes "lock-token-submitted")) []) outer in

@@ -1,8 +1,8 @@
 use Rattle.std.proofs.Common.{◌∙◌, Some, sym, subst}
 use Rattle.std.proofs.lemmas.Result.{err_from_is_err_and}
-use Rattle.dav_fields_core.specs.Destinations.{LeadsTo}
-use Rattle.dav_fields_core.specs.Destinations.LeadsNowhere.{another}
-use Rattle.dav_fields_core.specs.Destinations.LeadsTo.{itself, by_url, elsewhere}
+use Rattle.dav_fields_core.specs.TransferDestinations.{LeadsTo}
+use Rattle.dav_fields_core.specs.TransferDestinations.LeadsNowhere.{another}
+use Rattle.dav_fields_core.specs.TransferDestinations.LeadsTo.{itself, by_url, elsewhere}
 use Rattle.dav_fields_core.proofs.DestinationLemmas.{without_text, without_url, without_host, with_path, without_path}
 use Rattle.dav_fields_core.proofs.destinations.destination_in.Goals as goal
 

@@ -2,7 +2,7 @@ use Rattle.std.proofs.Common.{rules, tests}
 use Rattle.std.proofs.lemmas.Iterator.Consumers.{YieldsList-from_first}
 use Rattle.std.proofs.lemmas.Iterator.Search.{any_from_yields_List}
 use Rattle.dav_fields_core.specs.Preconditions.{has_tag}
-use Rattle.dav_fields_core.specs.Private.Elements.{elements_left}
+use Rattle.dav_fields_core.specs.Private.ListElements.{elements_left}
 use Rattle.dav_fields_core.proofs.preconditions.lists_its_tag.Goals as goal
 
 pub returns : goal.returns

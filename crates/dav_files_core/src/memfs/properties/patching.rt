@@ -2,9 +2,9 @@
 ghost use Rattle.std.specs.Prelude.{◌≡◌, true, false, map, Some, None, is_some, IsSome, option_map, unwrap_or, if◌then◌else◌, OnOk, IfOk, IfErr, MatchOption, ◌<◌, length};
 ghost use Rattle.std.specs.Ordering.{eq_by_cmp};
 ghost use Rattle.std.specs.FinMap.{get, insert, remove};
-ghost use Rattle.dav_files_core.specs.Private.Patching.{Key, ComesTo, AreMissing, NotesKey, changes_of, is_among};
+ghost use Rattle.dav_files_core.specs.Private.PropertyChanges.{Key, ComesTo, AreMissing, NotesKey, changes_of, is_among_keys};
 ghost use Rattle.dav_files_core.specs.Private.PropertyMaps.{properties_of};
-ghost use Rattle.dav_files_core.specs.Properties.{property_of, entry_of, answer_of, key_of, patch_answers};
+ghost use Rattle.dav_files_core.specs.Properties.{property_of, patch_update, patch_answer, key_of, patch_answers};
 ghost use Rattle.dav_files_core.specs.Resources.{Property, key_cmp};
 
 use super::{key_of, put_in, take_out};
@@ -30,8 +30,8 @@ pub(super) fn read_patch(
     kept: &BTreeMap<(Bytes, Bytes), DavProp>,
     patch: Vec<(bool, DavProp)>,
 ) -> FsResult<(Vec<(StatusCode, DavProp)>, Changes)>
-    ensures answers { IfOk result (λ r. map answer_of r.0.items ≡ patch_answers (map entry_of patch.items)) }
-    ensures changes { IfOk result (λ r. ComesTo (map entry_of patch.items) (changes_of r.1.last.entries)) }
+    ensures answers { IfOk result (λ r. map patch_answer r.0.items ≡ patch_answers (map patch_update patch.items)) }
+    ensures changes { IfOk result (λ r. ComesTo (map patch_update patch.items) (changes_of r.1.last.entries)) }
     ensures missing { IfOk result (λ r. AreMissing (properties_of kept.now.entries) (changes_of r.1.last.entries) r.1.missing.items) }
     ensures err { IfErr result (λ e. e ≡ FsError.InsufficientStorage) }
 {
@@ -110,9 +110,9 @@ pub(super) fn make_room(
     kept: &mut BTreeMap<(Bytes, Bytes), DavProp>,
     keys: &[(Bytes, Bytes)],
 ) -> FsResult<()>
-    requires { (q : Key) → is_among keys.now q ≡ true → get (properties_of kept.old.entries) q ≡ None }
-    ensures others { (q : Key) → is_among keys.now q ≡ false → get (properties_of kept.new.entries) q ≡ get (properties_of kept.old.entries) q }
-    ensures room { OnOk result ((q : Key) → is_among keys.now q ≡ true → IsSome (get (properties_of kept.new.entries) q)) }
+    requires { (q : Key) → is_among_keys keys.now q ≡ true → get (properties_of kept.old.entries) q ≡ None }
+    ensures others { (q : Key) → is_among_keys keys.now q ≡ false → get (properties_of kept.new.entries) q ≡ get (properties_of kept.old.entries) q }
+    ensures room { OnOk result ((q : Key) → is_among_keys keys.now q ≡ true → IsSome (get (properties_of kept.new.entries) q)) }
     ensures err { IfErr result (λ e. (e ≡ FsError.InsufficientStorage) × (properties_of kept.new.entries ≡ properties_of kept.old.entries)) }
 {
     match add_empty(alloc, kept, keys) {
@@ -130,8 +130,8 @@ fn add_empty(
     kept: &mut BTreeMap<(Bytes, Bytes), DavProp>,
     keys: &[(Bytes, Bytes)],
 ) -> FsResult<()>
-    ensures others { (q : Key) → is_among keys.now q ≡ false → get (properties_of kept.new.entries) q ≡ get (properties_of kept.old.entries) q }
-    ensures room { OnOk result ((q : Key) → is_among keys.now q ≡ true → IsSome (get (properties_of kept.new.entries) q)) }
+    ensures others { (q : Key) → is_among_keys keys.now q ≡ false → get (properties_of kept.new.entries) q ≡ get (properties_of kept.old.entries) q }
+    ensures room { OnOk result ((q : Key) → is_among_keys keys.now q ≡ true → IsSome (get (properties_of kept.new.entries) q)) }
     ensures err { IfErr result (λ e. e ≡ FsError.InsufficientStorage) }
 {
     for key in keys {
@@ -152,7 +152,7 @@ fn empty(alloc: Global) -> DavProp {
 
 // Takes out what stands at some keys.
 fn take_all(kept: &mut BTreeMap<(Bytes, Bytes), DavProp>, keys: &[(Bytes, Bytes)])
-    ensures { (q : Key) → get (properties_of kept.new.entries) q ≡ if is_among keys.now q then None else get (properties_of kept.old.entries) q }
+    ensures { (q : Key) → get (properties_of kept.new.entries) q ≡ if is_among_keys keys.now q then None else get (properties_of kept.old.entries) q }
 {
     for key in keys {
         take_out(kept, key);

@@ -1,5 +1,5 @@
 use Rattle.std.proofs.Common.{Bool, Ok, ap, sym, subst}
-use Rattle.dav_handler_core.specs.Servers.{server}
+use Rattle.dav_handler_core.specs.ServerViews.{server}
 use Rattle.http_frames.specs.Frames.{IsPiece}
 use Rattle.dav_handler_core.proofs.FrameLemmas.{told, taken}
 use Rattle.dav_handler_core.proofs.serving.serve_frame.Goals as goal

@@ -1,4 +1,4 @@
-use Rattle.dav_handler_core.specs.Servers.{server}
+use Rattle.dav_handler_core.specs.ServerViews.{server}
 use Rattle.dav_handler_core.proofs.FrameLemmas.{served-none, served-more, served-all}
 use Rattle.dav_handler_core.proofs.serving.serve_frames.Goals as goal
 

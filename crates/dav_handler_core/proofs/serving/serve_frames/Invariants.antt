@@ -1,5 +1,5 @@
 use Rattle.std.proofs.Common.{[]}
-use Rattle.dav_handler_core.specs.Servers.{server}
+use Rattle.dav_handler_core.specs.ServerViews.{server}
 use Rattle.http_frames.specs.Clients.{Has}
 use Rattle.dav_handler_core.proofs.FrameLemmas.{Served}
 use Rattle.dav_handler_core.proofs.serving.serve_frames.Given as goal

@@ -1,6 +1,6 @@
 //! Conditions of an `If` value, and lists of them.
 ghost use Rattle.std.specs.Prelude.{◌≡◌, length};
-ghost use Rattle.dav_headers_core.specs.Gives.{Gives, GivesFirst};
+ghost use Rattle.dav_headers_core.specs.HeaderGives.{Gives, GivesFirst};
 ghost use Rattle.dav_headers_core.specs.Pairwise.{pairwise};
 ghost use Rattle.dav_headers_core.specs.Private.IfReading as reading;
 ghost use Rattle.dav_headers_core.specs.IfValues.{condition_of, conditions_of};

@@ -1,6 +1,6 @@
 //! State tokens and entity tags in an `If` value.
 ghost use Rattle.std.specs.Prelude.{◌≡◌};
-ghost use Rattle.dav_headers_core.specs.Gives.{GivesFirst};
+ghost use Rattle.dav_headers_core.specs.HeaderGives.{GivesFirst};
 ghost use Rattle.dav_headers_core.specs.Private.IfReading as reading;
 ghost use Rattle.dav_headers_core.specs.IfValues.{item_of};
 ghost use Rattle.dav_headers_core.specs.IfStrongEq.{item_strong_eq};

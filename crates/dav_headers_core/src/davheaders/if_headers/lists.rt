@@ -1,9 +1,9 @@
 //! Lists of conditions with the resource tags before them.
 ghost use Rattle.std.specs.Prelude.{◌≡◌, length, map, suc};
-ghost use Rattle.dav_headers_core.specs.Gives.{Gives};
+ghost use Rattle.dav_headers_core.specs.HeaderGives.{Gives};
 ghost use Rattle.dav_headers_core.specs.Pairwise.{pairwise};
 ghost use Rattle.dav_headers_core.specs.Private.IfReading as reading;
-ghost use Rattle.dav_headers_core.specs.IfValues.{located};
+ghost use Rattle.dav_headers_core.specs.IfValues.{located_list};
 ghost use Rattle.dav_headers_core.specs.IfStrongEq.{list_strong_eq};
 ghost use Rattle.dav_headers_core.specs.Urls.{url_of};
 
@@ -25,7 +25,7 @@ pub struct IfList {
 
 #[tactic(auto, unfolding(crate::specs::Private::IfReading::group_at))]
 fn located_at(alloc: Global, bytes: &[u8]) -> Result<(IfList, &[u8]), HeaderError>
-    ensures { Gives (λ x. (located x.0, x.1.now)) result (reading.group_at url_of bytes.now) }
+    ensures { Gives (λ x. (located_list x.0, x.1.now)) result (reading.group_at url_of bytes.now) }
 {
     let (resource_tag, rest) = match behind(bytes, b'<') {
         Some(after) => {
@@ -46,7 +46,7 @@ fn located_at(alloc: Global, bytes: &[u8]) -> Result<(IfList, &[u8]), HeaderErro
 
 /// All lists of the bytes. Each takes a byte, so there are no more than bytes.
 pub(super) fn lists_at(alloc: Global, bytes: &[u8]) -> Result<Vec<IfList>, HeaderError>
-    ensures { Gives (λ lists. map located lists.items) result
+    ensures { Gives (λ lists. map located_list lists.items) result
         (reading.groups_at url_of (suc (length bytes.now)) bytes.now) }
 {
     let mut lists = Vec::new(alloc);
@@ -65,7 +65,7 @@ pub(super) fn lists_at(alloc: Global, bytes: &[u8]) -> Result<Vec<IfList>, Heade
 
 /// Whether there are as many lists, each `strong_eq` to the one at its place.
 pub(super) fn lists_strong_eq(lists: &[IfList], others: &[IfList]) -> bool
-    ensures { result ≡ pairwise list_strong_eq (map located lists.now) (map located others.now) }
+    ensures { result ≡ pairwise list_strong_eq (map located_list lists.now) (map located_list others.now) }
 {
     lists.len() == others.len()
         && lists
@@ -78,7 +78,7 @@ impl IfList {
     /// Whether the resource tags are equal URLs or both missing, and there are as many conditions, each `strong_eq` to the one
     /// at its place. It takes no memory.
     pub fn strong_eq(&self, other: &IfList) -> bool
-        ensures { result ≡ list_strong_eq (located self.now) (located other.now) }
+        ensures { result ≡ list_strong_eq (located_list self.now) (located_list other.now) }
     {
         self.resource_tag == other.resource_tag
             && conditions_strong_eq(&self.conditions, &other.conditions)
@@ -87,9 +87,9 @@ impl IfList {
 
 /// The same list, or out of memory.
 impl Clone for IfList {
-    ghost use Rattle.dav_headers_core.specs.IfValues.{located};
+    ghost use Rattle.dav_headers_core.specs.IfValues.{located_list};
 
-    ghost is_clone = { λ list copy. located copy ≡ located list };
+    ghost is_clone = { λ list copy. located_list copy ≡ located_list list };
 
     fn clone(&self) -> Result<IfList, AllocError> {
         Ok(IfList {

@@ -2,7 +2,7 @@
 ghost use Rattle.std.specs.Prelude.{◌≡◌, false, option_map};
 ghost use Rattle.std.specs.Str.{is_utf8};
 ghost use Rattle.dav_headers_core.specs.Optional.{when};
-ghost use Rattle.dav_headers_core.specs.Pieces as pieces;
+ghost use Rattle.dav_headers_core.specs.CommaPieces as pieces;
 ghost use Rattle.dav_headers_core.specs.IfBytes as if_bytes;
 ghost use Rattle.dav_headers_core.specs.Private.IfReading as reading;
 

@@ -4,7 +4,7 @@ use Rattle.dav_resource_core.specs.Step.{State}
 use Rattle.dav_session_core.specs.Callers.{live}
 use Rattle.dav_session_core.specs.Conditions.{condition_holds, conditions_hold}
 use Rattle.dav_session_core.specs.Sessions as spec
-use Rattle.dav_fields_core.specs.TaggedLists.{spoken}
+use Rattle.dav_fields_core.specs.TaggedLists.{spoken_path}
 use Rattle.dav_session_core.proofs.ConditionLemmas.{drop_seen, goes_on_true}
 use Rattle.dav_session_core.proofs.Looking.{looks_none, looks_on, same_asked}
 use Rattle.dav_methods_core.proofs.conditions.conditions_hold.Goals as goal
@@ -20,7 +20,7 @@ loop-condition-preserved g c =
     let mid = spec.caller c.loop-condition.session in
     let m = spec.state g.R.Rng.stream c.loop-condition.session in
     let s = live who.now start in
-    let at = spoken c.args.at.now in
+    let at = spoken_path c.args.at.now in
     let item = condition_of c.condition-item.result in
     let conditions = c.args.conditions.now in
     let i = c.loop-condition.condition-index in

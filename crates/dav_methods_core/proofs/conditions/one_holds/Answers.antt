@@ -1,12 +1,12 @@
 use Rattle.std.proofs.Common.{◌≡◌, ◌+◌, true, false, List, drop, map, Some, None, sym, ap, subst, ◌∙◌}
 use Rattle.std.specs.Option.{option_or}
 use Rattle.dav_path_core.specs.Segments.{segments}
-use Rattle.dav_headers_core.specs.IfValues.{Located, located, conditions_of}
+use Rattle.dav_headers_core.specs.IfValues.{Located, located_list, conditions_of}
 use Rattle.dav_resource_core.specs.Step.{State}
 use Rattle.dav_session_core.specs.Callers.{live}
 use Rattle.dav_session_core.specs.Conditions.{ListsAre, conditions_hold}
 use Rattle.dav_session_core.specs.Sessions as spec
-use Rattle.dav_fields_core.specs.TaggedLists.{base_of, spoken, spread_from}
+use Rattle.dav_fields_core.specs.TaggedLists.{base_of, spoken_path, spread_from}
 use Rattle.dav_session_core.proofs.ConditionLemmas.{drop_seen, goes_on, holds_here, none_left}
 use Rattle.dav_session_core.proofs.Looking.{looks_none, looks_on, same_asked}
 use Rattle.dav_methods_core.proofs.conditions.one_holds.Goals as goal
@@ -28,8 +28,8 @@ returns-then-branch-clause-ok g c =
     let s = live who.now start in
     let base = base_of c.args.base.now c.args.here.now in
     let here = segments c.args.here.now.bytes in
-    let at = spoken c.in_ok-at.at in
-    let item = located c.list-item.result in
+    let at = spoken_path c.in_ok-at.at in
+    let item = located_list c.list-item.result in
     let last = c.loop-list.invariant.last in
     let lists = c.args.lists.now in
     let i = c.loop-list.list-index in
@@ -38,8 +38,8 @@ returns-then-branch-clause-ok g c =
     sym (same_asked (λ w (x : State). conditions_hold x at item.conditions) c.loop-list.invariant.looks)
     ∙ sym {b = conditions_hold (live mid.now m) at item.conditions} (c.in_ok-conditions_hold.ensures.ok ∙ ap (λ cs. conditions_hold (live mid.now m) at (conditions_of cs)) c.deref.ensures.value) ∙ c.if-branch.true in
     c.loop-list.invariant.left true (subst (λ (ls : List Located). ListsAre s base here (spread_from last ls) true)
-    (sym (drop_seen located lists i c.list-item.result c.loop-list-test.true c.list-item.is))
-    (holds_here s base here last item (map located (drop (i + 1) lists)) at speaks holds))
+    (sym (drop_seen located_list lists i c.list-item.result c.loop-list-test.true c.list-item.is))
+    (holds_here s base here last item (map located_list (drop (i + 1) lists)) at speaks holds))
 
 pub loop-list-preserved : goal.loop-list-preserved
 loop-list-preserved g c =
@@ -50,8 +50,8 @@ loop-list-preserved g c =
     let s = live who.now start in
     let base = base_of c.args.base.now c.args.here.now in
     let here = segments c.args.here.now.bytes in
-    let at = spoken c.in_ok-at.at in
-    let item = located c.list-item.result in
+    let at = spoken_path c.in_ok-at.at in
+    let item = located_list c.list-item.result in
     let last = c.loop-list.invariant.last in
     let lists = c.args.lists.now in
     let i = c.loop-list.list-index in
@@ -64,12 +64,12 @@ loop-list-preserved g c =
       last = option_or item.tag last;
       speaks = speaks;
       left = λ holds h. c.loop-list.invariant.left holds (subst (λ (ls : List Located). ListsAre s base here (spread_from last ls) holds)
-          (sym (drop_seen located lists i c.list-item.result c.loop-list-test.true c.list-item.is))
-          (goes_on s base here last item (map located (drop (i + 1) lists)) at speaks fails holds h));
+          (sym (drop_seen located_list lists i c.list-item.result c.loop-list-test.true c.list-item.is))
+          (goes_on s base here last item (map located_list (drop (i + 1) lists)) at speaks fails holds h));
     }
 
 pub returns-clause-ok : goal.returns-clause-ok
 returns-clause-ok g c =
     c.loop-list.invariant.left false
     (none_left (live (spec.caller c.args.session.now).now (spec.state g.R.Rng.stream c.args.session.now)) (base_of c.args.base.now c.args.here.now)
-    (segments c.args.here.now.bytes) c.loop-list.invariant.last located c.args.lists.now c.loop-list.list-index c.loop-list-test.false)
+    (segments c.args.here.now.bytes) c.loop-list.invariant.last located_list c.args.lists.now c.loop-list.list-index c.loop-list-test.false)

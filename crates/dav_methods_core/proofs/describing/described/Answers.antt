@@ -10,7 +10,7 @@ use Rattle.dav_methods_core.proofs.describing.described.Goals as goal
 
 pub returns-clause-ok : goal.returns-clause-ok
 returns-clause-ok c =
-    let known = meta_of c.args.meta.now in
+    let known = meta_of c.args.found.meta in
     record {
       url_is = c.in_ok-place_url.ensures ∙ ap (place_url c.args.prefix.now (segments c.args.place.now.bytes)) c.is_folder-folder.ensures;
       folder_is = c.is_folder-folder.ensures;

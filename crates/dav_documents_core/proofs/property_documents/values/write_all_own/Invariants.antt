@@ -3,7 +3,7 @@ use Rattle.std.specs.List.{flat_map}
 use Rattle.std.specs.Prelude.{string_bytes}
 use Rattle.dav_xml_core.specs.Views.{writing_of}
 use Rattle.dav_documents_core.specs.declared.live_properties.TheConstants.{LIVE}
-use Rattle.dav_documents_core.specs.Pieces.{with_pieces}
+use Rattle.dav_documents_core.specs.Pieces.{and_pieces}
 use Rattle.dav_documents_core.specs.DescriptionViews.{description_of}
 use Rattle.dav_documents_core.specs.PropertyDocuments.{own_pieces}
 use Rattle.dav_documents_core.proofs.property_documents.values.write_all_own.Given as goal
@@ -11,7 +11,7 @@ use Rattle.dav_documents_core.proofs.property_documents.values.write_all_own.Giv
 -- what is still to be told of, behind what is told, makes the whole
 abbrev pub invariant-loop-live : goal.invariant-loop-live
 invariant-loop-live l =
-    with_pieces (writing_of l.writer)
+    and_pieces (writing_of l.writer)
     (flat_map (own_pieces l.prefix (option_map string_bytes l.principal) (description_of l.description)) (drop l.live-index LIVE))
-    ≡ with_pieces (writing_of l.fn.writer)
+    ≡ and_pieces (writing_of l.fn.writer)
     (flat_map (own_pieces l.prefix (option_map string_bytes l.principal) (description_of l.description)) LIVE)

@@ -1,6 +1,6 @@
 use Rattle.std.proofs.Common.{◌≡◌, drop, map}
 use Rattle.dav_xml_core.specs.Views.{name_of, node_of}
-use Rattle.dav_documents_core.specs.Private.Naming.{AreSeen}
+use Rattle.dav_documents_core.specs.Private.LentKeys.{AreSeen}
 use Rattle.dav_documents_core.specs.PropertyQuestions.{and_names}
 use Rattle.dav_documents_core.proofs.property_questions.names.add_names.Given as goal
 

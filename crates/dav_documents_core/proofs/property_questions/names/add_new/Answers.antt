@@ -3,8 +3,8 @@ use Rattle.std.specs.List.{list_any}
 use Rattle.std.specs.Ordering.{is_eq}
 use Rattle.std.proofs.lemmas.List.{map_push}
 use Rattle.dav_xml_core.specs.Views.{name_of}
-use Rattle.dav_documents_core.specs.Private.Naming.{key_cmp, name_at}
-use Rattle.dav_documents_core.specs.PropertyQuestions.{same_name}
+use Rattle.dav_documents_core.specs.Private.LentKeys.{lent_key_cmp, name_at}
+use Rattle.dav_xml_core.specs.Namespaces.{same_name}
 use Rattle.dav_documents_core.proofs.NamingLemmas.{new_name, old_name, one_name_more}
 use Rattle.dav_documents_core.proofs.property_questions.names.add_new.Goals as goal
 
@@ -29,7 +29,7 @@ returns-in_ok-push-clause-seen c = λ other.
     let among = list_any (same_name (name_at other)) in
     let key = c.texts_of.result in
     c.in_ok-is_new.ensures.updates.0 other
-    ∙ ap (λ b. cond (is_eq (key_cmp key other)) true b) (c.requires other)
+    ∙ ap (λ b. cond (is_eq (lent_key_cmp key other)) true b) (c.requires other)
     ∙ one_name_more other key names
     ∙ ap (λ name. among (names ++ name ∷ [])) (c.texts_of.ensures ∙ sym c.in_ok-copy.ensures)
     ∙ ap among (sym (map_push name_of c.args.found.now.names.items c.in_ok-copy.copy))

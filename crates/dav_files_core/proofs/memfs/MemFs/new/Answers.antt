@@ -2,7 +2,7 @@ use Rattle.std.proofs.Common.{◌≡◌, ℕ, sym, subst}
 use Rattle.dav_path_core.specs.ChildIndex.{IsIndex}
 use Rattle.dav_path_core.specs.Keyed.{lone}
 use Rattle.dav_path_core.proofs.index.IndexLemmas.{IsIndex-empty}
-use Rattle.dav_files_core.specs.Private.Represents.{Represents, FileTree}
+use Rattle.dav_files_core.specs.Private.FileRepresents.{Represents, FileTree}
 use Rattle.dav_files_core.specs.Outcomes.{start, new_folder}
 use Rattle.dav_files_core.specs.Resources.{Node}
 use Rattle.dav_files_core.proofs.walks.StartLemmas.{Represents-single}

@@ -1,8 +1,8 @@
 use Rattle.std.proofs.Common.{[], ◌∷◌, ◌++◌, ap, ◌∙◌, subst}
-use Rattle.dav_path_core.specs.Answers.{AnswersWithRoom}
+use Rattle.dav_path_core.specs.StoreAnswers.{AnswersWithRoom}
 use Rattle.dav_path_core.specs.Fronts.{Segment}
 use Rattle.dav_files_core.specs.Private.Entries.{put_there}
-use Rattle.dav_files_core.specs.Private.Represents.{resource_map}
+use Rattle.dav_files_core.specs.Private.FileRepresents.{resource_map}
 use Rattle.dav_files_core.specs.Resources.{Resource}
 use Rattle.dav_files_core.proofs.moves.RelocatingLemmas.{moved_stands, moved_answer}
 use Rattle.dav_files_core.proofs.changes.SettingLemmas.{same_entry}

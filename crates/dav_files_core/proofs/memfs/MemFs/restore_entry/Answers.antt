@@ -1,5 +1,5 @@
 use Rattle.std.proofs.Common.{Ok, ap}
-use Rattle.dav_files_core.specs.Restoring.{restored}
+use Rattle.dav_files_core.specs.Restoring.{with_restored_entry}
 use Rattle.dav_files_core.proofs.opens.OpenedLemmas.{no_node}
 use Rattle.dav_files_core.proofs.changes.LeftLemmas.{stands_for, stands_itself, is_view, folder_known, no_member, with_restored}
 use Rattle.dav_files_core.proofs.memfs.MemFs.restore_entry.Goals as goal
@@ -22,7 +22,7 @@ invariant_of-self-2 c =
     let h = c.requires.free in
     record {
       represents =
-          stands_itself c.restore_node.new.tree.keyed (restored c.args.self.now h.0 (record { number = c.args.number; node = c.args.node }))
+          stands_itself c.restore_node.new.tree.keyed (with_restored_entry c.args.self.now h.0 (record { number = c.args.number; node = c.args.node }))
           (with_restored c.self.inside.tree.keyed c.args.self.now (stands_for _ _ c.self.view_is c.self.invariant) h.0 c.args.folder _ h.1 c.in_ok-name.name c.in_ok-name.ensures
           c.args.node c.args.number (no_node c.self.inside.tree.keyed c.args.self.now (stands_for _ _ c.self.view_is c.self.invariant) c.args.number c.requires.unused) c.requires.positive c.requires.bare c.restore_node.new.tree.keyed c.in_ok-restore_node.ensures.ok);
       indexed = c.in_ok-restore_node.ensures.indexed;

@@ -8,20 +8,20 @@ use Rattle.dav_path_core.specs.declared.errors.FsError.{FsError}
 use Rattle.dav_files_core.specs.declared.memfs.Target.{Target}
 use Rattle.dav_files_core.specs.declared.memfs.Target.TheVariants.{Entry, Missing}
 use Rattle.dav_files_core.specs.Resources.{ResourceMap}
-use Rattle.dav_files_core.specs.Private.TreeCalls.{LeadsTo}
+use Rattle.dav_files_core.specs.Private.TreeCalls.{LeadsToTarget}
 use Rattle.dav_files_core.proofs.walks.FoundLemmas.{found_there}
 use Rattle.dav_files_core.proofs.walks.StepLemmas.{item_there, one_more, at_root, behind_refused, behind_missing}
 use Rattle.dav_files_core.proofs.changes.LeftLemmas.{stands_for}
 use Rattle.dav_files_core.proofs.memfs.MemFs.target_of.Goals as goal
 
-refused : (m : ResourceMap) (p : Path) (e : FsError) (r : Result Target FsError) → r ≡ Err e → LeadsTo m p (Err e) → LeadsTo m p r
-refused m p e r is h = subst (λ (r : Result Target FsError). LeadsTo m p r) (sym is) h
+refused : (m : ResourceMap) (p : Path) (e : FsError) (r : Result Target FsError) → r ≡ Err e → LeadsToTarget m p (Err e) → LeadsToTarget m p r
+refused m p e r is h = subst (λ (r : Result Target FsError). LeadsToTarget m p r) (sym is) h
 
-at : (m : ResourceMap) (p : Path) (target : Target) (known : Target) → target ≡ known → LeadsTo m p (Ok target) → LeadsTo m p (Ok known)
-at m p target known is h = subst (λ (target : Target). LeadsTo m p (Ok target)) is h
+at : (m : ResourceMap) (p : Path) (target : Target) (known : Target) → target ≡ known → LeadsToTarget m p (Ok target) → LeadsToTarget m p (Ok known)
+at m p target known is h = subst (λ (target : Target). LeadsToTarget m p (Ok target)) is h
 
-at_end : (m : ResourceMap) (p : Path) (target : Target) (n : ℕ) → n ≡ length p → LeadsTo m (take n p) (Ok target) → LeadsTo m p (Ok target)
-at_end m p target n e h = subst (λ q. LeadsTo m q (Ok target)) (take_all n p (omega arith)) h
+at_end : (m : ResourceMap) (p : Path) (target : Target) (n : ℕ) → n ≡ length p → LeadsToTarget m (take n p) (Ok target) → LeadsToTarget m p (Ok target)
+at_end m p target n e h = subst (λ q. LeadsToTarget m q (Ok target)) (take_all n p (omega arith)) h
 
 pub loop-name-init : goal.loop-name-init
 loop-name-init c = at_root c.args.self.now (stands_for _ _ c.self.view_is c.self.invariant).is_map
@@ -50,7 +50,7 @@ loop-name-preserved c =
     let here = at c.args.self.now (take i names) c.loop-name.target (Entry c.in-Entry.id) c.in-Entry.is c.loop-name.invariant in
     let next = c.in_ok-target-in-Entry.ensures (take i names) here.0 (found_there c.args.self.now (take i names) here.0 here.1) here.2 in
     let more : length (c.loop-name.yielded ++ (c.in-Some.name ∷ [])) ≡ i + 1 = rw length_push refl in
-    subst (λ q. LeadsTo c.args.self.now q (Ok c.in_ok-target-in-Entry.target)) (sym (ap (λ n. take n names) more ∙ one_more names i c.in-Some.name.now t.0 name)) next
+    subst (λ q. LeadsToTarget c.args.self.now q (Ok c.in_ok-target-in-Entry.target)) (sym (ap (λ n. take n names) more ∙ one_more names i c.in-Some.name.now t.0 name)) next
 
 pub returns-in-Missing-clause-found : goal.returns-in-Missing-clause-found
 returns-in-Missing-clause-found c =

@@ -3,9 +3,9 @@ use Rattle.std.proofs.lemmas.Result.{err_from_is_err_and}
 use Rattle.http.specs.Request.{head_of}
 use Rattle.dav_faults_core.specs.declared.faults.Fault.TheVariants as fault
 use Rattle.dav_session_core.specs.Callers.{Caller, IsSender}
-use Rattle.dav_fields_core.specs.Refusals.{RefusesTarget, RefusesPrincipal, HasBadIf}
+use Rattle.dav_fields_core.specs.RequestRefusals.{RefusesTarget, RefusesPrincipal, HasBadIf}
 use Rattle.dav_fields_core.specs.Senders.{NamesPrincipal, Submits}
-use Rattle.dav_handler_core.specs.Servers.{options_of}
+use Rattle.dav_handler_core.specs.ServerViews.{options_of}
 use Rattle.dav_fields_core.specs.Targets.{IsTargetOf}
 use Rattle.dav_handler_core.proofs.AnswerLemmas.{by_target, by_principal, by_tokens, by_moment}
 use Rattle.dav_handler_core.proofs.dav.Dav.begin.Goals as goal

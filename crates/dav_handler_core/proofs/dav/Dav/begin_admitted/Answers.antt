@@ -1,9 +1,9 @@
 use Rattle.std.proofs.Common.{inr, refl, sym, ap, subst}
 use Rattle.std.proofs.lemmas.Result.{err_from_is_err_and}
 use Rattle.dav_resource_core.specs.Step.{State}
-use Rattle.dav_handler_core.specs.Answers.{IsFrom, Options}
+use Rattle.dav_handler_core.specs.Server.{IsFrom, Options}
 use Rattle.dav_session_core.specs.Callers.{Caller, RunBy}
-use Rattle.dav_handler_core.specs.Servers.{server}
+use Rattle.dav_handler_core.specs.ServerViews.{server}
 use Rattle.dav_session_core.specs.Sessions.{caller}
 use Rattle.dav_handler_core.proofs.AnswerLemmas.{held_there}
 use Rattle.dav_session_core.proofs.CallerLaws.{by_none}

@@ -4,8 +4,8 @@ use Rattle.dav_path_core.specs.Segments.{segments}
 use Rattle.dav_resource_core.specs.Step.{State}
 use Rattle.dav_session_core.specs.Callers.{Caller}
 use Rattle.dav_fields_core.specs.Fields.{sent_of}
-use Rattle.dav_fields_core.specs.Getting.{FailsToGet, Gets}
-use Rattle.dav_handler_core.specs.Servers.{server}
+use Rattle.dav_methods_core.specs.GetMethod.{FailsToGet, Gets}
+use Rattle.dav_handler_core.specs.ServerViews.{server}
 use Rattle.dav_session_core.specs.Sessions.{caller, state}
 use Rattle.dav_handler_core.proofs.AnswerLemmas.{get_answered, moves_on}
 use Rattle.dav_handler_core.proofs.dav.Dav.serve_get.Goals as goal

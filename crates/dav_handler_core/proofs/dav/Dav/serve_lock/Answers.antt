@@ -4,12 +4,12 @@ use Rattle.std.proofs.lemmas.Result.{err_from_is_err_and}
 use Rattle.http.specs.Request.{body_of, head_of}
 use Rattle.dav_path_core.specs.declared.util.DavMethod.TheVariants as method
 use Rattle.dav_path_core.specs.Segments.{segments}
-use Rattle.dav_handler_core.specs.Answers.{Options}
+use Rattle.dav_handler_core.specs.Server.{Options}
 use Rattle.dav_session_core.specs.Callers.{Caller, live}
 use Rattle.dav_fields_core.specs.Fields.{sent_of}
-use Rattle.dav_methods_core.specs.Locking.{FailsToLock, IsAskedBy, IsGranted}
+use Rattle.dav_methods_core.specs.LockMethod.{FailsToLock, IsAskedBy, IsGranted}
 use Rattle.dav_methods_core.specs.Rooms.{LeavesLock}
-use Rattle.dav_handler_core.specs.Servers.{server}
+use Rattle.dav_handler_core.specs.ServerViews.{server}
 use Rattle.dav_session_core.specs.Sessions.{caller, state}
 use Rattle.dav_handler_core.proofs.LockAnswerLemmas.{lock_answered, lock_leaves_by, lock_unread, moves_granted, some_body}
 use Rattle.dav_handler_core.proofs.TransferAnswerLemmas.{leaves_same}

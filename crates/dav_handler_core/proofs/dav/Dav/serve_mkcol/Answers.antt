@@ -3,8 +3,8 @@ use Rattle.std.specs.Prelude.{IfOk, IfErr}
 use Rattle.http.specs.Request.{body_of}
 use Rattle.dav_path_core.specs.Segments.{segments}
 use Rattle.dav_session_core.specs.Callers.{Caller, live}
-use Rattle.dav_session_core.specs.Making.{FailsToMake, Makes}
-use Rattle.dav_handler_core.specs.Servers.{server}
+use Rattle.dav_methods_core.specs.MkcolMethod.{FailsToMake, Makes}
+use Rattle.dav_handler_core.specs.ServerViews.{server}
 use Rattle.dav_session_core.specs.Sessions.{caller, state}
 use Rattle.dav_handler_core.proofs.AnswerLemmas.{change_answered, moves_on}
 use Rattle.dav_handler_core.proofs.dav.Dav.serve_mkcol.Goals as goal

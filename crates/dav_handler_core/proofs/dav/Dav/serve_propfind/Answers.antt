@@ -5,11 +5,11 @@ use Rattle.http.specs.Request.{body_of, head_of}
 use Rattle.http_header.specs.FieldValue.{FieldValue}
 use Rattle.http_header.specs.HeaderMap.{Entries}
 use Rattle.dav_path_core.specs.Segments.{segments}
-use Rattle.dav_handler_core.specs.Answers.{Options}
+use Rattle.dav_handler_core.specs.Server.{Options}
 use Rattle.dav_session_core.specs.Callers.{Caller, live}
 use Rattle.dav_fields_core.specs.Fields.{sent_of}
-use Rattle.dav_methods_core.specs.Finding.{FailsToTell, TellsFound}
-use Rattle.dav_handler_core.specs.Servers.{server}
+use Rattle.dav_methods_core.specs.PropfindMethod.{FailsToTell, TellsFound}
+use Rattle.dav_handler_core.specs.ServerViews.{server}
 use Rattle.dav_session_core.specs.Sessions.{caller, state}
 use Rattle.dav_handler_core.proofs.AnswerLemmas.{change_answered, moves_on}
 use Rattle.dav_handler_core.proofs.dav.Dav.serve_propfind.Goals as goal

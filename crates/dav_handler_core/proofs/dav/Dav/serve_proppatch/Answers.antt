@@ -3,11 +3,11 @@ use Rattle.std.specs.Prelude.{IfOk, IfErr}
 use Rattle.std.proofs.lemmas.Result.{err_from_is_err_and}
 use Rattle.http.specs.Request.{body_of}
 use Rattle.dav_path_core.specs.Segments.{segments}
-use Rattle.dav_handler_core.specs.Answers.{Options}
+use Rattle.dav_handler_core.specs.Server.{Options}
 use Rattle.dav_session_core.specs.Callers.{Caller, live}
 use Rattle.dav_fields_core.specs.Fields.{sent_of}
-use Rattle.dav_session_core.specs.Patching.{FailsToPatch, Patches}
-use Rattle.dav_handler_core.specs.Servers.{server}
+use Rattle.dav_methods_core.specs.ProppatchMethod.{FailsToPatch, Patches}
+use Rattle.dav_handler_core.specs.ServerViews.{server}
 use Rattle.dav_session_core.specs.Sessions.{caller, state}
 use Rattle.dav_handler_core.proofs.AnswerLemmas.{moves_on}
 use Rattle.dav_handler_core.proofs.PatchAnswerLemmas.{patch_answered, patch_unread}

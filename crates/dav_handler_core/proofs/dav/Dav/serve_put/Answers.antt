@@ -3,8 +3,8 @@ use Rattle.std.proofs.lemmas.Result.{err_from_is_err_and}
 use Rattle.dav_resource_core.specs.Step.{State}
 use Rattle.dav_session_core.specs.Callers.{Caller}
 use Rattle.dav_fields_core.specs.Fields.{sent_of}
-use Rattle.dav_fields_core.specs.Refusals.{HasPart}
-use Rattle.dav_handler_core.specs.Servers.{server}
+use Rattle.dav_fields_core.specs.RequestRefusals.{HasPart}
+use Rattle.dav_handler_core.specs.ServerViews.{server}
 use Rattle.dav_session_core.specs.Sessions.{caller, state}
 use Rattle.dav_handler_core.proofs.AnswerLemmas.{moves_on, put_answered, put_short, put_unread, whole_request}
 use Rattle.dav_handler_core.proofs.dav.Dav.serve_put.Goals as goal

@@ -5,11 +5,11 @@ use Rattle.std.proofs.lemmas.Result.{on_err_weaker}
 use Rattle.http.specs.Request.{head_of}
 use Rattle.dav_path_core.specs.Segments.{segments}
 use Rattle.dav_files_core.specs.Finding.{has_any}
-use Rattle.dav_handler_core.specs.Answers.{Options}
+use Rattle.dav_handler_core.specs.Server.{Options}
 use Rattle.dav_session_core.specs.Callers.{Caller, live}
 use Rattle.dav_fields_core.specs.Fields.{sent_of}
-use Rattle.dav_session_core.specs.Refreshing.{FailsToRefresh, Refreshes}
-use Rattle.dav_handler_core.specs.Servers.{server}
+use Rattle.dav_methods_core.specs.RefreshMethod.{FailsToRefresh, Refreshes}
+use Rattle.dav_handler_core.specs.ServerViews.{server}
 use Rattle.dav_session_core.specs.Sessions.{Looks, caller, state}
 use Rattle.dav_handler_core.proofs.LockAnswerLemmas.{lock_unread, moves_refreshed, refresh_answered}
 use Rattle.dav_handler_core.proofs.dav.Dav.serve_refresh.Goals as goal

@@ -5,9 +5,9 @@ use Rattle.std.proofs.lemmas.Result.{on_err_weaker}
 use Rattle.http.specs.Request.{head_of}
 use Rattle.dav_path_core.specs.Segments.{segments}
 use Rattle.dav_session_core.specs.Callers.{Caller, live}
-use Rattle.dav_handler_core.specs.Servers.{server}
+use Rattle.dav_handler_core.specs.ServerViews.{server}
 use Rattle.dav_session_core.specs.Sessions.{Looks, caller, state}
-use Rattle.dav_session_core.specs.Unlocking.{FailsToUnlock, Unlocks}
+use Rattle.dav_methods_core.specs.UnlockMethod.{FailsToUnlock, Unlocks}
 use Rattle.dav_handler_core.proofs.AnswerLemmas.{change_answered, moves_ended}
 use Rattle.dav_handler_core.proofs.dav.Dav.serve_unlock.Goals as goal
 

@@ -1,8 +1,8 @@
 use Rattle.std.proofs.Common.{◌<◌, ◌^◌, length, Ok, Err, refl, ap, ◌∙◌, subst}
-use Rattle.dav_handler_core.specs.Answers.{Options}
+use Rattle.dav_handler_core.specs.Server.{Options}
 use Rattle.dav_fields_core.specs.Fields.{sent_of}
 use Rattle.dav_methods_core.specs.RefusalAnswers.{TellsWhy}
-use Rattle.dav_handler_core.specs.Servers.{server}
+use Rattle.dav_handler_core.specs.ServerViews.{server}
 use Rattle.dav_handler_core.proofs.AnswerLemmas.{refused_alike, moves_exclusive, moves_shape}
 use Rattle.dav_handler_core.proofs.dav.DavService.call.Goals as goal
 

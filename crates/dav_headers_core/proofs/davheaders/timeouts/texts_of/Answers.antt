@@ -1,7 +1,7 @@
 use Rattle.std.proofs.Common.{string_bytes}
 use Rattle.dav_headers_core.proofs.lists.EveryLemmas.{shown_more}
 use Rattle.std.proofs.lemmas.List.Elements.{All-more}
-use Rattle.dav_headers_core.specs.Timeouts.{timeout_text, IsWithin}
+use Rattle.dav_headers_core.specs.Timeouts.{timeout_text, IsTimeoutWithin}
 use Rattle.dav_headers_core.proofs.davheaders.timeouts.texts_of.Goals as goal
 
 pub loop-timeout-preserved : goal.loop-timeout-preserved
@@ -11,5 +11,5 @@ loop-timeout-preserved c =
     let within = c.text_of.ensures.within in
     record {
       texts = shown_more timeout_text string_bytes xs i _ c.loop-timeout.texts.items c.push.new.self.items c.in_ok-text_of.field-0 c.loop-timeout-test.true c.loop-timeout.invariant.texts c.in_ok-text_of.ensures.text c.in_ok-push.ensures.items;
-      within = All-more IsWithin xs i _ c.loop-timeout-test.true c.loop-timeout.invariant.within within;
+      within = All-more IsTimeoutWithin xs i _ c.loop-timeout-test.true c.loop-timeout.invariant.within within;
     }

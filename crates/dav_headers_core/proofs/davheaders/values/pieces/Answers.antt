@@ -3,7 +3,7 @@ use Rattle.std.specs.Char.{is_ascii_whitespace}
 use Rattle.std.proofs.lemmas.Iterator.{YieldsList-from_map_by}
 use Rattle.std.proofs.lemmas.Iterator.Consumers.{map_from_collect, YieldsList-at}
 use Rattle.std.proofs.lemmas.Iterator.Splits.{YieldsList-from_str_split}
-use Rattle.dav_headers_core.specs.Pieces.{trimmed_by}
+use Rattle.dav_headers_core.specs.CommaPieces.{trimmed_by}
 use Rattle.dav_headers_core.proofs.texts.PieceLemmas.{trimmed_pieces}
 use Rattle.dav_headers_core.proofs.davheaders.values.pieces.Goals as goal
 

@@ -1,6 +1,6 @@
 use Rattle.std.proofs.Common.{◌≡◌, ◌+◌, [], ◌∷◌, ◌++◌, sym, subst}
 use Rattle.dav_locks_core.specs.Locks.{lock_path, lock_conflicts}
-use Rattle.dav_locks_core.specs.Private.Places.{IsPlace}
+use Rattle.dav_locks_core.specs.Private.LockPlaces.{IsPlace}
 use Rattle.dav_locks_core.proofs.answers.LockListLemmas.{on_err}
 use Rattle.dav_locks_core.proofs.answers.PlacingLemmas.{KeptAs, kept_left, place_taken, place_given_up}
 use Rattle.dav_locks_core.proofs.ends.EndLemmas.{none_for_next}

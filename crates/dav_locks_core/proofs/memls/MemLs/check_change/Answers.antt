@@ -3,8 +3,8 @@ use Rattle.std.proofs.lemmas.Bool.{true≢false}
 use Rattle.std.proofs.lemmas.Result.{err_from_is_err_and}
 use Rattle.dav_path_core.specs.Segments.{segments}
 use Rattle.dav_path_core.proofs.trees.Trees.{none_from_is_some}
-use Rattle.dav_locks_core.specs.Calls.{caller, ShowsOnly}
-use Rattle.dav_locks_core.specs.Locks.{Caller, check_conflicts}
+use Rattle.dav_locks_core.specs.Calls.{lock_caller, ShowsOnly}
+use Rattle.dav_locks_core.specs.Locks.{LockCaller, check_conflicts}
 use Rattle.dav_locks_core.specs.Private.LockTree.{lock_list, lookup_lock}
 use Rattle.dav_locks_core.specs.Private.SubtreeWalks.{NoneBelow}
 use Rattle.dav_locks_core.specs.Private.WayTests.{is_covering_held, is_covering_unheld}
@@ -15,7 +15,7 @@ use Rattle.dav_locks_core.proofs.memls.MemLs.check_change.Goals as goal
 
 pub returns-in_err-check_locks_to_path_ref-clause-shown : goal.returns-in_err-check_locks_to_path_ref-clause-shown
 returns-in_err-check_locks_to_path_ref-clause-shown c =
-    let who : Caller = caller c.args.principal c.args.ignore_principal c.args.tokens.now in
+    let who : LockCaller = lock_caller c.args.principal c.args.ignore_principal c.args.tokens.now in
     let p = segments c.args.path.now in
     let t = c.self.inside.tree.keyed in
     let error = err_from_is_err_and c.from_residual.result c.from_residual.ensures.1 in
@@ -27,7 +27,7 @@ returns-in_err-check_locks_to_path_ref-clause-shown c =
 
 pub returns-in_err-check_locks_from_path_ref-clause-shown : goal.returns-in_err-check_locks_from_path_ref-clause-shown
 returns-in_err-check_locks_from_path_ref-clause-shown c =
-    let who : Caller = caller c.args.principal c.args.ignore_principal c.args.tokens.now in
+    let who : LockCaller = lock_caller c.args.principal c.args.ignore_principal c.args.tokens.now in
     let p = segments c.args.path.now in
     let t = c.self.inside.tree.keyed in
     let error = err_from_is_err_and c.from_residual-in_err-check_locks_from_path_ref.result c.from_residual-in_err-check_locks_from_path_ref.ensures.1 in
@@ -37,9 +37,9 @@ returns-in_err-check_locks_from_path_ref-clause-shown c =
     (subst (λ locks. ShowsOnly (check_conflicts locks p c.args.deep who) c.in_err-check_locks_from_path_ref.field-0.0) c.self.view_is shown))
 
 -- what a check that passes has found
-passes : (c : goal.Joined-deep) → check_conflicts c.args.self.now (segments c.args.path.now) c.args.deep (caller c.args.principal c.args.ignore_principal c.args.tokens.now) ≡ []
+passes : (c : goal.Joined-deep) → check_conflicts c.args.self.now (segments c.args.path.now) c.args.deep (lock_caller c.args.principal c.args.ignore_principal c.args.tokens.now) ≡ []
 passes c =
-    let who : Caller = caller c.args.principal c.args.ignore_principal c.args.tokens.now in
+    let who : LockCaller = lock_caller c.args.principal c.args.ignore_principal c.args.tokens.now in
     let p = segments c.args.path.now in
     let t = c.self.inside.tree.keyed in
     let covered : check_conflicts (lock_list t) p false who ≡ [] = elim c.if-is_none.branch [
@@ -58,8 +58,8 @@ returns-clause-passes c = passes c
 
 pub returns-clause-held : goal.returns-clause-held
 returns-clause-held c =
-    holds_exclusive c.args.self.now (segments c.args.path.now) c.args.deep (caller c.args.principal c.args.ignore_principal c.args.tokens.now) (passes c)
+    holds_exclusive c.args.self.now (segments c.args.path.now) c.args.deep (lock_caller c.args.principal c.args.ignore_principal c.args.tokens.now) (passes c)
 
 pub returns-clause-held_below : goal.returns-clause-held_below
 returns-clause-held_below c =
-    holds_below c.args.self.now (segments c.args.path.now) c.args.deep (caller c.args.principal c.args.ignore_principal c.args.tokens.now) (passes c)
+    holds_below c.args.self.now (segments c.args.path.now) c.args.deep (lock_caller c.args.principal c.args.ignore_principal c.args.tokens.now) (passes c)

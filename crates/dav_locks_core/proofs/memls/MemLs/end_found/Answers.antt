@@ -1,9 +1,9 @@
 use Rattle.std.proofs.Common.{◌≡◌, Some, None, get_or, ap, sym, refl, ◌∙◌, subst}
 use Rattle.std.specs.Prelude.{remove, option_map}
 use Rattle.dav_path_core.specs.Segments.{segments}
-use Rattle.dav_locks_core.specs.Locks.{found}
+use Rattle.dav_locks_core.specs.Locks.{found_token}
 use Rattle.dav_locks_core.specs.Private.LockTree.{locks_at, lock_list}
-use Rattle.dav_locks_core.specs.Private.Ends.{Notes}
+use Rattle.dav_locks_core.specs.Private.NotedEnds.{Notes}
 use Rattle.dav_locks_core.proofs.ends.EndLemmas.{ends-end}
 use Rattle.dav_locks_core.proofs.answers.LockListLemmas.{place_within, some_granted, Ends, IsKeptAs, seen-end, kept-end, none_found}
 use Rattle.dav_locks_core.proofs.memls.MemLs.end_found.Goals as goal
@@ -50,7 +50,7 @@ invariant_of-self c =
 pub returns-in-None-clause-none : goal.returns-in-None-clause-none
 returns-in-None-clause-none c =
     let none = none_found c.self.inside.tree.keyed c.self.inside.next (segments c.args.path.now.bytes) c.args.token.now c.self.invariant.kept.tree.list (sym c.in-None.ensures) in
-    (subst (λ locks. found locks (segments c.args.path.now.bytes) c.args.token.now ≡ None) c.self.view_is none, refl)
+    (subst (λ locks. found_token locks (segments c.args.path.now.bytes) c.args.token.now ≡ None) c.self.view_is none, refl)
 
 pub returns-in-Some-clause-done : goal.returns-in-Some-clause-done
 returns-in-Some-clause-done c =
@@ -58,7 +58,7 @@ returns-in-Some-clause-done c =
     let is_found = (ends c).is_found in
     let seen = (ended c).seen in (
       at,
-      subst (λ locks. found locks (segments c.args.path.now.bytes) c.args.token.now ≡ Some at) c.self.view_is is_found,
+      subst (λ locks. found_token locks (segments c.args.path.now.bytes) c.args.token.now ≡ Some at) c.self.view_is is_found,
       seen ∙ ap (λ locks. remove locks at) c.self.view_is,
     )
 

@@ -2,11 +2,11 @@ use Rattle.std.proofs.Common.{◌≡◌, Some, None, IsSome, IfErr, set, get_or,
 use Rattle.std.proofs.lemmas.Result.{err_from_is_err_and}
 use Rattle.dav_path_core.specs.Segments.{segments}
 use Rattle.dav_locks_core.specs.Calls.{RefusesRefresh}
-use Rattle.dav_locks_core.specs.Locks.{found, refreshed}
+use Rattle.dav_locks_core.specs.Locks.{found_token, refreshed_lock}
 use Rattle.dav_locks_core.specs.Private.LockTree.{locks_at, lock_list}
 use Rattle.dav_locks_core.proofs.answers.LockListLemmas.{place_within, some_granted, seen-refresh, kept-refresh, none_found, some_found}
 use Rattle.dav_path_core.specs.Keyed.{with_item}
-use Rattle.dav_locks_core.specs.Private.Ends.{node_of, IsKeyOf, Renotes}
+use Rattle.dav_locks_core.specs.Private.NotedEnds.{noted_node, IsKeyOf, Renotes}
 use Rattle.dav_locks_core.proofs.answers.LockListLemmas.{Refreshes, IsKeptAs}
 use Rattle.dav_locks_core.proofs.ends.EndLemmas.{was_alone, was_noted, ends-same, ends-refresh}
 use Rattle.dav_locks_core.proofs.trees.PruningLemmas.{SameLocks-refl}
@@ -16,7 +16,7 @@ use Rattle.dav_locks_core.proofs.memls.MemLs.refresh_found.Goals as goal
 pub returns-in-None-clause-refused : goal.returns-in-None-clause-refused
 returns-in-None-clause-refused c =
     let none = none_found c.self.inside.tree.keyed c.self.inside.next (segments c.args.path.now.bytes) c.args.token.now c.self.invariant.kept.tree.list (sym c.in-None.ensures) in
-    subst (λ locks. found locks (segments c.args.path.now.bytes) c.args.token.now ≡ None) c.self.view_is none
+    subst (λ locks. found_token locks (segments c.args.path.now.bytes) c.args.token.now ≡ None) c.self.view_is none
 
 pub refreshed_copy-requires : goal.refreshed_copy-requires
 refreshed_copy-requires c =
@@ -33,31 +33,31 @@ refresh_lock-requires c =
 pub returns-in_err-lock-in-Some-clause-refused : goal.returns-in_err-lock-in-Some-clause-refused
 returns-in_err-lock-in-Some-clause-refused c =
     let p = err_from_is_err_and c.from_residual.result c.from_residual.ensures.1 in
-    let place = found c.args.self.now (segments c.args.path.now.bytes) c.args.token.now in
+    let place = found_token c.args.self.now (segments c.args.path.now.bytes) c.args.token.now in
     let some = some_found c.self.inside.tree.keyed c.self.inside.next c.in-Some.node c.in-Some.place (segments c.args.path.now.bytes) c.args.token.now c.self.invariant.kept.tree.list (sym c.in-Some.ensures) in
     subst (λ r. IfErr r (λ e. RefusesRefresh place e)) (sym p.1)
     (subst (λ e. RefusesRefresh place e) (sym p.2)
-    (subst (λ locks. IsSome (found locks (segments c.args.path.now.bytes) c.args.token.now)) c.self.view_is some))
+    (subst (λ locks. IsSome (found_token locks (segments c.args.path.now.bytes) c.args.token.now)) c.self.view_is some))
 
 pub renote-requires-clause-stands : goal.renote-requires-clause-stands
 renote-requires-clause-stands c =
-    ap (node_of c.self.inside.ends None) (c.end_at-number.ensures.number some_granted)
+    ap (noted_node c.self.inside.ends None) (c.end_at-number.ensures.number some_granted)
     ∙ was_alone c.self.inside.tree.keyed c.self.inside.next c.self.invariant.kept.tree c.self.inside.ends c.self.invariant.kept.are_ends c.self.inside.tree.keyed c.self.inside.ends c.in-Some.node c.in-Some.place some_granted (place_within c.self.inside.tree.keyed c.self.inside.next c.in-Some.node c.in-Some.place (segments c.args.path.now.bytes) c.args.token.now c.self.invariant.kept.tree.list (sym c.in-Some.ensures))
 
 pub renote-requires-clause-only : goal.renote-requires-clause-only
 renote-requires-clause-only c = λ k n h.
     subst (λ end. IsKeyOf end k) (sym (c.end_at-number.ensures.end some_granted))
     (was_noted c.self.inside.tree.keyed c.self.inside.next c.self.invariant.kept.tree c.self.inside.ends c.self.invariant.kept.are_ends c.self.inside.tree.keyed c.self.inside.ends c.in-Some.node c.in-Some.place some_granted (place_within c.self.inside.tree.keyed c.self.inside.next c.in-Some.node c.in-Some.place (segments c.args.path.now.bytes) c.args.token.now c.self.invariant.kept.tree.list (sym c.in-Some.ensures)) k n
-    (ap (node_of c.self.inside.ends k) (sym (c.end_at-number.ensures.number some_granted)) ∙ h))
+    (ap (noted_node c.self.inside.ends k) (sym (c.end_at-number.ensures.number some_granted)) ∙ h))
 
 pub returns-in_err-renote-in-Some-clause-refused : goal.returns-in_err-renote-in-Some-clause-refused
 returns-in_err-renote-in-Some-clause-refused c =
     let p = err_from_is_err_and c.from_residual-in_err-renote-in-Some.result c.from_residual-in_err-renote-in-Some.ensures.1 in
-    let place = found c.args.self.now (segments c.args.path.now.bytes) c.args.token.now in
+    let place = found_token c.args.self.now (segments c.args.path.now.bytes) c.args.token.now in
     let some = some_found c.self.inside.tree.keyed c.self.inside.next c.in-Some.node c.in-Some.place (segments c.args.path.now.bytes) c.args.token.now c.self.invariant.kept.tree.list (sym c.in-Some.ensures) in
     subst (λ r. IfErr r (λ e. RefusesRefresh place e)) (sym p.1)
     (subst (λ e. RefusesRefresh place e) (sym p.2)
-    (subst (λ locks. IsSome (found locks (segments c.args.path.now.bytes) c.args.token.now)) c.self.view_is some))
+    (subst (λ locks. IsSome (found_token locks (segments c.args.path.now.bytes) c.args.token.now)) c.self.view_is some))
 
 pub invariant_of-self : goal.invariant_of-self
 invariant_of-self c = record {
@@ -98,8 +98,8 @@ pub returns-in_ok-renote-in-Some-clause-done : goal.returns-in_ok-renote-in-Some
 returns-in_ok-renote-in-Some-clause-done c =
     let r = refreshes c in (
       r.at,
-      subst (λ locks. found locks (segments c.args.path.now.bytes) c.args.token.now ≡ Some r.at) c.self.view_is r.is_found,
-      r.is ∙ ap (λ locks. refreshed c.args.now.0 c.args.timeout (get_or locks r.at c.in_ok-lock-in-Some.lock)) c.self.view_is,
+      subst (λ locks. found_token locks (segments c.args.path.now.bytes) c.args.token.now ≡ Some r.at) c.self.view_is r.is_found,
+      r.is ∙ ap (λ locks. refreshed_lock c.args.now.0 c.args.timeout (get_or locks r.at c.in_ok-lock-in-Some.lock)) c.self.view_is,
       r.after.seen ∙ ap (λ locks. set locks r.at c.in_ok-lock-in-Some.lock) c.self.view_is,
     )
 

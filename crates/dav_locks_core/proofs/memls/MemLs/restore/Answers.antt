@@ -2,7 +2,7 @@ use Rattle.std.proofs.Common.{◌≡◌, ◌+◌, [], ◌∷◌, ◌++◌, IfErr
 use Rattle.std.proofs.lemmas.Result.{err_from_is_err_and}
 use Rattle.dav_locks_core.specs.Calls.{Shows}
 use Rattle.dav_locks_core.specs.Locks.{lock_path, lock_conflicts}
-use Rattle.dav_locks_core.specs.Private.Places.{IsPlace}
+use Rattle.dav_locks_core.specs.Private.LockPlaces.{IsPlace}
 use Rattle.dav_locks_core.proofs.answers.LockListLemmas.{on_err}
 use Rattle.dav_locks_core.proofs.answers.PlacingLemmas.{KeptAs, kept_left, place_taken, place_given_up}
 use Rattle.dav_locks_core.proofs.ends.EndLemmas.{none_for_next}

@@ -1,5 +1,5 @@
 use Rattle.std.proofs.Common.{◌≡◌, None, length, ap, subst, arith}
-use Rattle.dav_locks_core.specs.Private.Ends.{Notes, ForgetsFirst}
+use Rattle.dav_locks_core.specs.Private.NotedEnds.{Notes, ForgetsFirst}
 use Rattle.dav_locks_core.proofs.ends.ForgettingLemmas.{forgets_none, forgets_more}
 use Rattle.dav_locks_core.proofs.memls.ends.forget_all.Goals as goal
 

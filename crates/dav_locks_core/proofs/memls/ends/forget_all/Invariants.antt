@@ -1,4 +1,4 @@
-use Rattle.dav_locks_core.specs.Private.Ends.{ForgetsFirst}
+use Rattle.dav_locks_core.specs.Private.NotedEnds.{ForgetsFirst}
 use Rattle.dav_locks_core.proofs.memls.ends.forget_all.Given as goal
 
 abbrev pub invariant-loop-number : goal.invariant-loop-number

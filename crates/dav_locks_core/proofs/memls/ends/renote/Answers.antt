@@ -1,6 +1,6 @@
 use Rattle.std.proofs.Common.{◌≡◌, true, false, rules}
 use Rattle.std.specs.Prelude.{option_map}
-use Rattle.dav_locks_core.specs.Private.Ends.{same_end}
+use Rattle.dav_locks_core.specs.Private.NotedEnds.{same_end}
 use Rattle.dav_locks_core.proofs.ends.EndLemmas.{Renotes-same, Renotes-other}
 use Rattle.dav_locks_core.proofs.memls.ends.renote.Goals as goal
 

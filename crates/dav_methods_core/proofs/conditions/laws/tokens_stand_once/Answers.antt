@@ -1,4 +1,4 @@
-use Rattle.dav_methods_core.proofs.IfTokenLaws.{once}
+use Rattle.dav_fields_core.proofs.DistinctTokens.{once}
 use Rattle.dav_methods_core.proofs.conditions.laws.tokens_stand_once.Goals as goal
 
 pub returns : goal.returns

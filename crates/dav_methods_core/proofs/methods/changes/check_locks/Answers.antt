@@ -4,7 +4,7 @@ use Rattle.dav_path_core.specs.Segments.{segments}
 use Rattle.dav_session_core.specs.Callers.{live, refusing_at}
 use Rattle.dav_session_core.specs.LocksInTheWay.{IsRefusedBy}
 use Rattle.dav_session_core.specs.Sessions as spec
-use Rattle.dav_session_core.proofs.PutLemmas.{above_fails, first_refused}
+use Rattle.dav_methods_core.proofs.PutMethodLemmas.{above_fails, first_refused}
 use Rattle.dav_methods_core.proofs.methods.changes.check_locks.Goals as goal
 
 pub returns-in_err-check-clause-err : goal.returns-in_err-check-clause-err

@@ -8,7 +8,7 @@ use Rattle.dav_resource_core.specs.Step.{State}
 use Rattle.dav_session_core.specs.Callers.{Caller, as_caller, live}
 use Rattle.dav_session_core.specs.Clearing.{refusing_clearing}
 use Rattle.dav_session_core.specs.LocksInTheWay.{IsRefusedBy}
-use Rattle.dav_session_core.specs.Placing.{target_by}
+use Rattle.dav_methods_core.specs.Placing.{target_by}
 use Rattle.dav_session_core.specs.Sessions as spec
 use Rattle.dav_session_core.proofs.Looking.{looks_on}
 use Rattle.dav_methods_core.proofs.Acting.{held_before}
@@ -58,7 +58,3 @@ returns-clause-err g c =
     let both = subst (λ ls. IfErr c.check_each.result (λ e. IsRefusedBy ls e)) (sym (refusing_append (live who.now s).locks (as_caller who) there copies))
     (fails_behind (of_checks there (live who.now s) who) (of_checks copies (live who.now s) who) c.check_each.result here) in
     fails_behind clearing (of_checks (there ++ copies) (live who.now s) who) c.check_each.result both
-
-pub returns-clause-looks : goal.returns-clause-looks
-returns-clause-looks g c =
-    looks_on (looks_on c.check_clearing.ensures.looks c.check_locks.ensures.looks) c.check_each.ensures.looks

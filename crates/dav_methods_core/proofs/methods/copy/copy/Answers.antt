@@ -6,13 +6,11 @@ use Rattle.dav_path_core.specs.Segments.{segments}
 use Rattle.dav_files_core.specs.Meta.{meta_at, meta_of}
 use Rattle.dav_files_core.specs.Resources.{Resource, at_path}
 use Rattle.dav_session_core.specs.Callers.{live}
-use Rattle.dav_session_core.specs.TransferEnds.{IsPlanned}
+use Rattle.dav_methods_core.specs.CopyMethod.{IsPlanned}
 use Rattle.dav_session_core.specs.Sessions as spec
 use Rattle.dav_session_core.specs.declared.session.copying.Transfer.{Transfer}
 use Rattle.dav_methods_core.proofs.CopyMethodLemmas.{copy_all, copy_begun, copy_left, copy_lost, copy_short}
 use Rattle.dav_session_core.proofs.PutLemmas.{known_there}
-use Rattle.dav_session_core.proofs.Looking.{acts_on}
-use Rattle.dav_methods_core.proofs.Acting.{looks_act}
 use Rattle.dav_methods_core.proofs.methods.copy.copy.Goals as goal
 
 abbrev ends : Transfer → Path × Path
@@ -89,11 +87,3 @@ returns-clause-done g c =
     let there = known_there meta_of (λ (r : Resource). meta_at r.node) c.in_ok-known.field-0.known (at_path start.map (segments plan.to.bytes)) plan.known_is in
     copy_all c.args.scheme c.args.prefix.now c.args.headers.now who start from known gone pairs plan asker b m c.planned.ensures.looks.who c.planned.ensures.looks.live c.clear.ensures.acts.run c.clear.ensures.cleared copier after by
     c.done.result (c.done.ensures ∙ ap (λ b. cond b 204 201) there) c.in_ok-copy_all.ensures.copied
-
-pub returns-in_err-copy_all-clause-acts : goal.returns-in_err-copy_all-clause-acts
-returns-in_err-copy_all-clause-acts g c =
-    acts_on (looks_act c.planned.ensures.looks) (acts_on c.clear.ensures.acts c.copy_all.ensures.acts)
-
-pub returns-clause-acts : goal.returns-clause-acts
-returns-clause-acts g c =
-    acts_on (looks_act c.planned.ensures.looks) (acts_on c.clear.ensures.acts c.copy_all.ensures.acts)

@@ -9,10 +9,11 @@ use Rattle.dav_resource_core.specs.Checks.{has, shallow}
 use Rattle.dav_resource_core.specs.Step.{State}
 use Rattle.dav_session_core.specs.declared.session.copying.Transfer.{Transfer}
 use Rattle.dav_session_core.specs.Callers.{live}
-use Rattle.dav_session_core.specs.Copying.{FailsToCopy}
+use Rattle.dav_methods_core.specs.CopyMethod.{FailsToCopy}
 use Rattle.dav_session_core.specs.LocksInTheWay.{IsRefusedBy}
-use Rattle.dav_session_core.specs.Placing.{target_by}
-use Rattle.dav_session_core.specs.TransferEnds.{ArePlaces, IsPlanned, LacksPlaces, copies_of}
+use Rattle.dav_methods_core.specs.Placing.{target_by}
+use Rattle.dav_methods_core.specs.TransferEnds.{ArePlaces, LacksPlaces, copies_of}
+use Rattle.dav_methods_core.specs.CopyMethod.{IsPlanned}
 use Rattle.dav_session_core.specs.Sessions as spec
 use Rattle.dav_methods_core.proofs.CopyMethodLemmas.{asked_are, asked_of, checks_are, copy_halted, copy_locked, copy_lost, copy_planned, copy_unfit, copy_unwalked}
 use Rattle.dav_session_core.proofs.Looking.{looks_on, same_asked}
@@ -125,11 +126,3 @@ returns-clause-err g c =
     subst (FailsToCopy c.args.scheme c.args.prefix.now c.args.headers.now (live who.now start) who from) (sym c.by_place.ensures)
     (copy_locked c.args.scheme c.args.prefix.now c.args.headers.now who start from deep c.in_ok-deep.ensures.ok c.in_ok-target.field-0.target (option_map meta_of known) gone are places found e
     (subst (λ ls. IsRefusedBy ls e) asked all_here))
-
-pub returns-in-Ok-clause-looks : goal.returns-in-Ok-clause-looks
-returns-in-Ok-clause-looks g c =
-    looks_on (looks_on c.ends_of.ensures.looks c.places_of.ensures.looks) c.check_copy.ensures.looks
-
-pub returns-clause-looks : goal.returns-clause-looks
-returns-clause-looks g c =
-    looks_on (looks_on c.ends_of.ensures.looks c.places_of.ensures.looks) c.check_copy.ensures.looks

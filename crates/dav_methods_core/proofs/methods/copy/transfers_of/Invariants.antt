@@ -1,6 +1,6 @@
 use Rattle.std.proofs.Common.{◌≡◌, ◌++◌, drop, map}
 use Rattle.dav_path_core.specs.Segments.{segments}
-use Rattle.dav_session_core.specs.TransferEnds.{copies_of}
+use Rattle.dav_methods_core.specs.TransferEnds.{copies_of}
 use Rattle.dav_methods_core.proofs.methods.copy.transfers_of.Given as goal
 
 -- what is copied so far, and what comes of the places that are left

@@ -3,12 +3,12 @@ use Rattle.dav_path_core.specs.PathText.{PathText}
 use Rattle.dav_path_core.specs.Segments.{segments}
 use Rattle.dav_session_core.specs.Callers.{live}
 use Rattle.dav_session_core.specs.LocksInTheWay.{IsRefusedBy}
-use Rattle.dav_session_core.specs.Removing.{FailsToRemove, refusing_removal}
+use Rattle.dav_methods_core.specs.DeleteMethod.{FailsToRemove}
+use Rattle.dav_session_core.specs.Removing.{refusing_removal}
 use Rattle.dav_session_core.specs.Sessions as spec
-use Rattle.dav_session_core.specs.Subtrees.{IsWalk}
-use Rattle.dav_session_core.proofs.RemovalCheckLemmas.{no_root_there, removal_fails}
-use Rattle.dav_session_core.proofs.Looking.{acts_on, looks_on}
-use Rattle.dav_methods_core.proofs.Acting.{looks_act}
+use Rattle.dav_session_core.specs.Subtrees.{IsSubtreeWalk}
+use Rattle.dav_session_core.proofs.RemovalCheckLemmas.{no_root_there}
+use Rattle.dav_methods_core.proofs.DeleteLemmas.{removal_fails}
 use Rattle.dav_methods_core.proofs.methods.delete.delete.Goals as goal
 
 pub returns-in-Err-clause-err : goal.returns-in-Err-clause-err
@@ -22,10 +22,6 @@ returns-in-Err-clause-err g c =
     let e = c.in-Err.fault in
     subst (FailsToRemove c.args.headers.now (live who.now s) who p) (sym c.by_place.ensures) (removal_fails c.args.headers.now who asker s mid p (map (λ q. segments q.bytes) places) e
     c.in_ok-check_whole.ensures.ok (no_root_there p (sym c.is_root.ensures ∙ c.if-is_root.false))
-    (subst (λ (q : PathText). IsWalk s.map (segments q.bytes) (map (λ q. segments q.bytes) places)) c.in_ok-copy_of.ensures c.in_ok-places.ensures.ok)
+    (subst (λ (q : PathText). IsSubtreeWalk s.map (segments q.bytes) (map (λ q. segments q.bytes) places)) c.in_ok-copy_of.ensures c.in_ok-places.ensures.ok)
     c.walk.ensures.looks.who c.walk.ensures.looks.live
     (subst (λ xs. IsRefusedBy (refusing_removal (live asker.now mid) asker (map (λ q. segments q.bytes) xs)) e) c.deref.ensures.value c.in-Err.ensures.err))
-
-pub returns-clause-acts : goal.returns-clause-acts
-returns-clause-acts g c =
-    acts_on (looks_act (looks_on c.walk.ensures.looks c.check_removal.ensures.looks)) c.remove_all.ensures.acts

@@ -6,12 +6,12 @@ use Rattle.dav_files_core.specs.Meta.{meta_at, meta_of}
 use Rattle.dav_files_core.specs.Resources.{Resource, ResourceMap, at_path}
 use Rattle.dav_resource_core.specs.Step.{State}
 use Rattle.dav_session_core.specs.Ends.{HasFolder}
-use Rattle.dav_session_core.specs.TransferEnds.{known_at}
+use Rattle.dav_session_core.specs.Ends.{known_at}
 use Rattle.dav_session_core.specs.Sessions as spec
 use Rattle.dav_session_core.proofs.Looking.{looks_on}
 use Rattle.dav_methods_core.proofs.EndsLemmas.{may_stand}
 use Rattle.dav_session_core.proofs.PutLemmas.{known_there}
-use Rattle.dav_session_core.proofs.SubtreeLemmas.{stands_as}
+use Rattle.dav_files_core.proofs.paths.SubtreeMaps.{stands_as}
 use Rattle.dav_methods_core.proofs.methods.ends.check_fit.Goals.{else-is_some-via-then-is_some+else-not-replaces, else-is_some-via-else-is_some}
 use Rattle.dav_methods_core.proofs.methods.ends.check_fit.Goals as goal
 
@@ -35,11 +35,3 @@ returns-clause-ok g c =
       };
       known_is = found;
     }
-
-pub returns-in_err-check_above-clause-looks : goal.returns-in_err-check_above-clause-looks
-returns-in_err-check_above-clause-looks g c =
-    looks_on (looks_on c.meta.ensures.looks c.meta-known.ensures.looks) c.check_above.ensures.looks
-
-pub returns-clause-looks : goal.returns-clause-looks
-returns-clause-looks g c =
-    looks_on (looks_on c.meta.ensures.looks c.meta-known.ensures.looks) c.check_above.ensures.looks

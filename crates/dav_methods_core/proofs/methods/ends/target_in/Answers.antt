@@ -1,7 +1,7 @@
 use Rattle.std.proofs.Common.{◌∙◌, sym}
 use Rattle.std.proofs.lemmas.Result.{err_from_is_err_and}
 use Rattle.dav_path_core.specs.Segments.{segments}
-use Rattle.dav_session_core.specs.TransferEnds.{FailsToLead}
+use Rattle.dav_methods_core.specs.TransferEnds.{FailsToLead}
 use Rattle.dav_methods_core.proofs.EndsLemmas.{lead_unread}
 use Rattle.dav_methods_core.proofs.methods.ends.target_in.Goals as goal
 

@@ -7,7 +7,7 @@ use Rattle.dav_files_core.specs.Resources.{Resource, at_path}
 use Rattle.dav_resource_core.specs.Step.{State}
 use Rattle.dav_fields_core.specs.declared.ranges.Extent.TheVariants as extent
 use Rattle.dav_fields_core.specs.Fields.{marks_in, marks_of, sent_of}
-use Rattle.dav_session_core.proofs.GetLemmas.{fails, none_gotten, part_fails, part_gotten, told_is, unsatisfied_gotten, whole_gotten}
+use Rattle.dav_methods_core.proofs.GetMethodLemmas.{fails, none_gotten, part_fails, part_gotten, told_is, unsatisfied_gotten, whole_gotten}
 use Rattle.dav_methods_core.proofs.methods.get.get.Goals as goal
 
 pub returns-in_err-told-clause-err : goal.returns-in_err-told-clause-err

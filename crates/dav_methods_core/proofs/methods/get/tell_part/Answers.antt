@@ -1,7 +1,7 @@
 use Rattle.std.proofs.Common.{subst}
 use Rattle.dav_path_core.specs.Segments.{segments}
 use Rattle.dav_fields_core.specs.Marking.{IsRead}
-use Rattle.dav_session_core.proofs.GetLemmas.{on_ok}
+use Rattle.dav_fields_core.proofs.ReadMarks.{on_ok}
 use Rattle.dav_methods_core.proofs.methods.get.tell_part.Goals as goal
 
 pub returns-clause-bytes : goal.returns-clause-bytes

@@ -4,7 +4,7 @@ use Rattle.dav_path_core.specs.Segments.{segments}
 use Rattle.dav_locks_core.specs.Lock.{Lock}
 use Rattle.dav_locks_core.specs.Locks.{lock_conflicts}
 use Rattle.dav_session_core.specs.Callers.{live}
-use Rattle.dav_fields_core.specs.Fields.{sent_of, bracketed}
+use Rattle.dav_fields_core.specs.Fields.{sent_of, in_brackets}
 use Rattle.dav_methods_core.specs.Rooms.{wanted_of}
 use Rattle.dav_session_core.specs.Sessions as spec
 use Rattle.dav_methods_core.proofs.LockLemmas.{granted_now, no_conflict_told, short_of, untold_left}
@@ -15,7 +15,7 @@ use Rattle.dav_methods_core.proofs.methods.lock.grant.Goals as goal
 pub finish-requires-clause-value : goal.finish-requires-clause-value
 finish-requires-clause-value g c =
     let named = c.deref.ensures ∙ ap (λ (l : Lock). l.token) c.lock.view_is ∙ ap (λ (l : Lock). l.token) c.in_ok-lock.ensures.ok in
-    subst (λ token. IsFieldValue (bracketed token)) (sym named) (is_held (live (spec.caller c.args.session.now).now (spec.state g.R.Rng.stream c.args.session.now)).rng)
+    subst (λ token. IsFieldValue (in_brackets token)) (sym named) (is_held (live (spec.caller c.args.session.now).now (spec.state g.R.Rng.stream c.args.session.now)).rng)
 
 pub returns-in-Ok-clause-done : goal.returns-in-Ok-clause-done
 returns-in-Ok-clause-done g c = (

@@ -2,8 +2,8 @@ use Rattle.std.proofs.Common.{◌<◌, ◌-◌, ◌^◌, List, inl, map, refl, s
 use Rattle.std.proofs.lemmas.Result.{err_from_is_err_and}
 use Rattle.dav_session_core.specs.Callers.{live}
 use Rattle.dav_fields_core.specs.Fields.{sent_of}
-use Rattle.dav_methods_core.specs.Rooms.{IsReady, wanted_of}
-use Rattle.dav_fields_core.specs.Refusals.{IsLastMoment}
+use Rattle.dav_methods_core.specs.Rooms.{IsReadyToLock, wanted_of}
+use Rattle.dav_fields_core.specs.RequestRefusals.{IsLastMoment}
 use Rattle.dav_session_core.specs.Sessions as spec
 use Rattle.dav_session_core.proofs.CallerLaws.{by_none}
 use Rattle.dav_session_core.proofs.Looking.{looks_on}
@@ -65,7 +65,7 @@ returns-in_err-above-clause-left g c =
 pub grant-requires-clause-ready : goal.grant-requires-clause-ready
 grant-requires-clause-ready g c =
     let looks = looks_on c.find_room.ensures.looks c.tokens_above.ensures.looks in
-    subst (λ (above : List _). IsReady (live (spec.caller c.tokens_above.new.self).now (spec.state g.R.Rng.stream c.tokens_above.new.self)) (spec.caller c.tokens_above.new.self) c.args.path
+    subst (λ (above : List _). IsReadyToLock (live (spec.caller c.tokens_above.new.self).now (spec.state g.R.Rng.stream c.tokens_above.new.self)) (spec.caller c.tokens_above.new.self) c.args.path
     (wanted_of c.in_ok-wanted.wanted) c.in_ok-missing.missing (map string_bytes above)) (sym c.deref.ensures.value)
     (ready c.args.longest c.args.headers.now c.args.body.now c.args.path (wanted_of c.in_ok-wanted.wanted) c.in_ok-wanted.ensures.ok c.in_ok-missing.missing g.R.Rng.stream
     c.args.session.now c.in_ok-missing.ensures.ok (map string_bytes c.in_ok-above.above.items) c.find_room.ensures.looks looks (subst (λ n. n < 2 ^ 64 - 1) c.now.ensures c.in_ok-check_moment.ensures.ok) c.in_ok-above.ensures.ok c.in_ok-above.ensures.only)

@@ -6,12 +6,11 @@ use Rattle.dav_files_core.specs.Meta.{meta_at, meta_of}
 use Rattle.dav_files_core.specs.Resources.{Resource, at_path}
 use Rattle.dav_session_core.specs.Callers.{live}
 use Rattle.dav_session_core.specs.LocksInTheWay.{IsRefusedBy, by_place}
-use Rattle.dav_session_core.specs.Moving.{FailsToMove, refusing_move}
+use Rattle.dav_methods_core.specs.MoveMethod.{FailsToMove}
+use Rattle.dav_session_core.specs.Moving.{refusing_move}
 use Rattle.dav_session_core.specs.Sessions as spec
 use Rattle.dav_methods_core.proofs.MoveCheckLemmas.{move_all, move_begun, move_halted, move_locked, move_lost, move_ready, move_short, move_unfit}
 use Rattle.dav_session_core.proofs.PutLemmas.{known_there}
-use Rattle.dav_session_core.proofs.Looking.{acts_on, looks_on}
-use Rattle.dav_methods_core.proofs.Acting.{looks_act}
 use Rattle.dav_methods_core.proofs.methods.moving.relocate.Goals as goal
 
 pub returns-in_err-check_whole-clause-err : goal.returns-in_err-check_whole-clause-err
@@ -110,11 +109,3 @@ returns-clause-done g c =
     c.check_move.ensures.looks.who c.check_move.ensures.looks.live free c.in-Ok.ensures.shape c.clear.ensures.acts.run c.clear.ensures.cleared)
     (spec.caller c.clear.new.self) (spec.state g.R.Rng.stream c.relocate.new.self) (c.clear.ensures.acts.who ∙ c.check_move.ensures.looks.who ∙ c.ends_of.ensures.looks.who)
     c.done.result c.in_ok-check_whole.ensures.ok (c.done.ensures ∙ ap (λ b. cond b 204 201) there) c.in_ok-relocate.ensures.moved
-
-pub returns-in_err-relocate-clause-acts : goal.returns-in_err-relocate-clause-acts
-returns-in_err-relocate-clause-acts g c =
-    acts_on (looks_act (looks_on c.ends_of.ensures.looks c.check_move.ensures.looks)) (acts_on c.clear.ensures.acts c.relocate.ensures.acts)
-
-pub returns-clause-acts : goal.returns-clause-acts
-returns-clause-acts g c =
-    acts_on (looks_act (looks_on c.ends_of.ensures.looks c.check_move.ensures.looks)) (acts_on c.clear.ensures.acts c.relocate.ensures.acts)

@@ -6,7 +6,7 @@ use Rattle.dav_resource_core.specs.Step.{State}
 use Rattle.dav_session_core.specs.Callers.{Caller, live}
 use Rattle.dav_fields_core.specs.Fields.{values_in}
 use Rattle.dav_documents_core.specs.RefusalBodies.{xml_type}
-use Rattle.dav_methods_core.specs.Finding.{DescribesEach}
+use Rattle.dav_methods_core.specs.PropfindMethod.{DescribesEach}
 use Rattle.dav_documents_core.specs.Pieces.{written_pieces}
 use Rattle.dav_documents_core.specs.QuestionViews.{question_of}
 use Rattle.dav_session_core.specs.Placed.{AllStand}

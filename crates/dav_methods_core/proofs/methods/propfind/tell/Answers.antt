@@ -1,7 +1,7 @@
 use Rattle.std.proofs.Common.{[], codes, ap, sym, ◌∙◌}
 use Rattle.std.specs.Prelude.{flat_map}
-use Rattle.dav_xml_core.specs.Writing.{Writing, in_document, unwritten, with_end, with_start}
-use Rattle.dav_documents_core.specs.Pieces.{with_pieces, written_pieces}
+use Rattle.dav_xml_core.specs.Writing.{Writing, in_document, new_writing, with_end, with_start}
+use Rattle.dav_documents_core.specs.Pieces.{and_pieces, written_pieces}
 use Rattle.dav_documents_core.specs.QuestionViews.{question_of}
 use Rattle.dav_documents_core.specs.PropertyDocuments.{response_pieces}
 use Rattle.dav_documents_core.specs.RefusalBodies.{dav_name}
@@ -17,6 +17,6 @@ returns-clause-ok g c =
     let begun = c.in_ok-begin.ensures ∙ ap (λ (w : Writing). with_start w (dav_name (codes "multistatus")) []) c.new-writer.ensures in (
       told.resources,
       told.described,
-      c.into_bytes.ensures ∙ ap (λ (w : Writing). w.bytes) (c.in_ok-end.ensures ∙ ap with_end (told.written ∙ ap (λ (w : Writing). with_pieces w inside) begun)
-          ∙ sym (in_element (unwritten in_document) (codes "multistatus") inside)),
+      c.into_bytes.ensures ∙ ap (λ (w : Writing). w.bytes) (c.in_ok-end.ensures ∙ ap with_end (told.written ∙ ap (λ (w : Writing). and_pieces w inside) begun)
+          ∙ sym (in_element (new_writing in_document) (codes "multistatus") inside)),
     )

@@ -3,8 +3,7 @@ use Rattle.std.proofs.lemmas.Result.{err_from_is_err_and}
 use Rattle.dav_path_core.specs.Segments.{segments}
 use Rattle.dav_files_core.specs.Resources.{at_path}
 use Rattle.dav_xml_core.specs.Views.{writing_of}
-use Rattle.dav_session_core.specs.Callers.{Caller}
-use Rattle.dav_documents_core.specs.Pieces.{with_pieces}
+use Rattle.dav_documents_core.specs.Pieces.{and_pieces}
 use Rattle.dav_documents_core.specs.QuestionViews.{question_of}
 use Rattle.dav_documents_core.specs.DescriptionViews.{description_of}
 use Rattle.dav_documents_core.specs.PropertyDocuments.{response_pieces}
@@ -21,10 +20,9 @@ returns-in_err-description-clause-err g c =
 pub returns-clause-ok : goal.returns-clause-ok
 returns-clause-ok g c =
     let d = description_of c.in_ok-description.description in
-    let named = c.principal.ensures ∙ ap (λ (who : Caller). who.principal) c.describe.ensures.looks.who in
     record {
       resource = d;
       described = c.in_ok-description.ensures.ok;
       written = c.in_ok-write_response.ensures
-          ∙ ap (λ (who : Option (List ℕ)). with_pieces (writing_of c.args.writer.now) (response_pieces c.args.prefix.now who (question_of c.args.question.now) d)) named;
+          ∙ ap (λ (who : Option (List ℕ)). and_pieces (writing_of c.args.writer.now) (response_pieces c.args.prefix.now who (question_of c.args.question.now) d)) c.principal.ensures;
     }

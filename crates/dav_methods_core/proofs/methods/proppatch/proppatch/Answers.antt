@@ -1,12 +1,12 @@
 use Rattle.std.proofs.Common.{◌≡◌, ◌∙◌, ◌++◌, ◌∷◌, [], codes, List, ℕ, true, refl, sym, ap, subst, map}
 use Rattle.dav_path_core.specs.Segments.{segments}
-use Rattle.dav_files_core.specs.Properties.{entry_of}
-use Rattle.dav_xml_core.specs.Writing.{written}
+use Rattle.dav_files_core.specs.Properties.{patch_update}
+use Rattle.dav_xml_core.specs.Writing.{document_bytes}
 use Rattle.dav_session_core.specs.Callers.{live}
 use Rattle.dav_fields_core.specs.Fields.{values_in}
 use Rattle.dav_documents_core.specs.RefusalBodies.{xml_type}
 use Rattle.dav_documents_core.specs.PatchBodies.{any_protected, patch_nodes}
-use Rattle.dav_session_core.specs.Patching.{Changes}
+use Rattle.dav_methods_core.specs.ProppatchMethod.{Changes}
 use Rattle.dav_session_core.specs.Sessions as spec
 use Rattle.dav_session_core.proofs.Asking.{live_once}
 use Rattle.dav_methods_core.proofs.methods.proppatch.proppatch.Goals as goal
@@ -17,8 +17,8 @@ returns-then-any_protected-clause-done g c =
     let s = spec.state g.R.Rng.stream c.args.session.now in
     let after = spec.state g.R.Rng.stream c.check_standing.new.session in
     let p = segments c.args.path.bytes in
-    let updates = map entry_of c.in_ok-updates.updates.items in
-    let some : any_protected updates ≡ true = ap (λ us. any_protected (map entry_of us)) (sym c.deref-2.ensures.value) ∙ sym c.any_protected.ensures ∙ c.if-any_protected.true in
+    let updates = map patch_update c.in_ok-updates.updates.items in
+    let some : any_protected updates ≡ true = ap (λ us. any_protected (map patch_update us)) (sym c.deref-2.ensures.value) ∙ sym c.any_protected.ensures ∙ c.if-any_protected.true in
     let same : Changes true who.now p updates (live who.now s) after = c.check_standing.ensures.looks.live ∙ sym (live_once who.now s) in
     record {
       status_is = refl;
@@ -28,7 +28,7 @@ returns-then-any_protected-clause-done g c =
       free = c.in_ok-check_standing.ensures.ok.1;
       changes = subst (λ b. Changes b who.now p updates (live who.now s) after) (sym some) same;
       tells = c.in_ok-say_document.ensures.body ∙ ap (λ (front : List ℕ). front ++ c.in_ok-patch_document.field-0.items) c.requires.body
-          ∙ c.in_ok-patch_document.ensures ∙ ap (λ us. written (patch_nodes c.args.prefix.now c.args.path (map entry_of us))) c.deref.ensures.value;
+          ∙ c.in_ok-patch_document.ensures ∙ ap (λ us. document_bytes (patch_nodes c.args.prefix.now c.args.path (map patch_update us))) c.deref.ensures.value;
       typed = ap (λ fields. values_in fields (codes "content-type"))
           (c.in_ok-say_document.ensures.fields ∙ ap (λ front. front ++ (codes "content-type", xml_type) ∷ []) c.requires.headers);
     }

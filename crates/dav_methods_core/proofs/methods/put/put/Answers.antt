@@ -1,4 +1,4 @@
-use Rattle.std.proofs.Common.{Ok, Err, ◌≡◌, ◌∙◌, sym, ap, subst, is_some, if◌then◌else◌, refl}
+use Rattle.std.proofs.Common.{Ok, Err, ◌≡◌, ◌∙◌, sym, ap, subst, is_some, if◌then◌else◌}
 use Rattle.std.specs.Prelude.{option_map}
 use Rattle.std.proofs.lemmas.Result.{err_from_is_err_and}
 use Rattle.dav_path_core.specs.Segments.{segments}
@@ -7,13 +7,13 @@ use Rattle.dav_files_core.specs.Resources.{Resource, at_path}
 use Rattle.dav_resource_core.specs.Requests.{Command}
 use Rattle.dav_resource_core.specs.Served.{reply_of, refusal_of}
 use Rattle.dav_resource_core.specs.Step.{State}
-use Rattle.dav_session_core.specs.Putting.{FailsToPut}
-use Rattle.dav_session_core.specs.Placing.{HasPlace}
+use Rattle.dav_methods_core.specs.PutMethod.{FailsToPut}
+use Rattle.dav_methods_core.specs.Placing.{HasPlace}
 use Rattle.dav_session_core.specs.StoreRefusals.{put_fault}
 use Rattle.dav_session_core.specs.Sessions as spec
-use Rattle.dav_session_core.proofs.Looking.{looks_on, acts_on}
-use Rattle.dav_session_core.proofs.PutLemmas.{after_look, course_there, free_way, known_at, known_there, lacks_place_at, locked, put_done, put_refused, withheld}
-use Rattle.dav_methods_core.proofs.Acting.{looks_act}
+use Rattle.dav_session_core.proofs.Looking.{looks_on}
+use Rattle.dav_session_core.proofs.PutLemmas.{after_look, known_at, known_there}
+use Rattle.dav_methods_core.proofs.PutMethodLemmas.{course_there, free_way, lacks_place_at, locked, put_done, put_refused, withheld}
 use Rattle.dav_methods_core.proofs.methods.put.put.Goals as goal
 
 pub returns-in_err-check_locks-clause-err : goal.returns-in_err-check_locks-clause-err
@@ -75,8 +75,8 @@ returns-in-Ok-clause-done g c =
     let at : is_some c.meta-known.result ≡ is_some (at_path s.map (segments c.args.path.bytes)) =
     known_there meta_of (λ (r : Resource). meta_at r.node) c.meta-known.result (at_path s.map (segments c.args.path.bytes)) found in (
       c.done.ensures ∙ ap (λ b. if b then 204 else 201) at,
-      put_done who s (spec.state g.R.Rng.stream c.ask.new.self) (segments c.args.path.bytes) c.args.bytes (reply_of c.in-Ok.field-0)
-          (after_look who (spec.caller c.check_place.new.session) s (spec.state g.R.Rng.stream c.check_place.new.session) (spec.state g.R.Rng.stream c.ask.new.self)
+      put_done who s (spec.state g.R.Rng.stream c.change.new.self) (segments c.args.path.bytes) c.args.bytes (reply_of c.in-Ok.field-0)
+          (after_look who (spec.caller c.check_place.new.session) s (spec.state g.R.Rng.stream c.check_place.new.session) (spec.state g.R.Rng.stream c.change.new.self)
           (Command.Put (segments c.args.path.bytes) c.args.bytes) (Ok (reply_of c.in-Ok.field-0))
           placed.who placed.live c.in-Ok.ensures.step),
     )
@@ -102,27 +102,7 @@ returns-clause-err g c =
     let at : is_some c.meta-known.result ≡ is_some (at_path s.map (segments c.args.path.bytes)) =
     known_there meta_of (λ (r : Resource). meta_at r.node) c.meta-known.result (at_path s.map (segments c.args.path.bytes)) found in
     subst (FailsToPut s who (segments c.args.path.bytes) c.args.bytes c.args.headers.now) (sym (c.refused.ensures ∙ ap (λ b. put_fault b e) at))
-    (put_refused who s (spec.state g.R.Rng.stream c.ask.new.self) (segments c.args.path.bytes) c.args.bytes c.args.headers.now e
-    (after_look who (spec.caller c.check_place.new.session) s (spec.state g.R.Rng.stream c.check_place.new.session) (spec.state g.R.Rng.stream c.ask.new.self)
+    (put_refused who s (spec.state g.R.Rng.stream c.change.new.self) (segments c.args.path.bytes) c.args.bytes c.args.headers.now e
+    (after_look who (spec.caller c.check_place.new.session) s (spec.state g.R.Rng.stream c.check_place.new.session) (spec.state g.R.Rng.stream c.change.new.self)
     (Command.Put (segments c.args.path.bytes) c.args.bytes) (Err e)
     placed.who placed.live c.in-Err.ensures.step))
-
-pub returns-in_err-check_place-clause-acts : goal.returns-in_err-check_place-clause-acts
-returns-in_err-check_place-clause-acts g c =
-    looks_act (looks_on (looks_on c.meta-known.ensures.looks c.check_locks.ensures.looks) c.check_place.ensures.looks)
-
-pub returns-in_err-check_conditions-clause-acts : goal.returns-in_err-check_conditions-clause-acts
-returns-in_err-check_conditions-clause-acts g c =
-    looks_act (looks_on (looks_on c.meta-known.ensures.looks c.check_locks.ensures.looks) c.check_place.ensures.looks)
-
-pub returns-in_err-say_tag-clause-acts : goal.returns-in_err-say_tag-clause-acts
-returns-in_err-say_tag-clause-acts g c =
-    looks_act (looks_on (looks_on c.meta-known.ensures.looks c.check_locks.ensures.looks) c.check_place.ensures.looks)
-
-pub returns-in-Ok-clause-acts : goal.returns-in-Ok-clause-acts
-returns-in-Ok-clause-acts g c =
-    acts_on (looks_act (looks_on (looks_on c.meta-known.ensures.looks c.check_locks.ensures.looks) c.check_place.ensures.looks)) (c.ask.ensures.acts refl)
-
-pub returns-clause-acts : goal.returns-clause-acts
-returns-clause-acts g c =
-    acts_on (looks_act (looks_on (looks_on c.meta-known.ensures.looks c.check_locks.ensures.looks) c.check_place.ensures.looks)) (c.ask.ensures.acts refl)

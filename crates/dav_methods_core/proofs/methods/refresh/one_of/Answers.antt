@@ -1,7 +1,7 @@
 use Rattle.std.proofs.Common.{[], ◌∷◌, ◌∙◌, ap, string_bytes, Global, String, sym, rules, tests}
 use Rattle.std.proofs.lemmas.Iterator.{YieldsList-from_slice}
 use Rattle.std.proofs.lemmas.Iterator.Consumers.{YieldsList-at, YieldsList-from_filter}
-use Rattle.dav_session_core.specs.OneToken.{is_token_of_one}
+use Rattle.dav_methods_core.specs.RefreshMethod.{is_token_of_one}
 use Rattle.dav_session_core.proofs.RefreshLemmas.{gives_none, gives_one, gives_two}
 use Rattle.dav_methods_core.proofs.methods.refresh.one_of.Goals as goal
 

@@ -8,7 +8,8 @@ use Rattle.dav_session_core.specs.Conditions.{has_token}
 use Rattle.dav_session_core.specs.Sessions as spec
 use Rattle.dav_session_core.specs.Unlocking.{IsAnothers}
 use Rattle.dav_session_core.proofs.Looking.{looks_on}
-use Rattle.dav_session_core.proofs.RefreshLemmas.{fails_anothers, fails_short, fails_unnamed, fails_unread, first_has}
+use Rattle.dav_methods_core.proofs.RefreshMethodLemmas.{fails_anothers, fails_short, fails_unnamed, fails_unread}
+use Rattle.dav_session_core.proofs.RefreshLemmas.{first_has}
 use Rattle.dav_methods_core.proofs.Acting.{acts_asked, asked_on, held_before, held_behind, looks_act}
 use Rattle.dav_methods_core.proofs.methods.refresh.refresh.Goals as goal
 

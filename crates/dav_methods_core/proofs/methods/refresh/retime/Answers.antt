@@ -1,7 +1,8 @@
 use Rattle.std.proofs.Common.{◌<◌, length, sym, ap, ◌∙◌, arith}
 use Rattle.std.specs.Prelude.{bytes_eq}
-use Rattle.dav_session_core.specs.Refreshing.{told_with}
-use Rattle.dav_session_core.proofs.RefreshLemmas.{replaced_more, told_one, told_other}
+use Rattle.dav_methods_core.specs.RefreshMethod.{told_with}
+use Rattle.dav_session_core.proofs.RefreshLemmas.{replaced_more}
+use Rattle.dav_methods_core.proofs.RefreshMethodLemmas.{told_one, told_other}
 use Rattle.dav_methods_core.proofs.methods.refresh.retime.Goals as goal
 use Rattle.dav_methods_core.proofs.methods.refresh.retime.Goals.{then-eq, else-eq}
 

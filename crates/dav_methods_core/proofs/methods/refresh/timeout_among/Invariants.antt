@@ -1,5 +1,5 @@
 use Rattle.std.proofs.Common.{◌≡◌, drop}
-use Rattle.dav_session_core.specs.Refreshing.{timeout_among}
+use Rattle.dav_methods_core.specs.RefreshMethod.{timeout_among}
 use Rattle.dav_methods_core.proofs.methods.refresh.timeout_among.Given as goal
 
 abbrev pub invariant-loop-lock : goal.invariant-loop-lock

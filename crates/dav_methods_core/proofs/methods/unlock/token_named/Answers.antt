@@ -1,6 +1,6 @@
 use Rattle.std.proofs.Common.{sym, ap, ◌∙◌, subst, option_copied, option_to_list}
 use Rattle.http_header.specs.HeaderMap.{get_all}
-use Rattle.dav_session_core.specs.Unlocking.{IsBracketed}
+use Rattle.dav_methods_core.specs.UnlockMethod.{IsBracketed}
 use Rattle.dav_methods_core.proofs.methods.unlock.token_named.Goals as goal
 
 pub returns-clause-ok : goal.returns-clause-ok

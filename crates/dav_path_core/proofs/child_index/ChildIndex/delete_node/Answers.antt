@@ -1,7 +1,7 @@
 use Rattle.std.proofs.Common.{Result, Ok, Err, MatchResult, sym, ap, ◌∙◌, subst}
 use Rattle.std.specs.FinMap.{remove}
-use Rattle.dav_path_core.specs.ChildIndex.{IsIndex, forgotten}
-use Rattle.dav_path_core.specs.Keyed.{without}
+use Rattle.dav_path_core.specs.ChildIndex.{IsIndex, without_noted}
+use Rattle.dav_path_core.specs.Keyed.{without_node}
 use Rattle.dav_path_core.proofs.trees.Trees.{none≢some}
 use Rattle.dav_path_core.proofs.index.IndexLemmas.{IsIndex-without, IsIndex-dropped}
 use Rattle.dav_path_core.proofs.child_index.ChildIndex.delete_node.Goals as goal
@@ -16,7 +16,7 @@ returns-clause-indexed g c =
     let t = c.args.tree.now.keyed in
     let ix = c.args.self.now in
     let is = c.in_ok-folder.ensures.answer in
-    let index : IsIndex (without t c.args.id) (remove (forgotten ix c.in_ok-folder.folder c.in_ok-folder.name.now) c.args.id) =
-    IsIndex-dropped (without t c.args.id) (forgotten ix c.in_ok-folder.folder c.in_ok-folder.name.now) c.args.id (IsIndex-without t c.leaf_at.ensures.shape.tree c.args.id c.in_ok-folder.folder c.in_ok-folder.name.now ix is.1 c.requires.indexed) in
+    let index : IsIndex (without_node t c.args.id) (remove (without_noted ix c.in_ok-folder.folder c.in_ok-folder.name.now) c.args.id) =
+    IsIndex-dropped (without_node t c.args.id) (without_noted ix c.in_ok-folder.folder c.in_ok-folder.name.now) c.args.id (IsIndex-without t c.leaf_at.ensures.shape.tree c.args.id c.in_ok-folder.folder c.in_ok-folder.name.now ix is.1 c.requires.indexed) in
     subst (λ u. IsIndex u c.drop_folder.new.self) (sym (done _ _ _ _ c.delete_node.result c.delete_node.ensures.answer (λ e h. none≢some e (sym is.0 ∙ h.0))))
-    (subst (IsIndex (without t c.args.id)) (sym (c.drop_folder.ensures ∙ ap (λ x. remove x c.args.id) (c.forget.ensures ∙ ap (forgotten ix c.in_ok-folder.folder) c.as_slice.ensures))) index)
+    (subst (IsIndex (without_node t c.args.id)) (sym (c.drop_folder.ensures ∙ ap (λ x. remove x c.args.id) (c.forget.ensures ∙ ap (without_noted ix c.in_ok-folder.folder) c.as_slice.ensures))) index)

@@ -1,7 +1,7 @@
 use Rattle.std.proofs.Common.{◌≡◌, Some, ap, sym, ◌∙◌, subst, None, false}
 use Rattle.std.specs.Prelude.{nat_eq}
 use Rattle.std.specs.Cmp.Lexicographic.{pointwise, nat_list_eq_equiv}
-use Rattle.dav_path_core.specs.Keyed.{child, is_under, placed, IsKnown}
+use Rattle.dav_path_core.specs.Keyed.{child, is_under, with_new_place, IsKnown}
 use Rattle.dav_path_core.proofs.trees.Trees.{none≢some}
 use Rattle.dav_path_core.proofs.trees.Refusals.{allowed-outside, forbidden-below}
 use Rattle.dav_path_core.proofs.trees.Replacing.{replaced-leaf, replaced-known, replaced-known_parent, replaced-outside, replaced-free}
@@ -43,7 +43,7 @@ move_below-requires-in-Ok-delete_node-clause-free g c =
 pub returns-in-Ok-delete_node-clause-answer : goal.returns-in-Ok-delete_node-clause-answer
 returns-in-Ok-delete_node-clause-answer g c = (
   c.in-Ok.ensures.answer,
-  c.move_below-in-Ok-delete_node.ensures.placed ∙ ap (λ t. placed t c.args.id c.args.folder c.args.name) c.in-Ok-delete_node.ensures.answer.2
+  c.move_below-in-Ok-delete_node.ensures.placed ∙ ap (λ t. with_new_place t c.args.id c.args.folder c.args.name) c.in-Ok-delete_node.ensures.answer.2
       ∙ sym (moved-over c.args.tree.now.keyed c.args.folder c.args.name c.args.id c.in-Some.other (found c.args.tree.now.keyed c.args.folder c.args.name _ _ _ c.ok-taken.ensures.value c.find_child.ensures c.as_slice.ensures ∙ c.in-Some.is) c.if-other-id.false),
 )
 

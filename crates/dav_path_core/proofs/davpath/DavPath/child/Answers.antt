@@ -1,7 +1,7 @@
 use Rattle.std.proofs.Common.{◌++◌, drop, ap, sym, ◌∙◌, append_assoc, arith}
 use Rattle.std.proofs.lemmas.List.Elements.{All-from_get_or}
 use Rattle.percent_encoding.proofs.PercentLemmas.{IsByte}
-use Rattle.dav_path_core.specs.Reading.{ends_in_slash}
+use Rattle.dav_path_core.specs.PathReading.{ends_in_slash}
 use Rattle.dav_path_core.specs.Segments.{segments}
 use Rattle.dav_path_core.proofs.paths.ChildLemmas.{slash_unless, behind-child, segments-child, no_slash-child}
 use Rattle.dav_path_core.proofs.paths.ReadableLemmas.{readable-child}

@@ -1,6 +1,6 @@
 use Rattle.std.proofs.Common.{inl, inr, ⊎_elim, refl}
 use Rattle.std.proofs.lemmas.Result.{err_from_is_err_and}
-use Rattle.dav_path_core.specs.Reading.{decoded_pieces}
+use Rattle.dav_path_core.specs.PathReading.{decoded_pieces}
 use Rattle.dav_path_core.specs.Fault.{FirstFault}
 use Rattle.dav_path_core.specs.Fault.Fault.{no_target, first}
 use Rattle.dav_path_core.proofs.paths.Laws.{no_path, one_path, read_from}

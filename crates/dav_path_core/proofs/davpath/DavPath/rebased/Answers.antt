@@ -2,7 +2,7 @@ use Rattle.std.proofs.Common.{◌≡◌, ◌++◌, Some, drop, take, sym, ap, �
 use Rattle.std.specs.Prelude.{option_map}
 use Rattle.dav_path_core.specs.Segments.{segments}
 use Rattle.dav_path_core.specs.Fronts.{behind}
-use Rattle.dav_path_core.specs.Reading.{path_of, ends_in_slash}
+use Rattle.dav_path_core.specs.PathReading.{path_of, ends_in_slash}
 use Rattle.dav_path_core.proofs.paths.JoinedLemmas.{behind-joined}
 use Rattle.dav_path_core.proofs.paths.ReadableLemmas.{segments-rebased, readable-rebased}
 use Rattle.dav_path_core.proofs.davpath.DavPath.rebased.Goals as goal

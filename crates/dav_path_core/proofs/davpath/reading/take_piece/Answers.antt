@@ -3,8 +3,8 @@ use Rattle.std.proofs.lemmas.Bool.{false≢true}
 use Rattle.std.proofs.lemmas.List.{append_assoc}
 use Rattle.std.proofs.lemmas.Result.{IfErr-weaker}
 use Rattle.dav_path_core.specs.Private.Keeping.{Spells}
-use Rattle.dav_path_core.specs.Private.Keeping.Takes.{up, ordinary}
-use Rattle.dav_path_core.specs.Private.Keeping.Refuses.{foreign, above}
+use Rattle.dav_path_core.specs.Private.Keeping.TakesPiece.{up, ordinary}
+use Rattle.dav_path_core.specs.Private.Keeping.RefusesPiece.{foreign, above}
 use Rattle.dav_path_core.proofs.paths.SlashedLemmas.{OnOk-weaker, neither, Spells-push, Spells-pop, Spells-empty}
 use Rattle.dav_path_core.proofs.davpath.reading.take_piece.Goals as goal
 

@@ -1,7 +1,7 @@
 use Rattle.std.proofs.Common.{◌≡◌, string_bytes, refl, sym, ◌∙◌, subst, arith}
 use Rattle.std.proofs.lemmas.List.Elements.{All-from_get_or}
 use Rattle.percent_encoding.proofs.PercentLemmas.{IsByte}
-use Rattle.dav_path_core.specs.Reading.{Read}
+use Rattle.dav_path_core.specs.PathReading.{Read}
 use Rattle.dav_path_core.specs.Url.{url}
 use Rattle.dav_path_core.proofs.paths.ReadLaws.{read_again}
 use Rattle.dav_path_core.proofs.paths.UrlLemmas.{url_once}

@@ -1,5 +1,5 @@
 use Rattle.std.proofs.Common.{inl, inr, ap, ◌∙◌, None, is_some, ◌≡◌, ℕ, Some, IfOk, IfErr, Result, Ok, Err, sym, subst}
-use Rattle.dav_path_core.specs.Keyed.{add_refusal, IsCut, IsTree, cleared, cleared_at, child}
+use Rattle.dav_path_core.specs.Keyed.{add_refusal, IsCut, IsTree, without_key, cleared_at, child}
 use Rattle.dav_path_core.proofs.trees.Cutting.{IsCut-cut}
 use Rattle.std.specs.Result.{result_ok}
 use Rattle.std.proofs.lemmas.Bool.{false≢true}
@@ -19,7 +19,7 @@ whenever (Err e) p = tt
 pub returns-in-Some-clause-replaced : goal.returns-in-Some-clause-replaced
 returns-in-Some-clause-replaced g c =
     let tree : IsTree g.K.PartialEq.eq c.args.self.now.keyed = (c.if-not-is_known.ensures.shape).tree in
-    whenever {P = (old : ℕ) → child (g.K.PartialEq.eq c.args.key) c.args.self.now.keyed c.args.parent ≡ Some old → IsCut c.args.self.now.keyed (cleared g.K.PartialEq.eq c.args.self.now.keyed c.args.parent c.args.key) old} _ (λ old at. subst (λ o. IsCut c.args.self.now.keyed (cleared_at c.args.self.now.keyed o) old) (sym at) (IsCut-cut g.K.PartialEq.eq c.args.self.now.keyed tree old))
+    whenever {P = (old : ℕ) → child (g.K.PartialEq.eq c.args.key) c.args.self.now.keyed c.args.parent ≡ Some old → IsCut c.args.self.now.keyed (without_key g.K.PartialEq.eq c.args.self.now.keyed c.args.parent c.args.key) old} _ (λ old at. subst (λ o. IsCut c.args.self.now.keyed (cleared_at c.args.self.now.keyed o) old) (sym at) (IsCut-cut g.K.PartialEq.eq c.args.self.now.keyed tree old))
 
 pub returns-in-None-clause-room : goal.returns-in-None-clause-room
 returns-in-None-clause-room g c =

@@ -2,10 +2,10 @@ use Rattle.std.proofs.Common.{◌≡◌, is_some, false, Option, Some, None, ref
 use Rattle.std.specs.Option.{option_map}
 use Rattle.std.proofs.lemmas.Bool.{false≢true}
 use Rattle.dav_path_core.specs.declared.errors.FsError.TheVariants.{NotFound, Forbidden}
-use Rattle.dav_path_core.specs.Keyed.{item, parent_and_key_of, without, delete_refusal, IsKnown}
+use Rattle.dav_path_core.specs.Keyed.{item, parent_and_key_of, without_node, delete_refusal, IsKnown}
 use Rattle.dav_path_core.specs.TreeValue.{links_first}
 use Rattle.dav_path_core.specs.View.{keyed_of, entry_of, links_of}
-use Rattle.dav_path_core.specs.Private.Nodes.{node_at, closed_up, with_node}
+use Rattle.dav_path_core.specs.Private.Nodes.{node_numbered, closed_up, with_node_at}
 use Rattle.dav_path_core.proofs.trees.Trees.{none_from_is_some}
 use Rattle.dav_path_core.proofs.children.Chains.{first_child_of}
 use Rattle.dav_path_core.proofs.children.Views.{entry-view, known-view, node_at-updated, mapped-some}
@@ -58,9 +58,9 @@ unreachable-requires g c =
     ∙ ap is_some (closed-node g.K.PartialEq.eq c.self.inside.nodes.entries c.self.inside.next c.args.id c.in-Some-parent_and_key.above c.in-Some-parent_and_key._name c.in-Some.node.now c.self.invariant c.in-Some.ensures.value c.in-Some-parent_and_key.is (not_some _ c.if-is_some.ensures)) ∙ mapped-some entry_of _ ∙ sym (ap is_some c.in-Some.ensures.value))
 
 -- what the writes make of the nodes
-made : (g : Over) (c : In-Some-remove g) → node_at c.remove.new.self.entries
-    ≡ with_node (closed_up (node_at c.self.inside.nodes.entries) c.in-Some-parent_and_key.above c.in-Some.node.now.previous_sibling c.in-Some.node.now.next_sibling) c.args.id None
-made g c = node_at-updated c.close_up.new.nodes c.remove.new.self c.args.id None c.in-Some-remove.ensures.updates ∙ ap (λ at. with_node at c.args.id None) c.close_up.ensures
+made : (g : Over) (c : In-Some-remove g) → node_numbered c.remove.new.self.entries
+    ≡ with_node_at (closed_up (node_numbered c.self.inside.nodes.entries) c.in-Some-parent_and_key.above c.in-Some.node.now.previous_sibling c.in-Some.node.now.next_sibling) c.args.id None
+made g c = node_at-updated c.close_up.new.nodes c.remove.new.self c.args.id None c.in-Some-remove.ensures.updates ∙ ap (λ at. with_node_at at c.args.id None) c.close_up.ensures
 
 pub invariant_of-self : goal.invariant_of-self
 invariant_of-self g c =
@@ -72,10 +72,10 @@ returns-clause-answer g c =
       subst (λ t. delete_refusal t.keyed c.args.id ≡ None) c.self.view_is (delete-leaf (keyed_of c.self.inside.nodes.entries c.self.inside.next) c.args.id known (not_root g.K.PartialEq.eq c.self.inside.nodes.entries c.self.inside.next c.args.id c.in-Some-parent_and_key.above c.in-Some-parent_and_key._name c.in-Some.node.now c.self.invariant c.in-Some.ensures.value c.in-Some-parent_and_key.is (not_some _ c.if-is_some.ensures))
           (has_child-false (keyed_of c.self.inside.nodes.entries c.self.inside.next) c.args.id (leaf_n g.K.PartialEq.eq c.self.inside.nodes.entries c.self.inside.next c.args.id c.in-Some-parent_and_key.above c.in-Some-parent_and_key._name c.in-Some.node.now c.self.invariant c.in-Some.ensures.value c.in-Some-parent_and_key.is (not_some _ c.if-is_some.ensures)))),
       ap (λ t. item t.keyed c.args.id) (sym c.self.view_is)
-          ∙ ap (option_map (λ e. e.item)) (entry-view c.self.inside.nodes.entries c.self.inside.next c.args.id (node_at c.self.inside.nodes.entries c.args.id) refl
+          ∙ ap (option_map (λ e. e.item)) (entry-view c.self.inside.nodes.entries c.self.inside.next c.args.id (node_numbered c.self.inside.nodes.entries c.args.id) refl
           ∙ sym (closed-node g.K.PartialEq.eq c.self.inside.nodes.entries c.self.inside.next c.args.id c.in-Some-parent_and_key.above c.in-Some-parent_and_key._name c.in-Some.node.now c.self.invariant c.in-Some.ensures.value c.in-Some-parent_and_key.is (not_some _ c.if-is_some.ensures))
           ∙ ap (λ f. option_map entry_of (f c.args.id)) (sym c.close_up.ensures) ∙ sym (ap (option_map entry_of) c.in-Some-remove.ensures.value)),
-      keyed-removed g.K.PartialEq.eq c.self.inside.nodes.entries c.self.inside.next c.args.id c.in-Some-parent_and_key.above c.in-Some-parent_and_key._name c.in-Some.node.now c.self.invariant c.in-Some.ensures.value c.in-Some-parent_and_key.is (not_some _ c.if-is_some.ensures) c.remove.new.self.entries (made g c) ∙ ap (λ t. without t.keyed c.args.id) c.self.view_is,
+      keyed-removed g.K.PartialEq.eq c.self.inside.nodes.entries c.self.inside.next c.args.id c.in-Some-parent_and_key.above c.in-Some-parent_and_key._name c.in-Some.node.now c.self.invariant c.in-Some.ensures.value c.in-Some-parent_and_key.is (not_some _ c.if-is_some.ensures) c.remove.new.self.entries (made g c) ∙ ap (λ t. without_node t.keyed c.args.id) c.self.view_is,
     )
 
 pub returns-clause-shape : goal.returns-clause-shape

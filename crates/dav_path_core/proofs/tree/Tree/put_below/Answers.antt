@@ -1,8 +1,8 @@
 use Rattle.std.proofs.Common.{◌≡◌, refl, ap, sym, ◌∙◌, subst, is_some, Some, None, false, Option, ℕ}
 use Rattle.std.proofs.lemmas.Bool.{false≢true}
-use Rattle.dav_path_core.specs.Keyed.{child, parent_and_key_of, placed, is_under, IsKnown}
+use Rattle.dav_path_core.specs.Keyed.{child, parent_and_key_of, with_new_place, is_under, IsKnown}
 use Rattle.dav_path_core.specs.View.{keyed_of}
-use Rattle.dav_path_core.specs.Private.Nodes.{node_at, first_in, closed_up, with_parent_and_key, put_before}
+use Rattle.dav_path_core.specs.Private.Nodes.{node_numbered, first_in, closed_up, with_parent_and_key, put_before}
 use Rattle.dav_path_core.proofs.children.Views.{known-view, entry-view}
 use Rattle.dav_path_core.proofs.children.Links.{shape_of}
 use Rattle.dav_path_core.proofs.trees.Refusals.{no_parent_root}
@@ -22,14 +22,14 @@ unreachable-requires-in_default-parent_and_key g c =
     (ap parent_and_key_of (entry-view c.self.inside.nodes.entries c.self.inside.next c.args.id (Some c.in-Some.node.now) c.in-Some.ensures.value) ∙ c.in_default-parent_and_key.is))
 
 -- what the writes make of the nodes
-made : (g : Over) (c : After-put_before g) → node_at c.put_before.new.nodes.entries
-    ≡ put_before (with_parent_and_key (closed_up (node_at c.self.inside.nodes.entries) c.in-Some-parent_and_key.above c.in-Some.node.now.previous_sibling c.in-Some.node.now.next_sibling) c.args.id c.args.new_parent c.args.new_name
-    (first_in (closed_up (node_at c.self.inside.nodes.entries) c.in-Some-parent_and_key.above c.in-Some.node.now.previous_sibling c.in-Some.node.now.next_sibling) c.args.new_parent)) c.args.new_parent c.args.id
-    (first_in (closed_up (node_at c.self.inside.nodes.entries) c.in-Some-parent_and_key.above c.in-Some.node.now.previous_sibling c.in-Some.node.now.next_sibling) c.args.new_parent)
+made : (g : Over) (c : After-put_before g) → node_numbered c.put_before.new.nodes.entries
+    ≡ put_before (with_parent_and_key (closed_up (node_numbered c.self.inside.nodes.entries) c.in-Some-parent_and_key.above c.in-Some.node.now.previous_sibling c.in-Some.node.now.next_sibling) c.args.id c.args.new_parent c.args.new_name
+    (first_in (closed_up (node_numbered c.self.inside.nodes.entries) c.in-Some-parent_and_key.above c.in-Some.node.now.previous_sibling c.in-Some.node.now.next_sibling) c.args.new_parent)) c.args.new_parent c.args.id
+    (first_in (closed_up (node_numbered c.self.inside.nodes.entries) c.in-Some-parent_and_key.above c.in-Some.node.now.previous_sibling c.in-Some.node.now.next_sibling) c.args.new_parent)
 made g c =
     c.put_before.ensures
     ∙ ap (λ at. put_before at c.args.new_parent c.args.id c.first_of-first.result) c.set_parent_and_key.ensures
-    ∙ ap (λ (o : Option ℕ). put_before (with_parent_and_key (node_at c.close_up.new.nodes.entries) c.args.id c.args.new_parent c.args.new_name o) c.args.new_parent c.args.id o) c.first_of-first.ensures
+    ∙ ap (λ (o : Option ℕ). put_before (with_parent_and_key (node_numbered c.close_up.new.nodes.entries) c.args.id c.args.new_parent c.args.new_name o) c.args.new_parent c.args.id o) c.first_of-first.ensures
     ∙ ap (λ at. put_before (with_parent_and_key at c.args.id c.args.new_parent c.args.new_name (first_in at c.args.new_parent)) c.args.new_parent c.args.id (first_in at c.args.new_parent)) c.close_up.ensures
 
 pub invariant_of-self : goal.invariant_of-self
@@ -47,7 +47,7 @@ returns-clause-placed g c =
     (subst (λ t. is_under t.keyed c.args.id c.args.new_parent ≡ false) (sym c.self.view_is) c.requires.outside)
     (subst (λ t. child (g.K.PartialEq.eq c.args.new_name) t.keyed c.args.new_parent ≡ None) (sym c.self.view_is) c.requires.free)
     c.in-Some.ensures.value c.in-Some-parent_and_key.is (made g c)
-    ∙ ap (λ t. placed t.keyed c.args.id c.args.new_parent c.args.new_name) c.self.view_is
+    ∙ ap (λ t. with_new_place t.keyed c.args.id c.args.new_parent c.args.new_name) c.self.view_is
 
 pub returns-clause-shape : goal.returns-clause-shape
 returns-clause-shape g c = shape_of (invariant_of-self g c) refl

@@ -2,8 +2,8 @@ use Rattle.std.proofs.Common.{◌≡◌, sym, ap, ◌∙◌, ℕ, Bool, true, fa
 use Rattle.std.specs.List.{list_all, slice_split}
 use Rattle.std.proofs.lemmas.List.Folds.{list_all-map}
 use Rattle.dav_headers_core.specs.Optional.{when}
-use Rattle.dav_headers_core.specs.Pieces.{is_comma}
-use Rattle.dav_resource_core.specs.Lines.{is_dash, is_label, labels_word}
+use Rattle.dav_headers_core.specs.CommaPieces.{is_comma}
+use Rattle.dav_resource_core.specs.RequestLines.{is_dash, is_label, labels_word}
 use Rattle.dav_resource_core.proofs.davreplay.lines.labels_of.Goals as goal
 
 tested : (word : List ℕ) (labels : List (List ℕ)) (t : Bool) → is_dash word ≡ false → labels ≡ slice_split is_comma word → list_all is_label labels ≡ t → labels_word word ≡ when t labels

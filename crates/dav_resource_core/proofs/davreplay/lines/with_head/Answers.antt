@@ -1,7 +1,7 @@
 use Rattle.std.proofs.Common.{◌≡◌, ℕ, List, [], ◌∷◌, Bor, Option, Some, None, Ok, map, option_map, string_bytes, refl, sym, ap, ◌∙◌}
 use Rattle.dav_headers_core.specs.Optional.{◌>>=◌}
-use Rattle.dav_resource_core.specs.Lines.{head_form, labels_word, text_word, token_of}
-use Rattle.dav_resource_core.specs.Private.Reading.{asking, exactly}
+use Rattle.dav_resource_core.specs.RequestLines.{head_form, labels_word, text_word, labelled_token}
+use Rattle.dav_resource_core.specs.Private.LineReading.{line_request, exactly}
 use Rattle.line_streams.specs.Numerals.{numeral}
 use Rattle.dav_resource_core.proofs.davreplay.lines.with_head.Goals as goal
 
@@ -14,7 +14,7 @@ each f g [] = refl
 each f g (x ∷ xs) = ap (λ ys. f (g x) ∷ ys) (each f g xs)
 
 pub returns : goal.returns
-returns c = read ∙ ap (λ tokens. asking (Some (record { now = c.in_ok-number_of.field-0; principal = option_map string_bytes c.in_ok-principal.principal; tokens = tokens })) (Ok c.in_ok-command.command)) tokens
+returns c = read ∙ ap (λ tokens. line_request (Some (record { now = c.in_ok-number_of.field-0; principal = option_map string_bytes c.in_ok-principal.principal; tokens = tokens })) (Ok c.in_ok-command.command)) tokens
   where
     granted : List (List ℕ)
     granted = c.args.granted.now
@@ -28,11 +28,11 @@ returns c = read ∙ ap (λ tokens. asking (Some (record { now = c.in_ok-number_
     principal : text_word c.args.principal.now ≡ option_map string_bytes c.in_ok-principal.principal
     principal = sym c.in_ok-principal.ensures
 
-    tokens : map (token_of granted) (map (λ label. label.now) c.in_ok-labels.labels.items) ≡ map string_bytes c.in_ok-tokens.tokens.items
+    tokens : map (labelled_token granted) (map (λ label. label.now) c.in_ok-labels.labels.items) ≡ map string_bytes c.in_ok-tokens.tokens.items
     tokens =
-        each (token_of granted) (λ label. label.now) c.in_ok-labels.labels.items
-        ∙ ap (map (λ (label : Bor (List ℕ)). token_of granted label.now)) (sym c.deref.ensures.value) ∙ sym c.in_ok-tokens.ensures
+        each (labelled_token granted) (λ label. label.now) c.in_ok-labels.labels.items
+        ∙ ap (map (λ (label : Bor (List ℕ)). labelled_token granted label.now)) (sym c.deref.ensures.value) ∙ sym c.in_ok-tokens.ensures
 
-    read : asking (head_form granted c.args.moment.now c.args.principal.now c.args.labels.now) c.args.command
-        ≡ asking (Some (record { now = c.in_ok-number_of.field-0; principal = option_map string_bytes c.in_ok-principal.principal; tokens = map (token_of granted) (map (λ label. label.now) c.in_ok-labels.labels.items) })) (Ok c.in_ok-command.command)
-    read = λ i. asking (moment i >>= λ now. labels i >>= λ named. Some (record { now = now; principal = principal i; tokens = map (token_of granted) named })) (c.in_ok-command.was i)
+    read : line_request (head_form granted c.args.moment.now c.args.principal.now c.args.labels.now) c.args.command
+        ≡ line_request (Some (record { now = c.in_ok-number_of.field-0; principal = option_map string_bytes c.in_ok-principal.principal; tokens = map (labelled_token granted) (map (λ label. label.now) c.in_ok-labels.labels.items) })) (Ok c.in_ok-command.command)
+    read = λ i. line_request (moment i >>= λ now. labels i >>= λ named. Some (record { now = now; principal = principal i; tokens = map (labelled_token granted) named })) (c.in_ok-command.was i)

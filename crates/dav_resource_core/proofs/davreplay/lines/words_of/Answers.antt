@@ -2,7 +2,7 @@ use Rattle.std.proofs.Common.{lit<, rules, tests}
 use Rattle.std.proofs.lemmas.Iterator.Consumers.{map_from_collect, YieldsList-at, YieldsList-from_filter}
 use Rattle.std.proofs.lemmas.Iterator.Splits.{YieldsList-from_str_split}
 use Rattle.dav_path_core.specs.Segments.{is_nonempty}
-use Rattle.dav_resource_core.specs.Lines.{words}
+use Rattle.dav_resource_core.specs.RequestLines.{words}
 use Rattle.dav_resource_core.proofs.davreplay.lines.words_of.Goals as goal
 
 pub returns : goal.returns

@@ -4,7 +4,7 @@ use Rattle.dav_path_core.specs.Segments.{segments}
 use Rattle.dav_resource_core.specs.Checks.{caller_of, member}
 use Rattle.dav_resource_core.specs.Served.{request_of}
 use Rattle.dav_resource_core.specs.Stores.{Stores}
-use Rattle.dav_resource_core.specs.Private.Serving.{RefusedBy}
+use Rattle.dav_resource_core.specs.Private.RequestServing.{RefusedBy}
 use Rattle.dav_resource_core.proofs.Serving.{refused_more, refused_later}
 use Rattle.dav_resource_core.proofs.guarded.Guarded.check_ends.Goals as goal
 

@@ -1,10 +1,10 @@
 use Rattle.std.proofs.Common.{◌≡◌, List, [], ◌∷◌, Bool, map, refl}
 use Rattle.std.specs.List.{AllZip}
 use Rattle.dav_files_core.specs.declared.fs.properties.DavProp.{DavProp}
-use Rattle.dav_files_core.specs.Properties.{property_of, entry_of}
+use Rattle.dav_files_core.specs.Properties.{property_of, patch_update}
 use Rattle.dav_resource_core.proofs.guarded.files.copied.Goals as goal
 
-copies : (xs ys : List (Bool × DavProp)) → AllZip (λ x y. (y.0 ≡ x.0) × (property_of y.1 ≡ property_of x.1)) xs ys → map entry_of ys ≡ map entry_of xs
+copies : (xs ys : List (Bool × DavProp)) → AllZip (λ x y. (y.0 ≡ x.0) × (property_of y.1 ≡ property_of x.1)) xs ys → map patch_update ys ≡ map patch_update xs
 copies [] [] h = refl
 copies [] (y ∷ ys) h = absurd h
 copies (x ∷ xs) [] h = absurd h

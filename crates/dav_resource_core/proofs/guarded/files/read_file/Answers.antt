@@ -1,5 +1,5 @@
 use Rattle.std.proofs.Common.{ℕ, true, false, List, sym, ap, ◌∙◌, subst}
-use Rattle.dav_path_core.specs.Answers.{AnswersAs}
+use Rattle.dav_path_core.specs.StoreAnswers.{AnswersAs}
 use Rattle.dav_path_core.specs.Segments.{segments}
 use Rattle.dav_files_core.specs.OpenFiles.{read_bytes}
 use Rattle.dav_files_core.specs.Opening.{OpenFile, opening}

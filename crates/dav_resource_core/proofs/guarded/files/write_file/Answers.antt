@@ -1,6 +1,6 @@
 use Rattle.std.proofs.Common.{◌≡◌, ℕ, Bool, true, false, not, Option, Some, None, is_some, refl, sym, ap, ◌∙◌, subst}
 use Rattle.std.specs.Prelude.{is_none}
-use Rattle.dav_path_core.specs.Answers.{AnswersAs}
+use Rattle.dav_path_core.specs.StoreAnswers.{AnswersAs}
 use Rattle.dav_path_core.specs.Segments.{segments}
 use Rattle.dav_files_core.specs.declared.fs.OpenOptions.{OpenOptions}
 use Rattle.dav_files_core.specs.OpenFiles.{write_bytes}

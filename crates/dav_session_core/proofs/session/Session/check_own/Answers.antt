@@ -7,7 +7,8 @@ use Rattle.dav_path_core.proofs.paths.FrontLemmas.{is_front-refl, is_front-trans
 use Rattle.dav_session_core.specs.Callers.{live}
 use Rattle.dav_session_core.specs.Sessions as spec
 use Rattle.dav_session_core.proofs.Looking.{as_looks, looks_none, looks_on}
-use Rattle.dav_session_core.proofs.OwnLemmas.{OwnSoFar, at_first, checked_own, none_as, one_less, one_up, parent_front, refused_own}
+use Rattle.dav_session_core.proofs.OwnLemmas.{OwnSoFar, at_first, checked_own, none_as, one_up, refused_own}
+use Rattle.dav_path_core.proofs.paths.AbovePaths.{one_less, parent_front}
 use Rattle.dav_session_core.proofs.session.Session.check_own.Goals as goal
 
 pub loop-init : goal.loop-init

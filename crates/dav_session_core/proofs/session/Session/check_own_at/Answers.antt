@@ -7,7 +7,7 @@ use Rattle.dav_locks_core.specs.Locks.{covers}
 use Rattle.dav_session_core.specs.Callers.{Caller, live}
 use Rattle.dav_session_core.specs.Private.Owning.{is_anothers}
 use Rattle.dav_session_core.specs.Sessions as spec
-use Rattle.dav_session_core.proofs.TokenLemmas.{any_discovered}
+use Rattle.dav_locks_core.proofs.answers.CoveringTokens.{any_discovered}
 use Rattle.dav_session_core.proofs.session.Session.check_own_at.Goals as goal
 
 pub returns-then-any_anothers-clause-err : goal.returns-then-any_anothers-clause-err

@@ -2,7 +2,7 @@ use Rattle.std.proofs.Common.{◌≡◌, ◌==◌, ◌∙◌, eqb-true, false, r
 use Rattle.dav_path_core.specs.Segments.{segments}
 use Rattle.dav_session_core.specs.Sessions as spec
 use Rattle.dav_session_core.proofs.ClearingLemmas.{goes_away, stays}
-use Rattle.dav_session_core.proofs.SubtreeLemmas.{nothing_left}
+use Rattle.dav_path_core.proofs.paths.SubtreePaths.{nothing_left}
 use Rattle.dav_session_core.proofs.session.Session.clear.Goals as goal
 
 pub returns-then-is_empty-clause-cleared : goal.returns-then-is_empty-clause-cleared

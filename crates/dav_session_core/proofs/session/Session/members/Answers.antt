@@ -2,7 +2,7 @@ use Rattle.std.proofs.Common.{◌≡◌, inl, inr, List, Ok, map, Contains, sym,
 use Rattle.std.proofs.lemmas.Result.{IfOk-weaker, IfErr-weaker}
 use Rattle.dav_path_core.specs.PathText.{PathText}
 use Rattle.dav_path_core.specs.Segments.{segments}
-use Rattle.dav_files_core.specs.Listing.{entry_of, read_dir}
+use Rattle.dav_files_core.specs.Listing.{listed_entry, read_dir}
 use Rattle.dav_files_core.specs.declared.memfs.listing.MemFsEntry.{MemFsEntry}
 use Rattle.dav_session_core.specs.Private.Gathering.{paths_in}
 use Rattle.dav_session_core.proofs.SubtreeLemmas.{members_told, odd_told}
@@ -10,7 +10,7 @@ use Rattle.dav_session_core.proofs.session.Session.members.Goals as goal
 
 pub returns-in-Ok-clause-ok : goal.returns-in-Ok-clause-ok
 returns-in-Ok-clause-ok g c =
-    let was : read_dir c.args.self.now.stores.map (segments c.args.place.now.bytes) ≡ Ok (map entry_of c.in-Ok.entries.items) =
+    let was : read_dir c.args.self.now.stores.map (segments c.args.place.now.bytes) ≡ Ok (map listed_entry c.in-Ok.entries.items) =
     ap (λ (q : PathText). read_dir c.args.self.now.stores.map (segments q.bytes)) (sym c.in_ok-copy_of.ensures) ∙ c.in-Ok.ensures.ok in
     let p = segments c.args.place.now.bytes in
     IfOk-weaker c.member_paths.result _ _
@@ -19,7 +19,7 @@ returns-in-Ok-clause-ok g c =
 
 pub returns-in-Ok-clause-err : goal.returns-in-Ok-clause-err
 returns-in-Ok-clause-err g c =
-    let was : read_dir c.args.self.now.stores.map (segments c.args.place.now.bytes) ≡ Ok (map entry_of c.in-Ok.entries.items) =
+    let was : read_dir c.args.self.now.stores.map (segments c.args.place.now.bytes) ≡ Ok (map listed_entry c.in-Ok.entries.items) =
     ap (λ (q : PathText). read_dir c.args.self.now.stores.map (segments q.bytes)) (sym c.in_ok-copy_of.ensures) ∙ c.in-Ok.ensures.ok in
     IfErr-weaker c.member_paths.result _ _ (λ e h. elim h [
       | inl lacks ↦ inl lacks

@@ -1,6 +1,6 @@
 use Rattle.std.proofs.Common.{map, sym, subst}
 use Rattle.dav_path_core.specs.Segments.{segments}
-use Rattle.dav_files_core.specs.Properties.{entry_of}
+use Rattle.dav_files_core.specs.Properties.{patch_update}
 use Rattle.dav_resource_core.specs.Served.{reply_of, refusal_of}
 use Rattle.dav_session_core.specs.Callers.{live}
 use Rattle.dav_session_core.specs.Patching.{KeepsProperties}
@@ -12,7 +12,7 @@ pub returns-in-Ok-clause-ok : goal.returns-in-Ok-clause-ok
 returns-in-Ok-clause-ok g c =
     let who = spec.caller c.args.self.now in
     patched_there who (live who.now (spec.state g.R.Rng.stream c.args.self.now)) (spec.state g.R.Rng.stream c.ask.new.self) (segments c.args.path.bytes)
-    (map entry_of c.args.patch.items) (reply_of c.in-Ok.field-0) c.in-Ok.ensures.step
+    (map patch_update c.args.patch.items) (reply_of c.in-Ok.field-0) c.in-Ok.ensures.step
 
 pub returns-clause-err : goal.returns-clause-err
 returns-clause-err g c =
@@ -20,4 +20,4 @@ returns-clause-err g c =
     let s = live who.now (spec.state g.R.Rng.stream c.args.self.now) in
     let p = segments c.args.path.bytes in
     subst (KeepsProperties s who p) (sym c.unpatched.ensures)
-    (not_patched who s (spec.state g.R.Rng.stream c.ask.new.self) p (map entry_of c.args.patch.items) (refusal_of c.in-Err.refusal) c.in-Err.ensures.step)
+    (not_patched who s (spec.state g.R.Rng.stream c.ask.new.self) p (map patch_update c.args.patch.items) (refusal_of c.in-Err.refusal) c.in-Err.ensures.step)

@@ -3,7 +3,7 @@ use Rattle.std.specs.Prelude.{IsSome}
 use Rattle.dav_path_core.specs.Segments.{segments}
 use Rattle.dav_headers_core.specs.declared.davheaders.depths.Depth.TheVariants as depth
 use Rattle.dav_files_core.specs.Resources.{at_path}
-use Rattle.dav_session_core.specs.Places.{AreWithin}
+use Rattle.dav_session_core.specs.DepthPlaces.{AreWithin}
 use Rattle.dav_session_core.specs.Placed.{AllStand}
 use Rattle.dav_session_core.specs.Sessions as spec
 use Rattle.dav_session_core.proofs.PlaceLemmas.{if_found, members_stand}

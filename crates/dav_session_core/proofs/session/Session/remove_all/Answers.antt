@@ -1,10 +1,10 @@
-use Rattle.std.proofs.Common.{refl, map, ap, subst}
+use Rattle.std.proofs.Common.{map, ap, subst}
 use Rattle.dav_path_core.specs.Segments.{segments}
 use Rattle.dav_resource_core.specs.Served.{answer_of}
 use Rattle.dav_session_core.specs.Callers.{live}
 use Rattle.dav_session_core.specs.Sessions as spec
 use Rattle.dav_session_core.proofs.RemovalLemmas.{Removing, removing_as, removing_begun, removing_ended}
-use Rattle.dav_session_core.proofs.SubtreeLemmas.{nothing_left}
+use Rattle.dav_path_core.proofs.paths.SubtreePaths.{nothing_left}
 use Rattle.dav_session_core.proofs.Looking.{acts_none, acts_on}
 use Rattle.dav_session_core.proofs.session.Session.remove_all.Goals as goal
 
@@ -22,12 +22,12 @@ loop-path-preserved g c =
     let who = spec.caller c.args.self.now in
     let start = spec.state g.R.Rng.stream c.args.self.now in
     let mid = spec.state g.R.Rng.stream c.loop-path.self in
-    let after = spec.state g.R.Rng.stream c.ask.new.self in
+    let after = spec.state g.R.Rng.stream c.change.new.self in
     record {
-      acts = acts_on c.loop-path.invariant.acts (c.ask.ensures.acts refl);
+      acts = acts_on c.loop-path.invariant.acts c.change.ensures.acts;
       removing = λ p no_root stood walk free.
           removing_as (λ q. segments q.bytes) who (spec.caller c.loop-path.self) p (live who.now start) mid after c.loop-path.places.items c.pop.new.self.items c.in-Some.path
-          (answer_of c.ask.result) no_root c.loop-path.invariant.acts.who c.in-Some.ensures.items (c.loop-path.invariant.removing p no_root stood walk free) c.ask.ensures.step;
+          (answer_of c.change.result) no_root c.loop-path.invariant.acts.who c.in-Some.ensures.items (c.loop-path.invariant.removing p no_root stood walk free) c.change.ensures.step;
     }
 
 pub returns-clause-removed : goal.returns-clause-removed

@@ -6,7 +6,7 @@ use Rattle.dav_files_core.specs.Resources.{at_path}
 use Rattle.dav_session_core.specs.Callers.{live}
 use Rattle.dav_session_core.specs.Removing.{refusing_removal}
 use Rattle.dav_session_core.specs.Sessions as spec
-use Rattle.dav_session_core.specs.Subtrees.{IsWalk}
+use Rattle.dav_session_core.specs.Subtrees.{IsSubtreeWalk}
 use Rattle.dav_session_core.proofs.RemovalLemmas.{Removing}
 use Rattle.dav_session_core.proofs.session.Session.remove_all.Given as goal
 
@@ -17,7 +17,7 @@ invariant-loop-path g l =
     let all = map (λ q. segments q.bytes) l.fn.places.items in
     record {
       acts : spec.Acts g.R.Rng.stream l.fn.self l.self;
-      removing : (p : Path) → p ≢ [] → IsSome (at_path start.map p) → IsWalk start.map p all → refusing_removal (live who.now start) who all ≡ []
+      removing : (p : Path) → p ≢ [] → IsSome (at_path start.map p) → IsSubtreeWalk start.map p all → refusing_removal (live who.now start) who all ≡ []
           → Removing who p (live who.now start) (map (λ q. segments q.bytes) l.places.items) (spec.state g.R.Rng.stream l.self);
     }
 

@@ -5,7 +5,7 @@ use Rattle.dav_path_core.specs.PathText.{PathText}
 use Rattle.dav_path_core.specs.Segments.{segments}
 use Rattle.dav_path_core.proofs.paths.FrontLemmas.{is_front-refl, is_front-trans}
 use Rattle.dav_locks_core.specs.Lock.{Lock}
-use Rattle.dav_locks_core.specs.Locks.{discovered}
+use Rattle.dav_locks_core.specs.Locks.{discovered_locks}
 use Rattle.dav_resource_core.specs.Step.{State}
 use Rattle.dav_session_core.specs.Callers.{live}
 use Rattle.dav_session_core.specs.Granting.{AreAbove}
@@ -13,7 +13,7 @@ use Rattle.dav_session_core.specs.Sessions as spec
 use Rattle.dav_session_core.proofs.ConditionLemmas.{same_state}
 use Rattle.dav_session_core.proofs.Looking.{as_looks, looks_none, looks_on}
 use Rattle.dav_session_core.proofs.GrantLemmas.{TokensSoFar, no_tokens_yet, only_more, tokens_up, tokens_whole}
-use Rattle.dav_session_core.proofs.OwnLemmas.{one_less, parent_front}
+use Rattle.dav_path_core.proofs.paths.AbovePaths.{one_less, parent_front}
 use Rattle.dav_session_core.proofs.session.Session.tokens_above.Goals as goal
 
 pub loop-init : goal.loop-init
@@ -40,7 +40,7 @@ loop-preserved g c =
     let here = segments c.loop.here.bytes in
     let up : segments c.in_ok-here-2.here.bytes ≡ parent here = c.in_ok-here-2.ensures.above in
     let same = same_state who start (spec.caller c.loop.self) (spec.state g.R.Rng.stream c.loop.self) (as_looks c.loop.invariant.looks) in
-    let added = c.in_ok-add_tokens_at.ensures.ok ∙ ap (λ (t : State). map string_bytes c.loop.tokens.items ++ map (λ (l : Lock). l.token) (discovered t.locks here)) same in
+    let added = c.in_ok-add_tokens_at.ensures.ok ∙ ap (λ (t : State). map string_bytes c.loop.tokens.items ++ map (λ (l : Lock). l.token) (discovered_locks t.locks here)) same in
     record {
       looks = looks_on c.loop.invariant.looks c.add_tokens_at.ensures.looks;
       left = ap (λ (q : Path). length q + (c.loop.counter + 1)) up ∙ one_less here c.loop.counter (length p) c.loop.invariant.left (subst (λ n. c.loop.counter < n) c.depth_of-end.ensures c.loop-test.true);
@@ -56,7 +56,7 @@ returns-clause-ok g c =
     let start = spec.state g.R.Rng.stream c.args.self.now in
     let here = segments c.loop.here.bytes in
     let same = same_state who start (spec.caller c.loop.self) (spec.state g.R.Rng.stream c.loop.self) (as_looks c.loop.invariant.looks) in
-    let added = c.in_ok-add_tokens_at-2.ensures.ok ∙ ap (λ (t : State). map string_bytes c.loop.tokens.items ++ map (λ (l : Lock). l.token) (discovered t.locks here)) same in
+    let added = c.in_ok-add_tokens_at-2.ensures.ok ∙ ap (λ (t : State). map string_bytes c.loop.tokens.items ++ map (λ (l : Lock). l.token) (discovered_locks t.locks here)) same in
     tokens_whole (live who.now start) (segments c.args.path.now.bytes) here (map string_bytes c.loop.tokens.items) (map string_bytes c.add_tokens_at-2.new.tokens.items)
     (omega (arith, c.loop.invariant.left, c.loop-test.false, c.depth_of-end.ensures)) added c.loop.invariant.tokens
 
@@ -66,7 +66,7 @@ returns-clause-only g c =
     let start = spec.state g.R.Rng.stream c.args.self.now in
     let here = segments c.loop.here.bytes in
     let same = same_state who start (spec.caller c.loop.self) (spec.state g.R.Rng.stream c.loop.self) (as_looks c.loop.invariant.looks) in
-    let added = c.in_ok-add_tokens_at-2.ensures.ok ∙ ap (λ (t : State). map string_bytes c.loop.tokens.items ++ map (λ (l : Lock). l.token) (discovered t.locks here)) same in
+    let added = c.in_ok-add_tokens_at-2.ensures.ok ∙ ap (λ (t : State). map string_bytes c.loop.tokens.items ++ map (λ (l : Lock). l.token) (discovered_locks t.locks here)) same in
     only_more (live who.now start) (segments c.args.path.now.bytes) here (map string_bytes c.loop.tokens.items) (map string_bytes c.add_tokens_at-2.new.tokens.items)
     c.loop.invariant.front added c.loop.invariant.only
 

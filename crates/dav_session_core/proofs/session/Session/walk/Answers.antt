@@ -8,7 +8,9 @@ use Rattle.dav_files_core.specs.Resources.{IsResourceMap, Resource, at_path}
 use Rattle.dav_resource_core.specs.Step.{State}
 use Rattle.dav_session_core.specs.Sessions as spec
 use Rattle.dav_session_core.proofs.Looking.{as_looks, looks_on}
-use Rattle.dav_session_core.proofs.SubtreeLemmas.{begin, ended, fewer, goes_on, nothing_left, refused_walk, same_map, stands_as}
+use Rattle.dav_session_core.proofs.SubtreeLemmas.{begin, ended, fewer, goes_on, refused_walk, same_map}
+use Rattle.dav_path_core.proofs.paths.SubtreePaths.{nothing_left}
+use Rattle.dav_files_core.proofs.paths.SubtreeMaps.{stands_as}
 use Rattle.dav_session_core.proofs.session.Session.walk.Goals as goal
 
 pub loop-place-init : goal.loop-place-init

@@ -1,7 +1,7 @@
 use Rattle.std.proofs.Common.{map}
 use Rattle.dav_path_core.specs.Segments.{segments}
 use Rattle.dav_session_core.specs.Sessions as spec
-use Rattle.dav_session_core.proofs.SubtreeLemmas.{Walking, left_below}
+use Rattle.dav_files_core.proofs.paths.SubtreeMaps.{Walking, left_below}
 use Rattle.dav_session_core.proofs.session.Session.walk.Given as goal
 
 abbrev pub invariant-loop-place : goal.invariant-loop-place

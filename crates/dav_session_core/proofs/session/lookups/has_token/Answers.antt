@@ -6,7 +6,7 @@ use Rattle.dav_locks_core.specs.Lock.{Lock}
 use Rattle.dav_session_core.specs.Callers.{live}
 use Rattle.dav_session_core.specs.Conditions.{has_token}
 use Rattle.dav_session_core.specs.Sessions as spec
-use Rattle.dav_session_core.proofs.TokenLemmas.{any_discovered}
+use Rattle.dav_locks_core.proofs.answers.CoveringTokens.{any_discovered}
 use Rattle.dav_session_core.proofs.session.lookups.has_token.Goals as goal
 
 pub returns-clause-ok : goal.returns-clause-ok

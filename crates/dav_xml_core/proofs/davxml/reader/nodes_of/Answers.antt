@@ -1,7 +1,7 @@
 use Rattle.std.proofs.Common.{◌≡◌, sym, ap, ◌∙◌, ◌<◌, ◌≤◌, ◌-◌, suc, arith, length, map, Vec, Global}
 use Rattle.std.specs.Option.{ok_or}
 use Rattle.std.proofs.lemmas.Bool.{eqb-true, eqb-false}
-use Rattle.dav_xml_core.specs.Reading.{Front, step, finished}
+use Rattle.dav_xml_core.specs.Reading.{Front, step, finished_nodes}
 use Rattle.dav_xml_core.specs.Refusals.{NotWellFormed, read_on, nodes_answer}
 use Rattle.dav_xml_core.specs.Views.{front_of, node_of}
 use Rattle.dav_xml_core.specs.declared.davxml.documents.Node.{Node}
@@ -17,7 +17,7 @@ returns-then-is_empty c =
     let n = suc (length c.args.text.now) in
     let lt : c.loop.counter < n = omega arith in
     let empty : length c.loop.rest.now ≡ 0 = eqb-true _ 0 (sym c.is_empty.ensures ∙ c.if-is_empty.true) in
-    let whole : nodes_answer c.args.text.now ≡ ok_or (finished (front_of c.loop.builder)) (NotWellFormed 0) = ends (front_of c.loop.builder) n c.loop.counter c.loop.rest.now _ lt empty c.loop.invariant in
+    let whole : nodes_answer c.args.text.now ≡ ok_or (finished_nodes (front_of c.loop.builder)) (NotWellFormed 0) = ends (front_of c.loop.builder) n c.loop.counter c.loop.rest.now _ lt empty c.loop.invariant in
     rw whole (answers_at_end (λ (x : Vec Node Global). map node_of x.items) c.finished.result _ c.ok_or.result c.finished.ensures c.ok_or.ensures.value)
 
 pub returns-in-Err : goal.returns-in-Err

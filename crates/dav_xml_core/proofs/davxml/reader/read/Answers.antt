@@ -1,7 +1,7 @@
 use Rattle.std.proofs.Common.{◌≡◌, sym, ap, ◌∙◌, ◌<◌, ◌^◌, arith, length, map, Some}
 use Rattle.std.specs.Result.{result_ok}
 use Rattle.std.proofs.lemmas.Result.{err_from_is_err_and}
-use Rattle.dav_xml_core.specs.Refusals.{answer_of}
+use Rattle.dav_xml_core.specs.Refusals.{reading_answer}
 use Rattle.dav_xml_core.specs.Reading.{document_of}
 use Rattle.dav_xml_core.specs.Views.{node_of}
 use Rattle.dav_xml_core.proofs.ElementLemmas.{one_element}
@@ -13,7 +13,7 @@ use Rattle.dav_xml_core.proofs.davxml.reader.read.Goals as goal
 pub returns-in_err-nodes-clause-document : goal.returns-in_err-nodes-clause-document
 returns-in_err-nodes-clause-document c =
     let p = err_from_is_err_and c.from_residual.result c.from_residual.ensures.1 in
-    rw (p.1, p.2) (refused_as c.in_err-nodes.field-0.0 (answer_of c.args.bytes.now) _ (answers_agree c.args.bytes.now) c.in_err-nodes.ensures)
+    rw (p.1, p.2) (refused_as c.in_err-nodes.field-0.0 (reading_answer c.args.bytes.now) _ (answers_agree c.args.bytes.now) c.in_err-nodes.ensures)
 
 pub returns-clause-document : goal.returns-clause-document
 returns-clause-document c = sym (answers_agree c.args.bytes.now) ∙ ap result_ok c.in_ok-nodes.ensures

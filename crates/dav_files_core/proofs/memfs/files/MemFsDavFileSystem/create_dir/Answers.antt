@@ -1,7 +1,7 @@
 use Rattle.std.proofs.Common.{inr, Ok, refl, sym, ap, ◌∙◌}
 use Rattle.dav_path_core.specs.Fronts.{parent}
 use Rattle.dav_path_core.specs.Segments.{segments}
-use Rattle.dav_files_core.specs.Outcomes.{added, touched}
+use Rattle.dav_files_core.specs.Outcomes.{with_new_entry, with_modified_time}
 use Rattle.dav_files_core.specs.Resources.{Node, ResourceMap, at_path}
 use Rattle.dav_files_core.proofs.walks.LeadLemmas.{entry, missing}
 use Rattle.dav_files_core.proofs.changes.MakingLemmas.{made_taken, made_free, folder_stays}
@@ -30,5 +30,5 @@ returns-in-Missing-clause-answer c =
     let stays = folder_stays c.args.self.now names c.args.now.0 c.in-Missing.folder _ here c.new_folder-node.result in
     let touch = c.touch.ensures.change (parent names) stays.0 (ap (λ m. at_path m (parent names)) left ∙ stays.1) stays.2 in
     made_free c.args.self.now names c.args.now.0 c.in-Missing.folder _ here
-    ∙ ap (λ (node : Node). Ok (tt {0}, touched (added c.args.self.now names node) (parent names) c.args.now.0)) (sym c.new_folder-node.ensures)
-    ∙ ap (λ (m : ResourceMap). Ok (tt {0}, touched m (parent names) c.args.now.0)) (sym left) ∙ ap (λ (m : ResourceMap). Ok (tt {0}, m)) (sym touch)
+    ∙ ap (λ (node : Node). Ok (tt {0}, with_modified_time (with_new_entry c.args.self.now names node) (parent names) c.args.now.0)) (sym c.new_folder-node.ensures)
+    ∙ ap (λ (m : ResourceMap). Ok (tt {0}, with_modified_time m (parent names) c.args.now.0)) (sym left) ∙ ap (λ (m : ResourceMap). Ok (tt {0}, m)) (sym touch)

@@ -1,10 +1,10 @@
 use Rattle.std.proofs.Common.{◌≡◌, inl, inr, Ok, Err, Result, sym, ap, ◌∙◌, subst}
 use Rattle.std.proofs.lemmas.Result.{err_from_is_err_and}
-use Rattle.dav_path_core.specs.Answers.{AnswersWithRoom}
+use Rattle.dav_path_core.specs.StoreAnswers.{AnswersWithRoom}
 use Rattle.dav_path_core.specs.declared.errors.FsError.{FsError}
 use Rattle.dav_path_core.specs.Fronts.{parent}
 use Rattle.dav_path_core.specs.Segments.{segments}
-use Rattle.dav_files_core.specs.Outcomes.{Outcome, touched}
+use Rattle.dav_files_core.specs.Outcomes.{Outcome, with_modified_time}
 use Rattle.dav_files_core.specs.Resources.{ResourceMap, at_path}
 use Rattle.dav_files_core.proofs.moves.RenamedLemmas.{ends, went, stayed}
 use Rattle.dav_files_core.proofs.memfs.files.MemFsDavFileSystem.rename.Goals as goal
@@ -70,4 +70,4 @@ returns-clause-answer c =
     let first = c.touch.ensures.change (parent from) x.upper.0 x.upper.1 x.upper.2 in
     let low = x.lower c.args.now.0 in
     let second = c.touch-2.ensures.change (parent to) low.0 (ap (λ m. at_path m (parent to)) first ∙ low.1) low.2 in
-    x.done c.args.now.0 ∙ ap (λ (m : ResourceMap). Ok (tt {0}, touched m (parent to) c.args.now.0)) (sym first) ∙ ap (λ (m : ResourceMap). Ok (tt {0}, m)) (sym second)
+    x.done c.args.now.0 ∙ ap (λ (m : ResourceMap). Ok (tt {0}, with_modified_time m (parent to) c.args.now.0)) (sym first) ∙ ap (λ (m : ResourceMap). Ok (tt {0}, m)) (sym second)

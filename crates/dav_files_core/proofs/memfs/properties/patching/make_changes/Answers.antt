@@ -1,5 +1,5 @@
 use Rattle.std.proofs.Common.{option_map, ◌∙◌}
-use Rattle.dav_files_core.specs.Private.Patching.{changes_of}
+use Rattle.dav_files_core.specs.Private.PropertyChanges.{changes_of}
 use Rattle.dav_files_core.specs.Private.PropertyMaps.{properties_of}
 use Rattle.dav_files_core.specs.Properties.{property_of}
 use Rattle.dav_files_core.proofs.properties.PatchLemmas.{one_less, room_left}

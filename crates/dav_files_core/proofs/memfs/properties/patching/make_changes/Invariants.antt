@@ -1,6 +1,6 @@
 use Rattle.std.proofs.Common.{◌≡◌, Some, IsSome, unwrap_or, length}
 use Rattle.std.specs.FinMap.{get}
-use Rattle.dav_files_core.specs.Private.Patching.{Key, changes_of}
+use Rattle.dav_files_core.specs.Private.PropertyChanges.{Key, changes_of}
 use Rattle.dav_files_core.specs.Private.PropertyMaps.{properties_of}
 use Rattle.dav_files_core.specs.Resources.{Property}
 use Rattle.dav_files_core.proofs.memfs.properties.patching.make_changes.Given as goal

@@ -1,13 +1,13 @@
 use Rattle.std.proofs.Common.{map, ap}
-use Rattle.dav_files_core.specs.Private.Patching.{changes_of}
+use Rattle.dav_files_core.specs.Private.PropertyChanges.{changes_of}
 use Rattle.dav_files_core.specs.Private.PropertyMaps.{properties_of}
-use Rattle.dav_files_core.specs.Properties.{answer_of}
+use Rattle.dav_files_core.specs.Properties.{patch_answer}
 use Rattle.dav_files_core.proofs.properties.PatchLemmas.{none_comes, none_missing, answer_more, entry_more}
 use Rattle.dav_files_core.proofs.memfs.properties.patching.read_patch.Goals as goal
 
 pub loop-set-init : goal.loop-set-init
 loop-set-init c = record {
-  answered = ap (map answer_of) c.new-answers.ensures.items;
+  answered = ap (map patch_answer) c.new-answers.ensures.items;
   comes_to = none_comes c.new.result.entries c.new.ensures.empty;
   missing = none_missing (properties_of c.args.kept.now.entries) c.new.result.entries c.new-2.result.items c.new.ensures.empty c.new-2.ensures.items;
 }

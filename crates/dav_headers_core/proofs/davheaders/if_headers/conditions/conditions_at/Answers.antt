@@ -2,7 +2,7 @@ use Rattle.std.proofs.Common.{◌≡◌, ◌++◌, ◌∷◌, [], sym, ap, ◌�
 use Rattle.std.proofs.lemmas.Result.{err_from_is_err_and}
 use Rattle.std.proofs.lemmas.List.{map_push}
 use Rattle.dav_headers_core.specs.Private.IfReading.{after_byte, skip_blanks, condition_at, conditions_at}
-use Rattle.dav_headers_core.specs.Gives.{Refuses, RefusesFirst}
+use Rattle.dav_headers_core.specs.HeaderGives.{Refuses, RefusesFirst}
 use Rattle.dav_headers_core.proofs.lists.GivesLemmas.{refused_anyhow}
 use Rattle.dav_headers_core.specs.IfValues.{condition_of, conditions_of}
 use Rattle.dav_headers_core.proofs.ifs.IfLoopLemmas.{closes, goes_on, fails}

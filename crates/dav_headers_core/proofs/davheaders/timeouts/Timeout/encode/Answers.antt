@@ -1,6 +1,6 @@
 use Rattle.std.proofs.Common.{◌≡◌, ◌≢◌, ap, ◌∙◌, [], ◌∷◌, Some, string_bytes}
-use Rattle.dav_headers_core.specs.Pieces.{joined}
-use Rattle.dav_headers_core.specs.Values.{written}
+use Rattle.dav_headers_core.specs.CommaPieces.{joined_by_commas}
+use Rattle.dav_headers_core.specs.Values.{value_of_text}
 use Rattle.dav_headers_core.proofs.lists.GivesLemmas.{given_anyhow}
 use Rattle.dav_headers_core.specs.Timeouts.{timeout_header, timeouts_text}
 use Rattle.dav_headers_core.proofs.texts.PieceLemmas.{joined_by}
@@ -13,12 +13,12 @@ text_is c =
     let texts = c.in_ok-texts.texts.items in
     let ok = rw c.deref-2.ensures.value at c.in_ok-join.ensures.ok in
     let shown = rw c.deref.ensures.value at c.in_ok-texts.ensures.texts in
-    ok ∙ joined_by string_bytes texts ∙ ap joined shown
+    ok ∙ joined_by string_bytes texts ∙ ap joined_by_commas shown
 
 pub returns-clause-value : goal.returns-clause-value
 returns-clause-value c =
     let gives = rw (text_is c) at c.value_of.ensures in
-    given_anyhow (λ value. value) c.value_of.result (written (timeouts_text c.args.self.now.0.items)) gives
+    given_anyhow (λ value. value) c.value_of.result (value_of_text (timeouts_text c.args.self.now.0.items)) gives
 
 pub returns-clause-reads_back : goal.returns-clause-reads_back
 returns-clause-reads_back c =

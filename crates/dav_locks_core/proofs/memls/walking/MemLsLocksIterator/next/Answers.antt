@@ -1,6 +1,6 @@
 use Rattle.std.proofs.Common.{◌≡◌, ◌∷◌, List, length, rules, sym, ap, ◌∙◌, arith}
 use Rattle.dav_locks_core.specs.Lock.{Lock}
-use Rattle.dav_locks_core.specs.Private.Walking.{locks_by}
+use Rattle.dav_locks_core.specs.Private.LockWalking.{locks_by}
 use Rattle.dav_locks_core.proofs.answers.ListingLemmas.{none_by, first_by}
 use Rattle.dav_locks_core.proofs.memls.walking.MemLsLocksIterator.next.Goals as goal
 

@@ -1,7 +1,7 @@
 use Rattle.std.proofs.Common.{◌≡◌, Option, Some, map, string_bytes, subst, sym, ap, ◌∙◌, rules, unwrap_or}
 use Rattle.std.specs.HashMap.{get_by_text}
 use Rattle.std.proofs.lemmas.List.{map_push}
-use Rattle.dav_resource_core.specs.Private.Labels.{AreSmallest}
+use Rattle.dav_resource_core.specs.Private.LabelMaps.{AreSmallest}
 use Rattle.dav_resource_core.proofs.LabelLemmas.{granted_again}
 use Rattle.dav_resource_core.proofs.davreplay.labels.Labels.add.Goals as goal
 

@@ -4,7 +4,7 @@ use Rattle.std.proofs.lemmas.List.{length-map, length_push, map_push}
 use Rattle.std.proofs.lemmas.Map.Text.{hash_map_updates_text}
 use Rattle.std.proofs.lemmas.Slice.Eq.{bytes_eq-Decides}
 use Rattle.dav_resource_core.specs.Labels.{smallest_label}
-use Rattle.dav_resource_core.specs.Private.Labels.{AreSmallest}
+use Rattle.dav_resource_core.specs.Private.LabelMaps.{AreSmallest}
 use Rattle.dav_resource_core.proofs.LabelLemmas.{granted_first}
 use Rattle.dav_resource_core.proofs.davreplay.labels.Labels.add_first.Goals as goal
 

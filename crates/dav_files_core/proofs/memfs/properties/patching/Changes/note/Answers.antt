@@ -1,4 +1,4 @@
-use Rattle.dav_files_core.specs.Private.Patching.{changes_of}
+use Rattle.dav_files_core.specs.Private.PropertyChanges.{changes_of}
 use Rattle.dav_files_core.specs.Private.PropertyMaps.{properties_of}
 use Rattle.dav_files_core.specs.Properties.{property_of}
 use Rattle.dav_files_core.proofs.properties.PatchLemmas.{taken_more, set_more}

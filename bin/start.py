@@ -28,7 +28,7 @@ Serves a WebDAV folder on 127.0.0.1 at PORT, else 8080 (0: any that is free), an
 The first start proves the server before it runs it, which takes some time and is told.
 
   --scheme http|https             the scheme by which clients come, where a proxy stands between
-  --prefix PATH                   the path that the folder stands at
+  --prefix PATH                   the path that the folder stands at, as /dav
   --user-header NAME              the header in which a proxy names the user; without it all requests are one user
   --longest-timeout SECONDS       the longest time that a lock is given; without it a lock may last for ever
   --propfind-depth finite|infinite    whether a PROPFIND of infinite depth is refused

@@ -51,12 +51,15 @@ FILES = """\
 1 MKCOL /d
 1 MKCOL /n/m
 1 MKCOL /m < x
+2 DELETE /d/f < x
+1 MKCOL /m | If-Match: "a", "b"
 1 REPORT /d
 2 PROPPATCH /d/f < {red}
 2 PROPPATCH /d < {red}
 2 PROPPATCH /d/f < {dated}
 2 PROPPATCH /n < {red}
 2 PROPPATCH /d/f < <a/>
+2 PROPPATCH /d/f | If-Match: "a", "b" < {red}
 2 PROPFIND /d | Depth: 1 < {some}
 2 PROPFIND /d | Depth: 1 < {names}
 2 PROPFIND /d/f | Depth: 0
@@ -72,6 +75,7 @@ FILES = """\
 1 DELETE /d | Depth: 0
 1 DELETE /
 1 DELETE /n
+1 DELETE /d/e | If-Match: "a", "b"
 1 DELETE /d/e
 1 PUT /d/f | Connection: close < last
 1 PUT /x < late
@@ -92,6 +96,8 @@ TRANSFERS = """\
 2 COPY /s/b | Destination: http://h/f
 2 COPY /s/b | Destination: http://other/f
 2 COPY /s/b
+2 COPY /s/b | Destination: /f | If-Match: "a", "b"
+2 COPY /s/b | Destination: /f < x
 2 COPY /s | Destination: /s
 2 COPY /n | Destination: /t
 2 COPY /s | Destination: /n/t
@@ -113,6 +119,8 @@ TRANSFERS = """\
 1 MOVE /k | Destination: /n/z
 1 MOVE /k | Destination: /f | Overwrite: F
 1 MOVE /k | Destination: /s | Depth: 0
+1 MOVE /k | Destination: /z | If-None-Match: "a", *
+1 MOVE /k | Destination: /z < x
 2 DELETE /s/c
 """
 
@@ -134,8 +142,10 @@ LOCKS = """\
 2 LOCK /x/y/z < {exclusive}
 2 LOCK /d/f < <a/>
 2 LOCK /d/f | Depth: 1 < {exclusive}
+2 LOCK /d/f | If-Match: "a", "b" < {shared}
 1 LOCK /d/f | If: (<{t1}>) | Timeout: Second-900
 2 LOCK /d/f | If: (<{t1}>)
+1 LOCK /d/f | If: (<{t1}>) | If-Match: "a", "b"
 1 LOCK /d/f | If: (<urn:x>)
 2 PROPFIND /d | Depth: 1
 2 PROPPATCH /d/f < {red}
@@ -145,6 +155,8 @@ LOCKS = """\
 2 UNLOCK /d/f | Lock-Token: <{t1}>
 1 UNLOCK /d/f | Lock-Token: <{t9}>
 1 UNLOCK /d/f
+1 UNLOCK /d/f | Lock-Token: <{t1}> < x
+1 UNLOCK /d/f | Lock-Token: <{t1}> | If-Match: "a", "b"
 1 COPY /d/e/g | Destination: /d/f | If: <http://h/d/f> (<{t1}>)
 2 GET /d/f
 2 LOCK /d/e | Timeout: Second-5 < {shared}

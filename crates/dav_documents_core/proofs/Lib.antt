@@ -18,6 +18,7 @@ pub mod ReadChildLemmas
 pub mod RefusalReadingLaws
 pub mod SearchLemmas
 pub mod SearchedLemmas
+pub mod TimeLeftLaws
 pub mod ToldDocumentLemmas
 pub mod VisibleTextLemmas
 pub mod WordLemmas

@@ -14,7 +14,7 @@ use Rattle.dav_documents_core.specs.declared.live_properties.Live.TheVariants as
 use Rattle.dav_documents_core.specs.declared.live_properties.TheConstants.{LIVE}
 use Rattle.dav_documents_core.specs.KeptElements.{IsDocument, IsElementIn, IsElementName, IsKeptLock, IsKeptProperty, IsVisible}
 use Rattle.dav_documents_core.specs.LiveProperties.{has_live, live_named, live_word}
-use Rattle.dav_documents_core.specs.LockDocuments.{active_lock, depth_word, discovery_pieces, kind_nodes, lock_discovery, lock_name_nodes, owner_pieces, scope_word, supported_locks, terms, lock_timeout_text, token_nodes}
+use Rattle.dav_documents_core.specs.LockDocuments.{active_lock, depth_word, discovery_pieces, kind_nodes, lock_discovery, lock_name_nodes, owner_pieces, scope_word, seconds_between, supported_locks, terms, lock_timeout_text, time_left_text, token_nodes}
 use Rattle.dav_documents_core.specs.Pieces.{DocumentPiece, enclosed_pieces, made_pieces, written_pieces}
 use Rattle.dav_documents_core.specs.PropertyDocuments.{Description, dead_name_nodes, dead_pieces, dead_value, finds, found_pieces, found_stat, has_value, is_dead, is_named, kept_pieces, lacks, live_pieces, missing_nodes, missing_of, multistatus, name_nodes, name_of_property, own_name_nodes, own_pieces, propstat, response_pieces, text_element, type_nodes, value_by, value_pieces}
 use Rattle.dav_documents_core.specs.PropertyQuestions.{Question, All, Names, Listed, asked_names}
@@ -66,9 +66,11 @@ depth_seen : (deep : Bool) → IsVisible (depth_word deep)
 depth_seen true = seen (codes "infinity") refl refl
 depth_seen false = seen (codes "0") refl refl
 
-timeout_seen : (timeout : Option ℕ) → IsVisible (lock_timeout_text timeout)
-timeout_seen None = seen (codes "Infinite") refl refl
-timeout_seen (Some seconds) = seen (codes "Second-" ++ decimal seconds) refl (joined (codes "Second-") (decimal seconds) refl (decimal_visible seconds).each)
+timeout_seen : (now : ℕ) (end : Option ℕ) → IsVisible (time_left_text now end)
+timeout_seen now None = seen (codes "Infinite") refl refl
+timeout_seen now (Some end) =
+    let left = decimal (seconds_between now end) in
+    seen (codes "Second-" ++ left) refl (joined (codes "Second-") left refl (decimal_visible (seconds_between now end)).each)
 
 owner_fine : (owner : Option (List ℕ)) → IsElementIn owner → AreFine (owner_pieces owner)
 owner_fine None h = none
@@ -84,17 +86,17 @@ pub record IsTellable (d : Description) : Type 0 where
   pub props : AllByRecursion IsKeptProperty d.props
   pub locks : AllByRecursion IsKeptLock d.locks
 
-module _ (prefix : List ℕ) (principal : Option (List ℕ)) where
+module _ (prefix : List ℕ) (principal : Option (List ℕ)) (now : ℕ) where
   token_fine : (l : Lock) → IsKeptLock l → AreFineNodes (token_nodes principal l)
   token_fine l h =
       let token = element (codes "href") (Text l.token ∷ []) in
       nodes_either (same_text l.principal principal) (element (codes "locktoken") token) []
       (nodes_within (codes "locktoken") token word.locktoken (text (codes "href") l.token word.href h.token)) none
 
-  names_fine : (l : Lock) → IsKeptLock l → AreFineNodes (lock_name_nodes prefix principal l)
+  names_fine : (l : Lock) → IsKeptLock l → AreFineNodes (lock_name_nodes prefix principal now l)
   names_fine l h =
-      nodes_both (element (codes "timeout") (Text (lock_timeout_text l.timeout) ∷ [])) (token_nodes principal l ++ element (codes "lockroot") (href prefix l.path))
-      (text (codes "timeout") (lock_timeout_text l.timeout) word.timeout (timeout_seen l.timeout))
+      nodes_both (element (codes "timeout") (Text (lock_timeout_text now l) ∷ [])) (token_nodes principal l ++ element (codes "lockroot") (href prefix l.path))
+      (text (codes "timeout") (lock_timeout_text now l) word.timeout (timeout_seen now l.timeout_at))
       (nodes_both (token_nodes principal l) (element (codes "lockroot") (href prefix l.path)) (token_fine l h)
       (nodes_within (codes "lockroot") (href prefix l.path) word.lockroot (text (codes "href") (url_path prefix l.path) word.href (path_visible prefix l.path h.rooted))))
 
@@ -105,23 +107,23 @@ module _ (prefix : List ℕ) (principal : Option (List ℕ)) where
       (text (codes "depth") (depth_word l.deep) word.depth (depth_seen l.deep)))
       (owner_fine l.owner h.owner)
 
-  lock_fine : (l : Lock) → IsKeptLock l → AreFine (active_lock prefix principal l)
+  lock_fine : (l : Lock) → IsKeptLock l → AreFine (active_lock prefix principal now l)
   lock_fine l h =
-      within (codes "activelock") (terms l ++ made_pieces (lock_name_nodes prefix principal l)) word.activelock
-      (both (terms l) (made_pieces (lock_name_nodes prefix principal l)) (terms_fine l h) (names_fine l h))
+      within (codes "activelock") (terms l ++ made_pieces (lock_name_nodes prefix principal now l)) word.activelock
+      (both (terms l) (made_pieces (lock_name_nodes prefix principal now l)) (terms_fine l h) (names_fine l h))
 
-  each_lock : (locks : List Lock) → AllByRecursion IsKeptLock locks → AllByRecursion (λ l. AreFine (active_lock prefix principal l)) locks
+  each_lock : (locks : List Lock) → AllByRecursion IsKeptLock locks → AllByRecursion (λ l. AreFine (active_lock prefix principal now l)) locks
   each_lock [] h = tt
   each_lock (l ∷ locks) h = (lock_fine l h.0, each_lock locks h.1)
 
-  pub discovery_fine : (locks : List Lock) → AllByRecursion IsKeptLock locks → AreFine (lock_discovery prefix principal locks)
+  pub discovery_fine : (locks : List Lock) → AllByRecursion IsKeptLock locks → AreFine (lock_discovery prefix principal now locks)
   discovery_fine locks h =
-      within (codes "lockdiscovery") (flat_map (active_lock prefix principal) locks) word.lockdiscovery
-      (all_of (active_lock prefix principal) locks (each_lock locks h))
+      within (codes "lockdiscovery") (flat_map (active_lock prefix principal now) locks) word.lockdiscovery
+      (all_of (active_lock prefix principal now) locks (each_lock locks h))
 
   -- the answer to a LOCK
-  pub locks_are_read : (locks : List Lock) → AllByRecursion IsKeptLock locks → IsDocument (written_pieces (discovery_pieces prefix principal locks))
-  locks_are_read locks h = document (codes "prop") (lock_discovery prefix principal locks) word.prop (discovery_fine locks h)
+  pub locks_are_read : (locks : List Lock) → AllByRecursion IsKeptLock locks → IsDocument (written_pieces (discovery_pieces prefix principal now locks))
+  locks_are_read locks h = document (codes "prop") (lock_discovery prefix principal now locks) word.prop (discovery_fine locks h)
 
   -- ---- a resource
 
@@ -129,7 +131,7 @@ module _ (prefix : List ℕ) (principal : Option (List ℕ)) where
   type_fine true = nodes_within (codes "resourcetype") (element (codes "collection") []) word.resourcetype (empty (codes "collection") word.collection)
   type_fine false = empty (codes "resourcetype") word.resourcetype
 
-  live_fine : (d : Description) (property : Live) → IsTellable d → AreFine (live_pieces prefix principal d property)
+  live_fine : (d : Description) (property : Live) → IsTellable d → AreFine (live_pieces prefix principal now d property)
   live_fine d live.CreationDate h = text (codes "creationdate") d.created word.creationdate h.created
   live_fine d live.ContentLength h = text (codes "getcontentlength") (decimal d.size) word.getcontentlength (decimal_visible d.size)
   live_fine d live.ContentType h = text (codes "getcontenttype") d.content_type word.getcontenttype h.content_type
@@ -139,10 +141,10 @@ module _ (prefix : List ℕ) (principal : Option (List ℕ)) where
   live_fine d live.ResourceType h = type_fine d.folder
   live_fine d live.SupportedLocks h = supported_fine
 
-  own_fine : (d : Description) (property : Live) → IsTellable d → AreFine (own_pieces prefix principal d property)
-  own_fine d property h = either (has_live d.folder property) (live_pieces prefix principal d property) [] (live_fine d property h) none
+  own_fine : (d : Description) (property : Live) → IsTellable d → AreFine (own_pieces prefix principal now d property)
+  own_fine d property h = either (has_live d.folder property) (live_pieces prefix principal now d property) [] (live_fine d property h) none
 
-  each_own : (d : Description) (properties : List Live) → IsTellable d → AllByRecursion (λ property. AreFine (own_pieces prefix principal d property)) properties
+  each_own : (d : Description) (properties : List Live) → IsTellable d → AllByRecursion (λ property. AreFine (own_pieces prefix principal now d property)) properties
   each_own d [] h = tt
   each_own d (property ∷ properties) h = (own_fine d property h, each_own d properties h)
 
@@ -162,14 +164,14 @@ module _ (prefix : List ℕ) (principal : Option (List ℕ)) where
       by true others = h.0.1
       by false others = others
 
-  value_fine : (d : Description) (name : Name) → IsTellable d → AreFine (value_pieces prefix principal d name)
+  value_fine : (d : Description) (name : Name) → IsTellable d → AreFine (value_pieces prefix principal now d name)
   value_fine d name h = by (live_named name)
     where
-      by : (found : Option Live) → AreFine (value_by prefix principal d name found)
+      by : (found : Option Live) → AreFine (value_by prefix principal now d name found)
       by (Some property) = own_fine d property h
       by None = kept_fine (dead_value d.props name) (found_kept d.props name h.props)
 
-  each_value : (d : Description) (asked : List Name) → IsTellable d → AllByRecursion (λ name. AreFine (value_pieces prefix principal d name)) asked
+  each_value : (d : Description) (asked : List Name) → IsTellable d → AllByRecursion (λ name. AreFine (value_pieces prefix principal now d name)) asked
   each_value d [] h = tt
   each_value d (name ∷ asked) h = (value_fine d name h, each_value d asked h)
 
@@ -201,14 +203,14 @@ module _ (prefix : List ℕ) (principal : Option (List ℕ)) where
 
   -- ---- what is told of a resource
 
-  found_fine : (d : Description) (question : Question) → IsTellable d → AreFine (found_pieces prefix principal d question)
+  found_fine : (d : Description) (question : Question) → IsTellable d → AreFine (found_pieces prefix principal now d question)
   found_fine d (All included) h =
-      both (flat_map (own_pieces prefix principal d) LIVE) (flat_map dead_pieces d.props) (all_of (own_pieces prefix principal d) LIVE (each_own d LIVE h))
+      both (flat_map (own_pieces prefix principal now d) LIVE) (flat_map dead_pieces d.props) (all_of (own_pieces prefix principal now d) LIVE (each_own d LIVE h))
       (all_of dead_pieces d.props (dead_fine d.props h.props))
   found_fine d Names h =
       nodes_both (flat_map (own_name_nodes d) LIVE) (flat_map dead_name_nodes d.props) (nodes_of (own_name_nodes d) LIVE (each_live_name d LIVE))
       (nodes_of dead_name_nodes d.props (each_dead_name d.props h.props))
-  found_fine d (Listed asked) h = all_of (value_pieces prefix principal d) asked (each_value d asked h)
+  found_fine d (Listed asked) h = all_of (value_pieces prefix principal now d) asked (each_value d asked h)
 
   propstat_fine : (status : List ℕ) (inside : List DocumentPiece) → IsVisible status → AreFine inside → AreFine (propstat status inside)
   propstat_fine status inside is h =
@@ -216,13 +218,13 @@ module _ (prefix : List ℕ) (principal : Option (List ℕ)) where
       (both (enclosed_pieces (codes "prop") inside) (made_pieces (text_element (codes "status") status)) (within (codes "prop") inside word.prop h)
       (text (codes "status") status word.status is))
 
-  response_fine : (question : Question) (d : Description) → AllByRecursion IsElementName (asked_names question) → IsTellable d → AreFine (response_pieces prefix principal question d)
+  response_fine : (question : Question) (d : Description) → AllByRecursion IsElementName (asked_names question) → IsTellable d → AreFine (response_pieces prefix principal now question d)
   response_fine question d asked h =
-      let found = found_pieces prefix principal d question in
+      let found = found_pieces prefix principal now d question in
       let lacking = flat_map (missing_nodes d) (asked_names question) in
-      within (codes "response") (made_pieces (text_element (codes "href") d.url) ++ (found_stat prefix principal question d ++ missing_of (asked_names question) d)) word.response
-      (both (made_pieces (text_element (codes "href") d.url)) (found_stat prefix principal question d ++ missing_of (asked_names question) d) (text (codes "href") d.url word.href h.url)
-      (both (found_stat prefix principal question d) (missing_of (asked_names question) d)
+      within (codes "response") (made_pieces (text_element (codes "href") d.url) ++ (found_stat prefix principal now question d ++ missing_of (asked_names question) d)) word.response
+      (both (made_pieces (text_element (codes "href") d.url)) (found_stat prefix principal now question d ++ missing_of (asked_names question) d) (text (codes "href") d.url word.href h.url)
+      (both (found_stat prefix principal now question d) (missing_of (asked_names question) d)
       (either (finds d question) (propstat (codes "HTTP/1.1 200 OK") found) []
       (propstat_fine (codes "HTTP/1.1 200 OK") found (seen (codes "HTTP/1.1 200 OK") refl refl) (found_fine d question h)) none)
       (either (lacks d (asked_names question)) (propstat (codes "HTTP/1.1 404 Not Found") (made_pieces lacking)) []
@@ -230,13 +232,13 @@ module _ (prefix : List ℕ) (principal : Option (List ℕ)) where
       (nodes_of (missing_nodes d) (asked_names question) (each_missing d (asked_names question) asked))) none)))
 
   each_response : (question : Question) (resources : List Description) → AllByRecursion IsElementName (asked_names question) → AllByRecursion IsTellable resources
-      → AllByRecursion (λ d. AreFine (response_pieces prefix principal question d)) resources
+      → AllByRecursion (λ d. AreFine (response_pieces prefix principal now question d)) resources
   each_response question [] asked h = tt
   each_response question (d ∷ resources) asked h = (response_fine question d asked h.0, each_response question resources asked h.1)
 
   -- the answer to a PROPFIND
   pub resources_are_read : (question : Question) (resources : List Description) → AllByRecursion IsElementName (asked_names question)
-      → AllByRecursion IsTellable resources → IsDocument (written_pieces (multistatus prefix principal question resources))
+      → AllByRecursion IsTellable resources → IsDocument (written_pieces (multistatus prefix principal now question resources))
   resources_are_read question resources asked h =
-      document (codes "multistatus") (flat_map (response_pieces prefix principal question) resources) word.multistatus
-      (all_of (response_pieces prefix principal question) resources (each_response question resources asked h))
+      document (codes "multistatus") (flat_map (response_pieces prefix principal now question) resources) word.multistatus
+      (all_of (response_pieces prefix principal now question) resources (each_response question resources asked h))

@@ -35,20 +35,20 @@ abbrev pub type_nodes : Bool → List Node
 type_nodes folder =
     if folder then element (codes "resourcetype") (element (codes "collection") []) else element (codes "resourcetype") []
 
--- as the principal sees it, behind the prefix of the server
-abbrev pub live_pieces : List ℕ → Option (List ℕ) → Description → Live → List DocumentPiece
-live_pieces prefix principal d live.CreationDate = made_pieces (text_element (codes "creationdate") d.created)
-live_pieces prefix principal d live.ContentLength = made_pieces (text_element (codes "getcontentlength") (decimal d.size))
-live_pieces prefix principal d live.ContentType = made_pieces (text_element (codes "getcontenttype") d.content_type)
-live_pieces prefix principal d live.Tag = made_pieces (text_element (codes "getetag") d.tag)
-live_pieces prefix principal d live.LastModified = made_pieces (text_element (codes "getlastmodified") d.modified)
-live_pieces prefix principal d live.Locks = lock_discovery prefix principal d.locks
-live_pieces prefix principal d live.ResourceType = made_pieces (type_nodes d.folder)
-live_pieces prefix principal d live.SupportedLocks = made_pieces supported_locks
+-- as the principal sees it at a moment, behind the prefix of the server
+abbrev pub live_pieces : List ℕ → Option (List ℕ) → ℕ → Description → Live → List DocumentPiece
+live_pieces prefix principal now d live.CreationDate = made_pieces (text_element (codes "creationdate") d.created)
+live_pieces prefix principal now d live.ContentLength = made_pieces (text_element (codes "getcontentlength") (decimal d.size))
+live_pieces prefix principal now d live.ContentType = made_pieces (text_element (codes "getcontenttype") d.content_type)
+live_pieces prefix principal now d live.Tag = made_pieces (text_element (codes "getetag") d.tag)
+live_pieces prefix principal now d live.LastModified = made_pieces (text_element (codes "getlastmodified") d.modified)
+live_pieces prefix principal now d live.Locks = lock_discovery prefix principal now d.locks
+live_pieces prefix principal now d live.ResourceType = made_pieces (type_nodes d.folder)
+live_pieces prefix principal now d live.SupportedLocks = made_pieces supported_locks
 
 -- where the resource has it
-abbrev pub own_pieces : List ℕ → Option (List ℕ) → Description → Live → List DocumentPiece
-own_pieces prefix principal d property = if has_live d.folder property then live_pieces prefix principal d property else []
+abbrev pub own_pieces : List ℕ → Option (List ℕ) → ℕ → Description → Live → List DocumentPiece
+own_pieces prefix principal now d property = if has_live d.folder property then live_pieces prefix principal now d property else []
 
 -- ---- dead properties
 
@@ -83,12 +83,12 @@ has_value_by d name None = is_some (dead_value d.props name)
 abbrev pub has_value : Description → Name → Bool
 has_value d name = has_value_by d name (live_named name)
 
-abbrev pub value_by : List ℕ → Option (List ℕ) → Description → Name → Option Live → List DocumentPiece
-value_by prefix principal d name (Some property) = own_pieces prefix principal d property
-value_by prefix principal d name None = kept_pieces (dead_value d.props name)
+abbrev pub value_by : List ℕ → Option (List ℕ) → ℕ → Description → Name → Option Live → List DocumentPiece
+value_by prefix principal now d name (Some property) = own_pieces prefix principal now d property
+value_by prefix principal now d name None = kept_pieces (dead_value d.props name)
 
-abbrev pub value_pieces : List ℕ → Option (List ℕ) → Description → Name → List DocumentPiece
-value_pieces prefix principal d name = value_by prefix principal d name (live_named name)
+abbrev pub value_pieces : List ℕ → Option (List ℕ) → ℕ → Description → Name → List DocumentPiece
+value_pieces prefix principal now d name = value_by prefix principal now d name (live_named name)
 
 -- the name alone
 abbrev pub name_nodes : Name → List Node
@@ -105,10 +105,10 @@ dead_name_nodes p = if is_dead p then name_nodes (name_of_property p) else []
 
 -- ---- what a question finds, and what it doesn't
 
-abbrev pub found_pieces : List ℕ → Option (List ℕ) → Description → Question → List DocumentPiece
-found_pieces prefix principal d (All included) = flat_map (own_pieces prefix principal d) LIVE ++ flat_map dead_pieces d.props
-found_pieces prefix principal d Names = made_pieces (flat_map (own_name_nodes d) LIVE ++ flat_map dead_name_nodes d.props)
-found_pieces prefix principal d (Listed names) = flat_map (value_pieces prefix principal d) names
+abbrev pub found_pieces : List ℕ → Option (List ℕ) → ℕ → Description → Question → List DocumentPiece
+found_pieces prefix principal now d (All included) = flat_map (own_pieces prefix principal now d) LIVE ++ flat_map dead_pieces d.props
+found_pieces prefix principal now d Names = made_pieces (flat_map (own_name_nodes d) LIVE ++ flat_map dead_name_nodes d.props)
+found_pieces prefix principal now d (Listed names) = flat_map (value_pieces prefix principal now d) names
 
 -- it finds something, or it asks for nothing
 abbrev pub finds : Description → Question → Bool
@@ -121,9 +121,9 @@ lacks d names = list_any (λ name. not (has_value d name)) names
 abbrev pub propstat : List ℕ → List DocumentPiece → List DocumentPiece
 propstat status inside = enclosed_pieces (codes "propstat") (enclosed_pieces (codes "prop") inside ++ made_pieces (text_element (codes "status") status))
 
-abbrev pub found_stat : List ℕ → Option (List ℕ) → Question → Description → List DocumentPiece
-found_stat prefix principal question d =
-    if finds d question then propstat (codes "HTTP/1.1 200 OK") (found_pieces prefix principal d question) else []
+abbrev pub found_stat : List ℕ → Option (List ℕ) → ℕ → Question → Description → List DocumentPiece
+found_stat prefix principal now question d =
+    if finds d question then propstat (codes "HTTP/1.1 200 OK") (found_pieces prefix principal now d question) else []
 
 -- of these names
 abbrev pub missing_of : List Name → Description → List DocumentPiece
@@ -134,11 +134,11 @@ missing_stat question d = missing_of (asked_names question) d
 
 -- ---- the document
 
-abbrev pub response_pieces : List ℕ → Option (List ℕ) → Question → Description → List DocumentPiece
-response_pieces prefix principal question d =
-    enclosed_pieces (codes "response") (made_pieces (text_element (codes "href") d.url) ++ (found_stat prefix principal question d ++ missing_stat question d))
+abbrev pub response_pieces : List ℕ → Option (List ℕ) → ℕ → Question → Description → List DocumentPiece
+response_pieces prefix principal now question d =
+    enclosed_pieces (codes "response") (made_pieces (text_element (codes "href") d.url) ++ (found_stat prefix principal now question d ++ missing_stat question d))
 
 -- a response for each resource, in order
-abbrev pub multistatus : List ℕ → Option (List ℕ) → Question → List Description → List DocumentPiece
-multistatus prefix principal question resources =
-    enclosed_pieces (codes "multistatus") (flat_map (response_pieces prefix principal question) resources)
+abbrev pub multistatus : List ℕ → Option (List ℕ) → ℕ → Question → List Description → List DocumentPiece
+multistatus prefix principal now question resources =
+    enclosed_pieces (codes "multistatus") (flat_map (response_pieces prefix principal now question) resources)

@@ -1,8 +1,13 @@
-//! The laws of what is told of refusals, and of what is kept of properties. They do nothing.
-ghost use Rattle.std.specs.Prelude.{◌≡◌, ◌<◌, ◌^◌, ℕ, length, List, Some};
+//! The laws of what is told of refusals and of locks, and of what is kept of properties. They do nothing.
+ghost use Rattle.std.specs.Prelude.{◌≡◌, ◌+◌, ◌*◌, ◌<◌, ◌^◌, ℕ, Bool, codes, decimal, length, List, ◌++◌, Option, Some};
 ghost use Rattle.std.specs.List.{AllByRecursion};
+ghost use Rattle.dav_path_core.specs.PathText.{PathText};
+ghost use Rattle.dav_locks_core.specs.Lock.{Lock};
+ghost use Rattle.dav_locks_core.specs.Locks.{refreshed_lock};
+ghost use Rattle.dav_locks_core.specs.NewLock.{new_lock};
 ghost use Rattle.dav_faults_core.specs.declared.faults.Fault.{Fault};
 ghost use Rattle.dav_documents_core.specs.KeptReading.{IsReadAsSent};
+ghost use Rattle.dav_documents_core.specs.LockDocuments.{lock_timeout_text};
 ghost use Rattle.dav_documents_core.specs.PropertyUpdates.{Update, updates_in};
 ghost use Rattle.dav_documents_core.specs.RefusalReading.{HasPath, IsReadAsTold};
 
@@ -16,4 +21,13 @@ pub fn refusals_are_read()
 /// that holds around it. It does nothing.
 pub fn kept_properties_are_read()
     ensures { (body : List ℕ) (updates : List Update) → length body < 2 ^ 64 → updates_in body ≡ Some updates → AllByRecursion IsReadAsSent updates }
+{}
+
+/// The law of what is told of a new end (RFC 4918 section 14.29): a lock that is granted, or refreshed, for so many seconds is told to stand for these, unless its end would
+/// pass the greatest moment. It does nothing.
+pub fn new_ends_are_told()
+    ensures granted { (token : List ℕ) (path : PathText) (principal owner : Option (List ℕ)) (seconds : ℕ) (shared deep : Bool) (now : ℕ) → now + seconds * 1000000000 < 2 ^ 64
+        → lock_timeout_text now (new_lock token path principal owner (Some seconds) shared deep now) ≡ codes "Second-" ++ decimal seconds }
+    ensures refreshed { (l : Lock) (seconds now : ℕ) → now + seconds * 1000000000 < 2 ^ 64
+        → lock_timeout_text now (refreshed_lock now (Some seconds) l) ≡ codes "Second-" ++ decimal seconds }
 {}

@@ -11,6 +11,7 @@ ghost use Rattle.dav_documents_core.specs.RefusalBodies.{element, href};
 use crate::documents::{begin, write_href, write_text, write_within};
 use dav_locks_core::ls::DavLock;
 use dav_path_core::davpath::DavPath;
+use dav_path_core::util::Moment;
 use dav_xml_core::davxml::Writer;
 use std::alloc::{AllocError, Global};
 
@@ -18,37 +19,39 @@ use std::alloc::{AllocError, Global};
 const SUPPORTED_LOCKS: &[u8] =
     b"<D:supportedlock><D:lockentry><D:lockscope><D:exclusive></D:exclusive></D:lockscope><D:locktype><D:write></D:write></D:locktype></D:lockentry><D:lockentry><D:lockscope><D:shared></D:shared></D:lockscope><D:locktype><D:write></D:write></D:locktype></D:lockentry></D:supportedlock>";
 
-/// The body of the answer to a LOCK: the locks in order, as a principal sees them (RFC 4918 section 9.10.1).
+/// The body of the answer to a LOCK: the locks in order, as a principal sees them at a moment (RFC 4918 section 9.10.1).
 pub fn discovery_document(
     alloc: Global,
     prefix: &str,
     principal: &Option<String>,
+    now: Moment,
     locks: &[DavLock],
 ) -> Result<Vec<u8>, AllocError>
     ensures { IfOk result (λ document. document.items
-        ≡ written_pieces (spec.discovery_pieces prefix.now (option_map string_bytes principal.now) locks.now)) }
+        ≡ written_pieces (spec.discovery_pieces prefix.now (option_map string_bytes principal.now) now.0 locks.now)) }
 {
     let mut writer = Writer::new(alloc);
     begin(&mut writer, "prop")?;
-    write_discovery(alloc, &mut writer, prefix, principal, locks)?;
+    write_discovery(alloc, &mut writer, prefix, principal, now, locks)?;
     writer.end()?;
     Ok(writer.into_bytes())
 }
 
-/// Locks in order, as a principal sees them (RFC 4918 section 15.8).
+/// Locks in order, as a principal sees them at a moment (RFC 4918 section 15.8).
 pub fn write_discovery(
     alloc: Global,
     writer: &mut Writer,
     prefix: &str,
     principal: &Option<String>,
+    now: Moment,
     locks: &[DavLock],
 ) -> Result<(), AllocError>
     ensures { OnOk result (writing_of writer.new
-        ≡ and_pieces (writing_of writer.old) (spec.lock_discovery prefix.now (option_map string_bytes principal.now) locks.now)) }
+        ≡ and_pieces (writing_of writer.old) (spec.lock_discovery prefix.now (option_map string_bytes principal.now) now.0 locks.now)) }
 {
     begin(writer, "lockdiscovery")?;
     for lock in locks {
-        write_active(alloc, writer, prefix, principal, lock)?;
+        write_active(alloc, writer, prefix, principal, now, lock)?;
     }
     writer.end()
 }
@@ -82,14 +85,15 @@ fn write_active(
     writer: &mut Writer,
     prefix: &str,
     principal: &Option<String>,
+    now: Moment,
     lock: &DavLock,
 ) -> Result<(), AllocError>
     ensures { OnOk result (writing_of writer.new
-        ≡ and_pieces (writing_of writer.old) (spec.active_lock prefix.now (option_map string_bytes principal.now) lock.now)) }
+        ≡ and_pieces (writing_of writer.old) (spec.active_lock prefix.now (option_map string_bytes principal.now) now.0 lock.now)) }
 {
     begin(writer, "activelock")?;
     write_terms(writer, lock)?;
-    write_names(alloc, writer, prefix, principal, lock)?;
+    write_names(alloc, writer, prefix, principal, now, lock)?;
     writer.end()
 }
 
@@ -102,18 +106,19 @@ fn write_terms(writer: &mut Writer, lock: &DavLock) -> Result<(), AllocError>
     write_owner(writer, &lock.owner)
 }
 
-// Until when it stands, how it is named, and where it stands.
+// How long it stands, how it is named, and where it stands.
 fn write_names(
     alloc: Global,
     writer: &mut Writer,
     prefix: &str,
     principal: &Option<String>,
+    now: Moment,
     lock: &DavLock,
 ) -> Result<(), AllocError>
     ensures { OnOk result (writing_of writer.new
-        ≡ with_nodes (writing_of writer.old) (spec.lock_name_nodes prefix.now (option_map string_bytes principal.now) lock.now)) }
+        ≡ with_nodes (writing_of writer.old) (spec.lock_name_nodes prefix.now (option_map string_bytes principal.now) now.0 lock.now)) }
 {
-    write_timeout(alloc, writer, lock.timeout)?;
+    write_timeout(alloc, writer, now, lock)?;
     write_token(writer, principal, lock)?;
     write_root(alloc, writer, prefix, &lock.path)
 }
@@ -149,18 +154,31 @@ fn write_owner(writer: &mut Writer, owner: &Option<String>) -> Result<(), AllocE
     }
 }
 
-// As it was asked for.
-fn write_timeout(alloc: Global, writer: &mut Writer, timeout: Option<u64>) -> Result<(), AllocError>
+// How long the lock stands from a moment on.
+fn write_timeout(
+    alloc: Global,
+    writer: &mut Writer,
+    now: Moment,
+    lock: &DavLock,
+) -> Result<(), AllocError>
     ensures { OnOk result (writing_of writer.new
-        ≡ with_nodes (writing_of writer.old) (element (codes "timeout") (Text (spec.lock_timeout_text timeout) ∷ []))) }
+        ≡ with_nodes (writing_of writer.old) (element (codes "timeout") (Text (spec.lock_timeout_text now.0 lock.now) ∷ []))) }
 {
-    match timeout {
-        Some(seconds) => {
+    match lock.timeout_at {
+        Some(end) => {
+            let seconds = seconds_between(now, end);
             let text = format!(in alloc; "Second-{seconds}")?;
             write_text(writer, "timeout", &text)
-        }
+        },
         None => write_text(writer, "timeout", "Infinite"),
     }
+}
+
+// The whole seconds from a moment to another; none where that has passed.
+fn seconds_between(now: Moment, end: Moment) -> u64
+    ensures { result ≡ spec.seconds_between now.0 end.0 }
+{
+    end.0.saturating_sub(now.0) / 1_000_000_000
 }
 
 // The token, for the lock's principal.

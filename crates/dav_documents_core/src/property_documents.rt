@@ -20,6 +20,7 @@ use crate::documents::{begin, write_text};
 use crate::property_questions::Question;
 use dav_files_core::fs::DavProp;
 use dav_locks_core::ls::DavLock;
+use dav_path_core::util::Moment;
 use dav_xml_core::davxml::{Name, Writer};
 use found::{finds, write_found};
 use names::{has_value, rise, write_missing};
@@ -48,17 +49,18 @@ pub struct Description {
     pub locks: Vec<DavLock>,
 }
 
-/// The answer to a question about a resource, as a principal sees it (RFC 4918 section 14.24).
+/// The answer to a question about a resource, as a principal sees it at a moment (RFC 4918 section 14.24).
 pub fn write_response(
     alloc: Global,
     writer: &mut Writer,
     prefix: &str,
     principal: &Option<String>,
+    now: Moment,
     question: &Question,
     description: &Description,
 ) -> Result<(), AllocError>
     ensures { OnOk result (writing_of writer.new ≡ and_pieces (writing_of writer.old)
-        (spec.response_pieces prefix.now (option_map string_bytes principal.now) (question_of question.now) (description_of description.now))) }
+        (spec.response_pieces prefix.now (option_map string_bytes principal.now) now.0 (question_of question.now) (description_of description.now))) }
 {
     begin(writer, "response")?;
     write_text(writer, "href", &description.url)?;
@@ -68,6 +70,7 @@ pub fn write_response(
         writer,
         prefix,
         principal,
+        now,
         question,
         description,
         risen,
@@ -82,13 +85,14 @@ fn write_found_stat(
     writer: &mut Writer,
     prefix: &str,
     principal: &Option<String>,
+    now: Moment,
     question: &Question,
     description: &Description,
     risen: bool,
 ) -> Result<(), AllocError>
     requires { risen ≡ true → Rise description.now.props.items }
     ensures { OnOk result (writing_of writer.new ≡ and_pieces (writing_of writer.old)
-        (spec.found_stat prefix.now (option_map string_bytes principal.now) (question_of question.now) (description_of description.now))) }
+        (spec.found_stat prefix.now (option_map string_bytes principal.now) now.0 (question_of question.now) (description_of description.now))) }
 {
     if finds(description, risen, question) {
         return write_found_props(
@@ -96,6 +100,7 @@ fn write_found_stat(
             writer,
             prefix,
             principal,
+            now,
             question,
             description,
             risen,
@@ -109,13 +114,14 @@ fn write_found_props(
     writer: &mut Writer,
     prefix: &str,
     principal: &Option<String>,
+    now: Moment,
     question: &Question,
     description: &Description,
     risen: bool,
 ) -> Result<(), AllocError>
     requires { risen ≡ true → Rise description.now.props.items }
     ensures { OnOk result (writing_of writer.new ≡ and_pieces (writing_of writer.old) (spec.propstat (codes "HTTP/1.1 200 OK")
-        (spec.found_pieces prefix.now (option_map string_bytes principal.now) (description_of description.now) (question_of question.now)))) }
+        (spec.found_pieces prefix.now (option_map string_bytes principal.now) now.0 (description_of description.now) (question_of question.now)))) }
 {
     begin_stat(writer)?;
     write_found(
@@ -123,6 +129,7 @@ fn write_found_props(
         writer,
         prefix,
         principal,
+        now,
         question,
         description,
         risen,

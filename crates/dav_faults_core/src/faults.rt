@@ -26,7 +26,10 @@ pub enum Fault {
     /// 404: there is nothing at the path, or it isn't behind the prefix (RFC 9110 section 15.5.5).
     NotFound,
     /// 405: what stands at the path doesn't take the method (RFC 9110 section 15.5.6).
-    MethodNotAllowed,
+    MethodNotAllowed {
+        /// A folder stands there, else a file.
+        folder: bool,
+    },
     /// 409: there is no folder in which the path could stand (RFC 4918 section 9.7.1).
     Conflict,
     /// 409: no lock with the token covers the path (RFC 4918 sections 9.11.1 and 16).
@@ -62,7 +65,7 @@ impl Fault {
             Fault::Forbidden => StatusCode::FORBIDDEN,
             Fault::InfiniteDepth => StatusCode::FORBIDDEN,
             Fault::NotFound => StatusCode::NOT_FOUND,
-            Fault::MethodNotAllowed => StatusCode::METHOD_NOT_ALLOWED,
+            Fault::MethodNotAllowed { .. } => StatusCode::METHOD_NOT_ALLOWED,
             Fault::Conflict => StatusCode::CONFLICT,
             Fault::NoSuchLock => StatusCode::CONFLICT,
             Fault::PreconditionFailed => StatusCode::PRECONDITION_FAILED,

@@ -3,12 +3,16 @@ pub mod Collecting
 pub mod DestinationLemmas
 pub mod DistinctTokens
 pub mod FieldLemmas
+mod FieldRows
 pub mod FileTagLemmas
+pub mod FrontedLemmas
+pub mod IfSaysLemmas
 pub mod ListedTagLemmas
 pub mod PreconditionLaws
 mod PreconditionRows
 pub mod ReadMarks
 pub mod RefusalLemmas
+pub mod TagFrontLemmas
 pub mod TagGrammarLaws
 pub mod TaggedLemmas
 pub mod TypeLemmas

@@ -1,6 +1,5 @@
 -- Why a request isn't read, by what its parts are refused with.
 use Rattle.std.proofs.Common.{◌≡◌, ◌∙◌, ◌⊎◌, inl, inr, ℕ, List, [], ◌∷◌, ◌++◌, Option, Some, refl, sym, ap, subst}
-use Rattle.std.specs.Prelude.{codes}
 use Rattle.http_header.specs.FieldValue.{FieldValue}
 use Rattle.http_header.specs.HeaderMap.{Entries, get_all}
 use Rattle.http_uri.specs.declared.uri.Uri.{Uri}
@@ -19,7 +18,7 @@ use Rattle.dav_headers_core.specs.IfValues.{Located, ReadsAs}
 use Rattle.dav_faults_core.specs.declared.faults.Fault.TheVariants as fault
 use Rattle.dav_faults_core.specs.Faults.{fault_of_path, fault_of_header}
 use Rattle.dav_fields_core.specs.Targets.{IsPathOf, RefusesPath}
-use Rattle.dav_fields_core.specs.RequestRefusals.{RefusesTarget, RefusesPrincipal, NamesNobody, HasBadIf}
+use Rattle.dav_fields_core.specs.RequestRefusals.{RefusesTarget, RefusesPrincipal, NamesNobody}
 
 -- ---- targets
 
@@ -75,23 +74,14 @@ pub nobody_named : (named : Option (List ℕ)) (headers : Entries FieldValue) (n
 nobody_named named headers name value is_named only nobody =
     subst (λ (n : Option (List ℕ)). RefusesPrincipal n headers fault.Unauthorized) (sym is_named) (inr (value, only, nobody))
 
--- an `If` whose one value isn't read
-pub unread_if : (headers : Entries FieldValue) (name : List ℕ) (value : FieldValue) (values : List FieldValue) (e : HeaderError) → name ≡ codes "if"
-    → get_all headers name ≡ value ∷ [] → values ≡ value ∷ [] → ((lists : List Located) → ReadsAs values lists → e ≡ header.OutOfMemory)
-    → (fault_of_header e ≡ fault.InsufficientStorage) ⊎ ((fault_of_header e ≡ fault.BadRequest) × HasBadIf headers)
-unread_if headers name value values header.OutOfMemory named only same read = inl refl
-unread_if headers name value values header.Invalid named only same read =
-    let there : get_all headers (codes "if") ≡ value ∷ [] = subst (λ n. get_all headers n ≡ value ∷ []) named only in
-    inr (
-      refl,
-      (
-        λ none. cons_or_none value (sym there ∙ none),
-        λ lists reading. apart (read lists (subst (λ v. ReadsAs v lists) (there ∙ sym same) reading)),
-      ),
-    )
+-- an `If` whose one value isn't read by itself
+pub unread_if : (value : FieldValue) (values : List FieldValue) (e : HeaderError) → values ≡ value ∷ []
+    → ((lists : List Located) → ReadsAs values lists → e ≡ header.OutOfMemory)
+    → (fault_of_header e ≡ fault.InsufficientStorage)
+    ⊎ ((fault_of_header e ≡ fault.BadRequest) × ((lists : List Located) → ¬ ReadsAs (value ∷ []) lists))
+unread_if value values header.OutOfMemory only read = inl refl
+unread_if value values header.Invalid only read =
+    inr (refl, λ lists h. apart (read lists (subst (λ v. ReadsAs v lists) (sym only) h)))
   where
     apart : header.Invalid ≡ header.OutOfMemory → ⊥
     apart h = cc
-
-    cons_or_none : (v : FieldValue) → v ∷ [] ≡ [] → ⊥
-    cons_or_none v h = cc

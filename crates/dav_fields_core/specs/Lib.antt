@@ -1,4 +1,5 @@
 pub mod Bases
+pub mod BehindWords
 pub mod ContentTypes
 pub mod Dates
 pub mod Reaches
@@ -14,6 +15,7 @@ pub mod Preconditions
 pub mod Private
 pub mod Ranges
 pub mod RequestRefusals
+pub mod RootedTags
 pub mod Senders
 pub mod TagGrammar
 pub mod TaggedLists

@@ -1,15 +1,35 @@
 -- How long a lock is to stand: by what a request asks for, and by the greatest timeout that is given (RFC 4918 sections 6.6, 9.10.1 and 10.7).
-use Rattle.std.specs.Prelude.{ℕ, Bool, true, false, ◌&&◌, nat_le, nat_lt, max, List, [], ◌∷◌, Option, None, Some, option_map, codes, if◌then◌else◌}
+use Rattle.std.specs.Prelude.{ℕ, Bool, true, false, not, ◌&&◌, ◌==◌, nat_le, nat_lt, max, List, [], ◌∷◌, length, Option, None, Some, option_map, codes, if◌then◌else◌}
+use Rattle.std.specs.List.{filter_map}
+use Rattle.std.specs.Str.{str_eq_ignore_ascii_case}
 use Rattle.http_header.specs.FieldValue.{FieldValue}
 use Rattle.http_header.specs.HeaderMap.{Entries, get_all}
-use Rattle.dav_headers_core.specs.Timeouts.{timeout_header}
+use Rattle.dav_headers_core.specs.CommaPieces.{comma_pieces}
+use Rattle.dav_headers_core.specs.Numbers.{number}
+use Rattle.dav_headers_core.specs.Optional.{◌>>=◌, when}
+use Rattle.dav_headers_core.specs.Values.{one_text}
 use Rattle.dav_headers_core.specs.declared.davheaders.timeouts.DavTimeout.{DavTimeout}
 use Rattle.dav_headers_core.specs.declared.davheaders.timeouts.DavTimeout.TheVariants.{Seconds, Infinite}
+use Rattle.dav_fields_core.specs.BehindWords.{behind_word}
 
--- what a request asks for, the wanted timeout first; nothing without a `Timeout`; no list where that can't be read
+-- `Infinite`, or `Second-` and a number below 2 ^ 32, in any case of letters (RFC 5234 section 2.3)
+abbrev pub timeout_spelled : List ℕ → Option DavTimeout
+timeout_spelled piece =
+    if str_eq_ignore_ascii_case piece (codes "Infinite") then Some Infinite
+    else (behind_word (codes "Second") 45 piece
+    >>= λ digits. option_map Seconds (number 32 digits))
+
+-- those that the pieces of a text spell, where one does; a piece that spells none is passed over
+abbrev pub timeouts_spelled : List ℕ → Option (List DavTimeout)
+timeouts_spelled text =
+    let timeouts = filter_map timeout_spelled (comma_pieces text) in
+    when (not (length timeouts == 0)) timeouts
+
+-- what a request asks for, the wanted timeout first; nothing without a `Timeout`; no list where that
+-- can't be read, as several can't
 abbrev pub timeouts_by : List FieldValue → Option (List DavTimeout)
 timeouts_by [] = Some []
-timeouts_by values = timeout_header values
+timeouts_by values = one_text values >>= timeouts_spelled
 
 abbrev pub timeouts_in : Entries FieldValue → Option (List DavTimeout)
 timeouts_in headers = timeouts_by (get_all headers (codes "timeout"))

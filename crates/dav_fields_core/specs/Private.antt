@@ -1,1 +1,2 @@
 pub mod ListElements
+pub mod TagFronts

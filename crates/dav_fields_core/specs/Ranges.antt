@@ -1,22 +1,30 @@
 -- Ranges of bytes (RFC 9110 section 14): which bytes of a file a request asks for.
 use Rattle.std.specs.Prelude.{ℕ, Bool, ◌+◌, ◌-◌, ◌==◌, nat_lt, nat_le, if◌then◌else◌, List, ◌∷◌, ◌++◌, codes, decimal, Option, None, Some}
-use Rattle.std.specs.List.{list_any}
+use Rattle.std.specs.List.{list_any, slice_split}
 use Rattle.http_header.specs.FieldValue.{FieldValue}
 use Rattle.dav_headers_core.specs.Optional.{◌>>=◌}
-use Rattle.dav_headers_core.specs.UpdateRanges.{range_of}
+use Rattle.dav_headers_core.specs.UpdateRanges.{is_hyphen, range_between, two}
 use Rattle.dav_headers_core.specs.Values.{one_value, text_of}
 use Rattle.dav_headers_core.specs.declared.davheaders.update_ranges.XUpdateRange.{XUpdateRange}
 use Rattle.dav_headers_core.specs.declared.davheaders.update_ranges.XUpdateRange.TheVariants.{FromTo, AllFrom, Last, Append}
 use Rattle.dav_fields_core.specs.declared.ranges.Extent.{Extent}
 use Rattle.dav_fields_core.specs.declared.ranges.Extent.TheVariants as extent
+use Rattle.dav_fields_core.specs.BehindWords.{behind_word}
 
 -- `+`, which no position of a range begins with
 abbrev pub has_sign : List ℕ → Bool
 has_sign text = list_any (λ b. b == 43) text
 
--- the range that a value spells: `bytes=A-B`, `bytes=A-` or `bytes=-N`, with numbers below 2 ^ 64 (section 14.1.2)
+-- the range between the ends around one dash
+abbrev pub range_around_dash : List ℕ → Option XUpdateRange
+range_around_dash range = two (slice_split is_hyphen range) >>= λ ends. range_between ends.0 ends.1
+
+-- the range that a value spells: `bytes=A-B`, `bytes=A-` or `bytes=-N`, with the unit in any case of
+-- letters and numbers below 2 ^ 64 (sections 14.1 and 14.1.2)
 abbrev pub range_spelled : List ℕ → Option XUpdateRange
-range_spelled text = if has_sign text then None else (text_of text >>= range_of)
+range_spelled text =
+    if has_sign text then None
+    else (text_of text >>= behind_word (codes "bytes") 61 >>= range_around_dash)
 
 -- that of the one value
 abbrev pub range_in : List FieldValue → Option XUpdateRange

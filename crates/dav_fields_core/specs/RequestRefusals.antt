@@ -8,9 +8,11 @@ use Rattle.dav_path_core.specs.declared.davpath.ParseError.TheVariants as parse
 use Rattle.dav_path_core.specs.Fault as path
 use Rattle.dav_path_core.specs.Prefix.{SetsPrefix}
 use Rattle.dav_path_core.specs.PathReading.{Read}
-use Rattle.dav_headers_core.specs.IfValues.{Located, ReadsAs}
+use Rattle.dav_headers_core.specs.IfValues.{Located}
 use Rattle.dav_faults_core.specs.declared.faults.Fault.{Fault}
 use Rattle.dav_faults_core.specs.declared.faults.Fault.TheVariants as fault
+use Rattle.dav_fields_core.specs.Bases.{Site}
+use Rattle.dav_fields_core.specs.RootedTags.{IfSays}
 
 -- The target is no path, leads out of the root, or isn't behind the prefix of the server (RFC 3986 section 5.2.4, RFC 9110 section 7.1).
 abbrev pub RefusesTarget : List ℕ → Uri → Fault → Type 0
@@ -31,10 +33,10 @@ RefusesPrincipal (Some name) headers fault.Unauthorized =
     (get_all headers name ≡ []) ⊎ ((value : FieldValue) × (get_all headers name ≡ value ∷ []) × NamesNobody value)
 RefusesPrincipal _ headers _ = ⊥
 
--- there is an `If`, and its values have no reading, as several have none (RFC 4918 section 10.4)
-abbrev pub HasBadIf : Entries FieldValue → Type 0
-HasBadIf headers =
-    (get_all headers (codes "if") ≢ []) × ((lists : List Located) → ¬ ReadsAs (get_all headers (codes "if")) lists)
+-- there is an `If`, and it says nothing, as several values say nothing (RFC 4918 section 10.4)
+abbrev pub HasBadIf : Site → Entries FieldValue → Type 0
+HasBadIf site headers =
+    (get_all headers (codes "if") ≢ []) × ((lists : List Located) → ¬ IfSays site headers lists)
 
 -- the body is a part of a file, which a PUT can't take (RFC 9110 section 14.5)
 abbrev pub HasPart : Entries FieldValue → Type 0

@@ -2,8 +2,10 @@
 use Rattle.std.specs.Prelude.{◌≡◌, ◌⊎◌, ℕ, List, [], ◌∷◌, Option, None, Some, codes}
 use Rattle.http_header.specs.FieldValue.{FieldValue}
 use Rattle.http_header.specs.HeaderMap.{Entries, get_all}
-use Rattle.dav_headers_core.specs.IfValues.{Located, ReadsAs}
+use Rattle.dav_headers_core.specs.IfValues.{Located}
+use Rattle.dav_fields_core.specs.Bases.{Site}
 use Rattle.dav_fields_core.specs.IfTokens.{tokens_of}
+use Rattle.dav_fields_core.specs.RootedTags.{IfSays}
 
 -- nobody is named where no header is set; else the header has one value, which is the principal (own)
 abbrev pub NamesPrincipal : Option (List ℕ) → Entries FieldValue → Option (List ℕ) → Type 0
@@ -11,7 +13,7 @@ NamesPrincipal None headers principal = principal ≡ None
 NamesPrincipal (Some name) headers principal = (value : FieldValue) × (get_all headers name ≡ value ∷ []) × (principal ≡ Some value.bytes)
 
 -- the tokens that a request submits are those of its `If`; without one it submits none (RFC 4918 section 10.4)
-abbrev pub Submits : Entries FieldValue → List (List ℕ) → Type 0
-Submits headers tokens =
+abbrev pub Submits : Site → Entries FieldValue → List (List ℕ) → Type 0
+Submits site headers tokens =
     ((get_all headers (codes "if") ≡ []) × (tokens ≡ []))
-    ⊎ ((lists : List Located) × ReadsAs (get_all headers (codes "if")) lists × (tokens ≡ tokens_of lists))
+    ⊎ ((lists : List Located) × IfSays site headers lists × (tokens ≡ tokens_of lists))

@@ -1,6 +1,6 @@
 //! How far down a request reaches.
 ghost use Rattle.std.specs.Prelude.{◌≡◌, None, Some, IfErr, IfOk, OnOk};
-ghost use Rattle.dav_fields_core.specs.Reaches.{ReachesAll, reach_in, depth_in};
+ghost use Rattle.dav_fields_core.specs.Reaches.{ReachesAll, reach_in, depth_in, depth_spelled};
 ghost use Rattle.dav_faults_core.specs.declared.faults.Fault.TheVariants as fault;
 
 use crate::senders::value_of;
@@ -8,6 +8,16 @@ use dav_faults_core::faults::Fault;
 use dav_headers_core::davheaders::Depth;
 use http_header::{HeaderMap, HeaderName, HeaderValue};
 use std::slice;
+
+// The depth that a value spells: `infinity` in any case of letters, `0` or `1`.
+fn depth_spelled(value: &HeaderValue) -> Option<Depth>
+    ensures { result ≡ depth_spelled value.now.bytes }
+{
+    if value.as_bytes().eq_ignore_ascii_case(b"infinity") {
+        return Some(Depth::Infinity);
+    }
+    Depth::decode(slice::from_ref(value)).ok()
+}
 
 /// The depth of a request: all the way down where it has no `Depth` (RFC 4918 section 10.2). `BadRequest` where it can't be read, as where it has
 /// several values.
@@ -18,7 +28,7 @@ pub fn depth_in(headers: &HeaderMap<HeaderValue>) -> Result<Depth, Fault>
     let Some(value) = value_of(headers, &HeaderName::from_static("depth"))? else {
         return Ok(Depth::Infinity);
     };
-    Ok(Depth::decode(slice::from_ref(value))?)
+    depth_spelled(value).ok_or(Fault::BadRequest)
 }
 
 /// Whether a request reaches all the way down. `BadRequest` where it doesn't, or where its depth can't be read.

@@ -2,20 +2,18 @@
 ghost use Rattle.std.specs.Prelude.{◌≡◌, ℕ, List, None, Some, IfErr, IfOk};
 ghost use Rattle.dav_path_core.specs.declared.davpath.ParseError.{ParseError};
 ghost use Rattle.dav_headers_core.specs.Destinations.{is_rooted};
-ghost use Rattle.dav_fields_core.specs.TransferDestinations.{IsDestination, LeadsNowhere, NamesText, fault_of, overwrites};
+ghost use Rattle.dav_fields_core.specs.TransferDestinations.{IsDestination, LeadsNowhere, NamesText, fault_of, overwrite_spelled, overwrites};
 ghost use Rattle.dav_fields_core.specs.Targets.{IsPathOf, RefusesPath};
 ghost use Rattle.dav_faults_core.specs.declared.faults.Fault.TheVariants as fault;
 
-use crate::bases::{Scheme, base_of, url_of};
+use crate::bases::{Site, base_of, url_of};
 use crate::senders::value_of;
 use crate::tagged::is_same_server;
 use crate::targets::path_behind;
 use dav_faults_core::faults::Fault;
-use dav_headers_core::davheaders::Overwrite;
 use dav_path_core::davpath::{DavPath, ParseError};
 use http_header::{HeaderMap, HeaderName, HeaderValue};
 use std::alloc::Global;
-use std::slice;
 
 /// The path to which a request leads, behind the prefix of the server (RFC 4918 section 10.3).
 ///
@@ -23,19 +21,19 @@ use std::slice;
 /// server's, or not behind the prefix; `Forbidden` where it leads out of the root.
 pub fn destination_in(
     alloc: Global,
-    scheme: Scheme,
+    site: &Site<'_>,
     prefix: &str,
     headers: &HeaderMap<HeaderValue>,
 ) -> Result<DavPath, Fault>
-    ensures ok { IfOk result (λ path. IsDestination scheme prefix.now headers.now path) }
-    ensures err { IfErr result (λ e. LeadsNowhere scheme prefix.now headers.now e) }
+    ensures ok { IfOk result (λ path. IsDestination site.now prefix.now headers.now path) }
+    ensures err { IfErr result (λ e. LeadsNowhere site.now prefix.now headers.now e) }
 {
     let text = text_in(headers)?;
     if is_rooted(text) {
         return path_on(alloc, text, prefix);
     }
     let url = url_of(alloc, text)?;
-    let base = base_of(alloc, scheme, headers)?;
+    let base = base_of(alloc, site, headers)?;
     if !is_same_server(&url, &base) {
         return Err(Fault::BadGateway);
     }
@@ -76,6 +74,19 @@ fn path_on(alloc: Global, text: &str, prefix: &str) -> Result<DavPath, Fault>
     }
 }
 
+// What `T` or `F` says, in either case of letters.
+fn overwrite_spelled(text: &[u8]) -> Option<bool>
+    ensures { result ≡ overwrite_spelled text.now }
+{
+    if text.eq_ignore_ascii_case(b"T") {
+        return Some(true);
+    }
+    if text.eq_ignore_ascii_case(b"F") {
+        return Some(false);
+    }
+    None
+}
+
 /// Whether a request may replace what stands at its target; it may where it doesn't say (RFC 4918 section 10.6). `BadRequest` where that can't be read.
 pub fn overwrites(headers: &HeaderMap<HeaderValue>) -> Result<bool, Fault>
     ensures ok { IfOk result (λ may. overwrites headers.now ≡ Some may) }
@@ -84,5 +95,5 @@ pub fn overwrites(headers: &HeaderMap<HeaderValue>) -> Result<bool, Fault>
     let Some(value) = value_of(headers, &HeaderName::from_static("overwrite"))? else {
         return Ok(true);
     };
-    Ok(Overwrite::decode(slice::from_ref(value))?.0)
+    overwrite_spelled(value.as_bytes()).ok_or(Fault::BadRequest)
 }

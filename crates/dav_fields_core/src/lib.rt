@@ -14,5 +14,7 @@ pub mod preconditions;
 pub mod ranges;
 pub mod senders;
 pub mod state_tokens;
+mod tag_fronts;
 pub mod tagged;
 pub mod targets;
+mod words;

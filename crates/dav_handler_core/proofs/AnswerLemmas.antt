@@ -17,13 +17,13 @@ use Rattle.dav_locks_core.specs.Exclusive.{Exclusive}
 use Rattle.dav_locks_core.specs.Lock.{Lock}
 use Rattle.dav_resource_core.specs.Requests.{Command}
 use Rattle.dav_resource_core.specs.Step.{State, conflicts}
-use Rattle.dav_fields_core.specs.declared.bases.Scheme.{Scheme}
+use Rattle.dav_fields_core.specs.Bases.{Site}
 use Rattle.dav_faults_core.specs.declared.faults.Fault.{Fault}
 use Rattle.dav_faults_core.specs.declared.faults.Fault.TheVariants as fault
 use Rattle.dav_methods_core.specs.Admitting.{IsAdmitted, IsHeldOff}
-use Rattle.dav_handler_core.specs.MethodAnswers.{Admits, Begins, ChangeAnswers, Fails, GetAnswers, IsWhole, PutAnswers, Unread, as_found}
+use Rattle.dav_handler_core.specs.MethodAnswers.{Admits, BareAnswers, Begins, ChangeAnswers, Fails, GetAnswers, IsWhole, PutAnswers, RefusesBody, Unread, as_found}
 use Rattle.dav_handler_core.specs.Answers.{AnswersTo, EndsOne, Locks, MayDo}
-use Rattle.dav_handler_core.specs.Server.{IsFrom, Names, Options, Server}
+use Rattle.dav_handler_core.specs.Server.{IsFrom, Names, Options, Server, site_for}
 use Rattle.dav_handler_core.specs.MethodAnswers.Unread.{memory, target, principal, tokens, moment}
 use Rattle.dav_session_core.specs.Callers.{Asks, Caller, RunBy, Runs, asking, live}
 use Rattle.dav_fields_core.specs.Fields.{Sent}
@@ -31,8 +31,9 @@ use Rattle.dav_fields_core.specs.FileTags.{file_tag}
 use Rattle.dav_methods_core.specs.GetMethod.{FailsToGet, Gets}
 use Rattle.dav_fields_core.specs.Getting.{tag_marks}
 use Rattle.dav_session_core.specs.LocksInTheWay.{IsPathOfOne}
-use Rattle.dav_handler_core.specs.Private.Begun.{IsHeld}
-use Rattle.dav_methods_core.specs.PutMethod.{FailsToPut, Puts, locks_against_putting, props_of, put_course, put_status}
+use Rattle.dav_handler_core.specs.Private.Begun.{IsHeld, IsOverladen}
+use Rattle.dav_methods_core.specs.ChangeConditions.{change_course}
+use Rattle.dav_methods_core.specs.PutMethod.{FailsToPut, Puts, locks_against_putting, props_of, put_status}
 use Rattle.dav_fields_core.specs.RequestRefusals.{RefusesTarget, RefusesPrincipal, HasBadIf, HasPart, IsLastMoment}
 use Rattle.dav_fields_core.specs.Senders.{NamesPrincipal}
 use Rattle.dav_methods_core.specs.UnlockMethod.{Unlocks}
@@ -56,7 +57,9 @@ module _ (options : Options) (request : Request (List ℕ)) (last : ℕ) (change
 
   pub by_tokens : (path : PathText) (named : Option (List ℕ)) → Names options request path
       → NamesPrincipal options.user_header (head_of request).headers named
-      → (e ≡ fault.InsufficientStorage) ⊎ ((e ≡ fault.BadRequest) × HasBadIf (head_of request).headers) → Unread options request last changes e
+      → (e ≡ fault.InsufficientStorage)
+      ⊎ ((e ≡ fault.BadRequest) × HasBadIf (site_for options request) (head_of request).headers)
+      → Unread options request last changes e
   by_tokens path named names sender (inl h) = short h
   by_tokens path named names sender (inr h) =
       subst (λ (x : Fault). Unread options request last changes x) (sym h.0) (tokens path named names sender h.1)
@@ -76,17 +79,17 @@ begins_on before mid after request path who same h = record { names = h.names; f
 pub admits_on : (before mid after : Server) (request : Request (List ℕ)) (path : PathText) → after.last ≡ mid.last
     → Admits before request mid path → Admits before request after path
 admits_on before mid after request path same h =
-    subst (λ n. IsAdmitted before.options.scheme (live n before.state) (head_of request).headers path) (sym same) h
+    subst (λ n. IsAdmitted (site_for before.options request) (live n before.state) (head_of request).headers path) (sym same) h
 
 -- what holds it off, by the stores and the headers before it
-pub held_there : (before : Server) (request : Request (List ℕ)) (headers : Entries FieldValue) (path : PathText) (e : Fault) (scheme : Scheme) (now later : ℕ) (s : State)
-    → scheme ≡ before.options.scheme → now ≡ later → s ≡ before.state → headers ≡ (head_of request).headers → IsHeldOff scheme (live now s) headers path e
-    → IsHeldOff before.options.scheme (live later before.state) (head_of request).headers path e
-held_there before request headers path e scheme now later s of at same is h =
-    let there = subst (λ h. IsHeldOff scheme (live now s) h path e) is h in
-    let schemes = subst (λ x. IsHeldOff x (live now s) (head_of request).headers path e) of there in
-    let stores = subst (λ (t : State). IsHeldOff before.options.scheme (live now t) (head_of request).headers path e) same schemes in
-    subst (λ n. IsHeldOff before.options.scheme (live n before.state) (head_of request).headers path e) at stores
+pub held_there : (before : Server) (request : Request (List ℕ)) (headers : Entries FieldValue) (path : PathText) (e : Fault) (site : Site) (now later : ℕ) (s : State)
+    → site ≡ (site_for before.options request) → now ≡ later → s ≡ before.state → headers ≡ (head_of request).headers → IsHeldOff site (live now s) headers path e
+    → IsHeldOff (site_for before.options request) (live later before.state) (head_of request).headers path e
+held_there before request headers path e site now later s of at same is h =
+    let there = subst (λ h. IsHeldOff site (live now s) h path e) is h in
+    let sites = subst (λ x. IsHeldOff x (live now s) (head_of request).headers path e) of there in
+    let stores = subst (λ (t : State). IsHeldOff (site_for before.options request) (live now t) (head_of request).headers path e) same sites in
+    subst (λ n. IsHeldOff (site_for before.options request) (live n before.state) (head_of request).headers path e) at stores
 
 -- what the method does behind it is the caller's, too
 pub moves_on : (before mid after : Server) (request : Request (List ℕ)) (path : PathText) (who : Caller) → Begins before request mid path who → MayDo before request mid
@@ -194,13 +197,13 @@ fails_alike : (s t : State) (who : Caller) (p : Path) (bytes : List ℕ) (header
     → FailsToPut s who p bytes headers e → FailsToPut t who p bytes headers e
 fails_alike s t who p bytes headers fault.InsufficientStorage map locks h = tt
 fails_alike s t who p bytes headers (fault.Locked path) map locks h = subst (λ (stand : List Lock). IsPathOfOne stand path) (way s t who p bytes locks) h
-fails_alike s t who p bytes headers fault.MethodNotAllowed map locks h =
-    (sym (way s t who p bytes locks) ∙ h.0, (h.1.0, ap (λ m. at_path m p) (sym map) ∙ h.1.1, h.1.2))
+fails_alike s t who p bytes headers (fault.MethodNotAllowed folder) map locks h =
+    (h.0, sym (way s t who p bytes locks) ∙ h.1, (h.2.0, ap (λ m. at_path m p) (sym map) ∙ h.2.1, h.2.2))
 fails_alike s t who p bytes headers fault.Conflict map locks h =
     (sym (way s t who p bytes locks) ∙ h.0, ap (λ m. at_path m p) (sym map) ∙ h.1, (h.2.0, ap (λ m. put m p bytes who.now) (sym map) ∙ h.2.1))
 fails_alike s t who p bytes headers _ map locks h = (
   (sym (way s t who p bytes locks) ∙ h.0.0, (h.0.1.0, ap (λ m. put m p bytes who.now) (sym map) ∙ h.0.1.1)),
-  ap (λ m. put_course m p headers) (sym map) ∙ h.1,
+  ap (λ m. change_course method.Put m p headers) (sym map) ∙ h.1,
 )
 
 -- A PUT that was begun, from stores that have what those of the server before have.
@@ -210,7 +213,7 @@ module _ (before mid after : Server) (request : Request (List ℕ)) (path : Path
   abbrev Here : Path
   Here = segments path.bytes
 
-  pub put_done : (status : ℕ) (sent : Sent) → s.map ≡ before.state.map → live mid.last s ≡ live mid.last before.state → put_course s.map Here (head_of request).headers ≡ Ok tt
+  pub put_done : (status : ℕ) (sent : Sent) → s.map ≡ before.state.map → live mid.last s ≡ live mid.last before.state → change_course method.Put s.map Here (head_of request).headers ≡ Ok tt
       → status ≡ put_status s.map Here → Puts s who.now Here (body_of request) after.state
       → sent.marks ≡ tag_marks (file_tag who.now (length (body_of request)) ∷ []) → PutAnswers before request (Ok status) sent after
   put_done status sent there alike course is puts marks =
@@ -233,7 +236,7 @@ module _ (before mid after : Server) (request : Request (List ℕ)) (path : Path
           begins = begins_on before mid after request path who same begins;
           later = subst (λ n. before.last < n) (sym same) later;
           admits = admits_on before mid after request path same admits;
-          course = subst (λ m. put_course m Here (head_of request).headers ≡ Ok tt) there course;
+          course = subst (λ m. change_course method.Put m Here (head_of request).headers ≡ Ok tt) there course;
           status_is = is ∙ ap (λ m. put_status m Here) there;
           puts = put;
           marks = marks ∙ ap (λ n. tag_marks (file_tag n (length (body_of request)) ∷ [])) (sym puts.modified)
@@ -252,11 +255,11 @@ module _ (before mid after : Server) (request : Request (List ℕ)) (path : Path
 
   pub put_answered : (result : Result ℕ Fault) (sent : Sent) (bytes : List ℕ) (headers : Entries FieldValue) → bytes ≡ body_of request → headers ≡ (head_of request).headers
       → s.map ≡ before.state.map → live mid.last s ≡ live mid.last before.state
-      → IfOk result (λ code. (code ≡ put_status s.map Here) × Puts s who.now Here bytes after.state) → OnOk result (put_course s.map Here headers ≡ Ok tt)
+      → IfOk result (λ code. (code ≡ put_status s.map Here) × Puts s who.now Here bytes after.state) → OnOk result (change_course method.Put s.map Here headers ≡ Ok tt)
       → OnOk result (sent.marks ≡ tag_marks (file_tag who.now (length bytes) ∷ [])) → IfErr result (λ e. FailsToPut s who Here bytes headers e)
       → PutAnswers before request result sent after
   put_answered (Ok status) sent bytes headers body is there alike done course marks err =
-      put_done status sent there alike (subst (λ h. put_course s.map Here h ≡ Ok tt) is course) done.0
+      put_done status sent there alike (subst (λ h. change_course method.Put s.map Here h ≡ Ok tt) is course) done.0
       (subst (λ b. Puts s who.now Here b after.state) body done.1) (subst (λ b. sent.marks ≡ tag_marks (file_tag who.now (length b) ∷ [])) body marks)
   put_answered (Err e) sent bytes headers body is there alike done course marks err =
       put_refused e sent there (subst (λ n. live n s ≡ live n before.state) (sym begins.now) alike)
@@ -282,6 +285,32 @@ change_answered changes Does Refuses before mid after request path who same begi
 change_answered changes Does Refuses before mid after request path who same begins admits later s alike (Err e) done err =
     inr (refused_by before mid after request path who same begins admits e (λ p who. Refuses (as_found before after) who p e)
     (subst (λ (t : State). Refuses t who (segments path.bytes) e) (found_as before mid after who s same begins.now alike) err))
+
+-- ---- a method that takes no body
+
+-- one that wasn't begun, or was held off, or has a body
+pub bare_unread : (changes : Bool) (Refuses : State → Caller → Path → Fault → Type 0) (before after : Server) (request : Request (List ℕ)) (e : Fault)
+    → Unread before.options request before.last changes e ⊎ (IsHeld before request after e ⊎ IsOverladen before request after e)
+    → Unread before.options request before.last changes e ⊎ Fails before request after e (λ p who. RefusesBody request Refuses (as_found before after) who p e)
+bare_unread changes Refuses before after request e (inl h) = inl h
+bare_unread changes Refuses before after request e (inr (inl h)) =
+    inr (held_off before after request e (λ p who. RefusesBody request Refuses (as_found before after) who p e) h)
+bare_unread changes Refuses before after request e (inr (inr (path, (who, begins, admits, some, is)))) =
+    inr (record { path = path; who = who; begins = begins; why = inr (admits, inl (some, is)) })
+
+-- one that was begun, without a body
+pub bare_answered : (changes : Bool) (Does : State → Caller → Path → ℕ → State → Type 0) (Refuses : State → Caller → Path → Fault → Type 0)
+    (before mid after : Server) (request : Request (List ℕ)) (path : PathText) (who : Caller) (same : after.last ≡ mid.last)
+    (begins : Begins before request mid path who) (admits : Admits before request mid path) → (changes ≡ true → before.last < mid.last)
+    → (s : State) → live mid.last s ≡ live mid.last before.state → body_of request ≡ [] → (result : Result ℕ Fault)
+    → IfOk result (λ status. Does (live who.now s) who (segments path.bytes) status after.state)
+    → IfErr result (λ e. Refuses (live who.now s) who (segments path.bytes) e) → BareAnswers changes Does Refuses before request result after
+bare_answered changes Does Refuses before mid after request path who same begins admits later s alike bare (Ok status) done err =
+    change_answered changes (λ s who p status s'. (body_of request ≡ []) × Does s who p status s') (RefusesBody request Refuses) before mid after request path who same
+    begins admits later s alike (Ok status) (bare, done) err
+bare_answered changes Does Refuses before mid after request path who same begins admits later s alike bare (Err e) done err =
+    change_answered changes (λ s who p status s'. (body_of request ≡ []) × Does s who p status s') (RefusesBody request Refuses) before mid after request path who same
+    begins admits later s alike (Err e) done (inr (bare, err))
 
 -- ---- refusals
 

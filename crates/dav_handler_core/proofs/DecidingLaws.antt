@@ -23,12 +23,12 @@ use Rattle.dav_fields_core.specs.declared.preconditions.Course.TheVariants as co
 use Rattle.dav_fields_core.specs.declared.ranges.Extent.{Extent}
 use Rattle.dav_fields_core.specs.declared.ranges.Extent.TheVariants as extent
 use Rattle.dav_handler_core.specs.Answers.{AnswersTo, Leaves, status_of}
-use Rattle.dav_handler_core.specs.MethodAnswers.{Fails, HoldsOff, IsGotten, IsLocked, Unread, as_found, has_body}
-use Rattle.dav_handler_core.specs.Server.{Options, Server}
+use Rattle.dav_handler_core.specs.MethodAnswers.{Fails, HoldsOff, IsGotten, IsLocked, RefusesBody, Unread, as_found, has_body}
+use Rattle.dav_handler_core.specs.Server.{Options, Server, site_for}
 use Rattle.dav_handler_core.specs.MethodAnswers.Unread.{memory, target, principal, tokens, moment}
 use Rattle.dav_session_core.specs.Callers.{Caller, SameLive}
 use Rattle.dav_methods_core.specs.CopyMethod.{FailsToCopy}
-use Rattle.dav_handler_core.specs.Deciding.{HeldOff, SendsPart, SendsTag, Stops, WentOn, looks}
+use Rattle.dav_handler_core.specs.Deciding.{HeldOff, IsCourseStopped, SaysDone, SendsPart, SendsTag, Stops, WentOn, looks, tells_tag}
 use Rattle.dav_faults_core.specs.Faults.{fault_status}
 use Rattle.dav_fields_core.specs.Fields.{Sent}
 use Rattle.dav_fields_core.specs.FileTags.{standing_by, standing_of, tag_of}
@@ -36,17 +36,18 @@ use Rattle.dav_methods_core.specs.PropfindMethod.{FailsToFind, FailsToTell}
 use Rattle.dav_methods_core.specs.GetMethod.{FailsToGet, Tells, own_tags, get_outcome_by, get_outcome_of}
 use Rattle.dav_fields_core.specs.Getting.{tags_by}
 use Rattle.dav_methods_core.specs.LockMethod.{FailsToLock}
-use Rattle.dav_methods_core.specs.MkcolMethod.{FailsToMake}
+use Rattle.dav_methods_core.specs.MkcolMethod.{CantMake, FailsToMake}
 use Rattle.dav_methods_core.specs.MoveMethod as moving
 use Rattle.dav_fields_core.specs.Preconditions.{course_of}
-use Rattle.dav_methods_core.specs.PutMethod.{FailsToPut, changes_by}
+use Rattle.dav_methods_core.specs.ChangeConditions.{IsStopped, changes_by}
+use Rattle.dav_methods_core.specs.PutMethod.{FailsToPut}
 use Rattle.dav_fields_core.specs.Ranges.{part_text}
 use Rattle.dav_methods_core.specs.RefreshMethod.{FailsToRefresh, named_there}
 use Rattle.dav_fields_core.specs.RequestRefusals.{RefusesPrincipal, RefusesTarget}
-use Rattle.dav_methods_core.specs.DeleteMethod.{FailsToRemove}
-use Rattle.dav_methods_core.specs.ProppatchMethod.{FailsToPatch}
-use Rattle.dav_methods_core.specs.UnlockMethod.{FailsToUnlock}
-use Rattle.dav_handler_core.proofs.TransferLaws.{copy_kept, move_kept}
+use Rattle.dav_methods_core.specs.DeleteMethod.{CantRemove, FailsToRemove}
+use Rattle.dav_methods_core.specs.ProppatchMethod.{CantPatch, FailsToPatch}
+use Rattle.dav_methods_core.specs.UnlockMethod.{CantUnlock, FailsToUnlock}
+use Rattle.dav_handler_core.proofs.TransferLaws.{copy_stops, move_stops}
 
 -- ---- statuses of faults
 
@@ -69,7 +70,7 @@ fault_high fault.Unauthorized = inr (omega arith)
 fault_high fault.Forbidden = inr (omega arith)
 fault_high fault.InfiniteDepth = inr (omega arith)
 fault_high fault.NotFound = inr (omega arith)
-fault_high fault.MethodNotAllowed = inr (omega arith)
+fault_high (fault.MethodNotAllowed folder) = inr (omega arith)
 fault_high fault.Conflict = inr (omega arith)
 fault_high fault.NoSuchLock = inr (omega arith)
 fault_high fault.PreconditionFailed = inr (omega arith)
@@ -89,7 +90,7 @@ fault_failed fault.Unauthorized h = absurd (omega (arith, h))
 fault_failed fault.Forbidden h = absurd (omega (arith, h))
 fault_failed fault.InfiniteDepth h = absurd (omega (arith, h))
 fault_failed fault.NotFound h = absurd (omega (arith, h))
-fault_failed fault.MethodNotAllowed h = absurd (omega (arith, h))
+fault_failed (fault.MethodNotAllowed folder) h = absurd (omega (arith, h))
 fault_failed fault.Conflict h = absurd (omega (arith, h))
 fault_failed fault.NoSuchLock h = absurd (omega (arith, h))
 fault_failed fault.PreconditionFailed h = refl
@@ -153,29 +154,33 @@ finding_told finite headers body m p _ is (FailsToFind.missing d q reaches asks 
 finding_told finite headers body m p _ is (FailsToFind.no_depth q reaches asks) = cc
 finding_told finite headers body m p _ is (FailsToFind.odd d q reaches asks h) = cc
 
-granting_told : (most : Option ℕ) (headers : Entries FieldValue) (body : List ℕ) (s : State) (who : Caller) (path : PathText) (e : Fault) → e ≡ fault.PreconditionFailed
-    → FailsToLock most headers body s who path e → ⊥
-granting_told most headers body s who path _ is FailsToLock.memory = cc
-granting_told most headers body s who path _ is (FailsToLock.unread h) = cc
-granting_told most headers body s who path _ is (FailsToLock.moment wanted wants h) = cc
-granting_told most headers body s who path _ is (FailsToLock.above wanted at wants none h) = cc
-granting_told most headers body s who path _ is (FailsToLock.nowhere wanted wants none free h) = cc
-granting_told most headers body s who path _ is (FailsToLock.conflict wanted at wants room h apart) = cc
-granting_told most headers body s who path _ is (FailsToLock.member wanted at wants room h below) = cc
+-- a LOCK that grants nothing for a condition is stopped by those of HTTP
+granting_stops : (most : Option ℕ) (headers : Entries FieldValue) (body : List ℕ) (s : State) (who : Caller) (path : PathText) (e : Fault) → e ≡ fault.PreconditionFailed
+    → FailsToLock most headers body s who path e → IsCourseStopped method.Lock s.map (segments path.bytes) headers
+granting_stops most headers body s who path _ is FailsToLock.memory = absurd (cc)
+granting_stops most headers body s who path _ is (FailsToLock.unread h) = absurd (cc)
+granting_stops most headers body s who path _ is (FailsToLock.moment wanted wants h) = absurd (cc)
+granting_stops most headers body s who path _ is (FailsToLock.above wanted at wants none h) = absurd (cc)
+granting_stops most headers body s who path _ is (FailsToLock.nowhere wanted wants none free h) = absurd (cc)
+granting_stops most headers body s who path _ is (FailsToLock.course e wanted wants room h) = h ∙ ap Err is
+granting_stops most headers body s who path _ is (FailsToLock.conflict wanted at wants room lets h apart) = absurd (cc)
+granting_stops most headers body s who path _ is (FailsToLock.member wanted at wants room lets h below) = absurd (cc)
 
--- a LOCK for which no lock is named is one without a body
-unnamed : (most : Option ℕ) (headers : Entries FieldValue) (body : List ℕ) (s : State) (who : Caller) (path : PathText) (e : Fault) → e ≡ fault.PreconditionFailed
+-- one that refreshes nothing names no lock, or is stopped so
+refresh_stops : (headers : Entries FieldValue) (s : State) (who : Caller) (p : Path) (e : Fault) → e ≡ fault.PreconditionFailed → FailsToRefresh headers s who p e
+    → (named_there s who p ≡ []) ⊎ IsCourseStopped method.Lock s.map p headers
+refresh_stops headers s who p _ is FailsToRefresh.memory = absurd (cc)
+refresh_stops headers s who p _ is (FailsToRefresh.unread h) = absurd (cc)
+refresh_stops headers s who p _ is (FailsToRefresh.none timeouts read none) = inl none
+refresh_stops headers s who p _ is (FailsToRefresh.several timeouts read several) = absurd (cc)
+refresh_stops headers s who p _ is (FailsToRefresh.anothers timeouts token read named h) = absurd (cc)
+refresh_stops headers s who p _ is (FailsToRefresh.course e timeouts token read named own h) = inr (h ∙ ap Err is)
+
+locking_stops : (most : Option ℕ) (headers : Entries FieldValue) (body : List ℕ) (s : State) (who : Caller) (path : PathText) (e : Fault) → e ≡ fault.PreconditionFailed
     → ((body ≢ []) × FailsToLock most headers body s who path e) ⊎ ((body ≡ []) × FailsToRefresh headers s who (segments path.bytes) e)
-    → named_there s who (segments path.bytes) ≡ []
-unnamed most headers body s who path e is (inl h) = absurd (granting_told most headers body s who path e is h.1)
-unnamed most headers body s who path e is (inr h) = by e is h.1
-  where
-    by : (e : Fault) → e ≡ fault.PreconditionFailed → FailsToRefresh headers s who (segments path.bytes) e → named_there s who (segments path.bytes) ≡ []
-    by _ is FailsToRefresh.memory = absurd (cc)
-    by _ is (FailsToRefresh.unread h) = absurd (cc)
-    by _ is (FailsToRefresh.none timeouts read none) = none
-    by _ is (FailsToRefresh.several timeouts read several) = absurd (cc)
-    by _ is (FailsToRefresh.anothers timeouts token read named h) = absurd (cc)
+    → (named_there s who (segments path.bytes) ≡ []) ⊎ IsCourseStopped method.Lock s.map (segments path.bytes) headers
+locking_stops most headers body s who path e is (inl h) = inr (granting_stops most headers body s who path e is h.1)
+locking_stops most headers body s who path e is (inr h) = refresh_stops headers s who (segments path.bytes) e is h.1
 
 -- what isn't read is not a condition that doesn't hold
 no_principal : (named : Option (List ℕ)) (headers : Entries FieldValue) → ¬ RefusesPrincipal named headers fault.PreconditionFailed
@@ -316,30 +321,78 @@ module _ (before after : Server) (request : Request (List ℕ)) (sent : Sent) wh
       changed_alone (course_of method.Put (standing_of (at_path before.state.map p)) Headers) (fault.ConflictingMember at path) tt h.1
   put_alone _ p who member h = member
 
-  looks_alone : (m : Option DavMethod) (e : Fault) → AnswersTo m before request (Err e) sent after → looks m ≡ true → ¬ IsOfMember e
-  looks_alone (Some method.Get) e h look member =
+  tags_alone : (m : Option DavMethod) (e : Fault) → AnswersTo m before request (Err e) sent after → tells_tag m ≡ true → ¬ IsOfMember e
+  tags_alone (Some method.Get) e h look member =
       fails_alone false e (λ p who. FailsToGet method.Get before.state.map p Headers e) member h.0 (λ p who. get_alone method.Get e p member)
-  looks_alone (Some method.Head) e h look member =
+  tags_alone (Some method.Head) e h look member =
       fails_alone false e (λ p who. FailsToGet method.Head before.state.map p Headers e) member h.0 (λ p who. get_alone method.Head e p member)
-  looks_alone (Some method.Put) e (inl part) look member =
+  tags_alone (Some method.Put) e (inl part) look member =
       other_fault e fault.BadRequest member (λ x. x) part.1
-  looks_alone (Some method.Put) e (inr h) look member =
+  tags_alone (Some method.Put) e (inr h) look member =
       fails_alone true e (λ p who. FailsToPut before.state who p (body_of request) Headers e) member h.1 (λ p who. put_alone e p who member)
-  looks_alone _ e h look member = false≢true look
+  tags_alone _ e h look member = false≢true look
 
-  refused_high : (m : Option DavMethod) (e : Fault) → AnswersTo m before request (Err e) sent after → looks m ≡ true → 400 ≤ fault_status e
-  refused_high m e h look = elim (fault_high e) [ inl member ↦ absurd (looks_alone m e h look member) | inr high ↦ high ]
+  refused_high : (m : Option DavMethod) (e : Fault) → AnswersTo m before request (Err e) sent after → tells_tag m ≡ true → 400 ≤ fault_status e
+  refused_high m e h look = elim (fault_high e) [ inl member ↦ absurd (tags_alone m e h look member) | inr high ↦ high ]
 
-  pub went_on : (m : Option DavMethod) (result : Result ℕ Fault) → AnswersTo m before request result sent after → looks m ≡ true → status_of result < 300
+  patch_alone : (e : Fault) (p : Path) (who : Caller) → IsOfMember e → ¬ FailsToPatch Headers (body_of request) (as_found before after) who p e
+  patch_alone (fault.MemberLocked path) p who member (inl h) = h
+  patch_alone (fault.MemberLocked path) p who member (inr h) =
+      changed_alone (course_of method.PropPatch (standing_of (at_path before.state.map p)) Headers) (fault.MemberLocked path) tt h.1
+  patch_alone (fault.ConflictingMember at path) p who member (inl h) = h
+  patch_alone (fault.ConflictingMember at path) p who member (inr h) =
+      changed_alone (course_of method.PropPatch (standing_of (at_path before.state.map p)) Headers) (fault.ConflictingMember at path) tt h.1
+  patch_alone _ p who member h = member
+
+  patch_high : (e : Fault) → AnswersTo (Some method.PropPatch) before request (Err e) sent after → 400 ≤ fault_status e
+  patch_high e h = elim (fault_high e) [
+    | inl member ↦
+        absurd (fails_alone false e (λ p who. FailsToPatch Headers (body_of request) (as_found before after) who p e) member h (λ p who. patch_alone e p who member))
+    | inr high ↦ high
+  ]
+
+  -- the status of a refusal doesn't say that something was done
+  undone : (e : Fault) → (fault_status e < 300) × (fault_status e ≢ 207) → ⊥
+  undone e low = no_fault e (fault_status e) refl (omega (arith, low.0)) low.1
+
+  pub went_on : (m : Option DavMethod) (result : Result ℕ Fault) → AnswersTo m before request result sent after → looks m ≡ true → SaysDone m (status_of result)
       → WentOn m before request after
-  went_on m (Err e) h look low = absurd (omega (arith, low, refused_high m e h look))
+  went_on (Some method.PropPatch) (Err e) h look low = absurd (omega (arith, low, patch_high e h))
+  went_on (Some method.Get) (Err e) h look low = absurd (undone e low)
+  went_on (Some method.Head) (Err e) h look low = absurd (undone e low)
+  went_on (Some method.Put) (Err e) h look low = absurd (undone e low)
+  went_on (Some method.Delete) (Err e) h look low = absurd (undone e low)
+  went_on (Some method.Copy) (Err e) h look low = absurd (undone e low)
+  went_on (Some method.Move) (Err e) h look low = absurd (undone e low)
+  went_on (Some method.MkCol) (Err e) h look low = absurd (undone e low)
+  went_on (Some method.Lock) (Err e) h look low = absurd (undone e low)
+  went_on (Some method.Unlock) (Err e) h look low = absurd (undone e low)
   went_on (Some method.Get) (Ok status) h look low =
-      record { path = h.0.path; who = h.0.who; begins = h.0.begins; admits = h.0.admits; lets = get_on method.Get status h.0 low }
+      record { path = h.0.path; who = h.0.who; begins = h.0.begins; admits = h.0.admits; lets = get_on method.Get status h.0 low.0 }
   went_on (Some method.Head) (Ok status) h look low =
-      record { path = h.0.path; who = h.0.who; begins = h.0.begins; admits = h.0.admits; lets = get_on method.Head status h.0 low }
+      record { path = h.0.path; who = h.0.who; begins = h.0.begins; admits = h.0.admits; lets = get_on method.Head status h.0 low.0 }
   went_on (Some method.Put) (Ok status) h look low =
       record { path = h.1.path; who = h.1.who; begins = h.1.begins; admits = h.1.admits; lets = h.1.course }
-  went_on _ (Ok status) h look low = absurd (false≢true look)
+  went_on (Some method.Delete) (Ok status) h look low =
+      record { path = h.path; who = h.who; begins = h.begins; admits = h.admits; lets = h.does.1.course }
+  went_on (Some method.Copy) (Ok status) h look low =
+      record { path = h.path; who = h.who; begins = h.begins; admits = h.admits; lets = h.does.1.course }
+  went_on (Some method.Move) (Ok status) h look low =
+      record { path = h.path; who = h.who; begins = h.begins; admits = h.admits; lets = h.does.1.course }
+  went_on (Some method.MkCol) (Ok status) h look low =
+      record { path = h.path; who = h.who; begins = h.begins; admits = h.admits; lets = h.does.1.course }
+  went_on (Some method.Unlock) (Ok status) h look low =
+      record { path = h.path; who = h.who; begins = h.begins; admits = h.admits; lets = h.does.1.course }
+  went_on (Some method.PropPatch) (Ok status) h look low =
+      record { path = h.path; who = h.who; begins = h.begins; admits = h.admits; lets = h.patches.course }
+  went_on (Some method.Lock) (Ok status) h look low = record {
+    path = h.path;
+    who = h.who;
+    begins = h.begins;
+    admits = h.admits;
+    lets = elim h.locks [ inl granted ↦ granted.1.course | inr refreshed ↦ refreshed.1.course ];
+  }
+  went_on _ result h look low = absurd (false≢true look)
 
   -- a request that is refused for a condition
   fails_off : (m : Option DavMethod) (changes : Bool) (e : Fault) (Refuses : Path → Caller → Type 0) → e ≡ fault.PreconditionFailed
@@ -355,6 +408,18 @@ module _ (before after : Server) (request : Request (List ℕ)) (sent : Sent) wh
       | inr own ↦ inr (own.0, stops (segments h.path.bytes) h.who own.1)
     ];
   }
+
+  -- a body that is refused is not a condition
+  without_body : (Refuses : State → Caller → Path → Fault → Type 0) (s : State) (who : Caller) (p : Path) (e : Fault) → e ≡ fault.PreconditionFailed
+      → RefusesBody request Refuses s who p e → Refuses s who p e
+  without_body Refuses s who p e is (inl h) = absurd (let no : fault.UnsupportedMediaType ≡ fault.PreconditionFailed = sym h.1 ∙ is in cc)
+  without_body Refuses s who p e is (inr h) = h.1
+
+  -- a method that nothing else refuses so is stopped by conditions
+  by_conditions : (Cant : Fault → Type 0) (Can : Type 0) (course : Result (Unit {0}) Fault) (e : Fault) → e ≡ fault.PreconditionFailed → ¬ Cant fault.PreconditionFailed
+      → IsStopped Cant Can course e → course ≡ Err fault.PreconditionFailed
+  by_conditions Cant Can course e is none (inl h) = absurd (none (subst Cant is h))
+  by_conditions Cant Can course e is none (inr h) = h.1 ∙ ap Err is
 
   pub held_off : (m : Option DavMethod) (result : Result ℕ Fault) → AnswersTo m before request result sent after → IsOff (status_of result)
       → HeldOff m before request after
@@ -392,31 +457,38 @@ module _ (before after : Server) (request : Request (List ℕ)) (sent : Sent) wh
       let is = fault_off e off in
       fails_off (Some method.PropFind) false e (λ p who. FailsToTell before.options.finite Headers (body_of request) (as_found before after) who p e) is h.0
       (λ p who refuses. absurd (finding_told before.options.finite Headers (body_of request) before.state.map p e is refuses))
-  held_off (Some method.Delete) (Ok status) h off = absurd (elim off [ inl off ↦ omega (arith, off, h.does.status_is) | inr off ↦ omega (arith, off, h.does.status_is) ])
+  held_off (Some method.Delete) (Ok status) h off = absurd (elim off [ inl off ↦ omega (arith, off, h.does.1.status_is) | inr off ↦ omega (arith, off, h.does.1.status_is) ])
   held_off (Some method.Delete) (Err e) h off =
       let is = fault_off e off in
-      fails_off (Some method.Delete) true e (λ p who. FailsToRemove Headers (as_found before after) who p e) is h
-      (λ p who refuses. subst (FailsToRemove Headers (as_found before after) who p) is refuses)
-  held_off (Some method.Copy) (Ok status) h off = absurd (transfer_low (has before.state.map (segments h.does.to.bytes)) status h.does.status_is off)
+      fails_off (Some method.Delete) true e (λ p who. RefusesBody request (FailsToRemove Headers) (as_found before after) who p e) is h
+      (λ p who refuses. by_conditions (CantRemove Headers (as_found before after) who p) _ _ e is (λ h. h)
+      (without_body (FailsToRemove Headers) (as_found before after) who p e is refuses))
+  held_off (Some method.Copy) (Ok status) h off = absurd (transfer_low (has before.state.map (segments h.does.1.to.bytes)) status h.does.1.status_is off)
   held_off (Some method.Copy) (Err e) h off =
       let is = fault_off e off in
-      fails_off (Some method.Copy) true e (λ p who. FailsToCopy before.options.scheme before.options.prefix Headers (as_found before after) who p e) is h
-      (λ p who refuses. copy_kept before.options.scheme before.options.prefix Headers (as_found before after) who p e is refuses)
-  held_off (Some method.Move) (Ok status) h off = absurd (transfer_low (has before.state.map (segments h.does.to.bytes)) status h.does.status_is off)
+      let Refuses : State → Caller → Path → Fault → Type 0 = FailsToCopy (site_for before.options request) before.options.prefix Headers in
+      fails_off (Some method.Copy) true e (λ p who. RefusesBody request Refuses (as_found before after) who p e) is h
+      (λ p who refuses. copy_stops (site_for before.options request) before.options.prefix Headers (as_found before after) who p e is
+      (without_body Refuses (as_found before after) who p e is refuses))
+  held_off (Some method.Move) (Ok status) h off = absurd (transfer_low (has before.state.map (segments h.does.1.to.bytes)) status h.does.1.status_is off)
   held_off (Some method.Move) (Err e) h off =
       let is = fault_off e off in
-      fails_off (Some method.Move) true e (λ p who. moving.FailsToMove before.options.scheme before.options.prefix Headers (as_found before after) who p e) is h
-      (λ p who refuses. move_kept before.options.scheme before.options.prefix Headers (as_found before after) who p e is refuses)
-  held_off (Some method.MkCol) (Ok status) h off = absurd (elim off [ inl off ↦ omega (arith, off, h.does.status_is) | inr off ↦ omega (arith, off, h.does.status_is) ])
+      let Refuses : State → Caller → Path → Fault → Type 0 = moving.FailsToMove (site_for before.options request) before.options.prefix Headers in
+      fails_off (Some method.Move) true e (λ p who. RefusesBody request Refuses (as_found before after) who p e) is h
+      (λ p who refuses. move_stops (site_for before.options request) before.options.prefix Headers (as_found before after) who p e is
+      (without_body Refuses (as_found before after) who p e is refuses))
+  held_off (Some method.MkCol) (Ok status) h off = absurd (elim off [ inl off ↦ omega (arith, off, h.does.1.status_is) | inr off ↦ omega (arith, off, h.does.1.status_is) ])
   held_off (Some method.MkCol) (Err e) h off =
       let is = fault_off e off in
-      fails_off (Some method.MkCol) true e (λ p who. FailsToMake (body_of request) (as_found before after) who p e) is h
-      (λ p who refuses. subst (FailsToMake (body_of request) (as_found before after) who p) is refuses)
-  held_off (Some method.Unlock) (Ok status) h off = absurd (elim off [ inl off ↦ omega (arith, off, h.does.status_is) | inr off ↦ omega (arith, off, h.does.status_is) ])
+      fails_off (Some method.MkCol) true e (λ p who. RefusesBody request (FailsToMake Headers) (as_found before after) who p e) is h
+      (λ p who refuses. by_conditions (CantMake (as_found before after) who p) _ _ e is (λ h. h)
+      (without_body (FailsToMake Headers) (as_found before after) who p e is refuses))
+  held_off (Some method.Unlock) (Ok status) h off = absurd (elim off [ inl off ↦ omega (arith, off, h.does.1.status_is) | inr off ↦ omega (arith, off, h.does.1.status_is) ])
   held_off (Some method.Unlock) (Err e) h off =
       let is = fault_off e off in
-      fails_off (Some method.Unlock) false e (λ p who. FailsToUnlock Headers (as_found before after) who p e) is h
-      (λ p who refuses. absurd ((subst (FailsToUnlock Headers (as_found before after) who p) is refuses).2))
+      fails_off (Some method.Unlock) false e (λ p who. RefusesBody request (FailsToUnlock Headers) (as_found before after) who p e) is h
+      (λ p who refuses. by_conditions (CantUnlock Headers (as_found before after) who p) _ _ e is (λ h. h.2)
+      (without_body (FailsToUnlock Headers) (as_found before after) who p e is refuses))
   held_off (Some method.Lock) (Ok status) h off = absurd (lock_low before request status sent after h off)
   held_off (Some method.Lock) (Err e) (inl unread) off = absurd (not_unread before.options request before.last (has_body request) e (fault_off e off) unread)
   held_off (Some method.Lock) (Err e) (inr h) off = record {
@@ -425,15 +497,15 @@ module _ (before after : Server) (request : Request (List ℕ)) (sent : Sent) wh
     begins = h.begins;
     why = elim h.why [
       | inl held ↦ inl (subst (HoldsOff before request after h.path) (fault_off e off) held)
-      | inr own ↦ inr (own.0, unnamed before.options.longest Headers (body_of request) (as_found before after) h.who h.path e (fault_off e off) own.1)
+      | inr own ↦ inr (own.0, locking_stops before.options.longest Headers (body_of request) (as_found before after) h.who h.path e (fault_off e off) own.1)
     ];
   }
   held_off (Some method.PropPatch) (Ok status) h off =
       absurd (elim off [ inl off ↦ omega (arith, off, h.patches.status_is) | inr off ↦ omega (arith, off, h.patches.status_is) ])
   held_off (Some method.PropPatch) (Err e) h off =
       let is = fault_off e off in
-      fails_off (Some method.PropPatch) false e (λ p who. FailsToPatch (body_of request) (as_found before after) who p e) is h
-      (λ p who refuses. subst (FailsToPatch (body_of request) (as_found before after) who p) is refuses)
+      fails_off (Some method.PropPatch) false e (λ p who. FailsToPatch Headers (body_of request) (as_found before after) who p e) is h
+      (λ p who refuses. by_conditions (CantPatch (body_of request) (as_found before after) who p) _ _ e is (λ h. h) refuses)
   held_off (Some method.Options) (Ok status) h (inl off) = absurd (omega (arith, h.0, off))
   held_off (Some method.Options) (Ok status) h (inr off) = absurd (omega (arith, h.0, off))
   held_off (Some method.Options) (Err e) h off =
@@ -461,13 +533,13 @@ module _ (before after : Server) (request : Request (List ℕ)) (sent : Sent) wh
       let between = put_between (has before.state.map (segments h.1.path.bytes)) in
       absurd (elim off [ inl off ↦ omega (arith, off, h.1.status_is, between) | inr off ↦ omega (arith, off, h.1.status_is, between) ])
   stays (Some method.Delete) (Ok status) h refused off =
-      absurd (elim off [ inl off ↦ omega (arith, off, h.does.status_is) | inr off ↦ omega (arith, off, h.does.status_is) ])
-  stays (Some method.Copy) (Ok status) h refused off = absurd (transfer_low (has before.state.map (segments h.does.to.bytes)) status h.does.status_is off)
-  stays (Some method.Move) (Ok status) h refused off = absurd (transfer_low (has before.state.map (segments h.does.to.bytes)) status h.does.status_is off)
+      absurd (elim off [ inl off ↦ omega (arith, off, h.does.1.status_is) | inr off ↦ omega (arith, off, h.does.1.status_is) ])
+  stays (Some method.Copy) (Ok status) h refused off = absurd (transfer_low (has before.state.map (segments h.does.1.to.bytes)) status h.does.1.status_is off)
+  stays (Some method.Move) (Ok status) h refused off = absurd (transfer_low (has before.state.map (segments h.does.1.to.bytes)) status h.does.1.status_is off)
   stays (Some method.MkCol) (Ok status) h refused off =
-      absurd (elim off [ inl off ↦ omega (arith, off, h.does.status_is) | inr off ↦ omega (arith, off, h.does.status_is) ])
+      absurd (elim off [ inl off ↦ omega (arith, off, h.does.1.status_is) | inr off ↦ omega (arith, off, h.does.1.status_is) ])
   stays (Some method.Unlock) (Ok status) h refused off =
-      absurd (elim off [ inl off ↦ omega (arith, off, h.does.status_is) | inr off ↦ omega (arith, off, h.does.status_is) ])
+      absurd (elim off [ inl off ↦ omega (arith, off, h.does.1.status_is) | inr off ↦ omega (arith, off, h.does.1.status_is) ])
   stays (Some method.Lock) (Ok status) h refused off = absurd (lock_low before request status sent after h off)
   stays (Some method.PropPatch) (Ok status) h refused off =
       absurd (elim off [ inl off ↦ omega (arith, off, h.patches.status_is) | inr off ↦ omega (arith, off, h.patches.status_is) ])
@@ -518,13 +590,13 @@ module _ (before after : Server) (request : Request (List ℕ)) (sent : Sent) wh
   sends_part (Some method.Put) (Ok status) h part =
       absurd (omega (arith, part, h.1.status_is, put_between (has before.state.map (segments h.1.path.bytes))))
   sends_part (Some method.PropFind) (Ok status) h part = absurd (omega (arith, h.0.does.0, part))
-  sends_part (Some method.Delete) (Ok status) h part = absurd (omega (arith, h.does.status_is, part))
+  sends_part (Some method.Delete) (Ok status) h part = absurd (omega (arith, h.does.1.status_is, part))
   sends_part (Some method.Copy) (Ok status) h part =
-      absurd (omega (arith, part, h.does.status_is, put_between (has before.state.map (segments h.does.to.bytes))))
+      absurd (omega (arith, part, h.does.1.status_is, put_between (has before.state.map (segments h.does.1.to.bytes))))
   sends_part (Some method.Move) (Ok status) h part =
-      absurd (omega (arith, part, h.does.status_is, put_between (has before.state.map (segments h.does.to.bytes))))
-  sends_part (Some method.MkCol) (Ok status) h part = absurd (omega (arith, h.does.status_is, part))
-  sends_part (Some method.Unlock) (Ok status) h part = absurd (omega (arith, h.does.status_is, part))
+      absurd (omega (arith, part, h.does.1.status_is, put_between (has before.state.map (segments h.does.1.to.bytes))))
+  sends_part (Some method.MkCol) (Ok status) h part = absurd (omega (arith, h.does.1.status_is, part))
+  sends_part (Some method.Unlock) (Ok status) h part = absurd (omega (arith, h.does.1.status_is, part))
   sends_part (Some method.Lock) (Ok status) h part = absurd (omega (arith, locked_between before request status sent after h, part))
   sends_part (Some method.PropPatch) (Ok status) h part = absurd (omega (arith, h.patches.status_is, part))
   sends_part (Some method.Options) (Ok status) h part = absurd (omega (arith, h.0, part))
@@ -533,7 +605,7 @@ module _ (before after : Server) (request : Request (List ℕ)) (sent : Sent) wh
   file_tags : (file : Resource) → file.node.kind ≡ File → tag_of file ∷ [] ≡ tags_by (standing_of (Some file))
   file_tags file kind = sym (ap (λ k. tags_by (standing_by k file.node.modified (length file.node.bytes))) kind)
 
-  pub sends_tag : (m : Option DavMethod) (result : Result ℕ Fault) → AnswersTo m before request result sent after → looks m ≡ true → status_of result < 400
+  pub sends_tag : (m : Option DavMethod) (result : Result ℕ Fault) → AnswersTo m before request result sent after → tells_tag m ≡ true → status_of result < 400
       → SendsTag before request sent after
   sends_tag m (Err e) h look low = absurd (omega (arith, low, refused_high m e h look))
   sends_tag (Some method.Get) (Ok status) h look low = get_tag method.Get status h.0 h.1 low

@@ -30,6 +30,7 @@ use Rattle.dav_session_core.specs.Callers.{Caller, RunBy, as_caller, holds, is_o
 use Rattle.dav_handler_core.specs.Holding.{IsHolders, IsKeptUnlessHeld, Lasts, StandsUnlessEnded}
 use Rattle.dav_methods_core.specs.LockMethod.{Grants, Wanted}
 use Rattle.dav_methods_core.specs.UnlockMethod.{NamesToken}
+use Rattle.dav_methods_core.proofs.LockLemmas.{above_free}
 use Rattle.dav_session_core.proofs.AnewLemmas.{of_filter}
 use Rattle.dav_session_core.proofs.CallerLaws.{keeps_apart}
 use Rattle.dav_path_core.proofs.paths.AbovePaths.{left_or_gone}
@@ -156,7 +157,7 @@ module _ (before after : Server) (request : Request (List ℕ)) where
         elim (dec path_total path_exact q p) [
           | inl here ↦ absurd (no_other l p wanted.shared wanted.deep g.free h exclusive (subst (λ q. covers l q ≡ true) here covered))
           | inr apart ↦ elim (dec path_total path_exact q (parent p)) [
-            | inl above ↦ inr (by_holds who l from (held_there who l (parent p) made.1 h exclusive (subst (λ q. covers l q ≡ true) above covered)))
+            | inl above ↦ inr (by_holds who l from (held_there who l (parent p) (above_free (as_found before after) who p made.1) h exclusive (subst (λ q. covers l q ≡ true) above covered)))
             | inr elsewhere ↦ inl (put_places before.state.map after.state.map p [] who.now made.2 q apart (λ none. elsewhere))
           ]
         ]

@@ -6,6 +6,8 @@ use Rattle.std.proofs.lemmas.Bool.{cases_Bool}
 use Rattle.http.specs.declared.request.Request.{Request}
 use Rattle.http.specs.Request.{body_of, head_of}
 use Rattle.http_server.specs.declared.response.Response.{Response}
+use Rattle.http_header.specs.FieldValue.{FieldValue}
+use Rattle.http_header.specs.HeaderMap.{Entries}
 use Rattle.dav_path_core.specs.declared.util.DavMethod.{DavMethod}
 use Rattle.dav_path_core.specs.declared.util.DavMethod.TheVariants as method
 use Rattle.dav_path_core.specs.Fronts.{Path, is_front, is_same_path, parent}
@@ -42,6 +44,7 @@ use Rattle.dav_methods_core.specs.ProppatchMethod.{Changes}
 use Rattle.dav_session_core.specs.Patching.{IsPatched, with_updates}
 use Rattle.dav_documents_core.specs.PropertyUpdates.{Update}
 use Rattle.dav_methods_core.specs.PutMethod.{Puts, props_of}
+use Rattle.dav_methods_core.specs.ToldPaths.{told_path}
 use Rattle.dav_documents_core.specs.RefusalReading.{IsRooted}
 use Rattle.dav_session_core.specs.Removing.{IsRemoved}
 use Rattle.dav_handler_core.specs.TagHistories.{Becomes}
@@ -52,6 +55,7 @@ use Rattle.dav_documents_core.proofs.KeptReadingLaws.{IsKeptAsSent, updates_are_
 use Rattle.dav_handler_core.proofs.LockTextLemmas.{target_rooted, token_visible}
 use Rattle.dav_documents_core.proofs.NamedLemmas.{passes_all}
 use Rattle.dav_methods_core.proofs.PutMethodLemmas.{Found, put_found}
+use Rattle.dav_methods_core.proofs.ToldPathLemmas.{rooted_told}
 use Rattle.dav_path_core.proofs.paths.SubtreePaths.{rest_of}
 use Rattle.dav_documents_core.proofs.KeptLockTexts.{AreKeptLocks, kept_later, all_behind, removed_one, set_one, patched_kept, no_props, AllKept, IsKeptAt, mapped_kept, new_kept}
 
@@ -121,8 +125,8 @@ moved_kept now from to s s' h kept q r is = elim (cases_Bool (is_front from q)) 
     either_way true x = refl
     either_way false x = refl
 
-made_kept : (body : List ℕ) (s s' : State) (who : Caller) (p : Path) (status : ℕ) → Makes body s who p status s' → AllKept s.map → AllKept s'.map
-made_kept body s s' who p status h kept q r is = elim (dec path_total path_exact q p) [
+made_kept : (headers : Entries FieldValue) (s s' : State) (who : Caller) (p : Path) (status : ℕ) → Makes headers s who p status s' → AllKept s.map → AllKept s'.map
+made_kept headers s s' who p status h kept q r is = elim (dec path_total path_exact q p) [
   | inl here ↦
       let same = one_some (at_path s'.map p) r h.folder (subst (λ q. at_path s'.map q ≡ Some r) here is) h.here in
       subst AreKept (sym (ap (λ (x : Resource). x.node.props) same ∙ ap (λ (n : Node). n.props) h.new)) no_props
@@ -216,9 +220,9 @@ module _ (before after : Server) (later : before.last ≤ after.last) (kept : Ke
     locks = cleared_locks after.last to (live after.last after.state) cleared;
   }
 
-  make_keeps : (body : List ℕ) (who : Caller) (p : Path) (status : ℕ) → Makes body (as_found before after) who p status after.state → Keeps after
-  make_keeps body who p status h = record {
-    properties = made_kept body (as_found before after) after.state who p status h kept.properties;
+  make_keeps : (headers : Entries FieldValue) (who : Caller) (p : Path) (status : ℕ) → Makes headers (as_found before after) who p status after.state → Keeps after
+  make_keeps headers who p status h = record {
+    properties = made_kept headers (as_found before after) after.state who p status h kept.properties;
     locks = from_locks (as_found before after).locks (ap (λ (s : State). s.locks) h.left) found_locks;
   }
 
@@ -235,10 +239,10 @@ module _ (before after : Server) (later : before.last ≤ after.last) (kept : Ke
 
   granted_kept : (who : Caller) (path : PathText) (request : Request (List ℕ)) (info : LockInfo) (timeout : Option ℕ) (shared deep : Bool)
       → length (body_of request) < 2 ^ 64 → IsRooted path → lock_info_in (body_of request) ≡ Some info
-      → IsKeptLock (granted_lock (as_found before after) who path info.owner timeout shared deep)
+      → IsKeptLock (granted_lock (as_found before after) who (told_path (as_found before after).map path) info.owner timeout shared deep)
   granted_kept who path request info timeout shared deep fits rooted asks = record {
     token = token_visible (as_found before after).rng;
-    rooted = rooted;
+    rooted = rooted_told path (as_found before after).map rooted;
     owner = lock_owner (body_of request) info fits asks;
   }
 
@@ -249,7 +253,7 @@ module _ (before after : Server) (later : before.last ≤ after.last) (kept : Ke
   pub granted_lock_kept : (request : Request (List ℕ)) (status : ℕ) (sent : Sent) → length (body_of request) < 2 ^ 64 → (h : IsLocked before request status sent after)
       → (g : IsGranted before.options.longest before.options.prefix (head_of request).headers (body_of request) (as_found before after) h.who h.path status sent after.state) → IsKeptLock g.lock
   granted_lock_kept request status sent fits h g =
-      subst IsKeptLock (sym (g.grants.lock_is ∙ ap (λ (o : Option (List ℕ)). granted_lock (as_found before after) h.who h.path o g.wanted.timeout g.wanted.shared g.wanted.deep) g.wants.owner_is))
+      subst IsKeptLock (sym (g.grants.lock_is ∙ ap (λ (o : Option (List ℕ)). granted_lock (as_found before after) h.who (told_path (as_found before after).map h.path) o g.wanted.timeout g.wanted.shared g.wanted.deep) g.wants.owner_is))
       (granted_kept h.who h.path request g.wants.info g.wanted.timeout g.wanted.shared g.wanted.deep fits
       (target_rooted before.options.prefix (head_of request).uri h.path h.begins.names) g.wants.asks)
 
@@ -317,21 +321,21 @@ module _ (before after : Server) (later : before.last ≤ after.last) (kept : Ke
   method_keeps (Some method.PropFind) request result sent fits h refused = alike h.1
   method_keeps (Some method.Put) request (Ok status) sent fits h refused = put_keeps (segments h.1.path.bytes) (body_of request) h.1.puts
   method_keeps (Some method.Put) request (Err e) sent fits h refused = alike refused
-  method_keeps (Some method.Delete) request (Ok status) sent fits h refused = remove_keeps h.who.now (segments h.path.bytes) h.does.removed
+  method_keeps (Some method.Delete) request (Ok status) sent fits h refused = remove_keeps h.who.now (segments h.path.bytes) h.does.1.removed
   method_keeps (Some method.Delete) request (Err e) sent fits h refused = alike refused
   method_keeps (Some method.Copy) request (Ok status) sent fits h refused =
-      let to = segments h.does.to.bytes in
-      let copied = h.does.copied in
-      copy_keeps h.who.now h.does.deep (segments h.path.bytes) to h.does.mid h.begins.now h.does.cleared
+      let to = segments h.does.1.to.bytes in
+      let copied = h.does.1.copied in
+      copy_keeps h.who.now h.does.1.deep (segments h.path.bytes) to h.does.1.mid h.begins.now h.does.1.cleared
       (record { there = λ rest. inr (copied.there rest); others = copied.others; left = copied.left })
   method_keeps (Some method.Copy) request (Err e) sent fits h refused = copy_left request e refused
   method_keeps (Some method.Move) request (Ok status) sent fits h refused =
-      move_keeps h.who.now (segments h.path.bytes) (segments h.does.to.bytes) h.does.mid h.does.cleared h.does.moved
+      move_keeps h.who.now (segments h.path.bytes) (segments h.does.1.to.bytes) h.does.1.mid h.does.1.cleared h.does.1.moved
   method_keeps (Some method.Move) request (Err e) sent fits h refused = move_left request e refused
-  method_keeps (Some method.MkCol) request (Ok status) sent fits h refused = make_keeps (body_of request) h.who (segments h.path.bytes) status h.does
+  method_keeps (Some method.MkCol) request (Ok status) sent fits h refused = make_keeps (head_of request).headers h.who (segments h.path.bytes) status h.does.1
   method_keeps (Some method.MkCol) request (Err e) sent fits h refused = alike refused
   method_keeps (Some method.Unlock) request (Ok status) sent fits h refused =
-      let ends = h.does.ends in
+      let ends = h.does.1.ends in
       record {
         properties = subst AllKept (sym (ap (λ (s : State). s.map) ends.left)) kept.properties;
         locks = from_locks (remove (as_found before after).locks ends.place) (ap (λ (s : State). s.locks) ends.left)

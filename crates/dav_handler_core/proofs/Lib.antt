@@ -15,3 +15,4 @@ mod TagRows
 pub mod ToldDocumentLaws
 pub mod TransferAnswerLemmas
 pub mod TransferLaws
+pub mod UntoldLemmas

@@ -7,6 +7,8 @@ use Rattle.http.specs.Request.{body_of, head_of}
 use Rattle.http_server.specs.declared.response.Response.{Response}
 use Rattle.http_server.specs.Exchange.{Call, Chain}
 use Rattle.http_frames.specs.Clients.{Turn}
+use Rattle.http_header.specs.FieldValue.{FieldValue}
+use Rattle.http_header.specs.HeaderMap.{Entries}
 use Rattle.dav_path_core.specs.declared.util.DavMethod.{DavMethod}
 use Rattle.dav_path_core.specs.declared.util.DavMethod.TheVariants as method
 use Rattle.dav_path_core.specs.Fronts.{Path, is_front, is_same_path, parent}
@@ -23,7 +25,7 @@ use Rattle.dav_faults_core.specs.declared.faults.Fault.TheVariants as fault
 use Rattle.dav_fields_core.specs.declared.ranges.Extent.{Extent}
 use Rattle.dav_fields_core.specs.declared.ranges.Extent.TheVariants as extent
 use Rattle.dav_handler_core.specs.Answers.{Answers, AnswersTo, Leaves, status_of}
-use Rattle.dav_handler_core.specs.Server.{Names, Server}
+use Rattle.dav_handler_core.specs.Server.{Names, Server, site_for}
 use Rattle.dav_handler_core.specs.MethodAnswers.{as_found}
 use Rattle.dav_session_core.specs.Callers.{Caller, SameLive, live}
 use Rattle.dav_session_core.specs.Clearing.{IsCleared}
@@ -156,7 +158,7 @@ module _ (before after : Server) (request : Request (List ℕ)) (p : Path) (file
   other m result same = stood (at before.state.map p file (sym same ∙ here) kind)
 
   transferred : (m : Option DavMethod) (result : Result ℕ Fault) (source target : PathText) → (m ≡ Some method.Copy) ⊎ (m ≡ Some method.Move) → Names before.options request source
-      → IsDestination before.options.scheme before.options.prefix (head_of request).headers target
+      → IsDestination (site_for before.options request) before.options.prefix (head_of request).headers target
       → Came before.state.map (segments source.bytes) (segments target.bytes) p file.node.bytes → From m result
   transferred m result source target is named leads (inl same) = stood same
   transferred m result source target is named leads (inr from) =
@@ -176,8 +178,8 @@ module _ (before after : Server) (request : Request (List ℕ)) (p : Path) (file
   came_before now from to mid cleared (inr moved) =
       inr (moved.0, moved.1, cleared_from now to (as_found before after) mid cleared (from ++ moved.0) file.node.bytes moved.2)
 
-  made_folder : (result : Result ℕ Fault) (body : List ℕ) (who : Caller) (at_folder : Path) (status : ℕ) → Makes body (as_found before after) who at_folder status after.state → From (Some method.MkCol) result
-  made_folder result body who at_folder status h = elim (dec path_total path_exact p at_folder) [
+  made_folder : (result : Result ℕ Fault) (headers : Entries FieldValue) (who : Caller) (at_folder : Path) (status : ℕ) → Makes headers (as_found before after) who at_folder status after.state → From (Some method.MkCol) result
+  made_folder result headers who at_folder status h = elim (dec path_total path_exact p at_folder) [
     | inl there ↦
         let is = one_some (at_path after.state.map at_folder) file h.folder (subst (λ q. at_path after.state.map q ≡ Some file) there here) h.here in
         let kinds : File ≡ Folder = sym kind ∙ ap (λ (r : Resource). r.node.kind) is ∙ ap (λ (n : Node). n.kind) h.new in
@@ -245,26 +247,26 @@ module _ (before after : Server) (request : Request (List ℕ)) (p : Path) (file
       ]
   comes (Some method.Put) (Err e) sent h left = alike (Some method.Put) (Err e) left
   comes (Some method.Delete) (Ok status) sent h left =
-      stood (removed_from h.who.now (segments h.path.bytes) (as_found before after) after.state h.does.removed p file.node.bytes (file, here, kind, refl))
+      stood (removed_from h.who.now (segments h.path.bytes) (as_found before after) after.state h.does.1.removed p file.node.bytes (file, here, kind, refl))
   comes (Some method.Delete) (Err e) sent h left = alike (Some method.Delete) (Err e) left
   comes (Some method.Copy) (Ok status) sent h left =
       let from = segments h.path.bytes in
-      let to = segments h.does.to.bytes in
-      let copied = h.does.copied in
-      transferred (Some method.Copy) (Ok status) h.path h.does.to (inl refl) h.begins.names h.does.leads.leads
-      (came_before h.who.now from to h.does.mid h.does.cleared
-      (copied_from h.who.now h.does.deep from to h.does.mid (live h.who.now after.state)
+      let to = segments h.does.1.to.bytes in
+      let copied = h.does.1.copied in
+      transferred (Some method.Copy) (Ok status) h.path h.does.1.to (inl refl) h.begins.names h.does.1.leads.leads
+      (came_before h.who.now from to h.does.1.mid h.does.1.cleared
+      (copied_from h.who.now h.does.1.deep from to h.does.1.mid (live h.who.now after.state)
       (record { there = λ rest. inr (copied.there rest); others = copied.others; left = copied.left }) p file here kind))
   comes (Some method.Copy) (Err e) sent h left = copy_left (Err e) e left
   comes (Some method.Move) (Ok status) sent h left =
       let from = segments h.path.bytes in
-      let to = segments h.does.to.bytes in
-      transferred (Some method.Move) (Ok status) h.path h.does.to (inr refl) h.begins.names h.does.leads.leads
-      (came_before h.who.now from to h.does.mid h.does.cleared (moved_from h.who.now from to h.does.mid after.state h.does.moved p file here kind))
+      let to = segments h.does.1.to.bytes in
+      transferred (Some method.Move) (Ok status) h.path h.does.1.to (inr refl) h.begins.names h.does.1.leads.leads
+      (came_before h.who.now from to h.does.1.mid h.does.1.cleared (moved_from h.who.now from to h.does.1.mid after.state h.does.1.moved p file here kind))
   comes (Some method.Move) (Err e) sent h left = move_left (Err e) e left
-  comes (Some method.MkCol) (Ok status) sent h left = made_folder (Ok status) (body_of request) h.who (segments h.path.bytes) status h.does
+  comes (Some method.MkCol) (Ok status) sent h left = made_folder (Ok status) (head_of request).headers h.who (segments h.path.bytes) status h.does.1
   comes (Some method.MkCol) (Err e) sent h left = alike (Some method.MkCol) (Err e) left
-  comes (Some method.Unlock) (Ok status) sent h left = same_map (Some method.Unlock) (Ok status) (ap (λ (s : State). s.map) h.does.ends.left)
+  comes (Some method.Unlock) (Ok status) sent h left = same_map (Some method.Unlock) (Ok status) (ap (λ (s : State). s.map) h.does.1.ends.left)
   comes (Some method.Unlock) (Err e) sent h left = alike (Some method.Unlock) (Err e) left
   comes (Some method.Lock) (Ok status) sent h left = elim h.locks [
     | inl granted ↦ elim granted.1.grants.made [

@@ -4,10 +4,12 @@ use Rattle.std.specs.Prelude.{IfErr}
 use Rattle.std.proofs.lemmas.Bool.{false_from_ne_true, or_parts, true≢false}
 use Rattle.std.specs.FinMap.{get, empty, get-empty}
 use Rattle.http.specs.declared.request.Request.{Request}
-use Rattle.http.specs.Request.{body_of}
+use Rattle.http.specs.Request.{body_of, head_of}
 use Rattle.http_server.specs.declared.response.Response.{Response}
 use Rattle.http_server.specs.Exchange.{Call, Chain}
 use Rattle.http_frames.specs.Clients.{Turn}
+use Rattle.http_header.specs.FieldValue.{FieldValue}
+use Rattle.http_header.specs.HeaderMap.{Entries}
 use Rattle.dav_path_core.specs.declared.util.DavMethod.{DavMethod}
 use Rattle.dav_path_core.specs.declared.util.DavMethod.TheVariants as method
 use Rattle.dav_path_core.specs.Fronts.{Path, is_front, parent, path_cmp}
@@ -101,9 +103,9 @@ lock_dates before after request status sent later h = elim h.locks [
 ]
 
 -- a new folder is no file, and neither is the one that it stands in
-make_dates : (before after : Server) (body : List ℕ) (who : Caller) (p : Path) (status : ℕ) → before.last ≤ after.last
-    → Makes body (as_found before after) who p status after.state → Dates before after
-make_dates before after body who p status later h = record {
+make_dates : (before after : Server) (headers : Entries FieldValue) (who : Caller) (p : Path) (status : ℕ) → before.last ≤ after.last
+    → Makes headers (as_found before after) who p status after.state → Dates before after
+make_dates before after headers who p status later h = record {
   bytes = [];
   moments = later;
   files = λ file has. elim (dec path_total path_exact has.0 p) [
@@ -224,30 +226,30 @@ method_dates (Some method.Put) before after request (Err e) sent later h refused
     same_map before after later (live_map after.last before.state after.state refused)
 method_dates (Some method.Delete) before after request (Ok status) sent later h refused =
     remove_dates before after (segments h.path.bytes) (h.later refl)
-    (subst (λ n. IsRemoved n (segments h.path.bytes) (as_found before after) after.state) h.begins.now h.does.removed)
+    (subst (λ n. IsRemoved n (segments h.path.bytes) (as_found before after) after.state) h.begins.now h.does.1.removed)
 method_dates (Some method.Delete) before after request (Err e) sent later h refused =
     same_map before after later (live_map after.last before.state after.state refused)
 method_dates (Some method.Copy) before after request (Ok status) sent later h refused =
     let now = h.begins.now in
-    let to = segments h.does.to.bytes in
+    let to = segments h.does.1.to.bytes in
     let from = segments h.path.bytes in
-    copy_dates before after h.does.deep from to h.does.mid (h.later refl) (subst (λ n. IsCleared n to (as_found before after) h.does.mid) now h.does.cleared)
-    (subst (λ n. IsPartlyCopied n h.does.deep from to h.does.mid (live n after.state)) now (whole_part h.who.now h.does.deep from to h.does.mid (live h.who.now after.state) h.does.copied))
+    copy_dates before after h.does.1.deep from to h.does.1.mid (h.later refl) (subst (λ n. IsCleared n to (as_found before after) h.does.1.mid) now h.does.1.cleared)
+    (subst (λ n. IsPartlyCopied n h.does.1.deep from to h.does.1.mid (live n after.state)) now (whole_part h.who.now h.does.1.deep from to h.does.1.mid (live h.who.now after.state) h.does.1.copied))
 method_dates (Some method.Copy) before after request (Err e) sent later h refused = copy_left before after request e later refused
 method_dates (Some method.Move) before after request (Ok status) sent later h refused =
     let now = h.begins.now in
-    let to = segments h.does.to.bytes in
+    let to = segments h.does.1.to.bytes in
     let from = segments h.path.bytes in
-    let apart = or_parts (is_front to from) (is_front from to) h.does.leads.apart in
-    move_dates before after from to h.does.mid (h.later refl) h.does.stood_in h.does.fit.above (parent_out to from apart.0) (parent_out_own to from apart.0)
-    (subst (λ n. IsCleared n to (as_found before after) h.does.mid) now h.does.cleared) (subst (λ n. IsMoved n from to h.does.mid after.state) now h.does.moved)
+    let apart = or_parts (is_front to from) (is_front from to) h.does.1.leads.apart in
+    move_dates before after from to h.does.1.mid (h.later refl) h.does.1.stood_in h.does.1.fit.above (parent_out to from apart.0) (parent_out_own to from apart.0)
+    (subst (λ n. IsCleared n to (as_found before after) h.does.1.mid) now h.does.1.cleared) (subst (λ n. IsMoved n from to h.does.1.mid after.state) now h.does.1.moved)
 method_dates (Some method.Move) before after request (Err e) sent later h refused = move_left before after request e later refused
 method_dates (Some method.MkCol) before after request (Ok status) sent later h refused =
-    make_dates before after (body_of request) h.who (segments h.path.bytes) status later h.does
+    make_dates before after (head_of request).headers h.who (segments h.path.bytes) status later h.does.1
 method_dates (Some method.MkCol) before after request (Err e) sent later h refused =
     same_map before after later (live_map after.last before.state after.state refused)
 method_dates (Some method.Unlock) before after request (Ok status) sent later h refused =
-    same_map before after later (ap (λ (s : State). s.map) h.does.ends.left)
+    same_map before after later (ap (λ (s : State). s.map) h.does.1.ends.left)
 method_dates (Some method.Unlock) before after request (Err e) sent later h refused =
     same_map before after later (live_map after.last before.state after.state refused)
 method_dates (Some method.Lock) before after request (Ok status) sent later h refused = lock_dates before after request status sent later h

@@ -14,7 +14,7 @@ use Rattle.dav_path_core.proofs.lists.FinMaps.{one_some}
 use Rattle.dav_files_core.specs.Resources.{Resource, at_path, is_folder}
 use Rattle.dav_files_core.proofs.properties.PropertyMapLemmas.{key_total}
 use Rattle.dav_locks_core.specs.Lock.{Lock}
-use Rattle.dav_locks_core.specs.Locks.{discovered_locks}
+use Rattle.dav_locks_core.specs.Locks.{discovered_locks, refreshed_lock}
 use Rattle.dav_resource_core.specs.Step.{State}
 use Rattle.dav_xml_core.specs.Reading.{document_of}
 use Rattle.dav_faults_core.specs.declared.faults.Fault.{Fault}
@@ -78,11 +78,11 @@ module _ (before after : Server) (later : before.last ≤ after.last) (kept : Ke
 
   -- ---- locks
 
-  retimed_kept : (token : List ℕ) (timeout : Option ℕ) (locks : List Lock) → AreKeptLocks locks → AreKeptLocks (retimed_locks token timeout locks)
-  retimed_kept token timeout [] h = tt
-  retimed_kept token timeout (l ∷ locks) h = (by (bytes_eq l.token token), retimed_kept token timeout locks h.1)
+  retimed_kept : (now : ℕ) (token : List ℕ) (timeout : Option ℕ) (locks : List Lock) → AreKeptLocks locks → AreKeptLocks (retimed_locks now token timeout locks)
+  retimed_kept now token timeout [] h = tt
+  retimed_kept now token timeout (l ∷ locks) h = (by (bytes_eq l.token token), retimed_kept now token timeout locks h.1)
     where
-      by : (b : Bool) → IsKeptLock (cond b (record l { timeout = timeout }) l)
+      by : (b : Bool) → IsKeptLock (cond b (refreshed_lock now timeout l) l)
       by true = record { token = h.0.token; rooted = h.0.rooted; owner = h.0.owner }
       by false = h.0
 
@@ -94,7 +94,7 @@ module _ (before after : Server) (later : before.last ≤ after.last) (kept : Ke
         let lock = granted_lock_kept before after later kept request status sent fits h g in
         record {
           document = subst IsDocument (sym g.told)
-              (locks_are_read before.options.prefix h.who.principal (discovered_locks (s.locks ++ g.lock ∷ []) p)
+              (locks_are_read before.options.prefix h.who.principal h.who.now (discovered_locks (s.locks ++ g.lock ∷ []) p)
               (discovered_kept (s.locks ++ g.lock ∷ []) p (all_behind IsKeptLock s.locks (g.lock ∷ []) live_kept (lock, tt))));
           typed = g.typed;
         }
@@ -103,8 +103,8 @@ module _ (before after : Server) (later : before.last ≤ after.last) (kept : Ke
         let locks = discovered_locks s.locks (segments h.path.bytes) in
         record {
           document = subst IsDocument (sym r.told)
-              (locks_are_read before.options.prefix h.who.principal (retimed_locks r.token r.timeout locks)
-              (retimed_kept r.token r.timeout locks (discovered_kept s.locks (segments h.path.bytes) live_kept)));
+              (locks_are_read before.options.prefix h.who.principal h.who.now (retimed_locks h.who.now r.token r.timeout locks)
+              (retimed_kept h.who.now r.token r.timeout locks (discovered_kept s.locks (segments h.path.bytes) live_kept)));
           typed = r.typed;
         }
   ]
@@ -133,7 +133,7 @@ method_told (Some method.PropFind) before after request (Ok status) sent later k
     let found = h.0.does.1 in
     record {
       document = subst IsDocument (sym found.told_is)
-          (resources_are_read before.options.prefix h.0.who.principal found.question found.resources (question_names (body_of request) found.question fits found.question_is)
+          (resources_are_read before.options.prefix h.0.who.principal h.0.who.now found.question found.resources (question_names (body_of request) found.question fits found.question_is)
           (each_tellable before after later kept before.options.prefix found.places found.resources found.described));
       typed = h.0.does.2;
     }

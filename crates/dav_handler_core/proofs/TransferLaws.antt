@@ -1,5 +1,6 @@
 -- When a COPY or a MOVE is held off: what stands at its target may not be replaced.
-use Rattle.std.proofs.Common.{◌≡◌, inl, inr, ℕ, Bool, true, false, cond, List, Some, subst}
+use Rattle.std.proofs.Common.{◌≡◌, ◌⊎◌, inl, inr, ℕ, Bool, true, false, cond, List, Some, Err, ap, ◌∙◌, subst}
+use Rattle.dav_path_core.specs.declared.util.DavMethod.TheVariants as method
 use Rattle.std.proofs.lemmas.Bool.{cases_Bool}
 use Rattle.http_header.specs.FieldValue.{FieldValue}
 use Rattle.http_header.specs.HeaderMap.{Entries}
@@ -9,16 +10,17 @@ use Rattle.dav_path_core.specs.Fronts.{Path}
 use Rattle.dav_path_core.specs.Segments.{segments}
 use Rattle.dav_files_core.specs.Resources.{ResourceMap}
 use Rattle.dav_resource_core.specs.Step.{State}
-use Rattle.dav_fields_core.specs.declared.bases.Scheme.{Scheme}
+use Rattle.dav_fields_core.specs.Bases.{Site}
 use Rattle.dav_faults_core.specs.declared.faults.Fault.{Fault}
 use Rattle.dav_faults_core.specs.declared.faults.Fault.TheVariants as fault
 use Rattle.dav_session_core.specs.Callers.{Caller}
-use Rattle.dav_methods_core.specs.CopyMethod.{FailsToCopy}
+use Rattle.dav_methods_core.specs.ChangeConditions.{change_course}
+use Rattle.dav_methods_core.specs.CopyMethod.{CantCopy, FailsToCopy}
 use Rattle.dav_fields_core.specs.TransferDestinations.{LeadsNowhere, fault_of, overwrites}
 use Rattle.dav_fields_core.specs.TransferDestinations.LeadsNowhere.{memory, no_text, no_url, no_host, another, no_path}
 use Rattle.dav_methods_core.specs.TransferEnds.{FailsAtEnds}
 use Rattle.dav_session_core.specs.LocksInTheWay.{by_place, is_lock_below}
-use Rattle.dav_methods_core.specs.MoveMethod.{FailsToMove}
+use Rattle.dav_methods_core.specs.MoveMethod.{CantMove, FailsToMove}
 
 -- a path that is refused is told otherwise
 path_told : (e : ParseError) → fault_of e ≡ fault.PreconditionFailed → ⊥
@@ -36,8 +38,8 @@ lock_told p (fault.Locked path) is = elim (cases_Bool (is_lock_below p path)) [
 ]
 lock_told p _ is = is
 
-module _ (scheme : Scheme) (prefix : List ℕ) (headers : Entries FieldValue) where
-  nowhere_told : (e : Fault) → e ≡ fault.PreconditionFailed → LeadsNowhere scheme prefix headers e → ⊥
+module _ (site : Site) (prefix : List ℕ) (headers : Entries FieldValue) where
+  nowhere_told : (e : Fault) → e ≡ fault.PreconditionFailed → LeadsNowhere site prefix headers e → ⊥
   nowhere_told _ is memory = cc
   nowhere_told _ is (no_text h) = cc
   nowhere_told _ is (no_url text names rooted h) = cc
@@ -45,7 +47,7 @@ module _ (scheme : Scheme) (prefix : List ℕ) (headers : Entries FieldValue) wh
   nowhere_told _ is (another text names leads) = cc
   nowhere_told _ is (no_path text at e names leads h) = path_told e is
 
-  ends_kept : (m : ResourceMap) (from : Path) (within : Bool) (e : Fault) → e ≡ fault.PreconditionFailed → FailsAtEnds scheme prefix headers m from within e → overwrites headers ≡ Some false
+  ends_kept : (m : ResourceMap) (from : Path) (within : Bool) (e : Fault) → e ≡ fault.PreconditionFailed → FailsAtEnds site prefix headers m from within e → overwrites headers ≡ Some false
   ends_kept m from within _ is FailsAtEnds.memory = absurd (cc)
   ends_kept m from within _ is (FailsAtEnds.unread h) = absurd (cc)
   ends_kept m from within _ is (FailsAtEnds.nowhere replaces e h leads) = absurd (nowhere_told e is leads)
@@ -55,18 +57,30 @@ module _ (scheme : Scheme) (prefix : List ℕ) (headers : Entries FieldValue) wh
   ends_kept m from within _ is (FailsAtEnds.nowhere_to_stand to replaces leads stands may none) = absurd (cc)
   ends_kept m from within _ is (FailsAtEnds.odd to replaces leads fit name) = absurd (cc)
 
-  pub copy_kept : (s : State) (who : Caller) (from : Path) (e : Fault) → e ≡ fault.PreconditionFailed → FailsToCopy scheme prefix headers s who from e → overwrites headers ≡ Some false
-  copy_kept s who from _ is FailsToCopy.memory = absurd (cc)
-  copy_kept s who from _ is (FailsToCopy.depth h) = absurd (cc)
-  copy_kept s who from _ is (FailsToCopy.ends deep e reaches h) = ends_kept s.map from true e is h
-  copy_kept s who from _ is (FailsToCopy.odd to replaces reaches leads fit name) = absurd (cc)
-  copy_kept s who from _ is (FailsToCopy.locked deep to replaces gone rests path reaches leads fit goes are refused) =
+  copy_kept : (s : State) (who : Caller) (from : Path) (e : Fault) → e ≡ fault.PreconditionFailed → CantCopy site prefix headers s who from e → overwrites headers ≡ Some false
+  copy_kept s who from _ is CantCopy.memory = absurd (cc)
+  copy_kept s who from _ is (CantCopy.depth h) = absurd (cc)
+  copy_kept s who from _ is (CantCopy.ends deep e reaches h) = ends_kept s.map from true e is h
+  copy_kept s who from _ is (CantCopy.odd to replaces reaches leads fit name) = absurd (cc)
+  copy_kept s who from _ is (CantCopy.locked deep to replaces gone rests path reaches leads fit goes are refused) =
       absurd (let no : fault.Locked path ≡ fault.PreconditionFailed = lock_told (segments to.bytes) (fault.Locked path) is in cc)
 
-  pub move_kept : (s : State) (who : Caller) (from : Path) (e : Fault) → e ≡ fault.PreconditionFailed → FailsToMove scheme prefix headers s who from e → overwrites headers ≡ Some false
-  move_kept s who from _ is FailsToMove.memory = absurd (cc)
-  move_kept s who from _ is (FailsToMove.depth h) = absurd (cc)
-  move_kept s who from _ is (FailsToMove.ends e reaches h) = ends_kept s.map from false e is h
-  move_kept s who from _ is (FailsToMove.locked to replaces gone path reaches leads fit goes refused) =
+  move_kept : (s : State) (who : Caller) (from : Path) (e : Fault) → e ≡ fault.PreconditionFailed → CantMove site prefix headers s who from e → overwrites headers ≡ Some false
+  move_kept s who from _ is CantMove.memory = absurd (cc)
+  move_kept s who from _ is (CantMove.depth h) = absurd (cc)
+  move_kept s who from _ is (CantMove.ends e reaches h) = ends_kept s.map from false e is h
+  move_kept s who from _ is (CantMove.locked to replaces gone path reaches leads fit goes refused) =
       absurd (let no : fault.Locked path ≡ fault.PreconditionFailed =
       lock_told (segments to.bytes) (fault.Locked path) (lock_told from (by_place (segments to.bytes) (fault.Locked path)) is) in cc)
+
+  -- so a COPY is stopped there, or by conditions of its source
+  pub copy_stops : (s : State) (who : Caller) (from : Path) (e : Fault) → e ≡ fault.PreconditionFailed → FailsToCopy site prefix headers s who from e
+      → (overwrites headers ≡ Some false) ⊎ (change_course method.Copy s.map from headers ≡ Err fault.PreconditionFailed)
+  copy_stops s who from e is (inl h) = inl (copy_kept s who from e is h)
+  copy_stops s who from e is (inr h) = inr (h.1 ∙ ap Err is)
+
+  -- and so is a MOVE
+  pub move_stops : (s : State) (who : Caller) (from : Path) (e : Fault) → e ≡ fault.PreconditionFailed → FailsToMove site prefix headers s who from e
+      → (overwrites headers ≡ Some false) ⊎ (change_course method.Move s.map from headers ≡ Err fault.PreconditionFailed)
+  move_stops s who from e is (inl h) = inl (move_kept s who from e is h)
+  move_stops s who from e is (inr h) = inr (h.1 ∙ ap Err is)

@@ -24,7 +24,7 @@ use Rattle.dav_methods_core.specs.MoveMethod.{StartsToMove}
 use Rattle.dav_methods_core.specs.RefusalAnswers.{TellsWhy}
 use Rattle.dav_session_core.specs.Refreshing.{RefreshesOwn}
 use Rattle.dav_methods_core.specs.UnlockMethod.{Unlocks}
-use Rattle.dav_handler_core.specs.Server.{Server, IsFrom, Names}
+use Rattle.dav_handler_core.specs.Server.{Server, IsFrom, Names, site_for}
 use Rattle.dav_handler_core.specs.MethodAnswers.{Begins, CopyAnswers, FindAnswers, GetAnswers, LockAnswers, MakeAnswers, MoveAnswers, PatchAnswers, PutAnswers, RemoveAnswers, UnlockAnswers, as_found}
 
 -- ---- the request
@@ -96,11 +96,11 @@ abbrev pub Leaves : Option DavMethod → Server → Request (List ℕ) → Fault
 Leaves (Some method.Copy) before request fault.InsufficientStorage after =
     SameLive after.last before.state after.state
     ⊎ ((before.last < after.last) × ((path : PathText) × Names before.options request path
-    × StartsToCopy before.options.scheme before.options.prefix (head_of request).headers (as_found before after) after.last (segments path.bytes) after.state))
+    × StartsToCopy (site_for before.options request) before.options.prefix (head_of request).headers (as_found before after) after.last (segments path.bytes) after.state))
 Leaves (Some method.Move) before request fault.InsufficientStorage after =
     SameLive after.last before.state after.state
     ⊎ ((before.last < after.last)
-    × StartsToMove before.options.scheme before.options.prefix (head_of request).headers (as_found before after) after.last after.state)
+    × StartsToMove (site_for before.options request) before.options.prefix (head_of request).headers (as_found before after) after.last after.state)
 Leaves (Some method.Lock) before request fault.InsufficientStorage after =
     SameLive after.last before.state after.state
     ⊎ ((path : PathText) × (who : Caller) × Begins before request after path who

@@ -1,6 +1,6 @@
 -- What decides over a request: its `If`, the conditions of HTTP and its range, told of its answer in one fact each (RFC 4918 section 10.4, RFC 9110
 -- sections 13 and 14).
-use Rattle.std.specs.Prelude.{◌≡◌, ◌⊎◌, ℕ, ◌-◌, Bool, true, false, List, [], ◌∷◌, length, take, drop, Option, None, Some, Ok, Err}
+use Rattle.std.specs.Prelude.{◌≡◌, ◌≢◌, ◌⊎◌, ℕ, ◌<◌, ◌-◌, Bool, true, false, List, [], ◌∷◌, length, take, drop, Option, None, Some, Ok, Err}
 use Rattle.http.specs.declared.request.Request.{Request}
 use Rattle.http.specs.Request.{head_of}
 use Rattle.http_header.specs.FieldValue.{FieldValue}
@@ -17,23 +17,43 @@ use Rattle.dav_fields_core.specs.declared.ranges.Extent.{Extent}
 use Rattle.dav_fields_core.specs.declared.ranges.Extent.TheVariants as extent
 use Rattle.dav_methods_core.specs.Admitting.{Weighs}
 use Rattle.dav_handler_core.specs.MethodAnswers.{Admits, Begins, as_found}
-use Rattle.dav_handler_core.specs.Server.{Server}
+use Rattle.dav_handler_core.specs.Server.{Server, site_for}
 use Rattle.dav_session_core.specs.Callers.{Caller, live}
 use Rattle.dav_fields_core.specs.TransferDestinations.{overwrites}
 use Rattle.dav_fields_core.specs.Fields.{Sent}
 use Rattle.dav_fields_core.specs.FileTags.{standing_of}
 use Rattle.dav_fields_core.specs.Getting.{tags_by}
 use Rattle.dav_methods_core.specs.GetMethod.{get_outcome_of}
-use Rattle.dav_methods_core.specs.PutMethod.{put_course}
+use Rattle.dav_methods_core.specs.ChangeConditions.{change_course}
 use Rattle.dav_fields_core.specs.Ranges.{part_text}
 use Rattle.dav_methods_core.specs.RefreshMethod.{named_there}
 
--- a GET, a HEAD or a PUT, which look at conditions
+-- a method that looks at conditions: all but a PROPFIND and an OPTIONS
 abbrev pub looks : Option DavMethod → Bool
 looks (Some method.Get) = true
 looks (Some method.Head) = true
 looks (Some method.Put) = true
+looks (Some method.Delete) = true
+looks (Some method.Copy) = true
+looks (Some method.Move) = true
+looks (Some method.MkCol) = true
+looks (Some method.PropPatch) = true
+looks (Some method.Lock) = true
+looks (Some method.Unlock) = true
 looks _ = false
+
+-- a GET, a HEAD or a PUT, whose answers have the tag of the file
+abbrev pub tells_tag : Option DavMethod → Bool
+tells_tag (Some method.Get) = true
+tells_tag (Some method.Head) = true
+tells_tag (Some method.Put) = true
+tells_tag _ = false
+
+-- The status of a request that is done. A 207 tells of a lock below the path, but to a PROPPATCH of
+-- what it has done.
+abbrev pub SaysDone : Option DavMethod → ℕ → Type 0
+SaysDone (Some method.PropPatch) status = status < 300
+SaysDone _ status = (status < 300) × (status ≢ 207)
 
 -- what stands at the path is told to a GET or a HEAD
 abbrev pub IsToldAs : DavMethod → ResourceMap → Path → Entries FieldValue → Option Extent → Type 0
@@ -47,18 +67,37 @@ IsToldFailed m map p headers = (r : Resource) × (at_path map p ≡ Some r) × (
 abbrev pub Lets : Option DavMethod → ResourceMap → Path → Entries FieldValue → Type 0
 Lets (Some method.Get) map p headers = (x : Extent) × IsToldAs method.Get map p headers (Some x)
 Lets (Some method.Head) map p headers = (x : Extent) × IsToldAs method.Head map p headers (Some x)
-Lets (Some method.Put) map p headers = put_course map p headers ≡ Ok tt
+Lets (Some method.Put) map p headers = change_course method.Put map p headers ≡ Ok tt
+Lets (Some method.Delete) map p headers = change_course method.Delete map p headers ≡ Ok tt
+Lets (Some method.Copy) map p headers = change_course method.Copy map p headers ≡ Ok tt
+Lets (Some method.Move) map p headers = change_course method.Move map p headers ≡ Ok tt
+Lets (Some method.MkCol) map p headers = change_course method.MkCol map p headers ≡ Ok tt
+Lets (Some method.PropPatch) map p headers = change_course method.PropPatch map p headers ≡ Ok tt
+Lets (Some method.Lock) map p headers = change_course method.Lock map p headers ≡ Ok tt
+Lets (Some method.Unlock) map p headers = change_course method.Unlock map p headers ≡ Ok tt
 Lets _ map p headers = Unit {0}
 
--- They don't, and all of them are read. Of a COPY or a MOVE: what stands at the target may not be replaced. Of a LOCK: no token that the caller names is that of a lock which
--- covers the path (RFC 4918 section 9.10.2).
+-- one of those that are looked at doesn't hold, and each is read
+abbrev pub IsCourseStopped : DavMethod → ResourceMap → Path → Entries FieldValue → Type 0
+IsCourseStopped m map p headers = change_course m map p headers ≡ Err fault.PreconditionFailed
+
+-- They don't. Of a COPY or a MOVE it may also be that what stands at the target may not be replaced;
+-- of a LOCK without a body, that no token that the caller names is that of a lock which covers the
+-- path (RFC 4918 section 9.10.2).
 abbrev pub Stops : Option DavMethod → State → Caller → Path → Entries FieldValue → Type 0
 Stops (Some method.Get) s who p headers = IsToldAs method.Get s.map p headers None ⊎ IsToldFailed method.Get s.map p headers
 Stops (Some method.Head) s who p headers = IsToldAs method.Head s.map p headers None ⊎ IsToldFailed method.Head s.map p headers
-Stops (Some method.Put) s who p headers = put_course s.map p headers ≡ Err fault.PreconditionFailed
-Stops (Some method.Copy) s who p headers = overwrites headers ≡ Some false
-Stops (Some method.Move) s who p headers = overwrites headers ≡ Some false
-Stops (Some method.Lock) s who p headers = named_there s who p ≡ []
+Stops (Some method.Put) s who p headers = IsCourseStopped method.Put s.map p headers
+Stops (Some method.Delete) s who p headers = IsCourseStopped method.Delete s.map p headers
+Stops (Some method.Copy) s who p headers =
+    (overwrites headers ≡ Some false) ⊎ IsCourseStopped method.Copy s.map p headers
+Stops (Some method.Move) s who p headers =
+    (overwrites headers ≡ Some false) ⊎ IsCourseStopped method.Move s.map p headers
+Stops (Some method.MkCol) s who p headers = IsCourseStopped method.MkCol s.map p headers
+Stops (Some method.PropPatch) s who p headers = IsCourseStopped method.PropPatch s.map p headers
+Stops (Some method.Lock) s who p headers =
+    (named_there s who p ≡ []) ⊎ IsCourseStopped method.Lock s.map p headers
+Stops (Some method.Unlock) s who p headers = IsCourseStopped method.Unlock s.map p headers
 Stops _ s who p headers = ⊥
 
 -- the request goes on: its `If` lets it, and so do the conditions
@@ -74,7 +113,7 @@ pub record HeldOff (m : Option DavMethod) (before : Server) (request : Request (
   pub path : PathText
   pub who : Caller
   pub begins : Begins before request after path who
-  pub why : Weighs before.options.scheme (live after.last before.state) (head_of request).headers path false
+  pub why : Weighs (site_for before.options request) (live after.last before.state) (head_of request).headers path false
       ⊎ (Admits before request after path × Stops m (as_found before after) who (segments path.bytes) (head_of request).headers)
 
 -- what is sent is the part of a file that is asked for, and says which

@@ -4,14 +4,16 @@ use Rattle.http.specs.declared.request.Request.{Request}
 use Rattle.http.specs.Request.{body_of, head_of}
 use Rattle.dav_faults_core.specs.declared.faults.Fault.{Fault}
 use Rattle.dav_fields_core.specs.Fields.{Sent}
+use Rattle.dav_methods_core.specs.ChangeConditions.{change_course}
 use Rattle.dav_methods_core.specs.CopyMethod.{Copies, FailsToCopy}
 use Rattle.dav_methods_core.specs.MkcolMethod.{FailsToMake, Makes}
 use Rattle.dav_methods_core.specs.MoveMethod.{FailsToMove, Moves}
 use Rattle.dav_methods_core.specs.DeleteMethod.{FailsToRemove, Removes}
 use Rattle.dav_methods_core.specs.UnlockMethod.{FailsToUnlock, Unlocks}
 use Rattle.dav_methods_core.specs.PropfindMethod.{FailsToTell, TellsFound}
-use Rattle.dav_handler_core.specs.Server.{Server, Options, IsFrom, Names}
+use Rattle.dav_handler_core.specs.Server.{Server, Options, IsFrom, Names, site_for}
 use Rattle.dav_path_core.specs.declared.util.DavMethod.{DavMethod}
+use Rattle.dav_path_core.specs.declared.util.DavMethod.TheVariants as method
 use Rattle.dav_path_core.specs.PathText.{PathText}
 use Rattle.dav_path_core.specs.Segments.{segments}
 use Rattle.dav_path_core.specs.Fronts.{Path}
@@ -25,7 +27,7 @@ use Rattle.dav_methods_core.specs.GetMethod.{FailsToGet, Gets}
 use Rattle.dav_fields_core.specs.Getting.{tag_marks}
 use Rattle.dav_methods_core.specs.LockMethod.{FailsToLock, IsGranted}
 use Rattle.dav_methods_core.specs.ProppatchMethod.{FailsToPatch, Patches}
-use Rattle.dav_methods_core.specs.PutMethod.{FailsToPut, Puts, put_course, put_status}
+use Rattle.dav_methods_core.specs.PutMethod.{FailsToPut, Puts, put_status}
 use Rattle.dav_methods_core.specs.RefreshMethod.{FailsToRefresh, Refreshes}
 use Rattle.dav_fields_core.specs.RequestRefusals.{RefusesTarget, RefusesPrincipal, HasBadIf, HasPart, IsLastMoment}
 use Rattle.dav_fields_core.specs.Senders.{NamesPrincipal}
@@ -44,7 +46,8 @@ pub data Unread (options : Options) (request : Request (List ℕ)) (last : ℕ) 
   principal : (e : Fault) (path : PathText) → Names options request path → RefusesPrincipal options.user_header (head_of request).headers e
       → Unread options request last changes e
   tokens : (path : PathText) (named : Option (List ℕ)) → Names options request path
-      → NamesPrincipal options.user_header (head_of request).headers named → HasBadIf (head_of request).headers
+      → NamesPrincipal options.user_header (head_of request).headers named
+      → HasBadIf (site_for options request) (head_of request).headers
       → Unread options request last changes fault.BadRequest
   moment : (path : PathText) (who : Caller) → Names options request path → IsFrom options request who → changes ≡ true → IsLastMoment last
       → Unread options request last changes fault.ServiceUnavailable
@@ -57,10 +60,10 @@ pub record Begins (before : Server) (request : Request (List ℕ)) (after : Serv
 
 -- Its `If` lets it go on, or holds it off, by the locks that have not expired at its moment.
 abbrev pub Admits : Server → Request (List ℕ) → Server → PathText → Type 0
-Admits before request after path = IsAdmitted before.options.scheme (live after.last before.state) (head_of request).headers path
+Admits before request after path = IsAdmitted (site_for before.options request) (live after.last before.state) (head_of request).headers path
 
 abbrev pub HoldsOff : Server → Request (List ℕ) → Server → PathText → Fault → Type 0
-HoldsOff before request after path e = IsHeldOff before.options.scheme (live after.last before.state) (head_of request).headers path e
+HoldsOff before request after path e = IsHeldOff (site_for before.options request) (live after.last before.state) (head_of request).headers path e
 
 -- A request that is read is refused: its `If` holds it off; or it doesn't, and its method refuses it.
 pub record Fails (before : Server) (request : Request (List ℕ)) (after : Server) (e : Fault) (Refuses : Path → Caller → Type 0) : Type 0 where
@@ -92,7 +95,7 @@ pub record IsPut (before : Server) (request : Request (List ℕ)) (status : ℕ)
   pub begins : Begins before request after path who
   pub later : before.last < after.last
   pub admits : Admits before request after path
-  pub course : put_course before.state.map (segments path.bytes) (head_of request).headers ≡ Ok tt
+  pub course : change_course method.Put before.state.map (segments path.bytes) (head_of request).headers ≡ Ok tt
   pub status_is : status ≡ put_status before.state.map (segments path.bytes)
   pub puts : Puts before.state after.last (segments path.bytes) (body_of request) after.state
   pub marks : sent.marks ≡ tag_marks (tag_of puts.file ∷ [])
@@ -128,6 +131,22 @@ ChangeAnswers changes Does Refuses before request (Ok status) after =
 ChangeAnswers changes Does Refuses before request (Err e) after =
     Unread before.options request before.last changes e ⊎ Fails before request after e (λ p who. Refuses (as_found before after) who p e)
 
+-- Of a method that takes no body: one that comes is refused before all that the method looks at
+-- (RFC 4918 section 8.4).
+abbrev pub RefusesBody : Request (List ℕ) → (State → Caller → Path → Fault → Type 0)
+    → State → Caller → Path → Fault → Type 0
+RefusesBody request Refuses s who p e =
+    ((body_of request ≢ []) × (e ≡ fault.UnsupportedMediaType))
+    ⊎ ((body_of request ≡ []) × Refuses s who p e)
+
+-- It is done without a body, or says why not.
+abbrev pub BareAnswers : Bool → (State → Caller → Path → ℕ → State → Type 0)
+    → (State → Caller → Path → Fault → Type 0)
+    → Server → Request (List ℕ) → Result ℕ Fault → Server → Type 0
+BareAnswers changes Does Refuses before request result after =
+    ChangeAnswers changes (λ s who p status s'. (body_of request ≡ []) × Does s who p status s')
+    (RefusesBody request Refuses) before request result after
+
 -- ---- PROPPATCH and LOCK
 
 -- A PROPPATCH that is done, as its answer tells.
@@ -136,12 +155,15 @@ pub record IsPropPatched (before : Server) (request : Request (List ℕ)) (statu
   pub who : Caller
   pub begins : Begins before request after path who
   pub admits : Admits before request after path
-  pub patches : Patches before.options.prefix (body_of request) (as_found before after) who path status sent after.state
+  pub patches : Patches before.options.prefix (head_of request).headers (body_of request)
+      (as_found before after) who path status sent after.state
 
 abbrev pub PatchAnswers : Server → Request (List ℕ) → Result ℕ Fault → Sent → Server → Type 0
 PatchAnswers before request (Ok status) sent after = IsPropPatched before request status sent after
 PatchAnswers before request (Err e) sent after =
-    Unread before.options request before.last false e ⊎ Fails before request after e (λ p who. FailsToPatch (body_of request) (as_found before after) who p e)
+    Unread before.options request before.last false e
+    ⊎ Fails before request after e (λ p who. FailsToPatch (head_of request).headers
+    (body_of request) (as_found before after) who p e)
 
 -- A LOCK that is done: with a body a lock is granted, at a moment of its own; without one a lock has another end.
 pub record IsLocked (before : Server) (request : Request (List ℕ)) (status : ℕ) (sent : Sent) (after : Server) : Type 0 where
@@ -186,33 +208,33 @@ FindAnswers before request result sent after =
 -- a DELETE
 abbrev pub RemoveAnswers : Server → Request (List ℕ) → Result ℕ Fault → Server → Type 0
 RemoveAnswers before request result after =
-    ChangeAnswers true (Removes (head_of request).headers)
+    BareAnswers true (Removes (head_of request).headers)
     (FailsToRemove (head_of request).headers) before request result after
 
 -- a COPY
 abbrev pub CopyAnswers : Server → Request (List ℕ) → Result ℕ Fault → Server → Type 0
 CopyAnswers before request result after =
-    ChangeAnswers true
-    (Copies before.options.scheme before.options.prefix (head_of request).headers)
-    (FailsToCopy before.options.scheme before.options.prefix (head_of request).headers)
+    BareAnswers true
+    (Copies (site_for before.options request) before.options.prefix (head_of request).headers)
+    (FailsToCopy (site_for before.options request) before.options.prefix (head_of request).headers)
     before request result after
 
 -- a MOVE
 abbrev pub MoveAnswers : Server → Request (List ℕ) → Result ℕ Fault → Server → Type 0
 MoveAnswers before request result after =
-    ChangeAnswers true
-    (Moves before.options.scheme before.options.prefix (head_of request).headers)
-    (FailsToMove before.options.scheme before.options.prefix (head_of request).headers)
+    BareAnswers true
+    (Moves (site_for before.options request) before.options.prefix (head_of request).headers)
+    (FailsToMove (site_for before.options request) before.options.prefix (head_of request).headers)
     before request result after
 
 -- a MKCOL
 abbrev pub MakeAnswers : Server → Request (List ℕ) → Result ℕ Fault → Server → Type 0
 MakeAnswers before request result after =
-    ChangeAnswers true (Makes (body_of request)) (FailsToMake (body_of request))
+    BareAnswers true (Makes (head_of request).headers) (FailsToMake (head_of request).headers)
     before request result after
 
 -- an UNLOCK
 abbrev pub UnlockAnswers : Server → Request (List ℕ) → Result ℕ Fault → Server → Type 0
 UnlockAnswers before request result after =
-    ChangeAnswers false (Unlocks (head_of request).headers)
+    BareAnswers false (Unlocks (head_of request).headers)
     (FailsToUnlock (head_of request).headers) before request result after

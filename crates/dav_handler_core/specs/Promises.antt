@@ -14,7 +14,7 @@ use Rattle.dav_files_core.specs.declared.memfs.Kind.TheVariants.{File}
 use Rattle.dav_files_core.specs.Resources.{Resource, ResourceMap, at_path}
 use Rattle.dav_faults_core.specs.declared.faults.Fault.TheVariants as fault
 use Rattle.dav_handler_core.specs.Answers.{Answers}
-use Rattle.dav_handler_core.specs.Server.{Names, Server}
+use Rattle.dav_handler_core.specs.Server.{Names, Server, site_for}
 use Rattle.dav_session_core.specs.Callers.{SameLive}
 use Rattle.dav_fields_core.specs.TransferDestinations.{IsDestination}
 use Rattle.dav_handler_core.specs.Holding.{IsKeptUnlessHeld, StandsUnlessEnded}
@@ -32,7 +32,7 @@ pub record Brings (before : Server) (request : Request (List ℕ)) (from to : Pa
   pub source : PathText
   pub named : Names before.options request source
   pub target : PathText
-  pub leads : IsDestination before.options.scheme before.options.prefix (head_of request).headers target
+  pub leads : IsDestination (site_for before.options request) before.options.prefix (head_of request).headers target
   pub rest : Path
   pub from_is : from ≡ segments source.bytes ++ rest
   pub to_is : to ≡ segments target.bytes ++ rest

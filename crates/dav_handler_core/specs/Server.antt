@@ -5,6 +5,7 @@ use Rattle.http.specs.Request.{head_of}
 use Rattle.dav_path_core.specs.PathText.{PathText}
 use Rattle.dav_resource_core.specs.Step.{State}
 use Rattle.dav_fields_core.specs.declared.bases.Scheme.{Scheme}
+use Rattle.dav_fields_core.specs.Bases.{Site, site_of}
 use Rattle.dav_session_core.specs.Callers.{Caller, IsSender}
 use Rattle.dav_fields_core.specs.Targets.{IsTargetOf}
 
@@ -24,14 +25,15 @@ pub record Server : Type 0 where
   pub last : ℕ
   pub clock : ℕ
 
+-- where it is sent: the scheme of the server, and the host of its target, where that has one
+abbrev pub site_for : Options → Request (List ℕ) → Site
+site_for options request = site_of options.scheme (head_of request).uri
+
 -- the request is the caller's
 abbrev pub IsFrom : Options → Request (List ℕ) → Caller → Type 0
-IsFrom options request who = IsSender options.user_header (head_of request).headers who
+IsFrom options request who =
+    IsSender options.user_header (site_for options request) (head_of request).headers who
 
 -- its target names the path
 abbrev pub Names : Options → Request (List ℕ) → PathText → Type 0
 Names options request path = IsTargetOf options.prefix (head_of request).uri path
-
--- somebody or nobody sends it
-abbrev pub HasSender : Options → Request (List ℕ) → Type 0
-HasSender options request = (who : Caller) × IsFrom options request who

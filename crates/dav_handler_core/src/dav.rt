@@ -15,7 +15,7 @@ ghost use Rattle.dav_handler_core.specs.MethodAnswers.{PutAnswers, Unread};
 ghost use Rattle.dav_handler_core.specs.MethodAnswers.{CopyAnswers, FindAnswers, MakeAnswers};
 ghost use Rattle.dav_handler_core.specs.MethodAnswers.{MoveAnswers, RemoveAnswers, UnlockAnswers};
 ghost use Rattle.dav_session_core.specs.Callers.{RunBy};
-ghost use Rattle.dav_handler_core.specs.Private.Begun.{IsBegun, IsHeld};
+ghost use Rattle.dav_handler_core.specs.Private.Begun.{IsBegun, IsHeld, IsOverladen};
 ghost use Rattle.dav_fields_core.specs.RequestRefusals.{IsLastMoment};
 ghost use Rattle.dav_handler_core.specs.ServerViews.{IsAnswered, Changed, LeftBy, Unchanged};
 ghost use Rattle.dav_handler_core.specs.ServerViews.{options_of, server};
@@ -29,7 +29,7 @@ use bytes::Bytes;
 use dav_documents_core::bodies::fits;
 pub use dav_documents_core::laws::{kept_properties_are_read, refusals_are_read};
 use dav_faults_core::faults::Fault;
-use dav_fields_core::bases::Scheme;
+use dav_fields_core::bases::{Scheme, Site};
 use dav_fields_core::senders::{principal_of, tokens_of};
 use dav_fields_core::targets::target_of;
 use dav_methods_core::conditions::admit;
@@ -144,7 +144,8 @@ impl<R: Rng> Dav<R> {
     {
         let path = target_of(self.alloc, request.uri(), &self.settings.prefix)?;
         let principal = principal_of(self.alloc, request.headers(), &self.settings.user_header)?;
-        let tokens = tokens_of(self.alloc, request.headers())?;
+        let site = Site::of(self.settings.scheme, request.uri());
+        let tokens = tokens_of(self.alloc, &site, request.headers())?;
         let now = self.moment(changes)?;
         self.session.begin(principal, tokens, now);
         Ok(path)
@@ -164,13 +165,37 @@ impl<R: Rng> Dav<R> {
         ensures moves { MayDo (server R.stream self.old) request.now (server R.stream self.new) }
     {
         let path = self.begin(request, changes)?;
+        let site = Site::of(self.settings.scheme, request.uri());
         admit(
             self.alloc,
             &mut self.session,
-            self.settings.scheme,
+            &site,
             request.headers(),
             &path,
         )?;
+        Ok(path)
+    }
+
+    // Begins a request whose method takes no body, and looks at its `If`. `UnsupportedMediaType`
+    // where it has one (RFC 4918 section 8.4).
+    fn begin_bare(&mut self, request: &Request<Bytes>, changes: bool) -> Result<DavPath, Fault>
+        ensures ok { IfOk result (λ path. IsBegun (server R.stream self.old) request.now changes
+            (server R.stream self.new) path (caller self.new.session)
+            × Admits (server R.stream self.old) request.now (server R.stream self.new) path
+            × (body_of request.now ≡ [])) }
+        ensures err { IfErr result (λ e. Unread (server R.stream self.old).options request.now
+            (server R.stream self.old).last changes e
+            ⊎ (IsHeld (server R.stream self.old) request.now (server R.stream self.new) e
+            ⊎ IsOverladen (server R.stream self.old) request.now (server R.stream self.new) e)) }
+        ensures run { RunBy (caller self.new.session) (server R.stream self.old).state
+            (server R.stream self.new).state }
+        ensures live { Unchanged R.stream self.old self.new }
+        ensures moves { MayDo (server R.stream self.old) request.now (server R.stream self.new) }
+    {
+        let path = self.begin_admitted(request, changes)?;
+        if !request.body().is_empty() {
+            return Err(Fault::UnsupportedMediaType);
+        }
         Ok(path)
     }
 
@@ -255,7 +280,7 @@ impl<R: Rng> Dav<R> {
         ensures refused { OnErr result (Unchanged R.stream self.old self.new) }
         ensures moves { MayDo (server R.stream self.old) request.now (server R.stream self.new) }
     {
-        let path = self.begin_admitted(request, true)?;
+        let path = self.begin_bare(request, true)?;
         delete::delete(self.alloc, &mut self.session, request.headers(), path)
     }
 
@@ -266,12 +291,12 @@ impl<R: Rng> Dav<R> {
             self.new) }
         ensures moves { MayDo (server R.stream self.old) request.now (server R.stream self.new) }
     {
-        let path = self.begin_admitted(request, true)?;
-        let scheme = self.settings.scheme;
+        let path = self.begin_bare(request, true)?;
+        let site = Site::of(self.settings.scheme, request.uri());
         copy::copy(
             self.alloc,
             &mut self.session,
-            scheme,
+            &site,
             &self.settings.prefix,
             request.headers(),
             &path,
@@ -285,12 +310,12 @@ impl<R: Rng> Dav<R> {
             self.new) }
         ensures moves { MayDo (server R.stream self.old) request.now (server R.stream self.new) }
     {
-        let path = self.begin_admitted(request, true)?;
-        let scheme = self.settings.scheme;
+        let path = self.begin_bare(request, true)?;
+        let site = Site::of(self.settings.scheme, request.uri());
         moving::relocate(
             self.alloc,
             &mut self.session,
-            scheme,
+            &site,
             &self.settings.prefix,
             request.headers(),
             path,
@@ -303,8 +328,8 @@ impl<R: Rng> Dav<R> {
         ensures refused { OnErr result (Unchanged R.stream self.old self.new) }
         ensures moves { MayDo (server R.stream self.old) request.now (server R.stream self.new) }
     {
-        let path = self.begin_admitted(request, true)?;
-        mkcol::mkcol(&mut self.session, path, request.body())
+        let path = self.begin_bare(request, true)?;
+        mkcol::mkcol(self.alloc, &mut self.session, request.headers(), path)
     }
 
     // PROPPATCH.
@@ -324,6 +349,7 @@ impl<R: Rng> Dav<R> {
             self.alloc,
             &mut self.session,
             &self.settings.prefix,
+            request.headers(),
             path,
             request.body(),
             response,
@@ -336,7 +362,7 @@ impl<R: Rng> Dav<R> {
         ensures refused { OnErr result (Unchanged R.stream self.old self.new) }
         ensures moves { MayDo (server R.stream self.old) request.now (server R.stream self.new) }
     {
-        let path = self.begin_admitted(request, false)?;
+        let path = self.begin_bare(request, false)?;
         unlock::unlock(self.alloc, &mut self.session, request.headers(), path)
     }
 

@@ -1,8 +1,9 @@
 -- How a COPY is planned and refused, and what its requests leave one after another.
-use Rattle.std.proofs.Common.{◌≡◌, ◌≢◌, inl, inr, ℕ, Bool, true, false, cond, List, [], ◌∷◌, ◌++◌, map, Option, Some, None, is_some, refl, sym, ap, ◌∙◌, subst}
+use Rattle.std.proofs.Common.{◌≡◌, ◌≢◌, ◌⊎◌, inl, inr, ℕ, Bool, true, false, cond, List, [], ◌∷◌, ◌++◌, map, Option, Some, None, Ok, is_some, refl, sym, ap, ◌∙◌, subst}
 use Rattle.std.proofs.lemmas.Bool.{or_parts, true≢false}
 use Rattle.http_header.specs.FieldValue.{FieldValue}
 use Rattle.http_header.specs.HeaderMap.{Entries}
+use Rattle.dav_path_core.specs.declared.util.DavMethod.TheVariants as method
 use Rattle.dav_path_core.specs.Fronts.{Path, is_front}
 use Rattle.dav_path_core.proofs.lists.MemberLemmas.{append_none}
 use Rattle.dav_path_core.specs.PathText.{PathText}
@@ -12,14 +13,15 @@ use Rattle.dav_files_core.specs.Resources.{IsResourceMap, at_path}
 use Rattle.dav_locks_core.specs.Lock.{Lock}
 use Rattle.dav_resource_core.specs.Checks.{Check, has, refusing, shallow, target}
 use Rattle.dav_resource_core.specs.Step.{State}
-use Rattle.dav_fields_core.specs.declared.bases.Scheme.{Scheme}
+use Rattle.dav_fields_core.specs.Bases.{Site}
 use Rattle.dav_faults_core.specs.declared.faults.Fault.{Fault}
 use Rattle.dav_faults_core.specs.declared.faults.Fault.TheVariants as fault
 use Rattle.dav_session_core.specs.Callers.{Caller, RunBy, SameLive, as_caller, live}
 use Rattle.dav_session_core.specs.Clearing.{IsCleared, refusing_clearing}
 use Rattle.dav_session_core.specs.Copying.{AreCopied, IsCopied, IsPartlyCopied, IsReady, source_and_target, refusing_copies}
-use Rattle.dav_methods_core.specs.CopyMethod.{Copies, CopyLeaves, FailsToCopy, refusing_copy}
-use Rattle.dav_fields_core.specs.Reaches.{reach_in}
+use Rattle.dav_methods_core.specs.CopyMethod.{CantCopy, Copies, CopyLeaves, FailsToCopy, refusing_copy}
+use Rattle.dav_methods_core.specs.ChangeConditions.{change_course}
+use Rattle.dav_methods_core.specs.Reaching.{reach_from}
 use Rattle.dav_methods_core.specs.TransferEnds.{FailsAtEnds, AreEnds, ArePlaces, LacksPlaces, copies_of}
 use Rattle.dav_methods_core.specs.CopyMethod.{IsPlanned}
 use Rattle.dav_session_core.specs.Ends.{GoesFrom}
@@ -51,28 +53,33 @@ pub asked_are : (who : Caller) (s : State) (to : Path) (gone rests : List Path) 
 asked_are who s to gone rests there ks is are =
     ap (λ b. asked_of to gone (target_by b to ++ ks) s who) is ∙ ap (λ js. asked_of to gone (target s.map to ++ js) s who) are
 
-module _ (scheme : Scheme) (prefix : List ℕ) (headers : Entries FieldValue) (who : Caller) (start : State) (from : Path) where
+module _ (site : Site) (prefix : List ℕ) (headers : Entries FieldValue) (who : Caller) (start : State) (from : Path) where
   abbrev Fails : Fault → Type 0
-  Fails e = FailsToCopy scheme prefix headers (live who.now start) who from e
+  Fails e = CantCopy site prefix headers (live who.now start) who from e
 
   -- ---- a COPY that is refused
 
-  pub copy_halted : (e : Fault) → (e ≡ fault.BadRequest) × (reach_in headers ≡ None) → FailsToCopy scheme prefix headers (live who.now start) who from e
-  copy_halted e h = subst Fails (sym h.0) (FailsToCopy.depth h.1)
+  pub copy_halted : (e : Fault) → (e ≡ fault.InsufficientStorage) ⊎ ((e ≡ fault.BadRequest) × (reach_from start.map from headers ≡ None))
+      → CantCopy site prefix headers (live who.now start) who from e
+  copy_halted e (inl short) = subst Fails (sym short) CantCopy.memory
+  copy_halted e (inr h) = subst Fails (sym h.0) (CantCopy.depth h.1)
 
-  pub copy_lost : (e : Fault) → e ≡ fault.InsufficientStorage → FailsToCopy scheme prefix headers (live who.now start) who from e
-  copy_lost e is = subst Fails (sym is) FailsToCopy.memory
+  pub plan_lost : (e : Fault) → e ≡ fault.InsufficientStorage → CantCopy site prefix headers (live who.now start) who from e
+  plan_lost e is = subst Fails (sym is) CantCopy.memory
+
+  pub copy_lost : (e : Fault) → e ≡ fault.InsufficientStorage → FailsToCopy site prefix headers (live who.now start) who from e
+  copy_lost e is = inl (plan_lost e is)
 
   -- what is refused before anything is changed leaves all as it was
-  pub copy_left : (e : Fault) (s' : State) → SameLive who.now start s' → CopyLeaves scheme prefix headers start who.now from e s'
+  pub copy_left : (e : Fault) (s' : State) → SameLive who.now start s' → CopyLeaves site prefix headers start who.now from e s'
   copy_left fault.InsufficientStorage s' h = inl h
   copy_left _ s' h = h
 
-  module _ (deep : Bool) (reaches : reach_in headers ≡ Some deep) where
-    pub copy_unfit : (e : Fault) → FailsAtEnds scheme prefix headers start.map from true e → FailsToCopy scheme prefix headers (live who.now start) who from e
-    copy_unfit e h = FailsToCopy.ends deep e reaches h
+  module _ (deep : Bool) (reaches : reach_from start.map from headers ≡ Some deep) where
+    pub copy_unfit : (e : Fault) → FailsAtEnds site prefix headers start.map from true e → CantCopy site prefix headers (live who.now start) who from e
+    copy_unfit e h = CantCopy.ends deep e reaches h
 
-    module _ (to : PathText) (known : Option Meta) (gone : List Path) (are : AreEnds scheme prefix headers start.map from true to known gone) where
+    module _ (to : PathText) (known : Option Meta) (gone : List Path) (are : AreEnds site prefix headers start.map from true to known gone) where
       abbrev aim : Path
       aim = segments to.bytes
 
@@ -80,10 +87,10 @@ module _ (scheme : Scheme) (prefix : List ℕ) (headers : Entries FieldValue) (w
       apart = (or_parts (is_front aim from) false are.leads.apart).0
 
       -- the places of the source aren't found
-      pub copy_unwalked : (e : Fault) → LacksPlaces start.map deep from e → FailsToCopy scheme prefix headers (live who.now start) who from e
-      copy_unwalked fault.InsufficientStorage h = FailsToCopy.memory
+      pub copy_unwalked : (e : Fault) → LacksPlaces start.map deep from e → CantCopy site prefix headers (live who.now start) who from e
+      copy_unwalked fault.InsufficientStorage h = CantCopy.memory
       copy_unwalked fault.NotFound h = absurd (true≢false (sym are.fit.stands ∙ ap is_some h))
-      copy_unwalked fault.BadRequest h = FailsToCopy.odd to are.replaces (reaches ∙ ap Some h.0) are.leads are.fit h.1
+      copy_unwalked fault.BadRequest h = CantCopy.odd to are.replaces (reaches ∙ ap Some h.0) are.leads are.fit h.1
       copy_unwalked _ h = absurd h
 
       module _ (places : List Path) (found : ArePlaces start.map deep from places) where
@@ -92,14 +99,14 @@ module _ (scheme : Scheme) (prefix : List ℕ) (headers : Entries FieldValue) (w
 
         -- a lock refuses it
         pub copy_locked : (e : Fault) → IsRefusedBy (refusing_copy (live who.now start) who aim gone (rests_of from aim places)) e
-            → FailsToCopy scheme prefix headers (live who.now start) who from (by_place aim e)
-        copy_locked fault.InsufficientStorage h = FailsToCopy.memory
-        copy_locked (fault.Locked path) h = FailsToCopy.locked deep to are.replaces gone (rests_of from aim places) path reaches are.leads are.fit are.goes all h
+            → CantCopy site prefix headers (live who.now start) who from (by_place aim e)
+        copy_locked fault.InsufficientStorage h = CantCopy.memory
+        copy_locked (fault.Locked path) h = CantCopy.locked deep to are.replaces gone (rests_of from aim places) path reaches are.leads are.fit are.goes all h
         copy_locked _ h = absurd h
 
         -- nothing refuses it
         pub copy_planned : IsResourceMap start.map → refusing_copy (live who.now start) who aim gone (rests_of from aim places) ≡ []
-            → IsPlanned scheme prefix headers (live who.now start) who from known gone (copies_of from aim places)
+            → IsPlanned site prefix headers (live who.now start) who from known gone (copies_of from aim places)
         copy_planned shape free = record {
           shape = shape;
           deep = deep;
@@ -118,7 +125,7 @@ module _ (scheme : Scheme) (prefix : List ℕ) (headers : Entries FieldValue) (w
 
   -- ---- a COPY that nothing refuses
 
-  module _ (known : Option Meta) (gone : List Path) (pairs : List (Path × Path)) (plan : IsPlanned scheme prefix headers (live who.now start) who from known gone pairs)
+  module _ (known : Option Meta) (gone : List Path) (pairs : List (Path × Path)) (plan : IsPlanned site prefix headers (live who.now start) who from known gone pairs)
       (asker : Caller) (b m : State) (same : asker ≡ who) (still : SameLive who.now start b) (run : RunBy asker b m)
       (clears : (p : Path) → GoesFrom b.map p gone → refusing_clearing (live asker.now b) asker p gone ≡ [] → p ≢ []
       → IsCleared asker.now p (live asker.now b) (live asker.now m)) where
@@ -154,9 +161,9 @@ module _ (scheme : Scheme) (prefix : List ℕ) (headers : Entries FieldValue) (w
       of_ready : (P : State → Caller → Bool → Path → Path → Type 0) → OfReady P → P m who plan.deep from to
       of_ready P h = subst (λ (w : Caller). IsReady (live w.now m) w plan.deep from to plan.rests → P m w plan.deep from to) same' (λ r. h plan.deep from to plan.rests r plan.pairs_are) ready
 
-      pub copy_all : (status : ℕ) → status ≡ cond (is_some (at_path start.map to)) 204 201
-          → OfReady (λ m w deep from to. IsCopied w.now deep from to (live w.now m) (live w.now s')) → Copies scheme prefix headers (live who.now start) who from status s'
-      copy_all status is h = record {
+      pub copy_all : (status : ℕ) → status ≡ cond (is_some (at_path start.map to)) 204 201 → change_course method.Copy start.map from headers ≡ Ok tt
+          → OfReady (λ m w deep from to. IsCopied w.now deep from to (live w.now m) (live w.now s')) → Copies site prefix headers (live who.now start) who from status s'
+      copy_all status is lets h = record {
         deep = plan.deep;
         reaches = plan.reaches;
         to = plan.to;
@@ -172,6 +179,7 @@ module _ (scheme : Scheme) (prefix : List ℕ) (headers : Entries FieldValue) (w
         mid = live who.now m;
         cleared = cleared;
         copied = of_ready (λ m w deep from to. IsCopied w.now deep from to (live w.now m) (live w.now s')) h;
+        course = lets;
       }
 
       pub copy_short : (e : Fault) → OfReady (λ m w deep from to. e ≡ fault.InsufficientStorage) → e ≡ fault.InsufficientStorage
@@ -179,8 +187,8 @@ module _ (scheme : Scheme) (prefix : List ℕ) (headers : Entries FieldValue) (w
 
       -- it began, and then lacked memory
       pub copy_begun : (e : Fault) → e ≡ fault.InsufficientStorage → OfReady (λ m w deep from to. IsPartlyCopied w.now deep from to (live w.now m) (live w.now s'))
-          → CopyLeaves scheme prefix headers start who.now from e s'
-      copy_begun e is h = subst (λ e. CopyLeaves scheme prefix headers start who.now from e s') (sym is) (inr (record {
+          → CopyLeaves site prefix headers start who.now from e s'
+      copy_begun e is h = subst (λ e. CopyLeaves site prefix headers start who.now from e s') (sym is) (inr (record {
         deep = plan.deep;
         reaches = plan.reaches;
         to = plan.to;

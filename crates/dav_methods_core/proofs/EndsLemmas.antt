@@ -8,7 +8,7 @@ use Rattle.dav_path_core.specs.Fronts.{Path}
 use Rattle.dav_path_core.specs.PathText.{PathText}
 use Rattle.dav_path_core.specs.Segments.{segments}
 use Rattle.dav_files_core.specs.Resources.{ResourceMap, at_path}
-use Rattle.dav_fields_core.specs.declared.bases.Scheme.{Scheme}
+use Rattle.dav_fields_core.specs.Bases.{Site}
 use Rattle.dav_faults_core.specs.declared.faults.Fault.{Fault}
 use Rattle.dav_faults_core.specs.declared.faults.Fault.TheVariants as fault
 use Rattle.dav_fields_core.specs.TransferDestinations.{overwrites}
@@ -20,27 +20,27 @@ pub may_stand : {A : Type 0} (known : Option A) (m : ResourceMap) (to : Path) (r
     → IsSome (at_path m to) → replaces ≡ true
 may_stand known m to replaces same none there = absurd (true≢false (sym there ∙ sym same ∙ none))
 
-module _ (scheme : Scheme) (prefix : List ℕ) (headers : Entries FieldValue) (from : Path) (within : Bool) where
-  pub lead_unread : (e : Fault) → (e ≡ fault.BadRequest) × (overwrites headers ≡ None) → FailsToLead scheme prefix headers from within e
-  lead_unread e h = subst (FailsToLead scheme prefix headers from within) (sym h.0) (FailsToLead.unread h.1)
+module _ (site : Site) (prefix : List ℕ) (headers : Entries FieldValue) (from : Path) (within : Bool) where
+  pub lead_unread : (e : Fault) → (e ≡ fault.BadRequest) × (overwrites headers ≡ None) → FailsToLead site prefix headers from within e
+  lead_unread e h = subst (FailsToLead site prefix headers from within) (sym h.0) (FailsToLead.unread h.1)
 
   module _ (m : ResourceMap) where
-    pub fails_lead : (e : Fault) → FailsToLead scheme prefix headers from within e → FailsAtEnds scheme prefix headers m from within e
+    pub fails_lead : (e : Fault) → FailsToLead site prefix headers from within e → FailsAtEnds site prefix headers m from within e
     fails_lead _ (FailsToLead.unread h) = FailsAtEnds.unread h
     fails_lead _ (FailsToLead.nowhere replaces e h k) = FailsAtEnds.nowhere replaces e h k
     fails_lead _ (FailsToLead.related replaces to h k i) = FailsAtEnds.related replaces to h k i
 
-    module _ (to : PathText) (replaces : Bool) (leads : LeadsOn scheme prefix headers from within to replaces) where
-      pub fails_fit : (e : Fault) → FailsToFit m from (segments to.bytes) replaces e → FailsAtEnds scheme prefix headers m from within e
+    module _ (to : PathText) (replaces : Bool) (leads : LeadsOn site prefix headers from within to replaces) where
+      pub fails_fit : (e : Fault) → FailsToFit m from (segments to.bytes) replaces e → FailsAtEnds site prefix headers m from within e
       fails_fit fault.InsufficientStorage h = FailsAtEnds.memory
       fails_fit fault.NotFound h = FailsAtEnds.missing to replaces leads h
-      fails_fit fault.PreconditionFailed h = FailsAtEnds.kept to (subst (LeadsOn scheme prefix headers from within to) h.2 leads) h.0 h.1
+      fails_fit fault.PreconditionFailed h = FailsAtEnds.kept to (subst (LeadsOn site prefix headers from within to) h.2 leads) h.0 h.1
       fails_fit fault.Conflict h = FailsAtEnds.nowhere_to_stand to replaces leads h.0 h.1 h.2
       fails_fit _ h = absurd h
 
       pub fails_odd : EndsFit m from (segments to.bytes) replaces → (m' : ResourceMap) → m' ≡ m → (e : Fault)
-          → (e ≡ fault.InsufficientStorage) ⊎ ((e ≡ fault.BadRequest) × HasOddName m' (segments to.bytes)) → FailsAtEnds scheme prefix headers m from within e
-      fails_odd fit m' still e (inl short) = subst (FailsAtEnds scheme prefix headers m from within) (sym short) FailsAtEnds.memory
+          → (e ≡ fault.InsufficientStorage) ⊎ ((e ≡ fault.BadRequest) × HasOddName m' (segments to.bytes)) → FailsAtEnds site prefix headers m from within e
+      fails_odd fit m' still e (inl short) = subst (FailsAtEnds site prefix headers m from within) (sym short) FailsAtEnds.memory
       fails_odd fit m' still e (inr odd) =
-          subst (FailsAtEnds scheme prefix headers m from within) (sym odd.0)
+          subst (FailsAtEnds site prefix headers m from within) (sym odd.0)
           (FailsAtEnds.odd to replaces leads fit (subst (λ n. HasOddName n (segments to.bytes)) still odd.1))

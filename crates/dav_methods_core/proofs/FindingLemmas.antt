@@ -13,6 +13,7 @@ use Rattle.dav_resource_core.specs.Step.{State}
 use Rattle.dav_faults_core.specs.declared.faults.Fault.{Fault}
 use Rattle.dav_faults_core.specs.declared.faults.Fault.TheVariants as fault
 use Rattle.dav_fields_core.specs.Reaches.{depth_in}
+use Rattle.dav_session_core.specs.Callers.{Caller}
 use Rattle.dav_methods_core.specs.PropfindMethod.{FailsToFind}
 use Rattle.dav_documents_core.specs.Pieces.{and_pieces}
 use Rattle.dav_methods_core.specs.Private.Telling.{TellsEach, TellsOne}
@@ -23,26 +24,26 @@ use Rattle.dav_documents_core.proofs.PieceLemmas.{in_turn}
 
 -- ---- one place, and those behind it
 
-module _ (prefix : List ℕ) (s : State) (principal : Option (List ℕ)) (question : Question) where
-  pub tells_none : (w : Writing) → TellsEach prefix s principal question [] w w
+module _ (prefix : List ℕ) (s : State) (who : Caller) (question : Question) where
+  pub tells_none : (w : Writing) → TellsEach prefix s who question [] w w
   tells_none w = record { resources = []; described = tt; written = refl }
 
-  tells_more : (p : Path) (places : List Path) (was mid now : Writing) → TellsOne prefix s principal question p was mid → TellsEach prefix s principal question places mid now
-      → TellsEach prefix s principal question (p ∷ places) was now
+  tells_more : (p : Path) (places : List Path) (was mid now : Writing) → TellsOne prefix s who question p was mid → TellsEach prefix s who question places mid now
+      → TellsEach prefix s who question (p ∷ places) was now
   tells_more p places was mid now one rest = record {
     resources = one.resource ∷ rest.resources;
     described = (one.described, rest.described);
-    written = rest.written ∙ ap (λ (w : Writing). and_pieces w (flat_map (response_pieces prefix principal question) rest.resources)) one.written
-        ∙ sym (in_turn was (response_pieces prefix principal question one.resource) (flat_map (response_pieces prefix principal question) rest.resources));
+    written = rest.written ∙ ap (λ (w : Writing). and_pieces w (flat_map (response_pieces prefix who.principal who.now question) rest.resources)) one.written
+        ∙ sym (in_turn was (response_pieces prefix who.principal who.now question one.resource) (flat_map (response_pieces prefix who.principal who.now question) rest.resources));
   }
 
   -- in a list that code goes over
   pub tells_on : {A : Type 0} (view : A → Path) (xs : List A) (i : ℕ) (x : A) (was mid now whole : Writing) → i < length xs → x ≡ get_or xs i x
-      → TellsOne prefix s principal question (view x) was mid
-      → (TellsEach prefix s principal question (map view (drop i xs)) was now → TellsEach prefix s principal question (map view xs) whole now)
-      → TellsEach prefix s principal question (map view (drop (i + 1) xs)) mid now → TellsEach prefix s principal question (map view xs) whole now
+      → TellsOne prefix s who question (view x) was mid
+      → (TellsEach prefix s who question (map view (drop i xs)) was now → TellsEach prefix s who question (map view xs) whole now)
+      → TellsEach prefix s who question (map view (drop (i + 1) xs)) mid now → TellsEach prefix s who question (map view xs) whole now
   tells_on view xs i x was mid now whole lt is one all rest =
-      all (subst (λ ys. TellsEach prefix s principal question (map view ys) was now) (sym (drop_more xs i x lt ∙ ap (λ y. y ∷ drop (i + 1) xs) (sym is)))
+      all (subst (λ ys. TellsEach prefix s who question (map view ys) was now) (sym (drop_more xs i x lt ∙ ap (λ y. y ∷ drop (i + 1) xs) (sym is)))
       (tells_more (view x) (map view (drop (i + 1) xs)) was mid now one rest))
 
 -- ---- why nothing is told

@@ -5,6 +5,7 @@ pub mod CopyCheckLemmas
 pub mod CopyMethodLemmas
 pub mod CopyPlanLemmas
 pub mod CopyReadyLemmas
+pub mod CourseLemmas
 pub mod DeleteLemmas
 pub mod DescribingLemmas
 pub mod EndsLemmas
@@ -18,6 +19,8 @@ pub mod MoveCheckLemmas
 pub mod MoveMethodLemmas
 pub mod PutMethodLemmas
 pub mod RefreshMethodLemmas
+pub mod RefusalLemmas
 pub mod TokenTexts
+pub mod ToldPathLemmas
 pub mod TransferRows
 pub mod UnderLockLemmas

@@ -7,6 +7,7 @@ use Rattle.std.proofs.lemmas.List.Elements.{filter-append}
 use Rattle.std.proofs.Math.Nat.{le-max_right}
 use Rattle.http_header.specs.FieldValue.{FieldValue}
 use Rattle.http_header.specs.HeaderMap.{Entries}
+use Rattle.dav_path_core.specs.declared.util.DavMethod.TheVariants as method
 use Rattle.dav_path_core.specs.Fronts.{Path, parent}
 use Rattle.dav_path_core.specs.PathText.{PathText}
 use Rattle.dav_path_core.specs.Segments.{segments}
@@ -30,14 +31,19 @@ use Rattle.dav_session_core.specs.Granting.{AreAbove, HaveTokens, also_naming, g
 use Rattle.dav_fields_core.specs.IfTokens.{is_among}
 use Rattle.dav_documents_core.specs.LockDocuments.{discovery_pieces}
 use Rattle.dav_fields_core.specs.LockTimeouts.{can_be_given, given_of, seconds_of}
-use Rattle.dav_methods_core.specs.LockMethod.{CantBeRead, FailsToLock, Grants, HasRoom, IsGranted, LeavesUntold, Wanted, Wants, lock_status}
+use Rattle.dav_methods_core.specs.ChangeConditions.{change_course}
+use Rattle.dav_methods_core.specs.ToldPaths.{told_path}
+use Rattle.dav_methods_core.specs.LockMethod.{CantBeRead, FailsToLock, Grants, HasRoom, IsGranted, IsInConflict, IsMadeThere, LeavesUntold, Wanted, Wants, lock_status, refusing_to_make}
 use Rattle.dav_documents_core.specs.Pieces.{written_pieces}
 use Rattle.dav_session_core.specs.StoreRefusals.{put_fault}
+use Rattle.dav_session_core.specs.LocksInTheWay.{IsPathOfOne, is_lock_below}
 use Rattle.dav_methods_core.specs.Rooms.{FoundRoom, IsConflictAt, IsGrantedNow, IsMadeUnder, IsReadyToLock, IsUnmade, LacksRoom}
 use Rattle.dav_documents_core.specs.RefusalBodies.{xml_type}
 use Rattle.dav_fields_core.specs.RequestRefusals.{IsLastMoment}
+use Rattle.dav_path_core.proofs.lists.MemberLemmas.{append_none}
 use Rattle.dav_session_core.proofs.Asking.{live_once}
 use Rattle.dav_session_core.proofs.PutLemmas.{rebuilt}
+use Rattle.dav_methods_core.proofs.ToldPathLemmas.{told_twice, segments_told}
 use Rattle.dav_methods_core.proofs.UnderLockLemmas.{memory_alone}
 
 -- ---- a lock doesn't end at once
@@ -74,13 +80,23 @@ lock_stays now s l once fresh =
     filter-append (λ l. not (is_stale now l)) s.locks (l ∷ []) ∙ ap (λ locks. locks ++ without_stale now (l ∷ [])) (ap (λ (t : State). t.locks) once) ∙ ap (λ locks. s.locks ++ locks) last in
     ap (λ locks. record (with_lock s l) { locks = locks }) all
 
+-- ---- what keeps a file from being made
+
+-- nothing keeps the folder above from being changed, where nothing keeps a file from being made in it
+pub above_free : (s : State) (who : Caller) (p : Path) → refusing_to_make s who p ≡ [] → refusing_at s who (parent p) ≡ []
+above_free s who p free =
+    (append_none (refusing_at s who (parent p)) [] (append_none (refusing_at s who p) (refusing_at s who (parent p) ++ []) free).1).0
+
 -- ---- what is left
 
 module _ (s : State) (who : Caller) (path : PathText) (wanted : Wanted) (lock : Lock) (once : live who.now s ≡ s)
-    (is : lock ≡ granted_lock s who path wanted.owner wanted.timeout wanted.shared wanted.deep)
+    (kept : told_path s.map path ≡ path) (is : lock ≡ granted_lock s who path wanted.owner wanted.timeout wanted.shared wanted.deep)
     (free : lock_conflicts s.locks (segments path.bytes) wanted.shared wanted.deep ≡ []) (fresh : is_stale who.now lock ≡ false) where
   abbrev p : Path
   p = segments path.bytes
+
+  is_kept : lock ≡ granted_lock s who (told_path s.map path) wanted.owner wanted.timeout wanted.shared wanted.deep
+  is_kept = is ∙ ap (λ (q : PathText). granted_lock s who q wanted.owner wanted.timeout wanted.shared wanted.deep) (sym kept)
 
   stays : live who.now (with_lock s lock) ≡ with_lock s lock
   stays = lock_stays who.now s lock once fresh
@@ -91,20 +107,20 @@ module _ (s : State) (who : Caller) (path : PathText) (wanted : Wanted) (lock : 
       let left = same ∙ granted in
       let map_is : s'.map ≡ s.map = ap (λ (t : State). t.map) left in
       record {
-        lock_is = is;
+        lock_is = is_kept;
         free = free;
         made = inl (here, map_is);
         left = left ∙ ap (λ m. record (with_lock s lock) { map = m }) (sym map_is);
       }
 
   -- and but for an empty file
-  pub grants_made : (mid s' : State) (reply : Reply) → live who.now mid ≡ with_lock s lock → at_path s.map p ≡ None → refusing_at s who (parent p) ≡ []
+  pub grants_made : (mid s' : State) (reply : Reply) → live who.now mid ≡ with_lock s lock → at_path s.map p ≡ None → refusing_to_make s who p ≡ []
       → Serves (live who.now mid) (asking (also_naming who lock.token) (Command.Put p [])) (Ok reply) s' → Grants s who path wanted lock s'
   grants_made mid s' reply granted nothing above serves =
       let h = subst (λ t. Serves t (asking (also_naming who lock.token) (Command.Put p [])) (Ok reply) s') granted serves in
       let left : s' ≡ record (with_lock s lock) { map = s'.map } = rebuilt (with_lock s lock) s' h.1.1 in
       record {
-        lock_is = is;
+        lock_is = is_kept;
         free = free;
         made = inr (nothing, above, change_left (put s.map p [] who.now) reply s'.map h.1.0);
         left = ap (live who.now) left ∙ ap (λ (t : State). record t { map = s'.map }) stays;
@@ -123,7 +139,7 @@ module _ (s : State) (who : Caller) (path : PathText) (wanted : Wanted) (lock : 
   lacks_memory mid s' true e granted room (inr h) =
       let served = subst (λ t. Serves t (asking (also_naming who lock.token) (Command.Put p [])) (Err h.1.0) s') granted h.1.2 in
       h.1.1 ∙ memory_alone s who p lock (ap (λ (l : Lock). lock_path l) is) (ap (λ (l : Lock). l.principal) is)
-      (subst (λ (l : Lock). lock_conflicts s.locks p l.shared l.deep ≡ []) (sym is) free) room.0 room.1 room.2 s' h.1.0 served
+      (subst (λ (l : Lock). lock_conflicts s.locks p l.shared l.deep ≡ []) (sym is) free) room.0 (above_free s who p room.1) room.2 s' h.1.0 served
 
 -- ---- what is told
 
@@ -157,28 +173,53 @@ module _ (most : Option ℕ) (headers : Entries FieldValue) (body : List ℕ) (s
   has_room false room = inl room
   has_room true room = inr room
 
-  pub conflict_by : (e : Fault) (wanted : Wanted) (missing : Bool) → Wants most headers body wanted → FoundRoom s who (segments path.bytes) missing
-      → IsConflictAt (lock_conflicts s.locks (segments path.bytes) wanted.shared wanted.deep) path e → FailsToLock most headers body s who path e
-  conflict_by fault.InsufficientStorage wanted missing wants room h = FailsToLock.memory
-  conflict_by (fault.ConflictingLock at) wanted missing wants room h = FailsToLock.conflict wanted at wants (has_room missing room) h.0 h.1
-  conflict_by (fault.ConflictingMember at other) wanted missing wants room h =
-      subst (λ p. FailsToLock most headers body s who path (fault.ConflictingMember at p)) (sym h.2) (FailsToLock.member wanted at wants (has_room missing room) h.0 h.1)
-  conflict_by _ wanted missing wants room h = absurd h
+  pub course_by : (e : Fault) (wanted : Wanted) (missing : Bool) → Wants most headers body wanted → FoundRoom s who (segments path.bytes) missing
+      → (e ≡ fault.InsufficientStorage) ⊎ (change_course method.Lock s.map (segments path.bytes) headers ≡ Err e) → FailsToLock most headers body s who path e
+  course_by e wanted missing wants room (inl short) = memory_by e short
+  course_by e wanted missing wants room (inr withheld) = FailsToLock.course e wanted wants (has_room missing room) withheld
 
-  -- ---- what is done
+  module _ (place : PathText) (kept : place ≡ told_path s.map path) where
+    pub same_path : segments place.bytes ≡ segments path.bytes
+    same_path = ap (λ (q : PathText). segments q.bytes) kept ∙ segments_told path s.map
 
-  pub granted_by : (prefix : List ℕ) (wanted : Wanted) (missing : Bool) (lock : Lock) (status : ℕ) (sent : Sent) (s' : State) → Wants most headers body wanted
-      → FoundRoom s who (segments path.bytes) missing → IsGrantedNow prefix s who path wanted missing lock status sent s' → IsGranted most prefix headers body s who path status sent s'
-  granted_by prefix wanted missing lock status sent s' wants room h = record {
-    wanted = wanted;
-    wants = wants;
-    lock = lock;
-    grants = h.grants;
-    status_is = h.status_is ∙ status_by s (segments path.bytes) missing who room;
-    named = h.named;
-    told = h.told;
-    typed = h.typed;
-  }
+    grants_at : (wanted : Wanted) (lock : Lock) (s' : State) → Grants s who place wanted lock s' → Grants s who path wanted lock s'
+    grants_at wanted lock s' h = record {
+      lock_is = h.lock_is ∙ ap (λ (q : PathText). granted_lock s who q wanted.owner wanted.timeout wanted.shared wanted.deep) (ap (told_path s.map) kept ∙ told_twice path s.map);
+      free = subst (λ p. lock_conflicts s.locks p wanted.shared wanted.deep ≡ []) same_path h.free;
+      made = subst (λ p. IsMadeThere s who p s'.map) same_path h.made;
+      left = h.left;
+    }
+
+    in_way : (wanted : Wanted) (at : PathText) → IsPathOfOne (lock_conflicts s.locks (segments place.bytes) wanted.shared wanted.deep) at → IsInConflict s (segments path.bytes) wanted at
+    in_way wanted at h = subst (λ p. IsInConflict s p wanted at) same_path h
+
+    pub conflict_by : (e : Fault) (wanted : Wanted) (missing : Bool) → Wants most headers body wanted → FoundRoom s who (segments path.bytes) missing
+        → change_course method.Lock s.map (segments path.bytes) headers ≡ Ok tt
+        → IsConflictAt (lock_conflicts s.locks (segments place.bytes) wanted.shared wanted.deep) place e → FailsToLock most headers body s who path e
+    conflict_by fault.InsufficientStorage wanted missing wants room course h = FailsToLock.memory
+    conflict_by (fault.ConflictingLock at) wanted missing wants room course h =
+        FailsToLock.conflict wanted at wants (has_room missing room) course (in_way wanted at h.0) (subst (λ p. is_lock_below p at ≡ false) same_path h.1)
+    conflict_by (fault.ConflictingMember at other) wanted missing wants room course h =
+        subst (λ p. FailsToLock most headers body s who path (fault.ConflictingMember at p)) (sym (h.2 ∙ kept))
+        (FailsToLock.member wanted at wants (has_room missing room) course (in_way wanted at h.0) (subst (λ p. is_lock_below p at ≡ true) same_path h.1))
+    conflict_by _ wanted missing wants room course h = absurd h
+
+    -- ---- what is done
+
+    pub granted_by : (prefix : List ℕ) (wanted : Wanted) (missing : Bool) (lock : Lock) (status : ℕ) (sent : Sent) (s' : State) → Wants most headers body wanted
+        → FoundRoom s who (segments path.bytes) missing → change_course method.Lock s.map (segments path.bytes) headers ≡ Ok tt
+        → IsGrantedNow prefix s who place wanted missing lock status sent s' → IsGranted most prefix headers body s who path status sent s'
+    granted_by prefix wanted missing lock status sent s' wants room course h = record {
+      wanted = wanted;
+      wants = wants;
+      course = course;
+      lock = lock;
+      grants = grants_at wanted lock s' h.grants;
+      status_is = h.status_is ∙ status_by s (segments path.bytes) missing who room;
+      named = h.named;
+      told = h.told ∙ ap (λ p. written_pieces (discovery_pieces prefix who.principal who.now (discovered_locks (s.locks ++ lock ∷ []) p))) same_path;
+      typed = h.typed;
+    }
 
 -- ---- what is taken back
 
@@ -202,13 +243,12 @@ nothing_at f g None (Some y) h none = absurd (cc)
 nothing_at f g None None h none = refl
 
 -- nothing does, and a file can be made, by what is looked at one after another
-pub room_found : {A : Type 0} (view : A → Known) (known : Option A) (who mid : Caller) (s m m' : State) (p q : Path) → option_map view known ≡ option_map (λ (r : Resource). meta_at r.node) (at_path s.map p)
-    → is_some known ≡ false → mid ≡ who → SameLive who.now s m → q ≡ parent p → refusing_at (live mid.now m) mid q ≡ [] → SameLive mid.now m m' → HasFolder m'.map (parent p)
+pub room_found : {A : Type 0} (view : A → Known) (known : Option A) (who mid : Caller) (s m m' : State) (p : Path) → option_map view known ≡ option_map (λ (r : Resource). meta_at r.node) (at_path s.map p)
+    → is_some known ≡ false → mid ≡ who → SameLive who.now s m → refusing_to_make (live mid.now m) mid p ≡ [] → SameLive mid.now m m' → HasFolder m'.map (parent p)
     → FoundRoom (live who.now s) who p true
-room_found view known who mid s m m' p q found none same still above free still' folder = (
+room_found view known who mid s m m' p found none same still free still' folder = (
   nothing_at view (λ (r : Resource). meta_at r.node) known (at_path s.map p) found none,
-  subst (λ q. refusing_at (live who.now s) who q ≡ []) above
-      (subst (λ (t : State). refusing_at t who q ≡ []) still (subst (λ (w : Caller). refusing_at (live w.now m) w q ≡ []) same free)),
+  subst (λ (t : State). refusing_to_make t who p ≡ []) still (subst (λ (w : Caller). refusing_to_make (live w.now m) w p ≡ []) same free),
   subst (λ map. HasFolder map (parent p)) (ap (λ (t : State). t.map) still' ∙ ap (λ (t : State). t.map) still) folder,
 )
 
@@ -245,23 +285,23 @@ module _ (s0 mid : State) (who asker : Caller) (path : PathText) (wanted : Wante
 
   module _ (free : lock_conflicts (live who.now s0).locks (segments path.bytes) wanted.shared wanted.deep ≡ []) (token : List ℕ) (named : token ≡ lock.token) where
     pub granted_now : (prefix : List ℕ) (status : ℕ) (sent : Sent) (s' : State) → status ≡ (if missing then 201 else 200) → sent.tokens ≡ in_brackets token ∷ []
-        → sent.body ≡ written_pieces (discovery_pieces prefix asker.principal (discovered_locks (live asker.now mid).locks (segments path.bytes)))
+        → sent.body ≡ written_pieces (discovery_pieces prefix asker.principal asker.now (discovered_locks (live asker.now mid).locks (segments path.bytes)))
         → sent.types ≡ xml_type ∷ [] → IsMadeUnder mid asker token (segments path.bytes) missing s' → IsGrantedNow prefix (live who.now s0) who path wanted missing lock status sent s'
     granted_now prefix status sent s' status_is shown told typed made =
         let made_by = subst (λ w. IsMadeUnder mid w lock.token (segments path.bytes) missing s') same
         (subst (λ t. IsMadeUnder mid asker t (segments path.bytes) missing s') named made) in
         record {
-          grants = grants_by (live who.now s0) who path wanted lock (live_once who.now s0) is free fresh_now mid s' missing still_there ready.room made_by;
+          grants = grants_by (live who.now s0) who path wanted lock (live_once who.now s0) ready.is_told is free fresh_now mid s' missing still_there ready.room made_by;
           status_is = status_is;
           named = shown ∙ ap (λ t. in_brackets t ∷ []) named;
           typed = typed;
-          told = told ∙ ap (λ (w : Caller). written_pieces (discovery_pieces prefix w.principal (discovered_locks (live w.now mid).locks (segments path.bytes)))) same
-              ∙ ap (λ (t : State). written_pieces (discovery_pieces prefix who.principal (discovered_locks t.locks (segments path.bytes)))) still_there;
+          told = told ∙ ap (λ (w : Caller). written_pieces (discovery_pieces prefix w.principal w.now (discovered_locks (live w.now mid).locks (segments path.bytes)))) same
+              ∙ ap (λ (t : State). written_pieces (discovery_pieces prefix who.principal who.now (discovered_locks t.locks (segments path.bytes)))) still_there;
         }
 
     pub short_of : (e : Fault) (s' : State) → IsUnmade mid asker token (segments path.bytes) missing e s' → e ≡ fault.InsufficientStorage
     short_of e s' unmade =
-        lacks_memory (live who.now s0) who path wanted lock (live_once who.now s0) is free fresh_now mid s' missing e still_there ready.room
+        lacks_memory (live who.now s0) who path wanted lock (live_once who.now s0) ready.is_told is free fresh_now mid s' missing e still_there ready.room
         (subst (λ w. IsUnmade mid w lock.token (segments path.bytes) missing e s') same
         (subst (λ t. IsUnmade mid asker t (segments path.bytes) missing e s') named unmade))
 

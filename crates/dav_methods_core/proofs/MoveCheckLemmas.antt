@@ -1,10 +1,11 @@
 -- What is asked before a MOVE, and what its requests leave one after another.
-use Rattle.std.proofs.Common.{◌≡◌, ◌≢◌, inr, ℕ, true, false, cond, eqb, eqb-true, List, [], ◌∷◌, length, map, Option, is_some, Result, Ok, Err, refl, sym, ap, ◌∙◌, subst}
+use Rattle.std.proofs.Common.{◌≡◌, ◌≢◌, ◌⊎◌, inl, inr, ℕ, true, false, cond, eqb, eqb-true, List, [], ◌∷◌, length, map, Option, is_some, Result, Ok, Err, refl, sym, ap, ◌∙◌, subst}
 use Rattle.std.specs.Prelude.{IfErr}
 use Rattle.std.proofs.lemmas.Bool.{true≢false}
 use Rattle.std.proofs.lemmas.List.Elements.{Contains-append_left, Contains-append_right}
 use Rattle.http_header.specs.FieldValue.{FieldValue}
 use Rattle.http_header.specs.HeaderMap.{Entries}
+use Rattle.dav_path_core.specs.declared.util.DavMethod.TheVariants as method
 use Rattle.dav_path_core.specs.Fronts.{Path, parent}
 use Rattle.dav_path_core.specs.PathText.{PathText}
 use Rattle.dav_path_core.specs.Segments.{segments}
@@ -12,18 +13,19 @@ use Rattle.dav_files_core.specs.Meta.{Meta}
 use Rattle.dav_files_core.specs.Resources.{IsResourceMap, at_path}
 use Rattle.dav_locks_core.specs.Lock.{Lock}
 use Rattle.dav_resource_core.specs.Step.{State}
-use Rattle.dav_fields_core.specs.declared.bases.Scheme.{Scheme}
+use Rattle.dav_fields_core.specs.Bases.{Site}
 use Rattle.dav_faults_core.specs.declared.faults.Fault.{Fault}
 use Rattle.dav_faults_core.specs.declared.faults.Fault.TheVariants as fault
 use Rattle.dav_session_core.specs.Callers.{Caller, RunBy, SameLive, live}
 use Rattle.dav_session_core.specs.Clearing.{IsCleared, refusing_clearing}
-use Rattle.dav_fields_core.specs.Reaches.{ReachesAll}
+use Rattle.dav_methods_core.specs.Reaching.{ReachesDown}
 use Rattle.dav_methods_core.specs.TransferEnds.{FailsAtEnds, AreEnds}
 use Rattle.dav_session_core.specs.Ends.{GoesFrom, HasFolder}
 use Rattle.dav_session_core.specs.LocksInTheWay.{IsRefusedBy, by_place}
 use Rattle.dav_session_core.specs.Moving.{CanMove, IsMoved, refusing_move, refusing_place}
-use Rattle.dav_methods_core.specs.MoveMethod.{FailsToMove, MoveLeaves, Moves}
-use Rattle.dav_methods_core.specs.MoveMethod.FailsToMove.{memory, depth, ends, locked}
+use Rattle.dav_methods_core.specs.ChangeConditions.{change_course}
+use Rattle.dav_methods_core.specs.MoveMethod.{CantMove, FailsToMove, IsMovable, MoveLeaves, Moves, StartsToMove}
+use Rattle.dav_methods_core.specs.MoveMethod.CantMove.{memory, depth, ends, locked}
 use Rattle.dav_session_core.specs.Removing.{refusing_removal}
 use Rattle.dav_session_core.proofs.Asking.{live_as}
 use Rattle.dav_session_core.proofs.CallerLaws.{asks_of, asks_shape}
@@ -73,26 +75,45 @@ module _ (who asker : Caller) (s mid : State) (from to : Path) (gone : List Path
 
 -- ---- a MOVE that is refused
 
-module _ (scheme : Scheme) (prefix : List ℕ) (headers : Entries FieldValue) (who : Caller) (s : State) (from : Path) where
+module _ (site : Site) (prefix : List ℕ) (headers : Entries FieldValue) (who : Caller) (s : State) (from : Path) where
   abbrev Fails : Fault → Type 0
-  Fails e = FailsToMove scheme prefix headers (live who.now s) who from e
+  Fails e = CantMove site prefix headers (live who.now s) who from e
 
-  pub move_halted : (e : Fault) → (e ≡ fault.BadRequest) × (¬ ReachesAll headers) → FailsToMove scheme prefix headers (live who.now s) who from e
-  move_halted e h = subst Fails (sym h.0) (depth h.1)
+  pub move_halted : (e : Fault) → (e ≡ fault.InsufficientStorage) ⊎ ((e ≡ fault.BadRequest) × ¬ ReachesDown s.map from headers)
+      → CantMove site prefix headers (live who.now s) who from e
+  move_halted e (inl short) = subst Fails (sym short) memory
+  move_halted e (inr h) = subst Fails (sym h.0) (depth h.1)
 
-  pub move_lost : (e : Fault) → e ≡ fault.InsufficientStorage → FailsToMove scheme prefix headers (live who.now s) who from e
-  move_lost e is = subst Fails (sym is) memory
+  pub move_lost : (e : Fault) → e ≡ fault.InsufficientStorage → FailsToMove site prefix headers (live who.now s) who from e
+  move_lost e is = inl (subst Fails (sym is) memory)
 
-  pub move_unfit : (e : Fault) → ReachesAll headers → FailsAtEnds scheme prefix headers s.map from false e → FailsToMove scheme prefix headers (live who.now s) who from e
+  -- what is refused before anything is changed leaves all as it was
+  pub move_left : (e : Fault) (s' : State) → SameLive who.now s s' → MoveLeaves site prefix headers s who.now e s'
+  move_left fault.InsufficientStorage s' h = inl h
+  move_left _ s' h = h
+
+  pub move_unfit : (e : Fault) → ReachesDown s.map from headers → FailsAtEnds site prefix headers s.map from false e → CantMove site prefix headers (live who.now s) who from e
   move_unfit e reaches h = ends e reaches h
 
-  module _ (to : PathText) (known : Option Meta) (gone : List Path) (are : AreEnds scheme prefix headers s.map from false to known gone) where
+  -- what is left behind questions is what is left of the start
+  left_before : (mid : State) (e : Fault) (s' : State) → SameLive who.now s mid → MoveLeaves site prefix headers mid who.now e s' → MoveLeaves site prefix headers s who.now e s'
+  left_before mid fault.InsufficientStorage s' same (inl h) = inl (h ∙ same)
+  left_before mid fault.InsufficientStorage s' same (inr h) = inr (subst (λ t. StartsToMove site prefix headers t who.now s') same h)
+  left_before mid _ s' same h = h ∙ same
+
+  pub leaves_before : {A : Type 0} (asker : Caller) (mid s' : State) → asker ≡ who → SameLive who.now s mid → (result : Result A Fault)
+      → IfErr result (λ e. MoveLeaves site prefix headers mid asker.now e s') → IfErr result (λ e. MoveLeaves site prefix headers s who.now e s')
+  leaves_before asker mid s' same still (Ok x) h = tt
+  leaves_before asker mid s' same still (Err e) h =
+      left_before mid e s' still (subst (λ (w : Caller). MoveLeaves site prefix headers mid w.now e s') same h)
+
+  module _ (to : PathText) (known : Option Meta) (gone : List Path) (are : AreEnds site prefix headers s.map from false to known gone) where
     abbrev target : Path
     target = segments to.bytes
 
-    pub move_locked : (asker : Caller) (mid : State) (e : Fault) → ReachesAll headers → asker ≡ who → SameLive who.now s mid
+    pub move_locked : (asker : Caller) (mid : State) (e : Fault) → ReachesDown s.map from headers → asker ≡ who → SameLive who.now s mid
         → IsRefusedBy (refusing_move (live asker.now mid) asker from (segments to.bytes) gone) e
-        → FailsToMove scheme prefix headers (live who.now s) who from (by_place from (by_place (segments to.bytes) e))
+        → CantMove site prefix headers (live who.now s) who from (by_place from (by_place (segments to.bytes) e))
     move_locked asker mid e reaches same still h = told e
         (subst (λ t. IsRefusedBy (refusing_move t who from target gone) e) still (subst (λ (w : Caller). IsRefusedBy (refusing_move (live w.now mid) w from target gone) e) same h))
       where
@@ -113,6 +134,20 @@ module _ (scheme : Scheme) (prefix : List ℕ) (headers : Entries FieldValue) (w
     module _ (asker : Caller) (a : State) (checker : Caller) (b m : State) (same : asker ≡ who) (still : SameLive who.now s a) (same' : checker ≡ asker) (still' : SameLive asker.now a b) where
       free_so : refusing_move (live asker.now a) asker from target gone ≡ [] → refusing_move (live who.now s) who from target gone ≡ []
       free_so free = sym (ap (λ (w : Caller). refusing_move (live w.now a) w from target gone) same ∙ ap (λ t. refusing_move t who from target gone) still) ∙ free
+
+      -- nothing refuses it but conditions
+      pub movable : ReachesDown s.map from headers → refusing_move (live asker.now a) asker from (segments to.bytes) gone ≡ []
+          → IsMovable site prefix headers (live who.now s) who from
+      movable reaches free = record {
+        reaches = reaches;
+        to = to;
+        replaces = are.replaces;
+        leads = are.leads;
+        fit = are.fit;
+        gone = gone;
+        goes = are.goes;
+        free = free_so free;
+      }
 
       cleared_so : refusing_move (live who.now s) who from target gone ≡ [] → ((p : Path) → GoesFrom b.map p gone → refusing_clearing (live checker.now b) checker p gone ≡ [] → p ≢ []
           → IsCleared checker.now p (live checker.now b) (live checker.now m)) → IsCleared who.now target (live who.now s) (live who.now m)
@@ -141,10 +176,10 @@ module _ (scheme : Scheme) (prefix : List ℕ) (headers : Entries FieldValue) (w
 
     module _ (m : State) (ready : ReadyToMove m) (mover : Caller) (s' : State) (same : mover ≡ who) where
       -- by what the same caller asked
-      pub move_all : (status : ℕ) → ReachesAll headers → status ≡ cond (is_some (at_path s.map (segments to.bytes))) 204 201
+      pub move_all : (status : ℕ) → ReachesDown s.map from headers → change_course method.Move s.map from headers ≡ Ok tt → status ≡ cond (is_some (at_path s.map (segments to.bytes))) 204 201
           → (CanMove (live mover.now m) mover from (segments to.bytes) → IsMoved mover.now from (segments to.bytes) (live mover.now m) s')
-          → Moves scheme prefix headers (live who.now s) who from status s'
-      move_all status reaches status_is h = record {
+          → Moves site prefix headers (live who.now s) who from status s'
+      move_all status reaches lets status_is h = record {
         reaches = reaches;
         to = to;
         replaces = are.replaces;
@@ -158,6 +193,7 @@ module _ (scheme : Scheme) (prefix : List ℕ) (headers : Entries FieldValue) (w
         mid = live who.now m;
         cleared = ready.cleared;
         moved = subst (λ (w : Caller). CanMove (live w.now m) w from target → IsMoved w.now from target (live w.now m) s') same h ready.can;
+        course = lets;
       }
 
       -- it is refused for memory alone
@@ -165,8 +201,8 @@ module _ (scheme : Scheme) (prefix : List ℕ) (headers : Entries FieldValue) (w
       move_short e h = subst (λ (w : Caller). CanMove (live w.now m) w from target → e ≡ fault.InsufficientStorage) same h ready.can
 
       -- it began, and then lacked memory
-      pub move_begun : (e : Fault) → e ≡ fault.InsufficientStorage → SameLive mover.now m s' → MoveLeaves scheme prefix headers s who.now e s'
-      move_begun e is still = subst (λ e. MoveLeaves scheme prefix headers s who.now e s') (sym is) (inr (record {
+      pub move_begun : (e : Fault) → e ≡ fault.InsufficientStorage → SameLive mover.now m s' → MoveLeaves site prefix headers s who.now e s'
+      move_begun e is still = subst (λ e. MoveLeaves site prefix headers s who.now e s') (sym is) (inr (record {
         to = to;
         leads = are.leads.leads;
         cleared = subst (λ t. IsCleared who.now target (live who.now s) t) (sym (subst (λ (w : Caller). SameLive w.now m s') same still)) ready.cleared;

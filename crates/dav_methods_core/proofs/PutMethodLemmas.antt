@@ -28,13 +28,15 @@ use Rattle.dav_fields_core.specs.declared.preconditions.Course.{Course}
 use Rattle.dav_fields_core.specs.declared.preconditions.Course.TheVariants as course
 use Rattle.dav_session_core.specs.Callers.{Caller, SameLive, as_caller, asking, live, refusing_at}
 use Rattle.dav_fields_core.specs.FileTags.{standing_of}
+use Rattle.dav_session_core.specs.Ends.{known_at}
 use Rattle.dav_session_core.specs.LocksInTheWay.{IsRefusedBy}
 use Rattle.dav_fields_core.specs.Preconditions.{course_of}
 use Rattle.dav_fields_core.specs.Marking.{IsNone}
 use Rattle.dav_methods_core.specs.Placing.{HasPlace, LacksPlace, standing_known, target_by}
 use Rattle.dav_session_core.specs.StoreRefusals.{put_fault, unputtable}
-use Rattle.dav_methods_core.specs.PutMethod.{FailsToPut, IsPuttable, Puts, changes_by, locks_against_putting, props_of, put_course}
-use Rattle.dav_session_core.proofs.PutLemmas.{rebuilt, change_err, more_refused, known_at}
+use Rattle.dav_methods_core.specs.ChangeConditions.{change_course, changes_by}
+use Rattle.dav_methods_core.specs.PutMethod.{FailsToPut, IsPuttable, Puts, locks_against_putting, props_of}
+use Rattle.dav_session_core.proofs.PutLemmas.{rebuilt, change_err, more_refused}
 
 -- ---- what is left
 
@@ -111,7 +113,7 @@ files_refuse who s p bytes headers e (Some r) here free h = by r.node.kind refl 
     by : (k : Kind) → r.node.kind ≡ k
         → (elim k [ Folder ↦ Err fs.Forbidden | File ↦ Ok r ] >>= λ r. done (with_other_node s.map p r (record r.node { bytes = bytes; modified = who.now }))) ≡ Err e
         → FailsToPut s who p bytes headers (unputtable true)
-    by Folder is h = (free, (r, here, is))
+    by Folder is h = (refl, free, (r, here, is))
     by File is h = absurd (cc)
 files_refuse who s p bytes headers e None here free h = (free, here, (e, h))
 
@@ -217,7 +219,7 @@ lacks_place who s p bytes headers known e is free (inl short) = subst (FailsToPu
 lacks_place who s p bytes headers known e is free (inr lacks) = by (at_path s.map p) refl (subst (λ k. LacksPlace s.map p k e) is lacks)
   where
     by : (o : Option Resource) → at_path s.map p ≡ o → LacksPlace s.map p (option_map (λ (r : Resource). meta_at r.node) o) e → FailsToPut s who p bytes headers e
-    by (Some r) here h = subst (FailsToPut s who p bytes headers) (sym h.0) (free, (r, here, h.1))
+    by (Some r) here h = subst (FailsToPut s who p bytes headers) (sym h.0) (refl, free, (r, here, h.1))
     by None here h =
         let above = none_above s.map (parent p) (at_path s.map (parent p)) refl h.1 in
         let refused : put s.map p bytes who.now ≡ Err above.0 =
@@ -239,7 +241,7 @@ standing_there None = refl
 abbrev course_by : Option Meta → Entries FieldValue → Result (Unit {0}) Fault
 course_by known headers = changes_by (course_of method.Put (standing_known known) headers)
 
-pub course_there : (m : ResourceMap) (p : Path) (headers : Entries FieldValue) (known : Option Meta) → known ≡ known_at m p → course_by known headers ≡ put_course m p headers
+pub course_there : (m : ResourceMap) (p : Path) (headers : Entries FieldValue) (known : Option Meta) → known ≡ known_at m p → course_by known headers ≡ change_course method.Put m p headers
 course_there m p headers known is =
     ap (λ k. course_by k headers) is ∙ ap (λ at. changes_by (course_of method.Put at headers)) (standing_there (at_path m p))
 
@@ -249,13 +251,13 @@ pub withheld : (who : Caller) (s : State) (p : Path) (bytes : List ℕ) (headers
 withheld who s p bytes headers known e is free place (inl short) = subst (FailsToPut s who p bytes headers) (sym short) tt
 withheld who s p bytes headers known e is free place (inr fails) = by (course_of method.Put (standing_of (at_path s.map p)) headers) there
   where
-    there : put_course s.map p headers ≡ Err e
+    there : change_course method.Put s.map p headers ≡ Err e
     there = sym (course_there s.map p headers known is) ∙ fails
 
     puttable : IsPuttable s who p bytes
     puttable = (free, has_place s.map p bytes who.now known is place)
 
-    refused : (f : Fault) → f ≡ e → put_course s.map p headers ≡ Err f
+    refused : (f : Fault) → f ≡ e → change_course method.Put s.map p headers ≡ Err f
     refused f same = there ∙ ap Err (sym same)
 
     by : (o : Option Course) → changes_by o ≡ Err e → FailsToPut s who p bytes headers e

@@ -21,7 +21,8 @@ use Rattle.dav_session_core.specs.Callers.{Caller, as_caller, asking, refusing_a
 use Rattle.dav_session_core.specs.Ends.{HasFolder}
 use Rattle.dav_session_core.specs.Granting.{also_naming, with_lock}
 use Rattle.dav_session_core.specs.StoreRefusals.{put_fault}
-use Rattle.dav_session_core.proofs.GrantLemmas.{any_of, text_same}
+use Rattle.dav_path_core.proofs.paths.SubtreePaths.{any_of}
+use Rattle.dav_session_core.proofs.GrantLemmas.{text_same}
 use Rattle.dav_session_core.proofs.OwnLemmas.{at_covers}
 use Rattle.dav_session_core.proofs.PutLemmas.{change_err}
 use Rattle.dav_methods_core.proofs.PutMethodLemmas.{has_place}

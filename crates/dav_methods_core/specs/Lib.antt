@@ -1,4 +1,5 @@
 pub mod Admitting
+pub mod ChangeConditions
 pub mod CopyMethod
 pub mod DeleteMethod
 pub mod PropfindMethod
@@ -11,8 +12,10 @@ pub mod Private
 pub mod PropertyAnswers
 pub mod ProppatchMethod
 pub mod PutMethod
+pub mod Reaching
 pub mod RefreshMethod
 pub mod RefusalAnswers
 pub mod Rooms
+pub mod ToldPaths
 pub mod TransferEnds
 pub mod UnlockMethod

@@ -1,9 +1,10 @@
 -- What a LOCK with a body asks for, what it grants, and why not (RFC 4918 sections 7.3, 7.5 and
 -- 9.10).
 use Rattle.std.specs.Prelude.{◌≡◌, ◌⊎◌, ℕ, Bool, true, false, List, [], ◌∷◌, ◌++◌, Option, None}
-use Rattle.std.specs.Prelude.{Some, Ok, IsSome, if◌then◌else◌}
+use Rattle.std.specs.Prelude.{Some, Ok, Err, IsSome, if◌then◌else◌}
 use Rattle.http_header.specs.FieldValue.{FieldValue}
 use Rattle.http_header.specs.HeaderMap.{Entries}
+use Rattle.dav_path_core.specs.declared.util.DavMethod.TheVariants as method
 use Rattle.dav_path_core.specs.Fronts.{Path, parent}
 use Rattle.dav_path_core.specs.PathText.{PathText}
 use Rattle.dav_path_core.specs.Segments.{segments}
@@ -12,11 +13,11 @@ use Rattle.dav_files_core.specs.ResourcePutting.{put}
 use Rattle.dav_files_core.specs.Resources.{ResourceMap, at_path}
 use Rattle.dav_locks_core.specs.Lock.{Lock}
 use Rattle.dav_locks_core.specs.Locks.{discovered_locks, lock_conflicts}
-use Rattle.dav_resource_core.specs.Checks.{has}
+use Rattle.dav_resource_core.specs.Checks.{has, refusing}
 use Rattle.dav_resource_core.specs.Step.{State}
 use Rattle.dav_faults_core.specs.declared.faults.Fault.{Fault}
 use Rattle.dav_faults_core.specs.declared.faults.Fault.TheVariants as fault
-use Rattle.dav_session_core.specs.Callers.{Caller, live, refusing_at}
+use Rattle.dav_session_core.specs.Callers.{Caller, as_caller, live}
 use Rattle.dav_fields_core.specs.Reaches.{reach_in}
 use Rattle.dav_session_core.specs.Ends.{HasFolder}
 use Rattle.dav_fields_core.specs.Fields.{Sent, in_brackets}
@@ -27,6 +28,9 @@ use Rattle.dav_fields_core.specs.LockTimeouts.{given_of, timeouts_in}
 use Rattle.dav_session_core.specs.LocksInTheWay.{IsPathOfOne, is_lock_below}
 use Rattle.dav_documents_core.specs.Pieces.{written_pieces}
 use Rattle.dav_documents_core.specs.RefusalBodies.{xml_type}
+use Rattle.dav_methods_core.specs.ChangeConditions.{change_course}
+use Rattle.dav_methods_core.specs.Placing.{target_by}
+use Rattle.dav_methods_core.specs.ToldPaths.{told_path}
 use Rattle.dav_fields_core.specs.RequestRefusals.{IsLastMoment}
 
 -- ---- what is asked for
@@ -59,18 +63,23 @@ CantBeRead headers body =
 
 -- ---- what stands there
 
+-- The locks that keep the caller from making a file at a path: those that a PUT of it asks, at the
+-- path and at the folder above (RFC 4918 section 7.3).
+abbrev pub refusing_to_make : State → Caller → Path → List Lock
+refusing_to_make s who p = refusing s.locks (as_caller who) (target_by false p)
+
 -- something stands there; or nothing does, and the caller may make a file there
 abbrev pub HasRoom : State → Caller → Path → Type 0
 HasRoom s who p =
-    IsSome (at_path s.map p) ⊎ ((at_path s.map p ≡ None) × (refusing_at s who (parent p) ≡ [])
+    IsSome (at_path s.map p) ⊎ ((at_path s.map p ≡ None) × (refusing_to_make s who p ≡ [])
     × HasFolder s.map (parent p))
 
--- What stands there stays. Where nothing does, an empty file is made, in a folder that the caller
--- may change (RFC 4918 section 7.3).
+-- What stands there stays. Where nothing does, an empty file is made, as a PUT of the caller makes
+-- it (RFC 4918 section 7.3).
 abbrev pub IsMadeThere : State → Caller → Path → ResourceMap → Type 0
 IsMadeThere s who p m' =
     (IsSome (at_path s.map p) × (m' ≡ s.map))
-    ⊎ ((at_path s.map p ≡ None) × (refusing_at s who (parent p) ≡ [])
+    ⊎ ((at_path s.map p ≡ None) × (refusing_to_make s who p ≡ [])
     × (put s.map p [] who.now ≡ Ok (tt, m')))
 
 -- ---- what is done
@@ -79,7 +88,8 @@ IsMadeThere s who p m' =
 -- next token names it, and no lock stands in its way.
 pub record Grants (s : State) (who : Caller) (path : PathText) (wanted : Wanted) (lock : Lock)
     (s' : State) : Type 0 where
-  pub lock_is : lock ≡ granted_lock s who path wanted.owner wanted.timeout wanted.shared wanted.deep
+  pub lock_is : lock ≡ granted_lock s who (told_path s.map path) wanted.owner wanted.timeout
+      wanted.shared wanted.deep
   pub free : lock_conflicts s.locks (segments path.bytes) wanted.shared wanted.deep ≡ []
   pub made : IsMadeThere s who (segments path.bytes) s'.map
   pub left : live who.now s' ≡ record (with_lock s lock) { map = s'.map }
@@ -95,11 +105,12 @@ pub record IsGranted (most : Option ℕ) (prefix : List ℕ) (headers : Entries 
     (s' : State) : Type 0 where
   pub wanted : Wanted
   pub wants : Wants most headers body wanted
+  pub course : change_course method.Lock s.map (segments path.bytes) headers ≡ Ok tt
   pub lock : Lock
   pub grants : Grants s who path wanted lock s'
   pub status_is : status ≡ lock_status s.map (segments path.bytes)
   pub named : sent.tokens ≡ in_brackets lock.token ∷ []
-  pub told : sent.body ≡ written_pieces (discovery_pieces prefix who.principal
+  pub told : sent.body ≡ written_pieces (discovery_pieces prefix who.principal who.now
       (discovered_locks (s.locks ++ lock ∷ []) (segments path.bytes)))
   pub typed : sent.types ≡ xml_type ∷ []
 
@@ -110,9 +121,9 @@ abbrev pub IsInConflict : State → Path → Wanted → PathText → Type 0
 IsInConflict s p wanted at = IsPathOfOne (lock_conflicts s.locks p wanted.shared wanted.deep) at
 
 -- Each refusal of a LOCK with a body, and where it comes: first what it asks for; then the last
--- moment; then, where nothing stands there, a lock that keeps the caller from making something,
--- whose path is told, and a folder that isn't there; and then another lock, at the path or above,
--- or of a member.
+-- moment; then, where nothing stands there, a lock that keeps the caller from making a file, whose
+-- path is told, and a folder that isn't there; then the conditions of HTTP (RFC 9110 section
+-- 13.2.1); and then another lock, at the path or above, or of a member.
 pub data FailsToLock (most : Option ℕ) (headers : Entries FieldValue) (body : List ℕ) (s : State)
     (who : Caller) (path : PathText) : Fault → Type 0 where
   memory : FailsToLock most headers body s who path fault.InsufficientStorage
@@ -121,21 +132,27 @@ pub data FailsToLock (most : Option ℕ) (headers : Entries FieldValue) (body : 
       → FailsToLock most headers body s who path fault.ServiceUnavailable
   above : (wanted : Wanted) (at : PathText) → Wants most headers body wanted
       → at_path s.map (segments path.bytes) ≡ None
-      → IsPathOfOne (refusing_at s who (parent (segments path.bytes))) at
+      → IsPathOfOne (refusing_to_make s who (segments path.bytes)) at
       → FailsToLock most headers body s who path (fault.Locked at)
   nowhere : (wanted : Wanted) → Wants most headers body wanted
       → at_path s.map (segments path.bytes) ≡ None
-      → refusing_at s who (parent (segments path.bytes)) ≡ []
+      → refusing_to_make s who (segments path.bytes) ≡ []
       → ¬ HasFolder s.map (parent (segments path.bytes))
       → FailsToLock most headers body s who path fault.Conflict
+  course : (e : Fault) (wanted : Wanted) → Wants most headers body wanted
+      → HasRoom s who (segments path.bytes)
+      → change_course method.Lock s.map (segments path.bytes) headers ≡ Err e
+      → FailsToLock most headers body s who path e
   conflict : (wanted : Wanted) (at : PathText) → Wants most headers body wanted
       → HasRoom s who (segments path.bytes)
+      → change_course method.Lock s.map (segments path.bytes) headers ≡ Ok tt
       → IsInConflict s (segments path.bytes) wanted at → is_lock_below (segments path.bytes) at ≡ false
       → FailsToLock most headers body s who path (fault.ConflictingLock at)
   member : (wanted : Wanted) (at : PathText) → Wants most headers body wanted
       → HasRoom s who (segments path.bytes)
+      → change_course method.Lock s.map (segments path.bytes) headers ≡ Ok tt
       → IsInConflict s (segments path.bytes) wanted at → is_lock_below (segments path.bytes) at ≡ true
-      → FailsToLock most headers body s who path (fault.ConflictingMember at path)
+      → FailsToLock most headers body s who path (fault.ConflictingMember at (told_path s.map path))
 
 -- What is left where memory is lacking once the lock is granted: the lock is taken back, and the
 -- generator has given a token. But it stands, and nobody knows its token, where a lock there or
@@ -150,4 +167,4 @@ abbrev pub IsAskedBy : List ℕ → State → Caller → PathText → Lock → T
 IsAskedBy body s who path lock =
     (info : LockInfo) × (lock_info_in body ≡ Some info)
     × ((timeout : Option ℕ) × (deep : Bool)
-    × (lock ≡ granted_lock s who path info.owner timeout info.shared deep))
+    × (lock ≡ granted_lock s who (told_path s.map path) info.owner timeout info.shared deep))

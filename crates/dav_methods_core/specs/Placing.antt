@@ -1,5 +1,5 @@
 -- Where a method puts something, by what is known to stand there (own).
-use Rattle.std.specs.Prelude.{◌≡◌, Bool, false, List, [], ◌∷◌, Option, None, Some, if◌then◌else◌}
+use Rattle.std.specs.Prelude.{◌≡◌, Bool, true, false, List, [], ◌∷◌, Option, None, Some, if◌then◌else◌}
 use Rattle.dav_path_core.specs.Fronts.{Path, parent}
 use Rattle.dav_files_core.specs.declared.memfs.Kind.TheVariants.{Folder, File}
 use Rattle.dav_files_core.specs.Meta.{Meta}
@@ -28,5 +28,5 @@ HasPlace m p None = (r : Resource) × (at_path m (parent p) ≡ Some r) × (r.no
 
 -- it can't, and this is why
 abbrev pub LacksPlace : ResourceMap → Path → Option Meta → Fault → Type 0
-LacksPlace m p (Some known) e = (e ≡ fault.MethodNotAllowed) × (known.kind ≡ Folder)
+LacksPlace m p (Some known) e = (e ≡ fault.MethodNotAllowed true) × (known.kind ≡ Folder)
 LacksPlace m p None e = (e ≡ fault.Conflict) × IsNone m (parent p) Folder

@@ -41,7 +41,7 @@ pub record Finds (finite : Bool) (prefix : List ℕ) (headers : Entries FieldVal
   pub within : AreWithin depth s.map p places
   pub resources : List Description
   pub described : DescribesEach prefix s places resources
-  pub told_is : told ≡ written_pieces (multistatus prefix who.principal question resources)
+  pub told_is : told ≡ written_pieces (multistatus prefix who.principal who.now question resources)
 
 -- 207, with that body, which is told to be XML
 abbrev pub TellsFound : Bool → List ℕ → Entries FieldValue → List ℕ → Sent → State → Caller → Path

@@ -1,5 +1,5 @@
 -- What a PUT leaves, and why it is refused (RFC 9110 sections 9.3.4 and 13.2, RFC 4918 section 9.7).
-use Rattle.std.specs.Prelude.{◌≡◌, ◌≢◌, ℕ, List, [], Option, None, Some, Result, Ok, Err, if◌then◌else◌}
+use Rattle.std.specs.Prelude.{◌≡◌, ◌≢◌, ℕ, true, List, [], Option, None, Some, Ok, Err, if◌then◌else◌}
 use Rattle.std.specs.FinMap.{empty}
 use Rattle.http_header.specs.FieldValue.{FieldValue}
 use Rattle.http_header.specs.HeaderMap.{Entries}
@@ -15,10 +15,8 @@ use Rattle.dav_resource_core.specs.Checks.{has}
 use Rattle.dav_resource_core.specs.Step.{State, conflicts}
 use Rattle.dav_faults_core.specs.declared.faults.Fault.{Fault}
 use Rattle.dav_faults_core.specs.declared.faults.Fault.TheVariants as fault
-use Rattle.dav_fields_core.specs.declared.preconditions.Course.{Course}
-use Rattle.dav_fields_core.specs.declared.preconditions.Course.TheVariants as course
 use Rattle.dav_session_core.specs.Callers.{Caller, asking, live}
-use Rattle.dav_fields_core.specs.FileTags.{standing_of}
+use Rattle.dav_methods_core.specs.ChangeConditions.{change_course}
 use Rattle.dav_session_core.specs.LocksInTheWay.{IsPathOfOne}
 use Rattle.dav_fields_core.specs.Preconditions.{course_of}
 
@@ -46,18 +44,6 @@ pub record Puts (s : State) (now : ℕ) (p : Path) (bytes : List ℕ) (s' : Stat
   pub others : (q : Path) → q ≢ p → at_path s'.map q ≡ at_path s.map q
   pub left : s' ≡ record (live now s) { map = s'.map }
 
--- a change is done, or refused, by what follows from the conditions of HTTP
-abbrev pub changes_by : Option Course → Result (Unit {0}) Fault
-changes_by None = Err fault.BadRequest
-changes_by (Some course.PreconditionFailed) = Err fault.PreconditionFailed
-changes_by (Some course.NotModified) = Err fault.PreconditionFailed
-changes_by (Some course.Whole) = Ok tt
-changes_by (Some course.Proceed) = Ok tt
-
--- of a PUT at the path
-abbrev pub put_course : ResourceMap → Path → Entries FieldValue → Result (Unit {0}) Fault
-put_course m p headers = changes_by (course_of method.Put (standing_of (at_path m p)) headers)
-
 -- without conditions it would be done
 abbrev pub IsPuttable : State → Caller → Path → List ℕ → Type 0
 IsPuttable s who p bytes = (locks_against_putting s who p bytes ≡ []) × ((m : ResourceMap) × (put s.map p bytes who.now ≡ Ok (tt, m)))
@@ -66,8 +52,8 @@ IsPuttable s who p bytes = (locks_against_putting s who p bytes ≡ []) × ((m :
 abbrev pub FailsToPut : State → Caller → Path → List ℕ → Entries FieldValue → Fault → Type 0
 FailsToPut s who p bytes headers fault.InsufficientStorage = Unit {0}
 FailsToPut s who p bytes headers (fault.Locked path) = IsPathOfOne (locks_against_putting s who p bytes) path
-FailsToPut s who p bytes headers fault.MethodNotAllowed =
-    (locks_against_putting s who p bytes ≡ []) × ((r : Resource) × (at_path s.map p ≡ Some r) × (r.node.kind ≡ Folder))
+FailsToPut s who p bytes headers (fault.MethodNotAllowed folder) =
+    (folder ≡ true) × (locks_against_putting s who p bytes ≡ []) × ((r : Resource) × (at_path s.map p ≡ Some r) × (r.node.kind ≡ Folder))
 FailsToPut s who p bytes headers fault.Conflict =
     (locks_against_putting s who p bytes ≡ []) × (at_path s.map p ≡ None) × ((e : FsError) × (put s.map p bytes who.now ≡ Err e))
-FailsToPut s who p bytes headers e = IsPuttable s who p bytes × (put_course s.map p headers ≡ Err e)
+FailsToPut s who p bytes headers e = IsPuttable s who p bytes × (change_course method.Put s.map p headers ≡ Err e)

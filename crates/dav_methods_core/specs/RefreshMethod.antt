@@ -1,18 +1,20 @@
 -- What a LOCK without a body leaves and tells, and why it is refused (RFC 4918 section 9.10.2).
-use Rattle.std.specs.Prelude.{◌≡◌, ℕ, ◌<◌, Bool, List, [], bytes_eq, length, ◌∷◌, Option, None, Some, filter, map, if◌then◌else◌}
+use Rattle.std.specs.Prelude.{◌≡◌, ℕ, ◌<◌, Bool, List, [], bytes_eq, length, ◌∷◌, Option, None, Some, Ok, Err, filter, map, if◌then◌else◌}
 use Rattle.std.specs.List.{list_any}
 use Rattle.dav_locks_core.specs.Lock.{Lock}
 use Rattle.dav_faults_core.specs.declared.faults.Fault.{Fault}
 use Rattle.dav_faults_core.specs.declared.faults.Fault.TheVariants as fault
 use Rattle.http_header.specs.FieldValue.{FieldValue}
 use Rattle.http_header.specs.HeaderMap.{Entries}
+use Rattle.dav_path_core.specs.declared.util.DavMethod.TheVariants as method
 use Rattle.dav_path_core.specs.Fronts.{Path}
 use Rattle.dav_headers_core.specs.declared.davheaders.timeouts.DavTimeout.{DavTimeout}
-use Rattle.dav_locks_core.specs.Locks.{discovered_locks}
+use Rattle.dav_locks_core.specs.Locks.{discovered_locks, refreshed_lock}
 use Rattle.dav_resource_core.specs.Step.{State}
 use Rattle.dav_session_core.specs.Callers.{Caller}
 use Rattle.dav_session_core.specs.Conditions.{has_token}
 use Rattle.dav_fields_core.specs.Fields.{Sent}
+use Rattle.dav_methods_core.specs.ChangeConditions.{change_course}
 use Rattle.dav_documents_core.specs.LockDocuments.{discovery_pieces}
 use Rattle.dav_fields_core.specs.LockTimeouts.{given_of, timeouts_in}
 use Rattle.dav_documents_core.specs.Pieces.{written_pieces}
@@ -47,12 +49,12 @@ abbrev pub next_timeout : Option ℕ → List DavTimeout → List ℕ → List L
 next_timeout most [] token locks = timeout_among token locks
 next_timeout most wanted token locks = given_of most wanted
 
--- a lock as it is told: the one with the token has its next timeout
-abbrev pub told_with : List ℕ → Option ℕ → Lock → Lock
-told_with token timeout l = if bytes_eq l.token token then record l { timeout = timeout } else l
+-- a lock as it is told: the one with the token has its next timeout, and an end counted from now
+abbrev pub told_with : ℕ → List ℕ → Option ℕ → Lock → Lock
+told_with now token timeout l = if bytes_eq l.token token then refreshed_lock now timeout l else l
 
-abbrev pub retimed_locks : List ℕ → Option ℕ → List Lock → List Lock
-retimed_locks token timeout locks = map (told_with token timeout) locks
+abbrev pub retimed_locks : ℕ → List ℕ → Option ℕ → List Lock → List Lock
+retimed_locks now token timeout locks = map (told_with now token timeout) locks
 
 -- ---- what is done
 
@@ -65,14 +67,16 @@ pub record Refreshes (most : Option ℕ) (prefix : List ℕ) (headers : Entries 
   pub names : named_there s who p ≡ token ∷ []
   pub timeout : Option ℕ
   pub timeout_is : timeout ≡ next_timeout most timeouts token (discovered_locks s.locks p)
+  pub course : change_course method.Lock s.map p headers ≡ Ok tt
   pub refreshes : RefreshesOwn s who p token timeout s'
-  pub told : sent.body ≡ written_pieces (discovery_pieces prefix who.principal (retimed_locks token timeout (discovered_locks s.locks p)))
+  pub told : sent.body ≡ written_pieces (discovery_pieces prefix who.principal who.now
+      (retimed_locks who.now token timeout (discovered_locks s.locks p)))
   pub typed : sent.types ≡ xml_type ∷ []
 
 -- ---- refusals
 
 -- Each refusal of a LOCK without a body, and where it comes: first a `Timeout` that can't be read; then no named token that a lock has which covers the path, or several of
--- them; and then a lock with the token at the path or above that is another's.
+-- them; then a lock with the token at the path or above that is another's; and then the conditions of HTTP (RFC 9110 section 13.2.1).
 pub data FailsToRefresh (headers : Entries FieldValue) (s : State) (who : Caller) (p : Path) : Fault → Type 0 where
   memory : FailsToRefresh headers s who p fault.InsufficientStorage
   unread : timeouts_in headers ≡ None → FailsToRefresh headers s who p fault.BadRequest
@@ -80,3 +84,5 @@ pub data FailsToRefresh (headers : Entries FieldValue) (s : State) (who : Caller
   several : (timeouts : List DavTimeout) → timeouts_in headers ≡ Some timeouts → 1 < length (named_there s who p) → FailsToRefresh headers s who p fault.BadRequest
   anothers : (timeouts : List DavTimeout) (token : List ℕ) → timeouts_in headers ≡ Some timeouts → named_there s who p ≡ token ∷ [] → IsAnothers s who p token
       → FailsToRefresh headers s who p fault.Forbidden
+  course : (e : Fault) (timeouts : List DavTimeout) (token : List ℕ) → timeouts_in headers ≡ Some timeouts → named_there s who p ≡ token ∷ [] → ¬ IsAnothers s who p token
+      → change_course method.Lock s.map p headers ≡ Err e → FailsToRefresh headers s who p e

@@ -14,7 +14,7 @@ use Rattle.dav_resource_core.specs.Step.{Serves, State}
 use Rattle.dav_faults_core.specs.declared.faults.Fault.{Fault}
 use Rattle.dav_faults_core.specs.declared.faults.Fault.TheVariants as fault
 use Rattle.dav_methods_core.specs.declared.methods.lock.Wanted.{Wanted}
-use Rattle.dav_session_core.specs.Callers.{Caller, RunBy, SameLive, asking, live, refusing_at}
+use Rattle.dav_session_core.specs.Callers.{Caller, RunBy, SameLive, asking, live}
 use Rattle.dav_session_core.specs.Ends.{HasFolder}
 use Rattle.dav_fields_core.specs.Fields.{Sent, in_brackets}
 use Rattle.dav_session_core.specs.Granting.{AreAbove, HaveTokens, also_naming, granted_lock}
@@ -26,6 +26,7 @@ use Rattle.dav_documents_core.specs.Pieces.{written_pieces}
 use Rattle.dav_fields_core.specs.Marking.{IsNone}
 use Rattle.dav_session_core.specs.StoreRefusals.{put_fault}
 use Rattle.dav_documents_core.specs.RefusalBodies.{xml_type}
+use Rattle.dav_methods_core.specs.ToldPaths.{told_path}
 
 -- what the code wants, as plain data
 abbrev pub wanted_of : Wanted → locking.Wanted
@@ -43,22 +44,24 @@ wanted_of w =
 abbrev pub FoundRoom : State → Caller → Path → Bool → Type 0
 FoundRoom s who p false = IsSome (at_path s.map p)
 FoundRoom s who p true =
-    (at_path s.map p ≡ None) × (refusing_at s who (parent p) ≡ []) × HasFolder s.map (parent p)
+    (at_path s.map p ≡ None) × (locking.refusing_to_make s who p ≡ []) × HasFolder s.map (parent p)
 
 -- nothing does, and none can be made
 abbrev pub LacksRoom : State → Caller → Path → Fault → Type 0
 LacksRoom s who p fault.InsufficientStorage = Unit {0}
 LacksRoom s who p (fault.Locked at) =
-    (at_path s.map p ≡ None) × IsPathOfOne (refusing_at s who (parent p)) at
+    (at_path s.map p ≡ None) × IsPathOfOne (locking.refusing_to_make s who p) at
 LacksRoom s who p fault.Conflict =
-    (at_path s.map p ≡ None) × (refusing_at s who (parent p) ≡ []) × IsNone s.map (parent p) Folder
+    (at_path s.map p ≡ None) × (locking.refusing_to_make s who p ≡ [])
+    × IsNone s.map (parent p) Folder
 LacksRoom s who p e = ⊥
 
--- All that is known before a lock is asked for: what stands there, that the lock doesn't end at
--- once, and the tokens of the locks at the path and above.
+-- All that is known before a lock is asked for: what stands there, that the path is as it is told,
+-- that the lock doesn't end at once, and the tokens of the locks at the path and above.
 pub record IsReadyToLock (s : State) (who : Caller) (path : PathText) (wanted : locking.Wanted)
     (missing : Bool) (above : List (List ℕ)) : Type 0 where
   pub room : FoundRoom s who (segments path.bytes) missing
+  pub is_told : told_path s.map path ≡ path
   pub lasts : is_stale who.now (granted_lock s who path wanted.owner wanted.timeout wanted.shared
       wanted.deep) ≡ false
   pub have : HaveTokens s (segments path.bytes) above
@@ -104,7 +107,7 @@ pub record IsGrantedNow (prefix : List ℕ) (s : State) (who : Caller) (path : P
   pub grants : locking.Grants s who path wanted lock s'
   pub status_is : status ≡ (if missing then 201 else 200)
   pub named : sent.tokens ≡ in_brackets lock.token ∷ []
-  pub told : sent.body ≡ written_pieces (discovery_pieces prefix who.principal
+  pub told : sent.body ≡ written_pieces (discovery_pieces prefix who.principal who.now
       (discovered_locks (s.locks ++ lock ∷ []) (segments path.bytes)))
   pub typed : sent.types ≡ xml_type ∷ []
 

@@ -6,7 +6,7 @@ use Rattle.dav_path_core.specs.Fronts.{Path, is_front, parent, rebased}
 use Rattle.dav_path_core.specs.PathText.{PathText}
 use Rattle.dav_path_core.specs.Segments.{segments}
 use Rattle.dav_files_core.specs.Resources.{ResourceMap, at_path}
-use Rattle.dav_fields_core.specs.declared.bases.Scheme.{Scheme}
+use Rattle.dav_fields_core.specs.Bases.{Site}
 use Rattle.dav_faults_core.specs.declared.faults.Fault.{Fault}
 use Rattle.dav_faults_core.specs.declared.faults.Fault.TheVariants as fault
 use Rattle.dav_fields_core.specs.TransferDestinations.{IsDestination, LeadsNowhere, overwrites}
@@ -17,9 +17,9 @@ use Rattle.dav_files_core.specs.Meta.{Meta}
 -- ---- both ends
 
 -- Where a request leads from its path, and whether it may replace what stands there.
-pub record LeadsOn (scheme : Scheme) (prefix : List ℕ) (headers : Entries FieldValue) (from : Path) (within : Bool) (to : PathText) (replaces : Bool) : Type 0 where
+pub record LeadsOn (site : Site) (prefix : List ℕ) (headers : Entries FieldValue) (from : Path) (within : Bool) (to : PathText) (replaces : Bool) : Type 0 where
   pub overwrites_is : overwrites headers ≡ Some replaces
-  pub leads : IsDestination scheme prefix headers to
+  pub leads : IsDestination site prefix headers to
   pub apart : is_related within from (segments to.bytes) ≡ false
 
 -- Something stands at the source. What stands at the target may be replaced. A folder stands above the target.
@@ -31,30 +31,30 @@ pub record EndsFit (m : ResourceMap) (from to : Path) (replaces : Bool) : Type 0
 -- Why a COPY or a MOVE is refused at its ends, in this order: `Overwrite` can't be read; `Destination` leads nowhere, or to a place that the request can't have; nothing
 -- stands at the source; something stands at the target that it may not replace; no folder stands above the target; a name below the target is one that no path has which is
 -- read. Or there is no memory to look.
-pub data FailsAtEnds (scheme : Scheme) (prefix : List ℕ) (headers : Entries FieldValue) (m : ResourceMap) (from : Path) (within : Bool) : Fault → Type 0 where
-  memory : FailsAtEnds scheme prefix headers m from within fault.InsufficientStorage
-  unread : overwrites headers ≡ None → FailsAtEnds scheme prefix headers m from within fault.BadRequest
-  nowhere : (replaces : Bool) (e : Fault) → overwrites headers ≡ Some replaces → LeadsNowhere scheme prefix headers e → FailsAtEnds scheme prefix headers m from within e
-  related : (replaces : Bool) (to : PathText) → overwrites headers ≡ Some replaces → IsDestination scheme prefix headers to → is_related within from (segments to.bytes) ≡ true
-      → FailsAtEnds scheme prefix headers m from within fault.Forbidden
-  missing : (to : PathText) (replaces : Bool) → LeadsOn scheme prefix headers from within to replaces → at_path m from ≡ None
-      → FailsAtEnds scheme prefix headers m from within fault.NotFound
-  kept : (to : PathText) → LeadsOn scheme prefix headers from within to false → IsSome (at_path m from) → IsSome (at_path m (segments to.bytes))
-      → FailsAtEnds scheme prefix headers m from within fault.PreconditionFailed
-  nowhere_to_stand : (to : PathText) (replaces : Bool) → LeadsOn scheme prefix headers from within to replaces → IsSome (at_path m from)
+pub data FailsAtEnds (site : Site) (prefix : List ℕ) (headers : Entries FieldValue) (m : ResourceMap) (from : Path) (within : Bool) : Fault → Type 0 where
+  memory : FailsAtEnds site prefix headers m from within fault.InsufficientStorage
+  unread : overwrites headers ≡ None → FailsAtEnds site prefix headers m from within fault.BadRequest
+  nowhere : (replaces : Bool) (e : Fault) → overwrites headers ≡ Some replaces → LeadsNowhere site prefix headers e → FailsAtEnds site prefix headers m from within e
+  related : (replaces : Bool) (to : PathText) → overwrites headers ≡ Some replaces → IsDestination site prefix headers to → is_related within from (segments to.bytes) ≡ true
+      → FailsAtEnds site prefix headers m from within fault.Forbidden
+  missing : (to : PathText) (replaces : Bool) → LeadsOn site prefix headers from within to replaces → at_path m from ≡ None
+      → FailsAtEnds site prefix headers m from within fault.NotFound
+  kept : (to : PathText) → LeadsOn site prefix headers from within to false → IsSome (at_path m from) → IsSome (at_path m (segments to.bytes))
+      → FailsAtEnds site prefix headers m from within fault.PreconditionFailed
+  nowhere_to_stand : (to : PathText) (replaces : Bool) → LeadsOn site prefix headers from within to replaces → IsSome (at_path m from)
       → (IsSome (at_path m (segments to.bytes)) → replaces ≡ true) → ¬ HasFolder m (parent (segments to.bytes))
-      → FailsAtEnds scheme prefix headers m from within fault.Conflict
-  odd : (to : PathText) (replaces : Bool) → LeadsOn scheme prefix headers from within to replaces → EndsFit m from (segments to.bytes) replaces
-      → HasOddName m (segments to.bytes) → FailsAtEnds scheme prefix headers m from within fault.BadRequest
+      → FailsAtEnds site prefix headers m from within fault.Conflict
+  odd : (to : PathText) (replaces : Bool) → LeadsOn site prefix headers from within to replaces → EndsFit m from (segments to.bytes) replaces
+      → HasOddName m (segments to.bytes) → FailsAtEnds site prefix headers m from within fault.BadRequest
 
 -- ---- the ends, as they are looked at one after another
 
 -- why a request leads nowhere, or to a place that it can't have
-pub data FailsToLead (scheme : Scheme) (prefix : List ℕ) (headers : Entries FieldValue) (from : Path) (within : Bool) : Fault → Type 0 where
-  unread : overwrites headers ≡ None → FailsToLead scheme prefix headers from within fault.BadRequest
-  nowhere : (replaces : Bool) (e : Fault) → overwrites headers ≡ Some replaces → LeadsNowhere scheme prefix headers e → FailsToLead scheme prefix headers from within e
-  related : (replaces : Bool) (to : PathText) → overwrites headers ≡ Some replaces → IsDestination scheme prefix headers to → is_related within from (segments to.bytes) ≡ true
-      → FailsToLead scheme prefix headers from within fault.Forbidden
+pub data FailsToLead (site : Site) (prefix : List ℕ) (headers : Entries FieldValue) (from : Path) (within : Bool) : Fault → Type 0 where
+  unread : overwrites headers ≡ None → FailsToLead site prefix headers from within fault.BadRequest
+  nowhere : (replaces : Bool) (e : Fault) → overwrites headers ≡ Some replaces → LeadsNowhere site prefix headers e → FailsToLead site prefix headers from within e
+  related : (replaces : Bool) (to : PathText) → overwrites headers ≡ Some replaces → IsDestination site prefix headers to → is_related within from (segments to.bytes) ≡ true
+      → FailsToLead site prefix headers from within fault.Forbidden
 
 -- the ends fit, and this is known of the target
 pub record Fits (m : ResourceMap) (from to : Path) (replaces : Bool) (known : Option Meta) : Type 0 where
@@ -70,10 +70,10 @@ FailsToFit m from to replaces fault.Conflict = IsSome (at_path m from) × (IsSom
 FailsToFit m from to replaces e = ⊥
 
 -- the ends of a request, what is known of its target, and what goes from there
-pub record AreEnds (scheme : Scheme) (prefix : List ℕ) (headers : Entries FieldValue) (m : ResourceMap) (from : Path) (within : Bool) (to : PathText) (known : Option Meta)
+pub record AreEnds (site : Site) (prefix : List ℕ) (headers : Entries FieldValue) (m : ResourceMap) (from : Path) (within : Bool) (to : PathText) (known : Option Meta)
     (gone : List Path) : Type 0 where
   pub replaces : Bool
-  pub leads : LeadsOn scheme prefix headers from within to replaces
+  pub leads : LeadsOn site prefix headers from within to replaces
   pub fit : EndsFit m from (segments to.bytes) replaces
   pub known_is : known ≡ known_at m (segments to.bytes)
   pub goes : GoesFrom m (segments to.bytes) gone

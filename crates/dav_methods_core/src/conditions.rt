@@ -18,8 +18,8 @@ ghost use Rattle.dav_faults_core.specs.declared.faults.Fault.TheVariants as faul
 mod laws;
 
 use dav_faults_core::faults::Fault;
-pub use dav_fields_core::bases::Scheme;
 use dav_fields_core::bases::base_of;
+pub use dav_fields_core::bases::{Scheme, Site};
 use dav_fields_core::listed_tags::Comparison;
 use dav_fields_core::preconditions::has_tag;
 use dav_fields_core::senders::if_of;
@@ -139,7 +139,7 @@ fn one_holds<R: Rng>(
 /// lists do (RFC 4918 sections 10.4.3 and 10.4.4). A state token holds where a lock with it covers
 /// the resource and has not expired, whoever asks; an entity tag where the resource is a file with
 /// an equal one, by strong comparison. A resource tag is for all lists up to the next one. It names
-/// a path where it has the scheme, the host and the port of `base`, and stands behind the prefix of
+/// a path where it has the site, the host and the port of `base`, and stands behind the prefix of
 /// `here`; else it stands for a resource that has neither locks nor tags.
 ///
 /// `InsufficientStorage` where there is no memory for it, and never else. Nothing changes, but
@@ -161,28 +161,28 @@ pub fn evaluate<R: Rng>(
 }
 
 /// Lets a request for the path `here` go on where it has no `If`, or its `If` holds, as `evaluate`
-/// says. Its resource tags are compared with the scheme and its `Host`.
+/// says. Its resource tags are compared with the host of the site, or else that of its `Host`.
 ///
-/// `BadRequest` where the `If` can't be read, or there is no `Host` that is a host;
+/// `BadRequest` where the `If` can't be read, or no host is named that is one;
 /// `PreconditionFailed` where the `If` doesn't hold (RFC 4918 section 10.4); `InsufficientStorage`
 /// where there is no memory for it. Nothing changes, but locks that have expired may be gone.
 pub fn admit<R: Rng>(
     alloc: Global,
     session: &mut Session<R>,
-    scheme: Scheme,
+    site: &Site<'_>,
     headers: &HeaderMap<HeaderValue>,
     here: &DavPath,
 ) -> Result<(), Fault>
     ensures ok { OnOk result
-        (IsAdmitted scheme (live_of R.stream session.old) headers.now here.now) }
+        (IsAdmitted site.now (live_of R.stream session.old) headers.now here.now) }
     ensures err { IfErr result
-        (IsHeldOff scheme (live_of R.stream session.old) headers.now here.now) }
+        (IsHeldOff site.now (live_of R.stream session.old) headers.now here.now) }
     ensures looks { Looks R.stream session.old session.new }
 {
-    let Some(header) = if_of(alloc, headers)? else {
+    let Some(header) = if_of(alloc, site, headers)? else {
         return Ok(());
     };
-    let base = base_of(alloc, scheme, headers)?;
+    let base = base_of(alloc, site, headers)?;
     if !evaluate(alloc, session, &header, here, &base)? {
         return Err(Fault::PreconditionFailed);
     }

@@ -69,7 +69,8 @@ fn described(
     })
 }
 
-fn is_folder(meta: &MemFsMeta) -> bool
+/// Whether it is a folder.
+pub(crate) fn is_folder(meta: &MemFsMeta) -> bool
     ensures { result ≡ is_folder (meta_of meta.now).kind }
 {
     meta.is_dir()

@@ -3,36 +3,48 @@ ghost use Rattle.std.specs.Prelude.{◌≡◌, ◌++◌, ◌∷◌, [], codes, O
 ghost use Rattle.http_server.specs.Response.{IsResponse, fields_of};
 ghost use Rattle.dav_faults_core.specs.Faults.{fault_status};
 ghost use Rattle.dav_documents_core.specs.RefusalBodies.{xml_type};
-ghost use Rattle.dav_methods_core.specs.RefusalAnswers.{TellsWhy};
+ghost use Rattle.dav_methods_core.specs.RefusalAnswers.{IsToldOf, TellsWhy, methods_of};
+ghost use Rattle.dav_methods_core.specs.RefusalAnswers.{status_alone};
 
-use crate::methods::options;
 use bytes::Bytes;
 use dav_documents_core::refusal_documents::document_of;
 use dav_faults_core::faults::Fault;
+use http::StatusCode;
 use http_header::{HeaderName, HeaderValue};
 use http_server::Response;
 use std::alloc::{AllocError, Global};
 
-/// Tells a fault by its status; and where there is memory for it, why: by a document, and by the
-/// methods that are served, if the path doesn't take this one (RFC 9110 section 15.5.6). Paths
-/// stand behind the prefix in a document.
+/// Tells a fault by its status, and why: by a document, or, of a 405, by the methods that what
+/// stands there takes (RFC 9110 section 15.5.6). Paths stand behind the prefix in a document. Where
+/// there is no memory for that, a 207 and a 405, which are not told by their status alone (RFC 4918
+/// section 13), become 507, and any other fault keeps its status.
 pub fn refuse(alloc: Global, response: &mut Response, prefix: &str, fault: &Fault)
-    ensures status { response.new.status ≡ fault_status fault.now }
-    ensures told { TellsWhy prefix.now fault.now response.new }
+    ensures { IsToldOf prefix.now fault.now response.new }
 {
-    say_status(response, fault);
+    say_status(response, fault.status());
     match say_why(alloc, response, prefix, fault) {
         Ok(()) => (),
-        Err(_) => say_status(response, fault),
+        Err(_) => say_status(response, status_alone(fault)),
     }
 }
 
 // The status alone.
-fn say_status(response: &mut Response, fault: &Fault)
-    ensures { IsResponse (fault_status fault.now) [] [] response.new }
+fn say_status(response: &mut Response, status: StatusCode)
+    ensures { IsResponse status [] [] response.new }
 {
     response.clear();
-    response.status = fault.status();
+    response.status = status;
+}
+
+// The status of a fault that is told by nothing else.
+fn status_alone(fault: &Fault) -> StatusCode
+    ensures { result ≡ status_alone fault.now }
+{
+    match fault {
+        Fault::MemberLocked(_) | Fault::ConflictingMember(_, _) | Fault::MethodNotAllowed { .. } =>
+            StatusCode::INSUFFICIENT_STORAGE,
+        fault => fault.status(),
+    }
 }
 
 fn say_why(
@@ -45,15 +57,37 @@ fn say_why(
     ensures status { response.new.status ≡ response.old.status }
     ensures told { OnOk result (TellsWhy prefix.now fault.now response.new) }
 {
-    if let Fault::MethodNotAllowed = fault {
-        return options::allow(response);
+    if let Fault::MethodNotAllowed { folder } = fault {
+        return allow(response, *folder);
     }
     match document_of(alloc, prefix, fault)? {
-        Some(document) => {
-            say_document(response, document)?;
-            return Ok(());
-        }
-        None => return Ok(()),
+        Some(document) => say_document(response, document),
+        None => Ok(()),
+    }
+}
+
+// Lists the methods that a folder takes, or a file.
+fn allow(response: &mut Response, folder: bool) -> Result<(), AllocError>
+    ensures status { response.new.status ≡ response.old.status }
+    ensures fields { OnOk result (fields_of response.new ≡ fields_of response.old
+        ++ (codes "allow", methods_of folder) ∷ []) }
+    ensures body { response.new.body ≡ response.old.body }
+{
+    response.add_header(HeaderName::from_static("allow"), methods_of(folder))?;
+    Ok(())
+}
+
+fn methods_of(folder: bool) -> HeaderValue
+    ensures { result.bytes ≡ methods_of folder }
+{
+    if folder {
+        HeaderValue::from_static(
+            "OPTIONS, GET, HEAD, DELETE, COPY, MOVE, PROPFIND, PROPPATCH, LOCK, UNLOCK",
+        )
+    } else {
+        HeaderValue::from_static(
+            "OPTIONS, GET, HEAD, PUT, DELETE, COPY, MOVE, PROPFIND, PROPPATCH, LOCK, UNLOCK",
+        )
     }
 }
 

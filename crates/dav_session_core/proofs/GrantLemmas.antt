@@ -25,6 +25,8 @@ use Rattle.dav_session_core.specs.Callers.{Caller, asking, live}
 use Rattle.dav_fields_core.specs.IfTokens.{is_among}
 use Rattle.dav_session_core.specs.Granting.{AreAbove, HaveTokens, IsConflictOf, also_naming, granted_lock, stands_above, with_lock, with_token_drawn}
 use Rattle.dav_path_core.proofs.paths.AbovePaths.{above}
+use Rattle.dav_path_core.proofs.lists.EachLemmas.{any_map}
+use Rattle.dav_path_core.proofs.paths.SubtreePaths.{any_of}
 use Rattle.dav_session_core.proofs.OwnLemmas.{at_covers, at_root, covers_here, not_unlocked}
 use Rattle.dav_locks_core.proofs.answers.CoveringTokens.{any_discovered}
 
@@ -111,15 +113,6 @@ module _ (who : Caller) (old s' : State) (s : State) (l : Lock) (p : Path) (toke
 or_true : (b : Bool) → (b || true) ≡ true
 or_true true = refl
 or_true false = refl
-
-any_map : {A B : Type 0} (f : A → B) (test : B → Bool) (xs : List A) → list_any test (map f xs) ≡ list_any (λ x. test (f x)) xs
-any_map f test [] = refl
-any_map f test (x ∷ xs) = ap (λ b. test (f x) || b) (any_map f test xs)
-
-pub any_of : {A : Type 0} (test : A → Bool) (xs : List A) (x : A) → In x xs → test x ≡ true → list_any test xs ≡ true
-any_of test [] x i h = absurd i
-any_of test (y ∷ xs) x (inl e) h = ap (λ b. b || list_any test xs) (ap test e ∙ h)
-any_of test (y ∷ xs) x (inr i) h = ap (λ b. test y || b) (any_of test xs x i h) ∙ or_true (test y)
 
 module _ (s : State) (p : Path) where
   -- so far: a lock has one of the tokens, or stands at a place above that is left, or at it

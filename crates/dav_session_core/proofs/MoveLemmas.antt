@@ -9,7 +9,7 @@ use Rattle.dav_path_core.proofs.lists.FinMaps.{dec, get_same, test_false}
 use Rattle.dav_path_core.proofs.lists.MemberLemmas.{In, In-Contains, append_none}
 use Rattle.dav_path_core.proofs.lists.Orders.{path_exact, path_total}
 use Rattle.dav_path_core.proofs.lists.Snoc.{by_last}
-use Rattle.dav_path_core.proofs.paths.FrontLemmas.{behind_append, fronts_of_one, is_front-refl, is_front-trans, is_same_path-refl}
+use Rattle.dav_path_core.proofs.paths.FrontLemmas.{fronts_of_one, is_front-refl, is_front-trans, is_same_path-refl}
 use Rattle.dav_files_core.specs.declared.memfs.Kind.TheVariants.{Folder}
 use Rattle.dav_files_core.specs.Finding.{has_members}
 use Rattle.dav_files_core.specs.Folders.{is_root}
@@ -37,7 +37,7 @@ use Rattle.dav_path_core.proofs.paths.AbovePaths.{parent_front}
 use Rattle.dav_session_core.proofs.PutLemmas.{change_err}
 use Rattle.dav_session_core.proofs.RemovalCheckLemmas.{removal_split}
 use Rattle.dav_files_core.proofs.paths.RemovedMaps.{above_out}
-use Rattle.dav_path_core.proofs.paths.SubtreePaths.{rest_of, some_of}
+use Rattle.dav_path_core.proofs.paths.SubtreePaths.{front_of, rest_of, some_of}
 
 -- ---- two ends of which neither is at or below the other
 
@@ -47,9 +47,6 @@ nothing_behind a q h = by (behind a q) refl h
     by : (o : Option Path) → behind a q ≡ o → is_some o ≡ false → behind a q ≡ None
     by None e h = e
     by (Some s) e h = absurd (true≢false h)
-
-front_of : (a s : Path) → is_front a (a ++ s) ≡ true
-front_of a s = ap is_some (behind_append a s)
 
 -- nothing is above the root
 no_root_behind : (a q : Path) → is_front a q ≡ false → a ≢ []

@@ -10,7 +10,7 @@ use Rattle.dav_path_core.proofs.paths.FrontLemmas.{is_front-refl, is_front-trans
 use Rattle.dav_locks_core.specs.Lock.{Lock}
 use Rattle.dav_locks_core.specs.Locks.{lock_path, covers, found_token, found_from, found_here, better, height}
 use Rattle.dav_locks_core.proofs.laws.EndedLemmas.{found_at, found_from_at}
-use Rattle.dav_resource_core.specs.Requests.{Command, Reply, Refusal, Fs, Locked, NoLock, OutOfMemory}
+use Rattle.dav_resource_core.specs.Requests.{Answer, Command, Reply, Refusal, Fs, Locked, NoLock, OutOfMemory}
 use Rattle.dav_resource_core.specs.Step.{IsState, Serves, State}
 use Rattle.dav_session_core.specs.Callers.{Caller, asking, is_own, live}
 use Rattle.dav_faults_core.specs.declared.faults.Fault.{Fault}
@@ -92,6 +92,16 @@ module _ (s : State) (who : Caller) (p : Path) (token : List ℕ) where
         ap (λ b. b && is_front (lock_path l.0) p) named.0 ∙ is_front-trans (lock_path l.0) here p (covers_here l.0 here parts.1) front,
         not-true (is_own who l.0) named.1,
       )
+
+-- no lock is another's exactly where each one is the caller's own
+pub none_anothers : (s : State) (who : Caller) (p : Path) (token : List ℕ) → AllOwn s who p token → ¬ IsAnothers s who p token
+none_anothers s who p token own (l, i, here, other) = true≢false (sym (own l i here) ∙ other)
+
+pub all_are_own : (s : State) (who : Caller) (p : Path) (token : List ℕ) → (¬ IsAnothers s who p token) → AllOwn s who p token
+all_are_own s who p token none l i here = elim (cases_Bool (is_own who l)) [
+  | inl own ↦ own
+  | inr other ↦ absurd (none (l, i, here, other))
+]
 
 -- ---- behind questions of the same caller
 
@@ -183,3 +193,10 @@ unlocked who s s' p token reply own h = record {
   own = found_own p token s who h.1.0 h.1.1 own;
   left = rest_of s s' (remove s.locks h.1.0) h.1.3;
 }
+
+-- it ends a lock of the caller's own that covers the path
+pub own_ends : (who : Caller) (s s' : State) (p : Path) (token : List ℕ) (a : Answer) → has_token s p token ≡ true → (¬ IsAnothers s who p token)
+    → Serves s (asking who (Command.Unlock p token)) a s' → EndsOwn s who p token s'
+own_ends who s s' p token (Ok reply) covered own h = unlocked who s s' p token reply (all_are_own s who p token own) h
+own_ends who s s' p token (Err e) covered own h =
+    absurd (true≢false (sym covered ∙ none_covers p token s (not_unlocked who s s' p token e h)))

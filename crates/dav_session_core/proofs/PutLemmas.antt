@@ -15,6 +15,7 @@ use Rattle.dav_resource_core.specs.Step.{State, Serves, Step, IsState}
 use Rattle.dav_faults_core.specs.declared.faults.Fault.{Fault}
 use Rattle.dav_faults_core.specs.declared.faults.Fault.TheVariants as fault
 use Rattle.dav_session_core.specs.Callers.{Caller, SameLive, as_caller, asking, live}
+use Rattle.dav_session_core.specs.Ends.{known_at}
 use Rattle.dav_session_core.specs.LocksInTheWay.{IsRefusedBy}
 use Rattle.dav_fields_core.proofs.ReadMarks.{known_entry}
 
@@ -65,9 +66,6 @@ more_refused locks more (fault.Locked path) within h = (h.0, within h.0 h.1, h.2
 more_refused locks more _ within h = absurd h
 
 -- ---- what is known of the path
-
-abbrev pub known_at : ResourceMap → Path → Option Meta
-known_at m p = option_map (λ (r : Resource). meta_at r.node) (at_path m p)
 
 -- what is known of the path above
 pub above_stands : (m : ResourceMap) (p q : Path) (known : Meta) → q ≡ parent p → Some known ≡ known_at m q → known.kind ≡ Folder

@@ -13,6 +13,7 @@ use Rattle.dav_locks_core.specs.Locks.{LockCaller as LocksCaller, check_conflict
 use Rattle.dav_locks_core.specs.Stale.{is_stale, without_stale}
 use Rattle.dav_resource_core.specs.Requests.{Command, Request, Answer}
 use Rattle.dav_resource_core.specs.Step.{State, Run}
+use Rattle.dav_fields_core.specs.Bases.{Site}
 use Rattle.dav_fields_core.specs.Senders.{NamesPrincipal, Submits}
 
 -- the principal, the tokens that are submitted, and the moment
@@ -21,10 +22,11 @@ pub record Caller : Type 0 where
   pub tokens : List (List ℕ)
   pub now : ℕ
 
--- a request with these headers is the caller's
-pub record IsSender (user_header : Option (List ℕ)) (headers : Entries FieldValue) (who : Caller) : Type 0 where
+-- a request with these headers, sent to the site, is the caller's
+pub record IsSender (user_header : Option (List ℕ)) (site : Site) (headers : Entries FieldValue)
+    (who : Caller) : Type 0 where
   pub principal : NamesPrincipal user_header headers who.principal
-  pub tokens : Submits headers who.tokens
+  pub tokens : Submits site headers who.tokens
 
 -- the request by which the caller asks for a command
 abbrev pub asking : Caller → Command → Request

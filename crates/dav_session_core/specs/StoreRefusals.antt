@@ -5,12 +5,12 @@ use Rattle.dav_resource_core.specs.Requests.{Refusal, Fs, Locked, NoLock, OutOfM
 use Rattle.dav_faults_core.specs.declared.faults.Fault.{Fault}
 use Rattle.dav_faults_core.specs.declared.faults.Fault.TheVariants as fault
 
--- of a PUT or a MKCOL that the files refuse, at a path where something stands, or nothing
+-- of a PUT that the files refuse, at a path where a folder stands, or nothing
 abbrev pub unputtable : Bool → Fault
-unputtable true = fault.MethodNotAllowed
+unputtable true = fault.MethodNotAllowed true
 unputtable false = fault.Conflict
 
--- of a PUT or a MKCOL
+-- of a PUT, or of a MKCOL where nothing stands
 abbrev pub put_fault : Bool → Refusal → Fault
 put_fault there (Fs InsufficientStorage) = fault.InsufficientStorage
 put_fault there (Fs _) = unputtable there

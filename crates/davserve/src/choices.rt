@@ -85,7 +85,7 @@ impl Choices {
 
     fn set(&mut self, alloc: Global, name: &str, value: &str) -> Result<(), Unread> {
         if name == "--prefix" {
-            self.settings.prefix = String::from_str(alloc, value)?;
+            self.settings.prefix = String::from_str(alloc, prefix_of(value)?)?;
         } else if name == "--scheme" {
             self.settings.scheme = match value {
                 "http" => Scheme::Http,
@@ -115,5 +115,15 @@ impl Choices {
             return Err(Unread::Usage);
         }
         Ok(())
+    }
+}
+
+// The path that a word names as the prefix, without the slashes at its end. Nothing is left of `/`
+// and of an empty word, which is no prefix. `Usage` where any other word begins without a slash.
+fn prefix_of(word: &str) -> Result<&str, Unread> {
+    if word.is_empty() || word.starts_with('/') {
+        Ok(word.trim_end_matches('/'))
+    } else {
+        Err(Unread::Usage)
     }
 }

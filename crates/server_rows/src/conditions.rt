@@ -171,9 +171,9 @@ PUT /a.txt{h}|If-Match: "1000000027-3"|If-None-Match: no tag|Content-Length: 1||
 PUT /a.txt{h}|If-Match: "1000000027-3"|If-None-Match: "1000000027-3"|Content-Length: 1||x = {bare 412 Precondition Failed}
 PUT /a.txt{h}|Range: bytes=0-0|If-Range: no tag|Content-Length: 5||whole = {kept 1000000033-5}
 GET /a.txt{h}|| = HTTP/1.1 200 OK|etag: "1000000033-5"|last-modified: Thu, 01 Jan 1970 00:00:01 GMT|content-type: text/plain|accept-ranges: bytes|content-length: 5||whole
-PUT /f{h}|If-Match: "x"|Content-Length: 1||x = HTTP/1.1 405 Method Not Allowed|allow: OPTIONS, GET, HEAD, PUT, DELETE, COPY, MOVE, MKCOL, PROPFIND, PROPPATCH, LOCK, UNLOCK|content-length: 0||
-PUT /f{h}|If-None-Match: *|Content-Length: 1||x = HTTP/1.1 405 Method Not Allowed|allow: OPTIONS, GET, HEAD, PUT, DELETE, COPY, MOVE, MKCOL, PROPFIND, PROPPATCH, LOCK, UNLOCK|content-length: 0||
-PUT /f{h}|If-Match: no tag|Content-Length: 1||x = HTTP/1.1 405 Method Not Allowed|allow: OPTIONS, GET, HEAD, PUT, DELETE, COPY, MOVE, MKCOL, PROPFIND, PROPPATCH, LOCK, UNLOCK|content-length: 0||
+PUT /f{h}|If-Match: "x"|Content-Length: 1||x = HTTP/1.1 405 Method Not Allowed|allow: OPTIONS, GET, HEAD, DELETE, COPY, MOVE, PROPFIND, PROPPATCH, LOCK, UNLOCK|content-length: 0||
+PUT /f{h}|If-None-Match: *|Content-Length: 1||x = HTTP/1.1 405 Method Not Allowed|allow: OPTIONS, GET, HEAD, DELETE, COPY, MOVE, PROPFIND, PROPPATCH, LOCK, UNLOCK|content-length: 0||
+PUT /f{h}|If-Match: no tag|Content-Length: 1||x = HTTP/1.1 405 Method Not Allowed|allow: OPTIONS, GET, HEAD, DELETE, COPY, MOVE, PROPFIND, PROPPATCH, LOCK, UNLOCK|content-length: 0||
 PUT /no/a{h}|If-Match: "x"|Content-Length: 1||x = {bare 409 Conflict}
 PUT /no/a{h}|If-Match: no tag|Content-Length: 1||x = {bare 409 Conflict}
 PUT /a.txt/b{h}|If-Match: *|Content-Length: 1||x = {bare 409 Conflict}

@@ -1,12 +1,12 @@
 //! The rows of MKCOL (RFC 4918 section 9.3), in the form of `rows`.
 pub(crate) const FOLDERS: &str = r#"at / - 1000000000
 MKCOL /d{h}|| = {bare 201 Created}
-MKCOL /d{h}|| = HTTP/1.1 405 Method Not Allowed|allow: OPTIONS, GET, HEAD, PUT, DELETE, COPY, MOVE, MKCOL, PROPFIND, PROPPATCH, LOCK, UNLOCK|content-length: 0||
-MKCOL /d/{h}|| = HTTP/1.1 405 Method Not Allowed|allow: OPTIONS, GET, HEAD, PUT, DELETE, COPY, MOVE, MKCOL, PROPFIND, PROPPATCH, LOCK, UNLOCK|content-length: 0||
-MKCOL /{h}|| = HTTP/1.1 405 Method Not Allowed|allow: OPTIONS, GET, HEAD, PUT, DELETE, COPY, MOVE, MKCOL, PROPFIND, PROPPATCH, LOCK, UNLOCK|content-length: 0||
+MKCOL /d{h}|| = HTTP/1.1 405 Method Not Allowed|allow: OPTIONS, GET, HEAD, DELETE, COPY, MOVE, PROPFIND, PROPPATCH, LOCK, UNLOCK|content-length: 0||
+MKCOL /d/{h}|| = HTTP/1.1 405 Method Not Allowed|allow: OPTIONS, GET, HEAD, DELETE, COPY, MOVE, PROPFIND, PROPPATCH, LOCK, UNLOCK|content-length: 0||
+MKCOL /{h}|| = HTTP/1.1 405 Method Not Allowed|allow: OPTIONS, GET, HEAD, DELETE, COPY, MOVE, PROPFIND, PROPPATCH, LOCK, UNLOCK|content-length: 0||
 MKCOL /d/e/{h}|| = {bare 201 Created}
 PUT /d/e/f{h}|Content-Length: 1||x = {made 1000000005-1}
-MKCOL /d/e/f{h}|| = HTTP/1.1 405 Method Not Allowed|allow: OPTIONS, GET, HEAD, PUT, DELETE, COPY, MOVE, MKCOL, PROPFIND, PROPPATCH, LOCK, UNLOCK|content-length: 0||
+MKCOL /d/e/f{h}|| = HTTP/1.1 405 Method Not Allowed|allow: OPTIONS, GET, HEAD, PUT, DELETE, COPY, MOVE, PROPFIND, PROPPATCH, LOCK, UNLOCK|content-length: 0||
 MKCOL /d/e/f/g{h}|| = {bare 409 Conflict}
 MKCOL /no/e{h}|| = {bare 409 Conflict}
 MKCOL /d/h{h}|Content-Length: 1||x = {bare 415 Unsupported Media Type}
@@ -17,7 +17,7 @@ MKCOL /%00{h}|| = {bare 400 Bad Request}
 MKCOL /d/i{h}|If: (<a:b>)|| = {bare 412 Precondition Failed}
 MKCOL /d/i{h}|If: no list|| = {bare 400 Bad Request}
 MKCOL /d/i{h}|If: (Not <a:b>)|| = {bare 201 Created}
-PUT /d/i{h}|Content-Length: 1||x = HTTP/1.1 405 Method Not Allowed|allow: OPTIONS, GET, HEAD, PUT, DELETE, COPY, MOVE, MKCOL, PROPFIND, PROPPATCH, LOCK, UNLOCK|content-length: 0||
+PUT /d/i{h}|Content-Length: 1||x = HTTP/1.1 405 Method Not Allowed|allow: OPTIONS, GET, HEAD, DELETE, COPY, MOVE, PROPFIND, PROPPATCH, LOCK, UNLOCK|content-length: 0||
 
 at /dav x-user 1000000000
 lock ann exclusive shallow /d

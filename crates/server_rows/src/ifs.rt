@@ -18,7 +18,7 @@ PUT /a{h}|X-User: bob|If: (["1000000004-3"])|Content-Length: 1||x = {locked /a}
 PUT /a{h}|X-User: bob|If: (["x"])|Content-Length: 1||x = {bare 412 Precondition Failed}
 PUT /a{h}|X-User: ann|If: (["x"])|Content-Length: 1||x = {bare 412 Precondition Failed}
 PUT /{h}|X-User: ann|If: (["x"])|Content-Length: 1||x = {bare 412 Precondition Failed}
-PUT /{h}|X-User: ann|If: (Not ["x"])|Content-Length: 1||x = HTTP/1.1 405 Method Not Allowed|allow: OPTIONS, GET, HEAD, PUT, DELETE, COPY, MOVE, MKCOL, PROPFIND, PROPPATCH, LOCK, UNLOCK|content-length: 0||
+PUT /{h}|X-User: ann|If: (Not ["x"])|Content-Length: 1||x = HTTP/1.1 405 Method Not Allowed|allow: OPTIONS, GET, HEAD, DELETE, COPY, MOVE, PROPFIND, PROPPATCH, LOCK, UNLOCK|content-length: 0||
 PUT /no/a{h}|X-User: ann|If: (["x"])|Content-Length: 1||x = {bare 412 Precondition Failed}
 PUT /no/a{h}|X-User: ann|If: (Not ["x"])|Content-Length: 1||x = {bare 409 Conflict}
 PUT /a{h}|X-User: ann|If: (["x"|Content-Length: 1||x = {bare 400 Bad Request}
@@ -90,7 +90,8 @@ GET /a{h}|X-User: ann|If: <http://h/b> (["x"]) <http://h/a> (["1000000000-1"])||
 GET /a{h}|X-User: ann|If: <http://h/b> (["x"]) <http://h/a> (["y"])|| = {bare 412 Precondition Failed}
 GET /a{h}|X-User: ann|If: (["1000000000-1"]) <http://h/b> (["x"])|| = {file 1000000000-1}x
 GET /a{h}|X-User: ann|If: <http://h/%00a> (["1000000000-1"])|| = {bare 412 Precondition Failed}
-GET /a{h}|X-User: ann|If: </a> (["1000000000-1"])|| = {bare 400 Bad Request}
+GET /a{h}|X-User: ann|If: </a> (["1000000000-1"])|| = {file 1000000000-1}x
+GET /a{h}|X-User: ann|If: <a> (["1000000000-1"])|| = {bare 400 Bad Request}
 PUT /a{h}|X-User: ann|If: <http://h/b> (<{0}>)|Content-Length: 1||x = {bare 412 Precondition Failed}
 PUT /a{h}|X-User: ann|If: <http://h/b> (<{1}>)|Content-Length: 1||x = {locked /a}
 PUT /a{h}|X-User: ann|If: <http://h/b> (<{1}>) <http://h/a> (<{0}>)|Content-Length: 3||xyz = {kept 1000000004-3}
@@ -98,8 +99,31 @@ PUT /a{h}|X-User: ann|If: <http://h/b> (["x"]) <http://h/a> (<{0}>)|Content-Leng
 GET /a HTTP/1.1|Host: |X-User: ann|If: (["1000000005-2"])|| = {bare 400 Bad Request}
 GET /a{h}|X-User: ann|| = {file 1000000005-2}xy
 
+at / x-user 1000000000
+lock ann exclusive deep /a
+lock ann exclusive deep /b
+PUT /a{h}|X-User: ann|If: </a> (<{0}>)|Content-Length: 1||x = {made 1000000000-1}
+PUT /a{h}|X-User: ann|If: </b> (<{0}>)|Content-Length: 1||x = {bare 412 Precondition Failed}
+PUT /a{h}|X-User: ann|If: </b> (<{1}>)|Content-Length: 1||x = {locked /a}
+PUT /a{h}|X-User: ann|If: </b> (<{1}>) </a> (<{0}>)|Content-Length: 2||xy = {kept 1000000003-2}
+PUT /a{h}|X-User: ann|If: <http://h/b> (["x"]) </a> (<{0}>)|Content-Length: 3||xyz = {kept 1000000004-3}
+GET /a{h}|X-User: ann|If: </./%61> (["1000000004-3"])|| = {file 1000000004-3}xyz
+GET /c{h}|X-User: ann|If: </a> (["1000000004-3"])|| = {bare 404 Not Found}
+GET /a{h}|X-User: ann|If: </b> (["1000000004-3"])|| = {bare 412 Precondition Failed}
+GET /a{h}|X-User: ann|If: </b> (Not ["1000000004-3"])|| = {file 1000000004-3}xyz
+GET /a HTTP/1.1|Host: h:8080|X-User: ann|If: </a> (["1000000004-3"])|| = {file 1000000004-3}xyz
+GET /a HTTP/1.1|Host: |X-User: ann|If: </a> (["1000000004-3"])|| = {bare 400 Bad Request}
+GET http://other/a{h}|X-User: ann|If: </a> (["1000000004-3"])|| = {file 1000000004-3}xyz
+GET http://other/a{h}|X-User: ann|If: <http://other/a> (["1000000004-3"])|| = {file 1000000004-3}xyz
+GET http://other/a{h}|X-User: ann|If: <http://h/a> (["1000000004-3"])|| = {bare 412 Precondition Failed}
+GET http://other:81/a{h}|X-User: ann|If: <http://other:81/a> (["1000000004-3"])|| = {file 1000000004-3}xyz
+GET http://other:81/a{h}|X-User: ann|If: <http://other/a> (["1000000004-3"])|| = {bare 412 Precondition Failed}
+
 at /dav - 1000000000
 PUT /dav/a{h}|Content-Length: 1||x = {made 1000000000-1}
+GET /dav/a{h}|If: </dav/a> (["1000000000-1"])|| = {file 1000000000-1}x
+GET /dav/a{h}|If: </a> (["1000000000-1"])|| = {bare 412 Precondition Failed}
+GET /dav/a{h}|If: </a> (Not ["1000000000-1"])|| = {file 1000000000-1}x
 GET /dav/a{h}|If: <http://h/dav/a> (["1000000000-1"])|| = {file 1000000000-1}x
 GET /dav/a{h}|If: <http://h/a> (["1000000000-1"])|| = {bare 412 Precondition Failed}
 GET /dav/a{h}|If: <http://h/a> (Not ["1000000000-1"])|| = {file 1000000000-1}x
@@ -149,6 +173,7 @@ GET /a{h}|| = {file 1000000004-2}xy
 at / - 1000000000
 PUT /a{h}|Content-Length: 1||x = {made 1000000000-1}
 GET /a HTTP/1.0|If: (Not ["x"])|Connection: keep-alive|| = HTTP/1.0 400 Bad Request|content-length: 0|connection: keep-alive||
+GET /a HTTP/1.0|If: </a> (Not ["x"])|Connection: keep-alive|| = HTTP/1.0 400 Bad Request|content-length: 0|connection: keep-alive||
 
 at / - 1000000000
 PUT /a{h}|Content-Length: 1||x = {made 1000000000-1}
@@ -157,6 +182,7 @@ GET /a HTTP/1.0|Connection: keep-alive|| = HTTP/1.0 200 OK|etag: "1000000000-1"|
 at / - 1000000000 https
 PUT /a{h}|Content-Length: 1||x = {made 1000000000-1}
 GET /a{h}|If: <https://h/a> (["1000000000-1"])|| = {file 1000000000-1}x
+GET /a{h}|If: </a> (["1000000000-1"])|| = {file 1000000000-1}x
 GET /a{h}|If: <http://h/a> (["1000000000-1"])|| = {bare 412 Precondition Failed}
 
 at / - 18446744073709551615

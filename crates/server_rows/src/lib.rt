@@ -4,6 +4,10 @@
 #[cfg(test)]
 mod beginnings;
 #[cfg(test)]
+mod bodies;
+#[cfg(test)]
+mod changes;
+#[cfg(test)]
 mod conditions;
 #[cfg(test)]
 mod copies;
@@ -13,6 +17,8 @@ mod finds;
 mod folders;
 #[cfg(test)]
 mod ifs;
+#[cfg(test)]
+mod letters;
 #[cfg(test)]
 mod lock_texts;
 #[cfg(test)]

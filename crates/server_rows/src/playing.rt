@@ -1,10 +1,13 @@
 //! Plays the rows over bytes, in pieces of several sizes.
 use crate::beginnings::with_beginning;
+use crate::bodies::BODIES;
+use crate::changes::CHANGES;
 use crate::conditions::CONDITIONS;
 use crate::copies::COPIES;
 use crate::finds::FINDS;
 use crate::folders::FOLDERS;
 use crate::ifs::IFS;
+use crate::letters::LETTERS;
 use crate::locks::LOCKS;
 use crate::moves::MOVES;
 use crate::patches::PATCHES;
@@ -144,6 +147,21 @@ fn looks_at_each_if(rt: HostRuntime) -> Result<(), Fail> {
 #[test]
 fn looks_at_each_condition(rt: HostRuntime) -> Result<(), Fail> {
     play(&rt, CONDITIONS)
+}
+
+#[test]
+fn changes_where_each_condition_holds(rt: HostRuntime) -> Result<(), Fail> {
+    play(&rt, CHANGES)
+}
+
+#[test]
+fn refuses_each_body(rt: HostRuntime) -> Result<(), Fail> {
+    play(&rt, BODIES)
+}
+
+#[test]
+fn reads_any_case_of_letters(rt: HostRuntime) -> Result<(), Fail> {
+    play(&rt, LETTERS)
 }
 
 #[test]

@@ -32,7 +32,11 @@ GET /a{h}|Range: bytes=0-0,2-2|| = {file 1000000000-10}0123456789
 GET /a{h}|Range: bytes=0-0,|| = {file 1000000000-10}0123456789
 GET /a{h}|Range: bytes=0-0, -1|| = {file 1000000000-10}0123456789
 GET /a{h}|Range: items=0-0|| = {file 1000000000-10}0123456789
-GET /a{h}|Range: Bytes=0-0|| = {file 1000000000-10}0123456789
+GET /a{h}|Range: Bytes=0-0|| = HTTP/1.1 206 Partial Content|content-range: bytes 0-0/10|etag: "1000000000-10"|last-modified: Thu, 01 Jan 1970 00:00:01 GMT|content-type: application/octet-stream|accept-ranges: bytes|content-length: 1||0
+GET /a{h}|Range: BYTES=10-|| = HTTP/1.1 416 Range Not Satisfiable|content-range: bytes */10|content-length: 0||
+GET /a{h}|Range: bytess=0-0|| = {file 1000000000-10}0123456789
+GET /a{h}|Range: byte=0-0|| = {file 1000000000-10}0123456789
+GET /a{h}|Range: bytes==0-0|| = {file 1000000000-10}0123456789
 GET /a{h}|Range: bytes=+0-0|| = {file 1000000000-10}0123456789
 GET /a{h}|Range: bytes=0-+0|| = {file 1000000000-10}0123456789
 GET /a{h}|Range: bytes=-+1|| = {file 1000000000-10}0123456789

@@ -10,7 +10,7 @@ DELETE /d{h}|Depth: 0|| = {bare 400 Bad Request}
 DELETE /d{h}|Depth: 1|| = {bare 400 Bad Request}
 DELETE /d{h}|Depth: all|| = {bare 400 Bad Request}
 DELETE /d{h}|Depth: infinity|Depth: infinity|| = {bare 400 Bad Request}
-DELETE /no{h}|Depth: 0|| = {bare 400 Bad Request}
+DELETE /no{h}|Depth: 0|| = {bare 404 Not Found}
 DELETE /no{h}|| = {bare 404 Not Found}
 DELETE /d/no{h}|| = {bare 404 Not Found}
 DELETE /../d{h}|| = {bare 403 Forbidden}
@@ -73,4 +73,19 @@ at / - 18446744073709551615
 folder /d
 DELETE /d{h}|| = HTTP/1.1 204 No Content||
 DELETE /d{h}|| = {bare 503 Service Unavailable}
-DELETE /{h}|Depth: 0|| = {bare 503 Service Unavailable}"#;
+DELETE /{h}|Depth: 0|| = {bare 503 Service Unavailable}
+
+at / - 1000000000
+folder /d
+PUT /a{h}|Content-Length: 1||a = {made 1000000000-1}
+PUT /b{h}|Content-Length: 1||b = {made 1000000001-1}
+PUT /c{h}|Content-Length: 1||c = {made 1000000002-1}
+PUT /e{h}|Content-Length: 1||e = {made 1000000003-1}
+DELETE /a{h}|Depth: 0|| = HTTP/1.1 204 No Content||
+DELETE /b{h}|Depth: 1|| = HTTP/1.1 204 No Content||
+DELETE /c{h}|Depth: infinity|| = HTTP/1.1 204 No Content||
+DELETE /e/{h}|Depth: all|| = HTTP/1.1 204 No Content||
+DELETE /e{h}|Depth: all|| = {bare 404 Not Found}
+DELETE /d{h}|Depth: 0|| = {bare 400 Bad Request}
+GET /a{h}|| = {bare 404 Not Found}
+GET /b{h}|| = {bare 404 Not Found}"#;

@@ -29,7 +29,8 @@ UNLOCK /s{h}|X-User: ann|Lock-Token: <{3}>|| = {bare 403 Forbidden}
 UNLOCK /s{h}|X-User: ann|Lock-Token: <{2}>|| = HTTP/1.1 204 No Content||
 PUT /s{h}|X-User: ann|If: (<{3}>)|Content-Length: 1||x = {locked /s}
 PUT /s{h}|X-User: bob|If: (<{3}>)|Content-Length: 1||x = {made 1000000004-1}
-UNLOCK /c{h}|X-User: ann|Lock-Token: <{4}>|Content-Length: 1||x = HTTP/1.1 204 No Content||
+UNLOCK /c{h}|X-User: ann|Lock-Token: <{4}>|Content-Length: 1||x = {bare 415 Unsupported Media Type}
+UNLOCK /c{h}|X-User: ann|Lock-Token: <{4}>|Content-Length: 0|| = HTTP/1.1 204 No Content||
 UNLOCK /b{h}|X-User: bob|Lock-Token: <{1}>|If: (<{1}>)|| = HTTP/1.1 204 No Content||
 PUT /b{h}|X-User: ann|Content-Length: 1||x = {made 1000000005-1}
 

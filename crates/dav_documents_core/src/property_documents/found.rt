@@ -14,6 +14,7 @@ use super::names::{has_value, write_dead_names, write_live_names};
 use super::values::{write_all_dead, write_all_own, write_listed};
 use crate::live_properties::LIVE;
 use crate::property_questions::Question;
+use dav_path_core::util::Moment;
 use dav_xml_core::davxml::{Name, Writer};
 use std::alloc::{AllocError, Global};
 
@@ -48,22 +49,24 @@ pub(super) fn write_found(
     writer: &mut Writer,
     prefix: &str,
     principal: &Option<String>,
+    now: Moment,
     question: &Question,
     description: &Description,
     risen: bool,
 ) -> Result<(), AllocError>
     requires { risen ≡ true → Rise description.now.props.items }
     ensures { OnOk result (writing_of writer.new ≡ and_pieces (writing_of writer.old)
-        (spec.found_pieces prefix.now (option_map string_bytes principal.now) (description_of description.now) (question_of question.now))) }
+        (spec.found_pieces prefix.now (option_map string_bytes principal.now) now.0 (description_of description.now) (question_of question.now))) }
 {
     match question {
-        Question::All(_) => return write_all(alloc, writer, prefix, principal, description),
+        Question::All(_) => return write_all(alloc, writer, prefix, principal, now, description),
         Question::Names => return write_names(alloc, writer, description),
         Question::Listed(names) => return write_listed(
             alloc,
             writer,
             prefix,
             principal,
+            now,
             description,
             risen,
             names,
@@ -78,13 +81,14 @@ fn write_all(
     writer: &mut Writer,
     prefix: &str,
     principal: &Option<String>,
+    now: Moment,
     description: &Description,
 ) -> Result<(), AllocError>
     ensures { OnOk result (writing_of writer.new ≡ and_pieces (writing_of writer.old)
-        (flat_map (spec.own_pieces prefix.now (option_map string_bytes principal.now) (description_of description.now)) LIVE
+        (flat_map (spec.own_pieces prefix.now (option_map string_bytes principal.now) now.0 (description_of description.now)) LIVE
         ++ flat_map spec.dead_pieces (description_of description.now).props)) }
 {
-    write_all_own(alloc, writer, prefix, principal, description)?;
+    write_all_own(alloc, writer, prefix, principal, now, description)?;
     write_all_dead(alloc, writer, &description.props)
 }
 

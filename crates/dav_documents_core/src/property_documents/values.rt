@@ -15,6 +15,7 @@ use crate::documents::{write_empty, write_text, write_within};
 use crate::live_properties::{LIVE, Live, has_live, live_named};
 use crate::lock_documents::{write_discovery, write_supported};
 use dav_files_core::fs::DavProp;
+use dav_path_core::util::Moment;
 use dav_xml_core::davxml::{Name, Writer};
 use std::alloc::{AllocError, Global};
 
@@ -25,16 +26,26 @@ pub(super) fn write_listed(
     writer: &mut Writer,
     prefix: &str,
     principal: &Option<String>,
+    now: Moment,
     description: &Description,
     risen: bool,
     names: &[Name],
 ) -> Result<(), AllocError>
     requires { risen ≡ true → Rise description.now.props.items }
     ensures { OnOk result (writing_of writer.new ≡ and_pieces (writing_of writer.old)
-        (flat_map (spec.value_pieces prefix.now (option_map string_bytes principal.now) (description_of description.now)) (map name_of names.now))) }
+        (flat_map (spec.value_pieces prefix.now (option_map string_bytes principal.now) now.0 (description_of description.now)) (map name_of names.now))) }
 {
     for name in names {
-        write_value(alloc, writer, prefix, principal, description, risen, name)?;
+        write_value(
+            alloc,
+            writer,
+            prefix,
+            principal,
+            now,
+            description,
+            risen,
+            name,
+        )?;
     }
     Ok(())
 }
@@ -45,16 +56,17 @@ fn write_value(
     writer: &mut Writer,
     prefix: &str,
     principal: &Option<String>,
+    now: Moment,
     description: &Description,
     risen: bool,
     name: &Name,
 ) -> Result<(), AllocError>
     requires { risen ≡ true → Rise description.now.props.items }
     ensures { OnOk result (writing_of writer.new ≡ and_pieces (writing_of writer.old)
-        (spec.value_pieces prefix.now (option_map string_bytes principal.now) (description_of description.now) (name_of name.now))) }
+        (spec.value_pieces prefix.now (option_map string_bytes principal.now) now.0 (description_of description.now) (name_of name.now))) }
 {
     match live_named(name) {
-        Some(live) => return write_own(alloc, writer, prefix, principal, description, live),
+        Some(live) => return write_own(alloc, writer, prefix, principal, now, description, live),
         None => return write_kept(writer, dead_value(&description.props, risen, name)),
     }
 }
@@ -66,13 +78,14 @@ pub(super) fn write_all_own(
     writer: &mut Writer,
     prefix: &str,
     principal: &Option<String>,
+    now: Moment,
     description: &Description,
 ) -> Result<(), AllocError>
     ensures { OnOk result (writing_of writer.new ≡ and_pieces (writing_of writer.old)
-        (flat_map (spec.own_pieces prefix.now (option_map string_bytes principal.now) (description_of description.now)) LIVE)) }
+        (flat_map (spec.own_pieces prefix.now (option_map string_bytes principal.now) now.0 (description_of description.now)) LIVE)) }
 {
     for live in &LIVE {
-        write_own(alloc, writer, prefix, principal, description, *live)?;
+        write_own(alloc, writer, prefix, principal, now, description, *live)?;
     }
     Ok(())
 }
@@ -83,14 +96,15 @@ fn write_own(
     writer: &mut Writer,
     prefix: &str,
     principal: &Option<String>,
+    now: Moment,
     description: &Description,
     live: Live,
 ) -> Result<(), AllocError>
     ensures { OnOk result (writing_of writer.new ≡ and_pieces (writing_of writer.old)
-        (spec.own_pieces prefix.now (option_map string_bytes principal.now) (description_of description.now) live)) }
+        (spec.own_pieces prefix.now (option_map string_bytes principal.now) now.0 (description_of description.now) live)) }
 {
     if has_live(description.folder, live) {
-        return write_live(alloc, writer, prefix, principal, description, live);
+        return write_live(alloc, writer, prefix, principal, now, description, live);
     }
     Ok(())
 }
@@ -100,11 +114,12 @@ fn write_live(
     writer: &mut Writer,
     prefix: &str,
     principal: &Option<String>,
+    now: Moment,
     description: &Description,
     live: Live,
 ) -> Result<(), AllocError>
     ensures { OnOk result (writing_of writer.new ≡ and_pieces (writing_of writer.old)
-        (spec.live_pieces prefix.now (option_map string_bytes principal.now) (description_of description.now) live)) }
+        (spec.live_pieces prefix.now (option_map string_bytes principal.now) now.0 (description_of description.now) live)) }
 {
     match live {
         Live::CreationDate => return write_text(writer, "creationdate", &description.created),
@@ -112,7 +127,14 @@ fn write_live(
         Live::ContentType => return write_text(writer, "getcontenttype", description.content_type),
         Live::Tag => return write_text(writer, "getetag", &description.tag),
         Live::LastModified => return write_text(writer, "getlastmodified", &description.modified),
-        Live::Locks => return write_discovery(alloc, writer, prefix, principal, &description.locks),
+        Live::Locks => return write_discovery(
+            alloc,
+            writer,
+            prefix,
+            principal,
+            now,
+            &description.locks,
+        ),
         Live::ResourceType => return write_type(writer, description.folder),
         Live::SupportedLocks => return write_supported(writer),
     }

@@ -9,7 +9,8 @@ ghost use Rattle.dav_handler_core.specs.Answers.{Answers};
 ghost use Rattle.dav_handler_core.specs.MethodAnswers.{IsPropPatched};
 ghost use Rattle.dav_handler_core.specs.Server.{Server};
 ghost use Rattle.dav_session_core.specs.Callers.{SameLive};
-ghost use Rattle.dav_handler_core.specs.Deciding.{HeldOff, SendsPart, SendsTag, WentOn, looks};
+ghost use Rattle.dav_handler_core.specs.Deciding.{HeldOff, SaysDone, SendsPart, SendsTag, WentOn};
+ghost use Rattle.dav_handler_core.specs.Deciding.{looks, tells_tag};
 ghost use Rattle.dav_fields_core.specs.Fields.{Sent, sent_of};
 ghost use Rattle.dav_handler_core.specs.Holding.{IsKeptUnlessHeld, StandsUnlessEnded};
 ghost use Rattle.dav_handler_core.specs.KeptDocuments.{IsNew, KeepsElements, TellsXml};
@@ -21,7 +22,8 @@ ghost use Rattle.dav_locks_core.specs.Exclusive.{Exclusive};
 /// The law of conditions (RFC 4918 section 10.4, RFC 9110 sections 13 and 14) over every answer of
 /// the server. It does nothing.
 ///
-/// - A GET, a HEAD or a PUT is done only where its `If` holds and the conditions of HTTP let it.
+/// - A request is done only where its `If` holds, and the conditions of HTTP let it, which are of
+///   what stands at its own path. A PROPFIND and an OPTIONS look at none of these.
 /// - 304 and 412 come only where one of them doesn't, and then nothing has changed, but that locks
 ///   that have expired may be gone.
 /// - 206 comes with exactly the part of the file that is asked for, and `Content-Range` says which.
@@ -30,7 +32,7 @@ ghost use Rattle.dav_locks_core.specs.Exclusive.{Exclusive};
 pub fn conditions_decide()
     ensures went_on { (before after : Server) (request : Request (List ℕ)) (response : Response)
         → (h : Answers before request response after) → looks h.method ≡ true
-        → response.status < 300 → WentOn h.method before request after }
+        → SaysDone h.method response.status → WentOn h.method before request after }
     ensures held_off { (before after : Server) (request : Request (List ℕ)) (response : Response)
         → (h : Answers before request response after) → (response.status ≡ 304)
         ⊎ (response.status ≡ 412) → HeldOff h.method before request after
@@ -39,7 +41,7 @@ pub fn conditions_decide()
         → Answers before request response after → response.status ≡ 206
         → SendsPart before request (sent_of response) after }
     ensures tag { (before after : Server) (request : Request (List ℕ)) (response : Response)
-        → (h : Answers before request response after) → looks h.method ≡ true
+        → (h : Answers before request response after) → tells_tag h.method ≡ true
         → response.status < 400 → SendsTag before request (sent_of response) after }
 {}
 

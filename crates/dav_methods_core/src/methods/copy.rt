@@ -1,11 +1,14 @@
 //! COPY.
-ghost use Rattle.std.specs.Prelude.{◌≡◌, ◌∷◌, ◌++◌, [], option_map, IfErr, IfOk, OnOk};
+ghost use Rattle.std.specs.Prelude.{◌≡◌, ◌∷◌, ◌++◌, [], Ok, Some, option_map, IfErr, IfOk, OnOk};
+ghost use Rattle.dav_path_core.specs.declared.util.DavMethod.TheVariants as method;
 ghost use Rattle.dav_path_core.specs.Segments.{segments};
 ghost use Rattle.dav_files_core.specs.Meta.{meta_of};
 ghost use Rattle.dav_files_core.specs.Resources.{IsResourceMap};
 ghost use Rattle.dav_resource_core.specs.Checks.{refusing};
 ghost use Rattle.dav_session_core.specs.Callers.{as_caller};
-ghost use Rattle.dav_methods_core.specs.CopyMethod.{Copies, CopyLeaves, FailsToCopy};
+ghost use Rattle.dav_methods_core.specs.ChangeConditions.{change_course};
+ghost use Rattle.dav_methods_core.specs.Reaching.{reach_from};
+ghost use Rattle.dav_methods_core.specs.CopyMethod.{CantCopy, Copies, CopyLeaves, FailsToCopy};
 ghost use Rattle.dav_session_core.specs.LocksInTheWay.{IsRefusedBy};
 ghost use Rattle.dav_methods_core.specs.TransferEnds.{ArePlaces, LacksPlaces};
 ghost use Rattle.dav_methods_core.specs.CopyMethod.{IsPlanned};
@@ -18,11 +21,13 @@ ghost use Rattle.dav_faults_core.specs.declared.faults.Fault.TheVariants as faul
 
 use super::changes::{by_place, check_locks, done};
 use super::ends::{Ends, ends_of};
+use super::preconditions::check_conditions;
+use super::reaching::reach_from;
 use dav_faults_core::faults::Fault;
-use dav_fields_core::bases::Scheme;
-use dav_fields_core::depths::reach_in;
+use dav_fields_core::bases::Site;
 use dav_resource_core::davpath::DavPath;
 use dav_resource_core::memfs::MemFsMeta;
+use dav_resource_core::util::DavMethod;
 use dav_session_core::session::{Session, Transfer, copy_of};
 use http::StatusCode;
 use http_header::{HeaderMap, HeaderValue};
@@ -32,25 +37,26 @@ use std::alloc::Global;
 /// Copies what stands at a path, with all below it or alone, to where the request leads, and
 /// answers 201, or 204 where something stood there (RFC 4918 section 9.8).
 ///
-/// `BadRequest` for a depth that it can't have; then what `ends_of` gives; `BadRequest` where a
+/// `BadRequest` for a depth of a folder that it can't have; then what `ends_of` gives; `BadRequest` where a
 /// name below the path is one that no path has which is read; `Locked` where a lock stands in the
-/// way, and `MemberLocked` where one below the target does; with the path of that lock.
-/// `InsufficientStorage` may come once some resources are copied.
+/// way, and `MemberLocked` where one below the target does, with the path of that lock; and then, by
+/// the conditions of HTTP, which are of the source, `BadRequest` where one can't be read, and
+/// `PreconditionFailed` where one doesn't hold. `InsufficientStorage` may come once some resources are copied.
 #[tactic(auto, using(crate::proofs::Acting::long_requests))]
 pub fn copy<R: Rng>(
     alloc: Global,
     session: &mut Session<R>,
-    scheme: Scheme,
+    site: &Site<'_>,
     prefix: &str,
     headers: &HeaderMap<HeaderValue>,
     path: &DavPath,
 ) -> Result<StatusCode, Fault>
-    ensures done { IfOk result (λ code. Copies scheme prefix.now headers.now
+    ensures done { IfOk result (λ code. Copies site.now prefix.now headers.now
         (live_of R.stream session.old) (caller session.old) (segments path.now.bytes) code
         (state R.stream session.new)) }
-    ensures err { IfErr result (λ e. FailsToCopy scheme prefix.now headers.now
+    ensures err { IfErr result (λ e. FailsToCopy site.now prefix.now headers.now
         (live_of R.stream session.old) (caller session.old) (segments path.now.bytes) e) }
-    ensures left { IfErr result (λ e. CopyLeaves scheme prefix.now headers.now
+    ensures left { IfErr result (λ e. CopyLeaves site.now prefix.now headers.now
         (state R.stream session.old) (caller session.old).now (segments path.now.bytes) e
         (state R.stream session.new)) }
     ensures acts { Acts R.stream session.old session.new }
@@ -59,7 +65,7 @@ pub fn copy<R: Rng>(
         known,
         gone,
         transfers,
-    } = planned(alloc, session, scheme, prefix, headers, path)?;
+    } = admitted_plan(alloc, session, site, prefix, headers, path)?;
     session.clear(gone);
     session.copy_all(&transfers)?;
     Ok(done(&known))
@@ -74,29 +80,57 @@ struct Plan {
     transfers: Vec<Transfer>,
 }
 
-#[tactic(auto, using(crate::proofs::Acting::long_requests))]
-fn planned<R: Rng>(
+// A plan that the conditions of HTTP let be done.
+fn admitted_plan<R: Rng>(
     alloc: Global,
     session: &mut Session<R>,
-    scheme: Scheme,
+    site: &Site<'_>,
     prefix: &str,
     headers: &HeaderMap<HeaderValue>,
     path: &DavPath,
 ) -> Result<Plan, Fault>
-    ensures ok { IfOk result (λ plan. IsPlanned scheme prefix.now headers.now
+    ensures ok { IfOk result (λ plan. IsPlanned site.now prefix.now headers.now
         (live_of R.stream session.old) (caller session.old) (segments path.now.bytes)
         (option_map meta_of plan.known) (paths_of plan.gone.items)
         (ends_of plan.transfers.items)) }
-    ensures err { IfErr result (λ e. FailsToCopy scheme prefix.now headers.now
+    ensures course { OnOk result (change_course method.Copy (state R.stream session.old).map
+        (segments path.now.bytes) headers.now ≡ Ok tt) }
+    ensures err { IfErr result (λ e. FailsToCopy site.now prefix.now headers.now
         (live_of R.stream session.old) (caller session.old) (segments path.now.bytes) e) }
     ensures looks { Looks R.stream session.old session.new }
 {
-    let deep = reach_in(headers)?;
+    let deep = reach_from(session, headers, path)?;
+    let plan = planned(alloc, session, site, prefix, headers, path, deep)?;
+    check_conditions(alloc, session, DavMethod::Copy, headers, path)?;
+    Ok(plan)
+}
+
+// The plan, but for the conditions.
+#[tactic(auto, using(crate::proofs::Acting::long_requests))]
+fn planned<R: Rng>(
+    alloc: Global,
+    session: &mut Session<R>,
+    site: &Site<'_>,
+    prefix: &str,
+    headers: &HeaderMap<HeaderValue>,
+    path: &DavPath,
+    deep: bool,
+) -> Result<Plan, Fault>
+    requires { reach_from (state R.stream session.old).map (segments path.now.bytes) headers.now
+        ≡ Some deep }
+    ensures ok { IfOk result (λ plan. IsPlanned site.now prefix.now headers.now
+        (live_of R.stream session.old) (caller session.old) (segments path.now.bytes)
+        (option_map meta_of plan.known) (paths_of plan.gone.items)
+        (ends_of plan.transfers.items)) }
+    ensures err { IfErr result (λ e. CantCopy site.now prefix.now headers.now
+        (live_of R.stream session.old) (caller session.old) (segments path.now.bytes) e) }
+    ensures looks { Looks R.stream session.old session.new }
+{
     let Ends {
         target,
         known,
         gone,
-    } = ends_of(alloc, session, scheme, prefix, headers, path, true)?;
+    } = ends_of(alloc, session, site, prefix, headers, path, true)?;
     let places = places_of(alloc, session, path, deep)?;
     let transfers = transfers_of(alloc, &places, path, &target)?;
     match check_copy(session, &target, known.is_some(), &gone, &transfers) {

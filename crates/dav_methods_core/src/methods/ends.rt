@@ -12,7 +12,7 @@ ghost use Rattle.dav_faults_core.specs.declared.faults.Fault.TheVariants as faul
 
 use super::changes::check_above;
 use dav_faults_core::faults::Fault;
-use dav_fields_core::bases::Scheme;
+use dav_fields_core::bases::Site;
 use dav_fields_core::destinations::{destination_in, overwrites};
 use dav_resource_core::davpath::DavPath;
 use dav_resource_core::memfs::MemFsMeta;
@@ -41,23 +41,23 @@ pub(super) struct Ends {
 pub(super) fn ends_of<R: Rng>(
     alloc: Global,
     session: &mut Session<R>,
-    scheme: Scheme,
+    site: &Site<'_>,
     prefix: &str,
     headers: &HeaderMap<HeaderValue>,
     path: &DavPath,
     within: bool,
 ) -> Result<Ends, Fault>
-    ensures ok { IfOk result (λ ends. AreEnds scheme prefix.now headers.now
+    ensures ok { IfOk result (λ ends. AreEnds site.now prefix.now headers.now
         (state R.stream session.old).map (segments path.now.bytes) within ends.target
         (option_map meta_of ends.known) (paths_of ends.gone.items)) }
-    ensures err { IfErr result (λ e. FailsAtEnds scheme prefix.now headers.now
+    ensures err { IfErr result (λ e. FailsAtEnds site.now prefix.now headers.now
         (state R.stream session.old).map (segments path.now.bytes) within e) }
     ensures looks { Looks R.stream session.old session.new }
 {
     let Target {
         path: target,
         replaces,
-    } = target_in(alloc, scheme, prefix, headers, path, within)?;
+    } = target_in(alloc, site, prefix, headers, path, within)?;
     let known = check_fit(session, path, &target, replaces)?;
     let gone = session.folder_at(alloc, &target)?;
     Ok(Ends {
@@ -76,19 +76,19 @@ struct Target {
 
 fn target_in(
     alloc: Global,
-    scheme: Scheme,
+    site: &Site<'_>,
     prefix: &str,
     headers: &HeaderMap<HeaderValue>,
     from: &DavPath,
     within: bool,
 ) -> Result<Target, Fault>
-    ensures ok { IfOk result (λ target. LeadsOn scheme prefix.now headers.now
+    ensures ok { IfOk result (λ target. LeadsOn site.now prefix.now headers.now
         (segments from.now.bytes) within target.path target.replaces) }
-    ensures err { IfErr result (λ e. FailsToLead scheme prefix.now headers.now
+    ensures err { IfErr result (λ e. FailsToLead site.now prefix.now headers.now
         (segments from.now.bytes) within e) }
 {
     let replaces = overwrites(headers)?;
-    let path = destination_in(alloc, scheme, prefix, headers)?;
+    let path = destination_in(alloc, site, prefix, headers)?;
     if is_related(from, &path, within) {
         return Err(Fault::Forbidden);
     }

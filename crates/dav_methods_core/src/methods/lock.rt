@@ -22,7 +22,9 @@ ghost use Rattle.dav_session_core.specs.Sessions.{Requests};
 ghost use Rattle.dav_session_core.specs.Sessions.{Acts, Looks, Stays, caller, live_of, state};
 ghost use Rattle.dav_faults_core.specs.declared.faults.Fault.TheVariants as fault;
 
-use super::changes::{check_above, is_below, parent_of};
+use super::changes::{check_above, check_locks, is_below};
+use super::preconditions::check_conditions;
+use super::told_paths::told_path;
 use crate::refusals::say_document;
 use dav_documents_core::lock_documents::discovery_document;
 use dav_documents_core::lock_infos::{LockInfo, lock_info};
@@ -34,6 +36,7 @@ use dav_fields_core::state_tokens::is_among;
 use dav_resource_core::davpath::DavPath;
 use dav_resource_core::fs::Moment;
 use dav_resource_core::ls::DavLock;
+use dav_resource_core::util::DavMethod;
 use dav_session_core::session::{Session, copy_of};
 use http::StatusCode;
 use http_header::{HeaderMap, HeaderValue};
@@ -56,13 +59,14 @@ pub struct Wanted {
 
 /// Grants a lock of a path, makes an empty file there where nothing stands, and answers 200, or 201
 /// for a new file, with the lock's token and all locks that cover the path (RFC 4918 sections 7.3
-/// and 9.10).
+/// and 9.10). The lock of a folder has a path that ends with a slash (section 5.2).
 ///
 /// `BadRequest` where what is asked for can't be read; `ServiceUnavailable` at the last moment;
-/// where nothing stands, `Locked` where a lock lets the caller make no file, with its path, and
-/// `Conflict` where no folder stands above; `ConflictingLock` where another lock lets this one not
-/// be granted, with its path, and `ConflictingMember` where that is a member's. Where there is no
-/// memory for the answer, the lock is taken back.
+/// where nothing stands, `Locked` where a lock lets the caller put no file there, with its path, and
+/// `Conflict` where no folder stands above; `BadRequest` where a condition of HTTP can't be read,
+/// and `PreconditionFailed` where one doesn't hold; `ConflictingLock` where another lock lets this
+/// one not be granted, with its path, and `ConflictingMember` where that is a member's. Where there
+/// is no memory for the answer, the lock is taken back.
 #[tactic(auto, using(crate::proofs::Acting::all_requests))]
 pub fn lock<R: Rng>(
     alloc: Global,
@@ -89,9 +93,11 @@ pub fn lock<R: Rng>(
     let wanted = wanted_in(alloc, longest, headers, body)?;
     check_moment(session.now())?;
     let missing = find_room(session, &path)?;
-    let above = session.tokens_above(alloc, &path)?;
+    check_conditions(alloc, session, DavMethod::Lock, headers, &path)?;
+    let place = told_path(alloc, session, path)?;
+    let above = session.tokens_above(alloc, &place)?;
     grant(
-        alloc, session, prefix, path, wanted, missing, &above, response,
+        alloc, session, prefix, place, wanted, missing, &above, response,
     )
 }
 
@@ -142,7 +148,7 @@ fn find_room<R: Rng>(session: &mut Session<R>, path: &DavPath) -> Result<bool, F
     if known.is_some() {
         return Ok(false);
     }
-    session.check(parent_of(path)?)?;
+    check_locks(session, path, false)?;
     check_above(session, path)?;
     Ok(true)
 }
@@ -256,7 +262,8 @@ fn finish<R: Rng>(
     ensures named { OnOk result ((sent_of response.new).tokens ≡ in_brackets token.now ∷ []) }
     ensures told { OnOk result ((sent_of response.new).body
         ≡ written_pieces (discovery_pieces prefix.now (caller session.old).principal
-        (discovered_locks (live_of R.stream session.old).locks (segments path.now.bytes)))) }
+        (caller session.old).now (discovered_locks (live_of R.stream session.old).locks
+        (segments path.now.bytes)))) }
     ensures typed { OnOk result ((sent_of response.new).types ≡ xml_type ∷ []) }
     ensures made { OnOk result (IsMadeUnder (state R.stream session.old) (caller session.old)
         token.now (segments path.now.bytes) missing (state R.stream session.new)) }
@@ -266,7 +273,7 @@ fn finish<R: Rng>(
     ensures ran { Ran R.stream session.old session.new }
 {
     let locks = session.locks_at(copy_of(path)?)?;
-    let document = discovery_document(alloc, prefix, session.principal(), &locks)?;
+    let document = discovery_document(alloc, prefix, session.principal(), session.now(), &locks)?;
     tell(alloc, response, document, token)?;
     if !missing {
         return Ok(StatusCode::OK);

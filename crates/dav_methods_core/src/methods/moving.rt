@@ -4,16 +4,19 @@ ghost use Rattle.dav_path_core.specs.Segments.{segments};
 ghost use Rattle.dav_files_core.specs.Resources.{IsResourceMap};
 ghost use Rattle.dav_session_core.specs.LocksInTheWay.{IsRefusedBy};
 ghost use Rattle.dav_methods_core.specs.MoveMethod.{FailsToMove, MoveLeaves, Moves};
+ghost use Rattle.dav_methods_core.specs.Reaching.{ReachesDown};
 ghost use Rattle.dav_session_core.specs.Moving.{refusing_move};
 ghost use Rattle.dav_session_core.specs.Unhindered.{paths_of};
 ghost use Rattle.dav_session_core.specs.Sessions.{Acts, Looks, caller, live_of, state};
 
 use super::changes::{by_place, done};
 use super::ends::{Ends, ends_of};
+use super::preconditions::check_conditions;
+use super::reaching::check_reach;
 use dav_faults_core::faults::Fault;
-use dav_fields_core::bases::Scheme;
-use dav_fields_core::depths::check_whole;
+use dav_fields_core::bases::Site;
 use dav_resource_core::davpath::DavPath;
+use dav_resource_core::util::DavMethod;
 use dav_session_core::session::Session;
 use http::StatusCode;
 use http_header::{HeaderMap, HeaderValue};
@@ -23,38 +26,64 @@ use std::alloc::Global;
 /// Moves what stands at a path, with all below it, to where the request leads, and answers 201, or
 /// 204 where something stood there (RFC 4918 section 9.9).
 ///
-/// `BadRequest` for a depth that doesn't reach all the way down; then what `ends_of` gives;
+/// `BadRequest` for a depth of a folder that doesn't reach all the way down; then what `ends_of`
+/// gives;
 /// `Locked` where a lock stands in the way, and `MemberLocked` where one below the path or below
-/// the target does; with the path of that lock. `InsufficientStorage` may come once a folder at the
-/// target is gone.
+/// the target does, with the path of that lock; and then, by the conditions of HTTP, which are of
+/// the source, `BadRequest` where one can't be read, and `PreconditionFailed` where one doesn't
+/// hold. `InsufficientStorage` may come once a folder at the target is gone.
 #[tactic(auto, using(crate::proofs::Acting::long_requests))]
 pub fn relocate<R: Rng>(
     alloc: Global,
     session: &mut Session<R>,
-    scheme: Scheme,
+    site: &Site<'_>,
     prefix: &str,
     headers: &HeaderMap<HeaderValue>,
     path: DavPath,
 ) -> Result<StatusCode, Fault>
-    ensures done { IfOk result (λ code. Moves scheme prefix.now headers.now
+    ensures done { IfOk result (λ code. Moves site.now prefix.now headers.now
         (live_of R.stream session.old) (caller session.old) (segments path.bytes) code
         (state R.stream session.new)) }
-    ensures err { IfErr result (λ e. FailsToMove scheme prefix.now headers.now
+    ensures err { IfErr result (λ e. FailsToMove site.now prefix.now headers.now
         (live_of R.stream session.old) (caller session.old) (segments path.bytes) e) }
-    ensures left { IfErr result (λ e. MoveLeaves scheme prefix.now headers.now
+    ensures left { IfErr result (λ e. MoveLeaves site.now prefix.now headers.now
         (state R.stream session.old) (caller session.old).now e (state R.stream session.new)) }
     ensures acts { Acts R.stream session.old session.new }
 {
-    check_whole(headers)?;
+    check_reach(session, headers, &path)?;
+    relocate_all(alloc, session, site, prefix, headers, path)
+}
+
+// The same of a request that reaches all that stands there.
+#[tactic(auto, using(crate::proofs::Acting::long_requests))]
+fn relocate_all<R: Rng>(
+    alloc: Global,
+    session: &mut Session<R>,
+    site: &Site<'_>,
+    prefix: &str,
+    headers: &HeaderMap<HeaderValue>,
+    path: DavPath,
+) -> Result<StatusCode, Fault>
+    requires { ReachesDown (state R.stream session.old).map (segments path.bytes) headers.now }
+    ensures done { IfOk result (λ code. Moves site.now prefix.now headers.now
+        (live_of R.stream session.old) (caller session.old) (segments path.bytes) code
+        (state R.stream session.new)) }
+    ensures err { IfErr result (λ e. FailsToMove site.now prefix.now headers.now
+        (live_of R.stream session.old) (caller session.old) (segments path.bytes) e) }
+    ensures left { IfErr result (λ e. MoveLeaves site.now prefix.now headers.now
+        (state R.stream session.old) (caller session.old).now e (state R.stream session.new)) }
+    ensures acts { Acts R.stream session.old session.new }
+{
     let Ends {
         target,
         known,
         gone,
-    } = ends_of(alloc, session, scheme, prefix, headers, &path, false)?;
+    } = ends_of(alloc, session, site, prefix, headers, &path, false)?;
     match check_move(session, &path, &target, &gone) {
         Ok(()) => (),
         Err(fault) => return Err(by_place(&path, by_place(&target, fault))),
     }
+    check_conditions(alloc, session, DavMethod::Move, headers, &path)?;
     session.clear(gone);
     session.relocate(path, target)?;
     Ok(done(&known))

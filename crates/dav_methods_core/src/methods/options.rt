@@ -1,16 +1,14 @@
 //! OPTIONS.
 ghost use Rattle.std.specs.Prelude.{◌≡◌, MatchResult};
-ghost use Rattle.dav_methods_core.specs.RefusalAnswers.{types_of};
 ghost use Rattle.dav_faults_core.specs.declared.faults.Fault.TheVariants as fault;
 
 use dav_faults_core::faults::Fault;
 use http::StatusCode;
 use http_header::{HeaderName, HeaderValue};
 use http_server::Response;
-use std::alloc::AllocError;
 
-/// Says what the server can do (RFC 9110 section 9.3.7, RFC 4918 section 10.1); the target isn't
-/// looked at.
+/// Says what the server can do, and lists the methods that are served (RFC 9110 sections 9.3.7 and
+/// 10.2.1, RFC 4918 section 10.1); the target isn't looked at.
 pub fn options(response: &mut Response) -> Result<StatusCode, Fault>
     ensures { MatchResult result (λ status. status ≡ 200) (λ e. e ≡ fault.InsufficientStorage) }
 {
@@ -18,24 +16,15 @@ pub fn options(response: &mut Response) -> Result<StatusCode, Fault>
         HeaderName::from_static("dav"),
         HeaderValue::from_static("1, 2"),
     )?;
-    allow(response)?;
-    response.add_header(
-        HeaderName::from_static("ms-author-via"),
-        HeaderValue::from_static("DAV"),
-    )?;
-    Ok(StatusCode::OK)
-}
-
-/// Lists the methods that are served (RFC 9110 section 10.2.1).
-pub fn allow(response: &mut Response) -> Result<(), AllocError>
-    ensures status { response.new.status ≡ response.old.status }
-    ensures types { types_of response.new ≡ types_of response.old }
-    ensures body { response.new.body ≡ response.old.body }
-{
     response.add_header(
         HeaderName::from_static("allow"),
         HeaderValue::from_static(
             "OPTIONS, GET, HEAD, PUT, DELETE, COPY, MOVE, MKCOL, PROPFIND, PROPPATCH, LOCK, UNLOCK",
         ),
-    )
+    )?;
+    response.add_header(
+        HeaderName::from_static("ms-author-via"),
+        HeaderValue::from_static("DAV"),
+    )?;
+    Ok(StatusCode::OK)
 }

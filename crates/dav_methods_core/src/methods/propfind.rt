@@ -99,7 +99,7 @@ fn tell<R: Rng>(
     ensures ok { IfOk result (λ document. (resources : List Description)
         × DescribesEach prefix.now (live_of R.stream session.now) (paths_of places.now) resources
         × (document.items ≡ written_pieces (multistatus prefix.now (caller session.now).principal
-        (question_of question.now) resources))) }
+        (caller session.now).now (question_of question.now) resources))) }
     ensures err { IfErr result (λ e. e ≡ fault.InsufficientStorage) }
 {
     let mut writer = Writer::new(alloc);
@@ -119,7 +119,7 @@ fn tell_each<R: Rng>(
 ) -> Result<(), Fault>
     requires { AllStand (state R.stream session.now).map (paths_of places.now) }
     ensures ok { OnOk result (TellsEach prefix.now (live_of R.stream session.now)
-        (caller session.now).principal (question_of question.now) (paths_of places.now)
+        (caller session.now) (question_of question.now) (paths_of places.now)
         (writing_of writer.old) (writing_of writer.new)) }
     ensures err { IfErr result (λ e. e ≡ fault.InsufficientStorage) }
 {
@@ -139,7 +139,7 @@ fn tell_one<R: Rng>(
 ) -> Result<(), Fault>
     requires { IsSome (at_path (state R.stream session.now).map (segments place.now.bytes)) }
     ensures ok { OnOk result (TellsOne prefix.now (live_of R.stream session.now)
-        (caller session.now).principal (question_of question.now) (segments place.now.bytes)
+        (caller session.now) (question_of question.now) (segments place.now.bytes)
         (writing_of writer.old) (writing_of writer.new)) }
     ensures err { IfErr result (λ e. e ≡ fault.InsufficientStorage) }
 {
@@ -149,6 +149,7 @@ fn tell_one<R: Rng>(
         writer,
         prefix,
         session.principal(),
+        session.now(),
         question,
         &description,
     )?;

@@ -1,21 +1,27 @@
 //! PROPPATCH.
-ghost use Rattle.std.specs.Prelude.{◌≡◌, [], IfErr, IfOk, IsSome, OnErr, OnOk};
+ghost use Rattle.std.specs.Prelude.{◌≡◌, [], Some, map, IfErr, IfOk, IsSome, OnErr, OnOk};
+ghost use Rattle.dav_documents_core.specs.PropertyUpdates.{updates_in};
+ghost use Rattle.dav_files_core.specs.Properties.{patch_update};
 ghost use Rattle.http_server.specs.Response.{IsBlank};
 ghost use Rattle.dav_path_core.specs.Segments.{segments};
 ghost use Rattle.dav_files_core.specs.Resources.{at_path};
 ghost use Rattle.dav_session_core.specs.Callers.{refusing_at};
 ghost use Rattle.dav_fields_core.specs.Fields.{sent_of};
-ghost use Rattle.dav_methods_core.specs.ProppatchMethod.{FailsToPatch, Patches};
-ghost use Rattle.dav_methods_core.specs.ProppatchMethod.{LacksStanding};
+ghost use Rattle.dav_methods_core.specs.ProppatchMethod.{CanPatch, CantPatch, FailsToPatch};
+ghost use Rattle.dav_methods_core.specs.ProppatchMethod.{LacksStanding, Patches};
 ghost use Rattle.dav_session_core.specs.Sessions.{Acts, Looks, Stays, caller, live_of, state};
 
+use super::preconditions::check_conditions;
 use crate::refusals::say_document;
 use dav_documents_core::patch_bodies::{any_protected, patch_document};
 use dav_documents_core::property_updates::property_updates;
 use dav_faults_core::faults::Fault;
 use dav_resource_core::davpath::DavPath;
+use dav_resource_core::fs::DavProp;
+use dav_resource_core::util::DavMethod;
 use dav_session_core::session::{Session, copy_of};
 use http::StatusCode;
+use http_header::{HeaderMap, HeaderValue};
 use http_server::Response;
 use rand_core::Rng;
 use std::alloc::Global;
@@ -24,31 +30,56 @@ use std::alloc::Global;
 /// became of each (RFC 4918 section 9.2).
 ///
 /// `BadRequest` for a body that asks for no such thing; else `NotFound` where nothing stands at the
-/// path; else `Locked` where a lock stands in the way, with its path.
+/// path; else `Locked` where a lock stands in the way, with its path; and then, by the conditions of
+/// HTTP, `BadRequest` where one can't be read, and `PreconditionFailed` where one doesn't hold.
+#[tactic(auto, using(crate::proofs::Acting::long_requests))]
 pub fn proppatch<R: Rng>(
     alloc: Global,
     session: &mut Session<R>,
     prefix: &str,
+    headers: &HeaderMap<HeaderValue>,
     path: DavPath,
     body: &[u8],
     response: &mut Response,
 ) -> Result<StatusCode, Fault>
     requires { IsBlank response.old }
-    ensures done { IfOk result (λ code. Patches prefix.now body.now (live_of R.stream session.old)
-        (caller session.old) path code (sent_of response.new) (state R.stream session.new)) }
-    ensures err { IfErr result (λ e. FailsToPatch body.now (live_of R.stream session.old)
-        (caller session.old) (segments path.bytes) e) }
+    ensures done { IfOk result (λ code. Patches prefix.now headers.now body.now
+        (live_of R.stream session.old) (caller session.old) path code (sent_of response.new)
+        (state R.stream session.new)) }
+    ensures err { IfErr result (λ e. FailsToPatch headers.now body.now
+        (live_of R.stream session.old) (caller session.old) (segments path.bytes) e) }
     ensures refused { OnErr result (Stays R.stream session.old session.new) }
     ensures acts { Acts R.stream session.old session.new }
 {
-    let updates = property_updates(alloc, body)?;
-    check_standing(session, &path)?;
+    let updates = updates_for(alloc, session, &path, body)?;
+    check_conditions(alloc, session, DavMethod::PropPatch, headers, &path)?;
     say_document(response, patch_document(alloc, prefix, &path, &updates)?)?;
     if any_protected(&updates) {
         return Ok(StatusCode::MULTI_STATUS);
     }
     session.patch(path, updates)?;
     Ok(StatusCode::MULTI_STATUS)
+}
+
+// The updates that the body asks for, where they can be made but for the conditions.
+#[tactic(auto, using(crate::proofs::Acting::long_requests))]
+fn updates_for<R: Rng>(
+    alloc: Global,
+    session: &mut Session<R>,
+    path: &DavPath,
+    body: &[u8],
+) -> Result<Vec<(bool, DavProp)>, Fault>
+    ensures asked { IfOk result (λ updates. updates_in body.now
+        ≡ Some (map patch_update updates.items)) }
+    ensures can { OnOk result (CanPatch body.now (live_of R.stream session.old)
+        (caller session.old) (segments path.now.bytes)) }
+    ensures err { IfErr result (λ e. CantPatch body.now (live_of R.stream session.old)
+        (caller session.old) (segments path.now.bytes) e) }
+    ensures looks { Looks R.stream session.old session.new }
+{
+    let updates = property_updates(alloc, body)?;
+    check_standing(session, path)?;
+    Ok(updates)
 }
 
 // Whether something stands at a path, and the locks let the caller change it.

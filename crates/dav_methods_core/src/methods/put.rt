@@ -8,7 +8,8 @@ ghost use Rattle.http_server.specs.Response.{IsBlank};
 ghost use Rattle.dav_fields_core.specs.Fields.{marks_of};
 ghost use Rattle.dav_fields_core.specs.FileTags.{file_tag};
 ghost use Rattle.dav_fields_core.specs.Getting.{tag_marks};
-ghost use Rattle.dav_methods_core.specs.PutMethod.{FailsToPut, Puts, changes_by, put_course};
+ghost use Rattle.dav_methods_core.specs.ChangeConditions.{change_course, changes_by};
+ghost use Rattle.dav_methods_core.specs.PutMethod.{FailsToPut, Puts};
 ghost use Rattle.dav_methods_core.specs.PutMethod.{put_status};
 ghost use Rattle.dav_methods_core.specs.Placing.{HasPlace, LacksPlace, standing_known};
 ghost use Rattle.dav_fields_core.specs.Marking.{and_tags};
@@ -17,11 +18,11 @@ ghost use Rattle.dav_session_core.specs.Sessions.{Acts, Looks, Stays, caller, st
 ghost use Rattle.dav_faults_core.specs.declared.faults.Fault.TheVariants as fault;
 
 use super::changes::{check_above, check_locks, done};
+use super::preconditions::course_lets;
 use bytes::Bytes;
 use dav_faults_core::faults::Fault;
 use dav_fields_core::etags::{Standing, file_tag};
 use dav_fields_core::fields::add_tag;
-use dav_fields_core::preconditions::{Course, read_course};
 use dav_resource_core::davpath::DavPath;
 use dav_resource_core::fs::{DavMetaData, Moment};
 use dav_resource_core::guarded::Command;
@@ -54,8 +55,8 @@ pub fn put<R: Rng>(
         (code ≡ put_status (state R.stream session.old).map (segments path.bytes))
         × Puts (state R.stream session.old) (caller session.old).now (segments path.bytes) bytes
         (state R.stream session.new)) }
-    ensures course { OnOk result (put_course (state R.stream session.old).map (segments path.bytes)
-        headers.now ≡ Ok tt) }
+    ensures course { OnOk result (change_course method.Put (state R.stream session.old).map
+        (segments path.bytes) headers.now ≡ Ok tt) }
     ensures marks { OnOk result (marks_of response.new
         ≡ tag_marks (file_tag (caller session.old).now (length bytes) ∷ [])) }
     ensures err { IfErr result (λ e. FailsToPut (state R.stream session.old) (caller session.old)
@@ -89,7 +90,7 @@ fn check_place<R: Rng>(
 {
     match known {
         Some(meta) => if meta.is_dir() {
-            Err(Fault::MethodNotAllowed)
+            Err(Fault::MethodNotAllowed { folder: true })
         } else {
             Ok(())
         },
@@ -110,20 +111,7 @@ fn check_conditions(
         headers.now) ≡ Err e)) }
 {
     let standing = standing_known(alloc, known)?;
-    changes_by(read_course(DavMethod::Put, &standing, headers))
-}
-
-// A change is done, or refused, by what follows from the conditions.
-fn changes_by(course: Option<Course>) -> Result<(), Fault>
-    ensures { result ≡ changes_by course }
-{
-    match course {
-        None => Err(Fault::BadRequest),
-        Some(Course::Proceed) | Some(Course::Whole) => Ok(()),
-        Some(Course::NotModified) | Some(Course::PreconditionFailed) => Err(
-            Fault::PreconditionFailed,
-        ),
-    }
+    course_lets(DavMethod::Put, headers, &standing)
 }
 
 // What is known of the path, as conditions see it.

@@ -7,9 +7,11 @@ ghost use Rattle.dav_session_core.specs.Sessions.{Looks, caller, live_of, state}
 ghost use Rattle.dav_methods_core.specs.UnlockMethod.{FailsToUnlock, IsBracketed, NamesToken, Unlocks};
 ghost use Rattle.dav_faults_core.specs.declared.faults.Fault.TheVariants as fault;
 
+use super::preconditions::check_conditions;
 use dav_faults_core::faults::Fault;
 use dav_fields_core::senders::value_of;
 use dav_resource_core::davpath::DavPath;
+use dav_resource_core::util::DavMethod;
 use dav_session_core::session::Session;
 use http::StatusCode;
 use http_header::{HeaderMap, HeaderName, HeaderValue};
@@ -19,7 +21,9 @@ use std::alloc::Global;
 /// Ends the lock that `Lock-Token` names, and answers 204 (RFC 4918 section 9.11).
 ///
 /// `BadRequest` without such a token; `NoSuchLock` where no lock with it covers the path;
-/// `Forbidden` where one with it at the path or above has another principal.
+/// `Forbidden` where one with it at the path or above has another principal; and then, by the
+/// conditions of HTTP, `BadRequest` where one can't be read, and `PreconditionFailed` where one
+/// doesn't hold.
 #[tactic(auto, using(crate::proofs::Acting::all_requests))]
 pub fn unlock<R: Rng>(
     alloc: Global,
@@ -35,7 +39,9 @@ pub fn unlock<R: Rng>(
     ensures asks { Requests R.stream session.old session.new }
 {
     let token = token_named(alloc, headers)?;
-    session.unlock(path, token)?;
+    session.check_unlock(&path, &token)?;
+    check_conditions(alloc, session, DavMethod::Unlock, headers, &path)?;
+    session.unlock(path, token);
     Ok(StatusCode::NO_CONTENT)
 }
 

@@ -98,7 +98,8 @@ fn unlisted(refusal: &Refusal) -> Fault
     }
 }
 
-/// Why the files or the locks refuse to make something, by what stands there.
+/// Why the files or the locks refuse to make something, by what stands there: a folder where
+/// anything does.
 pub fn refused(known: &Option<MemFsMeta>, refusal: Refusal) -> Fault
     ensures { result ≡ put_fault (is_some known.now) (refusal_of refusal) }
 {
@@ -107,7 +108,7 @@ pub fn refused(known: &Option<MemFsMeta>, refusal: Refusal) -> Fault
         Refusal::OutOfMemory | Refusal::Fs(FsError::InsufficientStorage) =>
             Fault::InsufficientStorage,
         Refusal::Fs(_) | Refusal::NoLock => match known {
-            Some(_) => Fault::MethodNotAllowed,
+            Some(_) => Fault::MethodNotAllowed { folder: true },
             None => Fault::Conflict,
         },
     }

@@ -14,10 +14,23 @@ use dav_resource_core::guarded::Command;
 use rand_core::Rng;
 
 impl<R: Rng> Session<R> {
-    /// Gives the caller's own lock with a token, which covers the path, another end (RFC 4918
-    /// section 9.10.2). The timeout is in seconds; none for no end.
+    /// Whether the caller may give the lock with a token that covers the path another end (RFC 4918
+    /// section 9.10.2).
     ///
     /// `Forbidden` where a lock with the token at the path or above has another principal.
+    pub fn check_refresh(&mut self, path: &DavPath, token: &str) -> Result<(), Fault>
+        ensures own { OnOk result (¬ IsAnothers (live_of R.stream self.old) (caller self.old)
+            (segments path.now.bytes) token.now) }
+        ensures err { IfErr result (λ e. (e ≡ fault.InsufficientStorage)
+            ⊎ ((e ≡ fault.Forbidden) × IsAnothers (live_of R.stream self.old) (caller self.old)
+            (segments path.now.bytes) token.now)) }
+        ensures looks { Looks R.stream self.old self.new }
+    {
+        self.check_own(path, token)
+    }
+
+    /// Gives the caller's own lock with a token, which covers the path, another end (RFC 4918
+    /// section 9.10.2). The timeout is in seconds; none for no end. `InsufficientStorage` alone.
     #[tactic(auto, using(crate::proofs::Looking::requests_follow))]
     pub fn refresh(
         &mut self,
@@ -25,17 +38,16 @@ impl<R: Rng> Session<R> {
         token: String,
         timeout: Option<u64>,
     ) -> Result<(), Fault>
-        requires { has_token (live_of R.stream self.old) (segments path.bytes) (string_bytes token)
-            ≡ true }
+        requires covered { has_token (live_of R.stream self.old) (segments path.bytes)
+            (string_bytes token) ≡ true }
+        requires own { ¬ IsAnothers (live_of R.stream self.old) (caller self.old)
+            (segments path.bytes) (string_bytes token) }
         ensures ok { OnOk result (RefreshesOwn (live_of R.stream self.old) (caller self.old)
             (segments path.bytes) (string_bytes token) timeout (state R.stream self.new)) }
-        ensures err { IfErr result (λ e. (e ≡ fault.InsufficientStorage)
-            ⊎ ((e ≡ fault.Forbidden) × IsAnothers (live_of R.stream self.old) (caller self.old)
-            (segments path.bytes) (string_bytes token))) }
+        ensures err { IfErr result (λ e. e ≡ fault.InsufficientStorage) }
         ensures refused { OnErr result (Looks R.stream self.old self.new) }
         ensures requests { Requests R.stream self.old self.new }
     {
-        self.check_own(&path, &token)?;
         match self.ask(Command::Refresh {
             path,
             token,

@@ -1,6 +1,6 @@
 //! How a caller ends a lock of its own.
 ghost use Rattle.std.specs.Prelude.{◌≡◌, ◌⊎◌, true, false, not, ◌&&◌, bytes_eq, length, option_map};
-ghost use Rattle.std.specs.Prelude.{string_bytes, IfErr, OnOk, OnErr};
+ghost use Rattle.std.specs.Prelude.{string_bytes, IfErr, OnOk};
 ghost use Rattle.std.specs.List.{list_any};
 ghost use Rattle.dav_path_core.specs.Segments.{segments};
 ghost use Rattle.dav_locks_core.specs.Locks.{covers, same_text};
@@ -21,30 +21,38 @@ use dav_resource_core::ls::DavLock;
 use rand_core::Rng;
 
 impl<R: Rng> Session<R> {
-    /// Ends the caller's own lock with a token, which stands at the path or above (RFC 4918 section
+    /// Whether the caller may end the lock with a token that covers the path (RFC 4918 section
     /// 9.11).
     ///
     /// `NoSuchLock` where no lock with the token covers the path; `Forbidden` where one with it at
     /// the path or above has another principal.
-    #[tactic(auto, using(crate::proofs::Looking::requests_follow))]
-    pub fn unlock(&mut self, path: DavPath, token: String) -> Result<(), Fault>
-        ensures covered { OnOk result (has_token (live_of R.stream self.old) (segments path.bytes)
-            (string_bytes token) ≡ true) }
-        ensures ok { OnOk result (EndsOwn (live_of R.stream self.old) (caller self.old)
-            (segments path.bytes) (string_bytes token) (state R.stream self.new)) }
+    pub fn check_unlock(&mut self, path: &DavPath, token: &str) -> Result<(), Fault>
+        ensures covered { OnOk result (has_token (live_of R.stream self.old)
+            (segments path.now.bytes) token.now ≡ true) }
+        ensures own { OnOk result (¬ IsAnothers (live_of R.stream self.old) (caller self.old)
+            (segments path.now.bytes) token.now) }
         ensures err { IfErr result (λ e. KeepsLock (live_of R.stream self.old) (caller self.old)
-            (segments path.bytes) (string_bytes token) e) }
-        ensures refused { OnErr result (Looks R.stream self.old self.new) }
-        ensures requests { Requests R.stream self.old self.new }
+            (segments path.now.bytes) token.now e) }
+        ensures looks { Looks R.stream self.old self.new }
     {
-        if !has_token(self, &path, &token)? {
+        if !has_token(self, path, token)? {
             return Err(Fault::NoSuchLock);
         }
-        self.check_own(&path, &token)?;
-        match self.ask(Command::Unlock { path, token }) {
-            Ok(_) => Ok(()),
-            Err(_) => Err(Fault::NoSuchLock),
-        }
+        self.check_own(path, token)?;
+        Ok(())
+    }
+
+    /// Ends the caller's own lock with a token that covers the path (RFC 4918 section 9.11).
+    pub fn unlock(&mut self, path: DavPath, token: String)
+        requires covered { has_token (live_of R.stream self.old) (segments path.bytes)
+            (string_bytes token) ≡ true }
+        requires own { ¬ IsAnothers (live_of R.stream self.old) (caller self.old)
+            (segments path.bytes) (string_bytes token) }
+        ensures ends { EndsOwn (live_of R.stream self.old) (caller self.old) (segments path.bytes)
+            (string_bytes token) (state R.stream self.new) }
+        ensures requests { Requests R.stream self.old self.new }
+    {
+        drop(self.ask(Command::Unlock { path, token }));
     }
 
     // Whether each lock with the token at the path or above is the caller's own.

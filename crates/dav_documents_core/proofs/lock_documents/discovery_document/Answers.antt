@@ -10,7 +10,7 @@ use Rattle.dav_documents_core.proofs.lock_documents.discovery_document.Goals as 
 pub returns : goal.returns
 unfolding written_pieces
 returns c =
-    let told = lock_discovery c.args.prefix.now (option_map string_bytes c.args.principal.now) c.args.locks.now in
+    let told = lock_discovery c.args.prefix.now (option_map string_bytes c.args.principal.now) c.args.now.0 c.args.locks.now in
     let begun = c.in_ok-begin.ensures ∙ ap (λ (w : Writing). with_start w (dav_name (codes "prop")) []) c.new-writer.ensures in
     let inside = c.in_ok-write_discovery.ensures ∙ ap (λ (w : Writing). and_pieces w told) begun in
     c.into_bytes.ensures ∙ ap (λ (w : Writing). w.bytes)

@@ -10,6 +10,6 @@ use Rattle.dav_documents_core.proofs.lock_documents.write_discovery.Given as goa
 -- what is still to be told of, behind what is told, makes the whole
 abbrev pub invariant-loop-lock : goal.invariant-loop-lock
 invariant-loop-lock l =
-    and_pieces (writing_of l.writer) (flat_map (active_lock l.prefix (option_map string_bytes l.principal)) (drop l.lock-index l.locks))
+    and_pieces (writing_of l.writer) (flat_map (active_lock l.prefix (option_map string_bytes l.principal) l.now.0) (drop l.lock-index l.locks))
     ≡ and_pieces (with_start (writing_of l.fn.writer) (dav_name (codes "lockdiscovery")) [])
-    (flat_map (active_lock l.prefix (option_map string_bytes l.principal)) l.locks)
+    (flat_map (active_lock l.prefix (option_map string_bytes l.principal) l.now.0) l.locks)

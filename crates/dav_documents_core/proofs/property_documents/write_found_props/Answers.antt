@@ -12,7 +12,7 @@ use Rattle.dav_documents_core.proofs.property_documents.write_found_props.Goals 
 
 pub returns : goal.returns
 returns c =
-    let told = found_pieces c.args.prefix.now (option_map string_bytes c.args.principal.now) (description_of c.args.description.now) (question_of c.args.question.now) in
+    let told = found_pieces c.args.prefix.now (option_map string_bytes c.args.principal.now) c.args.now.0 (description_of c.args.description.now) (question_of c.args.question.now) in
     let inside = c.in_ok-write_found.ensures ∙ ap (λ (w : Writing). and_pieces w told) c.in_ok-begin_stat.ensures in
     on_ok_weaker c.end_stat.result
     (λ ended. ended ∙ ap (λ (w : Writing). with_end (with_nodes (with_end w) (text_element (codes "status") (codes "HTTP/1.1 200 OK")))) inside

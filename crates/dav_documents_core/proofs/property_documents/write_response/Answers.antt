@@ -18,7 +18,7 @@ returns c =
     let d = description_of c.args.description.now in
     let begun = with_start (writing_of c.args.writer.now) (dav_name (codes "response")) [] in
     let href = text_element (codes "href") d.url in
-    let found = found_stat c.args.prefix.now (option_map string_bytes c.args.principal.now) question d in
+    let found = found_stat c.args.prefix.now (option_map string_bytes c.args.principal.now) c.args.now.0 question d in
     let missing = missing_stat question d in
     let url = c.in_ok-write_text.ensures ∙ ap (λ (text : List ℕ). with_nodes (writing_of c.begin.new.writer) (text_element (codes "href") text)) c.deref.ensures
     ∙ ap (λ (w : Writing). with_nodes w href) c.in_ok-begin.ensures in

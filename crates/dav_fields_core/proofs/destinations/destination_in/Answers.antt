@@ -9,30 +9,30 @@ use Rattle.dav_fields_core.proofs.destinations.destination_in.Goals as goal
 pub returns-in_err-text-clause-err : goal.returns-in_err-text-clause-err
 returns-in_err-text-clause-err c =
     let p = err_from_is_err_and c.from_residual.result c.from_residual.ensures.1 in
-    rw (p.1, p.2) (without_text c.args.scheme c.args.prefix.now c.args.headers.now c.in_err-text.field-0.0 c.in_err-text.ensures.err)
+    rw (p.1, p.2) (without_text c.args.site.now c.args.prefix.now c.args.headers.now c.in_err-text.field-0.0 c.in_err-text.ensures.err)
 
 pub returns-then-is_rooted-clause-ok : goal.returns-then-is_rooted-clause-ok
 returns-then-is_rooted-clause-ok c =
     let text = c.in_ok-text.text.now in
-    with_path c.args.scheme c.args.prefix.now c.args.headers.now text c.in_ok-text.ensures.ok text (itself (sym c.is_rooted.ensures ∙ c.if-is_rooted.true))
+    with_path c.args.site.now c.args.prefix.now c.args.headers.now text c.in_ok-text.ensures.ok text (itself (sym c.is_rooted.ensures ∙ c.if-is_rooted.true))
     c.path_on.result c.path_on.ensures.ok
 
 pub returns-then-is_rooted-clause-err : goal.returns-then-is_rooted-clause-err
 returns-then-is_rooted-clause-err c =
     let text = c.in_ok-text.text.now in
-    without_path c.args.scheme c.args.prefix.now c.args.headers.now text c.in_ok-text.ensures.ok text (itself (sym c.is_rooted.ensures ∙ c.if-is_rooted.true))
+    without_path c.args.site.now c.args.prefix.now c.args.headers.now text c.in_ok-text.ensures.ok text (itself (sym c.is_rooted.ensures ∙ c.if-is_rooted.true))
     c.path_on.result c.path_on.ensures.err
 
 pub returns-in_err-url-clause-err : goal.returns-in_err-url-clause-err
 returns-in_err-url-clause-err c =
     let p = err_from_is_err_and c.from_residual-in_err-url.result c.from_residual-in_err-url.ensures.1 in
-    rw (p.1, p.2) (without_url c.args.scheme c.args.prefix.now c.args.headers.now c.in_ok-text.text.now c.in_ok-text.ensures.ok c.in_err-url.field-0.0
+    rw (p.1, p.2) (without_url c.args.site.now c.args.prefix.now c.args.headers.now c.in_ok-text.text.now c.in_ok-text.ensures.ok c.in_err-url.field-0.0
     (sym c.is_rooted.ensures ∙ c.if-is_rooted.false) c.in_err-url.ensures)
 
 pub returns-in_err-base-clause-err : goal.returns-in_err-base-clause-err
 returns-in_err-base-clause-err c =
     let p = err_from_is_err_and c.from_residual-in_err-base.result c.from_residual-in_err-base.ensures.1 in
-    rw (p.1, p.2) (without_host c.args.scheme c.args.prefix.now c.args.headers.now c.in_ok-text.text.now c.in_ok-text.ensures.ok c.in_err-base.field-0.0
+    rw (p.1, p.2) (without_host c.args.site.now c.args.prefix.now c.args.headers.now c.in_ok-text.text.now c.in_ok-text.ensures.ok c.in_err-base.field-0.0
     (sym c.is_rooted.ensures ∙ c.if-is_rooted.false) c.in_err-base.ensures.err)
 
 pub returns-then-not-is_same_server-clause-err : goal.returns-then-not-is_same_server-clause-err
@@ -44,8 +44,8 @@ returns-then-not-is_same_server-clause-err c =
 pub returns-clause-ok : goal.returns-clause-ok
 returns-clause-ok c =
     let text = c.in_ok-text.text.now in
-    with_path c.args.scheme c.args.prefix.now c.args.headers.now text c.in_ok-text.ensures.ok c.path.result.now
-    (subst (λ at. LeadsTo c.args.scheme c.args.headers.now text (Some at)) (sym c.path.ensures.value)
+    with_path c.args.site.now c.args.prefix.now c.args.headers.now text c.in_ok-text.ensures.ok c.path.result.now
+    (subst (λ at. LeadsTo c.args.site.now c.args.headers.now text (Some at)) (sym c.path.ensures.value)
     (by_url c.in_ok-url.url c.in_ok-base.base (sym c.is_rooted.ensures ∙ c.if-is_rooted.false) c.in_ok-url.ensures c.in_ok-base.ensures.ok
     (c.is_same_server.ensures.0 c.if-not-is_same_server.false)))
     c.path_on-2.result c.path_on-2.ensures.ok
@@ -53,8 +53,8 @@ returns-clause-ok c =
 pub returns-clause-err : goal.returns-clause-err
 returns-clause-err c =
     let text = c.in_ok-text.text.now in
-    without_path c.args.scheme c.args.prefix.now c.args.headers.now text c.in_ok-text.ensures.ok c.path.result.now
-    (subst (λ at. LeadsTo c.args.scheme c.args.headers.now text (Some at)) (sym c.path.ensures.value)
+    without_path c.args.site.now c.args.prefix.now c.args.headers.now text c.in_ok-text.ensures.ok c.path.result.now
+    (subst (λ at. LeadsTo c.args.site.now c.args.headers.now text (Some at)) (sym c.path.ensures.value)
     (by_url c.in_ok-url.url c.in_ok-base.base (sym c.is_rooted.ensures ∙ c.if-is_rooted.false) c.in_ok-url.ensures c.in_ok-base.ensures.ok
     (c.is_same_server.ensures.0 c.if-not-is_same_server.false)))
     c.path_on-2.result c.path_on-2.ensures.err

@@ -12,6 +12,6 @@ use Rattle.dav_documents_core.proofs.property_documents.values.write_all_own.Giv
 abbrev pub invariant-loop-live : goal.invariant-loop-live
 invariant-loop-live l =
     and_pieces (writing_of l.writer)
-    (flat_map (own_pieces l.prefix (option_map string_bytes l.principal) (description_of l.description)) (drop l.live-index LIVE))
+    (flat_map (own_pieces l.prefix (option_map string_bytes l.principal) l.now.0 (description_of l.description)) (drop l.live-index LIVE))
     ≡ and_pieces (writing_of l.fn.writer)
-    (flat_map (own_pieces l.prefix (option_map string_bytes l.principal) (description_of l.description)) LIVE)
+    (flat_map (own_pieces l.prefix (option_map string_bytes l.principal) l.now.0 (description_of l.description)) LIVE)

@@ -11,6 +11,6 @@ use Rattle.dav_documents_core.proofs.property_documents.values.write_listed.Give
 abbrev pub invariant-loop-name : goal.invariant-loop-name
 invariant-loop-name l =
     and_pieces (writing_of l.writer)
-    (flat_map (value_pieces l.prefix (option_map string_bytes l.principal) (description_of l.description)) (map name_of (drop l.name-index l.names)))
+    (flat_map (value_pieces l.prefix (option_map string_bytes l.principal) l.now.0 (description_of l.description)) (map name_of (drop l.name-index l.names)))
     ≡ and_pieces (writing_of l.fn.writer)
-    (flat_map (value_pieces l.prefix (option_map string_bytes l.principal) (description_of l.description)) (map name_of l.names))
+    (flat_map (value_pieces l.prefix (option_map string_bytes l.principal) l.now.0 (description_of l.description)) (map name_of l.names))

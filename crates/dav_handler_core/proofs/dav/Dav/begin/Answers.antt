@@ -1,22 +1,35 @@
-use Rattle.std.proofs.Common.{◌≡◌, ◌<◌, ◌⊎◌, sym, ap, subst, option_map, map, string_bytes}
+use Rattle.std.proofs.Common.{◌≡◌, ◌<◌, ◌⊎◌, ◌∙◌, ℕ, List, sym, ap, subst, option_map, map, string_bytes}
 use Rattle.std.proofs.lemmas.Result.{err_from_is_err_and}
 use Rattle.http.specs.Request.{head_of}
+use Rattle.http_header.specs.FieldValue.{FieldValue}
+use Rattle.http_header.specs.HeaderMap.{Entries}
 use Rattle.dav_faults_core.specs.declared.faults.Fault.TheVariants as fault
 use Rattle.dav_session_core.specs.Callers.{Caller, IsSender}
+use Rattle.dav_fields_core.specs.Bases.{Site, site_of}
 use Rattle.dav_fields_core.specs.RequestRefusals.{RefusesTarget, RefusesPrincipal, HasBadIf}
 use Rattle.dav_fields_core.specs.Senders.{NamesPrincipal, Submits}
+use Rattle.dav_handler_core.specs.Server.{site_for}
 use Rattle.dav_handler_core.specs.ServerViews.{options_of}
 use Rattle.dav_fields_core.specs.Targets.{IsTargetOf}
 use Rattle.dav_handler_core.proofs.AnswerLemmas.{by_target, by_principal, by_tokens, by_moment}
 use Rattle.dav_handler_core.proofs.dav.Dav.begin.Goals as goal
 
+-- what holds of a site and of headers holds of the request whose these are
+at_request : (Says : Site → Entries FieldValue → Type 0) (site there : Site) (headers these : Entries FieldValue)
+    → site ≡ there → headers ≡ these → Says site headers → Says there these
+at_request Says site there headers these same is h =
+    subst (λ s. Says s these) same (subst (Says site) is h)
+
 pub returns-clause-ok : goal.returns-clause-ok
 returns-clause-ok g c = (
   subst (λ prefix. IsTargetOf prefix (head_of c.args.request.now).uri c.in_ok-path.path) c.deref.ensures
       (subst (λ uri. IsTargetOf c.deref.result.now uri c.in_ok-path.path) c.uri.ensures c.in_ok-path.ensures.ok),
-  subst (IsSender c.args.self.now.settings.user_header (head_of c.args.request.now).headers) (sym c.begin.ensures.caller) (record {
+  subst (IsSender c.args.self.now.settings.user_header (site_for (options_of c.args.self.now.settings) c.args.request.now) (head_of c.args.request.now).headers) (sym c.begin.ensures.caller) (record {
     principal = subst (λ headers. NamesPrincipal c.args.self.now.settings.user_header headers (option_map string_bytes c.in_ok-principal.principal)) c.headers.ensures c.in_ok-principal.ensures.ok;
-    tokens = subst (λ headers. Submits headers (map string_bytes c.in_ok-tokens.tokens.items)) c.headers-2.ensures c.in_ok-tokens.ensures.ok;
+    tokens = at_request (λ site headers. Submits site headers (map string_bytes c.in_ok-tokens.tokens.items))
+        c.of-site.result (site_for (options_of c.args.self.now.settings) c.args.request.now)
+        c.headers-2.result.now (head_of c.args.request.now).headers
+        (c.of-site.ensures ∙ ap (site_of c.args.self.now.settings.scheme) c.uri-2.ensures) c.headers-2.ensures c.in_ok-tokens.ensures.ok;
   }),
   λ changes. subst (λ n. c.args.self.now.session.request.now.0 < n) (sym (ap (λ (w : Caller). w.now) c.begin.ensures.caller)) (c.in_ok-now.ensures.ok.1 changes),
 )
@@ -49,7 +62,10 @@ returns-in_err-tokens-clause-err g c =
     (subst (λ uri. IsTargetOf c.deref.result.now uri c.in_ok-path.path) c.uri.ensures c.in_ok-path.ensures.ok))
     (subst (λ headers. NamesPrincipal c.args.self.now.settings.user_header headers (option_map string_bytes c.in_ok-principal.principal)) c.headers.ensures
     c.in_ok-principal.ensures.ok)
-    (subst (λ headers. (e ≡ fault.InsufficientStorage) ⊎ ((e ≡ fault.BadRequest) × HasBadIf headers)) c.headers-2.ensures c.in_err-tokens.ensures.err))
+    (at_request (λ site headers. (e ≡ fault.InsufficientStorage) ⊎ ((e ≡ fault.BadRequest) × HasBadIf site headers))
+    c.of-site.result (site_for (options_of c.args.self.now.settings) c.args.request.now)
+    c.headers-2.result.now (head_of c.args.request.now).headers
+    (c.of-site.ensures ∙ ap (site_of c.args.self.now.settings.scheme) c.uri-2.ensures) c.headers-2.ensures c.in_err-tokens.ensures.err))
 
 pub returns-in_err-now-clause-err : goal.returns-in_err-now-clause-err
 returns-in_err-now-clause-err g c =
@@ -63,6 +79,9 @@ returns-in_err-now-clause-err g c =
     (record {
       principal = subst (λ headers. NamesPrincipal c.args.self.now.settings.user_header headers (option_map string_bytes c.in_ok-principal.principal)) c.headers.ensures
           c.in_ok-principal.ensures.ok;
-      tokens = subst (λ headers. Submits headers (map string_bytes c.in_ok-tokens.tokens.items)) c.headers-2.ensures c.in_ok-tokens.ensures.ok;
+      tokens = at_request (λ site headers. Submits site headers (map string_bytes c.in_ok-tokens.tokens.items))
+          c.of-site.result (site_for (options_of c.args.self.now.settings) c.args.request.now)
+          c.headers-2.result.now (head_of c.args.request.now).headers
+          (c.of-site.ensures ∙ ap (site_of c.args.self.now.settings.scheme) c.uri-2.ensures) c.headers-2.ensures c.in_ok-tokens.ensures.ok;
     })
     c.in_err-now.ensures.err)

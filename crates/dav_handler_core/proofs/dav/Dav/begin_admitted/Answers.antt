@@ -1,7 +1,8 @@
-use Rattle.std.proofs.Common.{inr, refl, sym, ap, subst}
+use Rattle.std.proofs.Common.{inr, refl, sym, ap, ◌∙◌, subst}
 use Rattle.std.proofs.lemmas.Result.{err_from_is_err_and}
 use Rattle.dav_resource_core.specs.Step.{State}
-use Rattle.dav_handler_core.specs.Server.{IsFrom, Options}
+use Rattle.dav_handler_core.specs.Server.{IsFrom, Options, site_for}
+use Rattle.dav_fields_core.specs.Bases.{site_of}
 use Rattle.dav_session_core.specs.Callers.{Caller, RunBy}
 use Rattle.dav_handler_core.specs.ServerViews.{server}
 use Rattle.dav_session_core.specs.Sessions.{caller}
@@ -30,7 +31,7 @@ returns-in_err-admit-clause-err g c =
           from = subst (IsFrom before.options c.args.request.now) (sym c.admit.ensures.looks.who) begun.1;
           now = refl;
         },
-        held_there before c.args.request.now c.headers.result.now c.in_ok-path.path e c.begin.new.self.settings.scheme (caller c.begin.new.self.session).now who.now (server g.R.Rng.stream c.begin.new.self).state
-            (ap (λ (o : Options). o.scheme) c.begin.ensures.options) (sym (ap (λ (w : Caller). w.now) c.admit.ensures.looks.who)) c.begin.ensures.state c.headers.ensures c.in_err-admit.ensures.err,
+        held_there before c.args.request.now c.headers.result.now c.in_ok-path.path e c.of-site.result (caller c.begin.new.self.session).now who.now (server g.R.Rng.stream c.begin.new.self).state
+            (c.of-site.ensures ∙ ap (site_of c.begin.new.self.settings.scheme) c.uri.ensures ∙ ap (λ (o : Options). site_for o c.args.request.now) c.begin.ensures.options) (sym (ap (λ (w : Caller). w.now) c.admit.ensures.looks.who)) c.begin.ensures.state c.headers.ensures c.in_err-admit.ensures.err,
       ),
     ))

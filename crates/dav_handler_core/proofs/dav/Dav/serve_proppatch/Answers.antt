@@ -1,7 +1,7 @@
 use Rattle.std.proofs.Common.{ℕ, List, refl, ap, ◌∙◌, subst}
 use Rattle.std.specs.Prelude.{IfOk, IfErr}
 use Rattle.std.proofs.lemmas.Result.{err_from_is_err_and}
-use Rattle.http.specs.Request.{body_of}
+use Rattle.http.specs.Request.{body_of, head_of}
 use Rattle.dav_path_core.specs.Segments.{segments}
 use Rattle.dav_handler_core.specs.Server.{Options}
 use Rattle.dav_session_core.specs.Callers.{Caller, live}
@@ -29,12 +29,17 @@ returns-clause-answers g c =
     let begun = c.in_ok-path.ensures.ok in
     let body = c.deref-2.ensures ∙ c.body.ensures in
     let sent = sent_of c.proppatch.new.response in
-    let does : List ℕ → List ℕ → Type 0 = λ prefix body. IfOk c.proppatch.result (λ status. Patches prefix body (live who.now s) who c.in_ok-path.path status sent after.state) in
+    let headers = (head_of c.args.request.now).headers in
+    let does : List ℕ → List ℕ → Type 0 = λ prefix body. IfOk c.proppatch.result (λ status. Patches prefix headers body (live who.now s) who c.in_ok-path.path status sent after.state) in
+    let done = subst (λ h. IfOk c.proppatch.result (λ status. Patches c.deref.result.now h c.deref-2.result.now (live who.now s) who c.in_ok-path.path status sent after.state))
+    c.headers.ensures c.proppatch.ensures.done in
+    let fails = subst (λ h. IfErr c.proppatch.result (λ e. FailsToPatch h c.deref-2.result.now (live who.now s) who (segments c.in_ok-path.path.bytes) e)) c.headers.ensures
+    c.proppatch.ensures.err in
     patch_answered before mid after c.args.request.now c.in_ok-path.path who (ap (λ (w : Caller). w.now) c.proppatch.ensures.acts.who) begun.0.0 begun.1 s
     c.begin_admitted.ensures.live c.proppatch.result sent
     (subst (λ (o : Options). does o.prefix (body_of c.args.request.now)) c.begin_admitted.ensures.moves.options
-    (subst (does mid.options.prefix) body (subst (λ prefix. does prefix c.deref-2.result.now) c.deref.ensures c.proppatch.ensures.done)))
-    (subst (λ body. IfErr c.proppatch.result (λ e. FailsToPatch body (live who.now s) who (segments c.in_ok-path.path.bytes) e)) body c.proppatch.ensures.err)
+    (subst (does mid.options.prefix) body (subst (λ prefix. does prefix c.deref-2.result.now) c.deref.ensures done)))
+    (subst (λ body. IfErr c.proppatch.result (λ e. FailsToPatch headers body (live who.now s) who (segments c.in_ok-path.path.bytes) e)) body fails)
 
 pub returns-clause-moves : goal.returns-clause-moves
 returns-clause-moves g c =

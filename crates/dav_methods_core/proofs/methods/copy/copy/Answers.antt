@@ -24,8 +24,8 @@ returns-in_err-known-clause-err g c =
 pub returns-in_err-known-clause-left : goal.returns-in_err-known-clause-left
 returns-in_err-known-clause-left g c =
     let q = err_from_is_err_and c.from_residual.result c.from_residual.ensures.1 in
-    rw (q.1, q.2) (copy_left c.args.scheme c.args.prefix.now c.args.headers.now (spec.caller c.args.session.now) (spec.state g.R.Rng.stream c.args.session.now)
-    (segments c.args.path.now.bytes) c.in_err-known.field-0.0 (spec.state g.R.Rng.stream c.planned.new.session) c.planned.ensures.looks.live)
+    rw (q.1, q.2) (copy_left c.args.site.now c.args.prefix.now c.args.headers.now (spec.caller c.args.session.now) (spec.state g.R.Rng.stream c.args.session.now)
+    (segments c.args.path.now.bytes) c.in_err-known.field-0.0 (spec.state g.R.Rng.stream c.admitted_plan.new.session) c.admitted_plan.ensures.looks.live)
 
 pub returns-in_err-copy_all-clause-err : goal.returns-in_err-copy_all-clause-err
 returns-in_err-copy_all-clause-err g c =
@@ -33,19 +33,19 @@ returns-in_err-copy_all-clause-err g c =
     let who = spec.caller c.args.session.now in
     let start = spec.state g.R.Rng.stream c.args.session.now in
     let from = segments c.args.path.now.bytes in
-    let asker = spec.caller c.planned.new.session in
-    let b = spec.state g.R.Rng.stream c.planned.new.session in
+    let asker = spec.caller c.admitted_plan.new.session in
+    let b = spec.state g.R.Rng.stream c.admitted_plan.new.session in
     let m = spec.state g.R.Rng.stream c.clear.new.self in
     let copier = spec.caller c.clear.new.self in
     let after = spec.state g.R.Rng.stream c.copy_all.new.self in
     let known = option_map meta_of c.in_ok-known.field-0.known in
     let gone = map (λ q. segments q.bytes) c.in_ok-known.field-0.gone.items in
     let pairs = map ends c.deref.result.now in
-    let plan = subst (λ ts. IsPlanned c.args.scheme c.args.prefix.now c.args.headers.now (live who.now start) who from known gone (map ends ts)) (sym c.deref.ensures.value)
+    let plan = subst (λ ts. IsPlanned c.args.site.now c.args.prefix.now c.args.headers.now (live who.now start) who from known gone (map ends ts)) (sym c.deref.ensures.value)
     c.in_ok-known.ensures.ok in
-    let by = c.clear.ensures.acts.who ∙ c.planned.ensures.looks.who in
-    let short = copy_short c.args.scheme c.args.prefix.now c.args.headers.now who start from known gone pairs plan asker b m c.planned.ensures.looks.who c.planned.ensures.looks.live c.clear.ensures.acts.run c.clear.ensures.cleared copier after by c.in_err-copy_all.field-0.0 c.in_err-copy_all.ensures.err in
-    rw (q.1, q.2) (copy_lost c.args.scheme c.args.prefix.now c.args.headers.now who start from c.in_err-copy_all.field-0.0 short)
+    let by = c.clear.ensures.acts.who ∙ c.admitted_plan.ensures.looks.who in
+    let short = copy_short c.args.site.now c.args.prefix.now c.args.headers.now who start from known gone pairs plan asker b m c.admitted_plan.ensures.looks.who c.admitted_plan.ensures.looks.live c.clear.ensures.acts.run c.clear.ensures.cleared copier after by c.in_err-copy_all.field-0.0 c.in_err-copy_all.ensures.err in
+    rw (q.1, q.2) (copy_lost c.args.site.now c.args.prefix.now c.args.headers.now who start from c.in_err-copy_all.field-0.0 short)
 
 pub returns-in_err-copy_all-clause-left : goal.returns-in_err-copy_all-clause-left
 returns-in_err-copy_all-clause-left g c =
@@ -53,19 +53,19 @@ returns-in_err-copy_all-clause-left g c =
     let who = spec.caller c.args.session.now in
     let start = spec.state g.R.Rng.stream c.args.session.now in
     let from = segments c.args.path.now.bytes in
-    let asker = spec.caller c.planned.new.session in
-    let b = spec.state g.R.Rng.stream c.planned.new.session in
+    let asker = spec.caller c.admitted_plan.new.session in
+    let b = spec.state g.R.Rng.stream c.admitted_plan.new.session in
     let m = spec.state g.R.Rng.stream c.clear.new.self in
     let copier = spec.caller c.clear.new.self in
     let after = spec.state g.R.Rng.stream c.copy_all.new.self in
     let known = option_map meta_of c.in_ok-known.field-0.known in
     let gone = map (λ q. segments q.bytes) c.in_ok-known.field-0.gone.items in
     let pairs = map ends c.deref.result.now in
-    let plan = subst (λ ts. IsPlanned c.args.scheme c.args.prefix.now c.args.headers.now (live who.now start) who from known gone (map ends ts)) (sym c.deref.ensures.value)
+    let plan = subst (λ ts. IsPlanned c.args.site.now c.args.prefix.now c.args.headers.now (live who.now start) who from known gone (map ends ts)) (sym c.deref.ensures.value)
     c.in_ok-known.ensures.ok in
-    let by = c.clear.ensures.acts.who ∙ c.planned.ensures.looks.who in
-    let short = copy_short c.args.scheme c.args.prefix.now c.args.headers.now who start from known gone pairs plan asker b m c.planned.ensures.looks.who c.planned.ensures.looks.live c.clear.ensures.acts.run c.clear.ensures.cleared copier after by c.in_err-copy_all.field-0.0 c.in_err-copy_all.ensures.err in
-    rw (q.1, q.2) (copy_begun c.args.scheme c.args.prefix.now c.args.headers.now who start from known gone pairs plan asker b m c.planned.ensures.looks.who c.planned.ensures.looks.live c.clear.ensures.acts.run c.clear.ensures.cleared copier after by
+    let by = c.clear.ensures.acts.who ∙ c.admitted_plan.ensures.looks.who in
+    let short = copy_short c.args.site.now c.args.prefix.now c.args.headers.now who start from known gone pairs plan asker b m c.admitted_plan.ensures.looks.who c.admitted_plan.ensures.looks.live c.clear.ensures.acts.run c.clear.ensures.cleared copier after by c.in_err-copy_all.field-0.0 c.in_err-copy_all.ensures.err in
+    rw (q.1, q.2) (copy_begun c.args.site.now c.args.prefix.now c.args.headers.now who start from known gone pairs plan asker b m c.admitted_plan.ensures.looks.who c.admitted_plan.ensures.looks.live c.clear.ensures.acts.run c.clear.ensures.cleared copier after by
     c.in_err-copy_all.field-0.0 short c.in_err-copy_all.ensures.begun)
 
 pub returns-clause-done : goal.returns-clause-done
@@ -73,17 +73,17 @@ returns-clause-done g c =
     let who = spec.caller c.args.session.now in
     let start = spec.state g.R.Rng.stream c.args.session.now in
     let from = segments c.args.path.now.bytes in
-    let asker = spec.caller c.planned.new.session in
-    let b = spec.state g.R.Rng.stream c.planned.new.session in
+    let asker = spec.caller c.admitted_plan.new.session in
+    let b = spec.state g.R.Rng.stream c.admitted_plan.new.session in
     let m = spec.state g.R.Rng.stream c.clear.new.self in
     let copier = spec.caller c.clear.new.self in
     let after = spec.state g.R.Rng.stream c.copy_all.new.self in
     let known = option_map meta_of c.in_ok-known.field-0.known in
     let gone = map (λ q. segments q.bytes) c.in_ok-known.field-0.gone.items in
     let pairs = map ends c.deref.result.now in
-    let plan = subst (λ ts. IsPlanned c.args.scheme c.args.prefix.now c.args.headers.now (live who.now start) who from known gone (map ends ts)) (sym c.deref.ensures.value)
+    let plan = subst (λ ts. IsPlanned c.args.site.now c.args.prefix.now c.args.headers.now (live who.now start) who from known gone (map ends ts)) (sym c.deref.ensures.value)
     c.in_ok-known.ensures.ok in
-    let by = c.clear.ensures.acts.who ∙ c.planned.ensures.looks.who in
+    let by = c.clear.ensures.acts.who ∙ c.admitted_plan.ensures.looks.who in
     let there = known_there meta_of (λ (r : Resource). meta_at r.node) c.in_ok-known.field-0.known (at_path start.map (segments plan.to.bytes)) plan.known_is in
-    copy_all c.args.scheme c.args.prefix.now c.args.headers.now who start from known gone pairs plan asker b m c.planned.ensures.looks.who c.planned.ensures.looks.live c.clear.ensures.acts.run c.clear.ensures.cleared copier after by
-    c.done.result (c.done.ensures ∙ ap (λ b. cond b 204 201) there) c.in_ok-copy_all.ensures.copied
+    copy_all c.args.site.now c.args.prefix.now c.args.headers.now who start from known gone pairs plan asker b m c.admitted_plan.ensures.looks.who c.admitted_plan.ensures.looks.live c.clear.ensures.acts.run c.clear.ensures.cleared copier after by
+    c.done.result (c.done.ensures ∙ ap (λ b. cond b 204 201) there) c.in_ok-known.ensures.course c.in_ok-copy_all.ensures.copied

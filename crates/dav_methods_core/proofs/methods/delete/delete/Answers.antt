@@ -1,27 +1,48 @@
-use Rattle.std.proofs.Common.{sym, ◌∙◌, map, subst}
-use Rattle.dav_path_core.specs.PathText.{PathText}
+use Rattle.std.proofs.Common.{inl, List, Err, refl, map}
+use Rattle.std.proofs.lemmas.Result.{err_from_is_err_and}
+use Rattle.dav_path_core.specs.declared.util.DavMethod.TheVariants as method
+use Rattle.dav_path_core.specs.Fronts.{Path}
 use Rattle.dav_path_core.specs.Segments.{segments}
 use Rattle.dav_session_core.specs.Callers.{live}
-use Rattle.dav_session_core.specs.LocksInTheWay.{IsRefusedBy}
-use Rattle.dav_methods_core.specs.DeleteMethod.{FailsToRemove}
-use Rattle.dav_session_core.specs.Removing.{refusing_removal}
+use Rattle.dav_session_core.specs.Removing.{IsRemoved}
 use Rattle.dav_session_core.specs.Sessions as spec
-use Rattle.dav_session_core.specs.Subtrees.{IsSubtreeWalk}
-use Rattle.dav_session_core.proofs.RemovalCheckLemmas.{no_root_there}
-use Rattle.dav_methods_core.proofs.DeleteLemmas.{removal_fails}
+use Rattle.dav_session_core.specs.Unhindered.{WhereRemovable}
+use Rattle.dav_session_core.proofs.Looking.{looks_on}
+use Rattle.dav_methods_core.specs.DeleteMethod.{CanRemove, CantRemove}
+use Rattle.dav_methods_core.proofs.Acting.{held_before}
+use Rattle.dav_methods_core.proofs.CourseLemmas.{course_stays, stopped_after}
 use Rattle.dav_methods_core.proofs.methods.delete.delete.Goals as goal
 
-pub returns-in-Err-clause-err : goal.returns-in-Err-clause-err
-returns-in-Err-clause-err g c =
+pub returns-in_err-places-clause-err : goal.returns-in_err-places-clause-err
+returns-in_err-places-clause-err g c =
+    let q = err_from_is_err_and c.from_residual.result c.from_residual.ensures.1 in
+    rw (q.1, q.2) (inl c.in_err-places.ensures.err)
+
+pub returns-in_err-check_conditions-clause-err : goal.returns-in_err-check_conditions-clause-err
+returns-in_err-check_conditions-clause-err g c =
+    let q = err_from_is_err_and c.from_residual-in_err-check_conditions.result c.from_residual-in_err-check_conditions.ensures.1 in
     let who = spec.caller c.args.session.now in
     let s = spec.state g.R.Rng.stream c.args.session.now in
-    let mid = spec.state g.R.Rng.stream c.walk.new.self in
-    let asker = spec.caller c.walk.new.self in
-    let places = c.in_ok-places.places.items in
     let p = segments c.args.path.bytes in
-    let e = c.in-Err.fault in
-    subst (FailsToRemove c.args.headers.now (live who.now s) who p) (sym c.by_place.ensures) (removal_fails c.args.headers.now who asker s mid p (map (λ q. segments q.bytes) places) e
-    c.in_ok-check_whole.ensures.ok (no_root_there p (sym c.is_root.ensures ∙ c.if-is_root.false))
-    (subst (λ (q : PathText). IsSubtreeWalk s.map (segments q.bytes) (map (λ q. segments q.bytes) places)) c.in_ok-copy_of.ensures c.in_ok-places.ensures.ok)
-    c.walk.ensures.looks.who c.walk.ensures.looks.live
-    (subst (λ xs. IsRefusedBy (refusing_removal (live asker.now mid) asker (map (λ q. segments q.bytes) xs)) e) c.deref.ensures.value c.in-Err.ensures.err))
+    let headers = c.args.headers.now in
+    rw (q.1, q.2) (stopped_after method.Delete p headers who.now s (spec.state g.R.Rng.stream c.removable.new.session) c.removable.ensures.looks.live
+    (CantRemove headers (live who.now s) who p) ((places : List Path) × CanRemove headers (live who.now s) who p places) c.in_err-check_conditions.field-0.0 tt
+    (map (λ q. segments q.bytes) c.in_ok-places.places.items, c.in_ok-places.ensures.ok) c.in_err-check_conditions.ensures.err)
+
+pub returns-clause-done : goal.returns-clause-done
+returns-clause-done g c =
+    let who = spec.caller c.args.session.now in
+    let s = spec.state g.R.Rng.stream c.args.session.now in
+    let after = spec.state g.R.Rng.stream c.remove_all.new.self in
+    let p = segments c.args.path.bytes in
+    let headers = c.args.headers.now in
+    let places = map (λ q. segments q.bytes) c.in_ok-places.places.items in
+    let can = c.in_ok-places.ensures.ok in
+    record {
+      status_is = refl;
+      places = places;
+      can = can;
+      course = course_stays method.Delete p headers who.now s (spec.state g.R.Rng.stream c.removable.new.session) _ c.removable.ensures.looks.live c.in_ok-check_conditions.ensures.ok;
+      removed = held_before (λ w t. WhereRemovable t w places (λ p. IsRemoved w.now p t after)) (looks_on c.removable.ensures.looks c.check_conditions.ensures.looks)
+          c.remove_all.ensures.removed p can.no_root can.stood can.walk can.free;
+    }

@@ -11,21 +11,21 @@ use Rattle.dav_methods_core.proofs.methods.ends.ends_of.Goals as goal
 pub returns-in_err-target-clause-err : goal.returns-in_err-target-clause-err
 returns-in_err-target-clause-err g c =
     let q = err_from_is_err_and c.from_residual.result c.from_residual.ensures.1 in
-    rw (q.1, q.2) (fails_lead c.args.scheme c.args.prefix.now c.args.headers.now (segments c.args.path.now.bytes) c.args.within (spec.state g.R.Rng.stream c.args.session.now).map
+    rw (q.1, q.2) (fails_lead c.args.site.now c.args.prefix.now c.args.headers.now (segments c.args.path.now.bytes) c.args.within (spec.state g.R.Rng.stream c.args.session.now).map
     c.in_err-target.field-0.0 c.in_err-target.ensures.err)
 
 pub returns-in_err-known-clause-err : goal.returns-in_err-known-clause-err
 returns-in_err-known-clause-err g c =
     let q = err_from_is_err_and c.from_residual-in_err-known.result c.from_residual-in_err-known.ensures.1 in
     let target = c.in_ok-target.field-0 in
-    rw (q.1, q.2) (fails_fit c.args.scheme c.args.prefix.now c.args.headers.now (segments c.args.path.now.bytes) c.args.within (spec.state g.R.Rng.stream c.args.session.now).map
+    rw (q.1, q.2) (fails_fit c.args.site.now c.args.prefix.now c.args.headers.now (segments c.args.path.now.bytes) c.args.within (spec.state g.R.Rng.stream c.args.session.now).map
     target.path target.replaces c.in_ok-target.ensures.ok c.in_err-known.field-0.0 c.in_err-known.ensures.err)
 
 pub returns-in_err-gone-clause-err : goal.returns-in_err-gone-clause-err
 returns-in_err-gone-clause-err g c =
     let q = err_from_is_err_and c.from_residual-in_err-gone.result c.from_residual-in_err-gone.ensures.1 in
     let target = c.in_ok-target.field-0 in
-    rw (q.1, q.2) (fails_odd c.args.scheme c.args.prefix.now c.args.headers.now (segments c.args.path.now.bytes) c.args.within (spec.state g.R.Rng.stream c.args.session.now).map
+    rw (q.1, q.2) (fails_odd c.args.site.now c.args.prefix.now c.args.headers.now (segments c.args.path.now.bytes) c.args.within (spec.state g.R.Rng.stream c.args.session.now).map
     target.path target.replaces c.in_ok-target.ensures.ok c.in_ok-known.ensures.ok.fit (spec.state g.R.Rng.stream c.check_fit.new.session).map
     (ap (λ (s : State). s.map) c.check_fit.ensures.looks.live) c.in_err-gone.field-0.0 c.in_err-gone.ensures.err)
 

@@ -8,7 +8,7 @@ use Rattle.dav_methods_core.proofs.methods.ends.target_in.Goals as goal
 pub returns-in_err-replaces-clause-err : goal.returns-in_err-replaces-clause-err
 returns-in_err-replaces-clause-err c =
     let q = err_from_is_err_and c.from_residual.result c.from_residual.ensures.1 in
-    rw (q.1, q.2) (lead_unread c.args.scheme c.args.prefix.now c.args.headers.now (segments c.args.from.now.bytes) c.args.within c.in_err-replaces.field-0.0
+    rw (q.1, q.2) (lead_unread c.args.site.now c.args.prefix.now c.args.headers.now (segments c.args.from.now.bytes) c.args.within c.in_err-replaces.field-0.0
     c.in_err-replaces.ensures.err)
 
 pub returns-in_err-path-clause-err : goal.returns-in_err-path-clause-err

@@ -1,111 +1,37 @@
-use Rattle.std.proofs.Common.{◌≡◌, [], map, cond, sym, ap, ◌∙◌, subst}
-use Rattle.std.specs.Prelude.{option_map}
+use Rattle.std.proofs.Common.{inl}
+use Rattle.std.specs.Prelude.{IfErr, IfOk}
 use Rattle.std.proofs.lemmas.Result.{err_from_is_err_and}
 use Rattle.dav_path_core.specs.Segments.{segments}
-use Rattle.dav_files_core.specs.Meta.{meta_at, meta_of}
-use Rattle.dav_files_core.specs.Resources.{Resource, at_path}
-use Rattle.dav_session_core.specs.Callers.{live}
-use Rattle.dav_session_core.specs.LocksInTheWay.{IsRefusedBy, by_place}
-use Rattle.dav_methods_core.specs.MoveMethod.{FailsToMove}
-use Rattle.dav_session_core.specs.Moving.{refusing_move}
+use Rattle.dav_methods_core.specs.MoveMethod.{FailsToMove, Moves}
 use Rattle.dav_session_core.specs.Sessions as spec
-use Rattle.dav_methods_core.proofs.MoveCheckLemmas.{move_all, move_begun, move_halted, move_locked, move_lost, move_ready, move_short, move_unfit}
-use Rattle.dav_session_core.proofs.PutLemmas.{known_there}
+use Rattle.dav_methods_core.proofs.Acting.{held_before}
+use Rattle.dav_methods_core.proofs.MoveCheckLemmas.{leaves_before, move_halted, move_left}
 use Rattle.dav_methods_core.proofs.methods.moving.relocate.Goals as goal
 
-pub returns-in_err-check_whole-clause-err : goal.returns-in_err-check_whole-clause-err
-returns-in_err-check_whole-clause-err g c =
+pub returns-in_err-check_reach-clause-err : goal.returns-in_err-check_reach-clause-err
+returns-in_err-check_reach-clause-err g c =
     let q = err_from_is_err_and c.from_residual.result c.from_residual.ensures.1 in
-    rw (q.1, q.2) (move_halted c.args.scheme c.args.prefix.now c.args.headers.now (spec.caller c.args.session.now) (spec.state g.R.Rng.stream c.args.session.now)
-    (segments c.args.path.bytes) c.in_err-check_whole.field-0.0 c.in_err-check_whole.ensures.err)
+    rw (q.1, q.2) (inl (move_halted c.args.site.now c.args.prefix.now c.args.headers.now (spec.caller c.args.session.now) (spec.state g.R.Rng.stream c.args.session.now)
+    (segments c.args.path.bytes) c.in_err-check_reach.field-0.0 c.in_err-check_reach.ensures.err))
 
-pub returns-in_err-target-clause-err : goal.returns-in_err-target-clause-err
-returns-in_err-target-clause-err g c =
-    let q = err_from_is_err_and c.from_residual-in_err-target.result c.from_residual-in_err-target.ensures.1 in
-    rw (q.1, q.2) (move_unfit c.args.scheme c.args.prefix.now c.args.headers.now (spec.caller c.args.session.now) (spec.state g.R.Rng.stream c.args.session.now)
-    (segments c.args.path.bytes) c.in_err-target.field-0.0 c.in_ok-check_whole.ensures.ok c.in_err-target.ensures.err)
-
-pub returns-in-Err-clause-err : goal.returns-in-Err-clause-err
-returns-in-Err-clause-err g c =
-    let who = spec.caller c.args.session.now in
-    let s = spec.state g.R.Rng.stream c.args.session.now in
-    let asker = spec.caller c.ends_of.new.session in
-    let a = spec.state g.R.Rng.stream c.ends_of.new.session in
-    let from = segments c.args.path.bytes in
-    let to = c.in_ok-target.field-0.target in
-    let gone = map (λ q. segments q.bytes) c.in_ok-target.field-0.gone.items in
-    let e = c.in-Err.fault in
-    subst (FailsToMove c.args.scheme c.args.prefix.now c.args.headers.now (live who.now s) who from) (sym (c.by_place-in-Err.ensures ∙ ap (by_place from) c.by_place.ensures))
-    (move_locked c.args.scheme c.args.prefix.now c.args.headers.now who s from to (option_map meta_of c.in_ok-target.field-0.known) gone c.in_ok-target.ensures.ok asker a e
-    c.in_ok-check_whole.ensures.ok c.ends_of.ensures.looks.who c.ends_of.ensures.looks.live
-    (subst (λ xs. IsRefusedBy (refusing_move (live asker.now a) asker from (segments to.bytes) (map (λ q. segments q.bytes) xs)) e) c.deref.ensures.value c.in-Err.ensures.err))
-
-pub returns-in_err-relocate-clause-err : goal.returns-in_err-relocate-clause-err
-returns-in_err-relocate-clause-err g c =
-    let q = err_from_is_err_and c.from_residual-in_err-relocate.result c.from_residual-in_err-relocate.ensures.1 in
-    let who = spec.caller c.args.session.now in
-    let s = spec.state g.R.Rng.stream c.args.session.now in
-    let asker = spec.caller c.ends_of.new.session in
-    let a = spec.state g.R.Rng.stream c.ends_of.new.session in
-    let checker = spec.caller c.check_move.new.session in
-    let b = spec.state g.R.Rng.stream c.check_move.new.session in
-    let m = spec.state g.R.Rng.stream c.clear.new.self in
-    let from = segments c.args.path.bytes in
-    let to = c.in_ok-target.field-0.target in
-    let known = option_map meta_of c.in_ok-target.field-0.known in
-    let gone = map (λ q. segments q.bytes) c.in_ok-target.field-0.gone.items in
-    let free = subst (λ xs. refusing_move (live asker.now a) asker from (segments to.bytes) (map (λ q. segments q.bytes) xs) ≡ []) c.deref.ensures.value c.in-Ok.ensures.ok in
-    let ready = move_ready c.args.scheme c.args.prefix.now c.args.headers.now who s from to known gone c.in_ok-target.ensures.ok asker a checker b m c.ends_of.ensures.looks.who c.ends_of.ensures.looks.live
-    c.check_move.ensures.looks.who c.check_move.ensures.looks.live free c.in-Ok.ensures.shape c.clear.ensures.acts.run c.clear.ensures.cleared in
-    let mover = spec.caller c.clear.new.self in
-    let after = spec.state g.R.Rng.stream c.relocate.new.self in
-    let by = c.clear.ensures.acts.who ∙ c.check_move.ensures.looks.who ∙ c.ends_of.ensures.looks.who in
-    let short = move_short c.args.scheme c.args.prefix.now c.args.headers.now who s from to known gone c.in_ok-target.ensures.ok m ready mover after by c.in_err-relocate.field-0.0
-    c.in_err-relocate.ensures.err in
-    rw (q.1, q.2) (move_lost c.args.scheme c.args.prefix.now c.args.headers.now who s from c.in_err-relocate.field-0.0 short)
-
-pub returns-in_err-relocate-clause-left : goal.returns-in_err-relocate-clause-left
-returns-in_err-relocate-clause-left g c =
-    let q = err_from_is_err_and c.from_residual-in_err-relocate.result c.from_residual-in_err-relocate.ensures.1 in
-    let who = spec.caller c.args.session.now in
-    let s = spec.state g.R.Rng.stream c.args.session.now in
-    let asker = spec.caller c.ends_of.new.session in
-    let a = spec.state g.R.Rng.stream c.ends_of.new.session in
-    let checker = spec.caller c.check_move.new.session in
-    let b = spec.state g.R.Rng.stream c.check_move.new.session in
-    let m = spec.state g.R.Rng.stream c.clear.new.self in
-    let from = segments c.args.path.bytes in
-    let to = c.in_ok-target.field-0.target in
-    let known = option_map meta_of c.in_ok-target.field-0.known in
-    let gone = map (λ q. segments q.bytes) c.in_ok-target.field-0.gone.items in
-    let free = subst (λ xs. refusing_move (live asker.now a) asker from (segments to.bytes) (map (λ q. segments q.bytes) xs) ≡ []) c.deref.ensures.value c.in-Ok.ensures.ok in
-    let ready = move_ready c.args.scheme c.args.prefix.now c.args.headers.now who s from to known gone c.in_ok-target.ensures.ok asker a checker b m c.ends_of.ensures.looks.who c.ends_of.ensures.looks.live
-    c.check_move.ensures.looks.who c.check_move.ensures.looks.live free c.in-Ok.ensures.shape c.clear.ensures.acts.run c.clear.ensures.cleared in
-    let mover = spec.caller c.clear.new.self in
-    let after = spec.state g.R.Rng.stream c.relocate.new.self in
-    let by = c.clear.ensures.acts.who ∙ c.check_move.ensures.looks.who ∙ c.ends_of.ensures.looks.who in
-    let short = move_short c.args.scheme c.args.prefix.now c.args.headers.now who s from to known gone c.in_ok-target.ensures.ok m ready mover after by c.in_err-relocate.field-0.0
-    c.in_err-relocate.ensures.err in
-    rw (q.1, q.2) (move_begun c.args.scheme c.args.prefix.now c.args.headers.now who s from to known gone c.in_ok-target.ensures.ok m ready mover after by
-    c.in_err-relocate.field-0.0 short c.in_err-relocate.ensures.refused)
+pub returns-in_err-check_reach-clause-left : goal.returns-in_err-check_reach-clause-left
+returns-in_err-check_reach-clause-left g c =
+    let q = err_from_is_err_and c.from_residual.result c.from_residual.ensures.1 in
+    rw (q.1, q.2) (move_left c.args.site.now c.args.prefix.now c.args.headers.now (spec.caller c.args.session.now) (spec.state g.R.Rng.stream c.args.session.now)
+    (segments c.args.path.bytes) c.in_err-check_reach.field-0.0 (spec.state g.R.Rng.stream c.check_reach.new.session) c.check_reach.ensures.looks.live)
 
 pub returns-clause-done : goal.returns-clause-done
 returns-clause-done g c =
-    let who = spec.caller c.args.session.now in
-    let s = spec.state g.R.Rng.stream c.args.session.now in
-    let asker = spec.caller c.ends_of.new.session in
-    let a = spec.state g.R.Rng.stream c.ends_of.new.session in
-    let checker = spec.caller c.check_move.new.session in
-    let b = spec.state g.R.Rng.stream c.check_move.new.session in
-    let m = spec.state g.R.Rng.stream c.clear.new.self in
-    let from = segments c.args.path.bytes in
-    let to = c.in_ok-target.field-0.target in
-    let known = option_map meta_of c.in_ok-target.field-0.known in
-    let gone = map (λ q. segments q.bytes) c.in_ok-target.field-0.gone.items in
-    let free = subst (λ xs. refusing_move (live asker.now a) asker from (segments to.bytes) (map (λ q. segments q.bytes) xs) ≡ []) c.deref.ensures.value c.in-Ok.ensures.ok in
-    let there = known_there meta_of (λ (r : Resource). meta_at r.node) c.in_ok-target.field-0.known (at_path s.map (segments to.bytes)) c.in_ok-target.ensures.ok.known_is in
-    move_all c.args.scheme c.args.prefix.now c.args.headers.now who s from to known gone c.in_ok-target.ensures.ok m
-    (move_ready c.args.scheme c.args.prefix.now c.args.headers.now who s from to known gone c.in_ok-target.ensures.ok asker a checker b m c.ends_of.ensures.looks.who c.ends_of.ensures.looks.live
-    c.check_move.ensures.looks.who c.check_move.ensures.looks.live free c.in-Ok.ensures.shape c.clear.ensures.acts.run c.clear.ensures.cleared)
-    (spec.caller c.clear.new.self) (spec.state g.R.Rng.stream c.relocate.new.self) (c.clear.ensures.acts.who ∙ c.check_move.ensures.looks.who ∙ c.ends_of.ensures.looks.who)
-    c.done.result c.in_ok-check_whole.ensures.ok (c.done.ensures ∙ ap (λ b. cond b 204 201) there) c.in_ok-relocate.ensures.moved
+    held_before (λ w t. IfOk c.relocate_all.result (λ code. Moves c.args.site.now c.args.prefix.now c.args.headers.now t w (segments c.args.path.bytes) code
+    (spec.state g.R.Rng.stream c.relocate_all.new.session))) c.check_reach.ensures.looks c.relocate_all.ensures.done
+
+pub returns-clause-err : goal.returns-clause-err
+returns-clause-err g c =
+    held_before (λ w t. IfErr c.relocate_all.result (λ e. FailsToMove c.args.site.now c.args.prefix.now c.args.headers.now t w (segments c.args.path.bytes) e))
+    c.check_reach.ensures.looks c.relocate_all.ensures.err
+
+pub returns-clause-left : goal.returns-clause-left
+returns-clause-left g c =
+    leaves_before c.args.site.now c.args.prefix.now c.args.headers.now (spec.caller c.args.session.now) (spec.state g.R.Rng.stream c.args.session.now)
+    (segments c.args.path.bytes) (spec.caller c.check_reach.new.session) (spec.state g.R.Rng.stream c.check_reach.new.session)
+    (spec.state g.R.Rng.stream c.relocate_all.new.session) c.check_reach.ensures.looks.who c.check_reach.ensures.looks.live c.relocate_all.result c.relocate_all.ensures.left

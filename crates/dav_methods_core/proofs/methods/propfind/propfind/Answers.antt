@@ -1,4 +1,4 @@
-use Rattle.std.proofs.Common.{ℕ, List, [], ◌∷◌, codes, ◌++◌, map, Option, refl, sym, ap, ◌∙◌, subst}
+use Rattle.std.proofs.Common.{ℕ, List, [], ◌∷◌, codes, ◌++◌, map, refl, sym, ap, ◌∙◌, subst}
 use Rattle.std.proofs.lemmas.Result.{err_from_is_err_and}
 use Rattle.dav_path_core.specs.PathText.{PathText}
 use Rattle.dav_path_core.specs.Segments.{segments}
@@ -23,7 +23,7 @@ returns-clause-done g c =
     let question = question_of c.in_ok-question.question in
     let looks = c.places_within.ensures.looks in
     let told = c.in_ok-document.ensures.ok in
-    let named = ap (λ (principal : Option (List ℕ)). written_pieces (multistatus c.args.prefix.now principal question told.0)) (ap (λ (w : Caller). w.principal) looks.who) in (
+    let named = ap (λ (w : Caller). written_pieces (multistatus c.args.prefix.now w.principal w.now question told.0)) looks.who in (
       refl,
       record {
         depth = c.in_ok-depth.depth;

@@ -13,7 +13,7 @@ pub returns-clause-ok : goal.returns-clause-ok
 unfolding written_pieces
 returns-clause-ok g c =
     let told = c.in_ok-tell_each.ensures.ok in
-    let inside = flat_map (response_pieces c.args.prefix.now (spec.caller c.args.session.now).principal (question_of c.args.question.now)) told.resources in
+    let inside = flat_map (response_pieces c.args.prefix.now (spec.caller c.args.session.now).principal (spec.caller c.args.session.now).now (question_of c.args.question.now)) told.resources in
     let begun = c.in_ok-begin.ensures ∙ ap (λ (w : Writing). with_start w (dav_name (codes "multistatus")) []) c.new-writer.ensures in (
       told.resources,
       told.described,

@@ -20,7 +20,7 @@ tell_one-requires g c =
 pub loop-place-preserved : goal.loop-place-preserved
 loop-place-preserved g c =
     let who = spec.caller c.args.session.now in
-    λ now rest. tells_on c.args.prefix.now (spec.live_of g.R.Rng.stream c.args.session.now) who.principal (question_of c.args.question.now) (λ q. segments q.bytes) c.args.places.now c.loop-place.place-index c.place-item.result
+    λ now rest. tells_on c.args.prefix.now (spec.live_of g.R.Rng.stream c.args.session.now) who (question_of c.args.question.now) (λ q. segments q.bytes) c.args.places.now c.loop-place.place-index c.place-item.result
     (writing_of c.loop-place.writer) (writing_of c.tell_one.new.writer) now (writing_of c.args.writer.now) c.loop-place-test.true c.place-item.is c.in_ok-tell_one.ensures.ok
     (c.loop-place.invariant now) rest
 
@@ -30,5 +30,5 @@ returns-clause-ok g c =
     let s = spec.live_of g.R.Rng.stream c.args.session.now in
     let question = question_of c.args.question.now in
     let w = writing_of c.loop-place.writer in
-    c.loop-place.invariant w (subst (λ rest. TellsEach c.args.prefix.now s who.principal question (map (λ p. segments p.bytes) rest) w w)
-    (sym (drop_all c.loop-place.place-index c.args.places.now c.loop-place-test.false)) (tells_none c.args.prefix.now s who.principal question w))
+    c.loop-place.invariant w (subst (λ rest. TellsEach c.args.prefix.now s who question (map (λ p. segments p.bytes) rest) w w)
+    (sym (drop_all c.loop-place.place-index c.args.places.now c.loop-place-test.false)) (tells_none c.args.prefix.now s who question w))

@@ -13,5 +13,5 @@ invariant-loop-place g l =
     let who = spec.caller l.session in
     let s = spec.live_of g.R.Rng.stream l.session in
     (now : Writing)
-    → TellsEach l.prefix s who.principal (question_of l.question) (map (λ p. segments p.bytes) (drop l.place-index l.places)) (writing_of l.writer) now
-    → TellsEach l.prefix s who.principal (question_of l.question) (map (λ p. segments p.bytes) l.places) (writing_of l.fn.writer) now
+    → TellsEach l.prefix s who (question_of l.question) (map (λ p. segments p.bytes) (drop l.place-index l.places)) (writing_of l.writer) now
+    → TellsEach l.prefix s who (question_of l.question) (map (λ p. segments p.bytes) l.places) (writing_of l.fn.writer) now

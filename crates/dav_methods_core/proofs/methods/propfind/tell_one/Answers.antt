@@ -24,5 +24,6 @@ returns-clause-ok g c =
       resource = d;
       described = c.in_ok-description.ensures.ok;
       written = c.in_ok-write_response.ensures
-          ∙ ap (λ (who : Option (List ℕ)). and_pieces (writing_of c.args.writer.now) (response_pieces c.args.prefix.now who (question_of c.args.question.now) d)) c.principal.ensures;
+          ∙ ap (λ (who : Option (List ℕ)). and_pieces (writing_of c.args.writer.now) (response_pieces c.args.prefix.now who c.now.result.0 (question_of c.args.question.now) d)) c.principal.ensures
+          ∙ ap (λ (now : ℕ). and_pieces (writing_of c.args.writer.now) (response_pieces c.args.prefix.now (spec.caller c.args.session.now).principal now (question_of c.args.question.now) d)) c.now.ensures;
     }

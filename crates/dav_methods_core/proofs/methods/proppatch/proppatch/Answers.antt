@@ -1,4 +1,6 @@
 use Rattle.std.proofs.Common.{◌≡◌, ◌∙◌, ◌++◌, ◌∷◌, [], codes, List, ℕ, true, refl, sym, ap, subst, map}
+use Rattle.std.proofs.lemmas.Result.{err_from_is_err_and}
+use Rattle.dav_path_core.specs.declared.util.DavMethod.TheVariants as method
 use Rattle.dav_path_core.specs.Segments.{segments}
 use Rattle.dav_files_core.specs.Properties.{patch_update}
 use Rattle.dav_xml_core.specs.Writing.{document_bytes}
@@ -6,26 +8,42 @@ use Rattle.dav_session_core.specs.Callers.{live}
 use Rattle.dav_fields_core.specs.Fields.{values_in}
 use Rattle.dav_documents_core.specs.RefusalBodies.{xml_type}
 use Rattle.dav_documents_core.specs.PatchBodies.{any_protected, patch_nodes}
-use Rattle.dav_methods_core.specs.ProppatchMethod.{Changes}
+use Rattle.dav_methods_core.specs.ProppatchMethod.{CanPatch, CantPatch, Changes}
 use Rattle.dav_session_core.specs.Sessions as spec
 use Rattle.dav_session_core.proofs.Asking.{live_once}
+use Rattle.dav_session_core.proofs.Looking.{looks_on}
+use Rattle.dav_methods_core.proofs.CourseLemmas.{course_stays, stopped_after}
 use Rattle.dav_methods_core.proofs.methods.proppatch.proppatch.Goals as goal
+
+pub returns-in_err-check_conditions-clause-err : goal.returns-in_err-check_conditions-clause-err
+returns-in_err-check_conditions-clause-err g c =
+    let q = err_from_is_err_and c.from_residual-in_err-check_conditions.result c.from_residual-in_err-check_conditions.ensures.1 in
+    let who = spec.caller c.args.session.now in
+    let s = spec.state g.R.Rng.stream c.args.session.now in
+    let p = segments c.args.path.bytes in
+    let body = c.args.body.now in
+    rw (q.1, q.2) (stopped_after method.PropPatch p c.args.headers.now who.now s (spec.state g.R.Rng.stream c.updates_for.new.session) c.updates_for.ensures.looks.live
+    (CantPatch body (live who.now s) who p) (CanPatch body (live who.now s) who p) c.in_err-check_conditions.field-0.0 tt c.in_ok-updates.ensures.can
+    c.in_err-check_conditions.ensures.err)
 
 pub returns-then-any_protected-clause-done : goal.returns-then-any_protected-clause-done
 returns-then-any_protected-clause-done g c =
     let who = spec.caller c.args.session.now in
     let s = spec.state g.R.Rng.stream c.args.session.now in
-    let after = spec.state g.R.Rng.stream c.check_standing.new.session in
+    let after = spec.state g.R.Rng.stream c.check_conditions.new.session in
     let p = segments c.args.path.bytes in
     let updates = map patch_update c.in_ok-updates.updates.items in
+    let looks = looks_on c.updates_for.ensures.looks c.check_conditions.ensures.looks in
     let some : any_protected updates ≡ true = ap (λ us. any_protected (map patch_update us)) (sym c.deref-2.ensures.value) ∙ sym c.any_protected.ensures ∙ c.if-any_protected.true in
-    let same : Changes true who.now p updates (live who.now s) after = c.check_standing.ensures.looks.live ∙ sym (live_once who.now s) in
+    let same : Changes true who.now p updates (live who.now s) after = looks.live ∙ sym (live_once who.now s) in
     record {
       status_is = refl;
       updates = updates;
-      asks = c.in_ok-updates.ensures;
-      stood = c.in_ok-check_standing.ensures.ok.0;
-      free = c.in_ok-check_standing.ensures.ok.1;
+      asks = c.in_ok-updates.ensures.asked;
+      stood = c.in_ok-updates.ensures.can.stood;
+      free = c.in_ok-updates.ensures.can.free;
+      course = course_stays method.PropPatch p c.args.headers.now who.now s (spec.state g.R.Rng.stream c.updates_for.new.session) _ c.updates_for.ensures.looks.live
+          c.in_ok-check_conditions.ensures.ok;
       changes = subst (λ b. Changes b who.now p updates (live who.now s) after) (sym some) same;
       tells = c.in_ok-say_document.ensures.body ∙ ap (λ (front : List ℕ). front ++ c.in_ok-patch_document.field-0.items) c.requires.body
           ∙ c.in_ok-patch_document.ensures ∙ ap (λ us. document_bytes (patch_nodes c.args.prefix.now c.args.path (map patch_update us))) c.deref.ensures.value;

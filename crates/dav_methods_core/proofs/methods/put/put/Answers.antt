@@ -12,7 +12,8 @@ use Rattle.dav_methods_core.specs.Placing.{HasPlace}
 use Rattle.dav_session_core.specs.StoreRefusals.{put_fault}
 use Rattle.dav_session_core.specs.Sessions as spec
 use Rattle.dav_session_core.proofs.Looking.{looks_on}
-use Rattle.dav_session_core.proofs.PutLemmas.{after_look, known_at, known_there}
+use Rattle.dav_session_core.specs.Ends.{known_at}
+use Rattle.dav_session_core.proofs.PutLemmas.{after_look, known_there}
 use Rattle.dav_methods_core.proofs.PutMethodLemmas.{course_there, free_way, lacks_place_at, locked, put_done, put_refused, withheld}
 use Rattle.dav_methods_core.proofs.methods.put.put.Goals as goal
 

@@ -30,6 +30,8 @@ use Rattle.dav_methods_core.specs.PropertyAnswers.{Describes, last_or, place_url
 use Rattle.dav_documents_core.specs.PropertyDocuments.{Description}
 use Rattle.dav_documents_core.specs.PropertyUpdates.{Update}
 use Rattle.dav_methods_core.specs.RefreshMethod.{retimed_locks}
+use Rattle.dav_methods_core.specs.ToldPaths.{told_path}
+use Rattle.dav_methods_core.proofs.ToldPathLemmas.{rooted_told}
 use Rattle.dav_handler_core.specs.TagHistories.{Becomes}
 use Rattle.dav_documents_core.proofs.AskedNameLemmas.{question_names}
 use Rattle.dav_handler_core.proofs.DescriptionTextLemmas.{folder_url, http_date_visible, internet_date_visible, member_url, tag_visible, type_visible}
@@ -117,11 +119,12 @@ only_kept (update ∷ updates) h = (h.0.0, only_kept updates h.1)
 
 -- its answer is read as it was told
 pub patch_told : (before after : Server) (request : Request (List ℕ)) (status : ℕ) (sent : Sent) → length (body_of request) < 2 ^ 64 → (h : IsPropPatched before request status sent after)
-    → document_of sent.body ≡ Some (patch_nodes before.options.prefix h.path h.patches.updates)
+    → document_of sent.body ≡ Some (patch_nodes before.options.prefix (told_path (as_found before after).map h.path) h.patches.updates)
 patch_told before after request status sent fits h =
     let updates = h.patches.updates in
     ap document_of h.patches.tells
-    ∙ patch_is_read before.options.prefix h.path updates (target_rooted before.options.prefix (head_of request).uri h.path h.begins.names)
+    ∙ patch_is_read before.options.prefix (told_path (as_found before after).map h.path) updates
+    (rooted_told h.path (as_found before after).map (target_rooted before.options.prefix (head_of request).uri h.path h.begins.names))
     (only_kept updates (updates_are_kept (body_of request) updates fits h.patches.asks))
 
 -- ---- an answer
@@ -139,7 +142,7 @@ method_told (Some method.PropFind) before after request (Ok status) sent later k
     }
 method_told (Some method.PropPatch) before after request (Ok status) sent later kept fits h is =
     record {
-      document = record { nodes = patch_nodes before.options.prefix h.path h.patches.updates; is = patch_told before after request status sent fits h };
+      document = record { nodes = patch_nodes before.options.prefix (told_path (as_found before after).map h.path) h.patches.updates; is = patch_told before after request status sent fits h };
       typed = h.patches.typed;
     }
 method_told (Some method.Lock) before after request (Ok status) sent later kept fits h is = lock_told before after later kept request status sent fits h

@@ -20,6 +20,7 @@ use Rattle.dav_documents_core.specs.RefusalBodies.{xml_type}
 use Rattle.dav_documents_core.specs.PropertyUpdates.{Update, updates_in}
 use Rattle.dav_session_core.specs.Patching.{IsPatched}
 use Rattle.dav_methods_core.specs.ChangeConditions.{IsStopped, change_course}
+use Rattle.dav_methods_core.specs.ToldPaths.{told_path}
 
 -- all or none: where one of the properties is protected, nothing changes
 abbrev pub Changes : Bool → ℕ → Path → List Update → State → State → Type 0
@@ -37,7 +38,7 @@ pub record Patches (prefix : List ℕ) (headers : Entries FieldValue) (body : Li
   pub free : refusing_at s who (segments path.bytes) ≡ []
   pub course : change_course method.PropPatch s.map (segments path.bytes) headers ≡ Ok tt
   pub changes : Changes (any_protected updates) who.now (segments path.bytes) updates s s'
-  pub tells : sent.body ≡ document_bytes (patch_nodes prefix path updates)
+  pub tells : sent.body ≡ document_bytes (patch_nodes prefix (told_path s.map path) updates)
   pub typed : sent.types ≡ xml_type ∷ []
 
 -- All but the conditions: the body asks for updates of what stands there, and no lock refuses it.

@@ -6,7 +6,7 @@ ghost use Rattle.http_server.specs.declared.response.Response.{Response};
 ghost use Rattle.http.specs.Request.{body_of};
 ghost use Rattle.dav_xml_core.specs.Reading.{document_of};
 ghost use Rattle.dav_handler_core.specs.Answers.{Answers};
-ghost use Rattle.dav_handler_core.specs.MethodAnswers.{IsPropPatched};
+ghost use Rattle.dav_handler_core.specs.MethodAnswers.{IsPropPatched, as_found};
 ghost use Rattle.dav_handler_core.specs.Server.{Server};
 ghost use Rattle.dav_session_core.specs.Callers.{SameLive};
 ghost use Rattle.dav_handler_core.specs.Deciding.{HeldOff, SaysDone, SendsPart, SendsTag, WentOn};
@@ -16,6 +16,7 @@ ghost use Rattle.dav_handler_core.specs.Holding.{IsKeptUnlessHeld, StandsUnlessE
 ghost use Rattle.dav_handler_core.specs.KeptDocuments.{IsNew, KeepsElements, TellsXml};
 ghost use Rattle.dav_handler_core.specs.KeptDocuments.{is_told_in_xml};
 ghost use Rattle.dav_documents_core.specs.PatchBodies.{patch_nodes};
+ghost use Rattle.dav_methods_core.specs.ToldPaths.{told_path};
 ghost use Rattle.dav_handler_core.specs.TagHistories.{Becomes};
 ghost use Rattle.dav_locks_core.specs.Exclusive.{Exclusive};
 
@@ -73,6 +74,7 @@ pub fn answers_are_documents()
     ensures patched { (before after : Server) (request : Request (List ℕ)) (status : ℕ)
         (sent : Sent) → length (body_of request) < 2 ^ 64
         → (h : IsPropPatched before request status sent after) → document_of sent.body
-        ≡ Some (patch_nodes before.options.prefix h.path h.patches.updates) }
+        ≡ Some (patch_nodes before.options.prefix (told_path (as_found before after).map h.path)
+        h.patches.updates) }
     ensures kept { (begun s : Server) → IsNew begun → Becomes begun s → KeepsElements s }
 {}

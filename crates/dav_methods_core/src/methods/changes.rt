@@ -60,7 +60,7 @@ pub(super) fn check_above<R: Rng>(session: &mut Session<R>, path: &DavPath) -> R
 }
 
 // The path above.
-pub(super) fn parent_of(path: &DavPath) -> Result<DavPath, Fault>
+fn parent_of(path: &DavPath) -> Result<DavPath, Fault>
     ensures ok { IfOk result (λ above. segments above.bytes ≡ parent (segments path.now.bytes)) }
     ensures err { IfErr result (λ e. e ≡ fault.InsufficientStorage) }
 {

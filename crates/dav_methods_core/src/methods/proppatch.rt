@@ -12,6 +12,7 @@ ghost use Rattle.dav_methods_core.specs.ProppatchMethod.{LacksStanding, Patches}
 ghost use Rattle.dav_session_core.specs.Sessions.{Acts, Looks, Stays, caller, live_of, state};
 
 use super::preconditions::check_conditions;
+use super::told_paths::told_path;
 use crate::refusals::say_document;
 use dav_documents_core::patch_bodies::{any_protected, patch_document};
 use dav_documents_core::property_updates::property_updates;
@@ -27,7 +28,8 @@ use rand_core::Rng;
 use std::alloc::Global;
 
 /// Sets and removes properties in the order of the body, all or none, and answers 207 with what
-/// became of each (RFC 4918 section 9.2).
+/// became of each (RFC 4918 section 9.2). The path of a folder is told with a slash at its end
+/// (section 5.2).
 ///
 /// `BadRequest` for a body that asks for no such thing; else `NotFound` where nothing stands at the
 /// path; else `Locked` where a lock stands in the way, with its path; and then, by the conditions of
@@ -53,7 +55,8 @@ pub fn proppatch<R: Rng>(
 {
     let updates = updates_for(alloc, session, &path, body)?;
     check_conditions(alloc, session, DavMethod::PropPatch, headers, &path)?;
-    say_document(response, patch_document(alloc, prefix, &path, &updates)?)?;
+    let told = told_path(alloc, session, copy_of(&path)?)?;
+    say_document(response, patch_document(alloc, prefix, &told, &updates)?)?;
     if any_protected(&updates) {
         return Ok(StatusCode::MULTI_STATUS);
     }

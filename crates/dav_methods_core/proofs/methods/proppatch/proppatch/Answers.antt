@@ -1,6 +1,7 @@
 use Rattle.std.proofs.Common.{◌≡◌, ◌∙◌, ◌++◌, ◌∷◌, [], codes, List, ℕ, true, refl, sym, ap, subst, map}
 use Rattle.std.proofs.lemmas.Result.{err_from_is_err_and}
 use Rattle.dav_path_core.specs.declared.util.DavMethod.TheVariants as method
+use Rattle.dav_path_core.specs.PathText.{PathText}
 use Rattle.dav_path_core.specs.Segments.{segments}
 use Rattle.dav_files_core.specs.Properties.{patch_update}
 use Rattle.dav_xml_core.specs.Writing.{document_bytes}
@@ -9,10 +10,12 @@ use Rattle.dav_fields_core.specs.Fields.{values_in}
 use Rattle.dav_documents_core.specs.RefusalBodies.{xml_type}
 use Rattle.dav_documents_core.specs.PatchBodies.{any_protected, patch_nodes}
 use Rattle.dav_methods_core.specs.ProppatchMethod.{CanPatch, CantPatch, Changes}
+use Rattle.dav_methods_core.specs.ToldPaths.{told_path}
 use Rattle.dav_session_core.specs.Sessions as spec
 use Rattle.dav_session_core.proofs.Asking.{live_once}
 use Rattle.dav_session_core.proofs.Looking.{looks_on}
 use Rattle.dav_methods_core.proofs.CourseLemmas.{course_stays, stopped_after}
+use Rattle.dav_methods_core.proofs.LockMethodLemmas.{told_before}
 use Rattle.dav_methods_core.proofs.methods.proppatch.proppatch.Goals as goal
 
 pub returns-in_err-check_conditions-clause-err : goal.returns-in_err-check_conditions-clause-err
@@ -30,10 +33,13 @@ pub returns-then-any_protected-clause-done : goal.returns-then-any_protected-cla
 returns-then-any_protected-clause-done g c =
     let who = spec.caller c.args.session.now in
     let s = spec.state g.R.Rng.stream c.args.session.now in
-    let after = spec.state g.R.Rng.stream c.check_conditions.new.session in
+    let after = spec.state g.R.Rng.stream c.told_path.new.session in
     let p = segments c.args.path.bytes in
     let updates = map patch_update c.in_ok-updates.updates.items in
-    let looks = looks_on c.updates_for.ensures.looks c.check_conditions.ensures.looks in
+    let first = looks_on c.updates_for.ensures.looks c.check_conditions.ensures.looks in
+    let looks = looks_on first c.told_path.ensures.looks in
+    let told = told_before c.args.path c.in_ok-told.told first
+    (subst (λ (q : PathText). c.in_ok-told.told ≡ told_path (spec.state g.R.Rng.stream c.check_conditions.new.session).map q) c.in_ok-copy_of.ensures c.in_ok-told.ensures.ok) in
     let some : any_protected updates ≡ true = ap (λ us. any_protected (map patch_update us)) (sym c.deref-2.ensures.value) ∙ sym c.any_protected.ensures ∙ c.if-any_protected.true in
     let same : Changes true who.now p updates (live who.now s) after = looks.live ∙ sym (live_once who.now s) in
     record {
@@ -46,7 +52,8 @@ returns-then-any_protected-clause-done g c =
           c.in_ok-check_conditions.ensures.ok;
       changes = subst (λ b. Changes b who.now p updates (live who.now s) after) (sym some) same;
       tells = c.in_ok-say_document.ensures.body ∙ ap (λ (front : List ℕ). front ++ c.in_ok-patch_document.field-0.items) c.requires.body
-          ∙ c.in_ok-patch_document.ensures ∙ ap (λ us. document_bytes (patch_nodes c.args.prefix.now c.args.path (map patch_update us))) c.deref.ensures.value;
+          ∙ c.in_ok-patch_document.ensures ∙ ap (λ us. document_bytes (patch_nodes c.args.prefix.now c.in_ok-told.told (map patch_update us))) c.deref.ensures.value
+          ∙ ap (λ (q : PathText). document_bytes (patch_nodes c.args.prefix.now q updates)) told;
       typed = ap (λ fields. values_in fields (codes "content-type"))
           (c.in_ok-say_document.ensures.fields ∙ ap (λ front. front ++ (codes "content-type", xml_type) ∷ []) c.requires.headers);
     }

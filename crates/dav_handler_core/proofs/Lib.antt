@@ -8,7 +8,10 @@ pub mod HoldingLaws
 pub mod KeptStoreLaws
 pub mod LockAnswerLemmas
 pub mod LockTextLemmas
+pub mod MomentLaws
+mod MomentRows
 pub mod PatchAnswerLemmas
+pub mod PathHistoryLemmas
 pub mod PromiseLaws
 pub mod TagLaws
 mod TagRows

@@ -21,7 +21,7 @@ use Rattle.dav_files_core.specs.declared.memfs.Kind.TheVariants.{Folder, File}
 use Rattle.dav_files_core.specs.Following.{dated_entry}
 use Rattle.dav_files_core.specs.Outcomes.{new_folder, start}
 use Rattle.dav_files_core.specs.ResourcePutting.{put}
-use Rattle.dav_files_core.specs.Resources.{Node, Resource, at_path}
+use Rattle.dav_files_core.specs.Resources.{IsResourceMap, Node, Resource, at_path}
 use Rattle.dav_resource_core.specs.Step.{State}
 use Rattle.dav_faults_core.specs.declared.faults.Fault.{Fault}
 use Rattle.dav_faults_core.specs.declared.faults.Fault.TheVariants as fault
@@ -42,9 +42,11 @@ use Rattle.dav_documents_core.specs.PropertyUpdates.{Update}
 use Rattle.dav_methods_core.specs.PutMethod.{Puts}
 use Rattle.dav_session_core.specs.Removing.{IsRemoved}
 use Rattle.dav_handler_core.specs.Serving.{Leads}
+use Rattle.dav_handler_core.specs.PathMoments.{IsAlong, IsFileAt}
 use Rattle.dav_handler_core.specs.TagHistories.{HasFile, HasNoFiles, MomentsTell, TagsTell, Becomes}
 use Rattle.dav_handler_core.specs.TagHistories.Becomes.{itself, by_clock, by_answer}
 use Rattle.dav_handler_core.proofs.FileHistoryLemmas.{Come, Had, bytes_of, cleared_come, cleared_folder, copied_come, moved_come, removed_come}
+use Rattle.dav_handler_core.proofs.PathHistoryLemmas.{Follow, Stays, cleared_bare, cleared_follows, copied_follows, made_follows, moved_follows, one_follows, patched_stays, removed_follows, stays}
 use Rattle.dav_fields_core.proofs.FileTagLemmas.{tells}
 use Rattle.dav_path_core.proofs.paths.AbovePaths.{parent_front}
 use Rattle.dav_methods_core.proofs.PutMethodLemmas.{Found, put_found}
@@ -53,18 +55,29 @@ use Rattle.dav_files_core.proofs.paths.RemovedMaps.{above_out}
 -- ---- one answer
 
 -- Each file after it stood there before with its bytes, or is new. The last moment is that of a new file, and later than any before; all new files
--- have the same bytes.
-record Dates (before after : Server) : Type 0 where
+-- have the same bytes. At its path the same file stood, or that moment is along the path.
+pub record Dates (before after : Server) : Type 0 where
   bytes : List ℕ
-  moments : before.last ≤ after.last
+  pub moments : before.last ≤ after.last
   files : (file : Resource) → HasFile after.state.map file
       → Had before.state.map file.node.modified file.node.bytes ⊎ ((before.last < after.last) × (file.node.modified ≡ after.last) × (file.node.bytes ≡ bytes))
+  pub places : IsResourceMap before.state.map → (p : Path) (file : Resource) → IsFileAt after.state.map p file
+      → Stays before.state.map after.state.map p file ⊎ ((before.last < after.last) × IsAlong after.state.map p after.last)
+
+placed : (before after : Server) → before.last < after.last → (IsResourceMap before.state.map → Follow before.state.map after.last after.state.map)
+    → IsResourceMap before.state.map → (p : Path) (file : Resource) → IsFileAt after.state.map p file
+    → Stays before.state.map after.state.map p file ⊎ ((before.last < after.last) × IsAlong after.state.map p after.last)
+placed before after later follows shape p file here = elim (follows shape p file here) [
+  | inl old ↦ inl old
+  | inr new ↦ inr (later, new)
+]
 
 same_map : (before after : Server) → before.last ≤ after.last → after.state.map ≡ before.state.map → Dates before after
 same_map before after later same = record {
   bytes = [];
   moments = later;
   files = λ file has. inl (file, subst (λ m. HasFile m file) same has, refl, refl);
+  places = λ shape p file here. inl (stays before.state.map after.state.map p (λ q front. ap (λ m. at_path m q) same) file here);
 }
 
 file_dates : (before after : Server) (p : Path) (bytes : List ℕ) → before.last < after.last → Found before.state.map p bytes after.last after.state.map → Dates before after
@@ -77,6 +90,7 @@ file_dates before after p bytes later h = record {
         inr (later, ap (λ (r : Resource). r.node.modified) is ∙ h.modified, ap (λ (r : Resource). r.node.bytes) is ∙ h.bytes_are)
     | inr apart ↦ inl (file, (has.0, sym (h.others has.0 apart) ∙ has.1, has.2), refl, refl)
   ];
+  places = placed before after later (λ shape. one_follows before.state.map after.state.map after.last p h.file h.here h.modified h.others);
 }
 
 put_dates : (before after : Server) (p : Path) (bytes : List ℕ) → before.last < after.last → Puts before.state after.last p bytes after.state → Dates before after
@@ -103,11 +117,11 @@ lock_dates before after request status sent later h = elim h.locks [
 ]
 
 -- a new folder is no file, and neither is the one that it stands in
-make_dates : (before after : Server) (headers : Entries FieldValue) (who : Caller) (p : Path) (status : ℕ) → before.last ≤ after.last
+make_dates : (before after : Server) (headers : Entries FieldValue) (who : Caller) (p : Path) (status : ℕ) → before.last < after.last → who.now ≡ after.last
     → Makes headers (as_found before after) who p status after.state → Dates before after
-make_dates before after headers who p status later h = record {
+make_dates before after headers who p status later now h = record {
   bytes = [];
-  moments = later;
+  moments = omega (arith, later);
   files = λ file has. elim (dec path_total path_exact has.0 p) [
     | inl here ↦
         let is = one_some (at_path after.state.map p) file h.folder (subst (λ q. at_path after.state.map q ≡ Some file) here has.1) h.here in
@@ -121,6 +135,8 @@ make_dates before after headers who p status later h = record {
       | inr below ↦ inl (file, (has.0, sym (h.others has.0 apart below) ∙ has.1, has.2), refl, refl)
     ]
   ];
+  places = placed before after later (λ shape. subst (λ n. Follow before.state.map n after.state.map) now
+      (made_follows before.state.map after.state.map who.now p h.above h.changed h.others));
 }
 
 -- properties are no bytes, and their changes leave the moments
@@ -135,6 +151,7 @@ patched_dates before after p updates later h = record {
         inl (h.resource, (p, h.stood, sym (ap (λ (r : Resource). r.node.kind) is) ∙ has.2), sym (ap (λ (r : Resource). r.node.modified) is), sym (ap (λ (r : Resource). r.node.bytes) is))
     | inr apart ↦ inl (file, (has.0, sym (h.others has.0 apart) ∙ has.1, has.2), refl, refl)
   ];
+  places = λ shape q file here. inl (patched_stays before.state.map after.state.map after.last p h.resource (with_updates updates h.resource) h.stood h.stands refl refl h.others refl refl q file here);
 }
 
 patch_dates : (before after : Server) (protected : Bool) (p : Path) (updates : List Update) → before.last ≤ after.last
@@ -143,43 +160,31 @@ patch_dates before after true p updates later h = same_map before after later (a
 patch_dates before after false p updates later h = patched_dates before after p updates later h
 
 -- what comes from a map at the last moment
-come_dates : (before after : Server) (bytes : List ℕ) → before.last < after.last → Come before.state.map after.last bytes after.state.map → Dates before after
-come_dates before after bytes later come = record {
+come_dates : (before after : Server) (bytes : List ℕ) → before.last < after.last → Come before.state.map after.last bytes after.state.map
+    → (IsResourceMap before.state.map → Follow before.state.map after.last after.state.map) → Dates before after
+come_dates before after bytes later come follows = record {
   bytes = bytes;
   moments = omega (arith, later);
   files = λ file has. elim (come file has) [
     | inl had ↦ inl had
     | inr new ↦ inr (later, new.0, new.1)
   ];
+  places = placed before after later follows;
 }
 
 -- what is left elsewhere is as it was, but that a folder has another moment
 remove_dates : (before after : Server) (p : Path) → before.last < after.last → IsRemoved after.last p (as_found before after) after.state → Dates before after
 remove_dates before after p later h = come_dates before after _ later (removed_come after.last p (as_found before after) after.state h)
+    (λ shape. removed_follows after.last p (as_found before after) after.state h)
 
 -- a copy has the bytes and the moment of what it copies
-copy_dates : (before after : Server) (deep : Bool) (from to : Path) (mid : State) → before.last < after.last → IsCleared after.last to (as_found before after) mid
-    → IsPartlyCopied after.last deep from to mid (live after.last after.state) → Dates before after
+copy_dates : (before after : Server) (deep : Bool) (from to : Path) (mid : State) → before.last < after.last
+    → IsCleared after.last to (as_found before after) mid → IsPartlyCopied after.last deep from to mid (live after.last after.state) → Dates before after
 copy_dates before after deep from to mid later cleared copied =
     let s = as_found before after in
     let bytes = bytes_of (at_path s.map (parent to)) in
     come_dates before after bytes later (copied_come s.map after.last bytes mid (live after.last after.state) (cleared_come after.last to s mid cleared) deep from to copied)
-
--- and so has what is moved
-move_dates : (before after : Server) (from to : Path) (mid : State) → before.last < after.last → HasFolder (as_found before after).map (parent from)
-    → HasFolder (as_found before after).map (parent to) → is_front to (parent from) ≡ false → is_front to (parent to) ≡ false
-    → IsCleared after.last to (as_found before after) mid → IsMoved after.last from to mid after.state → Dates before after
-move_dates before after from to mid later above_from above_to out_from out_to cleared moved =
-    let s = as_found before after in
-    let bytes = bytes_of (at_path s.map (parent to)) in
-    come_dates before after bytes later (moved_come s.map after.last bytes mid after.state (cleared_come after.last to s mid cleared) from to
-    (cleared_folder after.last to (parent from) s mid cleared out_from above_from) (cleared_folder after.last to (parent to) s mid cleared out_to above_to) moved)
-
-live_map : (now : ℕ) (s s' : State) → SameLive now s s' → s'.map ≡ s.map
-live_map now s s' h = ap (λ (s : State). s.map) h
-
-whole_part : (now : ℕ) (deep : Bool) (from to : Path) (s s' : State) → IsCopied now deep from to s s' → IsPartlyCopied now deep from to s s'
-whole_part now deep from to s s' h = record { there = λ rest. inr (h.there rest); others = h.others; left = h.left }
+    (λ shape. copied_follows s.map after.last mid (live after.last after.state) (cleared_follows after.last to s mid cleared) deep from to copied (cleared_bare after.last to s mid shape cleared))
 
 -- the folders of both ends are elsewhere
 parent_out : (to from : Path) → is_front to from ≡ false → is_front to (parent from) ≡ false
@@ -187,6 +192,27 @@ parent_out to from out = false_from_ne_true _ (λ h. true≢false (sym (is_front
 
 parent_out_own : (to from : Path) → is_front to from ≡ false → is_front to (parent to) ≡ false
 parent_out_own to from out = above_out to (λ none. true≢false (ap (λ t. is_front t from) (sym none) ∙ out))
+
+-- and so has what is moved
+move_dates : (before after : Server) (from to : Path) (mid : State) → before.last < after.last → HasFolder (as_found before after).map (parent from)
+    → HasFolder (as_found before after).map (parent to) → is_front to from ≡ false → is_front from to ≡ false
+    → IsCleared after.last to (as_found before after) mid → IsMoved after.last from to mid after.state → Dates before after
+move_dates before after from to mid later above_from above_to to_from from_to cleared moved =
+    let s = as_found before after in
+    let bytes = bytes_of (at_path s.map (parent to)) in
+    let out_from = parent_out to from to_from in
+    let out_to = parent_out_own to from to_from in
+    let folder_from = cleared_folder after.last to (parent from) s mid cleared out_from above_from in
+    let folder_to = cleared_folder after.last to (parent to) s mid cleared out_to above_to in
+    come_dates before after bytes later (moved_come s.map after.last bytes mid after.state (cleared_come after.last to s mid cleared) from to folder_from folder_to moved)
+    (λ shape. moved_follows s.map after.last mid after.state (cleared_follows after.last to s mid cleared) from to folder_from folder_to (parent_out_own from to from_to) out_from
+    (parent_out from to from_to) out_to moved)
+
+live_map : (now : ℕ) (s s' : State) → SameLive now s s' → s'.map ≡ s.map
+live_map now s s' h = ap (λ (s : State). s.map) h
+
+whole_part : (now : ℕ) (deep : Bool) (from to : Path) (s s' : State) → IsCopied now deep from to s s' → IsPartlyCopied now deep from to s s'
+whole_part now deep from to s s' h = record { there = λ rest. inr (h.there rest); others = h.others; left = h.left }
 
 -- what a COPY or a MOVE leaves that is refused
 copy_left : (before after : Server) (request : Request (List ℕ)) (e : Fault) → before.last ≤ after.last → Leaves (Some method.Copy) before request e after → Dates before after
@@ -202,6 +228,7 @@ move_left before after request fault.InsufficientStorage later (inr h) =
     let to = segments h.1.to.bytes in
     let s = as_found before after in
     come_dates before after (bytes_of (at_path s.map (parent to))) h.0 (cleared_come after.last to s (live after.last after.state) h.1.cleared)
+    (λ shape. cleared_follows after.last to s (live after.last after.state) h.1.cleared)
 move_left before after request _ later h = same_map before after later (live_map after.last before.state after.state h)
 
 lock_left : (before after : Server) (request : Request (List ℕ)) (e : Fault) → before.last ≤ after.last → Leaves (Some method.Lock) before request e after → Dates before after
@@ -241,11 +268,11 @@ method_dates (Some method.Move) before after request (Ok status) sent later h re
     let to = segments h.does.1.to.bytes in
     let from = segments h.path.bytes in
     let apart = or_parts (is_front to from) (is_front from to) h.does.1.leads.apart in
-    move_dates before after from to h.does.1.mid (h.later refl) h.does.1.stood_in h.does.1.fit.above (parent_out to from apart.0) (parent_out_own to from apart.0)
+    move_dates before after from to h.does.1.mid (h.later refl) h.does.1.stood_in h.does.1.fit.above apart.0 apart.1
     (subst (λ n. IsCleared n to (as_found before after) h.does.1.mid) now h.does.1.cleared) (subst (λ n. IsMoved n from to h.does.1.mid after.state) now h.does.1.moved)
 method_dates (Some method.Move) before after request (Err e) sent later h refused = move_left before after request e later refused
 method_dates (Some method.MkCol) before after request (Ok status) sent later h refused =
-    make_dates before after (head_of request).headers h.who (segments h.path.bytes) status later h.does.1
+    make_dates before after (head_of request).headers h.who (segments h.path.bytes) status (h.later refl) h.begins.now h.does.1
 method_dates (Some method.MkCol) before after request (Err e) sent later h refused =
     same_map before after later (live_map after.last before.state after.state refused)
 method_dates (Some method.Unlock) before after request (Ok status) sent later h refused =
@@ -265,11 +292,11 @@ method_dates (Some method.Options) before after request (Ok status) sent later h
 method_dates (Some method.Options) before after request (Err e) sent later h refused = same_map before after later (ap (λ (s : State). s.map) h.1)
 method_dates _ before after request result sent later h refused = same_map before after later (ap (λ (s : State). s.map) h.1)
 
-answer_dates : (before after : Server) (request : Request (List ℕ)) (response : Response) → Answers before request response after → Dates before after
+pub answer_dates : (before after : Server) (request : Request (List ℕ)) (response : Response) → Answers before request response after → Dates before after
 answer_dates before after request response h =
     method_dates h.method before after request h.result (sent_of response) h.moves.moments h.done h.refused
 
-clock_dates : (s : Server) (now : ℕ) → Dates s (record s { clock = now })
+pub clock_dates : (s : Server) (now : ℕ) → Dates s (record s { clock = now })
 clock_dates s now = same_map s (record s { clock = now }) (omega arith) refl
 
 -- ---- moments go on to tell

@@ -3,6 +3,7 @@ pub mod Deciding
 pub mod Holding
 pub mod KeptDocuments
 pub mod MethodAnswers
+pub mod PathMoments
 pub mod Private
 pub mod Promises
 pub mod Server

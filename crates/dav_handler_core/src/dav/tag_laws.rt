@@ -1,9 +1,11 @@
-//! The laws of entity tags over a server's run. They do nothing.
+//! The laws of entity tags, and of moments, over a server's run. They do nothing.
 ghost use Rattle.std.specs.Prelude.{ℕ, List};
 ghost use Rattle.http_frames.specs.Clients.{Turn};
 ghost use Rattle.http_server.specs.Exchange.{Call, Chain};
 ghost use Rattle.dav_files_core.specs.Outcomes.{start};
 ghost use Rattle.dav_handler_core.specs.Answers.{Answers};
+ghost use Rattle.dav_handler_core.specs.KeptDocuments.{IsNew};
+ghost use Rattle.dav_handler_core.specs.PathMoments.{DatesTellFiles, MomentsTellFiles};
 ghost use Rattle.dav_handler_core.specs.Server.{Server};
 ghost use Rattle.dav_handler_core.specs.Serving.{Leads};
 ghost use Rattle.dav_handler_core.specs.TagHistories.{Becomes, HasNoFiles, MomentsTell, TagsTell};
@@ -18,6 +20,21 @@ pub fn tags_tell_bytes()
         → Becomes s s' → TagsTell s s' }
     ensures begins { (s : Server) → HasNoFiles s.state.map → MomentsTell s }
     ensures goes_on { (s s' : Server) → MomentsTell s → Becomes s s' → MomentsTell s' }
+{}
+
+/// The law of moments along a path over a run from new stores (own). Those are the moment at which
+/// what stands at the path was made, that of its last change, and those of the last change of each
+/// folder above. It does nothing.
+///
+/// - Where a file stood at a path at one moment of the run, and a file stands there later, they have
+///   the same bytes, or a moment along the path is later than all were then.
+/// - So they have the same bytes where a date, in whole seconds, is not after the last change of the
+///   one, and no moment along the path of the other is after that date.
+pub fn moments_tell_files()
+    ensures moments { (begun s s' : Server) → IsNew begun → Becomes begun s → Becomes s s'
+        → MomentsTellFiles s s' }
+    ensures dates { (begun s s' : Server) → IsNew begun → Becomes begun s → Becomes s s'
+        → DatesTellFiles s s' }
 {}
 
 /// The law that `tags_tell_bytes` is of this server: new stores have no files, and what the calls

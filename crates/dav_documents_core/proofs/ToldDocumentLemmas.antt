@@ -11,9 +11,8 @@ use Rattle.dav_locks_core.specs.Lock.{Lock}
 use Rattle.dav_locks_core.specs.Locks.{same_text}
 use Rattle.dav_documents_core.specs.declared.live_properties.Live.{Live}
 use Rattle.dav_documents_core.specs.declared.live_properties.Live.TheVariants as live
-use Rattle.dav_documents_core.specs.declared.live_properties.TheConstants.{LIVE}
 use Rattle.dav_documents_core.specs.KeptElements.{IsDocument, IsElementIn, IsElementName, IsKeptLock, IsKeptProperty, IsVisible}
-use Rattle.dav_documents_core.specs.LiveProperties.{has_live, live_named, live_word}
+use Rattle.dav_documents_core.specs.LiveProperties.{has_live, live_named, live_properties, live_word}
 use Rattle.dav_documents_core.specs.LockDocuments.{active_lock, depth_word, discovery_pieces, kind_nodes, lock_discovery, lock_name_nodes, owner_pieces, scope_word, seconds_between, supported_locks, terms, lock_timeout_text, time_left_text, token_nodes}
 use Rattle.dav_documents_core.specs.Pieces.{DocumentPiece, enclosed_pieces, made_pieces, written_pieces}
 use Rattle.dav_documents_core.specs.PropertyDocuments.{Description, dead_name_nodes, dead_pieces, dead_value, finds, found_pieces, found_stat, has_value, is_dead, is_named, kept_pieces, lacks, live_pieces, missing_nodes, missing_of, multistatus, name_nodes, name_of_property, own_name_nodes, own_pieces, propstat, response_pieces, text_element, type_nodes, value_by, value_pieces}
@@ -205,10 +204,10 @@ module _ (prefix : List ℕ) (principal : Option (List ℕ)) (now : ℕ) where
 
   found_fine : (d : Description) (question : Question) → IsTellable d → AreFine (found_pieces prefix principal now d question)
   found_fine d (All included) h =
-      both (flat_map (own_pieces prefix principal now d) LIVE) (flat_map dead_pieces d.props) (all_of (own_pieces prefix principal now d) LIVE (each_own d LIVE h))
+      both (flat_map (own_pieces prefix principal now d) live_properties) (flat_map dead_pieces d.props) (all_of (own_pieces prefix principal now d) live_properties (each_own d live_properties h))
       (all_of dead_pieces d.props (dead_fine d.props h.props))
   found_fine d Names h =
-      nodes_both (flat_map (own_name_nodes d) LIVE) (flat_map dead_name_nodes d.props) (nodes_of (own_name_nodes d) LIVE (each_live_name d LIVE))
+      nodes_both (flat_map (own_name_nodes d) live_properties) (flat_map dead_name_nodes d.props) (nodes_of (own_name_nodes d) live_properties (each_live_name d live_properties))
       (nodes_of dead_name_nodes d.props (each_dead_name d.props h.props))
   found_fine d (Listed asked) h = all_of (value_pieces prefix principal now d) asked (each_value d asked h)
 

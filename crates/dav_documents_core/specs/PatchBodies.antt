@@ -5,7 +5,7 @@ use Rattle.dav_path_core.specs.PathText.{PathText}
 use Rattle.dav_files_core.specs.Resources.{Property}
 use Rattle.dav_xml_core.specs.Documents.{Node, Start, Text, End}
 use Rattle.dav_xml_core.specs.Writing.{dav_namespace}
-use Rattle.dav_documents_core.specs.declared.patch_bodies.TheConstants.{LIVE}
+use Rattle.dav_documents_core.specs.LiveProperties.{is_live_word}
 use Rattle.dav_documents_core.specs.PropertyUpdates.{Update}
 use Rattle.dav_documents_core.specs.RefusalBodies.{element, href}
 
@@ -16,7 +16,7 @@ namespace_of p = unwrap_or p.namespace []
 
 -- one that the server keeps itself (section 15)
 abbrev pub is_live : Property → Bool
-is_live p = bytes_eq (namespace_of p) dav_namespace && list_any (λ name. bytes_eq name.now p.name) LIVE
+is_live p = bytes_eq (namespace_of p) dav_namespace && is_live_word p.name
 
 abbrev pub is_protected : Update → Bool
 is_protected update = is_live update.1

@@ -7,8 +7,7 @@ use Rattle.dav_files_core.specs.Resources.{Property}
 use Rattle.dav_locks_core.specs.Lock.{Lock}
 use Rattle.dav_documents_core.specs.declared.live_properties.Live.{Live}
 use Rattle.dav_documents_core.specs.declared.live_properties.Live.TheVariants as live
-use Rattle.dav_documents_core.specs.declared.live_properties.TheConstants.{LIVE}
-use Rattle.dav_documents_core.specs.LiveProperties.{has_live, live_named, live_word}
+use Rattle.dav_documents_core.specs.LiveProperties.{has_live, live_named, live_properties, live_word}
 use Rattle.dav_documents_core.specs.LockDocuments.{lock_discovery, supported_locks}
 use Rattle.dav_documents_core.specs.Pieces.{DocumentPiece, Kept, enclosed_pieces, made_pieces}
 use Rattle.dav_documents_core.specs.PropertyQuestions.{Question, All, Names, Listed, asked_names}
@@ -106,8 +105,8 @@ dead_name_nodes p = if is_dead p then name_nodes (name_of_property p) else []
 -- ---- what a question finds, and what it doesn't
 
 abbrev pub found_pieces : List ℕ → Option (List ℕ) → ℕ → Description → Question → List DocumentPiece
-found_pieces prefix principal now d (All included) = flat_map (own_pieces prefix principal now d) LIVE ++ flat_map dead_pieces d.props
-found_pieces prefix principal now d Names = made_pieces (flat_map (own_name_nodes d) LIVE ++ flat_map dead_name_nodes d.props)
+found_pieces prefix principal now d (All included) = flat_map (own_pieces prefix principal now d) live_properties ++ flat_map dead_pieces d.props
+found_pieces prefix principal now d Names = made_pieces (flat_map (own_name_nodes d) live_properties ++ flat_map dead_name_nodes d.props)
 found_pieces prefix principal now d (Listed names) = flat_map (value_pieces prefix principal now d) names
 
 -- it finds something, or it asks for nothing

@@ -61,6 +61,13 @@ pub fn live_named(name: &Name) -> Option<Live>
     LIVE.iter().copied().find(|live| is_live_by(name, *live))
 }
 
+/// Whether it is the local name of one.
+pub fn is_live_word(word: &str) -> bool
+    ensures { result ≡ spec.is_live_word word.now }
+{
+    LIVE.iter().any(|live| live_word(*live) == word)
+}
+
 fn is_live_by(name: &Name, live: Live) -> bool
     ensures { result ≡ spec.is_live_by (name_of name.now) live }
 {

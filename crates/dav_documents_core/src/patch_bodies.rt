@@ -1,29 +1,17 @@
 //! What is told of a PROPPATCH that is served.
-ghost use Rattle.std.specs.Prelude.{◌≡◌, codes, map, unwrap_or, bytes_eq, IfOk, OnOk};
-ghost use Rattle.std.specs.List.{list_any};
+ghost use Rattle.std.specs.Prelude.{◌≡◌, codes, map, unwrap_or, IfOk, OnOk};
 ghost use Rattle.dav_files_core.specs.Properties.{patch_update, property_of};
 ghost use Rattle.dav_xml_core.specs.Views.{writing_of};
 ghost use Rattle.dav_xml_core.specs.Writing.{with_nodes, document_bytes};
 ghost use Rattle.dav_documents_core.specs.PatchBodies as spec;
 
 use crate::documents::{begin, write_empty, write_href, write_text};
+use crate::live_properties::is_live_word;
 use dav_files_core::fs::DavProp;
 use dav_path_core::davpath::DavPath;
 use dav_xml_core::davxml::{Name, Writer};
 use std::alloc::{AllocError, Global};
 use std::rc::RcStr;
-
-// The properties of `DAV:` that the server keeps itself (RFC 4918 section 15).
-const LIVE: [&str; 8] = [
-    "creationdate",
-    "getcontentlength",
-    "getcontenttype",
-    "getetag",
-    "getlastmodified",
-    "lockdiscovery",
-    "resourcetype",
-    "supportedlock",
-];
 
 /// The document that tells of a PROPPATCH at a path (RFC 4918 section 9.2.1): that all is changed; or that some properties are protected, and so nothing is.
 #[tactic(auto, unfolding(dav_xml_core::specs::Writing::document_bytes))]
@@ -180,13 +168,7 @@ fn is_protected(update: &(bool, DavProp)) -> bool
 fn is_live(prop: &DavProp) -> bool
     ensures { result ≡ spec.is_live (property_of prop.now) }
 {
-    namespace_of(prop) == "DAV:" && is_among(&LIVE, prop.name.as_str())
-}
-
-fn is_among(names: &[&str], name: &str) -> bool
-    ensures { result ≡ list_any (λ known. bytes_eq known.now name.now) names.now }
-{
-    names.iter().any(|known| *known == name)
+    namespace_of(prop) == "DAV:" && is_live_word(prop.name.as_str())
 }
 
 fn namespace_of(prop: &DavProp) -> &str

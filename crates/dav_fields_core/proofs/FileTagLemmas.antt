@@ -17,7 +17,13 @@ use Rattle.dav_headers_core.proofs.tags.TagLemmas.{spelled_is_tag}
 use Rattle.dav_headers_core.specs.UpdateRanges.{is_hyphen, two}
 use Rattle.dav_headers_core.proofs.numbers.DashLemmas.{NoDash, just_two}
 use Rattle.dav_headers_core.proofs.numbers.NumberLemmas.{decimal_in}
-use Rattle.dav_fields_core.specs.FileTags.{tag_text, file_tag}
+use Rattle.dav_path_core.specs.Fronts.{Path}
+use Rattle.dav_files_core.specs.declared.memfs.Kind.{Kind}
+use Rattle.dav_files_core.specs.declared.memfs.Kind.TheVariants.{Folder, File}
+use Rattle.dav_files_core.specs.Meta.{Meta, meta_at}
+use Rattle.dav_files_core.specs.Resources.{Resource, ResourceMap}
+use Rattle.dav_fields_core.specs.FileTags.{file_tag, own_tags, standing_known, tag_text}
+use Rattle.dav_fields_core.specs.Getting.{tags_by}
 use Rattle.dav_fields_core.specs.ListedTags.{is_visible, is_entity_tag}
 
 abbrev is_quote : ℕ → Bool
@@ -94,3 +100,15 @@ tells m n p q a b c d same =
       decimal_injective m p a c (ap (λ (x : List ℕ × List ℕ). x.0) pair),
       decimal_injective n q b d (ap (λ (x : List ℕ × List ℕ). x.1) pair),
     )
+
+-- ---- the tag of what stands at a path
+
+pub tags_known : (m : ResourceMap) (p : Path) (r : Resource) → tags_by (standing_known m p (meta_at r.node)) ≡ own_tags r
+tags_known m p r = by r.node.kind refl
+  where
+    by : (k : Kind) → r.node.kind ≡ k → tags_by (standing_known m p (meta_at r.node)) ≡ own_tags r
+    by Folder is = rw is refl
+    by File is = rw is refl
+
+pub folder_untagged : (m : ResourceMap) (p : Path) (known : Meta) → known.kind ≡ Folder → tags_by (standing_known m p known) ≡ []
+folder_untagged m p known is = rw is refl

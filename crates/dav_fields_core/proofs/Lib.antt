@@ -7,6 +7,7 @@ mod FieldRows
 pub mod FileTagLemmas
 pub mod FrontedLemmas
 pub mod IfSaysLemmas
+pub mod LatestLemmas
 pub mod ListedTagLemmas
 pub mod PreconditionLaws
 mod PreconditionRows

@@ -1,5 +1,5 @@
 -- Laws of the conditions of HTTP.
-use Rattle.std.proofs.Common.{◌≡◌, Bool, true, false, not, ◌||◌, cond, [], Option, Some, None, refl, ap, ◌∙◌}
+use Rattle.std.proofs.Common.{◌≡◌, ℕ, Bool, true, false, not, ◌||◌, cond, List, [], Option, Some, None, refl, sym, ap, ◌∙◌}
 use Rattle.std.specs.Prelude.{codes}
 use Rattle.http_header.specs.FieldValue.{FieldValue}
 use Rattle.http_header.specs.HeaderMap.{Entries, get_all}
@@ -9,19 +9,19 @@ use Rattle.dav_fields_core.specs.declared.etags.Standing.{Standing}
 use Rattle.dav_fields_core.specs.declared.etags.Standing.TheVariants.{Nothing, Folder, File}
 use Rattle.dav_fields_core.specs.declared.preconditions.Course.{Course}
 use Rattle.dav_fields_core.specs.declared.preconditions.Course.TheVariants.{Proceed, Whole, NotModified, PreconditionFailed}
-use Rattle.dav_fields_core.specs.Preconditions.{course_of, course_of_wanted, if_modified_since, if_range, if_unmodified_since, is_get, is_get_or_head, is_missing, is_new, is_part_wanted, is_wanted, part_course}
+use Rattle.dav_fields_core.specs.Preconditions.{course_of, course_of_wanted, if_modified_since, if_range, if_unmodified_since, is_get, is_get_or_head, is_missing, is_new, is_part_wanted, is_told_by, is_wanted, part_course, second_in, unchanged_since}
 
 -- ---- what is asked for in no header
 
 no_second : (standing : Standing) → if_unmodified_since standing [] ≡ true
 no_second Nothing = refl
 no_second Folder = refl
-no_second (File tag modified) = refl
+no_second (File tag modified latest) = refl
 
 no_date : (standing : Standing) → if_modified_since standing [] ≡ true
 no_date Nothing = refl
 no_date Folder = refl
-no_date (File tag modified) = refl
+no_date (File tag modified latest) = refl
 
 wanted : (standing : Standing) (headers : Entries FieldValue) → get_all headers (codes "if-match") ≡ [] → get_all headers (codes "if-unmodified-since") ≡ []
     → is_wanted standing headers ≡ Some true
@@ -87,3 +87,45 @@ parts_alone m standing headers h =
     by_new (Some true) reads h = by_part (is_missing (get_all headers (codes "if-range"))) (is_missing (get_all headers (codes "range"))) (is_get m) h
     by_new (Some false) true h = absurd (cc)
     by_new (Some false) false h = absurd (cc)
+
+-- ---- what a date decides, where no tags put it aside
+
+pub wanted_by_date : (m : DavMethod) (standing : Standing) (headers : Entries FieldValue) (c : Course) → get_all headers (codes "if-match") ≡ []
+    → course_of m standing headers ≡ Some c → ¬ (PreconditionFailed ≡ c) → if_unmodified_since standing (get_all headers (codes "if-unmodified-since")) ≡ true
+wanted_by_date m standing headers c none h other =
+    by (if_unmodified_since standing (get_all headers (codes "if-unmodified-since")))
+    (ap (λ w. w >>= λ wanted. cond wanted (course_of_wanted m standing headers) (Some PreconditionFailed)) (sym asked) ∙ h)
+  where
+    asked : is_wanted standing headers ≡ Some (if_unmodified_since standing (get_all headers (codes "if-unmodified-since")))
+    asked = rw none refl
+
+    by : (holds : Bool) → cond holds (course_of_wanted m standing headers) (Some PreconditionFailed) ≡ Some c → holds ≡ true
+    by true h = refl
+    by false h = absurd (other (cc))
+
+pub not_modified_by_date : (m : DavMethod) (standing : Standing) (headers : Entries FieldValue) → get_all headers (codes "if-none-match") ≡ []
+    → course_of m standing headers ≡ Some NotModified → if_modified_since standing (get_all headers (codes "if-modified-since")) ≡ false
+not_modified_by_date m standing headers none h =
+    by (is_get_or_head m) (if_modified_since standing (get_all headers (codes "if-modified-since")))
+    (ap (λ n. n >>= λ new. cond new (part_course (is_part_wanted m standing headers)) (cond (is_get_or_head m) (Some NotModified) (Some PreconditionFailed))) (sym asked)
+    ∙ from_wanted (is_wanted standing headers) (course_of_wanted m standing headers) NotModified (λ e. cc) h)
+  where
+    asked : is_new m standing headers ≡ cond (is_get_or_head m) (Some (if_modified_since standing (get_all headers (codes "if-modified-since")))) (Some true)
+    asked = rw none refl
+
+    by : (reads modified : Bool) → (cond reads (Some modified) (Some true) >>= λ new. cond new (part_course (is_part_wanted m standing headers)) (cond reads (Some NotModified) (Some PreconditionFailed))) ≡ Some NotModified
+        → modified ≡ false
+    by true true h = absurd (no_304 (is_part_wanted m standing headers) h)
+    by true false h = refl
+    by false modified h = absurd (no_304 (is_part_wanted m standing headers) h)
+
+-- it holds as the date tells the file, or doesn't
+pub unmodified_told : (standing : Standing) (values : List FieldValue) (second : ℕ) (told : Bool) → second_in values ≡ Some second → is_told_by standing second ≡ Some told
+    → (if_unmodified_since standing values ≡ told) × (if_modified_since standing values ≡ not told)
+unmodified_told standing values second told shown tells =
+    decided (unchanged_since standing values) (ap (λ since. since >>= λ second. is_told_by standing second) shown ∙ tells)
+  where
+    decided : (unchanged : Option Bool) → unchanged ≡ Some told
+        → (elim unchanged [ None ↦ true | Some same ↦ same ] ≡ told) × (elim unchanged [ None ↦ true | Some same ↦ not same ] ≡ not told)
+    decided None is = absurd (cc)
+    decided (Some same) is = let told_so : same ≡ told = cc in (told_so, ap not told_so)

@@ -38,9 +38,9 @@ small_mark = refl
 
 -- ---- one header
 
--- a file whose tag is `"5-12"`, changed last in second 2
+-- a file whose tag is `"5-12"`, changed last in second 2, before the last of the folders above was
 abbrev file : Standing
-file = File (spelled_tag false (codes "5-12")) (record { 0 = 2_700_000_000 })
+file = File (spelled_tag false (codes "5-12")) (record { 0 = 2_700_000_000 }) (record { 0 = 4_000_000_000 })
 
 abbrev tag : List ℕ
 tag = spelled_tag false (codes "5-12")
@@ -92,9 +92,19 @@ unmodified_before : course_of method.Put file (with (codes "if-unmodified-since"
 unfolding days_of_years days_of_months read_tag read_two_digits read_name read_year read_time read_padded_day parse_imf_fixdate parse_rfc850_date parse_asctime parse
 unmodified_before = refl
 
+-- the second that the file is told with
 unmodified_since : course_of method.Put file (with (codes "if-unmodified-since") (codes "Thu, 01 Jan 1970 00:00:02 GMT")) ≡ Some Proceed
 unfolding days_of_years days_of_months read_tag read_two_digits read_name read_year read_time read_padded_day parse_imf_fixdate parse_rfc850_date parse_asctime parse
 unmodified_since = refl
+
+-- a date behind it tells nothing until it is before none of the moments along the path
+unmodified_between : course_of method.Put file (with (codes "if-unmodified-since") (codes "Thu, 01 Jan 1970 00:00:03 GMT")) ≡ Some PreconditionFailed
+unfolding days_of_years days_of_months read_tag read_two_digits read_name read_year read_time read_padded_day parse_imf_fixdate parse_rfc850_date parse_asctime parse
+unmodified_between = refl
+
+unmodified_behind_all : course_of method.Put file (with (codes "if-unmodified-since") (codes "Thu, 01 Jan 1970 00:00:04 GMT")) ≡ Some Proceed
+unfolding days_of_years days_of_months read_tag read_two_digits read_name read_year read_time read_padded_day parse_imf_fixdate parse_rfc850_date parse_asctime parse
+unmodified_behind_all = refl
 
 not_modified : course_of method.Head file (with (codes "if-modified-since") (codes "Thu, 01 Jan 1970 00:00:02 GMT")) ≡ Some NotModified
 unfolding days_of_years days_of_months read_tag read_two_digits read_name read_year read_time read_padded_day parse_imf_fixdate parse_rfc850_date parse_asctime parse
@@ -103,6 +113,10 @@ not_modified = refl
 modified : course_of method.Get file (with (codes "if-modified-since") (codes "Thu, 01 Jan 1970 00:00:01 GMT")) ≡ Some Proceed
 unfolding days_of_years days_of_months read_tag read_two_digits read_name read_year read_time read_padded_day parse_imf_fixdate parse_rfc850_date parse_asctime parse
 modified = refl
+
+modified_between : course_of method.Get file (with (codes "if-modified-since") (codes "Thu, 01 Jan 1970 00:00:03 GMT")) ≡ Some Proceed
+unfolding days_of_years days_of_months read_tag read_two_digits read_name read_year read_time read_padded_day parse_imf_fixdate parse_rfc850_date parse_asctime parse
+modified_between = refl
 
 -- a date that can't be read is as if it were not there, and so is one of a folder
 no_date : course_of method.Put file (with (codes "if-unmodified-since") (codes "yesterday")) ≡ Some Proceed

@@ -7,7 +7,7 @@ use Rattle.dav_fields_core.specs.Fields.{Marks}
 
 -- the tag of a file; a folder has none
 abbrev pub tags_by : Standing → List (List ℕ)
-tags_by (standing.File tag modified) = tag ∷ []
+tags_by (standing.File tag modified latest) = tag ∷ []
 tags_by _ = []
 
 -- this tag, and that it is no part

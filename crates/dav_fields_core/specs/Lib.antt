@@ -8,6 +8,7 @@ pub mod Fields
 pub mod FileTags
 pub mod Getting
 pub mod IfTokens
+pub mod LatestMoments
 pub mod ListedTags
 pub mod LockTimeouts
 pub mod Marking

@@ -17,7 +17,7 @@ and_part part marks = record { tags = marks.tags; parts = marks.parts ++ part âˆ
 
 -- a field can hold its tag
 abbrev pub HasShownTag : Standing â†’ Type 0
-HasShownTag (File tag modified) = IsFieldValue tag
+HasShownTag (File tag modified latest) = IsFieldValue tag
 HasShownTag _ = Unit {0}
 
 -- ---- what is read

@@ -1,5 +1,5 @@
 -- The conditions of HTTP, in the order of RFC 9110 section 13.2.2, of the headers and of what stands at the path.
-use Rattle.std.specs.Prelude.{ℕ, Bool, true, false, not, ◌/◌, ◌==◌, ◌||◌, nat_le, if◌then◌else◌, List, codes, length, Option, None, Some, is_some, Result, Ok, Err}
+use Rattle.std.specs.Prelude.{ℕ, Bool, true, false, not, ◌*◌, ◌/◌, ◌==◌, ◌||◌, nat_le, if◌then◌else◌, List, codes, length, Option, None, Some, is_some, Result, Ok, Err}
 use Rattle.http_header.specs.FieldValue.{FieldValue}
 use Rattle.http_header.specs.HeaderMap.{Entries, get_all}
 use Rattle.httpdate.specs.Date.{parse_secs}
@@ -22,19 +22,20 @@ use Rattle.dav_fields_core.specs.ListedTags.{is_entity_tag, trim, are_tag_lists,
 abbrev pub stands : Standing → Bool
 stands Nothing = false
 stands Folder = true
-stands (File tag modified) = true
+stands (File tag modified latest) = true
 
 -- its tag is this one by the comparison; a folder has none
 abbrev pub has_tag : Comparison → Standing → List ℕ → Bool
 has_tag by Nothing other = false
 has_tag by Folder other = false
-has_tag by (File tag modified) other = same_by by tag other
+has_tag by (File tag modified latest) other = same_by by tag other
 
--- the second of its last change; a folder is not told by one
-abbrev pub second_of : Standing → Option ℕ
-second_of Nothing = None
-second_of Folder = None
-second_of (File tag modified) = Some (modified.0 / 1_000_000_000)
+-- Whether a date tells a file as it is: it is the second of its last change, which its clients are told; or it is before none of the moments along its path
+-- (own; stricter than sections 13.1.3 and 13.1.4). A folder is not told by a date.
+abbrev pub is_told_by : Standing → ℕ → Option Bool
+is_told_by Nothing second = None
+is_told_by Folder second = None
+is_told_by (File tag modified latest) second = Some (second == modified.0 / 1_000_000_000 || nat_le latest.0 (second * 1_000_000_000))
 
 -- ---- each condition: whether it holds, nothing where it can't be read
 
@@ -54,9 +55,9 @@ if_none_match standing values =
 abbrev pub second_in : List FieldValue → Option ℕ
 second_in values = one_value values >>= λ text. parse_secs (trim text)
 
--- the last change came in this second or before it; nothing where one of the two is missing
+-- whether the date tells what stands there as it is; nothing where one of the two is missing
 abbrev pub unchanged_since : Standing → List FieldValue → Option Bool
-unchanged_since standing values = second_of standing >>= λ changed. second_in values >>= λ since. Some (nat_le changed since)
+unchanged_since standing values = second_in values >>= λ since. is_told_by standing since
 
 -- Where no date is read, or nothing has one, the two conditions are as if they were not there (sections 13.1.3 and 13.1.4).
 abbrev pub if_unmodified_since : Standing → List FieldValue → Bool

@@ -23,6 +23,8 @@ pub enum Standing {
         tag: ETag,
         /// The moment of its last change.
         modified: Moment,
+        /// The latest of the moments along its path: those at which it was made and changed last, and those at which the folders above were changed last.
+        latest: Moment,
     },
 }
 

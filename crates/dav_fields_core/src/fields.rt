@@ -11,6 +11,7 @@ ghost use Rattle.dav_faults_core.specs.declared.faults.Fault.TheVariants as faul
 use crate::etags::Standing;
 use dav_faults_core::faults::Fault;
 use dav_files_core::fs::Moment;
+use dav_headers_core::davheaders::ETag;
 use http_header::{HeaderName, HeaderValue, HeaderValueError};
 use http_server::Response;
 use httpdate::HttpDate;
@@ -95,14 +96,24 @@ pub fn add_tag(alloc: Global, response: &mut Response, standing: &Standing) -> R
     ensures err { IfErr result (λ e. e ≡ fault.InsufficientStorage) }
 {
     match standing {
-        Standing::File { tag, .. } => add_field(
-            alloc,
-            response,
-            HeaderName::from_static("etag"),
-            tag.as_str().as_bytes(),
-        ),
+        Standing::File { tag, .. } => add_file_tag(alloc, response, tag),
         Standing::Nothing | Standing::Folder => Ok(()),
     }
+}
+
+/// Says the tag of a file (RFC 9110 section 8.8.3).
+pub fn add_file_tag(alloc: Global, response: &mut Response, tag: &ETag) -> Result<(), Fault>
+    requires { IsFieldValue tag.now }
+    ensures marks { OnOk result (marks_of response.new ≡ and_tags (tag.now ∷ []) (marks_of response.old)) }
+    ensures body { response.new.body ≡ response.old.body }
+    ensures err { IfErr result (λ e. e ≡ fault.InsufficientStorage) }
+{
+    add_field(
+        alloc,
+        response,
+        HeaderName::from_static("etag"),
+        tag.as_str().as_bytes(),
+    )
 }
 
 /// Says the token of a lock that is granted (RFC 4918 section 10.5).

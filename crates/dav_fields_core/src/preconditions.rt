@@ -1,5 +1,5 @@
 //! The conditions of HTTP (RFC 9110 section 13). What they ask for is told from the headers and from what stands at the path. It takes no memory.
-ghost use Rattle.std.specs.Prelude.{◌≡◌, not};
+ghost use Rattle.std.specs.Prelude.{◌≡◌, ◌*◌, nat_le, not};
 ghost use Rattle.std.specs.List.{list_any};
 ghost use Rattle.httpdate.specs.Date.{parse_secs};
 ghost use Rattle.dav_fields_core.specs.ListedTags as listed;
@@ -56,13 +56,25 @@ pub fn has_tag(comparison: Comparison, standing: &Standing, other: &[u8]) -> boo
     }
 }
 
-fn second_of(standing: &Standing) -> Option<u64>
-    ensures { result ≡ spec.second_of standing.now }
+// Whether a date in seconds tells a file as it is.
+fn is_told_by(standing: &Standing, second: u64) -> Option<bool>
+    ensures { result ≡ spec.is_told_by standing.now second }
 {
     match standing {
-        Standing::File { modified, .. } => Some(modified.0 / 1_000_000_000),
+        Standing::File {
+            modified,
+            latest,
+            ..
+        } => Some(second == modified.0 / 1_000_000_000 || is_before_none(second, latest.0)),
         Standing::Nothing | Standing::Folder => None,
     }
+}
+
+// Whether the latest of some moments is not after a second.
+fn is_before_none(second: u64, latest: u64) -> bool
+    ensures { result ≡ nat_le latest (second * 1_000_000_000) }
+{
+    u128::from(latest) <= u128::from(second) * 1_000_000_000
 }
 
 // ---- each condition
@@ -126,9 +138,7 @@ fn second_in(values: &GetAll<'_, HeaderValue>) -> Option<u64>
 fn unchanged_since(standing: &Standing, values: &GetAll<'_, HeaderValue>) -> Option<bool>
     ensures { result ≡ spec.unchanged_since standing.now values.now }
 {
-    let changed = second_of(standing)?;
-    let since = second_in(values)?;
-    Some(changed <= since)
+    is_told_by(standing, second_in(values)?)
 }
 
 fn if_range(standing: &Standing, values: &GetAll<'_, HeaderValue>) -> Option<bool>

@@ -28,12 +28,13 @@ use Rattle.dav_handler_core.specs.MethodAnswers.Unread.{memory, target, principa
 use Rattle.dav_session_core.specs.Callers.{Asks, Caller, RunBy, Runs, asking, live}
 use Rattle.dav_fields_core.specs.Fields.{Sent}
 use Rattle.dav_fields_core.specs.FileTags.{file_tag}
+use Rattle.dav_methods_core.specs.FolderPages.{IsPaged}
 use Rattle.dav_methods_core.specs.GetMethod.{FailsToGet, Gets}
 use Rattle.dav_fields_core.specs.Getting.{tag_marks}
 use Rattle.dav_session_core.specs.LocksInTheWay.{IsPathOfOne}
 use Rattle.dav_handler_core.specs.Private.Begun.{IsHeld, IsOverladen}
 use Rattle.dav_methods_core.specs.ChangeConditions.{change_course}
-use Rattle.dav_methods_core.specs.PutMethod.{FailsToPut, Puts, locks_against_putting, props_of, put_status}
+use Rattle.dav_methods_core.specs.PutMethod.{CantPut, FailsToPut, Puts, locks_against_putting, props_of, put_status}
 use Rattle.dav_fields_core.specs.RequestRefusals.{RefusesTarget, RefusesPrincipal, HasBadIf, HasPart, IsLastMoment}
 use Rattle.dav_fields_core.specs.Senders.{NamesPrincipal}
 use Rattle.dav_methods_core.specs.UnlockMethod.{Unlocks}
@@ -156,16 +157,17 @@ module _ (before mid after : Server) (request : Request (List ℕ)) (path : Path
   Headers = (head_of request).headers
 
   pub get_answered : (m : DavMethod) (map : ResourceMap) (result : Result ℕ Fault) (sent : Sent) → map ≡ before.state.map
-      → IfOk result (λ status. Gets m map (segments path.bytes) Headers status sent) → IfErr result (λ e. FailsToGet m map (segments path.bytes) Headers e)
+      → IfOk result (λ status. Gets m map (segments path.bytes) Headers status sent) → IfOk result (λ status. IsPaged map path status sent.body) → IfErr result (λ e. FailsToGet m map (segments path.bytes) Headers e)
       → GetAnswers m before request result sent after
-  get_answered m map (Ok status) sent there done err = record {
+  get_answered m map (Ok status) sent there done page err = record {
     path = path;
     who = who;
     begins = begins_on before mid after request path who same begins;
     admits = admits_on before mid after request path same admits;
     gets = subst (λ m'. Gets m m' (segments path.bytes) Headers status sent) there done;
+    page = subst (λ m. IsPaged m path status sent.body) there page;
   }
-  get_answered m map (Err e) sent there done err =
+  get_answered m map (Err e) sent there done page err =
       inr (refused_by e (λ p who. FailsToGet m before.state.map p Headers e) (subst (λ m'. FailsToGet m m' (segments path.bytes) Headers e) there err))
 
 -- ---- PUT
@@ -193,15 +195,20 @@ way : (s t : State) (who : Caller) (p : Path) (bytes : List ℕ) → live who.no
 way s t who p bytes same = ap (λ (x : State). conflicts x (asking who (Command.Put p bytes))) same
 
 -- a refusal of a PUT looks at the map, and at the locks that last
+cant_alike : (s t : State) (who : Caller) (p : Path) (bytes : List ℕ) (e : Fault) → s.map ≡ t.map → live who.now s ≡ live who.now t
+    → CantPut s who p bytes e → CantPut t who p bytes e
+cant_alike s t who p bytes fault.InsufficientStorage map locks h = tt
+cant_alike s t who p bytes (fault.Locked path) map locks h = subst (λ (stand : List Lock). IsPathOfOne stand path) (way s t who p bytes locks) h
+cant_alike s t who p bytes (fault.MethodNotAllowed folder) map locks h =
+    (h.0, sym (way s t who p bytes locks) ∙ h.1, (h.2.0, ap (λ m. at_path m p) (sym map) ∙ h.2.1, h.2.2))
+cant_alike s t who p bytes fault.Conflict map locks h =
+    (sym (way s t who p bytes locks) ∙ h.0, ap (λ m. at_path m p) (sym map) ∙ h.1, (h.2.0, ap (λ m. put m p bytes who.now) (sym map) ∙ h.2.1))
+cant_alike s t who p bytes _ map locks h = absurd h
+
 fails_alike : (s t : State) (who : Caller) (p : Path) (bytes : List ℕ) (headers : Entries FieldValue) (e : Fault) → s.map ≡ t.map → live who.now s ≡ live who.now t
     → FailsToPut s who p bytes headers e → FailsToPut t who p bytes headers e
-fails_alike s t who p bytes headers fault.InsufficientStorage map locks h = tt
-fails_alike s t who p bytes headers (fault.Locked path) map locks h = subst (λ (stand : List Lock). IsPathOfOne stand path) (way s t who p bytes locks) h
-fails_alike s t who p bytes headers (fault.MethodNotAllowed folder) map locks h =
-    (h.0, sym (way s t who p bytes locks) ∙ h.1, (h.2.0, ap (λ m. at_path m p) (sym map) ∙ h.2.1, h.2.2))
-fails_alike s t who p bytes headers fault.Conflict map locks h =
-    (sym (way s t who p bytes locks) ∙ h.0, ap (λ m. at_path m p) (sym map) ∙ h.1, (h.2.0, ap (λ m. put m p bytes who.now) (sym map) ∙ h.2.1))
-fails_alike s t who p bytes headers _ map locks h = (
+fails_alike s t who p bytes headers e map locks (inl h) = inl (cant_alike s t who p bytes e map locks h)
+fails_alike s t who p bytes headers e map locks (inr h) = inr (
   (sym (way s t who p bytes locks) ∙ h.0.0, (h.0.1.0, ap (λ m. put m p bytes who.now) (sym map) ∙ h.0.1.1)),
   ap (λ m. change_course method.Put m p headers) (sym map) ∙ h.1,
 )

@@ -1,5 +1,5 @@
 -- What decides over a request, told of its answer.
-use Rattle.std.proofs.Common.{◌≡◌, ◌≢◌, ◌⊎◌, inl, inr, ℕ, ◌<◌, ◌≤◌, Bool, true, false, List, [], ◌∷◌, length, take, drop, ◌-◌, Option, None, Some, Result, Ok, Err, refl, sym, ◌∙◌, ap, subst, arith, if◌then◌else◌}
+use Rattle.std.proofs.Common.{◌≡◌, ◌≢◌, ◌⊎◌, inl, inr, ℕ, ◌<◌, ◌≤◌, Bool, true, false, List, [], ◌∷◌, length, take, drop, ◌-◌, Option, None, Some, Result, Ok, Err, refl, sym, ◌∙◌, ap, subst, arith}
 use Rattle.std.specs.Prelude.{IfErr}
 use Rattle.std.proofs.lemmas.Bool.{false≢true}
 use Rattle.http.specs.declared.request.Request.{Request}
@@ -11,7 +11,8 @@ use Rattle.dav_path_core.specs.declared.util.DavMethod.TheVariants as method
 use Rattle.dav_path_core.specs.Fronts.{Path}
 use Rattle.dav_path_core.specs.PathText.{PathText}
 use Rattle.dav_path_core.specs.Segments.{segments}
-use Rattle.dav_files_core.specs.declared.memfs.Kind.TheVariants.{File}
+use Rattle.dav_files_core.specs.declared.memfs.Kind.TheVariants.{File, Folder}
+use Rattle.dav_files_core.specs.Meta.{meta_at}
 use Rattle.dav_files_core.specs.Resources.{Resource, ResourceMap, at_path}
 use Rattle.dav_resource_core.specs.Checks.{has}
 use Rattle.dav_resource_core.specs.Step.{State}
@@ -23,126 +24,35 @@ use Rattle.dav_fields_core.specs.declared.preconditions.Course.TheVariants as co
 use Rattle.dav_fields_core.specs.declared.ranges.Extent.{Extent}
 use Rattle.dav_fields_core.specs.declared.ranges.Extent.TheVariants as extent
 use Rattle.dav_handler_core.specs.Answers.{AnswersTo, Leaves, status_of}
-use Rattle.dav_handler_core.specs.MethodAnswers.{Fails, HoldsOff, IsGotten, IsLocked, RefusesBody, Unread, as_found, has_body}
+use Rattle.dav_handler_core.specs.MethodAnswers.{Fails, HoldsOff, IsGotten, RefusesBody, Unread, as_found, has_body}
 use Rattle.dav_handler_core.specs.Server.{Options, Server, site_for}
 use Rattle.dav_handler_core.specs.MethodAnswers.Unread.{memory, target, principal, tokens, moment}
 use Rattle.dav_session_core.specs.Callers.{Caller, SameLive}
 use Rattle.dav_methods_core.specs.CopyMethod.{FailsToCopy}
 use Rattle.dav_handler_core.specs.Deciding.{HeldOff, IsCourseStopped, SaysDone, SendsPart, SendsTag, Stops, WentOn, looks, tells_tag}
 use Rattle.dav_faults_core.specs.Faults.{fault_status}
+use Rattle.dav_handler_core.proofs.AnswerStatuses.{IsOfMember, IsOff, fault_high, fault_off, lock_low, locked_between, no_fault, put_between, transfer_low}
 use Rattle.dav_fields_core.specs.Fields.{Sent}
-use Rattle.dav_fields_core.specs.FileTags.{standing_by, standing_of, tag_of}
+use Rattle.dav_fields_core.specs.FileTags.{own_tags, standing_at, standing_known, standing_of, tag_of}
 use Rattle.dav_methods_core.specs.PropfindMethod.{FailsToFind, FailsToTell}
-use Rattle.dav_methods_core.specs.GetMethod.{FailsToGet, Tells, own_tags, get_outcome_by, get_outcome_of}
+use Rattle.dav_methods_core.specs.GetMethod.{FailsToGet, Tells, get_outcome_by, get_outcome_of}
 use Rattle.dav_fields_core.specs.Getting.{tags_by}
 use Rattle.dav_methods_core.specs.LockMethod.{FailsToLock}
 use Rattle.dav_methods_core.specs.MkcolMethod.{CantMake, FailsToMake}
 use Rattle.dav_methods_core.specs.MoveMethod as moving
 use Rattle.dav_fields_core.specs.Preconditions.{course_of}
 use Rattle.dav_methods_core.specs.ChangeConditions.{IsStopped, changes_by}
-use Rattle.dav_methods_core.specs.PutMethod.{FailsToPut}
+use Rattle.dav_methods_core.specs.PutMethod.{CantPut, FailsToPut}
 use Rattle.dav_fields_core.specs.Ranges.{part_text}
 use Rattle.dav_methods_core.specs.RefreshMethod.{FailsToRefresh, named_there}
 use Rattle.dav_fields_core.specs.RequestRefusals.{RefusesPrincipal, RefusesTarget}
 use Rattle.dav_methods_core.specs.DeleteMethod.{CantRemove, FailsToRemove}
 use Rattle.dav_methods_core.specs.ProppatchMethod.{CantPatch, FailsToPatch}
 use Rattle.dav_methods_core.specs.UnlockMethod.{CantUnlock, FailsToUnlock}
+use Rattle.dav_fields_core.proofs.FileTagLemmas.{tags_known}
 use Rattle.dav_handler_core.proofs.TransferLaws.{copy_stops, move_stops}
 
--- ---- statuses of faults
-
-abbrev IsOfMember : Fault → Type 0
-IsOfMember (fault.MemberLocked path) = Unit {0}
-IsOfMember (fault.ConflictingMember at path) = Unit {0}
-IsOfMember _ = ⊥
-
-member_status : (e : Fault) → IsOfMember e → fault_status e ≡ 207
-member_status (fault.MemberLocked path) h = refl
-member_status (fault.ConflictingMember at path) h = refl
-member_status _ h = absurd h
-
--- the lock of a member is told with 207, and any other fault with 400 or more
-fault_high : (e : Fault) → IsOfMember e ⊎ (400 ≤ fault_status e)
-fault_high (fault.MemberLocked path) = inl tt
-fault_high (fault.ConflictingMember at path) = inl tt
-fault_high fault.BadRequest = inr (omega arith)
-fault_high fault.Unauthorized = inr (omega arith)
-fault_high fault.Forbidden = inr (omega arith)
-fault_high fault.InfiniteDepth = inr (omega arith)
-fault_high fault.NotFound = inr (omega arith)
-fault_high (fault.MethodNotAllowed folder) = inr (omega arith)
-fault_high fault.Conflict = inr (omega arith)
-fault_high fault.NoSuchLock = inr (omega arith)
-fault_high fault.PreconditionFailed = inr (omega arith)
-fault_high fault.UnsupportedMediaType = inr (omega arith)
-fault_high (fault.Locked path) = inr (omega arith)
-fault_high (fault.ConflictingLock path) = inr (omega arith)
-fault_high fault.NotImplemented = inr (omega arith)
-fault_high fault.BadGateway = inr (omega arith)
-fault_high fault.ServiceUnavailable = inr (omega arith)
-fault_high fault.InsufficientStorage = inr (omega arith)
-
-fault_failed : (e : Fault) → fault_status e ≡ 412 → e ≡ fault.PreconditionFailed
-fault_failed (fault.MemberLocked path) h = absurd (omega (arith, h))
-fault_failed (fault.ConflictingMember at path) h = absurd (omega (arith, h))
-fault_failed fault.BadRequest h = absurd (omega (arith, h))
-fault_failed fault.Unauthorized h = absurd (omega (arith, h))
-fault_failed fault.Forbidden h = absurd (omega (arith, h))
-fault_failed fault.InfiniteDepth h = absurd (omega (arith, h))
-fault_failed fault.NotFound h = absurd (omega (arith, h))
-fault_failed (fault.MethodNotAllowed folder) h = absurd (omega (arith, h))
-fault_failed fault.Conflict h = absurd (omega (arith, h))
-fault_failed fault.NoSuchLock h = absurd (omega (arith, h))
-fault_failed fault.PreconditionFailed h = refl
-fault_failed fault.UnsupportedMediaType h = absurd (omega (arith, h))
-fault_failed (fault.Locked path) h = absurd (omega (arith, h))
-fault_failed (fault.ConflictingLock path) h = absurd (omega (arith, h))
-fault_failed fault.NotImplemented h = absurd (omega (arith, h))
-fault_failed fault.BadGateway h = absurd (omega (arith, h))
-fault_failed fault.ServiceUnavailable h = absurd (omega (arith, h))
-fault_failed fault.InsufficientStorage h = absurd (omega (arith, h))
-
--- no fault has such a status
-pub no_fault : (e : Fault) (status : ℕ) → fault_status e ≡ status → status < 400 → status ≢ 207 → ⊥
-no_fault e status is low apart = elim (fault_high e) [
-  | inl member ↦ apart (sym is ∙ member_status e member)
-  | inr high ↦ omega (arith, is, low, high)
-]
-
-abbrev IsOff : ℕ → Type 0
-IsOff status = (status ≡ 304) ⊎ (status ≡ 412)
-
--- a fault that holds a request off is that of a condition
-fault_off : (e : Fault) → IsOff (fault_status e) → e ≡ fault.PreconditionFailed
-fault_off e (inl h) = absurd (no_fault e 304 h (omega arith) (λ same. omega (arith, same)))
-fault_off e (inr h) = fault_failed e h
-
-put_between : (b : Bool) → (200 < (if b then 204 else 201)) × ((if b then 204 else 201) < 205)
-put_between true = (omega arith, omega arith)
-put_between false = (omega arith, omega arith)
-
--- a COPY or a MOVE that is done isn't held off
-transfer_low : (b : Bool) (status : ℕ) → status ≡ (if b then 204 else 201) → ¬ IsOff status
-transfer_low b status is (inl off) = omega (arith, off, is, put_between b)
-transfer_low b status is (inr off) = omega (arith, off, is, put_between b)
-
-locked_by : (b : Bool) → (199 < (if b then 200 else 201)) × ((if b then 200 else 201) < 202)
-locked_by true = (omega arith, omega arith)
-locked_by false = (omega arith, omega arith)
-
--- a LOCK that is done is 200 or 201
-locked_between : (before : Server) (request : Request (List ℕ)) (status : ℕ) (sent : Sent) (after : Server) → IsLocked before request status sent after
-    → (199 < status) × (status < 202)
-locked_between before request status sent after h = elim h.locks [
-  | inl granted ↦
-      let between = locked_by (has before.state.map (segments h.path.bytes)) in
-      (omega (arith, granted.1.status_is, between), omega (arith, granted.1.status_is, between))
-  | inr refreshed ↦ (omega (arith, refreshed.1.status_is), omega (arith, refreshed.1.status_is))
-]
-
-lock_low : (before : Server) (request : Request (List ℕ)) (status : ℕ) (sent : Sent) (after : Server) → IsLocked before request status sent after → ¬ IsOff status
-lock_low before request status sent after h (inl off) = omega (arith, off, locked_between before request status sent after h)
-lock_low before request status sent after h (inr off) = omega (arith, off, locked_between before request status sent after h)
+-- ---- why a request is refused
 
 finding_told : (finite : Bool) (headers : Entries FieldValue) (body : List ℕ) (m : ResourceMap) (p : Path) (e : Fault) → e ≡ fault.PreconditionFailed
     → FailsToFind finite headers body m p e → ⊥
@@ -238,31 +148,34 @@ not_served e h = cc
 
 -- ---- GET and HEAD
 
+tags_at : (map : ResourceMap) (p : Path) (r : Resource) → at_path map p ≡ Some r → tags_by (standing_at map p) ≡ own_tags r
+tags_at map p r here = ap (λ o. tags_by (standing_of map p o)) here ∙ tags_known map p r
+
 module _ (before after : Server) (request : Request (List ℕ)) (sent : Sent) where
   abbrev Headers : Entries FieldValue
   Headers = (head_of request).headers
 
   -- what is told where it is done
-  told_done : (m : DavMethod) (r : Resource) (status : ℕ) (x : Result (Option Extent) Fault) → get_outcome_of m r Headers ≡ x → Tells x r status sent → status < 300
-      → (e : Extent) × (get_outcome_of m r Headers ≡ Ok (Some e))
-  told_done m r status (Err e) is h low = absurd h
-  told_done m r status (Ok None) is h low = absurd (omega (arith, h.0))
-  told_done m r status (Ok (Some extent.Whole)) is h low = (extent.Whole, is)
-  told_done m r status (Ok (Some (extent.Part first end))) is h low = (extent.Part first end, is)
-  told_done m r status (Ok (Some extent.Unsatisfiable)) is h low = absurd (omega (arith, h.0))
+  told_done : (m : DavMethod) (p : Path) (r : Resource) (status : ℕ) (x : Result (Option Extent) Fault) → get_outcome_of m before.state.map p r Headers ≡ x → Tells x r status sent → status < 300
+      → (e : Extent) × (get_outcome_of m before.state.map p r Headers ≡ Ok (Some e))
+  told_done m p r status (Err e) is h low = absurd h
+  told_done m p r status (Ok None) is h low = absurd (omega (arith, h.0))
+  told_done m p r status (Ok (Some extent.Whole)) is h low = (extent.Whole, is)
+  told_done m p r status (Ok (Some (extent.Part first end))) is h low = (extent.Part first end, is)
+  told_done m p r status (Ok (Some extent.Unsatisfiable)) is h low = absurd (omega (arith, h.0))
 
-  told_off : (m : DavMethod) (r : Resource) (status : ℕ) (x : Result (Option Extent) Fault) → get_outcome_of m r Headers ≡ x → Tells x r status sent → IsOff status
-      → get_outcome_of m r Headers ≡ Ok None
-  told_off m r status (Err e) is h off = absurd h
-  told_off m r status (Ok None) is h off = is
-  told_off m r status (Ok (Some extent.Whole)) is h (inl off) = absurd (omega (arith, h.0, off))
-  told_off m r status (Ok (Some extent.Whole)) is h (inr off) = absurd (omega (arith, h.0, off))
-  told_off m r status (Ok (Some (extent.Part first end))) is h (inl off) = absurd (omega (arith, h.0, off))
-  told_off m r status (Ok (Some (extent.Part first end))) is h (inr off) = absurd (omega (arith, h.0, off))
-  told_off m r status (Ok (Some extent.Unsatisfiable)) is h (inl off) = absurd (omega (arith, h.0, off))
-  told_off m r status (Ok (Some extent.Unsatisfiable)) is h (inr off) = absurd (omega (arith, h.0, off))
+  told_off : (m : DavMethod) (p : Path) (r : Resource) (status : ℕ) (x : Result (Option Extent) Fault) → get_outcome_of m before.state.map p r Headers ≡ x → Tells x r status sent → IsOff status
+      → get_outcome_of m before.state.map p r Headers ≡ Ok None
+  told_off m p r status (Err e) is h off = absurd h
+  told_off m p r status (Ok None) is h off = is
+  told_off m p r status (Ok (Some extent.Whole)) is h (inl off) = absurd (omega (arith, h.0, off))
+  told_off m p r status (Ok (Some extent.Whole)) is h (inr off) = absurd (omega (arith, h.0, off))
+  told_off m p r status (Ok (Some (extent.Part first end))) is h (inl off) = absurd (omega (arith, h.0, off))
+  told_off m p r status (Ok (Some (extent.Part first end))) is h (inr off) = absurd (omega (arith, h.0, off))
+  told_off m p r status (Ok (Some extent.Unsatisfiable)) is h (inl off) = absurd (omega (arith, h.0, off))
+  told_off m p r status (Ok (Some extent.Unsatisfiable)) is h (inr off) = absurd (omega (arith, h.0, off))
 
-  told_tags : (r : Resource) (status : ℕ) (x : Result (Option Extent) Fault) → Tells x r status sent → status < 400 → sent.marks.tags ≡ own_tags r
+  pub told_tags : (r : Resource) (status : ℕ) (x : Result (Option Extent) Fault) → Tells x r status sent → status < 400 → sent.marks.tags ≡ own_tags r
   told_tags r status (Err e) h low = absurd h
   told_tags r status (Ok None) h low = ap (λ m. m.tags) h.1
   told_tags r status (Ok (Some extent.Whole)) h low = ap (λ m. m.tags) h.1
@@ -270,9 +183,9 @@ module _ (before after : Server) (request : Request (List ℕ)) (sent : Sent) wh
   told_tags r status (Ok (Some extent.Unsatisfiable)) h low = absurd (omega (arith, h.0))
 
   get_on : (m : DavMethod) (status : ℕ) (h : IsGotten m before request status sent after) → status < 300
-      → (x : Extent) × ((r : Resource) × (at_path before.state.map (segments h.path.bytes) ≡ Some r) × (get_outcome_of m r Headers ≡ Ok (Some x)))
+      → (x : Extent) × ((r : Resource) × (at_path before.state.map (segments h.path.bytes) ≡ Some r) × (get_outcome_of m before.state.map (segments h.path.bytes) r Headers ≡ Ok (Some x)))
   get_on m status h low =
-      let is = told_done m h.gets.resource status (get_outcome_of m h.gets.resource Headers) refl h.gets.tells low in
+      let is = told_done m (segments h.path.bytes) h.gets.resource status (get_outcome_of m before.state.map (segments h.path.bytes) h.gets.resource Headers) refl h.gets.tells low in
       (is.0, (h.gets.resource, h.gets.here, is.1))
 
   get_tag : (m : DavMethod) (status : ℕ) → IsGotten m before request status sent after → SameLive after.last before.state after.state → status < 400
@@ -281,15 +194,15 @@ module _ (before after : Server) (request : Request (List ℕ)) (sent : Sent) wh
     path = h.path;
     who = h.who;
     begins = h.begins;
-    tags = told_tags h.gets.resource status (get_outcome_of m h.gets.resource Headers) h.gets.tells low
-        ∙ ap (λ o. tags_by (standing_of o)) (sym (ap (λ (s : State). at_path s.map (segments h.path.bytes)) same ∙ h.gets.here));
+    tags = told_tags h.gets.resource status (get_outcome_of m before.state.map (segments h.path.bytes) h.gets.resource Headers) h.gets.tells low
+        ∙ sym (tags_at after.state.map (segments h.path.bytes) h.gets.resource (ap (λ (s : State). at_path s.map (segments h.path.bytes)) same ∙ h.gets.here));
   }
 
   -- a GET that is held off
   get_off : (m : DavMethod) (status : ℕ) (h : IsGotten m before request status sent after) → IsOff status
-      → (r : Resource) × (at_path before.state.map (segments h.path.bytes) ≡ Some r) × (get_outcome_of m r Headers ≡ Ok None)
+      → (r : Resource) × (at_path before.state.map (segments h.path.bytes) ≡ Some r) × (get_outcome_of m before.state.map (segments h.path.bytes) r Headers ≡ Ok None)
   get_off m status h off =
-      (h.gets.resource, h.gets.here, told_off m h.gets.resource status (get_outcome_of m h.gets.resource Headers) refl h.gets.tells off)
+      (h.gets.resource, h.gets.here, told_off m (segments h.path.bytes) h.gets.resource status (get_outcome_of m before.state.map (segments h.path.bytes) h.gets.resource Headers) refl h.gets.tells off)
 
   -- ---- every method
 
@@ -309,16 +222,18 @@ module _ (before after : Server) (request : Request (List ℕ)) (sent : Sent) wh
 
   get_alone : (m : DavMethod) (e : Fault) (p : Path) → IsOfMember e → ¬ FailsToGet m before.state.map p Headers e
   get_alone m (fault.MemberLocked path) p member h =
-      told_alone m (standing_of (Some h.0)) (length h.0.node.bytes) Headers (course_of m (standing_of (Some h.0)) Headers) (fault.MemberLocked path) tt h.2
+      told_alone m (standing_known before.state.map p (meta_at h.0.node)) (length h.0.node.bytes) Headers (course_of m (standing_known before.state.map p (meta_at h.0.node)) Headers) (fault.MemberLocked path) tt h.2
   get_alone m (fault.ConflictingMember at path) p member h =
-      told_alone m (standing_of (Some h.0)) (length h.0.node.bytes) Headers (course_of m (standing_of (Some h.0)) Headers) (fault.ConflictingMember at path) tt h.2
+      told_alone m (standing_known before.state.map p (meta_at h.0.node)) (length h.0.node.bytes) Headers (course_of m (standing_known before.state.map p (meta_at h.0.node)) Headers) (fault.ConflictingMember at path) tt h.2
   get_alone m _ p member h = member
 
   put_alone : (e : Fault) (p : Path) (who : Caller) → IsOfMember e → ¬ FailsToPut before.state who p (body_of request) Headers e
-  put_alone (fault.MemberLocked path) p who member h =
-      changed_alone (course_of method.Put (standing_of (at_path before.state.map p)) Headers) (fault.MemberLocked path) tt h.1
-  put_alone (fault.ConflictingMember at path) p who member h =
-      changed_alone (course_of method.Put (standing_of (at_path before.state.map p)) Headers) (fault.ConflictingMember at path) tt h.1
+  put_alone (fault.MemberLocked path) p who member (inl h) = h
+  put_alone (fault.MemberLocked path) p who member (inr h) =
+      changed_alone (course_of method.Put (standing_at before.state.map p) Headers) (fault.MemberLocked path) tt h.1
+  put_alone (fault.ConflictingMember at path) p who member (inl h) = h
+  put_alone (fault.ConflictingMember at path) p who member (inr h) =
+      changed_alone (course_of method.Put (standing_at before.state.map p) Headers) (fault.ConflictingMember at path) tt h.1
   put_alone _ p who member h = member
 
   tags_alone : (m : Option DavMethod) (e : Fault) → AnswersTo m before request (Err e) sent after → tells_tag m ≡ true → ¬ IsOfMember e
@@ -338,10 +253,10 @@ module _ (before after : Server) (request : Request (List ℕ)) (sent : Sent) wh
   patch_alone : (e : Fault) (p : Path) (who : Caller) → IsOfMember e → ¬ FailsToPatch Headers (body_of request) (as_found before after) who p e
   patch_alone (fault.MemberLocked path) p who member (inl h) = h
   patch_alone (fault.MemberLocked path) p who member (inr h) =
-      changed_alone (course_of method.PropPatch (standing_of (at_path before.state.map p)) Headers) (fault.MemberLocked path) tt h.1
+      changed_alone (course_of method.PropPatch (standing_at before.state.map p) Headers) (fault.MemberLocked path) tt h.1
   patch_alone (fault.ConflictingMember at path) p who member (inl h) = h
   patch_alone (fault.ConflictingMember at path) p who member (inr h) =
-      changed_alone (course_of method.PropPatch (standing_of (at_path before.state.map p)) Headers) (fault.ConflictingMember at path) tt h.1
+      changed_alone (course_of method.PropPatch (standing_at before.state.map p) Headers) (fault.ConflictingMember at path) tt h.1
   patch_alone _ p who member h = member
 
   patch_high : (e : Fault) → AnswersTo (Some method.PropPatch) before request (Err e) sent after → 400 ≤ fault_status e
@@ -451,7 +366,7 @@ module _ (before after : Server) (request : Request (List ℕ)) (sent : Sent) wh
   held_off (Some method.Put) (Err e) (inr h) off =
       let is = fault_off e off in
       fails_off (Some method.Put) true e (λ p who. FailsToPut before.state who p (body_of request) Headers e) is h.1
-      (λ p who refuses. (subst (FailsToPut before.state who p (body_of request) Headers) is refuses).1)
+      (λ p who refuses. by_conditions (CantPut before.state who p (body_of request)) _ _ e is (λ h. h) refuses)
   held_off (Some method.PropFind) (Ok status) h off = absurd (elim off [ inl off ↦ omega (arith, off, h.0.does.0) | inr off ↦ omega (arith, off, h.0.does.0) ])
   held_off (Some method.PropFind) (Err e) h off =
       let is = fault_off e off in
@@ -549,14 +464,14 @@ module _ (before after : Server) (request : Request (List ℕ)) (sent : Sent) wh
 
   -- ---- parts and tags
 
-  told_part : (r : Resource) (status : ℕ) (x : Result (Option Extent) Fault) → get_outcome_of method.Get r Headers ≡ x → Tells x r status sent → status ≡ 206
-      → (first : ℕ) × ((end : ℕ) × (get_outcome_of method.Get r Headers ≡ Ok (Some (extent.Part first end))) × (sent.body ≡ take (end - first) (drop first r.node.bytes))
+  told_part : (p : Path) (r : Resource) (status : ℕ) (x : Result (Option Extent) Fault) → get_outcome_of method.Get before.state.map p r Headers ≡ x → Tells x r status sent → status ≡ 206
+      → (first : ℕ) × ((end : ℕ) × (get_outcome_of method.Get before.state.map p r Headers ≡ Ok (Some (extent.Part first end))) × (sent.body ≡ take (end - first) (drop first r.node.bytes))
       × (sent.marks.parts ≡ part_text first end (length r.node.bytes) ∷ []))
-  told_part r status (Err e) is h part = absurd h
-  told_part r status (Ok None) is h part = absurd (omega (arith, h.0, part))
-  told_part r status (Ok (Some extent.Whole)) is h part = absurd (omega (arith, h.0, part))
-  told_part r status (Ok (Some (extent.Part first end))) is h part = (first, (end, is, h.2, ap (λ m. m.parts) h.1))
-  told_part r status (Ok (Some extent.Unsatisfiable)) is h part = absurd (omega (arith, h.0, part))
+  told_part p r status (Err e) is h part = absurd h
+  told_part p r status (Ok None) is h part = absurd (omega (arith, h.0, part))
+  told_part p r status (Ok (Some extent.Whole)) is h part = absurd (omega (arith, h.0, part))
+  told_part p r status (Ok (Some (extent.Part first end))) is h part = (first, (end, is, h.2, ap (λ m. m.parts) h.1))
+  told_part p r status (Ok (Some extent.Unsatisfiable)) is h part = absurd (omega (arith, h.0, part))
 
   -- a HEAD has no part
   no_part : (standing : Standing) (size : ℕ) (o : Option Course) (status : ℕ) (r : Resource) → Tells (get_outcome_by method.Head standing size Headers o) r status sent → ¬ (status ≡ 206)
@@ -571,7 +486,7 @@ module _ (before after : Server) (request : Request (List ℕ)) (sent : Sent) wh
   sends_part m (Err e) h part = absurd (no_fault e 206 part (omega arith) (λ same. omega (arith, same)))
   sends_part (Some method.Get) (Ok status) h part =
       let r = h.0.gets.resource in
-      let told = told_part r status (get_outcome_of method.Get r Headers) refl h.0.gets.tells part in
+      let told = told_part (segments h.0.path.bytes) r status (get_outcome_of method.Get before.state.map (segments h.0.path.bytes) r Headers) refl h.0.gets.tells part in
       record {
         path = h.0.path;
         who = h.0.who;
@@ -586,7 +501,8 @@ module _ (before after : Server) (request : Request (List ℕ)) (sent : Sent) wh
       }
   sends_part (Some method.Head) (Ok status) h part =
       let r = h.0.gets.resource in
-      absurd (no_part (standing_of (Some r)) (length r.node.bytes) (course_of method.Head (standing_of (Some r)) Headers) status r h.0.gets.tells part)
+      let at = standing_known before.state.map (segments h.0.path.bytes) (meta_at r.node) in
+      absurd (no_part at (length r.node.bytes) (course_of method.Head at Headers) status r h.0.gets.tells part)
   sends_part (Some method.Put) (Ok status) h part =
       absurd (omega (arith, part, h.1.status_is, put_between (has before.state.map (segments h.1.path.bytes))))
   sends_part (Some method.PropFind) (Ok status) h part = absurd (omega (arith, h.0.does.0, part))
@@ -602,8 +518,8 @@ module _ (before after : Server) (request : Request (List ℕ)) (sent : Sent) wh
   sends_part (Some method.Options) (Ok status) h part = absurd (omega (arith, h.0, part))
   sends_part _ (Ok status) h part = absurd (cc)
 
-  file_tags : (file : Resource) → file.node.kind ≡ File → tag_of file ∷ [] ≡ tags_by (standing_of (Some file))
-  file_tags file kind = sym (ap (λ k. tags_by (standing_by k file.node.modified (length file.node.bytes))) kind)
+  pub file_tags : (file : Resource) → file.node.kind ≡ File → tag_of file ∷ [] ≡ own_tags file
+  file_tags file kind = sym (ap (λ k. elim k [ Folder ↦ [] | File ↦ tag_of file ∷ [] ]) kind)
 
   pub sends_tag : (m : Option DavMethod) (result : Result ℕ Fault) → AnswersTo m before request result sent after → tells_tag m ≡ true → status_of result < 400
       → SendsTag before request sent after
@@ -614,6 +530,6 @@ module _ (before after : Server) (request : Request (List ℕ)) (sent : Sent) wh
     path = h.1.path;
     who = h.1.who;
     begins = h.1.begins;
-    tags = ap (λ m. m.tags) h.1.marks ∙ file_tags h.1.puts.file h.1.puts.kind ∙ ap (λ o. tags_by (standing_of o)) (sym h.1.puts.here);
+    tags = ap (λ m. m.tags) h.1.marks ∙ file_tags h.1.puts.file h.1.puts.kind ∙ sym (tags_at after.state.map (segments h.1.path.bytes) h.1.puts.file h.1.puts.here);
   }
   sends_tag _ (Ok status) h look low = absurd (false≢true look)

@@ -284,12 +284,14 @@ module _ (before after : Server) (later : before.last ≤ after.last) (kept : Ke
   copy_left : (request : Request (List ℕ)) (e : Fault) → Leaves (Some method.Copy) before request e after → Keeps after
   copy_left request fault.InsufficientStorage (inl same) = alike same
   copy_left request fault.InsufficientStorage (inr h) =
-      let starts = h.1.2 in copy_keeps after.last starts.deep (segments h.1.0.bytes) (segments starts.to.bytes) starts.mid refl starts.cleared starts.copied
+      let starts = h.1.3 in copy_keeps h.1.1.now starts.deep (segments h.1.0.bytes) (segments starts.to.bytes) starts.mid h.1.2.now starts.cleared starts.copied
   copy_left request _ h = alike h
 
   move_left : (request : Request (List ℕ)) (e : Fault) → Leaves (Some method.Move) before request e after → Keeps after
   move_left request fault.InsufficientStorage (inl same) = alike same
-  move_left request fault.InsufficientStorage (inr h) = clear_keeps (segments h.1.to.bytes) h.1.cleared
+  move_left request fault.InsufficientStorage (inr h) =
+      let to = segments h.1.3.movable.to.bytes in
+      clear_keeps to (subst (λ n. IsCleared n to (as_found before after) (live n after.state)) h.1.2.now h.1.3.cleared)
   move_left request _ h = alike h
 
   lock_left : (request : Request (List ℕ)) (e : Fault) → length (body_of request) < 2 ^ 64 → Leaves (Some method.Lock) before request e after → Keeps after

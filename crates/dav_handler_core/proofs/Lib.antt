@@ -1,4 +1,6 @@
 pub mod AnswerLemmas
+pub mod AnswerStatuses
+pub mod DateLaws
 pub mod DecidingLaws
 pub mod DescriptionTextLemmas
 pub mod DescriptionTexts
@@ -8,9 +10,12 @@ pub mod HoldingLaws
 pub mod KeptStoreLaws
 pub mod LockAnswerLemmas
 pub mod LockTextLemmas
+pub mod LockTimeLaws
 pub mod MomentLaws
+pub mod MomentLemmas
 mod MomentRows
 pub mod PatchAnswerLemmas
+pub mod PathFrameLaws
 pub mod PathHistoryLemmas
 pub mod PromiseLaws
 pub mod TagLaws

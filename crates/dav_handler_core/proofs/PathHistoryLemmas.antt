@@ -1,5 +1,5 @@
 -- What stands at a path and along it from one map to another: the file that stood there, or a new moment.
-use Rattle.std.proofs.Common.{◌≡◌, ◌≢◌, ◌⊎◌, inl, inr, ℕ, zero, suc, Bool, true, false, ◌||◌, cond, List, [], ◌∷◌, ◌++◌, length, Option, Some, None, refl, sym, ◌∙◌, ap, subst, arith}
+use Rattle.std.proofs.Common.{◌≡◌, ◌≢◌, ◌⊎◌, inl, inr, ℕ, zero, suc, Bool, true, false, ◌||◌, cond, [], ◌∷◌, ◌++◌, length, Option, Some, None, refl, sym, ◌∙◌, ap, subst, arith}
 use Rattle.std.specs.Prelude.{IsSome, option_map}
 use Rattle.std.proofs.lemmas.Bool.{cases_Bool, false_from_ne_true, true≢false}
 use Rattle.dav_path_core.specs.Fronts.{Path, is_front, is_same_path, parent}
@@ -8,7 +8,6 @@ use Rattle.dav_path_core.proofs.lists.Orders.{path_exact, path_total}
 use Rattle.dav_path_core.proofs.paths.AbovePaths.{above, parent_front, parent_length}
 use Rattle.dav_path_core.proofs.paths.FrontLemmas.{is_front-refl, is_front-trans, is_same_path-refl, is_same_path-same}
 use Rattle.dav_path_core.proofs.paths.SubtreePaths.{rest_of}
-use Rattle.dav_files_core.specs.declared.memfs.Kind.TheVariants.{File, Folder}
 use Rattle.dav_files_core.specs.Following.{dated_entry, dated_folder}
 use Rattle.dav_files_core.specs.Resources.{IsResourceMap, Node, Resource, ResourceMap, at_path}
 use Rattle.dav_files_core.proofs.paths.RemovedMaps.{above_out, front_none}

@@ -45,7 +45,7 @@ use Rattle.dav_handler_core.specs.Promises.{Brings, EachAnswer, EachCall, GetsWh
 use Rattle.dav_handler_core.specs.Serving.{Leads}
 use Rattle.dav_handler_core.specs.TagHistories.{Becomes}
 use Rattle.dav_handler_core.specs.TagHistories.Becomes.{itself, by_clock, by_answer}
-use Rattle.dav_handler_core.proofs.DecidingLaws.{no_fault}
+use Rattle.dav_handler_core.proofs.AnswerStatuses.{no_fault}
 use Rattle.dav_handler_core.proofs.HoldingLaws.{kept_unless_held, stands_unless_ended}
 use Rattle.dav_handler_core.proofs.KeptStoreLaws.{begins_kept, run_keeps}
 use Rattle.dav_methods_core.proofs.PutMethodLemmas.{put_found}
@@ -211,17 +211,19 @@ module _ (before after : Server) (request : Request (List ℕ)) (p : Path) (file
   copy_left : (result : Result ℕ Fault) (e : Fault) → Leaves (Some method.Copy) before request e after → From (Some method.Copy) result
   copy_left result fault.InsufficientStorage (inl same) = alike (Some method.Copy) result same
   copy_left result fault.InsufficientStorage (inr h) =
-      let starts = h.1.2 in
+      let now = h.1.1.now in
+      let starts = h.1.3 in
       let to = segments starts.to.bytes in
-      transferred (Some method.Copy) result h.1.0 starts.to (inl refl) h.1.1 starts.leads
-      (came_before after.last (segments h.1.0.bytes) to starts.mid starts.cleared
-      (copied_from after.last starts.deep (segments h.1.0.bytes) to starts.mid (live after.last after.state) starts.copied p file here kind))
+      transferred (Some method.Copy) result h.1.0 starts.to (inl refl) h.1.2.names starts.leads.leads
+      (came_before now (segments h.1.0.bytes) to starts.mid starts.cleared
+      (copied_from now starts.deep (segments h.1.0.bytes) to starts.mid (live now after.state) starts.copied p file here kind))
   copy_left result _ h = alike (Some method.Copy) result h
 
   move_left : (result : Result ℕ Fault) (e : Fault) → Leaves (Some method.Move) before request e after → From (Some method.Move) result
   move_left result fault.InsufficientStorage (inl same) = alike (Some method.Move) result same
   move_left result fault.InsufficientStorage (inr h) =
-      stood (cleared_from after.last (segments h.1.to.bytes) (as_found before after) (live after.last after.state) h.1.cleared p file.node.bytes (file, here, kind, refl))
+      let now = h.1.1.now in
+      stood (cleared_from now (segments h.1.3.movable.to.bytes) (as_found before after) (live now after.state) h.1.3.cleared p file.node.bytes (file, here, kind, refl))
   move_left result _ h = alike (Some method.Move) result h
 
   lock_left : (result : Result ℕ Fault) (e : Fault) → Leaves (Some method.Lock) before request e after → From (Some method.Lock) result
@@ -289,6 +291,14 @@ module _ (before after : Server) (request : Request (List ℕ)) (p : Path) (file
   comes (Some method.Options) (Err e) sent h left = same_map (Some method.Options) (Err e) (ap (λ (s : State). s.map) h.1)
   comes m result sent h left = same_map m result (ap (λ (s : State). s.map) h.1)
 
+-- what a GET tells that is answered 200
+pub whole_file : (told : Result (Option Extent) Fault) (r : Resource) (status : ℕ) (sent : Sent) → Tells told r status sent → status ≡ 200 → r.node.kind ≡ File → sent.body ≡ r.node.bytes
+whole_file (Err e) r status sent h is kind = absurd h
+whole_file (Ok None) r status sent h is kind = absurd (omega (arith, h.0, is))
+whole_file (Ok (Some extent.Whole)) r status sent h is kind = h.2 kind
+whole_file (Ok (Some (extent.Part first end))) r status sent h is kind = absurd (omega (arith, h.0, is))
+whole_file (Ok (Some extent.Unsatisfiable)) r status sent h is kind = absurd (omega (arith, h.0, is))
+
 -- ---- a run
 
 module _ (begun : Server) (new : IsNew begun) where
@@ -317,14 +327,6 @@ module _ (begun : Server) (new : IsNew begun) where
           (IsLeft.by_lock mid after request response path run h (is, (status, done)) named nothing
           (subst (StandsAt after.state.map (segments path.bytes)) empty (subst (λ q. StandsAt after.state.map q content) at_path_is now))))
 
-  -- what a GET tells that is answered 200
-  whole_file : (told : Result (Option Extent) Fault) (r : Resource) (status : ℕ) (sent : Sent) → Tells told r status sent → status ≡ 200 → r.node.kind ≡ File → sent.body ≡ r.node.bytes
-  whole_file (Err e) r status sent h is kind = absurd h
-  whole_file (Ok None) r status sent h is kind = absurd (omega (arith, h.0, is))
-  whole_file (Ok (Some extent.Whole)) r status sent h is kind = h.2 kind
-  whole_file (Ok (Some (extent.Part first end))) r status sent h is kind = absurd (omega (arith, h.0, is))
-  whole_file (Ok (Some extent.Unsatisfiable)) r status sent h is kind = absurd (omega (arith, h.0, is))
-
   got : (before after : Server) (request : Request (List ℕ)) (response : Response) → Becomes begun before → (m : Option DavMethod) (result : Result ℕ Fault)
       → response.status ≡ status_of result → AnswersTo m before request result (sent_of response) after → GetsWhatIsLeft begun before request response m
   got before after request response run (Some method.Get) (Ok status) is h = λ two_hundred.
@@ -333,7 +335,7 @@ module _ (begun : Server) (new : IsNew begun) where
         g.begins.names,
         λ file there kind.
             let same = one_some (at_path before.state.map (segments g.path.bytes)) file g.gets.resource there g.gets.here in
-            let told = whole_file (get_outcome_of method.Get g.gets.resource (head_of request).headers) g.gets.resource status (sent_of response) g.gets.tells (sym is ∙ two_hundred)
+            let told = whole_file (get_outcome_of method.Get before.state.map (segments g.path.bytes) g.gets.resource (head_of request).headers) g.gets.resource status (sent_of response) g.gets.tells (sym is ∙ two_hundred)
             (ap (λ (r : Resource). r.node.kind) (sym same) ∙ kind) in
             (told ∙ ap (λ (r : Resource). r.node.bytes) (sym same), left before run (segments g.path.bytes) file.node.bytes (file, there, kind, refl)),
       )

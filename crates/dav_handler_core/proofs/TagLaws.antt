@@ -218,17 +218,22 @@ whole_part now deep from to s s' h = record { there = λ rest. inr (h.there rest
 copy_left : (before after : Server) (request : Request (List ℕ)) (e : Fault) → before.last ≤ after.last → Leaves (Some method.Copy) before request e after → Dates before after
 copy_left before after request fault.InsufficientStorage later (inl same) = same_map before after later (live_map after.last before.state after.state same)
 copy_left before after request fault.InsufficientStorage later (inr h) =
-    let starts = h.1.2 in
-    copy_dates before after starts.deep (segments h.1.0.bytes) (segments starts.to.bytes) starts.mid h.0 starts.cleared starts.copied
+    let from = segments h.1.0.bytes in
+    let now = h.1.2.now in
+    let starts = h.1.3 in
+    let to = segments starts.to.bytes in
+    copy_dates before after starts.deep from to starts.mid h.0 (subst (λ n. IsCleared n to (as_found before after) starts.mid) now starts.cleared)
+    (subst (λ n. IsPartlyCopied n starts.deep from to starts.mid (live n after.state)) now starts.copied)
 copy_left before after request _ later h = same_map before after later (live_map after.last before.state after.state h)
 
 move_left : (before after : Server) (request : Request (List ℕ)) (e : Fault) → before.last ≤ after.last → Leaves (Some method.Move) before request e after → Dates before after
 move_left before after request fault.InsufficientStorage later (inl same) = same_map before after later (live_map after.last before.state after.state same)
 move_left before after request fault.InsufficientStorage later (inr h) =
-    let to = segments h.1.to.bytes in
+    let to = segments h.1.3.movable.to.bytes in
     let s = as_found before after in
-    come_dates before after (bytes_of (at_path s.map (parent to))) h.0 (cleared_come after.last to s (live after.last after.state) h.1.cleared)
-    (λ shape. cleared_follows after.last to s (live after.last after.state) h.1.cleared)
+    let cleared = subst (λ n. IsCleared n to s (live n after.state)) h.1.2.now h.1.3.cleared in
+    come_dates before after (bytes_of (at_path s.map (parent to))) h.0 (cleared_come after.last to s (live after.last after.state) cleared)
+    (λ shape. cleared_follows after.last to s (live after.last after.state) cleared)
 move_left before after request _ later h = same_map before after later (live_map after.last before.state after.state h)
 
 lock_left : (before after : Server) (request : Request (List ℕ)) (e : Fault) → before.last ≤ after.last → Leaves (Some method.Lock) before request e after → Dates before after

@@ -18,7 +18,7 @@ use Rattle.dav_handler_core.specs.Server.{Server, site_for}
 use Rattle.dav_session_core.specs.Callers.{Caller, SameLive, live}
 use Rattle.dav_methods_core.specs.CopyMethod.{CopyLeaves, StartsToCopy}
 use Rattle.dav_methods_core.specs.MoveMethod.{MoveLeaves, StartsToMove}
-use Rattle.dav_handler_core.proofs.AnswerLemmas.{found_as}
+use Rattle.dav_handler_core.proofs.AnswerLemmas.{begins_on, found_as}
 
 -- where nothing has changed, any refusal may have come
 pub leaves_same : (m : Option DavMethod) (before after : Server) (request : Request (List ℕ)) (e : Fault) → SameLive after.last before.state after.state → Leaves m before request e after
@@ -45,36 +45,40 @@ module _ (before mid after : Server) (request : Request (List ℕ)) (path : Path
   abbrev Headers : Entries FieldValue
   Headers = (head_of request).headers
 
-  one_copy_left : (e : Fault) → CopyLeaves (site_for before.options request) before.options.prefix Headers s who.now (segments path.bytes) e after.state → Leaves (Some method.Copy) before request e after
+  one_copy_left : (e : Fault) → CopyLeaves (site_for before.options request) before.options.prefix Headers s who (segments path.bytes) e after.state → Leaves (Some method.Copy) before request e after
   one_copy_left fault.InsufficientStorage (inl h) = inl (same_left h)
   one_copy_left fault.InsufficientStorage (inr h) = inr (
     subst (λ n. before.last < n) (sym same) later,
     (
       path,
-      begins.names,
-      subst (λ (t : State). StartsToCopy (site_for before.options request) before.options.prefix Headers t after.last (segments path.bytes) after.state) found
-          (subst (λ n. StartsToCopy (site_for before.options request) before.options.prefix Headers (live who.now s) n (segments path.bytes) after.state) now_is h),
+      who,
+      begins_on before mid after request path who same begins,
+      subst (λ (t : State). StartsToCopy (site_for before.options request) before.options.prefix Headers t who (segments path.bytes) after.state) found h,
     ),
   )
   one_copy_left _ h = same_left h
 
-  one_move_left : (e : Fault) → MoveLeaves (site_for before.options request) before.options.prefix Headers s who.now e after.state → Leaves (Some method.Move) before request e after
+  one_move_left : (e : Fault) → MoveLeaves (site_for before.options request) before.options.prefix Headers s who (segments path.bytes) e after.state → Leaves (Some method.Move) before request e after
   one_move_left fault.InsufficientStorage (inl h) = inl (same_left h)
   one_move_left fault.InsufficientStorage (inr h) = inr (
     subst (λ n. before.last < n) (sym same) later,
-    subst (λ (t : State). StartsToMove (site_for before.options request) before.options.prefix Headers t after.last after.state) found
-        (subst (λ n. StartsToMove (site_for before.options request) before.options.prefix Headers (live who.now s) n after.state) now_is h),
+    (
+      path,
+      who,
+      begins_on before mid after request path who same begins,
+      subst (λ (t : State). StartsToMove (site_for before.options request) before.options.prefix Headers t who (segments path.bytes) after.state) found h,
+    ),
   )
   one_move_left _ h = same_left h
 
   pub copy_leaves : {A : Type 0} (result : Result A Fault)
-      → IfErr result (λ e. CopyLeaves (site_for before.options request) before.options.prefix (head_of request).headers s who.now (segments path.bytes) e after.state)
+      → IfErr result (λ e. CopyLeaves (site_for before.options request) before.options.prefix (head_of request).headers s who (segments path.bytes) e after.state)
       → IfErr result (λ e. Leaves (Some method.Copy) before request e after)
   copy_leaves (Ok x) h = tt
   copy_leaves (Err e) h = one_copy_left e h
 
   pub move_leaves : {A : Type 0} (result : Result A Fault)
-      → IfErr result (λ e. MoveLeaves (site_for before.options request) before.options.prefix (head_of request).headers s who.now e after.state)
+      → IfErr result (λ e. MoveLeaves (site_for before.options request) before.options.prefix (head_of request).headers s who (segments path.bytes) e after.state)
       → IfErr result (λ e. Leaves (Some method.Move) before request e after)
   move_leaves (Ok x) h = tt
   move_leaves (Err e) h = one_move_left e h

@@ -1,6 +1,6 @@
 -- A refusal that is told by more than its status, where there is no memory for that: it is as one for
 -- want of memory.
-use Rattle.std.proofs.Common.{◌≡◌, inl, inr, List, ℕ, Option, Some, None, Result, Err, ap, sym, ◌∙◌, arith}
+use Rattle.std.proofs.Common.{◌≡◌, inl, inr, List, ℕ, Option, Some, Result, Err, ap, sym, ◌∙◌, arith}
 use Rattle.http.specs.declared.request.Request.{Request}
 use Rattle.dav_path_core.specs.declared.util.DavMethod.{DavMethod}
 use Rattle.dav_path_core.specs.declared.util.DavMethod.TheVariants as method

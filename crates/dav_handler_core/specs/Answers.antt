@@ -24,7 +24,8 @@ use Rattle.dav_methods_core.specs.MoveMethod.{StartsToMove}
 use Rattle.dav_methods_core.specs.RefusalAnswers.{TellsWhy}
 use Rattle.dav_session_core.specs.Refreshing.{RefreshesOwn}
 use Rattle.dav_methods_core.specs.UnlockMethod.{Unlocks}
-use Rattle.dav_handler_core.specs.Server.{Server, IsFrom, Names, site_for}
+use Rattle.dav_handler_core.specs.Server.{Server, IsFrom, site_for}
+use Rattle.dav_handler_core.specs.RequestMoments.{Comes}
 use Rattle.dav_handler_core.specs.MethodAnswers.{Begins, CopyAnswers, FindAnswers, GetAnswers, LockAnswers, MakeAnswers, MoveAnswers, PatchAnswers, PutAnswers, RemoveAnswers, UnlockAnswers, as_found}
 
 -- ---- the request
@@ -95,12 +96,12 @@ pub record MayDo (before : Server) (request : Request (List ℕ)) (after : Serve
 abbrev pub Leaves : Option DavMethod → Server → Request (List ℕ) → Fault → Server → Type 0
 Leaves (Some method.Copy) before request fault.InsufficientStorage after =
     SameLive after.last before.state after.state
-    ⊎ ((before.last < after.last) × ((path : PathText) × Names before.options request path
-    × StartsToCopy (site_for before.options request) before.options.prefix (head_of request).headers (as_found before after) after.last (segments path.bytes) after.state))
+    ⊎ ((before.last < after.last) × ((path : PathText) × (who : Caller) × Begins before request after path who
+    × StartsToCopy (site_for before.options request) before.options.prefix (head_of request).headers (as_found before after) who (segments path.bytes) after.state))
 Leaves (Some method.Move) before request fault.InsufficientStorage after =
     SameLive after.last before.state after.state
-    ⊎ ((before.last < after.last)
-    × StartsToMove (site_for before.options request) before.options.prefix (head_of request).headers (as_found before after) after.last after.state)
+    ⊎ ((before.last < after.last) × ((path : PathText) × (who : Caller) × Begins before request after path who
+    × StartsToMove (site_for before.options request) before.options.prefix (head_of request).headers (as_found before after) who (segments path.bytes) after.state))
 Leaves (Some method.Lock) before request fault.InsufficientStorage after =
     SameLive after.last before.state after.state
     ⊎ ((path : PathText) × (who : Caller) × Begins before request after path who
@@ -122,6 +123,8 @@ pub record Answers (before : Server) (request : Request (List ℕ)) (response : 
   pub result : Result ℕ Fault
   pub status : response.status ≡ status_of result
   pub done : AnswersTo method before request result (sent_of response) after
+  -- its moment, by the clock
+  pub comes : Comes method before request result after
   -- a refusal is told by its document, or by nothing beside its status
   pub told : IfErr result (λ e. TellsWhy before.options.prefix e response)
   -- what is refused has changed nothing, but that a COPY or a MOVE that lacks memory may have begun, and a LOCK may have drawn a token

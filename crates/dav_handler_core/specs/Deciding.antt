@@ -21,7 +21,7 @@ use Rattle.dav_handler_core.specs.Server.{Server, site_for}
 use Rattle.dav_session_core.specs.Callers.{Caller, live}
 use Rattle.dav_fields_core.specs.TransferDestinations.{overwrites}
 use Rattle.dav_fields_core.specs.Fields.{Sent}
-use Rattle.dav_fields_core.specs.FileTags.{standing_of}
+use Rattle.dav_fields_core.specs.FileTags.{standing_at}
 use Rattle.dav_fields_core.specs.Getting.{tags_by}
 use Rattle.dav_methods_core.specs.GetMethod.{get_outcome_of}
 use Rattle.dav_methods_core.specs.ChangeConditions.{change_course}
@@ -57,25 +57,18 @@ SaysDone _ status = (status < 300) × (status ≢ 207)
 
 -- what stands at the path is told to a GET or a HEAD
 abbrev pub IsToldAs : DavMethod → ResourceMap → Path → Entries FieldValue → Option Extent → Type 0
-IsToldAs m map p headers told = (r : Resource) × (at_path map p ≡ Some r) × (get_outcome_of m r headers ≡ Ok told)
+IsToldAs m map p headers told = (r : Resource) × (at_path map p ≡ Some r) × (get_outcome_of m map p r headers ≡ Ok told)
 
 -- one of its conditions doesn't hold there
 abbrev pub IsToldFailed : DavMethod → ResourceMap → Path → Entries FieldValue → Type 0
-IsToldFailed m map p headers = (r : Resource) × (at_path map p ≡ Some r) × (get_outcome_of m r headers ≡ Err fault.PreconditionFailed)
+IsToldFailed m map p headers = (r : Resource) × (at_path map p ≡ Some r) × (get_outcome_of m map p r headers ≡ Err fault.PreconditionFailed)
 
 -- the conditions of HTTP let the method be done at the path
 abbrev pub Lets : Option DavMethod → ResourceMap → Path → Entries FieldValue → Type 0
 Lets (Some method.Get) map p headers = (x : Extent) × IsToldAs method.Get map p headers (Some x)
 Lets (Some method.Head) map p headers = (x : Extent) × IsToldAs method.Head map p headers (Some x)
-Lets (Some method.Put) map p headers = change_course method.Put map p headers ≡ Ok tt
-Lets (Some method.Delete) map p headers = change_course method.Delete map p headers ≡ Ok tt
-Lets (Some method.Copy) map p headers = change_course method.Copy map p headers ≡ Ok tt
-Lets (Some method.Move) map p headers = change_course method.Move map p headers ≡ Ok tt
-Lets (Some method.MkCol) map p headers = change_course method.MkCol map p headers ≡ Ok tt
-Lets (Some method.PropPatch) map p headers = change_course method.PropPatch map p headers ≡ Ok tt
-Lets (Some method.Lock) map p headers = change_course method.Lock map p headers ≡ Ok tt
-Lets (Some method.Unlock) map p headers = change_course method.Unlock map p headers ≡ Ok tt
-Lets _ map p headers = Unit {0}
+Lets (Some m) map p headers = change_course m map p headers ≡ Ok tt
+Lets None map p headers = Unit {0}
 
 -- one of those that are looked at doesn't hold, and each is read
 abbrev pub IsCourseStopped : DavMethod → ResourceMap → Path → Entries FieldValue → Type 0
@@ -125,7 +118,7 @@ pub record SendsPart (before : Server) (request : Request (List ℕ)) (sent : Se
   pub here : at_path before.state.map (segments path.bytes) ≡ Some resource
   pub first : ℕ
   pub end : ℕ
-  pub asked : get_outcome_of method.Get resource (head_of request).headers ≡ Ok (Some (extent.Part first end))
+  pub asked : get_outcome_of method.Get before.state.map (segments path.bytes) resource (head_of request).headers ≡ Ok (Some (extent.Part first end))
   pub bytes : sent.body ≡ take (end - first) (drop first resource.node.bytes)
   pub says : sent.marks.parts ≡ part_text first end (length resource.node.bytes) ∷ []
 
@@ -134,4 +127,4 @@ pub record SendsTag (before : Server) (request : Request (List ℕ)) (sent : Sen
   pub path : PathText
   pub who : Caller
   pub begins : Begins before request after path who
-  pub tags : sent.marks.tags ≡ tags_by (standing_of (at_path after.state.map (segments path.bytes)))
+  pub tags : sent.marks.tags ≡ tags_by (standing_at after.state.map (segments path.bytes))

@@ -1,11 +1,15 @@
 pub mod Answers
+pub mod DateConditions
 pub mod Deciding
 pub mod Holding
 pub mod KeptDocuments
+pub mod LockTimes
 pub mod MethodAnswers
+pub mod PathFrames
 pub mod PathMoments
 pub mod Private
 pub mod Promises
+pub mod RequestMoments
 pub mod Server
 pub mod ServerViews
 pub mod Serving

@@ -23,6 +23,7 @@ use Rattle.dav_faults_core.specs.declared.faults.Fault.TheVariants as fault
 use Rattle.dav_methods_core.specs.Admitting.{IsAdmitted, IsHeldOff}
 use Rattle.dav_session_core.specs.Callers.{Caller, live}
 use Rattle.dav_fields_core.specs.FileTags.{tag_of}
+use Rattle.dav_methods_core.specs.FolderPages.{IsPaged}
 use Rattle.dav_methods_core.specs.GetMethod.{FailsToGet, Gets}
 use Rattle.dav_fields_core.specs.Getting.{tag_marks}
 use Rattle.dav_methods_core.specs.LockMethod.{FailsToLock, IsGranted}
@@ -81,6 +82,7 @@ pub record IsGotten (m : DavMethod) (before : Server) (request : Request (List �
   pub begins : Begins before request after path who
   pub admits : Admits before request after path
   pub gets : Gets m before.state.map (segments path.bytes) (head_of request).headers status sent
+  pub page : IsPaged before.state.map path status sent.body
 
 abbrev pub GetAnswers : DavMethod → Server → Request (List ℕ) → Result ℕ Fault → Sent → Server → Type 0
 GetAnswers m before request (Ok status) sent after = IsGotten m before request status sent after

@@ -1,5 +1,5 @@
 //! The server: an HTTP service over the stores (RFC 4918 section 9, RFC 9110 section 9).
-ghost use Rattle.std.specs.Prelude.{◌≡◌, ◌<◌, ◌≤◌, ◌⊎◌, [], true, IfOk, IfErr, OnErr, Option, Some};
+ghost use Rattle.std.specs.Prelude.{◌≡◌, ◌<◌, ◌≤◌, ◌⊎◌, [], true, IfOk, IfErr, OnErr, OnOk, Err, Option, Some, false};
 ghost use Rattle.http.specs.Request.{body_of, head_of};
 ghost use Rattle.http_server.specs.Response.{IsBlank};
 ghost use Rattle.dav_path_core.specs.declared.util.DavMethod.{DavMethod};
@@ -9,6 +9,8 @@ ghost use Rattle.dav_handler_core.specs.MethodAnswers.{Admits, GetAnswers};
 ghost use Rattle.dav_handler_core.specs.Answers.{Answers, AnswersTo};
 ghost use Rattle.dav_handler_core.specs.Server.{IsFrom};
 ghost use Rattle.dav_handler_core.specs.Answers.{IsMethod, MayDo};
+ghost use Rattle.dav_handler_core.specs.RequestMoments.{Comes, ComesAt, moment_of};
+ghost use Rattle.dav_handler_core.specs.MethodAnswers.{has_body};
 ghost use Rattle.dav_handler_core.specs.MethodAnswers.{LockAnswers, PatchAnswers};
 ghost use Rattle.dav_handler_core.specs.Server.{Names};
 ghost use Rattle.dav_handler_core.specs.MethodAnswers.{PutAnswers, Unread};
@@ -46,10 +48,13 @@ use dav_session_core::session::Session;
 use http::{Request, StatusCode};
 use http_header::HeaderName;
 use http_server::{Response, Service};
-pub use laws::{answers_are_documents, conditions_decide, locks_are_their_holders};
+pub use laws::{
+    answers_are_documents, conditions_decide, locks_are_their_holders, locks_stand_their_time,
+    paths_stay_untouched,
+};
 use rand_core::Rng;
 use std::alloc::{AllocError, Global};
-pub use tag_laws::{calls_make_runs, tags_tell_bytes};
+pub use tag_laws::{calls_make_runs, dates_tell_bytes, moments_tell_files, tags_tell_bytes};
 
 /// What whoever runs a server chooses.
 #[derive(Debug, Drop)]
@@ -117,6 +122,8 @@ impl<R: Rng> Dav<R> {
     fn moment(&self, changes: bool) -> Result<Moment, Fault>
         ensures ok { IfOk result (λ moment. ((server R.stream self.now).last ≤ moment.0)
             × (changes ≡ true → (server R.stream self.now).last < moment.0)) }
+        ensures moment { IfOk result (λ moment. moment.0
+            ≡ moment_of changes (server R.stream self.now)) }
         ensures err { IfErr result (λ e. (e ≡ fault.ServiceUnavailable) × (changes ≡ true)
             × IsLastMoment (server R.stream self.now).last) }
     {
@@ -137,6 +144,10 @@ impl<R: Rng> Dav<R> {
             → (server R.stream self.old).last < (server R.stream self.new).last)) }
         ensures err { IfErr result (λ e. Unread (server R.stream self.old).options request.now
             (server R.stream self.old).last changes e) }
+        ensures moment { OnOk result ((server R.stream self.new).last
+            ≡ moment_of changes (server R.stream self.old)) }
+        ensures left { OnErr result ((server R.stream self.new).last
+            ≡ (server R.stream self.old).last) }
         ensures state { (server R.stream self.new).state ≡ (server R.stream self.old).state }
         ensures moments { (server R.stream self.old).last ≤ (server R.stream self.new).last }
         ensures options { (server R.stream self.new).options ≡ (server R.stream self.old).options }
@@ -159,6 +170,10 @@ impl<R: Rng> Dav<R> {
         ensures err { IfErr result (λ e. Unread (server R.stream self.old).options request.now
             (server R.stream self.old).last changes e
             ⊎ IsHeld (server R.stream self.old) request.now (server R.stream self.new) e) }
+        ensures moment { OnOk result ((server R.stream self.new).last
+            ≡ moment_of changes (server R.stream self.old)) }
+        ensures comes { IfErr result (λ e. ComesAt changes (server R.stream self.old) request.now
+            (Err e) (server R.stream self.new)) }
         ensures run { RunBy (caller self.new.session) (server R.stream self.old).state
             (server R.stream self.new).state }
         ensures live { Unchanged R.stream self.old self.new }
@@ -187,6 +202,10 @@ impl<R: Rng> Dav<R> {
             (server R.stream self.old).last changes e
             ⊎ (IsHeld (server R.stream self.old) request.now (server R.stream self.new) e
             ⊎ IsOverladen (server R.stream self.old) request.now (server R.stream self.new) e)) }
+        ensures moment { OnOk result ((server R.stream self.new).last
+            ≡ moment_of changes (server R.stream self.old)) }
+        ensures comes { IfErr result (λ e. ComesAt changes (server R.stream self.old) request.now
+            (Err e) (server R.stream self.new)) }
         ensures run { RunBy (caller self.new.session) (server R.stream self.old).state
             (server R.stream self.new).state }
         ensures live { Unchanged R.stream self.old self.new }
@@ -210,6 +229,8 @@ impl<R: Rng> Dav<R> {
         ensures answers { IsAnswered R.stream (GetAnswers method) self.old request.now result
             response.new self.new }
         ensures live { Unchanged R.stream self.old self.new }
+        ensures comes { ComesAt false (server R.stream self.old) request.now result
+            (server R.stream self.new) }
         ensures moves { MayDo (server R.stream self.old) request.now (server R.stream self.new) }
     {
         let path = self.begin_admitted(request, false)?;
@@ -233,6 +254,8 @@ impl<R: Rng> Dav<R> {
         ensures answers { IsAnswered R.stream FindAnswers self.old request.now result response.new
             self.new }
         ensures live { Unchanged R.stream self.old self.new }
+        ensures comes { ComesAt false (server R.stream self.old) request.now result
+            (server R.stream self.new) }
         ensures moves { MayDo (server R.stream self.old) request.now (server R.stream self.new) }
     {
         let path = self.begin_admitted(request, false)?;
@@ -258,6 +281,8 @@ impl<R: Rng> Dav<R> {
         ensures answers { IsAnswered R.stream PutAnswers self.old request.now result response.new
             self.new }
         ensures refused { OnErr result (Unchanged R.stream self.old self.new) }
+        ensures comes { Comes (Some method.Put) (server R.stream self.old) request.now result
+            (server R.stream self.new) }
         ensures moves { MayDo (server R.stream self.old) request.now (server R.stream self.new) }
     {
         if request.headers().contains_key("content-range") {
@@ -278,6 +303,8 @@ impl<R: Rng> Dav<R> {
     fn serve_delete(&mut self, request: &Request<Bytes>) -> Result<StatusCode, Fault>
         ensures answers { Changed R.stream RemoveAnswers self.old request.now result self.new }
         ensures refused { OnErr result (Unchanged R.stream self.old self.new) }
+        ensures comes { ComesAt true (server R.stream self.old) request.now result
+            (server R.stream self.new) }
         ensures moves { MayDo (server R.stream self.old) request.now (server R.stream self.new) }
     {
         let path = self.begin_bare(request, true)?;
@@ -289,6 +316,8 @@ impl<R: Rng> Dav<R> {
         ensures answers { Changed R.stream CopyAnswers self.old request.now result self.new }
         ensures refused { IfErr result (LeftBy R.stream (Some method.Copy) self.old request.now
             self.new) }
+        ensures comes { ComesAt true (server R.stream self.old) request.now result
+            (server R.stream self.new) }
         ensures moves { MayDo (server R.stream self.old) request.now (server R.stream self.new) }
     {
         let path = self.begin_bare(request, true)?;
@@ -308,6 +337,8 @@ impl<R: Rng> Dav<R> {
         ensures answers { Changed R.stream MoveAnswers self.old request.now result self.new }
         ensures refused { IfErr result (LeftBy R.stream (Some method.Move) self.old request.now
             self.new) }
+        ensures comes { ComesAt true (server R.stream self.old) request.now result
+            (server R.stream self.new) }
         ensures moves { MayDo (server R.stream self.old) request.now (server R.stream self.new) }
     {
         let path = self.begin_bare(request, true)?;
@@ -326,6 +357,8 @@ impl<R: Rng> Dav<R> {
     fn serve_mkcol(&mut self, request: &Request<Bytes>) -> Result<StatusCode, Fault>
         ensures answers { Changed R.stream MakeAnswers self.old request.now result self.new }
         ensures refused { OnErr result (Unchanged R.stream self.old self.new) }
+        ensures comes { ComesAt true (server R.stream self.old) request.now result
+            (server R.stream self.new) }
         ensures moves { MayDo (server R.stream self.old) request.now (server R.stream self.new) }
     {
         let path = self.begin_bare(request, true)?;
@@ -342,6 +375,8 @@ impl<R: Rng> Dav<R> {
         ensures answers { IsAnswered R.stream PatchAnswers self.old request.now result response.new
             self.new }
         ensures refused { OnErr result (Unchanged R.stream self.old self.new) }
+        ensures comes { ComesAt false (server R.stream self.old) request.now result
+            (server R.stream self.new) }
         ensures moves { MayDo (server R.stream self.old) request.now (server R.stream self.new) }
     {
         let path = self.begin_admitted(request, false)?;
@@ -360,6 +395,8 @@ impl<R: Rng> Dav<R> {
     fn serve_unlock(&mut self, request: &Request<Bytes>) -> Result<StatusCode, Fault>
         ensures answers { Changed R.stream UnlockAnswers self.old request.now result self.new }
         ensures refused { OnErr result (Unchanged R.stream self.old self.new) }
+        ensures comes { ComesAt false (server R.stream self.old) request.now result
+            (server R.stream self.new) }
         ensures moves { MayDo (server R.stream self.old) request.now (server R.stream self.new) }
     {
         let path = self.begin_bare(request, false)?;
@@ -377,6 +414,8 @@ impl<R: Rng> Dav<R> {
             self.new }
         ensures refused { IfErr result (LeftBy R.stream (Some method.Lock) self.old request.now
             self.new) }
+        ensures comes { ComesAt (has_body request.now) (server R.stream self.old) request.now result
+            (server R.stream self.new) }
         ensures moves { MayDo (server R.stream self.old) request.now (server R.stream self.new) }
     {
         if request.body().is_empty() {
@@ -406,6 +445,8 @@ impl<R: Rng> Dav<R> {
         ensures answers { IsAnswered R.stream LockAnswers self.old request.now result response.new
             self.new }
         ensures refused { OnErr result (Unchanged R.stream self.old self.new) }
+        ensures comes { ComesAt false (server R.stream self.old) request.now result
+            (server R.stream self.new) }
         ensures moves { MayDo (server R.stream self.old) request.now (server R.stream self.new) }
     {
         let path = self.begin_admitted(request, false)?;
@@ -432,6 +473,8 @@ impl<R: Rng> Dav<R> {
             response.new self.new }
         ensures refused { IfErr result (LeftBy R.stream (Some method) self.old request.now
             self.new) }
+        ensures comes { Comes (Some method) (server R.stream self.old) request.now result
+            (server R.stream self.new) }
         ensures moves { MayDo (server R.stream self.old) request.now (server R.stream self.new) }
     {
         match method {
@@ -461,7 +504,9 @@ impl<R: Rng> Dav<R> {
         ensures done { (method : Option DavMethod) × IsMethod method (head_of request.now).method
             × IsAnswered R.stream (AnswersTo method) self.old request.now result response.new
             self.new
-            × IfErr result (LeftBy R.stream method self.old request.now self.new) }
+            × IfErr result (LeftBy R.stream method self.old request.now self.new)
+            × Comes method (server R.stream self.old) request.now result
+            (server R.stream self.new) }
         ensures moves { MayDo (server R.stream self.old) request.now (server R.stream self.new) }
     {
         let Ok(method) = DavMethod::try_from(request.method()) else {

@@ -71,7 +71,7 @@ module _ (site : Site) (prefix : List ℕ) (headers : Entries FieldValue) (who :
   copy_lost e is = inl (plan_lost e is)
 
   -- what is refused before anything is changed leaves all as it was
-  pub copy_left : (e : Fault) (s' : State) → SameLive who.now start s' → CopyLeaves site prefix headers start who.now from e s'
+  pub copy_left : (e : Fault) (s' : State) → SameLive who.now start s' → CopyLeaves site prefix headers start who from e s'
   copy_left fault.InsufficientStorage s' h = inl h
   copy_left _ s' h = h
 
@@ -186,13 +186,21 @@ module _ (site : Site) (prefix : List ℕ) (headers : Entries FieldValue) (who :
       copy_short e h = of_ready (λ m w deep from to. e ≡ fault.InsufficientStorage) h
 
       -- it began, and then lacked memory
-      pub copy_begun : (e : Fault) → e ≡ fault.InsufficientStorage → OfReady (λ m w deep from to. IsPartlyCopied w.now deep from to (live w.now m) (live w.now s'))
-          → CopyLeaves site prefix headers start who.now from e s'
-      copy_begun e is h = subst (λ e. CopyLeaves site prefix headers start who.now from e s') (sym is) (inr (record {
+      pub copy_begun : (e : Fault) → e ≡ fault.InsufficientStorage → change_course method.Copy start.map from headers ≡ Ok tt → OfReady (λ m w deep from to. IsPartlyCopied w.now deep from to (live w.now m) (live w.now s'))
+          → CopyLeaves site prefix headers start who from e s'
+      copy_begun e is lets h = subst (λ e. CopyLeaves site prefix headers start who from e s') (sym is) (inr (record {
         deep = plan.deep;
         reaches = plan.reaches;
         to = plan.to;
-        leads = plan.leads.leads;
+        replaces = plan.replaces;
+        leads = plan.leads;
+        fit = plan.fit;
+        gone = gone;
+        goes = plan.goes;
+        rests = plan.rests;
+        are = plan.are;
+        free = plan.free;
+        course = lets;
         mid = live who.now m;
         cleared = cleared;
         copied = of_ready (λ m w deep from to. IsPartlyCopied w.now deep from to (live w.now m) (live w.now s')) h;

@@ -1,5 +1,5 @@
 -- What is told of places one after another, and why nothing is told.
-use Rattle.std.proofs.Common.{Bool, true, ◌≡◌, ◌⊎◌, inl, inr, ℕ, ◌+◌, ◌<◌, List, [], ◌∷◌, length, map, drop, get_or, Option, Some, None, refl, sym, ap, ◌∙◌, subst}
+use Rattle.std.proofs.Common.{Bool, true, ◌≡◌, ◌⊎◌, inl, inr, ℕ, ◌+◌, ◌<◌, List, [], ◌∷◌, length, map, drop, get_or, Some, None, refl, sym, ap, ◌∙◌, subst}
 use Rattle.std.specs.Prelude.{flat_map}
 use Rattle.std.proofs.lemmas.List.{drop_more}
 use Rattle.dav_xml_core.specs.Writing.{Writing}

@@ -10,6 +10,7 @@ pub mod DeleteLemmas
 pub mod DescribingLemmas
 pub mod EndsLemmas
 pub mod FindingLemmas
+pub mod FolderPageLemmas
 pub mod GetMethodLemmas
 pub mod LockLemmas
 pub mod LockMethodLemmas

@@ -88,7 +88,7 @@ module _ (site : Site) (prefix : List ℕ) (headers : Entries FieldValue) (who :
   move_lost e is = inl (subst Fails (sym is) memory)
 
   -- what is refused before anything is changed leaves all as it was
-  pub move_left : (e : Fault) (s' : State) → SameLive who.now s s' → MoveLeaves site prefix headers s who.now e s'
+  pub move_left : (e : Fault) (s' : State) → SameLive who.now s s' → MoveLeaves site prefix headers s who from e s'
   move_left fault.InsufficientStorage s' h = inl h
   move_left _ s' h = h
 
@@ -96,16 +96,16 @@ module _ (site : Site) (prefix : List ℕ) (headers : Entries FieldValue) (who :
   move_unfit e reaches h = ends e reaches h
 
   -- what is left behind questions is what is left of the start
-  left_before : (mid : State) (e : Fault) (s' : State) → SameLive who.now s mid → MoveLeaves site prefix headers mid who.now e s' → MoveLeaves site prefix headers s who.now e s'
+  left_before : (mid : State) (e : Fault) (s' : State) → SameLive who.now s mid → MoveLeaves site prefix headers mid who from e s' → MoveLeaves site prefix headers s who from e s'
   left_before mid fault.InsufficientStorage s' same (inl h) = inl (h ∙ same)
-  left_before mid fault.InsufficientStorage s' same (inr h) = inr (subst (λ t. StartsToMove site prefix headers t who.now s') same h)
+  left_before mid fault.InsufficientStorage s' same (inr h) = inr (subst (λ t. StartsToMove site prefix headers t who from s') same h)
   left_before mid _ s' same h = h ∙ same
 
   pub leaves_before : {A : Type 0} (asker : Caller) (mid s' : State) → asker ≡ who → SameLive who.now s mid → (result : Result A Fault)
-      → IfErr result (λ e. MoveLeaves site prefix headers mid asker.now e s') → IfErr result (λ e. MoveLeaves site prefix headers s who.now e s')
+      → IfErr result (λ e. MoveLeaves site prefix headers mid asker from e s') → IfErr result (λ e. MoveLeaves site prefix headers s who from e s')
   leaves_before asker mid s' same still (Ok x) h = tt
   leaves_before asker mid s' same still (Err e) h =
-      left_before mid e s' still (subst (λ (w : Caller). MoveLeaves site prefix headers mid w.now e s') same h)
+      left_before mid e s' still (subst (λ (w : Caller). MoveLeaves site prefix headers mid w from e s') same h)
 
   module _ (to : PathText) (known : Option Meta) (gone : List Path) (are : AreEnds site prefix headers s.map from false to known gone) where
     abbrev target : Path
@@ -201,9 +201,18 @@ module _ (site : Site) (prefix : List ℕ) (headers : Entries FieldValue) (who :
       move_short e h = subst (λ (w : Caller). CanMove (live w.now m) w from target → e ≡ fault.InsufficientStorage) same h ready.can
 
       -- it began, and then lacked memory
-      pub move_begun : (e : Fault) → e ≡ fault.InsufficientStorage → SameLive mover.now m s' → MoveLeaves site prefix headers s who.now e s'
-      move_begun e is still = subst (λ e. MoveLeaves site prefix headers s who.now e s') (sym is) (inr (record {
-        to = to;
-        leads = are.leads.leads;
+      pub move_begun : (e : Fault) → ReachesDown s.map from headers → change_course method.Move s.map from headers ≡ Ok tt → e ≡ fault.InsufficientStorage → SameLive mover.now m s' → MoveLeaves site prefix headers s who from e s'
+      move_begun e reaches lets is still = subst (λ e. MoveLeaves site prefix headers s who from e s') (sym is) (inr (record {
+        movable = record {
+          reaches = reaches;
+          to = to;
+          replaces = are.replaces;
+          leads = are.leads;
+          fit = are.fit;
+          gone = gone;
+          goes = are.goes;
+          free = ready.free;
+        };
+        course = lets;
         cleared = subst (λ t. IsCleared who.now target (live who.now s) t) (sym (subst (λ (w : Caller). SameLive w.now m s') same still)) ready.cleared;
       }))

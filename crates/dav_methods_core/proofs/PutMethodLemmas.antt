@@ -2,12 +2,9 @@
 use Rattle.std.proofs.Common.{Bool, true, false, ◌≡◌, ◌≢◌, ◌⊎◌, inl, inr, ℕ, ◌+◌, List, [], ◌++◌, Option, Some, None, Result, Ok, Err, refl, sym, ◌∙◌, ap, subst}
 use Rattle.std.specs.Prelude.{is_some, option_map, IfErr}
 use Rattle.std.proofs.lemmas.List.Elements.{Contains-append_left, Contains-append_right}
-use Rattle.http_header.specs.FieldValue.{FieldValue}
-use Rattle.http_header.specs.HeaderMap.{Entries}
 use Rattle.std.specs.FinMap.{insert}
 use Rattle.dav_path_core.specs.declared.errors.FsError.{FsError}
 use Rattle.dav_path_core.specs.declared.errors.FsError.TheVariants as fs
-use Rattle.dav_path_core.specs.declared.util.DavMethod.TheVariants as method
 use Rattle.dav_path_core.specs.Fronts.{Path, parent}
 use Rattle.dav_path_core.proofs.lists.FinMaps.{get_same, get_other}
 use Rattle.dav_path_core.proofs.lists.Orders.{path_total, path_exact}
@@ -24,18 +21,13 @@ use Rattle.dav_resource_core.specs.Step.{State, Serves}
 use Rattle.dav_resource_core.proofs.Frame.{change_left}
 use Rattle.dav_faults_core.specs.declared.faults.Fault.{Fault}
 use Rattle.dav_faults_core.specs.declared.faults.Fault.TheVariants as fault
-use Rattle.dav_fields_core.specs.declared.preconditions.Course.{Course}
-use Rattle.dav_fields_core.specs.declared.preconditions.Course.TheVariants as course
 use Rattle.dav_session_core.specs.Callers.{Caller, SameLive, as_caller, asking, live, refusing_at}
-use Rattle.dav_fields_core.specs.FileTags.{standing_of}
 use Rattle.dav_session_core.specs.Ends.{known_at}
 use Rattle.dav_session_core.specs.LocksInTheWay.{IsRefusedBy}
-use Rattle.dav_fields_core.specs.Preconditions.{course_of}
 use Rattle.dav_fields_core.specs.Marking.{IsNone}
-use Rattle.dav_methods_core.specs.Placing.{HasPlace, LacksPlace, standing_known, target_by}
+use Rattle.dav_methods_core.specs.Placing.{HasPlace, LacksPlace, target_by}
 use Rattle.dav_session_core.specs.StoreRefusals.{put_fault, unputtable}
-use Rattle.dav_methods_core.specs.ChangeConditions.{change_course, changes_by}
-use Rattle.dav_methods_core.specs.PutMethod.{FailsToPut, IsPuttable, Puts, locks_against_putting, props_of}
+use Rattle.dav_methods_core.specs.PutMethod.{CanPut, CantPut, Puts, locks_against_putting, props_of}
 use Rattle.dav_session_core.proofs.PutLemmas.{rebuilt, change_err, more_refused}
 
 -- ---- what is left
@@ -106,27 +98,27 @@ put_done who s s' p bytes reply h =
 -- ---- refusals
 
 -- where the files refuse it
-files_refuse : (who : Caller) (s : State) (p : Path) (bytes : List ℕ) (headers : Entries FieldValue) (e : FsError) (o : Option Resource) → at_path s.map p ≡ o
-    → locks_against_putting s who p bytes ≡ [] → put s.map p bytes who.now ≡ Err e → FailsToPut s who p bytes headers (unputtable (is_some o))
-files_refuse who s p bytes headers e (Some r) here free h = by r.node.kind refl (sym (ap (put_at s.map p bytes who.now) here) ∙ h)
+files_refuse : (who : Caller) (s : State) (p : Path) (bytes : List ℕ) (e : FsError) (o : Option Resource) → at_path s.map p ≡ o
+    → locks_against_putting s who p bytes ≡ [] → put s.map p bytes who.now ≡ Err e → CantPut s who p bytes (unputtable (is_some o))
+files_refuse who s p bytes e (Some r) here free h = by r.node.kind refl (sym (ap (put_at s.map p bytes who.now) here) ∙ h)
   where
     by : (k : Kind) → r.node.kind ≡ k
         → (elim k [ Folder ↦ Err fs.Forbidden | File ↦ Ok r ] >>= λ r. done (with_other_node s.map p r (record r.node { bytes = bytes; modified = who.now }))) ≡ Err e
-        → FailsToPut s who p bytes headers (unputtable true)
+        → CantPut s who p bytes (unputtable true)
     by Folder is h = (refl, free, (r, here, is))
     by File is h = absurd (cc)
-files_refuse who s p bytes headers e None here free h = (free, here, (e, h))
+files_refuse who s p bytes e None here free h = (free, here, (e, h))
 
-pub put_refused : (who : Caller) (s s' : State) (p : Path) (bytes : List ℕ) (headers : Entries FieldValue) (e : Refusal)
-    → Serves (live who.now s) (asking who (Command.Put p bytes)) (Err e) s' → FailsToPut s who p bytes headers (put_fault (is_some (at_path s.map p)) e)
-put_refused who s s' p bytes headers (Fs fs.InsufficientStorage) h = tt
-put_refused who s s' p bytes headers (Fs _) h = elim h.0.2 [
+pub put_refused : (who : Caller) (s s' : State) (p : Path) (bytes : List ℕ) (e : Refusal)
+    → Serves (live who.now s) (asking who (Command.Put p bytes)) (Err e) s' → CantPut s who p bytes (put_fault (is_some (at_path s.map p)) e)
+put_refused who s s' p bytes (Fs fs.InsufficientStorage) h = tt
+put_refused who s s' p bytes (Fs _) h = elim h.0.2 [
   | inl lacks ↦ absurd (cc)
-  | inr refused ↦ files_refuse who s p bytes headers _ (at_path s.map p) refl h.0.1 (change_err (put s.map p bytes who.now) _ refused.0)
+  | inr refused ↦ files_refuse who s p bytes _ (at_path s.map p) refl h.0.1 (change_err (put s.map p bytes who.now) _ refused.0)
 ]
-put_refused who s s' p bytes headers (Locked l) h = (l, h.0, refl)
-put_refused who s s' p bytes headers NoLock h = absurd h.0
-put_refused who s s' p bytes headers OutOfMemory h = tt
+put_refused who s s' p bytes (Locked l) h = (l, h.0, refl)
+put_refused who s s' p bytes NoLock h = absurd h.0
+put_refused who s s' p bytes OutOfMemory h = tt
 
 -- ---- checks of locks
 
@@ -168,19 +160,19 @@ free_way who asker s mid p bytes there same still is h =
     let at_start = subst (λ (t : State). refusing t.locks (as_caller who) (target_by there p) ≡ []) still at_who in
     sym (ways who s p bytes there is) ∙ at_start
 
-fails_locked : (who : Caller) (s : State) (p : Path) (bytes : List ℕ) (headers : Entries FieldValue) (e : Fault) → IsRefusedBy (locks_against_putting s who p bytes) e
-    → FailsToPut s who p bytes headers e
-fails_locked who s p bytes headers fault.InsufficientStorage h = tt
-fails_locked who s p bytes headers (fault.Locked path) h = h
-fails_locked who s p bytes headers _ h = absurd h
+fails_locked : (who : Caller) (s : State) (p : Path) (bytes : List ℕ) (e : Fault) → IsRefusedBy (locks_against_putting s who p bytes) e
+    → CantPut s who p bytes e
+fails_locked who s p bytes fault.InsufficientStorage h = tt
+fails_locked who s p bytes (fault.Locked path) h = h
+fails_locked who s p bytes _ h = absurd h
 
-pub locked : (who asker : Caller) (s mid : State) (p : Path) (bytes : List ℕ) (headers : Entries FieldValue) (there : Bool) (e : Fault) → asker ≡ who
+pub locked : (who asker : Caller) (s mid : State) (p : Path) (bytes : List ℕ) (there : Bool) (e : Fault) → asker ≡ who
     → SameLive who.now s mid → there ≡ is_some (at_path s.map p) → IsRefusedBy (refusing (live asker.now mid).locks (as_caller asker) (target_by there p)) e
-    → FailsToPut s who p bytes headers e
-locked who asker s mid p bytes headers there e same still is h =
+    → CantPut s who p bytes e
+locked who asker s mid p bytes there e same still is h =
     let at_who = subst (λ (w : Caller). IsRefusedBy (refusing (live w.now mid).locks (as_caller w) (target_by there p)) e) same h in
     let at_start = subst (λ (t : State). IsRefusedBy (refusing t.locks (as_caller who) (target_by there p)) e) still at_who in
-    fails_locked who s p bytes headers e (subst (λ locks. IsRefusedBy locks e) (ways who s p bytes there is) at_start)
+    fails_locked who s p bytes e (subst (λ locks. IsRefusedBy locks e) (ways who s p bytes there is) at_start)
 
 -- ---- what is known of the path
 
@@ -213,58 +205,26 @@ none_above m q (Some r) here none = by r.node.kind refl
     by File is = rw (here, is) (fs.Forbidden, refl)
 none_above m q None here none = rw here (refusal_at m q, refl)
 
-lacks_place : (who : Caller) (s : State) (p : Path) (bytes : List ℕ) (headers : Entries FieldValue) (known : Option Meta) (e : Fault) → known ≡ known_at s.map p
-    → locks_against_putting s who p bytes ≡ [] → (e ≡ fault.InsufficientStorage) ⊎ LacksPlace s.map p known e → FailsToPut s who p bytes headers e
-lacks_place who s p bytes headers known e is free (inl short) = subst (FailsToPut s who p bytes headers) (sym short) tt
-lacks_place who s p bytes headers known e is free (inr lacks) = by (at_path s.map p) refl (subst (λ k. LacksPlace s.map p k e) is lacks)
+lacks_place : (who : Caller) (s : State) (p : Path) (bytes : List ℕ) (known : Option Meta) (e : Fault) → known ≡ known_at s.map p
+    → locks_against_putting s who p bytes ≡ [] → (e ≡ fault.InsufficientStorage) ⊎ LacksPlace s.map p known e → CantPut s who p bytes e
+lacks_place who s p bytes known e is free (inl short) = subst (CantPut s who p bytes) (sym short) tt
+lacks_place who s p bytes known e is free (inr lacks) = by (at_path s.map p) refl (subst (λ k. LacksPlace s.map p k e) is lacks)
   where
-    by : (o : Option Resource) → at_path s.map p ≡ o → LacksPlace s.map p (option_map (λ (r : Resource). meta_at r.node) o) e → FailsToPut s who p bytes headers e
-    by (Some r) here h = subst (FailsToPut s who p bytes headers) (sym h.0) (refl, free, (r, here, h.1))
+    by : (o : Option Resource) → at_path s.map p ≡ o → LacksPlace s.map p (option_map (λ (r : Resource). meta_at r.node) o) e → CantPut s who p bytes e
+    by (Some r) here h = subst (CantPut s who p bytes) (sym h.0) (refl, free, (r, here, h.1))
     by None here h =
         let above = none_above s.map (parent p) (at_path s.map (parent p)) refl h.1 in
         let refused : put s.map p bytes who.now ≡ Err above.0 =
         ap (put_at s.map p bytes who.now) here ∙ ap (λ (f : Result Resource FsError). f >>= λ (_ : Resource). done (with_new_entry s.map p (new_file bytes who.now))) above.1 in
-        subst (FailsToPut s who p bytes headers) (sym h.0) (free, here, (above.0, refused))
+        subst (CantPut s who p bytes) (sym h.0) (free, here, (above.0, refused))
 
 -- by a map that stayed
-pub lacks_place_at : (who : Caller) (s : State) (p : Path) (bytes : List ℕ) (headers : Entries FieldValue) (known : Option Meta) (e : Fault) → known ≡ known_at s.map p
-    → locks_against_putting s who p bytes ≡ [] → (mid : State) → mid.map ≡ s.map → (e ≡ fault.InsufficientStorage) ⊎ LacksPlace mid.map p known e → FailsToPut s who p bytes headers e
-lacks_place_at who s p bytes headers known e is free mid same lacks =
-    lacks_place who s p bytes headers known e is free (subst (λ m. (e ≡ fault.InsufficientStorage) ⊎ LacksPlace m p known e) same lacks)
+pub lacks_place_at : (who : Caller) (s : State) (p : Path) (bytes : List ℕ) (known : Option Meta) (e : Fault) → known ≡ known_at s.map p
+    → locks_against_putting s who p bytes ≡ [] → (mid : State) → mid.map ≡ s.map → (e ≡ fault.InsufficientStorage) ⊎ LacksPlace mid.map p known e → CantPut s who p bytes e
+lacks_place_at who s p bytes known e is free mid same lacks =
+    lacks_place who s p bytes known e is free (subst (λ m. (e ≡ fault.InsufficientStorage) ⊎ LacksPlace m p known e) same lacks)
 
--- ---- conditions
-
-standing_there : (o : Option Resource) → standing_known (option_map (λ (r : Resource). meta_at r.node) o) ≡ standing_of o
-standing_there (Some r) = refl
-standing_there None = refl
-
-abbrev course_by : Option Meta → Entries FieldValue → Result (Unit {0}) Fault
-course_by known headers = changes_by (course_of method.Put (standing_known known) headers)
-
-pub course_there : (m : ResourceMap) (p : Path) (headers : Entries FieldValue) (known : Option Meta) → known ≡ known_at m p → course_by known headers ≡ change_course method.Put m p headers
-course_there m p headers known is =
-    ap (λ k. course_by k headers) is ∙ ap (λ at. changes_by (course_of method.Put at headers)) (standing_there (at_path m p))
-
--- a condition that doesn't hold, or isn't read, where the file could be put
-pub withheld : (who : Caller) (s : State) (p : Path) (bytes : List ℕ) (headers : Entries FieldValue) (known : Option Meta) (e : Fault) → known ≡ known_at s.map p
-    → locks_against_putting s who p bytes ≡ [] → HasPlace s.map p known → (e ≡ fault.InsufficientStorage) ⊎ (course_by known headers ≡ Err e) → FailsToPut s who p bytes headers e
-withheld who s p bytes headers known e is free place (inl short) = subst (FailsToPut s who p bytes headers) (sym short) tt
-withheld who s p bytes headers known e is free place (inr fails) = by (course_of method.Put (standing_of (at_path s.map p)) headers) there
-  where
-    there : change_course method.Put s.map p headers ≡ Err e
-    there = sym (course_there s.map p headers known is) ∙ fails
-
-    puttable : IsPuttable s who p bytes
-    puttable = (free, has_place s.map p bytes who.now known is place)
-
-    refused : (f : Fault) → f ≡ e → change_course method.Put s.map p headers ≡ Err f
-    refused f same = there ∙ ap Err (sym same)
-
-    by : (o : Option Course) → changes_by o ≡ Err e → FailsToPut s who p bytes headers e
-    by None h = let same : fault.BadRequest ≡ e = cc in subst (FailsToPut s who p bytes headers) same (puttable, refused fault.BadRequest same)
-    by (Some course.PreconditionFailed) h =
-        let same : fault.PreconditionFailed ≡ e = cc in subst (FailsToPut s who p bytes headers) same (puttable, refused fault.PreconditionFailed same)
-    by (Some course.NotModified) h =
-        let same : fault.PreconditionFailed ≡ e = cc in subst (FailsToPut s who p bytes headers) same (puttable, refused fault.PreconditionFailed same)
-    by (Some course.Whole) h = absurd (cc)
-    by (Some course.Proceed) h = absurd (cc)
+-- it can be put
+pub can_put : (who : Caller) (s : State) (p : Path) (bytes : List ℕ) (known : Option Meta) → known ≡ known_at s.map p → locks_against_putting s who p bytes ≡ [] → (mid : State)
+    → mid.map ≡ s.map → HasPlace mid.map p known → CanPut s who p bytes
+can_put who s p bytes known is free mid same place = (free, has_place s.map p bytes who.now known is (subst (λ m. HasPlace m p known) same place))

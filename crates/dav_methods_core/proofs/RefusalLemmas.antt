@@ -1,6 +1,6 @@
 -- How a refusal is told.
-use Rattle.std.proofs.Common.{◌≡◌, ◌≢◌, ◌⊎◌, inl, inr, ℕ, Bool, List, [], ◌∷◌, ◌++◌, codes, None, Some, refl, sym, ap, ◌∙◌, arith}
-use Rattle.http_server.specs.Response.{IsResponse, fields_of}
+use Rattle.std.proofs.Common.{◌≡◌, ◌≢◌, ◌⊎◌, inl, inr, ℕ, Bool, List, [], codes, None, refl, ap, ◌∙◌, arith}
+use Rattle.http_server.specs.Response.{IsResponse}
 use Rattle.http_server.specs.declared.response.Response.{Response}
 use Rattle.dav_faults_core.specs.Faults.{fault_status}
 use Rattle.dav_faults_core.specs.declared.faults.Fault.{Fault}

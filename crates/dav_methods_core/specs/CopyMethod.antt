@@ -13,7 +13,6 @@ use Rattle.dav_faults_core.specs.declared.faults.Fault.{Fault}
 use Rattle.dav_faults_core.specs.declared.faults.Fault.TheVariants as fault
 use Rattle.dav_session_core.specs.Callers.{Caller, SameLive, live}
 use Rattle.dav_session_core.specs.Clearing.{IsCleared, refusing_clearing}
-use Rattle.dav_fields_core.specs.TransferDestinations.{IsDestination}
 use Rattle.dav_methods_core.specs.TransferEnds.{EndsFit, FailsAtEnds, LeadsOn}
 use Rattle.dav_session_core.specs.Ends.{GoesFrom, known_at}
 use Rattle.dav_session_core.specs.LocksInTheWay.{IsPathOfOne, by_place}
@@ -94,17 +93,27 @@ FailsToCopy site prefix headers s who from e =
     IsStopped (CantCopy site prefix headers s who from)
     (CanCopy site prefix headers s who from) (change_course method.Copy s.map from headers) e
 
--- What a COPY leaves that began and then lacked memory: each of its requests was done or not.
-pub record StartsToCopy (site : Site) (prefix : List ℕ) (headers : Entries FieldValue) (s : State) (now : ℕ) (from : Path) (s' : State) : Type 0 where
+-- What a COPY leaves that began and then lacked memory: each of its requests was done or not. It began
+-- once nothing refused it any more, as of one that is done.
+pub record StartsToCopy (site : Site) (prefix : List ℕ) (headers : Entries FieldValue) (s : State) (who : Caller) (from : Path) (s' : State) : Type 0 where
   pub deep : Bool
   pub reaches : reach_from s.map from headers ≡ Some deep
   pub to : PathText
-  pub leads : IsDestination site prefix headers to
+  pub replaces : Bool
+  pub leads : LeadsOn site prefix headers from true to replaces
+  pub fit : EndsFit s.map from (segments to.bytes) replaces
+  pub gone : List Path
+  pub goes : GoesFrom s.map (segments to.bytes) gone
+  pub rests : List Path
+  pub are : AreCopied deep from (segments to.bytes) s.map rests
+  pub free : refusing_copy s who (segments to.bytes) gone rests ≡ []
+  pub course : change_course method.Copy s.map from headers ≡ Ok tt
   pub mid : State
-  pub cleared : IsCleared now (segments to.bytes) s mid
-  pub copied : IsPartlyCopied now deep from (segments to.bytes) mid (live now s')
+  pub cleared : IsCleared who.now (segments to.bytes) s mid
+  pub copied : IsPartlyCopied who.now deep from (segments to.bytes) mid (live who.now s')
 
 -- what a COPY leaves that is refused: all is as it was, unless it lacked memory and had begun
-abbrev pub CopyLeaves : Site → List ℕ → Entries FieldValue → State → ℕ → Path → Fault → State → Type 0
-CopyLeaves site prefix headers s now from fault.InsufficientStorage s' = SameLive now s s' ⊎ StartsToCopy site prefix headers (live now s) now from s'
-CopyLeaves site prefix headers s now from e s' = SameLive now s s'
+abbrev pub CopyLeaves : Site → List ℕ → Entries FieldValue → State → Caller → Path → Fault → State → Type 0
+CopyLeaves site prefix headers s who from fault.InsufficientStorage s' =
+    SameLive who.now s s' ⊎ StartsToCopy site prefix headers (live who.now s) who from s'
+CopyLeaves site prefix headers s who from e s' = SameLive who.now s s'

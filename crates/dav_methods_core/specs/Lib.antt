@@ -3,6 +3,7 @@ pub mod ChangeConditions
 pub mod CopyMethod
 pub mod DeleteMethod
 pub mod PropfindMethod
+pub mod FolderPages
 pub mod GetMethod
 pub mod LockMethod
 pub mod MkcolMethod

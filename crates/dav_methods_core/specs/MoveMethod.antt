@@ -12,7 +12,6 @@ use Rattle.dav_faults_core.specs.declared.faults.Fault.{Fault}
 use Rattle.dav_faults_core.specs.declared.faults.Fault.TheVariants as fault
 use Rattle.dav_session_core.specs.Callers.{Caller, SameLive, live}
 use Rattle.dav_session_core.specs.Clearing.{IsCleared}
-use Rattle.dav_fields_core.specs.TransferDestinations.{IsDestination}
 use Rattle.dav_methods_core.specs.TransferEnds.{EndsFit, FailsAtEnds, LeadsOn}
 use Rattle.dav_session_core.specs.Ends.{GoesFrom, HasFolder}
 use Rattle.dav_session_core.specs.LocksInTheWay.{IsPathOfOne, by_place}
@@ -72,13 +71,15 @@ FailsToMove site prefix headers s who from e =
     IsStopped (CantMove site prefix headers s who from)
     (IsMovable site prefix headers s who from) (change_course method.Move s.map from headers) e
 
--- What a MOVE leaves that began and then lacked memory: a folder at its target is gone.
-pub record StartsToMove (site : Site) (prefix : List ℕ) (headers : Entries FieldValue) (s : State) (now : ℕ) (s' : State) : Type 0 where
-  pub to : PathText
-  pub leads : IsDestination site prefix headers to
-  pub cleared : IsCleared now (segments to.bytes) s (live now s')
+-- What a MOVE leaves that began and then lacked memory: a folder at its target is gone. It began once
+-- nothing refused it any more.
+pub record StartsToMove (site : Site) (prefix : List ℕ) (headers : Entries FieldValue) (s : State) (who : Caller) (from : Path) (s' : State) : Type 0 where
+  pub movable : IsMovable site prefix headers s who from
+  pub course : change_course method.Move s.map from headers ≡ Ok tt
+  pub cleared : IsCleared who.now (segments movable.to.bytes) s (live who.now s')
 
 -- what a MOVE leaves that is refused: all is as it was, unless it lacked memory and had begun
-abbrev pub MoveLeaves : Site → List ℕ → Entries FieldValue → State → ℕ → Fault → State → Type 0
-MoveLeaves site prefix headers s now fault.InsufficientStorage s' = SameLive now s s' ⊎ StartsToMove site prefix headers (live now s) now s'
-MoveLeaves site prefix headers s now e s' = SameLive now s s'
+abbrev pub MoveLeaves : Site → List ℕ → Entries FieldValue → State → Caller → Path → Fault → State → Type 0
+MoveLeaves site prefix headers s who from fault.InsufficientStorage s' =
+    SameLive who.now s s' ⊎ StartsToMove site prefix headers (live who.now s) who from s'
+MoveLeaves site prefix headers s who from e s' = SameLive who.now s s'

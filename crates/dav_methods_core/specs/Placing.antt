@@ -5,21 +5,13 @@ use Rattle.dav_files_core.specs.declared.memfs.Kind.TheVariants.{Folder, File}
 use Rattle.dav_files_core.specs.Meta.{Meta}
 use Rattle.dav_files_core.specs.Resources.{Resource, ResourceMap, at_path}
 use Rattle.dav_resource_core.specs.Checks.{Check, member, shallow}
-use Rattle.dav_fields_core.specs.declared.etags.Standing.{Standing}
-use Rattle.dav_fields_core.specs.declared.etags.Standing.TheVariants.{Nothing}
 use Rattle.dav_faults_core.specs.declared.faults.Fault.{Fault}
 use Rattle.dav_faults_core.specs.declared.faults.Fault.TheVariants as fault
-use Rattle.dav_fields_core.specs.FileTags.{standing_as}
 use Rattle.dav_fields_core.specs.Marking.{IsNone}
 
 -- what is checked, where something stands there or not
 abbrev pub target_by : Bool → Path → List Check
 target_by there p = if there then shallow p ∷ [] else member p false
-
--- what is known of the path, as conditions see it
-abbrev pub standing_known : Option Meta → Standing
-standing_known None = Nothing
-standing_known (Some known) = standing_as known
 
 -- a file can stand there
 abbrev pub HasPlace : ResourceMap → Path → Option Meta → Type 0

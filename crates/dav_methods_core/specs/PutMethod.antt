@@ -16,9 +16,8 @@ use Rattle.dav_resource_core.specs.Step.{State, conflicts}
 use Rattle.dav_faults_core.specs.declared.faults.Fault.{Fault}
 use Rattle.dav_faults_core.specs.declared.faults.Fault.TheVariants as fault
 use Rattle.dav_session_core.specs.Callers.{Caller, asking, live}
-use Rattle.dav_methods_core.specs.ChangeConditions.{change_course}
+use Rattle.dav_methods_core.specs.ChangeConditions.{IsStopped, change_course}
 use Rattle.dav_session_core.specs.LocksInTheWay.{IsPathOfOne}
-use Rattle.dav_fields_core.specs.Preconditions.{course_of}
 
 -- the locks that refuse the PUT of a caller
 abbrev pub locks_against_putting : State → Caller → Path → List ℕ → List Lock
@@ -45,15 +44,19 @@ pub record Puts (s : State) (now : ℕ) (p : Path) (bytes : List ℕ) (s' : Stat
   pub left : s' ≡ record (live now s) { map = s'.map }
 
 -- without conditions it would be done
-abbrev pub IsPuttable : State → Caller → Path → List ℕ → Type 0
-IsPuttable s who p bytes = (locks_against_putting s who p bytes ≡ []) × ((m : ResourceMap) × (put s.map p bytes who.now ≡ Ok (tt, m)))
+abbrev pub CanPut : State → Caller → Path → List ℕ → Type 0
+CanPut s who p bytes = (locks_against_putting s who p bytes ≡ []) × ((m : ResourceMap) × (put s.map p bytes who.now ≡ Ok (tt, m)))
 
--- Each refusal of a PUT, and where it comes: first a lock in its way, whose path is told, then what the files refuse, and then the conditions (RFC 9110 section 13.2.1).
-abbrev pub FailsToPut : State → Caller → Path → List ℕ → Entries FieldValue → Fault → Type 0
-FailsToPut s who p bytes headers fault.InsufficientStorage = Unit {0}
-FailsToPut s who p bytes headers (fault.Locked path) = IsPathOfOne (locks_against_putting s who p bytes) path
-FailsToPut s who p bytes headers (fault.MethodNotAllowed folder) =
+-- Why it can't be done, and where that comes: first a lock in its way, whose path is told, and then what the files refuse.
+abbrev pub CantPut : State → Caller → Path → List ℕ → Fault → Type 0
+CantPut s who p bytes fault.InsufficientStorage = Unit {0}
+CantPut s who p bytes (fault.Locked path) = IsPathOfOne (locks_against_putting s who p bytes) path
+CantPut s who p bytes (fault.MethodNotAllowed folder) =
     (folder ≡ true) × (locks_against_putting s who p bytes ≡ []) × ((r : Resource) × (at_path s.map p ≡ Some r) × (r.node.kind ≡ Folder))
-FailsToPut s who p bytes headers fault.Conflict =
+CantPut s who p bytes fault.Conflict =
     (locks_against_putting s who p bytes ≡ []) × (at_path s.map p ≡ None) × ((e : FsError) × (put s.map p bytes who.now ≡ Err e))
-FailsToPut s who p bytes headers e = IsPuttable s who p bytes × (change_course method.Put s.map p headers ≡ Err e)
+CantPut s who p bytes e = ⊥
+
+-- Each refusal of a PUT: why it can't be done, and then the conditions (RFC 9110 section 13.2.1).
+abbrev pub FailsToPut : State → Caller → Path → List ℕ → Entries FieldValue → Fault → Type 0
+FailsToPut s who p bytes headers e = IsStopped (CantPut s who p bytes) (CanPut s who p bytes) (change_course method.Put s.map p headers) e

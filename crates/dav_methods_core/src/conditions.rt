@@ -3,12 +3,11 @@
 
 ghost use Rattle.std.specs.Prelude.{◌≡◌, IfOk, IfErr, OnOk, map};
 ghost use Rattle.dav_path_core.specs.Segments.{segments};
-ghost use Rattle.dav_files_core.specs.Resources.{at_path};
 ghost use Rattle.dav_headers_core.specs.IfValues.{condition_of, conditions_of, item_of, located_list};
 ghost use Rattle.dav_methods_core.specs.Admitting.{IsAdmitted, IsHeldOff};
 ghost use Rattle.dav_session_core.specs.Conditions.{IfIs, condition_holds, conditions_hold};
 ghost use Rattle.dav_session_core.specs.Conditions.{has_item};
-ghost use Rattle.dav_fields_core.specs.FileTags.{standing_of};
+ghost use Rattle.dav_fields_core.specs.FileTags.{standing_at};
 ghost use Rattle.dav_fields_core.specs.Preconditions.{has_tag};
 ghost use Rattle.dav_session_core.specs.Sessions.{Looks, live_of, state};
 ghost use Rattle.dav_fields_core.specs.TaggedLists.{base_of, spoken_path};
@@ -46,12 +45,12 @@ fn has_file_tag<R: Rng>(
     tag: &ETag,
 ) -> Result<bool, Fault>
     ensures ok { IfOk result (λ has. has
-        ≡ has_tag Strong (standing_of
-        (at_path (state R.stream session.old).map (segments path.now.bytes))) tag.now) }
+        ≡ has_tag Strong (standing_at (state R.stream session.old).map
+        (segments path.now.bytes)) tag.now) }
     ensures err { IfErr result (λ e. e ≡ fault.InsufficientStorage) }
     ensures looks { Looks R.stream session.old session.new }
 {
-    let standing = session.standing(alloc, copy_of(path)?)?;
+    let standing = session.standing(alloc, path)?;
     Ok(has_tag(Comparison::Strong, &standing, tag.as_str().as_bytes()))
 }
 
@@ -139,7 +138,7 @@ fn one_holds<R: Rng>(
 /// lists do (RFC 4918 sections 10.4.3 and 10.4.4). A state token holds where a lock with it covers
 /// the resource and has not expired, whoever asks; an entity tag where the resource is a file with
 /// an equal one, by strong comparison. A resource tag is for all lists up to the next one. It names
-/// a path where it has the site, the host and the port of `base`, and stands behind the prefix of
+/// a path where it has the scheme, the host and the port of `base`, and stands behind the prefix of
 /// `here`; else it stands for a resource that has neither locks nor tags.
 ///
 /// `InsufficientStorage` where there is no memory for it, and never else. Nothing changes, but

@@ -1,5 +1,5 @@
 -- What a caller's requests are answered, and what they leave.
-use Rattle.std.proofs.Common.{true, ◌≡◌, ◌⊎◌, inl, inr, ℕ, List, [], ◌∷◌, ◌++◌, map, Option, Some, None, Result, Ok, Err, refl, sym, ◌∙◌, ap, subst}
+use Rattle.std.proofs.Common.{true, ◌≡◌, ◌⊎◌, inl, inr, ℕ, [], ◌∷◌, ◌++◌, map, Some, None, Result, Ok, Err, refl, sym, ◌∙◌, ap, subst}
 use Rattle.std.proofs.lemmas.Bool.{false≢true, or_from}
 use Rattle.std.proofs.lemmas.List.{map-append}
 use Rattle.std.proofs.lemmas.List.Folds.{list_any-append}
@@ -26,7 +26,7 @@ use Rattle.dav_faults_core.specs.declared.faults.Fault.TheVariants as fault
 use Rattle.dav_session_core.specs.StoreRefusals.{list_fault}
 use Rattle.dav_session_core.specs.Callers.{Asks, Caller, RunBy, asking, ends_or_refreshes, is_look, live, SameLive}
 use Rattle.dav_session_core.proofs.CallerLaws.{asks_of}
-use Rattle.dav_resource_core.proofs.Telling.{list_refused, meta_missing, props_missing}
+use Rattle.dav_resource_core.proofs.Telling.{list_refused, meta_missing}
 
 -- ---- runs that follow one another
 

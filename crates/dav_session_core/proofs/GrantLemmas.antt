@@ -11,7 +11,7 @@ use Rattle.std.proofs.lemmas.Slice.Eq.{bytes_eq-Decides}
 use Rattle.dav_path_core.specs.Fronts.{Path, is_front, parent}
 use Rattle.dav_path_core.specs.PathText.{PathText}
 use Rattle.dav_path_core.specs.Segments.{segments}
-use Rattle.dav_path_core.proofs.lists.MemberLemmas.{In, In-Contains, Contains-In, find_any}
+use Rattle.dav_path_core.proofs.lists.MemberLemmas.{In-Contains, Contains-In, find_any}
 use Rattle.dav_path_core.proofs.paths.FrontLemmas.{is_front-refl, is_front-trans}
 use Rattle.dav_locks_core.specs.Lock.{Lock}
 use Rattle.dav_locks_core.specs.Locks.{better, covers, discovered_locks, found_token, found_from, found_here, height, lock_conflicts, lock_path}

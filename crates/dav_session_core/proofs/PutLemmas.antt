@@ -1,11 +1,11 @@
 -- What the looks and checks before a change say of it, and what a change leaves beside the map.
-use Rattle.std.proofs.Common.{Bool, ◌≡◌, ◌+◌, List, [], ◌++◌, Option, Some, None, Result, Ok, Err, refl, sym, ◌∙◌, ap, subst}
+use Rattle.std.proofs.Common.{Bool, ◌≡◌, List, [], ◌++◌, Option, Some, None, Result, Ok, Err, refl, sym, ◌∙◌, ap, subst}
 use Rattle.std.specs.Prelude.{is_some, option_map, Contains}
 use Rattle.std.proofs.lemmas.List.{append-nil}
 use Rattle.dav_path_core.specs.declared.errors.FsError.{FsError}
 use Rattle.dav_path_core.specs.Fronts.{Path, parent}
 use Rattle.dav_files_core.specs.declared.memfs.Kind.TheVariants.{Folder}
-use Rattle.dav_files_core.specs.Meta.{Meta, meta_at}
+use Rattle.dav_files_core.specs.Meta.{Meta}
 use Rattle.dav_files_core.specs.Resources.{Resource, ResourceMap, at_path}
 use Rattle.dav_locks_core.specs.Lock.{Lock}
 use Rattle.dav_locks_core.specs.Locks.{check_conflicts}

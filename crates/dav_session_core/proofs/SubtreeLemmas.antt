@@ -5,7 +5,7 @@ use Rattle.std.specs.List.{list_any}
 use Rattle.std.specs.FinMap.{entries, entries_sorted, get-entries, is_sorted}
 use Rattle.std.proofs.lemmas.Bool.{true≢false, false_from_ne_true}
 use Rattle.std.proofs.lemmas.List.{map-append}
-use Rattle.dav_path_core.specs.Fronts.{Segment, Path, segment_cmp, behind, is_front}
+use Rattle.dav_path_core.specs.Fronts.{Segment, Path, segment_cmp, is_front}
 use Rattle.dav_path_core.proofs.lists.Every.{first_so, second_so}
 use Rattle.dav_path_core.proofs.lists.MemberLemmas.{In, In-Contains, Contains-In, find_any}
 use Rattle.dav_path_core.proofs.lists.Orders.{path_exact, segment_exact}

@@ -3,13 +3,12 @@ use Rattle.std.specs.Prelude.{◌≡◌, ◌⊎◌, ℕ, Bool, true, false, not,
 use Rattle.std.specs.List.{AllByRecursion, list_all, list_any}
 use Rattle.url.specs.Parts.{Parts}
 use Rattle.dav_path_core.specs.Fronts.{Path}
-use Rattle.dav_files_core.specs.Resources.{at_path}
 use Rattle.dav_headers_core.specs.IfBytes.{Item, Token, Tag, Condition}
 use Rattle.dav_headers_core.specs.IfValues.{Located}
 use Rattle.dav_locks_core.specs.Locks.{covers}
 use Rattle.dav_resource_core.specs.Step.{State}
 use Rattle.dav_fields_core.specs.declared.listed_tags.Comparison.TheVariants.{Strong}
-use Rattle.dav_fields_core.specs.FileTags.{standing_of}
+use Rattle.dav_fields_core.specs.FileTags.{standing_at}
 use Rattle.dav_fields_core.specs.Preconditions.{has_tag}
 use Rattle.dav_fields_core.specs.TaggedLists.{Base, SpeaksOf, spread_tags}
 
@@ -23,7 +22,7 @@ has_token s p token = list_any (λ l. bytes_eq l.token token && covers l p) s.lo
 abbrev pub has_item : State → Option Path → Item → Bool
 has_item s None item = false
 has_item s (Some p) (Token token) = has_token s p token
-has_item s (Some p) (Tag tag) = has_tag Strong (standing_of (at_path s.map p)) tag
+has_item s (Some p) (Tag tag) = has_tag Strong (standing_at s.map p) tag
 
 -- `Not` turns it round
 abbrev pub condition_holds : State → Option Path → Condition → Bool

@@ -5,7 +5,6 @@ use Rattle.std.specs.Io.KnownBytes.{Consumes, IsAtEnd}
 use Rattle.std.specs.List.{before_first, after_first}
 use Rattle.std.specs.Str.{bytes_eq}
 use Rattle.line_streams.specs.Numerals.{numeral}
-use Rattle.http_frames.specs.declared.frames.TheConstants.{LARGEST}
 use Rattle.http_frames.specs.declared.frames.Head.{Head}
 use Rattle.http_frames.specs.declared.frames.Head.TheVariants.{Piece, Clock}
 use Rattle.http_frames.specs.declared.frames.Next.{Next}
@@ -16,10 +15,10 @@ use Rattle.http_frames.specs.declared.frames.Next.TheVariants as next
 abbrev pub is_single_space : ℕ → Bool
 is_single_space b = b == 32
 
--- so many bytes of a connection, where they are not too many
+-- so many bytes of a connection, at most 1 MiB
 abbrev pub piece_head : Option ℕ → ℕ → Option Head
 piece_head None length = None
-piece_head (Some number) length = if nat_lt LARGEST length then None else Some (Piece number length)
+piece_head (Some number) length = if nat_lt 1_048_576 length then None else Some (Piece number length)
 
 -- a moment behind `clock`, else a length behind a number
 abbrev pub head_of : List ℕ → Option ℕ → Option Head

@@ -11,6 +11,7 @@ mod changes;
 mod conditions;
 #[cfg(test)]
 mod copies;
+mod dates;
 #[cfg(test)]
 mod finds;
 #[cfg(test)]

@@ -4,6 +4,7 @@ use crate::bodies::BODIES;
 use crate::changes::CHANGES;
 use crate::conditions::CONDITIONS;
 use crate::copies::COPIES;
+use crate::dates::DATES;
 use crate::finds::FINDS;
 use crate::folders::FOLDERS;
 use crate::ifs::IFS;
@@ -152,6 +153,11 @@ fn looks_at_each_condition(rt: HostRuntime) -> Result<(), Fail> {
 #[test]
 fn changes_where_each_condition_holds(rt: HostRuntime) -> Result<(), Fail> {
     play(&rt, CHANGES)
+}
+
+#[test]
+fn takes_no_older_file_for_the_one_that_was_told(rt: HostRuntime) -> Result<(), Fail> {
+    play(&rt, DATES)
 }
 
 #[test]

@@ -7,12 +7,12 @@ ghost use Rattle.dav_documents_core.specs.Pieces.{and_pieces};
 ghost use Rattle.dav_documents_core.specs.QuestionViews.{question_of};
 ghost use Rattle.dav_documents_core.specs.DescriptionViews.{description_of};
 ghost use Rattle.dav_documents_core.specs.Private.Rising.{Rise};
+ghost use Rattle.dav_documents_core.specs.LiveProperties.{live_properties};
 ghost use Rattle.dav_documents_core.specs.PropertyDocuments as spec;
 
 use super::Description;
 use super::names::{has_value, write_dead_names, write_live_names};
 use super::values::{write_all_dead, write_all_own, write_listed};
-use crate::live_properties::LIVE;
 use crate::property_questions::Question;
 use dav_path_core::util::Moment;
 use dav_xml_core::davxml::{Name, Writer};
@@ -85,7 +85,7 @@ fn write_all(
     description: &Description,
 ) -> Result<(), AllocError>
     ensures { OnOk result (writing_of writer.new ≡ and_pieces (writing_of writer.old)
-        (flat_map (spec.own_pieces prefix.now (option_map string_bytes principal.now) now.0 (description_of description.now)) LIVE
+        (flat_map (spec.own_pieces prefix.now (option_map string_bytes principal.now) now.0 (description_of description.now)) live_properties
         ++ flat_map spec.dead_pieces (description_of description.now).props)) }
 {
     write_all_own(alloc, writer, prefix, principal, now, description)?;
@@ -100,7 +100,7 @@ fn write_names(
     description: &Description,
 ) -> Result<(), AllocError>
     ensures { OnOk result (writing_of writer.new ≡ with_nodes (writing_of writer.old)
-        (flat_map (spec.own_name_nodes (description_of description.now)) LIVE
+        (flat_map (spec.own_name_nodes (description_of description.now)) live_properties
         ++ flat_map spec.dead_name_nodes (description_of description.now).props)) }
 {
     write_live_names(writer, description)?;

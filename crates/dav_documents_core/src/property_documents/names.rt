@@ -7,6 +7,7 @@ ghost use Rattle.dav_xml_core.specs.Writing.{with_nodes};
 ghost use Rattle.dav_files_core.specs.Properties.{property_of};
 ghost use Rattle.dav_documents_core.specs.DescriptionViews.{description_of};
 ghost use Rattle.dav_documents_core.specs.Private.Rising.{Rise, order, property_key};
+ghost use Rattle.dav_documents_core.specs.LiveProperties.{live_properties};
 ghost use Rattle.dav_documents_core.specs.PropertyDocuments as spec;
 ghost use Rattle.dav_documents_core.specs.RefusalBodies.{dav_name, element};
 
@@ -175,7 +176,7 @@ pub(super) fn write_live_names(
     description: &Description,
 ) -> Result<(), AllocError>
     ensures { OnOk result (writing_of writer.new ≡ with_nodes (writing_of writer.old)
-        (flat_map (spec.own_name_nodes (description_of description.now)) LIVE)) }
+        (flat_map (spec.own_name_nodes (description_of description.now)) live_properties)) }
 {
     for live in &LIVE {
         write_live_name(writer, description, *live)?;

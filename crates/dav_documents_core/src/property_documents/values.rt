@@ -7,6 +7,7 @@ ghost use Rattle.dav_files_core.specs.Properties.{property_of};
 ghost use Rattle.dav_documents_core.specs.Pieces.{and_pieces};
 ghost use Rattle.dav_documents_core.specs.DescriptionViews.{description_of};
 ghost use Rattle.dav_documents_core.specs.Private.Rising.{Rise};
+ghost use Rattle.dav_documents_core.specs.LiveProperties.{live_properties};
 ghost use Rattle.dav_documents_core.specs.PropertyDocuments as spec;
 
 use super::Description;
@@ -82,7 +83,7 @@ pub(super) fn write_all_own(
     description: &Description,
 ) -> Result<(), AllocError>
     ensures { OnOk result (writing_of writer.new ≡ and_pieces (writing_of writer.old)
-        (flat_map (spec.own_pieces prefix.now (option_map string_bytes principal.now) now.0 (description_of description.now)) LIVE)) }
+        (flat_map (spec.own_pieces prefix.now (option_map string_bytes principal.now) now.0 (description_of description.now)) live_properties)) }
 {
     for live in &LIVE {
         write_own(alloc, writer, prefix, principal, now, description, *live)?;

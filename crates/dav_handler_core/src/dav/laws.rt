@@ -1,12 +1,19 @@
 //! The laws of conditions, of locks and of documents over the answers of the server. They do
 //! nothing.
-ghost use Rattle.std.specs.Prelude.{◌≡◌, ◌<◌, ◌⊎◌, ◌^◌, ℕ, true, length, List, Some, IfOk};
+ghost use Rattle.std.specs.Prelude.{◌≡◌, ◌<◌, ◌⊎◌, ◌^◌, ℕ, Bool, true, length, List, Some, Ok, IfOk};
 ghost use Rattle.http.specs.declared.request.Request.{Request};
 ghost use Rattle.http_server.specs.declared.response.Response.{Response};
 ghost use Rattle.http.specs.Request.{body_of};
 ghost use Rattle.dav_xml_core.specs.Reading.{document_of};
 ghost use Rattle.dav_handler_core.specs.Answers.{Answers};
-ghost use Rattle.dav_handler_core.specs.MethodAnswers.{IsPropPatched, as_found};
+ghost use Rattle.dav_handler_core.specs.LockTimes.{FindsNoneBehind, StandsItsTime};
+ghost use Rattle.dav_handler_core.specs.MethodAnswers.{IsGotten, IsPropPatched, IsPut, as_found};
+ghost use Rattle.dav_handler_core.specs.PathFrames.{IsAlike, LeavesPath, Touches};
+ghost use Rattle.dav_files_core.specs.Resources.{IsResourceMap, at_path};
+ghost use Rattle.dav_path_core.specs.Fronts.{Path};
+ghost use Rattle.dav_path_core.specs.Segments.{segments};
+ghost use Rattle.dav_path_core.specs.declared.util.DavMethod.TheVariants as method;
+ghost use Rattle.dav_handler_core.specs.RequestMoments.{Comes, ComesAt};
 ghost use Rattle.dav_handler_core.specs.Server.{Server};
 ghost use Rattle.dav_session_core.specs.Callers.{SameLive};
 ghost use Rattle.dav_handler_core.specs.Deciding.{HeldOff, SaysDone, SendsPart, SendsTag, WentOn};
@@ -58,6 +65,48 @@ pub fn locks_are_their_holders()
     ensures changed { (before after : Server) (request : Request (List ℕ)) (response : Response)
         → Answers before request response after → Exclusive before.state.locks
         → IsKeptUnlessHeld before request after }
+{}
+
+/// The law of time (RFC 4918 section 6.6). It does nothing.
+///
+/// - A request that begins comes at the later of the clock and the last moment, or, where it may
+///   change something, at the later of the clock and one nanosecond behind the last moment. One that
+///   does not begin leaves the last moment.
+/// - Over a run, a lock whose end has not come stands, unless a request of its principal named its
+///   token.
+/// - A request that is done finds no lock whose end the clock had come to.
+pub fn locks_stand_their_time()
+    ensures moment { (before after : Server) (request : Request (List ℕ)) (response : Response)
+        → (h : Answers before request response after)
+        → Comes h.method before request h.result after }
+    ensures stands { (s s' : Server) → Exclusive s.state.locks → Becomes s s'
+        → StandsItsTime s s' }
+    ensures expires { (changes : Bool) (before after : Server) (request : Request (List ℕ))
+        (status : ℕ) → ComesAt changes before request (Ok status) after
+        → FindsNoneBehind before after }
+{}
+
+/// The law of what stays (RFC 9110 section 9.3, RFC 4918 section 9). It does nothing.
+///
+/// - What stands at a path, or that nothing does, stays by every answer, but for one to a request
+///   that touches the path: that names it, or one above it, or a target there.
+/// - So it stays over every run of answers that don't touch it.
+/// - What a PUT left at a path is what a later GET of it is told with 200, with its tag, where no
+///   answer between them touches the path.
+pub fn paths_stay_untouched()
+    ensures stays { (before after : Server) (request : Request (List ℕ)) (response : Response)
+        → (h : Answers before request response after) → IsResourceMap before.state.map
+        → (p : Path) → IsAlike (at_path before.state.map p) (at_path after.state.map p)
+        ⊎ Touches before request p h.method h.result }
+    ensures runs { (p : Path) (s s' : Server) → Exclusive s.state.locks
+        → IsResourceMap s.state.map → LeavesPath p s s'
+        → IsAlike (at_path s.state.map p) (at_path s'.state.map p) }
+    ensures gets { (before s s' after : Server) (put get : Request (List ℕ)) (status : ℕ)
+        (sent got : Sent) → (h : IsPut before put status sent s) → Exclusive s.state.locks
+        → IsResourceMap s.state.map → LeavesPath (segments h.path.bytes) s s'
+        → (g : IsGotten method.Get s' get 200 got after)
+        → segments g.path.bytes ≡ segments h.path.bytes
+        → (got.body ≡ body_of put) × (got.marks.tags ≡ sent.marks.tags) }
 {}
 
 /// The law of documents (XML 1.0 section 2.1, RFC 4918 section 8.2) over a run from new stores. It

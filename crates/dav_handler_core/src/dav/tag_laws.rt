@@ -1,9 +1,15 @@
 //! The laws of entity tags, and of moments, over a server's run. They do nothing.
-ghost use Rattle.std.specs.Prelude.{ℕ, List};
+ghost use Rattle.std.specs.Prelude.{◌≡◌, ℕ, List, true};
+ghost use Rattle.http.specs.declared.request.Request.{Request};
+ghost use Rattle.http.specs.Request.{head_of};
 ghost use Rattle.http_frames.specs.Clients.{Turn};
+ghost use Rattle.http_server.specs.declared.response.Response.{Response};
 ghost use Rattle.http_server.specs.Exchange.{Call, Chain};
 ghost use Rattle.dav_files_core.specs.Outcomes.{start};
 ghost use Rattle.dav_handler_core.specs.Answers.{Answers};
+ghost use Rattle.dav_handler_core.specs.DateConditions.{AsksModifiedSince, AsksUnmodifiedSince};
+ghost use Rattle.dav_handler_core.specs.DateConditions.{FindsSame};
+ghost use Rattle.dav_handler_core.specs.Deciding.{SaysDone, looks};
 ghost use Rattle.dav_handler_core.specs.KeptDocuments.{IsNew};
 ghost use Rattle.dav_handler_core.specs.PathMoments.{DatesTellFiles, MomentsTellFiles};
 ghost use Rattle.dav_handler_core.specs.Server.{Server};
@@ -35,6 +41,26 @@ pub fn moments_tell_files()
         → MomentsTellFiles s s' }
     ensures dates { (begun s s' : Server) → IsNew begun → Becomes begun s → Becomes s s'
         → DatesTellFiles s s' }
+{}
+
+/// The law of conditions by date over a run from new stores (RFC 9110 sections 13.1.3 and 13.1.4,
+/// own). It does nothing.
+///
+/// - A file was told with a date at a path of the run. Where a request for the path is done later
+///   that states the date in its `If-Unmodified-Since`, and no `If-Match`, the file that it finds
+///   has the same bytes; or both files were changed last in one second.
+/// - So it is where a request is answered 304 that states the date in its `If-Modified-Since`, and
+///   no `If-None-Match`.
+pub fn dates_tell_bytes()
+    ensures lets { (begun earlier before after : Server) (request : Request (List ℕ))
+        (response : Response) → IsNew begun → Becomes begun earlier → Becomes earlier before
+        → (h : Answers before request response after) → looks h.method ≡ true
+        → SaysDone h.method response.status
+        → FindsSame (AsksUnmodifiedSince (head_of request).headers) earlier before request after }
+    ensures not_modified { (begun earlier before after : Server) (request : Request (List ℕ))
+        (response : Response) → IsNew begun → Becomes begun earlier → Becomes earlier before
+        → Answers before request response after → response.status ≡ 304
+        → FindsSame (AsksModifiedSince (head_of request).headers) earlier before request after }
 {}
 
 /// The law that `tags_tell_bytes` is of this server: new stores have no files, and what the calls

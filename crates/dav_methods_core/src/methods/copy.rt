@@ -57,7 +57,7 @@ pub fn copy<R: Rng>(
     ensures err { IfErr result (λ e. FailsToCopy site.now prefix.now headers.now
         (live_of R.stream session.old) (caller session.old) (segments path.now.bytes) e) }
     ensures left { IfErr result (λ e. CopyLeaves site.now prefix.now headers.now
-        (state R.stream session.old) (caller session.old).now (segments path.now.bytes) e
+        (state R.stream session.old) (caller session.old) (segments path.now.bytes) e
         (state R.stream session.new)) }
     ensures acts { Acts R.stream session.old session.new }
 {

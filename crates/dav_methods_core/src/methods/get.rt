@@ -5,7 +5,7 @@ ghost use Rattle.dav_files_core.specs.declared.memfs.Kind.TheVariants.{File, Fol
 ghost use Rattle.dav_files_core.specs.Meta.{meta_of};
 ghost use Rattle.http_server.specs.Response.{IsBlank};
 ghost use Rattle.dav_fields_core.specs.Fields.{marks_of, sent_of};
-ghost use Rattle.dav_fields_core.specs.FileTags.{standing_as};
+ghost use Rattle.dav_methods_core.specs.FolderPages.{IsPage, IsPaged};
 ghost use Rattle.dav_methods_core.specs.GetMethod.{FailsToGet, Gets, extent_in, get_outcome};
 ghost use Rattle.dav_fields_core.specs.Getting.{tags_by};
 ghost use Rattle.dav_fields_core.specs.Marking.{HasShownTag, IsNone, IsRead, and_part};
@@ -28,7 +28,7 @@ use dav_resource_core::davpath::DavPath;
 use dav_resource_core::fs::{DavMetaData, Moment};
 use dav_resource_core::memfs::MemFsMeta;
 use dav_resource_core::util::DavMethod;
-use dav_session_core::session::{Session, copy_of, standing_as};
+use dav_session_core::session::{Session, copy_of};
 use http::StatusCode;
 use http_header::{HeaderMap, HeaderValue};
 use http_server::Response;
@@ -51,6 +51,8 @@ pub fn get<R: Rng>(
     requires { IsBlank response.old }
     ensures ok { IfOk result (λ status. Gets method (state R.stream session.old).map
         (segments path.now.bytes) headers.now status (sent_of response.new)) }
+    ensures page { IfOk result (λ status. IsPaged (state R.stream session.old).map path.now status
+        response.new.body.items) }
     ensures err { IfErr result (λ e. FailsToGet method (state R.stream session.old).map
         (segments path.now.bytes) headers.now e) }
     ensures looks { Looks R.stream session.old session.new }
@@ -58,7 +60,7 @@ pub fn get<R: Rng>(
     let Some(meta) = session.meta(copy_of(path)?) else {
         return Err(Fault::NotFound);
     };
-    let standing = standing_as(alloc, &meta)?;
+    let standing = session.standing_known(alloc, path, &meta)?;
     match told(method, &standing, meta.len(), headers)? {
         None => not_modified(alloc, &standing, response),
         Some(Extent::Whole) => tell_whole(alloc, session, path, &meta, &standing, response),
@@ -138,13 +140,15 @@ fn tell_whole<R: Rng>(
     response: &mut Response,
 ) -> Result<StatusCode, Fault>
     requires shown { HasShownTag standing.now }
-    requires known { standing.now ≡ standing_as (meta_of meta.now) }
+    requires folder { (meta_of meta.now).kind ≡ Folder → tags_by standing.now ≡ [] }
     requires empty { response.old.body.items ≡ [] }
     ensures ok { IfOk result (λ status. (status ≡ 200)
         × (marks_of response.new ≡ and_tags (tags_by standing.now) (marks_of response.old))) }
     ensures bytes { OnOk result ((meta_of meta.now).kind ≡ File
         → IsRead (state R.stream session.old).map (segments path.now.bytes) 0
         (meta_of meta.now).length response.new.body.items) }
+    ensures page { OnOk result ((meta_of meta.now).kind ≡ Folder
+        → IsPage (state R.stream session.old).map path.now response.new.body.items) }
     ensures err { IfErr result (λ e. (e ≡ fault.InsufficientStorage) ⊎ ((e ≡ fault.NotFound)
         × IsNone (state R.stream session.old).map (segments path.now.bytes)
         (meta_of meta.now).kind)) }
@@ -244,6 +248,9 @@ fn tell_folder<R: Rng>(
     meta: &MemFsMeta,
     response: &mut Response,
 ) -> Result<StatusCode, Fault>
+    requires empty { response.old.body.items ≡ [] }
+    ensures page { OnOk result (IsPage (state R.stream session.old).map path.now
+        response.new.body.items) }
     ensures ok { IfOk result (λ status. (status ≡ 200)
         × (marks_of response.new ≡ marks_of response.old)) }
     ensures err { IfErr result (λ e. (e ≡ fault.InsufficientStorage) ⊎ ((e ≡ fault.NotFound)
@@ -254,7 +261,7 @@ fn tell_folder<R: Rng>(
     let page = page_of(alloc, path, &entries)?;
     add_last_modified(alloc, response, modified_of(meta))?;
     add_content_type(alloc, response, "text/html; charset=utf-8")?;
-    response.body.push(Bytes::from_string(page)?)?;
+    response.body.push(Bytes::from_vec(page)?)?;
     Ok(StatusCode::OK)
 }
 

@@ -47,7 +47,8 @@ pub fn relocate<R: Rng>(
     ensures err { IfErr result (λ e. FailsToMove site.now prefix.now headers.now
         (live_of R.stream session.old) (caller session.old) (segments path.bytes) e) }
     ensures left { IfErr result (λ e. MoveLeaves site.now prefix.now headers.now
-        (state R.stream session.old) (caller session.old).now e (state R.stream session.new)) }
+        (state R.stream session.old) (caller session.old) (segments path.bytes) e
+        (state R.stream session.new)) }
     ensures acts { Acts R.stream session.old session.new }
 {
     check_reach(session, headers, &path)?;
@@ -71,7 +72,8 @@ fn relocate_all<R: Rng>(
     ensures err { IfErr result (λ e. FailsToMove site.now prefix.now headers.now
         (live_of R.stream session.old) (caller session.old) (segments path.bytes) e) }
     ensures left { IfErr result (λ e. MoveLeaves site.now prefix.now headers.now
-        (state R.stream session.old) (caller session.old).now e (state R.stream session.new)) }
+        (state R.stream session.old) (caller session.old) (segments path.bytes) e
+        (state R.stream session.new)) }
     ensures acts { Acts R.stream session.old session.new }
 {
     let Ends {

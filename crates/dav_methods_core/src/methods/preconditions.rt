@@ -11,7 +11,7 @@ use dav_fields_core::etags::Standing;
 use dav_fields_core::preconditions::{Course, read_course};
 use dav_resource_core::davpath::DavPath;
 use dav_resource_core::util::DavMethod;
-use dav_session_core::session::{Session, copy_of};
+use dav_session_core::session::Session;
 use http_header::{HeaderMap, HeaderValue};
 use rand_core::Rng;
 use std::alloc::Global;
@@ -34,7 +34,7 @@ pub(super) fn check_conditions<R: Rng>(
         headers.now ≡ Err e)) }
     ensures looks { Looks R.stream session.old session.new }
 {
-    let standing = session.standing(alloc, copy_of(path)?)?;
+    let standing = session.standing(alloc, path)?;
     course_lets(method, headers, &standing)
 }
 

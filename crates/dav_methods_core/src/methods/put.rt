@@ -8,27 +8,26 @@ ghost use Rattle.http_server.specs.Response.{IsBlank};
 ghost use Rattle.dav_fields_core.specs.Fields.{marks_of};
 ghost use Rattle.dav_fields_core.specs.FileTags.{file_tag};
 ghost use Rattle.dav_fields_core.specs.Getting.{tag_marks};
-ghost use Rattle.dav_methods_core.specs.ChangeConditions.{change_course, changes_by};
+ghost use Rattle.dav_methods_core.specs.ChangeConditions.{change_course};
 ghost use Rattle.dav_methods_core.specs.PutMethod.{FailsToPut, Puts};
 ghost use Rattle.dav_methods_core.specs.PutMethod.{put_status};
-ghost use Rattle.dav_methods_core.specs.Placing.{HasPlace, LacksPlace, standing_known};
+ghost use Rattle.dav_methods_core.specs.Placing.{HasPlace, LacksPlace};
 ghost use Rattle.dav_fields_core.specs.Marking.{and_tags};
-ghost use Rattle.dav_fields_core.specs.Preconditions.{course_of};
 ghost use Rattle.dav_session_core.specs.Sessions.{Acts, Looks, Stays, caller, state};
 ghost use Rattle.dav_faults_core.specs.declared.faults.Fault.TheVariants as fault;
 
 use super::changes::{check_above, check_locks, done};
-use super::preconditions::course_lets;
+use super::preconditions::check_conditions;
 use bytes::Bytes;
 use dav_faults_core::faults::Fault;
-use dav_fields_core::etags::{Standing, file_tag};
-use dav_fields_core::fields::add_tag;
+use dav_fields_core::etags::file_tag;
+use dav_fields_core::fields::add_file_tag;
 use dav_resource_core::davpath::DavPath;
 use dav_resource_core::fs::{DavMetaData, Moment};
 use dav_resource_core::guarded::Command;
 use dav_resource_core::memfs::MemFsMeta;
 use dav_resource_core::util::DavMethod;
-use dav_session_core::session::{Session, copy_of, refused, standing_as};
+use dav_session_core::session::{Session, copy_of, refused};
 use http::StatusCode;
 use http_header::{HeaderMap, HeaderValue};
 use http_server::Response;
@@ -67,7 +66,7 @@ pub fn put<R: Rng>(
     let known = session.meta(copy_of(&path)?);
     check_locks(session, &path, known.is_some())?;
     check_place(session, &path, &known)?;
-    check_conditions(alloc, headers, &known)?;
+    check_conditions(alloc, session, DavMethod::Put, headers, &path)?;
     say_tag(alloc, response, session.now(), bytes.len() as u64)?;
     match session.change(Command::Put { path, bytes }) {
         Ok(_) => Ok(done(&known)),
@@ -98,34 +97,6 @@ fn check_place<R: Rng>(
     }
 }
 
-// Whether the conditions of HTTP let a change be done, of what is known to stand there.
-fn check_conditions(
-    alloc: Global,
-    headers: &HeaderMap<HeaderValue>,
-    known: &Option<MemFsMeta>,
-) -> Result<(), Fault>
-    ensures ok { OnOk result (changes_by (course_of method.Put
-        (standing_known (option_map meta_of known.now)) headers.now) ≡ Ok tt) }
-    ensures err { IfErr result (λ e. (e ≡ fault.InsufficientStorage)
-        ⊎ (changes_by (course_of method.Put (standing_known (option_map meta_of known.now))
-        headers.now) ≡ Err e)) }
-{
-    let standing = standing_known(alloc, known)?;
-    course_lets(DavMethod::Put, headers, &standing)
-}
-
-// What is known of the path, as conditions see it.
-fn standing_known(alloc: Global, known: &Option<MemFsMeta>) -> Result<Standing, Fault>
-    ensures ok { IfOk result (λ standing. standing
-        ≡ standing_known (option_map meta_of known.now)) }
-    ensures err { IfErr result (λ e. e ≡ fault.InsufficientStorage) }
-{
-    match known {
-        Some(meta) => standing_as(alloc, meta),
-        None => Ok(Standing::Nothing),
-    }
-}
-
 // Says the tag of a file that is changed at the moment and has such a length.
 fn say_tag(
     alloc: Global,
@@ -139,5 +110,5 @@ fn say_tag(
     ensures err { IfErr result (λ e. e ≡ fault.InsufficientStorage) }
 {
     let tag = file_tag(alloc, modified, length)?;
-    add_tag(alloc, response, &Standing::File { tag, modified })
+    add_file_tag(alloc, response, &tag)
 }

@@ -2,44 +2,23 @@
 ghost use Rattle.std.specs.Prelude.{◌≡◌, ◌≢◌, [], false, bytes_eq, IfOk, IfErr, OnOk};
 ghost use Rattle.std.specs.List.{list_any};
 ghost use Rattle.dav_path_core.specs.Segments.{segments};
-ghost use Rattle.dav_files_core.specs.Meta.{meta_of};
 ghost use Rattle.dav_files_core.specs.Resources.{IsResourceMap};
 ghost use Rattle.dav_session_core.specs.Conditions.{has_token};
-ghost use Rattle.dav_fields_core.specs.FileTags.{standing_as, standing_of};
 ghost use Rattle.dav_session_core.specs.LocksInTheWay.{IsRefusedBy};
-ghost use Rattle.dav_fields_core.specs.Marking.{HasShownTag};
 ghost use Rattle.dav_session_core.specs.Sessions.{live_of, Looks, state};
 ghost use Rattle.dav_faults_core.specs.declared.faults.Fault.TheVariants as fault;
-ghost use Rattle.dav_session_core.specs.Questions.{against_change, covering, found_at};
+ghost use Rattle.dav_session_core.specs.Questions.{against_change, covering};
 
 use super::Session;
 use super::questions::copy_of;
 use dav_faults_core::faults::Fault;
-use dav_fields_core::etags::{Standing, file_tag};
 use dav_resource_core::davpath::DavPath;
-use dav_resource_core::fs::DavMetaData;
 use dav_resource_core::guarded::{Command, Refusal, Reply};
 use dav_resource_core::ls::DavLock;
-use dav_resource_core::memfs::MemFsMeta;
 use rand_core::Rng;
-use std::alloc::Global;
 use std::convert::AsStr;
 
 impl<R: Rng> Session<R> {
-    /// What stands at a path, as conditions see it. `InsufficientStorage` where there is no memory
-    /// for a file's tag.
-    pub fn standing(&mut self, alloc: Global, path: DavPath) -> Result<Standing, Fault>
-        ensures ok { IfOk result (λ standing. standing
-            ≡ standing_of (found_at R.stream self.old path)) }
-        ensures err { IfErr result (λ e. e ≡ fault.InsufficientStorage) }
-        ensures looks { Looks R.stream self.old self.new }
-    {
-        match self.meta(path) {
-            Some(meta) => standing_as(alloc, &meta),
-            None => Ok(Standing::Nothing),
-        }
-    }
-
     /// Whether the locks let the caller change what stands at a path (RFC 4918 section 7). `Locked`
     /// where one stands in the way, with its path.
     pub fn check(&mut self, path: DavPath) -> Result<(), Fault>
@@ -81,21 +60,6 @@ impl<R: Rng> Session<R> {
             _ => Err(Fault::InsufficientStorage),
         }
     }
-}
-
-/// What is known of a folder or a file, as conditions see it. `InsufficientStorage` where there is
-/// no memory for a file's tag.
-pub fn standing_as(alloc: Global, meta: &MemFsMeta) -> Result<Standing, Fault>
-    ensures ok { IfOk result (λ standing. standing ≡ standing_as (meta_of meta.now)) }
-    ensures shown { IfOk result (λ standing. HasShownTag standing) }
-    ensures err { IfErr result (λ e. e ≡ fault.InsufficientStorage) }
-{
-    if meta.is_dir() {
-        return Ok(Standing::Folder);
-    }
-    let modified = meta.modified().unwrap();
-    let tag = file_tag(alloc, modified, meta.len())?;
-    Ok(Standing::File { tag, modified })
 }
 
 /// Whether a lock of these has the token.

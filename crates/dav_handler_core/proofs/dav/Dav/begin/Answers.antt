@@ -1,4 +1,4 @@
-use Rattle.std.proofs.Common.{◌≡◌, ◌<◌, ◌⊎◌, ◌∙◌, ℕ, List, sym, ap, subst, option_map, map, string_bytes}
+use Rattle.std.proofs.Common.{◌≡◌, ◌<◌, ◌⊎◌, ◌∙◌, sym, ap, subst, option_map, map, string_bytes}
 use Rattle.std.proofs.lemmas.Result.{err_from_is_err_and}
 use Rattle.http.specs.Request.{head_of}
 use Rattle.http_header.specs.FieldValue.{FieldValue}
@@ -85,3 +85,6 @@ returns-in_err-now-clause-err g c =
           (c.of-site.ensures ∙ ap (site_of c.args.self.now.settings.scheme) c.uri-2.ensures) c.headers-2.ensures c.in_ok-tokens.ensures.ok;
     })
     c.in_err-now.ensures.err)
+
+pub returns-clause-moment : goal.returns-clause-moment
+returns-clause-moment g c = ap (λ (w : Caller). w.now) c.begin.ensures.caller ∙ c.in_ok-now.ensures.moment

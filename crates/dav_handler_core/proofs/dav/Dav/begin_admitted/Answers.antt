@@ -8,6 +8,7 @@ use Rattle.dav_handler_core.specs.ServerViews.{server}
 use Rattle.dav_session_core.specs.Sessions.{caller}
 use Rattle.dav_handler_core.proofs.AnswerLemmas.{held_there}
 use Rattle.dav_session_core.proofs.CallerLaws.{by_none}
+use Rattle.dav_handler_core.specs.RequestMoments.ComesAt.{begun, unread}
 use Rattle.dav_handler_core.proofs.dav.Dav.begin_admitted.Goals as goal
 
 pub returns-in_err-path-clause-run : goal.returns-in_err-path-clause-run
@@ -35,3 +36,24 @@ returns-in_err-admit-clause-err g c =
             (c.of-site.ensures ∙ ap (site_of c.begin.new.self.settings.scheme) c.uri.ensures ∙ ap (λ (o : Options). site_for o c.args.request.now) c.begin.ensures.options) (sym (ap (λ (w : Caller). w.now) c.admit.ensures.looks.who)) c.begin.ensures.state c.headers.ensures c.in_err-admit.ensures.err,
       ),
     ))
+
+pub returns-in_err-path-clause-comes : goal.returns-in_err-path-clause-comes
+returns-in_err-path-clause-comes g c =
+    let q = err_from_is_err_and c.from_residual.result c.from_residual.ensures.1 in
+    rw (q.1, q.2) (unread c.in_err-path.field-0.0 refl c.in_err-path.ensures.err c.in_err-path.ensures.left)
+
+pub returns-in_err-admit-clause-comes : goal.returns-in_err-admit-clause-comes
+returns-in_err-admit-clause-comes g c =
+    let q = err_from_is_err_and c.from_residual-in_err-admit.result c.from_residual-in_err-admit.ensures.1 in
+    let before = server g.R.Rng.stream c.args.self.now in
+    let start = c.in_ok-path.ensures.ok in
+    rw (q.1, q.2) (begun c.in_ok-path.path (caller c.admit.new.session)
+    (record {
+      names = start.0;
+      from = subst (IsFrom before.options c.args.request.now) (sym c.admit.ensures.looks.who) start.1;
+      now = refl;
+    })
+    (ap (λ (w : Caller). w.now) c.admit.ensures.looks.who ∙ c.in_ok-path.ensures.moment))
+
+pub returns-clause-moment : goal.returns-clause-moment
+returns-clause-moment g c = ap (λ (w : Caller). w.now) c.admit.ensures.looks.who ∙ c.in_ok-path.ensures.moment

@@ -13,6 +13,7 @@ use Rattle.dav_handler_core.specs.ServerViews.{server}
 use Rattle.dav_session_core.specs.Sessions.{caller, state}
 use Rattle.dav_handler_core.proofs.AnswerLemmas.{bare_answered, bare_unread, moves_on}
 use Rattle.dav_handler_core.proofs.TransferAnswerLemmas.{copy_leaves}
+use Rattle.dav_handler_core.proofs.MomentLemmas.{comes_on}
 use Rattle.dav_handler_core.proofs.dav.Dav.serve_copy.Goals as goal
 
 pub returns-in_err-path-clause-answers : goal.returns-in_err-path-clause-answers
@@ -55,15 +56,25 @@ returns-clause-refused g c =
     let s = state g.R.Rng.stream c.begin_bare.new.self.session in
     let begun = c.in_ok-path.ensures.ok in
     let headers = (head_of c.args.request.now).headers in
-    let leaves : Options → Entries FieldValue → Type 0 = λ o h. IfErr c.copy.result (λ e. CopyLeaves (site_for o c.args.request.now) o.prefix h s who.now (segments c.in_ok-path.path.bytes) e after.state) in
+    let leaves : Options → Entries FieldValue → Type 0 = λ o h. IfErr c.copy.result (λ e. CopyLeaves (site_for o c.args.request.now) o.prefix h s who (segments c.in_ok-path.path.bytes) e after.state) in
     let site = c.of-site.ensures ∙ ap (site_of mid.options.scheme) c.uri.ensures in
-    let left_there = subst (λ site. IfErr c.copy.result (λ e. CopyLeaves site c.deref.result.now c.headers.result.now s who.now (segments c.in_ok-path.path.bytes) e after.state)) site c.copy.ensures.left in
+    let left_there = subst (λ site. IfErr c.copy.result (λ e. CopyLeaves site c.deref.result.now c.headers.result.now s who (segments c.in_ok-path.path.bytes) e after.state)) site c.copy.ensures.left in
     copy_leaves before mid after c.args.request.now c.in_ok-path.path who (ap (λ (w : Caller). w.now) c.copy.ensures.acts.who) begun.0.0 (begun.0.1 refl) s
     c.begin_bare.ensures.live c.copy.result
     (subst (λ o. leaves o headers) c.begin_bare.ensures.moves.options (subst (leaves mid.options) c.headers.ensures
-    (subst (λ prefix. IfErr c.copy.result (λ e. CopyLeaves (site_for mid.options c.args.request.now) prefix c.headers.result.now s who.now (segments c.in_ok-path.path.bytes) e after.state)) c.deref.ensures left_there)))
+    (subst (λ prefix. IfErr c.copy.result (λ e. CopyLeaves (site_for mid.options c.args.request.now) prefix c.headers.result.now s who (segments c.in_ok-path.path.bytes) e after.state)) c.deref.ensures left_there)))
 
 pub returns-clause-moves : goal.returns-clause-moves
 returns-clause-moves g c =
     moves_on (server g.R.Rng.stream c.args.self.now) (server g.R.Rng.stream c.begin_bare.new.self) _ c.args.request.now c.in_ok-path.path (caller c.begin_bare.new.self.session)
     c.in_ok-path.ensures.ok.0.0 c.begin_bare.ensures.moves c.begin_bare.ensures.run c.copy.ensures.acts.run (ap (λ (w : Caller). w.now) c.copy.ensures.acts.who) refl refl
+
+pub returns-in_err-path-clause-comes : goal.returns-in_err-path-clause-comes
+returns-in_err-path-clause-comes g c =
+    let q = err_from_is_err_and c.from_residual.result c.from_residual.ensures.1 in
+    rw (q.1, q.2) c.in_err-path.ensures.comes
+
+pub returns-clause-comes : goal.returns-clause-comes
+returns-clause-comes g c =
+    comes_on true (server g.R.Rng.stream c.args.self.now) (server g.R.Rng.stream c.begin_bare.new.self) _ c.args.request.now _ c.in_ok-path.path (caller c.begin_bare.new.self.session)
+    (ap (λ (w : Caller). w.now) c.copy.ensures.acts.who) c.in_ok-path.ensures.ok.0.0 c.in_ok-path.ensures.moment

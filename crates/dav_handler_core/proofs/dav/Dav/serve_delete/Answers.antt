@@ -8,6 +8,7 @@ use Rattle.dav_methods_core.specs.DeleteMethod.{FailsToRemove, Removes}
 use Rattle.dav_handler_core.specs.ServerViews.{server}
 use Rattle.dav_session_core.specs.Sessions.{caller, state}
 use Rattle.dav_handler_core.proofs.AnswerLemmas.{bare_answered, bare_unread, moves_on}
+use Rattle.dav_handler_core.proofs.MomentLemmas.{comes_on}
 use Rattle.dav_handler_core.proofs.dav.Dav.serve_delete.Goals as goal
 
 pub returns-in_err-path-clause-answers : goal.returns-in_err-path-clause-answers
@@ -34,3 +35,13 @@ pub returns-clause-moves : goal.returns-clause-moves
 returns-clause-moves g c =
     moves_on (server g.R.Rng.stream c.args.self.now) (server g.R.Rng.stream c.begin_bare.new.self) _ c.args.request.now c.in_ok-path.path (caller c.begin_bare.new.self.session)
     c.in_ok-path.ensures.ok.0.0 c.begin_bare.ensures.moves c.begin_bare.ensures.run c.delete.ensures.acts.run (ap (λ (w : Caller). w.now) c.delete.ensures.acts.who) refl refl
+
+pub returns-in_err-path-clause-comes : goal.returns-in_err-path-clause-comes
+returns-in_err-path-clause-comes g c =
+    let q = err_from_is_err_and c.from_residual.result c.from_residual.ensures.1 in
+    rw (q.1, q.2) c.in_err-path.ensures.comes
+
+pub returns-clause-comes : goal.returns-clause-comes
+returns-clause-comes g c =
+    comes_on true (server g.R.Rng.stream c.args.self.now) (server g.R.Rng.stream c.begin_bare.new.self) _ c.args.request.now _ c.in_ok-path.path (caller c.begin_bare.new.self.session)
+    (ap (λ (w : Caller). w.now) c.delete.ensures.acts.who) c.in_ok-path.ensures.ok.0.0 c.in_ok-path.ensures.moment

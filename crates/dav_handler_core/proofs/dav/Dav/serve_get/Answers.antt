@@ -1,4 +1,4 @@
-use Rattle.std.proofs.Common.{refl, ap, subst}
+use Rattle.std.proofs.Common.{refl, ap, subst, false}
 use Rattle.std.specs.Prelude.{IfOk, IfErr}
 use Rattle.dav_path_core.specs.Segments.{segments}
 use Rattle.dav_resource_core.specs.Step.{State}
@@ -8,6 +8,8 @@ use Rattle.dav_methods_core.specs.GetMethod.{FailsToGet, Gets}
 use Rattle.dav_handler_core.specs.ServerViews.{server}
 use Rattle.dav_session_core.specs.Sessions.{caller, state}
 use Rattle.dav_handler_core.proofs.AnswerLemmas.{get_answered, moves_on}
+use Rattle.dav_handler_core.proofs.MomentLemmas.{comes_on}
+use Rattle.std.proofs.lemmas.Result.{err_from_is_err_and}
 use Rattle.dav_handler_core.proofs.dav.Dav.serve_get.Goals as goal
 
 pub returns-clause-answers : goal.returns-clause-answers
@@ -18,9 +20,20 @@ returns-clause-answers g c =
     (ap (λ (w : Caller). w.now) c.get.ensures.looks.who) begun.0.0 begun.1 c.args.method map c.get.result (sent_of c.get.new.response)
     (ap (λ (s : State). s.map) c.begin_admitted.ensures.live)
     (subst (λ h. IfOk c.get.result (λ status. Gets c.args.method map (segments c.in_ok-path.path.bytes) h status (sent_of c.get.new.response))) c.headers.ensures c.get.ensures.ok)
+    c.get.ensures.page
     (subst (λ h. IfErr c.get.result (λ e. FailsToGet c.args.method map (segments c.in_ok-path.path.bytes) h e)) c.headers.ensures c.get.ensures.err)
 
 pub returns-clause-moves : goal.returns-clause-moves
 returns-clause-moves g c =
     moves_on (server g.R.Rng.stream c.args.self.now) (server g.R.Rng.stream c.begin_admitted.new.self) _ c.args.request.now c.in_ok-path.path (caller c.begin_admitted.new.self.session)
     c.in_ok-path.ensures.ok.0.0 c.begin_admitted.ensures.moves c.begin_admitted.ensures.run c.get.ensures.looks.run (ap (λ (w : Caller). w.now) c.get.ensures.looks.who) refl refl
+
+pub returns-in_err-path-clause-comes : goal.returns-in_err-path-clause-comes
+returns-in_err-path-clause-comes g c =
+    let q = err_from_is_err_and c.from_residual.result c.from_residual.ensures.1 in
+    rw (q.1, q.2) c.in_err-path.ensures.comes
+
+pub returns-clause-comes : goal.returns-clause-comes
+returns-clause-comes g c =
+    comes_on false (server g.R.Rng.stream c.args.self.now) (server g.R.Rng.stream c.begin_admitted.new.self) _ c.args.request.now _ c.in_ok-path.path (caller c.begin_admitted.new.self.session)
+    (ap (λ (w : Caller). w.now) c.get.ensures.looks.who) c.in_ok-path.ensures.ok.0.0 c.in_ok-path.ensures.moment

@@ -1,4 +1,4 @@
-use Rattle.std.proofs.Common.{◌≡◌, Some, true, refl, ap, ◌∙◌, sym, subst}
+use Rattle.std.proofs.Common.{◌≡◌, Err, Some, true, eqb-true, refl, ap, ◌∙◌, sym, subst}
 use Rattle.std.specs.Prelude.{◌==◌, length, IfOk, IfErr}
 use Rattle.std.proofs.lemmas.Result.{err_from_is_err_and}
 use Rattle.http.specs.Request.{body_of, head_of}
@@ -13,6 +13,10 @@ use Rattle.dav_handler_core.specs.ServerViews.{server}
 use Rattle.dav_session_core.specs.Sessions.{caller, state}
 use Rattle.dav_handler_core.proofs.LockAnswerLemmas.{lock_answered, lock_leaves_by, lock_unread, moves_granted, some_body}
 use Rattle.dav_handler_core.proofs.TransferAnswerLemmas.{leaves_same}
+use Rattle.dav_handler_core.proofs.MomentLemmas.{comes_on}
+use Rattle.dav_handler_core.specs.RequestMoments.{ComesAt}
+use Rattle.dav_session_core.proofs.MakeLemmas.{nothing_in}
+use Rattle.dav_files_core.specs.Finding.{has_any}
 use Rattle.dav_handler_core.proofs.dav.Dav.serve_lock.Goals as goal
 
 pub returns-in_err-path-clause-answers : goal.returns-in_err-path-clause-answers
@@ -87,3 +91,24 @@ returns-clause-moves g c =
     c.lock.ensures.done))))
     (subst (λ b. IfErr c.lock.result (λ e. LeavesLock (IsAskedBy b (live who.now s) who path) who (segments path.bytes) e s after.state))
     (c.deref-2.ensures ∙ c.body-2.ensures) c.lock.ensures.left) refl refl
+
+pub returns-then-is_empty-clause-comes : goal.returns-then-is_empty-clause-comes
+returns-then-is_empty-clause-comes g c =
+    let none = nothing_in (body_of c.args.request.now)
+    (eqb-true _ 0 (subst (λ body. (length body == 0) ≡ _) c.body.ensures (sym c.is_empty.ensures ∙ c.if-is_empty.true))) in
+    subst (λ b. ComesAt b (server g.R.Rng.stream c.args.self.now) c.args.request.now c.serve_refresh.result (server g.R.Rng.stream c.serve_refresh.new.self)) (sym (ap has_any none))
+    c.serve_refresh.ensures.comes
+
+pub returns-in_err-path-clause-comes : goal.returns-in_err-path-clause-comes
+returns-in_err-path-clause-comes g c =
+    let q = err_from_is_err_and c.from_residual.result c.from_residual.ensures.1 in
+    let some = some_body (body_of c.args.request.now) (subst (λ body. (length body == 0) ≡ _) c.body.ensures (sym c.is_empty.ensures ∙ c.if-is_empty.false)) in
+    rw (q.1, q.2) (subst (λ b. ComesAt b (server g.R.Rng.stream c.args.self.now) c.args.request.now (Err c.in_err-path.field-0.0) (server g.R.Rng.stream c.begin_admitted.new.self)) some.0 c.in_err-path.ensures.comes)
+
+pub returns-clause-comes : goal.returns-clause-comes
+returns-clause-comes g c =
+    let some = some_body (body_of c.args.request.now) (subst (λ body. (length body == 0) ≡ _) c.body.ensures (sym c.is_empty.ensures ∙ c.if-is_empty.false)) in
+    subst (λ b. ComesAt b (server g.R.Rng.stream c.args.self.now) c.args.request.now c.lock.result (server g.R.Rng.stream (record c.begin_admitted.new.self { session = c.lock.new.session })))
+    some.0
+    (comes_on true (server g.R.Rng.stream c.args.self.now) (server g.R.Rng.stream c.begin_admitted.new.self) _ c.args.request.now _ c.in_ok-path.path (caller c.begin_admitted.new.self.session)
+    (ap (λ (w : Caller). w.now) c.lock.ensures.ran.who) c.in_ok-path.ensures.ok.0.0 c.in_ok-path.ensures.moment)

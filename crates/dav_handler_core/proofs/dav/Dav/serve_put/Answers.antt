@@ -1,4 +1,4 @@
-use Rattle.std.proofs.Common.{inl, refl, ◌∙◌, ap, subst}
+use Rattle.std.proofs.Common.{inl, inr, true, refl, ◌∙◌, ap, subst}
 use Rattle.std.proofs.lemmas.Result.{err_from_is_err_and}
 use Rattle.dav_resource_core.specs.Step.{State}
 use Rattle.dav_session_core.specs.Callers.{Caller}
@@ -7,6 +7,7 @@ use Rattle.dav_fields_core.specs.RequestRefusals.{HasPart}
 use Rattle.dav_handler_core.specs.ServerViews.{server}
 use Rattle.dav_session_core.specs.Sessions.{caller, state}
 use Rattle.dav_handler_core.proofs.AnswerLemmas.{moves_on, put_answered, put_short, put_unread, whole_request}
+use Rattle.dav_handler_core.proofs.MomentLemmas.{comes_on}
 use Rattle.dav_handler_core.proofs.dav.Dav.serve_put.Goals as goal
 
 pub returns-then-contains_key-clause-answers : goal.returns-then-contains_key-clause-answers
@@ -40,3 +41,22 @@ pub returns-clause-moves : goal.returns-clause-moves
 returns-clause-moves g c =
     moves_on (server g.R.Rng.stream c.args.self.now) (server g.R.Rng.stream c.begin_admitted.new.self) _ c.args.request.now c.in_ok-path.path (caller c.begin_admitted.new.self.session)
     c.in_ok-path.ensures.ok.0.0 c.begin_admitted.ensures.moves c.begin_admitted.ensures.run c.put.ensures.acts.run (ap (λ (w : Caller). w.now) c.put.ensures.acts.who) refl refl
+
+pub returns-then-contains_key-clause-comes : goal.returns-then-contains_key-clause-comes
+returns-then-contains_key-clause-comes g c = inl (subst HasPart c.headers.ensures (c.contains_key.ensures.0 c.if-contains_key.true), refl)
+
+pub returns-in_err-path-clause-comes : goal.returns-in_err-path-clause-comes
+returns-in_err-path-clause-comes g c =
+    let q = err_from_is_err_and c.from_residual.result c.from_residual.ensures.1 in
+    rw (q.1, q.2) (inr c.in_err-path.ensures.comes)
+
+pub returns-in_err-clone-clause-comes : goal.returns-in_err-clone-clause-comes
+returns-in_err-clone-clause-comes g c =
+    let mid = server g.R.Rng.stream c.begin_admitted.new.self in
+    inr (comes_on true (server g.R.Rng.stream c.args.self.now) mid mid c.args.request.now _ c.in_ok-path.path (caller c.begin_admitted.new.self.session)
+    refl c.in_ok-path.ensures.ok.0.0 c.in_ok-path.ensures.moment)
+
+pub returns-clause-comes : goal.returns-clause-comes
+returns-clause-comes g c =
+    inr (comes_on true (server g.R.Rng.stream c.args.self.now) (server g.R.Rng.stream c.begin_admitted.new.self) _ c.args.request.now _ c.in_ok-path.path (caller c.begin_admitted.new.self.session)
+    (ap (λ (w : Caller). w.now) c.put.ensures.acts.who) c.in_ok-path.ensures.ok.0.0 c.in_ok-path.ensures.moment)

@@ -1,4 +1,4 @@
-use Rattle.std.proofs.Common.{refl, ap, sym, subst}
+use Rattle.std.proofs.Common.{refl, ap, sym, subst, false}
 use Rattle.std.specs.Prelude.{IfOk, IfErr}
 use Rattle.std.proofs.lemmas.Result.{err_from_is_err_and}
 use Rattle.std.proofs.lemmas.Result.{on_err_weaker}
@@ -12,6 +12,7 @@ use Rattle.dav_methods_core.specs.RefreshMethod.{FailsToRefresh, Refreshes}
 use Rattle.dav_handler_core.specs.ServerViews.{server}
 use Rattle.dav_session_core.specs.Sessions.{Looks, caller, state}
 use Rattle.dav_handler_core.proofs.LockAnswerLemmas.{lock_unread, moves_refreshed, refresh_answered}
+use Rattle.dav_handler_core.proofs.MomentLemmas.{comes_on}
 use Rattle.dav_handler_core.proofs.dav.Dav.serve_refresh.Goals as goal
 
 pub returns-in_err-path-clause-answers : goal.returns-in_err-path-clause-answers
@@ -57,3 +58,13 @@ returns-clause-moves g c =
     (subst (λ prefix. IfOk c.refresh.result (λ status. Refreshes mid.options.longest prefix c.headers.result.now (live who.now s) who p status sent after.state)) c.deref.ensures
     c.refresh.ensures.done)))
     (on_err_weaker c.refresh.result (λ (h : Looks g.R.Rng.stream c.begin_admitted.new.self.session c.refresh.new.session). h.run) c.refresh.ensures.looks) refl refl
+
+pub returns-in_err-path-clause-comes : goal.returns-in_err-path-clause-comes
+returns-in_err-path-clause-comes g c =
+    let q = err_from_is_err_and c.from_residual.result c.from_residual.ensures.1 in
+    rw (q.1, q.2) c.in_err-path.ensures.comes
+
+pub returns-clause-comes : goal.returns-clause-comes
+returns-clause-comes g c =
+    comes_on false (server g.R.Rng.stream c.args.self.now) (server g.R.Rng.stream c.begin_admitted.new.self) _ c.args.request.now _ c.in_ok-path.path (caller c.begin_admitted.new.self.session)
+    (ap (λ (w : Caller). w.now) c.refresh.ensures.asks.who) c.in_ok-path.ensures.ok.0.0 c.in_ok-path.ensures.moment

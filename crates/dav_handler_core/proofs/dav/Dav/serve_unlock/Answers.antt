@@ -10,6 +10,7 @@ use Rattle.dav_handler_core.specs.ServerViews.{server}
 use Rattle.dav_session_core.specs.Sessions.{Looks, caller, state}
 use Rattle.dav_methods_core.specs.UnlockMethod.{FailsToUnlock, Unlocks}
 use Rattle.dav_handler_core.proofs.AnswerLemmas.{bare_answered, bare_unread, moves_ended}
+use Rattle.dav_handler_core.proofs.MomentLemmas.{comes_on}
 use Rattle.dav_handler_core.proofs.dav.Dav.serve_unlock.Goals as goal
 
 pub returns-in_err-path-clause-answers : goal.returns-in_err-path-clause-answers
@@ -43,3 +44,13 @@ returns-clause-moves g c =
     (subst (λ headers. IfOk c.unlock.result (λ status. Unlocks headers (live who.now mid.state) who (segments c.in_ok-path.path.bytes) status after.state)) c.headers.ensures
     c.unlock.ensures.done)
     (on_err_weaker c.unlock.result (λ (h : Looks g.R.Rng.stream c.begin_bare.new.self.session c.unlock.new.session). h.run) c.unlock.ensures.looks) (ap (λ (w : Caller). w.now) c.unlock.ensures.asks.who) refl refl
+
+pub returns-in_err-path-clause-comes : goal.returns-in_err-path-clause-comes
+returns-in_err-path-clause-comes g c =
+    let q = err_from_is_err_and c.from_residual.result c.from_residual.ensures.1 in
+    rw (q.1, q.2) c.in_err-path.ensures.comes
+
+pub returns-clause-comes : goal.returns-clause-comes
+returns-clause-comes g c =
+    comes_on false (server g.R.Rng.stream c.args.self.now) (server g.R.Rng.stream c.begin_bare.new.self) _ c.args.request.now _ c.in_ok-path.path (caller c.begin_bare.new.self.session)
+    (ap (λ (w : Caller). w.now) c.unlock.ensures.asks.who) c.in_ok-path.ensures.ok.0.0 c.in_ok-path.ensures.moment

@@ -6,6 +6,7 @@ use Rattle.dav_methods_core.specs.RefusalAnswers.{IsToldOf}
 use Rattle.dav_handler_core.specs.ServerViews.{server}
 use Rattle.dav_handler_core.proofs.AnswerLemmas.{refused_alike, moves_exclusive, moves_shape}
 use Rattle.dav_handler_core.proofs.UntoldLemmas.{leaves_untold, memory_is_enough, untold}
+use Rattle.dav_handler_core.proofs.MomentLemmas.{untold_comes}
 use Rattle.dav_handler_core.proofs.dav.DavService.call.Goals as goal
 
 pub returns-in-Ok-clause-ok : goal.returns-in-Ok-clause-ok
@@ -21,6 +22,7 @@ returns-in-Ok-clause-ok g c =
       result = Ok c.in-Ok.status;
       status = refl;
       done = told.2;
+      comes = told.4;
       told = tt;
       refused = tt;
       exclusive = moves_exclusive before after c.args.request.now c.answer.ensures.moves;
@@ -45,6 +47,7 @@ returns-in-Err-clause-ok g c =
         result = Err e;
         status = why.0;
         done = refused_alike ended.0 before after c.args.request.now e (sent_of c.answer.new.response) (sent_of c.refuse.new.response) ended.2;
+        comes = ended.4;
         told = why.1;
         refused = ended.3;
         exclusive = moves_exclusive before after c.args.request.now c.answer.ensures.moves;
@@ -58,6 +61,7 @@ returns-in-Err-clause-ok g c =
         result = Err fault.InsufficientStorage;
         status = short.1;
         done = untold ended.0 before after c.args.request.now e (sent_of c.answer.new.response) (sent_of c.refuse.new.response) short.0 ended.2;
+        comes = untold_comes ended.0 before after c.args.request.now e ended.4;
         told = inr (inr (memory_is_enough, short.2));
         refused = leaves_untold ended.0 before after c.args.request.now e short.0 ended.3;
         exclusive = moves_exclusive before after c.args.request.now c.answer.ensures.moves;

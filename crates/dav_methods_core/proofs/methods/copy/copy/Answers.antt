@@ -66,7 +66,7 @@ returns-in_err-copy_all-clause-left g c =
     let by = c.clear.ensures.acts.who ∙ c.admitted_plan.ensures.looks.who in
     let short = copy_short c.args.site.now c.args.prefix.now c.args.headers.now who start from known gone pairs plan asker b m c.admitted_plan.ensures.looks.who c.admitted_plan.ensures.looks.live c.clear.ensures.acts.run c.clear.ensures.cleared copier after by c.in_err-copy_all.field-0.0 c.in_err-copy_all.ensures.err in
     rw (q.1, q.2) (copy_begun c.args.site.now c.args.prefix.now c.args.headers.now who start from known gone pairs plan asker b m c.admitted_plan.ensures.looks.who c.admitted_plan.ensures.looks.live c.clear.ensures.acts.run c.clear.ensures.cleared copier after by
-    c.in_err-copy_all.field-0.0 short c.in_err-copy_all.ensures.begun)
+    c.in_err-copy_all.field-0.0 short c.in_ok-known.ensures.course c.in_err-copy_all.ensures.begun)
 
 pub returns-clause-done : goal.returns-clause-done
 returns-clause-done g c =

@@ -118,8 +118,10 @@ returns-in_err-relocate-clause-left g c =
     let by = c.clear.ensures.acts.who ∙ checked.who ∙ c.ends_of.ensures.looks.who in
     let short = move_short c.args.site.now c.args.prefix.now c.args.headers.now who s from to known gone c.in_ok-target.ensures.ok m ready mover after by c.in_err-relocate.field-0.0
     c.in_err-relocate.ensures.err in
+    let before = looks_on c.ends_of.ensures.looks c.check_move.ensures.looks in
+    let lets = course_stays method.Move from c.args.headers.now who.now s (spec.state g.R.Rng.stream c.check_move.new.session) _ before.live c.in_ok-check_conditions.ensures.ok in
     rw (q.1, q.2) (move_begun c.args.site.now c.args.prefix.now c.args.headers.now who s from to known gone c.in_ok-target.ensures.ok m ready mover after by
-    c.in_err-relocate.field-0.0 short c.in_err-relocate.ensures.refused)
+    c.in_err-relocate.field-0.0 c.requires lets short c.in_err-relocate.ensures.refused)
 
 pub returns-clause-done : goal.returns-clause-done
 returns-clause-done g c =

@@ -1,109 +1,117 @@
-use Rattle.std.proofs.Common.{Ok, Err, ◌≡◌, ◌∙◌, sym, ap, subst, is_some, if◌then◌else◌}
+use Rattle.std.proofs.Common.{Ok, Err, ◌≡◌, ◌∙◌, inl, sym, ap, subst, is_some, if◌then◌else◌}
 use Rattle.std.specs.Prelude.{option_map}
 use Rattle.std.proofs.lemmas.Result.{err_from_is_err_and}
+use Rattle.dav_path_core.specs.declared.util.DavMethod.TheVariants as method
 use Rattle.dav_path_core.specs.Segments.{segments}
 use Rattle.dav_files_core.specs.Meta.{meta_at, meta_of}
 use Rattle.dav_files_core.specs.Resources.{Resource, at_path}
 use Rattle.dav_resource_core.specs.Requests.{Command}
 use Rattle.dav_resource_core.specs.Served.{reply_of, refusal_of}
 use Rattle.dav_resource_core.specs.Step.{State}
-use Rattle.dav_methods_core.specs.PutMethod.{FailsToPut}
-use Rattle.dav_methods_core.specs.Placing.{HasPlace}
-use Rattle.dav_session_core.specs.StoreRefusals.{put_fault}
-use Rattle.dav_session_core.specs.Sessions as spec
-use Rattle.dav_session_core.proofs.Looking.{looks_on}
 use Rattle.dav_session_core.specs.Ends.{known_at}
+use Rattle.dav_session_core.specs.Sessions as spec
+use Rattle.dav_session_core.specs.StoreRefusals.{put_fault}
+use Rattle.dav_session_core.proofs.Looking.{looks_on}
 use Rattle.dav_session_core.proofs.PutLemmas.{after_look, known_there}
-use Rattle.dav_methods_core.proofs.PutMethodLemmas.{course_there, free_way, lacks_place_at, locked, put_done, put_refused, withheld}
+use Rattle.dav_methods_core.specs.PutMethod.{CanPut, CantPut, FailsToPut}
+use Rattle.dav_methods_core.proofs.Acting.{acts_behind}
+use Rattle.dav_methods_core.proofs.CourseLemmas.{course_stays, stopped_after}
+use Rattle.dav_methods_core.proofs.PutMethodLemmas.{can_put, free_way, lacks_place_at, locked, put_done, put_refused}
 use Rattle.dav_methods_core.proofs.methods.put.put.Goals as goal
 
 pub returns-in_err-check_locks-clause-err : goal.returns-in_err-check_locks-clause-err
 returns-in_err-check_locks-clause-err g c =
-    let p = err_from_is_err_and c.from_residual-in_err-check_locks.result c.from_residual-in_err-check_locks.ensures.1 in
+    let q = err_from_is_err_and c.from_residual-in_err-check_locks.result c.from_residual-in_err-check_locks.ensures.1 in
     let who = spec.caller c.args.session.now in
     let s = spec.state g.R.Rng.stream c.args.session.now in
+    let p = segments c.args.path.bytes in
     let known = option_map meta_of c.meta-known.result in
-    let found : known ≡ known_at s.map (segments c.args.path.bytes) =
-    c.meta-known.ensures.found ∙ ap (λ p. known_at s.map (segments p.bytes)) c.in_ok-copy_of.ensures in
-    let there : c.is_some.result ≡ is_some (at_path s.map (segments c.args.path.bytes)) =
-    c.is_some.ensures ∙ known_there meta_of (λ (r : Resource). meta_at r.node) c.meta-known.result (at_path s.map (segments c.args.path.bytes)) found in
-    rw (p.1, p.2) (locked who (spec.caller c.meta-known.new.self) s (spec.state g.R.Rng.stream c.meta-known.new.self) (segments c.args.path.bytes) c.args.bytes c.args.headers.now
-    c.is_some.result c.in_err-check_locks.field-0.0 c.meta-known.ensures.looks.who c.meta-known.ensures.looks.live there c.in_err-check_locks.ensures.err)
+    let found : known ≡ known_at s.map p = c.meta-known.ensures.found ∙ ap (λ p. known_at s.map (segments p.bytes)) c.in_ok-copy_of.ensures in
+    let there : c.is_some.result ≡ is_some (at_path s.map p) =
+    c.is_some.ensures ∙ known_there meta_of (λ (r : Resource). meta_at r.node) c.meta-known.result (at_path s.map p) found in
+    rw (q.1, q.2) (inl (locked who (spec.caller c.meta-known.new.self) s (spec.state g.R.Rng.stream c.meta-known.new.self) p c.args.bytes c.is_some.result
+    c.in_err-check_locks.field-0.0 c.meta-known.ensures.looks.who c.meta-known.ensures.looks.live there c.in_err-check_locks.ensures.err))
 
 pub returns-in_err-check_place-clause-err : goal.returns-in_err-check_place-clause-err
 returns-in_err-check_place-clause-err g c =
-    let p = err_from_is_err_and c.from_residual-in_err-check_place.result c.from_residual-in_err-check_place.ensures.1 in
+    let q = err_from_is_err_and c.from_residual-in_err-check_place.result c.from_residual-in_err-check_place.ensures.1 in
     let who = spec.caller c.args.session.now in
     let s = spec.state g.R.Rng.stream c.args.session.now in
+    let p = segments c.args.path.bytes in
     let known = option_map meta_of c.meta-known.result in
-    let found : known ≡ known_at s.map (segments c.args.path.bytes) =
-    c.meta-known.ensures.found ∙ ap (λ p. known_at s.map (segments p.bytes)) c.in_ok-copy_of.ensures in
-    let there : c.is_some.result ≡ is_some (at_path s.map (segments c.args.path.bytes)) =
-    c.is_some.ensures ∙ known_there meta_of (λ (r : Resource). meta_at r.node) c.meta-known.result (at_path s.map (segments c.args.path.bytes)) found in
-    let free = free_way who (spec.caller c.meta-known.new.self) s (spec.state g.R.Rng.stream c.meta-known.new.self) (segments c.args.path.bytes) c.args.bytes c.is_some.result
+    let found : known ≡ known_at s.map p = c.meta-known.ensures.found ∙ ap (λ p. known_at s.map (segments p.bytes)) c.in_ok-copy_of.ensures in
+    let there : c.is_some.result ≡ is_some (at_path s.map p) =
+    c.is_some.ensures ∙ known_there meta_of (λ (r : Resource). meta_at r.node) c.meta-known.result (at_path s.map p) found in
+    let free = free_way who (spec.caller c.meta-known.new.self) s (spec.state g.R.Rng.stream c.meta-known.new.self) p c.args.bytes c.is_some.result
     c.meta-known.ensures.looks.who c.meta-known.ensures.looks.live there c.in_ok-check_locks.ensures.ok in
     let locked = looks_on c.meta-known.ensures.looks c.check_locks.ensures.looks in
-    rw (p.1, p.2) (lacks_place_at who s (segments c.args.path.bytes) c.args.bytes c.args.headers.now known c.in_err-check_place.field-0.0 found free
-    (spec.state g.R.Rng.stream c.check_locks.new.session) (ap (λ (t : State). t.map) locked.live) c.in_err-check_place.ensures.err)
+    let map = ap (λ (t : State). t.map) locked.live in
+    rw (q.1, q.2) (inl (lacks_place_at who s p c.args.bytes known c.in_err-check_place.field-0.0 found free
+    (spec.state g.R.Rng.stream c.check_locks.new.session) map c.in_err-check_place.ensures.err))
 
 pub returns-in_err-check_conditions-clause-err : goal.returns-in_err-check_conditions-clause-err
 returns-in_err-check_conditions-clause-err g c =
-    let p = err_from_is_err_and c.from_residual-in_err-check_conditions.result c.from_residual-in_err-check_conditions.ensures.1 in
+    let q = err_from_is_err_and c.from_residual-in_err-check_conditions.result c.from_residual-in_err-check_conditions.ensures.1 in
     let who = spec.caller c.args.session.now in
     let s = spec.state g.R.Rng.stream c.args.session.now in
+    let p = segments c.args.path.bytes in
     let known = option_map meta_of c.meta-known.result in
-    let found : known ≡ known_at s.map (segments c.args.path.bytes) =
-    c.meta-known.ensures.found ∙ ap (λ p. known_at s.map (segments p.bytes)) c.in_ok-copy_of.ensures in
-    let there : c.is_some.result ≡ is_some (at_path s.map (segments c.args.path.bytes)) =
-    c.is_some.ensures ∙ known_there meta_of (λ (r : Resource). meta_at r.node) c.meta-known.result (at_path s.map (segments c.args.path.bytes)) found in
-    let free = free_way who (spec.caller c.meta-known.new.self) s (spec.state g.R.Rng.stream c.meta-known.new.self) (segments c.args.path.bytes) c.args.bytes c.is_some.result
+    let found : known ≡ known_at s.map p = c.meta-known.ensures.found ∙ ap (λ p. known_at s.map (segments p.bytes)) c.in_ok-copy_of.ensures in
+    let there : c.is_some.result ≡ is_some (at_path s.map p) =
+    c.is_some.ensures ∙ known_there meta_of (λ (r : Resource). meta_at r.node) c.meta-known.result (at_path s.map p) found in
+    let free = free_way who (spec.caller c.meta-known.new.self) s (spec.state g.R.Rng.stream c.meta-known.new.self) p c.args.bytes c.is_some.result
     c.meta-known.ensures.looks.who c.meta-known.ensures.looks.live there c.in_ok-check_locks.ensures.ok in
     let locked = looks_on c.meta-known.ensures.looks c.check_locks.ensures.looks in
-    let place = subst (λ m. HasPlace m (segments c.args.path.bytes) known) (ap (λ (t : State). t.map) locked.live) c.in_ok-check_place.ensures.ok in
-    rw (p.1, p.2) (withheld who s (segments c.args.path.bytes) c.args.bytes c.args.headers.now known c.in_err-check_conditions.field-0.0 found free place c.in_err-check_conditions.ensures.err)
+    let map = ap (λ (t : State). t.map) locked.live in
+    let placed = looks_on locked c.check_place.ensures.looks in
+    rw (q.1, q.2) (stopped_after method.Put p c.args.headers.now who.now s (spec.state g.R.Rng.stream c.check_place.new.session) placed.live
+    (CantPut s who p c.args.bytes) (CanPut s who p c.args.bytes) c.in_err-check_conditions.field-0.0 tt
+    (can_put who s p c.args.bytes known found free (spec.state g.R.Rng.stream c.check_locks.new.session) map c.in_ok-check_place.ensures.ok) c.in_err-check_conditions.ensures.err)
 
 pub returns-in-Ok-clause-done : goal.returns-in-Ok-clause-done
 returns-in-Ok-clause-done g c =
     let who = spec.caller c.args.session.now in
     let s = spec.state g.R.Rng.stream c.args.session.now in
+    let p = segments c.args.path.bytes in
     let known = option_map meta_of c.meta-known.result in
-    let found : known ≡ known_at s.map (segments c.args.path.bytes) =
-    c.meta-known.ensures.found ∙ ap (λ p. known_at s.map (segments p.bytes)) c.in_ok-copy_of.ensures in
-    let there : c.is_some.result ≡ is_some (at_path s.map (segments c.args.path.bytes)) =
-    c.is_some.ensures ∙ known_there meta_of (λ (r : Resource). meta_at r.node) c.meta-known.result (at_path s.map (segments c.args.path.bytes)) found in
-    let locked = looks_on c.meta-known.ensures.looks c.check_locks.ensures.looks in
-    let placed = looks_on locked c.check_place.ensures.looks in
-    let at : is_some c.meta-known.result ≡ is_some (at_path s.map (segments c.args.path.bytes)) =
-    known_there meta_of (λ (r : Resource). meta_at r.node) c.meta-known.result (at_path s.map (segments c.args.path.bytes)) found in (
+    let found : known ≡ known_at s.map p = c.meta-known.ensures.found ∙ ap (λ p. known_at s.map (segments p.bytes)) c.in_ok-copy_of.ensures in
+    let at : is_some c.meta-known.result ≡ is_some (at_path s.map p) =
+    known_there meta_of (λ (r : Resource). meta_at r.node) c.meta-known.result (at_path s.map p) found in
+    let looks = looks_on (looks_on (looks_on c.meta-known.ensures.looks c.check_locks.ensures.looks) c.check_place.ensures.looks) c.check_conditions.ensures.looks in (
       c.done.ensures ∙ ap (λ b. if b then 204 else 201) at,
-      put_done who s (spec.state g.R.Rng.stream c.change.new.self) (segments c.args.path.bytes) c.args.bytes (reply_of c.in-Ok.field-0)
-          (after_look who (spec.caller c.check_place.new.session) s (spec.state g.R.Rng.stream c.check_place.new.session) (spec.state g.R.Rng.stream c.change.new.self)
-          (Command.Put (segments c.args.path.bytes) c.args.bytes) (Ok (reply_of c.in-Ok.field-0))
-          placed.who placed.live c.in-Ok.ensures.step),
+      put_done who s (spec.state g.R.Rng.stream c.change.new.self) p c.args.bytes (reply_of c.in-Ok.field-0)
+          (after_look who (spec.caller c.check_conditions.new.session) s (spec.state g.R.Rng.stream c.check_conditions.new.session) (spec.state g.R.Rng.stream c.change.new.self)
+          (Command.Put p c.args.bytes) (Ok (reply_of c.in-Ok.field-0)) looks.who looks.live c.in-Ok.ensures.step),
     )
 
 pub returns-in-Ok-clause-course : goal.returns-in-Ok-clause-course
 returns-in-Ok-clause-course g c =
+    let who = spec.caller c.args.session.now in
     let s = spec.state g.R.Rng.stream c.args.session.now in
-    let known = option_map meta_of c.meta-known.result in
-    let found : known ≡ known_at s.map (segments c.args.path.bytes) =
-    c.meta-known.ensures.found ∙ ap (λ p. known_at s.map (segments p.bytes)) c.in_ok-copy_of.ensures in
-    sym (course_there s.map (segments c.args.path.bytes) c.args.headers.now known found) ∙ c.in_ok-check_conditions.ensures.ok
+    let p = segments c.args.path.bytes in
+    let placed = looks_on (looks_on c.meta-known.ensures.looks c.check_locks.ensures.looks) c.check_place.ensures.looks in
+    course_stays method.Put p c.args.headers.now who.now s (spec.state g.R.Rng.stream c.check_place.new.session) _ placed.live c.in_ok-check_conditions.ensures.ok
 
 pub returns-clause-err : goal.returns-clause-err
 returns-clause-err g c =
     let who = spec.caller c.args.session.now in
     let s = spec.state g.R.Rng.stream c.args.session.now in
+    let p = segments c.args.path.bytes in
     let known = option_map meta_of c.meta-known.result in
-    let found : known ≡ known_at s.map (segments c.args.path.bytes) =
-    c.meta-known.ensures.found ∙ ap (λ p. known_at s.map (segments p.bytes)) c.in_ok-copy_of.ensures in
-    let locked = looks_on c.meta-known.ensures.looks c.check_locks.ensures.looks in
-    let placed = looks_on locked c.check_place.ensures.looks in
+    let found : known ≡ known_at s.map p = c.meta-known.ensures.found ∙ ap (λ p. known_at s.map (segments p.bytes)) c.in_ok-copy_of.ensures in
+    let at : is_some c.meta-known.result ≡ is_some (at_path s.map p) =
+    known_there meta_of (λ (r : Resource). meta_at r.node) c.meta-known.result (at_path s.map p) found in
+    let looks = looks_on (looks_on (looks_on c.meta-known.ensures.looks c.check_locks.ensures.looks) c.check_place.ensures.looks) c.check_conditions.ensures.looks in
     let e = refusal_of c.in-Err.refusal in
-    let at : is_some c.meta-known.result ≡ is_some (at_path s.map (segments c.args.path.bytes)) =
-    known_there meta_of (λ (r : Resource). meta_at r.node) c.meta-known.result (at_path s.map (segments c.args.path.bytes)) found in
-    subst (FailsToPut s who (segments c.args.path.bytes) c.args.bytes c.args.headers.now) (sym (c.refused.ensures ∙ ap (λ b. put_fault b e) at))
-    (put_refused who s (spec.state g.R.Rng.stream c.change.new.self) (segments c.args.path.bytes) c.args.bytes c.args.headers.now e
-    (after_look who (spec.caller c.check_place.new.session) s (spec.state g.R.Rng.stream c.check_place.new.session) (spec.state g.R.Rng.stream c.change.new.self)
-    (Command.Put (segments c.args.path.bytes) c.args.bytes) (Err e)
-    placed.who placed.live c.in-Err.ensures.step))
+    subst (FailsToPut s who p c.args.bytes c.args.headers.now) (sym (c.refused.ensures ∙ ap (λ b. put_fault b e) at))
+    (inl (put_refused who s (spec.state g.R.Rng.stream c.change.new.self) p c.args.bytes e
+    (after_look who (spec.caller c.check_conditions.new.session) s (spec.state g.R.Rng.stream c.check_conditions.new.session) (spec.state g.R.Rng.stream c.change.new.self)
+    (Command.Put p c.args.bytes) (Err e) looks.who looks.live c.in-Err.ensures.step)))
+
+pub returns-in-Ok-clause-acts : goal.returns-in-Ok-clause-acts
+returns-in-Ok-clause-acts g c =
+    acts_behind (looks_on c.meta-known.ensures.looks c.check_locks.ensures.looks) c.check_place.ensures.looks c.check_conditions.ensures.looks c.change.ensures.acts
+
+pub returns-clause-acts : goal.returns-clause-acts
+returns-clause-acts g c =
+    acts_behind (looks_on c.meta-known.ensures.looks c.check_locks.ensures.looks) c.check_place.ensures.looks c.check_conditions.ensures.looks c.change.ensures.acts

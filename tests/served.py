@@ -10,6 +10,10 @@ from programs import memory_of
 # The clock stands at 0, and no frame moves it.
 WORDS = ["--seed", "1", "--clock", "frames"]
 
+# So each answer of the server has this date.
+EPOCH = b"Thu, 01 Jan 1970 00:00:00 GMT"
+DATED = b"date: %s\r\n" % EPOCH
+
 # As much as bin/listen passes on at once.
 PIECE = 64 * 1024
 
@@ -18,10 +22,10 @@ OTHER = 1
 OTHER_PUT = b"PUT /other HTTP/1.1\r\nHost: h\r\nContent-Length: 10\r\n\r\nstill here"
 OTHER_GET = b"GET /other HTTP/1.1\r\nHost: h\r\n\r\n"
 OTHER_ANSWERS = (
-    b'HTTP/1.1 201 Created\r\netag: "1-10"\r\ncontent-length: 0\r\n\r\n'
-    b'HTTP/1.1 200 OK\r\netag: "1-10"\r\nlast-modified: Thu, 01 Jan 1970 00:00:00 GMT\r\ncontent-type: application/octet-stream\r\n'
+    b'HTTP/1.1 201 Created\r\n%setag: "1-10"\r\ncontent-length: 0\r\n\r\n'
+    b'HTTP/1.1 200 OK\r\n%setag: "1-10"\r\nlast-modified: %s\r\ncontent-type: application/octet-stream\r\n'
     b"accept-ranges: bytes\r\ncontent-length: 10\r\n\r\nstill here"
-)
+) % (DATED, DATED, EPOCH)
 
 
 class Exactly:

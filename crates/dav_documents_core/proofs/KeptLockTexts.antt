@@ -18,7 +18,7 @@ use Rattle.dav_locks_core.specs.Locks.{covering_at, covering_from, covers, disco
 use Rattle.dav_locks_core.specs.Stale.{has_come, is_stale, without_stale}
 use Rattle.dav_documents_core.specs.KeptElements.{AreKept, IsKeptLock, IsKeptProperty}
 use Rattle.dav_documents_core.specs.PropertyUpdates.{Update}
-use Rattle.dav_documents_core.proofs.KeptReadingLaws.{IsKeptAsSent}
+use Rattle.dav_documents_core.proofs.KeptReadingLaws.{IsKeptUpdate}
 use Rattle.dav_documents_core.proofs.NamedLemmas.{passes_all}
 
 -- ---- locks
@@ -89,9 +89,9 @@ insert_kept props key p h is other q found = elim (inserted key_total key_exact 
 remove_kept : (props : Properties) (key : List ℕ × List ℕ) → AreKept props → AreKept (maps.remove props key)
 remove_kept props key h other q found = h other q (removed key_total key_exact props key other q found).1
 
-pub patched_kept : (props : Properties) (updates : List Update) → AreKept props → AllByRecursion IsKeptAsSent updates → AreKept (patched_properties props updates)
+pub patched_kept : (props : Properties) (updates : List Update) → AreKept props → AllByRecursion IsKeptUpdate updates → AreKept (patched_properties props updates)
 patched_kept props [] h is = h
-patched_kept props ((true, p) ∷ updates) h is = patched_kept (patched_by props (true, p)) updates (insert_kept props (key_of p) p h is.0.0) is.1
+patched_kept props ((true, p) ∷ updates) h is = patched_kept (patched_by props (true, p)) updates (insert_kept props (key_of p) p h is.0) is.1
 patched_kept props ((false, p) ∷ updates) h is = patched_kept (patched_by props (false, p)) updates (remove_kept props (key_of p) h) is.1
 
 pub no_props : AreKept empty

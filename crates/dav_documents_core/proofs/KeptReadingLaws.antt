@@ -1,4 +1,4 @@
--- What is kept of a property could have been read, so it is read as the element that was sent.
+-- What is kept of a property could have been read.
 use Rattle.std.proofs.Common.{◌≡◌, refl, sym, ap, subst, ◌∙◌, ℕ, ◌+◌, ◌^◌, ◌<◌, arith, Bool, true, false, cond, ◌&&◌, ◌||◌, not, List, [], ◌∷◌, ◌++◌, length, map, Option, None, Some, codes, append_assoc, is_some}
 use lib.Utf8.{encode}
 use Rattle.std.specs.Prelude.{bytes_eq, encode_utf8_all, nat_lt}
@@ -15,15 +15,13 @@ use Rattle.dav_xml_core.specs.Namespaces.{are_distinct, distinct_behind, same_na
 use Rattle.dav_xml_core.specs.Readable.{attribute_bytes, is_attribute, is_name, is_start, name_bytes, names_bytes}
 use Rattle.dav_xml_core.specs.ReadableDocuments.{CouldBeRead, are_apart, has_room, is_node, is_readable, node_bytes}
 use Rattle.dav_xml_core.specs.Reading.{document_of}
-use Rattle.dav_xml_core.specs.Writing.{written_alone}
 use Rattle.dav_xml_core.specs.Optional.{◌>>=◌, choose, when}
 use Rattle.dav_xml_core.specs.Scanning.{is_nil}
 use Rattle.dav_xml_core.proofs.ElementLemmas.{bind_some, when_some}
-use Rattle.dav_xml_core.proofs.NodesLemmas.{alone_again}
 use Rattle.dav_xml_core.proofs.ReadNodesLemmas.{read_could, read_room}
 use Rattle.dav_documents_core.specs.Elements.{at_most_one, children, name_of_element, is_dav, elements_named, the_one}
 use Rattle.dav_documents_core.specs.KeptElements.{IsElementIn, IsElementName, IsKeptProperty}
-use Rattle.dav_documents_core.specs.KeptReading.{IsLang, IsReadAsSent, IsText, WasRead}
+use Rattle.dav_documents_core.specs.KeptReading.{IsLang, IsText, WasRead}
 use Rattle.dav_documents_core.specs.PropertyUpdates.{Update, first_lang, instructed_updates, is_lang, kept_property, lang_attribute, lang_in, own_lang, sets, told_lang, update_of, updates_by, updates_in, updates_of, with_lang}
 use Rattle.dav_documents_core.proofs.NamedLemmas.{only_holds}
 use Rattle.dav_documents_core.proofs.ReadChildLemmas.{children_read}
@@ -177,7 +175,7 @@ own_text_of (Start name attributes ∷ nodes) h =
 pub own_text : (element : List Node) → CouldBeRead element → IsLang (own_lang element)
 own_text element h = subst (λ (nodes : List Node). IsLang (own_lang nodes)) (sym h.bytes) (own_text_of h.characters h.readable)
 
-text_in : (around : Option (List ℕ)) (element : List Node) → IsLang around → CouldBeRead element → IsLang (lang_in around element)
+pub text_in : (around : Option (List ℕ)) (element : List Node) → IsLang around → CouldBeRead element → IsLang (lang_in around element)
 text_in around element text h = by (own_lang element) (own_text element h)
   where
     by : (own : Option (List ℕ)) → IsLang own → IsLang (choose own (λ lang. Some lang) around)
@@ -186,13 +184,13 @@ text_in around element text h = by (own_lang element) (own_text element h)
 
 -- ---- each update of a body
 
--- its name is that of an element, and what is kept of it is read
-abbrev pub IsKeptAsSent : Update → Type 0
-IsKeptAsSent update = IsKeptProperty update.1 × IsReadAsSent update
+-- its name is that of an element, and what is kept of it was one
+abbrev pub IsKeptUpdate : Update → Type 0
+IsKeptUpdate update = IsKeptProperty update.1
 
-sent_behind : (xs ys : List Update) → AllByRecursion IsKeptAsSent xs → AllByRecursion IsKeptAsSent ys → AllByRecursion IsKeptAsSent (xs ++ ys)
-sent_behind [] ys h k = k
-sent_behind (x ∷ xs) ys h k = (h.0, sent_behind xs ys h.1 k)
+kept_behind : (xs ys : List Update) → AllByRecursion IsKeptUpdate xs → AllByRecursion IsKeptUpdate ys → AllByRecursion IsKeptUpdate (xs ++ ys)
+kept_behind [] ys h k = k
+kept_behind (x ∷ xs) ys h k = (h.0, kept_behind xs ys h.1 k)
 
 named_chars : (characters : List Node) (name : Name) → is_readable characters ≡ true → name_of_element (map node_bytes characters) ≡ Some name → IsElementName name
 named_chars [] name h is = absurd (cc)
@@ -215,88 +213,66 @@ element_kept : (set : Bool) (lang : Option (List ℕ)) (name : Name) (element : 
 element_kept true lang name element text h = record { nodes = with_lang lang element; could = kept_could lang element text h; written = refl }
 element_kept false lang name element text h = tt
 
-one_read : (set : Bool) (lang : Option (List ℕ)) (name : Name) (element : List Node) → name_of_element element ≡ Some name → IsLang lang → WasRead element
-    → IsReadAsSent (set, kept_property set lang name element)
-one_read true lang name element named text h = λ xml is.
-    let same : written_alone (with_lang lang element) ≡ xml = cc in
-    let could = kept_could lang element text h in
-    record {
-      lang = lang;
-      element = element;
-      named = named;
-      written = sym same;
-      could = could;
-      is_read = ap document_of (sym same) ∙ alone_again (with_lang lang element) could;
-    }
-one_read false lang name element named text h = λ xml is. absurd (cc)
+one_kept : (set : Bool) (lang : Option (List ℕ)) (name : Name) (element : List Node) → name_of_element element ≡ Some name → IsLang lang → WasRead element
+    → IsKeptUpdate (set, kept_property set lang name element)
+one_kept set lang name element named text h =
+    (name_could element name h.could named, element_kept set lang name element text h)
 
-one_sent : (set : Bool) (lang : Option (List ℕ)) (name : Name) (element : List Node) → name_of_element element ≡ Some name → IsLang lang → WasRead element
-    → IsKeptAsSent (set, kept_property set lang name element)
-one_sent set lang name element named text h =
-    ((name_could element name h.could named, element_kept set lang name element text h), one_read set lang name element named text h)
-
-update_sent : (set : Bool) (lang : Option (List ℕ)) (element : List Node) → IsLang lang → WasRead element → AllByRecursion IsKeptAsSent (update_of set lang element)
-update_sent set lang element text h = by (name_of_element element) refl
+update_kept : (set : Bool) (lang : Option (List ℕ)) (element : List Node) → IsLang lang → WasRead element → AllByRecursion IsKeptUpdate (update_of set lang element)
+update_kept set lang element text h = by (name_of_element element) refl
   where
-    by : (o : Option Name) → name_of_element element ≡ o → AllByRecursion IsKeptAsSent (choose o (λ name. (set, kept_property set lang name element) ∷ []) [])
-    by (Some name) is = (one_sent set lang name element is text h, tt)
+    by : (o : Option Name) → name_of_element element ≡ o → AllByRecursion IsKeptUpdate (choose o (λ name. (set, kept_property set lang name element) ∷ []) [])
+    by (Some name) is = (one_kept set lang name element is text h, tt)
     by None is = tt
 
-updates_sent : (set : Bool) (lang : Option (List ℕ)) (elements : List (List Node)) → IsLang lang → AllByRecursion WasRead elements
-    → AllByRecursion IsKeptAsSent (flat_map (update_of set lang) elements)
-updates_sent set lang [] text h = tt
-updates_sent set lang (element ∷ elements) text h =
-    sent_behind (update_of set lang element) (flat_map (update_of set lang) elements) (update_sent set lang element text h.0) (updates_sent set lang elements text h.1)
+updates_kept : (set : Bool) (lang : Option (List ℕ)) (elements : List (List Node)) → IsLang lang → AllByRecursion WasRead elements
+    → AllByRecursion IsKeptUpdate (flat_map (update_of set lang) elements)
+updates_kept set lang [] text h = tt
+updates_kept set lang (element ∷ elements) text h =
+    kept_behind (update_of set lang element) (flat_map (update_of set lang) elements) (update_kept set lang element text h.0) (updates_kept set lang elements text h.1)
 
 the_one_is : {A : Type 0} (xs : List A) (x : A) → the_one xs ≡ Some x → at_most_one xs ≡ Some (Some x)
 the_one_is [] x h = absurd (cc)
 the_one_is (y ∷ []) x h = ap Some h
 the_one_is (y ∷ z ∷ xs) x h = absurd (cc)
 
-instructed_sent : (lang : Option (List ℕ)) (instruction : List Node) (updates : List Update) → IsLang lang → WasRead instruction
-    → instructed_updates lang instruction ≡ Some updates → AllByRecursion IsKeptAsSent updates
+instructed_kept : (lang : Option (List ℕ)) (instruction : List Node) (updates : List Update) → IsLang lang → WasRead instruction
+    → instructed_updates lang instruction ≡ Some updates → AllByRecursion IsKeptUpdate updates
 unfolding instructed_updates
-instructed_sent lang instruction updates text h is = by (sets instruction) is
+instructed_kept lang instruction updates text h is = by (sets instruction) is
   where
     at : (set : Bool) (o : Option (List Node)) → the_one (elements_named (codes "prop") (children instruction)) ≡ o
-        → (o >>= λ prop. Some (flat_map (update_of set (lang_in (lang_in lang instruction) prop)) (children prop))) ≡ Some updates → AllByRecursion IsKeptAsSent updates
+        → (o >>= λ prop. Some (flat_map (update_of set (lang_in (lang_in lang instruction) prop)) (children prop))) ≡ Some updates → AllByRecursion IsKeptUpdate updates
     at set None found is = absurd (cc)
     at set (Some prop) found is =
         let prop_could = only_holds WasRead (is_dav (codes "prop")) (children instruction) prop (the_one_is (elements_named (codes "prop") (children instruction)) prop found)
         (children_read instruction h) in
         let around = text_in (lang_in lang instruction) prop (text_in lang instruction text h.could) prop_could.could in
         let same : flat_map (update_of set (lang_in (lang_in lang instruction) prop)) (children prop) ≡ updates = cc in
-        subst (λ (us : List Update). AllByRecursion IsKeptAsSent us) same
-        (updates_sent set (lang_in (lang_in lang instruction) prop) (children prop) around (children_read prop prop_could))
+        subst (λ (us : List Update). AllByRecursion IsKeptUpdate us) same
+        (updates_kept set (lang_in (lang_in lang instruction) prop) (children prop) around (children_read prop prop_could))
 
     by : (o : Option Bool) → choose o
         (λ set. the_one (elements_named (codes "prop") (children instruction)) >>= λ prop. Some (flat_map (update_of set (lang_in (lang_in lang instruction) prop)) (children prop)))
-        (Some []) ≡ Some updates → AllByRecursion IsKeptAsSent updates
+        (Some []) ≡ Some updates → AllByRecursion IsKeptUpdate updates
     by (Some set) is = at set (the_one (elements_named (codes "prop") (children instruction))) refl is
-    by None is = let same : [] ≡ updates = cc in subst (λ (us : List Update). AllByRecursion IsKeptAsSent us) same tt
+    by None is = let same : [] ≡ updates = cc in subst (λ (us : List Update). AllByRecursion IsKeptUpdate us) same tt
 
-all_sent : (lang : Option (List ℕ)) (instructions : List (List Node)) (updates : List Update) → IsLang lang → AllByRecursion WasRead instructions
-    → updates_by lang instructions ≡ Some updates → AllByRecursion IsKeptAsSent updates
-all_sent lang [] updates text h is = let same : [] ≡ updates = cc in subst (λ (us : List Update). AllByRecursion IsKeptAsSent us) same tt
-all_sent lang (instruction ∷ instructions) updates text h is =
+all_kept : (lang : Option (List ℕ)) (instructions : List (List Node)) (updates : List Update) → IsLang lang → AllByRecursion WasRead instructions
+    → updates_by lang instructions ≡ Some updates → AllByRecursion IsKeptUpdate updates
+all_kept lang [] updates text h is = let same : [] ≡ updates = cc in subst (λ (us : List Update). AllByRecursion IsKeptUpdate us) same tt
+all_kept lang (instruction ∷ instructions) updates text h is =
     let first = bind_some (instructed_updates lang instruction) (λ first. updates_by lang instructions >>= λ others. Some (first ++ others)) updates is in
     let others = bind_some (updates_by lang instructions) (λ others. Some (first.0 ++ others)) updates first.2 in
     let same : first.0 ++ others.0 ≡ updates = same_Some (first.0 ++ others.0) updates others.2 in
-    subst (λ (us : List Update). AllByRecursion IsKeptAsSent us) same
-    (sent_behind first.0 others.0 (instructed_sent lang instruction first.0 text h.0 first.1) (all_sent lang instructions others.0 text h.1 others.1))
+    subst (λ (us : List Update). AllByRecursion IsKeptUpdate us) same
+    (kept_behind first.0 others.0 (instructed_kept lang instruction first.0 text h.0 first.1) (all_kept lang instructions others.0 text h.1 others.1))
 
 -- each update of a body
-pub updates_are_kept : (body : List ℕ) (updates : List Update) → length body < 2 ^ 64 → updates_in body ≡ Some updates → AllByRecursion IsKeptAsSent updates
+pub updates_are_kept : (body : List ℕ) (updates : List Update) → length body < 2 ^ 64 → updates_in body ≡ Some updates → AllByRecursion IsKeptUpdate updates
 updates_are_kept body updates fits is =
     let document = bind_some (document_of body) updates_of updates is in
     let could : WasRead document.0 = record { could = read_could body document.0 fits document.1; room = read_room body document.0 fits document.1 } in
     let inside = bind_some (when (is_dav (codes "propertyupdate") document.0) (children document.0)) (updates_by (own_lang document.0)) updates document.2 in
     let instructions = (when_some (is_dav (codes "propertyupdate") document.0) (children document.0) inside.0 inside.1).1 in
-    all_sent (own_lang document.0) inside.0 updates (own_text document.0 could.could) (subst (λ (es : List (List Node)). AllByRecursion WasRead es) instructions (children_read document.0 could)) inside.2
-
-all_read : (updates : List Update) → AllByRecursion IsKeptAsSent updates → AllByRecursion IsReadAsSent updates
-all_read [] h = tt
-all_read (update ∷ updates) h = (h.0.1, all_read updates h.1)
-
-pub updates_are_read : (body : List ℕ) (updates : List Update) → length body < 2 ^ 64 → updates_in body ≡ Some updates → AllByRecursion IsReadAsSent updates
-updates_are_read body updates fits is = all_read updates (updates_are_kept body updates fits is)
+    all_kept (own_lang document.0) inside.0 updates (own_text document.0 could.could) (subst (λ (es : List (List Node)). AllByRecursion WasRead es) instructions (children_read document.0 could)) inside.2

@@ -1,5 +1,6 @@
 pub mod Bodies
 pub mod DescriptionViews
+pub mod ElementPlaces
 pub mod Elements
 pub mod KeptElements
 pub mod KeptReading
@@ -16,3 +17,5 @@ pub mod PropertyUpdates
 pub mod QuestionViews
 pub mod RefusalBodies
 pub mod RefusalReading
+pub mod SentOwners
+pub mod SentUpdates

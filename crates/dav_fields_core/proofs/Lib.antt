@@ -1,5 +1,6 @@
 pub mod BaseLemmas
 pub mod Collecting
+pub mod DateTextLemmas
 pub mod DestinationLemmas
 pub mod DistinctTokens
 pub mod FieldLemmas

@@ -1,4 +1,4 @@
--- What is known of the entry at a path, and what a range and a reading tell of it.
+-- What is known of the entry at a path, and what a reading tells of it.
 use Rattle.std.proofs.Common.{◌≡◌, ℕ, List, [], ◌∷◌, length, take, drop, Option, Some, None, Result, Ok, Err, refl, sym, ◌∙◌, ap, arith}
 use Rattle.std.specs.Prelude.{option_map, OnOk}
 use Rattle.std.proofs.lemmas.List.{take_all}
@@ -7,9 +7,7 @@ use Rattle.dav_path_core.proofs.lists.FinMaps.{one_some}
 use Rattle.dav_files_core.specs.declared.memfs.Kind.TheVariants.{File}
 use Rattle.dav_files_core.specs.Meta.{Meta, meta_at}
 use Rattle.dav_files_core.specs.Resources.{Resource, ResourceMap, at_path}
-use Rattle.dav_fields_core.specs.Fields.{Marks}
-use Rattle.dav_fields_core.specs.Marking.{IsRead, and_part}
-use Rattle.dav_fields_core.specs.Ranges.{unsatisfied_text}
+use Rattle.dav_fields_core.specs.Marking.{IsRead}
 
 -- ---- what is known of the entry there
 
@@ -27,16 +25,6 @@ known_entry m p known h = known_as (at_path m p) known h
 pub nothing_known : (o : Option Resource) → None ≡ option_map (λ r. meta_at r.node) o → o ≡ None
 nothing_known (Some r) h = absurd (cc)
 nothing_known None h = refl
-
--- ---- marks
-
-abbrev pub blank : Marks
-blank = record { tags = []; parts = [] }
-
-pub unsatisfied_told : (r : Resource) (known : Meta) (old new : Marks) → old ≡ blank → new ≡ and_part (unsatisfied_text known.length) old → known ≡ meta_at r.node
-    → new ≡ record { tags = []; parts = unsatisfied_text (length r.node.bytes) ∷ [] }
-unsatisfied_told r known old new none more same =
-    more ∙ ap (and_part (unsatisfied_text known.length)) none ∙ ap (λ (k : Meta). and_part (unsatisfied_text k.length) blank) same
 
 -- ---- bytes
 

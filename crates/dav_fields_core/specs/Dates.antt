@@ -7,8 +7,10 @@ use Rattle.jiff_core.specs.DateTime.{civil_nanos}
 use Rattle.jiff_fmt.specs.Text.{datetime_text, zulu_text}
 
 -- as HTTP writes a second since 1970 (RFC 9110 section 5.6.7)
-abbrev pub IsHttpDate : ℕ → List ℕ → Type 0
-IsHttpDate seconds text = (date : HttpDate) × (unix_secs date ≡ seconds) × (text ≡ date_text date)
+pub record IsHttpDate (seconds : ℕ) (text : List ℕ) : Type 0 where
+  pub date : HttpDate
+  pub second : unix_secs date ≡ seconds
+  pub shown : text ≡ date_text date
 
 -- as RFC 3339 does, in UTC
 abbrev pub IsInternetDate : ℕ → List ℕ → Type 0

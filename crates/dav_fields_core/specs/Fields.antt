@@ -1,5 +1,5 @@
--- What clients go by in an answer: its entity tag, which part it has, the token of a lock, its type, and its body (RFC 9110 sections 8.3, 8.8.3 and 14.4, RFC 4918 section 10.5).
-use Rattle.std.specs.Prelude.{ℕ, List, ◌++◌, map, filter, bytes_eq, codes}
+-- What is sent beside a status: header fields, in order, and a body (RFC 9110 sections 5 and 6.4).
+use Rattle.std.specs.Prelude.{◌≡◌, ℕ, List, [], ◌++◌, map, filter, bytes_eq, codes}
 use Rattle.http_server.specs.Response.{fields_of}
 use Rattle.http_server.specs.declared.response.Response.{Response}
 
@@ -7,36 +7,47 @@ use Rattle.http_server.specs.declared.response.Response.{Response}
 abbrev pub Field : Type 0
 Field = List ℕ × List ℕ
 
+pub record Sent : Type 0 where
+  pub fields : List Field
+  pub body : List ℕ
+
+abbrev pub sent_of : Response → Sent
+sent_of response = record { fields = fields_of response; body = response.body.items }
+
+-- neither a field nor a body
+abbrev pub nothing_sent : Sent
+nothing_sent = record { fields = []; body = [] }
+
+-- these fields, and behind them what is sent
+abbrev pub sent_behind : List Field → Sent → Sent
+sent_behind first sent = record { fields = first ++ sent.fields; body = sent.body }
+
+-- A response without a body gets these fields, behind its own, and this body; and of them this holds.
+abbrev pub SendsMore : Response → Response → (Sent → Type 0) → Type 0
+SendsMore old new Says = (sent : Sent) × (sent_of new ≡ sent_behind (fields_of old) sent) × Says sent
+
+-- ---- the values that clients go by
+
 -- the values of the fields with a name, in order
 abbrev pub values_in : List Field → List ℕ → List (List ℕ)
 values_in fields name = map (λ h. h.1) (filter (λ h. bytes_eq h.0 name) fields)
 
--- the values of `ETag` and of `Content-Range`
-pub record Marks : Type 0 where
-  pub tags : List (List ℕ)
-  pub parts : List (List ℕ)
+-- the entity tags (RFC 9110 section 8.8.3)
+abbrev pub sent_tags : List Field → List (List ℕ)
+sent_tags fields = values_in fields (codes "etag")
 
-abbrev pub marks_in : List Field → Marks
-marks_in fields = record { tags = values_in fields (codes "etag"); parts = values_in fields (codes "content-range") }
+-- which part of a file the body is (RFC 9110 section 14.4)
+abbrev pub sent_parts : List Field → List (List ℕ)
+sent_parts fields = values_in fields (codes "content-range")
 
-abbrev pub marks_of : Response → Marks
-marks_of response = marks_in (fields_of response)
+-- the tokens of locks (RFC 4918 section 10.5)
+abbrev pub sent_tokens : List Field → List (List ℕ)
+sent_tokens fields = values_in fields (codes "lock-token")
 
--- these, the values of `Lock-Token` and of `Content-Type`, and the body
-pub record Sent : Type 0 where
-  pub marks : Marks
-  pub tokens : List (List ℕ)
-  pub types : List (List ℕ)
-  pub body : List ℕ
+-- the types of the body (RFC 9110 section 8.3)
+abbrev pub sent_types : List Field → List (List ℕ)
+sent_types fields = values_in fields (codes "content-type")
 
-abbrev pub sent_of : Response → Sent
-sent_of response = record {
-  marks = marks_of response;
-  tokens = values_in (fields_of response) (codes "lock-token");
-  types = values_in (fields_of response) (codes "content-type");
-  body = response.body.items;
-}
-
--- a token as `Lock-Token` has it (RFC 4918 section 10.5)
+-- a token as `Lock-Token` has it
 abbrev pub in_brackets : List ℕ → List ℕ
 in_brackets token = codes "<" ++ (token ++ codes ">")

@@ -1,3 +1,4 @@
+pub mod AnswerFields
 pub mod Bases
 pub mod BehindWords
 pub mod ContentTypes

@@ -1,5 +1,5 @@
--- How the marks of an answer grow, and what is read for its body.
-use Rattle.std.specs.Prelude.{◌≡◌, ℕ, List, [], ◌∷◌, ◌++◌, Some, take, drop}
+-- Which tag a field can hold, and what is read for the body of an answer.
+use Rattle.std.specs.Prelude.{◌≡◌, ℕ, List, Some, take, drop}
 use Rattle.dav_path_core.specs.Fronts.{Path}
 use Rattle.dav_files_core.specs.declared.memfs.Kind.{Kind}
 use Rattle.dav_files_core.specs.declared.memfs.Kind.TheVariants as kind
@@ -7,13 +7,6 @@ use Rattle.dav_files_core.specs.Resources.{Resource, ResourceMap, at_path}
 use Rattle.http_header.specs.FieldValue.{IsFieldValue}
 use Rattle.dav_fields_core.specs.declared.etags.Standing.{Standing}
 use Rattle.dav_fields_core.specs.declared.etags.Standing.TheVariants.{File}
-use Rattle.dav_fields_core.specs.Fields.{Marks}
-
-abbrev pub and_tags : List (List ℕ) → Marks → Marks
-and_tags tags marks = record { tags = marks.tags ++ tags; parts = marks.parts }
-
-abbrev pub and_part : List ℕ → Marks → Marks
-and_part part marks = record { tags = marks.tags; parts = marks.parts ++ part ∷ [] }
 
 -- a field can hold its tag
 abbrev pub HasShownTag : Standing → Type 0

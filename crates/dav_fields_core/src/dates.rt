@@ -1,5 +1,6 @@
 //! Dates of moments, as texts.
 ghost use Rattle.std.specs.Prelude.{◌≡◌, ◌*◌, ◌/◌, pos, string_bytes, IfOk};
+ghost use Rattle.http_header.specs.FieldValue.{IsFieldValue};
 ghost use Rattle.httpdate.specs.Date.{unix_secs};
 ghost use Rattle.dav_fields_core.specs.Dates.{IsHttpDate, IsInternetDate};
 
@@ -14,6 +15,14 @@ pub fn http_date(alloc: Global, moment: Moment) -> Result<String, AllocError>
     ensures { IfOk result (λ text. IsHttpDate (moment.0 / 1_000_000_000) (string_bytes text)) }
 {
     fmt_http_date(alloc, date_of(moment))
+}
+
+/// The same, as bytes that a field can hold.
+pub fn date_bytes(moment: Moment) -> [u8; 29]
+    ensures date { IsHttpDate (moment.0 / 1_000_000_000) result }
+    ensures held { IsFieldValue result }
+{
+    date_of(moment).to_bytes()
 }
 
 /// The second of a moment as RFC 3339 writes it, in UTC.

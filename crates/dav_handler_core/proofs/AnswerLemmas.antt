@@ -28,9 +28,8 @@ use Rattle.dav_handler_core.specs.MethodAnswers.Unread.{memory, target, principa
 use Rattle.dav_session_core.specs.Callers.{Asks, Caller, RunBy, Runs, asking, live}
 use Rattle.dav_fields_core.specs.Fields.{Sent}
 use Rattle.dav_fields_core.specs.FileTags.{file_tag}
-use Rattle.dav_methods_core.specs.FolderPages.{IsPaged}
 use Rattle.dav_methods_core.specs.GetMethod.{FailsToGet, Gets}
-use Rattle.dav_fields_core.specs.Getting.{tag_marks}
+use Rattle.dav_fields_core.specs.AnswerFields.{tag_field}
 use Rattle.dav_session_core.specs.LocksInTheWay.{IsPathOfOne}
 use Rattle.dav_handler_core.specs.Private.Begun.{IsHeld, IsOverladen}
 use Rattle.dav_methods_core.specs.ChangeConditions.{change_course}
@@ -44,16 +43,16 @@ use Rattle.dav_session_core.proofs.CallerLaws.{asks_of, runs_by, runs_exclusive,
 -- ---- a request that asks for nothing
 
 module _ (options : Options) (request : Request (List ℕ)) (last : ℕ) (changes : Bool) (e : Fault) where
-  short : e ≡ fault.InsufficientStorage → Unread options request last changes e
-  short h = subst (λ (x : Fault). Unread options request last changes x) (sym h) memory
+  pub by_memory : e ≡ fault.InsufficientStorage → Unread options request last changes e
+  by_memory h = subst (λ (x : Fault). Unread options request last changes x) (sym h) memory
 
   pub by_target : (e ≡ fault.InsufficientStorage) ⊎ RefusesTarget options.prefix (head_of request).uri e → Unread options request last changes e
-  by_target (inl h) = short h
+  by_target (inl h) = by_memory h
   by_target (inr h) = target e h
 
   pub by_principal : (path : PathText) → Names options request path
       → (e ≡ fault.InsufficientStorage) ⊎ RefusesPrincipal options.user_header (head_of request).headers e → Unread options request last changes e
-  by_principal path names (inl h) = short h
+  by_principal path names (inl h) = by_memory h
   by_principal path names (inr h) = principal e path names h
 
   pub by_tokens : (path : PathText) (named : Option (List ℕ)) → Names options request path
@@ -61,7 +60,7 @@ module _ (options : Options) (request : Request (List ℕ)) (last : ℕ) (change
       → (e ≡ fault.InsufficientStorage)
       ⊎ ((e ≡ fault.BadRequest) × HasBadIf (site_for options request) (head_of request).headers)
       → Unread options request last changes e
-  by_tokens path named names sender (inl h) = short h
+  by_tokens path named names sender (inl h) = by_memory h
   by_tokens path named names sender (inr h) =
       subst (λ (x : Fault). Unread options request last changes x) (sym h.0) (tokens path named names sender h.1)
 
@@ -135,6 +134,12 @@ pub held_off : (before after : Server) (request : Request (List ℕ)) (e : Fault
     → Fails before request after e Refuses
 held_off before after request e Refuses h = record { path = h.0; who = h.1.0; begins = h.1.1; why = inl h.1.2 }
 
+-- one that wasn't begun, or was held off
+pub unread_or_held : (changes : Bool) (before after : Server) (request : Request (List ℕ)) (e : Fault) (Refuses : Path → Caller → Type 0)
+    → Unread before.options request before.last changes e ⊎ IsHeld before request after e → Unread before.options request before.last changes e ⊎ Fails before request after e Refuses
+unread_or_held changes before after request e Refuses (inl h) = inl h
+unread_or_held changes before after request e Refuses (inr h) = inr (held_off before after request e Refuses h)
+
 -- what a method finds is what the request finds
 pub found_as : (before mid after : Server) (who : Caller) (s : State) → after.last ≡ mid.last → who.now ≡ mid.last → live mid.last s ≡ live mid.last before.state
     → live who.now s ≡ as_found before after
@@ -157,17 +162,16 @@ module _ (before mid after : Server) (request : Request (List ℕ)) (path : Path
   Headers = (head_of request).headers
 
   pub get_answered : (m : DavMethod) (map : ResourceMap) (result : Result ℕ Fault) (sent : Sent) → map ≡ before.state.map
-      → IfOk result (λ status. Gets m map (segments path.bytes) Headers status sent) → IfOk result (λ status. IsPaged map path status sent.body) → IfErr result (λ e. FailsToGet m map (segments path.bytes) Headers e)
+      → IfOk result (λ status. Gets m map path Headers status sent) → IfErr result (λ e. FailsToGet m map (segments path.bytes) Headers e)
       → GetAnswers m before request result sent after
-  get_answered m map (Ok status) sent there done page err = record {
+  get_answered m map (Ok status) sent there done err = record {
     path = path;
     who = who;
     begins = begins_on before mid after request path who same begins;
     admits = admits_on before mid after request path same admits;
-    gets = subst (λ m'. Gets m m' (segments path.bytes) Headers status sent) there done;
-    page = subst (λ m. IsPaged m path status sent.body) there page;
+    gets = subst (λ m'. Gets m m' path Headers status sent) there done;
   }
-  get_answered m map (Err e) sent there done page err =
+  get_answered m map (Err e) sent there done err =
       inr (refused_by e (λ p who. FailsToGet m before.state.map p Headers e) (subst (λ m'. FailsToGet m m' (segments path.bytes) Headers e) there err))
 
 -- ---- PUT
@@ -189,7 +193,7 @@ put_unread before after request e sent whole (inr h) =
 -- a PUT whose body isn't shared
 pub put_short : (before after : Server) (request : Request (List ℕ)) (e : Fault) (sent : Sent) → IsWhole request → e ≡ fault.InsufficientStorage
     → PutAnswers before request (Err e) sent after
-put_short before after request e sent whole h = inr (whole, inl (short before.options request before.last true e h))
+put_short before after request e sent whole h = inr (whole, inl (by_memory before.options request before.last true e h))
 
 way : (s t : State) (who : Caller) (p : Path) (bytes : List ℕ) → live who.now s ≡ live who.now t → locks_against_putting s who p bytes ≡ locks_against_putting t who p bytes
 way s t who p bytes same = ap (λ (x : State). conflicts x (asking who (Command.Put p bytes))) same
@@ -213,6 +217,10 @@ fails_alike s t who p bytes headers e map locks (inr h) = inr (
   ap (λ m. change_course method.Put m p headers) (sym map) ∙ h.1,
 )
 
+-- the tag of a file with these bytes
+abbrev pub tag_sent : ℕ → List ℕ → Sent
+tag_sent modified bytes = record { fields = tag_field (file_tag modified (length bytes)) ∷ []; body = [] }
+
 -- A PUT that was begun, from stores that have what those of the server before have.
 module _ (before mid after : Server) (request : Request (List ℕ)) (path : PathText) (who : Caller) (same : after.last ≡ mid.last)
     (begins : Begins before request mid path who) (admits : Admits before request mid path) (later : before.last < mid.last) (s : State)
@@ -222,8 +230,8 @@ module _ (before mid after : Server) (request : Request (List ℕ)) (path : Path
 
   pub put_done : (status : ℕ) (sent : Sent) → s.map ≡ before.state.map → live mid.last s ≡ live mid.last before.state → change_course method.Put s.map Here (head_of request).headers ≡ Ok tt
       → status ≡ put_status s.map Here → Puts s who.now Here (body_of request) after.state
-      → sent.marks ≡ tag_marks (file_tag who.now (length (body_of request)) ∷ []) → PutAnswers before request (Ok status) sent after
-  put_done status sent there alike course is puts marks =
+      → sent ≡ tag_sent who.now (body_of request) → PutAnswers before request (Ok status) sent after
+  put_done status sent there alike course is puts tells =
       let now : who.now ≡ after.last = begins.now ∙ sym same in
       let put : Puts before.state after.last Here (body_of request) after.state = record {
         file = puts.file;
@@ -246,8 +254,7 @@ module _ (before mid after : Server) (request : Request (List ℕ)) (path : Path
           course = subst (λ m. change_course method.Put m Here (head_of request).headers ≡ Ok tt) there course;
           status_is = is ∙ ap (λ m. put_status m Here) there;
           puts = put;
-          marks = marks ∙ ap (λ n. tag_marks (file_tag n (length (body_of request)) ∷ [])) (sym puts.modified)
-              ∙ ap (λ bytes. tag_marks (file_tag puts.file.node.modified (length bytes) ∷ [])) (sym puts.bytes_are);
+          tells = tells ∙ ap (λ n. tag_sent n (body_of request)) (sym puts.modified) ∙ ap (tag_sent puts.file.node.modified) (sym puts.bytes_are);
         },
       )
 
@@ -263,12 +270,12 @@ module _ (before mid after : Server) (request : Request (List ℕ)) (path : Path
   pub put_answered : (result : Result ℕ Fault) (sent : Sent) (bytes : List ℕ) (headers : Entries FieldValue) → bytes ≡ body_of request → headers ≡ (head_of request).headers
       → s.map ≡ before.state.map → live mid.last s ≡ live mid.last before.state
       → IfOk result (λ code. (code ≡ put_status s.map Here) × Puts s who.now Here bytes after.state) → OnOk result (change_course method.Put s.map Here headers ≡ Ok tt)
-      → OnOk result (sent.marks ≡ tag_marks (file_tag who.now (length bytes) ∷ [])) → IfErr result (λ e. FailsToPut s who Here bytes headers e)
+      → OnOk result (sent ≡ tag_sent who.now bytes) → IfErr result (λ e. FailsToPut s who Here bytes headers e)
       → PutAnswers before request result sent after
-  put_answered (Ok status) sent bytes headers body is there alike done course marks err =
+  put_answered (Ok status) sent bytes headers body is there alike done course tells err =
       put_done status sent there alike (subst (λ h. change_course method.Put s.map Here h ≡ Ok tt) is course) done.0
-      (subst (λ b. Puts s who.now Here b after.state) body done.1) (subst (λ b. sent.marks ≡ tag_marks (file_tag who.now (length b) ∷ [])) body marks)
-  put_answered (Err e) sent bytes headers body is there alike done course marks err =
+      (subst (λ b. Puts s who.now Here b after.state) body done.1) (subst (λ b. sent ≡ tag_sent who.now b) body tells)
+  put_answered (Err e) sent bytes headers body is there alike done course tells err =
       put_refused e sent there (subst (λ n. live n s ≡ live n before.state) (sym begins.now) alike)
       (subst (λ h. FailsToPut s who Here (body_of request) h e) is (subst (λ b. FailsToPut s who Here b headers e) body err))
 
@@ -319,24 +326,7 @@ bare_answered changes Does Refuses before mid after request path who same begins
     change_answered changes (λ s who p status s'. (body_of request ≡ []) × Does s who p status s') (RefusesBody request Refuses) before mid after request path who same
     begins admits later s alike (Err e) done (inr (bare, err))
 
--- ---- refusals
-
--- a refusal's answer doesn't look at what is sent
-pub refused_alike : (m : Option DavMethod) (before after : Server) (request : Request (List ℕ)) (e : Fault) (sent other : Sent)
-    → AnswersTo m before request (Err e) sent after → AnswersTo m before request (Err e) other after
-refused_alike (Some method.Get) before after request e sent other h = h
-refused_alike (Some method.Head) before after request e sent other h = h
-refused_alike (Some method.PropFind) before after request e sent other h = h
-refused_alike (Some method.Put) before after request e sent other h = h
-refused_alike (Some method.Delete) before after request e sent other h = h
-refused_alike (Some method.Copy) before after request e sent other h = h
-refused_alike (Some method.Move) before after request e sent other h = h
-refused_alike (Some method.MkCol) before after request e sent other h = h
-refused_alike (Some method.Unlock) before after request e sent other h = h
-refused_alike (Some method.Lock) before after request e sent other h = h
-refused_alike (Some method.PropPatch) before after request e sent other h = h
-refused_alike (Some method.Options) before after request e sent other h = h
-refused_alike _ before after request e sent other h = h
+-- ---- runs
 
 runs_of_caller : (before after : Server) (request : Request (List ℕ)) (who : Caller)
     → RunBy who before.state after.state ⊎ (EndsOne before request after who ⊎ Locks before after who) → Runs before.state after.state

@@ -166,7 +166,7 @@ module _ (begun s before : Server) (new : IsNew begun) (first : Becomes begun s)
 
     -- a GET or a HEAD that is answered 304
     told_304 : (m : DavMethod) (p : Path) (r : Resource) (status : ℕ) (sent : Sent) (x : Result (Option Extent) Fault) → at_path before.state.map p ≡ Some r
-        → get_outcome_of m before.state.map p r Headers ≡ x → Tells x r status sent → status ≡ 304 → IsToldAs m before.state.map p Headers None
+        → get_outcome_of m before.state.map p r Headers ≡ x → Tells x p r status sent → status ≡ 304 → IsToldAs m before.state.map p Headers None
     told_304 m p r status sent (Err e) here is h told = absurd h
     told_304 m p r status sent (Ok None) here is h told = (r, here, is)
     told_304 m p r status sent (Ok (Some extent.Whole)) here is h told = absurd (omega (arith, h.0, told))

@@ -1,6 +1,6 @@
 -- What decides over a request, told of its answer.
 use Rattle.std.proofs.Common.{◌≡◌, ◌≢◌, ◌⊎◌, inl, inr, ℕ, ◌<◌, ◌≤◌, Bool, true, false, List, [], ◌∷◌, length, take, drop, ◌-◌, Option, None, Some, Result, Ok, Err, refl, sym, ◌∙◌, ap, subst, arith}
-use Rattle.std.specs.Prelude.{IfErr}
+use Rattle.std.specs.Prelude.{IfErr, OnOk}
 use Rattle.std.proofs.lemmas.Bool.{false≢true}
 use Rattle.http.specs.declared.request.Request.{Request}
 use Rattle.http.specs.Request.{head_of, body_of}
@@ -23,7 +23,10 @@ use Rattle.dav_fields_core.specs.declared.preconditions.Course.{Course}
 use Rattle.dav_fields_core.specs.declared.preconditions.Course.TheVariants as course
 use Rattle.dav_fields_core.specs.declared.ranges.Extent.{Extent}
 use Rattle.dav_fields_core.specs.declared.ranges.Extent.TheVariants as extent
-use Rattle.dav_handler_core.specs.Answers.{AnswersTo, Leaves, status_of}
+use Rattle.http_server.specs.declared.response.Response.{Response}
+use Rattle.dav_fields_core.specs.AnswerFields.{first_fields}
+use Rattle.dav_handler_core.proofs.SentAnswerLemmas.{own_sent}
+use Rattle.dav_handler_core.specs.Answers.{Answers, AnswersTo, Leaves, status_of}
 use Rattle.dav_handler_core.specs.MethodAnswers.{Fails, HoldsOff, IsGotten, RefusesBody, Unread, as_found, has_body}
 use Rattle.dav_handler_core.specs.Server.{Options, Server, site_for}
 use Rattle.dav_handler_core.specs.MethodAnswers.Unread.{memory, target, principal, tokens, moment}
@@ -32,7 +35,8 @@ use Rattle.dav_methods_core.specs.CopyMethod.{FailsToCopy}
 use Rattle.dav_handler_core.specs.Deciding.{HeldOff, IsCourseStopped, SaysDone, SendsPart, SendsTag, Stops, WentOn, looks, tells_tag}
 use Rattle.dav_faults_core.specs.Faults.{fault_status}
 use Rattle.dav_handler_core.proofs.AnswerStatuses.{IsOfMember, IsOff, fault_high, fault_off, lock_low, locked_between, no_fault, put_between, transfer_low}
-use Rattle.dav_fields_core.specs.Fields.{Sent}
+use Rattle.dav_fields_core.specs.Fields.{Sent, sent_behind, sent_parts, sent_of, sent_tags}
+use Rattle.dav_handler_core.proofs.SentFieldLemmas.{part_parts, part_tags, tags_told, whole_tags}
 use Rattle.dav_fields_core.specs.FileTags.{own_tags, standing_at, standing_known, standing_of, tag_of}
 use Rattle.dav_methods_core.specs.PropfindMethod.{FailsToFind, FailsToTell}
 use Rattle.dav_methods_core.specs.GetMethod.{FailsToGet, Tells, get_outcome_by, get_outcome_of}
@@ -156,7 +160,7 @@ module _ (before after : Server) (request : Request (List ℕ)) (sent : Sent) wh
   Headers = (head_of request).headers
 
   -- what is told where it is done
-  told_done : (m : DavMethod) (p : Path) (r : Resource) (status : ℕ) (x : Result (Option Extent) Fault) → get_outcome_of m before.state.map p r Headers ≡ x → Tells x r status sent → status < 300
+  told_done : (m : DavMethod) (p : Path) (r : Resource) (status : ℕ) (x : Result (Option Extent) Fault) → get_outcome_of m before.state.map p r Headers ≡ x → Tells x p r status sent → status < 300
       → (e : Extent) × (get_outcome_of m before.state.map p r Headers ≡ Ok (Some e))
   told_done m p r status (Err e) is h low = absurd h
   told_done m p r status (Ok None) is h low = absurd (omega (arith, h.0))
@@ -164,7 +168,7 @@ module _ (before after : Server) (request : Request (List ℕ)) (sent : Sent) wh
   told_done m p r status (Ok (Some (extent.Part first end))) is h low = (extent.Part first end, is)
   told_done m p r status (Ok (Some extent.Unsatisfiable)) is h low = absurd (omega (arith, h.0))
 
-  told_off : (m : DavMethod) (p : Path) (r : Resource) (status : ℕ) (x : Result (Option Extent) Fault) → get_outcome_of m before.state.map p r Headers ≡ x → Tells x r status sent → IsOff status
+  told_off : (m : DavMethod) (p : Path) (r : Resource) (status : ℕ) (x : Result (Option Extent) Fault) → get_outcome_of m before.state.map p r Headers ≡ x → Tells x p r status sent → IsOff status
       → get_outcome_of m before.state.map p r Headers ≡ Ok None
   told_off m p r status (Err e) is h off = absurd h
   told_off m p r status (Ok None) is h off = is
@@ -175,12 +179,12 @@ module _ (before after : Server) (request : Request (List ℕ)) (sent : Sent) wh
   told_off m p r status (Ok (Some extent.Unsatisfiable)) is h (inl off) = absurd (omega (arith, h.0, off))
   told_off m p r status (Ok (Some extent.Unsatisfiable)) is h (inr off) = absurd (omega (arith, h.0, off))
 
-  pub told_tags : (r : Resource) (status : ℕ) (x : Result (Option Extent) Fault) → Tells x r status sent → status < 400 → sent.marks.tags ≡ own_tags r
-  told_tags r status (Err e) h low = absurd h
-  told_tags r status (Ok None) h low = ap (λ m. m.tags) h.1
-  told_tags r status (Ok (Some extent.Whole)) h low = ap (λ m. m.tags) h.1
-  told_tags r status (Ok (Some (extent.Part first end))) h low = ap (λ m. m.tags) h.1
-  told_tags r status (Ok (Some extent.Unsatisfiable)) h low = absurd (omega (arith, h.0))
+  pub told_tags : (p : Path) (r : Resource) (status : ℕ) (x : Result (Option Extent) Fault) → Tells x p r status sent → status < 400 → sent_tags sent.fields ≡ own_tags r
+  told_tags p r status (Err e) h low = absurd h
+  told_tags p r status (Ok None) h low = ap (λ (s : Sent). sent_tags s.fields) h.1 ∙ tags_told (own_tags r)
+  told_tags p r status (Ok (Some extent.Whole)) h low = whole_tags p r sent.fields h.1
+  told_tags p r status (Ok (Some (extent.Part first end))) h low = part_tags p r (part_text first end (length r.node.bytes)) sent.fields h.1
+  told_tags p r status (Ok (Some extent.Unsatisfiable)) h low = absurd (omega (arith, h.0))
 
   get_on : (m : DavMethod) (status : ℕ) (h : IsGotten m before request status sent after) → status < 300
       → (x : Extent) × ((r : Resource) × (at_path before.state.map (segments h.path.bytes) ≡ Some r) × (get_outcome_of m before.state.map (segments h.path.bytes) r Headers ≡ Ok (Some x)))
@@ -194,7 +198,7 @@ module _ (before after : Server) (request : Request (List ℕ)) (sent : Sent) wh
     path = h.path;
     who = h.who;
     begins = h.begins;
-    tags = told_tags h.gets.resource status (get_outcome_of m before.state.map (segments h.path.bytes) h.gets.resource Headers) h.gets.tells low
+    tags = told_tags (segments h.path.bytes) h.gets.resource status (get_outcome_of m before.state.map (segments h.path.bytes) h.gets.resource Headers) h.gets.tells low
         ∙ sym (tags_at after.state.map (segments h.path.bytes) h.gets.resource (ap (λ (s : State). at_path s.map (segments h.path.bytes)) same ∙ h.gets.here));
   }
 
@@ -464,22 +468,22 @@ module _ (before after : Server) (request : Request (List ℕ)) (sent : Sent) wh
 
   -- ---- parts and tags
 
-  told_part : (p : Path) (r : Resource) (status : ℕ) (x : Result (Option Extent) Fault) → get_outcome_of method.Get before.state.map p r Headers ≡ x → Tells x r status sent → status ≡ 206
+  told_part : (p : Path) (r : Resource) (status : ℕ) (x : Result (Option Extent) Fault) → get_outcome_of method.Get before.state.map p r Headers ≡ x → Tells x p r status sent → status ≡ 206
       → (first : ℕ) × ((end : ℕ) × (get_outcome_of method.Get before.state.map p r Headers ≡ Ok (Some (extent.Part first end))) × (sent.body ≡ take (end - first) (drop first r.node.bytes))
-      × (sent.marks.parts ≡ part_text first end (length r.node.bytes) ∷ []))
+      × (sent_parts sent.fields ≡ part_text first end (length r.node.bytes) ∷ []))
   told_part p r status (Err e) is h part = absurd h
   told_part p r status (Ok None) is h part = absurd (omega (arith, h.0, part))
   told_part p r status (Ok (Some extent.Whole)) is h part = absurd (omega (arith, h.0, part))
-  told_part p r status (Ok (Some (extent.Part first end))) is h part = (first, (end, is, h.2, ap (λ m. m.parts) h.1))
+  told_part p r status (Ok (Some (extent.Part first end))) is h part = (first, (end, is, h.2, part_parts p r (part_text first end (length r.node.bytes)) sent.fields h.1))
   told_part p r status (Ok (Some extent.Unsatisfiable)) is h part = absurd (omega (arith, h.0, part))
 
   -- a HEAD has no part
-  no_part : (standing : Standing) (size : ℕ) (o : Option Course) (status : ℕ) (r : Resource) → Tells (get_outcome_by method.Head standing size Headers o) r status sent → ¬ (status ≡ 206)
-  no_part standing size None status r h part = h
-  no_part standing size (Some course.PreconditionFailed) status r h part = h
-  no_part standing size (Some course.NotModified) status r h part = omega (arith, h.0, part)
-  no_part standing size (Some course.Whole) status r h part = omega (arith, h.0, part)
-  no_part standing size (Some course.Proceed) status r h part = omega (arith, h.0, part)
+  no_part : (standing : Standing) (size : ℕ) (o : Option Course) (status : ℕ) (p : Path) (r : Resource) → Tells (get_outcome_by method.Head standing size Headers o) p r status sent → ¬ (status ≡ 206)
+  no_part standing size None status p r h part = h
+  no_part standing size (Some course.PreconditionFailed) status p r h part = h
+  no_part standing size (Some course.NotModified) status p r h part = omega (arith, h.0, part)
+  no_part standing size (Some course.Whole) status p r h part = omega (arith, h.0, part)
+  no_part standing size (Some course.Proceed) status p r h part = omega (arith, h.0, part)
 
   pub sends_part : (m : Option DavMethod) (result : Result ℕ Fault) → AnswersTo m before request result sent after → status_of result ≡ 206
       → SendsPart before request sent after
@@ -502,7 +506,7 @@ module _ (before after : Server) (request : Request (List ℕ)) (sent : Sent) wh
   sends_part (Some method.Head) (Ok status) h part =
       let r = h.0.gets.resource in
       let at = standing_known before.state.map (segments h.0.path.bytes) (meta_at r.node) in
-      absurd (no_part at (length r.node.bytes) (course_of method.Head at Headers) status r h.0.gets.tells part)
+      absurd (no_part at (length r.node.bytes) (course_of method.Head at Headers) status (segments h.0.path.bytes) r h.0.gets.tells part)
   sends_part (Some method.Put) (Ok status) h part =
       absurd (omega (arith, part, h.1.status_is, put_between (has before.state.map (segments h.1.path.bytes))))
   sends_part (Some method.PropFind) (Ok status) h part = absurd (omega (arith, h.0.does.0, part))
@@ -530,6 +534,41 @@ module _ (before after : Server) (request : Request (List ℕ)) (sent : Sent) wh
     path = h.1.path;
     who = h.1.who;
     begins = h.1.begins;
-    tags = ap (λ m. m.tags) h.1.marks ∙ file_tags h.1.puts.file h.1.puts.kind ∙ sym (tags_at after.state.map (segments h.1.path.bytes) h.1.puts.file h.1.puts.here);
+    tags = ap (λ (s : Sent). sent_tags s.fields) h.1.tells ∙ file_tags h.1.puts.file h.1.puts.kind ∙ sym (tags_at after.state.map (segments h.1.path.bytes) h.1.puts.file h.1.puts.here);
   }
   sends_tag _ (Ok status) h look low = absurd (false≢true look)
+
+-- ---- of what is sent
+
+-- the tags and the part that a method tells are those that are sent
+module _ (before : Server) (request : Request (List ℕ)) (response : Response) (after : Server) (h : Answers before request response after) where
+  pub part_sent : status_of h.result ≡ 206 → SendsPart before request h.own after → SendsPart before request (sent_of response) after
+  part_sent is part = by h.result is (own_sent before request response after h)
+    where
+      by : (result : Result ℕ Fault) → status_of result ≡ 206 → OnOk result (sent_of response ≡ sent_behind (first_fields h.date) h.own) → SendsPart before request (sent_of response) after
+      by (Ok status) is sent = record {
+        path = part.path;
+        who = part.who;
+        begins = part.begins;
+        resource = part.resource;
+        here = part.here;
+        first = part.first;
+        end = part.end;
+        asked = part.asked;
+        bytes = ap (λ (s : Sent). s.body) sent ∙ part.bytes;
+        says = ap (λ (s : Sent). sent_parts s.fields) sent ∙ part.says;
+      }
+      by (Err e) is sent = absurd (no_fault e 206 is (omega arith) (λ same. omega (arith, same)))
+
+  pub tag_sent : tells_tag h.method ≡ true → status_of h.result < 400 → SendsTag before request h.own after → SendsTag before request (sent_of response) after
+  tag_sent look low tag = by h.result h.done low (own_sent before request response after h)
+    where
+      by : (result : Result ℕ Fault) → AnswersTo h.method before request result h.own after → status_of result < 400
+          → OnOk result (sent_of response ≡ sent_behind (first_fields h.date) h.own) → SendsTag before request (sent_of response) after
+      by (Ok status) done low sent = record {
+        path = tag.path;
+        who = tag.who;
+        begins = tag.begins;
+        tags = ap (λ (s : Sent). sent_tags s.fields) sent ∙ tag.tags;
+      }
+      by (Err e) done low sent = absurd (omega (arith, low, refused_high before after request h.own h.method e done look))

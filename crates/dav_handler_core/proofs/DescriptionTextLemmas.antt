@@ -18,7 +18,8 @@ use Rattle.dav_methods_core.specs.PropertyAnswers.{place_url, segments_url}
 use Rattle.dav_fields_core.specs.Dates.{IsHttpDate, IsInternetDate}
 use Rattle.dav_documents_core.specs.RefusalBodies.{front}
 use Rattle.dav_documents_core.proofs.VisibleTextLemmas.{AreVisible, all_joined, decimal_visible, joined, one_more, some_before, some_behind, url_visible}
-use Rattle.dav_handler_core.proofs.DescriptionTexts.{slashed, tail, tail_visible, is_seen, seen, pair, days_few, fixdate_seen, test_true, within}
+use Rattle.dav_handler_core.proofs.DescriptionTexts.{slashed, tail, tail_visible, is_seen, seen, fixdate_seen, test_true, within}
+use Rattle.dav_fields_core.proofs.DateTextLemmas.{days_few, pair}
 
 -- ---- URLs
 
@@ -86,7 +87,7 @@ tag_visible modified size =
 -- ---- dates
 
 pub http_date_visible : (seconds : ℕ) (text : List ℕ) → IsHttpDate seconds text → IsVisible text
-http_date_visible seconds text h = subst IsVisible (sym h.2) (fixdate_seen h.0)
+http_date_visible seconds text h = subst IsVisible (sym h.shown) (fixdate_seen h.date)
 
 pad_four : (n : ℕ) → n < 10_000 → AreVisible (printed.pad4 n)
 pad_four n small = joined (printed.pad2 (n / 100)) (printed.pad2 (n % 100)) (pair (n / 100) [] (omega arith) refl) (pair (n % 100) [] (omega arith) refl)

@@ -2,24 +2,26 @@
 use Rattle.std.proofs.Common.{◌≡◌, ◌⊎◌, inl, inr, ℕ, Bool, true, false, not, ◌||◌, List, [], ◌∷◌, ◌++◌, refl, sym, ◌∙◌, ap, subst}
 use Rattle.std.specs.Prelude.{bytes_eq, Contains, get_or}
 use Rattle.std.specs.List.{list_any}
-use Rattle.std.proofs.lemmas.Bool.{cases_Bool, and_parts, true≢false}
+use Rattle.std.proofs.lemmas.Bool.{cases_Bool, and_parts, not-true, or_left, true≢false}
 use Rattle.std.proofs.lemmas.Slice.Eq.{bytes_eq-Decides}
 use Rattle.http.specs.declared.request.Request.{Request}
 use Rattle.http.specs.Request.{head_of}
 use Rattle.http_server.specs.declared.response.Response.{Response}
-use Rattle.dav_path_core.specs.Fronts.{Path, parent}
+use Rattle.dav_path_core.specs.Fronts.{Path, is_front, parent}
 use Rattle.dav_path_core.specs.PathText.{PathText}
 use Rattle.dav_path_core.specs.Segments.{segments}
 use Rattle.dav_path_core.proofs.lists.EachLemmas.{none_passes}
 use Rattle.dav_path_core.proofs.lists.FinMaps.{dec}
 use Rattle.dav_path_core.proofs.lists.MemberLemmas.{In, In-Contains, Contains-In, In-filter, all_in, find_any}
 use Rattle.dav_path_core.proofs.lists.Orders.{path_total, path_exact}
+use Rattle.dav_path_core.proofs.paths.FrontLemmas.{is_same_path-refl}
 use Rattle.dav_files_core.specs.Finding.{place}
 use Rattle.dav_files_core.proofs.laws.PlaceLemmas.{put_places}
 use Rattle.dav_locks_core.specs.Exclusive.{Exclusive}
 use Rattle.dav_locks_core.specs.Lock.{Lock}
 use Rattle.dav_locks_core.specs.Locks.{covers, lock_conflicts, refuses_change, refuses_lock}
 use Rattle.dav_locks_core.specs.Stale.{is_stale, without_stale}
+use Rattle.dav_locks_core.proofs.laws.CheckLemmas.{any_lock_held}
 use Rattle.dav_locks_core.proofs.laws.EndedLemmas.{found_at}
 use Rattle.dav_locks_core.proofs.laws.StandInLemmas.{In-StandIn}
 use Rattle.dav_resource_core.specs.Step.{State}
@@ -27,12 +29,12 @@ use Rattle.dav_handler_core.specs.Answers.{Answers, EndsOne, LocksOne}
 use Rattle.dav_handler_core.specs.Server.{IsFrom, Server}
 use Rattle.dav_handler_core.specs.MethodAnswers.{as_found}
 use Rattle.dav_session_core.specs.Callers.{Caller, RunBy, as_caller, holds, is_own, refusing_at}
-use Rattle.dav_handler_core.specs.Holding.{IsHolders, IsKeptUnlessHeld, Lasts, StandsUnlessEnded}
+use Rattle.dav_handler_core.specs.Holding.{IsHolders, IsHoldersAbove, IsKeptUnderAny, IsKeptUnlessHeld, Lasts, StandsUnlessEnded}
 use Rattle.dav_methods_core.specs.LockMethod.{Grants, Wanted}
 use Rattle.dav_methods_core.specs.UnlockMethod.{NamesToken}
-use Rattle.dav_methods_core.proofs.LockLemmas.{above_free}
+use Rattle.dav_methods_core.proofs.LockLemmas.{above_free, there_free}
 use Rattle.dav_session_core.proofs.AnewLemmas.{of_filter}
-use Rattle.dav_session_core.proofs.CallerLaws.{keeps_apart}
+use Rattle.dav_session_core.proofs.CallerLaws.{keeps_apart, kept_under_any as run_under_any}
 use Rattle.dav_path_core.proofs.paths.AbovePaths.{left_or_gone}
 use Rattle.dav_session_core.proofs.RefreshLemmas.{set_or_same}
 use Rattle.dav_locks_core.proofs.laws.WithLock.{in_front}
@@ -69,6 +71,23 @@ module _ (before after : Server) (request : Request (List ℕ)) where
       elim ((keeps_apart who before.state after.state x run).isolated l h.stood exclusive (ap (λ n. is_stale n l) now ∙ h.lasts) p covered) [
         | inl same ↦ inl same
         | inr held ↦ inr (by_holds who l from held)
+      ]
+
+  run_keeps_any : (who : Caller) (l : Lock) (p : Path) → IsFrom before.options request who
+      → who.now ≡ after.last
+      → RunBy who before.state after.state → Lasts before after l → covers l p ≡ true
+      → (place after.state.map p ≡ place before.state.map p) ⊎ IsHoldersAbove before after request p
+  run_keeps_any who l p from now run h covered =
+      elim (run_under_any who before.state after.state run l h.stood (ap (λ n. is_stale n l) now ∙ h.lasts) p covered) [
+        | inl same ↦ inl same
+        | inr above ↦ inr (record {
+          lock = above.lock;
+          lasting = record { stood = above.stood; lasts = ap (λ n. is_stale n above.lock) (sym now) ∙ above.lasts };
+          holders = by_holds who above.lock from above.held;
+          front = above.front;
+          is_above = above.is_above;
+          covered = above.covered;
+        })
       ]
 
   -- ---- of an UNLOCK
@@ -163,6 +182,54 @@ module _ (before after : Server) (request : Request (List ℕ)) where
         ]
   ]
 
+  -- a lock that covers a path and lets the caller change it is held, or another at the path is
+  held_at : (who : Caller) (l : Lock) (q p : Path) → IsFrom before.options request who
+      → refusing_at (as_found before after) who q ≡ [] → Lasts before after l → covers l q ≡ true
+      → q ≡ p → IsHoldersAbove before after request p
+  held_at who l q p from free h covered same =
+      let locks = (as_found before after).locks in
+      let m = any_lock_held locks q false (as_caller who) free l (found_here_still l h) q covered (or_left _ _ (is_same_path-refl q)) in
+      let stood = of_filter (λ l. not (is_stale after.last l)) before.state.locks m.0 m.1 in
+      record {
+        lock = m.0;
+        lasting = record { stood = Contains-In before.state.locks m.0 stood.0; lasts = not-true (is_stale after.last m.0) stood.1 };
+        holders = by_holds who m.0 from m.2;
+        front = m.3.0;
+        is_above = subst (λ p. is_front m.3.0 p ≡ true) same m.3.1;
+        covered = m.3.2;
+      }
+
+  grants_keep_any : (who : Caller) (l : Lock) (path : PathText) (wanted : Wanted) (lock : Lock)
+      → IsFrom before.options request who
+      → Grants (as_found before after) who path wanted lock after.state → Lasts before after l
+      → (q : Path) → covers l q ≡ true
+      → (place after.state.map q ≡ place before.state.map q) ⊎ IsHoldersAbove before after request q
+  grants_keep_any who l path wanted lock from g h q covered = elim g.made [
+    | inl there ↦ inl (ap (λ m. place m q) there.1)
+    | inr made ↦
+        let p = segments path.bytes in
+        elim (dec path_total path_exact q p) [
+          | inl here ↦ inr (held_at who l p q from (there_free (as_found before after) who p made.1) h (subst (λ q. covers l q ≡ true) here covered) (sym here))
+          | inr apart ↦ elim (dec path_total path_exact q (parent p)) [
+            | inl above ↦ inr (held_at who l (parent p) q from (above_free (as_found before after) who p made.1) h (subst (λ q. covers l q ≡ true) above covered) (sym above))
+            | inr elsewhere ↦ inl (put_places before.state.map after.state.map p [] who.now made.2 q apart (λ none. elsewhere))
+          ]
+        ]
+  ]
+
+  locks_keep_any : (who : Caller) (l : Lock) (path : PathText) → IsFrom before.options request who
+      → LocksOne (as_found before after) who path after.state → Lasts before after l
+      → (q : Path) → covers l q ≡ true
+      → (place after.state.map q ≡ place before.state.map q) ⊎ IsHoldersAbove before after request q
+  locks_keep_any who l path from (LocksOne.grants wanted lock g) h q covered =
+      grants_keep_any who l path wanted lock from g h q covered
+  locks_keep_any who l path from (LocksOne.takes_back (inl left)) h q covered =
+      inl (ap (λ (s : State). place s.map q) left)
+  locks_keep_any who l path from (LocksOne.takes_back (inr kept)) h q covered =
+      inl (ap (λ (s : State). place s.map q) kept.1)
+  locks_keep_any who l path from (LocksOne.refreshes token timeout named r) h q covered =
+      inl (ap (λ (s : State). place s.map q) r.left)
+
   locks_keep : (who : Caller) (l : Lock) (path : PathText) → IsFrom before.options request who → LocksOne (as_found before after) who path after.state → Lasts before after l
       → l.shared ≡ false → (q : Path) → covers l q ≡ true → (place after.state.map q ≡ place before.state.map q) ⊎ IsHolders before request l
   locks_keep who l path from (LocksOne.grants wanted lock g) h exclusive q covered = grants_keep who l path wanted lock from g h exclusive q covered
@@ -189,5 +256,16 @@ kept_unless_held before after request response h x l lasts exclusive p covered =
     | inl run ↦ run_keeps before after request by.0 l p by.1 by.2 x run lasts exclusive covered
     | inr (inl one) ↦ inl (ap (λ (s : State). place s.map p) one.unlocks.ends.left)
     | inr (inr locks) ↦ locks_keep before after request by.0 l locks.path by.1 locks.does lasts exclusive p covered
+  ]
+]
+
+pub kept_under_any : (before after : Server) (request : Request (List ℕ)) (response : Response)
+    → Answers before request response after → IsKeptUnderAny before request after
+kept_under_any before after request response h l lasts p covered = elim h.moves.by_caller [
+  | inl same ↦ inl (ap (λ (s : State). place s.map p) same)
+  | inr by ↦ elim by.3 [
+    | inl run ↦ run_keeps_any before after request by.0 l p by.1 by.2 run lasts covered
+    | inr (inl one) ↦ inl (ap (λ (s : State). place s.map p) one.unlocks.ends.left)
+    | inr (inr locks) ↦ locks_keep_any before after request by.0 l locks.path by.1 locks.does lasts p covered
   ]
 ]

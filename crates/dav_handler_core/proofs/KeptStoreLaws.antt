@@ -31,7 +31,7 @@ use Rattle.dav_handler_core.specs.Server.{Server}
 use Rattle.dav_session_core.specs.Callers.{Caller, SameLive, live}
 use Rattle.dav_session_core.specs.Clearing.{IsCleared}
 use Rattle.dav_session_core.specs.Copying.{IsPartlyCopied, created_at, is_copied}
-use Rattle.dav_fields_core.specs.Fields.{Sent, sent_of}
+use Rattle.dav_fields_core.specs.Fields.{Sent}
 use Rattle.dav_session_core.specs.Granting.{granted_lock}
 use Rattle.dav_handler_core.specs.KeptDocuments.{IsNew, KeepsElements}
 use Rattle.dav_documents_core.specs.KeptElements.{AreKept, IsKeptLock}
@@ -51,7 +51,7 @@ use Rattle.dav_handler_core.specs.TagHistories.{Becomes}
 use Rattle.dav_handler_core.specs.TagHistories.Becomes.{itself, by_clock, by_answer}
 use Rattle.dav_session_core.proofs.Asking.{live_once}
 use Rattle.dav_documents_core.proofs.AskedNameLemmas.{lock_owner}
-use Rattle.dav_documents_core.proofs.KeptReadingLaws.{IsKeptAsSent, updates_are_kept}
+use Rattle.dav_documents_core.proofs.KeptReadingLaws.{IsKeptUpdate, updates_are_kept}
 use Rattle.dav_handler_core.proofs.LockTextLemmas.{target_rooted, token_visible}
 use Rattle.dav_documents_core.proofs.NamedLemmas.{passes_all}
 use Rattle.dav_methods_core.proofs.PutMethodLemmas.{Found, put_found}
@@ -138,7 +138,7 @@ made_kept headers s s' who p status h kept q r is = elim (dec path_total path_ex
   ]
 ]
 
-patch_kept : (p : Path) (updates : List Update) (s s' : State) → AllByRecursion IsKeptAsSent updates → IsPatched p updates s s' → AllKept s.map → AllKept s'.map
+patch_kept : (p : Path) (updates : List Update) (s s' : State) → AllByRecursion IsKeptUpdate updates → IsPatched p updates s s' → AllKept s.map → AllKept s'.map
 patch_kept p updates s s' sent h kept q r is = elim (dec path_total path_exact q p) [
   | inl here ↦
       let same : r ≡ with_updates updates h.resource =
@@ -226,7 +226,7 @@ module _ (before after : Server) (later : before.last ≤ after.last) (kept : Ke
     locks = from_locks (as_found before after).locks (ap (λ (s : State). s.locks) h.left) found_locks;
   }
 
-  patch_keeps : (protected : Bool) (now : ℕ) (p : Path) (updates : List Update) → AllByRecursion IsKeptAsSent updates → now ≡ after.last
+  patch_keeps : (protected : Bool) (now : ℕ) (p : Path) (updates : List Update) → AllByRecursion IsKeptUpdate updates → now ≡ after.last
       → Changes protected now p updates (as_found before after) after.state → Keeps after
   patch_keeps true now p updates sent is h = alike
       (subst (λ n. SameLive n (as_found before after) after.state) is h ∙ live_once after.last before.state)
@@ -358,7 +358,7 @@ module _ (before after : Server) (later : before.last ≤ after.last) (kept : Ke
 -- what is kept can be read after each answer
 pub answer_keeps : (before after : Server) (request : Request (List ℕ)) (response : Response) → Answers before request response after → KeepsElements before → KeepsElements after
 answer_keeps before after request response h kept =
-    let keeps = method_keeps before after h.moves.moments kept h.method request h.result (sent_of response) h.fits h.done h.refused in
+    let keeps = method_keeps before after h.moves.moments kept h.method request h.result h.own h.fits h.done h.refused in
     record {
       exclusive = h.exclusive kept.exclusive;
       shape = h.shape kept.exclusive kept.shape;

@@ -18,6 +18,9 @@ pub mod PatchAnswerLemmas
 pub mod PathFrameLaws
 pub mod PathHistoryLemmas
 pub mod PromiseLaws
+mod SameLocks
+pub mod SentAnswerLemmas
+pub mod SentFieldLemmas
 pub mod TagLaws
 mod TagRows
 pub mod ToldDocumentLaws

@@ -1,21 +1,24 @@
 -- How long a lock with a timeout stands over a run of a server.
-use Rattle.std.proofs.Common.{◌≡◌, inl, inr, ℕ, ◌≤◌, ◌+◌, Bool, true, false, not, List, Option, None, Some, Ok, refl, sym, ◌∙◌, ap, subst, arith}
-use Rattle.std.specs.Prelude.{nat_le, if◌then◌else◌}
+use Rattle.std.proofs.Common.{◌≡◌, ◌⊎◌, inl, inr, ℕ, ◌≤◌, ◌+◌, Bool, true, false, not, List, Option, None, Some, Ok, refl, sym, ◌∙◌, ap, subst, arith}
+use Rattle.std.specs.Prelude.{Contains, nat_le, if◌then◌else◌}
 use Rattle.std.proofs.Math.Nat.{le-max_right}
 use Rattle.std.proofs.lemmas.Bool.{cases_Bool, leb-false, leb-true, le-leb, true≢false}
 use Rattle.http.specs.declared.request.Request.{Request}
+use Rattle.http_server.specs.declared.response.Response.{Response}
 use Rattle.dav_path_core.proofs.lists.MemberLemmas.{In-Contains}
 use Rattle.dav_locks_core.specs.Exclusive.{Exclusive}
 use Rattle.dav_locks_core.specs.Lock.{Lock}
 use Rattle.dav_locks_core.specs.Stale.{has_come, is_stale}
 use Rattle.dav_session_core.proofs.AnewLemmas.{of_filter}
-use Rattle.dav_handler_core.specs.LockTimes.{FindsNoneBehind, IsTouched, StandsItsTime}
+use Rattle.dav_handler_core.specs.Answers.{Answers}
+use Rattle.dav_handler_core.specs.LockTimes.{FindsNoneBehind, IsEndedByHolder, StandsItsTime}
 use Rattle.dav_handler_core.specs.RequestMoments.{ComesAt}
 use Rattle.dav_handler_core.specs.RequestMoments.ComesAt.{begun, unread}
 use Rattle.dav_handler_core.specs.Server.{Server}
 use Rattle.dav_handler_core.specs.TagHistories.{Becomes}
 use Rattle.dav_handler_core.specs.TagHistories.Becomes.{by_answer, by_clock, itself}
 use Rattle.dav_handler_core.proofs.HoldingLaws.{stands_unless_ended}
+use Rattle.dav_handler_core.proofs.SameLocks.{contained}
 
 -- what hasn't come at a moment hasn't come before it
 not_earlier : (now later : ℕ) (l : Lock) → now ≤ later → is_stale later l ≡ false → is_stale now l ≡ false
@@ -36,9 +39,10 @@ run_on s s' (by_answer mid after request response h answer) =
     let so_far = run_on s mid h in
     (omega (arith, so_far.0, answer.moves.moments), λ x. answer.exclusive (so_far.1 x))
 
--- one more clock or answer behind a request that touched it
-touched_more : (l : Lock) (s mid after : Server) → (Becomes mid after) → ((b : Server) → Becomes b mid → Becomes b after) → IsTouched l s mid → IsTouched l s after
-touched_more l s mid after step on h = record {
+-- one more clock or answer behind a request that ended it
+ended_more : (l : Lock) (s mid after : Server) → ((b : Server) → Becomes b mid → Becomes b after)
+    → IsEndedByHolder l s mid → IsEndedByHolder l s after
+ended_more l s mid after on h = record {
   before = h.before;
   after = h.after;
   request = h.request;
@@ -47,30 +51,44 @@ touched_more l s mid after step on h = record {
   answers = h.answers;
   rest = on h.after h.rest;
   holders = h.holders;
+  stood = h.stood;
+  gone = h.gone;
 }
+
+-- one more answer: the lock stands, or it is gone, and the request was its holder's
+ended_here : (l : Lock) (s mid after : Server) (request : Request (List ℕ)) (response : Response)
+    → Exclusive mid.state.locks → Becomes s mid → Answers mid request response after
+    → Contains mid.state.locks l → is_stale after.last l ≡ false
+    → Contains after.state.locks l ⊎ IsEndedByHolder l s after
+ended_here l s mid after request response x h answer still lasts = elim (contained l after.state.locks) [
+  | inl stands ↦ inl stands
+  | inr gone ↦ elim (stands_unless_ended mid after request response answer x l (record { stood = still; lasts = lasts })) [
+    | inl stands ↦ inl stands
+    | inr holders ↦ inr (record {
+      before = mid;
+      after = after;
+      request = request;
+      response = response;
+      first = h;
+      answers = answer;
+      rest = itself;
+      holders = holders;
+      stood = still;
+      gone = gone;
+    })
+  ]
+]
 
 pub stands_its_time : (s s' : Server) → Exclusive s.state.locks → Becomes s s' → StandsItsTime s s'
 stands_its_time s s' x itself l stood lasts = inl stood
 stands_its_time s s' x (by_clock mid now h) l stood lasts = elim (stands_its_time s mid x h l stood lasts) [
   | inl still ↦ inl still
-  | inr touched ↦ inr (touched_more l s mid (record mid { clock = now }) (by_clock mid now itself) (λ b run. by_clock mid now run) touched)
+  | inr ended ↦ inr (ended_more l s mid (record mid { clock = now }) (λ b run. by_clock mid now run) ended)
 ]
 stands_its_time s s' x (by_answer mid after request response h answer) l stood lasts =
     elim (stands_its_time s mid x h l stood (not_earlier mid.last after.last l answer.moves.moments lasts)) [
-      | inl still ↦ elim (stands_unless_ended mid after request response answer ((run_on s mid h).1 x) l (record { stood = still; lasts = lasts })) [
-        | inl stands ↦ inl stands
-        | inr holders ↦ inr (record {
-          before = mid;
-          after = after;
-          request = request;
-          response = response;
-          first = h;
-          answers = answer;
-          rest = itself;
-          holders = holders;
-        })
-      ]
-      | inr touched ↦ inr (touched_more l s mid after (by_answer mid after request response itself answer) (λ b run. by_answer mid after request response run answer) touched)
+      | inl still ↦ ended_here l s mid after request response ((run_on s mid h).1 x) h answer still lasts
+      | inr ended ↦ inr (ended_more l s mid after (λ b run. by_answer mid after request response run answer) ended)
     ]
 
 -- a lock whose end has come at the clock has expired at the moment of a request

@@ -20,7 +20,7 @@ use Rattle.dav_faults_core.specs.declared.faults.Fault.TheVariants as fault
 use Rattle.dav_documents_core.specs.PatchBodies.{any_protected}
 use Rattle.dav_documents_core.specs.PropertyUpdates.{Update}
 use Rattle.dav_locks_core.specs.Exclusive.{Exclusive}
-use Rattle.dav_fields_core.specs.Fields.{Sent, sent_of}
+use Rattle.dav_fields_core.specs.Fields.{Sent, sent_tags}
 use Rattle.dav_fields_core.specs.FileTags.{file_tag}
 use Rattle.dav_session_core.specs.Callers.{SameLive, live}
 use Rattle.dav_session_core.specs.Clearing.{IsCleared}
@@ -267,7 +267,7 @@ pub runs_stay : (p : Path) (s s' : Server) → Exclusive s.state.locks → IsRes
 runs_stay p s s' x shape itself = alike_itself (at_path s.state.map p)
 runs_stay p s s' x shape (by_clock mid now run) = runs_stay p s mid x shape run
 runs_stay p s s' x shape (by_answer mid after request response run answer leaves) =
-    elim (stays mid after request (sound p s mid run (x, shape)).1 p answer.method answer.result (sent_of response) answer.done answer.refused) [
+    elim (stays mid after request (sound p s mid run (x, shape)).1 p answer.method answer.result answer.own answer.done answer.refused) [
       | inl same ↦ alike_on (at_path s.state.map p) (at_path mid.state.map p) (at_path after.state.map p) (runs_stay p s mid x shape run) same
       | inr touched ↦ absurd (leaves touched)
     ]
@@ -284,7 +284,7 @@ still_there (Some r) (Some r') file other h here there =
 
 pub put_is_gotten : (before s s' after : Server) (put get : Request (List ℕ)) (status : ℕ) (sent got : Sent) (h : IsPut before put status sent s)
     → Exclusive s.state.locks → IsResourceMap s.state.map → LeavesPath (segments h.path.bytes) s s' → (g : IsGotten method.Get s' get 200 got after)
-    → segments g.path.bytes ≡ segments h.path.bytes → (got.body ≡ body_of put) × (got.marks.tags ≡ sent.marks.tags)
+    → segments g.path.bytes ≡ segments h.path.bytes → (got.body ≡ body_of put) × (sent_tags got.fields ≡ sent_tags sent.fields)
 put_is_gotten before s s' after put get status sent got h x shape run g same =
     let p = segments h.path.bytes in
     let r = g.gets.resource in
@@ -292,8 +292,8 @@ put_is_gotten before s s' after put get status sent got h x shape run g same =
     (subst (λ q. at_path s'.state.map q ≡ Some r) same g.gets.here) in
     let kind = stands.kind ∙ h.puts.kind in
     let outcome = get_outcome_of method.Get s'.state.map (segments g.path.bytes) r (head_of get).headers in (
-      whole_file outcome r 200 got g.gets.tells refl kind ∙ stands.bytes ∙ h.puts.bytes_are,
-      told_tags s' after get got r 200 outcome g.gets.tells (omega arith) ∙ sym (file_tags s' after get got r kind)
+      whole_file outcome (segments g.path.bytes) r 200 got g.gets.tells refl kind ∙ stands.bytes ∙ h.puts.bytes_are,
+      told_tags s' after get got (segments g.path.bytes) r 200 outcome g.gets.tells (omega arith) ∙ sym (file_tags s' after get got r kind)
           ∙ ap (λ n. file_tag n (length r.node.bytes) ∷ []) (stands.modified h.puts.kind) ∙ ap (λ bytes. file_tag h.puts.file.node.modified (length bytes) ∷ []) stands.bytes
-          ∙ ap (λ m. m.tags) (sym h.marks),
+          ∙ ap (λ (s : Sent). sent_tags s.fields) (sym h.tells),
     )

@@ -1,12 +1,11 @@
 -- Each answer in a run from new stores keeps to what is promised of it.
 use Rattle.std.proofs.Common.{◌≡◌, ◌≢◌, ◌⊎◌, inl, inr, ℕ, arith, Bool, true, false, cond, ◌||◌, List, [], ◌∷◌, ◌++◌, Option, Some, None, Result, Ok, Err, refl, sym, ◌∙◌, ap, subst}
-use Rattle.std.specs.Prelude.{IfErr, option_map}
+use Rattle.std.specs.Prelude.{IfErr, option_map, OnOk}
 use Rattle.std.proofs.lemmas.Bool.{cases_Bool}
 use Rattle.http.specs.declared.request.Request.{Request}
 use Rattle.http.specs.Request.{body_of, head_of}
 use Rattle.http_server.specs.declared.response.Response.{Response}
 use Rattle.http_server.specs.Exchange.{Call, Chain}
-use Rattle.http_frames.specs.Clients.{Turn}
 use Rattle.http_header.specs.FieldValue.{FieldValue}
 use Rattle.http_header.specs.HeaderMap.{Entries}
 use Rattle.dav_path_core.specs.declared.util.DavMethod.{DavMethod}
@@ -31,7 +30,8 @@ use Rattle.dav_session_core.specs.Callers.{Caller, SameLive, live}
 use Rattle.dav_session_core.specs.Clearing.{IsCleared}
 use Rattle.dav_session_core.specs.Copying.{IsPartlyCopied, created_at, is_copied}
 use Rattle.dav_fields_core.specs.TransferDestinations.{IsDestination}
-use Rattle.dav_fields_core.specs.Fields.{Sent, sent_of}
+use Rattle.dav_fields_core.specs.Fields.{Sent}
+use Rattle.dav_handler_core.proofs.SentAnswerLemmas.{own_body}
 use Rattle.dav_methods_core.specs.GetMethod.{Tells, get_outcome_of}
 use Rattle.dav_handler_core.specs.KeptDocuments.{IsNew}
 use Rattle.dav_methods_core.specs.MkcolMethod.{Makes}
@@ -42,15 +42,15 @@ use Rattle.dav_session_core.specs.Patching.{with_updates}
 use Rattle.dav_documents_core.specs.PropertyUpdates.{Update}
 use Rattle.dav_session_core.specs.Removing.{IsRemoved}
 use Rattle.dav_handler_core.specs.Promises.{Brings, EachAnswer, EachCall, GetsWhatIsLeft, IsLeft, KeepsTo, StandsAt}
-use Rattle.dav_handler_core.specs.Serving.{Leads}
+use Rattle.dav_handler_core.specs.Serving.{Done, Leads, Taken, Told, with_clock}
 use Rattle.dav_handler_core.specs.TagHistories.{Becomes}
 use Rattle.dav_handler_core.specs.TagHistories.Becomes.{itself, by_clock, by_answer}
 use Rattle.dav_handler_core.proofs.AnswerStatuses.{no_fault}
-use Rattle.dav_handler_core.proofs.HoldingLaws.{kept_unless_held, stands_unless_ended}
+use Rattle.dav_handler_core.proofs.HoldingLaws.{kept_under_any, kept_unless_held, stands_unless_ended}
 use Rattle.dav_handler_core.proofs.KeptStoreLaws.{begins_kept, run_keeps}
 use Rattle.dav_methods_core.proofs.PutMethodLemmas.{put_found}
 use Rattle.dav_path_core.proofs.paths.SubtreePaths.{rest_of}
-use Rattle.dav_handler_core.proofs.TagLaws.{new_stores}
+use Rattle.dav_handler_core.proofs.TagLaws.{new_stores, told_on}
 
 -- ---- where the bytes at a path come from
 
@@ -292,12 +292,12 @@ module _ (before after : Server) (request : Request (List ℕ)) (p : Path) (file
   comes m result sent h left = same_map m result (ap (λ (s : State). s.map) h.1)
 
 -- what a GET tells that is answered 200
-pub whole_file : (told : Result (Option Extent) Fault) (r : Resource) (status : ℕ) (sent : Sent) → Tells told r status sent → status ≡ 200 → r.node.kind ≡ File → sent.body ≡ r.node.bytes
-whole_file (Err e) r status sent h is kind = absurd h
-whole_file (Ok None) r status sent h is kind = absurd (omega (arith, h.0, is))
-whole_file (Ok (Some extent.Whole)) r status sent h is kind = h.2 kind
-whole_file (Ok (Some (extent.Part first end))) r status sent h is kind = absurd (omega (arith, h.0, is))
-whole_file (Ok (Some extent.Unsatisfiable)) r status sent h is kind = absurd (omega (arith, h.0, is))
+pub whole_file : (told : Result (Option Extent) Fault) (p : Path) (r : Resource) (status : ℕ) (sent : Sent) → Tells told p r status sent → status ≡ 200 → r.node.kind ≡ File → sent.body ≡ r.node.bytes
+whole_file (Err e) p r status sent h is kind = absurd h
+whole_file (Ok None) p r status sent h is kind = absurd (omega (arith, h.0, is))
+whole_file (Ok (Some extent.Whole)) p r status sent h is kind = h.2 kind
+whole_file (Ok (Some (extent.Part first end))) p r status sent h is kind = absurd (omega (arith, h.0, is))
+whole_file (Ok (Some extent.Unsatisfiable)) p r status sent h is kind = absurd (omega (arith, h.0, is))
 
 -- ---- a run
 
@@ -308,7 +308,7 @@ module _ (begun : Server) (new : IsNew begun) where
       absurd (new_stores new.now stands.0 (p, subst (λ map. at_path map p ≡ Some stands.0) new.map stands.1, stands.2))
   left s (by_clock mid now run) p bytes stands = IsLeft.by_clock mid now p bytes (left mid run p bytes stands)
   left s (by_answer mid after request response run h) p bytes stands =
-      let come = comes mid after request p stands.0 stands.1 stands.2 h.method h.result (sent_of response) h.done h.refused in
+      let come = comes mid after request p stands.0 stands.1 stands.2 h.method h.result h.own h.done h.refused in
       subst (IsLeft begun after p) stands.3 (of (left mid run) stands.0.node.bytes (stands.0, stands.1, stands.2, refl) come)
     where
       of : ((q : Path) (content : List ℕ) → StandsAt mid.state.map q content → IsLeft begun mid q content) → (content : List ℕ) → StandsAt after.state.map p content
@@ -327,20 +327,20 @@ module _ (begun : Server) (new : IsNew begun) where
           (IsLeft.by_lock mid after request response path run h (is, (status, done)) named nothing
           (subst (StandsAt after.state.map (segments path.bytes)) empty (subst (λ q. StandsAt after.state.map q content) at_path_is now))))
 
-  got : (before after : Server) (request : Request (List ℕ)) (response : Response) → Becomes begun before → (m : Option DavMethod) (result : Result ℕ Fault)
-      → response.status ≡ status_of result → AnswersTo m before request result (sent_of response) after → GetsWhatIsLeft begun before request response m
-  got before after request response run (Some method.Get) (Ok status) is h = λ two_hundred.
+  got : (before after : Server) (request : Request (List ℕ)) (response : Response) → Becomes begun before → (m : Option DavMethod) (result : Result ℕ Fault) (own : Sent)
+      → response.status ≡ status_of result → OnOk result (response.body.items ≡ own.body) → AnswersTo m before request result own after → GetsWhatIsLeft begun before request response m
+  got before after request response run (Some method.Get) (Ok status) own is body h = λ two_hundred.
       let g = h.0 in (
         g.path,
         g.begins.names,
         λ file there kind.
             let same = one_some (at_path before.state.map (segments g.path.bytes)) file g.gets.resource there g.gets.here in
-            let told = whole_file (get_outcome_of method.Get before.state.map (segments g.path.bytes) g.gets.resource (head_of request).headers) g.gets.resource status (sent_of response) g.gets.tells (sym is ∙ two_hundred)
+            let told = whole_file (get_outcome_of method.Get before.state.map (segments g.path.bytes) g.gets.resource (head_of request).headers) (segments g.path.bytes) g.gets.resource status own g.gets.tells (sym is ∙ two_hundred)
             (ap (λ (r : Resource). r.node.kind) (sym same) ∙ kind) in
-            (told ∙ ap (λ (r : Resource). r.node.bytes) (sym same), left before run (segments g.path.bytes) file.node.bytes (file, there, kind, refl)),
+            (body ∙ told ∙ ap (λ (r : Resource). r.node.bytes) (sym same), left before run (segments g.path.bytes) file.node.bytes (file, there, kind, refl)),
       )
-  got before after request response run (Some method.Get) (Err e) is h = λ two_hundred. absurd (no_fault e 200 (sym is ∙ two_hundred) (omega arith) (λ same. omega (arith, same)))
-  got before after request response run _ result is h = tt
+  got before after request response run (Some method.Get) (Err e) own is body h = λ two_hundred. absurd (no_fault e 200 (sym is ∙ two_hundred) (omega arith) (λ same. omega (arith, same)))
+  got before after request response run _ result own is body h = tt
 
   -- what a refusal leaves
   stays : (m : Option DavMethod) (before after : Server) (request : Request (List ℕ)) (e : Fault) → Leaves m before request e after → e ≢ fault.InsufficientStorage
@@ -361,9 +361,10 @@ module _ (begun : Server) (new : IsNew begun) where
       let exclusive = (run_keeps begun before (begins_kept begun new) run).exclusive in
       record {
         changed = kept_unless_held before after request response h exclusive;
+        any_changed = kept_under_any before after request response h;
         ended = stands_unless_ended before after request response h exclusive;
         answer = h;
-        got = got before after request response run h.method h.result h.status h.done;
+        got = got before after request response run h.method h.result h.own h.status (own_body before request response after h) h.done;
         refused = refuses h.method before after request h.result h.refused;
       }
 
@@ -376,15 +377,19 @@ module _ (begun : Server) (new : IsNew begun) where
   after_calls s [] s' run chain = subst (Becomes begun) (sym chain) run
   after_calls s (c ∷ calls) s' run chain = after_calls chain.0 calls s' (by_answer s chain.0 c.0 c.1 run chain.1) chain.2
 
-  each_from : (s : Server) (turns : List Turn) (s' : Server) → Becomes begun s → (leads : Leads s turns s') → EachAnswer (KeepsTo begun) s turns s' leads
+  each_from : (s : Server) (done : List Done) (s' : Server) → Becomes begun s
+      → (leads : Leads s done s') → EachAnswer (KeepsTo begun) s done s' leads
   each_from s [] s' run leads = tt
-  each_from s (t ∷ turns) s' run leads =
-      let timed : Becomes begun (record s { clock = leads.0 }) = by_clock s leads.0 run in
-      (each_call (record s { clock = leads.0 }) t.made leads.1 timed leads.2, each_from leads.1 turns s' (after_calls (record s { clock = leads.0 }) t.made leads.1 timed leads.2) leads.3)
+  each_from s (Taken t told ∷ done) s' run leads =
+      let timed = told_on told begun s run in
+      (each_call (with_clock told s) t.made leads.0 timed leads.1, each_from leads.0 done s' (after_calls (with_clock told s) t.made leads.0 timed leads.1) leads.2)
+  each_from s (Told moment ∷ done) s' run leads =
+      each_from (with_clock (Some moment) s) done s' (told_on (Some moment) begun s run) leads
 
--- each answer of the turns, from new stores on
-pub each_answer : (begun after : Server) (turns : List Turn) → IsNew begun → (leads : Leads begun turns after) → EachAnswer (KeepsTo begun) begun turns after leads
-each_answer begun after turns new leads = each_from begun new begun turns after itself leads
+-- each answer of the frames, from new stores on
+pub each_answer : (begun after : Server) (done : List Done) → IsNew begun
+    → (leads : Leads begun done after) → EachAnswer (KeepsTo begun) begun done after leads
+each_answer begun after done new leads = each_from begun new begun done after itself leads
 
 -- the bytes that were left stand there
 pub left_stand : (begun s : Server) (p : Path) (bytes : List ℕ) → IsLeft begun s p bytes → StandsAt s.state.map p bytes

@@ -1,5 +1,5 @@
 -- Files over a run of a server: each one stood there before with its bytes, or was changed since; so equal tags have equal bytes.
-use Rattle.std.proofs.Common.{◌≡◌, ◌⊎◌, inl, inr, ℕ, ◌<◌, ◌≤◌, Bool, true, false, List, [], ◌∷◌, length, Option, Some, Result, Ok, Err, refl, sym, ◌∙◌, ap, subst, arith}
+use Rattle.std.proofs.Common.{◌≡◌, ◌⊎◌, inl, inr, ℕ, ◌<◌, ◌≤◌, Bool, true, false, List, [], ◌∷◌, length, Option, None, Some, Result, Ok, Err, refl, sym, ◌∙◌, ap, subst, arith}
 use Rattle.std.specs.Prelude.{IfErr}
 use Rattle.std.proofs.lemmas.Bool.{false_from_ne_true, or_parts, true≢false}
 use Rattle.std.specs.FinMap.{get, empty, get-empty}
@@ -7,7 +7,6 @@ use Rattle.http.specs.declared.request.Request.{Request}
 use Rattle.http.specs.Request.{body_of, head_of}
 use Rattle.http_server.specs.declared.response.Response.{Response}
 use Rattle.http_server.specs.Exchange.{Call, Chain}
-use Rattle.http_frames.specs.Clients.{Turn}
 use Rattle.http_header.specs.FieldValue.{FieldValue}
 use Rattle.http_header.specs.HeaderMap.{Entries}
 use Rattle.dav_path_core.specs.declared.util.DavMethod.{DavMethod}
@@ -32,7 +31,7 @@ use Rattle.dav_session_core.specs.Callers.{Caller, SameLive, live}
 use Rattle.dav_session_core.specs.Clearing.{IsCleared}
 use Rattle.dav_session_core.specs.Copying.{IsCopied, IsPartlyCopied}
 use Rattle.dav_session_core.specs.Ends.{HasFolder}
-use Rattle.dav_fields_core.specs.Fields.{Sent, sent_of}
+use Rattle.dav_fields_core.specs.Fields.{Sent}
 use Rattle.dav_methods_core.specs.MkcolMethod.{Makes}
 use Rattle.dav_session_core.specs.Moving.{IsMoved}
 use Rattle.dav_documents_core.specs.PatchBodies.{any_protected}
@@ -41,7 +40,7 @@ use Rattle.dav_session_core.specs.Patching.{IsPatched, with_updates}
 use Rattle.dav_documents_core.specs.PropertyUpdates.{Update}
 use Rattle.dav_methods_core.specs.PutMethod.{Puts}
 use Rattle.dav_session_core.specs.Removing.{IsRemoved}
-use Rattle.dav_handler_core.specs.Serving.{Leads}
+use Rattle.dav_handler_core.specs.Serving.{Done, Leads, Taken, Told, with_clock}
 use Rattle.dav_handler_core.specs.PathMoments.{IsAlong, IsFileAt}
 use Rattle.dav_handler_core.specs.TagHistories.{HasFile, HasNoFiles, MomentsTell, TagsTell, Becomes}
 use Rattle.dav_handler_core.specs.TagHistories.Becomes.{itself, by_clock, by_answer}
@@ -299,7 +298,7 @@ method_dates _ before after request result sent later h refused = same_map befor
 
 pub answer_dates : (before after : Server) (request : Request (List ℕ)) (response : Response) → Answers before request response after → Dates before after
 answer_dates before after request response h =
-    method_dates h.method before after request h.result (sent_of response) h.moves.moments h.done h.refused
+    method_dates h.method before after request h.result h.own h.moves.moments h.done h.refused
 
 pub clock_dates : (s : Server) (now : ℕ) → Dates s (record s { clock = now })
 clock_dates s now = same_map s (record s { clock = now }) (omega arith) refl
@@ -388,10 +387,26 @@ calls_on s mid s' (c ∷ calls) h chain = calls_on s chain.0 s' calls (by_answer
 pub calls_lead : (s s' : Server) (calls : List Call) → Chain Answers s calls s' → Becomes s s'
 calls_lead s s' calls chain = calls_on s s s' calls itself chain
 
-turns_on : (s mid s' : Server) (turns : List Turn) → Becomes s mid → Leads mid turns s' → Becomes s s'
-turns_on s mid s' [] h leads = subst (Becomes s) (sym leads.1) (by_clock mid leads.0 h)
-turns_on s mid s' (t ∷ turns) h leads =
-    turns_on s leads.1 s' turns (calls_on s (record mid { clock = leads.0 }) leads.1 t.made (by_clock mid leads.0 h) leads.2) leads.3
+-- a moment that is told, or none
+pub told_on : (told : Option ℕ) (s mid : Server) → Becomes s mid → Becomes s (with_clock told mid)
+told_on None s mid h = h
+told_on (Some moment) s mid h = by_clock mid moment h
 
-pub turns_lead : (s s' : Server) (turns : List Turn) → Leads s turns s' → Becomes s s'
-turns_lead s s' turns leads = turns_on s s s' turns itself leads
+frames_on : (s mid s' : Server) (done : List Done) → Becomes s mid → Leads mid done s' → Becomes s s'
+frames_on s mid s' [] h leads = subst (Becomes s) (sym leads) h
+frames_on s mid s' (Taken t told ∷ done) h leads =
+    frames_on s leads.0 s' done (calls_on s (with_clock told mid) leads.0 t.made (told_on told s mid h) leads.1) leads.2
+frames_on s mid s' (Told moment ∷ done) h leads =
+    frames_on s (with_clock (Some moment) mid) s' done (told_on (Some moment) s mid h) leads
+
+pub frames_lead : (s s' : Server) (done : List Done) → Leads s done s' → Becomes s s'
+frames_lead s s' done leads = frames_on s s s' done itself leads
+
+-- ---- what calls leave
+
+pub calls_stay : (s s' : Server) (calls : List Call) → Chain Answers s calls s'
+    → (s'.clock ≡ s.clock) × (s'.options ≡ s.options)
+calls_stay s s' [] chain = (ap (λ (s : Server). s.clock) chain, ap (λ (s : Server). s.options) chain)
+calls_stay s s' (c ∷ calls) chain =
+    let rest = calls_stay chain.0 s' calls chain.2 in
+    (rest.0 ∙ chain.1.moves.clock, rest.1 ∙ chain.1.moves.options)

@@ -1,6 +1,6 @@
 -- What is done by a PROPFIND, a PROPPATCH or a LOCK is told by a document, over a run from new stores.
 use Rattle.std.proofs.Common.{◌≡◌, inl, inr, ℕ, ◌<◌, ◌≤◌, ◌^◌, Bool, true, false, cond, List, [], ◌∷◌, ◌++◌, length, Option, Some, Result, Ok, Err, sym, ◌∙◌, ap, subst}
-use Rattle.std.specs.Prelude.{IfOk, bytes_eq}
+use Rattle.std.specs.Prelude.{IfOk, bytes_eq, OnOk}
 use Rattle.std.specs.List.{AllByRecursion}
 use Rattle.std.proofs.lemmas.Bool.{false≢true}
 use Rattle.http.specs.declared.request.Request.{Request}
@@ -21,7 +21,9 @@ use Rattle.dav_faults_core.specs.declared.faults.Fault.{Fault}
 use Rattle.dav_handler_core.specs.Answers.{Answers, AnswersTo}
 use Rattle.dav_handler_core.specs.MethodAnswers.{IsLocked, IsPropPatched, as_found}
 use Rattle.dav_handler_core.specs.Server.{Server}
-use Rattle.dav_fields_core.specs.Fields.{Sent, sent_of}
+use Rattle.dav_fields_core.specs.Fields.{Sent, sent_behind, sent_of, sent_types}
+use Rattle.dav_fields_core.specs.AnswerFields.{first_fields}
+use Rattle.dav_handler_core.proofs.SentAnswerLemmas.{own_sent}
 use Rattle.dav_methods_core.specs.PropfindMethod.{DescribesEach}
 use Rattle.dav_handler_core.specs.KeptDocuments.{IsNew, KeepsElements, TellsXml, is_told_in_xml}
 use Rattle.dav_documents_core.specs.KeptElements.{IsDocument, IsKeptLock, IsKeptProperty, IsVisible}
@@ -35,7 +37,7 @@ use Rattle.dav_methods_core.proofs.ToldPathLemmas.{rooted_told}
 use Rattle.dav_handler_core.specs.TagHistories.{Becomes}
 use Rattle.dav_documents_core.proofs.AskedNameLemmas.{question_names}
 use Rattle.dav_handler_core.proofs.DescriptionTextLemmas.{folder_url, http_date_visible, internet_date_visible, member_url, tag_visible, type_visible}
-use Rattle.dav_documents_core.proofs.KeptReadingLaws.{IsKeptAsSent, updates_are_kept}
+use Rattle.dav_documents_core.proofs.KeptReadingLaws.{updates_are_kept}
 use Rattle.dav_documents_core.proofs.KeptLockTexts.{AreKeptLocks, all_behind, discovered_kept, kept_later}
 use Rattle.dav_handler_core.proofs.KeptStoreLaws.{begins_kept, granted_lock_kept, run_keeps}
 use Rattle.dav_handler_core.proofs.LockTextLemmas.{target_rooted}
@@ -95,37 +97,33 @@ module _ (before after : Server) (later : before.last ≤ after.last) (kept : Ke
         let p = segments h.path.bytes in
         let lock = granted_lock_kept before after later kept request status sent fits h g in
         record {
-          document = subst IsDocument (sym g.told)
+          document = subst IsDocument (sym (ap (λ (s : Sent). s.body) g.tells))
               (locks_are_read before.options.prefix h.who.principal h.who.now (discovered_locks (s.locks ++ g.lock ∷ []) p)
               (discovered_kept (s.locks ++ g.lock ∷ []) p (all_behind IsKeptLock s.locks (g.lock ∷ []) live_kept (lock, tt))));
-          typed = g.typed;
+          typed = ap (λ (s : Sent). sent_types s.fields) g.tells;
         }
     | inr refreshed ↦
         let r = refreshed.1 in
         let locks = discovered_locks s.locks (segments h.path.bytes) in
         record {
-          document = subst IsDocument (sym r.told)
+          document = subst IsDocument (sym (ap (λ (s : Sent). s.body) r.tells))
               (locks_are_read before.options.prefix h.who.principal h.who.now (retimed_locks h.who.now r.token r.timeout locks)
               (retimed_kept h.who.now r.token r.timeout locks (discovered_kept s.locks (segments h.path.bytes) live_kept)));
-          typed = r.typed;
+          typed = ap (λ (s : Sent). sent_types s.fields) r.tells;
         }
   ]
 
 -- ---- a PROPPATCH
-
-only_kept : (updates : List Update) → AllByRecursion IsKeptAsSent updates → AllByRecursion (λ update. IsKeptProperty update.1) updates
-only_kept [] h = tt
-only_kept (update ∷ updates) h = (h.0.0, only_kept updates h.1)
 
 -- its answer is read as it was told
 pub patch_told : (before after : Server) (request : Request (List ℕ)) (status : ℕ) (sent : Sent) → length (body_of request) < 2 ^ 64 → (h : IsPropPatched before request status sent after)
     → document_of sent.body ≡ Some (patch_nodes before.options.prefix (told_path (as_found before after).map h.path) h.patches.updates)
 patch_told before after request status sent fits h =
     let updates = h.patches.updates in
-    ap document_of h.patches.tells
+    ap (λ (s : Sent). document_of s.body) h.patches.tells
     ∙ patch_is_read before.options.prefix (told_path (as_found before after).map h.path) updates
     (rooted_told h.path (as_found before after).map (target_rooted before.options.prefix (head_of request).uri h.path h.begins.names))
-    (only_kept updates (updates_are_kept (body_of request) updates fits h.patches.asks))
+    (updates_are_kept (body_of request) updates fits h.patches.asks)
 
 -- ---- an answer
 
@@ -133,17 +131,17 @@ method_told : (m : Option DavMethod) (before after : Server) (request : Request 
     → length (body_of request) < 2 ^ 64 → AnswersTo m before request result sent after → is_told_in_xml m ≡ true → IfOk result (λ status. TellsXml sent)
 method_told m before after request (Err e) sent later kept fits h is = tt
 method_told (Some method.PropFind) before after request (Ok status) sent later kept fits h is =
-    let found = h.0.does.1 in
+    let found = h.0.does.2 in
     record {
       document = subst IsDocument (sym found.told_is)
           (resources_are_read before.options.prefix h.0.who.principal h.0.who.now found.question found.resources (question_names (body_of request) found.question fits found.question_is)
           (each_tellable before after later kept before.options.prefix found.places found.resources found.described));
-      typed = h.0.does.2;
+      typed = ap (λ (s : Sent). sent_types s.fields) h.0.does.1;
     }
 method_told (Some method.PropPatch) before after request (Ok status) sent later kept fits h is =
     record {
       document = record { nodes = patch_nodes before.options.prefix (told_path (as_found before after).map h.path) h.patches.updates; is = patch_told before after request status sent fits h };
-      typed = h.patches.typed;
+      typed = ap (λ (s : Sent). sent_types s.fields) h.patches.tells;
     }
 method_told (Some method.Lock) before after request (Ok status) sent later kept fits h is = lock_told before after later kept request status sent fits h
 method_told _ before after request (Ok status) sent later kept fits h is = absurd (false≢true is)
@@ -151,4 +149,12 @@ method_told _ before after request (Ok status) sent later kept fits h is = absur
 pub answer_told : (begun before after : Server) (request : Request (List ℕ)) (response : Response) → IsNew begun → Becomes begun before → (h : Answers before request response after)
     → is_told_in_xml h.method ≡ true → IfOk h.result (λ status. TellsXml (sent_of response))
 answer_told begun before after request response new run h is =
-    method_told h.method before after request h.result (sent_of response) h.moves.moments (run_keeps begun before (begins_kept begun new) run) h.fits h.done is
+    by h.result (own_sent before request response after h)
+    (method_told h.method before after request h.result h.own h.moves.moments (run_keeps begun before (begins_kept begun new) run) h.fits h.done is)
+  where
+    by : (result : Result ℕ Fault) → OnOk result (sent_of response ≡ sent_behind (first_fields h.date) h.own) → IfOk result (λ status. TellsXml h.own) → IfOk result (λ status. TellsXml (sent_of response))
+    by (Ok status) sent told = record {
+      document = subst IsDocument (sym (ap (λ (s : Sent). s.body) sent)) told.document;
+      typed = ap (λ (s : Sent). sent_types s.fields) sent ∙ told.typed;
+    }
+    by (Err e) sent told = tt

@@ -9,7 +9,7 @@ use Rattle.dav_faults_core.specs.declared.faults.Fault.{Fault}
 use Rattle.dav_faults_core.specs.declared.faults.Fault.TheVariants as fault
 use Rattle.dav_fields_core.specs.Fields.{Sent}
 use Rattle.dav_methods_core.specs.RefusalAnswers.{NeedsMore}
-use Rattle.dav_handler_core.specs.Answers.{AnswersTo, Leaves}
+use Rattle.dav_handler_core.specs.Answers.{AnswersTo, Leaves, SendsOwn}
 use Rattle.dav_handler_core.specs.MethodAnswers.Unread.{memory}
 use Rattle.dav_handler_core.specs.Server.{Server}
 
@@ -61,3 +61,13 @@ leaves_untold (Some method.Move) before after request _ more h = inl h
 leaves_untold (Some method.Lock) before after request fault.InsufficientStorage more h = absurd (memory_is_enough more)
 leaves_untold (Some method.Lock) before after request _ more h = inl h
 leaves_untold _ before after request e more h = h
+
+-- what a method sends where it is done says nothing of a refusal
+pub refused_sends : (m : Option DavMethod) (before : Server) (request : Request (List ℕ)) (e : Fault) (sent : Sent) → SendsOwn m before request (Err e) sent
+refused_sends (Some method.Delete) before request e sent = tt
+refused_sends (Some method.MkCol) before request e sent = tt
+refused_sends (Some method.Unlock) before request e sent = tt
+refused_sends (Some method.Copy) before request e sent = tt
+refused_sends (Some method.Move) before request e sent = tt
+refused_sends (Some method.Options) before request e sent = tt
+refused_sends _ before request e sent = tt

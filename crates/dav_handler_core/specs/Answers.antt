@@ -1,5 +1,5 @@
 -- How the server answers a request: what it promises of the answer, and of what it leaves (RFC 9110 section 9, RFC 4918 sections 6, 7 and 9).
-use Rattle.std.specs.Prelude.{◌≡◌, ◌≢◌, ◌⊎◌, ℕ, ◌<◌, ◌≤◌, ◌^◌, length, List, Option, None, Some, Result, Ok, Err, IfErr, Contains}
+use Rattle.std.specs.Prelude.{◌≡◌, ◌≢◌, ◌⊎◌, ℕ, ◌<◌, ◌≤◌, ◌/◌, ◌^◌, length, List, [], Option, None, Some, Result, Ok, Err, IfErr, IfOk, OnOk, Contains}
 use Rattle.http.specs.declared.request.Request.{Request}
 use Rattle.http.specs.Request.{head_of, body_of}
 use Rattle.http_server.specs.declared.response.Response.{Response}
@@ -18,14 +18,17 @@ use Rattle.dav_faults_core.specs.declared.faults.Fault.TheVariants as fault
 use Rattle.dav_session_core.specs.Callers.{Asks, Caller, RunBy, Runs, SameLive}
 use Rattle.dav_methods_core.specs.CopyMethod.{StartsToCopy}
 use Rattle.dav_faults_core.specs.Faults.{fault_status}
-use Rattle.dav_fields_core.specs.Fields.{Sent, sent_of}
+use Rattle.dav_fields_core.specs.AnswerFields.{first_fields, options_fields}
+use Rattle.dav_fields_core.specs.Dates.{IsHttpDate}
+use Rattle.dav_fields_core.specs.Fields.{Field, Sent, sent_behind, nothing_sent, sent_of}
 use Rattle.dav_methods_core.specs.LockMethod.{Grants, IsAskedBy, LeavesUntold, Wanted}
 use Rattle.dav_methods_core.specs.MoveMethod.{StartsToMove}
+use Rattle.dav_methods_core.specs.CreatedPlaces.{TellsPlace}
 use Rattle.dav_methods_core.specs.RefusalAnswers.{TellsWhy}
 use Rattle.dav_session_core.specs.Refreshing.{RefreshesOwn}
 use Rattle.dav_methods_core.specs.UnlockMethod.{Unlocks}
 use Rattle.dav_handler_core.specs.Server.{Server, IsFrom, site_for}
-use Rattle.dav_handler_core.specs.RequestMoments.{Comes}
+use Rattle.dav_handler_core.specs.RequestMoments.{Comes, answer_moment, may_change}
 use Rattle.dav_handler_core.specs.MethodAnswers.{Begins, CopyAnswers, FindAnswers, GetAnswers, LockAnswers, MakeAnswers, MoveAnswers, PatchAnswers, PutAnswers, RemoveAnswers, UnlockAnswers, as_found}
 
 -- ---- the request
@@ -56,6 +59,19 @@ AnswersTo (Some method.Options) before request (Ok status) sent after = (status 
 AnswersTo (Some method.Options) before request (Err e) sent after = (e ≡ fault.InsufficientStorage) × (after.state ≡ before.state)
 AnswersTo _ before request result sent after = (result ≡ Err fault.NotImplemented) × (after.state ≡ before.state)
 
+-- What is sent by the methods that tell nothing of what stands at their path, where they are done; of the others `AnswersTo` says it. A COPY and a MOVE tell at which
+-- URL something was made.
+abbrev pub SendsOwn : Option DavMethod → Server → Request (List ℕ) → Result ℕ Fault → Sent → Type 0
+SendsOwn (Some method.Delete) before request result own = OnOk result (own ≡ nothing_sent)
+SendsOwn (Some method.MkCol) before request result own = OnOk result (own ≡ nothing_sent)
+SendsOwn (Some method.Unlock) before request result own = OnOk result (own ≡ nothing_sent)
+SendsOwn (Some method.Copy) before request result own =
+    IfOk result (λ status. TellsPlace (site_for before.options request) before.options.prefix (head_of request).headers status own)
+SendsOwn (Some method.Move) before request result own =
+    IfOk result (λ status. TellsPlace (site_for before.options request) before.options.prefix (head_of request).headers status own)
+SendsOwn (Some method.Options) before request result own = OnOk result (own ≡ record { fields = options_fields; body = [] })
+SendsOwn _ before request result own = Unit {0}
+
 -- ---- what every answer keeps to
 
 -- one lock of the caller's own ends, and nothing else changes, by a run of the caller's requests
@@ -77,7 +93,7 @@ pub record Locks (before after : Server) (who : Caller) : Type 0 where
   pub path : PathText
   pub does : LocksOne (as_found before after) who path after.state
 
--- Nothing was asked of the stores, or a run of requests of the caller whose request it is, none of which ends or refreshes a lock but that of an UNLOCK or a LOCK.
+-- Nothing was asked of the stores, or a run of requests of the caller whose request it is, none of which grants, ends or refreshes a lock but that of an UNLOCK or a LOCK.
 abbrev pub ByCaller : Server → Request (List ℕ) → Server → Type 0
 ByCaller before request after =
     (after.state ≡ before.state) ⊎ ((who : Caller) × IsFrom before.options request who × (who.now ≡ after.last)
@@ -113,6 +129,11 @@ abbrev pub status_of : Result ℕ Fault → ℕ
 status_of (Ok status) = status
 status_of (Err e) = fault_status e
 
+-- what is sent, behind the fields that stand first: what the method tells, or why it is refused
+abbrev pub SendsBehind : List Field → List ℕ → Result ℕ Fault → Sent → Sent → Type 0
+SendsBehind first prefix (Ok status) own sent = sent ≡ sent_behind first own
+SendsBehind first prefix (Err e) own sent = TellsWhy first prefix e sent
+
 pub record Answers (before : Server) (request : Request (List ℕ)) (response : Response) (after : Server) : Type 0 where
   pub moves : MayDo before request after
   -- the method, how it ended, and by which status
@@ -122,11 +143,17 @@ pub record Answers (before : Server) (request : Request (List ℕ)) (response : 
   pub fits : length (body_of request) < 2 ^ 64
   pub result : Result ℕ Fault
   pub status : response.status ≡ status_of result
-  pub done : AnswersTo method before request result (sent_of response) after
+  -- the fields of the method, and its body
+  pub own : Sent
+  pub done : AnswersTo method before request result own after
+  pub sends_own : SendsOwn method before request result own
+  -- the second of its moment stands before them
+  pub date : List ℕ
+  pub dated : IsHttpDate (answer_moment (may_change method request) before / 1_000_000_000) date
+  -- a refusal is told by its document, or by nothing beside its status
+  pub sends : SendsBehind (first_fields date) before.options.prefix result own (sent_of response)
   -- its moment, by the clock
   pub comes : Comes method before request result after
-  -- a refusal is told by its document, or by nothing beside its status
-  pub told : IfErr result (λ e. TellsWhy before.options.prefix e response)
   -- what is refused has changed nothing, but that a COPY or a MOVE that lacks memory may have begun, and a LOCK may have drawn a token
   pub refused : IfErr result (λ e. Leaves method before request e after)
   -- two locks that cover one path are both shared, and the map is a resource map

@@ -20,7 +20,7 @@ use Rattle.dav_handler_core.specs.MethodAnswers.{Admits, Begins, as_found}
 use Rattle.dav_handler_core.specs.Server.{Server, site_for}
 use Rattle.dav_session_core.specs.Callers.{Caller, live}
 use Rattle.dav_fields_core.specs.TransferDestinations.{overwrites}
-use Rattle.dav_fields_core.specs.Fields.{Sent}
+use Rattle.dav_fields_core.specs.Fields.{Sent, sent_parts, sent_tags}
 use Rattle.dav_fields_core.specs.FileTags.{standing_at}
 use Rattle.dav_fields_core.specs.Getting.{tags_by}
 use Rattle.dav_methods_core.specs.GetMethod.{get_outcome_of}
@@ -120,11 +120,11 @@ pub record SendsPart (before : Server) (request : Request (List ℕ)) (sent : Se
   pub end : ℕ
   pub asked : get_outcome_of method.Get before.state.map (segments path.bytes) resource (head_of request).headers ≡ Ok (Some (extent.Part first end))
   pub bytes : sent.body ≡ take (end - first) (drop first resource.node.bytes)
-  pub says : sent.marks.parts ≡ part_text first end (length resource.node.bytes) ∷ []
+  pub says : sent_parts sent.fields ≡ part_text first end (length resource.node.bytes) ∷ []
 
 -- the tag that is sent is that of the file that stands at the path of the request behind it, if a file does
 pub record SendsTag (before : Server) (request : Request (List ℕ)) (sent : Sent) (after : Server) : Type 0 where
   pub path : PathText
   pub who : Caller
   pub begins : Begins before request after path who
-  pub tags : sent.marks.tags ≡ tags_by (standing_at after.state.map (segments path.bytes))
+  pub tags : sent_tags sent.fields ≡ tags_by (standing_at after.state.map (segments path.bytes))

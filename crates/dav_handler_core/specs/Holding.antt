@@ -2,7 +2,7 @@
 use Rattle.std.specs.Prelude.{◌≡◌, ◌⊎◌, ℕ, true, false, List, Contains}
 use Rattle.http.specs.declared.request.Request.{Request}
 use Rattle.http.specs.Request.{head_of}
-use Rattle.dav_path_core.specs.Fronts.{Path}
+use Rattle.dav_path_core.specs.Fronts.{Path, is_front}
 use Rattle.dav_files_core.specs.Finding.{place}
 use Rattle.dav_locks_core.specs.Lock.{Lock}
 use Rattle.dav_locks_core.specs.Locks.{covers}
@@ -31,3 +31,20 @@ StandsUnlessEnded before request after = (l : Lock) → Lasts before after l →
 abbrev pub IsKeptUnlessHeld : Server → Request (List ℕ) → Server → Type 0
 IsKeptUnlessHeld before request after = (l : Lock) → Lasts before after l → l.shared ≡ false → (p : Path) → covers l p ≡ true
     → (place after.state.map p ≡ place before.state.map p) ⊎ IsHolders before request l
+
+-- the request is the holder's of a lock that lasts, which covers the path or one above it
+pub record IsHoldersAbove (before after : Server) (request : Request (List ℕ)) (p : Path)
+    : Type 0 where
+  pub lock : Lock
+  pub lasting : Lasts before after lock
+  pub holders : IsHolders before request lock
+  pub front : Path
+  pub is_above : is_front front p ≡ true
+  pub covered : covers lock front ≡ true
+
+-- a path that any one covers, shared or not, is as it was, or the request is the holder's of one at
+-- the path or above
+abbrev pub IsKeptUnderAny : Server → Request (List ℕ) → Server → Type 0
+IsKeptUnderAny before request after =
+    (l : Lock) → Lasts before after l → (p : Path) → covers l p ≡ true
+    → (place after.state.map p ≡ place before.state.map p) ⊎ IsHoldersAbove before after request p

@@ -9,7 +9,7 @@ use Rattle.dav_files_core.specs.Resources.{IsResourceMap, Resource, at_path}
 use Rattle.dav_locks_core.specs.Exclusive.{Exclusive}
 use Rattle.dav_locks_core.specs.Stale.{without_stale}
 use Rattle.dav_handler_core.specs.Server.{Server}
-use Rattle.dav_fields_core.specs.Fields.{Sent}
+use Rattle.dav_fields_core.specs.Fields.{Sent, sent_types}
 use Rattle.dav_documents_core.specs.KeptElements.{AreKept, IsDocument, IsKeptLock}
 use Rattle.dav_documents_core.specs.RefusalBodies.{xml_type}
 
@@ -33,7 +33,7 @@ pub record IsNew (s : Server) : Type 0 where
 -- what is told is a document, and told to be XML
 pub record TellsXml (sent : Sent) : Type 0 where
   pub document : IsDocument sent.body
-  pub typed : sent.types ≡ xml_type ∷ []
+  pub typed : sent_types sent.fields ≡ xml_type ∷ []
 
 -- what was done by one of these methods is told so
 abbrev pub is_told_in_xml : Option DavMethod → Bool

@@ -23,9 +23,8 @@ use Rattle.dav_faults_core.specs.declared.faults.Fault.TheVariants as fault
 use Rattle.dav_methods_core.specs.Admitting.{IsAdmitted, IsHeldOff}
 use Rattle.dav_session_core.specs.Callers.{Caller, live}
 use Rattle.dav_fields_core.specs.FileTags.{tag_of}
-use Rattle.dav_methods_core.specs.FolderPages.{IsPaged}
 use Rattle.dav_methods_core.specs.GetMethod.{FailsToGet, Gets}
-use Rattle.dav_fields_core.specs.Getting.{tag_marks}
+use Rattle.dav_fields_core.specs.AnswerFields.{tag_field}
 use Rattle.dav_methods_core.specs.LockMethod.{FailsToLock, IsGranted}
 use Rattle.dav_methods_core.specs.ProppatchMethod.{FailsToPatch, Patches}
 use Rattle.dav_methods_core.specs.PutMethod.{FailsToPut, Puts, put_status}
@@ -81,8 +80,7 @@ pub record IsGotten (m : DavMethod) (before : Server) (request : Request (List �
   pub who : Caller
   pub begins : Begins before request after path who
   pub admits : Admits before request after path
-  pub gets : Gets m before.state.map (segments path.bytes) (head_of request).headers status sent
-  pub page : IsPaged before.state.map path status sent.body
+  pub gets : Gets m before.state.map path (head_of request).headers status sent
 
 abbrev pub GetAnswers : DavMethod → Server → Request (List ℕ) → Result ℕ Fault → Sent → Server → Type 0
 GetAnswers m before request (Ok status) sent after = IsGotten m before request status sent after
@@ -90,7 +88,7 @@ GetAnswers m before request (Err e) sent after =
     Unread before.options request before.last false e
     ⊎ Fails before request after e (λ p who. FailsToGet m before.state.map p (head_of request).headers e)
 
--- A PUT that is done leaves the body at its path, and each other path what it had; its answer has the tag of that file.
+-- A PUT that is done leaves the body at its path, and each other path what it had; its answer has the tag of that file, and nothing else.
 pub record IsPut (before : Server) (request : Request (List ℕ)) (status : ℕ) (sent : Sent) (after : Server) : Type 0 where
   pub path : PathText
   pub who : Caller
@@ -100,7 +98,7 @@ pub record IsPut (before : Server) (request : Request (List ℕ)) (status : ℕ)
   pub course : change_course method.Put before.state.map (segments path.bytes) (head_of request).headers ≡ Ok tt
   pub status_is : status ≡ put_status before.state.map (segments path.bytes)
   pub puts : Puts before.state after.last (segments path.bytes) (body_of request) after.state
-  pub marks : sent.marks ≡ tag_marks (tag_of puts.file ∷ [])
+  pub tells : sent ≡ record { fields = tag_field (tag_of puts.file) ∷ []; body = [] }
 
 -- Else it says why not; a part of a file comes before any other reason.
 abbrev pub PutAnswers : Server → Request (List ℕ) → Result ℕ Fault → Sent → Server → Type 0

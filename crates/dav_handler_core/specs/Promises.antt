@@ -4,7 +4,6 @@ use Rattle.http.specs.declared.request.Request.{Request}
 use Rattle.http.specs.Request.{body_of, head_of}
 use Rattle.http_server.specs.declared.response.Response.{Response}
 use Rattle.http_server.specs.Exchange.{Call, Chain}
-use Rattle.http_frames.specs.Clients.{Turn}
 use Rattle.dav_path_core.specs.declared.util.DavMethod.{DavMethod}
 use Rattle.dav_path_core.specs.declared.util.DavMethod.TheVariants as method
 use Rattle.dav_path_core.specs.Fronts.{Path}
@@ -17,8 +16,8 @@ use Rattle.dav_handler_core.specs.Answers.{Answers}
 use Rattle.dav_handler_core.specs.Server.{Names, Server, site_for}
 use Rattle.dav_session_core.specs.Callers.{SameLive}
 use Rattle.dav_fields_core.specs.TransferDestinations.{IsDestination}
-use Rattle.dav_handler_core.specs.Holding.{IsKeptUnlessHeld, StandsUnlessEnded}
-use Rattle.dav_handler_core.specs.Serving.{Leads}
+use Rattle.dav_handler_core.specs.Holding.{IsKeptUnderAny, IsKeptUnlessHeld, StandsUnlessEnded}
+use Rattle.dav_handler_core.specs.Serving.{Done, Leads, Taken, Told, with_clock}
 use Rattle.dav_handler_core.specs.TagHistories.{Becomes}
 
 -- ---- which bytes stand at a path
@@ -70,7 +69,9 @@ GetsWhatIsLeft begun before request response _ = Unit {0}
 pub record KeepsTo (begun before : Server) (request : Request (List ℕ)) (response : Response) (after : Server) : Type 0 where
   -- a path under an exclusive lock changes only by a request that names its token under its principal
   pub changed : IsKeptUnlessHeld before request after
-  -- a lock is ended by its holder, or by time alone
+  -- one under any lock only by a request that names such a token of a lock at the path or above
+  pub any_changed : IsKeptUnderAny before request after
+  -- a lock is ended, or given another timeout, by its holder alone, and else ended by time alone
   pub ended : StandsUnlessEnded before request after
   pub answer : Answers before request response after
   pub got : GetsWhatIsLeft begun before request response answer.method
@@ -84,6 +85,10 @@ EachCall P s [] s' chain = Unit {0}
 EachCall P s (c ∷ calls) s' chain = P s c.0 c.1 chain.0 × EachCall P chain.0 calls s' chain.2
 
 -- of each request that the frames bring
-abbrev pub EachAnswer : (P : Server → Request (List ℕ) → Response → Server → Type 0) (s : Server) (turns : List Turn) (s' : Server) → Leads s turns s' → Type 0
+abbrev pub EachAnswer : (P : Server → Request (List ℕ) → Response → Server → Type 0) (s : Server)
+    (done : List Done) (s' : Server) → Leads s done s' → Type 0
 EachAnswer P s [] s' leads = Unit {0}
-EachAnswer P s (t ∷ turns) s' leads = EachCall P (record s { clock = leads.0 }) t.made leads.1 leads.2 × EachAnswer P leads.1 turns s' leads.3
+EachAnswer P s (Taken t told ∷ done) s' leads =
+    EachCall P (with_clock told s) t.made leads.0 leads.1 × EachAnswer P leads.0 done s' leads.2
+EachAnswer P s (Told moment ∷ done) s' leads =
+    EachAnswer P (with_clock (Some moment) s) done s' leads

@@ -1,5 +1,5 @@
 -- The moment at which a request comes (own).
-use Rattle.std.specs.Prelude.{◌≡◌, ◌⊎◌, ℕ, ◌+◌, max, Bool, true, false, List, Option, Some, Result, Err, if◌then◌else◌}
+use Rattle.std.specs.Prelude.{◌≡◌, ◌⊎◌, ℕ, ◌+◌, ◌-◌, ◌^◌, max, min, Bool, true, false, List, Option, Some, Result, Err, if◌then◌else◌}
 use Rattle.http.specs.declared.request.Request.{Request}
 use Rattle.http.specs.Request.{head_of}
 use Rattle.dav_path_core.specs.declared.util.DavMethod.{DavMethod}
@@ -14,6 +14,20 @@ use Rattle.dav_handler_core.specs.Server.{Server}
 -- the later of the clock and the last moment; of a request that may change something, the later of the clock and one behind the last
 abbrev pub moment_of : Bool → Server → ℕ
 moment_of changes before = max (if changes then before.last + 1 else before.last) before.clock
+
+-- whether a request may change something, by its method; a LOCK without a body gives a lock another end alone
+abbrev pub may_change : Option DavMethod → Request (List ℕ) → Bool
+may_change (Some method.Put) request = true
+may_change (Some method.Delete) request = true
+may_change (Some method.Copy) request = true
+may_change (Some method.Move) request = true
+may_change (Some method.MkCol) request = true
+may_change (Some method.Lock) request = has_body request
+may_change _ request = false
+
+-- the moment that its answer is dated by: that at which it comes where it begins, which is at most the last of all
+abbrev pub answer_moment : Bool → Server → ℕ
+answer_moment changes before = min (moment_of changes before) (2 ^ 64 - 1)
 
 -- A request that begins comes at its moment. One that can't be read leaves the last moment.
 pub data ComesAt (changes : Bool) (before : Server) (request : Request (List ℕ)) (result : Result ℕ Fault) (after : Server) : Type 0 where

@@ -1,45 +1,40 @@
 //! The server: an HTTP service over the stores (RFC 4918 section 9, RFC 9110 section 9).
-ghost use Rattle.std.specs.Prelude.{◌≡◌, ◌<◌, ◌≤◌, ◌⊎◌, [], true, IfOk, IfErr, OnErr, OnOk, Err, Option, Some, false};
+ghost use Rattle.std.specs.Prelude.{◌≡◌, ◌<◌, [], true, IfOk, IfErr, OnErr, Err, Option, Some, false};
 ghost use Rattle.http.specs.Request.{body_of, head_of};
+ghost use Rattle.http_header.specs.FieldValue.{IsFieldValue};
 ghost use Rattle.http_server.specs.Response.{IsBlank};
+ghost use Rattle.dav_fields_core.specs.AnswerFields.{first_fields, options_fields};
+ghost use Rattle.dav_fields_core.specs.Fields.{sent_behind, sent_of};
 ghost use Rattle.dav_path_core.specs.declared.util.DavMethod.{DavMethod};
 ghost use Rattle.dav_path_core.specs.declared.util.DavMethod.TheVariants as method;
 ghost use Rattle.dav_resource_core.specs.Stores.{state_of};
-ghost use Rattle.dav_handler_core.specs.MethodAnswers.{Admits, GetAnswers};
-ghost use Rattle.dav_handler_core.specs.Answers.{Answers, AnswersTo};
-ghost use Rattle.dav_handler_core.specs.Server.{IsFrom};
+ghost use Rattle.dav_handler_core.specs.Answers.{Answers};
 ghost use Rattle.dav_handler_core.specs.Answers.{IsMethod, MayDo};
-ghost use Rattle.dav_handler_core.specs.RequestMoments.{Comes, ComesAt, moment_of};
+ghost use Rattle.dav_handler_core.specs.RequestMoments.{Comes, ComesAt};
+ghost use Rattle.dav_handler_core.specs.RequestMoments.{may_change};
 ghost use Rattle.dav_handler_core.specs.MethodAnswers.{has_body};
-ghost use Rattle.dav_handler_core.specs.MethodAnswers.{LockAnswers, PatchAnswers};
-ghost use Rattle.dav_handler_core.specs.Server.{Names};
-ghost use Rattle.dav_handler_core.specs.MethodAnswers.{PutAnswers, Unread};
-ghost use Rattle.dav_handler_core.specs.MethodAnswers.{CopyAnswers, FindAnswers, MakeAnswers};
-ghost use Rattle.dav_handler_core.specs.MethodAnswers.{MoveAnswers, RemoveAnswers, UnlockAnswers};
-ghost use Rattle.dav_session_core.specs.Callers.{RunBy};
-ghost use Rattle.dav_handler_core.specs.Private.Begun.{IsBegun, IsHeld, IsOverladen};
-ghost use Rattle.dav_fields_core.specs.RequestRefusals.{IsLastMoment};
-ghost use Rattle.dav_handler_core.specs.ServerViews.{IsAnswered, Changed, LeftBy, Unchanged};
+ghost use Rattle.dav_handler_core.specs.ServerViews.{IsAnswered, IsGotBy, LeftBy};
+ghost use Rattle.dav_handler_core.specs.ServerViews.{Unchanged};
 ghost use Rattle.dav_handler_core.specs.ServerViews.{options_of, server};
-ghost use Rattle.dav_session_core.specs.Sessions.{caller};
 ghost use Rattle.dav_faults_core.specs.declared.faults.Fault.TheVariants as fault;
 
+mod beginning;
 mod laws;
 mod tag_laws;
 
 use bytes::Bytes;
 use dav_documents_core::bodies::fits;
-pub use dav_documents_core::laws::{kept_properties_are_read, refusals_are_read};
+pub use dav_documents_core::laws::{
+    kept_owners_are_read, kept_properties_are_read, refusals_are_read,
+};
 use dav_faults_core::faults::Fault;
 use dav_fields_core::bases::{Scheme, Site};
-use dav_fields_core::senders::{principal_of, tokens_of};
-use dav_fields_core::targets::target_of;
-use dav_methods_core::conditions::admit;
+use dav_fields_core::dates::date_bytes;
+use dav_fields_core::fields::add_date;
 use dav_methods_core::methods::{
     copy, delete, get, lock, mkcol, moving, options, propfind, proppatch, put, refresh, unlock,
 };
 use dav_methods_core::refusals::refuse;
-use dav_resource_core::davpath::DavPath;
 use dav_resource_core::errors::FsResult;
 use dav_resource_core::fs::Moment;
 use dav_resource_core::guarded::Guarded;
@@ -117,123 +112,24 @@ impl<R: Rng> Dav<R> {
         self.clock = now;
     }
 
-    // The moment of a request: the clock's, but not before the last one's, and behind it for a
-    // change.
-    fn moment(&self, changes: bool) -> Result<Moment, Fault>
-        ensures ok { IfOk result (λ moment. ((server R.stream self.now).last ≤ moment.0)
-            × (changes ≡ true → (server R.stream self.now).last < moment.0)) }
-        ensures moment { IfOk result (λ moment. moment.0
-            ≡ moment_of changes (server R.stream self.now)) }
-        ensures err { IfErr result (λ e. (e ≡ fault.ServiceUnavailable) × (changes ≡ true)
-            × IsLastMoment (server R.stream self.now).last) }
-    {
-        let last = self.session.now().0;
-        let least = if changes {
-            last.checked_add(1).ok_or(Fault::ServiceUnavailable)?
-        } else {
-            last
-        };
-        Ok(Moment(least.max(self.clock.0)))
-    }
-
-    // Names the caller of a request, and answers the path of its target.
-    fn begin(&mut self, request: &Request<Bytes>, changes: bool) -> Result<DavPath, Fault>
-        ensures ok { IfOk result (λ path. Names (server R.stream self.old).options request.now path
-            × IsFrom (server R.stream self.old).options request.now (caller self.new.session)
-            × (changes ≡ true
-            → (server R.stream self.old).last < (server R.stream self.new).last)) }
-        ensures err { IfErr result (λ e. Unread (server R.stream self.old).options request.now
-            (server R.stream self.old).last changes e) }
-        ensures moment { OnOk result ((server R.stream self.new).last
-            ≡ moment_of changes (server R.stream self.old)) }
-        ensures left { OnErr result ((server R.stream self.new).last
-            ≡ (server R.stream self.old).last) }
-        ensures state { (server R.stream self.new).state ≡ (server R.stream self.old).state }
-        ensures moments { (server R.stream self.old).last ≤ (server R.stream self.new).last }
-        ensures options { (server R.stream self.new).options ≡ (server R.stream self.old).options }
-        ensures clock { (server R.stream self.new).clock ≡ (server R.stream self.old).clock }
-    {
-        let path = target_of(self.alloc, request.uri(), &self.settings.prefix)?;
-        let principal = principal_of(self.alloc, request.headers(), &self.settings.user_header)?;
-        let site = Site::of(self.settings.scheme, request.uri());
-        let tokens = tokens_of(self.alloc, &site, request.headers())?;
-        let now = self.moment(changes)?;
-        self.session.begin(principal, tokens, now);
-        Ok(path)
-    }
-
-    // Begins a request, and looks at its `If`.
-    fn begin_admitted(&mut self, request: &Request<Bytes>, changes: bool) -> Result<DavPath, Fault>
-        ensures ok { IfOk result (λ path. IsBegun (server R.stream self.old) request.now changes
-            (server R.stream self.new) path (caller self.new.session)
-            × Admits (server R.stream self.old) request.now (server R.stream self.new) path) }
-        ensures err { IfErr result (λ e. Unread (server R.stream self.old).options request.now
-            (server R.stream self.old).last changes e
-            ⊎ IsHeld (server R.stream self.old) request.now (server R.stream self.new) e) }
-        ensures moment { OnOk result ((server R.stream self.new).last
-            ≡ moment_of changes (server R.stream self.old)) }
-        ensures comes { IfErr result (λ e. ComesAt changes (server R.stream self.old) request.now
-            (Err e) (server R.stream self.new)) }
-        ensures run { RunBy (caller self.new.session) (server R.stream self.old).state
-            (server R.stream self.new).state }
-        ensures live { Unchanged R.stream self.old self.new }
-        ensures moves { MayDo (server R.stream self.old) request.now (server R.stream self.new) }
-    {
-        let path = self.begin(request, changes)?;
-        let site = Site::of(self.settings.scheme, request.uri());
-        admit(
-            self.alloc,
-            &mut self.session,
-            &site,
-            request.headers(),
-            &path,
-        )?;
-        Ok(path)
-    }
-
-    // Begins a request whose method takes no body, and looks at its `If`. `UnsupportedMediaType`
-    // where it has one (RFC 4918 section 8.4).
-    fn begin_bare(&mut self, request: &Request<Bytes>, changes: bool) -> Result<DavPath, Fault>
-        ensures ok { IfOk result (λ path. IsBegun (server R.stream self.old) request.now changes
-            (server R.stream self.new) path (caller self.new.session)
-            × Admits (server R.stream self.old) request.now (server R.stream self.new) path
-            × (body_of request.now ≡ [])) }
-        ensures err { IfErr result (λ e. Unread (server R.stream self.old).options request.now
-            (server R.stream self.old).last changes e
-            ⊎ (IsHeld (server R.stream self.old) request.now (server R.stream self.new) e
-            ⊎ IsOverladen (server R.stream self.old) request.now (server R.stream self.new) e)) }
-        ensures moment { OnOk result ((server R.stream self.new).last
-            ≡ moment_of changes (server R.stream self.old)) }
-        ensures comes { IfErr result (λ e. ComesAt changes (server R.stream self.old) request.now
-            (Err e) (server R.stream self.new)) }
-        ensures run { RunBy (caller self.new.session) (server R.stream self.old).state
-            (server R.stream self.new).state }
-        ensures live { Unchanged R.stream self.old self.new }
-        ensures moves { MayDo (server R.stream self.old) request.now (server R.stream self.new) }
-    {
-        let path = self.begin_admitted(request, changes)?;
-        if !request.body().is_empty() {
-            return Err(Fault::UnsupportedMediaType);
-        }
-        Ok(path)
-    }
-
     // GET and HEAD.
     fn serve_get(
         &mut self,
         method: DavMethod,
         request: &Request<Bytes>,
+        date: &[u8],
         response: &mut Response,
     ) -> Result<StatusCode, Fault>
-        requires { IsBlank response.old }
-        ensures answers { IsAnswered R.stream (GetAnswers method) self.old request.now result
+        requires held { IsFieldValue date.now }
+        requires blank { IsBlank response.old }
+        ensures answers { IsGotBy R.stream method self.old request.now result date.now
             response.new self.new }
         ensures live { Unchanged R.stream self.old self.new }
         ensures comes { ComesAt false (server R.stream self.old) request.now result
             (server R.stream self.new) }
         ensures moves { MayDo (server R.stream self.old) request.now (server R.stream self.new) }
     {
-        let path = self.begin_admitted(request, false)?;
+        let path = self.begin_admitted(request, false, date, response)?;
         get::get(
             self.alloc,
             &mut self.session,
@@ -248,17 +144,19 @@ impl<R: Rng> Dav<R> {
     fn serve_propfind(
         &mut self,
         request: &Request<Bytes>,
+        date: &[u8],
         response: &mut Response,
     ) -> Result<StatusCode, Fault>
-        requires { IsBlank response.old }
-        ensures answers { IsAnswered R.stream FindAnswers self.old request.now result response.new
-            self.new }
+        requires held { IsFieldValue date.now }
+        requires blank { IsBlank response.old }
+        ensures answers { IsAnswered R.stream (Some method.PropFind) self.old request.now result
+            date.now response.new self.new }
         ensures live { Unchanged R.stream self.old self.new }
         ensures comes { ComesAt false (server R.stream self.old) request.now result
             (server R.stream self.new) }
         ensures moves { MayDo (server R.stream self.old) request.now (server R.stream self.new) }
     {
-        let path = self.begin_admitted(request, false)?;
+        let path = self.begin_admitted(request, false, date, response)?;
         propfind::propfind(
             self.alloc,
             &mut self.session,
@@ -275,11 +173,13 @@ impl<R: Rng> Dav<R> {
     fn serve_put(
         &mut self,
         request: &Request<Bytes>,
+        date: &[u8],
         response: &mut Response,
     ) -> Result<StatusCode, Fault>
-        requires { IsBlank response.old }
-        ensures answers { IsAnswered R.stream PutAnswers self.old request.now result response.new
-            self.new }
+        requires held { IsFieldValue date.now }
+        requires blank { IsBlank response.old }
+        ensures answers { IsAnswered R.stream (Some method.Put) self.old request.now result
+            date.now response.new self.new }
         ensures refused { OnErr result (Unchanged R.stream self.old self.new) }
         ensures comes { Comes (Some method.Put) (server R.stream self.old) request.now result
             (server R.stream self.new) }
@@ -288,7 +188,7 @@ impl<R: Rng> Dav<R> {
         if request.headers().contains_key("content-range") {
             return Err(Fault::BadRequest);
         }
-        let path = self.begin_admitted(request, true)?;
+        let path = self.begin_admitted(request, true, date, response)?;
         put::put(
             self.alloc,
             &mut self.session,
@@ -300,27 +200,43 @@ impl<R: Rng> Dav<R> {
     }
 
     // DELETE.
-    fn serve_delete(&mut self, request: &Request<Bytes>) -> Result<StatusCode, Fault>
-        ensures answers { Changed R.stream RemoveAnswers self.old request.now result self.new }
+    fn serve_delete(
+        &mut self,
+        request: &Request<Bytes>,
+        date: &[u8],
+        response: &mut Response,
+    ) -> Result<StatusCode, Fault>
+        requires held { IsFieldValue date.now }
+        requires blank { IsBlank response.old }
+        ensures answers { IsAnswered R.stream (Some method.Delete) self.old request.now result
+            date.now response.new self.new }
         ensures refused { OnErr result (Unchanged R.stream self.old self.new) }
         ensures comes { ComesAt true (server R.stream self.old) request.now result
             (server R.stream self.new) }
         ensures moves { MayDo (server R.stream self.old) request.now (server R.stream self.new) }
     {
-        let path = self.begin_bare(request, true)?;
+        let path = self.begin_bare(request, true, date, response)?;
         delete::delete(self.alloc, &mut self.session, request.headers(), path)
     }
 
     // COPY.
-    fn serve_copy(&mut self, request: &Request<Bytes>) -> Result<StatusCode, Fault>
-        ensures answers { Changed R.stream CopyAnswers self.old request.now result self.new }
+    fn serve_copy(
+        &mut self,
+        request: &Request<Bytes>,
+        date: &[u8],
+        response: &mut Response,
+    ) -> Result<StatusCode, Fault>
+        requires held { IsFieldValue date.now }
+        requires blank { IsBlank response.old }
+        ensures answers { IsAnswered R.stream (Some method.Copy) self.old request.now result
+            date.now response.new self.new }
         ensures refused { IfErr result (LeftBy R.stream (Some method.Copy) self.old request.now
             self.new) }
         ensures comes { ComesAt true (server R.stream self.old) request.now result
             (server R.stream self.new) }
         ensures moves { MayDo (server R.stream self.old) request.now (server R.stream self.new) }
     {
-        let path = self.begin_bare(request, true)?;
+        let path = self.begin_bare(request, true, date, response)?;
         let site = Site::of(self.settings.scheme, request.uri());
         copy::copy(
             self.alloc,
@@ -329,19 +245,28 @@ impl<R: Rng> Dav<R> {
             &self.settings.prefix,
             request.headers(),
             &path,
+            response,
         )
     }
 
     // MOVE.
-    fn serve_move(&mut self, request: &Request<Bytes>) -> Result<StatusCode, Fault>
-        ensures answers { Changed R.stream MoveAnswers self.old request.now result self.new }
+    fn serve_move(
+        &mut self,
+        request: &Request<Bytes>,
+        date: &[u8],
+        response: &mut Response,
+    ) -> Result<StatusCode, Fault>
+        requires held { IsFieldValue date.now }
+        requires blank { IsBlank response.old }
+        ensures answers { IsAnswered R.stream (Some method.Move) self.old request.now result
+            date.now response.new self.new }
         ensures refused { IfErr result (LeftBy R.stream (Some method.Move) self.old request.now
             self.new) }
         ensures comes { ComesAt true (server R.stream self.old) request.now result
             (server R.stream self.new) }
         ensures moves { MayDo (server R.stream self.old) request.now (server R.stream self.new) }
     {
-        let path = self.begin_bare(request, true)?;
+        let path = self.begin_bare(request, true, date, response)?;
         let site = Site::of(self.settings.scheme, request.uri());
         moving::relocate(
             self.alloc,
@@ -350,18 +275,27 @@ impl<R: Rng> Dav<R> {
             &self.settings.prefix,
             request.headers(),
             path,
+            response,
         )
     }
 
     // MKCOL.
-    fn serve_mkcol(&mut self, request: &Request<Bytes>) -> Result<StatusCode, Fault>
-        ensures answers { Changed R.stream MakeAnswers self.old request.now result self.new }
+    fn serve_mkcol(
+        &mut self,
+        request: &Request<Bytes>,
+        date: &[u8],
+        response: &mut Response,
+    ) -> Result<StatusCode, Fault>
+        requires held { IsFieldValue date.now }
+        requires blank { IsBlank response.old }
+        ensures answers { IsAnswered R.stream (Some method.MkCol) self.old request.now result
+            date.now response.new self.new }
         ensures refused { OnErr result (Unchanged R.stream self.old self.new) }
         ensures comes { ComesAt true (server R.stream self.old) request.now result
             (server R.stream self.new) }
         ensures moves { MayDo (server R.stream self.old) request.now (server R.stream self.new) }
     {
-        let path = self.begin_bare(request, true)?;
+        let path = self.begin_bare(request, true, date, response)?;
         mkcol::mkcol(self.alloc, &mut self.session, request.headers(), path)
     }
 
@@ -369,17 +303,19 @@ impl<R: Rng> Dav<R> {
     fn serve_proppatch(
         &mut self,
         request: &Request<Bytes>,
+        date: &[u8],
         response: &mut Response,
     ) -> Result<StatusCode, Fault>
-        requires { IsBlank response.old }
-        ensures answers { IsAnswered R.stream PatchAnswers self.old request.now result response.new
-            self.new }
+        requires held { IsFieldValue date.now }
+        requires blank { IsBlank response.old }
+        ensures answers { IsAnswered R.stream (Some method.PropPatch) self.old request.now result
+            date.now response.new self.new }
         ensures refused { OnErr result (Unchanged R.stream self.old self.new) }
         ensures comes { ComesAt false (server R.stream self.old) request.now result
             (server R.stream self.new) }
         ensures moves { MayDo (server R.stream self.old) request.now (server R.stream self.new) }
     {
-        let path = self.begin_admitted(request, false)?;
+        let path = self.begin_admitted(request, false, date, response)?;
         proppatch::proppatch(
             self.alloc,
             &mut self.session,
@@ -392,14 +328,22 @@ impl<R: Rng> Dav<R> {
     }
 
     // UNLOCK.
-    fn serve_unlock(&mut self, request: &Request<Bytes>) -> Result<StatusCode, Fault>
-        ensures answers { Changed R.stream UnlockAnswers self.old request.now result self.new }
+    fn serve_unlock(
+        &mut self,
+        request: &Request<Bytes>,
+        date: &[u8],
+        response: &mut Response,
+    ) -> Result<StatusCode, Fault>
+        requires held { IsFieldValue date.now }
+        requires blank { IsBlank response.old }
+        ensures answers { IsAnswered R.stream (Some method.Unlock) self.old request.now result
+            date.now response.new self.new }
         ensures refused { OnErr result (Unchanged R.stream self.old self.new) }
         ensures comes { ComesAt false (server R.stream self.old) request.now result
             (server R.stream self.new) }
         ensures moves { MayDo (server R.stream self.old) request.now (server R.stream self.new) }
     {
-        let path = self.begin_bare(request, false)?;
+        let path = self.begin_bare(request, false, date, response)?;
         unlock::unlock(self.alloc, &mut self.session, request.headers(), path)
     }
 
@@ -407,11 +351,13 @@ impl<R: Rng> Dav<R> {
     fn serve_lock(
         &mut self,
         request: &Request<Bytes>,
+        date: &[u8],
         response: &mut Response,
     ) -> Result<StatusCode, Fault>
-        requires { IsBlank response.old }
-        ensures answers { IsAnswered R.stream LockAnswers self.old request.now result response.new
-            self.new }
+        requires held { IsFieldValue date.now }
+        requires blank { IsBlank response.old }
+        ensures answers { IsAnswered R.stream (Some method.Lock) self.old request.now result
+            date.now response.new self.new }
         ensures refused { IfErr result (LeftBy R.stream (Some method.Lock) self.old request.now
             self.new) }
         ensures comes { ComesAt (has_body request.now) (server R.stream self.old) request.now result
@@ -419,9 +365,9 @@ impl<R: Rng> Dav<R> {
         ensures moves { MayDo (server R.stream self.old) request.now (server R.stream self.new) }
     {
         if request.body().is_empty() {
-            return self.serve_refresh(request, response);
+            return self.serve_refresh(request, date, response);
         }
-        let path = self.begin_admitted(request, true)?;
+        let path = self.begin_admitted(request, true, date, response)?;
         lock::lock(
             self.alloc,
             &mut self.session,
@@ -438,18 +384,20 @@ impl<R: Rng> Dav<R> {
     fn serve_refresh(
         &mut self,
         request: &Request<Bytes>,
+        date: &[u8],
         response: &mut Response,
     ) -> Result<StatusCode, Fault>
+        requires held { IsFieldValue date.now }
         requires blank { IsBlank response.old }
         requires no_body { body_of request.now ≡ [] }
-        ensures answers { IsAnswered R.stream LockAnswers self.old request.now result response.new
-            self.new }
+        ensures answers { IsAnswered R.stream (Some method.Lock) self.old request.now result
+            date.now response.new self.new }
         ensures refused { OnErr result (Unchanged R.stream self.old self.new) }
         ensures comes { ComesAt false (server R.stream self.old) request.now result
             (server R.stream self.new) }
         ensures moves { MayDo (server R.stream self.old) request.now (server R.stream self.new) }
     {
-        let path = self.begin_admitted(request, false)?;
+        let path = self.begin_admitted(request, false, date, response)?;
         refresh::refresh(
             self.alloc,
             &mut self.session,
@@ -461,15 +409,29 @@ impl<R: Rng> Dav<R> {
         )
     }
 
+    // OPTIONS.
+    fn serve_options(&self, date: &[u8], response: &mut Response) -> Result<StatusCode, Fault>
+        requires held { IsFieldValue date.now }
+        requires blank { IsBlank response.old }
+        ensures done { IfOk result (λ status. (status ≡ 200) × (sent_of response.new
+            ≡ sent_behind (first_fields date.now) (record { fields = options_fields; body = [] }))) }
+        ensures err { IfErr result (λ e. e ≡ fault.InsufficientStorage) }
+    {
+        add_date(self.alloc, response, date)?;
+        options::options(response)
+    }
+
     // By the method; any other than these is `NotImplemented`.
     fn answer_to(
         &mut self,
         method: DavMethod,
         request: &Request<Bytes>,
+        date: &[u8],
         response: &mut Response,
     ) -> Result<StatusCode, Fault>
-        requires { IsBlank response.old }
-        ensures done { IsAnswered R.stream (AnswersTo (Some method)) self.old request.now result
+        requires held { IsFieldValue date.now }
+        requires blank { IsBlank response.old }
+        ensures done { IsAnswered R.stream (Some method) self.old request.now result date.now
             response.new self.new }
         ensures refused { IfErr result (LeftBy R.stream (Some method) self.old request.now
             self.new) }
@@ -478,41 +440,65 @@ impl<R: Rng> Dav<R> {
         ensures moves { MayDo (server R.stream self.old) request.now (server R.stream self.new) }
     {
         match method {
-            DavMethod::Options => return options::options(response),
-            DavMethod::Get => return self.serve_get(DavMethod::Get, request, response),
-            DavMethod::Head => return self.serve_get(DavMethod::Head, request, response),
-            DavMethod::PropFind => return self.serve_propfind(request, response),
-            DavMethod::Put => return self.serve_put(request, response),
-            DavMethod::Delete => return self.serve_delete(request),
-            DavMethod::Copy => return self.serve_copy(request),
-            DavMethod::Move => return self.serve_move(request),
-            DavMethod::MkCol => return self.serve_mkcol(request),
-            DavMethod::PropPatch => return self.serve_proppatch(request, response),
-            DavMethod::Lock => return self.serve_lock(request, response),
-            DavMethod::Unlock => return self.serve_unlock(request),
+            DavMethod::Options => return self.serve_options(date, response),
+            DavMethod::Get => return self.serve_get(DavMethod::Get, request, date, response),
+            DavMethod::Head => return self.serve_get(DavMethod::Head, request, date, response),
+            DavMethod::PropFind => return self.serve_propfind(request, date, response),
+            DavMethod::Put => return self.serve_put(request, date, response),
+            DavMethod::Delete => return self.serve_delete(request, date, response),
+            DavMethod::Copy => return self.serve_copy(request, date, response),
+            DavMethod::Move => return self.serve_move(request, date, response),
+            DavMethod::MkCol => return self.serve_mkcol(request, date, response),
+            DavMethod::PropPatch => return self.serve_proppatch(request, date, response),
+            DavMethod::Lock => return self.serve_lock(request, date, response),
+            DavMethod::Unlock => return self.serve_unlock(request, date, response),
             _ => return Err(Fault::NotImplemented),
         }
     }
 
-    // By the method's name, which may be that of no method.
+    // By the method, where the request's word names one.
     fn answer(
         &mut self,
+        method: Option<DavMethod>,
         request: &Request<Bytes>,
+        date: &[u8],
         response: &mut Response,
     ) -> Result<StatusCode, Fault>
-        requires { IsBlank response.old }
-        ensures done { (method : Option DavMethod) × IsMethod method (head_of request.now).method
-            × IsAnswered R.stream (AnswersTo method) self.old request.now result response.new
-            self.new
-            × IfErr result (LeftBy R.stream method self.old request.now self.new)
-            × Comes method (server R.stream self.old) request.now result
+        requires held { IsFieldValue date.now }
+        requires blank { IsBlank response.old }
+        ensures done { IsAnswered R.stream method self.old request.now result date.now response.new
+            self.new }
+        ensures refused { IfErr result (LeftBy R.stream method self.old request.now self.new) }
+        ensures comes { Comes method (server R.stream self.old) request.now result
             (server R.stream self.new) }
         ensures moves { MayDo (server R.stream self.old) request.now (server R.stream self.new) }
     {
-        let Ok(method) = DavMethod::try_from(request.method()) else {
+        let Some(method) = method else {
             return Err(Fault::NotImplemented);
         };
-        self.answer_to(method, request, response)
+        self.answer_to(method, request, date, response)
+    }
+}
+
+// The method that the request's word names.
+fn method_of(request: &Request<Bytes>) -> Option<DavMethod>
+    ensures { IsMethod result (head_of request.now).method }
+{
+    match DavMethod::try_from(request.method()) {
+        Ok(method) => Some(method),
+        Err(_) => None,
+    }
+}
+
+// Whether a request may change something: a LOCK with a body, for one, may make a file.
+fn may_change(method: Option<DavMethod>, request: &Request<Bytes>) -> bool
+    ensures { result ≡ may_change method request.now }
+{
+    match method {
+        Some(DavMethod::Put | DavMethod::Delete | DavMethod::Copy) => true,
+        Some(DavMethod::Move | DavMethod::MkCol) => true,
+        Some(DavMethod::Lock) => !request.body().is_empty(),
+        _ => false,
     }
 }
 
@@ -526,9 +512,11 @@ impl<R: Rng> Service for Dav<R> {
         response: &mut Response,
     ) -> Result<(), AllocError> {
         fits(request.body());
-        match self.answer(request, response) {
+        let method = method_of(request);
+        let date = date_bytes(self.answer_moment(may_change(method, request)));
+        match self.answer(method, request, &date, response) {
             Ok(status) => response.status = status,
-            Err(fault) => refuse(self.alloc, response, &self.settings.prefix, &fault),
+            Err(fault) => refuse(self.alloc, response, &date, &self.settings.prefix, &fault),
         }
         Ok(())
     }

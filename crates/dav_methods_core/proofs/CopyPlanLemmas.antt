@@ -1,17 +1,17 @@
 -- What is copied, by the walk of the source.
-use Rattle.std.proofs.Common.{◌≡◌, ◌≢◌, inl, inr, suc, Bool, true, false, cond, not, List, [], ◌∷◌, ◌++◌, append-nil, append_assoc, map, Option, Some, None, refl, sym, ap, ◌∙◌, subst, arith}
+use Rattle.std.proofs.Common.{◌≡◌, inl, inr, Bool, true, false, cond, not, List, [], ◌∷◌, ◌++◌, append-nil, map, Option, Some, None, refl, sym, ap, ◌∙◌, subst, arith}
 use Rattle.std.specs.Prelude.{IsSome, filter_map, option_map}
-use Rattle.std.specs.List.{AllPairs, cons_option}
-use Rattle.std.proofs.lemmas.Bool.{cases_Bool, false≢true, not-true, true≢false, false_from_ne_true}
+use Rattle.std.specs.List.{cons_option}
+use Rattle.std.proofs.lemmas.Bool.{cases_Bool, false≢true, not-true}
 use Rattle.dav_path_core.specs.Fronts.{Path, behind, is_front}
 use Rattle.dav_path_core.proofs.lists.MemberLemmas.{In, In-Contains, Contains-In}
 use Rattle.dav_path_core.proofs.paths.FrontLemmas.{behind_append, behind_is}
 use Rattle.dav_files_core.specs.Resources.{ResourceMap, at_path}
 use Rattle.dav_session_core.specs.Copying.{AreCopied, source_and_target, is_copied}
 use Rattle.dav_methods_core.specs.TransferEnds.{ArePlaces, copies_of, copy_target}
-use Rattle.dav_session_core.specs.Subtrees.{IsSubtreeWalk}
-use Rattle.dav_session_core.proofs.CopyingLemmas.{cross_at}
-use Rattle.dav_path_core.proofs.paths.SubtreePaths.{Later, front_of, rest_of}
+use Rattle.dav_session_core.specs.Subtrees.{ComesBefore, IsSubtreeWalk}
+use Rattle.dav_session_core.proofs.WalkOrderLemmas.{pairs_later, without_front}
+use Rattle.dav_path_core.proofs.paths.SubtreePaths.{Later, front_of}
 use Rattle.dav_path_core.proofs.paths.SubtreePaths.{later_pairs}
 
 -- ---- lists of which some elements are taken over
@@ -43,11 +43,6 @@ module _ {A B : Type 0} (f : A → Option B) where
       by : (o : Option B) → f x ≡ o → Later Q (filter_map f xs) → Later Q (cons_option o (filter_map f xs))
       by None is rest = rest
       by (Some y) is rest = ((λ b i. let r = came_from b xs i in step x r.0 y b is r.2 (h.0 r.0 r.1)), rest)
-
-pairs_later : {A : Type 0} (R : A → A → Type 0) (xs : List A) → AllPairs R xs → Later R xs
-pairs_later R [] all = tt
-pairs_later R (x ∷ xs) all =
-    ((λ y i. cross_at R [] x xs y all i), pairs_later R xs (λ i j d lt inside. all (suc i) (suc j) d (omega (arith, lt)) (omega (arith, inside))))
 
 -- ---- what is copied
 
@@ -108,14 +103,11 @@ module _ (from to : Path) where
         (λ h.
             Contains-In _ _ (kept_in rest_at (from ++ rest) rest places (In-Contains _ _ ((walk.members (from ++ rest)).1 (front_of from rest, h.1))) (takes rest (out_so rest h.0)))),
       );
-      once = later_pairs (λ q r. q ≢ r) (rests_of places) (later_kept rest_at (λ q r. q ≢ r) (λ q r. q ≢ r)
-          (λ q z rest other at also apart same. apart ((taken q rest at).1 ∙ ap (λ r. from ++ r) same ∙ sym (taken z other also).1)) places (pairs_later (λ q r. q ≢ r) places walk.once));
-      order = later_pairs (λ q r. is_front r q ≡ false) (rests_of places) (later_kept rest_at (λ q r. is_front r q ≡ false) (λ q r. is_front r q ≡ false)
-          (λ q z rest other at also apart. false_from_ne_true _ (λ below.
-          let s = rest_of other rest below in
-          let split : q ≡ z ++ s.0 = (taken q rest at).1 ∙ ap (λ r. from ++ r) s.1 ∙ sym (append_assoc from other s.0) ∙ ap (λ p. p ++ s.0) (sym (taken z other also).1) in
-          true≢false (sym (ap (is_front z) split ∙ front_of z s.0) ∙ apart)))
-          places (pairs_later (λ q r. is_front r q ≡ false) places walk.order));
+      sorted = later_pairs ComesBefore (rests_of places) (later_kept rest_at ComesBefore ComesBefore
+          (λ q z rest other at also before. without_front from rest other
+          (subst (λ y. ComesBefore (from ++ rest) y) (taken z other also).1
+          (subst (λ y. ComesBefore y z) (taken q rest at).1 before)))
+          places (pairs_later ComesBefore places walk.sorted));
     }
 
   -- the source alone
@@ -129,8 +121,7 @@ module _ (from to : Path) where
         ]),
         (λ h. Contains-In ([] ∷ []) rest (itself rest h.0)),
       );
-      once = λ i j d lt inside. absurd (omega (arith, lt, inside));
-      order = λ i j d lt inside. absurd (omega (arith, lt, inside));
+      sorted = λ i j d lt inside. absurd (omega (arith, lt, inside));
     }
       where
         itself : (rest : Path) → is_copied false from to rest ≡ true → In rest ([] ∷ [])

@@ -46,8 +46,7 @@ module _ (who : Caller) (deep : Bool) (from to : Path) (s mid : State) (replaces
       (λ c. let one = (are.members rest).0 c in (one.0, stands rest one.0 ∙ one.1)),
       (λ one. (are.members rest).1 (one.0, sym (stands rest one.0) ∙ one.1)),
     );
-    once = are.once;
-    order = are.order;
+    sorted = are.sorted;
   }
     where
       stands : (rest : Path) → is_copied deep from to rest ≡ true → is_some (at_path mid.map (from ++ rest)) ≡ is_some (at_path s.map (from ++ rest))

@@ -12,11 +12,6 @@ use Rattle.dav_fields_core.proofs.ReadMarks.{IsKnown, known_entry}
 use Rattle.dav_methods_core.specs.FolderPages.{IsPage, IsPaged}
 
 module _ (m : ResourceMap) (path : PathText) (body : List ℕ) where
-  -- another status comes with no page
-  pub no_page : (n : ℕ) (X : Type 0) (result : Result ℕ Fault) → ¬ (n ≡ 200) → IfOk result (λ status. (status ≡ n) × X) → IfOk result (λ status. IsPaged m path status body)
-  no_page n X (Ok status) apart h = λ r here kind two_hundred. absurd (apart (sym h.0 ∙ two_hundred))
-  no_page n X (Err e) apart h = tt
-
   -- of what is known to be a folder, by a map that stayed
   pub whole_page : (other : ResourceMap) (known : Meta) (result : Result ℕ Fault) → IsKnown m (segments path.bytes) known → other ≡ m
       → OnOk result (known.kind ≡ Folder → IsPage other path body) → IfOk result (λ status. IsPaged m path status body)

@@ -1,11 +1,15 @@
 -- What a GET or a HEAD tells of what stands at a path, and why it is refused.
-use Rattle.std.proofs.Common.{◌≡◌, ◌⊎◌, inl, inr, ℕ, ◌-◌, [], ◌∷◌, length, Option, Some, None, Result, Ok, Err, refl, sym, ◌∙◌, ap, subst}
-use Rattle.std.specs.Prelude.{IfOk, IfErr, OnOk}
+use Rattle.std.proofs.Common.{◌≡◌, ◌⊎◌, inl, inr, ℕ, ◌-◌, ◌/◌, List, [], ◌∷◌, ◌++◌, length, Option, Some, None, Result, Ok, Err, refl, sym, ◌∙◌, ap, subst, arith}
+use Rattle.std.specs.Prelude.{IfOk, IfErr, OnOk, unwrap_or}
+use Rattle.std.specs.List.{last_or as last_of}
+use Rattle.std.proofs.lemmas.List.{append_assoc}
 use Rattle.http_header.specs.FieldValue.{FieldValue}
 use Rattle.http_header.specs.HeaderMap.{Entries}
 use Rattle.dav_path_core.specs.declared.util.DavMethod.{DavMethod}
 use Rattle.dav_path_core.specs.declared.util.DavMethod.TheVariants as method
 use Rattle.dav_path_core.specs.Fronts.{Path}
+use Rattle.dav_path_core.specs.PathText.{PathText}
+use Rattle.dav_path_core.specs.Segments.{segments}
 use Rattle.dav_files_core.specs.declared.memfs.Kind.{Kind}
 use Rattle.dav_files_core.specs.declared.memfs.Kind.TheVariants.{Folder, File}
 use Rattle.dav_files_core.specs.Meta.{Meta, meta_at}
@@ -17,32 +21,30 @@ use Rattle.dav_fields_core.specs.declared.preconditions.Course.{Course}
 use Rattle.dav_fields_core.specs.declared.preconditions.Course.TheVariants as course
 use Rattle.dav_fields_core.specs.declared.ranges.Extent.{Extent}
 use Rattle.dav_fields_core.specs.declared.ranges.Extent.TheVariants as extent
-use Rattle.dav_fields_core.specs.Fields.{Marks, Sent}
-use Rattle.dav_fields_core.specs.FileTags.{own_tags, standing_by, standing_known}
-use Rattle.dav_methods_core.specs.GetMethod.{FailsToGet, Gets, Tells, get_outcome, get_outcome_by, get_outcome_of}
-use Rattle.dav_fields_core.specs.Getting.{tag_marks, tags_by}
+use Rattle.http_server.specs.Response.{fields_of}
+use Rattle.http_server.specs.declared.response.Response.{Response}
+use Rattle.dav_fields_core.specs.AnswerFields.{modified_field, part_field, ranges_field, tag_field, tag_fields, type_field}
+use Rattle.dav_fields_core.specs.ContentTypes.{content_type}
+use Rattle.dav_fields_core.specs.Dates.{IsHttpDate}
+use Rattle.dav_fields_core.specs.Fields.{Field, SendsMore, Sent}
+use Rattle.dav_fields_core.specs.FileTags.{own_tags, standing_by, standing_known, tag_of}
+use Rattle.dav_methods_core.specs.GetMethod.{FailsToGet, Gets, HasFields, Tells, get_outcome, get_outcome_by, get_outcome_of, resource_fields}
+use Rattle.dav_methods_core.specs.FolderPages.{IsPaged, page_type}
+use Rattle.dav_methods_core.specs.Private.KnownFields.{HasKnownFields, known_fields}
+use Rattle.dav_methods_core.specs.PropertyAnswers.{last_or}
+use Rattle.dav_methods_core.proofs.SentLemmas.{sent_is}
+use Rattle.dav_fields_core.specs.Getting.{tags_by}
 use Rattle.dav_fields_core.specs.Preconditions.{course_of}
-use Rattle.dav_fields_core.specs.Marking.{IsNone, IsRead, and_part, and_tags}
+use Rattle.dav_fields_core.specs.Marking.{IsNone, IsRead}
 use Rattle.dav_fields_core.specs.Ranges.{part_text, unsatisfied_text}
 use Rattle.dav_fields_core.specs.LatestMoments.{latest_along}
 use Rattle.dav_fields_core.proofs.FileTagLemmas.{tags_known}
-use Rattle.dav_fields_core.proofs.ReadMarks.{IsKnown, known_entry, blank, unsatisfied_told, read_of, whole_read}
+use Rattle.dav_fields_core.proofs.ReadMarks.{IsKnown, known_entry, read_of, whole_read}
 
 -- ---- what is told is of the entry
 
 abbrev pub told_known : DavMethod → ResourceMap → Path → Meta → Entries FieldValue → Result (Option Extent) Fault
 told_known m map p known headers = get_outcome m (standing_known map p known) known.length headers
-
-pub gets : (m : DavMethod) (map : ResourceMap) (p : Path) (headers : Entries FieldValue) (known : Meta) (x : Result (Option Extent) Fault) (status : ℕ) (sent : Sent)
-    → IsKnown map p known → told_known m map p known headers ≡ x
-    → ((r : Resource) → at_path map p ≡ Some r → known ≡ meta_at r.node → Tells x r status sent) → Gets m map p headers status sent
-gets m map p headers known x status sent found is tells =
-    let entry = known_entry map p known found in
-    record {
-      resource = entry.0;
-      here = entry.1;
-      tells = subst (λ y. Tells y entry.0 status sent) (sym is ∙ ap (λ k. told_known m map p k headers) entry.2) (tells entry.0 entry.1 entry.2);
-    }
 
 pub fails : (m : DavMethod) (map : ResourceMap) (p : Path) (headers : Entries FieldValue) (known : Meta) (e : Fault) → IsKnown map p known
     → told_known m map p known headers ≡ Err e → FailsToGet m map p headers e
@@ -66,22 +68,48 @@ fails m map p headers known e found is = by (course_of m (standing_known map p k
     by (Some course.Whole) h = absurd (cc)
     by (Some course.Proceed) h = absurd (cc)
 
--- ---- marks
+-- ---- fields
 
-pub tag_told : (map : ResourceMap) (p : Path) (r : Resource) (known : Meta) (old new : Marks) → old ≡ blank → new ≡ and_tags (tags_by (standing_known map p known)) old → known ≡ meta_at r.node
-    → new ≡ tag_marks (own_tags r)
-tag_told map p r known old new none more same =
-    more ∙ ap (and_tags (tags_by (standing_known map p known))) none ∙ ap (λ k. tag_marks (tags_by (standing_known map p k))) same ∙ ap tag_marks (tags_known map p r)
+abbrev known_by : Path → List (List ℕ) → List ℕ → Kind → List Field
+known_by p tags date k = elim k [
+  | Folder ↦ modified_field date ∷ type_field page_type ∷ []
+  | File ↦ tag_fields tags ++ (modified_field date ∷ type_field (content_type (last_or [] p)) ∷ ranges_field ∷ [])
+]
 
-abbrev part_marks : ResourceMap → Path → ℕ → ℕ → Meta → Marks
-part_marks map p first end known = record { tags = tags_by (standing_known map p known); parts = part_text first end known.length ∷ [] }
+abbrev told_by : Path → Resource → List ℕ → Kind → List Field
+told_by p r date k = elim k [
+  | Folder ↦ modified_field date ∷ type_field page_type ∷ []
+  | File ↦ tag_field (tag_of r) ∷ modified_field date ∷ type_field (content_type (last_or [] p)) ∷ ranges_field ∷ []
+]
 
-pub part_told : (map : ResourceMap) (p : Path) (r : Resource) (known : Meta) (first end : ℕ) (old mid new : Marks) → old ≡ blank → mid ≡ and_part (part_text first end known.length) old
-    → new ≡ and_tags (tags_by (standing_known map p known)) mid → known ≡ meta_at r.node
-    → new ≡ record { tags = own_tags r; parts = part_text first end (length r.node.bytes) ∷ [] }
-part_told map p r known first end old mid new none part more same =
-    more ∙ ap (and_tags (tags_by (standing_known map p known))) (part ∙ ap (and_part (part_text first end known.length)) none) ∙ ap (part_marks map p first end) same
-    ∙ ap (λ tags. record { tags = tags; parts = part_text first end (length r.node.bytes) ∷ [] }) (tags_known map p r)
+-- those of what is known there are those of what stands there
+known_are : (p : Path) (r : Resource) (tags : List (List ℕ)) (date : List ℕ) → tags ≡ own_tags r → known_fields p (meta_at r.node) tags date ≡ resource_fields p r date
+known_are p r tags date is = by r.node.kind is
+  where
+    by : (k : Kind) → tags ≡ elim k [ Folder ↦ [] | File ↦ tag_of r ∷ [] ] → known_by p tags date k ≡ told_by p r date k
+    by Folder is = refl
+    by File is = ap (λ tags. tag_fields tags ++ (modified_field date ∷ type_field (content_type (last_or [] p)) ∷ ranges_field ∷ [])) is
+
+-- what is added is what is known of a file, or of a folder, which has no tags
+pub file_known : (p : Path) (known : Meta) (tags : List (List ℕ)) (date : List ℕ) → known.kind ≡ File
+    → tag_fields tags ++ (modified_field date ∷ type_field (content_type (last_or [] p)) ∷ ranges_field ∷ []) ≡ known_fields p known tags date
+file_known p known tags date kind = sym (ap (known_by p tags date) kind)
+
+pub page_known : (p : Path) (known : Meta) (tags : List (List ℕ)) (date : List ℕ) → known.kind ≡ Folder → modified_field date ∷ type_field page_type ∷ [] ≡ known_fields p known tags date
+page_known p known tags date kind = sym (ap (known_by p tags date) kind)
+
+pub folder_known : (first : List Field) (p : Path) (known : Meta) (a b : List (List ℕ)) (fields : List Field) → known.kind ≡ Folder → HasKnownFields first p known a fields
+    → HasKnownFields first p known b fields
+folder_known first p known a b fields kind h = record {
+  date = h.date;
+  dated = h.dated;
+  are = h.are ∙ ap (λ more. first ++ more) (sym (page_known p known a h.date kind) ∙ page_known p known b h.date kind);
+}
+
+-- the name of a path is its last segment
+pub name_is_last : (o : Option (List ℕ)) (p : Path) → unwrap_or (last_of o p) [] ≡ last_or (unwrap_or o []) p
+name_is_last o [] = refl
+name_is_last o (s ∷ p) = name_is_last (Some s) p
 
 -- ---- what can't be missing
 
@@ -117,48 +145,97 @@ pub told_is : (m : DavMethod) (map : ResourceMap) (p : Path) (known : Meta) (hea
 told_is m map p known headers standing size x at long is =
     sym (is ∙ ap (λ t. get_outcome m t size headers) at ∙ ap (λ n. get_outcome m (standing_known map p known) n headers) long)
 
-module _ (m : DavMethod) (map other : ResourceMap) (p : Path) (headers : Entries FieldValue) (known : Meta) (standing : Standing) (old : Marks) (sent : Sent)
-    (found : IsKnown map p known) (at : standing ≡ standing_known map p known) (none : old ≡ blank) (same : other ≡ map) where
+module _ (m : DavMethod) (map other : ResourceMap) (path : PathText) (headers : Entries FieldValue) (known : Meta) (standing : Standing) (old new : Response)
+    (found : IsKnown map (segments path.bytes) known) (at : standing ≡ standing_known map (segments path.bytes) known) (same : other ≡ map) where
+  abbrev p : Path
+  p = segments path.bytes
+
   abbrev IsTold : Result (Option Extent) Fault → Type 0
   IsTold x = told_known m map p known headers ≡ x
 
-  own : sent.marks ≡ and_tags (tags_by standing) old → sent.marks ≡ and_tags (tags_by (standing_known map p known)) old
-  own more = more ∙ ap (λ (t : Standing). and_tags (tags_by t) old) at
+  abbrev body : List ℕ
+  body = new.body.items
 
-  pub none_gotten : (result : Result ℕ Fault) → IsTold (Ok None) → sent.body ≡ []
-      → IfOk result (λ status. (status ≡ 304) × (sent.marks ≡ and_tags (tags_by standing) old)) → IfOk result (λ status. Gets m map p headers status sent)
+  entry : (r : Resource) × (at_path map p ≡ Some r) × (known ≡ meta_at r.node)
+  entry = known_entry map p known found
+
+  tags_are : tags_by standing ≡ own_tags entry.0
+  tags_are = ap tags_by at ∙ ap (λ k. tags_by (standing_known map p k)) entry.2 ∙ tags_known map p entry.0
+
+  -- what is told of the entry
+  gets : (x : Result (Option Extent) Fault) (status : ℕ) (sent : Sent) → IsTold x → Tells x p entry.0 status sent → IsPaged map path status sent.body → Gets m map path headers status sent
+  gets x status sent is tells page = record {
+    resource = entry.0;
+    here = entry.1;
+    tells = subst (λ y. Tells y p entry.0 status sent) (sym is ∙ ap (λ k. told_known m map p k headers) entry.2) tells;
+    page = page;
+  }
+
+  -- another status comes with no page
+  unpaged : (n status : ℕ) (told : List ℕ) → ¬ (n ≡ 200) → status ≡ n → IsPaged map path status told
+  unpaged n status told apart is r here kind two_hundred = absurd (apart (sym is ∙ two_hundred))
+
+  -- the fields of the entry, behind these
+  has_fields : (first fields : List Field) → HasKnownFields first p known (tags_by standing) fields → HasFields first p entry.0 fields
+  has_fields first fields h = record {
+    date = h.date;
+    dated = subst (λ (k : Meta). IsHttpDate (k.modified / 1_000_000_000) h.date) entry.2 h.dated;
+    are = h.are ∙ ap (λ (k : Meta). first ++ known_fields p k (tags_by standing) h.date) entry.2 ∙ ap (λ more. first ++ more) (known_are p entry.0 (tags_by standing) h.date tags_are);
+  }
+
+  pub none_gotten : (result : Result ℕ Fault) → IsTold (Ok None) → body ≡ []
+      → IfOk result (λ status. (status ≡ 304) × (fields_of new ≡ fields_of old ++ tag_fields (tags_by standing))) → IfOk result (λ status. SendsMore old new (Gets m map path headers status))
   none_gotten (Ok status) is empty h =
-      gets m map p headers known (Ok None) status sent found is (λ r here is. (h.0, tag_told map p r known old sent.marks none (own h.1) is, empty))
+      let sent : Sent = record { fields = tag_fields (own_tags entry.0); body = [] } in (
+        sent,
+        sent_is new (fields_of old ++ tag_fields (own_tags entry.0)) [] (h.1 ∙ ap (λ tags. fields_of old ++ tag_fields tags) tags_are) empty,
+        gets (Ok None) status sent is (h.0, refl) (unpaged 304 status [] (λ is. omega (arith, is)) h.0),
+      )
   none_gotten (Err e) is empty h = tt
 
   pub whole_gotten : (result : Result ℕ Fault) → IsTold (Ok (Some extent.Whole))
-      → IfOk result (λ status. (status ≡ 200) × (sent.marks ≡ and_tags (tags_by standing) old))
-      → OnOk result (known.kind ≡ File → IsRead other p 0 known.length sent.body) → IfOk result (λ status. Gets m map p headers status sent)
-  whole_gotten (Ok status) is h read =
-      gets m map p headers known (Ok (Some extent.Whole)) status sent found is (λ r here is.
-      (h.0, tag_told map p r known old sent.marks none (own h.1) is, whole_read r known map other p sent.body same here is read))
-  whole_gotten (Err e) is h read = tt
+      → IfOk result (λ status. (status ≡ 200) × HasKnownFields (fields_of old) p known (tags_by standing) (fields_of new))
+      → OnOk result (known.kind ≡ File → IsRead other p 0 known.length body) → IfOk result (λ status. IsPaged map path status body)
+      → IfOk result (λ status. SendsMore old new (Gets m map path headers status))
+  whole_gotten (Ok status) is h read page =
+      let has = has_fields (fields_of old) (fields_of new) h.1 in
+      let sent : Sent = record { fields = resource_fields p entry.0 has.date; body = body } in (
+        sent,
+        sent_is new (fields_of old ++ resource_fields p entry.0 has.date) body has.are refl,
+        gets (Ok (Some extent.Whole)) status sent is
+            (h.0, record { date = has.date; dated = has.dated; are = refl }, whole_read entry.0 known map other p body same entry.1 entry.2 read) page,
+      )
+  whole_gotten (Err e) is h read page = tt
 
   pub part_gotten : (first end : ℕ) (result : Result ℕ Fault) → IsTold (Ok (Some (extent.Part first end)))
-      → IfOk result (λ status. (status ≡ 206) × (sent.marks ≡ and_tags (tags_by standing) (and_part (part_text first end known.length) old)))
-      → OnOk result (IsRead other p first (end - first) sent.body) → IfOk result (λ status. Gets m map p headers status sent)
+      → IfOk result (λ status. (status ≡ 206) × HasKnownFields (fields_of old ++ part_field (part_text first end known.length) ∷ []) p known (tags_by standing) (fields_of new))
+      → OnOk result (IsRead other p first (end - first) body) → IfOk result (λ status. SendsMore old new (Gets m map path headers status))
   part_gotten first end (Ok status) is h read =
-      gets m map p headers known (Ok (Some (extent.Part first end))) status sent found is (λ r here is. (
-        h.0,
-        part_told map p r known first end old (and_part (part_text first end known.length) old) sent.marks none refl
-            (h.1 ∙ ap (λ (t : Standing). and_tags (tags_by t) (and_part (part_text first end known.length) old)) at) is,
-        read_of r map other p first (end - first) sent.body same read here,
-      ))
+      let part = part_field (part_text first end known.length) ∷ [] in
+      let has = has_fields (fields_of old ++ part) (fields_of new) h.1 in
+      let told = resource_fields p entry.0 has.date in
+      let sent : Sent = record { fields = part ++ told; body = body } in
+      let long : part ≡ part_field (part_text first end (length entry.0.node.bytes)) ∷ [] =
+      ap (λ (k : Meta). part_field (part_text first end k.length) ∷ []) entry.2 in (
+        sent,
+        sent_is new (fields_of old ++ (part ++ told)) body (has.are ∙ append_assoc (fields_of old) part told) refl,
+        gets (Ok (Some (extent.Part first end))) status sent is (
+          h.0,
+          record { date = has.date; dated = has.dated; are = ap (λ front. front ++ told) long },
+          read_of entry.0 map other p first (end - first) body same read entry.1,
+        ) (unpaged 206 status body (λ is. omega (arith, is)) h.0),
+      )
   part_gotten first end (Err e) is h read = tt
 
-  pub unsatisfied_gotten : (size : ℕ) (result : Result ℕ Fault) → IsTold (Ok (Some extent.Unsatisfiable)) → size ≡ known.length → sent.body ≡ []
-      → IfOk result (λ status. (status ≡ 416) × (sent.marks ≡ and_part (unsatisfied_text size) old)) → IfOk result (λ status. Gets m map p headers status sent)
+  pub unsatisfied_gotten : (size : ℕ) (result : Result ℕ Fault) → IsTold (Ok (Some extent.Unsatisfiable)) → size ≡ known.length → body ≡ []
+      → IfOk result (λ status. (status ≡ 416) × (fields_of new ≡ fields_of old ++ part_field (unsatisfied_text size) ∷ [])) → IfOk result (λ status. SendsMore old new (Gets m map path headers status))
   unsatisfied_gotten size (Ok status) is long empty h =
-      gets m map p headers known (Ok (Some extent.Unsatisfiable)) status sent found is (λ r here is. (
-        h.0,
-        unsatisfied_told r known old sent.marks none (h.1 ∙ ap (λ n. and_part (unsatisfied_text n) old) long) is,
-        empty,
-      ))
+      let told : List Field = part_field (unsatisfied_text (length entry.0.node.bytes)) ∷ [] in
+      let sent : Sent = record { fields = told; body = [] } in (
+        sent,
+        sent_is new (fields_of old ++ told) [] (h.1 ∙ ap (λ n. fields_of old ++ part_field (unsatisfied_text n) ∷ []) (long ∙ ap (λ (k : Meta). k.length) entry.2)) empty,
+        gets (Ok (Some extent.Unsatisfiable)) status sent is (h.0, refl) (unpaged 416 status [] (λ is. omega (arith, is)) h.0),
+      )
   unsatisfied_gotten size (Err e) is long empty h = tt
 
   pub part_fails : (first end : ℕ) (result : Result ℕ Fault) → IsTold (Ok (Some (extent.Part first end)))

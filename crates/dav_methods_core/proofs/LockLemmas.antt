@@ -26,19 +26,18 @@ use Rattle.dav_faults_core.specs.declared.faults.Fault.{Fault}
 use Rattle.dav_faults_core.specs.declared.faults.Fault.TheVariants as fault
 use Rattle.dav_session_core.specs.Callers.{Caller, SameLive, asking, live, refusing_at}
 use Rattle.dav_session_core.specs.Ends.{HasFolder}
-use Rattle.dav_fields_core.specs.Fields.{Sent, in_brackets}
+use Rattle.dav_fields_core.specs.Fields.{Sent}
 use Rattle.dav_session_core.specs.Granting.{AreAbove, HaveTokens, also_naming, granted_lock, stands_above, with_lock, with_token_drawn}
 use Rattle.dav_fields_core.specs.IfTokens.{is_among}
 use Rattle.dav_documents_core.specs.LockDocuments.{discovery_pieces}
 use Rattle.dav_fields_core.specs.LockTimeouts.{can_be_given, given_of, seconds_of}
 use Rattle.dav_methods_core.specs.ChangeConditions.{change_course}
 use Rattle.dav_methods_core.specs.ToldPaths.{told_path}
-use Rattle.dav_methods_core.specs.LockMethod.{CantBeRead, FailsToLock, Grants, HasRoom, IsGranted, IsInConflict, IsMadeThere, LeavesUntold, Wanted, Wants, lock_status, refusing_to_make}
+use Rattle.dav_methods_core.specs.LockMethod.{CantBeRead, FailsToLock, Grants, HasRoom, IsGranted, IsInConflict, IsMadeThere, LeavesUntold, Wanted, Wants, lock_sent, lock_status, refusing_to_make}
 use Rattle.dav_documents_core.specs.Pieces.{written_pieces}
 use Rattle.dav_session_core.specs.StoreRefusals.{put_fault}
 use Rattle.dav_session_core.specs.LocksInTheWay.{IsPathOfOne, is_lock_below}
 use Rattle.dav_methods_core.specs.Rooms.{FoundRoom, IsConflictAt, IsGrantedNow, IsMadeUnder, IsReadyToLock, IsUnmade, LacksRoom}
-use Rattle.dav_documents_core.specs.RefusalBodies.{xml_type}
 use Rattle.dav_fields_core.specs.RequestRefusals.{IsLastMoment}
 use Rattle.dav_path_core.proofs.lists.MemberLemmas.{append_none}
 use Rattle.dav_session_core.proofs.Asking.{live_once}
@@ -86,6 +85,12 @@ lock_stays now s l once fresh =
 pub above_free : (s : State) (who : Caller) (p : Path) → refusing_to_make s who p ≡ [] → refusing_at s who (parent p) ≡ []
 above_free s who p free =
     (append_none (refusing_at s who (parent p)) [] (append_none (refusing_at s who p) (refusing_at s who (parent p) ++ []) free).1).0
+
+-- and nothing the path itself
+pub there_free : (s : State) (who : Caller) (p : Path) → refusing_to_make s who p ≡ []
+    → refusing_at s who p ≡ []
+there_free s who p free =
+    (append_none (refusing_at s who p) (refusing_at s who (parent p) ++ []) free).0
 
 -- ---- what is left
 
@@ -216,9 +221,7 @@ module _ (most : Option ℕ) (headers : Entries FieldValue) (body : List ℕ) (s
       lock = lock;
       grants = grants_at wanted lock s' h.grants;
       status_is = h.status_is ∙ status_by s (segments path.bytes) missing who room;
-      named = h.named;
-      told = h.told ∙ ap (λ p. written_pieces (discovery_pieces prefix who.principal who.now (discovered_locks (s.locks ++ lock ∷ []) p))) same_path;
-      typed = h.typed;
+      tells = h.tells ∙ ap (λ p. lock_sent lock.token (written_pieces (discovery_pieces prefix who.principal who.now (discovered_locks (s.locks ++ lock ∷ []) p)))) same_path;
     }
 
 -- ---- what is taken back
@@ -284,19 +287,18 @@ module _ (s0 mid : State) (who asker : Caller) (path : PathText) (wanted : Wante
   still_there = ap (live who.now) left ∙ lock_stays who.now (live who.now s0) lock (live_once who.now s0) fresh_now
 
   module _ (free : lock_conflicts (live who.now s0).locks (segments path.bytes) wanted.shared wanted.deep ≡ []) (token : List ℕ) (named : token ≡ lock.token) where
-    pub granted_now : (prefix : List ℕ) (status : ℕ) (sent : Sent) (s' : State) → status ≡ (if missing then 201 else 200) → sent.tokens ≡ in_brackets token ∷ []
-        → sent.body ≡ written_pieces (discovery_pieces prefix asker.principal asker.now (discovered_locks (live asker.now mid).locks (segments path.bytes)))
-        → sent.types ≡ xml_type ∷ [] → IsMadeUnder mid asker token (segments path.bytes) missing s' → IsGrantedNow prefix (live who.now s0) who path wanted missing lock status sent s'
-    granted_now prefix status sent s' status_is shown told typed made =
+    pub granted_now : (prefix : List ℕ) (status : ℕ) (sent : Sent) (s' : State) → status ≡ (if missing then 201 else 200)
+        → sent ≡ lock_sent token (written_pieces (discovery_pieces prefix asker.principal asker.now (discovered_locks (live asker.now mid).locks (segments path.bytes))))
+        → IsMadeUnder mid asker token (segments path.bytes) missing s' → IsGrantedNow prefix (live who.now s0) who path wanted missing lock status sent s'
+    granted_now prefix status sent s' status_is told made =
         let made_by = subst (λ w. IsMadeUnder mid w lock.token (segments path.bytes) missing s') same
         (subst (λ t. IsMadeUnder mid asker t (segments path.bytes) missing s') named made) in
         record {
           grants = grants_by (live who.now s0) who path wanted lock (live_once who.now s0) ready.is_told is free fresh_now mid s' missing still_there ready.room made_by;
           status_is = status_is;
-          named = shown ∙ ap (λ t. in_brackets t ∷ []) named;
-          typed = typed;
-          told = told ∙ ap (λ (w : Caller). written_pieces (discovery_pieces prefix w.principal w.now (discovered_locks (live w.now mid).locks (segments path.bytes)))) same
-              ∙ ap (λ (t : State). written_pieces (discovery_pieces prefix who.principal who.now (discovered_locks t.locks (segments path.bytes)))) still_there;
+          tells = told ∙ ap (λ t. lock_sent t (written_pieces (discovery_pieces prefix asker.principal asker.now (discovered_locks (live asker.now mid).locks (segments path.bytes))))) named
+              ∙ ap (λ (w : Caller). lock_sent lock.token (written_pieces (discovery_pieces prefix w.principal w.now (discovered_locks (live w.now mid).locks (segments path.bytes))))) same
+              ∙ ap (λ (t : State). lock_sent lock.token (written_pieces (discovery_pieces prefix who.principal who.now (discovered_locks t.locks (segments path.bytes))))) still_there;
         }
 
     pub short_of : (e : Fault) (s' : State) → IsUnmade mid asker token (segments path.bytes) missing e s' → e ≡ fault.InsufficientStorage

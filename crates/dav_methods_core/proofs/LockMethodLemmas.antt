@@ -12,7 +12,8 @@ use Rattle.dav_locks_core.specs.Lock.{Lock}
 use Rattle.dav_locks_core.specs.Locks.{lock_conflicts}
 use Rattle.dav_resource_core.specs.Step.{State}
 use Rattle.dav_faults_core.specs.declared.faults.Fault.{Fault}
-use Rattle.dav_fields_core.specs.Fields.{Sent}
+use Rattle.http_server.specs.declared.response.Response.{Response}
+use Rattle.dav_fields_core.specs.Fields.{SendsMore}
 use Rattle.dav_session_core.specs.declared.session.Session.{Session}
 use Rattle.dav_session_core.specs.Sessions.{Looks, caller, live_of, state}
 use Rattle.dav_session_core.specs.Granting.{AreAbove, HaveTokens, granted_lock}
@@ -56,13 +57,16 @@ module _ (most : Option ℕ) (headers : Entries FieldValue) (body : List ℕ) (p
   })
 
   module _ {last : Session R} (s' : State) (looks : Looks stream old last) where
-    pub done : (prefix : List ℕ) (result : Result ℕ Fault) (sent : Sent) → change_course method.Lock s.map (segments path.bytes) headers ≡ Ok tt
-        → IfOk result (λ status. (lock : Lock) × IsGrantedNow prefix (live_of stream last) (caller last) place wanted missing lock status sent s')
-        → IfOk result (λ status. IsGranted most prefix headers body s (caller old) path status sent s')
-    done prefix (Ok status) sent course h =
-        granted_by most headers body s (caller old) path place kept prefix wanted missing h.0 status sent s' wants room course
-        (held_before (λ w t. IsGrantedNow prefix t w place wanted missing h.0 status sent s') looks h.1)
-    done prefix (Err e) sent course h = tt
+    pub done : (prefix : List ℕ) (result : Result ℕ Fault) (before after : Response) → change_course method.Lock s.map (segments path.bytes) headers ≡ Ok tt
+        → IfOk result (λ status. SendsMore before after (λ sent. (lock : Lock) × IsGrantedNow prefix (live_of stream last) (caller last) place wanted missing lock status sent s'))
+        → IfOk result (λ status. SendsMore before after (λ sent. IsGranted most prefix headers body s (caller old) path status sent s'))
+    done prefix (Ok status) before after course (sent, sends, (lock, h)) = (
+      sent,
+      sends,
+      granted_by most headers body s (caller old) path place kept prefix wanted missing lock status sent s' wants room course
+          (held_before (λ w t. IsGrantedNow prefix t w place wanted missing lock status sent s') looks h),
+    )
+    done prefix (Err e) before after course h = tt
 
     pub refused : (result : Result ℕ Fault) → change_course method.Lock s.map (segments path.bytes) headers ≡ Ok tt
         → IfErr result (λ e. IsConflictAt (lock_conflicts (live_of stream last).locks (segments place.bytes) wanted.shared wanted.deep) place e)

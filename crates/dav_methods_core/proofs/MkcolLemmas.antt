@@ -56,10 +56,12 @@ create_placed m m' p now h = by (at_path m (parent p)) refl h
 pub made : (headers : Entries FieldValue) (who : Caller) (s s' : State) (p : Path) (reply : Reply) → change_course method.MkCol s.map p headers ≡ Ok tt
     → Serves s (asking who (Command.MkCol p)) (Ok reply) s' → Makes headers s who p 201 s'
 made headers who s s' p reply lets h =
-    let placed = create_placed s.map s'.map p who.now (change_left (create_dir s.map p who.now) reply s'.map h.1.0) in
+    let made_so = change_left (create_dir s.map p who.now) reply s'.map h.1.0 in
+    let placed = create_placed s.map s'.map p who.now made_so in
     record {
       status_is = refl;
       course = lets;
+      free = h.0;
       nothing = placed.nothing;
       above = placed.above;
       stands = placed.stands;
@@ -67,6 +69,7 @@ made headers who s s' p reply lets h =
       folder = record { number = s.map.next; node = new_folder who.now };
       here = made_here s.map s'.map p who.now placed;
       new = refl;
+      made = made_so;
       changed = made_above s.map s'.map p who.now placed;
       others = made_others s.map s'.map p who.now placed;
       left = rebuilt s s' h.1.1;
@@ -140,3 +143,10 @@ pub unmakable : {A : Type 0} (who : Caller) (s : State) (p : Path) (result : Res
     → IfErr result (λ e. (e ≡ fault.InsufficientStorage) ⊎ ((e ≡ fault.Conflict) × IsNone s.map (parent p) Folder)) → IfErr result (λ e. CantMake s who p e)
 unmakable who s p (Ok x) free found h = tt
 unmakable who s p (Err e) free found h = nowhere_to_make who s p e free (unknown s.map p found) h
+
+-- ---- what can be made
+
+-- nothing stood where it is made
+pub made_nowhere : (m m' : ResourceMap) (p : Path) (now : ℕ) → create_dir m p now ≡ Ok (tt, m')
+    → at_path m p ≡ None
+made_nowhere m m' p now h = (create_placed m m' p now h).nothing

@@ -1,20 +1,12 @@
 -- How a refusal is told.
-use Rattle.std.proofs.Common.{◌≡◌, ◌≢◌, ◌⊎◌, inl, inr, ℕ, Bool, List, [], codes, None, refl, ap, ◌∙◌, arith}
+use Rattle.std.proofs.Common.{◌≡◌, ◌⊎◌, inl, inr, ℕ, List, [], refl, ap, ◌∙◌, arith}
 use Rattle.http_server.specs.Response.{IsResponse}
 use Rattle.http_server.specs.declared.response.Response.{Response}
 use Rattle.dav_faults_core.specs.Faults.{fault_status}
 use Rattle.dav_faults_core.specs.declared.faults.Fault.{Fault}
 use Rattle.dav_faults_core.specs.declared.faults.Fault.TheVariants as fault
-use Rattle.dav_fields_core.specs.Fields.{values_in}
-use Rattle.dav_documents_core.specs.RefusalBodies.{refusal_nodes}
-use Rattle.dav_methods_core.specs.RefusalAnswers.{IsToldOf, NeedsMore, TellsNothing, status_alone}
-
--- a status alone tells nothing
-pub told_nothing : (status : ℕ) (response : Response) → IsResponse status [] [] response → TellsNothing response
-told_nothing status response h = record {
-  body = h.body;
-  types = ap (λ fields. values_in fields (codes "content-type")) h.headers;
-}
+use Rattle.dav_fields_core.specs.Fields.{Field, nothing_sent, sent_of}
+use Rattle.dav_methods_core.specs.RefusalAnswers.{IsToldOf, NeedsMore, status_alone}
 
 -- its status is enough
 abbrev IsEnough : Fault → Type 0
@@ -42,40 +34,11 @@ enough fault.ServiceUnavailable = inl (λ more. elim more [ inl h ↦ omega (ari
 enough fault.InsufficientStorage = inl (λ more. elim more [ inl h ↦ omega (arith, h) | inr h ↦ omega (arith, h) ], refl)
 
 -- so a fault is told by its status alone
-pub told_alone : (prefix : List ℕ) (e : Fault) (response : Response) → IsResponse (status_alone e) [] [] response → IsToldOf prefix e response
-told_alone prefix e response h = elim (enough e) [
-  | inl is ↦ inl (h.status ∙ is.1, inr (inr (is.0, told_nothing (status_alone e) response h)))
-  | inr more ↦ inr (more.0, h.status ∙ more.1, told_nothing (status_alone e) response h)
+pub told_alone : (first : List Field) (prefix : List ℕ) (e : Fault) (response : Response) → IsResponse (status_alone e) [] [] response → IsToldOf first prefix e response
+told_alone first prefix e response h = elim (enough e) [
+  | inl is ↦ inl (h.status ∙ is.1, inr (is.0, nothing_of h))
+  | inr more ↦ inr (more.0, record { status = h.status ∙ more.1; headers = h.headers; body = h.body })
 ]
-
--- a fault that needs more has a document, or methods
-pub has_more : (prefix : List ℕ) (e : Fault) → NeedsMore e → ((folder : Bool) → e ≢ fault.MethodNotAllowed folder) → refusal_nodes prefix e ≢ None
-has_more prefix (fault.MemberLocked path) more other none = cc
-has_more prefix (fault.ConflictingMember at path) more other none = cc
-has_more prefix (fault.MethodNotAllowed folder) more other none = other folder refl
-has_more prefix (fault.Locked path) more other none = cc
-has_more prefix (fault.ConflictingLock path) more other none = cc
-has_more prefix fault.NoSuchLock more other none = cc
-has_more prefix fault.InfiniteDepth more other none = cc
-has_more prefix fault.BadRequest (inl h) other none = omega (arith, h)
-has_more prefix fault.BadRequest (inr h) other none = omega (arith, h)
-has_more prefix fault.Unauthorized (inl h) other none = omega (arith, h)
-has_more prefix fault.Unauthorized (inr h) other none = omega (arith, h)
-has_more prefix fault.Forbidden (inl h) other none = omega (arith, h)
-has_more prefix fault.Forbidden (inr h) other none = omega (arith, h)
-has_more prefix fault.NotFound (inl h) other none = omega (arith, h)
-has_more prefix fault.NotFound (inr h) other none = omega (arith, h)
-has_more prefix fault.Conflict (inl h) other none = omega (arith, h)
-has_more prefix fault.Conflict (inr h) other none = omega (arith, h)
-has_more prefix fault.PreconditionFailed (inl h) other none = omega (arith, h)
-has_more prefix fault.PreconditionFailed (inr h) other none = omega (arith, h)
-has_more prefix fault.UnsupportedMediaType (inl h) other none = omega (arith, h)
-has_more prefix fault.UnsupportedMediaType (inr h) other none = omega (arith, h)
-has_more prefix fault.NotImplemented (inl h) other none = omega (arith, h)
-has_more prefix fault.NotImplemented (inr h) other none = omega (arith, h)
-has_more prefix fault.BadGateway (inl h) other none = omega (arith, h)
-has_more prefix fault.BadGateway (inr h) other none = omega (arith, h)
-has_more prefix fault.ServiceUnavailable (inl h) other none = omega (arith, h)
-has_more prefix fault.ServiceUnavailable (inr h) other none = omega (arith, h)
-has_more prefix fault.InsufficientStorage (inl h) other none = omega (arith, h)
-has_more prefix fault.InsufficientStorage (inr h) other none = omega (arith, h)
+  where
+    nothing_of : IsResponse (status_alone e) [] [] response → sent_of response ≡ nothing_sent
+    nothing_of h = ap (λ fields. record { fields = fields; body = response.body.items }) h.headers ∙ ap (λ body. record { fields = []; body = body }) h.body

@@ -44,6 +44,10 @@ page path members =
     codes "<!DOCTYPE html>\n<html><head><meta charset=\"utf-8\"><title>" ++ page_text (full path) ++ codes "</title></head><body><h1>" ++ page_text (full path) ++ codes "</h1><ul>\n"
     ++ flat_map (link (url (full path)) (slash_between path)) members ++ codes "</ul></body></html>\n"
 
+-- its type
+abbrev pub page_type : List ℕ
+page_type = codes "text/html; charset=utf-8"
+
 -- the body is the page of the folder at the path, with each member once, by the bytes of its name
 abbrev pub IsPage : ResourceMap → PathText → List ℕ → Type 0
 IsPage m path body = (members : List (Segment × Meta)) × (read_dir m (segments path.bytes) ≡ Ok members) × (body ≡ page path members)

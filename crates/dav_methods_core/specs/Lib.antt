@@ -1,8 +1,8 @@
 pub mod Admitting
 pub mod ChangeConditions
 pub mod CopyMethod
+pub mod CreatedPlaces
 pub mod DeleteMethod
-pub mod PropfindMethod
 pub mod FolderPages
 pub mod GetMethod
 pub mod LockMethod
@@ -11,12 +11,15 @@ pub mod MoveMethod
 pub mod Placing
 pub mod Private
 pub mod PropertyAnswers
+pub mod PropfindMethod
 pub mod ProppatchMethod
 pub mod PutMethod
 pub mod Reaching
 pub mod RefreshMethod
 pub mod RefusalAnswers
 pub mod Rooms
+pub mod SameFaults
+pub mod SentDocuments
 pub mod ToldPaths
 pub mod TransferEnds
 pub mod UnlockMethod

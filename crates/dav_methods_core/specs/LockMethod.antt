@@ -20,7 +20,7 @@ use Rattle.dav_faults_core.specs.declared.faults.Fault.TheVariants as fault
 use Rattle.dav_session_core.specs.Callers.{Caller, as_caller, live}
 use Rattle.dav_fields_core.specs.Reaches.{reach_in}
 use Rattle.dav_session_core.specs.Ends.{HasFolder}
-use Rattle.dav_fields_core.specs.Fields.{Sent, in_brackets}
+use Rattle.dav_fields_core.specs.Fields.{Sent}
 use Rattle.dav_session_core.specs.Granting.{granted_lock, stands_above, with_lock, with_token_drawn}
 use Rattle.dav_documents_core.specs.LockDocuments.{discovery_pieces}
 use Rattle.dav_documents_core.specs.LockInfos.{LockInfo, lock_info_in}
@@ -28,6 +28,7 @@ use Rattle.dav_fields_core.specs.LockTimeouts.{given_of, timeouts_in}
 use Rattle.dav_session_core.specs.LocksInTheWay.{IsPathOfOne, is_lock_below}
 use Rattle.dav_documents_core.specs.Pieces.{written_pieces}
 use Rattle.dav_documents_core.specs.RefusalBodies.{xml_type}
+use Rattle.dav_fields_core.specs.AnswerFields.{token_field, type_field}
 use Rattle.dav_methods_core.specs.ChangeConditions.{change_course}
 use Rattle.dav_methods_core.specs.Placing.{target_by}
 use Rattle.dav_methods_core.specs.ToldPaths.{told_path}
@@ -98,6 +99,11 @@ pub record Grants (s : State) (who : Caller) (path : PathText) (wanted : Wanted)
 abbrev pub lock_status : ResourceMap → Path → ℕ
 lock_status m p = if has m p then 200 else 201
 
+-- the token of a lock, and a document
+abbrev pub lock_sent : List ℕ → List ℕ → Sent
+lock_sent token document =
+    record { fields = token_field token ∷ type_field xml_type ∷ []; body = document }
+
 -- A lock is granted as it is wanted. `Lock-Token` tells its token, and the body tells all locks
 -- that cover the path then.
 pub record IsGranted (most : Option ℕ) (prefix : List ℕ) (headers : Entries FieldValue)
@@ -109,10 +115,8 @@ pub record IsGranted (most : Option ℕ) (prefix : List ℕ) (headers : Entries 
   pub lock : Lock
   pub grants : Grants s who path wanted lock s'
   pub status_is : status ≡ lock_status s.map (segments path.bytes)
-  pub named : sent.tokens ≡ in_brackets lock.token ∷ []
-  pub told : sent.body ≡ written_pieces (discovery_pieces prefix who.principal who.now
-      (discovered_locks (s.locks ++ lock ∷ []) (segments path.bytes)))
-  pub typed : sent.types ≡ xml_type ∷ []
+  pub tells : sent ≡ lock_sent lock.token (written_pieces (discovery_pieces prefix who.principal
+      who.now (discovered_locks (s.locks ++ lock ∷ []) (segments path.bytes))))
 
 -- ---- refusals
 

@@ -33,13 +33,14 @@ CanMake s who p =
     (locks_against_making s who p ≡ [])
     × ((m : ResourceMap) × (create_dir s.map p who.now ≡ Ok (tt, m)))
 
--- 201. Where nothing stood there is a new folder; the folder that it stands in was changed at the
--- moment; each other path has what it had; and so have the locks. The conditions of HTTP let it be
--- made.
+-- 201. No lock refused it, and where nothing stood there is a new folder; the folder that it stands
+-- in was changed at the moment; each other path has what it had; and so have the locks. The
+-- conditions of HTTP let it be made.
 pub record Makes (headers : Entries FieldValue) (s : State) (who : Caller) (p : Path) (status : ℕ)
     (s' : State) : Type 0 where
   pub status_is : status ≡ 201
   pub course : change_course method.MkCol s.map p headers ≡ Ok tt
+  pub free : locks_against_making s who p ≡ []
   pub nothing : at_path s.map p ≡ None
   pub above : Resource
   pub stands : at_path s.map (parent p) ≡ Some above
@@ -47,6 +48,7 @@ pub record Makes (headers : Entries FieldValue) (s : State) (who : Caller) (p : 
   pub folder : Resource
   pub here : at_path s'.map p ≡ Some folder
   pub new : IsNewFolder who.now folder
+  pub made : create_dir s.map p who.now ≡ Ok (tt, s'.map)
   pub changed : at_path s'.map (parent p) ≡ Some (dated_entry who.now above)
   pub others : (q : Path) → q ≢ p → q ≢ parent p → at_path s'.map q ≡ at_path s.map q
   pub left : s' ≡ record s { map = s'.map }

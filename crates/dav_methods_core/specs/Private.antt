@@ -1,2 +1,3 @@
+pub mod KnownFields
 pub mod Telling
 pub mod Transfers

@@ -17,7 +17,7 @@ use Rattle.dav_session_core.specs.DepthPlaces.{AreWithin}
 use Rattle.dav_methods_core.specs.PropertyAnswers.{Describes}
 use Rattle.dav_documents_core.specs.PropertyDocuments.{Description, multistatus}
 use Rattle.dav_documents_core.specs.PropertyQuestions.{Question, question_in}
-use Rattle.dav_documents_core.specs.RefusalBodies.{xml_type}
+use Rattle.dav_methods_core.specs.SentDocuments.{document_sent}
 use Rattle.dav_session_core.specs.Subtrees.{HasOddName}
 
 -- what is told of each place, in order
@@ -43,12 +43,12 @@ pub record Finds (finite : Bool) (prefix : List ℕ) (headers : Entries FieldVal
   pub described : DescribesEach prefix s places resources
   pub told_is : told ≡ written_pieces (multistatus prefix who.principal who.now question resources)
 
--- 207, with that body, which is told to be XML
+-- 207, with that body as a document
 abbrev pub TellsFound : Bool → List ℕ → Entries FieldValue → List ℕ → Sent → State → Caller → Path
     → ℕ → State → Type 0
 TellsFound finite prefix headers body sent s who p status s' =
-    (status ≡ 207) × Finds finite prefix headers body s who p sent.body
-    × (sent.types ≡ xml_type ∷ [])
+    (status ≡ 207) × (sent ≡ document_sent sent.body)
+    × Finds finite prefix headers body s who p sent.body
 
 -- Each refusal, and where it comes: first a depth that can't be read; then all the way down, where
 -- the server refuses that; then a body that asks for nothing of the kind; then nothing stands

@@ -1,5 +1,5 @@
 -- What a PROPPATCH leaves and tells, and why it is refused (RFC 4918 section 9.2).
-use Rattle.std.specs.Prelude.{◌≡◌, ℕ, Bool, true, false, List, [], ◌∷◌, None, Some, Ok}
+use Rattle.std.specs.Prelude.{◌≡◌, ℕ, Bool, true, false, List, [], None, Some, Ok}
 use Rattle.std.specs.Prelude.{IsSome}
 use Rattle.http_header.specs.FieldValue.{FieldValue}
 use Rattle.http_header.specs.HeaderMap.{Entries}
@@ -16,7 +16,7 @@ use Rattle.dav_session_core.specs.Callers.{Caller, SameLive, refusing_at}
 use Rattle.dav_fields_core.specs.Fields.{Sent}
 use Rattle.dav_session_core.specs.LocksInTheWay.{IsPathOfOne}
 use Rattle.dav_documents_core.specs.PatchBodies.{any_protected, patch_nodes}
-use Rattle.dav_documents_core.specs.RefusalBodies.{xml_type}
+use Rattle.dav_methods_core.specs.SentDocuments.{document_sent}
 use Rattle.dav_documents_core.specs.PropertyUpdates.{Update, updates_in}
 use Rattle.dav_session_core.specs.Patching.{IsPatched}
 use Rattle.dav_methods_core.specs.ChangeConditions.{IsStopped, change_course}
@@ -38,8 +38,8 @@ pub record Patches (prefix : List ℕ) (headers : Entries FieldValue) (body : Li
   pub free : refusing_at s who (segments path.bytes) ≡ []
   pub course : change_course method.PropPatch s.map (segments path.bytes) headers ≡ Ok tt
   pub changes : Changes (any_protected updates) who.now (segments path.bytes) updates s s'
-  pub tells : sent.body ≡ document_bytes (patch_nodes prefix (told_path s.map path) updates)
-  pub typed : sent.types ≡ xml_type ∷ []
+  pub tells : sent ≡ document_sent
+      (document_bytes (patch_nodes prefix (told_path s.map path) updates))
 
 -- All but the conditions: the body asks for updates of what stands there, and no lock refuses it.
 pub record CanPatch (body : List ℕ) (s : State) (who : Caller) (p : Path) : Type 0 where

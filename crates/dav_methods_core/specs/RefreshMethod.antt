@@ -18,7 +18,7 @@ use Rattle.dav_methods_core.specs.ChangeConditions.{change_course}
 use Rattle.dav_documents_core.specs.LockDocuments.{discovery_pieces}
 use Rattle.dav_fields_core.specs.LockTimeouts.{given_of, timeouts_in}
 use Rattle.dav_documents_core.specs.Pieces.{written_pieces}
-use Rattle.dav_documents_core.specs.RefusalBodies.{xml_type}
+use Rattle.dav_methods_core.specs.SentDocuments.{document_sent}
 use Rattle.dav_session_core.specs.Unlocking.{IsAnothers}
 use Rattle.dav_session_core.specs.Refreshing.{RefreshesOwn}
 
@@ -69,9 +69,8 @@ pub record Refreshes (most : Option ℕ) (prefix : List ℕ) (headers : Entries 
   pub timeout_is : timeout ≡ next_timeout most timeouts token (discovered_locks s.locks p)
   pub course : change_course method.Lock s.map p headers ≡ Ok tt
   pub refreshes : RefreshesOwn s who p token timeout s'
-  pub told : sent.body ≡ written_pieces (discovery_pieces prefix who.principal who.now
-      (retimed_locks who.now token timeout (discovered_locks s.locks p)))
-  pub typed : sent.types ≡ xml_type ∷ []
+  pub tells : sent ≡ document_sent (written_pieces (discovery_pieces prefix who.principal who.now
+      (retimed_locks who.now token timeout (discovered_locks s.locks p))))
 
 -- ---- refusals
 

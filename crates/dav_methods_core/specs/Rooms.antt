@@ -16,7 +16,7 @@ use Rattle.dav_faults_core.specs.declared.faults.Fault.TheVariants as fault
 use Rattle.dav_methods_core.specs.declared.methods.lock.Wanted.{Wanted}
 use Rattle.dav_session_core.specs.Callers.{Caller, RunBy, SameLive, asking, live}
 use Rattle.dav_session_core.specs.Ends.{HasFolder}
-use Rattle.dav_fields_core.specs.Fields.{Sent, in_brackets}
+use Rattle.dav_fields_core.specs.Fields.{Sent}
 use Rattle.dav_session_core.specs.Granting.{AreAbove, HaveTokens, also_naming, granted_lock}
 use Rattle.dav_session_core.specs.Granting.{with_lock}
 use Rattle.dav_documents_core.specs.LockDocuments.{discovery_pieces}
@@ -25,7 +25,6 @@ use Rattle.dav_session_core.specs.LocksInTheWay.{IsPathOfOne, is_lock_below}
 use Rattle.dav_documents_core.specs.Pieces.{written_pieces}
 use Rattle.dav_fields_core.specs.Marking.{IsNone}
 use Rattle.dav_session_core.specs.StoreRefusals.{put_fault}
-use Rattle.dav_documents_core.specs.RefusalBodies.{xml_type}
 use Rattle.dav_methods_core.specs.ToldPaths.{told_path}
 
 -- what the code wants, as plain data
@@ -106,10 +105,8 @@ pub record IsGrantedNow (prefix : List ℕ) (s : State) (who : Caller) (path : P
     (s' : State) : Type 0 where
   pub grants : locking.Grants s who path wanted lock s'
   pub status_is : status ≡ (if missing then 201 else 200)
-  pub named : sent.tokens ≡ in_brackets lock.token ∷ []
-  pub told : sent.body ≡ written_pieces (discovery_pieces prefix who.principal who.now
-      (discovered_locks (s.locks ++ lock ∷ []) (segments path.bytes)))
-  pub typed : sent.types ≡ xml_type ∷ []
+  pub tells : sent ≡ locking.lock_sent lock.token (written_pieces (discovery_pieces prefix
+      who.principal who.now (discovered_locks (s.locks ++ lock ∷ []) (segments path.bytes))))
 
 -- What a LOCK leaves that is refused: all is as it was; or memory was lacking once the lock was
 -- granted.

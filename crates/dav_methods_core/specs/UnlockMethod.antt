@@ -28,14 +28,15 @@ pub record CanUnlock (headers : Entries FieldValue) (s : State) (who : Caller) (
   pub covered : has_token s p token ≡ true
   pub own : ¬ IsAnothers s who p token
 
--- 204. The lock whose token is named is gone; it covered the path; and the conditions of HTTP let
--- it end.
+-- 204. The lock whose token is named is gone; it covered the path, and none with its token there or
+-- above was another's; and the conditions of HTTP let it end.
 pub record Unlocks (headers : Entries FieldValue) (s : State) (who : Caller) (p : Path) (status : ℕ)
     (s' : State) : Type 0 where
   pub status_is : status ≡ 204
   pub token : List ℕ
   pub names : NamesToken headers token
   pub covered : has_token s p token ≡ true
+  pub own : ¬ IsAnothers s who p token
   pub course : change_course method.Unlock s.map p headers ≡ Ok tt
   pub ends : EndsOwn s who p token s'
 

@@ -76,7 +76,8 @@ pub(crate) fn is_folder(meta: &MemFsMeta) -> bool
     meta.is_dir()
 }
 
-fn modified_of(meta: &MemFsMeta) -> Moment
+/// The moment of its last change.
+pub(crate) fn modified_of(meta: &MemFsMeta) -> Moment
     ensures { result.0 ≡ (meta_of meta.now).modified }
 {
     meta.modified().unwrap()

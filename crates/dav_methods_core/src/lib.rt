@@ -3,6 +3,7 @@
 
 pub mod conditions;
 pub mod describing;
+pub mod laws;
 pub mod methods;
 pub mod pages;
 pub mod refusals;

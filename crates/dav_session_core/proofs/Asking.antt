@@ -24,7 +24,7 @@ use Rattle.dav_resource_core.proofs.StepLaws.{Same-equal, Same-refl, outcome}
 use Rattle.dav_faults_core.specs.declared.faults.Fault.{Fault}
 use Rattle.dav_faults_core.specs.declared.faults.Fault.TheVariants as fault
 use Rattle.dav_session_core.specs.StoreRefusals.{list_fault}
-use Rattle.dav_session_core.specs.Callers.{Asks, Caller, RunBy, asking, ends_or_refreshes, is_look, live, SameLive}
+use Rattle.dav_session_core.specs.Callers.{Asks, Caller, RunBy, asking, changes_locks, is_look, live, SameLive}
 use Rattle.dav_session_core.proofs.CallerLaws.{asks_of}
 use Rattle.dav_resource_core.proofs.Telling.{list_refused, meta_missing}
 
@@ -36,7 +36,7 @@ by_join who s mid s' h k = record {
   answers = h.answers ++ k.answers;
   run = subst (λ rs. Run s rs (h.answers ++ k.answers) s') (sym (map-append (asking who) h.commands k.commands))
       (run_join s mid s' (map (asking who) h.commands) (map (asking who) k.commands) h.answers k.answers h.run k.run);
-  keeps = list_any-append ends_or_refreshes h.commands k.commands ∙ or_from _ _ h.keeps k.keeps;
+  keeps = list_any-append changes_locks h.commands k.commands ∙ or_from _ _ h.keeps k.keeps;
 }
 
 pub asks_join : (who : Caller) (s mid s' : State) → Asks who s mid → Asks who mid s' → Asks who s s'

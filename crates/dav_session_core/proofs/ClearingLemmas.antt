@@ -85,6 +85,7 @@ fresh_removed now p s s' h = record {
   gone = h.gone;
   above = h.above;
   others = h.others;
+  next = h.next;
   locks = ap (without_stale now) h.locks ∙ fresh_below now p s.locks;
   rng = h.rng;
 }

@@ -24,6 +24,7 @@ use Rattle.dav_faults_core.specs.declared.faults.Fault.{Fault}
 use Rattle.dav_faults_core.specs.declared.faults.Fault.TheVariants as fault
 use Rattle.dav_session_core.proofs.Asking.{live_once}
 use Rattle.dav_session_core.proofs.CopyMadeLemmas.{Ends, can_copy, copy_ends, nothing_below}
+use Rattle.dav_session_core.proofs.WalkOrderLemmas.{each_once, folders_first}
 use Rattle.dav_files_core.proofs.paths.RemovedMaps.{above_out}
 use Rattle.dav_path_core.proofs.paths.SubtreePaths.{front_of, in_either, in_left, in_right, some_of}
 
@@ -150,7 +151,9 @@ module _ (who : Caller) (deep : Bool) (from to : Path) (rests : List Path) (s : 
 
     -- it isn't done yet
     not_yet : (q : Path) → In q copied → to ++ r ≢ to ++ q
-    not_yet q i same = cross_before (λ a b. a ≢ b) copied r rest q (subst (AllPairs (λ a b. a ≢ b)) split ready.are.once) i (sym (same_behind to r q same))
+    not_yet q i same = cross_before (λ a b. a ≢ b) copied r rest q
+        (subst (AllPairs (λ a b. a ≢ b)) split (each_once rests ready.are.sorted)) i
+        (sym (same_behind to r q same))
 
     source_stays : at_path t.map (from ++ r) ≡ at_path s.map (from ++ r)
     source_stays = others (from ++ r) (λ q i. never_behind to (from ++ r) q (source_out r (copied_of r here).0))
@@ -186,7 +189,9 @@ module _ (who : Caller) (deep : Bool) (from to : Path) (rests : List Path) (s : 
           | inr k ↦ elim k [
             | inl e ↦ absurd (omega (arith, ap length (sym e ∙ is), length-append a (x ∷ [])))
             | inr later ↦ absurd (true≢false (sym (subst (λ q. is_front a q ≡ true) (sym is) (front_of a (x ∷ [])))
-                ∙ cross_at (λ q b. is_front b q ≡ false) copied r rest a (subst (AllPairs (λ q b. is_front b q ≡ false)) split ready.are.order) later))
+                ∙ cross_at (λ q b. is_front b q ≡ false) copied r rest a
+                (subst (AllPairs (λ q b. is_front b q ≡ false)) split
+                (folders_first rests ready.are.sorted)) later))
           ]
         ]
 

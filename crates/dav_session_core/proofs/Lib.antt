@@ -18,3 +18,4 @@ pub mod RefreshLemmas
 pub mod RemovalCheckLemmas
 pub mod RemovalLemmas
 pub mod SubtreeLemmas
+pub mod WalkOrderLemmas

@@ -5,7 +5,7 @@ use Rattle.rand_core.specs.Stream.{Stream}
 use Rattle.dav_resource_core.specs.Requests.{Command}
 use Rattle.dav_resource_core.specs.Step.{State}
 use Rattle.dav_session_core.specs.declared.session.Session.{Session}
-use Rattle.dav_session_core.specs.Callers.{Asks, Caller, ends_or_refreshes, is_look, live}
+use Rattle.dav_session_core.specs.Callers.{Asks, Caller, changes_locks, is_look, live}
 use Rattle.dav_session_core.specs.Sessions.{Acts, Looks, Requests, caller, state}
 use Rattle.dav_session_core.proofs.Asking.{asks_join, join_as, live_as}
 use Rattle.dav_session_core.proofs.CallerLaws.{asks_of, by_none}
@@ -27,8 +27,9 @@ pub same_asked : {A : Type 0} {R : Type 0} {stream : R → Stream} {old new : Se
 same_asked {A} {R} {stream} {old} {new} f h =
     ap (λ (w : Caller). f w (live w.now (state stream new))) h.who ∙ ap (f (caller old)) h.live
 
--- a question ends or refreshes no lock
-pub look_keeps : (c : Command) → is_look c ≡ true → ends_or_refreshes c ≡ false
+-- a question grants, ends and refreshes no lock
+pub look_keeps : (c : Command) → is_look c ≡ true → changes_locks c ≡ false
+look_keeps (Command.Lock path owner timeout shared deep) h = absurd (false≢true h)
 look_keeps (Command.Unlock path token) h = absurd (false≢true h)
 look_keeps (Command.Refresh path token timeout) h = absurd (false≢true h)
 look_keeps _ h = refl

@@ -54,6 +54,7 @@ patched_there who s s' p updates reply h =
       stood = there.stood;
       stands = ap (λ (n : ResourceMap). at_path n p) there.left ∙ get_same path_total path_exact s.map.entries p now;
       others = λ q apart. ap (λ (n : ResourceMap). at_path n q) there.left ∙ get_other path_total path_exact s.map.entries p now q apart;
+      next = ap (λ (n : ResourceMap). n.next) there.left;
       left = rebuilt s s' h.1.1;
     }
 

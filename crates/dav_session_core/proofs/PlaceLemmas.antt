@@ -11,7 +11,8 @@ use Rattle.dav_headers_core.specs.declared.davheaders.depths.Depth.{Depth}
 use Rattle.dav_files_core.specs.Resources.{Resource, ResourceMap, at_path}
 use Rattle.dav_faults_core.specs.declared.faults.Fault.{Fault}
 use Rattle.dav_faults_core.specs.declared.faults.Fault.TheVariants as fault
-use Rattle.dav_session_core.specs.Private.Gathering.{HasOddMember, MembersAre}
+use Rattle.dav_session_core.specs.MemberPaths.{paths_of_members}
+use Rattle.dav_session_core.specs.Private.Gathering.{HasOddMember}
 use Rattle.dav_session_core.specs.Placed.{AllStand, IsNowhere}
 use Rattle.dav_session_core.specs.Subtrees.{HasOddName}
 use Rattle.dav_session_core.proofs.SubtreeLemmas.{member_stands}
@@ -29,11 +30,13 @@ one_stands m p places is here = subst (AllStand m) (sym is) (λ q c. elim (In-Co
   | inr none ↦ absurd none
 ])
 
-pub members_stand : (m : ResourceMap) (p : Path) (places members : List Path) → places ≡ p ∷ members → MembersAre m p members → IsSome (at_path m p) → AllStand m places
-members_stand m p places members is are here = subst (AllStand m) (sym is) (λ q c. elim (In-Contains (p ∷ members) q c) [
-  | inl same ↦ subst (λ r. IsSome (at_path m r)) same here
-  | inr i ↦ member_stands m p members are q i
-])
+pub members_stand : (m : ResourceMap) (p : Path) (places : List Path)
+    → places ≡ p ∷ paths_of_members m p → IsSome (at_path m p) → AllStand m places
+members_stand m p places is here = subst (AllStand m) (sym is)
+    (λ q c. elim (In-Contains (p ∷ paths_of_members m p) q c) [
+      | inl same ↦ subst (λ r. IsSome (at_path m r)) same here
+      | inr i ↦ member_stands m p q i
+    ])
 
 -- a member with a name that no path has which is read
 pub odd_below : (m : ResourceMap) (p : Path) → HasOddMember m p → HasOddName m p

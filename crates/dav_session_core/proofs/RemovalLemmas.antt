@@ -31,7 +31,8 @@ use Rattle.dav_resource_core.specs.Step.{Serves, State, Step}
 use Rattle.dav_resource_core.proofs.Frame.{change_left}
 use Rattle.dav_session_core.specs.Callers.{Caller, as_caller, asking, live}
 use Rattle.dav_session_core.specs.Removing.{IsRemoved, refusing_removal}
-use Rattle.dav_session_core.specs.Subtrees.{IsSubtreeWalk}
+use Rattle.dav_session_core.proofs.WalkOrderLemmas.{not_above}
+use Rattle.dav_session_core.specs.Subtrees.{ComesBefore, IsSubtreeWalk}
 use Rattle.dav_session_core.proofs.MakeLemmas.{done, left_by}
 use Rattle.dav_session_core.proofs.OwnLemmas.{covers_here}
 use Rattle.dav_path_core.proofs.paths.AbovePaths.{parent_front}
@@ -40,6 +41,14 @@ use Rattle.dav_session_core.proofs.SubtreeLemmas.{last_bare, walk_left}
 use Rattle.dav_files_core.proofs.paths.RemovedMaps.{above_other, above_out, front_none, folder_inside}
 
 -- ---- one place of a map that is taken away
+
+-- the next number stays where a time changes
+dated_next : (m : ResourceMap) (p : Path) (now : ℕ) → (with_modified_time m p now).next ≡ m.next
+dated_next m p now = by (at_path m p)
+  where
+    by : (o : Option Resource) → (touched_at m p now o).next ≡ m.next
+    by None = refl
+    by (Some r) = refl
 
 module _ (m : ResourceMap) (q : Path) (now : ℕ) where
   abbrev bare : ResourceMap
@@ -179,6 +188,7 @@ pub record IsLeft (who : Caller) (p : Path) (s : State) (left : List Path) (t : 
   pub free : refusing_removal (live who.now t) who left ≡ []
   pub above : at_path t.map (parent p) ≡ at_path s.map (parent p)
   pub others : (q : Path) → is_front p q ≡ false → at_path t.map q ≡ at_path s.map q
+  pub next : t.map.next ≡ s.map.next
   pub locks : without_below p (live who.now t).locks ≡ without_below p s.locks
   pub rng : t.rng ≡ s.rng
 
@@ -187,7 +197,17 @@ Removing who p s left t = IsLeft who p s left t ⊎ ((left ≡ []) × IsRemoved 
 
 pub removing_begun : (who : Caller) (p : Path) (start : State) (places : List Path) → IsSome (at_path start.map p) → IsSubtreeWalk start.map p places
     → refusing_removal (live who.now start) who places ≡ [] → Removing who p (live who.now start) places start
-removing_begun who p start places stood walk free = inl (record { stands = stood; walk = walk; free = free; above = refl; others = λ q out. refl; locks = refl; rng = refl })
+removing_begun who p start places stood walk free =
+    inl (record {
+      stands = stood;
+      walk = walk;
+      free = free;
+      above = refl;
+      others = λ q out. refl;
+      next = refl;
+      locks = refl;
+      rng = refl;
+    })
 
 pub removing_ended : (who : Caller) (p : Path) (s t : State) → Removing who p s [] t → IsRemoved who.now p s t
 removing_ended who p s t (inl h) = absurd (In-Contains [] p ((h.walk.members p).1 (is_front-refl p, h.stands)))
@@ -228,6 +248,8 @@ module _ (who : Caller) (p : Path) (s t t' : State) (before : List Path) (last :
       above = ap (λ x. at_path t'.map (parent x)) (sym same) ∙ ap (λ (n : ResourceMap). at_path n (parent last)) k.map_is ∙ taken_above t.map last who.now last_no_root
           ∙ ap (λ x. option_map (dated_entry who.now) (at_path t.map (parent x))) same ∙ ap (option_map (dated_entry who.now)) h.above;
       others = λ q out above. elsewhere q (out_last q out) (λ e. above (e ∙ ap parent same)) ∙ h.others q out;
+      next = ap (λ (n : ResourceMap). n.next) k.map_is
+          ∙ dated_next (without t.map last) (parent last) who.now ∙ h.next;
       locks = k.locks_are ∙ ap (λ x. without_below x locks) same ∙ h.locks;
       rng = k.rng_is ∙ h.rng;
     }
@@ -252,9 +274,13 @@ module _ (who : Caller) (p : Path) (s t t' : State) (before : List Path) (last :
       walk = subst (λ n. IsSubtreeWalk n p before) (sym k.map_is)
           (walk_left t.map (taken t.map last who.now) p last before h.walk (taken_here t.map last who.now) (taken_stands t.map last who.now last_no_root));
       free = subst (λ ls. refusing ls (as_caller who) (flat_map (λ q. member q true) before) ≡ []) kept
-          (removal_stays last locks (as_caller who) before (λ q i. pair_at (λ q r. is_front r q ≡ false) before last q h.walk.order i) parts.0);
+          (removal_stays last locks (as_caller who) before
+          (λ q i. not_above q last
+          (pair_at ComesBefore before last q h.walk.sorted i)) parts.0);
       above = elsewhere (parent p) (out_last (parent p) out_above) (out_folder (parent p) out_above) ∙ h.above;
       others = λ q out. elsewhere q (out_last q out) (out_folder q out) ∙ h.others q out;
+      next = ap (λ (n : ResourceMap). n.next) k.map_is
+          ∙ dated_next (without t.map last) (parent last) who.now ∙ h.next;
       locks = ap (without_below p) (sym kept) ∙ below_absorbs p last locks is_place.0 ∙ h.locks;
       rng = k.rng_is ∙ h.rng;
     }
@@ -274,7 +300,8 @@ module _ (who : Caller) (p : Path) (s t t' : State) (before : List Path) (last :
       by (x ∷ xs) e =
           let i : In x before = subst (In x) (sym e) (inl refl) in
           let inside = ((h.walk.members x).0 (Contains-In _ _ (in_left x before (last ∷ []) i))).0 in
-          absurd (true≢false (sym inside ∙ ap (λ y. is_front y x) (sym same) ∙ pair_at (λ q r. is_front r q ≡ false) before last x h.walk.order i))
+          absurd (true≢false (sym inside ∙ ap (λ y. is_front y x) (sym same) ∙ not_above x last
+          (pair_at ComesBefore before last x h.walk.sorted i)))
 
   left_on : IsTaken who.now last (live who.now t) t' → Removing who p s before t'
   left_on k = elim (dec path_total path_exact last p) [

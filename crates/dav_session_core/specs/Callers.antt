@@ -3,7 +3,7 @@ use Rattle.std.specs.Prelude.{◌≡◌, ◌⊎◌, ℕ, List, Bool, true, false
 use Rattle.std.specs.List.{list_any}
 use Rattle.http_header.specs.FieldValue.{FieldValue}
 use Rattle.http_header.specs.HeaderMap.{Entries}
-use Rattle.dav_path_core.specs.Fronts.{Path}
+use Rattle.dav_path_core.specs.Fronts.{Path, is_front}
 use Rattle.dav_files_core.specs.Finding.{place}
 use Rattle.dav_files_core.specs.Resources.{IsResourceMap}
 use Rattle.dav_locks_core.specs.Ended.{StandIn}
@@ -32,11 +32,12 @@ pub record IsSender (user_header : Option (List ℕ)) (site : Site) (headers : E
 abbrev pub asking : Caller → Command → Request
 asking who command = record { principal = who.principal; tokens = who.tokens; now = who.now; command = command }
 
--- the command ends a lock, or gives it another timeout
-abbrev pub ends_or_refreshes : Command → Bool
-ends_or_refreshes (Command.Unlock path token) = true
-ends_or_refreshes (Command.Refresh path token timeout) = true
-ends_or_refreshes _ = false
+-- the command grants a lock, ends one, or gives it another timeout
+abbrev pub changes_locks : Command → Bool
+changes_locks (Command.Lock path owner timeout shared deep) = true
+changes_locks (Command.Unlock path token) = true
+changes_locks (Command.Refresh path token timeout) = true
+changes_locks _ = false
 
 -- the command changes nothing
 abbrev pub is_look : Command → Bool
@@ -61,12 +62,13 @@ pub record Asks (who : Caller) (s s' : State) : Type 0 where
   pub answers : List Answer
   pub run : Run s (map (asking who) commands) answers s'
 
--- a run of requests leads from one state to the other, all of them the caller's, and none ends or refreshes a lock
+-- a run of requests leads from one state to the other, all of them the caller's, and none grants,
+-- ends or refreshes a lock
 pub record RunBy (who : Caller) (s s' : State) : Type 0 where
   pub commands : List Command
   pub answers : List Answer
   pub run : Run s (map (asking who) commands) answers s'
-  pub keeps : list_any ends_or_refreshes commands ≡ false
+  pub keeps : list_any changes_locks commands ≡ false
 
 -- as locks know the caller
 abbrev pub as_caller : Caller → LocksCaller
@@ -84,6 +86,16 @@ is_own who l = same_text l.principal who.principal
 abbrev pub refusing_at : State → Caller → Path → List Lock
 refusing_at s who p = check_conflicts s.locks p false (as_caller who)
 
+-- the caller holds one of these locks, which lasts, and covers the path or one above it
+pub record HoldsAbove (who : Caller) (locks : List Lock) (p : Path) : Type 0 where
+  pub lock : Lock
+  pub stood : Contains locks lock
+  pub lasts : is_stale who.now lock ≡ false
+  pub held : holds who lock ≡ true
+  pub front : Path
+  pub is_above : is_front front p ≡ true
+  pub covered : covers lock front ≡ true
+
 -- what locks promise of a run of one caller's requests (RFC 4918 sections 6 and 7)
 pub record KeepsApart (who : Caller) (s s' : State) : Type 0 where
   -- two locks that cover one path are both shared
@@ -91,6 +103,11 @@ pub record KeepsApart (who : Caller) (s s' : State) : Type 0 where
   -- a path under an exclusive lock that lasts is as it was, or the caller holds the lock
   pub isolated : (l : Lock) → Contains s.locks l → l.shared ≡ false → is_stale who.now l ≡ false → (p : Path) → covers l p ≡ true
       → (place s'.map p ≡ place s.map p) ⊎ (holds who l ≡ true)
+  -- a path under any lock that lasts, shared or not, is as it was, or the caller holds a lock at it or
+  -- above
+  pub any_isolated : (l : Lock) → Contains s.locks l → is_stale who.now l ≡ false → (p : Path)
+      → covers l p ≡ true
+      → (place s'.map p ≡ place s.map p) ⊎ HoldsAbove who s.locks p
   -- the locks that last, and that the caller does not hold, stand as they were, in the same order
   pub stand : StandIn (filter (λ l. not (is_stale who.now l || holds who l)) s.locks) s'.locks
   pub shape : IsResourceMap s.map → IsResourceMap s'.map

@@ -1,5 +1,5 @@
 -- What is copied, what that leaves, and which locks refuse it (RFC 4918 sections 7, 9.8 and 11.5).
-use Rattle.std.specs.Prelude.{◌≡◌, ◌≢◌, ◌⊎◌, ◌↔◌, Bool, true, false, not, ◌&&◌, ℕ, List, [], ◌∷◌, ◌++◌, map, Option, None, IsSome, Contains, option_map, if◌then◌else◌, Err}
+use Rattle.std.specs.Prelude.{◌≡◌, ◌⊎◌, ◌↔◌, Bool, true, false, not, ◌&&◌, ℕ, List, [], ◌∷◌, ◌++◌, map, Option, None, IsSome, Contains, option_map, if◌then◌else◌, Err}
 use Rattle.std.specs.List.{AllPairs}
 use Rattle.dav_path_core.specs.Fronts.{Path, is_front, parent}
 use Rattle.dav_files_core.specs.Resources.{IsResourceMap, Node, ResourceMap, at_path}
@@ -12,6 +12,7 @@ use Rattle.dav_session_core.specs.Callers.{Caller, as_caller, asking}
 use Rattle.dav_session_core.specs.Ends.{HasFolder}
 use Rattle.dav_resource_core.specs.Requests.{Command, Refusal}
 use Rattle.dav_session_core.specs.StoreRefusals.{put_fault}
+use Rattle.dav_session_core.specs.Subtrees.{ComesBefore}
 
 -- ---- what is copied
 
@@ -44,11 +45,10 @@ pub record IsPartlyCopied (now : ℕ) (deep : Bool) (from to : Path) (s s' : Sta
   pub others : (q : Path) → is_front to q ≡ false → at_path s'.map q ≡ at_path s.map q
   pub left : s' ≡ record s { map = s'.map }
 
--- The paths of all that is copied, below the source: each once, a folder before its members.
+-- The paths of all that is copied, below the source, in order.
 pub record AreCopied (deep : Bool) (from to : Path) (m : ResourceMap) (rests : List Path) : Type 0 where
   pub members : (rest : Path) → Contains rests rest ↔ ((is_copied deep from to rest ≡ true) × IsSome (at_path m (from ++ rest)))
-  pub once : AllPairs (λ q r. q ≢ r) rests
-  pub order : AllPairs (λ q r. is_front r q ≡ false) rests
+  pub sorted : AllPairs ComesBefore rests
 
 -- where one of them is copied from, and where to
 abbrev pub source_and_target : Path → Path → Path → Path × Path

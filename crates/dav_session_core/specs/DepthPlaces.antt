@@ -4,12 +4,13 @@ use Rattle.dav_path_core.specs.Fronts.{Path}
 use Rattle.dav_headers_core.specs.declared.davheaders.depths.Depth.{Depth}
 use Rattle.dav_headers_core.specs.declared.davheaders.depths.Depth.TheVariants as reach
 use Rattle.dav_files_core.specs.Resources.{ResourceMap}
-use Rattle.dav_session_core.specs.Private.Gathering.{MembersAre}
+use Rattle.dav_session_core.specs.MemberPaths.{paths_of_members}
 use Rattle.dav_session_core.specs.Subtrees.{IsSubtreeWalk}
 
--- The places that are told of: the path alone, or with its members by the bytes of their names, or all that stands there and below.
+-- The places that are told of: the path alone, or with its members by the bytes of their names,
+-- or all that stands there and below. A map, a path and a depth have one such list.
 abbrev pub AreWithin : Depth → ResourceMap → Path → List Path → Type 0
 AreWithin reach.Zero m p places = places ≡ p ∷ []
-AreWithin reach.One m p places = (members : List Path) × (places ≡ p ∷ members) × MembersAre m p members
+AreWithin reach.One m p places = places ≡ p ∷ paths_of_members m p
 AreWithin reach.Infinity m p places = IsSubtreeWalk m p places
 AreWithin reach.Default m p places = ⊥

@@ -2,14 +2,15 @@ pub mod Callers
 pub mod Clearing
 pub mod Conditions
 pub mod Copying
+pub mod DepthPlaces
 pub mod Ends
 pub mod Granting
 pub mod LocksInTheWay
+pub mod MemberPaths
 pub mod Moving
 pub mod PatchRefusals
 pub mod Patching
 pub mod Placed
-pub mod DepthPlaces
 pub mod Private
 pub mod Questions
 pub mod Refreshing

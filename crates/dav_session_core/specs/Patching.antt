@@ -14,12 +14,15 @@ use Rattle.dav_documents_core.specs.PropertyUpdates.{Update}
 abbrev pub with_updates : List Update → Resource → Resource
 with_updates updates r = record r { node = record r.node { props = patched_properties r.node.props updates } }
 
--- what stands at the path has its properties so, and nothing else has changed
+-- What stands at the path has its properties so, and nothing else has changed. No two states are
+-- left
+-- so.
 pub record IsPatched (p : Path) (updates : List Update) (s s' : State) : Type 0 where
   pub resource : Resource
   pub stood : at_path s.map p ≡ Some resource
   pub stands : at_path s'.map p ≡ Some (with_updates updates resource)
   pub others : (q : Path) → q ≢ p → at_path s'.map q ≡ at_path s.map q
+  pub next : s'.map.next ≡ s.map.next
   pub left : s' ≡ record s { map = s'.map }
 
 -- why the stores don't: nothing stands there; or a lock refuses it, whose path is told

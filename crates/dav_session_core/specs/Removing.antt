@@ -14,10 +14,12 @@ use Rattle.dav_session_core.specs.Callers.{Caller, as_caller}
 abbrev pub refusing_removal : State → Caller → List Path → List Lock
 refusing_removal s who places = refusing s.locks (as_caller who) (flat_map (λ q. member q true) places)
 
--- All at or below the path is gone, with its locks, and the folder above was changed at the moment. Each other place is as it was.
+-- All at or below the path is gone, with its locks, and the folder above was changed at the moment.
+-- Each other place is as it was. No two states are left so.
 pub record IsRemoved (now : ℕ) (p : Path) (s s' : State) : Type 0 where
   pub gone : (q : Path) → is_front p q ≡ true → at_path s'.map q ≡ None
   pub above : at_path s'.map (parent p) ≡ option_map (dated_entry now) (at_path s.map (parent p))
   pub others : (q : Path) → is_front p q ≡ false → q ≢ parent p → at_path s'.map q ≡ at_path s.map q
+  pub next : s'.map.next ≡ s.map.next
   pub locks : s'.locks ≡ without_below p s.locks
   pub rng : s'.rng ≡ s.rng

@@ -36,7 +36,7 @@ pub record Looks {R : Type 0} (stream : R → Stream) (old new : Session R) : Ty
   pub live : Stays stream old new
   pub who : caller new ≡ caller old
 
--- what requests of one caller leave of a session, of which none ends or refreshes a lock
+-- what requests of one caller leave of a session, of which none grants, ends or refreshes a lock
 pub record Acts {R : Type 0} (stream : R → Stream) (old new : Session R) : Type 0 where
   pub run : RunBy (caller old) (state stream old) (state stream new)
   pub who : caller new ≡ caller old

@@ -10,7 +10,7 @@ ghost use Rattle.dav_resource_core.specs.Step.{State, Step};
 ghost use Rattle.dav_resource_core.specs.Served.{command_of, answer_of};
 ghost use Rattle.dav_resource_core.specs.Stores.{state_of};
 ghost use Rattle.dav_session_core.specs.Callers.{Caller, RunBy, KeepsApart, asking};
-ghost use Rattle.dav_session_core.specs.Callers.{ends_or_refreshes, is_look};
+ghost use Rattle.dav_session_core.specs.Callers.{changes_locks, is_look};
 ghost use Rattle.dav_session_core.specs.Sessions.{Acts, caller, Looks, Requests, state};
 
 mod clearing;
@@ -79,7 +79,7 @@ impl<R: Rng> Session<R> {
         ensures step { Step (state R.stream self.old)
             (asking (caller self.old) (command_of command)) (answer_of result)
             (state R.stream self.new) }
-        ensures acts { ends_or_refreshes (command_of command) ≡ false
+        ensures acts { changes_locks (command_of command) ≡ false
             → Acts R.stream self.old self.new }
         // A question changes nothing, and neither does a refusal.
         ensures looks { is_look (command_of command) ≡ true → Looks R.stream self.old self.new }
@@ -91,10 +91,10 @@ impl<R: Rng> Session<R> {
         self.stores.apply(&self.request, &mut self.rng)
     }
 
-    /// Makes one request of the caller that ends or refreshes no lock (own). It is answered as by
-    /// `ask`.
+    /// Makes one request of the caller that grants, ends and refreshes no lock (own). It is answered
+    /// as by `ask`.
     pub fn change(&mut self, command: Command) -> Result<Reply, Refusal>
-        requires keeps { ends_or_refreshes (command_of command) ≡ false }
+        requires keeps { changes_locks (command_of command) ≡ false }
         ensures step { Step (state R.stream self.old)
             (asking (caller self.old) (command_of command)) (answer_of result)
             (state R.stream self.new) }
@@ -143,9 +143,11 @@ impl<R: Rng> Session<R> {
 }
 
 /// The law of a session (RFC 4918 sections 6 and 7): through every run of one caller's requests,
-/// none of which ends or refreshes a lock, two locks that cover one path are both shared; a path
-/// under an exclusive lock that lasts changes only where the caller is its principal and named its
-/// token; and the locks that last, and that the caller does not hold so, stand as they were.
+/// none of which grants, ends or refreshes a lock, two locks that cover one path are both shared; a
+/// path under an exclusive lock that lasts changes only where the caller is its principal and named
+/// its token; a path under any lock that lasts changes only where the caller so holds one that
+/// covers it, or a path above it; and the locks that last, and that the caller does not hold so,
+/// stand as they were.
 pub fn runs_by_one_caller()
     ensures { (who : Caller) (s s' : State) → Exclusive s.locks → RunBy who s s'
         → KeepsApart who s s' }

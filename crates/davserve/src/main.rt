@@ -1,6 +1,8 @@
 //! Serves many connections on standard input and output, in frames, or one without them: a WebDAV server over stores in memory.
 #![tactic(auto)]
 
+ghost use Rattle.std.specs.Prelude.{◌≡◌, None, false};
+
 mod choices;
 
 use choices::{Choices, Unread};
@@ -59,7 +61,7 @@ fn run(rt: &HostRuntime, choices: Choices) -> Result<End, Fault> {
     let mut config = Config::default();
     config.max_body_len = choices.max_body;
     let one = choices.one;
-    let clock = SystemClock {
+    let mut clock = SystemClock {
         rt,
         runs: choices.clock.is_none(),
     };
@@ -67,7 +69,7 @@ fn run(rt: &HostRuntime, choices: Choices) -> Result<End, Fault> {
     if one {
         serve_single(rt, config, &mut dav)
     } else {
-        serve_all(rt, config, &mut dav, &clock)
+        serve_all(rt, config, &mut dav, &mut clock)
     }
 }
 
@@ -104,7 +106,7 @@ fn serve_all(
     rt: &HostRuntime,
     config: Config,
     dav: &mut Dav<ChaCha20Rng>,
-    clock: &SystemClock,
+    clock: &mut SystemClock,
 ) -> Result<End, Fault> {
     let mut clients = Clients::new(rt.alloc(), RandomState::new(rt)?, config);
     let mut input = BufReader::with_capacity(rt.alloc(), BUFFER, rt.stdin())?;
@@ -124,7 +126,7 @@ fn serve_streams<R: Rng, C: Clock, I: BufRead, O: Write>(
     alloc: Global,
     clients: &mut Clients,
     dav: &mut Dav<R>,
-    clock: &C,
+    clock: &mut C,
     input: &mut I,
     output: &mut O,
 ) -> Result<End, Fault> {
@@ -139,7 +141,9 @@ struct SystemClock<'a> {
 }
 
 impl Clock for SystemClock<'_> {
-    fn moment(&self) -> Option<Moment> {
+    ghost tells = { λ old told new. (new.runs ≡ old.runs) × (old.runs ≡ false → told ≡ None) };
+
+    fn moment(&mut self) -> Option<Moment> {
         if self.runs { now(self.rt).ok() } else { None }
     }
 }

@@ -62,6 +62,16 @@ impl Clients {
         Ok(true)
     }
 
+    /// Whether the number is one of those that have begun, or the next (own).
+    pub fn is_in_order(&self, number: u64) -> bool
+        ensures { IsTrue result ↔ ((0 < number) × (number ≤ count_begun self.now + 1)) }
+    {
+        match number.checked_sub(1) {
+            Some(before) => before <= self.begun,
+            None => false,
+        }
+    }
+
     // Begins the connection where its number is the next; whether it has begun.
     fn begin(&mut self, number: u64) -> Result<bool, Fault>
         ensures order { IfOk result (λ has_begun. IsTrue has_begun ↔ ((0 < number) × (number ≤ count_begun self.old + 1))) }

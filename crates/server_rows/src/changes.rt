@@ -68,13 +68,13 @@ COPY /a{h}|Destination: /b|Overwrite: F|If-Match: no tag|| = {bare 412 Precondit
 GET /a{h}|| = {file 1000000000-1}a
 GET /b{h}|| = {file 1000000001-2}bb
 GET /n{h}|| = {bare 404 Not Found}
-COPY /a{h}|Destination: /n|If-Match: "1000000000-1"|If-Unmodified-Since: Thu, 01 Jan 1970 00:00:00 GMT|| = {bare 201 Created}
+COPY /a{h}|Destination: /n|If-Match: "1000000000-1"|If-Unmodified-Since: Thu, 01 Jan 1970 00:00:00 GMT|| = {placed /n}
 GET /n{h}|| = {file 1000000000-1}a
 COPY /a{h}|Destination: /b|If-None-Match: "1000000001-2"|| = HTTP/1.1 204 No Content||
 GET /b{h}|| = {file 1000000000-1}a
-COPY /d{h}|Destination: /e|If-Match: *|| = {bare 201 Created}
-COPY /d{h}|Destination: /g|If-Unmodified-Since: Thu, 01 Jan 1970 00:00:00 GMT|| = {bare 201 Created}
-COPY /a{h}|Destination: /h|If-Unmodified-Since: Thu, 01 Jan 1970 00:00:01 GMT|| = {bare 201 Created}
+COPY /d{h}|Destination: /e|If-Match: *|| = {placed /e}
+COPY /d{h}|Destination: /g|If-Unmodified-Since: Thu, 01 Jan 1970 00:00:00 GMT|| = {placed /g}
+COPY /a{h}|Destination: /h|If-Unmodified-Since: Thu, 01 Jan 1970 00:00:01 GMT|| = {placed /h}
 
 at / - 1000000000
 PUT /a{h}|Content-Length: 1||a = {made 1000000000-1}
@@ -103,10 +103,10 @@ GET /n{h}|| = {bare 404 Not Found}
 MOVE /a{h}|Destination: /b|If-Match: "1000000000-1"|If-None-Match: "1000000001-2"|If-Unmodified-Since: Thu, 01 Jan 1970 00:00:00 GMT|| = HTTP/1.1 204 No Content||
 GET /b{h}|| = {file 1000000000-1}a
 GET /a{h}|| = {bare 404 Not Found}
-MOVE /b{h}|Destination: /n|If-Unmodified-Since: Thu, 01 Jan 1970 00:00:01 GMT|| = {bare 201 Created}
+MOVE /b{h}|Destination: /n|If-Unmodified-Since: Thu, 01 Jan 1970 00:00:01 GMT|| = {placed /n}
 GET /n{h}|| = {file 1000000000-1}a
-MOVE /d{h}|Destination: /e|If-Match: *|| = {bare 201 Created}
-MOVE /e{h}|Destination: /g|If-Unmodified-Since: Thu, 01 Jan 1970 00:00:00 GMT|| = {bare 201 Created}
+MOVE /d{h}|Destination: /e|If-Match: *|| = {placed /e}
+MOVE /e{h}|Destination: /g|If-Unmodified-Since: Thu, 01 Jan 1970 00:00:00 GMT|| = {placed /g}
 
 at / - 1000000000
 PUT /a{h}|Content-Length: 1||x = {made 1000000000-1}

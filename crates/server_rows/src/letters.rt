@@ -10,15 +10,15 @@ PUT /b{h}|Content-Length: 1||b = {made 1000000001-1}
 PROPFIND /d{h}|Depth: INFINITY|{body <D:propfind xmlns:D="DAV:"><D:prop/></D:propfind>} = HTTP/1.1 207 Multi-Status|content-type: application/xml; charset=utf-8|content-length: 421||<D:multistatus xmlns:D="DAV:"><D:response><D:href>/d/</D:href><D:propstat><D:prop></D:prop><D:status>HTTP/1.1 200 OK</D:status></D:propstat></D:response><D:response><D:href>/d/e/</D:href><D:propstat><D:prop></D:prop><D:status>HTTP/1.1 200 OK</D:status></D:propstat></D:response><D:response><D:href>/d/e/f/</D:href><D:propstat><D:prop></D:prop><D:status>HTTP/1.1 200 OK</D:status></D:propstat></D:response></D:multistatus>
 PROPFIND /d{h}|Depth: infinitY|{body <D:propfind xmlns:D="DAV:"><D:prop/></D:propfind>} = HTTP/1.1 207 Multi-Status|content-type: application/xml; charset=utf-8|content-length: 421||<D:multistatus xmlns:D="DAV:"><D:response><D:href>/d/</D:href><D:propstat><D:prop></D:prop><D:status>HTTP/1.1 200 OK</D:status></D:propstat></D:response><D:response><D:href>/d/e/</D:href><D:propstat><D:prop></D:prop><D:status>HTTP/1.1 200 OK</D:status></D:propstat></D:response><D:response><D:href>/d/e/f/</D:href><D:propstat><D:prop></D:prop><D:status>HTTP/1.1 200 OK</D:status></D:propstat></D:response></D:multistatus>
 PROPFIND /d{h}|Depth: infinit|{body <D:propfind xmlns:D="DAV:"><D:prop/></D:propfind>} = {bare 400 Bad Request}
-COPY /d{h}|Destination: /g|Depth: INFINITY|| = {bare 201 Created}
-MOVE /g{h}|Destination: /h|Depth: iNFINITY|| = {bare 201 Created}
+COPY /d{h}|Destination: /g|Depth: INFINITY|| = {placed /g}
+MOVE /g{h}|Destination: /h|Depth: iNFINITY|| = {placed /h}
 GET /h/e/f{h}|If-None-Match: *|| = HTTP/1.1 304 Not Modified||
 DELETE /h{h}|Depth: INFINITYx|| = {bare 400 Bad Request}
 DELETE /h{h}|Depth: InFiNiTy|| = HTTP/1.1 204 No Content||
 COPY /a{h}|Destination: /b|Overwrite: f|| = {bare 412 Precondition Failed}
 MOVE /a{h}|Destination: /b|Overwrite: f|| = {bare 412 Precondition Failed}
 COPY /a{h}|Destination: /b|Overwrite: tt|| = {bare 400 Bad Request}
-COPY /b{h}|Destination: /c|Overwrite: f|| = {bare 201 Created}
+COPY /b{h}|Destination: /c|Overwrite: f|| = {placed /c}
 COPY /b{h}|Destination: /c|Overwrite: t|| = HTTP/1.1 204 No Content||
 MOVE /c{h}|Destination: /b|Overwrite: t|| = HTTP/1.1 204 No Content||
 GET /a{h}|Range: Bytes=0-1|| = HTTP/1.1 206 Partial Content|content-range: bytes 0-1/10|etag: "1000000000-10"|last-modified: Thu, 01 Jan 1970 00:00:01 GMT|content-type: application/octet-stream|accept-ranges: bytes|content-length: 2||01

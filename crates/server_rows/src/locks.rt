@@ -18,7 +18,7 @@ DELETE /new{h}|If: (<{2}>) <http://h/> (<{1}>)|| = HTTP/1.1 204 No Content||
 LOCK /new{h}|If: (<{2}>)|| = {bare 412 Precondition Failed}
 UNLOCK /{h}|Lock-Token: <{1}>|| = HTTP/1.1 204 No Content||
 MOVE /a{h}|Destination: /b|| = {locked /a}
-MOVE /a{h}|Destination: /b|If: (<{0}>)|| = {bare 201 Created}
+MOVE /a{h}|Destination: /b|If: (<{0}>)|| = {placed /b}
 PUT /b{h}|Content-Length: 1||x = {kept 1000000014-1}
 PUT /a{h}|Content-Length: 1||x = {made 1000000015-1}
 
@@ -99,12 +99,14 @@ at / x-user 999999999
 lock ann exclusive deep /a 1
 grants 1
 LOCK /a{h}|X-User: bob|{ask exclusive} = {locked /a}
+second 1
 LOCK /a{h}|X-User: bob|{ask exclusive} = {granted 1 201 Created~exclusive infinity Infinite 1 /a}
 LOCK /a{h}|X-User: ann|If: (<{0}>)|| = {bare 412 Precondition Failed}
 
 at / x-user 999999999
 lock ann exclusive deep /a 1
 LOCK /a{h}|X-User: ann|If: (<{0}>)|| = {refreshed exclusive infinity Second-1 0 /a}
+second 1
 LOCK /a{h}|X-User: bob|{ask exclusive} = {locked /a}
 LOCK /a{h}|X-User: bob|{ask exclusive} = {locked /a}
 

@@ -3,7 +3,8 @@
 //! `shallow`, its path, and in how many seconds from moment 0 on it ends, if it does; then requests, each with its answer behind ` = `. A `|` is the end of a line, `{0}` the token of the first lock, `{1}` that of
 //! the second, and `{n}` a line feed. `{locked /a}` is the answer 423 that tells a lock at `/a`, `{member /a}` the answer 207 that tells one below the path, and `{no lock}` the answer 409 to an UNLOCK whose token is of
 //! no lock there; a row of each has them whole. `{h}` is the end of a request's first line with the line `Host: h`, `{bare STATUS}` an answer of this status with a `content-length` of 0 and no
-//! other field, `{made TAG}` and `{kept TAG}` are 201 and 204 with the tag of a file, and `{file TAG}` is the head of a 200 with that file, of no known type, changed in the first second: its tag ends in its length.
+//! other field, `{made TAG}` and `{kept TAG}` are 201 and 204 with the tag of a file, `{placed /a}` is the 201 of a COPY or a MOVE to `/a`, and `{file TAG}` is the head of a 200 with that file, of no known type, changed in the first second: its tag ends in its length.
+//! Each answer has its date behind its first line: the second of the clock, and from a line `second 2` on that one.
 //! Of LOCK: the line `grants 2` names the tokens of the next two locks, behind those that stand at first. `{body TEXT}` is the end of a request with this body, and `{ask exclusive}` one that asks for a
 //! lock, with an owner behind a blank. `{granted 0 200 OK~LOCK~LOCK}` is an answer with the token of the first lock, and with locks, and `{refreshed LOCK~LOCK}` a 200 with locks alone: each has its scope, its
 //! depth, its timeout, the number of its token or `-` where that isn't told, its path, and its owner. `{conflict /a}` is the answer 423 that tells that a lock at `/a` lets none be granted, and

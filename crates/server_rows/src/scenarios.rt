@@ -2,6 +2,8 @@
 use crate::stores::Stores;
 use crate::texts::add_lines;
 use crate::words::word_and_rest;
+use dav_resource_core::fs::Moment;
+use httpdate::{HttpDate, fmt_http_date};
 use std::alloc::Global;
 use std::test::Fail;
 
@@ -16,23 +18,36 @@ pub(crate) struct Scenario {
 pub(crate) struct Script {
     alloc: Global,
     tokens: Vec<String>,
+    date: String,
     sent: String,
     wanted: String,
 }
 
 impl Script {
-    fn new(alloc: Global) -> Script {
-        Script {
+    fn new(alloc: Global, clock: Moment) -> Result<Script, Fail> {
+        Ok(Script {
             alloc,
             tokens: Vec::new(alloc),
+            date: date_of(alloc, clock.0 / 1_000_000_000)?,
             sent: String::new(alloc),
             wanted: String::new(alloc),
-        }
+        })
     }
 
+    // The answer has its date behind its first line.
     fn add(&mut self, request: &str, answer: &str) -> Result<(), Fail> {
         add_lines(self.alloc, &mut self.sent, request, &self.tokens)?;
-        add_lines(self.alloc, &mut self.wanted, answer, &self.tokens)
+        let mut wanted = String::new(self.alloc);
+        add_lines(self.alloc, &mut wanted, answer, &self.tokens)?;
+        let (status, rest) = wanted.split_once("\r\n").ok_or("no answer")?;
+        let date = &self.date;
+        Ok(write!(&mut self.wanted, "{status}\r\ndate: {date}\r\n{rest}")?)
+    }
+
+    // From here on answers are dated by this second.
+    fn set_date(&mut self, second: u64) -> Result<(), Fail> {
+        self.date = date_of(self.alloc, second)?;
+        Ok(())
     }
 
     // The tokens of so many locks that requests are granted: those that the generator gives next.
@@ -54,6 +69,12 @@ impl Script {
     }
 }
 
+// A second as answers tell it.
+fn date_of(alloc: Global, second: u64) -> Result<String, Fail> {
+    let date = HttpDate::from_unix_secs(second).map_err(|_| "no date")?;
+    Ok(fmt_http_date(alloc, date)?)
+}
+
 // So many tokens, from the first that the generator gives.
 fn first_tokens(alloc: Global, count: usize) -> Result<Vec<String>, Fail> {
     let mut stores = Stores::new(alloc)?;
@@ -65,10 +86,10 @@ fn first_tokens(alloc: Global, count: usize) -> Result<Vec<String>, Fail> {
 }
 
 impl Scenario {
-    pub(crate) fn of(alloc: Global, rows: &str) -> Result<Scenario, Fail> {
+    pub(crate) fn of(alloc: Global, rows: &str, clock: Moment) -> Result<Scenario, Fail> {
         let mut scenario = Scenario {
             stores: Stores::new(alloc)?,
-            script: Script::new(alloc),
+            script: Script::new(alloc, clock)?,
         };
         for row in rows.split('\n') {
             scenario.add(row)?;
@@ -90,6 +111,7 @@ impl Scenario {
             "lock" => self.lock(rest),
             "folder" => self.stores.make_folder(rest),
             "grants" => self.script.foresee(rest.parse()?),
+            "second" => self.script.set_date(rest.parse()?),
             _ => Err(Fail::from("no row")),
         }
     }

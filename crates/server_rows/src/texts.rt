@@ -60,6 +60,7 @@ fn add_short(text: &mut String, form: &str, told: &str) -> Result<bool, Fail> {
         "made" => add_made(text, told)?,
         "kept" => add_kept(text, told)?,
         "file" => add_file(text, told)?,
+        "placed" => add_placed(text, told)?,
         _ => return Ok(false),
     }
     Ok(true)
@@ -104,6 +105,13 @@ fn add_made(text: &mut String, tag: &str) -> Result<(), Fail> {
     Ok(write!(
         text,
         "HTTP/1.1 201 Created\r\netag: \"{tag}\"\r\ncontent-length: 0\r\n\r\n"
+    )?)
+}
+
+fn add_placed(text: &mut String, path: &str) -> Result<(), Fail> {
+    Ok(write!(
+        text,
+        "HTTP/1.1 201 Created\r\nlocation: {path}\r\ncontent-length: 0\r\n\r\n"
     )?)
 }
 

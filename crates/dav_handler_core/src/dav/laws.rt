@@ -18,8 +18,9 @@ ghost use Rattle.dav_handler_core.specs.Server.{Server};
 ghost use Rattle.dav_session_core.specs.Callers.{SameLive};
 ghost use Rattle.dav_handler_core.specs.Deciding.{HeldOff, SaysDone, SendsPart, SendsTag, WentOn};
 ghost use Rattle.dav_handler_core.specs.Deciding.{looks, tells_tag};
-ghost use Rattle.dav_fields_core.specs.Fields.{Sent, sent_of};
-ghost use Rattle.dav_handler_core.specs.Holding.{IsKeptUnlessHeld, StandsUnlessEnded};
+ghost use Rattle.dav_fields_core.specs.Fields.{Sent, sent_of, sent_tags};
+ghost use Rattle.dav_handler_core.specs.Holding.{IsKeptUnderAny, IsKeptUnlessHeld};
+ghost use Rattle.dav_handler_core.specs.Holding.{StandsUnlessEnded};
 ghost use Rattle.dav_handler_core.specs.KeptDocuments.{IsNew, KeepsElements, TellsXml};
 ghost use Rattle.dav_handler_core.specs.KeptDocuments.{is_told_in_xml};
 ghost use Rattle.dav_documents_core.specs.PatchBodies.{patch_nodes};
@@ -58,6 +59,8 @@ pub fn conditions_decide()
 /// - A lock ends only where its moment has come, or by a request of its principal that names its
 ///   token.
 /// - A path under an exclusive lock changes only by such a request.
+/// - A path under any lock, shared or not, changes only by such a request of one that covers the
+///   path, or one above it.
 pub fn locks_are_their_holders()
     ensures ended { (before after : Server) (request : Request (List ℕ)) (response : Response)
         → Answers before request response after → Exclusive before.state.locks
@@ -65,6 +68,8 @@ pub fn locks_are_their_holders()
     ensures changed { (before after : Server) (request : Request (List ℕ)) (response : Response)
         → Answers before request response after → Exclusive before.state.locks
         → IsKeptUnlessHeld before request after }
+    ensures any_changed { (before after : Server) (request : Request (List ℕ)) (response : Response)
+        → Answers before request response after → IsKeptUnderAny before request after }
 {}
 
 /// The law of time (RFC 4918 section 6.6). It does nothing.
@@ -72,8 +77,8 @@ pub fn locks_are_their_holders()
 /// - A request that begins comes at the later of the clock and the last moment, or, where it may
 ///   change something, at the later of the clock and one nanosecond behind the last moment. One that
 ///   does not begin leaves the last moment.
-/// - Over a run, a lock whose end has not come stands, unless a request of its principal named its
-///   token.
+/// - Over a run, a lock whose end has not come stands, unless a request of its principal that names
+///   its token ended or changed it.
 /// - A request that is done finds no lock whose end the clock had come to.
 pub fn locks_stand_their_time()
     ensures moment { (before after : Server) (request : Request (List ℕ)) (response : Response)
@@ -106,7 +111,7 @@ pub fn paths_stay_untouched()
         → IsResourceMap s.state.map → LeavesPath (segments h.path.bytes) s s'
         → (g : IsGotten method.Get s' get 200 got after)
         → segments g.path.bytes ≡ segments h.path.bytes
-        → (got.body ≡ body_of put) × (got.marks.tags ≡ sent.marks.tags) }
+        → (got.body ≡ body_of put) × (sent_tags got.fields ≡ sent_tags sent.fields) }
 {}
 
 /// The law of documents (XML 1.0 section 2.1, RFC 4918 section 8.2) over a run from new stores. It

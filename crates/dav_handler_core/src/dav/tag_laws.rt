@@ -2,7 +2,6 @@
 ghost use Rattle.std.specs.Prelude.{◌≡◌, ℕ, List, true};
 ghost use Rattle.http.specs.declared.request.Request.{Request};
 ghost use Rattle.http.specs.Request.{head_of};
-ghost use Rattle.http_frames.specs.Clients.{Turn};
 ghost use Rattle.http_server.specs.declared.response.Response.{Response};
 ghost use Rattle.http_server.specs.Exchange.{Call, Chain};
 ghost use Rattle.dav_files_core.specs.Outcomes.{start};
@@ -13,7 +12,7 @@ ghost use Rattle.dav_handler_core.specs.Deciding.{SaysDone, looks};
 ghost use Rattle.dav_handler_core.specs.KeptDocuments.{IsNew};
 ghost use Rattle.dav_handler_core.specs.PathMoments.{DatesTellFiles, MomentsTellFiles};
 ghost use Rattle.dav_handler_core.specs.Server.{Server};
-ghost use Rattle.dav_handler_core.specs.Serving.{Leads};
+ghost use Rattle.dav_handler_core.specs.Serving.{Done, Leads};
 ghost use Rattle.dav_handler_core.specs.TagHistories.{Becomes, HasNoFiles, MomentsTell, TagsTell};
 
 /// The law of tags over a run (RFC 9110 section 8.8.1): from stores without files, a file at one
@@ -64,9 +63,12 @@ pub fn dates_tell_bytes()
 {}
 
 /// The law that `tags_tell_bytes` is of this server: new stores have no files, and what the calls
-/// of a connection lead to, or the turns of frames, is a run. It does nothing.
+/// of a connection lead to, or frames, is a run. Calls leave the clock and the options. It does
+/// nothing.
 pub fn calls_make_runs()
     ensures new_stores { (now : ℕ) → HasNoFiles (start now) }
     ensures calls { (s s' : Server) (calls : List Call) → Chain Answers s calls s' → Becomes s s' }
-    ensures turns { (s s' : Server) (turns : List Turn) → Leads s turns s' → Becomes s s' }
+    ensures frames { (s s' : Server) (done : List Done) → Leads s done s' → Becomes s s' }
+    ensures stays { (s s' : Server) (calls : List Call) → Chain Answers s calls s'
+        → (s'.clock ≡ s.clock) × (s'.options ≡ s.options) }
 {}

@@ -1,5 +1,6 @@
 //! What methods that make something share.
-ghost use Rattle.std.specs.Prelude.{◌≡◌, ◌⊎◌, [], IfErr, IfOk, OnOk, is_some, if◌then◌else◌};
+ghost use Rattle.std.specs.Prelude.{◌≡◌, ◌⊎◌, ◌++◌, [], IfErr, IfOk, OnOk, is_some, if◌then◌else◌};
+ghost use Rattle.http_server.specs.Response.{fields_of};
 ghost use Rattle.dav_path_core.specs.Fronts.{parent};
 ghost use Rattle.dav_path_core.specs.Segments.{segments};
 ghost use Rattle.dav_files_core.specs.declared.memfs.Kind.TheVariants.{Folder};
@@ -8,18 +9,23 @@ ghost use Rattle.dav_session_core.specs.Callers.{as_caller};
 ghost use Rattle.dav_session_core.specs.Ends.{HasFolder};
 ghost use Rattle.dav_session_core.specs.LocksInTheWay.{IsRefusedBy, by_place, is_lock_below};
 ghost use Rattle.dav_fields_core.specs.Marking.{IsNone};
+ghost use Rattle.dav_methods_core.specs.CreatedPlaces.{place_fields};
 ghost use Rattle.dav_methods_core.specs.Placing.{target_by};
 ghost use Rattle.dav_session_core.specs.Sessions.{Looks, caller, live_of, state};
 ghost use Rattle.dav_faults_core.specs.declared.faults.Fault.TheVariants as fault;
 ghost use Rattle.dav_resource_core.specs.Checks.{refusing};
 
+use dav_documents_core::documents::url_text;
 use dav_faults_core::faults::Fault;
+use dav_fields_core::fields::add_location;
 use dav_resource_core::davpath::DavPath;
 use dav_resource_core::fs::DavMetaData;
 use dav_resource_core::memfs::MemFsMeta;
 use dav_session_core::session::{Session, copy_of};
 use http::StatusCode;
+use http_server::Response;
 use rand_core::Rng;
+use std::alloc::Global;
 
 /// Whether the locks let the caller put a file there: what is made changes its parent, too.
 pub(super) fn check_locks<R: Rng>(
@@ -75,6 +81,26 @@ pub(super) fn done(known: &Option<MemFsMeta>) -> StatusCode
         Some(_) => StatusCode::NO_CONTENT,
         None => StatusCode::CREATED,
     }
+}
+
+/// Says at which URL something is made, where nothing stood (RFC 9110 section 15.3.2).
+pub(super) fn say_place(
+    alloc: Global,
+    response: &mut Response,
+    prefix: &str,
+    path: &DavPath,
+    known: &Option<MemFsMeta>,
+) -> Result<(), Fault>
+    ensures fields { OnOk result (fields_of response.new ≡ fields_of response.old
+        ++ place_fields prefix.now path.now (if is_some known.now then 204 else 201)) }
+    ensures body { response.new.body ≡ response.old.body }
+    ensures err { IfErr result (λ e. e ≡ fault.InsufficientStorage) }
+{
+    if known.is_some() {
+        return Ok(());
+    }
+    let url = url_text(alloc, prefix, path)?;
+    add_location(alloc, response, &url)
 }
 
 /// A lock that stands below the path is told as a member's.

@@ -6,7 +6,10 @@ ghost use Rattle.dav_files_core.specs.Meta.{meta_of};
 ghost use Rattle.dav_files_core.specs.Resources.{IsResourceMap};
 ghost use Rattle.dav_resource_core.specs.Checks.{refusing};
 ghost use Rattle.dav_session_core.specs.Callers.{as_caller};
+ghost use Rattle.dav_fields_core.specs.Fields.{SendsMore};
+ghost use Rattle.dav_fields_core.specs.TransferDestinations.{IsDestination};
 ghost use Rattle.dav_methods_core.specs.ChangeConditions.{change_course};
+ghost use Rattle.dav_methods_core.specs.CreatedPlaces.{TellsPlace};
 ghost use Rattle.dav_methods_core.specs.Reaching.{reach_from};
 ghost use Rattle.dav_methods_core.specs.CopyMethod.{CantCopy, Copies, CopyLeaves, FailsToCopy};
 ghost use Rattle.dav_session_core.specs.LocksInTheWay.{IsRefusedBy};
@@ -19,7 +22,7 @@ ghost use Rattle.dav_methods_core.specs.Private.Transfers.{refusing_transfers};
 ghost use Rattle.dav_session_core.specs.Sessions.{Acts, Looks, caller, live_of, state};
 ghost use Rattle.dav_faults_core.specs.declared.faults.Fault.TheVariants as fault;
 
-use super::changes::{by_place, check_locks, done};
+use super::changes::{by_place, check_locks, done, say_place};
 use super::ends::{Ends, ends_of};
 use super::preconditions::check_conditions;
 use super::reaching::reach_from;
@@ -31,17 +34,20 @@ use dav_resource_core::util::DavMethod;
 use dav_session_core::session::{Session, Transfer, copy_of};
 use http::StatusCode;
 use http_header::{HeaderMap, HeaderValue};
+use http_server::Response;
 use rand_core::Rng;
 use std::alloc::Global;
 
 /// Copies what stands at a path, with all below it or alone, to where the request leads, and
-/// answers 201, or 204 where something stood there (RFC 4918 section 9.8).
+/// answers 201 with the URL of what was made, or 204 where something stood there (RFC 4918 section
+/// 9.8).
 ///
-/// `BadRequest` for a depth of a folder that it can't have; then what `ends_of` gives; `BadRequest` where a
-/// name below the path is one that no path has which is read; `Locked` where a lock stands in the
-/// way, and `MemberLocked` where one below the target does, with the path of that lock; and then, by
-/// the conditions of HTTP, which are of the source, `BadRequest` where one can't be read, and
-/// `PreconditionFailed` where one doesn't hold. `InsufficientStorage` may come once some resources are copied.
+/// `BadRequest` for a depth of a folder that it can't have; then what `ends_of` gives; `BadRequest`
+/// where a name below the path is one that no path has which is read; `Locked` where a lock stands
+/// in the way, and `MemberLocked` where one below the target does, with the path of that lock; and
+/// then, by the conditions of HTTP, which are of the source, `BadRequest` where one can't be read,
+/// and `PreconditionFailed` where one doesn't hold. `InsufficientStorage` may come once some
+/// resources are copied.
 #[tactic(auto, using(crate::proofs::Acting::long_requests))]
 pub fn copy<R: Rng>(
     alloc: Global,
@@ -50,10 +56,14 @@ pub fn copy<R: Rng>(
     prefix: &str,
     headers: &HeaderMap<HeaderValue>,
     path: &DavPath,
+    response: &mut Response,
 ) -> Result<StatusCode, Fault>
+    requires { response.old.body.items ≡ [] }
     ensures done { IfOk result (λ code. Copies site.now prefix.now headers.now
         (live_of R.stream session.old) (caller session.old) (segments path.now.bytes) code
         (state R.stream session.new)) }
+    ensures sent { IfOk result (λ code. SendsMore response.old response.new
+        (TellsPlace site.now prefix.now headers.now code)) }
     ensures err { IfErr result (λ e. FailsToCopy site.now prefix.now headers.now
         (live_of R.stream session.old) (caller session.old) (segments path.now.bytes) e) }
     ensures left { IfErr result (λ e. CopyLeaves site.now prefix.now headers.now
@@ -62,19 +72,22 @@ pub fn copy<R: Rng>(
     ensures acts { Acts R.stream session.old session.new }
 {
     let Plan {
+        target,
         known,
         gone,
         transfers,
     } = admitted_plan(alloc, session, site, prefix, headers, path)?;
+    say_place(alloc, response, prefix, &target, &known)?;
     session.clear(gone);
     session.copy_all(&transfers)?;
     Ok(done(&known))
 }
 
-// What a COPY does once nothing refuses it: what stands at its target, what goes from there, and
+// What a COPY does once nothing refuses it: its target, what stands there, what goes from there, and
 // what is copied.
 #[derive(Drop)]
 struct Plan {
+    target: DavPath,
     known: Option<MemFsMeta>,
     gone: Vec<DavPath>,
     transfers: Vec<Transfer>,
@@ -93,6 +106,8 @@ fn admitted_plan<R: Rng>(
         (live_of R.stream session.old) (caller session.old) (segments path.now.bytes)
         (option_map meta_of plan.known) (paths_of plan.gone.items)
         (ends_of plan.transfers.items)) }
+    ensures leads { IfOk result (λ plan. IsDestination site.now prefix.now headers.now
+        plan.target) }
     ensures course { OnOk result (change_course method.Copy (state R.stream session.old).map
         (segments path.now.bytes) headers.now ≡ Ok tt) }
     ensures err { IfErr result (λ e. FailsToCopy site.now prefix.now headers.now
@@ -122,6 +137,8 @@ fn planned<R: Rng>(
         (live_of R.stream session.old) (caller session.old) (segments path.now.bytes)
         (option_map meta_of plan.known) (paths_of plan.gone.items)
         (ends_of plan.transfers.items)) }
+    ensures leads { IfOk result (λ plan. IsDestination site.now prefix.now headers.now
+        plan.target) }
     ensures err { IfErr result (λ e. CantCopy site.now prefix.now headers.now
         (live_of R.stream session.old) (caller session.old) (segments path.now.bytes) e) }
     ensures looks { Looks R.stream session.old session.new }
@@ -135,6 +152,7 @@ fn planned<R: Rng>(
     let transfers = transfers_of(alloc, &places, path, &target)?;
     match check_copy(session, &target, known.is_some(), &gone, &transfers) {
         Ok(()) => Ok(Plan {
+            target,
             known,
             gone,
             transfers,

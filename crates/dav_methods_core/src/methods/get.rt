@@ -1,19 +1,21 @@
 //! GET, and HEAD, whose body the connection leaves out.
-ghost use Rattle.std.specs.Prelude.{◌≡◌, ◌⊎◌, ◌-◌, [], IfOk, IfErr, OnOk};
+ghost use Rattle.std.specs.Prelude.{◌≡◌, ◌⊎◌, ◌-◌, ◌++◌, ◌∷◌, [], IfOk, IfErr, OnOk};
 ghost use Rattle.dav_path_core.specs.Segments.{segments};
 ghost use Rattle.dav_files_core.specs.declared.memfs.Kind.TheVariants.{File, Folder};
 ghost use Rattle.dav_files_core.specs.Meta.{meta_of};
-ghost use Rattle.http_server.specs.Response.{IsBlank};
-ghost use Rattle.dav_fields_core.specs.Fields.{marks_of, sent_of};
-ghost use Rattle.dav_methods_core.specs.FolderPages.{IsPage, IsPaged};
+ghost use Rattle.http_server.specs.Response.{fields_of};
+ghost use Rattle.dav_fields_core.specs.AnswerFields.{part_field, tag_fields};
+ghost use Rattle.dav_fields_core.specs.Fields.{SendsMore};
+ghost use Rattle.dav_methods_core.specs.FolderPages.{IsPage};
 ghost use Rattle.dav_methods_core.specs.GetMethod.{FailsToGet, Gets, extent_in, get_outcome};
+ghost use Rattle.dav_methods_core.specs.Private.KnownFields.{HasKnownFields};
 ghost use Rattle.dav_fields_core.specs.Getting.{tags_by};
-ghost use Rattle.dav_fields_core.specs.Marking.{HasShownTag, IsNone, IsRead, and_part};
-ghost use Rattle.dav_fields_core.specs.Marking.{and_tags};
+ghost use Rattle.dav_fields_core.specs.Marking.{HasShownTag, IsNone, IsRead};
 ghost use Rattle.dav_fields_core.specs.Ranges.{part_text, unsatisfied_text};
 ghost use Rattle.dav_session_core.specs.Sessions.{Looks, state};
 ghost use Rattle.dav_faults_core.specs.declared.faults.Fault.TheVariants as fault;
 
+use crate::describing::modified_of;
 use crate::pages::page_of;
 use bytes::Bytes;
 use dav_faults_core::faults::Fault;
@@ -25,7 +27,7 @@ use dav_fields_core::fields::{
 use dav_fields_core::preconditions::{Course, read_course};
 use dav_fields_core::ranges::{Extent, extent_of};
 use dav_resource_core::davpath::DavPath;
-use dav_resource_core::fs::{DavMetaData, Moment};
+use dav_resource_core::fs::DavMetaData;
 use dav_resource_core::memfs::MemFsMeta;
 use dav_resource_core::util::DavMethod;
 use dav_session_core::session::{Session, copy_of};
@@ -48,11 +50,9 @@ pub fn get<R: Rng>(
     path: &DavPath,
     response: &mut Response,
 ) -> Result<StatusCode, Fault>
-    requires { IsBlank response.old }
-    ensures ok { IfOk result (λ status. Gets method (state R.stream session.old).map
-        (segments path.now.bytes) headers.now status (sent_of response.new)) }
-    ensures page { IfOk result (λ status. IsPaged (state R.stream session.old).map path.now status
-        response.new.body.items) }
+    requires { response.old.body.items ≡ [] }
+    ensures ok { IfOk result (λ status. SendsMore response.old response.new
+        (Gets method (state R.stream session.old).map path.now headers.now status)) }
     ensures err { IfErr result (λ e. FailsToGet method (state R.stream session.old).map
         (segments path.now.bytes) headers.now e) }
     ensures looks { Looks R.stream session.old session.new }
@@ -110,8 +110,8 @@ fn not_modified(
     response: &mut Response,
 ) -> Result<StatusCode, Fault>
     requires { HasShownTag standing.now }
-    ensures ok { IfOk result (λ status. (status ≡ 304)
-        × (marks_of response.new ≡ and_tags (tags_by standing.now) (marks_of response.old))) }
+    ensures ok { IfOk result (λ status. (status ≡ 304) × (fields_of response.new
+        ≡ fields_of response.old ++ tag_fields (tags_by standing.now))) }
     ensures body { response.new.body ≡ response.old.body }
     ensures err { IfErr result (λ e. e ≡ fault.InsufficientStorage) }
 {
@@ -121,8 +121,8 @@ fn not_modified(
 
 // 416, with the size (RFC 9110 section 15.5.17).
 fn unsatisfied(alloc: Global, size: u64, response: &mut Response) -> Result<StatusCode, Fault>
-    ensures ok { IfOk result (λ status. (status ≡ 416)
-        × (marks_of response.new ≡ and_part (unsatisfied_text size) (marks_of response.old))) }
+    ensures ok { IfOk result (λ status. (status ≡ 416) × (fields_of response.new
+        ≡ fields_of response.old ++ part_field (unsatisfied_text size) ∷ [])) }
     ensures body { response.new.body ≡ response.old.body }
     ensures err { IfErr result (λ e. e ≡ fault.InsufficientStorage) }
 {
@@ -140,10 +140,10 @@ fn tell_whole<R: Rng>(
     response: &mut Response,
 ) -> Result<StatusCode, Fault>
     requires shown { HasShownTag standing.now }
-    requires folder { (meta_of meta.now).kind ≡ Folder → tags_by standing.now ≡ [] }
     requires empty { response.old.body.items ≡ [] }
-    ensures ok { IfOk result (λ status. (status ≡ 200)
-        × (marks_of response.new ≡ and_tags (tags_by standing.now) (marks_of response.old))) }
+    ensures ok { IfOk result (λ status. (status ≡ 200) × HasKnownFields (fields_of response.old)
+        (segments path.now.bytes) (meta_of meta.now) (tags_by standing.now)
+        (fields_of response.new)) }
     ensures bytes { OnOk result ((meta_of meta.now).kind ≡ File
         → IsRead (state R.stream session.old).map (segments path.now.bytes) 0
         (meta_of meta.now).length response.new.body.items) }
@@ -183,10 +183,12 @@ fn tell_part<R: Rng>(
     response: &mut Response,
 ) -> Result<StatusCode, Fault>
     requires shown { HasShownTag standing.now }
+    requires file { (meta_of meta.now).kind ≡ File }
     requires empty { response.old.body.items ≡ [] }
-    ensures ok { IfOk result (λ status. (status ≡ 206)
-        × (marks_of response.new ≡ and_tags (tags_by standing.now)
-        (and_part (part_text first end (meta_of meta.now).length) (marks_of response.old)))) }
+    ensures ok { IfOk result (λ status. (status ≡ 206) × HasKnownFields (fields_of response.old
+        ++ part_field (part_text first end (meta_of meta.now).length) ∷ [])
+        (segments path.now.bytes) (meta_of meta.now) (tags_by standing.now)
+        (fields_of response.new)) }
     ensures bytes { OnOk result (IsRead (state R.stream session.old).map (segments path.now.bytes)
         first (end - first) response.new.body.items) }
     ensures err { IfErr result (λ e. (e ≡ fault.InsufficientStorage) ⊎ ((e ≡ fault.NotFound)
@@ -222,9 +224,11 @@ fn tell_bytes<R: Rng>(
     response: &mut Response,
 ) -> Result<StatusCode, Fault>
     requires shown { HasShownTag standing.now }
+    requires file { (meta_of meta.now).kind ≡ File }
     requires empty { response.old.body.items ≡ [] }
-    ensures ok { IfOk result (λ s. (s ≡ status) × (marks_of response.new
-        ≡ and_tags (tags_by standing.now) (marks_of response.old))) }
+    ensures ok { IfOk result (λ s. (s ≡ status) × HasKnownFields (fields_of response.old)
+        (segments path.now.bytes) (meta_of meta.now) (tags_by standing.now)
+        (fields_of response.new)) }
     ensures bytes { OnOk result (IsRead (state R.stream session.old).map (segments path.now.bytes)
         at count response.new.body.items) }
     ensures err { IfErr result (λ e. (e ≡ fault.InsufficientStorage) ⊎ ((e ≡ fault.NotFound)
@@ -232,12 +236,30 @@ fn tell_bytes<R: Rng>(
     ensures looks { Looks R.stream session.old session.new }
 {
     let bytes = session.read(copy_of(path)?, at, count)?;
+    add_file_fields(alloc, response, path, meta, standing)?;
+    response.body.push(bytes)?;
+    Ok(status)
+}
+
+// The fields of a file.
+fn add_file_fields(
+    alloc: Global,
+    response: &mut Response,
+    path: &DavPath,
+    meta: &MemFsMeta,
+    standing: &Standing,
+) -> Result<(), Fault>
+    requires shown { HasShownTag standing.now }
+    requires file { (meta_of meta.now).kind ≡ File }
+    ensures fields { OnOk result (HasKnownFields (fields_of response.old) (segments path.now.bytes)
+        (meta_of meta.now) (tags_by standing.now) (fields_of response.new)) }
+    ensures body { response.new.body ≡ response.old.body }
+    ensures err { IfErr result (λ e. e ≡ fault.InsufficientStorage) }
+{
     add_tag(alloc, response, standing)?;
     add_last_modified(alloc, response, modified_of(meta))?;
     add_content_type(alloc, response, content_type(path.file_name_bytes()))?;
-    add_accept_ranges(response)?;
-    response.body.push(bytes)?;
-    Ok(status)
+    add_accept_ranges(response)
 }
 
 // 200, with the page of a folder.
@@ -248,11 +270,12 @@ fn tell_folder<R: Rng>(
     meta: &MemFsMeta,
     response: &mut Response,
 ) -> Result<StatusCode, Fault>
+    requires folder { (meta_of meta.now).kind ≡ Folder }
     requires empty { response.old.body.items ≡ [] }
     ensures page { OnOk result (IsPage (state R.stream session.old).map path.now
         response.new.body.items) }
-    ensures ok { IfOk result (λ status. (status ≡ 200)
-        × (marks_of response.new ≡ marks_of response.old)) }
+    ensures ok { IfOk result (λ status. (status ≡ 200) × HasKnownFields (fields_of response.old)
+        (segments path.now.bytes) (meta_of meta.now) [] (fields_of response.new)) }
     ensures err { IfErr result (λ e. (e ≡ fault.InsufficientStorage) ⊎ ((e ≡ fault.NotFound)
         × IsNone (state R.stream session.old).map (segments path.now.bytes) Folder)) }
     ensures looks { Looks R.stream session.old session.new }
@@ -263,9 +286,4 @@ fn tell_folder<R: Rng>(
     add_content_type(alloc, response, "text/html; charset=utf-8")?;
     response.body.push(Bytes::from_vec(page)?)?;
     Ok(StatusCode::OK)
-}
-
-// A folder or a file without a date counts as changed at the first moment of all.
-fn modified_of(meta: &MemFsMeta) -> Moment {
-    meta.modified().unwrap_or(Moment(0))
 }

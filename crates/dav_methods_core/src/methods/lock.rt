@@ -2,11 +2,11 @@
 ghost use Rattle.std.specs.Prelude.{◌≡◌, ◌⊎◌, ◌-◌, ◌^◌, ◌<◌, ◌∷◌, [], map};
 ghost use Rattle.std.specs.Prelude.{string_bytes, IfErr, IfOk, OnErr, OnOk, if◌then◌else◌};
 ghost use Rattle.http_header.specs.FieldValue.{IsFieldValue};
-ghost use Rattle.http_server.specs.Response.{IsBlank};
+ghost use Rattle.http_server.specs.Response.{fields_of};
 ghost use Rattle.dav_path_core.specs.Segments.{segments};
 ghost use Rattle.dav_locks_core.specs.Lock.{Lock};
 ghost use Rattle.dav_locks_core.specs.Locks.{discovered_locks, lock_conflicts};
-ghost use Rattle.dav_fields_core.specs.Fields.{sent_of, in_brackets};
+ghost use Rattle.dav_fields_core.specs.Fields.{SendsMore, sent_behind, in_brackets, sent_of};
 ghost use Rattle.dav_session_core.specs.Granting.{granted_lock, with_lock};
 ghost use Rattle.dav_documents_core.specs.LockDocuments.{discovery_pieces};
 ghost use Rattle.dav_methods_core.specs.LockMethod as locking;
@@ -15,11 +15,10 @@ ghost use Rattle.dav_methods_core.specs.Rooms.{FoundRoom, IsConflictAt, IsGrante
 ghost use Rattle.dav_methods_core.specs.Rooms.{Forgets};
 ghost use Rattle.dav_methods_core.specs.Rooms.{IsMadeUnder, IsReadyToLock, IsUnmade, LacksRoom};
 ghost use Rattle.dav_methods_core.specs.Rooms.{LeavesLock, conflict_at, wanted_of};
-ghost use Rattle.dav_documents_core.specs.RefusalBodies.{xml_type};
 ghost use Rattle.dav_fields_core.specs.RequestRefusals.{IsLastMoment};
 ghost use Rattle.dav_session_core.specs.Sessions.{Ran};
 ghost use Rattle.dav_session_core.specs.Sessions.{Requests};
-ghost use Rattle.dav_session_core.specs.Sessions.{Acts, Looks, Stays, caller, live_of, state};
+ghost use Rattle.dav_session_core.specs.Sessions.{Looks, Stays, caller, live_of, state};
 ghost use Rattle.dav_faults_core.specs.declared.faults.Fault.TheVariants as fault;
 
 use super::changes::{check_above, check_locks, is_below};
@@ -78,10 +77,11 @@ pub fn lock<R: Rng>(
     path: DavPath,
     response: &mut Response,
 ) -> Result<StatusCode, Fault>
-    requires { IsBlank response.old }
-    ensures done { IfOk result (λ code. locking.IsGranted longest prefix.now headers.now body.now
-        (live_of R.stream session.old) (caller session.old) path code (sent_of response.new)
-        (state R.stream session.new)) }
+    requires { response.old.body.items ≡ [] }
+    ensures done { IfOk result (λ code. SendsMore response.old response.new
+        (λ sent. locking.IsGranted longest prefix.now headers.now body.now
+        (live_of R.stream session.old) (caller session.old) path code sent
+        (state R.stream session.new))) }
     ensures err { IfErr result (λ e. locking.FailsToLock longest headers.now body.now
         (live_of R.stream session.old) (caller session.old) path e) }
     ensures left { IfErr result (λ e. LeavesLock
@@ -165,12 +165,12 @@ fn grant<R: Rng>(
     above: &[String],
     response: &mut Response,
 ) -> Result<StatusCode, Fault>
-    requires blank { IsBlank response.old }
+    requires empty { response.old.body.items ≡ [] }
     requires ready { IsReadyToLock (live_of R.stream session.old) (caller session.old) path
         (wanted_of wanted) missing (map string_bytes above.now) }
-    ensures done { IfOk result (λ code. (lock : Lock)
+    ensures done { IfOk result (λ code. SendsMore response.old response.new (λ sent. (lock : Lock)
         × IsGrantedNow prefix.now (live_of R.stream session.old) (caller session.old) path
-        (wanted_of wanted) missing lock code (sent_of response.new) (state R.stream session.new)) }
+        (wanted_of wanted) missing lock code sent (state R.stream session.new))) }
     ensures err { IfErr result (λ e. IsConflictAt
         (lock_conflicts (live_of R.stream session.old).locks (segments path.bytes) wanted.shared
         wanted.deep) path e) }
@@ -215,8 +215,8 @@ fn granted<R: Rng>(
     ensures err { IfErr result (λ e. IsConflictAt
         (lock_conflicts (live_of R.stream session.old).locks (segments path.now.bytes)
         wanted.shared wanted.deep) path.now e) }
-    ensures refused { OnErr result (Stays R.stream session.old session.new) }
-    ensures acts { Acts R.stream session.old session.new }
+    ensures refused { OnErr result (Looks R.stream session.old session.new) }
+    ensures requests { Requests R.stream session.old session.new }
 {
     let place = copy_of(path)?;
     match session.grant(
@@ -256,15 +256,13 @@ fn finish<R: Rng>(
     token: &str,
     response: &mut Response,
 ) -> Result<StatusCode, Fault>
-    requires blank { IsBlank response.old }
+    requires empty { response.old.body.items ≡ [] }
     requires value { IsFieldValue (in_brackets token.now) }
     ensures ok { IfOk result (λ status. status ≡ (if missing then 201 else 200)) }
-    ensures named { OnOk result ((sent_of response.new).tokens ≡ in_brackets token.now ∷ []) }
-    ensures told { OnOk result ((sent_of response.new).body
-        ≡ written_pieces (discovery_pieces prefix.now (caller session.old).principal
-        (caller session.old).now (discovered_locks (live_of R.stream session.old).locks
-        (segments path.now.bytes)))) }
-    ensures typed { OnOk result ((sent_of response.new).types ≡ xml_type ∷ []) }
+    ensures sent { OnOk result (sent_of response.new ≡ sent_behind (fields_of response.old)
+        (locking.lock_sent token.now (written_pieces (discovery_pieces prefix.now
+        (caller session.old).principal (caller session.old).now
+        (discovered_locks (live_of R.stream session.old).locks (segments path.now.bytes)))))) }
     ensures made { OnOk result (IsMadeUnder (state R.stream session.old) (caller session.old)
         token.now (segments path.now.bytes) missing (state R.stream session.new)) }
     ensures err { IfErr result (λ e. IsUnmade (state R.stream session.old) (caller session.old)
@@ -284,11 +282,10 @@ fn finish<R: Rng>(
 
 // Tells of a lock: its token in a header field, and a document.
 fn tell(alloc: Global, response: &mut Response, document: Vec<u8>, token: &str) -> Result<(), Fault>
-    requires blank { IsBlank response.old }
+    requires empty { response.old.body.items ≡ [] }
     requires value { IsFieldValue (in_brackets token.now) }
-    ensures named { OnOk result ((sent_of response.new).tokens ≡ in_brackets token.now ∷ []) }
-    ensures told { OnOk result ((sent_of response.new).body ≡ document.items) }
-    ensures typed { OnOk result ((sent_of response.new).types ≡ xml_type ∷ []) }
+    ensures sent { OnOk result (sent_of response.new
+        ≡ sent_behind (fields_of response.old) (locking.lock_sent token.now document.items)) }
     ensures err { IfErr result (λ e. e ≡ fault.InsufficientStorage) }
 {
     add_lock_token(alloc, response, token)?;

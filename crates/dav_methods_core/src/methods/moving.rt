@@ -2,14 +2,16 @@
 ghost use Rattle.std.specs.Prelude.{◌≡◌, [], IfErr, IfOk, OnOk};
 ghost use Rattle.dav_path_core.specs.Segments.{segments};
 ghost use Rattle.dav_files_core.specs.Resources.{IsResourceMap};
+ghost use Rattle.dav_fields_core.specs.Fields.{SendsMore};
 ghost use Rattle.dav_session_core.specs.LocksInTheWay.{IsRefusedBy};
+ghost use Rattle.dav_methods_core.specs.CreatedPlaces.{TellsPlace};
 ghost use Rattle.dav_methods_core.specs.MoveMethod.{FailsToMove, MoveLeaves, Moves};
 ghost use Rattle.dav_methods_core.specs.Reaching.{ReachesDown};
 ghost use Rattle.dav_session_core.specs.Moving.{refusing_move};
 ghost use Rattle.dav_session_core.specs.Unhindered.{paths_of};
 ghost use Rattle.dav_session_core.specs.Sessions.{Acts, Looks, caller, live_of, state};
 
-use super::changes::{by_place, done};
+use super::changes::{by_place, done, say_place};
 use super::ends::{Ends, ends_of};
 use super::preconditions::check_conditions;
 use super::reaching::check_reach;
@@ -20,17 +22,17 @@ use dav_resource_core::util::DavMethod;
 use dav_session_core::session::Session;
 use http::StatusCode;
 use http_header::{HeaderMap, HeaderValue};
+use http_server::Response;
 use rand_core::Rng;
 use std::alloc::Global;
 
-/// Moves what stands at a path, with all below it, to where the request leads, and answers 201, or
-/// 204 where something stood there (RFC 4918 section 9.9).
+/// Moves what stands at a path, with all below it, to where the request leads, and answers 201 with
+/// the URL of what was made, or 204 where something stood there (RFC 4918 section 9.9).
 ///
 /// `BadRequest` for a depth of a folder that doesn't reach all the way down; then what `ends_of`
-/// gives;
-/// `Locked` where a lock stands in the way, and `MemberLocked` where one below the path or below
-/// the target does, with the path of that lock; and then, by the conditions of HTTP, which are of
-/// the source, `BadRequest` where one can't be read, and `PreconditionFailed` where one doesn't
+/// gives; `Locked` where a lock stands in the way, and `MemberLocked` where one below the path or
+/// below the target does, with the path of that lock; and then, by the conditions of HTTP, which are
+/// of the source, `BadRequest` where one can't be read, and `PreconditionFailed` where one doesn't
 /// hold. `InsufficientStorage` may come once a folder at the target is gone.
 #[tactic(auto, using(crate::proofs::Acting::long_requests))]
 pub fn relocate<R: Rng>(
@@ -40,10 +42,14 @@ pub fn relocate<R: Rng>(
     prefix: &str,
     headers: &HeaderMap<HeaderValue>,
     path: DavPath,
+    response: &mut Response,
 ) -> Result<StatusCode, Fault>
+    requires { response.old.body.items ≡ [] }
     ensures done { IfOk result (λ code. Moves site.now prefix.now headers.now
         (live_of R.stream session.old) (caller session.old) (segments path.bytes) code
         (state R.stream session.new)) }
+    ensures sent { IfOk result (λ code. SendsMore response.old response.new
+        (TellsPlace site.now prefix.now headers.now code)) }
     ensures err { IfErr result (λ e. FailsToMove site.now prefix.now headers.now
         (live_of R.stream session.old) (caller session.old) (segments path.bytes) e) }
     ensures left { IfErr result (λ e. MoveLeaves site.now prefix.now headers.now
@@ -52,7 +58,7 @@ pub fn relocate<R: Rng>(
     ensures acts { Acts R.stream session.old session.new }
 {
     check_reach(session, headers, &path)?;
-    relocate_all(alloc, session, site, prefix, headers, path)
+    relocate_all(alloc, session, site, prefix, headers, path, response)
 }
 
 // The same of a request that reaches all that stands there.
@@ -64,11 +70,16 @@ fn relocate_all<R: Rng>(
     prefix: &str,
     headers: &HeaderMap<HeaderValue>,
     path: DavPath,
+    response: &mut Response,
 ) -> Result<StatusCode, Fault>
-    requires { ReachesDown (state R.stream session.old).map (segments path.bytes) headers.now }
+    requires empty { response.old.body.items ≡ [] }
+    requires reaches { ReachesDown (state R.stream session.old).map (segments path.bytes)
+        headers.now }
     ensures done { IfOk result (λ code. Moves site.now prefix.now headers.now
         (live_of R.stream session.old) (caller session.old) (segments path.bytes) code
         (state R.stream session.new)) }
+    ensures sent { IfOk result (λ code. SendsMore response.old response.new
+        (TellsPlace site.now prefix.now headers.now code)) }
     ensures err { IfErr result (λ e. FailsToMove site.now prefix.now headers.now
         (live_of R.stream session.old) (caller session.old) (segments path.bytes) e) }
     ensures left { IfErr result (λ e. MoveLeaves site.now prefix.now headers.now
@@ -86,6 +97,7 @@ fn relocate_all<R: Rng>(
         Err(fault) => return Err(by_place(&path, by_place(&target, fault))),
     }
     check_conditions(alloc, session, DavMethod::Move, headers, &path)?;
+    say_place(alloc, response, prefix, &target, &known)?;
     session.clear(gone);
     session.relocate(path, target)?;
     Ok(done(&known))

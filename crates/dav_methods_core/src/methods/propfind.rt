@@ -1,20 +1,20 @@
 //! PROPFIND.
-ghost use Rattle.std.specs.Prelude.{◌≡◌, ◌≢◌, ◌⊎◌, true, None, Some, List, [], ◌∷◌, IfErr};
+ghost use Rattle.std.specs.Prelude.{◌≡◌, ◌≢◌, ◌⊎◌, true, None, Some, List, [], IfErr};
 ghost use Rattle.std.specs.Prelude.{IfOk, IsSome, OnOk};
-ghost use Rattle.http_server.specs.Response.{IsBlank};
+ghost use Rattle.http_server.specs.Response.{fields_of};
 ghost use Rattle.dav_path_core.specs.Segments.{segments};
 ghost use Rattle.dav_headers_core.specs.declared.davheaders.depths.Depth.TheVariants as reach;
 ghost use Rattle.dav_files_core.specs.Resources.{at_path};
 ghost use Rattle.dav_xml_core.specs.Views.{writing_of};
 ghost use Rattle.dav_fields_core.specs.Reaches.{depth_in};
-ghost use Rattle.dav_fields_core.specs.Fields.{sent_of};
+ghost use Rattle.dav_fields_core.specs.Fields.{sent_behind, sent_of};
 ghost use Rattle.dav_methods_core.specs.PropfindMethod.{DescribesEach, FailsToFind, Finds};
 ghost use Rattle.dav_documents_core.specs.Pieces.{written_pieces};
 ghost use Rattle.dav_documents_core.specs.QuestionViews.{question_of};
 ghost use Rattle.dav_methods_core.specs.Private.Telling.{TellsEach, TellsOne};
 ghost use Rattle.dav_session_core.specs.Placed.{AllStand};
 ghost use Rattle.dav_documents_core.specs.PropertyDocuments.{Description, multistatus};
-ghost use Rattle.dav_documents_core.specs.RefusalBodies.{xml_type};
+ghost use Rattle.dav_methods_core.specs.SentDocuments.{document_sent};
 ghost use Rattle.dav_session_core.specs.Unhindered.{paths_of};
 ghost use Rattle.dav_session_core.specs.Sessions.{Looks, caller, live_of, state};
 ghost use Rattle.dav_faults_core.specs.declared.faults.Fault.TheVariants as fault;
@@ -52,11 +52,12 @@ pub fn propfind<R: Rng>(
     path: DavPath,
     response: &mut Response,
 ) -> Result<StatusCode, Fault>
-    requires { IsBlank response.old }
+    requires { response.old.body.items ≡ [] }
     ensures done { IfOk result (λ status. (status ≡ 207)
         × Finds finite prefix.now headers.now body.now (live_of R.stream session.old)
-        (caller session.old) (segments path.bytes) response.new.body.items
-        × ((sent_of response.new).types ≡ xml_type ∷ [])) }
+        (caller session.old) (segments path.bytes) response.new.body.items) }
+    ensures sent { OnOk result (sent_of response.new
+        ≡ sent_behind (fields_of response.old) (document_sent response.new.body.items)) }
     ensures err { IfErr result (λ e. FailsToFind finite headers.now body.now
         (state R.stream session.old).map (segments path.bytes) e) }
     ensures looks { Looks R.stream session.old session.new }

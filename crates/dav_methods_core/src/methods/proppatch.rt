@@ -2,11 +2,10 @@
 ghost use Rattle.std.specs.Prelude.{◌≡◌, [], Some, map, IfErr, IfOk, IsSome, OnErr, OnOk};
 ghost use Rattle.dav_documents_core.specs.PropertyUpdates.{updates_in};
 ghost use Rattle.dav_files_core.specs.Properties.{patch_update};
-ghost use Rattle.http_server.specs.Response.{IsBlank};
 ghost use Rattle.dav_path_core.specs.Segments.{segments};
 ghost use Rattle.dav_files_core.specs.Resources.{at_path};
 ghost use Rattle.dav_session_core.specs.Callers.{refusing_at};
-ghost use Rattle.dav_fields_core.specs.Fields.{sent_of};
+ghost use Rattle.dav_fields_core.specs.Fields.{SendsMore};
 ghost use Rattle.dav_methods_core.specs.ProppatchMethod.{CanPatch, CantPatch, FailsToPatch};
 ghost use Rattle.dav_methods_core.specs.ProppatchMethod.{LacksStanding, Patches};
 ghost use Rattle.dav_session_core.specs.Sessions.{Acts, Looks, Stays, caller, live_of, state};
@@ -44,10 +43,10 @@ pub fn proppatch<R: Rng>(
     body: &[u8],
     response: &mut Response,
 ) -> Result<StatusCode, Fault>
-    requires { IsBlank response.old }
-    ensures done { IfOk result (λ code. Patches prefix.now headers.now body.now
-        (live_of R.stream session.old) (caller session.old) path code (sent_of response.new)
-        (state R.stream session.new)) }
+    requires { response.old.body.items ≡ [] }
+    ensures done { IfOk result (λ code. SendsMore response.old response.new
+        (λ sent. Patches prefix.now headers.now body.now (live_of R.stream session.old)
+        (caller session.old) path code sent (state R.stream session.new))) }
     ensures err { IfErr result (λ e. FailsToPatch headers.now body.now
         (live_of R.stream session.old) (caller session.old) (segments path.bytes) e) }
     ensures refused { OnErr result (Stays R.stream session.old session.new) }

@@ -1,12 +1,11 @@
 //! LOCK without a body, which gives a lock another end.
 ghost use Rattle.std.specs.Prelude.{◌≡◌, ◌∷◌, [], List, Ok, Some, filter, map, option_map};
 ghost use Rattle.std.specs.Prelude.{string_bytes, IfErr, IfOk, OnErr, OnOk};
-ghost use Rattle.http_server.specs.Response.{IsBlank};
 ghost use Rattle.dav_path_core.specs.declared.util.DavMethod.TheVariants as method;
 ghost use Rattle.dav_path_core.specs.Segments.{segments};
 ghost use Rattle.dav_headers_core.specs.declared.davheaders.timeouts.DavTimeout.{DavTimeout as timeout};
 ghost use Rattle.dav_locks_core.specs.Locks.{end_of, refreshed_lock};
-ghost use Rattle.dav_fields_core.specs.Fields.{sent_of};
+ghost use Rattle.dav_fields_core.specs.Fields.{SendsMore};
 ghost use Rattle.dav_fields_core.specs.LockTimeouts.{timeouts_in};
 ghost use Rattle.dav_documents_core.specs.LockDocuments.{discovery_pieces};
 ghost use Rattle.dav_documents_core.specs.Pieces.{written_pieces};
@@ -52,10 +51,10 @@ pub fn refresh<R: Rng>(
     path: DavPath,
     response: &mut Response,
 ) -> Result<StatusCode, Fault>
-    requires { IsBlank response.old }
-    ensures done { IfOk result (λ code. spec_of.Refreshes longest prefix.now headers.now
-        (live_of R.stream session.old) (caller session.old) (segments path.bytes) code
-        (sent_of response.new) (state R.stream session.new)) }
+    requires { response.old.body.items ≡ [] }
+    ensures done { IfOk result (λ code. SendsMore response.old response.new
+        (λ sent. spec_of.Refreshes longest prefix.now headers.now (live_of R.stream session.old)
+        (caller session.old) (segments path.bytes) code sent (state R.stream session.new))) }
     ensures err { IfErr result (λ e. spec_of.FailsToRefresh headers.now
         (live_of R.stream session.old) (caller session.old) (segments path.bytes) e) }
     ensures looks { OnErr result (Looks R.stream session.old session.new) }

@@ -2,16 +2,17 @@
 ghost use Rattle.std.specs.Prelude.{◌≡◌, ◌⊎◌, [], false, Err, Ok, option_map, string_bytes, IfErr};
 ghost use Rattle.std.specs.Prelude.{IfOk, OnErr, OnOk};
 ghost use Rattle.dav_path_core.specs.Segments.{segments};
+ghost use Rattle.dav_locks_core.specs.Exclusive.{Exclusive};
 ghost use Rattle.dav_locks_core.specs.Lock.{Lock};
 ghost use Rattle.dav_locks_core.specs.Locks.{lock_path};
 ghost use Rattle.dav_resource_core.specs.Requests as reply_of;
 ghost use Rattle.dav_resource_core.specs.Requests.{Refusal as refusal};
 ghost use Rattle.dav_resource_core.specs.Step.{State};
-ghost use Rattle.dav_session_core.specs.Callers.{Runs};
+ghost use Rattle.dav_session_core.specs.Callers.{KeepsApart, Runs};
 ghost use Rattle.dav_session_core.specs.Granting.{IsConflictOf, granted_lock, stands_above};
 ghost use Rattle.dav_session_core.specs.Granting.{with_lock, with_token_drawn, PutsUnder};
 ghost use Rattle.dav_session_core.specs.StoreRefusals.{put_fault};
-ghost use Rattle.dav_session_core.specs.Sessions.{Acts, caller, live_of, Requests, state, Stays};
+ghost use Rattle.dav_session_core.specs.Sessions.{Looks, caller, live_of, Requests, state, Stays};
 ghost use Rattle.dav_faults_core.specs.declared.faults.Fault.TheVariants as fault;
 ghost use Rattle.dav_session_core.specs.Questions.{against_lock};
 
@@ -44,8 +45,10 @@ impl<R: Rng> Session<R> {
         ensures free { OnOk result (against_lock R.stream self.old path shared deep ≡ []) }
         ensures err { IfErr result (λ e. IsConflictOf
             (against_lock R.stream self.old path shared deep) e) }
-        ensures refused { OnErr result (Stays R.stream self.old self.new) }
-        ensures acts { Acts R.stream self.old self.new }
+        ensures refused { OnErr result (Looks R.stream self.old self.new) }
+        ensures requests { Requests R.stream self.old self.new }
+        ensures apart { Exclusive (state R.stream self.old).locks → KeepsApart (caller self.old)
+            (state R.stream self.old) (state R.stream self.new) }
     {
         match self.ask(Command::Lock {
             path,

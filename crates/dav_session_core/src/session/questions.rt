@@ -60,6 +60,7 @@ impl<R: Rng> Session<R> {
         ensures err { IfErr result (λ e. LacksKind Folder (state R.stream self.old).map
             (segments path.bytes) e) }
         ensures looks { Looks R.stream self.old self.new }
+        ensures shape { IsResourceMap (state R.stream self.new).map }
     {
         match self.ask(Command::List { path }) {
             Ok(Reply::Entries(entries)) => Ok(entries),

@@ -1,13 +1,15 @@
 //! All that stands at or below a path.
 ghost use Rattle.std.specs.Prelude.{◌≡◌, ◌≢◌, ◌⊎◌, ◌↔◌, List, None, [], ◌∷◌, ◌++◌, map, false};
 ghost use Rattle.std.specs.Prelude.{Contains, IfOk, IfErr, IsSome, OnOk};
+ghost use Rattle.std.specs.List.{All};
 ghost use Rattle.dav_path_core.specs.Fronts.{Path};
 ghost use Rattle.dav_path_core.specs.PathReading.{CanBeSegment};
 ghost use Rattle.dav_path_core.specs.Segments.{segments};
 ghost use Rattle.dav_files_core.specs.declared.memfs.listing.MemFsEntry.{MemFsEntry};
 ghost use Rattle.dav_files_core.specs.Finding.{has_members};
 ghost use Rattle.dav_files_core.specs.Resources.{ResourceMap, at_path};
-ghost use Rattle.dav_session_core.specs.Private.Gathering.{MembersAre, paths_in, FailsToName};
+ghost use Rattle.dav_session_core.specs.MemberPaths.{paths_in, paths_of_members};
+ghost use Rattle.dav_session_core.specs.Private.Gathering.{FailsToName, HasOddMember};
 ghost use Rattle.dav_session_core.specs.Sessions.{Looks, state};
 ghost use Rattle.dav_session_core.specs.Subtrees.{IsSubtreeWalk};
 ghost use Rattle.dav_faults_core.specs.declared.faults.Fault.TheVariants as fault;
@@ -24,9 +26,9 @@ use rand_core::Rng;
 use std::alloc::Global;
 
 impl<R: Rng> Session<R> {
-    /// The paths of all that stands at a path and below it, each folder before its members: so
-    /// taken from the end, each stands alone when its turn comes (RFC 4918 sections 9.6.1 and
-    /// 9.8.3).
+    /// The paths of all that stands at a path and below it, by the bytes of their names, and each
+    /// folder before its members: so taken from the end, each stands alone when its turn comes
+    /// (RFC 4918 sections 9.6.1 and 9.8.3).
     ///
     /// `NotFound` where nothing stands there; `BadRequest` where a name below it is one that no
     /// path has which is read, as only calls past path reading can make one.
@@ -46,6 +48,7 @@ impl<R: Rng> Session<R> {
         waiting.push(path)?;
         while let Some(place) = waiting.pop() {
             let mut members = self.members(alloc, &place)?;
+            members.reverse();
             waiting.append(&mut members)?;
             places.push(place)?;
         }
@@ -54,8 +57,10 @@ impl<R: Rng> Session<R> {
 
     // The paths of a folder's members; none where no folder stands at the path.
     pub(super) fn members(&mut self, alloc: Global, place: &DavPath) -> Result<Vec<DavPath>, Fault>
-        ensures ok { IfOk result (λ paths. MembersAre (state R.stream self.old).map
-            (segments place.now.bytes) (paths_of paths.items)) }
+        ensures ok { IfOk result (λ paths. paths_of paths.items
+            ≡ paths_of_members (state R.stream self.old).map (segments place.now.bytes)) }
+        ensures plain { OnOk result (¬ HasOddMember (state R.stream self.old).map
+            (segments place.now.bytes)) }
         ensures err { IfErr result (λ e. FailsToName (state R.stream self.old).map
             (segments place.now.bytes) e) }
         ensures looks { Looks R.stream self.old self.new }
@@ -84,6 +89,13 @@ pub fn walk_without_its_last()
         → IsSubtreeWalk after p before }
 {}
 
+/// The law of walks (own): what stands at a path and below it in a map has one walk. It does
+/// nothing.
+pub fn walks_are_equal()
+    ensures { (m : ResourceMap) (p : Path) (places others : List Path) → IsSubtreeWalk m p places
+        → IsSubtreeWalk m p others → places ≡ others }
+{}
+
 // The paths of listed members of a folder.
 fn member_paths(
     alloc: Global,
@@ -92,6 +104,7 @@ fn member_paths(
 ) -> Result<Vec<DavPath>, Fault>
     ensures ok { IfOk result (λ paths. paths_of paths.items
         ≡ paths_in (segments folder.now.bytes) (map (λ e. e.name) entries.now)) }
+    ensures plain { OnOk result (All (λ e. CanBeSegment e.name) entries.now) }
     ensures err { IfErr result (λ e. (e ≡ fault.InsufficientStorage)
         ⊎ ((e ≡ fault.BadRequest) × ((entry : MemFsEntry) × Contains entries.now entry
         × ¬ CanBeSegment entry.name))) }

@@ -7,5 +7,5 @@ use Rattle.dav_fields_core.proofs.fields.add_lock_token.Goals as goal
 
 pub returns-clause-fields : goal.returns-clause-fields
 returns-clause-fields c =
-    field_added c.add_field.result (fields_of c.args.response.now) (fields_of c.add_field.new.response) c.from_static.result c.as_bytes.result.now (codes "lock-token")
-    (in_brackets c.args.token.now) c.add_field.ensures.added c.from_static.ensures (c.as_bytes.ensures.value ∙ c.in_ok-text.ensures.ok) c.requires
+    field_added c.add_field.result (fields_of c.args.response.now) (fields_of c.add_field.new.response) c.from_static-name.result c.as_bytes.result.now (codes "lock-token")
+    (in_brackets c.args.token.now) c.add_field.ensures.fields c.from_static-name.ensures (c.as_bytes.ensures.value ∙ c.in_ok-text.ensures.ok)

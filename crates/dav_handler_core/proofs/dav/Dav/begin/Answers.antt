@@ -1,4 +1,5 @@
-use Rattle.std.proofs.Common.{◌≡◌, ◌<◌, ◌⊎◌, ◌∙◌, sym, ap, subst, option_map, map, string_bytes}
+use Rattle.dav_fields_core.specs.AnswerFields.{date_field}
+use Rattle.std.proofs.Common.{◌≡◌, ◌<◌, ◌⊎◌, [], ◌∷◌, ◌++◌, ◌∙◌, sym, ap, subst, option_map, map, string_bytes}
 use Rattle.std.proofs.lemmas.Result.{err_from_is_err_and}
 use Rattle.http.specs.Request.{head_of}
 use Rattle.http_header.specs.FieldValue.{FieldValue}
@@ -11,7 +12,7 @@ use Rattle.dav_fields_core.specs.Senders.{NamesPrincipal, Submits}
 use Rattle.dav_handler_core.specs.Server.{site_for}
 use Rattle.dav_handler_core.specs.ServerViews.{options_of}
 use Rattle.dav_fields_core.specs.Targets.{IsTargetOf}
-use Rattle.dav_handler_core.proofs.AnswerLemmas.{by_target, by_principal, by_tokens, by_moment}
+use Rattle.dav_handler_core.proofs.AnswerLemmas.{by_memory, by_target, by_principal, by_tokens, by_moment}
 use Rattle.dav_handler_core.proofs.dav.Dav.begin.Goals as goal
 
 -- what holds of a site and of headers holds of the request whose these are
@@ -85,6 +86,17 @@ returns-in_err-now-clause-err g c =
           (c.of-site.ensures ∙ ap (site_of c.args.self.now.settings.scheme) c.uri-2.ensures) c.headers-2.ensures c.in_ok-tokens.ensures.ok;
     })
     c.in_err-now.ensures.err)
+
+pub returns-in_err-add_date-clause-err : goal.returns-in_err-add_date-clause-err
+returns-in_err-add_date-clause-err g c =
+    let p = err_from_is_err_and c.from_residual-in_err-add_date.result c.from_residual-in_err-add_date.ensures.1 in
+    rw (p.1, p.2) (by_memory (options_of c.args.self.now.settings) c.args.request.now c.args.self.now.session.request.now.0 c.args.changes c.in_err-add_date.field-0.0 c.in_err-add_date.ensures.err)
+
+pub returns-clause-dated : goal.returns-clause-dated
+returns-clause-dated g c = (
+  c.in_ok-add_date.ensures.fields ∙ ap (λ fields. fields ++ date_field c.args.date.now ∷ []) c.requires.blank.headers,
+  ap (λ b. b.items) c.add_date.ensures.body ∙ c.requires.blank.body,
+)
 
 pub returns-clause-moment : goal.returns-clause-moment
 returns-clause-moment g c = ap (λ (w : Caller). w.now) c.begin.ensures.caller ∙ c.in_ok-now.ensures.moment

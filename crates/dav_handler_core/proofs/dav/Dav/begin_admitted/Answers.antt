@@ -57,3 +57,6 @@ returns-in_err-admit-clause-comes g c =
 
 pub returns-clause-moment : goal.returns-clause-moment
 returns-clause-moment g c = ap (λ (w : Caller). w.now) c.admit.ensures.looks.who ∙ c.in_ok-path.ensures.moment
+
+pub returns-clause-dated : goal.returns-clause-dated
+returns-clause-dated g c = c.in_ok-path.ensures.dated

@@ -35,3 +35,6 @@ returns-in_err-path-clause-comes g c =
 pub returns-then-not-is_empty-clause-comes : goal.returns-then-not-is_empty-clause-comes
 returns-then-not-is_empty-clause-comes g c =
     begun c.in_ok-path.path (caller c.begin_admitted.new.self.session) c.in_ok-path.ensures.ok.0.0 c.in_ok-path.ensures.moment
+
+pub returns-clause-dated : goal.returns-clause-dated
+returns-clause-dated g c = c.in_ok-path.ensures.dated

@@ -6,7 +6,9 @@ use Rattle.dav_path_core.specs.declared.util.DavMethod.TheVariants as method
 use Rattle.dav_path_core.specs.Segments.{segments}
 use Rattle.dav_handler_core.specs.Server.{Options}
 use Rattle.dav_session_core.specs.Callers.{Caller, live}
-use Rattle.dav_fields_core.specs.Fields.{sent_of}
+use Rattle.dav_fields_core.specs.Fields.{nothing_sent}
+use Rattle.dav_methods_core.proofs.SentLemmas.{sent_done}
+use Rattle.dav_handler_core.proofs.SentAnswerLemmas.{sent_dated}
 use Rattle.dav_methods_core.specs.LockMethod.{FailsToLock, IsAskedBy, IsGranted}
 use Rattle.dav_methods_core.specs.Rooms.{LeavesLock}
 use Rattle.dav_handler_core.specs.ServerViews.{server}
@@ -23,8 +25,13 @@ pub returns-in_err-path-clause-answers : goal.returns-in_err-path-clause-answers
 returns-in_err-path-clause-answers g c =
     let p = err_from_is_err_and c.from_residual.result c.from_residual.ensures.1 in
     let some = some_body (body_of c.args.request.now) (subst (λ body. (length body == 0) ≡ _) c.body.ensures (sym c.is_empty.ensures ∙ c.if-is_empty.false)) in
-    rw (p.1, p.2) (lock_unread (server g.R.Rng.stream c.args.self.now) (server g.R.Rng.stream c.begin_admitted.new.self) c.args.request.now c.in_err-path.field-0.0
-    (sent_of c.args.response.now) true some.0 c.in_err-path.ensures.err)
+    rw (p.1, p.2) (
+      nothing_sent,
+      tt,
+      lock_unread (server g.R.Rng.stream c.args.self.now) (server g.R.Rng.stream c.begin_admitted.new.self) c.args.request.now c.in_err-path.field-0.0
+          nothing_sent true some.0 c.in_err-path.ensures.err,
+      tt,
+    )
 
 pub returns-in_err-path-clause-refused : goal.returns-in_err-path-clause-refused
 returns-in_err-path-clause-refused g c =
@@ -41,21 +48,26 @@ returns-clause-answers g c =
     let s = state g.R.Rng.stream c.begin_admitted.new.self.session in
     let begun = c.in_ok-path.ensures.ok in
     let path = c.in_ok-path.path in
-    let sent = sent_of c.lock.new.response in
+    let told = sent_done c.begin_admitted.new.response c.lock.new.response c.lock.result _ c.lock.ensures.done in
+    let sent = told.0 in
     let options = c.begin_admitted.ensures.moves.options in
     let headers = (head_of c.args.request.now).headers in
     let body = body_of c.args.request.now in
-    let some = some_body body (subst (λ body. (length body == 0) ≡ _) c.body.ensures (sym c.is_empty.ensures ∙ c.if-is_empty.false)) in
-    lock_answered before mid after c.args.request.now path who (ap (λ (w : Caller). w.now) c.lock.ensures.ran.who) begun.0.0 begun.1 s c.begin_admitted.ensures.live c.lock.result sent
-    (begun.0.1 refl) some.1
-    (subst (λ (o : Options). IfOk c.lock.result (λ status. IsGranted o.longest o.prefix headers body (live who.now s) who path status sent after.state)) options
-    (subst (λ b. IfOk c.lock.result (λ status. IsGranted mid.options.longest mid.options.prefix headers b (live who.now s) who path status sent after.state)) (c.deref-2.ensures ∙ c.body-2.ensures)
-    (subst (λ h. IfOk c.lock.result (λ status. IsGranted mid.options.longest mid.options.prefix h c.deref-2.result.now (live who.now s) who path status sent after.state)) c.headers.ensures
-    (subst (λ prefix. IfOk c.lock.result (λ status. IsGranted mid.options.longest prefix c.headers.result.now c.deref-2.result.now (live who.now s) who path status sent after.state)) c.deref.ensures
-    c.lock.ensures.done))))
-    (subst (λ (o : Options). IfErr c.lock.result (λ e. FailsToLock o.longest headers body (live who.now s) who path e)) options
-    (subst (λ b. IfErr c.lock.result (λ e. FailsToLock mid.options.longest headers b (live who.now s) who path e)) (c.deref-2.ensures ∙ c.body-2.ensures)
-    (subst (λ h. IfErr c.lock.result (λ e. FailsToLock mid.options.longest h c.deref-2.result.now (live who.now s) who path e)) c.headers.ensures c.lock.ensures.err)))
+    let some = some_body body (subst (λ body. (length body == 0) ≡ _) c.body.ensures (sym c.is_empty.ensures ∙ c.if-is_empty.false)) in (
+      sent,
+      sent_dated c.args.date.now c.begin_admitted.new.response c.lock.new.response c.lock.result sent c.in_ok-path.ensures.dated told.1,
+      lock_answered before mid after c.args.request.now path who (ap (λ (w : Caller). w.now) c.lock.ensures.ran.who) begun.0.0 begun.1 s c.begin_admitted.ensures.live c.lock.result sent
+          (begun.0.1 refl) some.1
+          (subst (λ (o : Options). IfOk c.lock.result (λ status. IsGranted o.longest o.prefix headers body (live who.now s) who path status sent after.state)) options
+          (subst (λ b. IfOk c.lock.result (λ status. IsGranted mid.options.longest mid.options.prefix headers b (live who.now s) who path status sent after.state)) (c.deref-2.ensures ∙ c.body-2.ensures)
+          (subst (λ h. IfOk c.lock.result (λ status. IsGranted mid.options.longest mid.options.prefix h c.deref-2.result.now (live who.now s) who path status sent after.state)) c.headers.ensures
+          (subst (λ prefix. IfOk c.lock.result (λ status. IsGranted mid.options.longest prefix c.headers.result.now c.deref-2.result.now (live who.now s) who path status sent after.state)) c.deref.ensures
+          told.2))))
+          (subst (λ (o : Options). IfErr c.lock.result (λ e. FailsToLock o.longest headers body (live who.now s) who path e)) options
+          (subst (λ b. IfErr c.lock.result (λ e. FailsToLock mid.options.longest headers b (live who.now s) who path e)) (c.deref-2.ensures ∙ c.body-2.ensures)
+          (subst (λ h. IfErr c.lock.result (λ e. FailsToLock mid.options.longest h c.deref-2.result.now (live who.now s) who path e)) c.headers.ensures c.lock.ensures.err))),
+      tt,
+    )
 
 pub returns-clause-refused : goal.returns-clause-refused
 returns-clause-refused g c =
@@ -79,7 +91,8 @@ returns-clause-moves g c =
     let s = state g.R.Rng.stream c.begin_admitted.new.self.session in
     let begun = c.in_ok-path.ensures.ok in
     let path = c.in_ok-path.path in
-    let sent = sent_of c.lock.new.response in
+    let told = sent_done c.begin_admitted.new.response c.lock.new.response c.lock.result _ c.lock.ensures.done in
+    let sent = told.0 in
     let headers = (head_of c.args.request.now).headers in
     let body = body_of c.args.request.now in
     moves_granted before mid after c.args.request.now path who (ap (λ (w : Caller). w.now) c.lock.ensures.ran.who) begun.0.0 begun.1 s c.begin_admitted.ensures.live c.lock.result sent
@@ -88,7 +101,7 @@ returns-clause-moves g c =
     (subst (λ b. IfOk c.lock.result (λ status. IsGranted mid.options.longest mid.options.prefix headers b (live who.now s) who path status sent after.state)) (c.deref-2.ensures ∙ c.body-2.ensures)
     (subst (λ h. IfOk c.lock.result (λ status. IsGranted mid.options.longest mid.options.prefix h c.deref-2.result.now (live who.now s) who path status sent after.state)) c.headers.ensures
     (subst (λ prefix. IfOk c.lock.result (λ status. IsGranted mid.options.longest prefix c.headers.result.now c.deref-2.result.now (live who.now s) who path status sent after.state)) c.deref.ensures
-    c.lock.ensures.done))))
+    told.2))))
     (subst (λ b. IfErr c.lock.result (λ e. LeavesLock (IsAskedBy b (live who.now s) who path) who (segments path.bytes) e s after.state))
     (c.deref-2.ensures ∙ c.body-2.ensures) c.lock.ensures.left) refl refl
 

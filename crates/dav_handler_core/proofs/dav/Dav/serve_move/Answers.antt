@@ -13,6 +13,10 @@ use Rattle.dav_handler_core.specs.ServerViews.{server}
 use Rattle.dav_session_core.specs.Sessions.{caller, state}
 use Rattle.dav_handler_core.proofs.AnswerLemmas.{bare_answered, bare_unread, moves_on}
 use Rattle.dav_handler_core.proofs.TransferAnswerLemmas.{move_leaves}
+use Rattle.dav_fields_core.specs.Fields.{nothing_sent}
+use Rattle.dav_methods_core.specs.CreatedPlaces.{TellsPlace}
+use Rattle.dav_methods_core.proofs.SentLemmas.{sent_done}
+use Rattle.dav_handler_core.proofs.SentAnswerLemmas.{sent_dated}
 use Rattle.dav_handler_core.proofs.MomentLemmas.{comes_on}
 use Rattle.dav_handler_core.proofs.dav.Dav.serve_move.Goals as goal
 
@@ -20,8 +24,13 @@ pub returns-in_err-path-clause-answers : goal.returns-in_err-path-clause-answers
 returns-in_err-path-clause-answers g c =
     let q = err_from_is_err_and c.from_residual.result c.from_residual.ensures.1 in
     let before = server g.R.Rng.stream c.args.self.now in
-    rw (q.1, q.2) (bare_unread true (FailsToMove (site_for before.options c.args.request.now) before.options.prefix (head_of c.args.request.now).headers) before (server g.R.Rng.stream c.begin_bare.new.self) c.args.request.now c.in_err-path.field-0.0
-    c.in_err-path.ensures.err)
+    rw (q.1, q.2) (
+      nothing_sent,
+      tt,
+      bare_unread true (FailsToMove (site_for before.options c.args.request.now) before.options.prefix (head_of c.args.request.now).headers) before (server g.R.Rng.stream c.begin_bare.new.self) c.args.request.now c.in_err-path.field-0.0
+          c.in_err-path.ensures.err,
+      tt,
+    )
 
 pub returns-clause-answers : goal.returns-clause-answers
 returns-clause-answers g c =
@@ -38,14 +47,22 @@ returns-clause-answers g c =
     let site = c.of-site.ensures ∙ ap (site_of mid.options.scheme) c.uri.ensures in
     let done = subst (λ site. IfOk c.relocate.result (λ status. Moves site c.deref.result.now c.headers.result.now (live who.now s) who (segments c.in_ok-path.path.bytes) status after.state)) site c.relocate.ensures.done in
     let fails_there = subst (λ site. IfErr c.relocate.result (λ e. FailsToMove site c.deref.result.now c.headers.result.now (live who.now s) who (segments c.in_ok-path.path.bytes) e)) site c.relocate.ensures.err in
-    bare_answered true (Moves (site_for before.options c.args.request.now) before.options.prefix headers) (FailsToMove (site_for before.options c.args.request.now) before.options.prefix headers) before mid after c.args.request.now
-    c.in_ok-path.path who (ap (λ (w : Caller). w.now) c.relocate.ensures.acts.who) begun.0.0 begun.1 (λ h. begun.0.1 refl) s c.begin_bare.ensures.live begun.2 c.relocate.result
-    (subst (λ o. does o headers) options (subst (does mid.options) c.headers.ensures
-    (subst (λ prefix. IfOk c.relocate.result (λ status. Moves (site_for mid.options c.args.request.now) prefix c.headers.result.now (live who.now s) who (segments c.in_ok-path.path.bytes) status after.state))
-    c.deref.ensures done)))
-    (subst (λ o. fails o headers) options (subst (fails mid.options) c.headers.ensures
-    (subst (λ prefix. IfErr c.relocate.result (λ e. FailsToMove (site_for mid.options c.args.request.now) prefix c.headers.result.now (live who.now s) who (segments c.in_ok-path.path.bytes) e))
-    c.deref.ensures fails_there)))
+    let sent = sent_done c.begin_bare.new.response c.relocate.new.response c.relocate.result _ c.relocate.ensures.sent in
+    let tells : Options → Entries FieldValue → Type 0 = λ o h. IfOk c.relocate.result (λ status. TellsPlace (site_for o c.args.request.now) o.prefix h status sent.0) in
+    let tells_there = subst (λ site. IfOk c.relocate.result (λ status. TellsPlace site c.deref.result.now c.headers.result.now status sent.0)) site sent.2 in (
+      sent.0,
+      sent_dated c.args.date.now c.begin_bare.new.response c.relocate.new.response c.relocate.result sent.0 c.in_ok-path.ensures.dated sent.1,
+      bare_answered true (Moves (site_for before.options c.args.request.now) before.options.prefix headers) (FailsToMove (site_for before.options c.args.request.now) before.options.prefix headers) before mid after c.args.request.now
+          c.in_ok-path.path who (ap (λ (w : Caller). w.now) c.relocate.ensures.acts.who) begun.0.0 begun.1 (λ h. begun.0.1 refl) s c.begin_bare.ensures.live begun.2 c.relocate.result
+          (subst (λ o. does o headers) options (subst (does mid.options) c.headers.ensures
+          (subst (λ prefix. IfOk c.relocate.result (λ status. Moves (site_for mid.options c.args.request.now) prefix c.headers.result.now (live who.now s) who (segments c.in_ok-path.path.bytes) status after.state))
+          c.deref.ensures done)))
+          (subst (λ o. fails o headers) options (subst (fails mid.options) c.headers.ensures
+          (subst (λ prefix. IfErr c.relocate.result (λ e. FailsToMove (site_for mid.options c.args.request.now) prefix c.headers.result.now (live who.now s) who (segments c.in_ok-path.path.bytes) e))
+          c.deref.ensures fails_there))),
+      subst (λ o. tells o headers) options (subst (tells mid.options) c.headers.ensures
+          (subst (λ prefix. IfOk c.relocate.result (λ status. TellsPlace (site_for mid.options c.args.request.now) prefix c.headers.result.now status sent.0)) c.deref.ensures tells_there)),
+    )
 
 pub returns-clause-refused : goal.returns-clause-refused
 returns-clause-refused g c =

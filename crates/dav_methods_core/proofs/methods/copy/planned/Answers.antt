@@ -86,8 +86,8 @@ returns-in-Ok-clause-ok g c =
     (copy_planned c.args.site.now c.args.prefix.now c.args.headers.now who start from deep c.requires c.in_ok-target.field-0.target (option_map meta_of known) gone are places found
     (subst (λ (t : State). IsResourceMap t.map) still.live c.in-Ok.ensures.shape) (sym asked ∙ all_free))
 
-pub returns-clause-err : goal.returns-clause-err
-returns-clause-err g c =
+pub returns-in-Err-clause-err : goal.returns-in-Err-clause-err
+returns-in-Err-clause-err g c =
     let who = spec.caller c.args.session.now in
     let start = spec.state g.R.Rng.stream c.args.session.now in
     let from = segments c.args.path.now.bytes in

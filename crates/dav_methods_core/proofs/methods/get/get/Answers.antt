@@ -6,10 +6,9 @@ use Rattle.dav_files_core.specs.Meta.{meta_at, meta_of}
 use Rattle.dav_files_core.specs.Resources.{Resource, at_path}
 use Rattle.dav_resource_core.specs.Step.{State}
 use Rattle.dav_fields_core.specs.declared.ranges.Extent.TheVariants as extent
-use Rattle.dav_fields_core.specs.Fields.{marks_in, marks_of, sent_of}
 use Rattle.dav_session_core.proofs.Looking.{looks_on}
-use Rattle.dav_methods_core.proofs.FolderPageLemmas.{no_page, whole_page}
-use Rattle.dav_methods_core.proofs.GetMethodLemmas.{fails, none_gotten, part_fails, part_gotten, standing_there, told_is, unsatisfied_gotten, whole_gotten}
+use Rattle.dav_methods_core.proofs.FolderPageLemmas.{whole_page}
+use Rattle.dav_methods_core.proofs.GetMethodLemmas.{fails, none_gotten, part_fails, part_gotten, part_of_file, standing_there, told_is, unsatisfied_gotten, whole_gotten}
 use Rattle.dav_methods_core.proofs.methods.get.get.Goals as goal
 
 pub returns-in_err-told-clause-err : goal.returns-in_err-told-clause-err
@@ -23,38 +22,42 @@ returns-in_err-told-clause-err g c =
 
 pub returns-in-None-clause-ok : goal.returns-in-None-clause-ok
 returns-in-None-clause-ok g c =
-    none_gotten c.args.method c.args.session.now.stores.map c.standing_known.new.self.stores.map (segments c.args.path.now.bytes) c.args.headers.now (meta_of c.in-Some.meta) c.in_ok-standing.standing
-    (marks_of c.args.response.now) (sent_of c.not_modified.new.response)
+    none_gotten c.args.method c.args.session.now.stores.map c.standing_known.new.self.stores.map c.args.path.now c.args.headers.now (meta_of c.in-Some.meta) c.in_ok-standing.standing
+    c.args.response.now c.not_modified.new.response
     (sym (ap (option_map meta_of) c.in-Some.is) ∙ c.meta.ensures.found
     ∙ ap (λ p. option_map (λ (r : Resource). meta_at r.node) (at_path c.args.session.now.stores.map (segments p.bytes))) c.in_ok-copy_of.ensures)
     (standing_there c.args.session.now.stores.map c.meta.new.self.stores.map (segments c.args.path.now.bytes) (meta_of c.in-Some.meta) c.in_ok-standing.standing
-    c.in_ok-standing.ensures.ok (ap (λ (s : State). s.map) c.meta.ensures.looks.live)) (ap marks_in c.requires.headers) (ap (λ (s : State). s.map) (looks_on c.meta.ensures.looks c.standing_known.ensures.looks).live)
+    c.in_ok-standing.ensures.ok (ap (λ (s : State). s.map) c.meta.ensures.looks.live)) (ap (λ (s : State). s.map) (looks_on c.meta.ensures.looks c.standing_known.ensures.looks).live)
     c.not_modified.result (told_is c.args.method c.args.session.now.stores.map (segments c.args.path.now.bytes) (meta_of c.in-Some.meta) c.args.headers.now c.in_ok-standing.standing c.len.result (Ok None) (standing_there c.args.session.now.stores.map c.meta.new.self.stores.map (segments c.args.path.now.bytes) (meta_of c.in-Some.meta) c.in_ok-standing.standing
     c.in_ok-standing.ensures.ok (ap (λ (s : State). s.map) c.meta.ensures.looks.live)) c.len.ensures
     (sym (ap Ok c.in-None.is) ∙ c.in_ok-told.ensures))
-    (ap (λ b. b.items) c.not_modified.ensures.body ∙ c.requires.body) c.not_modified.ensures.ok
+    (ap (λ b. b.items) c.not_modified.ensures.body ∙ c.requires) c.not_modified.ensures.ok
 
 pub returns-in-Some-Whole-clause-ok : goal.returns-in-Some-Whole-clause-ok
 returns-in-Some-Whole-clause-ok g c =
-    whole_gotten c.args.method c.args.session.now.stores.map c.standing_known.new.self.stores.map (segments c.args.path.now.bytes) c.args.headers.now (meta_of c.in-Some.meta) c.in_ok-standing.standing
-    (marks_of c.args.response.now) (sent_of c.tell_whole.new.response)
+    whole_gotten c.args.method c.args.session.now.stores.map c.standing_known.new.self.stores.map c.args.path.now c.args.headers.now (meta_of c.in-Some.meta) c.in_ok-standing.standing
+    c.args.response.now c.tell_whole.new.response
     (sym (ap (option_map meta_of) c.in-Some.is) ∙ c.meta.ensures.found
     ∙ ap (λ p. option_map (λ (r : Resource). meta_at r.node) (at_path c.args.session.now.stores.map (segments p.bytes))) c.in_ok-copy_of.ensures)
     (standing_there c.args.session.now.stores.map c.meta.new.self.stores.map (segments c.args.path.now.bytes) (meta_of c.in-Some.meta) c.in_ok-standing.standing
-    c.in_ok-standing.ensures.ok (ap (λ (s : State). s.map) c.meta.ensures.looks.live)) (ap marks_in c.requires.headers) (ap (λ (s : State). s.map) (looks_on c.meta.ensures.looks c.standing_known.ensures.looks).live)
+    c.in_ok-standing.ensures.ok (ap (λ (s : State). s.map) c.meta.ensures.looks.live)) (ap (λ (s : State). s.map) (looks_on c.meta.ensures.looks c.standing_known.ensures.looks).live)
     c.tell_whole.result (told_is c.args.method c.args.session.now.stores.map (segments c.args.path.now.bytes) (meta_of c.in-Some.meta) c.args.headers.now c.in_ok-standing.standing c.len.result (Ok (Some extent.Whole)) (standing_there c.args.session.now.stores.map c.meta.new.self.stores.map (segments c.args.path.now.bytes) (meta_of c.in-Some.meta) c.in_ok-standing.standing
     c.in_ok-standing.ensures.ok (ap (λ (s : State). s.map) c.meta.ensures.looks.live)) c.len.ensures
     (sym (ap Ok (c.in-Some-Whole.is ∙ ap Some c.in-Some-Whole.field-0-is)) ∙ c.in_ok-told.ensures))
     c.tell_whole.ensures.ok c.tell_whole.ensures.bytes
+    (whole_page c.args.session.now.stores.map c.args.path.now c.tell_whole.new.response.body.items c.standing_known.new.self.stores.map (meta_of c.in-Some.meta) c.tell_whole.result
+    (sym (ap (option_map meta_of) c.in-Some.is) ∙ c.meta.ensures.found
+    ∙ ap (λ p. option_map (λ (r : Resource). meta_at r.node) (at_path c.args.session.now.stores.map (segments p.bytes))) c.in_ok-copy_of.ensures)
+    (ap (λ (s : State). s.map) (looks_on c.meta.ensures.looks c.standing_known.ensures.looks).live) c.tell_whole.ensures.page)
 
 pub returns-in-Some-Part-clause-ok : goal.returns-in-Some-Part-clause-ok
 returns-in-Some-Part-clause-ok g c =
-    part_gotten c.args.method c.args.session.now.stores.map c.standing_known.new.self.stores.map (segments c.args.path.now.bytes) c.args.headers.now (meta_of c.in-Some.meta) c.in_ok-standing.standing
-    (marks_of c.args.response.now) (sent_of c.tell_part.new.response)
+    part_gotten c.args.method c.args.session.now.stores.map c.standing_known.new.self.stores.map c.args.path.now c.args.headers.now (meta_of c.in-Some.meta) c.in_ok-standing.standing
+    c.args.response.now c.tell_part.new.response
     (sym (ap (option_map meta_of) c.in-Some.is) ∙ c.meta.ensures.found
     ∙ ap (λ p. option_map (λ (r : Resource). meta_at r.node) (at_path c.args.session.now.stores.map (segments p.bytes))) c.in_ok-copy_of.ensures)
     (standing_there c.args.session.now.stores.map c.meta.new.self.stores.map (segments c.args.path.now.bytes) (meta_of c.in-Some.meta) c.in_ok-standing.standing
-    c.in_ok-standing.ensures.ok (ap (λ (s : State). s.map) c.meta.ensures.looks.live)) (ap marks_in c.requires.headers) (ap (λ (s : State). s.map) (looks_on c.meta.ensures.looks c.standing_known.ensures.looks).live)
+    c.in_ok-standing.ensures.ok (ap (λ (s : State). s.map) c.meta.ensures.looks.live)) (ap (λ (s : State). s.map) (looks_on c.meta.ensures.looks c.standing_known.ensures.looks).live)
     c.in-Some-Part.first c.in-Some-Part.end c.tell_part.result
     (told_is c.args.method c.args.session.now.stores.map (segments c.args.path.now.bytes) (meta_of c.in-Some.meta) c.args.headers.now c.in_ok-standing.standing c.len.result (Ok (Some (extent.Part c.in-Some-Part.first c.in-Some-Part.end))) (standing_there c.args.session.now.stores.map c.meta.new.self.stores.map (segments c.args.path.now.bytes) (meta_of c.in-Some.meta) c.in_ok-standing.standing
     c.in_ok-standing.ensures.ok (ap (λ (s : State). s.map) c.meta.ensures.looks.live)) c.len.ensures
@@ -63,12 +66,12 @@ returns-in-Some-Part-clause-ok g c =
 
 pub returns-in-Some-Part-clause-err : goal.returns-in-Some-Part-clause-err
 returns-in-Some-Part-clause-err g c =
-    part_fails c.args.method c.args.session.now.stores.map c.standing_known.new.self.stores.map (segments c.args.path.now.bytes) c.args.headers.now (meta_of c.in-Some.meta) c.in_ok-standing.standing
-    (marks_of c.args.response.now) (sent_of c.tell_part.new.response)
+    part_fails c.args.method c.args.session.now.stores.map c.standing_known.new.self.stores.map c.args.path.now c.args.headers.now (meta_of c.in-Some.meta) c.in_ok-standing.standing
+    c.args.response.now c.tell_part.new.response
     (sym (ap (option_map meta_of) c.in-Some.is) ∙ c.meta.ensures.found
     ∙ ap (λ p. option_map (λ (r : Resource). meta_at r.node) (at_path c.args.session.now.stores.map (segments p.bytes))) c.in_ok-copy_of.ensures)
     (standing_there c.args.session.now.stores.map c.meta.new.self.stores.map (segments c.args.path.now.bytes) (meta_of c.in-Some.meta) c.in_ok-standing.standing
-    c.in_ok-standing.ensures.ok (ap (λ (s : State). s.map) c.meta.ensures.looks.live)) (ap marks_in c.requires.headers) (ap (λ (s : State). s.map) (looks_on c.meta.ensures.looks c.standing_known.ensures.looks).live)
+    c.in_ok-standing.ensures.ok (ap (λ (s : State). s.map) c.meta.ensures.looks.live)) (ap (λ (s : State). s.map) (looks_on c.meta.ensures.looks c.standing_known.ensures.looks).live)
     c.in-Some-Part.first c.in-Some-Part.end c.tell_part.result
     (told_is c.args.method c.args.session.now.stores.map (segments c.args.path.now.bytes) (meta_of c.in-Some.meta) c.args.headers.now c.in_ok-standing.standing c.len.result (Ok (Some (extent.Part c.in-Some-Part.first c.in-Some-Part.end))) (standing_there c.args.session.now.stores.map c.meta.new.self.stores.map (segments c.args.path.now.bytes) (meta_of c.in-Some.meta) c.in_ok-standing.standing
     c.in_ok-standing.ensures.ok (ap (λ (s : State). s.map) c.meta.ensures.looks.live)) c.len.ensures
@@ -77,37 +80,25 @@ returns-in-Some-Part-clause-err g c =
 
 pub returns-clause-ok : goal.returns-clause-ok
 returns-clause-ok g c =
-    unsatisfied_gotten c.args.method c.args.session.now.stores.map c.standing_known.new.self.stores.map (segments c.args.path.now.bytes) c.args.headers.now (meta_of c.in-Some.meta) c.in_ok-standing.standing
-    (marks_of c.args.response.now) (sent_of c.unsatisfied.new.response)
+    unsatisfied_gotten c.args.method c.args.session.now.stores.map c.standing_known.new.self.stores.map c.args.path.now c.args.headers.now (meta_of c.in-Some.meta) c.in_ok-standing.standing
+    c.args.response.now c.unsatisfied.new.response
     (sym (ap (option_map meta_of) c.in-Some.is) ∙ c.meta.ensures.found
     ∙ ap (λ p. option_map (λ (r : Resource). meta_at r.node) (at_path c.args.session.now.stores.map (segments p.bytes))) c.in_ok-copy_of.ensures)
     (standing_there c.args.session.now.stores.map c.meta.new.self.stores.map (segments c.args.path.now.bytes) (meta_of c.in-Some.meta) c.in_ok-standing.standing
-    c.in_ok-standing.ensures.ok (ap (λ (s : State). s.map) c.meta.ensures.looks.live)) (ap marks_in c.requires.headers) (ap (λ (s : State). s.map) (looks_on c.meta.ensures.looks c.standing_known.ensures.looks).live)
+    c.in_ok-standing.ensures.ok (ap (λ (s : State). s.map) c.meta.ensures.looks.live)) (ap (λ (s : State). s.map) (looks_on c.meta.ensures.looks c.standing_known.ensures.looks).live)
     c.len-in-Some-Unsatisfiable.result c.unsatisfied.result (told_is c.args.method c.args.session.now.stores.map (segments c.args.path.now.bytes) (meta_of c.in-Some.meta) c.args.headers.now c.in_ok-standing.standing c.len.result (Ok (Some extent.Unsatisfiable)) (standing_there c.args.session.now.stores.map c.meta.new.self.stores.map (segments c.args.path.now.bytes) (meta_of c.in-Some.meta) c.in_ok-standing.standing
     c.in_ok-standing.ensures.ok (ap (λ (s : State). s.map) c.meta.ensures.looks.live)) c.len.ensures
     (sym (ap Ok (c.in-Some-Unsatisfiable.is ∙ ap Some c.in-Some-Unsatisfiable.field-0-is)) ∙ c.in_ok-told.ensures))
-    c.len-in-Some-Unsatisfiable.ensures (ap (λ b. b.items) c.unsatisfied.ensures.body ∙ c.requires.body) c.unsatisfied.ensures.ok
+    c.len-in-Some-Unsatisfiable.ensures (ap (λ b. b.items) c.unsatisfied.ensures.body ∙ c.requires) c.unsatisfied.ensures.ok
 
--- ---- the page of a folder
+-- ---- a part is of a file
 
-pub returns-in-None-clause-page : goal.returns-in-None-clause-page
-returns-in-None-clause-page g c =
-    no_page c.args.session.now.stores.map c.args.path.now c.not_modified.new.response.body.items 304 _ c.not_modified.result (λ is. omega (arith, is)) c.not_modified.ensures.ok
-
-pub returns-in-Some-Whole-clause-page : goal.returns-in-Some-Whole-clause-page
-returns-in-Some-Whole-clause-page g c =
-    whole_page c.args.session.now.stores.map c.args.path.now c.tell_whole.new.response.body.items c.standing_known.new.self.stores.map (meta_of c.in-Some.meta) c.tell_whole.result
-    (sym (ap (option_map meta_of) c.in-Some.is) ∙ c.meta.ensures.found
-    ∙ ap (λ p. option_map (λ (r : Resource). meta_at r.node) (at_path c.args.session.now.stores.map (segments p.bytes))) c.in_ok-copy_of.ensures)
-    (ap (λ (s : State). s.map) (looks_on c.meta.ensures.looks c.standing_known.ensures.looks).live) c.tell_whole.ensures.page
-
-pub returns-in-Some-Part-clause-page : goal.returns-in-Some-Part-clause-page
-returns-in-Some-Part-clause-page g c =
-    no_page c.args.session.now.stores.map c.args.path.now c.tell_part.new.response.body.items 206 _ c.tell_part.result (λ is. omega (arith, is)) c.tell_part.ensures.ok
-
-pub returns-clause-page : goal.returns-clause-page
-returns-clause-page g c =
-    no_page c.args.session.now.stores.map c.args.path.now c.unsatisfied.new.response.body.items 416 _ c.unsatisfied.result (λ is. omega (arith, is)) c.unsatisfied.ensures.ok
+pub tell_part-requires-clause-file : goal.tell_part-requires-clause-file
+tell_part-requires-clause-file g c =
+    part_of_file c.args.method c.args.session.now.stores.map (segments c.args.path.now.bytes) (meta_of c.in-Some.meta) c.args.headers.now c.in-Some-Part.first c.in-Some-Part.end
+    (told_is c.args.method c.args.session.now.stores.map (segments c.args.path.now.bytes) (meta_of c.in-Some.meta) c.args.headers.now c.in_ok-standing.standing c.len.result (Ok (Some (extent.Part c.in-Some-Part.first c.in-Some-Part.end))) (standing_there c.args.session.now.stores.map c.meta.new.self.stores.map (segments c.args.path.now.bytes) (meta_of c.in-Some.meta) c.in_ok-standing.standing
+    c.in_ok-standing.ensures.ok (ap (λ (s : State). s.map) c.meta.ensures.looks.live)) c.len.ensures
+    (sym (ap Ok (c.in-Some-Part.is ∙ ap Some c.in-Some-Part.field-0-is)) ∙ c.in_ok-told.ensures))
 
 -- ---- questions alone
 

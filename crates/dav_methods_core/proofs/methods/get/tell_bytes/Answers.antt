@@ -6,8 +6,7 @@ use Rattle.dav_methods_core.proofs.methods.get.tell_bytes.Goals as goal
 pub returns-clause-bytes : goal.returns-clause-bytes
 returns-clause-bytes g c =
     let read = c.in_ok-bytes.ensures.ok in
-    let kept = c.add_accept_ranges.ensures.body ∙ c.add_content_type.ensures.body ∙ c.add_last_modified.ensures.body ∙ c.add_tag.ensures.body in
-    let empty = ap (λ b. b.items) kept ∙ c.requires.empty in (
+    let empty = ap (λ b. b.items) c.add_file_fields.ensures.body ∙ c.requires.empty in (
       read.0,
       ap (λ p. at_path c.args.session.now.stores.map (segments p.bytes)) (sym c.in_ok-copy_of.ensures) ∙ read.1,
       read.2,

@@ -6,7 +6,6 @@ use Rattle.dav_resource_core.specs.Step.{State}
 use Rattle.dav_faults_core.specs.declared.faults.Fault.TheVariants as fault
 use Rattle.dav_methods_core.specs.ChangeConditions.{change_course}
 use Rattle.dav_session_core.specs.Callers.{live}
-use Rattle.dav_fields_core.specs.Fields.{sent_of}
 use Rattle.dav_methods_core.specs.Rooms.{IsReadyToLock, wanted_of}
 use Rattle.dav_fields_core.specs.RequestRefusals.{IsLastMoment}
 use Rattle.dav_session_core.specs.Sessions as spec
@@ -110,7 +109,7 @@ returns-clause-done g c =
     let kept = told_before c.args.path c.in_ok-place.place (looks_on c.find_room.ensures.looks c.check_conditions.ensures.looks) c.in_ok-place.ensures.ok in
     done c.args.longest c.args.headers.now c.args.body.now c.args.path (wanted_of c.in_ok-wanted.wanted) c.in_ok-wanted.ensures.ok c.in_ok-missing.missing g.R.Rng.stream
     c.args.session.now c.in_ok-missing.ensures.ok c.in_ok-place.place kept (spec.state g.R.Rng.stream c.grant.new.session) looks
-    c.args.prefix.now c.grant.result (sent_of c.grant.new.response) (course_before (segments c.args.path.bytes) c.args.headers.now c.find_room.ensures.looks c.in_ok-check_conditions.ensures.ok) c.grant.ensures.done
+    c.args.prefix.now c.grant.result c.args.response.now c.grant.new.response (course_before (segments c.args.path.bytes) c.args.headers.now c.find_room.ensures.looks c.in_ok-check_conditions.ensures.ok) c.grant.ensures.done
 
 pub returns-clause-err : goal.returns-clause-err
 returns-clause-err g c =

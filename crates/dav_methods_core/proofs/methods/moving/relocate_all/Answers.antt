@@ -1,4 +1,8 @@
-use Rattle.std.proofs.Common.{◌≡◌, inl, [], map, cond, sym, ap, ◌∙◌, subst}
+use Rattle.http_server.specs.Response.{fields_of}
+use Rattle.dav_fields_core.specs.Fields.{Sent}
+use Rattle.dav_methods_core.specs.CreatedPlaces.{place_fields}
+use Rattle.dav_methods_core.proofs.SentLemmas.{sent_is}
+use Rattle.std.proofs.Common.{◌≡◌, inl, [], ◌++◌, map, cond, refl, sym, ap, ◌∙◌, subst}
 use Rattle.dav_path_core.specs.declared.util.DavMethod.TheVariants as method
 use Rattle.std.specs.Prelude.{option_map}
 use Rattle.std.proofs.lemmas.Result.{err_from_is_err_and}
@@ -22,7 +26,7 @@ pub returns-in_err-target-clause-err : goal.returns-in_err-target-clause-err
 returns-in_err-target-clause-err g c =
     let q = err_from_is_err_and c.from_residual.result c.from_residual.ensures.1 in
     rw (q.1, q.2) (inl (move_unfit c.args.site.now c.args.prefix.now c.args.headers.now (spec.caller c.args.session.now) (spec.state g.R.Rng.stream c.args.session.now)
-    (segments c.args.path.bytes) c.in_err-target.field-0.0 c.requires c.in_err-target.ensures.err))
+    (segments c.args.path.bytes) c.in_err-target.field-0.0 c.requires.reaches c.in_err-target.ensures.err))
 
 pub returns-in-Err-clause-err : goal.returns-in-Err-clause-err
 returns-in-Err-clause-err g c =
@@ -36,7 +40,7 @@ returns-in-Err-clause-err g c =
     let e = c.in-Err.fault in
     inl (subst (CantMove c.args.site.now c.args.prefix.now c.args.headers.now (live who.now s) who from) (sym (c.by_place-in-Err.ensures ∙ ap (by_place from) c.by_place.ensures))
     (move_locked c.args.site.now c.args.prefix.now c.args.headers.now who s from to (option_map meta_of c.in_ok-target.field-0.known) gone c.in_ok-target.ensures.ok asker a e
-    c.requires c.ends_of.ensures.looks.who c.ends_of.ensures.looks.live
+    c.requires.reaches c.ends_of.ensures.looks.who c.ends_of.ensures.looks.live
     (subst (λ xs. IsRefusedBy (refusing_move (live asker.now a) asker from (segments to.bytes) (map (λ q. segments q.bytes) xs)) e) c.deref.ensures.value c.in-Err.ensures.err)))
 
 pub returns-in_err-check_conditions-clause-err : goal.returns-in_err-check_conditions-clause-err
@@ -55,7 +59,7 @@ returns-in_err-check_conditions-clause-err g c =
     let free = subst (λ xs. refusing_move (live asker.now a) asker from (segments to.bytes) (map (λ q. segments q.bytes) xs) ≡ []) c.deref.ensures.value c.in-Ok.ensures.ok in
     let can = movable site prefix headers who s from to (option_map meta_of c.in_ok-target.field-0.known) gone c.in_ok-target.ensures.ok asker a (spec.caller c.check_move.new.session)
     (spec.state g.R.Rng.stream c.check_move.new.session) a c.ends_of.ensures.looks.who c.ends_of.ensures.looks.live c.check_move.ensures.looks.who c.check_move.ensures.looks.live
-    c.requires free in
+    c.requires.reaches free in
     let before = looks_on c.ends_of.ensures.looks c.check_move.ensures.looks in
     rw (q.1, q.2) (stopped_after method.Move from headers who.now s (spec.state g.R.Rng.stream c.check_move.new.session) before.live
     (CantMove site prefix headers (live who.now s) who from) (IsMovable site prefix headers (live who.now s) who from) c.in_err-check_conditions.field-0.0 CantMove.memory can
@@ -67,6 +71,30 @@ returns-in_err-check_conditions-clause-left g c =
     let looks = looks_on c.ends_of.ensures.looks (looks_on c.check_move.ensures.looks c.check_conditions.ensures.looks) in
     rw (q.1, q.2) (move_left c.args.site.now c.args.prefix.now c.args.headers.now (spec.caller c.args.session.now) (spec.state g.R.Rng.stream c.args.session.now)
     (segments c.args.path.bytes) c.in_err-check_conditions.field-0.0 (spec.state g.R.Rng.stream c.check_conditions.new.session) looks.live)
+
+pub returns-in_err-say_place-clause-err : goal.returns-in_err-say_place-clause-err
+returns-in_err-say_place-clause-err g c =
+    let q = err_from_is_err_and c.from_residual-in_err-say_place.result c.from_residual-in_err-say_place.ensures.1 in
+    rw (q.1, q.2) (move_lost c.args.site.now c.args.prefix.now c.args.headers.now (spec.caller c.args.session.now) (spec.state g.R.Rng.stream c.args.session.now)
+    (segments c.args.path.bytes) c.in_err-say_place.field-0.0 c.in_err-say_place.ensures.err)
+
+pub returns-in_err-say_place-clause-left : goal.returns-in_err-say_place-clause-left
+returns-in_err-say_place-clause-left g c =
+    let q = err_from_is_err_and c.from_residual-in_err-say_place.result c.from_residual-in_err-say_place.ensures.1 in
+    let looks = looks_on c.ends_of.ensures.looks (looks_on c.check_move.ensures.looks c.check_conditions.ensures.looks) in
+    rw (q.1, q.2) (move_left c.args.site.now c.args.prefix.now c.args.headers.now (spec.caller c.args.session.now) (spec.state g.R.Rng.stream c.args.session.now)
+    (segments c.args.path.bytes) c.in_err-say_place.field-0.0 (spec.state g.R.Rng.stream c.check_conditions.new.session) looks.live)
+
+pub returns-clause-sent : goal.returns-clause-sent
+returns-clause-sent g c =
+    let to = c.in_ok-target.field-0.target in
+    let sent : Sent = record { fields = place_fields c.args.prefix.now to c.done.result; body = [] } in (
+      sent,
+      sent_is c.say_place.new.response (fields_of c.args.response.now ++ place_fields c.args.prefix.now to c.done.result) []
+          (c.in_ok-say_place.ensures.fields ∙ ap (λ status. fields_of c.args.response.now ++ place_fields c.args.prefix.now to status) (sym c.done.ensures))
+          (ap (λ b. b.items) c.say_place.ensures.body ∙ c.requires.empty),
+      record { to = to; leads = c.in_ok-target.ensures.ok.leads.leads; tells = refl },
+    )
 
 pub returns-in_err-relocate-clause-err : goal.returns-in_err-relocate-clause-err
 returns-in_err-relocate-clause-err g c =
@@ -121,7 +149,7 @@ returns-in_err-relocate-clause-left g c =
     let before = looks_on c.ends_of.ensures.looks c.check_move.ensures.looks in
     let lets = course_stays method.Move from c.args.headers.now who.now s (spec.state g.R.Rng.stream c.check_move.new.session) _ before.live c.in_ok-check_conditions.ensures.ok in
     rw (q.1, q.2) (move_begun c.args.site.now c.args.prefix.now c.args.headers.now who s from to known gone c.in_ok-target.ensures.ok m ready mover after by
-    c.in_err-relocate.field-0.0 c.requires lets short c.in_err-relocate.ensures.refused)
+    c.in_err-relocate.field-0.0 c.requires.reaches lets short c.in_err-relocate.ensures.refused)
 
 pub returns-clause-done : goal.returns-clause-done
 returns-clause-done g c =
@@ -146,7 +174,7 @@ returns-clause-done g c =
     (move_ready c.args.site.now c.args.prefix.now c.args.headers.now who s from to known gone c.in_ok-target.ensures.ok asker a checker b m c.ends_of.ensures.looks.who c.ends_of.ensures.looks.live
     checked.who checked.live free shape c.clear.ensures.acts.run c.clear.ensures.cleared)
     (spec.caller c.clear.new.self) (spec.state g.R.Rng.stream c.relocate.new.self) (c.clear.ensures.acts.who ∙ checked.who ∙ c.ends_of.ensures.looks.who)
-    c.done.result c.requires lets (c.done.ensures ∙ ap (λ b. cond b 204 201) there) c.in_ok-relocate.ensures.moved
+    c.done.result c.requires.reaches lets (c.done.ensures ∙ ap (λ b. cond b 204 201) there) c.in_ok-relocate.ensures.moved
 
 pub returns-in_err-relocate-clause-acts : goal.returns-in_err-relocate-clause-acts
 returns-in_err-relocate-clause-acts g c =

@@ -4,8 +4,9 @@ use Rattle.dav_path_core.specs.PathText.{PathText}
 use Rattle.dav_path_core.specs.Segments.{segments}
 use Rattle.dav_resource_core.specs.Step.{State}
 use Rattle.dav_session_core.specs.Callers.{Caller, live}
-use Rattle.dav_fields_core.specs.Fields.{values_in}
-use Rattle.dav_documents_core.specs.RefusalBodies.{xml_type}
+use Rattle.http_server.specs.Response.{fields_of}
+use Rattle.dav_fields_core.specs.Fields.{Sent, sent_behind}
+use Rattle.dav_methods_core.specs.SentDocuments.{document_sent}
 use Rattle.dav_methods_core.specs.PropfindMethod.{DescribesEach}
 use Rattle.dav_documents_core.specs.Pieces.{written_pieces}
 use Rattle.dav_documents_core.specs.QuestionViews.{question_of}
@@ -36,11 +37,13 @@ returns-clause-done g c =
         resources = told.0;
         described = held_before (λ w (s : State). DescribesEach c.args.prefix.now s (map (λ p. segments p.bytes) c.in_ok-places.places.items) told.0) looks
             (subst (λ (places : List PathText). DescribesEach c.args.prefix.now (live asker.now mid) (map (λ p. segments p.bytes) places) told.0) c.deref.ensures.value told.1);
-        told_is = c.in_ok-say_document.ensures.body ∙ ap (λ (before : List ℕ). before ++ c.in_ok-document.document.items) c.requires.body ∙ told.2 ∙ named;
+        told_is = ap (λ (s : Sent). s.body) c.in_ok-say_document.ensures.sent ∙ told.2 ∙ named;
       },
-      ap (λ fields. values_in fields (codes "content-type"))
-          (c.in_ok-say_document.ensures.fields ∙ ap (λ front. front ++ (codes "content-type", xml_type) ∷ []) c.requires.headers),
     )
+
+pub returns-clause-sent : goal.returns-clause-sent
+returns-clause-sent g c =
+    c.in_ok-say_document.ensures.sent ∙ ap (λ body. sent_behind (fields_of c.args.response.now) (document_sent body)) (sym (ap (λ (s : Sent). s.body) c.in_ok-say_document.ensures.sent))
 
 pub tell-requires : goal.tell-requires
 tell-requires g c =

@@ -1,4 +1,4 @@
-use Rattle.std.proofs.Common.{◌≡◌, ◌∙◌, ◌++◌, ◌∷◌, [], codes, List, ℕ, true, refl, sym, ap, subst, map}
+use Rattle.std.proofs.Common.{◌≡◌, ◌∙◌, ◌++◌, ◌∷◌, [], codes, List, ℕ, true, false, refl, sym, ap, subst, map}
 use Rattle.std.proofs.lemmas.Result.{err_from_is_err_and}
 use Rattle.dav_path_core.specs.declared.util.DavMethod.TheVariants as method
 use Rattle.dav_path_core.specs.PathText.{PathText}
@@ -6,8 +6,10 @@ use Rattle.dav_path_core.specs.Segments.{segments}
 use Rattle.dav_files_core.specs.Properties.{patch_update}
 use Rattle.dav_xml_core.specs.Writing.{document_bytes}
 use Rattle.dav_session_core.specs.Callers.{live}
-use Rattle.dav_fields_core.specs.Fields.{values_in}
-use Rattle.dav_documents_core.specs.RefusalBodies.{xml_type}
+use Rattle.dav_session_core.specs.Patching.{IsPatched}
+use Rattle.dav_resource_core.specs.Step.{State}
+use Rattle.dav_methods_core.proofs.Acting.{held_before}
+use Rattle.dav_methods_core.specs.SentDocuments.{document_sent}
 use Rattle.dav_documents_core.specs.PatchBodies.{any_protected, patch_nodes}
 use Rattle.dav_methods_core.specs.ProppatchMethod.{CanPatch, CantPatch, Changes}
 use Rattle.dav_methods_core.specs.ToldPaths.{told_path}
@@ -41,19 +43,48 @@ returns-then-any_protected-clause-done g c =
     let told = told_before c.args.path c.in_ok-told.told first
     (subst (λ (q : PathText). c.in_ok-told.told ≡ told_path (spec.state g.R.Rng.stream c.check_conditions.new.session).map q) c.in_ok-copy_of.ensures c.in_ok-told.ensures.ok) in
     let some : any_protected updates ≡ true = ap (λ us. any_protected (map patch_update us)) (sym c.deref-2.ensures.value) ∙ sym c.any_protected.ensures ∙ c.if-any_protected.true in
-    let same : Changes true who.now p updates (live who.now s) after = looks.live ∙ sym (live_once who.now s) in
-    record {
-      status_is = refl;
-      updates = updates;
-      asks = c.in_ok-updates.ensures.asked;
-      stood = c.in_ok-updates.ensures.can.stood;
-      free = c.in_ok-updates.ensures.can.free;
-      course = course_stays method.PropPatch p c.args.headers.now who.now s (spec.state g.R.Rng.stream c.updates_for.new.session) _ c.updates_for.ensures.looks.live
-          c.in_ok-check_conditions.ensures.ok;
-      changes = subst (λ b. Changes b who.now p updates (live who.now s) after) (sym some) same;
-      tells = c.in_ok-say_document.ensures.body ∙ ap (λ (front : List ℕ). front ++ c.in_ok-patch_document.field-0.items) c.requires.body
-          ∙ c.in_ok-patch_document.ensures ∙ ap (λ us. document_bytes (patch_nodes c.args.prefix.now c.in_ok-told.told (map patch_update us))) c.deref.ensures.value
-          ∙ ap (λ (q : PathText). document_bytes (patch_nodes c.args.prefix.now q updates)) told;
-      typed = ap (λ fields. values_in fields (codes "content-type"))
-          (c.in_ok-say_document.ensures.fields ∙ ap (λ front. front ++ (codes "content-type", xml_type) ∷ []) c.requires.headers);
-    }
+    let same : Changes true who.now p updates (live who.now s) after = looks.live ∙ sym (live_once who.now s) in (
+      document_sent c.in_ok-patch_document.field-0.items,
+      c.in_ok-say_document.ensures.sent,
+      record {
+        status_is = refl;
+        updates = updates;
+        asks = c.in_ok-updates.ensures.asked;
+        stood = c.in_ok-updates.ensures.can.stood;
+        free = c.in_ok-updates.ensures.can.free;
+        course = course_stays method.PropPatch p c.args.headers.now who.now s (spec.state g.R.Rng.stream c.updates_for.new.session) _ c.updates_for.ensures.looks.live
+            c.in_ok-check_conditions.ensures.ok;
+        changes = subst (λ b. Changes b who.now p updates (live who.now s) after) (sym some) same;
+        tells = ap document_sent (c.in_ok-patch_document.ensures ∙ ap (λ us. document_bytes (patch_nodes c.args.prefix.now c.in_ok-told.told (map patch_update us))) c.deref.ensures.value
+            ∙ ap (λ (q : PathText). document_bytes (patch_nodes c.args.prefix.now q updates)) told);
+      },
+    )
+
+pub returns-clause-done : goal.returns-clause-done
+returns-clause-done g c =
+    let who = spec.caller c.args.session.now in
+    let s = spec.state g.R.Rng.stream c.args.session.now in
+    let after = spec.state g.R.Rng.stream c.patch.new.self in
+    let p = segments c.args.path.bytes in
+    let updates = map patch_update c.in_ok-updates.updates.items in
+    let first = looks_on c.updates_for.ensures.looks c.check_conditions.ensures.looks in
+    let looks = looks_on first c.told_path.ensures.looks in
+    let told = told_before c.args.path c.in_ok-told.told first
+    (subst (λ (q : PathText). c.in_ok-told.told ≡ told_path (spec.state g.R.Rng.stream c.check_conditions.new.session).map q) c.in_ok-copy_of.ensures c.in_ok-told.ensures.ok) in
+    let none : any_protected updates ≡ false = ap (λ us. any_protected (map patch_update us)) (sym c.deref-2.ensures.value) ∙ sym c.any_protected.ensures ∙ c.if-any_protected.false in
+    let patched : IsPatched p updates (live who.now s) after = held_before (λ w (t : State). IsPatched p updates t after) looks c.in_ok-patch.ensures.ok in (
+      document_sent c.in_ok-patch_document.field-0.items,
+      c.in_ok-say_document.ensures.sent,
+      record {
+        status_is = refl;
+        updates = updates;
+        asks = c.in_ok-updates.ensures.asked;
+        stood = c.in_ok-updates.ensures.can.stood;
+        free = c.in_ok-updates.ensures.can.free;
+        course = course_stays method.PropPatch p c.args.headers.now who.now s (spec.state g.R.Rng.stream c.updates_for.new.session) _ c.updates_for.ensures.looks.live
+            c.in_ok-check_conditions.ensures.ok;
+        changes = subst (λ b. Changes b who.now p updates (live who.now s) after) (sym none) patched;
+        tells = ap document_sent (c.in_ok-patch_document.ensures ∙ ap (λ us. document_bytes (patch_nodes c.args.prefix.now c.in_ok-told.told (map patch_update us))) c.deref.ensures.value
+            ∙ ap (λ (q : PathText). document_bytes (patch_nodes c.args.prefix.now q updates)) told);
+      },
+    )

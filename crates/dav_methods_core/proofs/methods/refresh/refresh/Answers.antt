@@ -11,10 +11,9 @@ use Rattle.dav_session_core.specs.Conditions.{has_token}
 use Rattle.dav_session_core.specs.Sessions as spec
 use Rattle.dav_session_core.specs.Unlocking.{IsAnothers}
 use Rattle.dav_session_core.specs.Refreshing.{RefreshesOwn}
-use Rattle.dav_fields_core.specs.Fields.{values_in}
+use Rattle.dav_methods_core.specs.SentDocuments.{document_sent}
 use Rattle.dav_documents_core.specs.LockDocuments.{discovery_pieces}
 use Rattle.dav_documents_core.specs.Pieces.{written_pieces}
-use Rattle.dav_documents_core.specs.RefusalBodies.{xml_type}
 use Rattle.dav_methods_core.specs.RefreshMethod.{next_timeout, retimed_locks}
 use Rattle.dav_session_core.proofs.Looking.{looks_on}
 use Rattle.dav_methods_core.proofs.RefreshMethodLemmas.{fails_short, fails_unread}
@@ -128,25 +127,26 @@ returns-clause-done g c =
     let retimed : retimed_locks c.now-now.result.0 c.deref-4.result.now timeout c.in_ok-locks.locks.items ≡ retimed_locks c.now-now.result.0 token timeout (discovered_locks s.locks p) =
     ap (λ (t : List ℕ). retimed_locks c.now-now.result.0 t timeout c.in_ok-locks.locks.items) c.deref-4.ensures
     ∙ ap (λ (ls : List Lock). retimed_locks c.now-now.result.0 token timeout ls) found in
-    let first = retimed_locks c.now-now.result.0 c.deref-4.result.now timeout c.in_ok-locks.locks.items in
-    record {
-      status_is = refl;
-      timeouts = timeouts;
-      read = c.in_ok-timeouts.ensures.ok;
-      token = token;
-      names = c.in_ok-token.ensures.named;
-      timeout = timeout;
-      timeout_is = c.next_timeout-timeout.ensures
-          ∙ ap (λ (asked_for : List DavTimeout). next_timeout most asked_for c.deref-2.result.now c.deref-3.result.now) c.deref.ensures.value
-          ∙ ap (λ (t : List ℕ). next_timeout most timeouts t c.deref-3.result.now) c.deref-2.ensures
-          ∙ ap (λ (ls : List Lock). next_timeout most timeouts token ls) (c.deref-3.ensures.value ∙ found);
-      course = c.in_ok-token.ensures.course;
-      refreshes = held_before (λ w (t : State). RefreshesOwn t w p token timeout (spec.state g.R.Rng.stream c.refresh.new.self)) looks c.in_ok-refresh.ensures.ok;
-      told = c.in_ok-say_document.ensures.body ∙ ap (λ (before : List ℕ). before ++ c.in_ok-document.document.items) c.requires.body ∙ c.in_ok-document.ensures
-          ∙ ap (λ (principal : Option (List ℕ)). written_pieces (discovery_pieces c.args.prefix.now principal c.now-now.result.0 first))
-          (c.principal.ensures ∙ ap (λ (w : Caller). w.principal) looks.who)
-          ∙ ap (λ (ls : List Lock). written_pieces (discovery_pieces c.args.prefix.now who.principal c.now-now.result.0 ls)) retimed
-          ∙ ap (λ (n : ℕ). written_pieces (discovery_pieces c.args.prefix.now who.principal n (retimed_locks n token timeout (discovered_locks s.locks p)))) now_is;
-      typed = ap (λ fields. values_in fields (codes "content-type"))
-          (c.in_ok-say_document.ensures.fields ∙ ap (λ front. front ++ (codes "content-type", xml_type) ∷ []) c.requires.headers);
-    }
+    let first = retimed_locks c.now-now.result.0 c.deref-4.result.now timeout c.in_ok-locks.locks.items in (
+      document_sent c.in_ok-document.document.items,
+      c.in_ok-say_document.ensures.sent,
+      record {
+        status_is = refl;
+        timeouts = timeouts;
+        read = c.in_ok-timeouts.ensures.ok;
+        token = token;
+        names = c.in_ok-token.ensures.named;
+        timeout = timeout;
+        timeout_is = c.next_timeout-timeout.ensures
+            ∙ ap (λ (asked_for : List DavTimeout). next_timeout most asked_for c.deref-2.result.now c.deref-3.result.now) c.deref.ensures.value
+            ∙ ap (λ (t : List ℕ). next_timeout most timeouts t c.deref-3.result.now) c.deref-2.ensures
+            ∙ ap (λ (ls : List Lock). next_timeout most timeouts token ls) (c.deref-3.ensures.value ∙ found);
+        course = c.in_ok-token.ensures.course;
+        refreshes = held_before (λ w (t : State). RefreshesOwn t w p token timeout (spec.state g.R.Rng.stream c.refresh.new.self)) looks c.in_ok-refresh.ensures.ok;
+        tells = ap document_sent (c.in_ok-document.ensures
+            ∙ ap (λ (principal : Option (List ℕ)). written_pieces (discovery_pieces c.args.prefix.now principal c.now-now.result.0 first))
+            (c.principal.ensures ∙ ap (λ (w : Caller). w.principal) looks.who)
+            ∙ ap (λ (ls : List Lock). written_pieces (discovery_pieces c.args.prefix.now who.principal c.now-now.result.0 ls)) retimed
+            ∙ ap (λ (n : ℕ). written_pieces (discovery_pieces c.args.prefix.now who.principal n (retimed_locks n token timeout (discovered_locks s.locks p)))) now_is);
+      },
+    )

@@ -14,4 +14,5 @@ returns-in-One-clause-stand g c =
     let m = (spec.state g.R.Rng.stream c.args.self.now).map in
     let p = segments c.args.path.bytes in
     if_found c.with_members.result (λ places. AreWithin depth.One m p (map (λ q. segments q.bytes) places.items)) (λ places. AllStand m (map (λ q. segments q.bytes) places.items))
-    (IsSome (at_path m p)) (λ places are here. members_stand m p (map (λ q. segments q.bytes) places.items) are.0 are.1 are.2 here) c.with_members.ensures.ok c.with_members.ensures.found
+    (IsSome (at_path m p)) (λ places are here. members_stand m p
+    (map (λ q. segments q.bytes) places.items) are here) c.with_members.ensures.ok c.with_members.ensures.found

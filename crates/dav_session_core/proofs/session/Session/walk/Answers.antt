@@ -8,7 +8,7 @@ use Rattle.dav_files_core.specs.Resources.{IsResourceMap, Resource, at_path}
 use Rattle.dav_resource_core.specs.Step.{State}
 use Rattle.dav_session_core.specs.Sessions as spec
 use Rattle.dav_session_core.proofs.Looking.{as_looks, looks_on}
-use Rattle.dav_session_core.proofs.SubtreeLemmas.{begin, ended, fewer, goes_on, refused_walk, same_map}
+use Rattle.dav_session_core.proofs.SubtreeLemmas.{begin, begin_ordered, ended, fewer, goes_on, none_plain, refused_walk, same_map, stay_plain, stays_ordered}
 use Rattle.dav_path_core.proofs.paths.SubtreePaths.{nothing_left}
 use Rattle.dav_files_core.proofs.paths.SubtreeMaps.{stands_as}
 use Rattle.dav_session_core.proofs.session.Session.walk.Goals as goal
@@ -23,6 +23,12 @@ loop-place-init g c =
     record {
       looks = c.meta.ensures.looks;
       walking = begin (λ p. segments p.bytes) start.map c.args.path c.new-places.result.items c.new-waiting.result.items c.push.new.self.items c.new-places.ensures.items c.new-waiting.ensures.items c.in_ok-push.ensures.items here;
+      ordered =
+          begin_ordered
+          (λ p. segments p.bytes) start.map c.args.path c.new-places.result.items c.new-waiting.result.items c.push.new.self.items c.new-places.ensures.items
+          c.new-waiting.ensures.items c.in_ok-push.ensures.items;
+      plain = none_plain
+          (λ p. segments p.bytes) start.map c.new-places.result.items c.new-places.ensures.items;
     }
 
 pub returns-in_err-members-clause-err : goal.returns-in_err-members-clause-err
@@ -37,9 +43,9 @@ pub loop-place-smaller : goal.loop-place-smaller
 loop-place-smaller g c =
     let start = spec.state g.R.Rng.stream c.args.self.now in
     fewer (λ p. segments p.bytes) start.map (segments c.args.path.bytes) c.loop-place.places.items c.loop-place.waiting.items c.pop.new.self.items c.in-Some.place
-    c.in-Some.ensures.items c.loop-place.invariant.walking c.push-in-Some.new.self.items c.in_ok-members.members.items c.append.new.self.items (spec.state g.R.Rng.stream c.loop-place.self).map
+    c.in-Some.ensures.items c.loop-place.invariant.walking c.push-in-Some.new.self.items c.in_ok-members.members.items c.reverse.new.self.items c.append.new.self.items (spec.state g.R.Rng.stream c.loop-place.self).map
     (same_map (spec.caller c.args.self.now) start (spec.caller c.loop-place.self) (spec.state g.R.Rng.stream c.loop-place.self) (as_looks c.loop-place.invariant.looks))
-    c.in_ok-append.ensures.items c.in_ok-members.ensures.ok
+    c.reverse.ensures.items c.in_ok-append.ensures.items c.in_ok-members.ensures.ok
 
 pub loop-place-preserved : goal.loop-place-preserved
 loop-place-preserved g c =
@@ -47,13 +53,27 @@ loop-place-preserved g c =
     record {
       looks = looks_on c.loop-place.invariant.looks c.members.ensures.looks;
       walking = goes_on (λ p. segments p.bytes) start.map (segments c.args.path.bytes) c.loop-place.places.items c.loop-place.waiting.items c.pop.new.self.items c.in-Some.place
-          c.in-Some.ensures.items c.loop-place.invariant.walking c.push-in-Some.new.self.items c.in_ok-members.members.items c.append.new.self.items (spec.state g.R.Rng.stream c.loop-place.self).map
+          c.in-Some.ensures.items c.loop-place.invariant.walking c.push-in-Some.new.self.items c.in_ok-members.members.items c.reverse.new.self.items c.append.new.self.items (spec.state g.R.Rng.stream c.loop-place.self).map
           (same_map (spec.caller c.args.self.now) start (spec.caller c.loop-place.self) (spec.state g.R.Rng.stream c.loop-place.self) (as_looks c.loop-place.invariant.looks))
-          c.in_ok-append.ensures.items c.in_ok-members.ensures.ok c.in_ok-push-2.ensures.items;
+          c.reverse.ensures.items c.in_ok-append.ensures.items c.in_ok-members.ensures.ok c.in_ok-push-2.ensures.items;
+      ordered = stays_ordered (λ p. segments p.bytes) start.map
+          (segments c.args.path.bytes) c.loop-place.places.items c.loop-place.waiting.items c.pop.new.self.items c.in-Some.place
+          c.in-Some.ensures.items c.loop-place.invariant.walking c.push-in-Some.new.self.items c.in_ok-members.members.items c.reverse.new.self.items c.append.new.self.items (spec.state g.R.Rng.stream c.loop-place.self).map
+          (same_map (spec.caller c.args.self.now) start (spec.caller c.loop-place.self)
+          (spec.state g.R.Rng.stream c.loop-place.self) (as_looks c.loop-place.invariant.looks))
+          c.reverse.ensures.items c.in_ok-append.ensures.items c.in_ok-members.ensures.ok c.in_ok-push-2.ensures.items c.loop-place.invariant.ordered;
+      plain = stay_plain (λ p. segments p.bytes) start.map c.loop-place.places.items
+          c.push-in-Some.new.self.items c.in-Some.place
+          (spec.state g.R.Rng.stream c.loop-place.self).map
+          c.in_ok-push-2.ensures.items
+          (same_map (spec.caller c.args.self.now) start (spec.caller c.loop-place.self)
+          (spec.state g.R.Rng.stream c.loop-place.self) (as_looks c.loop-place.invariant.looks))
+          c.loop-place.invariant.plain c.in_ok-members.ensures.plain;
     }
 
 pub returns-clause-ok : goal.returns-clause-ok
 returns-clause-ok g c =
     let is_map = subst IsResourceMap (ap (λ (s : State). s.map) c.meta.ensures.looks.live) c.meta.ensures.shape in
     ended (λ p. segments p.bytes) (spec.state g.R.Rng.stream c.args.self.now).map (segments c.args.path.bytes) c.loop-place.places.items c.loop-place.waiting.items
-    (nothing_left c.loop-place.waiting.items c.loop-place.waiting.len c.loop-place.waiting.ok.0 c.in_default.ensures.cases.0) c.loop-place.invariant.walking is_map
+    (nothing_left c.loop-place.waiting.items c.loop-place.waiting.len c.loop-place.waiting.ok.0 c.in_default.ensures.cases.0) c.loop-place.invariant.walking c.loop-place.invariant.ordered
+    c.loop-place.invariant.plain is_map

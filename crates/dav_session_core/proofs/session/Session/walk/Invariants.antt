@@ -2,6 +2,7 @@ use Rattle.std.proofs.Common.{map}
 use Rattle.dav_path_core.specs.Segments.{segments}
 use Rattle.dav_session_core.specs.Sessions as spec
 use Rattle.dav_files_core.proofs.paths.SubtreeMaps.{Walking, left_below}
+use Rattle.dav_session_core.proofs.SubtreeLemmas.{AreInOrder, ArePlain}
 use Rattle.dav_session_core.proofs.session.Session.walk.Given as goal
 
 abbrev pub invariant-loop-place : goal.invariant-loop-place
@@ -10,6 +11,9 @@ invariant-loop-place g l =
     record {
       looks : spec.Looks g.R.Rng.stream l.fn.self l.self;
       walking : Walking start.map (segments l.fn.path.bytes) (map (λ p. segments p.bytes) l.places.items) (map (λ p. segments p.bytes) l.waiting.items);
+      ordered : AreInOrder (map (λ p. segments p.bytes) l.places.items)
+          (map (λ p. segments p.bytes) l.waiting.items);
+      plain : ArePlain start.map (map (λ p. segments p.bytes) l.places.items);
     }
 
 -- with each place fewer entries are left

@@ -1,4 +1,4 @@
-use Rattle.std.proofs.Common.{List, ◌∷◌, ◌++◌, map, ap, ◌∙◌, subst}
+use Rattle.std.proofs.Common.{◌≡◌, List, ◌∷◌, ◌++◌, map, ap, ◌∙◌}
 use Rattle.std.proofs.lemmas.List.{map-append}
 use Rattle.std.proofs.lemmas.Result.{err_from_is_err_and}
 use Rattle.dav_path_core.specs.Fronts.{Path}
@@ -6,7 +6,7 @@ use Rattle.dav_path_core.specs.PathText.{PathText}
 use Rattle.dav_path_core.specs.Segments.{segments}
 use Rattle.dav_headers_core.specs.declared.davheaders.depths.Depth.TheVariants as depth
 use Rattle.dav_resource_core.specs.Step.{State}
-use Rattle.dav_session_core.specs.Private.Gathering.{MembersAre}
+use Rattle.dav_session_core.specs.MemberPaths.{paths_of_members}
 use Rattle.dav_session_core.specs.Sessions as spec
 use Rattle.dav_session_core.proofs.PlaceLemmas.{nowhere_odd}
 use Rattle.dav_session_core.proofs.session.Session.with_members.Goals as goal
@@ -19,9 +19,16 @@ returns-in_err-members-clause-err g c =
 
 pub returns-clause-ok : goal.returns-clause-ok
 returns-clause-ok g c =
-    let members : List Path = map (λ p. segments p.bytes) c.in_ok-members.members.items in (
-      members,
-      ap (map (λ p. segments p.bytes)) c.in_ok-append.ensures.items ∙ map-append (λ p. segments p.bytes) c.in_ok-places.places.items c.in_ok-members.members.items
-          ∙ ap (λ (first : List Path). first ++ members) c.in_ok-places.ensures.ok ∙ ap (λ (q : PathText). segments q.bytes ∷ members) c.in_ok-copy_of.ensures,
-      subst (λ m. MembersAre m (segments c.args.path.bytes) members) (ap (λ (s : State). s.map) c.place_alone.ensures.looks.live) c.in_ok-members.ensures.ok,
-    )
+    let p = segments c.args.path.bytes in
+    let there : map (λ p. segments p.bytes) c.in_ok-members.members.items
+    ≡ paths_of_members (spec.state g.R.Rng.stream c.args.self.now).map p =
+    c.in_ok-members.ensures.ok ∙ ap
+    (λ (s : State). paths_of_members s.map p) c.place_alone.ensures.looks.live in
+    ap (map (λ p. segments p.bytes)) c.in_ok-append.ensures.items
+    ∙ map-append
+    (λ p. segments p.bytes) c.in_ok-places.places.items c.in_ok-members.members.items
+    ∙ ap (λ (first : List Path). first ++ map
+    (λ p. segments p.bytes) c.in_ok-members.members.items) c.in_ok-places.ensures.ok
+    ∙ ap (λ (q : PathText). segments q.bytes ∷ map
+    (λ p. segments p.bytes) c.in_ok-members.members.items) c.in_ok-copy_of.ensures
+    ∙ ap (λ (ps : List Path). p ∷ ps) there

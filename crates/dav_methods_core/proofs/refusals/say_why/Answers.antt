@@ -1,0 +1,1 @@
+use Rattle.dav_methods_core.proofs.refusals.say_why.Goals as goal

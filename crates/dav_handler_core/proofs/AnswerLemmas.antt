@@ -33,7 +33,7 @@ use Rattle.dav_fields_core.specs.AnswerFields.{tag_field}
 use Rattle.dav_session_core.specs.LocksInTheWay.{IsPathOfOne}
 use Rattle.dav_handler_core.specs.Private.Begun.{IsHeld, IsOverladen}
 use Rattle.dav_methods_core.specs.ChangeConditions.{change_course}
-use Rattle.dav_methods_core.specs.PutMethod.{CantPut, FailsToPut, Puts, locks_against_putting, props_of, put_status}
+use Rattle.dav_methods_core.specs.PutMethod.{CantPut, FailsToPut, Puts, Writes, locks_against_putting, props_of, put_status}
 use Rattle.dav_fields_core.specs.RequestRefusals.{RefusesTarget, RefusesPrincipal, HasBadIf, HasPart, IsLastMoment}
 use Rattle.dav_fields_core.specs.Senders.{NamesPrincipal}
 use Rattle.dav_methods_core.specs.UnlockMethod.{Unlocks}
@@ -228,12 +228,12 @@ module _ (before mid after : Server) (request : Request (List ℕ)) (path : Path
   abbrev Here : Path
   Here = segments path.bytes
 
-  pub put_done : (status : ℕ) (sent : Sent) → s.map ≡ before.state.map → live mid.last s ≡ live mid.last before.state → change_course method.Put s.map Here (head_of request).headers ≡ Ok tt
-      → status ≡ put_status s.map Here → Puts s who.now Here (body_of request) after.state
-      → sent ≡ tag_sent who.now (body_of request) → PutAnswers before request (Ok status) sent after
-  put_done status sent there alike course is puts tells =
+  pub put_done : (status : ℕ) (sent : Sent) → s.map ≡ before.state.map → live mid.last s ≡ live mid.last before.state
+      → Writes (head_of request).headers s who Here (body_of request) status after.state → sent ≡ tag_sent who.now (body_of request) → PutAnswers before request (Ok status) sent after
+  put_done status sent there alike writes tells =
+      let puts = writes.puts in
       let now : who.now ≡ after.last = begins.now ∙ sym same in
-      let put : Puts before.state after.last Here (body_of request) after.state = record {
+      let written : Puts before.state after.last Here (body_of request) after.state = record {
         file = puts.file;
         here = puts.here;
         kind = puts.kind;
@@ -241,6 +241,7 @@ module _ (before mid after : Server) (request : Request (List ℕ)) (path : Path
         modified = puts.modified ∙ now;
         props = puts.props ∙ ap (λ m. props_of (at_path m Here)) there;
         others = λ q apart. puts.others q apart ∙ ap (λ m. at_path m q) there;
+        did = ap (λ m. put m Here (body_of request) after.last) (sym there) ∙ ap (put s.map Here (body_of request)) (sym now) ∙ puts.did;
         left = puts.left ∙ ap (λ (t : State). record t { map = after.state.map })
             (ap (λ n. live n s) begins.now ∙ alike ∙ ap (λ n. live n before.state) (sym same));
       } in (
@@ -251,9 +252,10 @@ module _ (before mid after : Server) (request : Request (List ℕ)) (path : Path
           begins = begins_on before mid after request path who same begins;
           later = subst (λ n. before.last < n) (sym same) later;
           admits = admits_on before mid after request path same admits;
-          course = subst (λ m. change_course method.Put m Here (head_of request).headers ≡ Ok tt) there course;
-          status_is = is ∙ ap (λ m. put_status m Here) there;
-          puts = put;
+          course = subst (λ m. change_course method.Put m Here (head_of request).headers ≡ Ok tt) there writes.course;
+          free = sym (way s before.state who Here (body_of request) (subst (λ n. live n s ≡ live n before.state) (sym begins.now) alike)) ∙ writes.free;
+          status_is = writes.status_is ∙ ap (λ m. put_status m Here) there;
+          puts = written;
           tells = tells ∙ ap (λ n. tag_sent n (body_of request)) (sym puts.modified) ∙ ap (tag_sent puts.file.node.modified) (sym puts.bytes_are);
         },
       )
@@ -269,13 +271,12 @@ module _ (before mid after : Server) (request : Request (List ℕ)) (path : Path
 
   pub put_answered : (result : Result ℕ Fault) (sent : Sent) (bytes : List ℕ) (headers : Entries FieldValue) → bytes ≡ body_of request → headers ≡ (head_of request).headers
       → s.map ≡ before.state.map → live mid.last s ≡ live mid.last before.state
-      → IfOk result (λ code. (code ≡ put_status s.map Here) × Puts s who.now Here bytes after.state) → OnOk result (change_course method.Put s.map Here headers ≡ Ok tt)
-      → OnOk result (sent ≡ tag_sent who.now bytes) → IfErr result (λ e. FailsToPut s who Here bytes headers e)
+      → IfOk result (λ code. Writes headers s who Here bytes code after.state) → OnOk result (sent ≡ tag_sent who.now bytes) → IfErr result (λ e. FailsToPut s who Here bytes headers e)
       → PutAnswers before request result sent after
-  put_answered (Ok status) sent bytes headers body is there alike done course tells err =
-      put_done status sent there alike (subst (λ h. change_course method.Put s.map Here h ≡ Ok tt) is course) done.0
-      (subst (λ b. Puts s who.now Here b after.state) body done.1) (subst (λ b. sent ≡ tag_sent who.now b) body tells)
-  put_answered (Err e) sent bytes headers body is there alike done course tells err =
+  put_answered (Ok status) sent bytes headers body is there alike done tells err =
+      put_done status sent there alike (subst (λ h. Writes h s who Here (body_of request) status after.state) is
+      (subst (λ b. Writes headers s who Here b status after.state) body done)) (subst (λ b. sent ≡ tag_sent who.now b) body tells)
+  put_answered (Err e) sent bytes headers body is there alike done tells err =
       put_refused e sent there (subst (λ n. live n s ≡ live n before.state) (sym begins.now) alike)
       (subst (λ h. FailsToPut s who Here (body_of request) h e) is (subst (λ b. FailsToPut s who Here b headers e) body err))
 

@@ -27,7 +27,7 @@ use Rattle.dav_methods_core.specs.GetMethod.{FailsToGet, Gets}
 use Rattle.dav_fields_core.specs.AnswerFields.{tag_field}
 use Rattle.dav_methods_core.specs.LockMethod.{FailsToLock, IsGranted}
 use Rattle.dav_methods_core.specs.ProppatchMethod.{FailsToPatch, Patches}
-use Rattle.dav_methods_core.specs.PutMethod.{FailsToPut, Puts, put_status}
+use Rattle.dav_methods_core.specs.PutMethod.{FailsToPut, Puts, locks_against_putting, put_status}
 use Rattle.dav_methods_core.specs.RefreshMethod.{FailsToRefresh, Refreshes}
 use Rattle.dav_fields_core.specs.RequestRefusals.{RefusesTarget, RefusesPrincipal, HasBadIf, HasPart, IsLastMoment}
 use Rattle.dav_fields_core.specs.Senders.{NamesPrincipal}
@@ -96,6 +96,7 @@ pub record IsPut (before : Server) (request : Request (List ℕ)) (status : ℕ)
   pub later : before.last < after.last
   pub admits : Admits before request after path
   pub course : change_course method.Put before.state.map (segments path.bytes) (head_of request).headers ≡ Ok tt
+  pub free : locks_against_putting before.state who (segments path.bytes) (body_of request) ≡ []
   pub status_is : status ≡ put_status before.state.map (segments path.bytes)
   pub puts : Puts before.state after.last (segments path.bytes) (body_of request) after.state
   pub tells : sent ≡ record { fields = tag_field (tag_of puts.file) ∷ []; body = [] }

@@ -24,6 +24,7 @@ pub mod MoveMethodLemmas
 pub mod PatchAlikeLaws
 pub mod PutAlikeLaws
 pub mod PutMethodLemmas
+pub mod RefreshAlikeLaws
 pub mod RefreshMethodLemmas
 pub mod RefusalLemmas
 pub mod SameFaultLemmas

@@ -83,7 +83,8 @@ put_found m m' p bytes now h = by (at_path m p) refl h
 pub put_done : (who : Caller) (s s' : State) (p : Path) (bytes : List ℕ) (reply : Reply) → Serves (live who.now s) (asking who (Command.Put p bytes)) (Ok reply) s'
     → Puts s who.now p bytes s'
 put_done who s s' p bytes reply h =
-    let found = put_found s.map s'.map p bytes who.now (change_left (put s.map p bytes who.now) reply s'.map h.1.0) in
+    let did = change_left (put s.map p bytes who.now) reply s'.map h.1.0 in
+    let found = put_found s.map s'.map p bytes who.now did in
     record {
       file = found.file;
       here = found.here;
@@ -92,6 +93,7 @@ put_done who s s' p bytes reply h =
       modified = found.modified;
       props = found.props;
       others = found.others;
+      did = did;
       left = rebuilt (live who.now s) s' h.1.1;
     }
 

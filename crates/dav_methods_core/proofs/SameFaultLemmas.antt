@@ -16,7 +16,7 @@ IsShort e = e ≡ fault.InsufficientStorage
 pub equal_alike : (e f : Fault) → e ≡ f → AreAlike e f
 equal_alike e f h = inr (inr (inl h))
 
-one_error : (e f : Fault) (r : Result (Unit {0}) Fault) → r ≡ Err e → r ≡ Err f → e ≡ f
+pub one_error : (e f : Fault) (r : Result (Unit {0}) Fault) → r ≡ Err e → r ≡ Err f → e ≡ f
 one_error e f r h k = let both : ◌≡◌ {A = Result (Unit {0}) Fault} (Err e) (Err f) = sym h ∙ k in cc
 
 -- a method that can't be done, or that the conditions stop

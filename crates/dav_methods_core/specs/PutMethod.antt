@@ -41,7 +41,16 @@ pub record Puts (s : State) (now : ℕ) (p : Path) (bytes : List ℕ) (s' : Stat
   pub modified : file.node.modified ≡ now
   pub props : file.node.props ≡ props_of (at_path s.map p)
   pub others : (q : Path) → q ≢ p → at_path s'.map q ≡ at_path s.map q
+  pub did : put s.map p bytes now ≡ Ok (tt, s'.map)
   pub left : s' ≡ record (live now s) { map = s'.map }
+
+-- 201 or 204. No lock refused it, the conditions let it be done, and the file has the bytes.
+pub record Writes (headers : Entries FieldValue) (s : State) (who : Caller) (p : Path) (bytes : List ℕ)
+    (status : ℕ) (s' : State) : Type 0 where
+  pub status_is : status ≡ put_status s.map p
+  pub course : change_course method.Put s.map p headers ≡ Ok tt
+  pub free : locks_against_putting s who p bytes ≡ []
+  pub puts : Puts s who.now p bytes s'
 
 -- without conditions it would be done
 abbrev pub CanPut : State → Caller → Path → List ℕ → Type 0

@@ -58,7 +58,7 @@ retimed_locks now token timeout locks = map (told_with now token timeout) locks
 
 -- ---- what is done
 
--- 200. One named token is that of a lock which covers the path; its lock has another end, counted from now. The body tells the locks that cover the path.
+-- 200. One named token is that of a lock which covers the path, and no lock with it there or above is another's; its lock has another end, counted from now. The body tells the locks that cover the path.
 pub record Refreshes (most : Option ℕ) (prefix : List ℕ) (headers : Entries FieldValue) (s : State) (who : Caller) (p : Path) (status : ℕ) (sent : Sent) (s' : State) : Type 0 where
   pub status_is : status ≡ 200
   pub timeouts : List DavTimeout
@@ -67,6 +67,7 @@ pub record Refreshes (most : Option ℕ) (prefix : List ℕ) (headers : Entries 
   pub names : named_there s who p ≡ token ∷ []
   pub timeout : Option ℕ
   pub timeout_is : timeout ≡ next_timeout most timeouts token (discovered_locks s.locks p)
+  pub own : ¬ IsAnothers s who p token
   pub course : change_course method.Lock s.map p headers ≡ Ok tt
   pub refreshes : RefreshesOwn s who p token timeout s'
   pub tells : sent ≡ document_sent (written_pieces (discovery_pieces prefix who.principal who.now

@@ -1,6 +1,6 @@
 //! The laws of methods: a request is answered in one way, but for want of memory and for which of
 //! several locks a refusal shows. They do nothing.
-ghost use Rattle.std.specs.Prelude.{◌≡◌, ℕ, List};
+ghost use Rattle.std.specs.Prelude.{◌≡◌, ℕ, List, Option};
 ghost use Rattle.http_header.specs.FieldValue.{FieldValue};
 ghost use Rattle.http_header.specs.HeaderMap.{Entries};
 ghost use Rattle.dav_path_core.specs.declared.util.DavMethod.{DavMethod};
@@ -17,7 +17,8 @@ ghost use Rattle.dav_methods_core.specs.DeleteMethod.{FailsToRemove, Removes};
 ghost use Rattle.dav_methods_core.specs.GetMethod.{FailsToGet, Gets};
 ghost use Rattle.dav_methods_core.specs.MkcolMethod.{FailsToMake, Makes};
 ghost use Rattle.dav_methods_core.specs.ProppatchMethod.{FailsToPatch, Patches};
-ghost use Rattle.dav_methods_core.specs.PutMethod.{FailsToPut};
+ghost use Rattle.dav_methods_core.specs.PutMethod.{FailsToPut, Writes};
+ghost use Rattle.dav_methods_core.specs.RefreshMethod.{FailsToRefresh, Refreshes};
 ghost use Rattle.dav_methods_core.specs.SameFaults.{AreAlike, IsDetermined};
 ghost use Rattle.dav_methods_core.specs.SameFaults.{LeavesLive};
 ghost use Rattle.dav_methods_core.specs.UnlockMethod.{FailsToUnlock, Unlocks};
@@ -38,12 +39,11 @@ pub fn gets_are_determined()
         → AreAlike e f }
 {}
 
-/// The law of the refusals of a PUT (RFC 9110 section 9.3.4): two of one request are alike. It does
-/// nothing.
-pub fn refused_puts_are_alike()
-    ensures { (s : State) (who : Caller) (p : Path) (bytes : List ℕ)
-        (headers : Entries FieldValue) (e f : Fault) → FailsToPut s who p bytes headers e
-        → FailsToPut s who p bytes headers f → AreAlike e f }
+/// The law of a PUT (RFC 9110 section 9.3.4): it is answered in one way. It does nothing.
+pub fn puts_are_determined()
+    ensures { (headers : Entries FieldValue) (s : State) (who : Caller) (p : Path)
+        (bytes : List ℕ)
+        → IsDetermined (Writes headers s who p bytes) (FailsToPut s who p bytes headers) }
 {}
 
 /// The law of a MKCOL (RFC 4918 section 9.3): it is answered in one way. It does nothing.
@@ -62,6 +62,23 @@ pub fn unlocks_are_determined()
 pub fn removals_are_determined()
     ensures { (headers : Entries FieldValue) (s : State) (who : Caller) (p : Path)
         → IsResourceMap s.map → IsDetermined (Removes headers s who p) (FailsToRemove headers s who p) }
+{}
+
+/// The law of a LOCK without a body (RFC 4918 section 9.10.2): it is answered in one way. It does
+/// nothing.
+pub fn refreshes_are_determined()
+    ensures told { (most : Option ℕ) (prefix : List ℕ) (headers : Entries FieldValue) (s : State)
+        (who : Caller) (p : Path) (status other : ℕ) (sent also : Sent) (s' s'' : State)
+        → Refreshes most prefix headers s who p status sent s'
+        → Refreshes most prefix headers s who p other also s''
+        → (status ≡ other) × (sent ≡ also) × (s' ≡ s'') }
+    ensures either { (most : Option ℕ) (prefix : List ℕ) (headers : Entries FieldValue)
+        (s : State) (who : Caller) (p : Path) (status : ℕ) (sent : Sent) (s' : State) (e : Fault)
+        → Refreshes most prefix headers s who p status sent s'
+        → FailsToRefresh headers s who p e → e ≡ fault.InsufficientStorage }
+    ensures refused { (headers : Entries FieldValue) (s : State) (who : Caller) (p : Path)
+        (e f : Fault) → FailsToRefresh headers s who p e → FailsToRefresh headers s who p f
+        → AreAlike e f }
 {}
 
 /// The law of a PROPPATCH (RFC 4918 section 9.2): it is answered in one way, and leaves one state but

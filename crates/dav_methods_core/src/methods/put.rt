@@ -1,16 +1,13 @@
 //! PUT.
 ghost use Rattle.std.specs.Prelude.{◌≡◌, ◌⊎◌, ◌++◌, ◌∷◌, [], Ok, Err, IfOk, IfErr, OnOk, OnErr, length};
 ghost use Rattle.std.specs.Prelude.{option_map};
-ghost use Rattle.dav_path_core.specs.declared.util.DavMethod.TheVariants as method;
 ghost use Rattle.dav_path_core.specs.Segments.{segments};
 ghost use Rattle.dav_files_core.specs.Meta.{meta_of};
 ghost use Rattle.http_server.specs.Response.{fields_of};
 ghost use Rattle.dav_fields_core.specs.AnswerFields.{tag_field};
 ghost use Rattle.dav_fields_core.specs.Fields.{sent_behind, sent_of};
 ghost use Rattle.dav_fields_core.specs.FileTags.{file_tag};
-ghost use Rattle.dav_methods_core.specs.ChangeConditions.{change_course};
-ghost use Rattle.dav_methods_core.specs.PutMethod.{FailsToPut, Puts};
-ghost use Rattle.dav_methods_core.specs.PutMethod.{put_status};
+ghost use Rattle.dav_methods_core.specs.PutMethod.{FailsToPut, Writes};
 ghost use Rattle.dav_methods_core.specs.Placing.{HasPlace, LacksPlace};
 ghost use Rattle.dav_session_core.specs.Sessions.{Acts, Looks, Stays, caller, state};
 ghost use Rattle.dav_faults_core.specs.declared.faults.Fault.TheVariants as fault;
@@ -49,12 +46,8 @@ pub fn put<R: Rng>(
     response: &mut Response,
 ) -> Result<StatusCode, Fault>
     requires { response.old.body.items ≡ [] }
-    ensures done { IfOk result (λ code.
-        (code ≡ put_status (state R.stream session.old).map (segments path.bytes))
-        × Puts (state R.stream session.old) (caller session.old).now (segments path.bytes) bytes
-        (state R.stream session.new)) }
-    ensures course { OnOk result (change_course method.Put (state R.stream session.old).map
-        (segments path.bytes) headers.now ≡ Ok tt) }
+    ensures done { IfOk result (λ code. Writes headers.now (state R.stream session.old)
+        (caller session.old) (segments path.bytes) bytes code (state R.stream session.new)) }
     ensures sent { OnOk result (sent_of response.new ≡ sent_behind (fields_of response.old)
         (record {
           fields = tag_field (file_tag (caller session.old).now (length bytes)) ∷ [];

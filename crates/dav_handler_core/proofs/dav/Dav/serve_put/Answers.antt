@@ -49,7 +49,7 @@ returns-clause-answers g c =
           (ap (λ (w : Caller). w.now) c.put.ensures.acts.who) begun.0.0 begun.1 (begun.0.1 refl) (state g.R.Rng.stream c.begin_admitted.new.self.session)
           (whole_request c.args.request.now c.headers.result.now c.contains_key.result c.headers.ensures c.contains_key.ensures c.if-contains_key.false)
           c.put.result sent c.in_ok-clone.field-0 c.headers-2.result.now (c.in_ok-clone.ensures.cases ∙ c.body.ensures) c.headers-2.ensures
-          (ap (λ (s : State). s.map) c.begin_admitted.ensures.live) c.begin_admitted.ensures.live c.put.ensures.done c.put.ensures.course (always c.put.result _ refl) c.put.ensures.err,
+          (ap (λ (s : State). s.map) c.begin_admitted.ensures.live) c.begin_admitted.ensures.live c.put.ensures.done (always c.put.result _ refl) c.put.ensures.err,
       tt,
     )
 

@@ -77,20 +77,19 @@ returns-in-Ok-clause-done g c =
     let found : known ≡ known_at s.map p = c.meta-known.ensures.found ∙ ap (λ p. known_at s.map (segments p.bytes)) c.in_ok-copy_of.ensures in
     let at : is_some c.meta-known.result ≡ is_some (at_path s.map p) =
     known_there meta_of (λ (r : Resource). meta_at r.node) c.meta-known.result (at_path s.map p) found in
-    let looks = looks_on (looks_on (looks_on c.meta-known.ensures.looks c.check_locks.ensures.looks) c.check_place.ensures.looks) c.check_conditions.ensures.looks in (
-      c.done.ensures ∙ ap (λ b. if b then 204 else 201) at,
-      put_done who s (spec.state g.R.Rng.stream c.change.new.self) p c.args.bytes (reply_of c.in-Ok.field-0)
-          (after_look who (spec.caller c.check_conditions.new.session) s (spec.state g.R.Rng.stream c.check_conditions.new.session) (spec.state g.R.Rng.stream c.change.new.self)
-          (Command.Put p c.args.bytes) (Ok (reply_of c.in-Ok.field-0)) looks.who looks.live c.in-Ok.ensures.step),
-    )
-
-pub returns-in-Ok-clause-course : goal.returns-in-Ok-clause-course
-returns-in-Ok-clause-course g c =
-    let who = spec.caller c.args.session.now in
-    let s = spec.state g.R.Rng.stream c.args.session.now in
-    let p = segments c.args.path.bytes in
+    let there : c.is_some.result ≡ is_some (at_path s.map p) = c.is_some.ensures ∙ at in
     let placed = looks_on (looks_on c.meta-known.ensures.looks c.check_locks.ensures.looks) c.check_place.ensures.looks in
-    course_stays method.Put p c.args.headers.now who.now s (spec.state g.R.Rng.stream c.check_place.new.session) _ placed.live c.in_ok-check_conditions.ensures.ok
+    let looks = looks_on placed c.check_conditions.ensures.looks in
+    record {
+      status_is = c.done.ensures ∙ ap (λ b. if b then 204 else 201) at;
+      course = course_stays method.Put p c.args.headers.now who.now s (spec.state g.R.Rng.stream c.check_place.new.session) _ placed.live
+          c.in_ok-check_conditions.ensures.ok;
+      free = free_way who (spec.caller c.meta-known.new.self) s (spec.state g.R.Rng.stream c.meta-known.new.self) p c.args.bytes c.is_some.result
+          c.meta-known.ensures.looks.who c.meta-known.ensures.looks.live there c.in_ok-check_locks.ensures.ok;
+      puts = put_done who s (spec.state g.R.Rng.stream c.change.new.self) p c.args.bytes (reply_of c.in-Ok.field-0)
+          (after_look who (spec.caller c.check_conditions.new.session) s (spec.state g.R.Rng.stream c.check_conditions.new.session) (spec.state g.R.Rng.stream c.change.new.self)
+          (Command.Put p c.args.bytes) (Ok (reply_of c.in-Ok.field-0)) looks.who looks.live c.in-Ok.ensures.step);
+    }
 
 pub returns-clause-err : goal.returns-clause-err
 returns-clause-err g c =

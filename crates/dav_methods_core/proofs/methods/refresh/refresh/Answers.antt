@@ -136,6 +136,7 @@ returns-clause-done g c =
         read = c.in_ok-timeouts.ensures.ok;
         token = token;
         names = c.in_ok-token.ensures.named;
+        own = c.in_ok-token.ensures.own;
         timeout = timeout;
         timeout_is = c.next_timeout-timeout.ensures
             ∙ ap (λ (asked_for : List DavTimeout). next_timeout most asked_for c.deref-2.result.now c.deref-3.result.now) c.deref.ensures.value

@@ -19,7 +19,7 @@ use Rattle.dav_methods_core.specs.ChangeConditions.{change_course}
 use Rattle.dav_methods_core.specs.MkcolMethod.{CanMake, CantMake, FailsToMake, Makes, locks_against_making}
 use Rattle.dav_methods_core.specs.SameFaults.{AreAlike, IsDetermined}
 use Rattle.dav_methods_core.proofs.MkcolLemmas.{made_nowhere}
-use Rattle.dav_methods_core.proofs.SameFaultLemmas.{IsShort, both_show, equal_alike, never_stopped, no_lock, stopped_alike}
+use Rattle.dav_methods_core.proofs.SameFaultLemmas.{IsShort, both_show, equal_alike, never_stopped, no_lock, one_map_left, stopped_alike}
 
 module _ (headers : Entries FieldValue) (s : State) (who : Caller) (p : Path) where
   abbrev locks : List Lock
@@ -91,19 +91,12 @@ module _ (headers : Entries FieldValue) (s : State) (who : Caller) (p : Path) wh
       let both : ◌≡◌ {A = Result (Unit {0} × ResourceMap) FsError} (Err h.error)
       (Ok (tt, can.1.0)) = sym h.refused ∙ can.1.1 in absurd (cc)
 
-  one_left : (s' s'' : State) (a b : ResourceMap) → create_dir s.map p who.now ≡ Ok (tt, a)
-      → create_dir s.map p who.now ≡ Ok (tt, b) → a ≡ b
-  one_left s' s'' a b h k = let both : ◌≡◌ {A = Result (Unit {0} × ResourceMap) FsError}
-      (Ok (tt, a)) (Ok (tt, b)) = sym h ∙ k in
-      let pairs : ◌≡◌ {A = Unit {0} × ResourceMap} (tt, a) (tt, b) = cc in ap
-      (λ (x : Unit {0} × ResourceMap). x.1) pairs
-
   pub makes_once : IsDetermined (Makes headers s who p) (FailsToMake headers s who p)
   makes_once = record {
     done = λ status other s' s'' h k. (
       h.status_is ∙ sym k.status_is,
       h.left ∙ ap (λ (m : ResourceMap). record s { map = m })
-          (one_left s' s'' s'.map s''.map h.made k.made) ∙ sym k.left,
+          (one_map_left (create_dir s.map p who.now) s'.map s''.map h.made k.made) ∙ sym k.left,
     );
     either = λ status s' e h k.
         never_stopped (CantMake s who p) (CanMake s who p)

@@ -22,7 +22,7 @@ use Rattle.dav_session_core.specs.LocksInTheWay.{IsPathOfOne}
 use Rattle.dav_methods_core.specs.ChangeConditions.{change_course}
 use Rattle.dav_methods_core.specs.PutMethod.{CanPut, CantPut, FailsToPut, Writes, locks_against_putting}
 use Rattle.dav_methods_core.specs.SameFaults.{AreAlike, IsDetermined}
-use Rattle.dav_methods_core.proofs.SameFaultLemmas.{IsShort, both_show, equal_alike, never_stopped, no_lock, stopped_alike}
+use Rattle.dav_methods_core.proofs.SameFaultLemmas.{IsShort, both_show, equal_alike, never_stopped, no_lock, one_map_left, stopped_alike}
 
 -- nothing is put in the place of a folder
 no_folder : {A : Type 0} (m m' : ResourceMap) (p : Path) (bytes : List ℕ) (now : ℕ) (r : Resource)
@@ -111,19 +111,12 @@ module _ (headers : Entries FieldValue) (s : State) (who : Caller) (p : Path) (b
       let both : ◌≡◌ {A = Result (Unit {0} × ResourceMap) FsError} (Err h.error)
       (Ok (tt, can.1.0)) = sym h.refused ∙ can.1.1 in absurd (cc)
 
-  one_left : (a b : ResourceMap) → put s.map p bytes who.now ≡ Ok (tt, a)
-      → put s.map p bytes who.now ≡ Ok (tt, b) → a ≡ b
-  one_left a b h k = let both : ◌≡◌ {A = Result (Unit {0} × ResourceMap) FsError}
-      (Ok (tt, a)) (Ok (tt, b)) = sym h ∙ k in
-      let pairs : ◌≡◌ {A = Unit {0} × ResourceMap} (tt, a) (tt, b) = cc in ap
-      (λ (x : Unit {0} × ResourceMap). x.1) pairs
-
   pub puts_once : IsDetermined (Writes headers s who p bytes) (FailsToPut s who p bytes headers)
   puts_once = record {
     done = λ status other s' s'' h k. (
       h.status_is ∙ sym k.status_is,
       h.puts.left ∙ ap (λ (m : ResourceMap). record (live who.now s) { map = m })
-          (one_left s'.map s''.map h.puts.did k.puts.did) ∙ sym k.puts.left,
+          (one_map_left (put s.map p bytes who.now) s'.map s''.map h.puts.did k.puts.did) ∙ sym k.puts.left,
     );
     either = λ status s' e h k.
         never_stopped (CantPut s who p bytes) (CanPut s who p bytes)

@@ -1,5 +1,7 @@
 -- Two refusals of one request are alike, and what is done is not refused, but for want of memory.
 use Rattle.std.specs.Prelude.{Contains, is_some}
+use Rattle.dav_files_core.specs.Outcomes.{Outcome}
+use Rattle.dav_files_core.specs.Resources.{ResourceMap}
 use Rattle.std.proofs.Common.{◌≡◌, inl, inr, List, [], Result, Ok, Err, sym, ap, ◌∙◌, subst}
 use Rattle.dav_faults_core.specs.declared.faults.Fault.{Fault}
 use Rattle.dav_faults_core.specs.declared.faults.Fault.TheVariants as fault
@@ -18,6 +20,13 @@ equal_alike e f h = inr (inr (inl h))
 
 pub one_error : (e f : Fault) (r : Result (Unit {0}) Fault) → r ≡ Err e → r ≡ Err f → e ≡ f
 one_error e f r h k = let both : ◌≡◌ {A = Result (Unit {0}) Fault} (Err e) (Err f) = sym h ∙ k in cc
+
+-- what is done leaves one map
+pub one_map_left : (o : Outcome (Unit {0})) (m n : ResourceMap) → o ≡ Ok (tt, m) → o ≡ Ok (tt, n) → m ≡ n
+one_map_left o m n h k =
+    let both : ◌≡◌ {A = Outcome (Unit {0})} (Ok (tt, m)) (Ok (tt, n)) = sym h ∙ k in
+    let pairs : ◌≡◌ {A = Unit {0} × ResourceMap} (tt, m) (tt, n) = cc in
+    ap (λ (x : Unit {0} × ResourceMap). x.1) pairs
 
 -- a method that can't be done, or that the conditions stop
 pub stopped_alike : (Cant : Fault → Type 0) (Can : Type 0) (course : Result (Unit {0}) Fault)

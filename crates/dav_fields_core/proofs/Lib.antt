@@ -8,8 +8,12 @@ mod FieldRows
 pub mod FileTagLemmas
 pub mod FrontedLemmas
 pub mod IfSaysLemmas
+pub mod InternetDateLemmas
 pub mod LatestLemmas
 pub mod ListedTagLemmas
+pub mod OneDestinationLaws
+pub mod OnePathLaws
+pub mod OneSenderLaws
 pub mod PreconditionLaws
 mod PreconditionRows
 pub mod ReadMarks

@@ -18,7 +18,8 @@ use Rattle.dav_headers_core.specs.IfValues.{Located, ReadsAs}
 use Rattle.dav_faults_core.specs.declared.faults.Fault.TheVariants as fault
 use Rattle.dav_faults_core.specs.Faults.{fault_of_path, fault_of_header}
 use Rattle.dav_fields_core.specs.Targets.{IsPathOf, RefusesPath}
-use Rattle.dav_fields_core.specs.RequestRefusals.{RefusesTarget, RefusesPrincipal, NamesNobody}
+use Rattle.dav_fields_core.specs.RequestRefusals.{RefusesTarget, RefusesPrincipal}
+use Rattle.dav_fields_core.specs.Senders.{NamesNobody}
 
 -- ---- targets
 

@@ -22,6 +22,10 @@ nothing_sent = record { fields = []; body = [] }
 abbrev pub sent_behind : List Field → Sent → Sent
 sent_behind first sent = record { fields = first ++ sent.fields; body = sent.body }
 
+-- a response gets these fields, behind its own
+abbrev pub AddsFields : List Field → Response → Response → Type 0
+AddsFields more old new = fields_of new ≡ fields_of old ++ more
+
 -- A response without a body gets these fields, behind its own, and this body; and of them this holds.
 abbrev pub SendsMore : Response → Response → (Sent → Type 0) → Type 0
 SendsMore old new Says = (sent : Sent) × (sent_of new ≡ sent_behind (fields_of old) sent) × Says sent

@@ -1,5 +1,5 @@
 -- Why a request is refused before anything is asked of the stores: by its target, by who sends it, or since no moment is left (RFC 9110 section 15.5).
-use Rattle.std.specs.Prelude.{◌≡◌, ◌≢◌, ◌⊎◌, ℕ, ◌<◌, ◌-◌, ◌^◌, List, [], ◌∷◌, length, Option, Some, IsUtf8, codes}
+use Rattle.std.specs.Prelude.{◌≡◌, ◌≢◌, ◌⊎◌, ℕ, ◌<◌, ◌-◌, ◌^◌, List, [], ◌∷◌, length, Option, Some, codes}
 use Rattle.http_header.specs.FieldValue.{FieldValue}
 use Rattle.http_header.specs.HeaderMap.{Entries, ContainsKey, get_all}
 use Rattle.http_uri.specs.declared.uri.Uri.{Uri}
@@ -13,6 +13,7 @@ use Rattle.dav_faults_core.specs.declared.faults.Fault.{Fault}
 use Rattle.dav_faults_core.specs.declared.faults.Fault.TheVariants as fault
 use Rattle.dav_fields_core.specs.Bases.{Site}
 use Rattle.dav_fields_core.specs.RootedTags.{IfSays}
+use Rattle.dav_fields_core.specs.Senders.{NamesNobody}
 
 -- The target is no path, leads out of the root, or isn't behind the prefix of the server (RFC 3986 section 5.2.4, RFC 9110 section 7.1).
 abbrev pub RefusesTarget : List ℕ → Uri → Fault → Type 0
@@ -21,10 +22,6 @@ RefusesTarget prefix uri fault.Forbidden = path.Fault (uri_path uri) parse.Forbi
 RefusesTarget prefix uri fault.NotFound =
     (whole : List ℕ) × Read (uri_path uri) whole × ((after set : List ℕ) → ¬ SetsPrefix whole prefix after set)
 RefusesTarget prefix uri _ = ⊥
-
--- a value that names nobody: it is empty, or no text (own)
-abbrev pub NamesNobody : FieldValue → Type 0
-NamesNobody value = (value.bytes ≡ []) ⊎ (¬ IsUtf8 value.bytes)
 
 -- A header has to name the principal, and it has several values, or it isn't there or names nobody (RFC 9110 sections 5.3 and 15.5.2).
 abbrev pub RefusesPrincipal : Option (List ℕ) → Entries FieldValue → Fault → Type 0

@@ -5,7 +5,7 @@ ghost use Rattle.http_server.specs.Response.{fields_of};
 ghost use Rattle.dav_fields_core.specs.AnswerFields.{AddsModified, date_field, location_field};
 ghost use Rattle.dav_fields_core.specs.AnswerFields.{options_fields, part_field, ranges_field};
 ghost use Rattle.dav_fields_core.specs.AnswerFields.{tag_field, tag_fields, token_field, type_field};
-ghost use Rattle.dav_fields_core.specs.Fields.{in_brackets};
+ghost use Rattle.dav_fields_core.specs.Fields.{AddsFields, in_brackets};
 ghost use Rattle.dav_fields_core.specs.Getting.{tags_by};
 ghost use Rattle.dav_fields_core.specs.Marking.{HasShownTag};
 ghost use Rattle.dav_fields_core.specs.Ranges.{part_text, unsatisfied_text};
@@ -29,8 +29,8 @@ fn add_field(
     bytes: &[u8],
 ) -> Result<(), Fault>
     requires { IsFieldValue bytes.now }
-    ensures fields { OnOk result (fields_of response.new
-        ≡ fields_of response.old ++ (name, bytes.now) ∷ []) }
+    ensures fields { OnOk result (AddsFields ((name, bytes.now) ∷ [])
+        response.old response.new) }
     ensures status { response.new.status ≡ response.old.status }
     ensures body { response.new.body ≡ response.old.body }
     ensures err { IfErr result (λ e. e ≡ fault.InsufficientStorage) }
@@ -46,7 +46,8 @@ fn add_field(
 /// `InsufficientStorage` where it is out of memory, as of each field.
 pub fn add_date(alloc: Global, response: &mut Response, date: &[u8]) -> Result<(), Fault>
     requires { IsFieldValue date.now }
-    ensures fields { OnOk result (fields_of response.new ≡ fields_of response.old ++ date_field date.now ∷ []) }
+    ensures fields { OnOk result (AddsFields (date_field date.now ∷ [])
+        response.old response.new) }
     ensures status { response.new.status ≡ response.old.status }
     ensures body { response.new.body ≡ response.old.body }
     ensures err { IfErr result (λ e. e ≡ fault.InsufficientStorage) }
@@ -61,7 +62,8 @@ pub fn add_content_type(
     content_type: &str,
 ) -> Result<(), Fault>
     requires { IsFieldValue content_type.now }
-    ensures fields { OnOk result (fields_of response.new ≡ fields_of response.old ++ type_field content_type.now ∷ []) }
+    ensures fields { OnOk result (AddsFields (type_field content_type.now ∷ [])
+        response.old response.new) }
     ensures body { response.new.body ≡ response.old.body }
     ensures err { IfErr result (λ e. e ≡ fault.InsufficientStorage) }
 {
@@ -86,7 +88,8 @@ pub fn add_last_modified(
 
 /// Says that ranges of bytes are served (RFC 9110 section 14.3).
 pub fn add_accept_ranges(response: &mut Response) -> Result<(), Fault>
-    ensures fields { OnOk result (fields_of response.new ≡ fields_of response.old ++ ranges_field ∷ []) }
+    ensures fields { OnOk result (AddsFields (ranges_field ∷ [])
+        response.old response.new) }
     ensures body { response.new.body ≡ response.old.body }
     ensures err { IfErr result (λ e. e ≡ fault.InsufficientStorage) }
 {
@@ -99,7 +102,8 @@ pub fn add_accept_ranges(response: &mut Response) -> Result<(), Fault>
 /// Says the tag of what stands at the path, where it is a file (RFC 9110 section 8.8.3).
 pub fn add_tag(alloc: Global, response: &mut Response, standing: &Standing) -> Result<(), Fault>
     requires { HasShownTag standing.now }
-    ensures fields { OnOk result (fields_of response.new ≡ fields_of response.old ++ tag_fields (tags_by standing.now)) }
+    ensures fields { OnOk result (AddsFields (tag_fields (tags_by standing.now))
+        response.old response.new) }
     ensures body { response.new.body ≡ response.old.body }
     ensures err { IfErr result (λ e. e ≡ fault.InsufficientStorage) }
 {
@@ -112,7 +116,8 @@ pub fn add_tag(alloc: Global, response: &mut Response, standing: &Standing) -> R
 /// Says the tag of a file (RFC 9110 section 8.8.3).
 pub fn add_file_tag(alloc: Global, response: &mut Response, tag: &ETag) -> Result<(), Fault>
     requires { IsFieldValue tag.now }
-    ensures fields { OnOk result (fields_of response.new ≡ fields_of response.old ++ tag_field tag.now ∷ []) }
+    ensures fields { OnOk result (AddsFields (tag_field tag.now ∷ [])
+        response.old response.new) }
     ensures body { response.new.body ≡ response.old.body }
     ensures err { IfErr result (λ e. e ≡ fault.InsufficientStorage) }
 {
@@ -123,7 +128,8 @@ pub fn add_file_tag(alloc: Global, response: &mut Response, tag: &ETag) -> Resul
 /// Says the token of a lock that is granted (RFC 4918 section 10.5).
 pub fn add_lock_token(alloc: Global, response: &mut Response, token: &str) -> Result<(), Fault>
     requires { IsFieldValue (in_brackets token.now) }
-    ensures fields { OnOk result (fields_of response.new ≡ fields_of response.old ++ token_field token.now ∷ []) }
+    ensures fields { OnOk result (AddsFields (token_field token.now ∷ [])
+        response.old response.new) }
     ensures body { response.new.body ≡ response.old.body }
     ensures err { IfErr result (λ e. e ≡ fault.InsufficientStorage) }
 {
@@ -135,7 +141,8 @@ pub fn add_lock_token(alloc: Global, response: &mut Response, token: &str) -> Re
 /// Says at which URL something was made (RFC 9110 section 10.2.2).
 pub fn add_location(alloc: Global, response: &mut Response, url: &str) -> Result<(), Fault>
     requires { IsFieldValue url.now }
-    ensures fields { OnOk result (fields_of response.new ≡ fields_of response.old ++ location_field url.now ∷ []) }
+    ensures fields { OnOk result (AddsFields (location_field url.now ∷ [])
+        response.old response.new) }
     ensures body { response.new.body ≡ response.old.body }
     ensures err { IfErr result (λ e. e ≡ fault.InsufficientStorage) }
 {
@@ -151,7 +158,8 @@ pub fn add_part(
     end: u64,
     size: u64,
 ) -> Result<(), Fault>
-    ensures fields { OnOk result (fields_of response.new ≡ fields_of response.old ++ part_field (part_text first end size) ∷ []) }
+    ensures fields { OnOk result (AddsFields (part_field (part_text first end size) ∷ [])
+        response.old response.new) }
     ensures body { response.new.body ≡ response.old.body }
     ensures err { IfErr result (λ e. e ≡ fault.InsufficientStorage) }
 {
@@ -163,7 +171,8 @@ pub fn add_part(
 
 /// Says that a file of that size has none of the bytes that are asked for (RFC 9110 section 14.4).
 pub fn add_unsatisfied(alloc: Global, response: &mut Response, size: u64) -> Result<(), Fault>
-    ensures fields { OnOk result (fields_of response.new ≡ fields_of response.old ++ part_field (unsatisfied_text size) ∷ []) }
+    ensures fields { OnOk result (AddsFields (part_field (unsatisfied_text size) ∷ [])
+        response.old response.new) }
     ensures body { response.new.body ≡ response.old.body }
     ensures err { IfErr result (λ e. e ≡ fault.InsufficientStorage) }
 {
@@ -175,7 +184,8 @@ pub fn add_unsatisfied(alloc: Global, response: &mut Response, size: u64) -> Res
 /// Says what the server can do, and lists the methods that are served (RFC 9110 section 10.2.1, RFC
 /// 4918 section 10.1).
 pub fn add_options(response: &mut Response) -> Result<(), Fault>
-    ensures fields { OnOk result (fields_of response.new ≡ fields_of response.old ++ options_fields) }
+    ensures fields { OnOk result (AddsFields options_fields
+        response.old response.new) }
     ensures body { response.new.body ≡ response.old.body }
     ensures err { IfErr result (λ e. e ≡ fault.InsufficientStorage) }
 {

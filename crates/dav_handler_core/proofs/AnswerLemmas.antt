@@ -1,5 +1,5 @@
 -- How answers of methods are answers of the server.
-use Rattle.std.proofs.Common.{◌≡◌, ◌⊎◌, inl, inr, Bool, true, false, ℕ, ◌<◌, ◌≤◌, List, [], ◌∷◌, length, Option, Some, Result, Ok, Err, ◌∙◌, sym, ap, subst}
+use Rattle.std.proofs.Common.{◌≡◌, ◌⊎◌, inl, inr, Bool, true, false, ℕ, ◌<◌, ◌≤◌, List, [], ◌∷◌, length, Option, Result, Ok, Err, ◌∙◌, sym, ap, subst}
 use Rattle.std.specs.Prelude.{IfOk, IfErr, OnOk, OnErr, IsTrue, ◌↔◌}
 use Rattle.std.proofs.lemmas.Bool.{true≢false}
 use Rattle.http.specs.declared.request.Request.{Request}
@@ -22,7 +22,7 @@ use Rattle.dav_faults_core.specs.declared.faults.Fault.{Fault}
 use Rattle.dav_faults_core.specs.declared.faults.Fault.TheVariants as fault
 use Rattle.dav_methods_core.specs.Admitting.{IsAdmitted, IsHeldOff}
 use Rattle.dav_handler_core.specs.MethodAnswers.{Admits, BareAnswers, Begins, ChangeAnswers, Fails, GetAnswers, IsWhole, PutAnswers, RefusesBody, Unread, as_found}
-use Rattle.dav_handler_core.specs.Answers.{AnswersTo, EndsOne, Locks, MayDo}
+use Rattle.dav_handler_core.specs.Answers.{EndsOne, Locks, MayDo}
 use Rattle.dav_handler_core.specs.Server.{IsFrom, Names, Options, Server, site_for}
 use Rattle.dav_handler_core.specs.MethodAnswers.Unread.{memory, target, principal, tokens, moment}
 use Rattle.dav_session_core.specs.Callers.{Asks, Caller, RunBy, Runs, asking, live}

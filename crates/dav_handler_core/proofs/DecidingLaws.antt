@@ -65,7 +65,6 @@ finding_told finite headers body m p _ is (FailsToFind.unread h) = cc
 finding_told finite headers body m p _ is (FailsToFind.endless refuses h) = cc
 finding_told finite headers body m p _ is (FailsToFind.unasked d reaches h) = cc
 finding_told finite headers body m p _ is (FailsToFind.missing d q reaches asks h) = cc
-finding_told finite headers body m p _ is (FailsToFind.no_depth q reaches asks) = cc
 finding_told finite headers body m p _ is (FailsToFind.odd d q reaches asks h) = cc
 
 -- a LOCK that grants nothing for a condition is stopped by those of HTTP

@@ -55,6 +55,7 @@ module _ (before mid after : Server) (request : Request (List ℕ)) (path : Path
     locks = inl (
       subst (λ n. before.last < n) (sym same) later,
       subst (λ (t : State). IsGranted before.options.longest before.options.prefix (head_of request).headers (body_of request) t who path status sent after.state) found done,
+      some,
     );
   }
   lock_answered (Err e) sent later some done err = inr (record {

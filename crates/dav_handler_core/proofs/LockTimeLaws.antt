@@ -96,7 +96,7 @@ pub finds_none : (changes : Bool) (before after : Server) (request : Request (Li
 finds_none changes before after request status (unread e is h at) l end ends came within = absurd (cc)
 finds_none changes before after request status (begun path who begins at) l end ends came within =
     let clock = le-max_right (if changes then before.last + 1 else before.last) before.clock in
-    let here : before.clock ≤ after.last = subst (λ n. before.clock ≤ n) (sym at) clock in
+    let here : before.clock ≤ after.last = subst (λ n. before.clock ≤ n) (sym at.0) clock in
     let stale : is_stale after.last l ≡ true = ap (has_come after.last) ends ∙ le-leb end after.last (omega (arith, came, here)) in
     let left = (of_filter (λ l. not (is_stale after.last l)) before.state.locks l (In-Contains _ l within)).1 in
     true≢false (sym left ∙ ap not stale)

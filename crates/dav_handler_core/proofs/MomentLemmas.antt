@@ -9,16 +9,16 @@ use Rattle.dav_faults_core.specs.declared.faults.Fault.TheVariants as fault
 use Rattle.dav_session_core.specs.Callers.{Caller}
 use Rattle.dav_handler_core.specs.MethodAnswers.{Begins}
 use Rattle.dav_handler_core.specs.MethodAnswers.Unread.{memory}
-use Rattle.dav_handler_core.specs.RequestMoments.{Comes, ComesAt, moment_of}
+use Rattle.dav_handler_core.specs.RequestMoments.{Comes, ComesAt, IsMoment}
 use Rattle.dav_handler_core.specs.RequestMoments.ComesAt.{begun, unread}
 use Rattle.dav_handler_core.specs.Server.{Server}
 use Rattle.dav_handler_core.proofs.AnswerLemmas.{begins_on}
 
 -- a request that was begun comes at its moment, whatever its method makes of it
 pub comes_on : (changes : Bool) (before mid after : Server) (request : Request (List ℕ)) (result : Result ℕ Fault) (path : PathText) (who : Caller) → after.last ≡ mid.last
-    → Begins before request mid path who → mid.last ≡ moment_of changes before → ComesAt changes before request result after
+    → Begins before request mid path who → IsMoment changes before mid.last → ComesAt changes before request result after
 comes_on changes before mid after request result path who same begins at =
-    begun path who (begins_on before mid after request path who same begins) (same ∙ at)
+    begun path who (begins_on before mid after request path who same begins) (same ∙ at.0, at.1)
 
 -- a refusal for memory is as well
 untold_at : (changes : Bool) (before after : Server) (request : Request (List ℕ)) (e : Fault) → ComesAt changes before request (Err e) after
@@ -34,7 +34,7 @@ untold_comes (Some method.PropFind) before after request e h = untold_at false b
 untold_comes (Some method.PropPatch) before after request e h = untold_at false before after request e h
 untold_comes (Some method.Unlock) before after request e h = untold_at false before after request e h
 untold_comes (Some method.Put) before after request e (inl h) = inl h
-untold_comes (Some method.Put) before after request e (inr h) = inr (untold_at true before after request e h)
+untold_comes (Some method.Put) before after request e (inr h) = inr (h.0, untold_at true before after request e h.1)
 untold_comes (Some method.Delete) before after request e h = untold_at true before after request e h
 untold_comes (Some method.Copy) before after request e h = untold_at true before after request e h
 untold_comes (Some method.Move) before after request e h = untold_at true before after request e h

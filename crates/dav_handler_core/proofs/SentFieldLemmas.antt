@@ -1,5 +1,5 @@
 -- Which tags and which part are among the fields of an answer.
-use Rattle.std.proofs.Common.{◌≡◌, ℕ, ◌<◌, List, [], ◌∷◌, ◌++◌, map, Result, Ok, Err, refl, sym, ap, ◌∙◌, arith}
+use Rattle.std.proofs.Common.{◌≡◌, ℕ, List, [], ◌∷◌, refl, ap, ◌∙◌}
 use Rattle.dav_path_core.specs.Fronts.{Path}
 use Rattle.dav_files_core.specs.declared.memfs.Kind.{Kind}
 use Rattle.dav_files_core.specs.declared.memfs.Kind.TheVariants.{File, Folder}
@@ -9,7 +9,7 @@ use Rattle.dav_fields_core.specs.ContentTypes.{content_type}
 use Rattle.dav_fields_core.specs.Fields.{Field, sent_parts, sent_tags}
 use Rattle.dav_fields_core.specs.FileTags.{own_tags, tag_of}
 use Rattle.dav_methods_core.specs.FolderPages.{page_type}
-use Rattle.dav_methods_core.specs.GetMethod.{HasFields, resource_fields}
+use Rattle.dav_methods_core.specs.GetMethod.{HasFields}
 use Rattle.dav_methods_core.specs.PropertyAnswers.{last_or}
 
 pub tags_told : (tags : List (List ℕ)) → sent_tags (tag_fields tags) ≡ tags

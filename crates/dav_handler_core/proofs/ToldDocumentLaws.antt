@@ -30,7 +30,6 @@ use Rattle.dav_documents_core.specs.KeptElements.{IsDocument, IsKeptLock, IsKept
 use Rattle.dav_documents_core.specs.PatchBodies.{patch_nodes}
 use Rattle.dav_methods_core.specs.PropertyAnswers.{Describes, last_or, place_url}
 use Rattle.dav_documents_core.specs.PropertyDocuments.{Description}
-use Rattle.dav_documents_core.specs.PropertyUpdates.{Update}
 use Rattle.dav_methods_core.specs.RefreshMethod.{retimed_locks}
 use Rattle.dav_methods_core.specs.ToldPaths.{told_path}
 use Rattle.dav_methods_core.proofs.ToldPathLemmas.{rooted_told}

@@ -62,7 +62,7 @@ module _ (site : Site) (prefix : List ℕ) (headers : Entries FieldValue) where
   copy_kept s who from _ is (CantCopy.depth h) = absurd (cc)
   copy_kept s who from _ is (CantCopy.ends deep e reaches h) = ends_kept s.map from true e is h
   copy_kept s who from _ is (CantCopy.odd to replaces reaches leads fit name) = absurd (cc)
-  copy_kept s who from _ is (CantCopy.locked deep to replaces gone rests path reaches leads fit goes are refused) =
+  copy_kept s who from _ is (CantCopy.locked deep to replaces gone rests path reaches leads fit goes plain are refused) =
       absurd (let no : fault.Locked path ≡ fault.PreconditionFailed = lock_told (segments to.bytes) (fault.Locked path) is in cc)
 
   move_kept : (s : State) (who : Caller) (from : Path) (e : Fault) → e ≡ fault.PreconditionFailed → CantMove site prefix headers s who from e → overwrites headers ≡ Some false

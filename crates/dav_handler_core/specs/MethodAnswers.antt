@@ -173,7 +173,8 @@ pub record IsLocked (before : Server) (request : Request (List ℕ)) (status : �
   pub begins : Begins before request after path who
   pub admits : Admits before request after path
   pub locks : ((before.last < after.last)
-      × IsGranted before.options.longest before.options.prefix (head_of request).headers (body_of request) (as_found before after) who path status sent after.state)
+      × IsGranted before.options.longest before.options.prefix (head_of request).headers (body_of request) (as_found before after) who path status sent after.state
+      × (body_of request ≢ []))
       ⊎ ((body_of request ≡ [])
       × Refreshes before.options.longest before.options.prefix (head_of request).headers (as_found before after) who (segments path.bytes) status sent after.state)
 

@@ -1,30 +1,21 @@
 -- Laws of conditions.
-use Rattle.std.proofs.Common.{◌≡◌, ◌≢◌, inl, inr, ℕ, ◌-◌, Bool, true, false, not, ◌&&◌, ◌||◌, List, [], ◌∷◌, ◌++◌, length, take, drop, get_or, map, Option, Some, None, refl, sym, ap, subst, ◌∙◌, arith, length-append}
+use Rattle.std.proofs.Common.{◌≡◌, ◌≢◌, inl, inr, ℕ, Bool, true, false, not, ◌&&◌, ◌||◌, List, [], ◌∷◌, ◌++◌, get_or, map, Option, Some, None, refl, sym, ap, subst, ◌∙◌}
 use Rattle.std.specs.Prelude.{Contains, bytes_eq}
 use Rattle.std.specs.List.{AllByRecursion, flat_map, list_any}
 use Rattle.std.specs.Option.{option_or}
 use Rattle.std.proofs.lemmas.Bool.{cases_Bool, and_parts, or_parts, false≢true, false_from_ne_true}
-use Rattle.std.proofs.lemmas.Bool.Decides.{Decides-eqb}
 use Rattle.std.proofs.lemmas.List.{get_or_default}
 use Rattle.std.proofs.lemmas.List.Folds.{Any-from_list_any, list_any_none}
-use Rattle.std.proofs.lemmas.Slice.Eq.{bytes_eq-Decides, ends_is}
-use Rattle.std.proofs.Math.Seq.{take-append_seam, drop-append_seam}
+use Rattle.std.proofs.lemmas.Slice.Eq.{bytes_eq-Decides}
 use Rattle.url.specs.Parts.{Parts}
 use Rattle.dav_path_core.specs.Fronts.{Path}
-use Rattle.dav_path_core.specs.PathText.{PathText, full}
-use Rattle.dav_path_core.specs.Prefix.{SetsPrefix}
-use Rattle.dav_path_core.specs.Prefix.SetsPrefix.{cut, whole, front}
-use Rattle.dav_path_core.specs.PathReading.{ends_in_slash}
-use Rattle.dav_path_core.specs.Segments.{segments}
-use Rattle.dav_path_core.proofs.paths.Laws.{one_path}
 use Rattle.dav_headers_core.specs.IfBytes.{Condition, Token}
 use Rattle.dav_headers_core.specs.IfValues.{Located}
 use Rattle.dav_locks_core.specs.Lock.{Lock}
 use Rattle.dav_locks_core.specs.Locks.{covers}
 use Rattle.dav_resource_core.specs.Step.{State}
-use Rattle.dav_session_core.specs.Conditions.{IfIs, ListsAre, OneHolds, NoneHolds, Production, ProductionIs, ProductionsAre, conditions_hold, has_token, lists_of, untagged_list}
-use Rattle.dav_fields_core.specs.Targets.{IsPathOf}
-use Rattle.dav_fields_core.specs.TaggedLists.{Base, IsNamed, SpeaksOf, spread_tags, spread_from}
+use Rattle.dav_session_core.specs.Conditions.{ListsAre, OneHolds, Production, ProductionIs, ProductionsAre, conditions_hold, has_token, lists_of, untagged_list}
+use Rattle.dav_fields_core.specs.TaggedLists.{Base, SpeaksOf, spread_from}
 use Rattle.dav_session_core.proofs.ConditionLemmas.{goes_on, holds_here}
 
 -- ---- a token
@@ -133,54 +124,3 @@ module _ (s : State) (base : Base) (here : Path) where
       later_holds p (flat_map lists_of productions) (any_last p.tag productions true (productions_are productions true h))
   productions_are (p ∷ productions) false h =
       none_here p (flat_map lists_of productions) false h.0 (any_last p.tag productions false (productions_are productions false h.1))
-
--- ---- one truth
-
-in_slash : (p : List ℕ) → ends_in_slash (p ++ 47 ∷ []) ≡ true
-in_slash p = (ends_is Decides-eqb (p ++ 47 ∷ []) (47 ∷ []) (ends_in_slash (p ++ 47 ∷ [])) refl).1 p refl
-
-stem : (asked p : List ℕ) → asked ≡ p ++ 47 ∷ [] → p ≡ take (length asked - 1) asked
-stem asked p e =
-    let long : length p ≡ length asked - 1 = omega (arith, ap length e, length-append p (47 ∷ [])) in
-    sym (ap (λ n. take n asked) (sym long) ∙ ap (take (length p)) e ∙ take-append_seam p (47 ∷ []))
-
--- a prefix is set in one way
-one_set : (f asked after other p q : List ℕ) → SetsPrefix f asked after p → SetsPrefix f asked other q → (after ≡ other) × (p ≡ q)
-one_set f asked after other p q (cut r a b c) (cut t d e g) = (c ∙ sym g, stem asked p b ∙ sym (stem asked q e))
-one_set f asked after other p q (cut r a b c) (whole d e g h) = absurd (false≢true (sym e ∙ ap ends_in_slash b ∙ in_slash p))
-one_set f asked after other p q (cut r a b c) (front t d e g h) = absurd (false≢true (sym e ∙ ap ends_in_slash b ∙ in_slash p))
-one_set f asked after other p q (whole d e g h) (cut r a b c) = absurd (false≢true (sym e ∙ ap ends_in_slash b ∙ in_slash q))
-one_set f asked after other p q (whole d e g h) (whole i j k l) = (h ∙ sym l, g ∙ sym k)
-one_set f asked after other p q (whole d e g h) (front t i j k l) = absurd (omega (arith, ap length d, ap length i, length-append asked (47 ∷ t)))
-one_set f asked after other p q (front t d e g h) (cut r a b c) = absurd (false≢true (sym e ∙ ap ends_in_slash b ∙ in_slash q))
-one_set f asked after other p q (front t d e g h) (whole i j k l) = absurd (omega (arith, ap length d, ap length i, length-append asked (47 ∷ t)))
-one_set f asked after other p q (front t d e g h) (front r i j k l) = (h ∙ sym l, g ∙ sym k)
-
--- a text is read as one path behind a prefix
-one_path_of : (prefix text : List ℕ) (a b : PathText) → IsPathOf prefix text a → IsPathOf prefix text b → a.bytes ≡ b.bytes
-one_path_of prefix text a b h k =
-    let set = one_set k.whole prefix (full a) (full b) a.prefix b.prefix
-    (subst (λ w. SetsPrefix w prefix (full a) a.prefix) (one_path text h.whole k.whole h.read k.read) h.sets) k.sets in
-    sym (drop-append_seam a.prefix a.bytes) ∙ ap (drop (length a.prefix)) set.0 ∙ ap (λ p. drop (length p) (full b)) set.1 ∙ drop-append_seam b.prefix b.bytes
-
-one_named : (base : Base) (url : Parts) (p q : Path) → IsNamed base url p → IsNamed base url q → p ≡ q
-one_named base url p q h k = h.at ∙ ap segments (one_path_of _ _ h.path k.path h.path_of k.path_of) ∙ sym k.at
-
-one_spoken : (base : Base) (here : Path) (tag : Option Parts) (a b : Option Path) → SpeaksOf base here tag a → SpeaksOf base here tag b → a ≡ b
-one_spoken base here None a b h k = h ∙ sym k
-one_spoken base here (Some url) None None h k = refl
-one_spoken base here (Some url) None (Some q) h k = absurd (h q k)
-one_spoken base here (Some url) (Some p) None h k = absurd (k p h)
-one_spoken base here (Some url) (Some p) (Some q) h k = ap Some (one_named base url p q h k)
-
-not_both : (s : State) (base : Base) (here : Path) (lists : List Located) → OneHolds s base here lists → NoneHolds s base here lists → ⊥
-not_both s base here [] h k = h
-not_both s base here (l ∷ lists) (inl h) k =
-    false≢true (sym k.0.2 ∙ ap (λ at. conditions_hold s at l.conditions) (one_spoken base here l.tag k.0.0 h.0 k.0.1 h.1) ∙ h.2)
-not_both s base here (l ∷ lists) (inr h) k = not_both s base here lists h k.1
-
-pub one_truth : (s : State) (base : Base) (here : Path) (lists : List Located) (holds also : Bool) → IfIs s base here lists holds → IfIs s base here lists also → holds ≡ also
-one_truth s base here lists true true h k = refl
-one_truth s base here lists true false h k = absurd (not_both s base here (spread_tags lists) h k)
-one_truth s base here lists false true h k = absurd (not_both s base here (spread_tags lists) k h)
-one_truth s base here lists false false h k = refl

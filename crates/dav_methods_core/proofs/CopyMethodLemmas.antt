@@ -18,7 +18,7 @@ use Rattle.dav_faults_core.specs.declared.faults.Fault.{Fault}
 use Rattle.dav_faults_core.specs.declared.faults.Fault.TheVariants as fault
 use Rattle.dav_session_core.specs.Callers.{Caller, RunBy, SameLive, as_caller, live}
 use Rattle.dav_session_core.specs.Clearing.{IsCleared, refusing_clearing}
-use Rattle.dav_session_core.specs.Copying.{AreCopied, IsCopied, IsPartlyCopied, IsReady, source_and_target, refusing_copies}
+use Rattle.dav_session_core.specs.Copying.{AreCopied, IsCopied, IsPartlyCopied, IsReady, copies_made, source_and_target, refusing_copies}
 use Rattle.dav_methods_core.specs.CopyMethod.{CantCopy, Copies, CopyLeaves, FailsToCopy, refusing_copy}
 use Rattle.dav_methods_core.specs.ChangeConditions.{change_course}
 use Rattle.dav_methods_core.specs.Reaching.{reach_from}
@@ -26,9 +26,10 @@ use Rattle.dav_methods_core.specs.TransferEnds.{FailsAtEnds, AreEnds, ArePlaces,
 use Rattle.dav_methods_core.specs.CopyMethod.{IsPlanned}
 use Rattle.dav_session_core.specs.Ends.{GoesFrom}
 use Rattle.dav_session_core.specs.LocksInTheWay.{IsRefusedBy, by_place}
+use Rattle.dav_session_core.specs.Subtrees.{HasOddName}
 use Rattle.dav_methods_core.specs.Placing.{target_by}
 use Rattle.dav_session_core.proofs.CallerLaws.{asks_of, asks_shape}
-use Rattle.dav_methods_core.proofs.CopyPlanLemmas.{are_copied, pairs_are, rests_of}
+use Rattle.dav_methods_core.proofs.CopyPlanLemmas.{are_copied, pairs_are, places_plain, rests_of}
 use Rattle.dav_methods_core.proofs.CopyReadyLemmas.{copy_ready}
 
 -- ---- the locks that are asked for
@@ -94,6 +95,9 @@ module _ (site : Site) (prefix : List ℕ) (headers : Entries FieldValue) (who :
       copy_unwalked _ h = absurd h
 
       module _ (places : List Path) (found : ArePlaces start.map deep from places) where
+        plain : deep ≡ true → ¬ HasOddName start.map from
+        plain = places_plain start.map from places deep found
+
         all : AreCopied deep from aim start.map (rests_of from aim places)
         all = are_copied from aim start.map deep places found are.fit.stands apart
 
@@ -101,7 +105,7 @@ module _ (site : Site) (prefix : List ℕ) (headers : Entries FieldValue) (who :
         pub copy_locked : (e : Fault) → IsRefusedBy (refusing_copy (live who.now start) who aim gone (rests_of from aim places)) e
             → CantCopy site prefix headers (live who.now start) who from (by_place aim e)
         copy_locked fault.InsufficientStorage h = CantCopy.memory
-        copy_locked (fault.Locked path) h = CantCopy.locked deep to are.replaces gone (rests_of from aim places) path reaches are.leads are.fit are.goes all h
+        copy_locked (fault.Locked path) h = CantCopy.locked deep to are.replaces gone (rests_of from aim places) path reaches are.leads are.fit are.goes plain all h
         copy_locked _ h = absurd h
 
         -- nothing refuses it
@@ -117,6 +121,7 @@ module _ (site : Site) (prefix : List ℕ) (headers : Entries FieldValue) (who :
           fit = are.fit;
           known_is = are.known_is;
           goes = are.goes;
+          plain = plain;
           rests = rests_of from aim places;
           are = all;
           free = free;
@@ -162,8 +167,8 @@ module _ (site : Site) (prefix : List ℕ) (headers : Entries FieldValue) (who :
       of_ready P h = subst (λ (w : Caller). IsReady (live w.now m) w plan.deep from to plan.rests → P m w plan.deep from to) same' (λ r. h plan.deep from to plan.rests r plan.pairs_are) ready
 
       pub copy_all : (status : ℕ) → status ≡ cond (is_some (at_path start.map to)) 204 201 → change_course method.Copy start.map from headers ≡ Ok tt
-          → OfReady (λ m w deep from to. IsCopied w.now deep from to (live w.now m) (live w.now s')) → Copies site prefix headers (live who.now start) who from status s'
-      copy_all status is lets h = record {
+          → OfReady (λ m w deep from to. IsCopied w.now deep from to (live w.now m) (live w.now s')) → copies_made copier.now pairs m.map ≡ Ok (tt, s'.map) → Copies site prefix headers (live who.now start) who from status s'
+      copy_all status is lets h made = record {
         deep = plan.deep;
         reaches = plan.reaches;
         to = plan.to;
@@ -173,12 +178,15 @@ module _ (site : Site) (prefix : List ℕ) (headers : Entries FieldValue) (who :
         status_is = is;
         gone = gone;
         goes = plan.goes;
+        plain = plan.plain;
         rests = plan.rests;
         are = plan.are;
         free = plan.free;
         mid = live who.now m;
         cleared = cleared;
         copied = of_ready (λ m w deep from to. IsCopied w.now deep from to (live w.now m) (live w.now s')) h;
+        made = subst (λ xs. copies_made who.now xs m.map ≡ Ok (tt, s'.map)) plan.pairs_are
+            (subst (λ (w : Caller). copies_made w.now pairs m.map ≡ Ok (tt, s'.map)) same' made);
         course = lets;
       }
 
@@ -197,6 +205,7 @@ module _ (site : Site) (prefix : List ℕ) (headers : Entries FieldValue) (who :
         fit = plan.fit;
         gone = gone;
         goes = plan.goes;
+        plain = plan.plain;
         rests = plan.rests;
         are = plan.are;
         free = plan.free;

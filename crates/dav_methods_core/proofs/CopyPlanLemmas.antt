@@ -9,7 +9,7 @@ use Rattle.dav_path_core.proofs.paths.FrontLemmas.{behind_append, behind_is}
 use Rattle.dav_files_core.specs.Resources.{ResourceMap, at_path}
 use Rattle.dav_session_core.specs.Copying.{AreCopied, source_and_target, is_copied}
 use Rattle.dav_methods_core.specs.TransferEnds.{ArePlaces, copies_of, copy_target}
-use Rattle.dav_session_core.specs.Subtrees.{ComesBefore, IsSubtreeWalk}
+use Rattle.dav_session_core.specs.Subtrees.{ComesBefore, HasOddName, IsSubtreeWalk}
 use Rattle.dav_session_core.proofs.WalkOrderLemmas.{pairs_later, without_front}
 use Rattle.dav_path_core.proofs.paths.SubtreePaths.{Later, front_of}
 use Rattle.dav_path_core.proofs.paths.SubtreePaths.{later_pairs}
@@ -136,3 +136,9 @@ module _ (from to : Path) where
   are_copied m true places are stands apart = all_copied m places are apart
   are_copied m false places are stands apart =
       subst (AreCopied false from to m) (sym (ap rests_of are ∙ one_rest m stands apart)) (one_copied m stands apart)
+
+-- where all the way down is copied, each name is one that a path can have
+pub places_plain : (m : ResourceMap) (from : Path) (places : List Path) (deep : Bool)
+    → ArePlaces m deep from places → deep ≡ true → ¬ HasOddName m from
+places_plain m from places true are down = are.plain
+places_plain m from places false are down = absurd (false≢true down)

@@ -1,5 +1,5 @@
 -- A DELETE is answered in one way.
-use Rattle.std.proofs.Common.{◌≡◌, ◌≢◌, ◌⊎◌, inl, inr, ℕ, true, List, [], ◌∷◌, ◌++◌, Some, None, append_assoc, is_some, refl, sym, ap, ◌∙◌}
+use Rattle.std.proofs.Common.{◌≡◌, ◌≢◌, ◌⊎◌, inl, inr, ℕ, true, List, [], ◌∷◌, Some, None, is_some, refl, sym, ap, ◌∙◌}
 use Rattle.std.specs.FinMap.{FinMap, same_map}
 use Rattle.std.proofs.lemmas.Bool.{cases_Bool, false≢true}
 use Rattle.http_header.specs.FieldValue.{FieldValue}
@@ -25,9 +25,31 @@ use Rattle.dav_methods_core.specs.ChangeConditions.{change_course}
 use Rattle.dav_methods_core.specs.DeleteMethod.{CanRemove, CantRemove, FailsToRemove, IsLockedIn, Removes}
 use Rattle.dav_methods_core.specs.Reaching.{ReachesDown}
 use Rattle.dav_methods_core.specs.SameFaults.{AreAlike, IsDetermined, shows_refusing_lock}
+use Rattle.dav_methods_core.proofs.OddNameLemmas.{odd_nowhere}
 use Rattle.dav_methods_core.proofs.SameFaultLemmas.{IsShort, equal_alike, never_stopped, no_lock, stopped_alike}
 
 -- ---- one state is left
+
+-- where the same stands at each place, the next number is the same, and so are locks and generator
+pub one_state : (s' s'' : State) → ((q : Path) → at_path s'.map q ≡ at_path s''.map q)
+    → s'.map.next ≡ s''.map.next → s'.locks ≡ s''.locks → s'.rng ≡ s''.rng → s' ≡ s''
+one_state s' s'' places next locks rng =
+    ap (λ (es : FinMap path_cmp Resource). record {
+      map = record {
+        entries = es;
+        next = s'.map.next;
+      };
+      locks = s'.locks;
+      rng = s'.rng;
+    })
+    (same_map path_total path_exact s'.map.entries s''.map.entries places)
+    ∙ ap (λ (n : ℕ). record {
+      map = record { entries = s''.map.entries; next = n };
+      locks = s'.locks;
+      rng = s'.rng;
+    }) next
+    ∙ ap (λ (ls : List Lock). record { map = s''.map; locks = ls; rng = s'.rng }) locks
+    ∙ ap (λ r. record { map = s''.map; locks = s''.locks; rng = r }) rng
 
 module _ (now : ℕ) (p : Path) (s s' s'' : State) (h : IsRemoved now p s s')
     (k : IsRemoved now p s s'') where
@@ -41,25 +63,9 @@ module _ (now : ℕ) (p : Path) (s s' s'' : State) (h : IsRemoved now p s s')
     ]
   ]
 
-  one_removal : s' ≡ s''
+  pub one_removal : s' ≡ s''
   one_removal =
-      ap (λ (es : FinMap path_cmp Resource). record {
-        map = record {
-          entries = es;
-          next = s'.map.next;
-        };
-        locks = s'.locks;
-        rng = s'.rng;
-      })
-      (same_map path_total path_exact s'.map.entries s''.map.entries one_place)
-      ∙ ap (λ (n : ℕ). record {
-        map = record { entries = s''.map.entries; next = n };
-        locks = s'.locks;
-        rng = s'.rng;
-      }) (h.next ∙ sym k.next)
-      ∙ ap (λ (ls : List Lock). record { map = s''.map; locks = ls; rng = s'.rng })
-      (h.locks ∙ sym k.locks)
-      ∙ ap (λ r. record { map = s''.map; locks = s''.locks; rng = r }) (h.rng ∙ sym k.rng)
+      one_state s' s'' one_place (h.next ∙ sym k.next) (h.locks ∙ sym k.locks) (h.rng ∙ sym k.rng)
 
 -- ---- a walk of nothing
 
@@ -105,17 +111,6 @@ module _ (headers : Entries FieldValue) (s : State) (who : Caller) (p : Path)
   abbrev Why : Fault → Type 0
   Why e = IsShort e ⊎ (IsBad e ⊎ (IsRoot e ⊎ (IsMissing e ⊎ IsKept e)))
 
-  -- below what isn't there is no name
-  odd_stands : {A : Type 0} → HasOddName s.map p → at_path s.map p ≡ None → A
-  odd_stands odd nothing =
-      let rest = rest_of p odd.folder odd.below in
-      let r = some_of (at_path s.map (odd.folder ++ (odd.name ∷ []))) odd.stands in
-      let path : odd.folder ++ (odd.name ∷ []) ≡ p ++ (rest.0 ++ (odd.name ∷ [])) =
-      ap (λ q. q ++ (odd.name ∷ [])) rest.1 ∙ append_assoc p rest.0 (odd.name ∷ []) in
-      let there = front_there s.map is_map p (rest.0 ++ (odd.name ∷ [])) r.0
-      (ap (at_path s.map) (sym path) ∙ r.1) in
-      none_some (at_path s.map p) there.0 nothing there.1
-
   bad_root : {A : Type 0} (e f : Fault) → IsBad e → IsRoot f → A
   bad_root e f h k = elim h.either [
     | inl short ↦ absurd (short k.reaches)
@@ -127,7 +122,7 @@ module _ (headers : Entries FieldValue) (s : State) (who : Caller) (p : Path)
   bad_missing e f h k = elim h.either [
     | inl short ↦ absurd (short k.reaches)
     | inr odd ↦
-        odd_stands odd.2 k.nothing
+        odd_nowhere s.map p is_map odd.2 k.nothing
   ]
 
   bad_kept : {A : Type 0} (e f : Fault) → IsBad e → IsKept f → A

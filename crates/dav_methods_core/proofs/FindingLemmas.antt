@@ -1,10 +1,10 @@
 -- What is told of places one after another, and why nothing is told.
-use Rattle.std.proofs.Common.{Bool, true, ◌≡◌, ◌⊎◌, inl, inr, ℕ, ◌+◌, ◌<◌, List, [], ◌∷◌, length, map, drop, get_or, Some, None, refl, sym, ap, ◌∙◌, subst}
-use Rattle.std.specs.Prelude.{flat_map}
+use Rattle.std.proofs.Common.{Bool, true, false, ◌≡◌, ◌≢◌, ◌⊎◌, inl, inr, ℕ, ◌+◌, ◌<◌, List, [], ◌∷◌, codes, length, map, drop, get_or, Option, Some, None, refl, sym, ap, ◌∙◌, subst}
+use Rattle.std.specs.Prelude.{flat_map, if◌then◌else◌}
 use Rattle.std.proofs.lemmas.List.{drop_more}
 use Rattle.dav_xml_core.specs.Writing.{Writing}
 use Rattle.http_header.specs.FieldValue.{FieldValue}
-use Rattle.http_header.specs.HeaderMap.{Entries}
+use Rattle.http_header.specs.HeaderMap.{Entries, get_all}
 use Rattle.dav_path_core.specs.Fronts.{Path}
 use Rattle.dav_headers_core.specs.declared.davheaders.depths.Depth.{Depth}
 use Rattle.dav_headers_core.specs.declared.davheaders.depths.Depth.TheVariants as reach
@@ -12,9 +12,10 @@ use Rattle.dav_files_core.specs.Resources.{ResourceMap}
 use Rattle.dav_resource_core.specs.Step.{State}
 use Rattle.dav_faults_core.specs.declared.faults.Fault.{Fault}
 use Rattle.dav_faults_core.specs.declared.faults.Fault.TheVariants as fault
-use Rattle.dav_fields_core.specs.Reaches.{depth_in}
+use Rattle.dav_headers_core.specs.Depths.{depth_of}
+use Rattle.dav_fields_core.specs.Reaches.{depth_by, depth_in, depth_spelled}
 use Rattle.dav_session_core.specs.Callers.{Caller}
-use Rattle.dav_methods_core.specs.PropfindMethod.{FailsToFind}
+use Rattle.dav_methods_core.specs.PropfindMethod.{FailsToFind, ReachesTo}
 use Rattle.dav_documents_core.specs.Pieces.{and_pieces}
 use Rattle.dav_methods_core.specs.Private.Telling.{TellsEach, TellsOne}
 use Rattle.dav_session_core.specs.Placed.{IsNowhere}
@@ -48,6 +49,24 @@ module _ (prefix : List ℕ) (s : State) (who : Caller) (question : Question) wh
 
 -- ---- why nothing is told
 
+either_apart : (b : Bool) (x y : Option Depth) → x ≢ Some reach.Default → y ≢ Some reach.Default
+    → (if b then x else y) ≢ Some reach.Default
+either_apart true x y h k = h
+either_apart false x y h k = k
+
+spelled : (text : List ℕ) → depth_spelled text ≢ Some reach.Default
+spelled text =
+    either_apart _ (Some reach.Infinity) (depth_of text) (λ is. cc)
+    (either_apart _ (Some reach.Infinity) _ (λ is. cc)
+    (either_apart _ (Some reach.Zero) _ (λ is. cc)
+    (either_apart _ (Some reach.One) None (λ is. cc) (λ is. cc))))
+
+-- no value of `Depth` is read as the depth that stands for none
+never_default : (values : List FieldValue) → depth_by values ≢ Some reach.Default
+never_default [] is = cc
+never_default (value ∷ []) is = spelled value.bytes is
+never_default (value ∷ (other ∷ more)) is = cc
+
 module _ (finite : Bool) (headers : Entries FieldValue) (body : List ℕ) (m : ResourceMap) (p : Path) where
   told_as : (e other : Fault) → e ≡ other → FailsToFind finite headers body m p other → FailsToFind finite headers body m p e
   told_as e other same h = subst (FailsToFind finite headers body m p) (sym same) h
@@ -55,20 +74,26 @@ module _ (finite : Bool) (headers : Entries FieldValue) (body : List ℕ) (m : R
   pub by_memory : (e : Fault) → e ≡ fault.InsufficientStorage → FailsToFind finite headers body m p e
   by_memory e same = told_as e fault.InsufficientStorage same FailsToFind.memory
 
-  pub by_depth : (e : Fault) → ((e ≡ fault.BadRequest) × (depth_in headers ≡ None)) ⊎ ((e ≡ fault.InfiniteDepth) × (finite ≡ true) × (depth_in headers ≡ Some reach.Infinity))
+  pub by_depth : (e : Fault)
+      → ((e ≡ fault.BadRequest) × (depth_in headers ≡ None))
+      ⊎ ((e ≡ fault.InfiniteDepth) × (finite ≡ true) × (depth_in headers ≡ Some reach.Infinity))
       → FailsToFind finite headers body m p e
   by_depth e (inl bad) = told_as e fault.BadRequest bad.0 (FailsToFind.unread bad.1)
   by_depth e (inr deep) = told_as e fault.InfiniteDepth deep.0 (FailsToFind.endless deep.1 deep.2)
 
-  pub by_question : (e : Fault) (d : Depth) → depth_in headers ≡ Some d → (e ≡ fault.InsufficientStorage) ⊎ ((e ≡ fault.BadRequest) × (question_in body ≡ None))
+  pub by_question : (e : Fault) (d : Depth) → ReachesTo finite headers d
+      → (e ≡ fault.InsufficientStorage) ⊎ ((e ≡ fault.BadRequest) × (question_in body ≡ None))
       → FailsToFind finite headers body m p e
   by_question e d is (inl short) = by_memory e short
   by_question e d is (inr bad) = told_as e fault.BadRequest bad.0 (FailsToFind.unasked d is bad.1)
 
-  pub by_places : (e : Fault) (d : Depth) (q : Question) → depth_in headers ≡ Some d → question_in body ≡ Some q → IsNowhere d m p e → FailsToFind finite headers body m p e
+  pub by_places : (e : Fault) (d : Depth) (q : Question) → ReachesTo finite headers d
+      → question_in body ≡ Some q → IsNowhere d m p e → FailsToFind finite headers body m p e
   by_places e d q is asks (inl short) = by_memory e short
-  by_places e d q is asks (inr (inl none)) = told_as e fault.NotFound none.0 (FailsToFind.missing d q is asks none.1)
+  by_places e d q is asks (inr (inl none)) =
+      told_as e fault.NotFound none.0 (FailsToFind.missing d q is asks none.1)
   by_places e d q is asks (inr (inr bad)) = told_as e fault.BadRequest bad.0 (elim bad.1 [
-    | inl other ↦ FailsToFind.no_depth q (is ∙ ap Some other) asks
+    | inl other ↦ absurd (never_default (get_all headers (codes "depth"))
+        (is.0 ∙ ap Some other))
     | inr odd ↦ FailsToFind.odd d q is asks odd
   ])

@@ -33,7 +33,7 @@ use Rattle.dav_documents_core.specs.LockDocuments.{discovery_pieces}
 use Rattle.dav_fields_core.specs.LockTimeouts.{can_be_given, given_of, seconds_of}
 use Rattle.dav_methods_core.specs.ChangeConditions.{change_course}
 use Rattle.dav_methods_core.specs.ToldPaths.{told_path}
-use Rattle.dav_methods_core.specs.LockMethod.{CantBeRead, FailsToLock, Grants, HasRoom, IsGranted, IsInConflict, IsMadeThere, LeavesUntold, Wanted, Wants, lock_sent, lock_status, refusing_to_make}
+use Rattle.dav_methods_core.specs.LockMethod.{CantBeRead, FailsToLock, Grants, HasRoom, IsGranted, IsInConflict, IsMadeThere, LeavesUntold, Wanted, Wants, WantsInTime, lock_sent, lock_status, refusing_to_make}
 use Rattle.dav_documents_core.specs.Pieces.{written_pieces}
 use Rattle.dav_session_core.specs.StoreRefusals.{put_fault}
 use Rattle.dav_session_core.specs.LocksInTheWay.{IsPathOfOne, is_lock_below}
@@ -70,6 +70,10 @@ not_come now (Some n) early some =
 pub lasts : (s : State) (who : Caller) (path : PathText) (owner : Option (List ℕ)) (timeout : Option ℕ) (shared deep : Bool) (most : Option ℕ) (wanted : List DavTimeout)
     → who.now < 2 ^ 64 - 1 → timeout ≡ given_of most wanted → is_stale who.now (granted_lock s who path owner timeout shared deep) ≡ false
 lasts s who path owner timeout shared deep most wanted early is = not_come who.now timeout early (λ n some. given_positive most wanted n (sym is ∙ some))
+
+-- the moment before the last is early enough
+pub not_last : (now n : ℕ) → n < 2 ^ 64 - 1 → n ≡ now → ¬ IsLastMoment now
+not_last now n early is last = omega (arith, early, is, last)
 
 -- so no lock has expired once it is granted
 pub lock_stays : (now : ℕ) (s : State) (l : Lock) → live now s ≡ s → is_stale now l ≡ false → live now (with_lock s l) ≡ with_lock s l
@@ -168,7 +172,7 @@ module _ (most : Option ℕ) (headers : Entries FieldValue) (body : List ℕ) (s
   pub moment_by : (e : Fault) (wanted : Wanted) → Wants most headers body wanted → (e ≡ fault.ServiceUnavailable) × IsLastMoment who.now → FailsToLock most headers body s who path e
   moment_by e wanted wants h = subst (FailsToLock most headers body s who path) (sym h.0) (FailsToLock.moment wanted wants h.1)
 
-  pub room_by : (e : Fault) (wanted : Wanted) → Wants most headers body wanted → LacksRoom s who (segments path.bytes) e → FailsToLock most headers body s who path e
+  pub room_by : (e : Fault) (wanted : Wanted) → WantsInTime most headers body who.now wanted → LacksRoom s who (segments path.bytes) e → FailsToLock most headers body s who path e
   room_by fault.InsufficientStorage wanted wants h = FailsToLock.memory
   room_by (fault.Locked at) wanted wants h = FailsToLock.above wanted at wants h.0 h.1
   room_by fault.Conflict wanted wants h = FailsToLock.nowhere wanted wants h.0 h.1 (λ folder. h.2 folder.0 folder.1 folder.2)
@@ -178,7 +182,7 @@ module _ (most : Option ℕ) (headers : Entries FieldValue) (body : List ℕ) (s
   has_room false room = inl room
   has_room true room = inr room
 
-  pub course_by : (e : Fault) (wanted : Wanted) (missing : Bool) → Wants most headers body wanted → FoundRoom s who (segments path.bytes) missing
+  pub course_by : (e : Fault) (wanted : Wanted) (missing : Bool) → WantsInTime most headers body who.now wanted → FoundRoom s who (segments path.bytes) missing
       → (e ≡ fault.InsufficientStorage) ⊎ (change_course method.Lock s.map (segments path.bytes) headers ≡ Err e) → FailsToLock most headers body s who path e
   course_by e wanted missing wants room (inl short) = memory_by e short
   course_by e wanted missing wants room (inr withheld) = FailsToLock.course e wanted wants (has_room missing room) withheld
@@ -198,7 +202,7 @@ module _ (most : Option ℕ) (headers : Entries FieldValue) (body : List ℕ) (s
     in_way : (wanted : Wanted) (at : PathText) → IsPathOfOne (lock_conflicts s.locks (segments place.bytes) wanted.shared wanted.deep) at → IsInConflict s (segments path.bytes) wanted at
     in_way wanted at h = subst (λ p. IsInConflict s p wanted at) same_path h
 
-    pub conflict_by : (e : Fault) (wanted : Wanted) (missing : Bool) → Wants most headers body wanted → FoundRoom s who (segments path.bytes) missing
+    pub conflict_by : (e : Fault) (wanted : Wanted) (missing : Bool) → WantsInTime most headers body who.now wanted → FoundRoom s who (segments path.bytes) missing
         → change_course method.Lock s.map (segments path.bytes) headers ≡ Ok tt
         → IsConflictAt (lock_conflicts s.locks (segments place.bytes) wanted.shared wanted.deep) place e → FailsToLock most headers body s who path e
     conflict_by fault.InsufficientStorage wanted missing wants room course h = FailsToLock.memory
@@ -211,12 +215,13 @@ module _ (most : Option ℕ) (headers : Entries FieldValue) (body : List ℕ) (s
 
     -- ---- what is done
 
-    pub granted_by : (prefix : List ℕ) (wanted : Wanted) (missing : Bool) (lock : Lock) (status : ℕ) (sent : Sent) (s' : State) → Wants most headers body wanted
+    pub granted_by : (prefix : List ℕ) (wanted : Wanted) (missing : Bool) (lock : Lock) (status : ℕ) (sent : Sent) (s' : State) → WantsInTime most headers body who.now wanted
         → FoundRoom s who (segments path.bytes) missing → change_course method.Lock s.map (segments path.bytes) headers ≡ Ok tt
         → IsGrantedNow prefix s who place wanted missing lock status sent s' → IsGranted most prefix headers body s who path status sent s'
     granted_by prefix wanted missing lock status sent s' wants room course h = record {
       wanted = wanted;
-      wants = wants;
+      wants = wants.0;
+      in_time = wants.1;
       course = course;
       lock = lock;
       grants = grants_at wanted lock s' h.grants;

@@ -19,7 +19,7 @@ use Rattle.dav_session_core.specs.Sessions.{Looks, caller, live_of, state}
 use Rattle.dav_session_core.specs.Granting.{AreAbove, HaveTokens, granted_lock}
 use Rattle.dav_methods_core.specs.ChangeConditions.{change_course}
 use Rattle.dav_methods_core.specs.ToldPaths.{told_path}
-use Rattle.dav_methods_core.specs.LockMethod.{FailsToLock, IsAskedBy, IsGranted, LeavesUntold, Wanted, Wants}
+use Rattle.dav_methods_core.specs.LockMethod.{FailsToLock, IsAskedBy, IsGranted, LeavesUntold, Wanted, WantsInTime}
 use Rattle.dav_methods_core.specs.Rooms.{FoundRoom, IsConflictAt, IsGrantedNow, IsReadyToLock, LeavesLock}
 use Rattle.dav_session_core.proofs.Asking.{join_as, live_as}
 use Rattle.dav_methods_core.proofs.Acting.{held_before, held_behind}
@@ -36,8 +36,8 @@ pub told_before : {R : Type 0} {stream : R → Stream} {old mid : Session R} (pa
     → place ≡ told_path (state stream mid).map path → place ≡ told_path (live_of stream old).map path
 told_before path place looks kept = held_before (λ w t. place ≡ told_path t.map path) looks kept
 
-module _ (most : Option ℕ) (headers : Entries FieldValue) (body : List ℕ) (path : PathText) (wanted : Wanted) (wants : Wants most headers body wanted) (missing : Bool)
-    {R : Type 0} (stream : R → Stream) (old : Session R) (room : FoundRoom (live_of stream old) (caller old) (segments path.bytes) missing)
+module _ (most : Option ℕ) (headers : Entries FieldValue) (body : List ℕ) (path : PathText) (wanted : Wanted) (missing : Bool)
+    {R : Type 0} (stream : R → Stream) (old : Session R) (wants : WantsInTime most headers body (caller old).now wanted) (room : FoundRoom (live_of stream old) (caller old) (segments path.bytes) missing)
     (place : PathText) (kept : place ≡ told_path (live_of stream old).map path) where
   abbrev s : State
   s = live_of stream old
@@ -51,7 +51,7 @@ module _ (most : Option ℕ) (headers : Entries FieldValue) (body : List ℕ) (p
   ready above first second early have only = held_behind (λ w t. IsReadyToLock t w place wanted missing above) second (record {
     room = subst (λ p. FoundRoom s (caller old) p missing) (sym same) room;
     is_told = ap (told_path s.map) kept ∙ told_twice path s.map ∙ sym kept;
-    lasts = lasts s (caller old) place wanted.owner wanted.timeout wanted.shared wanted.deep most wants.timeouts early wants.given;
+    lasts = lasts s (caller old) place wanted.owner wanted.timeout wanted.shared wanted.deep most wants.0.timeouts early wants.0.given;
     have = held_before (λ w t. HaveTokens t (segments place.bytes) above) first have;
     only = held_before (λ w t. AreAbove t (segments place.bytes) above) first only;
   })
@@ -78,14 +78,14 @@ module _ (most : Option ℕ) (headers : Entries FieldValue) (body : List ℕ) (p
 
     asked : (l : Lock) → l ≡ granted_lock s (caller old) place wanted.owner wanted.timeout wanted.shared wanted.deep → IsAskedBy body s (caller old) path l
     asked l is = (
-      wants.info,
-      wants.asks,
+      wants.0.info,
+      wants.0.asks,
       (
         wanted.timeout,
         wanted.deep,
         is ∙ ap (λ (q : PathText). granted_lock s (caller old) q wanted.owner wanted.timeout wanted.shared wanted.deep) kept
-            ∙ ap (λ (owner : Option (List ℕ)). granted_lock s (caller old) (told_path s.map path) owner wanted.timeout wanted.shared wanted.deep) wants.owner_is
-            ∙ ap (λ shared. granted_lock s (caller old) (told_path s.map path) wants.info.owner wanted.timeout shared wanted.deep) wants.shared_is,
+            ∙ ap (λ (owner : Option (List ℕ)). granted_lock s (caller old) (told_path s.map path) owner wanted.timeout wanted.shared wanted.deep) wants.0.owner_is
+            ∙ ap (λ shared. granted_lock s (caller old) (told_path s.map path) wants.0.info.owner wanted.timeout shared wanted.deep) wants.0.shared_is,
       ),
     )
 

@@ -1,11 +1,10 @@
 -- A LOCK without a body is answered in one way.
-use Rattle.std.proofs.Common.{◌≡◌, ◌⊎◌, inl, inr, ℕ, ◌<◌, ◌≤◌, List, [], ◌∷◌, length, get_or, Option, None, Some, Result, Ok, Err, refl, sym, ap, ◌∙◌, subst, arith}
+use Rattle.std.proofs.Common.{◌≡◌, ◌⊎◌, inl, inr, ℕ, ◌<◌, ◌≤◌, List, [], ◌∷◌, length, get_or, Option, Result, Ok, Err, refl, sym, ap, ◌∙◌, subst, arith}
 use Rattle.std.specs.Prelude.{set}
 use Rattle.std.proofs.lemmas.Bool.{cases_lt}
 use Rattle.std.proofs.lemmas.List.{get_or_default, set_past}
 use Rattle.http_header.specs.FieldValue.{FieldValue}
 use Rattle.http_header.specs.HeaderMap.{Entries}
-use Rattle.dav_headers_core.specs.declared.davheaders.timeouts.DavTimeout.{DavTimeout}
 use Rattle.dav_path_core.specs.declared.util.DavMethod.TheVariants as method
 use Rattle.dav_path_core.specs.Fronts.{Path}
 use Rattle.dav_path_core.proofs.lists.FinMaps.{none_some, one_some}
@@ -17,6 +16,7 @@ use Rattle.dav_faults_core.specs.declared.faults.Fault.TheVariants as fault
 use Rattle.dav_session_core.specs.Callers.{Caller}
 use Rattle.dav_session_core.specs.Refreshing.{RefreshesOwn}
 use Rattle.dav_session_core.specs.Unlocking.{IsAnothers}
+use Rattle.dav_fields_core.proofs.OneDestinationLaws.{one_item}
 use Rattle.dav_fields_core.specs.Fields.{Sent}
 use Rattle.dav_fields_core.specs.LockTimeouts.{timeouts_in}
 use Rattle.dav_documents_core.specs.LockDocuments.{discovery_pieces}
@@ -28,9 +28,6 @@ use Rattle.dav_methods_core.specs.SentDocuments.{document_sent}
 use Rattle.dav_methods_core.proofs.SameFaultLemmas.{IsShort, equal_alike, one_error}
 
 -- ---- lists of one item
-
-one_item : {A : Type 0} (xs : List A) (a b : A) → xs ≡ a ∷ [] → xs ≡ b ∷ [] → a ≡ b
-one_item {A = A} xs a b h k = let both : ◌≡◌ {A = List A} (a ∷ []) (b ∷ []) = sym h ∙ k in cc
 
 none_of_one : {A B : Type 0} (xs : List A) (a : A) → xs ≡ [] → xs ≡ a ∷ [] → B
 none_of_one {A = A} xs a h k =

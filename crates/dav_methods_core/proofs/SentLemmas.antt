@@ -1,5 +1,5 @@
 -- What is sent behind other fields.
-use Rattle.std.proofs.Common.{◌≡◌, ℕ, List, ◌++◌, Result, Ok, Err, refl, ap, ◌∙◌}
+use Rattle.std.proofs.Common.{◌≡◌, ℕ, List, ◌++◌, Result, Ok, Err, ap, ◌∙◌}
 use Rattle.std.specs.Prelude.{IfOk, OnOk}
 use Rattle.std.proofs.lemmas.List.{append_assoc}
 use Rattle.dav_faults_core.specs.declared.faults.Fault.{Fault}

@@ -20,7 +20,7 @@ use Rattle.dav_methods_core.specs.ChangeConditions.{IsStopped, change_course}
 use Rattle.dav_methods_core.specs.Reaching.{reach_from}
 use Rattle.dav_methods_core.specs.PutMethod.{put_status}
 use Rattle.dav_session_core.specs.Subtrees.{HasOddName}
-use Rattle.dav_session_core.specs.Copying.{IsCopied, IsPartlyCopied, AreCopied, refusing_copies, source_and_target}
+use Rattle.dav_session_core.specs.Copying.{IsCopied, IsPartlyCopied, AreCopied, copies_made, refusing_copies, source_and_target}
 use Rattle.dav_files_core.specs.Resources.{IsResourceMap}
 use Rattle.dav_files_core.specs.Meta.{Meta}
 
@@ -30,7 +30,9 @@ refusing_copy s who to gone rests = refusing_clearing s who to gone ++ refusing_
 
 -- 201, or 204 where something stood at the target. No lock refused it, and neither did the
 -- conditions of HTTP, which are of the source; a folder at the target is gone; and the target has
--- what the source has. Locks that have expired play no part.
+-- what the source has, as the copies make it one after another. Where all the way down is copied,
+-- each name below the source is one that a path can have which is read. Locks that have expired play
+-- no part.
 pub record Copies (site : Site) (prefix : List ℕ) (headers : Entries FieldValue) (s : State) (who : Caller) (from : Path) (status : ℕ) (s' : State) : Type 0 where
   pub deep : Bool
   pub reaches : reach_from s.map from headers ≡ Some deep
@@ -41,12 +43,15 @@ pub record Copies (site : Site) (prefix : List ℕ) (headers : Entries FieldValu
   pub status_is : status ≡ put_status s.map (segments to.bytes)
   pub gone : List Path
   pub goes : GoesFrom s.map (segments to.bytes) gone
+  pub plain : deep ≡ true → ¬ HasOddName s.map from
   pub rests : List Path
   pub are : AreCopied deep from (segments to.bytes) s.map rests
   pub free : refusing_copy s who (segments to.bytes) gone rests ≡ []
   pub mid : State
   pub cleared : IsCleared who.now (segments to.bytes) s mid
   pub copied : IsCopied who.now deep from (segments to.bytes) mid (live who.now s')
+  pub made : copies_made who.now (map (source_and_target from (segments to.bytes)) rests) mid.map
+      ≡ Ok (tt, s'.map)
   pub course : change_course method.Copy s.map from headers ≡ Ok tt
 
 -- Why it can't be copied, and where that comes: first a depth that it can't have; then its ends; a
@@ -60,6 +65,7 @@ pub data CantCopy (site : Site) (prefix : List ℕ) (headers : Entries FieldValu
       → EndsFit s.map from (segments to.bytes) replaces → HasOddName s.map from → CantCopy site prefix headers s who from fault.BadRequest
   locked : (deep : Bool) (to : PathText) (replaces : Bool) (gone rests : List Path) (path : PathText) → reach_from s.map from headers ≡ Some deep
       → LeadsOn site prefix headers from true to replaces → EndsFit s.map from (segments to.bytes) replaces → GoesFrom s.map (segments to.bytes) gone
+      → (deep ≡ true → ¬ HasOddName s.map from)
       → AreCopied deep from (segments to.bytes) s.map rests → IsPathOfOne (refusing_copy s who (segments to.bytes) gone rests) path
       → CantCopy site prefix headers s who from (by_place (segments to.bytes) (fault.Locked path))
 
@@ -75,6 +81,7 @@ pub record IsPlanned (site : Site) (prefix : List ℕ) (headers : Entries FieldV
   pub fit : EndsFit s.map from (segments to.bytes) replaces
   pub known_is : known ≡ known_at s.map (segments to.bytes)
   pub goes : GoesFrom s.map (segments to.bytes) gone
+  pub plain : deep ≡ true → ¬ HasOddName s.map from
   pub rests : List Path
   pub are : AreCopied deep from (segments to.bytes) s.map rests
   pub free : refusing_copy s who (segments to.bytes) gone rests ≡ []
@@ -104,6 +111,7 @@ pub record StartsToCopy (site : Site) (prefix : List ℕ) (headers : Entries Fie
   pub fit : EndsFit s.map from (segments to.bytes) replaces
   pub gone : List Path
   pub goes : GoesFrom s.map (segments to.bytes) gone
+  pub plain : deep ≡ true → ¬ HasOddName s.map from
   pub rests : List Path
   pub are : AreCopied deep from (segments to.bytes) s.map rests
   pub free : refusing_copy s who (segments to.bytes) gone rests ≡ []

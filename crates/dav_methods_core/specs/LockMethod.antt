@@ -62,6 +62,11 @@ abbrev pub CantBeRead : Entries FieldValue → List ℕ → Type 0
 CantBeRead headers body =
     (reach_in headers ≡ None) ⊎ (timeouts_in headers ≡ None) ⊎ (lock_info_in body ≡ None)
 
+-- it is asked for before the last moment, at which a lock would end at once
+abbrev pub WantsInTime : Option ℕ → Entries FieldValue → List ℕ → ℕ → Wanted → Type 0
+WantsInTime most headers body now wanted =
+    Wants most headers body wanted × ¬ IsLastMoment now
+
 -- ---- what stands there
 
 -- The locks that keep the caller from making a file at a path: those that a PUT of it asks, at the
@@ -111,6 +116,7 @@ pub record IsGranted (most : Option ℕ) (prefix : List ℕ) (headers : Entries 
     (s' : State) : Type 0 where
   pub wanted : Wanted
   pub wants : Wants most headers body wanted
+  pub in_time : ¬ IsLastMoment who.now
   pub course : change_course method.Lock s.map (segments path.bytes) headers ≡ Ok tt
   pub lock : Lock
   pub grants : Grants s who path wanted lock s'
@@ -134,25 +140,25 @@ pub data FailsToLock (most : Option ℕ) (headers : Entries FieldValue) (body : 
   unread : CantBeRead headers body → FailsToLock most headers body s who path fault.BadRequest
   moment : (wanted : Wanted) → Wants most headers body wanted → IsLastMoment who.now
       → FailsToLock most headers body s who path fault.ServiceUnavailable
-  above : (wanted : Wanted) (at : PathText) → Wants most headers body wanted
+  above : (wanted : Wanted) (at : PathText) → WantsInTime most headers body who.now wanted
       → at_path s.map (segments path.bytes) ≡ None
       → IsPathOfOne (refusing_to_make s who (segments path.bytes)) at
       → FailsToLock most headers body s who path (fault.Locked at)
-  nowhere : (wanted : Wanted) → Wants most headers body wanted
+  nowhere : (wanted : Wanted) → WantsInTime most headers body who.now wanted
       → at_path s.map (segments path.bytes) ≡ None
       → refusing_to_make s who (segments path.bytes) ≡ []
       → ¬ HasFolder s.map (parent (segments path.bytes))
       → FailsToLock most headers body s who path fault.Conflict
-  course : (e : Fault) (wanted : Wanted) → Wants most headers body wanted
+  course : (e : Fault) (wanted : Wanted) → WantsInTime most headers body who.now wanted
       → HasRoom s who (segments path.bytes)
       → change_course method.Lock s.map (segments path.bytes) headers ≡ Err e
       → FailsToLock most headers body s who path e
-  conflict : (wanted : Wanted) (at : PathText) → Wants most headers body wanted
+  conflict : (wanted : Wanted) (at : PathText) → WantsInTime most headers body who.now wanted
       → HasRoom s who (segments path.bytes)
       → change_course method.Lock s.map (segments path.bytes) headers ≡ Ok tt
       → IsInConflict s (segments path.bytes) wanted at → is_lock_below (segments path.bytes) at ≡ false
       → FailsToLock most headers body s who path (fault.ConflictingLock at)
-  member : (wanted : Wanted) (at : PathText) → Wants most headers body wanted
+  member : (wanted : Wanted) (at : PathText) → WantsInTime most headers body who.now wanted
       → HasRoom s who (segments path.bytes)
       → change_course method.Lock s.map (segments path.bytes) headers ≡ Ok tt
       → IsInConflict s (segments path.bytes) wanted at → is_lock_below (segments path.bytes) at ≡ true

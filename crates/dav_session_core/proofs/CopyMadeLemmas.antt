@@ -10,17 +10,17 @@ use Rattle.dav_files_core.specs.declared.memfs.Kind.{Kind}
 use Rattle.dav_files_core.specs.declared.memfs.Kind.TheVariants.{File, Folder}
 use Rattle.dav_files_core.specs.ResourceCopying.{copy, copy_to}
 use Rattle.dav_files_core.specs.Finding.{refusal_at}
-use Rattle.dav_files_core.specs.Outcomes.{◌>>=◌, with_new_entry, with_other_node}
+use Rattle.dav_files_core.specs.Outcomes.{Outcome, ◌>>=◌, with_new_entry, with_other_node}
 use Rattle.dav_files_core.specs.Resources.{IsResourceMap, Node, Resource, ResourceMap, at_path}
 use Rattle.dav_files_core.proofs.changes.MakingLemmas.{folder_found}
 use Rattle.dav_files_core.proofs.moves.MovingLemmas.{front_there}
 use Rattle.dav_resource_core.specs.Checks.{refusing, target}
-use Rattle.dav_resource_core.specs.Requests.{Answer, Command, Fs, Locked, NoLock, OutOfMemory}
-use Rattle.dav_resource_core.specs.Step.{Serves, State}
+use Rattle.dav_resource_core.specs.Requests.{Answer, Command, Reply, Fs, Locked, NoLock, OutOfMemory}
+use Rattle.dav_resource_core.specs.Step.{Serves, State, Step}
 use Rattle.dav_resource_core.proofs.Frame.{change_left}
 use Rattle.dav_resource_core.proofs.StepLaws.{Same-equal}
 use Rattle.dav_session_core.specs.Callers.{Caller, as_caller, asking}
-use Rattle.dav_session_core.specs.Copying.{created_at, node_at}
+use Rattle.dav_session_core.specs.Copying.{copies_made, created_at, node_at}
 use Rattle.dav_session_core.specs.Ends.{HasFolder}
 use Rattle.dav_session_core.specs.StoreRefusals.{put_fault}
 use Rattle.dav_faults_core.specs.declared.faults.Fault.TheVariants as fault
@@ -87,6 +87,16 @@ module _ (m : ResourceMap) (from to : Path) (now : ℕ) (r : Resource) (stands :
           let made = by_target (at_path m to) refl in
           (made.0, ap (λ (y : Resource). copy_to m to (created_at now y.node) (at_path m to)) one ∙ made.1, made.2)
       by_source None is = absurd (cc)
+
+-- ---- copies one after another
+
+pub one_made : (who : Caller) (t t' : State) (from to : Path) (pairs : List (Path × Path))
+    → (reply : Reply) × Step t (asking who (Command.Copy from to)) (Ok reply) t'
+    → copies_made who.now ((from, to) ∷ pairs) t.map ≡ copies_made who.now pairs t'.map
+one_made who t t' from to pairs h =
+    ap (λ (o : Outcome (Unit {0})). o
+    >>= λ (done : Unit {0} × ResourceMap). copies_made who.now pairs done.1)
+    (change_left (copy t.map from to who.now) h.0 t'.map h.1.1.0)
 
 -- ---- a request for it
 

@@ -10,6 +10,7 @@ pub mod GrantLemmas
 pub mod Looking
 pub mod MakeLemmas
 pub mod MoveLemmas
+pub mod OneConditionLaws
 pub mod OwnLemmas
 pub mod PatchLemmas
 pub mod PlaceLemmas

@@ -36,6 +36,7 @@ use Rattle.dav_session_core.proofs.MakeLemmas.{done, left_by}
 use Rattle.dav_path_core.proofs.paths.AbovePaths.{parent_front}
 use Rattle.dav_session_core.proofs.PutLemmas.{change_err}
 use Rattle.dav_session_core.proofs.RemovalCheckLemmas.{removal_split}
+use Rattle.dav_session_core.proofs.RemovalLemmas.{dated_next}
 use Rattle.dav_files_core.proofs.paths.RemovedMaps.{above_out}
 use Rattle.dav_path_core.proofs.paths.SubtreePaths.{front_of, rest_of, some_of}
 
@@ -134,6 +135,11 @@ module _ (m : ResourceMap) (from to : Path) (now : ℕ) where
       ∙ ap (λ (o : Result Resource FsError). o >>= λ (_ : Resource). relocated_map m from to >>= finish) (folder_found m (parent to) f above kind)
       ∙ ap (λ (o : Result ResourceMap FsError). o >>= finish) away
 
+  left_next : left.next ≡ m.next
+  left_next =
+      dated_next (with_modified_time put (parent from) now) (parent to) now
+      ∙ dated_next put (parent from) now
+
   module _ (apart : is_related false from to ≡ false) where
     left_there : (rest : Path) → at_path left (to ++ rest) ≡ at_path m (from ++ rest)
     left_there rest =
@@ -185,6 +191,7 @@ module _ (s : State) (who : Caller) (from to : Path) (can : CanMove s who from t
         there = λ rest. ap (λ (n : ResourceMap). at_path n (to ++ rest)) is ∙ left_there s.map from to who.now can.apart rest;
         gone = λ q inside. ap (λ (n : ResourceMap). at_path n q) is ∙ left_gone s.map from to who.now can.apart q inside;
         others = λ q f t. ap (λ (n : ResourceMap). at_path n q) is ∙ left_others s.map from to who.now can.apart q f t;
+        next = ap (λ (n : ResourceMap). n.next) is ∙ left_next s.map from to who.now;
         locks = h.1.1.locks_are;
         rng = h.1.1.rng_is;
       }

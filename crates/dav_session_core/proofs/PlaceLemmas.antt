@@ -7,14 +7,13 @@ use Rattle.std.proofs.lemmas.List.Elements.{Contains-get_or}
 use Rattle.dav_path_core.specs.Fronts.{Path}
 use Rattle.dav_path_core.proofs.lists.MemberLemmas.{In-Contains}
 use Rattle.dav_path_core.proofs.paths.FrontLemmas.{is_front-refl}
-use Rattle.dav_headers_core.specs.declared.davheaders.depths.Depth.{Depth}
+use Rattle.dav_headers_core.specs.declared.davheaders.depths.Depth.TheVariants as depth
 use Rattle.dav_files_core.specs.Resources.{Resource, ResourceMap, at_path}
 use Rattle.dav_faults_core.specs.declared.faults.Fault.{Fault}
 use Rattle.dav_faults_core.specs.declared.faults.Fault.TheVariants as fault
 use Rattle.dav_session_core.specs.MemberPaths.{paths_of_members}
-use Rattle.dav_session_core.specs.Private.Gathering.{HasOddMember}
 use Rattle.dav_session_core.specs.Placed.{AllStand, IsNowhere}
-use Rattle.dav_session_core.specs.Subtrees.{HasOddName}
+use Rattle.dav_session_core.specs.Subtrees.{HasOddMember, HasOddName}
 use Rattle.dav_session_core.proofs.SubtreeLemmas.{member_stands}
 
 -- at the one that code is at
@@ -48,10 +47,13 @@ short_of e (Some r) (inl short) some = short
 short_of e (Some r) (inr none) some = absurd (cc)
 short_of e None why some = absurd (false≢true some)
 
--- a name below the path that no path has which is read
-pub nowhere_odd : (d : Depth) (m m' : ResourceMap) (p : Path) (e : Fault) → m' ≡ m → (e ≡ fault.InsufficientStorage) ⊎ ((e ≡ fault.BadRequest) × HasOddMember m' p) → IsNowhere d m p e
-nowhere_odd d m m' p e same (inl short) = inl short
-nowhere_odd d m m' p e same (inr odd) = inr (inr (odd.0, inr (odd_below m p (subst (λ n. HasOddMember n p) same odd.1))))
+-- a member with a name that no path has which is read
+pub nowhere_odd : (m m' : ResourceMap) (p : Path) (e : Fault) → m' ≡ m
+    → (e ≡ fault.InsufficientStorage) ⊎ ((e ≡ fault.BadRequest) × HasOddMember m' p)
+    → IsNowhere depth.One m p e
+nowhere_odd m m' p e same (inl short) = inl short
+nowhere_odd m m' p e same (inr odd) =
+    inr (inr (odd.0, inr (subst (λ n. HasOddMember n p) same odd.1)))
 
 -- what an answer says, where it says two things
 pub if_found : {A E : Type 0} (r : Result A E) (P Q : A → Type 0) (F : Type 0) → ((x : A) → P x → F → Q x) → IfOk r P → OnOk r F → IfOk r Q

@@ -43,7 +43,7 @@ use Rattle.dav_files_core.proofs.paths.RemovedMaps.{above_other, above_out, fron
 -- ---- one place of a map that is taken away
 
 -- the next number stays where a time changes
-dated_next : (m : ResourceMap) (p : Path) (now : ℕ) → (with_modified_time m p now).next ≡ m.next
+pub dated_next : (m : ResourceMap) (p : Path) (now : ℕ) → (with_modified_time m p now).next ≡ m.next
 dated_next m p now = by (at_path m p)
   where
     by : (o : Option Resource) → (touched_at m p now o).next ≡ m.next

@@ -25,9 +25,8 @@ use Rattle.dav_faults_core.specs.declared.faults.Fault.{Fault}
 use Rattle.dav_faults_core.specs.declared.faults.Fault.TheVariants as fault
 use Rattle.dav_session_core.specs.Callers.{Caller}
 use Rattle.dav_session_core.proofs.ConditionLemmas.{Looks}
-use Rattle.dav_session_core.specs.Subtrees.{ComesBefore, HasOddName, IsSubtreeWalk}
+use Rattle.dav_session_core.specs.Subtrees.{ComesBefore, HasOddMember, HasOddName, IsSubtreeWalk}
 use Rattle.dav_session_core.specs.MemberPaths.{paths_of_members, paths_in}
-use Rattle.dav_session_core.specs.Private.Gathering.{HasOddMember}
 use Rattle.dav_session_core.specs.Questions.{LacksKind}
 use Rattle.dav_session_core.proofs.WalkOrderLemmas.{IsInOrder, from_back, later_back, map_back, named_in_order, not_above, not_itself, one_walk, order_on, to_back}
 use Rattle.dav_path_core.proofs.paths.SubtreePaths.{in_either, in_left, in_right, in_one, Later, some_of, rest_of, front_of, member_longer, Apart, not_front, apart_member, apart_members, pair_at, pairs_front, found_in, later_both, later_cross, later_front, later_pairs, one_fewer, any_of}

@@ -1,7 +1,9 @@
 -- What is copied, what that leaves, and which locks refuse it (RFC 4918 sections 7, 9.8 and 11.5).
-use Rattle.std.specs.Prelude.{◌≡◌, ◌⊎◌, ◌↔◌, Bool, true, false, not, ◌&&◌, ℕ, List, [], ◌∷◌, ◌++◌, map, Option, None, IsSome, Contains, option_map, if◌then◌else◌, Err}
+use Rattle.std.specs.Prelude.{◌≡◌, ◌⊎◌, ◌↔◌, Bool, true, false, not, ◌&&◌, ℕ, List, [], ◌∷◌, ◌++◌, map, Option, None, IsSome, Contains, option_map, if◌then◌else◌, Ok, Err}
 use Rattle.std.specs.List.{AllPairs}
 use Rattle.dav_path_core.specs.Fronts.{Path, is_front, parent}
+use Rattle.dav_files_core.specs.Outcomes.{Outcome, ◌>>=◌}
+use Rattle.dav_files_core.specs.ResourceCopying.{copy}
 use Rattle.dav_files_core.specs.Resources.{IsResourceMap, Node, ResourceMap, at_path}
 use Rattle.dav_locks_core.specs.Lock.{Lock}
 use Rattle.dav_resource_core.specs.Checks.{refusing, shallow, target}
@@ -38,6 +40,11 @@ pub record IsCopied (now : ℕ) (deep : Bool) (from to : Path) (s s' : State) : 
   pub there : (rest : Path) → node_at s'.map (to ++ rest) ≡ copy_at now deep from to s.map rest
   pub others : (q : Path) → is_front to q ≡ false → at_path s'.map q ≡ at_path s.map q
   pub left : s' ≡ record s { map = s'.map }
+
+-- resources are copied one after another, each to where it goes
+abbrev pub copies_made : ℕ → List (Path × Path) → ResourceMap → Outcome (Unit {0})
+copies_made now [] m = Ok (tt, m)
+copies_made now (pair ∷ pairs) m = copy m pair.0 pair.1 now >>= λ done. copies_made now pairs done.1
 
 -- Each place at or below the target is as it was, or has what the source has; each other place is as it was, and so are the locks.
 pub record IsPartlyCopied (now : ℕ) (deep : Bool) (from to : Path) (s s' : State) : Type 0 where

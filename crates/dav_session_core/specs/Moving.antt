@@ -17,6 +17,7 @@ pub record IsMoved (now : ℕ) (from to : Path) (s s' : State) : Type 0 where
   pub there : (rest : Path) → at_path s'.map (to ++ rest) ≡ at_path s.map (from ++ rest)
   pub gone : (q : Path) → is_front from q ≡ true → at_path s'.map q ≡ None
   pub others : (q : Path) → is_front from q ≡ false → is_front to q ≡ false → at_path s'.map q ≡ option_map (dated_folder from to now q) (at_path s.map q)
+  pub next : s'.map.next ≡ s.map.next
   pub locks : s'.locks ≡ without_below from s.locks
   pub rng : s'.rng ≡ s.rng
 

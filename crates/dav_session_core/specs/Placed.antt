@@ -6,7 +6,7 @@ use Rattle.dav_headers_core.specs.declared.davheaders.depths.Depth.TheVariants a
 use Rattle.dav_files_core.specs.Resources.{ResourceMap, at_path}
 use Rattle.dav_faults_core.specs.declared.faults.Fault.{Fault}
 use Rattle.dav_faults_core.specs.declared.faults.Fault.TheVariants as fault
-use Rattle.dav_session_core.specs.Subtrees.{HasOddName}
+use Rattle.dav_session_core.specs.DepthPlaces.{HasOddWithin}
 
 -- something stands at each place
 abbrev pub AllStand : ResourceMap → List Path → Type 0
@@ -16,4 +16,4 @@ AllStand m places = (q : Path) → Contains places q → IsSome (at_path m q)
 abbrev pub IsNowhere : Depth → ResourceMap → Path → Fault → Type 0
 IsNowhere d m p e =
     (e ≡ fault.InsufficientStorage) ⊎ (((e ≡ fault.NotFound) × (at_path m p ≡ None))
-    ⊎ ((e ≡ fault.BadRequest) × ((d ≡ depth.Default) ⊎ HasOddName m p)))
+    ⊎ ((e ≡ fault.BadRequest) × ((d ≡ depth.Default) ⊎ HasOddWithin d m p)))

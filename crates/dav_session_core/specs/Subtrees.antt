@@ -10,6 +10,10 @@ use Rattle.dav_files_core.specs.Resources.{ResourceMap, at_path}
 abbrev pub ComesBefore : Path → Path → Type 0
 ComesBefore q r = path_cmp q r ≡ Less
 
+-- a member has a name that no path has which is read
+abbrev pub HasOddMember : ResourceMap → Path → Type 0
+HasOddMember m p = (name : Segment) × IsSome (at_path m (p ++ (name ∷ []))) × ¬ CanBeSegment name
+
 -- something at or below the path has a name that no path has which is read
 pub record HasOddName (m : ResourceMap) (p : Path) : Type 0 where
   pub folder : Path

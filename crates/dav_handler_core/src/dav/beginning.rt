@@ -10,7 +10,7 @@ ghost use Rattle.dav_session_core.specs.Sessions.{caller};
 ghost use Rattle.dav_handler_core.specs.Answers.{MayDo};
 ghost use Rattle.dav_handler_core.specs.MethodAnswers.{Admits, Unread};
 ghost use Rattle.dav_handler_core.specs.Private.Begun.{IsBegun, IsHeld, IsOverladen};
-ghost use Rattle.dav_handler_core.specs.RequestMoments.{ComesAt, answer_moment, moment_of};
+ghost use Rattle.dav_handler_core.specs.RequestMoments.{ComesAt, IsMoment, answer_moment};
 ghost use Rattle.dav_handler_core.specs.Server.{IsFrom, Names};
 ghost use Rattle.dav_handler_core.specs.ServerViews.{IsDated, Unchanged, server};
 
@@ -45,8 +45,8 @@ impl<R: Rng> Dav<R> {
     fn moment(&self, changes: bool) -> Result<Moment, Fault>
         ensures ok { IfOk result (λ moment. ((server R.stream self.now).last ≤ moment.0)
             × (changes ≡ true → (server R.stream self.now).last < moment.0)) }
-        ensures moment { IfOk result (λ moment. moment.0
-            ≡ moment_of changes (server R.stream self.now)) }
+        ensures moment { IfOk result (λ moment. IsMoment changes (server R.stream self.now)
+            moment.0) }
         ensures err { IfErr result (λ e. (e ≡ fault.ServiceUnavailable) × (changes ≡ true)
             × IsLastMoment (server R.stream self.now).last) }
     {
@@ -76,8 +76,8 @@ impl<R: Rng> Dav<R> {
             → (server R.stream self.old).last < (server R.stream self.new).last)) }
         ensures err { IfErr result (λ e. Unread (server R.stream self.old).options request.now
             (server R.stream self.old).last changes e) }
-        ensures moment { OnOk result ((server R.stream self.new).last
-            ≡ moment_of changes (server R.stream self.old)) }
+        ensures moment { OnOk result (IsMoment changes (server R.stream self.old)
+            (server R.stream self.new).last) }
         ensures left { OnErr result ((server R.stream self.new).last
             ≡ (server R.stream self.old).last) }
         ensures state { (server R.stream self.new).state ≡ (server R.stream self.old).state }
@@ -112,8 +112,8 @@ impl<R: Rng> Dav<R> {
         ensures err { IfErr result (λ e. Unread (server R.stream self.old).options request.now
             (server R.stream self.old).last changes e
             ⊎ IsHeld (server R.stream self.old) request.now (server R.stream self.new) e) }
-        ensures moment { OnOk result ((server R.stream self.new).last
-            ≡ moment_of changes (server R.stream self.old)) }
+        ensures moment { OnOk result (IsMoment changes (server R.stream self.old)
+            (server R.stream self.new).last) }
         ensures comes { IfErr result (λ e. ComesAt changes (server R.stream self.old) request.now
             (Err e) (server R.stream self.new)) }
         ensures run { RunBy (caller self.new.session) (server R.stream self.old).state
@@ -153,8 +153,8 @@ impl<R: Rng> Dav<R> {
             (server R.stream self.old).last changes e
             ⊎ (IsHeld (server R.stream self.old) request.now (server R.stream self.new) e
             ⊎ IsOverladen (server R.stream self.old) request.now (server R.stream self.new) e)) }
-        ensures moment { OnOk result ((server R.stream self.new).last
-            ≡ moment_of changes (server R.stream self.old)) }
+        ensures moment { OnOk result (IsMoment changes (server R.stream self.old)
+            (server R.stream self.new).last) }
         ensures comes { IfErr result (λ e. ComesAt changes (server R.stream self.old) request.now
             (Err e) (server R.stream self.new)) }
         ensures run { RunBy (caller self.new.session) (server R.stream self.old).state

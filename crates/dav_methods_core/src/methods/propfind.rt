@@ -9,6 +9,7 @@ ghost use Rattle.dav_xml_core.specs.Views.{writing_of};
 ghost use Rattle.dav_fields_core.specs.Reaches.{depth_in};
 ghost use Rattle.dav_fields_core.specs.Fields.{sent_behind, sent_of};
 ghost use Rattle.dav_methods_core.specs.PropfindMethod.{DescribesEach, FailsToFind, Finds};
+ghost use Rattle.dav_methods_core.specs.PropfindMethod.{ReachesTo};
 ghost use Rattle.dav_documents_core.specs.Pieces.{written_pieces};
 ghost use Rattle.dav_documents_core.specs.QuestionViews.{question_of};
 ghost use Rattle.dav_methods_core.specs.Private.Telling.{TellsEach, TellsOne};
@@ -39,9 +40,9 @@ use std::alloc::Global;
 /// Tells of what stands at a path, and within the depth below it, and answers 207 (RFC 4918 section
 /// 9.1).
 ///
-/// `BadRequest` for a depth or a body that can't be read, or where a name below it is one that no
-/// path has which is read; `InfiniteDepth` for all the way down, where the server refuses that;
-/// `NotFound` where nothing stands there.
+/// `BadRequest` for a depth or a body that can't be read, or where a name within the depth is one
+/// that no path has which is read; `InfiniteDepth` for all the way down, where the server refuses
+/// that; `NotFound` where nothing stands there.
 pub fn propfind<R: Rng>(
     alloc: Global,
     session: &mut Session<R>,
@@ -72,8 +73,7 @@ pub fn propfind<R: Rng>(
 
 // The depth of a PROPFIND. `InfiniteDepth` for all the way down, where that is refused.
 fn depth_of(finite: bool, headers: &HeaderMap<HeaderValue>) -> Result<Depth, Fault>
-    ensures ok { IfOk result (λ depth. depth_in headers.now ≡ Some depth) }
-    ensures allowed { IfOk result (λ depth. finite ≡ true → depth ≢ reach.Infinity) }
+    ensures ok { IfOk result (λ depth. ReachesTo finite headers.now depth) }
     ensures err { IfErr result (λ e. ((e ≡ fault.BadRequest) × (depth_in headers.now ≡ None))
         ⊎ ((e ≡ fault.InfiniteDepth) × (finite ≡ true)
         × (depth_in headers.now ≡ Some reach.Infinity))) }

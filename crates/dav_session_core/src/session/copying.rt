@@ -5,7 +5,7 @@ ghost use Rattle.dav_resource_core.specs.Requests.{Command as command, Reply};
 ghost use Rattle.dav_resource_core.specs.Step.{Step};
 ghost use Rattle.dav_session_core.specs.Callers.{asking};
 ghost use Rattle.dav_session_core.specs.Copying.{IsCopied, IsPartlyCopied};
-ghost use Rattle.dav_session_core.specs.Copying.{NotCopied};
+ghost use Rattle.dav_session_core.specs.Copying.{NotCopied, copies_made};
 ghost use Rattle.dav_session_core.specs.Sessions.{Acts, caller, live_after, live_of, state};
 ghost use Rattle.dav_faults_core.specs.declared.faults.Fault.TheVariants as fault;
 ghost use Rattle.dav_session_core.specs.Unhindered.{WhereReady, ends_of};
@@ -28,7 +28,8 @@ pub struct Transfer {
 
 impl<R: Rng> Session<R> {
     /// Copies resources one after another (RFC 4918 section 9.8.3). Where these are ready to be
-    /// copied, none of the requests is refused but for memory.
+    /// copied, none of the requests is refused but for memory. What is left is what the copies make
+    /// of the map, one after another.
     ///
     /// `InsufficientStorage` where there is no memory for one of them; those before it are copied
     /// then.
@@ -37,6 +38,9 @@ impl<R: Rng> Session<R> {
             (ends_of transfers.now) (λ deep from to. OnOk result
             (IsCopied (caller self.old).now deep from to (live_of R.stream self.old)
             (live_after R.stream self.old self.new))) }
+        ensures made { OnOk result (copies_made (caller self.old).now (ends_of transfers.now)
+            (live_of R.stream self.old).map
+            ≡ Ok (tt, (live_after R.stream self.old self.new).map)) }
         ensures begun { WhereReady (live_of R.stream self.old) (caller self.old)
             (ends_of transfers.now) (λ deep from to. OnErr result
             (IsPartlyCopied (caller self.old).now deep from to (live_of R.stream self.old)

@@ -2,7 +2,7 @@
 ghost use Rattle.std.specs.Prelude.{◌≡◌, ◌∷◌, [], IfErr, IfOk, IsSome, OnOk};
 ghost use Rattle.dav_path_core.specs.Segments.{segments};
 ghost use Rattle.dav_headers_core.specs.declared.davheaders.depths.Depth.TheVariants as depth_of;
-ghost use Rattle.dav_session_core.specs.DepthPlaces.{AreWithin};
+ghost use Rattle.dav_session_core.specs.DepthPlaces.{AreWithin, HasOddWithin};
 ghost use Rattle.dav_session_core.specs.Placed.{AllStand, IsNowhere};
 ghost use Rattle.dav_session_core.specs.Sessions.{Looks, state};
 ghost use Rattle.dav_session_core.specs.Questions.{LacksAny, found_at};
@@ -30,6 +30,9 @@ impl<R: Rng> Session<R> {
     ) -> Result<Vec<DavPath>, Fault>
         ensures ok { IfOk result (λ places. AreWithin depth (state R.stream self.old).map
             (segments path.bytes) (paths_of places.items)) }
+        ensures plain { OnOk result (¬ HasOddWithin depth (state R.stream self.old).map
+            (segments path.bytes)) }
+        ensures found { OnOk result (IsSome (found_at R.stream self.old path)) }
         ensures stand { IfOk result (λ places. AllStand (state R.stream self.old).map
             (paths_of places.items)) }
         ensures err { IfErr result (λ e. IsNowhere depth (state R.stream self.old).map
@@ -61,6 +64,8 @@ impl<R: Rng> Session<R> {
     fn with_members(&mut self, alloc: Global, path: DavPath) -> Result<Vec<DavPath>, Fault>
         ensures ok { IfOk result (λ places. AreWithin depth_of.One (state R.stream self.old).map
             (segments path.bytes) (paths_of places.items)) }
+        ensures plain { OnOk result (¬ HasOddWithin depth_of.One (state R.stream self.old).map
+            (segments path.bytes)) }
         ensures found { OnOk result (IsSome (found_at R.stream self.old path)) }
         ensures err { IfErr result (λ e. IsNowhere depth_of.One (state R.stream self.old).map
             (segments path.bytes) e) }

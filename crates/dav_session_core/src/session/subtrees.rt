@@ -9,9 +9,9 @@ ghost use Rattle.dav_files_core.specs.declared.memfs.listing.MemFsEntry.{MemFsEn
 ghost use Rattle.dav_files_core.specs.Finding.{has_members};
 ghost use Rattle.dav_files_core.specs.Resources.{ResourceMap, at_path};
 ghost use Rattle.dav_session_core.specs.MemberPaths.{paths_in, paths_of_members};
-ghost use Rattle.dav_session_core.specs.Private.Gathering.{FailsToName, HasOddMember};
+ghost use Rattle.dav_session_core.specs.Private.Gathering.{FailsToName};
 ghost use Rattle.dav_session_core.specs.Sessions.{Looks, state};
-ghost use Rattle.dav_session_core.specs.Subtrees.{IsSubtreeWalk};
+ghost use Rattle.dav_session_core.specs.Subtrees.{HasOddMember, IsSubtreeWalk};
 ghost use Rattle.dav_faults_core.specs.declared.faults.Fault.TheVariants as fault;
 ghost use Rattle.dav_session_core.specs.Questions.{FailsToWalk, found_at};
 ghost use Rattle.dav_session_core.specs.Unhindered.{paths_of};

@@ -1,4 +1,4 @@
-use Rattle.std.proofs.Common.{[], ◌∷◌, ◌++◌, codes, List, ℕ, ap, ◌∙◌}
+use Rattle.std.proofs.Common.{[], ◌∷◌, ◌++◌, List, ℕ, ap, ◌∙◌}
 use Rattle.http_server.specs.Response.{fields_of}
 use Rattle.dav_fields_core.specs.AnswerFields.{allow_field}
 use Rattle.dav_methods_core.proofs.refusals.allow.Goals as goal

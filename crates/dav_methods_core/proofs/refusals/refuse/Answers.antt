@@ -1,1 +1,0 @@
-use Rattle.dav_methods_core.proofs.refusals.refuse.Goals as goal

@@ -1,4 +1,4 @@
-use Rattle.std.proofs.Common.{◌≡◌, ◌≢◌, ℕ, List, Option, None, Some, Err, refl, sym, subst}
+use Rattle.std.proofs.Common.{◌≢◌, ℕ, List, Option, None, Some, Err, refl, sym, subst}
 use Rattle.std.specs.Prelude.{IfErr}
 use Rattle.http.specs.declared.request.Request.{Request}
 use Rattle.dav_path_core.specs.declared.util.DavMethod.{DavMethod}

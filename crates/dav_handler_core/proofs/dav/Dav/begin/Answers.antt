@@ -99,4 +99,8 @@ returns-clause-dated g c = (
 )
 
 pub returns-clause-moment : goal.returns-clause-moment
-returns-clause-moment g c = ap (λ (w : Caller). w.now) c.begin.ensures.caller ∙ c.in_ok-now.ensures.moment
+returns-clause-moment g c = (
+  ap (λ (w : Caller). w.now) c.begin.ensures.caller
+      ∙ c.in_ok-now.ensures.moment.0,
+  c.in_ok-now.ensures.moment.1,
+)

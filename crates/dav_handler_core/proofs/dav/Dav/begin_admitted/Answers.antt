@@ -52,11 +52,16 @@ returns-in_err-admit-clause-comes g c =
       names = start.0;
       from = subst (IsFrom before.options c.args.request.now) (sym c.admit.ensures.looks.who) start.1;
       now = refl;
-    })
-    (ap (λ (w : Caller). w.now) c.admit.ensures.looks.who ∙ c.in_ok-path.ensures.moment))
+    }) (
+      ap (λ (w : Caller). w.now) c.admit.ensures.looks.who ∙ c.in_ok-path.ensures.moment.0,
+      c.in_ok-path.ensures.moment.1,
+    ))
 
 pub returns-clause-moment : goal.returns-clause-moment
-returns-clause-moment g c = ap (λ (w : Caller). w.now) c.admit.ensures.looks.who ∙ c.in_ok-path.ensures.moment
+returns-clause-moment g c = (
+  ap (λ (w : Caller). w.now) c.admit.ensures.looks.who ∙ c.in_ok-path.ensures.moment.0,
+  c.in_ok-path.ensures.moment.1,
+)
 
 pub returns-clause-dated : goal.returns-clause-dated
 returns-clause-dated g c = c.in_ok-path.ensures.dated

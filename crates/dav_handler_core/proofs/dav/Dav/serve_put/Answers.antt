@@ -64,15 +64,24 @@ returns-then-contains_key-clause-comes g c = inl (subst HasPart c.headers.ensure
 pub returns-in_err-path-clause-comes : goal.returns-in_err-path-clause-comes
 returns-in_err-path-clause-comes g c =
     let q = err_from_is_err_and c.from_residual.result c.from_residual.ensures.1 in
-    rw (q.1, q.2) (inr c.in_err-path.ensures.comes)
+    rw (q.1, q.2) (inr (
+      (whole_request c.args.request.now c.headers.result.now c.contains_key.result c.headers.ensures c.contains_key.ensures c.if-contains_key.false),
+      c.in_err-path.ensures.comes,
+    ))
 
 pub returns-in_err-clone-clause-comes : goal.returns-in_err-clone-clause-comes
 returns-in_err-clone-clause-comes g c =
     let mid = server g.R.Rng.stream c.begin_admitted.new.self in
-    inr (comes_on true (server g.R.Rng.stream c.args.self.now) mid mid c.args.request.now _ c.in_ok-path.path (caller c.begin_admitted.new.self.session)
-    refl c.in_ok-path.ensures.ok.0.0 c.in_ok-path.ensures.moment)
+    inr (
+      (whole_request c.args.request.now c.headers.result.now c.contains_key.result c.headers.ensures c.contains_key.ensures c.if-contains_key.false),
+      comes_on true (server g.R.Rng.stream c.args.self.now) mid mid c.args.request.now _ c.in_ok-path.path (caller c.begin_admitted.new.self.session)
+          refl c.in_ok-path.ensures.ok.0.0 c.in_ok-path.ensures.moment,
+    )
 
 pub returns-clause-comes : goal.returns-clause-comes
 returns-clause-comes g c =
-    inr (comes_on true (server g.R.Rng.stream c.args.self.now) (server g.R.Rng.stream c.begin_admitted.new.self) _ c.args.request.now _ c.in_ok-path.path (caller c.begin_admitted.new.self.session)
-    (ap (λ (w : Caller). w.now) c.put.ensures.acts.who) c.in_ok-path.ensures.ok.0.0 c.in_ok-path.ensures.moment)
+    inr (
+      (whole_request c.args.request.now c.headers.result.now c.contains_key.result c.headers.ensures c.contains_key.ensures c.if-contains_key.false),
+      comes_on true (server g.R.Rng.stream c.args.self.now) (server g.R.Rng.stream c.begin_admitted.new.self) _ c.args.request.now _ c.in_ok-path.path (caller c.begin_admitted.new.self.session)
+          (ap (λ (w : Caller). w.now) c.put.ensures.acts.who) c.in_ok-path.ensures.ok.0.0 c.in_ok-path.ensures.moment,
+    )

@@ -1,4 +1,4 @@
-use Rattle.dav_methods_core.proofs.ConditionLaws.{one_truth}
+use Rattle.dav_session_core.proofs.OneConditionLaws.{one_truth}
 use Rattle.dav_methods_core.proofs.conditions.laws.one_truth.Goals as goal
 
 pub returns : goal.returns

@@ -113,4 +113,4 @@ returns-clause-done g c =
     let by = c.clear.ensures.acts.who ∙ c.admitted_plan.ensures.looks.who in
     let there = known_there meta_of (λ (r : Resource). meta_at r.node) c.in_ok-target.field-0.known (at_path start.map (segments plan.to.bytes)) plan.known_is in
     copy_all c.args.site.now c.args.prefix.now c.args.headers.now who start from known gone pairs plan asker b m c.admitted_plan.ensures.looks.who c.admitted_plan.ensures.looks.live c.clear.ensures.acts.run c.clear.ensures.cleared copier after by
-    c.done.result (c.done.ensures ∙ ap (λ b. cond b 204 201) there) c.in_ok-target.ensures.course c.in_ok-copy_all.ensures.copied
+    c.done.result (c.done.ensures ∙ ap (λ b. cond b 204 201) there) c.in_ok-target.ensures.course c.in_ok-copy_all.ensures.copied c.in_ok-copy_all.ensures.made

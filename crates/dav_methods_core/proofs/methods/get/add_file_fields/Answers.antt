@@ -1,4 +1,4 @@
-use Rattle.std.proofs.Common.{◌≡◌, ◌/◌, None, List, ℕ, [], ◌∷◌, ◌++◌, ap, sym, ◌∙◌, subst}
+use Rattle.std.proofs.Common.{◌≡◌, ◌/◌, None, [], ◌∷◌, ◌++◌, ap, sym, ◌∙◌, subst}
 use Rattle.http_header.specs.FieldValue.{IsFieldValue}
 use Rattle.http_server.specs.Response.{fields_of}
 use Rattle.dav_path_core.specs.Segments.{segments}

@@ -1,4 +1,4 @@
-use Rattle.std.proofs.Common.{Ok, Some, None, ◌∙◌, sym, ap, arith}
+use Rattle.std.proofs.Common.{Ok, Some, None, ◌∙◌, sym, ap}
 use Rattle.std.specs.Prelude.{option_map}
 use Rattle.std.proofs.lemmas.Result.{err_from_is_err_and}
 use Rattle.dav_path_core.specs.Segments.{segments}

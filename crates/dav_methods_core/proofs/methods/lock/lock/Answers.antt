@@ -11,7 +11,7 @@ use Rattle.dav_fields_core.specs.RequestRefusals.{IsLastMoment}
 use Rattle.dav_session_core.specs.Sessions as spec
 use Rattle.dav_session_core.proofs.CallerLaws.{by_none}
 use Rattle.dav_session_core.proofs.Looking.{looks_on}
-use Rattle.dav_methods_core.proofs.LockLemmas.{course_by, memory_by, moment_by, room_by, unread_by}
+use Rattle.dav_methods_core.proofs.LockLemmas.{course_by, memory_by, moment_by, not_last, room_by, unread_by}
 use Rattle.dav_methods_core.proofs.LockMethodLemmas.{course_before, done, told_before, leaves, ready, refused}
 use Rattle.dav_methods_core.proofs.Acting.{acts_ran, held_before, looks_act, looks_thrice, ran_on}
 use Rattle.dav_methods_core.proofs.methods.lock.lock.Goals as goal
@@ -51,7 +51,7 @@ returns-in_err-missing-clause-err g c =
     let who = spec.caller c.args.session.now in
     let s = spec.state g.R.Rng.stream c.args.session.now in
     rw (p.1, p.2) (room_by c.args.longest c.args.headers.now c.args.body.now (live who.now s) who c.args.path c.in_err-missing.field-0.0 (wanted_of c.in_ok-wanted.wanted)
-    c.in_ok-wanted.ensures.ok c.in_err-missing.ensures.err)
+    (c.in_ok-wanted.ensures.ok, not_last _ _ c.in_ok-check_moment.ensures.ok c.now.ensures) c.in_err-missing.ensures.err)
 
 pub returns-in_err-check_conditions-clause-err : goal.returns-in_err-check_conditions-clause-err
 returns-in_err-check_conditions-clause-err g c =
@@ -60,7 +60,7 @@ returns-in_err-check_conditions-clause-err g c =
     let at = segments c.args.path.bytes in
     let e = c.in_err-check_conditions.field-0.0 in
     rw (p.1, p.2) (course_by c.args.longest headers c.args.body.now (spec.live_of g.R.Rng.stream c.args.session.now) (spec.caller c.args.session.now) c.args.path e (wanted_of c.in_ok-wanted.wanted)
-    c.in_ok-missing.missing c.in_ok-wanted.ensures.ok c.in_ok-missing.ensures.ok
+    c.in_ok-missing.missing (c.in_ok-wanted.ensures.ok, not_last _ _ c.in_ok-check_moment.ensures.ok c.now.ensures) c.in_ok-missing.ensures.ok
     (held_before (λ w (t : State). (e ≡ fault.InsufficientStorage) ⊎ (change_course method.Lock t.map at headers ≡ Err e)) c.find_room.ensures.looks c.in_err-check_conditions.ensures.err))
 
 pub returns-in_err-check_conditions-clause-left : goal.returns-in_err-check_conditions-clause-left
@@ -99,32 +99,32 @@ grant-requires-clause-ready g c =
     let kept = told_before c.args.path c.in_ok-place.place (looks_on c.find_room.ensures.looks c.check_conditions.ensures.looks) c.in_ok-place.ensures.ok in
     subst (λ (above : List _). IsReadyToLock (spec.live_of g.R.Rng.stream c.tokens_above.new.self) (spec.caller c.tokens_above.new.self) c.in_ok-place.place
     (wanted_of c.in_ok-wanted.wanted) c.in_ok-missing.missing (map string_bytes above)) (sym c.deref.ensures.value)
-    (ready c.args.longest c.args.headers.now c.args.body.now c.args.path (wanted_of c.in_ok-wanted.wanted) c.in_ok-wanted.ensures.ok c.in_ok-missing.missing g.R.Rng.stream
-    c.args.session.now c.in_ok-missing.ensures.ok c.in_ok-place.place kept (map string_bytes c.in_ok-above.above.items) first (looks_on first c.tokens_above.ensures.looks)
+    (ready c.args.longest c.args.headers.now c.args.body.now c.args.path (wanted_of c.in_ok-wanted.wanted) c.in_ok-missing.missing g.R.Rng.stream
+    c.args.session.now (c.in_ok-wanted.ensures.ok, not_last _ _ c.in_ok-check_moment.ensures.ok c.now.ensures) c.in_ok-missing.ensures.ok c.in_ok-place.place kept (map string_bytes c.in_ok-above.above.items) first (looks_on first c.tokens_above.ensures.looks)
     (subst (λ n. n < 2 ^ 64 - 1) c.now.ensures c.in_ok-check_moment.ensures.ok) c.in_ok-above.ensures.ok c.in_ok-above.ensures.only)
 
 pub returns-clause-done : goal.returns-clause-done
 returns-clause-done g c =
     let looks = looks_on (looks_thrice c.find_room.ensures.looks c.check_conditions.ensures.looks c.told_path.ensures.looks) c.tokens_above.ensures.looks in
     let kept = told_before c.args.path c.in_ok-place.place (looks_on c.find_room.ensures.looks c.check_conditions.ensures.looks) c.in_ok-place.ensures.ok in
-    done c.args.longest c.args.headers.now c.args.body.now c.args.path (wanted_of c.in_ok-wanted.wanted) c.in_ok-wanted.ensures.ok c.in_ok-missing.missing g.R.Rng.stream
-    c.args.session.now c.in_ok-missing.ensures.ok c.in_ok-place.place kept (spec.state g.R.Rng.stream c.grant.new.session) looks
+    done c.args.longest c.args.headers.now c.args.body.now c.args.path (wanted_of c.in_ok-wanted.wanted) c.in_ok-missing.missing g.R.Rng.stream
+    c.args.session.now (c.in_ok-wanted.ensures.ok, not_last _ _ c.in_ok-check_moment.ensures.ok c.now.ensures) c.in_ok-missing.ensures.ok c.in_ok-place.place kept (spec.state g.R.Rng.stream c.grant.new.session) looks
     c.args.prefix.now c.grant.result c.args.response.now c.grant.new.response (course_before (segments c.args.path.bytes) c.args.headers.now c.find_room.ensures.looks c.in_ok-check_conditions.ensures.ok) c.grant.ensures.done
 
 pub returns-clause-err : goal.returns-clause-err
 returns-clause-err g c =
     let looks = looks_on (looks_thrice c.find_room.ensures.looks c.check_conditions.ensures.looks c.told_path.ensures.looks) c.tokens_above.ensures.looks in
     let kept = told_before c.args.path c.in_ok-place.place (looks_on c.find_room.ensures.looks c.check_conditions.ensures.looks) c.in_ok-place.ensures.ok in
-    refused c.args.longest c.args.headers.now c.args.body.now c.args.path (wanted_of c.in_ok-wanted.wanted) c.in_ok-wanted.ensures.ok c.in_ok-missing.missing g.R.Rng.stream
-    c.args.session.now c.in_ok-missing.ensures.ok c.in_ok-place.place kept (spec.state g.R.Rng.stream c.grant.new.session) looks
+    refused c.args.longest c.args.headers.now c.args.body.now c.args.path (wanted_of c.in_ok-wanted.wanted) c.in_ok-missing.missing g.R.Rng.stream
+    c.args.session.now (c.in_ok-wanted.ensures.ok, not_last _ _ c.in_ok-check_moment.ensures.ok c.now.ensures) c.in_ok-missing.ensures.ok c.in_ok-place.place kept (spec.state g.R.Rng.stream c.grant.new.session) looks
     c.grant.result (course_before (segments c.args.path.bytes) c.args.headers.now c.find_room.ensures.looks c.in_ok-check_conditions.ensures.ok) c.grant.ensures.err
 
 pub returns-clause-left : goal.returns-clause-left
 returns-clause-left g c =
     let looks = looks_on (looks_thrice c.find_room.ensures.looks c.check_conditions.ensures.looks c.told_path.ensures.looks) c.tokens_above.ensures.looks in
     let kept = told_before c.args.path c.in_ok-place.place (looks_on c.find_room.ensures.looks c.check_conditions.ensures.looks) c.in_ok-place.ensures.ok in
-    leaves c.args.longest c.args.headers.now c.args.body.now c.args.path (wanted_of c.in_ok-wanted.wanted) c.in_ok-wanted.ensures.ok c.in_ok-missing.missing g.R.Rng.stream
-    c.args.session.now c.in_ok-missing.ensures.ok c.in_ok-place.place kept (spec.state g.R.Rng.stream c.grant.new.session) looks
+    leaves c.args.longest c.args.headers.now c.args.body.now c.args.path (wanted_of c.in_ok-wanted.wanted) c.in_ok-missing.missing g.R.Rng.stream
+    c.args.session.now (c.in_ok-wanted.ensures.ok, not_last _ _ c.in_ok-check_moment.ensures.ok c.now.ensures) c.in_ok-missing.ensures.ok c.in_ok-place.place kept (spec.state g.R.Rng.stream c.grant.new.session) looks
     c.grant.result c.grant.ensures.left
 
 pub returns-clause-ran : goal.returns-clause-ran

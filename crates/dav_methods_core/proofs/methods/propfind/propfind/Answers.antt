@@ -1,4 +1,4 @@
-use Rattle.std.proofs.Common.{ℕ, List, [], ◌∷◌, codes, ◌++◌, map, refl, sym, ap, ◌∙◌, subst}
+use Rattle.std.proofs.Common.{List, map, refl, sym, ap, ◌∙◌, subst}
 use Rattle.std.proofs.lemmas.Result.{err_from_is_err_and}
 use Rattle.dav_path_core.specs.PathText.{PathText}
 use Rattle.dav_path_core.specs.Segments.{segments}
@@ -28,10 +28,11 @@ returns-clause-done g c =
       refl,
       record {
         depth = c.in_ok-depth.depth;
-        depth_is = c.in_ok-depth.ensures.ok;
-        allowed = c.in_ok-depth.ensures.allowed;
+        reaches = c.in_ok-depth.ensures.ok;
         question = question;
         question_is = c.in_ok-question.ensures.ok;
+        stands = c.in_ok-places.ensures.found;
+        plain = c.in_ok-places.ensures.plain;
         places = map (λ p. segments p.bytes) c.in_ok-places.places.items;
         within = c.in_ok-places.ensures.ok;
         resources = told.0;

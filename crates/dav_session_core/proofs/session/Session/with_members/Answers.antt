@@ -14,7 +14,7 @@ use Rattle.dav_session_core.proofs.session.Session.with_members.Goals as goal
 pub returns-in_err-members-clause-err : goal.returns-in_err-members-clause-err
 returns-in_err-members-clause-err g c =
     let q = err_from_is_err_and c.from_residual-in_err-members.result c.from_residual-in_err-members.ensures.1 in
-    rw (q.1, q.2) (nowhere_odd depth.One (spec.state g.R.Rng.stream c.args.self.now).map (spec.state g.R.Rng.stream c.place_alone.new.self).map (segments c.args.path.bytes)
+    rw (q.1, q.2) (nowhere_odd (spec.state g.R.Rng.stream c.args.self.now).map (spec.state g.R.Rng.stream c.place_alone.new.self).map (segments c.args.path.bytes)
     c.in_err-members.field-0.0 (ap (λ (s : State). s.map) c.place_alone.ensures.looks.live) c.in_err-members.ensures.err)
 
 pub returns-clause-ok : goal.returns-clause-ok

@@ -45,9 +45,9 @@ use Rattle.dav_methods_core.proofs.PutAlikeLaws.{puts_once}
 use Rattle.dav_methods_core.proofs.RefreshAlikeLaws.{refresh_refusals_alike, refreshed_or_not, refreshes_once}
 use Rattle.dav_methods_core.proofs.SameFaultLemmas.{IsShort, equal_alike}
 use Rattle.dav_methods_core.proofs.StageLemmas.{AllAlike}
-use Rattle.dav_handler_core.specs.MethodAnswers.{BareAnswers, Begins, ChangeAnswers, CopyAnswers, FindAnswers, GetAnswers, IsPut, IsWhole, LockAnswers, MoveAnswers, PatchAnswers, PutAnswers, RefusesBody, has_body}
+use Rattle.dav_handler_core.specs.MethodAnswers.{Admits, BareAnswers, Begins, ChangeAnswers, CopyAnswers, FindAnswers, GetAnswers, HoldsOff, IsPut, IsWhole, LockAnswers, MoveAnswers, PatchAnswers, PutAnswers, RefusesBody, has_body}
 use Rattle.dav_handler_core.specs.Server.{Server, site_for}
-use Rattle.dav_handler_core.proofs.OneEndLaws.{AreOne, Ends, EndsWell, IsDoneOnce, at, ends_once}
+use Rattle.dav_handler_core.proofs.OneEndLaws.{AreOne, EndsBadly, Ends, EndsWell, IsDoneOnce, at, ends_once}
 
 -- ---- results
 
@@ -101,6 +101,31 @@ module _ (before : Server) (request : Request (List ℕ)) (is_map : IsResourceMa
       → Begins before request (at before end.last) path who
   begins_at end path who h = record { names = h.names; from = h.from; now = h.now }
 
+  -- a request that is done, or refused, as it came at the moment of a server that is left
+  well : (changes : Bool) (Does : ℕ → Caller → PathText → ℕ → Type 0) (end : Server) (status : ℕ)
+      (path : PathText) (who : Caller) → Begins before request end path who
+      → Admits before request end path → Does end.last who path status
+      → EndsWell before request changes end.last Does status
+  well changes Does end status path who begins admits does = record {
+    path = path;
+    who = who;
+    begins = begins_at end path who begins;
+    admits = admits;
+    does = does;
+  }
+
+  badly : (changes : Bool) (Refuses : ℕ → Caller → PathText → Fault → Type 0) (end : Server)
+      (e : Fault) (path : PathText) (who : Caller) → Begins before request end path who
+      → HoldsOff before request end path e
+      ⊎ (Admits before request end path × Refuses end.last who path e)
+      → EndsBadly before request changes end.last Refuses e
+  badly changes Refuses end e path who begins why = record {
+    path = path;
+    who = who;
+    begins = begins_at end path who begins;
+    why = why;
+  }
+
   -- ---- methods that change something
 
   module _ (changes : Bool) (Refuses : State → Caller → Path → Fault → Type 0) where
@@ -114,20 +139,11 @@ module _ (before : Server) (request : Request (List ℕ)) (is_map : IsResourceMa
     change_ends : (Does : State → Caller → Path → ℕ → State → Type 0) (end : Server)
         (result : Result ℕ Fault) → ChangeAnswers changes Does Refuses before request result end
         → Ends before request changes end.last (DoneBy Does end.state) Refused result
-    change_ends Does end (Ok status) h = record {
-      path = h.path;
-      who = h.who;
-      begins = begins_at end h.path h.who h.begins;
-      admits = h.admits;
-      does = h.does;
-    }
+    change_ends Does end (Ok status) h =
+        well changes (DoneBy Does end.state) end status h.path h.who h.begins h.admits h.does
     change_ends Does end (Err e) (inl unread) = inl unread
-    change_ends Does end (Err e) (inr h) = inr (record {
-      path = h.path;
-      who = h.who;
-      begins = begins_at end h.path h.who h.begins;
-      why = h.why;
-    })
+    change_ends Does end (Err e) (inr h) =
+        inr (badly changes Refused end e h.path h.who h.begins h.why)
 
     change_once : (Does Also : State → Caller → Path → ℕ → State → Type 0) (Left : Type 0)
         → (changes ≡ true → ¬ IsLastMoment before.last) → other.last ≡ after.last
@@ -222,20 +238,11 @@ module _ (before : Server) (request : Request (List ℕ)) (is_map : IsResourceMa
     get_ends : (end : Server) (own : Sent) (result : Result ℕ Fault)
         → GetAnswers m before request result own end
         → Ends before request false end.last (GetsHere own) FailsHere result
-    get_ends end own (Ok status) h = record {
-      path = h.path;
-      who = h.who;
-      begins = begins_at end h.path h.who h.begins;
-      admits = h.admits;
-      does = h.gets;
-    }
+    get_ends end own (Ok status) h =
+        well false (GetsHere own) end status h.path h.who h.begins h.admits h.gets
     get_ends end own (Err e) (inl unread) = inl unread
-    get_ends end own (Err e) (inr h) = inr (record {
-      path = h.path;
-      who = h.who;
-      begins = begins_at end h.path h.who h.begins;
-      why = h.why;
-    })
+    get_ends end own (Err e) (inr h) =
+        inr (badly false FailsHere end e h.path h.who h.begins h.why)
 
     pub gets_here : (own told : Sent) → other.last ≡ after.last → (result also : Result ℕ Fault)
         → GetAnswers m before request result own after
@@ -301,24 +308,19 @@ module _ (before : Server) (request : Request (List ℕ)) (is_map : IsResourceMa
 
     put_well : (end : Server) (own : Sent) (status : ℕ) → IsPut before request status own end
         → EndsWell before request true end.last (PutsHere own end.state) status
-    put_well end own status h = record {
-      path = h.path;
-      who = h.who;
-      begins = begins_at end h.path h.who h.begins;
-      admits = h.admits;
-      does = record {
-        writes = record {
-          status_is = h.status_is;
-          course = h.course;
-          free = h.free;
-          puts = subst (λ n. Puts before.state n (segments h.path.bytes) body end.state)
-              (sym h.begins.now) h.puts;
-        };
-        file = h.puts.file;
-        here = h.puts.here;
-        tells = h.tells;
-      };
-    }
+    put_well end own status h =
+        well true (PutsHere own end.state) end status h.path h.who h.begins h.admits (record {
+          writes = record {
+            status_is = h.status_is;
+            course = h.course;
+            free = h.free;
+            puts = subst (λ n. Puts before.state n (segments h.path.bytes) body end.state)
+                (sym h.begins.now) h.puts;
+          };
+          file = h.puts.file;
+          here = h.puts.here;
+          tells = h.tells;
+        })
 
     put_ends : (end : Server) (own : Sent) (result : Result ℕ Fault) → IsWhole request
         → PutAnswers before request result own end
@@ -326,12 +328,8 @@ module _ (before : Server) (request : Request (List ℕ)) (is_map : IsResourceMa
     put_ends end own (Ok status) whole h = put_well end own status h.1
     put_ends end own (Err e) whole (inl part) = absurd (whole part.0)
     put_ends end own (Err e) whole (inr (is, inl unread)) = inl unread
-    put_ends end own (Err e) whole (inr (is, inr h)) = inr (record {
-      path = h.path;
-      who = h.who;
-      begins = begins_at end h.path h.who h.begins;
-      why = h.why;
-    })
+    put_ends end own (Err e) whole (inr (is, inr h)) =
+        inr (badly true FailsPut end e h.path h.who h.begins h.why)
 
     put_once : (own told : Sent) (n : ℕ) (path : PathText) (who : Caller)
         → IsDoneOnce (PutsHere own after.state n who path) (PutsHere told other.state n who path)
@@ -422,20 +420,12 @@ module _ (before : Server) (request : Request (List ℕ)) (is_map : IsResourceMa
       → PatchAnswers before request result own end
       → Ends before request false end.last (PatchesHere before.options.prefix own end.state)
       (FailsPatch before.options.prefix) result
-  patch_ends end own (Ok status) h = record {
-    path = h.path;
-    who = h.who;
-    begins = begins_at end h.path h.who h.begins;
-    admits = h.admits;
-    does = h.patches;
-  }
+  patch_ends end own (Ok status) h =
+      well false (PatchesHere before.options.prefix own end.state) end status h.path h.who h.begins
+      h.admits h.patches
   patch_ends end own (Err e) (inl unread) = inl unread
-  patch_ends end own (Err e) (inr h) = inr (record {
-    path = h.path;
-    who = h.who;
-    begins = begins_at end h.path h.who h.begins;
-    why = h.why;
-  })
+  patch_ends end own (Err e) (inr h) =
+      inr (badly false (FailsPatch before.options.prefix) end e h.path h.who h.begins h.why)
 
   pub patch_here : (own told : Sent) → other.last ≡ after.last → (result also : Result ℕ Fault)
       → PatchAnswers before request result own after
@@ -512,23 +502,16 @@ module _ (before : Server) (request : Request (List ℕ)) (is_map : IsResourceMa
       → Ends before request (has_body request) end.last
       (LocksHere before.options.longest before.options.prefix own end.state)
       (FailsLocks before.options.longest before.options.prefix) result
-  lock_ends end own (Ok status) h = record {
-    path = h.path;
-    who = h.who;
-    begins = begins_at end h.path h.who h.begins;
-    admits = h.admits;
-    does = elim h.locks [
-      | inl granted ↦ inl (granted.1, granted.2)
-      | inr refreshed ↦ inr refreshed
-    ];
-  }
+  lock_ends end own (Ok status) h =
+      well (has_body request) (LocksHere before.options.longest before.options.prefix own end.state)
+      end status h.path h.who h.begins h.admits (elim h.locks [
+        | inl granted ↦ inl (granted.1, granted.2)
+        | inr refreshed ↦ inr refreshed
+      ])
   lock_ends end own (Err e) (inl unread) = inl unread
-  lock_ends end own (Err e) (inr h) = inr (record {
-    path = h.path;
-    who = h.who;
-    begins = begins_at end h.path h.who h.begins;
-    why = h.why;
-  })
+  lock_ends end own (Err e) (inr h) =
+      inr (badly (has_body request) (FailsLocks before.options.longest before.options.prefix) end e
+      h.path h.who h.begins h.why)
 
   pub lock_here : (own told : Sent) → (has_body request ≡ true → ¬ IsLastMoment before.last)
       → other.last ≡ after.last → (result also : Result ℕ Fault)

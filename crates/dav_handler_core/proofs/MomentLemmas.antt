@@ -1,5 +1,7 @@
 -- At which moment a request comes.
-use Rattle.std.proofs.Common.{◌≡◌, inl, inr, ℕ, Bool, true, false, List, Option, Some, Result, Err, refl, ◌∙◌}
+use Rattle.std.proofs.Common.{◌≡◌, ◌<◌, ◌≤◌, ◌+◌, inl, inr, ℕ, Bool, true, false, List, Option, Some, Result, Err, refl, ◌∙◌, arith}
+use Rattle.std.proofs.lemmas.Bool.{false≢true}
+use Rattle.std.proofs.Math.Nat.{le-max_left}
 use Rattle.http.specs.declared.request.Request.{Request}
 use Rattle.dav_path_core.specs.declared.util.DavMethod.{DavMethod}
 use Rattle.dav_path_core.specs.declared.util.DavMethod.TheVariants as method
@@ -13,6 +15,20 @@ use Rattle.dav_handler_core.specs.RequestMoments.{Comes, ComesAt, IsMoment}
 use Rattle.dav_handler_core.specs.RequestMoments.ComesAt.{begun, unread}
 use Rattle.dav_handler_core.specs.Server.{Server}
 use Rattle.dav_handler_core.proofs.AnswerLemmas.{begins_on}
+
+-- the moment at which a request comes isn't before the last one
+pub not_before : (changes : Bool) (before : Server) (moment : ℕ) → IsMoment changes before moment
+    → before.last ≤ moment
+not_before true before moment at =
+    omega (arith, at.0, le-max_left (before.last + 1) before.clock)
+not_before false before moment at = omega (arith, at.0, le-max_left before.last before.clock)
+
+-- and that of a change is behind it
+pub behind_last : (changes : Bool) (before : Server) (moment : ℕ) → IsMoment changes before moment
+    → changes ≡ true → before.last < moment
+behind_last true before moment at is =
+    omega (arith, at.0, le-max_left (before.last + 1) before.clock)
+behind_last false before moment at is = absurd (false≢true is)
 
 -- a request that was begun comes at its moment, whatever its method makes of it
 pub comes_on : (changes : Bool) (before mid after : Server) (request : Request (List ℕ)) (result : Result ℕ Fault) (path : PathText) (who : Caller) → after.last ≡ mid.last

@@ -4,10 +4,14 @@ use Rattle.std.specs.Prelude.{IfErr, IfOk, OnOk, bytes_eq, if◌then◌else◌}
 use Rattle.http.specs.declared.request.Request.{Request}
 use Rattle.http.specs.Request.{head_of}
 use Rattle.http_server.specs.declared.response.Response.{Response}
+use Rattle.http_header.specs.FieldValue.{FieldValue}
+use Rattle.http_header.specs.HeaderMap.{Entries}
 use Rattle.dav_path_core.specs.declared.util.DavMethod.{DavMethod}
 use Rattle.dav_path_core.specs.declared.util.DavMethod.TheVariants as method
 use Rattle.dav_path_core.specs.Methods.{word}
+use Rattle.dav_path_core.specs.Fronts.{Path}
 use Rattle.dav_files_core.specs.Resources.{IsResourceMap}
+use Rattle.dav_resource_core.specs.Step.{State}
 use Rattle.dav_faults_core.specs.Faults.{fault_status}
 use Rattle.dav_faults_core.specs.declared.faults.Fault.{Fault}
 use Rattle.dav_faults_core.specs.declared.faults.Fault.TheVariants as fault
@@ -17,19 +21,19 @@ use Rattle.dav_fields_core.specs.Fields.{Field, Sent, nothing_sent, sent_behind,
 use Rattle.dav_fields_core.specs.RequestRefusals.{IsLastMoment}
 use Rattle.dav_fields_core.proofs.DateTextLemmas.{date_once}
 use Rattle.dav_fields_core.proofs.OneDestinationLaws.{one_destination}
-use Rattle.dav_session_core.specs.Callers.{SameLive, live}
+use Rattle.dav_session_core.specs.Callers.{Caller, SameLive, live}
 use Rattle.dav_methods_core.specs.CreatedPlaces.{TellsPlace, place_fields}
 use Rattle.dav_methods_core.specs.DeleteMethod.{FailsToRemove, Removes}
 use Rattle.dav_methods_core.specs.MkcolMethod.{FailsToMake, Makes}
 use Rattle.dav_methods_core.specs.RefusalAnswers.{TellsWhy, refusal_sent}
-use Rattle.dav_methods_core.specs.SameFaults.{AreAlike}
+use Rattle.dav_methods_core.specs.SameFaults.{AreAlike, IsDetermined}
 use Rattle.dav_methods_core.specs.UnlockMethod.{FailsToUnlock, Unlocks}
 use Rattle.dav_methods_core.proofs.DeleteAlikeLaws.{removes_once}
 use Rattle.dav_methods_core.proofs.MkcolAlikeLaws.{makes_once}
 use Rattle.dav_methods_core.proofs.SameFaultLemmas.{IsShort, equal_alike}
 use Rattle.dav_methods_core.proofs.UnlockAlikeLaws.{unlocks_once}
 use Rattle.dav_handler_core.specs.Answers.{Answers, AnswersTo, IsMethod, Leaves, SendsBehind, SendsOwn, status_of}
-use Rattle.dav_handler_core.specs.MethodAnswers.{IsWhole, PutAnswers, has_body}
+use Rattle.dav_handler_core.specs.MethodAnswers.{BareAnswers, IsWhole, PutAnswers, has_body}
 use Rattle.dav_handler_core.specs.RequestMoments.{Comes, ComesAt, answer_moment, may_change}
 use Rattle.dav_handler_core.specs.SameAnswers.{AreOneAnswer, LacksMemory, as_left}
 use Rattle.dav_handler_core.specs.Server.{Server, site_for}
@@ -210,44 +214,56 @@ module _ (before : Server) (request : Request (List ℕ)) (is_map : IsResourceMa
           (puts_here before request is_map after other own told early last first.0 result also h.done
           k.done))
 
+  -- a method that only looks
+  look_end : ComesAt false before request result after → ComesAt false before request also other
+      → SameLive after.last before.state after.state
+      → SameLive other.last before.state other.state
+      → (other.last ≡ after.last → AreOne result also (own ≡ told)) → Outcome
+  look_end h k left also_left one =
+      by_moment false h k (λ early last. another_left result also _ _
+      (λ same. (same, unchanged before request is_map after other last left also_left)) (one last))
+
+  -- a method that takes no body and tells nothing of its own
+  bare_end : (changes : Bool) (Does : State → Caller → Path → ℕ → State → Type 0)
+      (Refuses : State → Caller → Path → Fault → Type 0)
+      → ((s : State) (who : Caller) (p : Path) → IsResourceMap s.map
+      → IsDetermined (Does s who p) (Refuses s who p))
+      → ComesAt changes before request result after → ComesAt changes before request also other
+      → BareAnswers changes Does Refuses before request result after
+      → BareAnswers changes Does Refuses before request also other
+      → OnOk result (own ≡ nothing_sent) → OnOk also (told ≡ nothing_sent) → Outcome
+  bare_end changes Does Refuses law comes also_comes done also_done sends also_sends =
+      by_moment changes comes also_comes (λ early last. bare_told
+      (bare before request is_map after other changes Does Refuses
+      (λ s who p shape. leaves_by before request is_map after other who.now _ _
+      (law s who p shape)) early last result also done also_done) sends also_sends)
+
+  abbrev headers : Entries FieldValue
+  headers = (head_of request).headers
+
   one_end : (m : Option DavMethod) → By before request m result own after
       → By before request m also told other → Outcome
   one_end (Some method.Get) h k =
-      by_moment false h.comes k.comes (λ early last. another_left result also _ _
-      (λ same. (same, unchanged before request is_map after other last h.done.1 k.done.1))
-      (gets_here before request is_map after other method.Get own told last result also h.done.0
-      k.done.0))
+      look_end h.comes k.comes h.done.1 k.done.1 (λ last.
+      gets_here before request is_map after other method.Get own told last result also h.done.0
+      k.done.0)
   one_end (Some method.Head) h k =
-      by_moment false h.comes k.comes (λ early last. another_left result also _ _
-      (λ same. (same, unchanged before request is_map after other last h.done.1 k.done.1))
-      (gets_here before request is_map after other method.Head own told last result also h.done.0
-      k.done.0))
+      look_end h.comes k.comes h.done.1 k.done.1 (λ last.
+      gets_here before request is_map after other method.Head own told last result also h.done.0
+      k.done.0)
   one_end (Some method.PropFind) h k =
-      by_moment false h.comes k.comes (λ early last. another_left result also _ _
-      (λ same. (same, unchanged before request is_map after other last h.done.1 k.done.1))
-      (finds_here before request is_map after other own told last result also h.done.0 k.done.0))
+      look_end h.comes k.comes h.done.1 k.done.1 (λ last.
+      finds_here before request is_map after other own told last result also h.done.0 k.done.0)
   one_end (Some method.Put) h k = one_put h k
   one_end (Some method.Delete) h k =
-      by_moment true h.comes k.comes (λ early last. bare_told
-      (bare before request is_map after other true (Removes (head_of request).headers)
-      (FailsToRemove (head_of request).headers)
-      (λ s who p shape. leaves_by before request is_map after other who.now _ _
-      (removes_once (head_of request).headers s who p shape)) early last result also h.done k.done)
-      h.sends k.sends)
+      bare_end true (Removes headers) (FailsToRemove headers) (removes_once headers) h.comes k.comes
+      h.done k.done h.sends k.sends
   one_end (Some method.MkCol) h k =
-      by_moment true h.comes k.comes (λ early last. bare_told
-      (bare before request is_map after other true (Makes (head_of request).headers)
-      (FailsToMake (head_of request).headers)
-      (λ s who p shape. leaves_by before request is_map after other who.now _ _
-      (makes_once (head_of request).headers s who p)) early last result also h.done k.done)
-      h.sends k.sends)
+      bare_end true (Makes headers) (FailsToMake headers)
+      (λ s who p shape. makes_once headers s who p) h.comes k.comes h.done k.done h.sends k.sends
   one_end (Some method.Unlock) h k =
-      by_moment false h.comes k.comes (λ early last. bare_told
-      (bare before request is_map after other false (Unlocks (head_of request).headers)
-      (FailsToUnlock (head_of request).headers)
-      (λ s who p shape. leaves_by before request is_map after other who.now _ _
-      (unlocks_once (head_of request).headers s who p)) early last result also h.done k.done)
-      h.sends k.sends)
+      bare_end false (Unlocks headers) (FailsToUnlock headers)
+      (λ s who p shape. unlocks_once headers s who p) h.comes k.comes h.done k.done h.sends k.sends
   one_end (Some method.Copy) h k =
       by_moment true h.comes k.comes (λ early last. place_told
       (copies_here before request is_map after other early last result also h.done k.done)

@@ -10,7 +10,7 @@ ghost use Rattle.dav_session_core.specs.Sessions.{caller};
 ghost use Rattle.dav_handler_core.specs.Answers.{MayDo};
 ghost use Rattle.dav_handler_core.specs.MethodAnswers.{Admits, Unread};
 ghost use Rattle.dav_handler_core.specs.Private.Begun.{IsBegun, IsHeld, IsOverladen};
-ghost use Rattle.dav_handler_core.specs.RequestMoments.{ComesAt, IsMoment, answer_moment};
+ghost use Rattle.dav_handler_core.specs.RequestMoments.{ComesAt, IsMoment, answer_moment, moment_of};
 ghost use Rattle.dav_handler_core.specs.Server.{IsFrom, Names};
 ghost use Rattle.dav_handler_core.specs.ServerViews.{IsDated, Unchanged, server};
 
@@ -32,7 +32,9 @@ impl<R: Rng> Dav<R> {
     // The moment that an answer is dated by: the clock's, but not before the last one's, and behind
     // it for a change.
     pub(super) fn answer_moment(&self, changes: bool) -> Moment
-        ensures { result.0 ≡ answer_moment changes (server R.stream self.now) }
+        ensures capped { result.0 ≡ answer_moment changes (server R.stream self.now) }
+        ensures exact { (changes ≡ true → ¬ IsLastMoment (server R.stream self.now).last)
+            → result.0 ≡ moment_of changes (server R.stream self.now) }
     {
         let last = self.session.now().0;
         if changes {
@@ -43,20 +45,14 @@ impl<R: Rng> Dav<R> {
 
     // The moment of a request. `ServiceUnavailable` where none is left for a change.
     fn moment(&self, changes: bool) -> Result<Moment, Fault>
-        ensures ok { IfOk result (λ moment. ((server R.stream self.now).last ≤ moment.0)
-            × (changes ≡ true → (server R.stream self.now).last < moment.0)) }
-        ensures moment { IfOk result (λ moment. IsMoment changes (server R.stream self.now)
-            moment.0) }
+        ensures ok { IfOk result (λ moment. IsMoment changes (server R.stream self.now) moment.0) }
         ensures err { IfErr result (λ e. (e ≡ fault.ServiceUnavailable) × (changes ≡ true)
             × IsLastMoment (server R.stream self.now).last) }
     {
-        let last = self.session.now().0;
-        let least = if changes {
-            last.checked_add(1).ok_or(Fault::ServiceUnavailable)?
-        } else {
-            last
-        };
-        Ok(Moment(least.max(self.clock.0)))
+        if changes && self.session.now().0 == u64::MAX {
+            return Err(Fault::ServiceUnavailable);
+        }
+        Ok(self.answer_moment(changes))
     }
 
     // Names the caller of a request, says the answer's date, and answers the path of its target.

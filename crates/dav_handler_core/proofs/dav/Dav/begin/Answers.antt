@@ -1,5 +1,5 @@
 use Rattle.dav_fields_core.specs.AnswerFields.{date_field}
-use Rattle.std.proofs.Common.{◌≡◌, ◌<◌, ◌⊎◌, [], ◌∷◌, ◌++◌, ◌∙◌, sym, ap, subst, option_map, map, string_bytes}
+use Rattle.std.proofs.Common.{◌≡◌, ◌<◌, ◌≤◌, ◌⊎◌, [], ◌∷◌, ◌++◌, ◌∙◌, sym, ap, subst, option_map, map, string_bytes}
 use Rattle.std.proofs.lemmas.Result.{err_from_is_err_and}
 use Rattle.http.specs.Request.{head_of}
 use Rattle.http_header.specs.FieldValue.{FieldValue}
@@ -10,9 +10,10 @@ use Rattle.dav_fields_core.specs.Bases.{Site, site_of}
 use Rattle.dav_fields_core.specs.RequestRefusals.{RefusesTarget, RefusesPrincipal, HasBadIf}
 use Rattle.dav_fields_core.specs.Senders.{NamesPrincipal, Submits}
 use Rattle.dav_handler_core.specs.Server.{site_for}
-use Rattle.dav_handler_core.specs.ServerViews.{options_of}
+use Rattle.dav_handler_core.specs.ServerViews.{options_of, server}
 use Rattle.dav_fields_core.specs.Targets.{IsTargetOf}
 use Rattle.dav_handler_core.proofs.AnswerLemmas.{by_memory, by_target, by_principal, by_tokens, by_moment}
+use Rattle.dav_handler_core.proofs.MomentLemmas.{behind_last, not_before}
 use Rattle.dav_handler_core.proofs.dav.Dav.begin.Goals as goal
 
 -- what holds of a site and of headers holds of the request whose these are
@@ -32,7 +33,8 @@ returns-clause-ok g c = (
         c.headers-2.result.now (head_of c.args.request.now).headers
         (c.of-site.ensures ∙ ap (site_of c.args.self.now.settings.scheme) c.uri-2.ensures) c.headers-2.ensures c.in_ok-tokens.ensures.ok;
   }),
-  λ changes. subst (λ n. c.args.self.now.session.request.now.0 < n) (sym (ap (λ (w : Caller). w.now) c.begin.ensures.caller)) (c.in_ok-now.ensures.ok.1 changes),
+  λ changes. subst (λ n. c.args.self.now.session.request.now.0 < n) (sym (ap (λ (w : Caller). w.now) c.begin.ensures.caller))
+      (behind_last c.args.changes (server g.R.Rng.stream c.args.self.now) c.in_ok-now.now.0 c.in_ok-now.ensures.ok changes),
 )
 
 pub returns-in_err-path-clause-err : goal.returns-in_err-path-clause-err
@@ -101,6 +103,11 @@ returns-clause-dated g c = (
 pub returns-clause-moment : goal.returns-clause-moment
 returns-clause-moment g c = (
   ap (λ (w : Caller). w.now) c.begin.ensures.caller
-      ∙ c.in_ok-now.ensures.moment.0,
-  c.in_ok-now.ensures.moment.1,
+      ∙ c.in_ok-now.ensures.ok.0,
+  c.in_ok-now.ensures.ok.1,
 )
+
+pub returns-clause-moments : goal.returns-clause-moments
+returns-clause-moments g c =
+    subst (λ n. c.args.self.now.session.request.now.0 ≤ n) (sym (ap (λ (w : Caller). w.now) c.begin.ensures.caller))
+    (not_before c.args.changes (server g.R.Rng.stream c.args.self.now) c.in_ok-now.now.0 c.in_ok-now.ensures.ok)

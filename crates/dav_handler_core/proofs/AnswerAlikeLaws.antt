@@ -70,7 +70,8 @@ with_own (Ok status) (Err f) Left Says own other one h k once = one
 with_own (Err e) (Ok code) Left Says own other one h k once = one
 with_own (Err e) (Err f) Left Says own other one h k once = one
 
-pub said : (result : Result ℕ Fault) (Says : Type 0) → OnOk result Says → IfOk result (λ status. Says)
+pub said : (result : Result ℕ Fault) (Says : Type 0) → OnOk result Says
+    → IfOk result (λ status. Says)
 said (Ok status) Says h = h
 said (Err e) Says h = tt
 
@@ -248,8 +249,8 @@ module _ (before : Server) (request : Request (List ℕ)) (is_map : IsResourceMa
         → GetAnswers m before request result own after
         → GetAnswers m before request also told other → AreOne result also (own ≡ told)
     gets_here own told one result also h k =
-        ends_once before request false after.last (λ is. absurd (false≢true is)) (GetsHere own) (GetsHere told)
-        FailsHere (own ≡ told) (λ path who now. record {
+        ends_once before request false after.last (λ is. absurd (false≢true is)) (GetsHere own)
+        (GetsHere told) FailsHere (own ≡ told) (λ path who now. record {
           done = λ status code g r.
               gets_once m before.state.map path headers status code own told g r;
           either = λ status e g. gets_or_not m before.state.map path headers status own g e;
@@ -295,80 +296,79 @@ module _ (before : Server) (request : Request (List ℕ)) (is_map : IsResourceMa
 
   -- ---- PUT
 
-  module _ where
-    record PutsHere (own : Sent) (left : State) (n : ℕ) (who : Caller) (path : PathText)
-        (status : ℕ) : Type 0 where
-      writes : Writes headers before.state who (segments path.bytes) body status left
-      file : Resource
-      here : at_path left.map (segments path.bytes) ≡ Some file
-      tells : own ≡ record { fields = tag_field (tag_of file) ∷ []; body = [] }
+  record PutsHere (own : Sent) (left : State) (n : ℕ) (who : Caller) (path : PathText)
+      (status : ℕ) : Type 0 where
+    writes : Writes headers before.state who (segments path.bytes) body status left
+    file : Resource
+    here : at_path left.map (segments path.bytes) ≡ Some file
+    tells : own ≡ record { fields = tag_field (tag_of file) ∷ []; body = [] }
 
-    abbrev FailsPut : ℕ → Caller → PathText → Fault → Type 0
-    FailsPut n who path e = FailsToPut before.state who (segments path.bytes) body headers e
+  abbrev FailsPut : ℕ → Caller → PathText → Fault → Type 0
+  FailsPut n who path e = FailsToPut before.state who (segments path.bytes) body headers e
 
-    put_well : (end : Server) (own : Sent) (status : ℕ) → IsPut before request status own end
-        → EndsWell before request true end.last (PutsHere own end.state) status
-    put_well end own status h =
-        well true (PutsHere own end.state) end status h.path h.who h.begins h.admits (record {
-          writes = record {
-            status_is = h.status_is;
-            course = h.course;
-            free = h.free;
-            puts = subst (λ n. Puts before.state n (segments h.path.bytes) body end.state)
-                (sym h.begins.now) h.puts;
-          };
-          file = h.puts.file;
-          here = h.puts.here;
-          tells = h.tells;
-        })
+  put_well : (end : Server) (own : Sent) (status : ℕ) → IsPut before request status own end
+      → EndsWell before request true end.last (PutsHere own end.state) status
+  put_well end own status h =
+      well true (PutsHere own end.state) end status h.path h.who h.begins h.admits (record {
+        writes = record {
+          status_is = h.status_is;
+          course = h.course;
+          free = h.free;
+          puts = subst (λ n. Puts before.state n (segments h.path.bytes) body end.state)
+              (sym h.begins.now) h.puts;
+        };
+        file = h.puts.file;
+        here = h.puts.here;
+        tells = h.tells;
+      })
 
-    put_ends : (end : Server) (own : Sent) (result : Result ℕ Fault) → IsWhole request
-        → PutAnswers before request result own end
-        → Ends before request true end.last (PutsHere own end.state) FailsPut result
-    put_ends end own (Ok status) whole h = put_well end own status h.1
-    put_ends end own (Err e) whole (inl part) = absurd (whole part.0)
-    put_ends end own (Err e) whole (inr (is, inl unread)) = inl unread
-    put_ends end own (Err e) whole (inr (is, inr h)) =
-        inr (badly true FailsPut end e h.path h.who h.begins h.why)
+  put_ends : (end : Server) (own : Sent) (result : Result ℕ Fault) → IsWhole request
+      → PutAnswers before request result own end
+      → Ends before request true end.last (PutsHere own end.state) FailsPut result
+  put_ends end own (Ok status) whole h = put_well end own status h.1
+  put_ends end own (Err e) whole (inl part) = absurd (whole part.0)
+  put_ends end own (Err e) whole (inr (is, inl unread)) = inl unread
+  put_ends end own (Err e) whole (inr (is, inr h)) =
+      inr (badly true FailsPut end e h.path h.who h.begins h.why)
 
-    put_once : (own told : Sent) (n : ℕ) (path : PathText) (who : Caller)
-        → IsDoneOnce (PutsHere own after.state n who path) (PutsHere told other.state n who path)
-        (FailsPut n who path) ((own ≡ told) × (after.state ≡ other.state))
-    put_once own told n path who = record {
-      done = λ status code h k.
-          let p = segments path.bytes in
-          let same = law.done status code after.state other.state h.writes k.writes in
-          let file = one_some (at_path other.state.map p) h.file k.file
-          (sym (ap (λ (s : State). at_path s.map p) same.1) ∙ h.here) k.here in (
-            same.0,
-            (
-              h.tells ∙ ap (λ (f : Resource). record {
-                fields = tag_field (tag_of f) ∷ [];
-                body = [];
-              }) file ∙ sym k.tells,
-              same.1,
-            ),
-          );
-      either = λ status e h. law.either status after.state e h.writes;
-      also = λ status e h. law.either status other.state e h.writes;
-      refused = law.refused;
-    }
-      where
-        law : IsDetermined (Writes headers before.state who (segments path.bytes) body)
-            (λ e. FailsToPut before.state who (segments path.bytes) body headers e)
-        law = puts_once headers before.state who (segments path.bytes) body
+  put_once : (own told : Sent) (n : ℕ) (path : PathText) (who : Caller)
+      → IsDoneOnce (PutsHere own after.state n who path) (PutsHere told other.state n who path)
+      (FailsPut n who path) ((own ≡ told) × (after.state ≡ other.state))
+  put_once own told n path who = record {
+    done = λ status code h k.
+        let p = segments path.bytes in
+        let same = law.done status code after.state other.state h.writes k.writes in
+        let file = one_some (at_path other.state.map p) h.file k.file
+        (sym (ap (λ (s : State). at_path s.map p) same.1) ∙ h.here) k.here in (
+          same.0,
+          (
+            h.tells ∙ ap (λ (f : Resource). record {
+              fields = tag_field (tag_of f) ∷ [];
+              body = [];
+            }) file ∙ sym k.tells,
+            same.1,
+          ),
+        );
+    either = λ status e h. law.either status after.state e h.writes;
+    also = λ status e h. law.either status other.state e h.writes;
+    refused = law.refused;
+  }
+    where
+      law : IsDetermined (Writes headers before.state who (segments path.bytes) body)
+          (λ e. FailsToPut before.state who (segments path.bytes) body headers e)
+      law = puts_once headers before.state who (segments path.bytes) body
 
-    pub puts_here : (own told : Sent) → (true ≡ true → ¬ IsLastMoment before.last)
-        → other.last ≡ after.last → IsWhole request → (result also : Result ℕ Fault)
-        → PutAnswers before request result own after
-        → PutAnswers before request also told other
-        → AreOne result also ((own ≡ told) × (after.state ≡ other.state))
-    puts_here own told early one whole result also h k =
-        ends_once before request true after.last early (PutsHere own after.state)
-        (PutsHere told other.state) FailsPut _ (λ path who now. put_once own told after.last path who)
-        result also (put_ends after own result whole h)
-        (subst (λ n. Ends before request true n (PutsHere told other.state) FailsPut also) one
-        (put_ends other told also whole k))
+  pub puts_here : (own told : Sent) → (true ≡ true → ¬ IsLastMoment before.last)
+      → other.last ≡ after.last → IsWhole request → (result also : Result ℕ Fault)
+      → PutAnswers before request result own after
+      → PutAnswers before request also told other
+      → AreOne result also ((own ≡ told) × (after.state ≡ other.state))
+  puts_here own told early one whole result also h k =
+      ends_once before request true after.last early (PutsHere own after.state)
+      (PutsHere told other.state) FailsPut _ (λ path who now. put_once own told after.last path who)
+      result also (put_ends after own result whole h)
+      (subst (λ n. Ends before request true n (PutsHere told other.state) FailsPut also) one
+      (put_ends other told also whole k))
 
   -- ---- PROPPATCH
 

@@ -70,7 +70,8 @@ module _ (before : Server) (request : Request (List ℕ)) (changes : Bool) where
       (law : (path : PathText) (who : Caller) → who.now ≡ n
       → IsDoneOnce (Does n who path) (Also n who path) (Refuses n who path) Left) where
     -- what begins in time is read
-    read : (path : PathText) (who : Caller) (e : Fault) → Begins before request (at before n) path who
+    read : (path : PathText) (who : Caller) (e : Fault)
+        → Begins before request (at before n) path who
         → Unread before.options request before.last changes e → IsShort e
     read path who e begins unread =
         by (begins_or_unread before request (at before n) path who changes e begins unread)
@@ -82,7 +83,8 @@ module _ (before : Server) (request : Request (List ℕ)) (changes : Bool) where
         by (inr last) = absurd (early last.0 last.1)
 
     -- it has one path and one caller
-    same : (path other : PathText) (who also : Caller) → Begins before request (at before n) path who
+    same : (path other : PathText) (who also : Caller)
+        → Begins before request (at before n) path who
         → Begins before request (at before n) other also → (path ≡ other) × (who ≡ also)
     same path other who also h k =
         one_beginning before request (at before n) (at before n) path other who also h k refl
@@ -96,32 +98,32 @@ module _ (before : Server) (request : Request (List ℕ)) (changes : Bool) where
         (subst (λ who. Does n who h.path status) is.1 h.does)) k.does
 
     held_or_not : (path other : PathText) (who also : Caller) (e : Fault)
-        → Begins before request (at before n) path who → Begins before request (at before n) other also
-        → Admits before request (at before n) path → HoldsOff before request (at before n) other e → IsShort e
+        → Begins before request (at before n) path who
+        → Begins before request (at before n) other also
+        → Admits before request (at before n) path → HoldsOff before request (at before n) other e
+        → IsShort e
     held_or_not path other who also e h k admits held =
         admitted_or_not (site_for before.options request) (live n before.state)
         (head_of request).headers path e admits
-        (subst (λ q. HoldsOff before request (at before n) q e) (sym (same path other who also h k).0) held)
+        (subst (λ q. HoldsOff before request (at before n) q e)
+        (sym (same path other who also h k).0) held)
 
     refuses_there : (path other : PathText) (who also : Caller) (e : Fault)
-        → Begins before request (at before n) path who → Begins before request (at before n) other also
+        → Begins before request (at before n) path who
+        → Begins before request (at before n) other also
         → Refuses n also other e → Refuses n who path e
     refuses_there path other who also e h k refuses =
         let is = same path other who also h k in
         subst (λ w. Refuses n w path e) (sym is.1)
         (subst (λ q. Refuses n also q e) (sym is.0) refuses)
 
-    well_badly : (status : ℕ) (e : Fault) → EndsWell n Does status → EndsBadly n Refuses e → IsShort e
-    well_badly status e h k = elim k.why [
+    done_badly : (Done : ℕ → Caller → PathText → ℕ → Type 0)
+        → ((path : PathText) (who : Caller) → who.now ≡ n → (status : ℕ) (e : Fault)
+        → Done n who path status → Refuses n who path e → IsShort e)
+        → (status : ℕ) (e : Fault) → EndsWell n Done status → EndsBadly n Refuses e → IsShort e
+    done_badly Done either status e h k = elim k.why [
       | inl held ↦ held_or_not h.path k.path h.who k.who e h.begins k.begins h.admits held
-      | inr refuses ↦ (law h.path h.who h.begins.now).either status e h.does
-          (refuses_there h.path k.path h.who k.who e h.begins k.begins refuses.1)
-    ]
-
-    also_badly : (status : ℕ) (e : Fault) → EndsWell n Also status → EndsBadly n Refuses e → IsShort e
-    also_badly status e h k = elim k.why [
-      | inl held ↦ held_or_not h.path k.path h.who k.who e h.begins k.begins h.admits held
-      | inr refuses ↦ (law h.path h.who h.begins.now).also status e h.does
+      | inr refuses ↦ either h.path h.who h.begins.now status e h.does
           (refuses_there h.path k.path h.who k.who e h.begins k.begins refuses.1)
     ]
 
@@ -149,10 +151,13 @@ module _ (before : Server) (request : Request (List ℕ)) (changes : Bool) where
         → Ends n Also Refuses other → AreOne result other Left
     ends_once (Ok status) (Ok other) h k = both_well status other h k
     ends_once (Ok status) (Err f) h (inl k) = read h.path h.who f h.begins k
-    ends_once (Ok status) (Err f) h (inr k) = well_badly status f h k
+    ends_once (Ok status) (Err f) h (inr k) =
+        done_badly Does (λ path who now. (law path who now).either) status f h k
     ends_once (Err e) (Ok other) (inl h) k = read k.path k.who e k.begins h
-    ends_once (Err e) (Ok other) (inr h) k = also_badly other e k h
-    ends_once (Err e) (Err f) (inl h) (inl k) = unread_alike before.options request before.last changes e f h k
+    ends_once (Err e) (Ok other) (inr h) k =
+        done_badly Also (λ path who now. (law path who now).also) other e k h
+    ends_once (Err e) (Err f) (inl h) (inl k) =
+        unread_alike before.options request before.last changes e f h k
     ends_once (Err e) (Err f) (inl h) (inr k) = inl (read k.path k.who e k.begins h)
     ends_once (Err e) (Err f) (inr h) (inl k) = inr (inl (read h.path h.who f h.begins k))
     ends_once (Err e) (Err f) (inr h) (inr k) = both_badly e f h k
@@ -181,9 +186,11 @@ module _ (before : Server) (request : Request (List ℕ)) (changes : Bool) where
       → ComesAt changes before request result after → ComesAt changes before request also other
       → BothBegin after other ⊎ (NeitherBegins result also after other
       ⊎ (IsShortResult result ⊎ IsShortResult also))
-  comes_once result also after other (ComesAt.begun path who begins at) (ComesAt.begun q w k also_at) =
+  comes_once result also after other (ComesAt.begun path who begins at)
+      (ComesAt.begun q w k also_at) =
       inl (record { one = also_at.0 ∙ sym at.0; early = at.1 })
-  comes_once result also after other (ComesAt.begun path who begins at) (ComesAt.unread f is why left) =
+  comes_once result also after other (ComesAt.begun path who begins at)
+      (ComesAt.unread f is why left) =
       elim (begins_or_unread before request after path who changes f begins why) [
         | inl short ↦ inr (inr (inr (short_is also f is short)))
         | inr last ↦ absurd (at.1 last.0 last.1)
@@ -193,7 +200,8 @@ module _ (before : Server) (request : Request (List ℕ)) (changes : Bool) where
         | inl short ↦ inr (inr (inl (short_is result e is short)))
         | inr last ↦ absurd (at.1 last.0 last.1)
       ]
-  comes_once result also after other (ComesAt.unread e is why left) (ComesAt.unread f also_is because stays) =
+  comes_once result also after other (ComesAt.unread e is why left)
+      (ComesAt.unread f also_is because stays) =
       inr (inl (record {
         one = stays ∙ sym left;
         e = e;

@@ -10,7 +10,8 @@ ghost use Rattle.dav_session_core.specs.Sessions.{caller};
 ghost use Rattle.dav_handler_core.specs.Answers.{MayDo};
 ghost use Rattle.dav_handler_core.specs.MethodAnswers.{Admits, Unread};
 ghost use Rattle.dav_handler_core.specs.Private.Begun.{IsBegun, IsHeld, IsOverladen};
-ghost use Rattle.dav_handler_core.specs.RequestMoments.{ComesAt, IsMoment, answer_moment, moment_of};
+ghost use Rattle.dav_handler_core.specs.RequestMoments.{ComesAt, IsMoment, answer_moment};
+ghost use Rattle.dav_handler_core.specs.RequestMoments.{moment_of};
 ghost use Rattle.dav_handler_core.specs.Server.{IsFrom, Names};
 ghost use Rattle.dav_handler_core.specs.ServerViews.{IsDated, Unchanged, server};
 

@@ -2,5 +2,4 @@ use Rattle.dav_handler_core.proofs.OneAnswerLaws.{one_answer}
 use Rattle.dav_handler_core.proofs.dav.laws.answers_are_determined.Goals as goal
 
 pub returns : goal.returns
-returns c = λ before after other request response answer is_map h k long long_also.
-    one_answer before after other request response answer is_map h k long long_also
+returns c = one_answer

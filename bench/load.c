@@ -22,6 +22,8 @@
 #include <unistd.h>
 
 enum { MOST = 64, HEAD = 64 * 1024, PIECE = 64 * 1024, TOKEN = 256 };
+/* What may be sent of a connection before more is granted; and half of it, after which it is said what was taken. */
+enum { WINDOW = 256 * 1024, HALF = WINDOW / 2 };
 enum part { IN_HEAD, IN_LENGTH, IN_CHUNK_SIZE, IN_CHUNK, IN_TRAILER };
 
 struct text { char *bytes; size_t length; };
@@ -29,6 +31,7 @@ struct text { char *bytes; size_t length; };
 struct connection {
     int fd;
     unsigned long number;             /* of its frames */
+    size_t granted, taken;            /* how much more may be sent, and how much was taken since that was said */
     size_t next;                      /* the request to be sent next */
     int waits, closes, done;
     char *out; size_t left;           /* what is still to be sent of the request */
@@ -237,63 +240,104 @@ static void play_sockets(void) {
 
 /* ---- frames */
 
-/* The frame that is being written: its head, and a piece of a connection. */
-static char frame_head[64];
-static size_t frame_head_left, frame_left;
-static struct connection *framed;
-static int turn;
+/* What is being written: lines, at the end of their room, and behind them a piece of a connection. */
+static char lines[MOST * 64];
+static size_t lines_left, piece_left;
+static struct connection *sends;
+static int turn, is_asked;            /* whether the program waits for "none" */
 
-static void next_frame(void) {
+static struct connection *next_to_send(void) {
     for (int n = 0; n < count; n++) {
         struct connection *c = &connections[(turn + n) % count];
-        if (!c->left) continue;
+        if (!c->left || !c->granted) continue;
         turn = (turn + n + 1) % count;
-        frame_left = c->left < PIECE ? c->left : PIECE;
-        frame_head_left = sprintf(frame_head, "%lu %zu\n", c->number, frame_left);
-        memmove(frame_head + sizeof frame_head - frame_head_left, frame_head, frame_head_left);
-        framed = c;
-        return;
+        return c;
     }
+    return NULL;
+}
+
+/* What was taken, and the next piece; "none" where there is no more. */
+static void next_lines(void) {
+    char *to = lines;
+    for (struct connection *c = connections; c < connections + count; c++)
+        if (c->taken >= HALF) { to += sprintf(to, "taken %lu %zu\n", c->number, c->taken); c->taken = 0; }
+    sends = next_to_send();
+    if (sends) {
+        piece_left = sends->left < PIECE ? sends->left : PIECE;
+        if (piece_left > sends->granted) piece_left = sends->granted;
+        sends->granted -= piece_left;
+        to += sprintf(to, "%lu %zu\n", sends->number, piece_left);
+    } else if (is_asked) {
+        to += sprintf(to, "none\n");
+        is_asked = 0;
+    }
+    lines_left = to - lines;
+    memmove(lines + sizeof lines - lines_left, lines, lines_left);
 }
 
 /* Whether something is still to be written. */
 static int send_frames(void) {
     for (;;) {
-        if (!frame_left) next_frame();
-        if (!frame_left) return 0;
-        struct iovec parts[2] = {{frame_head + sizeof frame_head - frame_head_left, frame_head_left}, {framed->out, frame_left}};
+        if (!lines_left && !piece_left) next_lines();
+        if (!lines_left && !piece_left) return 0;
+        struct iovec parts[2] = {{lines + sizeof lines - lines_left, lines_left}, {sends ? sends->out : NULL, piece_left}};
         ssize_t sent = writev(to_server, parts, 2);
         if (sent < 0) { if (errno == EAGAIN) return 1; fail("write"); }
-        size_t of_head = (size_t)sent < frame_head_left ? (size_t)sent : frame_head_left;
-        frame_head_left -= of_head;
-        sent -= of_head;
-        frame_left -= sent;
-        framed->out += sent;
-        framed->left -= sent;
+        size_t of_lines = (size_t)sent < lines_left ? (size_t)sent : lines_left;
+        lines_left -= of_lines;
+        sent -= of_lines;
+        if (!sent) continue;
+        piece_left -= sent;
+        sends->out += sent;
+        sends->left -= sent;
     }
+}
+
+/* A connection of this command; NULL for an earlier one, of which the program may still tell something. */
+static struct connection *numbered(unsigned long number) {
+    if (!number || number > begun) { fprintf(stderr, "a wrong number\n"); exit(1); }
+    return number < connections[0].number ? NULL : &connections[number - connections[0].number];
+}
+
+/* Takes a line, and tells how long the piece behind it is, and whose. */
+static size_t take_line(char *line, struct connection **whose) {
+    static const char *const words[] = {"grant ", "rests ", "owes "};
+    if (!strcmp(line, "more")) { is_asked = 1; return 0; }
+    int word = 0;
+    while (word < 3 && strncmp(line, words[word], strlen(words[word]))) word++;
+    char *rest = word < 3 ? line + strlen(words[word]) : line;
+    struct connection *c = numbered(strtoul(rest, &rest, 10));
+    size_t size = strtoul(rest, &rest, 10);
+    if (*rest) { fprintf(stderr, "a wrong line\n"); exit(1); }
+    if (word == 0 && c) c->granted += size;
+    if (word < 3) return 0;
+    if (!size || !c) { fprintf(stderr, size ? "bytes for a connection that was left\n" : "closed in an answer\n"); exit(1); }
+    *whose = c;
+    return size;
 }
 
 static void take_frames(const char *bytes, size_t length) {
     static char line[64];
     static size_t in_line, piece;
-    static unsigned long number;
+    static struct connection *c;
     while (length) {
         if (piece) {
             size_t part = length < piece ? length : piece;
-            struct connection *c = &connections[number - connections[0].number];
             take(c, bytes, part);
+            c->taken += part;
             if (!c->waits && !c->done) begin_next(c);
             piece -= part;
             bytes += part;
             length -= part;
             continue;
         }
+        if (in_line == sizeof line) { fprintf(stderr, "a long line\n"); exit(1); }
         line[in_line++] = *bytes++;
         length--;
         if (line[in_line - 1] != '\n') continue;
         line[in_line - 1] = 0;
         in_line = 0;
-        if (sscanf(line, "%lu %zu", &number, &piece) != 2 || number < connections[0].number || number > begun) { fprintf(stderr, "a wrong frame\n"); exit(1); }
+        piece = take_line(line, &c);
     }
 }
 
@@ -301,7 +345,7 @@ static void play_frames(void) {
     static char buffer[1 << 20];
     /* Connections are numbered in the order of their first frames. */
     turn = 0;
-    for (int n = 0; n < count; n++) { connections[n].number = ++begun; begin_next(&connections[n]); }
+    for (int n = 0; n < count; n++) { connections[n].number = ++begun; connections[n].granted = WINDOW; begin_next(&connections[n]); }
     for (;;) {
         int open = 0;
         for (int n = 0; n < count; n++) open += !connections[n].done;

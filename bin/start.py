@@ -33,6 +33,9 @@ The first start proves the server before it runs it, which takes some time and i
   --longest-timeout SECONDS       the longest time that a lock is given; without it a lock may last for ever
   --propfind-depth finite|infinite    whether a PROPFIND of infinite depth is refused
   --max-body BYTES                the most bytes that a request's body may have
+  --window BYTES                  how far answers go beyond what a client has taken; 262144 without it
+  --waiting BYTES                 the most bytes of answers that wait, of all clients; 268435456 without it
+  --unfinished BYTES              the most bytes of requests that have not come whole, of all clients; 268435456 without it
   --seed NUMBER                   for tests: the seed of the tokens of locks
   --clock NANOSECONDS|frames      for tests: the moment at which the clock stands
   --help, --version               this text; the kit and the commit

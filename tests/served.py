@@ -1,10 +1,8 @@
 """Runs of davserve over frames: what is sent, what is wanted of the answers, and what the program takes."""
 import hashlib
-import os
-import subprocess
-import threading
 from typing import NamedTuple
 
+from frames import Listener
 from programs import memory_of
 
 # The clock stands at 0, and no frame moves it.
@@ -14,18 +12,37 @@ WORDS = ["--seed", "1", "--clock", "frames"]
 EPOCH = b"Thu, 01 Jan 1970 00:00:00 GMT"
 DATED = b"date: %s\r\n" % EPOCH
 
-# As much as bin/listen passes on at once.
-PIECE = 64 * 1024
+# In what is sent: what stands behind it comes once all before it is answered.
+WAIT = (None, b"")
 
 # The connection that is there before all others, and is answered behind them.
 OTHER = 1
 OTHER_PUT = b"PUT /other HTTP/1.1\r\nHost: h\r\nContent-Length: 10\r\n\r\nstill here"
 OTHER_GET = b"GET /other HTTP/1.1\r\nHost: h\r\n\r\n"
-OTHER_ANSWERS = (
-    b'HTTP/1.1 201 Created\r\n%setag: "1-10"\r\ncontent-length: 0\r\n\r\n'
-    b'HTTP/1.1 200 OK\r\n%setag: "1-10"\r\nlast-modified: %s\r\ncontent-type: application/octet-stream\r\n'
-    b"accept-ranges: bytes\r\ncontent-length: 10\r\n\r\nstill here"
-) % (DATED, DATED, EPOCH)
+
+OPTIONS = (
+    b"HTTP/1.1 200 OK\r\n" + DATED + b"dav: 1, 2\r\nallow: OPTIONS, GET, HEAD, PUT, DELETE, COPY, MOVE, MKCOL, PROPFIND, PROPPATCH, LOCK, UNLOCK\r\n"
+    b"ms-author-via: DAV\r\ncontent-length: 0\r\n\r\n"
+)
+
+
+def answer(status, body=b"", fields=b""):
+    """An answer of the server, with its date."""
+    return b"HTTP/1.1 %s\r\n%scontent-length: %d\r\n\r\n%s" % (status, DATED + fields, len(body), body)
+
+
+def refusal(status):
+    """The answer to what the server never saw, which closes the connection."""
+    return b"HTTP/1.1 %s\r\nconnection: close\r\ncontent-length: 0\r\n\r\n" % status
+
+
+def made(moment, size=1):
+    return answer(b"201 Created", b"", b'etag: "%d-%d"\r\n' % (moment, size))
+
+
+def file_told(moment, text):
+    fields = b'etag: "%d-%d"\r\nlast-modified: %s\r\ncontent-type: application/octet-stream\r\naccept-ranges: bytes\r\n'
+    return answer(b"200 OK", text, fields % (moment, len(text), EPOCH))
 
 
 class Exactly:
@@ -71,50 +88,22 @@ class Taken(NamedTuple):
     megabytes: float
 
 
-def frames(number, text):
-    for start in range(0, len(text) or 1, PIECE):
-        piece = text[start : start + PIECE]
-        yield b"%d %d\n" % (number, len(piece)) + piece
-
-
-def write(stream, sent):
-    """Where the program ends too early, the reader tells so."""
-    try:
-        for number, text in [(OTHER, OTHER_PUT), *sent, (OTHER, OTHER_GET)]:
-            for frame in frames(number, text):
-                stream.write(frame)
-        stream.flush()
-    except BrokenPipeError:
-        pass
-
-
-def pieces_of(stream):
-    while head := stream.readline():
-        number, length = map(int, head.split())
-        yield number, stream.read(length)
-
-
 def play(program, sent, wanted):
     """Sends pairs of a connection and its bytes, from the second connection on, and gives what is wrong with the answers, and what was taken.
 
     The memory is read when the first connection has its last answer, before the program is told of the end of its input.
     """
-    child = subprocess.Popen([program, *WORDS], stdin=subprocess.PIPE, stdout=subprocess.PIPE)
-    writer = threading.Thread(target=write, args=(child.stdin, sent))
-    writer.start()
-    wanted = {OTHER: Exactly(OTHER_ANSWERS), **wanted}
-    peak, answers = 0, 0
-    for number, piece in pieces_of(child.stdout):
-        wanted.setdefault(number, Exactly(b"")).take(piece)
-        answers += number == OTHER
-        if answers == 2 and number == OTHER:
-            peak = memory_of(child.pid) / 1000
-            writer.join()
-            child.stdin.close()
-    writer.join()
-    _, status, usage = os.wait4(child.pid, 0)
-    child.returncode = os.waitstatus_to_exitcode(status)
-    wrong = [f"connection {number} is told {each.begins}" for number, each in sorted(wanted.items()) if not each.is_right()][:3]
-    if child.returncode != 0:
-        wrong.append(f"the program ends with {child.returncode}")
-    return wrong, Taken(usage.ru_utime + usage.ru_stime, peak)
+    listener, wanted = Listener([program, *WORDS]), {OTHER: Exactly(made(1, 10) + file_told(1, b"still here")), **wanted}
+    listener.hear = lambda number, piece: wanted.setdefault(number, Exactly(b"")).take(piece)
+    for number, text in [(OTHER, OTHER_PUT), *sent, WAIT, (OTHER, OTHER_GET), WAIT]:
+        if number is not None:
+            listener.send(number, text)
+        elif not listener.settle():
+            listener.wrong.append("not all is answered")
+            break
+    peak = 0 if listener.has_ended else memory_of(listener.child.pid) / 1000
+    listener.end()
+    wrong = listener.wrong[:3] + [f"connection {number} is told {each.begins}" for number, each in sorted(wanted.items()) if not each.is_right()][:3]
+    if listener.status != 0:
+        wrong.append(f"the program ends with {listener.status}")
+    return wrong, Taken(listener.seconds, peak)

@@ -3,10 +3,12 @@
 //   FAULT=KIND:N        the N-th request of this kind fails, or moves one byte only
 //   FAULT=KIND:N:EVERY  and from there on each EVERY-th
 //   PIECE=BYTES         each read and write moves at most so many bytes
+//   LISTENS=1           standard input is a file of frames: a read of it stops before a later "clock ", and where "more" was written last, the next read brings "none" instead
 //   COUNTS=FILE         at the program's end its requests for memory, reads and writes are written there
 //
 // KIND is memory (malloc, calloc, realloc), read, write, short-read or short-write. The program's requests are counted from
 // 1; those of the loader, before it starts, are not.
+#define _GNU_SOURCE
 #include <errno.h>
 #include <fcntl.h>
 #include <stdio.h>
@@ -28,6 +30,9 @@ static int started;
 static enum kind fault = KINDS;
 static unsigned long first, every, piece;
 static unsigned long counts[KINDS];
+static int listens;
+// The last bytes that were written.
+static char written[5];
 
 static void start(void) __attribute__((constructor));
 static void end(void) __attribute__((destructor));
@@ -46,6 +51,7 @@ static void start(void) {
         if (fault == KINDS || sscanf(colon, ":%lu:%lu", &first, &every) < 1)
             _exit(99);
     }
+    listens = getenv("LISTENS") != NULL;
     started = 1;
 }
 
@@ -94,13 +100,28 @@ void *realloc(void *old, size_t size) {
     return fails(MEMORY) ? no_memory() : __libc_realloc(old, size);
 }
 
+// Where a clock is told in the midst of what was read, that and what lies behind it is put back, so that the program answers what came before, and then reads once more.
+static ssize_t up_to_clock(int file, const char *bytes, ssize_t count) {
+    const char *found = count > 1 ? memmem(bytes + 1, count - 1, "clock ", 6) : NULL;
+    if (!found)
+        return count;
+    lseek(file, found - bytes - count, SEEK_CUR);
+    return found - bytes;
+}
+
 ssize_t read(int file, void *bytes, size_t count) {
+    if (listens && file == 0 && !memcmp(written, "more\n", 5)) {
+        written[0] = 0;
+        memcpy(bytes, "none\n", 5);
+        return 5;
+    }
     int is_short = fails(SHORT_READ);
     if (fails(READ)) {
         errno = EIO;
         return -1;
     }
-    return __read(file, bytes, moved(count, is_short));
+    ssize_t got = __read(file, bytes, moved(count, is_short));
+    return listens && file == 0 ? up_to_clock(file, bytes, got) : got;
 }
 
 ssize_t write(int file, const void *bytes, size_t count) {
@@ -109,5 +130,10 @@ ssize_t write(int file, const void *bytes, size_t count) {
         errno = EIO;
         return -1;
     }
-    return __write(file, bytes, moved(count, is_short));
+    ssize_t put = __write(file, bytes, moved(count, is_short));
+    for (ssize_t each = put > 5 ? put - 5 : 0; listens && file == 1 && each < put; each++) {
+        memmove(written, written + 1, 4);
+        written[4] = ((const char *)bytes)[each];
+    }
+    return put;
 }

@@ -11,7 +11,7 @@ In a body or a value `{red}` and the like stand for a document, and `{t1}` for t
 import collections
 import random
 
-from connections import LOCK_INFO, request
+from frames import LOCK_INFO, request
 
 EXCLUSIVE = LOCK_INFO.decode()
 DOCUMENTS = {

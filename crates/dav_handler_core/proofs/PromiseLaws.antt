@@ -6,6 +6,9 @@ use Rattle.http.specs.declared.request.Request.{Request}
 use Rattle.http.specs.Request.{body_of, head_of}
 use Rattle.http_server.specs.declared.response.Response.{Response}
 use Rattle.http_server.specs.Exchange.{Call, Chain}
+use Rattle.http_frames.specs.ConnectionEvents.{Event, Answered}
+use Rattle.http_frames.specs.Gate.{TakesTurn}
+use Rattle.http_frames.specs.TurnRuns.{EventDoes}
 use Rattle.http_header.specs.FieldValue.{FieldValue}
 use Rattle.http_header.specs.HeaderMap.{Entries}
 use Rattle.dav_path_core.specs.declared.util.DavMethod.{DavMethod}
@@ -41,16 +44,17 @@ use Rattle.dav_methods_core.specs.ProppatchMethod.{Changes}
 use Rattle.dav_session_core.specs.Patching.{with_updates}
 use Rattle.dav_documents_core.specs.PropertyUpdates.{Update}
 use Rattle.dav_session_core.specs.Removing.{IsRemoved}
-use Rattle.dav_handler_core.specs.Promises.{Brings, EachAnswer, EachCall, GetsWhatIsLeft, IsLeft, KeepsTo, StandsAt}
-use Rattle.dav_handler_core.specs.Serving.{Done, Leads, Taken, Told, with_clock}
+use Rattle.dav_handler_core.specs.Promises.{Brings, EachAnswer, EachCall, EachOf, EachOfTurn, GetsWhatIsLeft, IsLeft, KeepsTo, StandsAt}
+use Rattle.dav_handler_core.specs.Serving.{BeginsTurn, Clocked, Leads, Replies, Timing}
 use Rattle.dav_handler_core.specs.TagHistories.{Becomes}
 use Rattle.dav_handler_core.specs.TagHistories.Becomes.{itself, by_clock, by_answer}
+use Rattle.dav_handler_core.proofs.FrameLemmas.{begins_becomes, event_becomes}
 use Rattle.dav_handler_core.proofs.AnswerStatuses.{no_fault}
 use Rattle.dav_handler_core.proofs.HoldingLaws.{kept_under_any, kept_unless_held, stands_unless_ended}
 use Rattle.dav_handler_core.proofs.KeptStoreLaws.{begins_kept, run_keeps}
 use Rattle.dav_methods_core.proofs.PutMethodLemmas.{put_found}
 use Rattle.dav_path_core.proofs.paths.SubtreePaths.{rest_of}
-use Rattle.dav_handler_core.proofs.TagLaws.{new_stores, told_on}
+use Rattle.dav_handler_core.proofs.TagLaws.{new_stores}
 
 -- ---- where the bytes at a path come from
 
@@ -368,28 +372,31 @@ module _ (begun : Server) (new : IsNew begun) where
         refused = refuses h.method before after request h.result h.refused;
       }
 
-  each_call : (s : Server) (calls : List Call) (s' : Server) → Becomes begun s → (chain : Chain Answers s calls s') → EachCall (KeepsTo begun) s calls s' chain
-  each_call s [] s' run chain = tt
-  each_call s (c ∷ calls) s' run chain =
-      (keeps_to s chain.0 c.0 c.1 run chain.1, each_call chain.0 calls s' (by_answer s chain.0 c.0 c.1 run chain.1) chain.2)
-
-  after_calls : (s : Server) (calls : List Call) (s' : Server) → Becomes begun s → Chain Answers s calls s' → Becomes begun s'
-  after_calls s [] s' run chain = subst (Becomes begun) (sym chain) run
-  after_calls s (c ∷ calls) s' run chain = after_calls chain.0 calls s' (by_answer s chain.0 c.0 c.1 run chain.1) chain.2
-
-  each_from : (s : Server) (done : List Done) (s' : Server) → Becomes begun s
-      → (leads : Leads s done s') → EachAnswer (KeepsTo begun) s done s' leads
-  each_from s [] s' run leads = tt
-  each_from s (Taken t told ∷ done) s' run leads =
-      let timed = told_on told begun s run in
-      (each_call (with_clock told s) t.made leads.0 timed leads.1, each_from leads.0 done s' (after_calls (with_clock told s) t.made leads.0 timed leads.1) leads.2)
-  each_from s (Told moment ∷ done) s' run leads =
-      each_from (with_clock (Some moment) s) done s' (told_on (Some moment) begun s run) leads
-
 -- each answer of the frames, from new stores on
-pub each_answer : (begun after : Server) (done : List Done) → IsNew begun
-    → (leads : Leads begun done after) → EachAnswer (KeepsTo begun) begun done after leads
-each_answer begun after done new leads = each_from begun new begun done after itself leads
+module _ {C : Type 0} (tells : C → Option ℕ → C → Type 0) (begun : Server) (new : IsNew begun) where
+  each_call : (s : Timing C) (calls : List Call) (s' : Timing C) → Becomes begun s.server → (chain : Chain Replies s calls s') → EachCall (KeepsTo begun) s calls s' chain
+  each_call s [] s' run chain = tt
+  each_call s (c ∷ calls) s' run chain = (
+    keeps_to begun new s.server chain.0.server c.0 c.1 run chain.1.0,
+    each_call chain.0 calls s' (by_answer s.server chain.0.server c.0 c.1 run chain.1.0) chain.2,
+  )
+
+  each_of_turn : (s : Timing C) (number : ℕ) (calls : List Call) (s' : Timing C) → Becomes begun s.server → (turn : TakesTurn (BeginsTurn tells) Replies s number calls s')
+      → EachOfTurn tells (KeepsTo begun) s number calls s' turn
+  each_of_turn s number calls s' run (inl none) = tt
+  each_of_turn s number calls s' run (inr turn) =
+      each_call turn.0 calls s' (begins_becomes tells begun number s turn.0 run turn.1) turn.2.chain
+
+  each_of : (s : Timing C) (e : Event) (s' : Timing C) → Becomes begun s.server → (does : EventDoes (BeginsTurn tells) Replies Clocked e s s')
+      → EachOf tells (KeepsTo begun) s e s' does
+  each_of s (Answered number calls) s' run does = each_of_turn s number calls s' run does
+  each_of s _ s' run does = tt
+
+  pub each_answer : (s : Timing C) (events : List Event) (s' : Timing C) → Becomes begun s.server → (leads : Leads tells s events s')
+      → EachAnswer tells (KeepsTo begun) s events s' leads
+  each_answer s [] s' run leads = tt
+  each_answer s (e ∷ events) s' run leads =
+      (each_of s e leads.0 run leads.1, each_answer leads.0 events s' (event_becomes tells begun e s leads.0 run leads.1) leads.2)
 
 -- the bytes that were left stand there
 pub left_stand : (begun s : Server) (p : Path) (bytes : List ℕ) → IsLeft begun s p bytes → StandsAt s.state.map p bytes

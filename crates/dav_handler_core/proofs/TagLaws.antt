@@ -40,7 +40,7 @@ use Rattle.dav_session_core.specs.Patching.{IsPatched, with_updates}
 use Rattle.dav_documents_core.specs.PropertyUpdates.{Update}
 use Rattle.dav_methods_core.specs.PutMethod.{Puts}
 use Rattle.dav_session_core.specs.Removing.{IsRemoved}
-use Rattle.dav_handler_core.specs.Serving.{Done, Leads, Taken, Told, with_clock}
+use Rattle.dav_handler_core.specs.Serving.{with_clock}
 use Rattle.dav_handler_core.specs.PathMoments.{IsAlong, IsFileAt}
 use Rattle.dav_handler_core.specs.TagHistories.{HasFile, HasNoFiles, MomentsTell, TagsTell, Becomes}
 use Rattle.dav_handler_core.specs.TagHistories.Becomes.{itself, by_clock, by_answer}
@@ -391,16 +391,6 @@ calls_lead s s' calls chain = calls_on s s s' calls itself chain
 pub told_on : (told : Option ℕ) (s mid : Server) → Becomes s mid → Becomes s (with_clock told mid)
 told_on None s mid h = h
 told_on (Some moment) s mid h = by_clock mid moment h
-
-frames_on : (s mid s' : Server) (done : List Done) → Becomes s mid → Leads mid done s' → Becomes s s'
-frames_on s mid s' [] h leads = subst (Becomes s) (sym leads) h
-frames_on s mid s' (Taken t told ∷ done) h leads =
-    frames_on s leads.0 s' done (calls_on s (with_clock told mid) leads.0 t.made (told_on told s mid h) leads.1) leads.2
-frames_on s mid s' (Told moment ∷ done) h leads =
-    frames_on s (with_clock (Some moment) mid) s' done (told_on (Some moment) s mid h) leads
-
-pub frames_lead : (s s' : Server) (done : List Done) → Leads s done s' → Becomes s s'
-frames_lead s s' done leads = frames_on s s s' done itself leads
 
 -- ---- what calls leave
 

@@ -1,9 +1,13 @@
 -- What holds of each answer of a server, from new stores on, whatever bytes any number of clients send, in whatever pieces (RFC 4918 sections 6 and 7, RFC 9110 section 9).
 use Rattle.std.specs.Prelude.{◌≡◌, ◌≢◌, ◌⊎◌, ℕ, List, [], ◌∷◌, ◌++◌, Option, None, Some, Ok, IfErr}
+use Rattle.std.proofs.Common.{inl, inr}
 use Rattle.http.specs.declared.request.Request.{Request}
 use Rattle.http.specs.Request.{body_of, head_of}
 use Rattle.http_server.specs.declared.response.Response.{Response}
 use Rattle.http_server.specs.Exchange.{Call, Chain}
+use Rattle.http_frames.specs.ConnectionEvents.{Event, Answered}
+use Rattle.http_frames.specs.Gate.{TakesTurn}
+use Rattle.http_frames.specs.TurnRuns.{EventDoes}
 use Rattle.dav_path_core.specs.declared.util.DavMethod.{DavMethod}
 use Rattle.dav_path_core.specs.declared.util.DavMethod.TheVariants as method
 use Rattle.dav_path_core.specs.Fronts.{Path}
@@ -17,7 +21,7 @@ use Rattle.dav_handler_core.specs.Server.{Names, Server, site_for}
 use Rattle.dav_session_core.specs.Callers.{SameLive}
 use Rattle.dav_fields_core.specs.TransferDestinations.{IsDestination}
 use Rattle.dav_handler_core.specs.Holding.{IsKeptUnderAny, IsKeptUnlessHeld, StandsUnlessEnded}
-use Rattle.dav_handler_core.specs.Serving.{Done, Leads, Taken, Told, with_clock}
+use Rattle.dav_handler_core.specs.Serving.{BeginsTurn, Clocked, Leads, Replies, Timing}
 use Rattle.dav_handler_core.specs.TagHistories.{Becomes}
 
 -- ---- which bytes stand at a path
@@ -80,15 +84,24 @@ pub record KeepsTo (begun before : Server) (request : Request (List ℕ)) (respo
 
 -- ---- of all answers
 
-abbrev pub EachCall : (P : Server → Request (List ℕ) → Response → Server → Type 0) (s : Server) (calls : List Call) (s' : Server) → Chain Answers s calls s' → Type 0
-EachCall P s [] s' chain = Unit {0}
-EachCall P s (c ∷ calls) s' chain = P s c.0 c.1 chain.0 × EachCall P chain.0 calls s' chain.2
+module _ {C : Type 0} (P : Server → Request (List ℕ) → Response → Server → Type 0) where
+  -- of each of these calls
+  abbrev pub EachCall : (s : Timing C) (calls : List Call) (s' : Timing C) → Chain Replies s calls s' → Type 0
+  EachCall s [] s' chain = Unit {0}
+  EachCall s (c ∷ calls) s' chain = P s.server c.0 c.1 chain.0.server × EachCall chain.0 calls s' chain.2
 
--- of each request that the frames bring
-abbrev pub EachAnswer : (P : Server → Request (List ℕ) → Response → Server → Type 0) (s : Server)
-    (done : List Done) (s' : Server) → Leads s done s' → Type 0
-EachAnswer P s [] s' leads = Unit {0}
-EachAnswer P s (Taken t told ∷ done) s' leads =
-    EachCall P (with_clock told s) t.made leads.0 leads.1 × EachAnswer P leads.0 done s' leads.2
-EachAnswer P s (Told moment ∷ done) s' leads =
-    EachAnswer P (with_clock (Some moment) s) done s' leads
+module _ {C : Type 0} (tells : C → Option ℕ → C → Type 0) (P : Server → Request (List ℕ) → Response → Server → Type 0) where
+  -- of each call of a turn
+  abbrev pub EachOfTurn : (s : Timing C) (number : ℕ) (calls : List Call) (s' : Timing C) → TakesTurn (BeginsTurn tells) Replies s number calls s' → Type 0
+  EachOfTurn s number calls s' (inl none) = Unit {0}
+  EachOfTurn s number calls s' (inr turn) = EachCall P turn.0 calls s' turn.2.chain
+
+  -- no other event has calls
+  abbrev pub EachOf : (s : Timing C) (e : Event) (s' : Timing C) → EventDoes (BeginsTurn tells) Replies Clocked e s s' → Type 0
+  EachOf s (Answered number calls) s' does = EachOfTurn s number calls s' does
+  EachOf s _ s' does = Unit {0}
+
+  -- of each request that the frames bring, one after another, each from the server that the one before it left
+  abbrev pub EachAnswer : (s : Timing C) (events : List Event) (s' : Timing C) → Leads tells s events s' → Type 0
+  EachAnswer s [] s' leads = Unit {0}
+  EachAnswer s (e ∷ events) s' leads = EachOf s e leads.0 leads.1 × EachAnswer leads.0 events s' leads.2

@@ -1,96 +1,54 @@
--- How a server serves the connections whose frames come on one stream (own).
-use Rattle.std.specs.Prelude.{◌≡◌, ◌⊎◌, ℕ, ◌<◌, ◌≤◌, ◌+◌, List, [], ◌∷◌, ◌++◌, Option, Some, None}
-use Rattle.std.specs.Io.KnownBytes.{Appends, Consumes, IsAtEnd}
-use Rattle.std.specs.List.{flat_map}
-use Rattle.http_server.specs.Exchange.{Chain}
+-- How a server serves the connections whose frames come on one stream, and the moments that it is told (own).
+use Rattle.std.specs.Prelude.{◌≡◌, ℕ, List, Option, Some, None, Result}
+use Rattle.rand_core.specs.Stream.{Stream}
+use Rattle.http.specs.declared.request.Request.{Request}
+use Rattle.http_server.specs.declared.response.Response.{Response}
+use Rattle.http_frames.specs.declared.clients.Clients.{Clients}
+use Rattle.http_frames.specs.declared.serving.End.{End}
+use Rattle.http_frames.specs.ConnectionEvents.{Event}
+use Rattle.http_frames.specs.TurnRuns as frames
+use Rattle.dav_handler_core.specs.declared.serving.Timed.{Timed}
 use Rattle.dav_handler_core.specs.Answers.{Answers}
 use Rattle.dav_handler_core.specs.Server.{Server}
-use Rattle.http_frames.specs.declared.clients.Clients.{Clients}
-use Rattle.http_frames.specs.declared.frames.Head.TheVariants as head
-use Rattle.http_frames.specs.Clients.{Turn, turn_text, count_begun, config_of, Has}
-use Rattle.http_frames.specs.Frames.{IsLine, IsPiece}
-use Rattle.http_frames.specs.Frames as frames
-use Rattle.dav_handler_core.specs.declared.serving.End.{End}
-use Rattle.dav_handler_core.specs.declared.serving.End.TheVariants.{Whole, Wrong}
+use Rattle.dav_handler_core.specs.ServerViews.{server}
 
--- what a frame did: bytes of a connection were taken, right before which the clock told a moment, or
--- none; or it told a moment itself
-pub data Done : Type 0 where
-  Taken : Turn → Option ℕ → Done
-  Told : ℕ → Done
+-- a server, and a clock that tells it moments
+pub record Timing (C : Type 0) : Type 0 where
+  pub server : Server
+  pub clock : C
 
--- the frame that did it has this text
-abbrev pub IsFrame : Done → List ℕ → Type 0
-IsFrame (Taken t told) text = IsPiece t.number t.came text
-IsFrame (Told moment) text = (line : List ℕ) × IsLine line text × (frames.head line ≡ Some (head.Clock moment))
-
--- the text is that of the frames, one after another
-abbrev pub AreFrames : List Done → List ℕ → Type 0
-AreFrames [] text = text ≡ []
-AreFrames (d ∷ done) text = (first : List ℕ) × (rest : List ℕ) × (text ≡ first ++ rest) × IsFrame d first × AreFrames done rest
-
--- the turn of a frame that has one
-abbrev pub turn_of : Done → List Turn
-turn_of (Taken t told) = t ∷ []
-turn_of (Told moment) = []
-
-abbrev pub turns_of : List Done → List Turn
-turns_of done = flat_map turn_of done
-
--- ---- what the clock tells
-
--- what it told before the turn of a frame that has one
-abbrev pub telling_of : Done → List (Option ℕ)
-telling_of (Taken t told) = told ∷ []
-telling_of (Told moment) = []
-
-abbrev pub tellings_of : List Done → List (Option ℕ)
-tellings_of done = flat_map telling_of done
-
--- a clock tells these, one after another, and is left as another
-abbrev pub TellsInOrder : {C : Type 0} → (C → Option ℕ → C → Type 0)
-    → C → List (Option ℕ) → C → Type 0
-TellsInOrder tells clock [] clock' = clock' ≡ clock
-TellsInOrder {C} tells clock (told ∷ more) clock' =
-    (next : C) × tells clock told next × TellsInOrder tells next more clock'
+-- of what the generator still gives
+abbrev pub timing : {R C : Type 0} → (R → Stream) → Timed R C → Timing C
+timing stream t = record { server = server stream t.dav; clock = t.clock }
 
 -- the server's clock is set to a moment that is told
 abbrev pub with_clock : Option ℕ → Server → Server
 with_clock None s = s
 with_clock (Some moment) s = record s { clock = moment }
 
--- ---- what is done
+-- ---- what each step of a run does
 
--- The frames lead from the one server to the other, one after another: the calls of each turn, at
--- the moment that was told last, by the clock before the turn or by a frame.
-abbrev pub Leads : Server → List Done → Server → Type 0
-Leads before [] after = after ≡ before
-Leads before (Taken t told ∷ done) after =
-    (next : Server) × Chain Answers (with_clock told before) t.made next × Leads next done after
-Leads before (Told moment ∷ done) after = Leads (with_clock (Some moment) before) done after
+-- Before a turn the clock tells a moment, or none, and the server's clock is set to it.
+abbrev pub BeginsTurn : {C : Type 0} → (C → Option ℕ → C → Type 0) → Timing C → ℕ → Timing C → Type 0
+BeginsTurn tells old number new =
+    (told : Option ℕ) × tells old.clock told new.clock × (new.server ≡ with_clock told old.server)
 
--- what stands where no more frames are served: nothing, or a frame that is wrong
-abbrev pub IsEnd : End → Clients → Option (List ℕ) → Option (List ℕ) → Type 0
-IsEnd Whole c before after = IsAtEnd before
-IsEnd Wrong c before after = (text : List ℕ) × Consumes before after text
-    × (((line : List ℕ) × IsLine line text × (frames.head line ≡ None))
-    ⊎ ((number : ℕ) × (bytes : List ℕ) × IsPiece number bytes text × (((0 < number) × (number ≤ count_begun c + 1)) → ⊥)))
+-- A call is answered, and the clock is asked nothing.
+abbrev pub Replies : {C : Type 0} → Timing C → Request (List ℕ) → Response → Timing C → Type 0
+Replies old request response new = Answers old.server request response new.server × (new.clock ≡ old.clock)
 
--- The frames up to the end were served: each connection as if it were alone, and all by one server,
--- whose clock is what was told.
-pub record AreServed (end : End) (c c' : Clients) (before after : Server) (told : List (Option ℕ))
-    (input input' output output' : Option (List ℕ)) : Type 0 where
-  pub done : List Done
-  -- what was read, up to the end
-  pub text : List ℕ
-  pub frames : AreFrames done text
-  pub between : Option (List ℕ)
-  pub read : Consumes input between text
-  pub ends : IsEnd end c' between input'
-  -- what was written
-  pub wrote : Appends output output' (flat_map turn_text (turns_of done))
-  -- what the clock told, before each turn once
-  pub tellings : told ≡ tellings_of done
-  pub leads : Leads before done after
-  pub has : Has c' (turns_of done)
-  pub config : config_of c' ≡ config_of c
+-- A frame tells the moment, to which the server's clock is set, and the clock is asked nothing.
+abbrev pub Clocked : {C : Type 0} → Timing C → ℕ → Timing C → Type 0
+Clocked old moment new = (new.server ≡ with_clock (Some moment) old.server) × (new.clock ≡ old.clock)
+
+-- ---- a run
+
+-- These events lead from the one to the other: all turns, in their order, are answered by one server, and nothing else changes it but moments that are told.
+abbrev pub Leads : {C : Type 0} → (C → Option ℕ → C → Type 0) → Timing C → List Event → Timing C → Type 0
+Leads tells before events after = frames.EventsLead (BeginsTurn tells) Replies Clocked before events after
+
+-- The frames were served, however that ended: each connection as if it were alone, and all by one server.
+abbrev pub AreServed : {C E : Type 0} → (C → Option ℕ → C → Type 0) → Result End E → Clients → Clients → Timing C → Timing C
+    → Option (List ℕ) → Option (List ℕ) → Option (List ℕ) → Option (List ℕ) → Type 0
+AreServed tells result c c' before after input input' output output' =
+    frames.RunsInTurns (BeginsTurn tells) Replies Clocked result c c' before after input input' output output'

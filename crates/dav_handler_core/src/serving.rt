@@ -1,29 +1,36 @@
 //! The connections of a server.
-ghost use Rattle.std.specs.Prelude.{◌≡◌, ℕ, List, [], ◌++◌, IfOk, Option, option_map};
+ghost use Rattle.std.specs.Prelude.{◌≡◌, ℕ, List, [], ◌++◌, Option, Result, option_map};
 ghost use Rattle.std.specs.Io.KnownBytes.{Appends, Consumes};
 ghost use Rattle.http_server.specs.Connection.{config_of, history};
 ghost use Rattle.http_server.specs.Exchange.{Calls};
+ghost use Rattle.line_streams.specs.declared.Fault as spec_fault;
+ghost use Rattle.http_frames.specs.declared.clients.Clients as held;
+ghost use Rattle.http_frames.specs.declared.serving.End as spec_end;
+ghost use Rattle.http_frames.specs.Clients.{Has};
+ghost use Rattle.http_frames.specs.ConnectionEvents.{Event};
+ghost use Rattle.http_frames.specs.Frames.{unread};
 ghost use Rattle.dav_path_core.specs.Fronts.{Path};
 ghost use Rattle.dav_handler_core.specs.Answers.{Answers};
 ghost use Rattle.dav_handler_core.specs.Server.{Server};
 ghost use Rattle.dav_handler_core.specs.KeptDocuments.{IsNew};
 ghost use Rattle.dav_handler_core.specs.Promises.{EachAnswer, IsLeft, KeepsTo, StandsAt};
 ghost use Rattle.dav_handler_core.specs.ServerViews.{server};
-ghost use Rattle.http_frames.specs.Clients.{Has};
-ghost use Rattle.http_frames.specs.declared.clients.Clients as held;
-ghost use Rattle.dav_handler_core.specs.Serving.{AreServed, TellsInOrder, with_clock};
-ghost use Rattle.dav_handler_core.specs.declared.serving.End as spec_end;
-ghost use Rattle.dav_handler_core.specs.Private.FrameSteps.{ServesOrEnds};
+ghost use Rattle.dav_handler_core.specs.Serving.{AreServed, BeginsTurn, Clocked, Leads, Replies, Timing, timing};
+ghost use Rattle.dav_handler_core.specs.TagHistories.{Becomes};
 
 use crate::dav::Dav;
+use bytes::Bytes;
 use dav_resource_core::fs::Moment;
+use http::Request;
 use http_frames::clients::Clients;
-use http_frames::frames::{Next, read_frame};
-use http_server::{Connection, serve};
+use http_frames::frames::Frames;
+use http_frames::gate::{OneCall, TurnService};
+use http_frames::serving::{End, serve as serve_turns};
+use http_server::{Connection, Response, Service, serve};
 use line_streams::Fault;
 use rand_core::Rng;
-use std::alloc::Global;
-use std::io::{self, BufRead, Read, Write};
+use std::alloc::AllocError;
+use std::io::{self, Read, Write};
 
 /// What tells the moment.
 pub trait Clock {
@@ -35,49 +42,89 @@ pub trait Clock {
         ensures { tells self.old (option_map (λ moment. moment.0) result) self.new };
 }
 
-/// Where no more frames are served.
-#[derive(Clone, Copy, PartialEq, Eq, Debug)]
-pub enum End {
-    /// At the end of the input.
-    Whole,
-    /// At a frame that is wrong: its first line is no head, or its number is neither that of a
-    /// connection that has begun nor the next.
-    Wrong,
+// The bytes of a file go out as they stand in the stores, where they are so many at least; fewer
+// are copied.
+const SHARED: u64 = 96 * 1024;
+
+/// A server with the clock that tells it the moment of each turn.
+#[derive(Drop)]
+pub struct Timed<R, C> {
+    /// The server.
+    pub dav: Dav<R>,
+    /// Its clock.
+    pub clock: C,
+}
+
+impl<R: Rng, C: Clock> Service for Timed<R, C> {
+    ghost answers = { λ old request response new. Replies (timing R.stream old) request response (timing R.stream new) };
+
+    fn call(
+        &mut self,
+        request: &Request<Bytes>,
+        response: &mut Response,
+    ) -> Result<(), AllocError> {
+        self.dav.call(request, response)
+    }
+}
+
+/// The clock is asked once before each turn. The moment that it or a frame told last is the server's
+/// clock at the turn.
+impl<R: Rng, C: Clock> TurnService for Timed<R, C> {
+    ghost begins = { λ old number new. BeginsTurn C.tells (timing R.stream old) number (timing R.stream new) };
+
+    ghost clocked = { λ old moment new. Clocked (timing R.stream old) moment (timing R.stream new) };
+
+    fn begin_turn(&mut self, _number: u64) {
+        if let Some(now) = self.clock.moment() {
+            self.dav.set_clock(now);
+        }
+    }
+
+    /// A long answer whose ranges are served is a file's, and shares its bytes with the stores.
+    fn own_len(&self, _request: &Request<Bytes>, response: &Response) -> u64 {
+        let length = response.body.len() as u64;
+        if length >= SHARED && serves_ranges(response) {
+            0
+        } else {
+            length
+        }
+    }
+
+    fn set_clock(&mut self, moment: u64) {
+        self.dav.set_clock(Moment(moment));
+    }
+}
+
+// Whether a field says that ranges of the answer are served.
+fn serves_ranges(response: &Response) -> bool {
+    for (name, _) in &response.headers {
+        if name.as_str() == "accept-ranges" {
+            return true;
+        }
+    }
+    false
 }
 
 /// Serves the connections that the frames of the input are of, and writes their answers as frames,
-/// until the input ends or a frame is wrong. What is written is written out behind each frame. The
-/// clock is asked once before the calls of each piece, and the moment that it or a frame told last
-/// is the server's clock at each call. `Io` where a stream fails, or the input ends within a frame;
-/// `OutOfMemory` where there is no memory outside a request.
-pub fn serve_frames<R: Rng, C: Clock, I: BufRead, O: Write>(
-    alloc: Global,
+/// as `serve` of `http_frames` does. `Io` where a stream fails, `OutOfMemory` where there is no
+/// memory outside a connection.
+pub fn serve_frames<R: Rng, C: Clock, I: Read, O: Write>(
     clients: &mut Clients,
-    dav: &mut Dav<R>,
-    clock: &mut C,
-    input: &mut I,
+    server: &mut OneCall<Timed<R, C>>,
+    frames: &mut Frames<I>,
     output: &mut O,
 ) -> Result<End, Fault>
-    ensures served { Has clients.old [] → IfOk result
-        (λ end. (told : List (Option ℕ)) × TellsInOrder C.tells clock.old told clock.new
-        × AreServed end clients.old clients.new (server R.stream dav.old) (server R.stream dav.new)
-        told (I.remaining input.old) (I.remaining input.new) (O.contents output.old)
-        (O.contents output.new)) }
+    ensures served { Has clients.old [] → AreServed C.tells result clients.old clients.new
+        (timing R.stream server.old.service) (timing R.stream server.new.service)
+        (unread I.remaining frames.old) (unread I.remaining frames.new) (O.contents output.old)
+        (O.contents output.new) }
 {
-    let mut line = Vec::new(alloc);
-    let mut bytes = Vec::new(alloc);
-    for _frame in 0..u64::MAX {
-        let ended = serve_frame(clients, dav, clock, input, &mut line, &mut bytes, output)?;
-        if let Some(end) = ended {
-            return Ok(end);
-        }
-    }
-    Err(Fault::Io)
+    serve_turns(clients, server, frames, output)
 }
 
 /// The law of a whole run (RFC 4918 sections 6 and 7, RFC 9110 section 9.3): whatever bytes any
-/// number of clients send, in whatever pieces, from new stores on, each answer keeps to this. It
-/// does nothing.
+/// number of clients send, in whatever pieces, from new stores on, each answer keeps to this,
+/// however the run ends. It does nothing.
 ///
 /// - A path under an exclusive lock changes only by a request that names its token under its
 ///   principal.
@@ -88,60 +135,22 @@ pub fn serve_frames<R: Rng, C: Clock, I: BufRead, O: Write>(
 ///   path where nothing stands leaves an empty file.
 /// - A refusal changes nothing, but that locks that have expired may be gone; a COPY, a MOVE or a
 ///   LOCK that lacked memory may have begun.
-pub fn served_frames_keep_promises()
-    ensures each { (end : spec_end.End) (c c' : held.Clients) (begun after : Server)
-        (told : List (Option ℕ)) (input input' output output' : Option (List ℕ)) → IsNew begun
-        → (h : AreServed end c c' begun after told input input' output output')
-        → EachAnswer (KeepsTo begun) begun h.done after h.leads }
+pub fn served_frames_keep_promises<C: Clock>()
+    ensures each { (result : Result spec_end.End spec_fault.Fault) (c c' : held.Clients)
+        (begun after : Timing C) (input input' output output' : Option (List ℕ))
+        → IsNew begun.server
+        → (h : AreServed C.tells result c c' begun after input input' output output')
+        → EachAnswer C.tells (KeepsTo begun.server) begun h.done after h.leads }
     // The bytes that were left at a path are those that stand there.
     ensures exact { (begun s : Server) (p : Path) (bytes : List ℕ) → IsLeft begun s p bytes
         → StandsAt s.state.map p bytes }
 {}
 
-// Serves one frame, and tells whether it is the last.
-fn serve_frame<R: Rng, C: Clock, I: BufRead, O: Write>(
-    clients: &mut Clients,
-    dav: &mut Dav<R>,
-    clock: &mut C,
-    input: &mut I,
-    line: &mut Vec<u8>,
-    bytes: &mut Vec<u8>,
-    output: &mut O,
-) -> Result<Option<End>, Fault>
-    ensures { IfOk result (λ end. (told : List (Option ℕ))
-        × TellsInOrder C.tells clock.old told clock.new
-        × ServesOrEnds end clients.old clients.new (server R.stream dav.old)
-        (server R.stream dav.new) told (I.remaining input.old) (I.remaining input.new)
-        (O.contents output.old) (O.contents output.new)) }
-{
-    match read_frame(input, line, bytes)? {
-        Next::End => Ok(Some(End::Whole)),
-        Next::Malformed => Ok(Some(End::Wrong)),
-        Next::Clock(moment) => {
-            dav.set_clock(Moment(moment));
-            Ok(None)
-        }
-        Next::Piece(number) => {
-            if !clients.is_in_order(number) {
-                return Ok(Some(End::Wrong));
-            }
-            tick(dav, clock);
-            let _taken = clients.take(number, bytes, dav, output)?;
-            output.flush()?;
-            Ok(None)
-        }
-    }
-}
-
-// Asks the clock, and sets the server's where a moment is told.
-fn tick<R: Rng, C: Clock>(dav: &mut Dav<R>, clock: &mut C)
-    ensures { (told : Option ℕ) × C.tells clock.old told clock.new
-        × (server R.stream dav.new ≡ with_clock told (server R.stream dav.old)) }
-{
-    if let Some(now) = clock.moment() {
-        dav.set_clock(now);
-    }
-}
+/// The law that what frames lead to is a run, as the laws of runs speak of it. It does nothing.
+pub fn frames_make_runs<C: Clock>()
+    ensures { (s s' : Timing C) (events : List Event) → Leads C.tells s events s'
+        → Becomes s.server s'.server }
+{}
 
 /// Reads, answers and writes until the connection is done. The bytes that are written are the
 /// answers, in order, to the requests that the bytes spell that were read (`always_served` of

@@ -5,6 +5,12 @@ use http_header::{HeaderName, HeaderNameError};
 use std::alloc::{AllocError, Global};
 use std::num::ParseIntError;
 
+// So many bytes are handed out to a client beyond what it has taken, if nothing else is said.
+const WINDOW: u64 = 256 * 1024;
+
+// All answers that wait have so many bytes beside the stores', and all requests that have not come whole, if nothing else is said.
+const BOUND: u64 = 256 * 1024 * 1024;
+
 // A body may have so many bytes, if nothing else is said.
 const MAX_BODY: usize = 64 * 1024 * 1024;
 
@@ -45,6 +51,12 @@ pub struct Choices {
     pub settings: Settings,
     /// A request's body has so many bytes at most.
     pub max_body: usize,
+    /// So many bytes are handed out to a client beyond what it has taken.
+    pub window: u64,
+    /// The answers that wait have so many bytes, beside those of the stores and of one answer.
+    pub waiting: u64,
+    /// The requests that have not come whole have so many bytes, and never fewer than a body may have, beside a window for each connection.
+    pub unfinished: u64,
     /// The seed of the tokens, for tests; else they come from the system's randomness.
     pub seed: Option<u64>,
     /// The moment at which the clock stands, for tests, in nanoseconds since 1970, until a frame tells another; else it is the system's.
@@ -73,6 +85,9 @@ impl Choices {
                 finite_depth: false,
             },
             max_body: MAX_BODY,
+            window: WINDOW,
+            waiting: BOUND,
+            unfinished: BOUND,
             seed: None,
             clock: None,
             one,
@@ -104,6 +119,12 @@ impl Choices {
             self.settings.longest_timeout = Some(value.parse()?);
         } else if name == "--max-body" {
             self.max_body = value.parse()?;
+        } else if name == "--window" {
+            self.window = window_of(value)?;
+        } else if name == "--waiting" {
+            self.waiting = value.parse()?;
+        } else if name == "--unfinished" {
+            self.unfinished = value.parse()?;
         } else if name == "--seed" {
             self.seed = Some(value.parse()?);
         } else if name == "--clock" {
@@ -115,6 +136,14 @@ impl Choices {
             return Err(Unread::Usage);
         }
         Ok(())
+    }
+}
+
+// The window that a word names. `Usage` where it is none, or 0, through which nothing would go.
+fn window_of(word: &str) -> Result<u64, Unread> {
+    match word.parse()? {
+        0 => Err(Unread::Usage),
+        window => Ok(window),
     }
 }
 

@@ -7,28 +7,34 @@ mod choices;
 
 use choices::{Choices, Unread};
 use dav_handler_core::dav::Dav;
-use dav_handler_core::serving::{Clock, End, serve_frames, serve_one};
+use dav_handler_core::serving::{Clock, Timed, serve_frames, serve_one};
 use dav_resource_core::fs::Moment;
 use dav_resource_core::guarded::Guarded;
-use http_frames::clients::Clients;
+use http_frames::clients::{Bounds, Clients, Windows};
+use http_frames::frames::Frames;
+use http_frames::gate::OneCall;
+use http_frames::serving::End;
 use http_server::{Config, Connection};
 use line_streams::Fault;
 use rand::make_rng;
 use rand_chacha::ChaCha20Rng;
 use rand_core::{Rng, SeedableRng};
-use std::alloc::{AllocError, Global};
+use std::alloc::AllocError;
 use std::env;
 use std::hash::RandomState;
-use std::io::{self, BufRead, BufReader, BufWriter, ErrorKind, Write};
+use std::io::{self, BufWriter, ErrorKind, Read, Write};
 use std::process::ExitCode;
 use std::time::{SystemTime, UNIX_EPOCH};
 
-// How many bytes are read at once, and written.
+// A client may send so many bytes before it is granted more.
+const INTAKE: u64 = 256 * 1024;
+
+// How many bytes are written at once.
 const BUFFER: usize = 64 * 1024;
 
 // The words that the program takes.
 const USAGE: &str =
-    "usage: davserve [--help] [--one] [--scheme http|https] [--prefix PATH] [--user-header NAME] [--longest-timeout SECONDS] [--propfind-depth finite|infinite] [--max-body BYTES] [--seed NUMBER] [--clock NANOSECONDS|frames]\n";
+    "usage: davserve [--help] [--one] [--scheme http|https] [--prefix PATH] [--user-header NAME] [--longest-timeout SECONDS] [--propfind-depth finite|infinite] [--max-body BYTES] [--window BYTES] [--waiting BYTES] [--unfinished BYTES] [--seed NUMBER] [--clock NANOSECONDS|frames]\n";
 
 fn main(rt: HostRuntime) -> ExitCode {
     let words = match words(&rt) {
@@ -51,6 +57,7 @@ fn main(rt: HostRuntime) -> ExitCode {
     match run(&rt, choices) {
         Ok(End::Whole) => ExitCode::SUCCESS,
         Ok(End::Wrong) => ended(&rt, "a frame is wrong\n", 4),
+        Ok(End::Cut) => ended(&rt, "a stream failed\n", 1),
         Err(Fault::OutOfMemory) => ended(&rt, "out of memory\n", 3),
         Err(Fault::Io) => ended(&rt, "a stream failed\n", 1),
     }
@@ -61,7 +68,16 @@ fn run(rt: &HostRuntime, choices: Choices) -> Result<End, Fault> {
     let mut config = Config::default();
     config.max_body_len = choices.max_body;
     let one = choices.one;
-    let mut clock = SystemClock {
+    let windows = Windows {
+        out: choices.window,
+        into: INTAKE,
+        closed: false,
+    };
+    let bounds = Bounds {
+        waiting: choices.waiting,
+        unfinished: choices.unfinished.max(choices.max_body as u64),
+    };
+    let clock = SystemClock {
         rt,
         runs: choices.clock.is_none(),
     };
@@ -69,7 +85,7 @@ fn run(rt: &HostRuntime, choices: Choices) -> Result<End, Fault> {
     if one {
         serve_single(rt, config, &mut dav)
     } else {
-        serve_all(rt, config, &mut dav, &mut clock)
+        serve_all(rt, config, windows, bounds, Timed { dav, clock })
     }
 }
 
@@ -105,32 +121,29 @@ fn serve_single(
 fn serve_all(
     rt: &HostRuntime,
     config: Config,
-    dav: &mut Dav<ChaCha20Rng>,
-    clock: &mut SystemClock,
+    windows: Windows,
+    bounds: Bounds,
+    server: Timed<ChaCha20Rng, SystemClock<'_>>,
 ) -> Result<End, Fault> {
-    let mut clients = Clients::new(rt.alloc(), RandomState::new(rt)?, config);
-    let mut input = BufReader::with_capacity(rt.alloc(), BUFFER, rt.stdin())?;
+    let mut clients = Clients::new(rt.alloc(), RandomState::new(rt)?, config, windows, bounds);
+    let mut server = OneCall {
+        service: server,
+        spent: false,
+        own: 0,
+    };
+    let mut frames = Frames::new(rt.alloc(), rt.stdin())?;
     let mut output = BufWriter::with_capacity(rt.alloc(), BUFFER, rt.stdout())?;
-    serve_streams(
-        rt.alloc(),
-        &mut clients,
-        dav,
-        clock,
-        &mut input,
-        &mut output,
-    )
+    serve_streams(&mut clients, &mut server, &mut frames, &mut output)
 }
 
 // Serves them on any streams. What is proved of it stands on `serve_frames`; it is told here of no streams in particular, so that its check is short.
-fn serve_streams<R: Rng, C: Clock, I: BufRead, O: Write>(
-    alloc: Global,
+fn serve_streams<R: Rng, C: Clock, I: Read, O: Write>(
     clients: &mut Clients,
-    dav: &mut Dav<R>,
-    clock: &mut C,
-    input: &mut I,
+    server: &mut OneCall<Timed<R, C>>,
+    frames: &mut Frames<I>,
     output: &mut O,
 ) -> Result<End, Fault> {
-    serve_frames(alloc, clients, dav, clock, input, output)
+    serve_frames(clients, server, frames, output)
 }
 
 // The system's clock, where it is the one that counts.

@@ -16,7 +16,7 @@ use Rattle.std.specs.Str.Parse.{digits_value}
 use Rattle.line_streams.proofs.Numerals.{no_digits}
 use Rattle.line_streams.specs.Numerals.{numeral}
 use Rattle.http_frames.specs.declared.frames.Head.{Head}
-use Rattle.http_frames.specs.Frames.{is_single_space, piece_head, head_of, head}
+use Rattle.http_frames.specs.Frames.{is_single_space, gone_in, clock_in, taken_by, taken_in, piece_in, head_of, head}
 
 abbrev Low : List ℕ → Type 0
 Low bytes = All (λ b. b < 128) bytes
@@ -54,29 +54,54 @@ numeral_low : (word : List ℕ) (n : ℕ) (test : Bool) → list_all is_ascii_di
 numeral_low word n true digits is = digits_low word digits
 numeral_low word n false digits is = let none = sym (no_digits word digits) ∙ is in cc
 
-is_clock : (word : List ℕ) → bytes_eq word (codes "clock") ≡ true → word ≡ codes "clock"
-is_clock word is = (bytes_eq-Decides word (codes "clock")).0 is
+is_word : (word text : List ℕ) → bytes_eq word text ≡ true → word ≡ text
+is_word word text is = (bytes_eq-Decides word text).0 is
 
-clock_low : Low (codes "clock")
-clock_low =
-    All-weaker (λ b. nat_lt b 128 ≡ true) (λ b. b < 128) (λ b low. ltb-true b 128 low) (codes "clock") (AllPass-from_list_all (λ b. nat_lt b 128) (codes "clock") refl)
+word_low : (word text : List ℕ) → list_all (λ b. nat_lt b 128) text ≡ true → bytes_eq word text ≡ true → Low word
+word_low word text low is =
+    subst Low (sym (is_word word text is)) (All-weaker (λ b. nat_lt b 128 ≡ true) (λ b. b < 128) (λ b x. ltb-true b 128 x) text (AllPass-from_list_all (λ b. nat_lt b 128) text low))
 
-number_low : (word : List ℕ) (value : ℕ) (n : Option ℕ) (h : Head) → numeral word ≡ n → piece_head n value ≡ Some h → Low word
-number_low word value None h is says = cc
-number_low word value (Some n) h is says = numeral_low word n (list_all is_ascii_digit word) refl is
+number_low : (word : List ℕ) (n : Option ℕ) (m : ℕ) → numeral word ≡ n → n ≡ Some m → Low word
+number_low word n m is some = numeral_low word m (list_all is_ascii_digit word) refl (is ∙ some)
 
-word_low : (word : List ℕ) (value : ℕ) (h : Head) (test : Bool) → bytes_eq word (codes "clock") ≡ test → head_of word (Some value) ≡ Some h → Low word
-word_low word value h true is says = subst Low (sym (is_clock word is)) clock_low
-word_low word value h false is says = number_low word value (numeral word) h refl (rw is at says)
+gone_low : (rest : List ℕ) (n : Option ℕ) (h : Head) → numeral rest ≡ n → gone_in n ≡ Some h → Low rest
+gone_low rest None h is says = cc
+gone_low rest (Some n) h is says = number_low rest (Some n) n is refl
 
-words_low : (line : List ℕ) (value : Option ℕ) (h : Head) → numeral (after_first is_single_space line) ≡ value → head_of (before_first is_single_space line) value ≡ Some h → Low line
-words_low line None h is says = cc
-words_low line (Some value) h is says =
-    around line (word_low (before_first is_single_space line) value h (bytes_eq (before_first is_single_space line) (codes "clock")) refl says)
-    (numeral_low (after_first is_single_space line) value (list_all is_ascii_digit (after_first is_single_space line)) refl is)
+taken_low : (rest : List ℕ) (n c : Option ℕ) (h : Head) → numeral (before_first is_single_space rest) ≡ n → numeral (after_first is_single_space rest) ≡ c → taken_by n c ≡ Some h → Low rest
+taken_low rest None c h is was says = cc
+taken_low rest (Some n) None h is was says = cc
+taken_low rest (Some n) (Some c) h is was says = around rest (number_low (before_first is_single_space rest) (Some n) n is refl) (number_low (after_first is_single_space rest) (Some c) c was refl)
+
+piece_low : (word rest : List ℕ) (n l : Option ℕ) (h : Head) → numeral word ≡ n → numeral rest ≡ l → piece_in n l ≡ Some h → Low word × Low rest
+piece_low word rest None l h is was says = cc
+piece_low word rest (Some n) None h is was says = cc
+piece_low word rest (Some n) (Some l) h is was says = (number_low word (Some n) n is refl, number_low rest (Some l) l was refl)
+
+clock_low : (rest : List ℕ) (n : Option ℕ) (h : Head) → numeral rest ≡ n → clock_in n ≡ Some h → Low rest
+clock_low rest None h is says = cc
+clock_low rest (Some n) h is says = number_low rest (Some n) n is refl
+
+words_low-by : (word rest : List ℕ) (h : Head) (gone taken clock : Bool) → bytes_eq word (codes "gone") ≡ gone → bytes_eq word (codes "taken") ≡ taken → bytes_eq word (codes "clock") ≡ clock
+    → head_of word rest ≡ Some h → Low word × Low rest
+words_low-by word rest h true taken clock is was now says = (word_low word (codes "gone") refl is, gone_low rest (numeral rest) h refl (rw is at says))
+words_low-by word rest h false true clock is was now says =
+    (word_low word (codes "taken") refl was, taken_low rest (numeral (before_first is_single_space rest)) (numeral (after_first is_single_space rest)) h refl refl (rw (is, was) at says))
+words_low-by word rest h false false true is was now says = (word_low word (codes "clock") refl now, clock_low rest (numeral rest) h refl (rw (is, was, now) at says))
+words_low-by word rest h false false false is was now says = piece_low word rest (numeral word) (numeral rest) h refl refl (rw (is, was, now) at says)
+
+line_low-by : (line : List ℕ) (h : Head) (none : Bool) → bytes_eq line (codes "none") ≡ none → head line ≡ Some h → Low line
+line_low-by line h true is says = word_low line (codes "none") refl is
+line_low-by line h false is says =
+    let word = before_first is_single_space line in
+    let x = words_low-by word (after_first is_single_space line) h (bytes_eq word (codes "gone")) (bytes_eq word (codes "taken")) (bytes_eq word (codes "clock")) refl refl refl (rw is at says) in
+    around line x.0 x.1
+
+words_low : (line : List ℕ) (h : Head) → head line ≡ Some h → Low line
+words_low line h is = line_low-by line h (bytes_eq line (codes "none")) refl is
 
 head_is_text : (line : List ℕ) (h : Head) → head line ≡ Some h → IsUtf8 line
-head_is_text line h is = IsUtf8-from_ascii line (IsAscii-from_all line (words_low line (numeral (after_first is_single_space line)) h refl is))
+head_is_text line h is = IsUtf8-from_ascii line (IsAscii-from_all line (words_low line h is))
 
 no_text-by : (line : List ℕ) (h : Option Head) → ¬ (IsUtf8 line) → head line ≡ h → h ≡ None
 no_text-by line None not_text is = refl
@@ -86,7 +111,32 @@ no_text-by line (Some h) not_text is = absurd (not_text (head_is_text line h is)
 pub no_text : (line : List ℕ) → ¬ (IsUtf8 line) → head line ≡ None
 no_text line not_text = no_text-by line (head line) not_text refl
 
-pub no_blank : (line : List ℕ) → position_or_len is_single_space line ≡ length line → head line ≡ None
+numeral_none : numeral [] ≡ None
 unfolding numeral
-no_blank line is =
-    ap (λ t. head_of (before_first is_single_space line) (numeral t)) (drop_of_length-le line {i = position_or_len is_single_space line + 1} (omega (arith, is)))
+numeral_none = refl
+
+taken_by_none : (n : Option ℕ) → taken_by n None ≡ None
+taken_by_none None = refl
+taken_by_none (Some n) = refl
+
+pub no_second : (rest : List ℕ) → position_or_len is_single_space rest ≡ length rest → taken_in rest ≡ None
+no_second rest is =
+    let none : after_first is_single_space rest ≡ [] = drop_of_length-le rest {i = position_or_len is_single_space rest + 1} (omega (arith, is)) in
+    ap (λ t. taken_by (numeral (before_first is_single_space rest)) (numeral t)) none ∙ ap (taken_by (numeral (before_first is_single_space rest))) numeral_none ∙ taken_by_none _
+
+piece_in_none : (n : Option ℕ) → piece_in n None ≡ None
+piece_in_none None = refl
+piece_in_none (Some n) = refl
+
+head_of_none : (word : List ℕ) (gone taken clock : Bool) → bytes_eq word (codes "gone") ≡ gone → bytes_eq word (codes "taken") ≡ taken → bytes_eq word (codes "clock") ≡ clock → head_of word [] ≡ None
+head_of_none word true taken clock is was now = rw (is, numeral_none) refl
+head_of_none word false true clock is was now = rw (is, was) (no_second [] refl)
+head_of_none word false false true is was now = rw (is, was, now, numeral_none) refl
+head_of_none word false false false is was now = rw (is, was, now, numeral_none) (piece_in_none (numeral word))
+
+-- a line without a blank is no head but for the one word
+pub no_blank : (line : List ℕ) → bytes_eq line (codes "none") ≡ false → position_or_len is_single_space line ≡ length line → head line ≡ None
+no_blank line not_none is =
+    let none : after_first is_single_space line ≡ [] = drop_of_length-le line {i = position_or_len is_single_space line + 1} (omega (arith, is)) in
+    let word = before_first is_single_space line in
+    rw not_none (ap (head_of word) none ∙ head_of_none word (bytes_eq word (codes "gone")) (bytes_eq word (codes "taken")) (bytes_eq word (codes "clock")) refl refl refl)

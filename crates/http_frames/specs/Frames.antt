@@ -1,39 +1,64 @@
 -- Frames: the bytes of many connections on one stream (own).
-use Rattle.std.specs.Prelude.{◌≡◌, ◌≢◌, ℕ, Bool, List, [], ◌∷◌, ◌++◌, length, Option, Some, None, All, codes, nat_lt, ◌==◌, if◌then◌else◌}
+use Rattle.std.specs.Prelude.{◌≡◌, ◌≢◌, ◌⊎◌, ◌<◌, ℕ, Bool, true, false, List, [], ◌∷◌, ◌++◌, length, Option, Some, None, All, codes, nat_lt, option_map, ◌==◌, if◌then◌else◌}
 use Rattle.std.specs.Fmt.{decimal}
-use Rattle.std.specs.Io.KnownBytes.{Consumes, IsAtEnd}
+use Rattle.std.specs.Io.KnownBytes.{Appends}
 use Rattle.std.specs.List.{before_first, after_first}
 use Rattle.std.specs.Str.{bytes_eq}
 use Rattle.line_streams.specs.Numerals.{numeral}
+use Rattle.http_frames.specs.declared.frames.Frames.{Frames}
 use Rattle.http_frames.specs.declared.frames.Head.{Head}
-use Rattle.http_frames.specs.declared.frames.Head.TheVariants.{Piece, Clock}
-use Rattle.http_frames.specs.declared.frames.Next.{Next}
-use Rattle.http_frames.specs.declared.frames.Next.TheVariants as next
+use Rattle.http_frames.specs.declared.frames.Head.TheVariants.{Piece, Taken, Gone, Clock, Nothing}
 
--- ---- the head of a frame: two words with one blank between them
+-- ---- the head of a frame: words with one blank between them
 
 abbrev pub is_single_space : ℕ → Bool
 is_single_space b = b == 32
 
--- so many bytes of a connection, at most 1 MiB
-abbrev pub piece_head : Option ℕ → ℕ → Option Head
-piece_head None length = None
-piece_head (Some number) length = if nat_lt 1_048_576 length then None else Some (Piece number length)
+abbrev pub gone_in : Option ℕ → Option Head
+gone_in None = None
+gone_in (Some number) = Some (Gone number)
 
--- a moment behind `clock`, else a length behind a number
-abbrev pub head_of : List ℕ → Option ℕ → Option Head
-head_of word None = None
-head_of word (Some value) = if bytes_eq word (codes "clock") then Some (Clock value) else piece_head (numeral word) value
+abbrev pub clock_in : Option ℕ → Option Head
+clock_in None = None
+clock_in (Some moment) = Some (Clock moment)
+
+abbrev pub taken_by : Option ℕ → Option ℕ → Option Head
+taken_by None count = None
+taken_by (Some number) None = None
+taken_by (Some number) (Some count) = Some (Taken number count)
+
+-- a number, and how many bytes were taken
+abbrev pub taken_in : List ℕ → Option Head
+taken_in rest = taken_by (numeral (before_first is_single_space rest)) (numeral (after_first is_single_space rest))
+
+-- so many bytes of a connection, at most 1 MiB
+abbrev pub piece_in : Option ℕ → Option ℕ → Option Head
+piece_in None length = None
+piece_in (Some number) None = None
+piece_in (Some number) (Some length) = if nat_lt 1_048_576 length then None else Some (Piece number length)
+
+-- by the first word and what stands behind it
+abbrev pub head_of : List ℕ → List ℕ → Option Head
+head_of word rest =
+    if bytes_eq word (codes "gone") then gone_in (numeral rest)
+    else (if bytes_eq word (codes "taken") then taken_in rest
+    else (if bytes_eq word (codes "clock") then clock_in (numeral rest) else piece_in (numeral word) (numeral rest)))
 
 -- what a line says, without its end
 abbrev pub head : List ℕ → Option Head
-head line = head_of (before_first is_single_space line) (numeral (after_first is_single_space line))
+head line = if bytes_eq line (codes "none") then Some Nothing else head_of (before_first is_single_space line) (after_first is_single_space line)
+
+-- how many bytes follow the line
+abbrev pub more_in : Option Head → ℕ
+more_in (Some (Piece number length)) = length
+more_in _ = 0
 
 -- ---- a frame that comes in
 
--- its line, with the line feed (byte 10) at its end
+-- its line, of fewer than 4096 bytes, with the line feed (byte 10) at its end
 pub record IsLine (line text : List ℕ) : Type 0 where
   pub whole : All (λ b. b ≢ 10) line
+  pub short : length line < 4096
   pub text_is : text ≡ line ++ 10 ∷ []
 
 -- the line says how many bytes of the connection come, and they follow it
@@ -44,17 +69,65 @@ pub record IsPiece (number : ℕ) (bytes text : List ℕ) : Type 0 where
   pub says : head line ≡ Some (Piece number (length bytes))
   pub text_is : text ≡ first ++ bytes
 
--- what comes next on a stream, and what it leaves there
-abbrev pub IsNext : Option (List ℕ) → Next → List ℕ → Option (List ℕ) → Type 0
-IsNext before (next.Piece number) bytes after = (text : List ℕ) × IsPiece number bytes text × Consumes before after text
-IsNext before (next.Clock moment) bytes after =
-    (line : List ℕ) × (text : List ℕ) × IsLine line text × (head line ≡ Some (Clock moment)) × Consumes before after text
-IsNext before next.Malformed bytes after =
-    (line : List ℕ) × (text : List ℕ) × IsLine line text × (head line ≡ None) × Consumes before after text
-IsNext before next.End bytes after = IsAtEnd before
+-- the line says this
+abbrev pub Says : Head → List ℕ → Type 0
+Says h text = (line : List ℕ) × IsLine line text × (head line ≡ Some h)
+
+-- the line is no head, or it has no end within 4096 bytes
+abbrev pub IsWrongLine : List ℕ → Type 0
+IsWrongLine text = ((line : List ℕ) × IsLine line text × (head line ≡ None)) ⊎ (All (λ b. b ≢ 10) text × (4095 < length text))
+
+-- a frame, with what its line says and its bytes
+abbrev pub IsFrame : Option Head → List ℕ → List ℕ → Type 0
+IsFrame None bytes text = IsWrongLine text
+IsFrame (Some (Piece number length)) bytes text = IsPiece number bytes text
+IsFrame (Some (Taken number count)) bytes text = Says (Taken number count) text
+IsFrame (Some (Gone number)) bytes text = Says (Gone number) text
+IsFrame (Some (Clock moment)) bytes text = Says (Clock moment) text
+IsFrame (Some Nothing) bytes text = Says Nothing text
+
+-- no frame has come whole: its line has no end yet, or its bytes are not all there
+abbrev pub IsPart : List ℕ → Type 0
+IsPart bytes =
+    (All (λ b. b ≢ 10) bytes × (length bytes < 4096))
+    ⊎ ((line : List ℕ) × (first : List ℕ) × (rest : List ℕ) × (number : ℕ) × (count : ℕ)
+    × (bytes ≡ first ++ rest) × IsLine line first × (head line ≡ Some (Piece number count)) × (length rest < count))
+
+-- ---- a stream of frames
+
+-- what was read and is still to be taken
+abbrev pub bytes_at_hand : {I : Type 0} → Frames I → List ℕ
+bytes_at_hand frames = frames.buffer.items
+
+-- what is still to be taken: what is at hand, and what the stream still has
+abbrev pub unread : {I : Type 0} → (I → Option (List ℕ)) → Frames I → Option (List ℕ)
+unread remaining frames = option_map (λ (rest : List ℕ). frames.buffer.items ++ rest) (remaining frames.input)
 
 -- ---- a frame that goes out
 
 -- the number of the connection, how many bytes there are, and these bytes
 abbrev pub piece_text : ℕ → List ℕ → List ℕ
 piece_text number bytes = decimal number ++ codes " " ++ decimal (length bytes) ++ codes "\n" ++ bytes
+
+-- a front of the text was written
+abbrev pub AppendsFront : List ℕ → Option (List ℕ) → Option (List ℕ) → Type 0
+AppendsFront text held holds = (front : List ℕ) × (rest : List ℕ) × (text ≡ front ++ rest) × Appends held holds front
+
+-- the client of the connection may send so many bytes more
+abbrev pub grant_text : ℕ → ℕ → List ℕ
+grant_text number count = codes "grant " ++ decimal number ++ codes " " ++ decimal count ++ codes "\n"
+
+-- the connection waits for its client, of which so many bytes were taken: for the rest of a request, or for the next one
+abbrev pub wait_text : ℕ → Bool → ℕ → List ℕ
+wait_text number true count = codes "owes " ++ decimal number ++ codes " " ++ decimal count ++ codes "\n"
+wait_text number false count = codes "rests " ++ decimal number ++ codes " " ++ decimal count ++ codes "\n"
+
+-- a frame that goes out
+abbrev pub IsFrameOut : List ℕ → Type 0
+IsFrameOut text =
+    ((number : ℕ) × (bytes : List ℕ) × (text ≡ piece_text number bytes)) ⊎ (((number : ℕ) × (count : ℕ) × (text ≡ grant_text number count))
+    ⊎ (((number : ℕ) × (part : Bool) × (count : ℕ) × (text ≡ wait_text number part count)) ⊎ (text ≡ codes "more\n")))
+
+-- a front of one frame was written
+abbrev pub BreaksOff : Option (List ℕ) → Option (List ℕ) → Type 0
+BreaksOff held holds = (text : List ℕ) × IsFrameOut text × AppendsFront text held holds

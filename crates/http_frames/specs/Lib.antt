@@ -1,3 +1,7 @@
 pub mod Clients
+pub mod ConnectionEvents
 pub mod Frames
+pub mod Gate
+pub mod Laws
 pub mod Private
+pub mod TurnRuns

@@ -1,14 +1,29 @@
 //! Frames: the bytes of many connections on one stream.
-ghost use Rattle.std.specs.Prelude.{◌≡◌, ℕ, List, length, true, false, Ok, IfOk, OnOk};
-ghost use Rattle.std.specs.Io.KnownBytes.{Appends, Consumes, IsAtEnd};
-ghost use Rattle.http_frames.specs.Frames.{head, piece_text, IsLine, IsNext};
+ghost use Rattle.std.specs.Prelude.{◌≡◌, ◌≢◌, ◌==◌, ◌≤◌, All, Option, ◌++◌, codes, ℕ, List, length, take, true, false, Ok, IfOk, IfSome, None, OnOk, OnErr};
+ghost use Rattle.std.specs.Io.KnownBytes.{Appends, Consumes, IsAtEnd, Keeps};
+ghost use Rattle.http_frames.specs.Frames.{wait_text, gone_in, grant_text, head, more_in, piece_in, taken_in, piece_text, clock_in, AppendsFront, BreaksOff, IsFrame, IsPart, bytes_at_hand, unread};
+ghost use Rattle.line_streams.specs.Numerals.{numeral};
 
+use arrayvec::ArrayString;
+use bytes::BytesMut;
 use line_streams::Fault;
-use line_streams::numbers::number;
-use std::io::{self, BufRead, Write};
+use line_streams::numbers::{number, number as number_of};
+use memchr::memchr;
+use std::alloc::{AllocError, Global};
+use std::fmt::Write as _;
+use std::io::{Read, Write};
 
 /// A frame that comes in has so many bytes at most.
 pub const LARGEST: u64 = 1024 * 1024;
+
+/// The first line of a frame has fewer bytes (own).
+pub const LONGEST_LINE: usize = 4096;
+
+// A line that goes out has fewer bytes: three words, of which two are numbers.
+const LINE: usize = 64;
+
+// So much room is made before each read, and so much there is at first.
+const ROOM: usize = 64 * 1024;
 
 /// What the first line of a frame says (own).
 #[derive(Clone, Copy, PartialEq, Eq, Debug)]
@@ -20,102 +35,264 @@ pub enum Head {
         /// How many bytes.
         length: u64,
     },
+    /// The client of a connection has taken so many bytes more.
+    Taken {
+        /// The connection.
+        number: u64,
+        /// How many bytes.
+        count: u64,
+    },
+    /// The client of a connection is gone.
+    Gone(u64),
     /// It is this moment now, in nanoseconds since 1970.
     Clock(u64),
+    /// Nothing more has come.
+    Nothing,
 }
 
-/// What comes next on a stream of frames (own).
-#[derive(Clone, Copy, PartialEq, Eq, Debug)]
-pub enum Next {
-    /// The bytes of this connection.
-    Piece(u64),
-    /// A moment.
-    Clock(u64),
-    /// A line that is no head of a frame.
-    Malformed,
-    /// The end of the stream.
-    End,
+/// A frame that stands whole at the front of what was read.
+#[derive(Clone, Copy)]
+pub struct Frame<'a> {
+    /// What its first line says; none where that is no head.
+    pub head: Option<Head>,
+    /// Its bytes, behind the first line.
+    pub bytes: &'a [u8],
+    /// How many bytes it has, its first line and the line feed too.
+    pub length: usize,
+}
+
+/// A stream of frames, and what was read of it and is still to be taken.
+#[derive(Drop)]
+pub struct Frames<I> {
+    input: I,
+    buffer: BytesMut,
 }
 
 impl Head {
-    /// What a line says, without its end: two words with one blank between them, `NUMBER LENGTH` or `clock MOMENT`, in decimal digits. None for
+    /// What a line says, without its end: words with one blank between them, `NUMBER LENGTH`, `taken NUMBER BYTES`, `gone NUMBER`, `clock MOMENT` or `none`, in decimal digits. None for
     /// any other line, and for a length beyond `LARGEST`.
     pub fn of(line: &[u8]) -> Option<Head>
         ensures { result ≡ head line.now }
     {
-        let (word, value) = str::from_utf8(line).ok()?.split_once(' ')?;
-        let value = number(value)?;
+        if line == b"none".as_slice() {
+            return Some(Head::Nothing);
+        }
+        let (word, rest) = str::from_utf8(line).ok()?.split_once(' ')?;
+        if word == "gone" {
+            return gone_of(rest);
+        }
+        if word == "taken" {
+            return taken_of(rest);
+        }
         if word == "clock" {
-            return Some(Head::Clock(value));
+            return clock_of(rest);
         }
-        let number = number(word)?;
-        if value > LARGEST {
-            return None;
-        }
-        Some(Head::Piece {
-            number,
-            length: value,
-        })
+        piece_of(word, rest)
     }
 }
 
-/// Reads the next frame, its first line into `line`, and its bytes into `bytes`, where it has some. `Io` where the stream fails, or ends within a frame; `OutOfMemory`
-/// where there is no memory for the line or the bytes (own).
-pub fn read_frame<I: BufRead>(
-    input: &mut I,
-    line: &mut Vec<u8>,
-    bytes: &mut Vec<u8>,
-) -> Result<Next, Fault>
-    ensures { IfOk result (λ next. IsNext (I.remaining input.old) next bytes.new.items (I.remaining input.new)) }
+// What `gone NUMBER` says, by what stands behind its first word.
+fn gone_of(rest: &str) -> Option<Head>
+    ensures { result ≡ gone_in (numeral rest.now) }
 {
-    if !read_head(input, line)? {
-        bytes.clear();
-        return Ok(Next::End);
+    Some(Head::Gone(number(rest)?))
+}
+
+// What `clock MOMENT` says, by what stands behind its first word.
+fn clock_of(rest: &str) -> Option<Head>
+    ensures { result ≡ clock_in (numeral rest.now) }
+{
+    Some(Head::Clock(number(rest)?))
+}
+
+// What `taken NUMBER BYTES` says, by what stands behind its first word.
+fn taken_of(rest: &str) -> Option<Head>
+    ensures { result ≡ taken_in rest.now }
+{
+    let (word, count) = rest.split_once(' ')?;
+    let number = number(word)?;
+    let count = number_of(count)?;
+    Some(Head::Taken { number, count })
+}
+
+// What `NUMBER LENGTH` says.
+fn piece_of(word: &str, rest: &str) -> Option<Head>
+    ensures { result ≡ piece_in (numeral word.now) (numeral rest.now) }
+{
+    let number = number(word)?;
+    let length = number_of(rest)?;
+    if length > LARGEST {
+        return None;
     }
-    match Head::of(line) {
-        Some(Head::Piece { number, length }) => {
-            read_bytes(input, length, bytes)?;
-            return Ok(Next::Piece(number));
-        }
-        Some(Head::Clock(moment)) => {
-            bytes.clear();
-            return Ok(Next::Clock(moment));
-        }
-        None => {
-            bytes.clear();
-            return Ok(Next::Malformed);
-        }
+    Some(Head::Piece { number, length })
+}
+
+/// The frame at the front of the bytes, where it is whole. A line that is too long stands for one that is no head.
+pub fn first_frame(bytes: &[u8]) -> Option<Frame<'_>>
+    ensures some { IfSome result (λ frame. (frame.length ≤ length bytes.now) × IsFrame frame.head frame.bytes.now (take frame.length bytes.now)) }
+    ensures none { result ≡ None → IsPart bytes.now }
+{
+    let Some(end) = memchr(b'\n', bytes) else {
+        return no_line(bytes);
+    };
+    if end >= LONGEST_LINE {
+        return Some(Frame {
+            head: None,
+            bytes: &bytes[..0],
+            length: LONGEST_LINE,
+        });
+    }
+    let head = Head::of(&bytes[..end]);
+    let more = more_of(head);
+    let start = end + 1;
+    if more > (bytes.len() - start) as u64 {
+        return None;
+    }
+    let length = start + more as usize;
+    Some(Frame {
+        head,
+        bytes: &bytes[start..length],
+        length,
+    })
+}
+
+// How many bytes follow the line.
+fn more_of(head: Option<Head>) -> u64
+    ensures { result ≡ more_in head }
+{
+    match head {
+        Some(Head::Piece { length, .. }) => length,
+        _ => 0,
     }
 }
 
-// The next line, without its end; whether there is one. `Io` where it has no end.
-fn read_head<I: BufRead>(input: &mut I, line: &mut Vec<u8>) -> Result<bool, Fault>
-    ensures none { result ≡ Ok false → IsAtEnd (I.remaining input.old) }
-    ensures one { result ≡ Ok true → (text : List ℕ) × IsLine line.new.items text × Consumes (I.remaining input.old) (I.remaining input.new) text }
+// Where no line has come whole.
+fn no_line(bytes: &[u8]) -> Option<Frame<'_>>
+    ensures some { All (λ b. b ≢ 10) bytes.now → IfSome result (λ frame. (frame.length ≤ length bytes.now) × IsFrame frame.head frame.bytes.now (take frame.length bytes.now)) }
+    ensures none { All (λ b. b ≢ 10) bytes.now → result ≡ None → IsPart bytes.now }
 {
-    line.clear();
-    if input.read_until(b'\n', line)? == 0 {
-        return Ok(false);
+    if bytes.len() < LONGEST_LINE {
+        return None;
     }
-    if line.pop() != Some(b'\n') {
+    Some(Frame {
+        head: None,
+        bytes: &bytes[..0],
+        length: bytes.len(),
+    })
+}
+
+impl<I: Read> Frames<I> {
+    /// The frames of a stream, of which nothing was read. `AllocError` where there is no memory for what is read at once (own).
+    pub fn new(alloc: Global, input: I) -> Result<Frames<I>, AllocError>
+    where
+        I: Drop,
+        ensures { IfOk result (λ frames. unread I.remaining frames ≡ I.remaining input) }
+    {
+        let buffer = BytesMut::with_capacity(alloc, ROOM)?;
+        Ok(Frames { input, buffer })
+    }
+
+    /// The next frame, where it is whole in what was read.
+    pub fn next(&self) -> Option<Frame<'_>>
+        ensures some { IfSome result (λ frame. (frame.length ≤ length (bytes_at_hand self.now)) × IsFrame frame.head frame.bytes.now (take frame.length (bytes_at_hand self.now))) }
+        ensures none { result ≡ None → IsPart (bytes_at_hand self.now) }
+    {
+        first_frame(self.buffer.as_slice())
+    }
+
+    /// Goes behind so many bytes of what was read.
+    pub fn skip(&mut self, count: usize)
+        requires { count ≤ length (bytes_at_hand self.old) }
+        ensures { Consumes (unread I.remaining self.old) (unread I.remaining self.new) (take count (bytes_at_hand self.old)) }
+    {
+        self.buffer.advance(count);
+    }
+
+    /// Reads once; whether something came, and not the end of the stream. `Io` where the stream fails, `OutOfMemory` where there is no memory for what is read at once (own).
+    pub fn read(&mut self) -> Result<bool, Fault>
+        ensures keeps { Keeps (unread I.remaining self.old) (unread I.remaining self.new) }
+        ensures end { result ≡ Ok false → (bytes_at_hand self.new ≡ bytes_at_hand self.old) × ((part : Option (List ℕ)) × Consumes (unread I.remaining self.new) part (bytes_at_hand self.new) × IsAtEnd part) }
+    {
+        self.buffer.reserve(ROOM)?;
+        let count = self.buffer.read_from(&mut self.input)?;
+        Ok(count > 0)
+    }
+
+    /// Whether all that was read was taken.
+    pub fn is_empty(&self) -> bool
+        ensures { result ≡ (length (bytes_at_hand self.now) == 0) }
+    {
+        self.buffer.is_empty()
+    }
+}
+
+/// Writes bytes of a connection as a frame; none say that the connection is over. `Io` where the output fails; a front of the frame was written then (own).
+pub fn write_piece<O: Write>(number: u64, bytes: &[u8], output: &mut O) -> Result<(), Fault>
+    ensures ok { OnOk result (Appends (O.contents output.old) (O.contents output.new) (piece_text number bytes.now)) }
+    ensures err { OnErr result (BreaksOff (O.contents output.old) (O.contents output.new)) }
+{
+    let mut line = ArrayString::<LINE>::new();
+    if write!(line, "{} {}\n", number, bytes.len()).is_err() {
         return Err(Fault::Io);
     }
-    Ok(true)
+    write_front(line.as_str().as_bytes(), output)?;
+    write_front(bytes, output)
 }
 
-// The next bytes, so many, in place of those that are there.
-fn read_bytes<I: BufRead>(input: &mut I, count: u64, bytes: &mut Vec<u8>) -> Result<(), Fault>
-    ensures { OnOk result ((length bytes.new.items ≡ count) × Consumes (I.remaining input.old) (I.remaining input.new) bytes.new.items) }
+/// Writes that the client of a connection may send so many bytes more, as `write_piece` writes.
+pub fn write_grant<O: Write>(number: u64, count: u64, output: &mut O) -> Result<(), Fault>
+    ensures ok { OnOk result (Appends (O.contents output.old) (O.contents output.new) (grant_text number count)) }
+    ensures err { OnErr result (BreaksOff (O.contents output.old) (O.contents output.new)) }
 {
-    bytes.resize(count as usize, 0)?;
-    input.read_exact(bytes)?;
-    Ok(())
+    let mut line = ArrayString::<LINE>::new();
+    if write!(line, "grant {} {}\n", number, count).is_err() {
+        return Err(Fault::Io);
+    }
+    write_front(line.as_str().as_bytes(), output)
 }
 
-/// Writes bytes of a connection as a frame; none say that the connection is closed.
-pub fn write_piece<O: Write>(number: u64, bytes: &[u8], output: &mut O) -> io::Result<()>
-    ensures { OnOk result (Appends (O.contents output.old) (O.contents output.new) (piece_text number bytes.now)) }
+/// Writes that a connection waits for its client, of which so many bytes were taken: for the rest of a request (`owes`), or for the next one (`rests`). As `write_piece` writes.
+pub fn write_wait<O: Write>(
+    number: u64,
+    part: bool,
+    count: u64,
+    output: &mut O,
+) -> Result<(), Fault>
+    ensures ok { OnOk result (Appends (O.contents output.old) (O.contents output.new) (wait_text number part count)) }
+    ensures err { OnErr result (BreaksOff (O.contents output.old) (O.contents output.new)) }
 {
-    write!(output, "{} {}\n", number, bytes.len())?;
-    output.write_all(bytes)
+    let word = if part { "owes" } else { "rests" };
+    let mut line = ArrayString::<LINE>::new();
+    if write!(line, "{} {} {}\n", word, number, count).is_err() {
+        return Err(Fault::Io);
+    }
+    write_front(line.as_str().as_bytes(), output)
+}
+
+/// Writes that the program asks what else has come, as `write_piece` writes.
+pub fn write_more<O: Write>(output: &mut O) -> Result<(), Fault>
+    ensures ok { OnOk result (Appends (O.contents output.old) (O.contents output.new) (codes "more\n")) }
+    ensures err { OnErr result (BreaksOff (O.contents output.old) (O.contents output.new)) }
+{
+    write_front(b"more\n", output)
+}
+
+// Writes the bytes, and where the output fails a front of them.
+fn write_front<O: Write>(bytes: &[u8], output: &mut O) -> Result<(), Fault>
+    ensures ok { OnOk result (Appends (O.contents output.old) (O.contents output.new) bytes.now) }
+    ensures err { OnErr result (AppendsFront bytes.now (O.contents output.old) (O.contents output.new)) }
+{
+    let mut at = 0;
+    // A loop is proved to end, so this one counts its turns.
+    for _turn in 0..u64::MAX {
+        if at == bytes.len() {
+            return Ok(());
+        }
+        let count = output.write(&bytes[at..])?;
+        if count == 0 {
+            return Err(Fault::Io);
+        }
+        at += count;
+    }
+    Err(Fault::Io)
 }

@@ -1,5 +1,10 @@
-//! Many HTTP connections over one pair of streams: pieces of bytes, each with the number of its connection, come in, and go out.
+//! Many HTTP connections over one pair of streams, which take turns: each turn makes one call of the service at most, and answers go out no further than their readers follow.
 #![tactic(auto)]
 
 pub mod clients;
 pub mod frames;
+pub mod gate;
+mod held;
+pub mod laws;
+pub mod serving;
+mod waiting;

@@ -12,7 +12,6 @@ ghost use Rattle.dav_handler_core.specs.Deciding.{SaysDone, looks};
 ghost use Rattle.dav_handler_core.specs.KeptDocuments.{IsNew};
 ghost use Rattle.dav_handler_core.specs.PathMoments.{DatesTellFiles, MomentsTellFiles};
 ghost use Rattle.dav_handler_core.specs.Server.{Server};
-ghost use Rattle.dav_handler_core.specs.Serving.{Done, Leads};
 ghost use Rattle.dav_handler_core.specs.TagHistories.{Becomes, HasNoFiles, MomentsTell, TagsTell};
 
 /// The law of tags over a run (RFC 9110 section 8.8.1): from stores without files, a file at one
@@ -63,12 +62,11 @@ pub fn dates_tell_bytes()
 {}
 
 /// The law that `tags_tell_bytes` is of this server: new stores have no files, and what the calls
-/// of a connection lead to, or frames, is a run. Calls leave the clock and the options. It does
-/// nothing.
+/// of a connection lead to is a run; so is what frames lead to (`frames_make_runs`). Calls leave the
+/// clock and the options. It does nothing.
 pub fn calls_make_runs()
     ensures new_stores { (now : ℕ) → HasNoFiles (start now) }
     ensures calls { (s s' : Server) (calls : List Call) → Chain Answers s calls s' → Becomes s s' }
-    ensures frames { (s s' : Server) (done : List Done) → Leads s done s' → Becomes s s' }
     ensures stays { (s s' : Server) (calls : List Call) → Chain Answers s calls s'
         → (s'.clock ≡ s.clock) × (s'.options ≡ s.options) }
 {}

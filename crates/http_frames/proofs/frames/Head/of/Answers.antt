@@ -1,7 +1,7 @@
-use Rattle.std.proofs.Common.{◌≡◌, List, ℕ, Some, None, Result, Ok, Err, MatchResult, Bor, sym, ap, ◌∙◌, lit<}
+use Rattle.std.proofs.Common.{◌≡◌, List, ℕ, Some, None, Result, Ok, Err, MatchResult, Bor, codes, sym, ap, ◌∙◌, lit<}
 use Rattle.std.proofs.lemmas.Str.Pattern.{split_once_first}
 use Rattle.std.specs.Result.{result_ok}
-use Rattle.std.specs.Str.{IsUtf8}
+use Rattle.std.specs.Str.{IsUtf8, bytes_eq}
 use Rattle.http_frames.specs.Frames.{head}
 use Rattle.http_frames.proofs.Words.{no_text, no_blank}
 use Rattle.http_frames.proofs.frames.Head.of.Goals as goal
@@ -22,4 +22,5 @@ pub returns-in_err-word : goal.returns-in_err-word
 returns-in_err-word c =
     let text = read c.args.line.now _ c.from_utf8.result c.in_ok-ok.field-0 c.from_utf8.ensures.cases (sym c.ok.ensures.value ∙ c.in_ok-ok.was) in
     let none = rw c.in_err-word.was at (split_once_first 32 c.in_ok-ok.field-0.now c.split_once.result c.split_once.ensures.cases (lit< tt)) in
-    c.from_residual-in_err-word.ensures ∙ sym (ap head (sym text) ∙ no_blank c.in_ok-ok.field-0.now none)
+    let not_none = ap (λ (t : List ℕ). bytes_eq t (codes "none")) text ∙ sym (ap (bytes_eq c.args.line.now) c.as_slice.ensures) ∙ sym c.if-eq.ensures in
+    c.from_residual-in_err-word.ensures ∙ sym (ap head (sym text) ∙ no_blank c.in_ok-ok.field-0.now not_none none)

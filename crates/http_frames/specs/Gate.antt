@@ -1,0 +1,15 @@
+-- A turn: the service is told whose it is, and makes one call at most (own).
+use Rattle.std.specs.Prelude.{◌≡◌, ◌⊎◌, ◌≤◌, ℕ, List, [], length}
+use Rattle.http.specs.declared.request.Request.{Request}
+use Rattle.http_server.specs.declared.response.Response.{Response}
+use Rattle.http_server.specs.Exchange.{Call, Chain}
+
+-- one call at most, from one state of the service to the other
+pub record CallsOnce {S : Type 0} (answers : S → Request (List ℕ) → Response → S → Type 0) (old : S) (calls : List Call) (new : S) : Type 0 where
+  pub one : length calls ≤ 1
+  pub chain : Chain answers old calls new
+
+module _ {S : Type 0} (begins : S → ℕ → S → Type 0) (answers : S → Request (List ℕ) → Response → S → Type 0) where
+  -- nothing was asked of the service; or it was told that a turn of the connection comes, and then called
+  abbrev pub TakesTurn : S → ℕ → List Call → S → Type 0
+  TakesTurn old number calls new = ((calls ≡ []) × (new ≡ old)) ⊎ ((told : S) × begins old number told × CallsOnce answers told calls new)

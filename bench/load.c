@@ -263,6 +263,7 @@ static void next_lines(void) {
         if (c->taken >= HALF) { to += sprintf(to, "taken %lu %zu\n", c->number, c->taken); c->taken = 0; }
     sends = next_to_send();
     if (sends) {
+        if (!sends->number) sends->number = ++begun;
         piece_left = sends->left < PIECE ? sends->left : PIECE;
         if (piece_left > sends->granted) piece_left = sends->granted;
         sends->granted -= piece_left;
@@ -293,10 +294,18 @@ static int send_frames(void) {
     }
 }
 
+/* Another connection in the place of one that is closed behind its answer. It has its number once its first frame is sent. */
+static void begin_anew(struct connection *c) {
+    c->number = c->taken = c->closes = 0;
+    c->granted = WINDOW;
+}
+
 /* A connection of this command; NULL for an earlier one, of which the program may still tell something. */
 static struct connection *numbered(unsigned long number) {
     if (!number || number > begun) { fprintf(stderr, "a wrong number\n"); exit(1); }
-    return number < connections[0].number ? NULL : &connections[number - connections[0].number];
+    for (int n = 0; n < count; n++)
+        if (connections[n].number == number) return &connections[n];
+    return NULL;
 }
 
 /* Takes a line, and tells how long the piece behind it is, and whose. */
@@ -311,6 +320,7 @@ static size_t take_line(char *line, struct connection **whose) {
     if (*rest) { fprintf(stderr, "a wrong line\n"); exit(1); }
     if (word == 0 && c) c->granted += size;
     if (word < 3) return 0;
+    if (!size && !c) return 0;
     if (!size || !c) { fprintf(stderr, size ? "bytes for a connection that was left\n" : "closed in an answer\n"); exit(1); }
     *whose = c;
     return size;
@@ -325,6 +335,7 @@ static void take_frames(const char *bytes, size_t length) {
             size_t part = length < piece ? length : piece;
             take(c, bytes, part);
             c->taken += part;
+            if (!c->waits && c->closes) begin_anew(c);
             if (!c->waits && !c->done) begin_next(c);
             piece -= part;
             bytes += part;

@@ -59,7 +59,7 @@ class Sender:
     def choose(self, chance):
         kind, content = chance.choice(self.kinds), self.content
         if kind in ("put", "chunked", "expect", "large"):
-            body = b"x" * chance.choice([0, 1, 100, 3000] if kind != "large" else [HALF, WINDOW, 2 * WINDOW + 7])
+            body = b"x" * chance.choice([0, 1, 100, 3000] if kind != "large" else [HALF, WINDOW, 2 * WINDOW - 7])
             text = request(b"PUT " + self.path, body, b"Expect: 100-continue\r\n" if kind == "expect" else b"")
             if kind == "chunked":
                 text = request(b"PUT " + self.path, None, b"Transfer-Encoding: chunked\r\n") + (b"%x\r\n%b\r\n" % (len(body), body) if body else b"") + b"0\r\n\r\n"

@@ -31,6 +31,11 @@ def answer(status, body=b"", fields=b""):
     return b"HTTP/1.1 %s\r\n%scontent-length: %d\r\n\r\n%s" % (status, DATED + fields, len(body), body)
 
 
+def closing(text):
+    """An answer behind which the connection is closed."""
+    return text.replace(b"content-length: ", b"connection: close\r\ncontent-length: ", 1)
+
+
 def refusal(status):
     """The answer to what the server never saw, which closes the connection."""
     return b"HTTP/1.1 %s\r\nconnection: close\r\ncontent-length: 0\r\n\r\n" % status

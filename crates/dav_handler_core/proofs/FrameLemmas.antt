@@ -32,7 +32,7 @@ module _ {C : Type 0} (tells : C → Option ℕ → C → Type 0) (begun : Serve
   calls_become : (calls : List Call) (s s' : Timing C) → Becomes begun s.server → Chain Replies s calls s' → Becomes begun s'.server
   calls_become [] s s' run chain = subst (λ (t : Timing C). Becomes begun t.server) (sym chain) run
   calls_become (c ∷ calls) s s' run chain =
-      calls_become calls chain.0 s' (by_answer s.server chain.0.server c.0 c.1 run chain.1.0) chain.2
+      calls_become calls chain.0 s' (by_answer s.server chain.0.server c.0 chain.1.0 run chain.1.1) chain.2
 
   pub begins_becomes : (number : ℕ) (s s' : Timing C) → Becomes begun s.server → BeginsTurn tells s number s' → Becomes begun s'.server
   begins_becomes number s s' run told = subst (Becomes begun) (sym told.2) (told_on told.0 begun s.server run)

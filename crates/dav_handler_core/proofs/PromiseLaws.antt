@@ -377,8 +377,8 @@ module _ {C : Type 0} (tells : C → Option ℕ → C → Type 0) (begun : Serve
   each_call : (s : Timing C) (calls : List Call) (s' : Timing C) → Becomes begun s.server → (chain : Chain Replies s calls s') → EachCall (KeepsTo begun) s calls s' chain
   each_call s [] s' run chain = tt
   each_call s (c ∷ calls) s' run chain = (
-    keeps_to begun new s.server chain.0.server c.0 c.1 run chain.1.0,
-    each_call chain.0 calls s' (by_answer s.server chain.0.server c.0 c.1 run chain.1.0) chain.2,
+    keeps_to begun new s.server chain.0.server c.0 chain.1.0 run chain.1.1,
+    each_call chain.0 calls s' (by_answer s.server chain.0.server c.0 chain.1.0 run chain.1.1) chain.2,
   )
 
   each_of_turn : (s : Timing C) (number : ℕ) (calls : List Call) (s' : Timing C) → Becomes begun s.server → (turn : TakesTurn (BeginsTurn tells) Replies s number calls s')

@@ -85,10 +85,10 @@ pub record KeepsTo (begun before : Server) (request : Request (List ℕ)) (respo
 -- ---- of all answers
 
 module _ {C : Type 0} (P : Server → Request (List ℕ) → Response → Server → Type 0) where
-  -- of each of these calls
+  -- of each of these calls, and its answer as it was made
   abbrev pub EachCall : (s : Timing C) (calls : List Call) (s' : Timing C) → Chain Replies s calls s' → Type 0
   EachCall s [] s' chain = Unit {0}
-  EachCall s (c ∷ calls) s' chain = P s.server c.0 c.1 chain.0.server × EachCall chain.0 calls s' chain.2
+  EachCall s (c ∷ calls) s' chain = P s.server c.0 chain.1.0 chain.0.server × EachCall chain.0 calls s' chain.2
 
 module _ {C : Type 0} (tells : C → Option ℕ → C → Type 0) (P : Server → Request (List ℕ) → Response → Server → Type 0) where
   -- of each call of a turn

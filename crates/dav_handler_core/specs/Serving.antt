@@ -1,8 +1,10 @@
 -- How a server serves the connections whose frames come on one stream, and the moments that it is told (own).
-use Rattle.std.specs.Prelude.{◌≡◌, ℕ, List, Option, Some, None, Result}
+use Rattle.std.specs.Prelude.{◌≡◌, ◌⊎◌, ◌<◌, ℕ, List, [], ◌∷◌, ◌++◌, length, codes, Option, Some, None, Result}
 use Rattle.rand_core.specs.Stream.{Stream}
 use Rattle.http.specs.declared.request.Request.{Request}
+use Rattle.http.specs.Request.{body_of}
 use Rattle.http_server.specs.declared.response.Response.{Response}
+use Rattle.http_server.specs.Response.{fields_of}
 use Rattle.http_frames.specs.declared.clients.Clients.{Clients}
 use Rattle.http_frames.specs.declared.serving.End.{End}
 use Rattle.http_frames.specs.ConnectionEvents.{Event}
@@ -33,9 +35,15 @@ abbrev pub BeginsTurn : {C : Type 0} → (C → Option ℕ → C → Type 0) →
 BeginsTurn tells old number new =
     (told : Option ℕ) × tells old.clock told new.clock × (new.server ≡ with_clock told old.server)
 
--- A call is answered, and the clock is asked nothing.
+-- The answer to a request with a body of more than 512 KiB says that the connection is closed behind it, where there is memory for that field; all else is sent as it was made (RFC 9112 section 9.6).
+pub record IsSent (request : Request (List ℕ)) (made sent : Response) : Type 0 where
+  pub status : sent.status ≡ made.status
+  pub body : sent.body ≡ made.body
+  pub fields : (fields_of sent ≡ fields_of made) ⊎ ((524_288 < length (body_of request)) × (fields_of sent ≡ fields_of made ++ (codes "connection", codes "close") ∷ []))
+
+-- A call is answered, and so sent, and the clock is asked nothing.
 abbrev pub Replies : {C : Type 0} → Timing C → Request (List ℕ) → Response → Timing C → Type 0
-Replies old request response new = Answers old.server request response new.server × (new.clock ≡ old.clock)
+Replies old request response new = (made : Response) × Answers old.server request made new.server × IsSent request made response × (new.clock ≡ old.clock)
 
 -- A frame tells the moment, to which the server's clock is set, and the clock is asked nothing.
 abbrev pub Clocked : {C : Type 0} → Timing C → ℕ → Timing C → Type 0

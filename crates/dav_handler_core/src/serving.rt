@@ -15,7 +15,7 @@ ghost use Rattle.dav_handler_core.specs.Server.{Server};
 ghost use Rattle.dav_handler_core.specs.KeptDocuments.{IsNew};
 ghost use Rattle.dav_handler_core.specs.Promises.{EachAnswer, IsLeft, KeepsTo, StandsAt};
 ghost use Rattle.dav_handler_core.specs.ServerViews.{server};
-ghost use Rattle.dav_handler_core.specs.Serving.{AreServed, BeginsTurn, Clocked, Leads, Replies, Timing, timing};
+ghost use Rattle.dav_handler_core.specs.Serving.{AreServed, BeginsTurn, Clocked, IsSent, Leads, Replies, Timing, timing};
 ghost use Rattle.dav_handler_core.specs.TagHistories.{Becomes};
 
 use crate::dav::Dav;
@@ -26,6 +26,7 @@ use http_frames::clients::Clients;
 use http_frames::frames::Frames;
 use http_frames::gate::{OneCall, TurnService};
 use http_frames::serving::{End, serve as serve_turns};
+use http_header::{HeaderName, HeaderValue};
 use http_server::{Connection, Response, Service, serve};
 use line_streams::Fault;
 use rand_core::Rng;
@@ -46,6 +47,9 @@ pub trait Clock {
 // are copied.
 const SHARED: u64 = 96 * 1024;
 
+// A connection keeps the room of its longest body while it lasts; a longer one ends it.
+const LONG_BODY: usize = 512 * 1024;
+
 /// A server with the clock that tells it the moment of each turn.
 #[derive(Drop)]
 pub struct Timed<R, C> {
@@ -63,8 +67,22 @@ impl<R: Rng, C: Clock> Service for Timed<R, C> {
         request: &Request<Bytes>,
         response: &mut Response,
     ) -> Result<(), AllocError> {
-        self.dav.call(request, response)
+        self.dav.call(request, response)?;
+        close_behind_long(request, response);
+        Ok(())
     }
+}
+
+// Says that the connection is closed behind the answer, where the request had a long body and there
+// is memory for the field: the room that its bytes took is given back so.
+fn close_behind_long(request: &Request<Bytes>, response: &mut Response)
+    ensures { IsSent request.now response.old response.new }
+{
+    if request.body().len() <= LONG_BODY {
+        return;
+    }
+    let name = HeaderName::from_static("connection");
+    let _added = response.add_header(name, HeaderValue::from_static("close"));
 }
 
 /// The clock is asked once before each turn. The moment that it or a frame told last is the server's

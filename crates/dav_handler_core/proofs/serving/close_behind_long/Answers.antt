@@ -1,0 +1,17 @@
+use Rattle.std.proofs.Common.{◌<◌, ℕ, List, length, subst, Result, Ok, Err, OnOk, OnErr, arith, inl, inr}
+use Rattle.dav_handler_core.proofs.serving.close_behind_long.Goals as goal
+
+either : {A E : Type 0} {P Q R : Type 0} (r : Result A E) → OnOk r P → OnErr r Q → (P → R) → (Q → R) → R
+either (Ok a) p q f g = f p
+either (Err e) p q f g = g q
+
+pub returns : goal.returns
+returns c =
+    let long : 524_288 < length c.body.result.now = omega (arith, c.len.ensures.value, c.if-len-le-LONG_BODY.false) in
+    record {
+      status = c.add_header-added.ensures.status;
+      body = c.add_header-added.ensures.body;
+      fields = either c.add_header-added.result c.add_header-added.ensures.headers c.add_header-added.ensures.kept
+          (λ added. inr (subst (λ (t : List ℕ). 524_288 < length t) c.body.ensures long, rw (c.from_static-name.ensures, c.from_static.ensures) at added))
+          (λ same. inl same);
+    }

@@ -1,7 +1,7 @@
 -- How a step of a run follows from its parts, and a run from its steps.
-use Rattle.std.proofs.Common.{◌≡◌, ℕ, true, false, List, [], ◌∷◌, ◌++◌, take, Option, Some, None, Result, Ok, IsErr, refl, sym, subst, append-nil}
+use Rattle.std.proofs.Common.{◌≡◌, ℕ, false, List, [], ◌∷◌, ◌++◌, take, Option, Some, None, Result, Ok, IsErr, refl, sym, subst, append-nil}
 use Rattle.std.proofs.KnownBytes.{Appends-nil, Consumes-kept, Keeps-refl}
-use Rattle.std.specs.Io.KnownBytes.{Appends, Consumes}
+use Rattle.std.specs.Io.KnownBytes.{Appends}
 use Rattle.http.specs.declared.request.Request.{Request}
 use Rattle.http_server.specs.declared.response.Response.{Response}
 use Rattle.http_frames.specs.declared.clients.Clients.{Clients}
@@ -22,11 +22,6 @@ use Rattle.http_frames.proofs.Running.{writes_breaks, written_served, wrote_none
 use Rattle.http_frames.proofs.Results.{if_ok-err}
 
 module _ {S : Type 0} (begins : S → ℕ → S → Type 0) (answers : S → Request (List ℕ) → Response → S → Type 0) (clocked : S → ℕ → S → Type 0) where
-  -- a frame was taken
-  pub frame_follows : (h : Option Head) (bytes text : List ℕ) (c c' : Clients) (s s' : S) (input input' held holds : Option (List ℕ)) → TakesFrame begins answers clocked true h bytes c c' s s' held holds
-      → IsFrame h bytes text → Consumes input input' text → GoesOn begins answers clocked None c c' s s' input input' held holds
-  frame_follows h bytes text c c' s s' input input' held holds takes frame read = let x = takes text frame in (x.0, x.1, x.2, (text, x.3, read), x.4)
-
   -- a frame is wrong
   pub wrong_follows : {I : Type 0} (remaining : I → Option (List ℕ)) (frames : Frames I) (h : Option Head) (bytes : List ℕ) (n : ℕ) (c c' : Clients) (s s' : S) (held holds : Option (List ℕ))
       → TakesFrame begins answers clocked false h bytes c c' s s' held holds → IsFrame h bytes (take n (bytes_at_hand frames))

@@ -42,7 +42,7 @@ module _ {S : Type 0} (begins : S → ℕ → S → Type 0) (answers : S → Req
       takes_one (Some (head.Piece n l)) bytes (Came n bytes) c c' s s held holds (λ text frame. frame) x.0 (joins_line n c c' joins) config window refl
       (subst (λ (t : Option (List ℕ)). Appends held t []) (sym x.1) (Appends-nil held))
   piece_taken n l bytes c c' s held holds (inr x) joins config window =
-      takes_one (Some (head.Piece n l)) bytes (Rejected n bytes) c c' s s held holds (λ text frame. frame) x.0 (joins_line n c c' joins) config window refl x.1
+      takes_one (Some (head.Piece n l)) bytes (Rejected n bytes) c c' s s held holds (λ text frame. frame) x.1 (joins_line n c c' joins) config window refl x.2
 
   pub piece_frame : {E : Type 0} (r : Result Bool E) (h : Option Head) (n l : ℕ) (bytes : List ℕ) (c c' : Clients) (s : S) (held holds : Option (List ℕ)) → h ≡ Some (head.Piece n l)
       → IfOk r (λ taken. IsTrue taken ↔ ((0 < n) × (n ≤ count_begun c + 1))) → (r ≡ Ok true → Takes n bytes c c' held holds) → (r ≡ Ok false → (c' ≡ c) × (holds ≡ held)) → Joins n (queue_of c) (queue_of c')

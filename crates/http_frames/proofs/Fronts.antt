@@ -50,9 +50,6 @@ pub second_front : (held h1 holds : Option (List ℕ)) (xs ys text : List ℕ) �
 second_front held h1 holds xs ys text is x y =
     (xs ++ y.0, y.1, is ∙ ap (λ (t : List ℕ). xs ++ t) y.2 ∙ sym (append_assoc xs y.0 y.1), Appends-trans held h1 holds xs y.0 x y.3)
 
-pub no_front : (held : Option (List ℕ)) (text : List ℕ) → AppendsFront text held held
-no_front held text = ([], text, refl, Appends-nil held)
-
 pub piece_off : (n : ℕ) (bytes : List ℕ) (held holds : Option (List ℕ)) → AppendsFront (piece_text n bytes) held holds → BreaksOff held holds
 piece_off n bytes held holds x = (piece_text n bytes, inl (n, bytes, refl), x)
 

@@ -97,11 +97,7 @@ module _ (k k1 k2 : Connection) (t : List ℕ) (same : connection_config k2 ≡ 
   pub last : (m : List ℕ) → ReadsFront t k k1 → history k2 ≡ after_read (history k1) m → (m ≡ [] → t ≡ []) → Reads (t ++ m) k k2
   last m x is none = last-by m x is none
 
--- both parts of nothing are nothing
-pub second_none : (xs ys : List ℕ) → xs ++ ys ≡ [] → ys ≡ []
-second_none [] ys is = is
-second_none (x ∷ xs) ys is = cc
-
+-- the first part of nothing is nothing
 pub first_none : (xs ys : List ℕ) → xs ++ ys ≡ [] → xs ≡ []
 first_none [] ys is = refl
 first_none (x ∷ xs) ys is = cc

@@ -1,18 +1,17 @@
 -- What each call adds to what happened.
-use Rattle.std.proofs.Common.{◌≡◌, ◌≢◌, ℕ, ◌+◌, ◌<◌, ◌≤◌, Bool, false, List, [], ◌∷◌, length, take, Option, Some, None, IsTrue, IsFalse, ◌==◌, refl, sym, ap, ◌∙◌, subst, arith, All, eq-eqb, inl, inr}
+use Rattle.std.proofs.Common.{◌≡◌, ◌≢◌, ℕ, ◌<◌, ◌≤◌, false, List, [], ◌∷◌, length, take, Option, Some, None, refl, sym, ap, ◌∙◌, subst, arith, All, eq-eqb, inl, inr}
 use Rattle.std.proofs.lemmas.List.Elements.{All-head}
 use Rattle.http.specs.declared.request.Request.{Request}
 use Rattle.http_server.specs.declared.response.Response.{Response}
 use Rattle.http_server.specs.declared.state.Config.{Config}
-use Rattle.http_server.specs.declared.connection.Connection.{Connection}
 use Rattle.http_server.specs.declared.state.State.TheVariants.{Open}
-use Rattle.http_server.specs.History.{History, after_read, Rests, IsDone}
+use Rattle.http_server.specs.History.{Rests, IsDone}
 use Rattle.http_server.proofs.Theorems.{never_stalls}
 use Rattle.http_frames.specs.declared.clients.Clients.{Clients}
 use Rattle.http_frames.specs.declared.held.Held.{Held}
 use Rattle.http_frames.specs.Clients.{Stands, Has, StaysSo, Adds, GivesTurn, TellsNext, NoTwice, count_begun, config_of, window_of, queue_of, held_at, history_of}
 use Rattle.http_frames.specs.ConnectionEvents.{Event, Account, Place, Going, Left, Over, Came, Took, Gone, Answered, Told, Granted, Awaited, number_of, is_general, add_at, add_going, account, IsNumber}
-use Rattle.http_frames.specs.Private.Steps.{JoinsFresh, Waits, StandsInQueue, Reads, GrantsMore, Hears, Speaks, Steps, Sends, TellsWait, MovesOne, HearsAt, TakesAt}
+use Rattle.http_frames.specs.Private.Steps.{JoinsFresh, Waits, GrantsMore, Speaks, Steps, Sends, TellsWait, MovesOne, HearsAt, TakesAt}
 use Rattle.http_frames.proofs.Places.{Line, line-same, line-joins, line-popped, popped_once}
 use Rattle.http_frames.proofs.Keeping.{moved, moved-still, stood, unmoved}
 use Rattle.http_frames.proofs.Answering.{heard, dropped, told, over, answered}
@@ -173,7 +172,7 @@ module _ (before after : Clients) (n : ℕ) (first : queue_of before ≡ n ∷ q
           let at = numbered es h in
           let config_is = (stood before es n (Some k) h at.0 at.1 is).1.config_is in
           let rests = subst (λ (c : Config). Rests c (history_of k')) (w.config ∙ config_is ∙ sym m.config) (w.rests (ap (λ (c : Config). c.max_pending) config_is ∙ h.pauses)) in
-          rw (m.puts n, eq-eqb n n refl) ((rests, never_stalls (config_of after) (history_of k') rests), w.dues);
+          rw (m.puts n, eq-eqb n n refl) ((rests, never_stalls (config_of after) (history_of k') rests), w.dues, w.news);
     }
 
     pub has_late_turn : held_at before n ≡ None → MovesOne n None before after → s' ≡ s → GivesTurn begins answers n before after s s'
@@ -184,25 +183,6 @@ module _ (before after : Clients) (n : ℕ) (first : queue_of before ≡ n ∷ q
       waits = rw is tt;
       rests = λ es h. rw (m.puts n, eq-eqb n n refl) tt;
     }
-
--- all of the bytes were received
-pub hears_all : (into n : ℕ) (bytes : List ℕ) (k k1 : Held) (after : Connection) (ended part : Bool) (queue queue' : List ℕ) → Waits n k k1 queue queue' → StandsInQueue n k queue queue' → IsTrue k1.queued
-    → ((history_of k).state ≡ Open) × IsFalse k.ended → k.behind + length bytes ≤ into → Reads bytes k1.connection after → ended ≡ (length bytes == 0)
-    → Hears into n bytes k (record k1 { connection = after; heard = k1.heard + length bytes; behind = k1.behind + length bytes; ended = ended; part = part }) queue queue'
-hears_all into n bytes k k1 after ended part queue queue' w is_in queued hears fits x ended_is = record {
-  open_is = hears.0;
-  unended = hears.1;
-  reads = record { history = x.history ∙ ap (λ (h : History). after_read h bytes) w.history; config = x.config ∙ w.config };
-  ahead = w.ahead;
-  heard = omega (arith, w.heard);
-  behind = omega (arith, w.behind);
-  fits = omega (arith, w.behind, fits);
-  due = w.due;
-  ended = ended_is;
-  joins = w.joins;
-  is_in = is_in;
-  queued = queued;
-}
 
 pub some_waits : (xs : List ℕ) → xs ≢ [] → 0 < length xs
 some_waits [] some = absurd (some refl)

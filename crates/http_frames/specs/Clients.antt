@@ -129,6 +129,12 @@ pub record Has (c : Clients) (events : List Event) : Type 0 where
 
 -- ---- what a call does
 
+-- as many have begun, and the configuration and the windows are the same
+pub record SameSettings (before after : Clients) : Type 0 where
+  pub begun : count_begun after ≡ count_begun before
+  pub config : config_of after ≡ config_of before
+  pub window : window_of after ≡ window_of before
+
 -- nothing happened
 abbrev pub StaysSo : Clients → Clients → Type 0
 StaysSo before after = (events : List Event) → Has before events → Has after events
@@ -141,10 +147,19 @@ Adds before after e = (events : List Event) → Has before events → Has after 
 abbrev pub Joins : ℕ → List ℕ → List ℕ → Type 0
 Joins number queue queue' = (queue' ≡ queue) ⊎ (queue' ≡ queue ++ number ∷ [])
 
--- The bytes that came were taken; or they were not, and the connection is ended, and that was told.
+-- its client may still send: it is open, and its input has not ended
+abbrev pub HearsMore : Held → Type 0
+HearsMore k = ((history_of k).state ≡ Open) × IsFalse k.ended
+
+-- what comes under the number is heard: it is the next, or that of a connection that goes on, whose client may still send
+abbrev pub IsHeard : ℕ → Clients → Type 0
+IsHeard number c = (number ≡ count_begun c + 1) ⊎ ((k : Held) × (held_at c number ≡ Some k) × HearsMore k)
+
+-- The bytes that came were taken; or they were not, though what comes is heard, and the connection is ended, and that was told. So what comes late ends nothing.
 abbrev pub Takes : ℕ → List ℕ → Clients → Clients → Option (List ℕ) → Option (List ℕ) → Type 0
 Takes number bytes before after held holds =
-    (Adds before after (Came number bytes) × (holds ≡ held)) ⊎ (Adds before after (Rejected number bytes) × Appends held holds (piece_text number []))
+    (Adds before after (Came number bytes) × (holds ≡ held))
+    ⊎ (IsHeard number before × Adds before after (Rejected number bytes) × Appends held holds (piece_text number []))
 
 -- it answered each whole request that came, or an answer waits, or it is closed; and so it has bytes to hand out, is done, or waits for input
 abbrev pub IsAtRest : Config → History → Type 0
@@ -154,13 +169,17 @@ IsAtRest config h = Rests config h × (WantsRead config h ⊎ ((0 < length h.pen
 abbrev pub IsAllDue : Held → Type 0
 IsAllDue k = (history_of k).state ≡ Open → (history_of k).pending ≡ [] → k.due ≡ k.behind
 
--- A turn of the connection under a number: at most one call is made, none where an answer of it waits; then it has bytes to hand out, is done, or waits for input.
+-- where it waits for its client, that is to be told
+abbrev pub IsNews : Held → Type 0
+IsNews k = (history_of k).state ≡ Open → (history_of k).pending ≡ [] → IsTrue k.news
+
+-- A turn of the connection under a number: at most one call is made, none where an answer of it waits; then it has bytes to hand out, is done, or waits for input, which is to be told.
 pub record GivesTurn {S : Type 0} (begins : S → ℕ → S → Type 0) (answers : S → Request (List ℕ) → Response → S → Type 0) (number : ℕ) (before after : Clients) (old new : S) : Type 0 where
   pub calls : List Call
   pub turn : TakesTurn begins answers old number calls new
   pub adds : Adds before after (Answered number calls)
   pub waits : IfSome (held_at before number) (λ k. (history_of k).pending ≢ [] → (calls ≡ []) × (new ≡ old))
-  pub rests : (events : List Event) → Has before events → IfSome (held_at after number) (λ k. IsAtRest (config_of after) (history_of k) × IsAllDue k)
+  pub rests : (events : List Event) → Has before events → IfSome (held_at after number) (λ k. IsAtRest (config_of after) (history_of k) × IsAllDue k × IsNews k)
 
 -- What went out to it: a piece of the answers that wait, a grant, that it waits for its client, or its end.
 pub record TellsNext (number : ℕ) (before after : Clients) (held holds : Option (List ℕ)) : Type 0 where

@@ -1,10 +1,8 @@
 //! The connections of many clients, one service behind them all. Bytes are taken, requests are answered one a turn, and answers are handed out, each by a call of its own.
-ghost use Rattle.std.specs.Prelude.{◌≡◌, ◌≢◌, ◌<◌, ◌≤◌, ◌+◌, ◌-◌, ◌^◌, ◌↔◌, ◌⊎◌, ◌++◌, List, ℕ, [], ◌∷◌, Some, None, true, false, Ok, IfOk, OnOk, OnErr, IfSome, IsNone, IsSome, IsTrue, IsFalse, codes, length, take, max};
+ghost use Rattle.std.specs.Prelude.{◌≡◌, ◌≢◌, ◌<◌, ◌≤◌, ◌+◌, ◌↔◌, ◌⊎◌, [], ◌∷◌, None, true, false, Ok, IfOk, OnOk, OnErr, IfSome, IsNone, IsSome, IsTrue, IsFalse, codes, max};
 ghost use Rattle.std.specs.Io.KnownBytes.{Appends};
-ghost use Rattle.http_server.specs.Connection.{config_of as connection_config, history};
-ghost use Rattle.http_server.specs.History.{WantsRead, IsDone};
 ghost use Rattle.http_frames.specs.ConnectionEvents.{Asked, Closed, Ended, Gone, IsNumber, Nothing, Took};
-ghost use Rattle.http_frames.specs.Clients.{Adds, GivesTurn, Has, IsFull, IsHeldBack, IsStill, Joins, StaysSo, Takes, TellsNext, asked_of, count_begun, closed_window, config_of, held_at, history_of, queue_of, window_of};
+ghost use Rattle.http_frames.specs.Clients.{Adds, GivesTurn, Has, IsStill, Joins, SameSettings, StaysSo, Takes, TellsNext, asked_of, count_begun, closed_window, config_of, held_at, queue_of, window_of};
 ghost use Rattle.http_frames.specs.Frames.{BreaksOff, piece_text};
 ghost use Rattle.http_frames.specs.Private.Steps.{LooksAlike, BeginsFresh, HearsAt, QuitsAt};
 
@@ -149,9 +147,7 @@ impl Clients {
         ensures takes { result ≡ true → Adds self.old self.new (Took number count) }
         ensures refused { result ≡ false → self.new ≡ self.old }
         ensures queue { queue_of self.new ≡ queue_of self.old }
-        ensures begun { count_begun self.new ≡ count_begun self.old }
-        ensures config { config_of self.new ≡ config_of self.old }
-        ensures window { window_of self.new ≡ window_of self.old }
+        ensures settings { SameSettings self.old self.new }
     {
         if !self.has_begun(number) || !self.may_take(number, count) {
             return false;
@@ -169,9 +165,7 @@ impl Clients {
         ensures takes { result ≡ true → Adds self.old self.new (Gone number) }
         ensures refused { result ≡ false → self.new ≡ self.old }
         ensures queue { queue_of self.new ≡ queue_of self.old }
-        ensures begun { count_begun self.new ≡ count_begun self.old }
-        ensures config { config_of self.new ≡ config_of self.old }
-        ensures window { window_of self.new ≡ window_of self.old }
+        ensures settings { SameSettings self.old self.new }
     {
         if !self.has_begun(number) {
             return false;
@@ -186,9 +180,7 @@ impl Clients {
         ensures first { IfSome result (λ number. queue_of self.old ≡ number ∷ queue_of self.new) }
         ensures none { result ≡ None → (queue_of self.old ≡ []) × (queue_of self.new ≡ []) × (service.new ≡ service.old) × StaysSo self.old self.new }
         ensures turn { IfSome result (λ number. GivesTurn S.begins S.answers number self.old self.new service.old.service service.new.service) }
-        ensures begun { count_begun self.new ≡ count_begun self.old }
-        ensures config { config_of self.new ≡ config_of self.old }
-        ensures window { window_of self.new ≡ window_of self.old }
+        ensures settings { SameSettings self.old self.new }
     {
         let number = self.queue.pop_front()?;
         self.turns = self.turns.saturating_add(1);
@@ -211,9 +203,7 @@ impl Clients {
         ensures stays { result ≢ Ok true → StaysSo self.old self.new }
         ensures breaks { OnErr result (BreaksOff (O.contents output.old) (O.contents output.new)) }
         ensures queue { Joins number (queue_of self.old) (queue_of self.new) }
-        ensures begun { count_begun self.new ≡ count_begun self.old }
-        ensures config { config_of self.new ≡ config_of self.old }
-        ensures window { window_of self.new ≡ window_of self.old }
+        ensures settings { SameSettings self.old self.new }
     {
         if !self.has_begun(number) {
             return Ok(false);
@@ -248,9 +238,7 @@ impl Clients {
         ensures stays { result ≢ Ok true → self.new ≡ self.old }
         ensures breaks { OnErr result (BreaksOff (O.contents output.old) (O.contents output.new)) }
         ensures queue { queue_of self.new ≡ queue_of self.old }
-        ensures begun { count_begun self.new ≡ count_begun self.old }
-        ensures config { config_of self.new ≡ config_of self.old }
-        ensures window { window_of self.new ≡ window_of self.old }
+        ensures settings { SameSettings self.old self.new }
     {
         if !self.goes_on(number) {
             return Ok(false);
@@ -265,9 +253,7 @@ impl Clients {
         ensures asks { OnOk result (Adds self.old self.new Asked × Appends (O.contents output.old) (O.contents output.new) (codes "more\n")) }
         ensures fails { OnErr result ((self.new ≡ self.old) × BreaksOff (O.contents output.old) (O.contents output.new)) }
         ensures queue { queue_of self.new ≡ queue_of self.old }
-        ensures begun { count_begun self.new ≡ count_begun self.old }
-        ensures config { config_of self.new ≡ config_of self.old }
-        ensures window { window_of self.new ≡ window_of self.old }
+        ensures settings { SameSettings self.old self.new }
     {
         write_more(output)?;
         self.asked = true;
@@ -280,9 +266,7 @@ impl Clients {
         ensures takes { result ≡ true → Adds self.old self.new Nothing }
         ensures refused { result ≡ false → self.new ≡ self.old }
         ensures queue { queue_of self.new ≡ queue_of self.old }
-        ensures begun { count_begun self.new ≡ count_begun self.old }
-        ensures config { config_of self.new ≡ config_of self.old }
-        ensures window { window_of self.new ≡ window_of self.old }
+        ensures settings { SameSettings self.old self.new }
     {
         let asked = self.asked;
         self.asked = false;
@@ -304,9 +288,7 @@ impl Clients {
     pub fn begin_round(&mut self)
         ensures stays { StaysSo self.old self.new }
         ensures queue { queue_of self.new ≡ queue_of self.old }
-        ensures begun { count_begun self.new ≡ count_begun self.old }
-        ensures config { config_of self.new ≡ config_of self.old }
-        ensures window { window_of self.new ≡ window_of self.old }
+        ensures settings { SameSettings self.old self.new }
     {
         self.round = self.round.wrapping_add(1);
         self.turns = 0;
@@ -316,7 +298,8 @@ impl Clients {
     /// Whether a turn may be given. Not while the answer to `more` is to come; nor where the first of the queue had a turn since the input was read, and `TURNS` turns were given or
     /// `TOLD` bytes handed out since. Once the input has ended, always.
     pub fn may_answer(&self) -> bool
-        ensures { IsTrue (window_of self.now).closed → IsTrue result }
+        ensures closed { IsTrue (window_of self.now).closed → IsTrue result }
+        ensures asked { IsFalse (window_of self.now).closed → IsTrue (asked_of self.now) → IsFalse result }
     {
         if self.windows.closed {
             return true;
@@ -329,9 +312,7 @@ impl Clients {
     pub fn excess(&mut self, number: u64) -> Option<u64>
         ensures stays { StaysSo self.old self.new }
         ensures queue { queue_of self.new ≡ queue_of self.old }
-        ensures begun { count_begun self.new ≡ count_begun self.old }
-        ensures config { config_of self.new ≡ config_of self.old }
-        ensures window { window_of self.new ≡ window_of self.old }
+        ensures settings { SameSettings self.old self.new }
     {
         let held = self.connections.get(&number)?;
         let (own, due) = (held.waiting, held.due);
@@ -491,9 +472,7 @@ impl Clients {
         ensures fails { IsNumber (count_begun self.old) number → OnErr result (Adds self.old self.new (Gone number)) }
         ensures breaks { OnErr result (BreaksOff (O.contents output.old) (O.contents output.new)) }
         ensures queue { Joins number (queue_of self.old) (queue_of self.new) }
-        ensures begun { count_begun self.new ≡ count_begun self.old }
-        ensures config { config_of self.new ≡ config_of self.old }
-        ensures window { window_of self.new ≡ window_of self.old }
+        ensures settings { SameSettings self.old self.new }
     {
         if self.pass(number, bytes) {
             return Ok(());
@@ -506,9 +485,7 @@ impl Clients {
         ensures hears { result ≡ true → HearsAt (held_at self.old number) number bytes.now self.old self.new }
         ensures fails { result ≡ false → QuitsAt number self.old self.new }
         ensures queue { Joins number (queue_of self.old) (queue_of self.new) }
-        ensures begun { count_begun self.new ≡ count_begun self.old }
-        ensures config { config_of self.new ≡ config_of self.old }
-        ensures window { window_of self.new ≡ window_of self.old }
+        ensures settings { SameSettings self.old self.new }
     {
         let (into, frame) = (self.windows.into, self.frames.wrapping_add(1));
         let Some(held) = self.connections.get_mut(&number) else {

@@ -1,10 +1,10 @@
 //! One connection that goes on: what it takes, its turn, and what is written to it.
 ghost use Rattle.std.specs.Prelude.{◌≡◌, ◌≢◌, ◌<◌, ◌≤◌, ◌+◌, ◌^◌, ◌↔◌, ◌⊎◌, [], None, true, false, Ok, IfOk, OnOk, OnErr, IfSome, IsTrue, IsFalse, length};
-ghost use Rattle.http_server.specs.Connection.{config_of as connection_config, history};
+ghost use Rattle.http_server.specs.Connection.{history};
 ghost use Rattle.http_server.specs.History.{IsDone};
-ghost use Rattle.http_frames.specs.Clients.{IsFull, IsHeldBack, Joins, history_of};
+ghost use Rattle.http_frames.specs.Clients.{HearsMore, IsFull, IsHeldBack, Joins, history_of};
 ghost use Rattle.http_frames.specs.Frames.{BreaksOff};
-ghost use Rattle.http_frames.specs.Private.Steps.{GrantsMore, Hears, IsDeaf, StandsInQueue, JoinsFresh, Reads, ReadsFront, Speaks, Sends, Settles, Steps, TellsWait, Waits, WritesOutput};
+ghost use Rattle.http_frames.specs.Private.Steps.{GrantsMore, Hears, IsDeaf, StandsInQueue, JoinsFresh, Reads, Speaks, Sends, Settles, Steps, TellsWait, Waits, WritesOutput};
 
 use crate::clients::Windows;
 use crate::frames::{write_grant, write_piece, write_wait};
@@ -53,6 +53,7 @@ pub(crate) fn hear(
     bytes: &[u8],
 ) -> bool
     ensures hears { result ≡ true → ((IsDeaf held.old × (held.new ≡ held.old) × (queue.new.items ≡ queue.old.items)) ⊎ Hears into number bytes.now held.old held.new queue.old.items queue.new.items) }
+    ensures fails { result ≡ false → HearsMore held.old }
     ensures queue { Joins number queue.old.items queue.new.items }
     ensures fresh { JoinsFresh number held.old queue.old.items queue.new.items }
 {
@@ -87,7 +88,7 @@ fn fits(held: &Held, into: u64, bytes: &[u8]) -> bool
 // Whether what comes is dropped: its input has ended, or it is closed.
 fn is_deaf(held: &Held) -> bool
     ensures deaf { IsTrue result → IsDeaf held.now }
-    ensures hears { IsFalse result → ((history_of held.now).state ≡ State.Open) × IsFalse held.now.ended }
+    ensures hears { IsFalse result → HearsMore held.now }
 {
     held.ended || held.connection.state() != State::Open
 }

@@ -11,7 +11,7 @@ use Rattle.http_server.specs.History.{Rests, IsQuiet, new_history, after_read, a
 use Rattle.http_frames.specs.declared.clients.Clients.{Clients}
 use Rattle.http_frames.specs.declared.held.Held.{Held}
 use Rattle.http_frames.specs.declared.clients.Windows.{Windows}
-use Rattle.http_frames.specs.Clients.{IsAllDue, asked_of, count_begun, config_of, window_of, queue_of, held_at, history_of}
+use Rattle.http_frames.specs.Clients.{HearsMore, IsAllDue, IsNews, asked_of, count_begun, config_of, window_of, queue_of, held_at, history_of}
 use Rattle.http_frames.specs.Frames.{grant_text, piece_text, wait_text}
 use Rattle.http_frames.specs.Gate.{TakesTurn}
 
@@ -74,6 +74,7 @@ pub record Settles (k k' : Held) : Type 0 where
   pub behind : k'.behind ≡ k.behind
   pub due : (k'.due ≡ k.due) ⊎ ((k'.due ≡ k.behind) × ((history_of k).state ≡ Open) × ((history_of k).pending ≡ []))
   pub dues : IsAllDue k'
+  pub news : IsNews k'
   pub ended : k'.ended ≡ k.ended
   pub queued : k'.queued ≡ k.queued
 
@@ -93,6 +94,7 @@ pub record Steps {S : Type 0} (begins : S → ℕ → S → Type 0) (answers : S
   -- once nothing waits, all that was received may be granted anew
   pub due : (k'.due ≡ k.due) ⊎ ((k'.due ≡ k.behind) × ((history_of k').state ≡ Open) × ((history_of k').pending ≡ []))
   pub dues : IsAllDue k'
+  pub news : IsNews k'
   pub ended : k'.ended ≡ k.ended
   pub unqueued : IsFalse k'.queued
 
@@ -179,10 +181,10 @@ pub record BeginsFresh (number : ℕ) (before after : Clients) : Type 0 where
   pub window : window_of after ≡ window_of before
   pub asked : asked_of after ≡ asked_of before
 
--- the connection under the number goes on no more, and may have joined the queue before
+-- the connection under the number, whose client might still send, goes on no more, and may have joined the queue before
 abbrev pub QuitsAt : ℕ → Clients → Clients → Type 0
 QuitsAt number before after =
-    (k : Held) × (held_at before number ≡ Some k) × MovesOne number None before after × JoinsFresh number k (queue_of before) (queue_of after)
+    (k : Held) × (held_at before number ≡ Some k) × MovesOne number None before after × JoinsFresh number k (queue_of before) (queue_of after) × HearsMore k
 
 -- ---- what each call does to the connection under a number
 

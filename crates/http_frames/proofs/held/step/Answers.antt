@@ -23,6 +23,7 @@ returns-then-wants_write g c =
       behind = refl;
       due = inl refl;
       dues = λ is_open none. absurd (omega (arith, some, ap (λ (t : List ℕ). length t) none));
+      news = λ is_open none. absurd (omega (arith, some, ap (λ (t : List ℕ). length t) none));
       ended = refl;
       unqueued = refl;
     }
@@ -48,6 +49,7 @@ returns g c =
         | inr all ↦ inr (all.0, ap (λ (k : Connection). (history k).state) x.connection ∙ all.1, ap (λ (k : Connection). (history k).pending) x.connection ∙ all.2)
       ];
       dues = x.dues;
+      news = x.news;
       ended = x.ended;
       unqueued = x.queued;
     }

@@ -7,7 +7,7 @@ use Rattle.http_frames.proofs.serving.read_on.Goals as goal
 
 pub returns-then-branch-clause-ok : goal.returns-then-branch-clause-ok
 returns-then-branch-clause-ok g c = λ part. (
-  still c.args.clients.now c.begin_round.new.self c.begin_round.ensures.stays (same_line c.args.clients.now c.begin_round.new.self c.begin_round.ensures.queue) c.begin_round.ensures.config c.begin_round.ensures.window,
+  still c.args.clients.now c.begin_round.new.self c.begin_round.ensures.stays (same_line c.args.clients.now c.begin_round.new.self c.begin_round.ensures.queue) c.begin_round.ensures.settings.config c.begin_round.ensures.settings.window,
   c.in_ok-read.ensures.keeps,
 )
 

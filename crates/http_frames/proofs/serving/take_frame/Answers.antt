@@ -17,16 +17,16 @@ pub returns-in_err-tell-in-Some-Taken-clause-err : goal.returns-in_err-tell-in-S
 returns-in_err-tell-in-Some-Taken-clause-err g c =
     let is = c.in-Some-Taken.is ∙ ap (λ (h : Head). Some h) (rw c.in-Some-Taken.is at c.in-Some-Taken.field-0-is) in
     let x = taken_breaks g.S.TurnService.begins g.S.Service.answers g.S.TurnService.clocked c.args.head c.in-Some-Taken.number c.in-Some-Taken.count c.args.bytes.now c.args.clients.now c.taken.new.self c.tell.new.clients
-    c.args.service.now.service (g.O.Write.contents c.args.output.now) (g.O.Write.contents c.tell.new.output) is (c.taken.ensures.takes c.if-not-taken.false) c.taken.ensures.queue c.taken.ensures.config
-    c.taken.ensures.window c.in_err-tell-in-Some-Taken.ensures.err in
+    c.args.service.now.service (g.O.Write.contents c.args.output.now) (g.O.Write.contents c.tell.new.output) is (c.taken.ensures.takes c.if-not-taken.false) c.taken.ensures.queue c.taken.ensures.settings.config
+    c.taken.ensures.settings.window c.in_err-tell-in-Some-Taken.ensures.err in
     on_err _ x
 
 pub returns-in_ok-tell-in-Some-Taken-clause-ok : goal.returns-in_ok-tell-in-Some-Taken-clause-ok
 returns-in_ok-tell-in-Some-Taken-clause-ok g c =
     let is = c.in-Some-Taken.is ∙ ap (λ (h : Head). Some h) (rw c.in-Some-Taken.is at c.in-Some-Taken.field-0-is) in
     taken_frame g.S.TurnService.begins g.S.Service.answers g.S.TurnService.clocked c.args.head c.in-Some-Taken.number c.in-Some-Taken.count c.args.bytes.now c.args.clients.now c.taken.new.self c.tell.new.clients
-    c.args.service.now.service (g.O.Write.contents c.args.output.now) (g.O.Write.contents c.tell.new.output) is (c.taken.ensures.takes c.if-not-taken.false) c.taken.ensures.queue c.taken.ensures.config
-    c.taken.ensures.window c.in_ok-tell-in-Some-Taken.ensures.ok
+    c.args.service.now.service (g.O.Write.contents c.args.output.now) (g.O.Write.contents c.tell.new.output) is (c.taken.ensures.takes c.if-not-taken.false) c.taken.ensures.queue c.taken.ensures.settings.config
+    c.taken.ensures.settings.window c.in_ok-tell-in-Some-Taken.ensures.ok
 
 pub returns-in-Some-Piece-clause-ok : goal.returns-in-Some-Piece-clause-ok
 returns-in-Some-Piece-clause-ok g c =
@@ -44,13 +44,13 @@ pub returns-in-Some-Gone-clause-ok : goal.returns-in-Some-Gone-clause-ok
 returns-in-Some-Gone-clause-ok g c =
     let is = c.in-Some-Gone.is ∙ ap (λ (h : Head). Some h) (rw c.in-Some-Gone.is at c.in-Some-Gone.field-0-is) in
     gone_frame g.S.TurnService.begins g.S.Service.answers g.S.TurnService.clocked c.gone.result c.args.head c.in-Some-Gone.number c.args.bytes.now c.args.clients.now c.gone.new.self c.args.service.now.service
-    (g.O.Write.contents c.args.output.now) is c.gone.ensures.order c.gone.ensures.takes c.gone.ensures.refused c.gone.ensures.queue c.gone.ensures.config c.gone.ensures.window
+    (g.O.Write.contents c.args.output.now) is c.gone.ensures.order c.gone.ensures.takes c.gone.ensures.refused c.gone.ensures.queue c.gone.ensures.settings.config c.gone.ensures.settings.window
 
 pub returns-in-Some-Nothing-clause-ok : goal.returns-in-Some-Nothing-clause-ok
 returns-in-Some-Nothing-clause-ok g c =
     let is = c.in-Some-Nothing.is ∙ ap (λ (h : Head). Some h) (rw c.in-Some-Nothing.is at c.in-Some-Nothing.field-0-is) in
     nothing_frame g.S.TurnService.begins g.S.Service.answers g.S.TurnService.clocked c.nothing.result c.args.head c.args.bytes.now c.args.clients.now c.nothing.new.self c.args.service.now.service
-    (g.O.Write.contents c.args.output.now) is c.nothing.ensures.order c.nothing.ensures.takes c.nothing.ensures.refused c.nothing.ensures.queue c.nothing.ensures.config c.nothing.ensures.window
+    (g.O.Write.contents c.args.output.now) is c.nothing.ensures.order c.nothing.ensures.takes c.nothing.ensures.refused c.nothing.ensures.queue c.nothing.ensures.settings.config c.nothing.ensures.settings.window
 
 pub returns-in-Some-Clock-clause-ok : goal.returns-in-Some-Clock-clause-ok
 returns-in-Some-Clock-clause-ok g c =

@@ -26,6 +26,7 @@ rounded begins answers n round k k' s s' w = record {
   behind = w.behind;
   due = w.due;
   dues = w.dues;
+  news = w.news;
   ended = w.ended;
   unqueued = w.unqueued;
 }

@@ -21,4 +21,5 @@ returns-clause-fails c = λ is.
         asked = refl;
       },
       c.hear.ensures.fresh,
+      c.hear.ensures.fails c.if-hear.false,
     )

@@ -14,7 +14,7 @@ module _ (number : ℕ) (before middle after : Clients) (next : number ≡ count
 
   takes_then : (bytes : List ℕ) (held holds : Option (List ℕ)) → Takes number bytes middle after held holds → Takes number bytes before after held holds
   takes_then bytes held holds (inl x) = inl (λ es h. x.0 es (new_has number before middle es h next b), x.1)
-  takes_then bytes held holds (inr x) = inr (λ es h. x.0 es (new_has number before middle es h next b), x.1)
+  takes_then bytes held holds (inr x) = inr (inl next, λ es h. x.1 es (new_has number before middle es h next b), x.2)
 
   gone_then : Adds middle after (Gone number) → StaysSo before after ⊎ Adds before after (Gone number)
   gone_then x = inr (λ es h. x es (new_has number before middle es h next b))
@@ -40,4 +40,4 @@ returns-in_err-write_piece-clause-fails g c = on_err _ (inl (alike_stays c.args.
 pub returns-clause-takes : goal.returns-clause-takes
 returns-clause-takes g c = λ is.
     let next : c.args.number ≡ count_begun c.args.self.now + 1 = omega (arith, c.in-Some.ensures, c.if-before-self.false, c.if-before-self-2.false) in
-    inr (λ es h. away_has c.args.number c.args.self.now c.add.new.self es c.args.bytes.now h next (c.add.ensures.fails c.if-add.false), c.in_ok-write_piece.ensures.ok)
+    inr (inl next, λ es h. away_has c.args.number c.args.self.now c.add.new.self es c.args.bytes.now h next (c.add.ensures.fails c.if-add.false), c.in_ok-write_piece.ensures.ok)

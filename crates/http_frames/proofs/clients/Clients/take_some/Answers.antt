@@ -11,7 +11,7 @@ pub returns-clause-takes : goal.returns-clause-takes
 returns-clause-takes g c = λ b.
     let x = c.pass.ensures.fails c.if-pass.false in
     on_ok-map c.write_piece.result
-    (λ wrote. inr (quits c.args.self.now c.pass.new.self c.args.number b.0 b.1 x.0 (Rejected c.args.number c.args.bytes.now) Stopped (λ a. refl) (λ is. cc) (λ is. cc) refl refl x.1 x.2 x.3, wrote))
+    (λ wrote. inr (inr (x.0, x.1, x.4), quits c.args.self.now c.pass.new.self c.args.number b.0 b.1 x.0 (Rejected c.args.number c.args.bytes.now) Stopped (λ a. refl) (λ is. cc) (λ is. cc) refl refl x.1 x.2 x.3, wrote))
     c.write_piece.ensures.ok
 
 pub returns-clause-fails : goal.returns-clause-fails

@@ -1,0 +1,26 @@
+-- What a look at a file leaves as it was.
+use Rattle.std.specs.Prelude.{◌≡◌, ℕ, ◌≤◌, Bool, List, IsTrue}
+use Rattle.journal_core.specs.declared.journal.Journal.{Journal}
+use Rattle.journal_core.specs.Clocked.{EachLeaves, GoesAs}
+use Rattle.journal_core.specs.Resting.{KnowsLength, clocked_of, disk_behind}
+
+-- what is seen stays
+abbrev pub SeesSame : List ℕ → List ℕ → Type 0
+SeesSame file file' = file' ≡ file
+
+-- the file is the same, and a crash leaves no more than before, at each moment between
+pub record LooksOn {D B : Type 0} (seen : D → List ℕ) (may_leave : D → List ℕ → Type 0) (is_clean : D → Bool) (faults : D → ℕ) (note : B) (old new : Journal D B) : Type 0 where
+  pub same : seen (disk_behind new) ≡ seen (disk_behind old)
+  pub crash : (c : List ℕ) → may_leave (disk_behind new) c → may_leave (disk_behind old) c
+  pub any_moment : EachLeaves may_leave note (may_leave (disk_behind old)) (clocked_of old) (clocked_of new)
+  pub moments : GoesAs SeesSame seen (clocked_of old) (clocked_of new)
+  pub clean : IsTrue (is_clean (disk_behind new)) → IsTrue (is_clean (disk_behind old))
+  pub faults_grow : faults (disk_behind old) ≤ faults (disk_behind new)
+  pub opens : new.is_open ≡ old.is_open
+  pub knows : KnowsLength seen is_clean old → KnowsLength seen is_clean new
+
+-- it stands where it stood
+pub record SameButDisk {D B : Type 0} (old new : Journal D B) : Type 0 where
+  pub at : new.at ≡ old.at
+  pub header : new.header ≡ old.header
+  pub opens : new.is_open ≡ old.is_open

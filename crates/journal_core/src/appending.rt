@@ -1,0 +1,138 @@
+//! Appending a round. The gate behind the last round stands shut on the disk before anything is written behind it, and is opened by a write of its own, once the round is on the disk.
+ghost use Rattle.std.specs.Prelude.{◌≡◌, ◌≢◌, ◌⊎◌, ◌+◌, ◌-◌, Some, ◌<◌, ◌≤◌, ◌^◌, ◌++◌, [], ℕ, List, Ok, Err, length, IsTrue, IsFalse, IfErr, IfSome, OnOk, OnErr};
+ghost use Rattle.journal_core.specs.Clocked.{EachLeaves};
+ghost use Rattle.journal_core.specs.Format.{StandsFor, records_text};
+ghost use Rattle.journal_core.specs.LiveCopies.{GoesBySteps};
+ghost use Rattle.journal_core.specs.Resting.{Carries, HasDiskCause, IsSettled, clocked_of, disk_behind, gate_of, header_in, len_of, is_ready};
+ghost use Rattle.journal_core.specs.declared.error.JournalError.TheVariants.{NotOpen, TooLarge};
+
+use crate::error::JournalError;
+use crate::journal::Journal;
+use crate::round::Round;
+use crate::writing::{put, write_error, write_round, write_zeros};
+use sqlite_disk::Disk;
+
+/// No file grows longer, in bytes.
+const LARGEST: usize = 1 << 62;
+
+/// How much room a file keeps behind its last round at least, in bytes.
+const ROOM: usize = 4 << 20;
+
+impl<D: Disk, B> Journal<D, B> {
+    /// Appends a round. At `Ok` it is acknowledged: from then on each crash leaves a file in which its records stand. Where it has no record, nothing is done.
+    ///
+    /// - `NotOpen`: an earlier call failed, or the journal was not read to its end. Nothing is done.
+    /// - `TooLarge`: the file would have 2^62 bytes or more. Nothing is done.
+    /// - `Failed`, `Full`: a call of the disk failed. The journal is not open any more. Its file stands for the records with the round or without it.
+    pub fn append(&mut self, note: &B, round: &Round) -> Result<(), JournalError>
+        requires usable { IsTrue (D.Disk.is_usable (disk_behind self.old)) }
+        ensures acknowledged { OnOk result ((records new : List (List ℕ)) → IsSettled D.Disk.seen D.Disk.may_leave D.Disk.is_clean self.old records → Carries round.now new → IsSettled D.Disk.seen D.Disk.may_leave D.Disk.is_clean self.new (records ++ new)) }
+        // A crash at any moment of the call leaves the records from before it, with those of the round or without,
+        ensures any_moment { (records new : List (List ℕ)) → IsSettled D.Disk.seen D.Disk.may_leave D.Disk.is_clean self.old records → Carries round.now new
+            → EachLeaves D.Disk.may_leave note.now (λ c. StandsFor (header_in self.old) c records ⊎ StandsFor (header_in self.old) c (records ++ new)) (clocked_of self.old) (clocked_of self.new) }
+        // and so does one behind it, whatever it answers.
+        ensures crash { (records new : List (List ℕ)) → IsSettled D.Disk.seen D.Disk.may_leave D.Disk.is_clean self.old records → Carries round.now new
+            → (c : List ℕ) → D.Disk.may_leave (disk_behind self.new) c → StandsFor (header_in self.old) c records ⊎ StandsFor (header_in self.old) c (records ++ new) }
+        ensures not_open { IsFalse (is_ready self.old) → (self.new ≡ self.old) × (result ≡ Err NotOpen) }
+        ensures nothing { IsTrue (is_ready self.old) → Carries round.now [] → (self.new ≡ self.old) × (result ≡ Ok tt) }
+        ensures large { result ≡ Err TooLarge → (self.new ≡ self.old) × ((new : List (List ℕ)) → Carries round.now new → 2 ^ 62 ≤ gate_of self.old + (32 + length (records_text new))) }
+        ensures opens { OnOk result (is_ready self.new ≡ is_ready self.old) }
+        ensures closes { IfErr result (λ e. e ≢ TooLarge → IsFalse (is_ready self.new)) }
+        ensures header { header_in self.new ≡ header_in self.old }
+        ensures cause { IfErr result (λ e. HasDiskCause e (D.Disk.faults (disk_behind self.old)) (D.Disk.faults (disk_behind self.new)) (D.Disk.tally_of (disk_behind self.old)).refused (D.Disk.tally_of (disk_behind self.new)).refused
+            × (e ≡ NotOpen → IsFalse (is_ready self.old))) }
+        ensures room { OnOk result ((records new : List (List ℕ)) → IsSettled D.Disk.seen D.Disk.may_leave D.Disk.is_clean self.old records → Carries round.now new
+            → gate_of self.old + (32 + length (records_text new)) ≤ length (D.Disk.seen (disk_behind self.old)) → length (D.Disk.seen (disk_behind self.new)) ≡ length (D.Disk.seen (disk_behind self.old))) }
+        // What is seen goes by steps whose copies are whole.
+        ensures steps { OnOk result ((records new : List (List ℕ)) → IsSettled D.Disk.seen D.Disk.may_leave D.Disk.is_clean self.old records → Carries round.now new
+            → GoesBySteps D.Disk.seen (header_in self.old) (clocked_of self.old) (clocked_of self.new)) }
+        ensures clean { D.Disk.is_clean (disk_behind self.new) ≡ D.Disk.is_clean (disk_behind self.old) }
+        ensures usable { OnOk result (IsTrue (D.Disk.is_usable (disk_behind self.new))) }
+    {
+        if !self.is_open {
+            return Err(JournalError::NotOpen);
+        }
+        let len = round.len();
+        if len == 0 {
+            return Ok(());
+        }
+        if self.is_too_large(len) {
+            return Err(JournalError::TooLarge);
+        }
+        self.is_open = false;
+        let end = write_round(&mut self.disk, note, self.header.key, self.at, round, len).map_err(
+            write_error,
+        )?;
+        put(&mut self.disk, note, self.at, b"opengate").map_err(write_error)?;
+        self.len = match self.len {
+            Some(len) => Some(len.max(end + 8)),
+            None => None,
+        };
+        self.at = end;
+        self.is_open = true;
+        Ok(())
+    }
+
+    // Whether the file would grow too long by a round of so many bytes.
+    fn is_too_large(&self, len: usize) -> bool
+        ensures large { IsTrue result → 2 ^ 62 ≤ self.now.at + (32 + len) }
+        ensures fits { IsFalse result → self.now.at + (32 + len) < 2 ^ 62 }
+    {
+        self.at >= LARGEST || len >= LARGEST || self.at + 32 + len >= LARGEST
+    }
+
+    /// How many bytes the next round may have, as `Round::len` counts them, so that the file does not grow.
+    pub fn room(&self) -> usize
+        ensures known { IfSome (len_of self.now) (λ n. result ≡ n - (gate_of self.now + 32)) }
+        ensures room { 0 < result → (records : List (List ℕ)) → IsSettled D.Disk.seen D.Disk.may_leave D.Disk.is_clean self.now records → IsTrue (D.Disk.is_clean (disk_behind self.now))
+            → gate_of self.now + (32 + result) ≤ length (D.Disk.seen (disk_behind self.now)) }
+    {
+        match self.len {
+            Some(len) => len.saturating_sub(self.at).saturating_sub(32),
+            None => 0,
+        }
+    }
+
+    /// Makes room behind the last round, where less than half of it is left: 4 MiB, and an eighth of the file where that is more. It is written with zeros, and on the disk at `Ok`.
+    /// The errors are those of `append`.
+    pub fn make_room(&mut self, note: &B) -> Result<(), JournalError>
+        requires usable { IsTrue (D.Disk.is_usable (disk_behind self.old)) }
+        ensures stays { OnOk result ((records : List (List ℕ)) → IsSettled D.Disk.seen D.Disk.may_leave D.Disk.is_clean self.old records → IsSettled D.Disk.seen D.Disk.may_leave D.Disk.is_clean self.new records) }
+        ensures any_moment { (records : List (List ℕ)) → IsSettled D.Disk.seen D.Disk.may_leave D.Disk.is_clean self.old records
+            → EachLeaves D.Disk.may_leave note.now (λ c. StandsFor (header_in self.old) c records) (clocked_of self.old) (clocked_of self.new) }
+        ensures crash { (records : List (List ℕ)) → IsSettled D.Disk.seen D.Disk.may_leave D.Disk.is_clean self.old records → (c : List ℕ) → D.Disk.may_leave (disk_behind self.new) c → StandsFor (header_in self.old) c records }
+        ensures not_open { IsFalse (is_ready self.old) → (self.new ≡ self.old) × (result ≡ Err NotOpen) }
+        ensures opens { OnOk result (is_ready self.new ≡ is_ready self.old) }
+        ensures closes { IfErr result (λ e. e ≢ TooLarge → IsFalse (is_ready self.new)) }
+        ensures large { result ≡ Err TooLarge → (self.new ≡ self.old) × (2 ^ 61 ≤ gate_of self.old) }
+        ensures cause { IfErr result (λ e. HasDiskCause e (D.Disk.faults (disk_behind self.old)) (D.Disk.faults (disk_behind self.new)) (D.Disk.tally_of (disk_behind self.old)).refused (D.Disk.tally_of (disk_behind self.new)).refused
+            × (e ≡ NotOpen → IsFalse (is_ready self.old))) }
+        ensures known { OnOk result ((n : ℕ) × (len_of self.new ≡ Some n)) }
+        // There is room for a round of 2 MiB at least.
+        ensures room { OnOk result ((records : List (List ℕ)) → IsSettled D.Disk.seen D.Disk.may_leave D.Disk.is_clean self.old records → IsTrue (D.Disk.is_clean (disk_behind self.new))
+            → gate_of self.new + (32 + 2 ^ 21) ≤ length (D.Disk.seen (disk_behind self.new))) }
+        ensures steps { (records : List (List ℕ)) → IsSettled D.Disk.seen D.Disk.may_leave D.Disk.is_clean self.old records → GoesBySteps D.Disk.seen (header_in self.old) (clocked_of self.old) (clocked_of self.new) }
+        ensures end { gate_of self.new ≡ gate_of self.old }
+        ensures header { header_in self.new ≡ header_in self.old }
+        ensures clean { IsTrue (D.Disk.is_clean (disk_behind self.new)) → IsTrue (D.Disk.is_clean (disk_behind self.old)) }
+        ensures usable { OnOk result (IsTrue (D.Disk.is_usable (disk_behind self.new))) }
+    {
+        if !self.is_open {
+            return Err(JournalError::NotOpen);
+        }
+        if self.at >= LARGEST / 2 {
+            return Err(JournalError::TooLarge);
+        }
+        self.is_open = false;
+        let len = self.measure(note).map_err(JournalError::Failed)?;
+        let room = ROOM.max(self.at / 8);
+        let (from, to) = (len.max(self.at + 8), self.at + 32 + room);
+        if len < self.at + 32 + room / 2 && from < to {
+            self.len = None;
+            write_zeros(&mut self.disk, note, from, to).map_err(write_error)?;
+            self.len = Some(to);
+        }
+        self.is_open = true;
+        Ok(())
+    }
+}

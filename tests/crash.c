@@ -1,0 +1,136 @@
+// Preloaded into a program, this notes what it writes, and lets one of its calls fail, by the environment:
+//
+//   TRACE=FILE     each call is noted there, one a line, once it is done:
+//                  "w INODE OFFSET RESULT HEX" a write at an offset, and all the bytes that were asked for; "s INODE RESULT" a sync; "t INODE LENGTH RESULT" a change of the length;
+//                  "a HEX" what was written to standard output
+//   FAIL=N:ERRNO   of the writes, syncs and changes of the length the N-th fails so, counted from 1
+//   PART=BYTES     the write that fails has written so many of its bytes
+//   PIECE=BYTES    each write moves at most so many bytes
+#define _GNU_SOURCE
+#include <errno.h>
+#include <fcntl.h>
+#include <stdio.h>
+#include <stdlib.h>
+#include <string.h>
+#include <sys/stat.h>
+#include <sys/syscall.h>
+#include <unistd.h>
+
+static int trace = -1, wrong;
+static unsigned long first, part, piece, count;
+
+static void start(void) __attribute__((constructor));
+
+static void start(void) {
+    const char *path = getenv("TRACE"), *fails = getenv("FAIL"), *front = getenv("PART"), *size = getenv("PIECE");
+    if (path)
+        trace = open(path, O_WRONLY | O_CREAT | O_APPEND | O_CLOEXEC, 0600);
+    if ((path && trace < 0) || (fails && sscanf(fails, "%lu:%d", &first, &wrong) != 2))
+        _exit(99);
+    part = front ? strtoul(front, NULL, 10) : 0;
+    piece = size ? strtoul(size, NULL, 10) : 0;
+}
+
+static void put(const char *bytes, size_t size) {
+    while (size > 0) {
+        long done = syscall(SYS_write, trace, bytes, size);
+        if (done <= 0)
+            _exit(98);
+        bytes += done;
+        size -= done;
+    }
+}
+
+static unsigned long inode_of(int file) {
+    struct stat found;
+    return fstat(file, &found) ? 0 : found.st_ino;
+}
+
+// A line of the trace, and behind it bytes in hexadecimal.
+static void note(const char *text, const unsigned char *bytes, size_t size) {
+    static const char digits[] = "0123456789abcdef";
+    int before = errno;
+    if (trace >= 0) {
+        char *line = malloc(strlen(text) + 2 * size + 2);
+        if (!line)
+            _exit(97);
+        size_t end = strlen(text);
+        memcpy(line, text, end);
+        for (size_t place = 0; place < size; place++) {
+            line[end++] = digits[bytes[place] >> 4];
+            line[end++] = digits[bytes[place] & 15];
+        }
+        line[end++] = '\n';
+        put(line, end);
+        free(line);
+    }
+    errno = before;
+}
+
+// Whether this call is the one that fails.
+static int fails(void) {
+    count++;
+    if (count != first)
+        return 0;
+    errno = wrong;
+    return 1;
+}
+
+static long pwrite_now(int file, const void *bytes, size_t size, off_t at) {
+    return syscall(SYS_pwrite64, file, bytes, size, at);
+}
+
+ssize_t pwrite(int file, const void *bytes, size_t size, off_t at) {
+    char text[128];
+    long done;
+    if (fails()) {
+        if (part)
+            pwrite_now(file, bytes, part < size ? part : size, at);
+        errno = wrong;
+        done = -1;
+    } else {
+        done = pwrite_now(file, bytes, piece && piece < size ? piece : size, at);
+    }
+    snprintf(text, sizeof text, "w %lu %lld %ld ", inode_of(file), (long long)at, done);
+    note(text, bytes, size);
+    return done;
+}
+
+ssize_t pwrite64(int file, const void *bytes, size_t size, off_t at) {
+    return pwrite(file, bytes, size, at);
+}
+
+static int sync_by(int number, int file) {
+    char text[128];
+    int done = fails() ? -1 : (int)syscall(number, file);
+    snprintf(text, sizeof text, "s %lu %d", inode_of(file), done);
+    note(text, NULL, 0);
+    return done;
+}
+
+int fsync(int file) {
+    return sync_by(SYS_fsync, file);
+}
+
+int fdatasync(int file) {
+    return sync_by(SYS_fdatasync, file);
+}
+
+int ftruncate(int file, off_t length) {
+    char text[128];
+    int done = fails() ? -1 : (int)syscall(SYS_ftruncate, file, length);
+    snprintf(text, sizeof text, "t %lu %lld %d", inode_of(file), (long long)length, done);
+    note(text, NULL, 0);
+    return done;
+}
+
+int ftruncate64(int file, off_t length) {
+    return ftruncate(file, length);
+}
+
+ssize_t write(int file, const void *bytes, size_t size) {
+    long done = syscall(SYS_write, file, bytes, size);
+    if (file == 1 && done > 0)
+        note("a ", bytes, done);
+    return done;
+}

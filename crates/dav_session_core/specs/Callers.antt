@@ -10,17 +10,15 @@ use Rattle.dav_locks_core.specs.Ended.{StandIn}
 use Rattle.dav_locks_core.specs.Exclusive.{Exclusive}
 use Rattle.dav_locks_core.specs.Lock.{Lock}
 use Rattle.dav_locks_core.specs.Locks.{LockCaller as LocksCaller, check_conflicts, covers, is_held_by, same_text}
-use Rattle.dav_locks_core.specs.Stale.{is_stale, without_stale}
+use Rattle.dav_locks_core.specs.Stale.{is_stale}
 use Rattle.dav_resource_core.specs.Requests.{Command, Request, Answer}
 use Rattle.dav_resource_core.specs.Step.{State, Run}
+use Rattle.dav_resource_core.specs.Stores.{state_of}
+use Rattle.dav_notes_core.specs.Stepping.{live_stores}
+pub use Rattle.dav_notes_core.specs.Asking.{Caller, asking}
+pub use Rattle.dav_notes_core.specs.Changes.{is_look}
 use Rattle.dav_fields_core.specs.Bases.{Site}
 use Rattle.dav_fields_core.specs.Senders.{NamesPrincipal, Submits}
-
--- the principal, the tokens that are submitted, and the moment
-pub record Caller : Type 0 where
-  pub principal : Option (List ℕ)
-  pub tokens : List (List ℕ)
-  pub now : ℕ
 
 -- a request with these headers, sent to the site, is the caller's
 pub record IsSender (user_header : Option (List ℕ)) (site : Site) (headers : Entries FieldValue)
@@ -28,27 +26,12 @@ pub record IsSender (user_header : Option (List ℕ)) (site : Site) (headers : E
   pub principal : NamesPrincipal user_header headers who.principal
   pub tokens : Submits site headers who.tokens
 
--- the request by which the caller asks for a command
-abbrev pub asking : Caller → Command → Request
-asking who command = record { principal = who.principal; tokens = who.tokens; now = who.now; command = command }
-
 -- the command grants a lock, ends one, or gives it another timeout
 abbrev pub changes_locks : Command → Bool
 changes_locks (Command.Lock path owner timeout shared deep) = true
 changes_locks (Command.Unlock path token) = true
 changes_locks (Command.Refresh path token timeout) = true
 changes_locks _ = false
-
--- the command changes nothing
-abbrev pub is_look : Command → Bool
-is_look (Command.Read path at count) = true
-is_look (Command.List path) = true
-is_look (Command.Meta path) = true
-is_look (Command.GetProps path content) = true
-is_look (Command.GetProp path wanted) = true
-is_look (Command.Discover path) = true
-is_look (Command.Check path deep) = true
-is_look _ = false
 
 -- a run of requests leads from one state to the other
 pub record Runs (s s' : State) : Type 0 where
@@ -114,7 +97,7 @@ pub record KeepsApart (who : Caller) (s s' : State) : Type 0 where
 
 -- the state without the locks that have expired at the moment
 abbrev pub live : ℕ → State → State
-live now s = record s { locks = without_stale now s.locks }
+live now s = state_of (live_stores now (record { map = s.map; locks = s.locks })) s.rng
 
 -- nothing has changed, but locks that have expired at the moment may be gone
 abbrev pub SameLive : ℕ → State → State → Type 0

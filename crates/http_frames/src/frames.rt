@@ -1,5 +1,5 @@
 //! Frames: the bytes of many connections on one stream.
-ghost use Rattle.std.specs.Prelude.{◌≡◌, ◌≢◌, ◌==◌, ◌≤◌, All, Option, ◌++◌, codes, ℕ, List, length, take, true, false, Ok, IfOk, IfSome, None, OnOk, OnErr};
+ghost use Rattle.std.specs.Prelude.{◌≡◌, ◌≢◌, ◌==◌, ◌≤◌, All, Option, codes, ℕ, List, length, take, true, false, Ok, IfOk, IfSome, None, OnOk, OnErr};
 ghost use Rattle.std.specs.Io.KnownBytes.{Appends, Consumes, IsAtEnd, Keeps};
 ghost use Rattle.http_frames.specs.Frames.{wait_text, gone_in, grant_text, head, more_in, piece_in, taken_in, piece_text, clock_in, AppendsFront, BreaksOff, IsFrame, IsPart, bytes_at_hand, unread};
 ghost use Rattle.line_streams.specs.Numerals.{numeral};
@@ -22,8 +22,8 @@ pub const LONGEST_LINE: usize = 4096;
 // A line that goes out has fewer bytes: three words, of which two are numbers.
 const LINE: usize = 64;
 
-// So much room is made before each read, and so much there is at first.
-const ROOM: usize = 64 * 1024;
+// So much room is made before each read, and so much there is at first: a pipe of the listener's holds as much, so one read takes all that has come.
+const ROOM: usize = 1024 * 1024;
 
 /// What the first line of a frame says (own).
 #[derive(Clone, Copy, PartialEq, Eq, Debug)]

@@ -23,6 +23,10 @@ CrashLeaves may_leave note P m = (m.1 ≡ note) × ((c : List ℕ) → may_leave
 abbrev pub EachLeaves : {D B : Type 0} → (D → List ℕ → Type 0) → B → (List ℕ → Type 0) → Clocked D B → Clocked D B → Type 0
 EachLeaves may_leave note P old new = Each (CrashLeaves may_leave note P) old new
 
+-- what is seen stays the same
+abbrev pub SeesSame : List ℕ → List ℕ → Type 0
+SeesSame file file' = file' ≡ file
+
 -- From one file to another, by what is seen at one moment after the next: R holds of each and the next.
 abbrev pub MomentsLead : {D B : Type 0} → (List ℕ → List ℕ → Type 0) → (D → List ℕ) → List ℕ → List (D × B) → List ℕ → Type 0
 MomentsLead R seen file [] end = end ≡ file

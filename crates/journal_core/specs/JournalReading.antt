@@ -76,10 +76,18 @@ pub record EndsThere (e : JournalError) (key place : ℕ) (file : List ℕ) : Ty
   pub shut : (behind : List ℕ) → drop place file ≢ shut_word ++ behind
   pub round : (r : Laid) (behind : List ℕ) → IsOpen r → drop place file ≢ r.0 ++ (round_text key place (records_text r.1) ++ behind)
 
--- where it is told that a call failed, one did; nothing is told of the lock, nor of writing
+-- where it is told that a call failed, or that the disk is full, a call failed; nothing is told of the lock, nor of writing
 abbrev pub HasCause : Type 0 → JournalError → Type 0
 HasCause failed (Failed e) = failed
 HasCause failed Full = failed
 HasCause failed NotOpen = ⊥
 HasCause failed Busy = ⊥
 HasCause failed _ = Unit {0}
+
+-- the same of who only reads: nothing is told of a full disk
+abbrev pub HasReadCause : Type 0 → JournalError → Type 0
+HasReadCause failed (Failed e) = failed
+HasReadCause failed Full = ⊥
+HasReadCause failed NotOpen = ⊥
+HasReadCause failed Busy = ⊥
+HasReadCause failed _ = Unit {0}

@@ -1,5 +1,5 @@
 //! Appending a round. The gate behind the last round stands shut on the disk before anything is written behind it, and is opened by a write of its own, once the round is on the disk.
-ghost use Rattle.std.specs.Prelude.{◌≡◌, ◌≢◌, ◌⊎◌, ◌+◌, ◌-◌, Some, ◌<◌, ◌≤◌, ◌^◌, ◌++◌, [], ℕ, List, Ok, Err, length, IsTrue, IsFalse, IfErr, IfSome, OnOk, OnErr};
+ghost use Rattle.std.specs.Prelude.{◌≡◌, ◌≢◌, ◌⊎◌, ◌+◌, ◌-◌, Some, ◌<◌, ◌≤◌, ◌^◌, ◌++◌, [], ℕ, List, Ok, Err, length, IsTrue, IsFalse, IfErr, IfSome, IsSome, OnOk};
 ghost use Rattle.journal_core.specs.Clocked.{EachLeaves};
 ghost use Rattle.journal_core.specs.Format.{StandsFor, records_text};
 ghost use Rattle.journal_core.specs.LiveCopies.{GoesBySteps};
@@ -12,10 +12,10 @@ use crate::round::Round;
 use crate::writing::{put, write_error, write_round, write_zeros};
 use sqlite_disk::Disk;
 
-/// No file grows longer, in bytes.
+/// So long no file grows, in bytes.
 const LARGEST: usize = 1 << 62;
 
-/// How much room a file keeps behind its last round at least, in bytes.
+/// How much room is made behind the last round at least, in bytes.
 const ROOM: usize = 4 << 20;
 
 impl<D: Disk, B> Journal<D, B> {
@@ -43,6 +43,7 @@ impl<D: Disk, B> Journal<D, B> {
             × (e ≡ NotOpen → IsFalse (is_ready self.old))) }
         ensures room { OnOk result ((records new : List (List ℕ)) → IsSettled D.Disk.seen D.Disk.may_leave D.Disk.is_clean self.old records → Carries round.now new
             → gate_of self.old + (32 + length (records_text new)) ≤ length (D.Disk.seen (disk_behind self.old)) → length (D.Disk.seen (disk_behind self.new)) ≡ length (D.Disk.seen (disk_behind self.old))) }
+        ensures known { OnOk result (IsSome (len_of self.old) → IsSome (len_of self.new)) }
         // What is seen goes by steps whose copies are whole.
         ensures steps { OnOk result ((records new : List (List ℕ)) → IsSettled D.Disk.seen D.Disk.may_leave D.Disk.is_clean self.old records → Carries round.now new
             → GoesBySteps D.Disk.seen (header_in self.old) (clocked_of self.old) (clocked_of self.new)) }
@@ -81,7 +82,7 @@ impl<D: Disk, B> Journal<D, B> {
         self.at >= LARGEST || len >= LARGEST || self.at + 32 + len >= LARGEST
     }
 
-    /// How many bytes the next round may have, as `Round::len` counts them, so that the file does not grow.
+    /// How many bytes the next round may have, as `Round::len` counts them, so that the file does not grow; 0 where the length of the file is not known (own).
     pub fn room(&self) -> usize
         ensures known { IfSome (len_of self.now) (λ n. result ≡ n - (gate_of self.now + 32)) }
         ensures room { 0 < result → (records : List (List ℕ)) → IsSettled D.Disk.seen D.Disk.may_leave D.Disk.is_clean self.now records → IsTrue (D.Disk.is_clean (disk_behind self.now))
@@ -93,8 +94,11 @@ impl<D: Disk, B> Journal<D, B> {
         }
     }
 
-    /// Makes room behind the last round, where less than half of it is left: 4 MiB, and an eighth of the file where that is more. It is written with zeros, and on the disk at `Ok`.
-    /// The errors are those of `append`.
+    /// Makes room behind the last round, where less than half of it is left: 4 MiB, and an eighth of the file where that is more. It is written with zeros, and on the disk at `Ok` (own).
+    ///
+    /// - `NotOpen`: an earlier call failed, or the journal was not read to its end. Nothing is done.
+    /// - `TooLarge`: the last round ends at byte 2^61 or behind it. Nothing is done.
+    /// - `Failed`, `Full`: a call of the disk failed. The journal is not open any more. Its file stands for the same records.
     pub fn make_room(&mut self, note: &B) -> Result<(), JournalError>
         requires usable { IsTrue (D.Disk.is_usable (disk_behind self.old)) }
         ensures stays { OnOk result ((records : List (List ℕ)) → IsSettled D.Disk.seen D.Disk.may_leave D.Disk.is_clean self.old records → IsSettled D.Disk.seen D.Disk.may_leave D.Disk.is_clean self.new records) }

@@ -16,6 +16,7 @@ pub struct Clocked<D: Disk, B> {
 }
 
 impl<D: Disk, B> Clocked<D, B> {
+    /// This disk, of which nothing is noted yet (own).
     pub fn new(disk: D) -> Clocked<D, B>
         ensures disk { disk_of result ≡ disk }
         ensures past { past_of result ≡ [] }
@@ -26,7 +27,7 @@ impl<D: Disk, B> Clocked<D, B> {
         }
     }
 
-    /// Notes a moment with no call of the disk.
+    /// Notes a moment with no call of the disk (own).
     pub fn note(&mut self, note: &B)
         ensures noted { past_of self.new ≡ past_of self.old ++ (disk_of self.new, note.now) ∷ [] }
         ensures disk { disk_of self.new ≡ disk_of self.old }
@@ -34,6 +35,7 @@ impl<D: Disk, B> Clocked<D, B> {
         self.past = self.past.and(&self.disk, note);
     }
 
+    /// How long the file is, in bytes. `Err` where the call failed (own).
     pub fn len(&mut self, note: &B) -> io::Result<usize>
         requires { IsTrue (D.Disk.is_usable (disk_of self.old)) }
         ensures noted { past_of self.new ≡ past_of self.old ++ (disk_of self.old, note.now) ∷ (disk_of self.new, note.now) ∷ [] }
@@ -51,6 +53,7 @@ impl<D: Disk, B> Clocked<D, B> {
         answer
     }
 
+    /// Reads as many bytes as there is room for, from this byte on. `Err` where the call failed, or the file ends before (own).
     pub fn read_at(&mut self, note: &B, at: usize, buf: &mut [u8]) -> io::Result<()>
         requires { IsTrue (D.Disk.is_usable (disk_of self.old)) }
         ensures noted { past_of self.new ≡ past_of self.old ++ (disk_of self.old, note.now) ∷ (disk_of self.new, note.now) ∷ [] }
@@ -70,6 +73,7 @@ impl<D: Disk, B> Clocked<D, B> {
         answer
     }
 
+    /// Writes the bytes, from this byte on; the file grows where it ends before. At `Err` any part of them may be written, and the disk may be full (own).
     pub fn write_at(&mut self, note: &B, at: usize, bytes: &[u8]) -> io::Result<()>
         requires { IsTrue (D.Disk.is_usable (disk_of self.old)) }
         ensures noted { past_of self.new ≡ past_of self.old ++ (disk_of self.old, note.now) ∷ (disk_of self.new, note.now) ∷ [] }
@@ -87,6 +91,7 @@ impl<D: Disk, B> Clocked<D, B> {
         answer
     }
 
+    /// Puts on the disk all that was written. At `Err` it may not be there, and the disk may not be used any more (own).
     pub fn sync(&mut self, note: &B) -> io::Result<()>
         requires { IsTrue (D.Disk.is_usable (disk_of self.old)) }
         ensures noted { past_of self.new ≡ past_of self.old ++ (disk_of self.old, note.now) ∷ (disk_of self.new, note.now) ∷ [] }

@@ -20,7 +20,7 @@ pub enum JournalError {
     Unsupported,
     /// At this byte stands neither a whole round nor a gate that is shut; at byte 0, no whole header.
     Damaged(u64),
-    /// The file is longer than 2^62 bytes, or would be.
+    /// The file has 2^64 bytes or more where it is read, or would have 2^62 with a round that is appended; or its rounds have 2^61, where room is to be made.
     TooLarge,
     /// The journal is not open: an earlier call failed, or it was not read to its end.
     NotOpen,

@@ -1,7 +1,7 @@
 //! The header of a journal.
 ghost use Rattle.std.specs.Prelude.{◌≡◌, ◌≢◌, ◌<◌, ◌≤◌, ◌↔◌, ◌++◌, ◌∷◌, List, ℕ, IsTrue, IfOk, IfErr, IfSome, MatchOption, length, None};
 ghost use Rattle.journal_core.specs.Format.{IsOf64Bits, header_text, magic, version_word, word_of};
-ghost use Rattle.journal_core.specs.JournalReading.{HasCause, IsNoHeader, IsOfJournal, IsRefusal};
+ghost use Rattle.journal_core.specs.JournalReading.{HasReadCause, IsNoHeader, IsOfJournal, IsRefusal};
 ghost use Rattle.journal_core.specs.declared.error.JournalError.TheVariants.{TooLarge};
 
 use crate::error::JournalError;
@@ -43,7 +43,7 @@ pub(crate) fn read_header(alloc: Global, bytes: &[u8]) -> Result<Header, Journal
     requires { length bytes.now ≤ 56 }
     ensures reads { IfOk result (λ h. IsOf64Bits h × ((first : ℕ) × (first ≢ 0) × (bytes.now ≡ first ∷ header_text h))) }
     ensures refused { IfErr result (λ e. IsRefusal e → IsNoHeader e bytes.now) }
-    ensures cause { IfErr result (λ e. HasCause ⊥ e × (e ≢ TooLarge)) }
+    ensures cause { IfErr result (λ e. HasReadCause ⊥ e × (e ≢ TooLarge)) }
 {
     let Some(text) = behind_magic(bytes) else {
         return Err(JournalError::Foreign);

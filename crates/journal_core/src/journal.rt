@@ -1,14 +1,13 @@
 //! A journal in a file: it is opened, read to its end, and from then on rounds are appended.
 ghost use Rattle.std.specs.Prelude.{◌≡◌, ◌≢◌, ◌⊎◌, ◌+◌, ◌<◌, ◌≤◌, ◌^◌, ◌++◌, [], ◌∷◌, ℕ, List, None, Some, true, false, Ok, Err, length, IsTrue, IsFalse, IfOk, IfErr, IfSome, OnOk, OnErr};
 ghost use Rattle.sqlite_disk.specs.Disk.{MoreFaults, Only};
-ghost use Rattle.journal_core.specs.Clocked.{disk_of, EachLeaves, GoesAs};
-ghost use Rattle.journal_core.specs.Format.{IsNewFile, IsOf64Bits, StandsFor};
-ghost use Rattle.journal_core.specs.JournalReading.{HasCause, HasNoHeader, IsNoHeader, IsRefusal, header_of, place_of, record_of};
-ghost use Rattle.journal_core.specs.Resting.{Carries, HasDiskCause, IsBeingRead, IsSettled, KnowsLength, StandsAtPlace, clocked_of, disk_behind, gate_of, header_in, is_ready};
-ghost use Rattle.journal_core.specs.Private.Looks.{LooksOn, SameButDisk, SeesSame};
+ghost use Rattle.journal_core.specs.Clocked.{EachLeaves, GoesAs, SeesSame};
+ghost use Rattle.journal_core.specs.Format.{IsNewFile, StandsFor};
+ghost use Rattle.journal_core.specs.JournalReading.{HasCause, HasReadCause, HasNoHeader, IsNoHeader, IsRefusal, header_of, record_of};
+ghost use Rattle.journal_core.specs.Resting.{IsBeingRead, IsSettled, StandsAtPlace, clocked_of, disk_behind, header_in, is_ready};
+ghost use Rattle.journal_core.specs.Private.Looks.{LooksOn, SameButDisk};
 ghost use Rattle.journal_core.specs.Private.LookLaws.{looks_not, looks_on, fails_later};
-ghost use Rattle.journal_core.specs.Private.Stages.{BeginsWith, IsCounted};
-ghost use Rattle.journal_core.specs.declared.error.JournalError.TheVariants.{NotOpen, TooLarge};
+ghost use Rattle.journal_core.specs.declared.error.JournalError.TheVariants.{TooLarge};
 ghost use Rattle.journal_core.specs.declared.header.Header.{Header as HeaderValue};
 
 use crate::clocked::Clocked;
@@ -57,7 +56,7 @@ impl<D: Disk, B> Journal<D, B> {
     /// Opens the file. Where it is new it is made, with this header, and the journal is open: `None`. Else its header is read, and the reader is to be read to its end.
     ///
     /// - `Foreign`, `Unsupported`, `Damaged`: the file is neither new nor begins as a journal. It stays as it was.
-    /// - `Failed`, `Full`: a call of the disk failed.
+    /// - `Failed`, `Full`: a call of the disk failed. `OutOfMemory`: there is no memory for the header.
     pub fn start(
         &mut self,
         alloc: Global,
@@ -80,6 +79,7 @@ impl<D: Disk, B> Journal<D, B> {
         ensures crash { IsTrue (D.Disk.is_clean (disk_behind self.new)) → Only (D.Disk.seen (disk_behind self.old)) (D.Disk.may_leave (disk_behind self.old))
             → (h : HeaderValue) (records : List (List ℕ)) → StandsFor h (D.Disk.seen (disk_behind self.old)) records
             → (c : List ℕ) → D.Disk.may_leave (disk_behind self.new) c → StandsFor h c records ⊎ StandsFor header c records }
+        ensures small { IfErr result (λ e. e ≢ TooLarge) }
         ensures cause { IfErr result (λ e. HasCause (MoreFaults (D.Disk.faults (disk_behind self.old)) (D.Disk.faults (disk_behind self.new))) e) }
         ensures clean { IsTrue (D.Disk.is_clean (disk_behind self.new)) → IsTrue (D.Disk.is_clean (disk_behind self.old)) }
         ensures usable { OnOk result (IsTrue (D.Disk.is_usable (disk_behind self.new))) }
@@ -105,6 +105,7 @@ impl<D: Disk, B> Journal<D, B> {
             → EachLeaves D.Disk.may_leave note.now (λ c. StandsFor header c []) (clocked_of self.old) (clocked_of self.new) }
         ensures crash { IsNewFile (D.Disk.seen (disk_behind self.old)) → IsTrue (D.Disk.is_clean (disk_behind self.new)) → Only (D.Disk.seen (disk_behind self.old)) (D.Disk.may_leave (disk_behind self.old))
             → (c : List ℕ) → D.Disk.may_leave (disk_behind self.new) c → StandsFor header c [] }
+        ensures small { IfErr result (λ e. e ≢ TooLarge) }
         ensures cause { IfErr result (λ e. HasCause (MoreFaults (D.Disk.faults (disk_behind self.old)) (D.Disk.faults (disk_behind self.new))) e) }
         ensures clean { IsTrue (D.Disk.is_clean (disk_behind self.new)) → IsTrue (D.Disk.is_clean (disk_behind self.old)) }
         ensures usable { OnOk result (IsTrue (D.Disk.is_usable (disk_behind self.new))) }
@@ -127,7 +128,7 @@ impl<D: Disk, B> Journal<D, B> {
     /// Reads the next record, which `reader.record` shows from then on. False where the journal has no more: then it is open, and rounds may be appended.
     ///
     /// - `Damaged`: behind what was read stands neither a whole round nor a gate that is shut, so that the file stands for no records.
-    /// - `Failed`: a call of the disk failed. `TooLarge`: the file is longer than 2^64 bytes.
+    /// - `Failed`: a call of the disk failed. `OutOfMemory`: there is no memory for the round. `TooLarge`: the file is longer than 2^64 bytes.
     pub fn read(&mut self, reader: &mut Reader, note: &B) -> Result<bool, JournalError>
         requires usable { IsTrue (D.Disk.is_usable (disk_behind self.old)) }
         ensures reads { result ≡ Ok true → (done : List (List ℕ)) → IsBeingRead D.Disk.seen D.Disk.is_clean self.old reader.old done → IsBeingRead D.Disk.seen D.Disk.is_clean self.new reader.new (done ++ record_of reader.new ∷ []) }
@@ -145,7 +146,7 @@ impl<D: Disk, B> Journal<D, B> {
         ensures moments { GoesAs SeesSame D.Disk.seen (clocked_of self.old) (clocked_of self.new) }
         ensures any_moment { EachLeaves D.Disk.may_leave note.now (D.Disk.may_leave (disk_behind self.old)) (clocked_of self.old) (clocked_of self.new) }
         ensures crash { (c : List ℕ) → D.Disk.may_leave (disk_behind self.new) c → D.Disk.may_leave (disk_behind self.old) c }
-        ensures cause { IfErr result (λ e. (done : List (List ℕ)) → IsBeingRead D.Disk.seen D.Disk.is_clean self.old reader.old done → HasCause (MoreFaults (D.Disk.faults (disk_behind self.old)) (D.Disk.faults (disk_behind self.new))) e) }
+        ensures cause { IfErr result (λ e. (done : List (List ℕ)) → IsBeingRead D.Disk.seen D.Disk.is_clean self.old reader.old done → HasReadCause (MoreFaults (D.Disk.faults (disk_behind self.old)) (D.Disk.faults (disk_behind self.new))) e) }
         ensures clean { IsTrue (D.Disk.is_clean (disk_behind self.new)) → IsTrue (D.Disk.is_clean (disk_behind self.old)) }
         ensures usable { IsTrue (D.Disk.is_usable (disk_behind self.new)) }
     {

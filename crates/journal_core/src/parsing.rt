@@ -1,5 +1,5 @@
 //! Numbers, gates and records in bytes that were read.
-ghost use Rattle.std.specs.Prelude.{◌≡◌, ◌≢◌, ◌<◌, ◌^◌, ◌↔◌, ◌++◌, [], ◌∷◌, ℕ, List, length, false, IsTrue, MatchOption};
+ghost use Rattle.std.specs.Prelude.{◌≡◌, ◌≢◌, ◌<◌, ◌^◌, ◌↔◌, ◌++◌, ℕ, List, length, false, IsTrue, MatchOption};
 ghost use Rattle.journal_core.specs.Format.{word_of, shut_word, record_text, records_text};
 
 /// The number that eight bytes say.

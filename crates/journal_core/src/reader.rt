@@ -1,7 +1,7 @@
 //! Reading a journal: its header, and then one record after another.
-ghost use Rattle.std.specs.Prelude.{◌≡◌, ◌≢◌, ◌+◌, ◌-◌, ◌<◌, ◌≤◌, ◌^◌, ◌++◌, [], ◌∷◌, ℕ, List, None, Some, true, false, Ok, Err, IsTrue, length, take, drop, vec_len, IfOk, IfErr, IfSome, OnOk, OnErr};
+ghost use Rattle.std.specs.Prelude.{◌≡◌, ◌≢◌, ◌+◌, ◌-◌, ◌<◌, ◌≤◌, ◌^◌, ◌++◌, [], ◌∷◌, ℕ, List, None, Some, true, false, Ok, Err, IsTrue, length, take, drop, vec_len, IfOk, IfErr, IfSome, OnOk};
 ghost use Rattle.journal_core.specs.Format.{IsNewFile, records_text, sum_of, word_of};
-ghost use Rattle.journal_core.specs.JournalReading.{EndsThere, HasCause, HasEnded, HasNoHeader, IsNoHeader, IsReading, IsRefusal, header_of, place_of, record_of};
+ghost use Rattle.journal_core.specs.JournalReading.{EndsThere, HasReadCause, HasEnded, HasNoHeader, IsNoHeader, IsReading, IsRefusal, header_of, place_of, record_of};
 ghost use Rattle.journal_core.specs.Private.RoundSteps.{BodyRead, GoesBehind, IsShutAt, NoRecord, NoRound, RoundRead, StepsTo};
 ghost use Rattle.journal_core.specs.declared.error.JournalError.TheVariants.{Damaged, Foreign, TooLarge};
 
@@ -29,8 +29,10 @@ pub struct Reader {
 }
 
 impl Reader {
-    /// Reads the header of a file, from its front. None where the file is still being made: then it has no record. `Foreign`, `Unsupported` or `Damaged` where it is neither new nor begins
-    /// as a journal; `Failed` where a read failed (own).
+    /// Reads the header of a file, from its front. None where the file is still being made: then it has no record (own).
+    ///
+    /// - `Foreign`, `Unsupported`, `Damaged`: it is neither new nor begins as a journal.
+    /// - `Failed`: a read failed. `OutOfMemory`: there is no memory for the header.
     pub fn begin<N, S: Source<N>>(
         alloc: Global,
         source: &mut S,
@@ -40,7 +42,8 @@ impl Reader {
         ensures new { result ≡ Ok None → (file : List ℕ) → S.is_at source.old file 0 → S.is_honest source.new → IsNewFile file }
         ensures begins { IfOk result (λ some. IfSome some (λ r. (file : List ℕ) → S.is_at source.old file 0 → (S.is_honest source.new → ¬ (IsNewFile file)) × IsReading S.is_at S.is_honest source.new r file [])) }
         ensures refused { IfErr result (λ e. IsRefusal e → (file : List ℕ) → S.is_at source.old file 0 → S.is_honest source.new → ¬ (IsNewFile file) × HasNoHeader file × IsNoHeader e file) }
-        ensures cause { IfErr result (λ e. (file : List ℕ) → S.is_at source.old file 0 → HasCause (S.fails source.old source.new) e) }
+        ensures small { IfErr result (λ e. e ≢ TooLarge) }
+        ensures cause { IfErr result (λ e. (file : List ℕ) → S.is_at source.old file 0 → HasReadCause (S.fails source.old source.new) e) }
         ensures honest { S.is_honest source.new → S.is_honest source.old }
         ensures looks { S.looks note.now source.old source.new }
         ensures usable { S.is_usable source.new }
@@ -90,8 +93,11 @@ impl Reader {
         &self.round[self.from..to]
     }
 
-    /// Reads the next record, which `record` shows from then on. False where a gate is shut: then the journal has no more. `Damaged` where neither a whole round nor a gate that is shut
-    /// stands behind what was read; `Failed` where a read failed. A record is read once the sum of its whole round was found right (own).
+    /// Reads the next record, which `record` shows from then on. False where a gate is shut: then the journal has no more. A record is read once the sum of its whole round was found
+    /// right (own).
+    ///
+    /// - `Damaged`: behind what was read stands neither a whole round nor a gate that is shut.
+    /// - `Failed`: a read failed. `OutOfMemory`: there is no memory for the round. `TooLarge`: the file is longer than 2^64 bytes.
     pub fn next<N, S: Source<N>>(&mut self, source: &mut S, note: &N) -> Result<bool, JournalError>
         requires { S.is_usable source.old }
         ensures reads { result ≡ Ok true → (file : List ℕ) (done : List (List ℕ)) → IsReading S.is_at S.is_honest source.old self.old file done
@@ -100,7 +106,7 @@ impl Reader {
         ensures refused { IfErr result (λ e. IsRefusal e → (file : List ℕ) (done : List (List ℕ)) → IsReading S.is_at S.is_honest source.old self.old file done → S.is_honest source.new
             → EndsThere e (header_of self.old).key (place_of self.old) file) }
         ensures large { result ≡ Err TooLarge → (file : List ℕ) (done : List (List ℕ)) → IsReading S.is_at S.is_honest source.old self.old file done → S.is_honest source.new → 2 ^ 64 ≤ length file }
-        ensures cause { IfErr result (λ e. (file : List ℕ) (done : List (List ℕ)) → IsReading S.is_at S.is_honest source.old self.old file done → HasCause (S.fails source.old source.new) e) }
+        ensures cause { IfErr result (λ e. (file : List ℕ) (done : List (List ℕ)) → IsReading S.is_at S.is_honest source.old self.old file done → HasReadCause (S.fails source.old source.new) e) }
         ensures header { header_of self.new ≡ header_of self.old }
         ensures honest { S.is_honest source.new → S.is_honest source.old }
         ensures looks { S.looks note.now source.old source.new }
@@ -150,7 +156,7 @@ impl Reader {
         ensures to { result ≡ Ok true → self.new.to ≤ vec_len self.new.round }
         ensures refused { IfErr result (λ e. IsRefusal e → (file : List ℕ) → S.is_at source.old file self.old.place → S.is_honest source.new → EndsThere e self.old.header.key self.old.place file) }
         ensures large { result ≡ Err TooLarge → (file : List ℕ) → S.is_at source.old file self.old.place → S.is_honest source.new → 2 ^ 64 ≤ length file }
-        ensures cause { IfErr result (λ e. (file : List ℕ) → S.is_at source.old file self.old.place → HasCause (S.fails source.old source.new) e) }
+        ensures cause { IfErr result (λ e. (file : List ℕ) → S.is_at source.old file self.old.place → HasReadCause (S.fails source.old source.new) e) }
         ensures header { self.new.header ≡ self.old.header }
         ensures honest { S.is_honest source.new → S.is_honest source.old }
         ensures looks { S.looks note.now source.old source.new }
@@ -174,7 +180,7 @@ impl Reader {
         ensures refused { IfErr result (λ e. IsRefusal e → (e ≡ Damaged self.old.place) × ((file : List ℕ) → S.is_at source.old file (self.old.place + 8) → S.is_honest source.new
             → NoRound self.old.header.key self.old.place (drop (self.old.place + 8) file))) }
         ensures large { result ≡ Err TooLarge → (file : List ℕ) → S.is_at source.old file (self.old.place + 8) → S.is_honest source.new → 2 ^ 64 ≤ length file }
-        ensures cause { IfErr result (λ e. (file : List ℕ) (at : ℕ) → S.is_at source.old file at → HasCause (S.fails source.old source.new) e) }
+        ensures cause { IfErr result (λ e. (file : List ℕ) (at : ℕ) → S.is_at source.old file at → HasReadCause (S.fails source.old source.new) e) }
         ensures header { self.new.header ≡ self.old.header }
         ensures honest { S.is_honest source.new → S.is_honest source.old }
         ensures looks { S.looks note.now source.old source.new }
@@ -238,7 +244,7 @@ fn fill<N, S: Source<N>>(source: &mut S, note: &N, buf: &mut [u8]) -> Result<usi
     ensures bound { IfOk result (λ n. n ≤ length buf.new) }
     ensures fills { IfOk result (λ n. (file : List ℕ) (at : ℕ) → S.is_at source.old file at → S.is_at source.new file (at + n) × (S.is_honest source.new → take n buf.new ≡ take n (drop at file))) }
     ensures ends { IfOk result (λ n. (file : List ℕ) (at : ℕ) → S.is_at source.old file at → S.is_honest source.new → n < length buf.old → length file ≡ at + n) }
-    ensures cause { IfErr result (λ e. ¬ (IsRefusal e) × (e ≢ TooLarge) × ((file : List ℕ) (at : ℕ) → S.is_at source.old file at → HasCause (S.fails source.old source.new) e)) }
+    ensures cause { IfErr result (λ e. ¬ (IsRefusal e) × (e ≢ TooLarge) × ((file : List ℕ) (at : ℕ) → S.is_at source.old file at → HasReadCause (S.fails source.old source.new) e)) }
     ensures honest { S.is_honest source.new → S.is_honest source.old }
     ensures looks { S.looks note.now source.old source.new }
     ensures usable { S.is_usable source.new }
@@ -254,7 +260,7 @@ fn begin_zero<N, S: Source<N>>(source: &mut S, note: &N, count: usize) -> Result
     requires { S.is_usable source.old }
     ensures new { OnOk result ((file : List ℕ) → S.is_at source.old file count → S.is_honest source.new → (count < 56 → length file ≡ count) → count ≤ 56 → length file ≤ 64) }
     ensures refused { IfErr result (λ e. IsRefusal e → (e ≡ Foreign) × ((file : List ℕ) → S.is_at source.old file count → S.is_honest source.new → count ≤ 56 → 64 < length file)) }
-    ensures cause { IfErr result (λ e. (e ≢ TooLarge) × ((file : List ℕ) (at : ℕ) → S.is_at source.old file at → HasCause (S.fails source.old source.new) e)) }
+    ensures cause { IfErr result (λ e. (e ≢ TooLarge) × ((file : List ℕ) (at : ℕ) → S.is_at source.old file at → HasReadCause (S.fails source.old source.new) e)) }
     ensures honest { S.is_honest source.new → S.is_honest source.old }
     ensures looks { S.looks note.now source.old source.new }
     ensures usable { S.is_usable source.new }
@@ -274,7 +280,7 @@ fn read_word<N, S: Source<N>>(source: &mut S, note: &N) -> Result<Option<[u8; 8]
     requires { S.is_usable source.old }
     ensures reads { IfOk result (λ some. IfSome some (λ word. (length word ≡ 8) × ((file : List ℕ) (at : ℕ) → S.is_at source.old file at → S.is_at source.new file (at + 8) × (S.is_honest source.new → (word ≡ take 8 (drop at file)) × (at + 8 ≤ length file))))) }
     ensures none { result ≡ Ok None → (file : List ℕ) (at : ℕ) → S.is_at source.old file at → S.is_honest source.new → length file < at + 8 }
-    ensures cause { IfErr result (λ e. ¬ (IsRefusal e) × (e ≢ TooLarge) × ((file : List ℕ) (at : ℕ) → S.is_at source.old file at → HasCause (S.fails source.old source.new) e)) }
+    ensures cause { IfErr result (λ e. ¬ (IsRefusal e) × (e ≢ TooLarge) × ((file : List ℕ) (at : ℕ) → S.is_at source.old file at → HasReadCause (S.fails source.old source.new) e)) }
     ensures honest { S.is_honest source.new → S.is_honest source.old }
     ensures looks { S.looks note.now source.old source.new }
     ensures usable { S.is_usable source.new }
@@ -292,7 +298,7 @@ fn read_head<N, S: Source<N>>(source: &mut S, note: &N) -> Result<Option<(u64, u
     ensures reads { IfOk result (λ some. IfSome some (λ r. (file : List ℕ) (at : ℕ) → S.is_at source.old file at
         → S.is_at source.new file (at + 16) × (S.is_honest source.new → (word_of r.0 ≡ take 8 (drop at file)) × (word_of r.1 ≡ take 8 (drop (at + 8) file)) × (at + 16 ≤ length file)))) }
     ensures none { result ≡ Ok None → (file : List ℕ) (at : ℕ) → S.is_at source.old file at → S.is_honest source.new → length file < at + 16 }
-    ensures cause { IfErr result (λ e. ¬ (IsRefusal e) × (e ≢ TooLarge) × ((file : List ℕ) (at : ℕ) → S.is_at source.old file at → HasCause (S.fails source.old source.new) e)) }
+    ensures cause { IfErr result (λ e. ¬ (IsRefusal e) × (e ≢ TooLarge) × ((file : List ℕ) (at : ℕ) → S.is_at source.old file at → HasReadCause (S.fails source.old source.new) e)) }
     ensures honest { S.is_honest source.new → S.is_honest source.old }
     ensures looks { S.looks note.now source.old source.new }
     ensures usable { S.is_usable source.new }
@@ -317,7 +323,7 @@ fn read_body<N, S: Source<N>>(
     ensures reads { result ≡ Ok true → (length round.new.items ≡ len) × ((file : List ℕ) (at : ℕ) → S.is_at source.old file at
         → S.is_at source.new file (at + len) × (S.is_honest source.new → round.new.items ≡ take len (drop at file))) }
     ensures short { result ≡ Ok false → (file : List ℕ) (at : ℕ) → S.is_at source.old file at → S.is_honest source.new → length file < at + len }
-    ensures cause { IfErr result (λ e. ¬ (IsRefusal e) × (e ≢ TooLarge) × ((file : List ℕ) (at : ℕ) → S.is_at source.old file at → HasCause (S.fails source.old source.new) e)) }
+    ensures cause { IfErr result (λ e. ¬ (IsRefusal e) × (e ≢ TooLarge) × ((file : List ℕ) (at : ℕ) → S.is_at source.old file at → HasReadCause (S.fails source.old source.new) e)) }
     ensures honest { S.is_honest source.new → S.is_honest source.old }
     ensures looks { S.looks note.now source.old source.new }
     ensures usable { S.is_usable source.new }
@@ -345,7 +351,7 @@ fn read_rest<N, S: Source<N>>(
     ensures reads { result ≡ Ok true → (length round.new.items ≡ len) × ((file : List ℕ) (at : ℕ) → S.is_at source.old file at
         → S.is_at source.new file (at + len) × (S.is_honest source.new → round.new.items ≡ take len (drop at file))) }
     ensures short { result ≡ Ok false → (file : List ℕ) (at : ℕ) → S.is_at source.old file at → S.is_honest source.new → length file < at + len }
-    ensures cause { IfErr result (λ e. ¬ (IsRefusal e) × (e ≢ TooLarge) × ((file : List ℕ) (at : ℕ) → S.is_at source.old file at → HasCause (S.fails source.old source.new) e)) }
+    ensures cause { IfErr result (λ e. ¬ (IsRefusal e) × (e ≢ TooLarge) × ((file : List ℕ) (at : ℕ) → S.is_at source.old file at → HasReadCause (S.fails source.old source.new) e)) }
     ensures honest { S.is_honest source.new → S.is_honest source.old }
     ensures looks { S.looks note.now source.old source.new }
     ensures usable { S.is_usable source.new }
@@ -372,7 +378,7 @@ fn read_piece<N, S: Source<N>>(
         × (S.is_honest source.new → (at + (length round.new.items - length round.old.items) ≤ length file)
         × (round.new.items ≡ round.old.items ++ take (length round.new.items - length round.old.items) (drop at file)))) }
     ensures short { result ≡ Ok false → (file : List ℕ) (at : ℕ) → S.is_at source.old file at → S.is_honest source.new → length file < at + missing }
-    ensures cause { IfErr result (λ e. ¬ (IsRefusal e) × (e ≢ TooLarge) × ((file : List ℕ) (at : ℕ) → S.is_at source.old file at → HasCause (S.fails source.old source.new) e)) }
+    ensures cause { IfErr result (λ e. ¬ (IsRefusal e) × (e ≢ TooLarge) × ((file : List ℕ) (at : ℕ) → S.is_at source.old file at → HasReadCause (S.fails source.old source.new) e)) }
     ensures honest { S.is_honest source.new → S.is_honest source.old }
     ensures looks { S.looks note.now source.old source.new }
     ensures usable { S.is_usable source.new }

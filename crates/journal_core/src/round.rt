@@ -2,7 +2,7 @@
 ghost use Rattle.std.specs.Prelude.{◌≡◌, ◌-◌, ◌^◌, ◌++◌, ◌↔◌, [], ◌∷◌, List, ℕ, OnOk, OnErr, IsTrue, length, min};
 ghost use Rattle.journal_core.specs.Format.{record_text, records_text, sum_of};
 ghost use Rattle.journal_core.specs.Resting.{Carries};
-ghost use Rattle.journal_core.specs.Private.Stages.{JoinsTail, bytes_of_part, parts_text, round_bytes};
+ghost use Rattle.journal_core.specs.Private.Stages.{JoinsTail, round_bytes};
 
 use crate::sum::begin_sum;
 use bytes::Bytes;
@@ -29,7 +29,7 @@ pub(crate) struct Part {
 }
 
 impl Round {
-    /// No record yet.
+    /// A round without records (own).
     pub fn new(alloc: Global) -> Round
         ensures { Carries result [] }
     {

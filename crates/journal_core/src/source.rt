@@ -51,6 +51,7 @@ pub struct Stream<R> {
 }
 
 impl<R: Read> Stream<R> {
+    /// What this reader gives, of which nothing was read yet (own).
     pub fn new(reader: R) -> Stream<R>
         ensures { (file : List ℕ) → R.Read.remaining reader ≡ Some file → GivesFrom R.Read.remaining result file 0 }
     {

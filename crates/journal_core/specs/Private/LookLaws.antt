@@ -2,9 +2,9 @@
 use Rattle.std.proofs.Common.{ℕ, Bool, List, refl, ◌∙◌, arith}
 use Rattle.sqlite_disk.specs.Disk.{MoreFaults}
 use Rattle.journal_core.specs.declared.journal.Journal.{Journal}
-use Rattle.journal_core.specs.Clocked.{CrashLeaves}
+use Rattle.journal_core.specs.Clocked.{CrashLeaves, SeesSame}
 use Rattle.journal_core.specs.Resting.{clocked_of, disk_behind}
-use Rattle.journal_core.specs.Private.Looks.{SeesSame, LooksOn}
+use Rattle.journal_core.specs.Private.Looks.{LooksOn}
 use Rattle.journal_core.specs.Private.DiskMoments.{none, joined, leaves_weaker, goes_not, goes_two}
 
 module _ {D B : Type 0} (seen : D → List ℕ) (may_leave : D → List ℕ → Type 0) (is_clean : D → Bool) (faults : D → ℕ) where

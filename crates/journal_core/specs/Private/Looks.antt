@@ -1,12 +1,8 @@
 -- What a look at a file leaves as it was.
 use Rattle.std.specs.Prelude.{◌≡◌, ℕ, ◌≤◌, Bool, List, IsTrue}
 use Rattle.journal_core.specs.declared.journal.Journal.{Journal}
-use Rattle.journal_core.specs.Clocked.{EachLeaves, GoesAs}
+use Rattle.journal_core.specs.Clocked.{EachLeaves, GoesAs, SeesSame}
 use Rattle.journal_core.specs.Resting.{KnowsLength, clocked_of, disk_behind}
-
--- what is seen stays
-abbrev pub SeesSame : List ℕ → List ℕ → Type 0
-SeesSame file file' = file' ≡ file
 
 -- the file is the same, and a crash leaves no more than before, at each moment between
 pub record LooksOn {D B : Type 0} (seen : D → List ℕ) (may_leave : D → List ℕ → Type 0) (is_clean : D → Bool) (faults : D → ℕ) (note : B) (old new : Journal D B) : Type 0 where

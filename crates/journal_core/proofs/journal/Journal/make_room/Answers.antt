@@ -3,11 +3,10 @@ use Rattle.std.proofs.Common.{rules, refl, ◌≡◌, ◌+◌, ◌≤◌, ◌^�
 use Rattle.std.specs.Prelude.{IfOk, IfSome, OnOk}
 use Rattle.std.specs.declared.io.Error.{Error}
 use Rattle.sqlite_disk.specs.Disk.{Only}
-use Rattle.journal_core.specs.Clocked.{disk_of, EachLeaves, CrashLeaves}
+use Rattle.journal_core.specs.Clocked.{disk_of, EachLeaves, CrashLeaves, SeesSame}
 use Rattle.journal_core.specs.declared.journal.Journal.{Journal}
 use Rattle.journal_core.specs.Format.{StandsFor}
 use Rattle.journal_core.specs.LiveCopies.{GoesBySteps, MayStep}
-use Rattle.journal_core.specs.Private.Looks.{SeesSame}
 use Rattle.journal_core.proofs.Causes.{some_at}
 use Rattle.journal_core.proofs.Staging.{behind_less}
 use Rattle.journal_core.specs.Resting.{IsSettled, KnowsLength, disk_behind}

@@ -2,7 +2,7 @@ use Rattle.std.proofs.Common.{IsFalse, Ok, refl, sym, ◌∙◌, ap, subst, arit
 use Rattle.std.proofs.lemmas.Result.{err_from_is_err_and}
 use Rattle.journal_core.specs.Format.{IsNewFile}
 use Rattle.journal_core.specs.Resting.{disk_behind}
-use Rattle.journal_core.proofs.Causes.{some_at}
+use Rattle.journal_core.proofs.Causes.{read_cause, some_at}
 use Rattle.journal_core.proofs.Settling.{looked_standing, made_left, made_standing}
 use Rattle.journal_core.proofs.journal.Journal.start.Goals as goal
 
@@ -13,7 +13,7 @@ returns-in_err-reader-clause-any_moment g c = λ clean only h records stands.
 pub returns-in_err-reader-clause-cause : goal.returns-in_err-reader-clause-cause
 returns-in_err-reader-clause-cause g c =
     let p = err_from_is_err_and c.from_residual.result c.from_residual.ensures.1 in
-    rw (p.1, p.2) (c.in_err-reader.ensures.cause (g.D.Disk.seen (disk_behind c.args.self.now)) (refl, refl, (λ _. omega arith), tt))
+    rw (p.1, p.2) (read_cause _ c.in_err-reader.field-0.0 (c.in_err-reader.ensures.cause (g.D.Disk.seen (disk_behind c.args.self.now)) (refl, refl, (λ _. omega arith), tt)))
 
 pub returns-in_err-create-clause-any_moment : goal.returns-in_err-create-clause-any_moment
 returns-in_err-create-clause-any_moment g c = λ clean only h records stands.

@@ -2,10 +2,10 @@ use Rattle.std.proofs.Common.{rules, ◌≡◌, ◌++◌, ◌∷◌, [], Bool, I
 use Rattle.std.proofs.lemmas.Option.{IfSome_then}
 use Rattle.std.proofs.lemmas.List.{take_at}
 use Rattle.journal_core.specs.declared.journal.Journal.{Journal}
-use Rattle.journal_core.specs.Clocked.{past_of}
+use Rattle.journal_core.specs.Clocked.{past_of, SeesSame}
 use Rattle.journal_core.specs.Resting.{clocked_of, disk_behind}
 use Rattle.journal_core.specs.Private.DiskMoments.{goes_call, one_call}
-use Rattle.journal_core.specs.Private.Looks.{LooksOn, SeesSame}
+use Rattle.journal_core.specs.Private.Looks.{LooksOn}
 use Rattle.journal_core.specs.Private.LookLaws.{looks_on}
 use Rattle.journal_core.proofs.Causes.{some_at}
 use Rattle.journal_core.proofs.Pieces.{holds_take}

@@ -1,0 +1,12 @@
+pub mod AllOf
+pub mod CommandForms
+pub mod Exact
+pub mod FolderLemmas
+pub mod Following
+pub mod Fronts
+pub mod Loops
+pub mod NoteForms
+pub mod NoteLoops
+pub mod RecordReads
+pub mod Texts
+pub mod ValueForms

@@ -1,0 +1,8 @@
+use Rattle.std.proofs.Common.{refl}
+use Rattle.rand_core.specs.Stream.{next_u64}
+use Rattle.dav_notes_core.specs.Drawing.{stream_giving}
+use Rattle.dav_notes_core.proofs.drawn.DrawnRng.next_u64.Goals as goal
+
+pub returns : goal.returns
+unfolding next_u64 stream_giving
+returns c = refl

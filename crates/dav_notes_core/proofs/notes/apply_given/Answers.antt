@@ -1,0 +1,9 @@
+use Rattle.dav_notes_core.proofs.notes.apply_given.Goals as goal
+
+pub returns : goal.returns
+returns c = λ drawn draws. record {
+  before = _;
+  after = _;
+  draws = draws;
+  step = c.apply.ensures.step;
+}

@@ -1,0 +1,17 @@
+-- Who asks: the same for all requests that one HTTP request leads to (RFC 4918 sections 6.4 and 10.4).
+use Rattle.std.specs.Prelude.{ℕ, List, Option, map, option_map, string_bytes}
+use Rattle.dav_resource_core.specs.Requests.{Command, Request}
+use Rattle.dav_notes_core.specs.declared.senders.Sender.{Sender}
+
+-- the principal, the tokens that are submitted, and the moment
+pub record Caller : Type 0 where
+  pub principal : Option (List ℕ)
+  pub tokens : List (List ℕ)
+  pub now : ℕ
+
+abbrev pub sender_of : Sender → Caller
+sender_of who = record { principal = option_map string_bytes who.principal; tokens = map string_bytes who.tokens.items; now = who.now.0 }
+
+-- the request by which the caller asks for a command
+abbrev pub asking : Caller → Command → Request
+asking who command = record { principal = who.principal; tokens = who.tokens; now = who.now; command = command }

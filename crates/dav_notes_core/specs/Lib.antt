@@ -1,0 +1,9 @@
+pub mod Ahead
+pub mod Asking
+pub mod Changes
+pub mod Drawing
+pub mod Noting
+pub mod Private
+pub mod PlayedNotes
+pub mod Seen
+pub mod Stepping

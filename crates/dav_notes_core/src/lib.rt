@@ -1,0 +1,10 @@
+//! The stores of `dav_resource_core` with notes of the requests that changed them, and the playing of
+//! notes again.
+#![tactic(auto)]
+
+pub mod drawn;
+pub mod laws;
+pub mod noted;
+pub mod notes;
+pub mod playing;
+pub mod senders;

@@ -1,0 +1,317 @@
+//! Stores whose changes are noted, where notes are kept.
+ghost use Rattle.std.specs.Prelude.{◌≡◌, ◌≤◌, ◌<◌, ◌+◌, ◌⊎◌, ◌++◌, ◌&&◌, [], ◌∷◌, ℕ, true, false, not};
+ghost use Rattle.std.specs.Prelude.{length, map, vec_len, vec_capacity, IfOk, IsOk, OnOk, OnErr};
+ghost use Rattle.rand_core.specs.Stream.{fill_bytes};
+ghost use Rattle.dav_resource_core.specs.Served.{command_of, answer_of};
+ghost use Rattle.dav_notes_core.specs.Ahead.{drawn_on, was_granted};
+ghost use Rattle.dav_notes_core.specs.Asking.{asking, sender_of};
+ghost use Rattle.dav_notes_core.specs.Changes.{is_look};
+ghost use Rattle.dav_notes_core.specs.Noting.{drawn_for, note_for, note_of};
+ghost use Rattle.dav_notes_core.specs.Seen.{AreCopies, KeptNotes, HasNoteRoom};
+ghost use Rattle.dav_notes_core.specs.Stepping.{AnsweredBy, SameLiveStores};
+
+use crate::notes::{Note, apply_given, is_grant, is_look};
+use crate::senders::{Sender, asker_of, request_by, taken_out};
+use dav_resource_core::guarded::{Command, Guarded, Refusal, Reply};
+use http_server::Log;
+use rand_core::Rng;
+use std::alloc::{AllocError, Global};
+use std::marker::Model;
+use std::mem;
+
+/// Stores, the bytes of the next token, who asks, and, where notes are kept, those of what changed
+/// the stores since the last taking.
+#[derive(Drop)]
+pub struct NotedStores {
+    alloc: Global,
+    stores: Guarded,
+    next: [u8; 16],
+    who: Sender,
+    keeps: bool,
+    // The caller once more for each note that there is room for.
+    spares: Vec<Sender>,
+    notes: Vec<Note>,
+    // The stores and the moment at the last taking, for proofs alone.
+    base: Log<Guarded, u64>,
+}
+
+impl Model for NotedStores {
+    ghost use Rattle.std.specs.Prelude.{length, vec_len, vec_capacity};
+    ghost use Rattle.dav_notes_core.specs.Asking.{sender_of};
+    ghost use Rattle.dav_notes_core.specs.Seen.{Seen, coded_seen, NotesHold};
+
+    ghost Value = { Seen };
+
+    ghost coded = { coded_seen };
+
+    ghost view = { λ s. record {
+      stores = s.stores;
+      next = s.next;
+      who = sender_of s.who;
+      keeps = s.keeps;
+      room = length s.spares.items;
+      base = s.base.items;
+    } };
+
+    ghost invariant = { λ s. NotesHold s.keeps s.base.items s.notes.items (vec_len s.notes)
+        (vec_capacity s.notes) s.who s.spares.items s.stores };
+}
+
+impl NotedStores {
+    /// Stores without notes, of which notes are kept from now on or never. The bytes of the first
+    /// token are drawn (own).
+    pub fn new<R: Rng>(
+        alloc: Global,
+        stores: Guarded,
+        who: Sender,
+        keeps: bool,
+        rng: &mut R,
+    ) -> NotedStores
+        ensures stores { result.stores ≡ stores }
+        ensures drawn { (result.next, R.stream rng.new) ≡ fill_bytes 16 (R.stream rng.old) }
+        ensures who { result.who ≡ sender_of who }
+        ensures keeps { result.keeps ≡ keeps }
+        ensures base { result.base ≡ (stores, (sender_of who).now) ∷ [] }
+    {
+        let now = who.now.0;
+        let base = Log::new().and(&stores, &now);
+        let next = draw_next([0; 16], rng, true);
+        NotedStores {
+            alloc,
+            stores,
+            next,
+            who,
+            keeps,
+            spares: Vec::new(alloc),
+            notes: Vec::new(alloc),
+            base,
+        }
+    }
+
+    /// Names who asks from now on (own): where notes are kept, at a moment that is not before the
+    /// last caller's. The room that was made is gone then.
+    pub fn begin(&mut self, who: Sender)
+        requires later { self.old.keeps ≡ true → self.old.who.now ≤ (sender_of who).now }
+        ensures same { self.new ≡ record self.old { who = sender_of who; room = self.new.room } }
+    {
+        self.spares = Vec::new(self.alloc);
+        self.who = who;
+    }
+
+    /// Makes room for so many notes of the caller's, where notes are kept, so that as many changes
+    /// lack no memory for theirs (own). `AllocError` where there is no memory for them.
+    pub fn make_room(&mut self, count: usize) -> Result<(), AllocError>
+        ensures ok { OnOk result (HasNoteRoom count self.new) }
+        ensures same { self.new ≡ record self.old { room = self.new.room } }
+        ensures sure { self.old.keeps ≡ false → IsOk result }
+    {
+        if !self.keeps {
+            return Ok(());
+        }
+        self.notes.reserve(count)?;
+        add_spares(&self.who, &mut self.spares, count)
+    }
+
+    /// Makes one request of the caller (own). It is answered as by `Guarded::apply`, and where it is
+    /// done and may have changed something, it is noted, if notes are kept. Room for the note is
+    /// taken first: `AllocError` where there is none, and then nothing is done.
+    pub fn ask<R: Rng>(
+        &mut self,
+        command: Command,
+        rng: &mut R,
+    ) -> Result<Result<Reply, Refusal>, AllocError>
+        ensures step { IfOk result (λ answer.
+            AnsweredBy (drawn_for (command_of command) self.old.next) self.old.stores
+            (asking self.old.who (command_of command)) (answer_of answer) self.new.stores) }
+        // A granted lock uses the bytes that were drawn, and the next are drawn.
+        ensures drawn { IfOk result (λ answer. (self.new.next, R.stream rng.new)
+            ≡ drawn_on (was_granted (command_of command) (answer_of answer))
+            (self.old.next, R.stream rng.old)) }
+        // Where there is no room for the note, nothing is done.
+        ensures untried { OnErr result (self.new ≡ self.old) }
+        ensures undrawn { OnErr result (R.stream rng.new ≡ R.stream rng.old) }
+        // There is room where it was made, for who keeps no notes, and for what changes nothing.
+        ensures sure { HasNoteRoom 1 self.old → IsOk result }
+        ensures looks { is_look (command_of command) ≡ true → IsOk result
+            × SameLiveStores self.old.who.now self.old.stores self.new.stores }
+        // A change takes the room of one note, and a look none.
+        ensures room { (count : ℕ) → HasNoteRoom (count + 1) self.old → HasNoteRoom count self.new }
+        ensures spared { is_look (command_of command) ≡ true → self.new.room ≡ self.old.room }
+        ensures base { self.new.base ≡ self.old.base }
+        ensures who { self.new.who ≡ self.old.who }
+        ensures keeps { self.new.keeps ≡ self.old.keeps }
+    {
+        let grants = is_grant(&command);
+        if !is_noted(self.keeps, &command) {
+            let alone = answer_alone(
+                &mut self.stores,
+                self.next,
+                &mut self.who,
+                command,
+                self.alloc,
+            );
+            self.next = draw_next(self.next, rng, grants && alone.is_ok());
+            return Ok(alone);
+        }
+        let spare = match spare_of(&self.who, &mut self.spares, &mut self.notes) {
+            Ok(spare) => spare,
+            Err(error) => {
+                drop(command);
+                return Err(error);
+            }
+        };
+        let asker = mem::replace(&mut self.who, spare);
+        let answer = change(&mut self.stores, &mut self.notes, self.next, asker, command);
+        self.next = draw_next(self.next, rng, grants && answer.is_ok());
+        Ok(answer)
+    }
+
+    /// What changed the stores since the last taking, and nothing where no notes are kept (own).
+    /// The room that was made is gone then.
+    pub fn take(&mut self) -> Vec<Note>
+        ensures notes { KeptNotes self.old.keeps self.old.base (map note_of result.items)
+            self.new.who.now self.new.stores }
+        // The next notes begin here.
+        ensures base { self.new.base ≡ (self.new.stores, self.new.who.now) ∷ [] }
+        ensures same { self.new
+            ≡ record self.old { room = self.new.room; base = self.new.base } }
+    {
+        let base = Log::new().and(&self.stores, &self.who.now.0);
+        let notes = mem::replace(&mut self.notes, Vec::new(self.alloc));
+        self.spares = Vec::new(self.alloc);
+        self.base = base;
+        notes
+    }
+
+    /// Whether notes are kept.
+    pub fn keeps(&self) -> bool
+        ensures { result ≡ self.now.keeps }
+    {
+        self.keeps
+    }
+
+    /// Who asks.
+    pub fn who(&self) -> &Sender
+        ensures { sender_of result.now ≡ self.now.who }
+    {
+        &self.who
+    }
+}
+
+// Whether the command is noted where it is done.
+fn is_noted(keeps: bool, command: &Command) -> bool
+    ensures { result ≡ (keeps && not (is_look (command_of command.now))) }
+{
+    keeps && !is_look(command)
+}
+
+// A request that is not noted; the caller is moved in and back.
+fn answer_alone(
+    stores: &mut Guarded,
+    next: [u8; 16],
+    who: &mut Sender,
+    command: Command,
+    alloc: Global,
+) -> Result<Reply, Refusal>
+    ensures step { AnsweredBy (drawn_for (command_of command) next) stores.old
+        (asking (sender_of who.old) (command_of command)) (answer_of result) stores.new }
+    ensures who { sender_of who.new ≡ sender_of who.old }
+{
+    let request = request_by(taken_out(who, alloc), command);
+    let answer = apply_given(stores, &request, next);
+    *who = asker_of(request);
+    answer
+}
+
+// A request that may change something, with room for its note.
+fn change(
+    stores: &mut Guarded,
+    notes: &mut Vec<Note>,
+    next: [u8; 16],
+    asker: Sender,
+    command: Command,
+) -> Result<Reply, Refusal>
+    requires room { vec_len notes.old < vec_capacity notes.old }
+    ensures step { AnsweredBy (drawn_for (command_of command) next) stores.old
+        (asking (sender_of asker) (command_of command)) (answer_of result) stores.new }
+    ensures ok { OnOk result (map note_of notes.new.items ≡ map note_of notes.old.items
+        ++ note_for (sender_of asker) (command_of command) next ∷ []) }
+    ensures err { OnErr result (notes.new.items ≡ notes.old.items) }
+    ensures used { vec_len notes.new ≤ vec_len notes.old + 1 }
+    ensures capacity { vec_capacity notes.new ≡ vec_capacity notes.old }
+{
+    let drawn = bytes_of(&command, next);
+    let request = request_by(asker, command);
+    match apply_given(stores, &request, next) {
+        Ok(reply) => {
+            notes.push_reserved(Note { request, drawn });
+            Ok(reply)
+        }
+        Err(refusal) => {
+            drop(request);
+            Err(refusal)
+        }
+    }
+}
+
+// The caller once more, and room for a note.
+fn spare_of(
+    who: &Sender,
+    spares: &mut Vec<Sender>,
+    notes: &mut Vec<Note>,
+) -> Result<Sender, AllocError>
+    requires copies { AreCopies who.now spares.old.items }
+    requires room { length spares.old.items + vec_len notes.old ≤ vec_capacity notes.old }
+    ensures ok { IfOk result (λ spare. sender_of spare ≡ sender_of who.entry.now) }
+    ensures sure { 0 < length spares.old.items → IsOk result }
+    ensures copies { AreCopies who.entry.now spares.new.items }
+    ensures room { OnOk result
+        (length spares.new.items + vec_len notes.new < vec_capacity notes.new) }
+    ensures kept { length spares.old.items ≤ length spares.new.items + 1 }
+    ensures stay { OnErr result (length spares.new.items ≡ length spares.old.items) }
+    ensures room_kept { OnErr result
+        (length spares.new.items + vec_len notes.new ≤ vec_capacity notes.new) }
+    ensures notes { notes.new.items ≡ notes.old.items }
+{
+    match spares.pop() {
+        Some(spare) => Ok(spare),
+        None => {
+            notes.reserve(1)?;
+            who.copy()
+        }
+    }
+}
+
+// Copies of the caller, up to so many.
+fn add_spares(who: &Sender, spares: &mut Vec<Sender>, count: usize) -> Result<(), AllocError>
+    requires { AreCopies who.now spares.old.items }
+    ensures ok { OnOk result (count ≤ length spares.new.items) }
+    ensures copies { AreCopies who.entry.now spares.new.items }
+    ensures most { (length spares.new.items ≡ length spares.old.items)
+        ⊎ (length spares.new.items ≤ count) }
+{
+    for _ in spares.len()..count {
+        let spare = who.copy()?;
+        spares.push(spare)?;
+    }
+    Ok(())
+}
+
+// Of a lock that is to be granted, the bytes that its token is drawn from.
+fn bytes_of(command: &Command, next: [u8; 16]) -> Option<[u8; 16]>
+    ensures { result ≡ drawn_for (command_of command.now) next }
+{
+    if is_grant(command) { Some(next) } else { None }
+}
+
+// The bytes of the next token, anew where those were used.
+fn draw_next<R: Rng>(next: [u8; 16], rng: &mut R, used: bool) -> [u8; 16]
+    ensures { (result, R.stream rng.new) ≡ drawn_on used (next, R.stream rng.old) }
+{
+    if !used {
+        return next;
+    }
+    let mut fresh = [0; 16];
+    rng.fill_bytes(&mut fresh);
+    fresh
+}

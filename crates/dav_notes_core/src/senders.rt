@@ -1,0 +1,96 @@
+//! Who asks.
+ghost use Rattle.std.specs.Prelude.{◌≡◌, IfOk, option_map, string_bytes};
+ghost use Rattle.dav_resource_core.specs.Served.{command_of, request_of};
+ghost use Rattle.dav_notes_core.specs.Asking.{asking, sender_of};
+
+use dav_resource_core::fs::Moment;
+use dav_resource_core::guarded::{Command, Request};
+use std::alloc::{AllocError, Global};
+use std::mem;
+
+/// Who asks (RFC 4918 sections 6.4 and 10.4).
+#[derive(Debug, Drop)]
+pub struct Sender {
+    /// None where nobody is named.
+    pub principal: Option<String>,
+    /// The lock tokens that are submitted.
+    pub tokens: Vec<String>,
+    /// The moment at which it is asked.
+    pub now: Moment,
+}
+
+impl Sender {
+    /// The same once more (own). `AllocError` where there is no memory for it.
+    pub fn copy(&self) -> Result<Sender, AllocError>
+        ensures { IfOk result (λ copy. sender_of copy ≡ sender_of self.entry.now) }
+    {
+        Ok(Sender {
+            principal: text_copy(&self.principal)?,
+            tokens: self.tokens.clone()?,
+            now: self.now,
+        })
+    }
+}
+
+// The same text once more, where there is one.
+fn text_copy(text: &Option<String>) -> Result<Option<String>, AllocError>
+    ensures { IfOk result (λ copy. option_map string_bytes copy
+        ≡ option_map string_bytes text.now) }
+{
+    match text {
+        Some(text) => Ok(Some(text.clone()?)),
+        None => Ok(None),
+    }
+}
+
+/// A request of the sender's (own).
+pub fn request_by(who: Sender, command: Command) -> Request
+    ensures { request_of result ≡ asking (sender_of who) (command_of command) }
+{
+    let Sender {
+        principal,
+        tokens,
+        now,
+    } = who;
+    Request {
+        principal,
+        tokens,
+        now,
+        command,
+    }
+}
+
+/// The sender of a request (own). Its command is let go.
+pub fn asker_of(request: Request) -> Sender
+    ensures { sender_of result ≡ record {
+      principal = (request_of request).principal;
+      tokens = (request_of request).tokens;
+      now = (request_of request).now;
+    } }
+{
+    let Request {
+        principal,
+        tokens,
+        now,
+        command,
+    } = request;
+    drop(command);
+    Sender {
+        principal,
+        tokens,
+        now,
+    }
+}
+
+/// Takes the sender out, and leaves nobody (own).
+pub fn taken_out(who: &mut Sender, alloc: Global) -> Sender
+    ensures { sender_of result ≡ sender_of who.old }
+{
+    let now = who.now;
+    let nobody = Sender {
+        principal: None,
+        tokens: Vec::new(alloc),
+        now,
+    };
+    mem::replace(who, nobody)
+}

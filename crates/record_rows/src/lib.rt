@@ -1,0 +1,5 @@
+//! Rows of records of changes: tests alone.
+#![tactic(auto)]
+
+#[cfg(test)]
+mod records;

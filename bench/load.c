@@ -21,7 +21,7 @@
 #include <time.h>
 #include <unistd.h>
 
-enum { MOST = 64, HEAD = 64 * 1024, PIECE = 64 * 1024, TOKEN = 256 };
+enum { MOST = 512, HEAD = 64 * 1024, PIECE = 64 * 1024, TOKEN = 256 };
 /* What may be sent of a connection before more is granted; and half of it, after which it is said what was taken. */
 enum { WINDOW = 256 * 1024, HALF = WINDOW / 2 };
 enum part { IN_HEAD, IN_LENGTH, IN_CHUNK_SIZE, IN_CHUNK, IN_TRAILER };

@@ -18,6 +18,9 @@ import time
 
 TOP = os.path.dirname(os.path.dirname(os.path.realpath(__file__)))
 PARTS = ("src", "specs", "proofs")
+# The options of the listener; of these the program has one, too.
+OF_LISTENER = {"--" + name for name in "listen connections connections-per-address idle head rate stall linger grace memory window".split()}
+OF_BOTH = {"--window"}
 # What each program is built with, so that it ends at once, and what its help says.
 BUILT_WITH = {"davserve": ["--help"], "davreplay": ["0"], "davread": []}
 HELP = {
@@ -25,7 +28,7 @@ HELP = {
 usage: bin/davserve [PORT] [OPTION VALUE]..
 
 Serves a WebDAV folder on 127.0.0.1 at PORT, else 8080 (0: any that is free), and prints its URL once it listens. It is empty at first, is kept in memory, and is gone when it ends.
-The first start proves the server before it runs it, which takes some time and is told.
+The first start proves the server before it runs it, which takes some time and is told. A first SIGTERM or interrupt lets what has begun go on for a while, a second ends it at once.
 
   --scheme http|https             the scheme by which clients come, where a proxy stands between
   --prefix PATH                   the path that the folder stands at, as /dav
@@ -39,6 +42,18 @@ The first start proves the server before it runs it, which takes some time and i
   --seed NUMBER                   for tests: the seed of the tokens of locks
   --clock NANOSECONDS|frames      for tests: the moment at which the clock stands
   --help, --version               this text; the kit and the commit
+
+Of the listener in front of it (docs/OPERATIONS.md):
+  --listen ADDRESS:PORT           where to listen, several times: IPv4, [IPv6], a name, unix:PATH or unix:PATH,mode=660 (600 without it)
+  --connections COUNT             the most clients at a time; 1000 without it
+  --connections-per-address COUNT the most of them from one address, or one network of IPv6; half of them without it
+  --idle SECONDS                  how long a client may rest between requests; 120 without it
+  --head SECONDS                  how long it may take to send a request; 20 without it
+  --rate BYTES                    each so many bytes of a request give it a second more; 500 without it
+  --stall SECONDS                 how long it may take nothing of an answer; 60 without it
+  --linger SECONDS                how long a connection that is over is still read, so that its last answer is seen; 5 without it
+  --grace SECONDS                 how long what has begun goes on behind a first SIGTERM; 10 without it
+  --memory BYTES                  how much the server may take, 0 for no limit; half of the machine's without it
 """,
     "davreplay": """\
 usage: bin/davreplay SEED
@@ -407,6 +422,14 @@ def version(program):
     return f"{program}, proved with {kit or 'no kit: rt is not in the path'}" + (f", commit {commit}" if commit else "")
 
 
+def listener():
+    """The path of the listener, once it is built."""
+    made = subprocess.run([os.path.join(TOP, "listener", "build")], stdout=subprocess.PIPE, encoding="utf-8", check=False)
+    if made.returncode:
+        sys.exit(made.returncode)
+    return made.stdout.strip()
+
+
 def built(program):
     """The path of the program, once it is proved and built; or the status of what failed."""
     crates = crates_of(program)
@@ -423,17 +446,25 @@ def built(program):
     return path
 
 
+def parted(words):
+    """The words of the listener, and those of the program."""
+    first = [words.pop(0)] if words and words[0].isdigit() else []
+    pairs = [words[at : at + 2] for at in range(0, len(words), 2)]
+    before = [word for pair in pairs if pair[0] in OF_LISTENER for word in pair]
+    return before + first, [word for pair in pairs if pair[0] not in OF_LISTENER - OF_BOTH for word in pair]
+
+
 def main(program, words):
     if "--help" in words:
         print(HELP[program], end="")
     elif "--version" in words:
         print(version(program))
+    elif program == "davserve":
+        listen = listener()
+        before, behind = parted(words)
+        os.execv(listen, ["listen", *before, built(program), *behind])
     else:
-        path = built(program)
-        if program == "davserve":
-            port = words.pop(0) if words and words[0].isdigit() else "8080"
-            os.execv(os.path.join(TOP, "bin", "listen"), ["listen", port, path, *words])
-        os.execv(path, [program, *words])
+        os.execv(built(program), [program, *words])
 
 
 if __name__ == "__main__":

@@ -1,0 +1,191 @@
+//! Where clients are let in: addresses of IPv4 and IPv6, sockets of Unix, and sockets that whoever started this process hands over.
+use crate::system;
+use std::env;
+use std::fs::{remove_file, set_permissions, Permissions};
+use std::io;
+use std::net::{IpAddr, SocketAddr, TcpListener, TcpStream, ToSocketAddrs};
+use std::os::unix::ffi::OsStrExt;
+use std::os::unix::fs::PermissionsExt;
+use std::os::unix::io::{AsRawFd, OwnedFd, RawFd};
+use std::os::unix::net::{UnixListener, UnixStream};
+use std::path::{Path, PathBuf};
+
+#[derive(Clone, Debug, PartialEq)]
+pub enum Address {
+    Internet(SocketAddr),
+    /// A path, and the mode of the file there.
+    Unix(PathBuf, u32),
+}
+
+/// What `ADDRESS:PORT`, `[ADDRESS]:PORT`, `NAME:PORT`, `unix:PATH` or `unix:PATH,mode=OCTAL` stands for.
+pub fn read(word: &str) -> Result<Vec<Address>, String> {
+    if let Some(rest) = word.strip_prefix("unix:") {
+        let (path, mode) = rest.split_once(",mode=").unwrap_or((rest, "600"));
+        let mode = u32::from_str_radix(mode, 8).ok().filter(|mode| *mode <= 0o777);
+        return match mode {
+            Some(mode) if !path.is_empty() => Ok(vec![Address::Unix(PathBuf::from(path), mode)]),
+            _ => Err(format!("{} is no address: unix:PATH, or unix:PATH,mode=660", word)),
+        };
+    }
+    let found = word.to_socket_addrs().map_err(|error| format!("{} is no address: {}", word, error))?;
+    Ok(found.map(Address::Internet).collect())
+}
+
+/// An address as `bind` takes it.
+fn internet_bytes(address: &SocketAddr) -> Vec<u8> {
+    let port = address.port().to_be_bytes();
+    match address {
+        SocketAddr::V4(it) => [&2u16.to_ne_bytes()[..], &port, &it.ip().octets(), &[0; 8]].concat(),
+        SocketAddr::V6(it) => {
+            let (flow, scope) = (it.flowinfo().to_be_bytes(), it.scope_id().to_ne_bytes());
+            [&10u16.to_ne_bytes()[..], &port, &flow, &it.ip().octets(), &scope].concat()
+        }
+    }
+}
+
+/// The same of a path. An `@` in front stands for a name that is no file's.
+pub fn unix_bytes(path: &Path) -> io::Result<Vec<u8>> {
+    let mut name = path.as_os_str().as_bytes().to_vec();
+    if name.is_empty() || name.len() > 107 || name.contains(&0) {
+        return Err(io::Error::new(io::ErrorKind::InvalidInput, "the path has more than 107 bytes"));
+    }
+    match name[0] {
+        b'@' => name[0] = 0,
+        _ => name.push(0),
+    }
+    Ok([&1u16.to_ne_bytes()[..], &name].concat())
+}
+
+pub enum Listener {
+    Internet(TcpListener),
+    /// With the path that is removed at the end.
+    Unix(UnixListener, Option<PathBuf>),
+}
+
+impl Listener {
+    pub fn open(address: &Address) -> io::Result<Listener> {
+        match address {
+            Address::Internet(address) => open_internet(address),
+            Address::Unix(path, mode) => open_unix(path, *mode),
+        }
+    }
+
+    /// A socket of either kind.
+    fn of(socket: OwnedFd) -> io::Result<Listener> {
+        system::control(&socket, system::BEHAVIOUR, system::NON_BLOCKING)?;
+        let listener = TcpListener::from(socket);
+        match listener.local_addr() {
+            Ok(_) => Ok(Listener::Internet(listener)),
+            Err(_) => Ok(Listener::Unix(UnixListener::from(OwnedFd::from(listener)), None)),
+        }
+    }
+
+    /// The next client, and where it comes from, if that is known. Neither of its calls blocks.
+    pub fn accept(&self) -> io::Result<(TcpStream, Option<IpAddr>)> {
+        let (socket, place) = match self {
+            Listener::Internet(listener) => listener.accept().map(|(socket, place)| (socket, Some(place.ip())))?,
+            Listener::Unix(listener, _) => (TcpStream::from(OwnedFd::from(listener.accept()?.0)), None),
+        };
+        socket.set_nonblocking(true)?;
+        Ok((socket, place))
+    }
+
+    pub fn file(&self) -> RawFd {
+        match self {
+            Listener::Internet(listener) => listener.as_raw_fd(),
+            Listener::Unix(listener, _) => listener.as_raw_fd(),
+        }
+    }
+
+    /// Its URL, or its path.
+    pub fn name(&self) -> String {
+        match self {
+            Listener::Internet(listener) => listener.local_addr().map_or_else(|_| "?".into(), |at| format!("http://{}/", at)),
+            Listener::Unix(listener, _) => {
+                let address = listener.local_addr();
+                let path = address.as_ref().ok().and_then(|it| it.as_pathname());
+                format!("unix:{}", path.map_or("?".into(), |it| it.to_string_lossy()))
+            }
+        }
+    }
+
+    /// Whether clients of other machines get there.
+    pub fn is_open(&self) -> bool {
+        match self {
+            Listener::Internet(listener) => listener.local_addr().map_or(true, |at| !at.ip().is_loopback()),
+            Listener::Unix(..) => false,
+        }
+    }
+}
+
+impl Drop for Listener {
+    fn drop(&mut self) {
+        if let Listener::Unix(_, Some(path)) = self {
+            let _ = remove_file(path);
+        }
+    }
+}
+
+fn open_internet(address: &SocketAddr) -> io::Result<Listener> {
+    let socket = system::new_socket(if address.is_ipv4() { 2 } else { 10 }, system::STREAM)?;
+    system::set_option(&socket, system::REUSE_ADDRESS, 1)?;
+    if address.is_ipv6() {
+        system::set_option(&socket, system::ONLY_IPV6, 1)?;
+    }
+    system::bind_to(&socket, &internet_bytes(address))?;
+    system::listen_on(&socket)?;
+    Ok(Listener::Internet(TcpListener::from(socket)))
+}
+
+fn open_unix(path: &Path, mode: u32) -> io::Result<Listener> {
+    let bytes = unix_bytes(path)?;
+    let socket = system::new_socket(system::UNIX, system::STREAM)?;
+    if let Err(error) = system::bind_to(&socket, &bytes) {
+        // A socket at which nobody listens was left over.
+        let is_left = UnixStream::connect(path).map_or_else(|it| it.kind() == io::ErrorKind::ConnectionRefused, |_| false);
+        if error.kind() != io::ErrorKind::AddrInUse || !is_left {
+            return Err(error);
+        }
+        remove_file(path)?;
+        system::bind_to(&socket, &bytes)?;
+    }
+    let listener = Listener::Unix(UnixListener::from(socket.try_clone()?), Some(path.to_path_buf()));
+    // Nobody gets in before this.
+    set_permissions(path, Permissions::from_mode(mode))?;
+    system::listen_on(&socket)?;
+    Ok(listener)
+}
+
+/// The sockets that are handed over, as systemd does it: LISTEN_FDS of them, from 3 on, for the process LISTEN_PID.
+pub fn handed_over() -> io::Result<Vec<Listener>> {
+    let number = |name| env::var(name).ok().and_then(|word| word.parse::<RawFd>().ok());
+    if number("LISTEN_PID") != Some(std::process::id() as RawFd) {
+        return Ok(Vec::new());
+    }
+    let count = number("LISTEN_FDS").unwrap_or(0);
+    (3..3 + count).map(|file| Listener::of(system::handed_over(file)?)).collect()
+}
+
+#[cfg(test)]
+mod tests {
+    use super::*;
+
+    #[test]
+    fn addresses_are_read() {
+        assert_eq!(read("127.0.0.1:80"), Ok(vec![Address::Internet("127.0.0.1:80".parse().unwrap())]));
+        assert_eq!(read("[::1]:80"), Ok(vec![Address::Internet("[::1]:80".parse().unwrap())]));
+        assert_eq!(read("unix:/a"), Ok(vec![Address::Unix("/a".into(), 0o600)]));
+        assert_eq!(read("unix:/a,mode=666"), Ok(vec![Address::Unix("/a".into(), 0o666)]));
+        for word in ["", "80", "127.0.0.1", "127.0.0.1:65536", "unix:", "unix:/a,mode=8", "unix:/a,mode=1777"] {
+            assert!(read(word).is_err(), "{}", word);
+        }
+    }
+
+    #[test]
+    fn addresses_are_as_the_kernel_has_them() {
+        assert_eq!(internet_bytes(&"1.2.3.4:258".parse().unwrap())[2..], [1, 2, 1, 2, 3, 4, 0, 0, 0, 0, 0, 0, 0, 0]);
+        assert_eq!(internet_bytes(&"[::1]:258".parse().unwrap()).len(), 28);
+        assert_eq!(unix_bytes(Path::new("/a")).unwrap()[2..], *b"/a\0");
+        assert_eq!(unix_bytes(Path::new("@a")).unwrap()[2..], *b"\0a");
+    }
+}

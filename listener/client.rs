@@ -1,0 +1,219 @@
+//! One client: its socket, what waits for it, and how far it may send.
+use crate::frames;
+use crate::program::{ToProgram, PIECE};
+use crate::times::{Late, Limits, Times, Turn};
+use std::io::{self, ErrorKind, Read, Write};
+use std::net::{IpAddr, Shutdown, TcpStream};
+
+/// So much of a connection that is over is read before it is closed.
+const DRAINED: usize = 1 << 20;
+
+pub struct Client {
+    /// Of any family.
+    pub socket: TcpStream,
+    /// Where it comes from, as it is counted.
+    pub place: Option<IpAddr>,
+    /// Of its frames; none before the first.
+    pub number: Option<u64>,
+    /// Whether it may still send: its end has not come, nor was it given one.
+    pub hears: bool,
+    /// Whether its end has come.
+    pub has_ended: bool,
+    /// Whether the program has closed it.
+    pub is_over: bool,
+    /// Once all was sent to it: how much more it is drained of.
+    drained: Option<usize>,
+    /// How much more it may send, and how much it has sent.
+    granted: u64,
+    pub sent: u64,
+    /// What waits for it is from `from` on.
+    unsent: Vec<u8>,
+    from: usize,
+    /// What it has taken and the program wasn't told.
+    taken: u64,
+    pub times: Times,
+    /// What is waited for of its socket, and whether that waits for the program.
+    pub armed: u32,
+    pub is_paused: bool,
+}
+
+/// What a client has sent.
+pub enum Sent {
+    Bytes,
+    Nothing,
+    End,
+}
+
+fn is_passing(error: &io::Error) -> bool {
+    matches!(error.kind(), ErrorKind::WouldBlock | ErrorKind::Interrupted)
+}
+
+impl Client {
+    pub fn new(socket: TcpStream, place: Option<IpAddr>, window: u64, now: u64) -> Client {
+        Client {
+            socket,
+            place,
+            number: None,
+            hears: true,
+            has_ended: false,
+            is_over: false,
+            drained: None,
+            granted: window,
+            sent: 0,
+            unsent: Vec::new(),
+            from: 0,
+            taken: 0,
+            times: Times::new(now),
+            armed: 0,
+            is_paused: false,
+        }
+    }
+
+    pub fn waits_for_nothing(&self) -> bool {
+        self.from == self.unsent.len()
+    }
+
+    pub fn lingers(&self) -> bool {
+        self.drained.is_some()
+    }
+
+    /// Whether it is read: while it may send, or is drained.
+    pub fn is_read(&self) -> bool {
+        self.lingers() || (self.hears && self.granted > 0 && !self.is_paused)
+    }
+
+    pub fn grant(&mut self, bytes: u64) {
+        self.granted = self.granted.saturating_add(bytes);
+    }
+
+    /// Passes on what it has sent.
+    pub fn hear(&mut self, to: &mut ToProgram, now: u64) -> io::Result<Sent> {
+        let most = self.granted.min(PIECE as u64) as usize;
+        match to.pass_on(&mut self.number, &mut self.socket, most) {
+            Ok(0) => Ok(Sent::End),
+            Ok(count) => {
+                self.granted -= count as u64;
+                self.sent += count as u64;
+                self.times.sent(count as u64, now);
+                Ok(Sent::Bytes)
+            }
+            Err(error) if is_passing(&error) => Ok(Sent::Nothing),
+            Err(error) => Err(error),
+        }
+    }
+
+    /// Nothing more is heard of it, and the program is told so.
+    pub fn end(&mut self, to: &mut ToProgram) {
+        if self.hears {
+            self.hears = false;
+            if let (Some(number), false) = (self.number, self.is_over) {
+                to.say(&frames::frame(number, 0));
+            }
+        }
+    }
+
+    /// Sends it some bytes, and keeps what it doesn't take yet.
+    pub fn tell(&mut self, bytes: &[u8], now: u64) -> io::Result<()> {
+        self.times.told();
+        let mut rest = bytes;
+        if self.waits_for_nothing() {
+            rest = &rest[self.send(bytes)?..];
+            self.times.took(now);
+        }
+        self.unsent.extend_from_slice(rest);
+        Ok(())
+    }
+
+    /// How much of it is taken at once.
+    fn send(&mut self, bytes: &[u8]) -> io::Result<usize> {
+        let count = match self.socket.write(bytes) {
+            Err(error) if is_passing(&error) => 0,
+            result => result?,
+        };
+        self.taken += count as u64;
+        Ok(count)
+    }
+
+    /// So many bytes went to it past `tell`.
+    pub fn was_sent(&mut self, count: usize, now: u64) {
+        self.times.told();
+        self.times.took(now);
+        self.taken += count as u64;
+    }
+
+    /// Sends what waits for it.
+    pub fn send_more(&mut self, now: u64) -> io::Result<()> {
+        let mut waiting = std::mem::take(&mut self.unsent);
+        let count = self.send(&waiting[self.from..])?;
+        self.from += count;
+        if count > 0 {
+            self.times.took(now);
+        }
+        if self.from == waiting.len() {
+            self.from = 0;
+        } else {
+            if self.from > waiting.len() / 2 {
+                waiting.drain(..self.from);
+                self.from = 0;
+            }
+            self.unsent = waiting;
+        }
+        Ok(())
+    }
+
+    /// Tells the program what it has taken, if that is as much as this.
+    pub fn tell_taken(&mut self, least: u64, to: &mut ToProgram) {
+        if let (Some(number), false) = (self.number, self.is_over) {
+            if self.taken >= least {
+                to.say(&frames::taken(number, self.taken));
+                self.taken = 0;
+            }
+        }
+    }
+
+    /// Once all was sent to a connection that is over: whether it is to be closed. Else it is shut for writing, and drained.
+    pub fn finish(&mut self, now: u64) -> bool {
+        if !self.has_ended && self.socket.shutdown(Shutdown::Write).is_ok() {
+            self.drained = Some(DRAINED);
+            self.times = Times::new(now);
+            return false;
+        }
+        true
+    }
+
+    /// Drops what it sends behind its end; whether it is to be closed.
+    pub fn drain(&mut self) -> bool {
+        let mut room = [0; PIECE];
+        match self.socket.read(&mut room) {
+            Ok(count) => {
+                let left = self.drained.unwrap_or(0).saturating_sub(count);
+                self.drained = Some(left);
+                count == 0 || left == 0
+            }
+            Err(error) => !is_passing(&error),
+        }
+    }
+
+    /// Whether nothing was begun that is to be answered.
+    pub fn is_at_rest(&self) -> bool {
+        self.hears && self.waits_for_nothing() && matches!(self.times.turn, Turn::Silent | Turn::Rests)
+    }
+
+    /// Since when it may be closed to let another in, where it may: first those that are over, then those that never sent anything.
+    pub fn rests_since(&self) -> Option<(u8, u64)> {
+        let rank = match self.times.turn {
+            _ if self.lingers() => 0,
+            Turn::Silent => 1,
+            _ => 2,
+        };
+        Some((rank, self.times.since)).filter(|_| self.lingers() || self.is_at_rest())
+    }
+
+    /// Whether it is late. Where it isn't read, it can be so with taking alone.
+    pub fn late(&self, limits: &Limits, now: u64) -> Option<Late> {
+        if self.lingers() {
+            return Some(Late::Takes).filter(|_| now - self.times.since >= limits.linger);
+        }
+        self.times.late(limits, !self.waits_for_nothing(), now).filter(|late| *late == Late::Takes || self.is_read())
+    }
+}

@@ -1,0 +1,336 @@
+//! All clients: who is let in, what they are told, and who is late.
+use crate::client::{Client, Sent};
+use crate::frames::{self, Line};
+use crate::poll::Poll;
+use crate::program::{FromProgram, ToProgram, Told};
+use crate::system::{self, ERROR, HANG_UP, IN, OUT};
+use crate::times::{Late, Limits, Turn};
+use std::collections::HashMap;
+use std::io;
+use std::net::{IpAddr, Ipv6Addr, TcpStream};
+use std::os::unix::io::AsRawFd;
+
+/// The keys of clients begin here; those below are of other files.
+pub const FIRST_KEY: u64 = 1024;
+/// A client that has rested for so many milliseconds may be closed to let another in.
+const RESTED: u64 = 1000;
+/// So much lies unsent in the kernel at most, beyond what is on its way.
+const UNSENT: i32 = 128 * 1024;
+
+pub struct Clients {
+    pub poll: Poll,
+    pub to: ToProgram,
+    pub limits: Limits,
+    /// How many there may be, and from one place.
+    most: usize,
+    most_from_one: usize,
+    window: u64,
+    by_key: HashMap<u64, Client>,
+    /// The keys of those that have begun and aren't over, by their numbers; how many come from a place; and who waits until the program takes more.
+    by_number: HashMap<u64, u64>,
+    by_place: HashMap<IpAddr, usize>,
+    paused: Vec<u64>,
+    next_key: u64,
+    is_stopping: bool,
+    /// Whether the program has asked for more.
+    pub is_asked: bool,
+    /// By the clock of the listener, in milliseconds.
+    pub now: u64,
+}
+
+/// Where a client comes from, as it is counted: all of a network of IPv6 count as one.
+fn place_of(address: IpAddr) -> IpAddr {
+    match address {
+        IpAddr::V4(_) => address,
+        IpAddr::V6(it) => IpAddr::V6(Ipv6Addr::from(u128::from(it) >> 64 << 64)),
+    }
+}
+
+impl Clients {
+    pub fn new(poll: Poll, to: ToProgram, limits: Limits, most: (usize, usize), window: u64) -> Clients {
+        Clients {
+            poll,
+            to,
+            limits,
+            most: most.0,
+            most_from_one: most.1,
+            window,
+            by_key: HashMap::new(),
+            by_number: HashMap::new(),
+            by_place: HashMap::new(),
+            paused: Vec::new(),
+            next_key: FIRST_KEY,
+            is_stopping: false,
+            is_asked: false,
+            now: 0,
+        }
+    }
+
+    pub fn is_empty(&self) -> bool {
+        self.by_key.is_empty()
+    }
+
+    pub fn is_full(&self) -> bool {
+        self.by_key.len() >= self.most
+    }
+
+    // ---- Who comes and goes.
+
+    pub fn admit(&mut self, socket: TcpStream, address: Option<IpAddr>) {
+        let place = address.map(place_of);
+        let count = place.and_then(|it| self.by_place.get(&it)).copied().unwrap_or(0);
+        if count >= self.most_from_one {
+            return;
+        }
+        let key = self.next_key;
+        if place.is_some() {
+            // These make it quicker, and take less memory; it works without them.
+            let _ = socket.set_nodelay(true);
+            let _ = system::set_option(&socket, system::USER_TIMEOUT, self.limits.stall.min(1 << 30) as i32);
+            let _ = system::set_option(&socket, system::UNSENT_AT_MOST, UNSENT);
+        }
+        if self.poll.add(socket.as_raw_fd(), IN, key).is_err() {
+            return;
+        }
+        self.next_key += 1;
+        place.map(|it| *self.by_place.entry(it).or_insert(0) += 1);
+        let mut client = Client::new(socket, place, self.window, self.now);
+        client.armed = IN;
+        self.by_key.insert(key, client);
+    }
+
+    /// Closes whoever has rested longest, and long enough; first those that are over, then those that never sent anything. Whether there was one.
+    pub fn evict(&mut self) -> bool {
+        let resting = self.by_key.iter().filter_map(|(key, client)| Some((client.rests_since()?, *key)));
+        let found = resting.filter(|((_, since), _)| since + RESTED <= self.now).min();
+        found.map(|(_, key)| self.lose(key)).is_some()
+    }
+
+    fn close(&mut self, key: u64) {
+        if let Some(client) = self.by_key.remove(&key) {
+            client.number.map(|number| self.by_number.remove(&number));
+            if let Some(place) = client.place {
+                match self.by_place.get_mut(&place) {
+                    Some(count) if *count > 1 => *count -= 1,
+                    _ => drop(self.by_place.remove(&place)),
+                }
+            }
+        }
+    }
+
+    /// It is gone, or is sent away.
+    fn lose(&mut self, key: u64) {
+        if let Some(client) = self.by_key.get(&key) {
+            if let (Some(number), false) = (client.number, client.is_over) {
+                self.to.say(&frames::gone(number));
+            }
+            self.close(key);
+        }
+    }
+
+    /// Nothing more is heard of it: it is closed once what it asked for is answered.
+    fn end(&mut self, key: u64) {
+        match self.by_key.get_mut(&key) {
+            Some(client) if client.number.is_some() => client.end(&mut self.to),
+            _ => return self.lose(key),
+        }
+        self.arm(key);
+    }
+
+    // ---- What their sockets have.
+
+    pub fn handle(&mut self, key: u64, events: u32) {
+        if events & ERROR != 0 {
+            return self.lose(key);
+        }
+        if events & OUT != 0 {
+            self.send(key);
+        }
+        if events & (IN | HANG_UP) != 0 {
+            self.hear(key, events & HANG_UP != 0);
+        }
+    }
+
+    fn hear(&mut self, key: u64, has_hung_up: bool) {
+        let client = match self.by_key.get_mut(&key) {
+            Some(client) => client,
+            None => return,
+        };
+        if client.lingers() {
+            if client.drain() || has_hung_up {
+                self.close(key);
+            }
+            return;
+        }
+        if client.is_read() && self.to.is_full() {
+            client.is_paused = true;
+            self.paused.push(key);
+        }
+        let is_known = client.number.is_some();
+        let sent = if client.is_read() { client.hear(&mut self.to, self.now) } else { Ok(Sent::Nothing) };
+        match (sent, client.number) {
+            (Ok(Sent::End), Some(_)) if !has_hung_up => {
+                client.has_ended = true;
+                client.end(&mut self.to);
+            }
+            (Ok(Sent::Bytes), Some(number)) if !is_known => drop(self.by_number.insert(number, key)),
+            (Ok(Sent::Bytes), _) => {}
+            (Ok(Sent::Nothing), _) if !has_hung_up => {}
+            _ => return self.lose(key),
+        }
+        self.arm(key);
+    }
+
+    fn send(&mut self, key: u64) {
+        if let Some(client) = self.by_key.get_mut(&key) {
+            if client.send_more(self.now).is_err() {
+                return self.lose(key);
+            }
+            client.tell_taken(self.window / 2, &mut self.to);
+            self.settle(key);
+        }
+    }
+
+    /// Once all was sent to a connection that is over, it is finished.
+    fn settle(&mut self, key: u64) {
+        if let Some(client) = self.by_key.get_mut(&key) {
+            if client.is_over && !client.lingers() && client.waits_for_nothing() && client.finish(self.now) {
+                return self.close(key);
+            }
+            self.arm(key);
+        }
+    }
+
+    fn arm(&mut self, key: u64) {
+        if let Some(client) = self.by_key.get_mut(&key) {
+            let wanted = if client.is_read() { IN } else { 0 } | if client.waits_for_nothing() { 0 } else { OUT };
+            if wanted != client.armed {
+                client.armed = wanted;
+                if self.poll.change(client.socket.as_raw_fd(), wanted, key).is_err() {
+                    self.lose(key);
+                }
+            }
+        }
+    }
+
+    // ---- What the program tells.
+
+    pub fn told(&mut self, told: Told) {
+        match told {
+            Told::Bytes(number, bytes) => self.tell(number, bytes),
+            Told::Line(Line::More) => self.is_asked = true,
+            Told::Line(Line::Over(number)) => self.over(number),
+            Told::Line(Line::Grant(number, bytes)) => {
+                if let Some(key) = self.by_number.get(&number).copied() {
+                    self.by_key.get_mut(&key).map(|client| client.grant(bytes));
+                    self.arm(key);
+                }
+            }
+            Told::Line(Line::Rests(number, bytes)) => self.waits(number, Turn::Rests, bytes),
+            Told::Line(Line::Owes(number, bytes)) => self.waits(number, Turn::Owes, bytes),
+            // Its bytes come behind it.
+            Told::Line(Line::Bytes(..)) => {}
+        }
+    }
+
+    fn tell(&mut self, number: u64, bytes: &[u8]) {
+        if let Some(key) = self.by_number.get(&number).copied() {
+            if let Some(client) = self.by_key.get_mut(&key) {
+                if client.tell(bytes, self.now).is_err() {
+                    return self.lose(key);
+                }
+                client.tell_taken(self.window / 2, &mut self.to);
+                self.arm(key);
+            }
+        }
+    }
+
+    /// Moves a long piece from the program to its client within the kernel, where nothing waits for that one. Whether that moved something.
+    pub fn move_piece(&mut self, from: &mut FromProgram) -> bool {
+        let key = from.long_piece().and_then(|number| self.by_number.get(&number).copied());
+        let found = key.and_then(|key| Some((key, self.by_key.get_mut(&key)?)));
+        let (key, client) = match found {
+            Some((key, client)) if client.waits_for_nothing() => (key, client),
+            _ => return false,
+        };
+        match from.move_to(&client.socket) {
+            Ok(count) if count > 0 => client.was_sent(count, self.now),
+            // What doesn't go this way is read: then it is known why.
+            _ => return false,
+        }
+        client.tell_taken(self.window / 2, &mut self.to);
+        self.arm(key);
+        true
+    }
+
+    fn over(&mut self, number: u64) {
+        if let Some(key) = self.by_number.remove(&number) {
+            if let Some(client) = self.by_key.get_mut(&key) {
+                client.is_over = true;
+                client.hears = false;
+            }
+            self.settle(key);
+        }
+    }
+
+    /// What the program says is true only where it has taken all that was sent.
+    fn waits(&mut self, number: u64, turn: Turn, bytes: u64) {
+        if let Some(key) = self.by_number.get(&number).copied() {
+            if let Some(client) = self.by_key.get_mut(&key).filter(|client| client.sent == bytes) {
+                client.times.waits(turn, self.now);
+                if self.is_stopping && client.is_at_rest() {
+                    self.end(key);
+                }
+            }
+        }
+    }
+
+    /// Nothing more has come.
+    pub fn say_none(&mut self) {
+        self.is_asked = false;
+        self.to.say(&frames::none());
+    }
+
+    /// Writes to the program what it takes, and hears those again that waited for that. Whether something is left.
+    pub fn write_out(&mut self) -> io::Result<bool> {
+        self.to.write_out()?;
+        if self.to.has_room() {
+            for key in std::mem::take(&mut self.paused) {
+                self.by_key.get_mut(&key).map(|client| client.is_paused = false);
+                self.arm(key);
+            }
+        }
+        Ok(!self.to.is_empty())
+    }
+
+    // ---- Who is late.
+
+    /// Sends away who is late; and those that rest, once the listener is to stop.
+    pub fn look_at_times(&mut self) {
+        let late = |client: &Client| {
+            let ends = self.is_stopping && client.is_at_rest();
+            client.late(&self.limits, self.now).or_else(|| Some(Late::Sends).filter(|_| ends))
+        };
+        let found: Vec<_> = self.by_key.iter().filter_map(|(key, client)| Some((*key, late(client)?))).collect();
+        for (key, late) in found {
+            match late {
+                Late::Sends => self.end(key),
+                Late::Takes => self.lose(key),
+            }
+        }
+        for client in self.by_key.values_mut() {
+            client.tell_taken(1, &mut self.to);
+        }
+    }
+
+    /// Ends all connections once what has begun is answered.
+    pub fn stop(&mut self) {
+        self.is_stopping = true;
+        self.look_at_times();
+    }
+}
+
+/// A failed call that has no remedy but to wait: there are too many files, or there is no memory.
+pub fn is_want(error: &io::Error) -> bool {
+    matches!(error.raw_os_error(), Some(12 | 23 | 24 | 105))
+}

@@ -1,0 +1,167 @@
+//! Listens for clients, and moves their bytes to a program and back, in frames (docs/FORMATS.md, "Frames"). It knows nothing of what they say.
+//!
+//! One thread waits for all files at once, and no call blocks. All that is unsafe stands in the module `system`.
+
+#![deny(unsafe_op_in_unsafe_fn)]
+
+mod addresses;
+mod client;
+mod clients;
+mod frames;
+mod notify;
+mod options;
+mod poll;
+mod program;
+mod server;
+mod system;
+mod times;
+
+use addresses::{Address, Listener};
+use options::{Options, USAGE};
+use server::{End, Server};
+use std::fmt::Arguments;
+use std::fs::{read_to_string, File};
+use std::io::{self, ErrorKind, Write};
+use std::process::{exit, Child};
+use std::thread::sleep;
+use std::time::{Duration, Instant};
+
+/// How it ends: by a signal; where no client can come; by wrong words; where the program can't be run; with too few files; where the program has ended; where the system fails it.
+const STOPPED: i32 = 0;
+const NO_ADDRESS: i32 = 1;
+const WRONG_WORDS: i32 = 2;
+const NO_PROGRAM: i32 = 3;
+const TOO_FEW_FILES: i32 = 4;
+const PROGRAM_ENDED: i32 = 5;
+const FAILED: i32 = 6;
+
+/// Files that are no clients': of the program, of signals, of addresses.
+const OTHER_FILES: u64 = 64;
+
+/// Says something to whoever reads standard error, if anybody does.
+pub fn say(what: Arguments) {
+    let _ = writeln!(io::stderr(), "listen: {}", what);
+}
+
+fn end(status: i32, why: Arguments) -> ! {
+    say(why);
+    exit(status)
+}
+
+fn main() {
+    let words: Vec<_> = std::env::args_os().skip(1).collect();
+    if words.len() == 1 && words[0] == "--help" {
+        let _ = io::stdout().write_all(USAGE.as_bytes());
+        return;
+    }
+    let options = Options::read(words.into_iter()).unwrap_or_else(|why| {
+        let _ = io::stderr().write_all(USAGE.as_bytes());
+        end(WRONG_WORDS, format_args!("{}", why))
+    });
+    check_files(options.connections as u64);
+    let listeners = listen(&options.addresses);
+    match serve(&options, listeners) {
+        Ok(status) => exit(status),
+        Err(error) => end(FAILED, format_args!("the system fails: {}", error)),
+    }
+}
+
+fn check_files(connections: u64) {
+    let (most, needed) = (system::raise_files(), connections + OTHER_FILES);
+    match most {
+        Ok(most) if most < needed => {
+            end(TOO_FEW_FILES, format_args!("{} connections need {} files, and {} may be open: see ulimit -n", connections, needed, most))
+        }
+        _ => {}
+    }
+}
+
+/// Where clients come: what is handed over, and what is asked for.
+fn listen(words: &[String]) -> Vec<Listener> {
+    let handed = addresses::handed_over();
+    let mut listeners = handed.unwrap_or_else(|error| end(NO_ADDRESS, format_args!("a socket that is handed over: {}", error)));
+    let default = ["127.0.0.1:8080".to_string()];
+    let words = if words.is_empty() && listeners.is_empty() { &default } else { words };
+    for word in words {
+        let found = addresses::read(word).unwrap_or_else(|why| end(WRONG_WORDS, format_args!("{}", why)));
+        listeners.extend(found.iter().map(|address| open(word, address)));
+    }
+    listeners
+}
+
+fn open(word: &str, address: &Address) -> Listener {
+    Listener::open(address).unwrap_or_else(|error| match (error.kind(), address) {
+        (ErrorKind::AddrInUse, Address::Internet(it)) => {
+            end(NO_ADDRESS, format_args!("port {} is in use; take another one, or 0 for any that is free", it.port()))
+        }
+        _ => end(NO_ADDRESS, format_args!("{}: {}", word, error)),
+    })
+}
+
+/// Runs the program and serves; the status is that of the end.
+fn serve(options: &Options, listeners: Vec<Listener>) -> io::Result<i32> {
+    let signals = File::from(system::signals(&system::STOPS)?);
+    let memory = options.memory.unwrap_or_else(half_of_memory);
+    let started = program::start(&options.program, Some(memory).filter(|bytes| *bytes > 0));
+    let name = options.program[0].to_string_lossy();
+    let (mut child, to, from) = started.unwrap_or_else(|error| end(NO_PROGRAM, format_args!("{}: {}", name, error)));
+    let most = (options.connections, options.connections_per_address);
+    let clients = clients::Clients::new(poll::Poll::new()?, to, options.limits, most, options.window);
+    tell(options, &listeners, memory);
+    let mut server = Server::new(clients, from, listeners, signals, options.grace)?;
+    notify::notify("READY=1");
+    let why = server.run();
+    // The program sees the end of its input.
+    drop(server);
+    Ok(end_of(&mut child, why, options.grace))
+}
+
+fn half_of_memory() -> u64 {
+    let told = read_to_string("/proc/meminfo").unwrap_or_default();
+    let kilobytes = told.split_whitespace().nth(1).and_then(|word| word.parse::<u64>().ok());
+    kilobytes.map_or(0, |count| count * 512)
+}
+
+/// Tells where clients come, and what whoever starts this has to know.
+fn tell(options: &Options, listeners: &[Listener], memory: u64) {
+    let mut out = io::stdout();
+    for listener in listeners {
+        let _ = writeln!(out, "{}", listener.name());
+    }
+    let _ = out.flush();
+    if memory > 0 {
+        say(format_args!("the program may take {} MB of memory (--memory)", memory / 1_000_000));
+    }
+    let open: Vec<_> = listeners.iter().filter(|it| it.is_open()).map(Listener::name).collect();
+    if !open.is_empty() {
+        let names_users = options.program.iter().any(|word| word == "--user-header");
+        let what = if names_users { "name itself any user, unless only a proxy gets there" } else { "read and change everything" };
+        say(format_args!("whoever reaches {} can {}", open.join(" "), what));
+    }
+}
+
+/// Waits for the program to end, as long as the grace lasts, and tells what it was.
+fn end_of(child: &mut Child, why: End, grace: u64) -> i32 {
+    let latest = Instant::now() + Duration::from_millis(if matches!(why, End::Killed) { 0 } else { grace.max(1000) });
+    let status = loop {
+        match child.try_wait() {
+            Ok(None) if Instant::now() < latest => sleep(Duration::from_millis(5)),
+            Ok(None) => {
+                let _ = child.kill();
+                break child.wait().ok();
+            }
+            result => break result.ok().flatten(),
+        }
+    };
+    let ended = status.map_or("ended".into(), |it| it.to_string());
+    match why {
+        End::Stopped | End::Killed => return STOPPED,
+        End::Program => say(format_args!("the program has ended: {}", ended)),
+        End::BadFrame => say(format_args!("the program tells what is no frame ({})", ended)),
+        End::Failed(what, error) => {
+            say(format_args!("{}: {}", what, error));
+            return FAILED;
+        }
+    }
+    PROGRAM_ENDED
+}

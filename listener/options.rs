@@ -1,0 +1,126 @@
+//! The words of the command line.
+use crate::times::Limits;
+use std::ffi::OsString;
+
+pub const USAGE: &str = "\
+usage: listen [OPTION VALUE].. [PORT] PROGRAM [WORD..]
+
+Listens for clients, runs the program, and moves their bytes to it and back, in frames. Prints a URL for each address once it listens.
+
+  --listen ADDRESS:PORT           where to listen, several times: IPv4, [IPv6], a name, unix:PATH or unix:PATH,mode=660
+                                  (600 without it); 127.0.0.1 at PORT, else 8080, where nothing is said or handed over
+  --connections COUNT             how many clients are served at a time; 1000 without it
+  --connections-per-address COUNT how many of them from one address, or one network of IPv6; half of them without it
+  --idle SECONDS                  how long a client may rest between requests; 120 without it
+  --head SECONDS                  how long it may take to send a request; 20 without it
+  --rate BYTES                    each so many bytes of a request give it a second more; 500 without it
+  --stall SECONDS                 how long it may take nothing of an answer; 60 without it
+  --linger SECONDS                how long a connection that is over is still read, so that its last answer is seen; 5
+  --grace SECONDS                 how long what has begun goes on behind a first SIGTERM; 10 without it
+  --memory BYTES                  how much the program may take, 0 for no limit; half of the machine's without it
+  --window BYTES                  the window of the program; 262144 without it
+";
+
+#[derive(Debug)]
+pub struct Options {
+    pub addresses: Vec<String>,
+    pub connections: usize,
+    pub connections_per_address: usize,
+    pub limits: Limits,
+    pub grace: u64,
+    /// None where nothing was said.
+    pub memory: Option<u64>,
+    pub window: u64,
+    pub program: Vec<OsString>,
+}
+
+impl Options {
+    fn new() -> Options {
+        let limits = Limits { idle: 120_000, head: 20_000, rate: 500, stall: 60_000, linger: 5_000 };
+        Options {
+            addresses: Vec::new(),
+            connections: 1000,
+            connections_per_address: 0,
+            limits,
+            grace: 10_000,
+            memory: None,
+            window: 262_144,
+            program: Vec::new(),
+        }
+    }
+
+    /// An Err is why the words are wrong.
+    pub fn read(words: impl Iterator<Item = OsString>) -> Result<Options, String> {
+        let (mut options, mut words) = (Options::new(), words.peekable());
+        while let Some(name) = words.next_if(|word| word.to_str().map_or(false, |it| it.starts_with("--"))) {
+            let name = name.to_string_lossy().into_owned();
+            let value = words.next().ok_or_else(|| format!("{} has no value", name))?;
+            options.set(&name, value.to_str().unwrap_or(""))?;
+        }
+        if let Some(port) = words.next_if(|word| word.to_str().map_or(false, |it| it.parse::<u16>().is_ok())) {
+            options.addresses.push(format!("127.0.0.1:{}", port.to_string_lossy()));
+        }
+        if options.connections_per_address == 0 {
+            options.connections_per_address = (options.connections / 2).max(1);
+        }
+        options.program = words.collect();
+        if options.program.is_empty() {
+            return Err("there is no program".into());
+        }
+        Ok(options)
+    }
+
+    fn set(&mut self, name: &str, value: &str) -> Result<(), String> {
+        if name == "--listen" {
+            self.addresses.push(value.into());
+            return Ok(());
+        }
+        let number = value.parse::<u32>().ok().map(u64::from);
+        let (least, wanted) = match name {
+            "--connections" | "--connections-per-address" | "--rate" | "--window" => (1, number),
+            "--idle" | "--head" | "--stall" => (1, number),
+            "--linger" | "--grace" => (0, number),
+            "--memory" => (0, value.parse().ok()),
+            _ => return Err(format!("there is no option {}", name)),
+        };
+        let number = wanted.filter(|it| *it >= least).ok_or_else(|| format!("{} {}: not such a number", name, value))?;
+        match name {
+            "--connections" => self.connections = number as usize,
+            "--connections-per-address" => self.connections_per_address = number as usize,
+            "--rate" => self.limits.rate = number,
+            "--idle" => self.limits.idle = number * 1000,
+            "--head" => self.limits.head = number * 1000,
+            "--stall" => self.limits.stall = number * 1000,
+            "--linger" => self.limits.linger = number * 1000,
+            "--grace" => self.grace = number * 1000,
+            "--memory" => self.memory = Some(number),
+            _ => self.window = number,
+        }
+        Ok(())
+    }
+}
+
+#[cfg(test)]
+mod tests {
+    use super::*;
+
+    fn read(words: &str) -> Result<Options, String> {
+        Options::read(words.split_whitespace().map(OsString::from))
+    }
+
+    #[test]
+    fn words_are_read() {
+        let options = read("--idle 3 --listen a:1 --connections 10 --listen b:2 80 program --idle 4").unwrap();
+        assert_eq!(options.addresses, ["a:1", "b:2", "127.0.0.1:80"]);
+        assert_eq!((options.limits.idle, options.connections_per_address), (3000, 5));
+        assert_eq!(options.program, ["program", "--idle", "4"]);
+        assert_eq!(read("program 80").unwrap().addresses.len(), 0);
+    }
+
+    #[test]
+    fn wrong_words_are_refused() {
+        for words in ["", "80", "--idle 3", "--idle x program", "--idle 0 program", "--idle", "--none 1 program", "--rate -1 p"] {
+            assert!(read(words).is_err(), "{}", words);
+        }
+    }
+}

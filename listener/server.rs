@@ -1,0 +1,214 @@
+//! The loop: whatever comes, from clients, the program or a signal, is looked at in turn.
+use crate::addresses::Listener;
+use crate::clients::{is_want, Clients, FIRST_KEY};
+use crate::notify::notify;
+use crate::program::FromProgram;
+use crate::say;
+use crate::system::{Event, IN, OUT};
+use std::fs::File;
+use std::io::{self, ErrorKind, Read};
+use std::os::unix::io::AsRawFd;
+use std::time::Instant;
+
+const TO_PROGRAM: u64 = 0;
+const FROM_PROGRAM: u64 = 1;
+const SIGNALS: u64 = 2;
+const FIRST_LISTENER: u64 = 3;
+
+/// In milliseconds: how often times are looked at, and how long nobody is let in where there was no file or no memory for one.
+const TICK: u64 = 250;
+const PAUSE: u64 = 1000;
+/// So many clients are let in at a time, and so often the program is read.
+const AT_ONCE: usize = 64;
+
+/// Why the loop ended.
+pub enum End {
+    /// All is answered behind a signal, or its grace is over.
+    Stopped,
+    /// A second signal came.
+    Killed,
+    /// The program has ended, or tells what is no frame.
+    Program,
+    BadFrame,
+    Failed(&'static str, io::Error),
+}
+
+pub struct Server {
+    clients: Clients,
+    from: FromProgram,
+    listeners: Vec<Listener>,
+    signals: File,
+    grace: u64,
+    began: Instant,
+    /// Whether clients are let in, and from when on again; when times are looked at next; when a stop has no more grace.
+    listens: bool,
+    listens_again: u64,
+    ticks: u64,
+    stops: Option<u64>,
+    /// Whether the pipe to the program is waited for.
+    is_writing: bool,
+}
+
+impl Server {
+    pub fn new(clients: Clients, from: FromProgram, listeners: Vec<Listener>, signals: File, grace: u64) -> io::Result<Server> {
+        let poll = &clients.poll;
+        poll.add(clients.to.file.as_raw_fd(), 0, TO_PROGRAM)?;
+        poll.add(from.file.as_raw_fd(), IN, FROM_PROGRAM)?;
+        poll.add(signals.as_raw_fd(), IN, SIGNALS)?;
+        for (listener, key) in listeners.iter().zip(FIRST_LISTENER..FIRST_KEY) {
+            poll.add(listener.file(), IN, key)?;
+        }
+        let (began, stops) = (Instant::now(), None);
+        Ok(Server {
+            clients,
+            from,
+            listeners,
+            signals,
+            grace,
+            began,
+            listens: true,
+            listens_again: 0,
+            ticks: TICK,
+            stops,
+            is_writing: false,
+        })
+    }
+
+    /// Serves until something ends it.
+    pub fn run(&mut self) -> End {
+        let mut events = [Event::default(); 256];
+        loop {
+            if let Err(end) = self.turn(&mut events) {
+                return end;
+            }
+        }
+    }
+
+    fn turn(&mut self, events: &mut [Event]) -> Result<(), End> {
+        // Where the program asks for more, all that has come by now is looked at first.
+        let is_asked = self.clients.is_asked;
+        let time = if is_asked { 0 } else { self.ticks.saturating_sub(self.clients.now) as i32 };
+        let is_idle = self.clients.is_empty() && self.listens && self.stops.is_none();
+        let time = if is_idle && !is_asked { -1 } else { time };
+        let count = self.clients.poll.wait(events, time).map_err(|error| End::Failed("waiting", error))?;
+        self.clients.now = self.began.elapsed().as_millis() as u64;
+        for event in &events[..count] {
+            self.handle(event.key, event.events)?;
+        }
+        if is_asked {
+            self.clients.say_none();
+        }
+        self.write_out()?;
+        if self.clients.now >= self.ticks {
+            self.ticks = self.clients.now + TICK;
+            self.clients.look_at_times();
+            self.write_out()?;
+        }
+        if !self.listens && self.stops.is_none() && self.clients.now >= self.listens_again {
+            self.listen(true)?;
+        }
+        match self.stops {
+            Some(stops) if self.clients.is_empty() || self.clients.now >= stops => Err(End::Stopped),
+            _ => Ok(()),
+        }
+    }
+
+    fn handle(&mut self, key: u64, events: u32) -> Result<(), End> {
+        match key {
+            // It is written to behind all events, and its end is seen where it is read.
+            TO_PROGRAM => Ok(()),
+            FROM_PROGRAM => self.read_program(),
+            SIGNALS => self.take_signals(),
+            FIRST_KEY.. => {
+                self.clients.handle(key, events);
+                Ok(())
+            }
+            _ => self.accept((key - FIRST_LISTENER) as usize),
+        }
+    }
+
+    fn write_out(&mut self) -> Result<(), End> {
+        let is_left = self.clients.write_out().map_err(|error| End::Failed("writing to the program", error))?;
+        if is_left != self.is_writing {
+            self.is_writing = is_left;
+            let (file, events) = (self.clients.to.file.as_raw_fd(), if is_left { OUT } else { 0 });
+            self.clients.poll.change(file, events, TO_PROGRAM).map_err(|error| End::Failed("waiting for the program", error))?;
+        }
+        Ok(())
+    }
+
+    fn read_program(&mut self) -> Result<(), End> {
+        for _ in 0..AT_ONCE {
+            if self.clients.move_piece(&mut self.from) {
+                continue;
+            }
+            match self.from.read() {
+                Ok(0) => return Err(End::Program),
+                Ok(_) => {}
+                Err(error) if error.kind() == ErrorKind::WouldBlock => return Ok(()),
+                Err(error) if error.kind() == ErrorKind::Interrupted => return Ok(()),
+                Err(error) => return Err(End::Failed("reading of the program", error)),
+            }
+            let was_filled = self.from.was_filled();
+            while let Some(told) = self.from.next().map_err(|()| End::BadFrame)? {
+                self.clients.told(told);
+            }
+            if !was_filled {
+                return Ok(());
+            }
+        }
+        Ok(())
+    }
+
+    // ---- Clients that come.
+
+    fn accept(&mut self, at: usize) -> Result<(), End> {
+        for count in 0..AT_ONCE {
+            if self.clients.is_full() && (count > 0 || !self.clients.evict()) {
+                // Whoever waits is let in once another goes.
+                self.listens_again = self.clients.now + if count > 0 { 0 } else { TICK / 10 };
+                return if count > 0 { Ok(()) } else { self.listen(false) };
+            }
+            match self.listeners.get(at).map(Listener::accept) {
+                Some(Ok((socket, place))) => self.clients.admit(socket, place),
+                Some(Err(error)) if error.kind() == ErrorKind::WouldBlock => return Ok(()),
+                Some(Err(error)) if is_want(&error) => {
+                    say(format_args!("nobody is let in for a second: {}", error));
+                    self.listens_again = self.clients.now + PAUSE;
+                    return self.listen(false);
+                }
+                // It has gone again.
+                Some(Err(_)) => {}
+                None => return Ok(()),
+            }
+        }
+        Ok(())
+    }
+
+    fn listen(&mut self, listens: bool) -> Result<(), End> {
+        self.listens = listens;
+        let events = if listens { IN } else { 0 };
+        for (listener, key) in self.listeners.iter().zip(FIRST_LISTENER..) {
+            let changed = self.clients.poll.change(listener.file(), events, key);
+            changed.map_err(|error| End::Failed("waiting for clients", error))?;
+        }
+        Ok(())
+    }
+
+    // ---- Signals.
+
+    fn take_signals(&mut self) -> Result<(), End> {
+        // The kernel tells each in 128 bytes.
+        let mut told = [0; 128];
+        while matches!(self.signals.read(&mut told), Ok(128)) {
+            if self.stops.is_some() {
+                return Err(End::Killed);
+            }
+            notify("STOPPING=1");
+            self.listeners.clear();
+            self.stops = Some(self.clients.now + self.grace);
+            self.clients.stop();
+        }
+        Ok(())
+    }
+}

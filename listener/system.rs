@@ -1,0 +1,150 @@
+//! The system calls that std lacks. All that is unsafe stands here.
+use std::os::raw::{c_int, c_uint, c_void};
+use std::os::unix::io::{AsRawFd, FromRawFd, OwnedFd, RawFd};
+use std::os::unix::process::CommandExt;
+use std::{io, process::Command, ptr::null_mut};
+
+pub const IN: u32 = 1;
+pub const OUT: u32 = 4;
+pub const ERROR: u32 = 8;
+pub const HANG_UP: u32 = 16;
+
+/// An interrupt, and a request to terminate.
+pub const STOPS: [c_int; 2] = [2, 15];
+
+pub const UNIX: c_int = 1;
+pub const STREAM: c_int = 1;
+pub const DATAGRAM: c_int = 2;
+const CLOSED_ON_EXEC: c_int = 0o2000000;
+pub const NON_BLOCKING: c_int = 0o4000;
+pub const PIPE_SIZE: c_int = 1031;
+pub const BEHAVIOUR: c_int = 4;
+
+/// An option of a socket: its level and its name.
+type SocketOption = (c_int, c_int);
+pub const REUSE_ADDRESS: SocketOption = (1, 2);
+pub const ONLY_IPV6: SocketOption = (41, 26);
+pub const USER_TIMEOUT: SocketOption = (6, 18);
+pub const UNSENT_AT_MOST: SocketOption = (6, 25);
+const FILES: c_int = 7;
+const ADDRESS_SPACE: c_int = 9;
+
+/// An event, as the kernel lays it out.
+#[cfg_attr(target_arch = "x86_64", repr(packed))]
+#[repr(C)]
+#[derive(Clone, Copy, Default)]
+pub struct Event {
+    pub events: u32,
+    pub key: u64,
+}
+
+extern "C" {
+    fn epoll_create1(flags: c_int) -> c_int;
+    fn epoll_ctl(poll: c_int, what: c_int, file: c_int, event: *mut Event) -> c_int;
+    fn epoll_wait(poll: c_int, events: *mut Event, most: c_int, milliseconds: c_int) -> c_int;
+    fn socket(family: c_int, kind: c_int, protocol: c_int) -> c_int;
+    fn bind(socket: c_int, address: *const u8, length: c_uint) -> c_int;
+    fn listen(socket: c_int, waiting: c_int) -> c_int;
+    fn sendto(socket: c_int, bytes: *const u8, length: usize, flags: c_int, to: *const u8, size: c_uint) -> isize;
+    fn setsockopt(socket: c_int, level: c_int, name: c_int, value: *const c_int, length: c_uint) -> c_int;
+    fn fcntl(file: c_int, command: c_int, ...) -> c_int;
+    fn splice(from: c_int, at: *mut c_void, to: c_int, place: *mut c_void, most: usize, flags: c_uint) -> isize;
+    fn signalfd(file: c_int, signals: *const [u64; 16], flags: c_int) -> c_int;
+    fn sigprocmask(how: c_int, signals: *const [u64; 16], before: *mut c_void) -> c_int;
+    fn getrlimit(what: c_int, limit: *mut [u64; 2]) -> c_int;
+    fn setrlimit(what: c_int, limit: *const [u64; 2]) -> c_int;
+    fn setsid() -> c_int;
+}
+
+fn checked<T: Default + PartialOrd>(result: T) -> io::Result<T> {
+    let error = io::Error::last_os_error();
+    Some(result).filter(|it| *it >= T::default()).ok_or(error)
+}
+
+fn owned(result: c_int) -> io::Result<OwnedFd> {
+    // SAFETY: a file that a call just made, or that was handed over, is nobody else's.
+    checked(result).map(|file| unsafe { OwnedFd::from_raw_fd(file) })
+}
+
+pub fn poll() -> io::Result<OwnedFd> {
+    owned(unsafe { epoll_create1(CLOSED_ON_EXEC) })
+}
+
+/// Adds a file to a poll (1), or changes what is waited for (3).
+pub fn change_poll(poll: &OwnedFd, what: c_int, file: RawFd, events: u32, key: u64) -> io::Result<()> {
+    let mut event = Event { events, key };
+    checked(unsafe { epoll_ctl(poll.as_raw_fd(), what, file, &mut event) }).map(drop)
+}
+
+pub fn wait(poll: &OwnedFd, events: &mut [Event], milliseconds: c_int) -> io::Result<usize> {
+    let most = events.len() as c_int;
+    checked(unsafe { epoll_wait(poll.as_raw_fd(), events.as_mut_ptr(), most, milliseconds) }).map(|count| count as usize)
+}
+
+pub fn new_socket(family: c_int, kind: c_int) -> io::Result<OwnedFd> {
+    owned(unsafe { socket(family, kind | CLOSED_ON_EXEC | NON_BLOCKING, 0) })
+}
+
+pub fn bind_to(socket: &OwnedFd, address: &[u8]) -> io::Result<()> {
+    checked(unsafe { bind(socket.as_raw_fd(), address.as_ptr(), address.len() as c_uint) }).map(drop)
+}
+
+pub fn listen_on(socket: &OwnedFd) -> io::Result<()> {
+    checked(unsafe { listen(socket.as_raw_fd(), 4096) }).map(drop)
+}
+
+pub fn send_to(socket: &OwnedFd, bytes: &[u8], to: &[u8]) -> io::Result<()> {
+    checked(unsafe { sendto(socket.as_raw_fd(), bytes.as_ptr(), bytes.len(), 0x4000, to.as_ptr(), to.len() as c_uint) }).map(drop)
+}
+
+pub fn set_option(socket: &impl AsRawFd, option: SocketOption, value: c_int) -> io::Result<()> {
+    checked(unsafe { setsockopt(socket.as_raw_fd(), option.0, option.1, &value, 4) }).map(drop)
+}
+
+/// Sets how long a pipe is, or how a file behaves.
+pub fn control(file: &impl AsRawFd, command: c_int, value: c_int) -> io::Result<()> {
+    checked(unsafe { fcntl(file.as_raw_fd(), command, value) }).map(drop)
+}
+
+/// A socket that whoever started this process left open for it; nobody else here may take it.
+pub fn handed_over(file: RawFd) -> io::Result<OwnedFd> {
+    checked(unsafe { fcntl(file, 2, 1) })?;
+    owned(file)
+}
+
+/// Moves bytes from a pipe to a socket within the kernel.
+pub fn move_bytes(from: &impl AsRawFd, to: &impl AsRawFd, most: usize) -> io::Result<usize> {
+    let count = unsafe { splice(from.as_raw_fd(), null_mut(), to.as_raw_fd(), null_mut(), most, 3) };
+    checked(count).map(|count| count as usize)
+}
+
+/// A file in which the signals are told from now on.
+pub fn signals(numbers: &[c_int]) -> io::Result<OwnedFd> {
+    let mut set = [0; 16];
+    set[0] = numbers.iter().fold(0, |bits, number| bits | 1 << (number - 1));
+    checked(unsafe { sigprocmask(0, &set, null_mut()) })?;
+    owned(unsafe { signalfd(-1, &set, CLOSED_ON_EXEC | NON_BLOCKING) })
+}
+
+/// Sets a limit of this process, not beyond the hardest, and tells what it is now.
+fn limit(what: c_int, wanted: u64) -> io::Result<u64> {
+    let mut limit = [0; 2];
+    checked(unsafe { getrlimit(what, &mut limit) })?;
+    limit[0] = wanted.min(limit[1]);
+    checked(unsafe { setrlimit(what, &limit) }).map(|_| limit[0])
+}
+
+/// Raises the limit of open files as far as it goes, and tells it.
+pub fn raise_files() -> io::Result<u64> {
+    limit(FILES, u64::MAX)
+}
+
+/// The command will run in a session of its own, and with so much memory at most.
+pub fn set_apart(command: &mut Command, memory: Option<u64>) {
+    let apart = move || {
+        checked(unsafe { setsid() })?;
+        memory.map_or(Ok(0), |bytes| limit(ADDRESS_SPACE, bytes)).map(drop)
+    };
+    // SAFETY: these calls may be made between fork and exec.
+    unsafe { command.pre_exec(apart) };
+}

@@ -1,0 +1,208 @@
+"""A program behind the listener, for its tests: it speaks the frames of davserve (docs/FORMATS.md), and checks each that comes.
+
+behind.py serve|echo SEED [DEAF]     DEAF: it reads nothing for so many seconds at first
+
+With `serve` it answers lines: `get N` by N bytes, `last N` by N bytes behind which the connection is over, `wait N` by `ok` after so many milliseconds, `put N` and N bytes behind it by `ok` and N, and any other by
+`refused`, behind which the connection is over. With `echo` it sends back what comes. What it tells is cut at random, and so it asks for more. Ends with 0, and says how many connections are left that are neither over nor gone; or with 4 and a reason where a frame is wrong.
+"""
+import os
+import random
+import select
+import sys
+import time
+
+WINDOW, LARGEST, MOST = 262_144, 1_048_576, 1 << 63
+HALF = WINDOW // 2
+PATTERN = bytes(n % 251 for n in range(251 * 1024))
+
+
+def pattern(count):
+    return (PATTERN * (count // len(PATTERN) + 1))[:count]
+
+
+class Connection:
+    def __init__(self):
+        self.came, self.allowed, self.handed, self.taken = 0, WINDOW, 0, 0
+        # What is not yet looked at, what is not yet handed out, how many bytes of a body are left, and when an answer is due.
+        self.text, self.out, self.body, self.due = bytearray(), bytearray(), 0, None
+        self.put = 0
+        # Whether it sends no more, is gone, is to be closed, and is closed; and whether something has come that it was not told of.
+        self.has_ended = self.is_gone = self.closes = self.is_over = self.is_new = False
+
+
+class Program:
+    def __init__(self, mode, seed, deaf):
+        self.mode, self.random, self.begun, self.asked = mode, random.Random(seed), 0, 0
+        self.connections, self.input, self.output, self.is_open = {}, bytearray(), bytearray(), True
+        # The numbers of those that something came of, or whose answer is due later.
+        self.touched = set()
+        time.sleep(deaf)
+
+    def wrong(self, why):
+        print(f"behind: {why}", file=sys.stderr, flush=True)
+        os._exit(4)
+
+    def check(self, holds, why):
+        if not holds:
+            self.wrong(why)
+
+    # ---- What comes.
+
+    def frames(self):
+        """Each frame that is whole: its words, and its bytes."""
+        at = 0
+        while (end := self.input.find(b"\n", at)) >= 0:
+            words, behind = bytes(self.input[at:end]).split(b" "), end + 1
+            length = int(words[1]) if len(words) == 2 and words[0].isdigit() and words[1].isdigit() else 0
+            self.check(length <= LARGEST, f"{words}")
+            if len(self.input) < behind + length:
+                break
+            at = behind + length
+            yield words, bytes(self.input[behind:at])
+        del self.input[:at]
+        self.check(len(self.input) < LARGEST + 48, "a long line")
+
+    def take(self, words, piece):
+        numbers = [int(word) for word in words if word.isdigit()]
+        self.check(b" ".join(words) == b" ".join(b"%d" % int(word) if word.isdigit() else word for word in words), f"{words}")
+        if words == [b"none"]:
+            self.asked -= 1
+            self.check(self.asked >= 0, "none")
+        elif words[0] == b"taken" and len(words) == 3 and len(numbers) == 2:
+            self.take_taken(*numbers)
+        elif words[0] == b"gone" and len(words) == 2 and len(numbers) == 1:
+            self.check(numbers[0] in self.connections and not self.connections[numbers[0]].is_gone, f"{words}")
+            self.connections[numbers[0]].is_gone = True
+            self.connections[numbers[0]].text.clear()
+        elif len(words) == len(numbers) == 2:
+            self.take_piece(numbers[0], piece)
+        else:
+            self.wrong(f"{words}")
+
+    def take_taken(self, number, count):
+        it = self.connections.get(number)
+        self.check(it is not None and not it.is_gone, f"taken of {number}")
+        it.taken += count
+        self.touched.add(number)
+        self.check(0 < count and it.taken <= it.handed, f"{number} has taken {it.taken} of {it.handed}")
+
+    def take_piece(self, number, piece):
+        if number not in self.connections:
+            self.check(number == self.begun + 1, f"{number} begins behind {self.begun}")
+            self.begun, self.connections[number] = number, Connection()
+        it = self.connections[number]
+        self.check(not it.has_ended and not it.is_gone, f"{number} goes on behind its end")
+        it.has_ended = not piece
+        it.came += len(piece)
+        self.check(it.came <= it.allowed, f"{number} sends {it.came} where {it.allowed} are granted")
+        if not it.is_over:
+            it.text += piece
+        it.is_new = True
+        self.touched.add(number)
+
+    # ---- What is told.
+
+    def answer(self, it):
+        """Looks at what has come of a connection, as far as it goes."""
+        if self.mode == "echo":
+            it.out += it.text
+            it.text.clear()
+        while it.text and it.due is None and not it.out and not it.closes:
+            if it.body:
+                count = min(it.body, len(it.text))
+                it.body -= count
+                del it.text[:count]
+                if not it.body:
+                    it.out += b"ok %d\n" % it.put
+                continue
+            line, found, _ = it.text.partition(b"\n")
+            if not found:
+                break
+            del it.text[: len(line) + 1]
+            self.answer_line(it, *line.split())
+        if it.has_ended and it.due is None and not it.out:
+            # A client that stops within a request is told so.
+            it.out += b"stopped\n" * bool(it.text or it.body)
+            it.closes = True
+
+    def answer_line(self, it, word=b"", count=b"0", *_):
+        count = int(count) if count.isdigit() else 0
+        if word in (b"get", b"last"):
+            it.out += pattern(count)
+            it.closes = word == b"last"
+        elif word == b"wait":
+            it.due = time.monotonic() + count / 1000
+        elif word == b"put":
+            it.put = it.body = count
+        else:
+            it.out += b"refused\n"
+            it.closes = True
+
+    def hand_out(self, number, it):
+        """As far as its window goes, in pieces of any length."""
+        while it.out and (room := it.taken + WINDOW - it.handed) > 0:
+            count = min(room, len(it.out), self.random.choice([1, 1000, WINDOW, WINDOW, WINDOW]))
+            self.output += b"%d %d\n" % (number, count) + it.out[:count]
+            it.handed += count
+            del it.out[:count]
+        if it.closes and not it.out:
+            it.is_over = True
+            self.output += b"%d 0\n" % number
+
+    def go_on(self, number, it):
+        if it.due is not None and time.monotonic() >= it.due:
+            it.out += b"ok\n"
+            it.due = None
+        while True:
+            self.answer(it)
+            had = len(it.out)
+            self.hand_out(number, it)
+            if it.is_over or it.out or not had or it.due is not None:
+                break
+        if not it.is_over and not it.out and it.due is None:
+            if it.allowed - it.came < HALF and self.is_open:
+                self.output += b"grant %d %d\n" % (number, WINDOW - (it.allowed - it.came))
+                it.allowed = it.came + WINDOW
+            if it.is_new and not it.has_ended:
+                self.output += b"%b %d %d\n" % (b"owes" if it.text or it.body else b"rests", number, it.came)
+            it.is_new = False
+
+    def is_due(self, it):
+        return it.due is not None and not it.is_over and not it.is_gone
+
+    # ---- The streams.
+
+    def write(self):
+        while self.output:
+            del self.output[: os.write(1, self.output[: 1 << 20])]
+
+    def read(self):
+        dues = [self.connections[number].due for number in self.touched]
+        wait = max(0, min(dues) - time.monotonic()) if dues else None
+        if select.select([0], [], [], wait)[0]:
+            piece = os.read(0, self.random.choice([100, 1 << 16, 1 << 20]))
+            self.is_open = bool(piece)
+            self.input += piece
+
+    def run(self):
+        while self.is_open:
+            self.read()
+            for words, piece in self.frames():
+                self.take(words, piece)
+            for number in self.touched:
+                if not self.connections[number].is_over and not self.connections[number].is_gone:
+                    self.go_on(number, self.connections[number])
+            self.touched = {number for number in self.touched if self.is_due(self.connections[number])}
+            if not self.asked and self.is_open and self.random.random() < 0.3:
+                self.asked = 1
+                self.output += b"more\n"
+            self.write()
+        self.check(not self.input, "the end within a frame")
+        print("left", sum(not it.is_over and not it.is_gone for it in self.connections.values()), file=sys.stderr, flush=True)
+
+
+if __name__ == "__main__":
+    try:
+        Program(sys.argv[1], int(sys.argv[2]), float(sys.argv[3]) if len(sys.argv) > 3 else 0).run()
+    except BrokenPipeError:
+        os._exit(1)

@@ -17,6 +17,7 @@
 #include <stdlib.h>
 #include <string.h>
 #include <strings.h>
+#include <sys/epoll.h>
 #include <sys/uio.h>
 #include <time.h>
 #include <unistd.h>
@@ -37,14 +38,16 @@ struct connection {
     char *out; size_t left;           /* what is still to be sent of the request */
     char *filled;                     /* the request, where something was filled in */
     enum part part;
-    char head[HEAD]; size_t in_head;
+    char *head; size_t in_head;
     unsigned long long body;          /* how much of the body or the chunk is still to come */
     size_t in_line;
-    char token[TOKEN];
+    char *token;
 };
 
+/* Heads and tokens stand apart, so that the connections themselves are near to each other. */
 static struct connection connections[MOST];
-static int count, port, to_server = -1, from_server = -1;
+static char heads[MOST][HEAD], tokens[MOST][TOKEN];
+static int count, port, watched = -1, to_server = -1, from_server = -1;
 static unsigned long begun;
 static struct text *requests;
 static size_t request_count;
@@ -191,6 +194,8 @@ static void open_socket(struct connection *c) {
     if (c->fd < 0 || connect(c->fd, (struct sockaddr *)&at, sizeof at)) fail("connect");
     setsockopt(c->fd, IPPROTO_TCP, TCP_NODELAY, &one, sizeof one);
     fcntl(c->fd, F_SETFL, O_NONBLOCK);
+    struct epoll_event event = {.events = EPOLLIN | EPOLLOUT | EPOLLET, .data.ptr = c};
+    if (epoll_ctl(watched, EPOLL_CTL_ADD, c->fd, &event)) fail("epoll_ctl");
     c->closes = 0;
 }
 
@@ -211,28 +216,28 @@ static void go_on(struct connection *c) {
     send_socket(c);
 }
 
+/* Each connection is watched from its opening to its close; what it is told is that something has changed. */
 static void play_sockets(void) {
     static char buffer[1 << 20];
     for (int n = 0; n < count; n++) { open_socket(&connections[n]); go_on(&connections[n]); }
-    for (;;) {
-        struct pollfd waited[MOST];
-        int open = 0;
-        for (int n = 0; n < count; n++) {
-            struct connection *c = &connections[n];
-            waited[n] = (struct pollfd){.fd = c->done ? -1 : c->fd, .events = POLLIN | (c->left ? POLLOUT : 0)};
-            open += !c->done;
-        }
-        if (!open) break;
-        if (poll(waited, count, 60000) <= 0) fail("poll");
-        for (int n = 0; n < count; n++) {
-            struct connection *c = &connections[n];
-            if (waited[n].revents & POLLOUT) send_socket(c);
-            if (!(waited[n].revents & (POLLIN | POLLHUP | POLLERR))) continue;
-            ssize_t got = read(c->fd, buffer, sizeof buffer);
-            if (got < 0 && errno == EAGAIN) continue;
-            if (got <= 0) { fprintf(stderr, "closed in an answer\n"); exit(1); }
-            take(c, buffer, got);
+    for (int open = count; open;) {
+        struct epoll_event told[MOST];
+        int events = epoll_wait(watched, told, MOST, 60000);
+        if (events <= 0) fail("epoll_wait");
+        for (int n = 0; n < events; n++) {
+            struct connection *c = told[n].data.ptr;
+            if (c->done) continue;
+            if (told[n].events & EPOLLOUT) send_socket(c);
+            ssize_t got;
+            do {
+                got = read(c->fd, buffer, sizeof buffer);
+                if (got < 0 && errno == EAGAIN) break;
+                if (got <= 0 && !c->waits && c->closes) break;
+                if (got <= 0) { fprintf(stderr, "closed in an answer\n"); exit(1); }
+                take(c, buffer, got);
+            } while (got == sizeof buffer);
             go_on(c);
+            open -= c->done;
         }
     }
     for (int n = 0; n < count; n++) close(connections[n].fd);
@@ -371,7 +376,10 @@ static void play_frames(void) {
 }
 
 int main(int words, char **word) {
-    if (words == 3 && !strcmp(word[1], "socket")) port = atoi(word[2]);
+    if (words == 3 && !strcmp(word[1], "socket")) {
+        port = atoi(word[2]);
+        watched = epoll_create1(0);
+    }
     else if (words == 4 && !strcmp(word[1], "frames")) {
         to_server = atoi(word[2]);
         from_server = atoi(word[3]);
@@ -383,7 +391,10 @@ int main(int words, char **word) {
     double seconds;
     while (scanf("%d %lf %4095s", &count, &seconds, name) == 3 && count <= MOST) {
         read_requests(name);
-        for (int n = 0; n < count; n++) { free(connections[n].filled); memset(&connections[n], 0, sizeof connections[n]); }
+        for (int n = 0; n < count; n++) {
+            free(connections[n].filled);
+            connections[n] = (struct connection){.head = heads[n], .token = tokens[n]};
+        }
         answered = wrong = 0;
         double began = now();
         ends = began + seconds;

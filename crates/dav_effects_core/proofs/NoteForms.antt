@@ -9,7 +9,7 @@ use Rattle.dav_resource_core.specs.Requests.{Command}
 use Rattle.dav_notes_core.specs.Asking.{Caller}
 use Rattle.dav_notes_core.specs.Noting.{Noted}
 use Rattle.dav_effects_core.specs.ByteForms.{Reading, ◌>>=◌, FitsInEight, HasCount, number_text, counted_text, optional_text, following_text, pair_at, value_at, eight_bytes_at, bytes_at, counted_at, optional_at}
-use Rattle.dav_effects_core.specs.RecordReading.{Behind, behind_note, start_behind, caller_at, command_at, note_from, note_at, notes_at, head_at, notes_of_head, notes_of_parts, record_at}
+use Rattle.dav_effects_core.specs.RecordReading.{Behind, behind_note, start_behind, caller_at, command_at, note_from, note_at, notes_at, head_at, whole_of_head, whole_of_parts, record_at}
 use Rattle.dav_effects_core.specs.RecordText.{asker, caller_text, command_text, path_behind, body_of, drawn_text, note_text, notes_text, head_text, bodies_text}
 use Rattle.dav_effects_core.specs.Records.{IsCaller, IsChange, IsNoted, IsRecord}
 use Rattle.dav_effects_core.proofs.Exact.{Exact, IsBytes, IsBytes-behind, IsBytes-front, bind_ok, guard_true, ok_is, pair_exact, value_exact, number_exact, bytes_exact, counted_exact, optional_exact}
@@ -143,11 +143,11 @@ head_again ns few fits =
     ap (notes_at (length ns) (start_behind (bodies_text ns))) (sym (append-nil (notes_text [] [] ns))) ∙ notes_again ns (start_behind (bodies_text ns)) [] [] fits (sym (append-nil (bodies_text ns))) in
     rw (one, two) refl
 
-of_parts : (len : ℕ) (r : Result (List ℕ × List ℕ) ℕ) (ns : List Noted) → notes_of_parts len r ≡ Ok ns → (parts : List ℕ × List ℕ) × (r ≡ Ok parts) × (notes_of_head len (len - length parts.1) (head_at parts.1 parts.0) ≡ Ok ns)
+of_parts : (len : ℕ) (r : Result (List ℕ × List ℕ) ℕ) (ns : List Noted) → whole_of_parts head_at len r ≡ Ok ns → (parts : List ℕ × List ℕ) × (r ≡ Ok parts) × (whole_of_head len (len - length parts.1) (head_at parts.1 parts.0) ≡ Ok ns)
 of_parts len (Ok parts) ns e = (parts, refl, e)
 of_parts len (Err left) ns e = absurd cc
 
-of_head : (len end : ℕ) (r : Result (List Noted × List ℕ) ℕ) (ns : List Noted) → notes_of_head len end r ≡ Ok ns → r ≡ Ok (ns, [])
+of_head : (len end : ℕ) (r : Result (List Noted × List ℕ) ℕ) (ns : List Noted) → whole_of_head len end r ≡ Ok ns → r ≡ Ok (ns, [])
 of_head len end (Ok x) ns e =
     let g = guard_true (eqb (length x.1) 0) (len - length x.1) (Ok x.0) ns e in
     ap (λ (l : List ℕ). Ok (x.0, l)) (nil_from_length x.1 (eqb-true _ _ g.0)) ∙ ap (λ (ms : List Noted). Ok (ms, [])) (ok_is x.0 ns g.1)

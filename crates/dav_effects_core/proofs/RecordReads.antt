@@ -6,12 +6,12 @@ use Rattle.dav_notes_core.specs.Changes.{is_look}
 use Rattle.std.specs.Prelude.{IfOk, IfErr, MatchResult}
 use Rattle.std.specs.Global.{Vec}
 use Rattle.dav_notes_core.specs.declared.notes.Note.{Note}
-use Rattle.dav_notes_core.specs.Noting.{Noted, note_of}
+use Rattle.dav_notes_core.specs.Noting.{AreChanges, Noted, note_of}
 use Rattle.dav_effects_core.specs.declared.error.RecordError.{RecordError}
 use Rattle.dav_effects_core.specs.declared.error.RecordError.TheVariants.{OutOfMemory, Damaged}
 use Rattle.dav_effects_core.specs.RecordFaults.{IsFault, ReadsRecord}
 use Rattle.dav_effects_core.specs.RecordReading.{record_at}
-use Rattle.dav_effects_core.specs.Records.{AreChanges, IsChange, IsNoted, IsRecord}
+use Rattle.dav_effects_core.specs.Records.{IsChange, IsNoted, IsRecord}
 use Rattle.dav_effects_core.proofs.Exact.{IsBytes, ok_is}
 use Rattle.dav_effects_core.proofs.NoteForms.{record_takes, record_again}
 

@@ -9,7 +9,7 @@ use Rattle.dav_effects_core.specs.declared.error.RecordError.{RecordError}
 use Rattle.dav_effects_core.specs.declared.error.RecordError.TheVariants.{OutOfMemory, Damaged}
 
 -- the fault stands at this byte; nothing is said of memory
-abbrev pub IsFault : RecordError → Result (List Noted) ℕ → Type 0
+abbrev pub IsFault : {A : Type 0} → RecordError → Result A ℕ → Type 0
 IsFault OutOfMemory read = Unit {0}
 IsFault (Damaged at) read = read ≡ Err at
 

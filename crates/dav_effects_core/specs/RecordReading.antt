@@ -129,15 +129,16 @@ unfoldable pub head_at : Sequence ℕ → Sequence ℕ → Result (Sequence Note
 head_at bodies head = eight_bytes_at head >>= λ n. notes_at n.0 (start_behind bodies) n.1 >>= λ x.
     if length x.1 == 0 then Ok x.0 else Err (length x.1)
 
--- of a record that is so long, and whose head ends there: the notes, where no body is left, or the byte at which the fault is
-abbrev pub notes_of_head : ℕ → ℕ → Result (Sequence Noted × Sequence ℕ) ℕ → Result (Sequence Noted) ℕ
-notes_of_head len end (Ok x) = if length x.1 == 0 then Ok x.0 else Err (len - length x.1)
-notes_of_head len end (Err left) = Err (end - left)
+-- of a record that is so long, and whose head ends there: its value, where no body is left, or the byte at which the fault is
+abbrev pub whole_of_head : {A : Type 0} → ℕ → ℕ → Result (A × Sequence ℕ) ℕ → Result A ℕ
+whole_of_head len end (Ok x) = if length x.1 == 0 then Ok x.0 else Err (len - length x.1)
+whole_of_head len end (Err left) = Err (end - left)
 
-abbrev pub notes_of_parts : ℕ → Result (Sequence ℕ × Sequence ℕ) ℕ → Result (Sequence Noted) ℕ
-notes_of_parts len (Ok parts) = notes_of_head len (len - length parts.1) (head_at parts.1 parts.0)
-notes_of_parts len (Err left) = Err (len - left)
+-- the same, of the head and the bodies
+abbrev pub whole_of_parts : {A : Type 0} → (Sequence ℕ → Sequence ℕ → Result (A × Sequence ℕ) ℕ) → ℕ → Result (Sequence ℕ × Sequence ℕ) ℕ → Result A ℕ
+whole_of_parts head len (Ok parts) = whole_of_head len (len - length parts.1) (head parts.1 parts.0)
+whole_of_parts head len (Err left) = Err (len - left)
 
 -- the notes of a record, or the byte at which its first fault is
 unfoldable pub record_at : Sequence ℕ → Result (Sequence Noted) ℕ
-record_at bytes = notes_of_parts (length bytes) (counted_at bytes)
+record_at bytes = whole_of_parts head_at (length bytes) (counted_at bytes)

@@ -1,12 +1,11 @@
 -- Which notes a record is of (own).
-use Rattle.std.specs.Prelude.{◌≡◌, ◌++◌, ℕ, Bool, false, List as Sequence, length, Option, IfSome}
+use Rattle.std.specs.Prelude.{◌≡◌, ◌++◌, ℕ, Bool, List as Sequence, length, Option, IfSome}
 use Rattle.std.specs.List.{AllByRecursion, flat_map}
 use Rattle.dav_path_core.specs.Fronts.{Path}
 use Rattle.dav_path_core.specs.PathText.{PathText, folder_bytes}
 use Rattle.dav_path_core.specs.Segments.{segments}
 use Rattle.dav_files_core.specs.Resources.{Property}
 use Rattle.dav_resource_core.specs.Requests.{Command}
-use Rattle.dav_notes_core.specs.Changes.{is_look}
 use Rattle.dav_notes_core.specs.Asking.{Caller}
 use Rattle.dav_notes_core.specs.Noting.{Noted}
 use Rattle.dav_effects_core.specs.declared.pieces.Pieces.{Pieces}
@@ -60,10 +59,6 @@ pub record IsNoted (n : Noted) : Type 0 where
   pub drawn : IfSome n.drawn (λ drawn. length drawn ≡ 16)
 
 -- ---- a record
-
--- each is of a command that changes something
-abbrev pub AreChanges : Sequence Noted → Type 0
-AreChanges ns = AllByRecursion (λ n. is_look n.request.command ≡ false) ns
 
 -- the head, and the bodies
 abbrev pub bytes_of_pieces : Pieces → Sequence ℕ

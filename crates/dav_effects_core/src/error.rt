@@ -1,6 +1,7 @@
 //! Why a record is not read.
 ghost use Rattle.std.specs.Prelude.{◌≡◌};
 ghost use Rattle.dav_effects_core.specs.Reads.{at_field as placed};
+ghost use Rattle.dav_effects_core.specs.RecordFaults.{record_fault};
 ghost use Rattle.dav_effects_core.specs.declared.error.ReadError.TheVariants.{Memory};
 
 use dav_path_core::davpath::ParseError;
@@ -18,9 +19,9 @@ pub enum RecordError {
     },
 }
 
-/// Why a field is not read.
+/// Why a field is not read (own).
 #[derive(Debug, Drop)]
-pub(crate) enum ReadError {
+pub enum ReadError {
     /// There is no memory for it.
     Memory,
     /// With so many bytes left, a field begins that is none.
@@ -59,5 +60,17 @@ pub(crate) fn at_field(error: ReadError, left: usize) -> ReadError
     match error {
         ReadError::Fault(_) => ReadError::Fault(left),
         memory => memory,
+    }
+}
+
+/// Of a field that is not read, where it stands, by the byte at which what holds it ends (own).
+pub fn record_error(error: ReadError, end: usize) -> RecordError
+    ensures { result ≡ record_fault end error }
+{
+    match error {
+        ReadError::Memory => RecordError::OutOfMemory,
+        ReadError::Fault(left) => RecordError::Damaged {
+            at: end.saturating_sub(left),
+        },
     }
 }

@@ -6,8 +6,9 @@ ghost use Rattle.dav_effects_core.specs.Reads.{ReadsField};
 use crate::error::ReadError;
 use std::alloc::Global;
 
+/// A number of eight bytes, the lowest first (own). `Fault` where fewer are left.
 #[tactic(auto, unfolding(crate::specs::ByteForms::eight_bytes_at))]
-pub(crate) fn number_of(bytes: &[u8]) -> Result<(u64, &[u8]), ReadError>
+pub fn number_of(bytes: &[u8]) -> Result<(u64, &[u8]), ReadError>
     ensures { ReadsField (λ x. (x.0, x.1.now)) result (eight_bytes_at bytes.now) }
 {
     if bytes.len() < 8 {
@@ -31,16 +32,18 @@ pub(crate) fn piece_of(len: usize, bytes: &[u8]) -> Result<(&[u8], &[u8]), ReadE
     Ok(bytes.split_at(len))
 }
 
+/// Bytes behind their number (own). `Fault` where fewer are left.
 #[tactic(auto, unfolding(crate::specs::ByteForms::counted_at))]
-pub(crate) fn counted_of(bytes: &[u8]) -> Result<(&[u8], &[u8]), ReadError>
+pub fn counted_of(bytes: &[u8]) -> Result<(&[u8], &[u8]), ReadError>
     ensures { ReadsField (λ x. (x.0.now, x.1.now)) result (counted_at bytes.now) }
 {
     let (len, rest) = number_of(bytes)?;
     piece_of(len as usize, rest)
 }
 
+/// A text behind the number of its bytes (own). `Fault` where fewer are left, or they are not UTF-8.
 #[tactic(auto, using(crate::proofs::Texts::utf8_tests), unfolding(crate::specs::ByteForms::utf8_at))]
-pub(crate) fn text_of(alloc: Global, bytes: &[u8]) -> Result<(String, &[u8]), ReadError>
+pub fn text_of(alloc: Global, bytes: &[u8]) -> Result<(String, &[u8]), ReadError>
     ensures { ReadsField (λ x. (string_bytes x.0, x.1.now)) result (utf8_at bytes.now) }
 {
     let (text, rest) = counted_of(bytes)?;
@@ -50,7 +53,8 @@ pub(crate) fn text_of(alloc: Global, bytes: &[u8]) -> Result<(String, &[u8]), Re
     Ok((String::from_str(alloc, text)?, rest))
 }
 
-pub(crate) fn flag_of(bytes: &[u8]) -> Result<(bool, &[u8]), ReadError>
+/// A yes or no: a byte 1 or 0 (own). `Fault` where another stands there, or none.
+pub fn flag_of(bytes: &[u8]) -> Result<(bool, &[u8]), ReadError>
     ensures { ReadsField (λ x. (x.0, x.1.now)) result (flag_at bytes.now) }
 {
     match bytes {
@@ -61,11 +65,9 @@ pub(crate) fn flag_of(bytes: &[u8]) -> Result<(bool, &[u8]), ReadError>
     }
 }
 
+/// Whether there is a text, and the text (own). `Fault` where one of them is none.
 #[tactic(auto, unfolding(crate::specs::ByteForms::optional_at))]
-pub(crate) fn optional_text_of(
-    alloc: Global,
-    bytes: &[u8],
-) -> Result<(Option<String>, &[u8]), ReadError>
+pub fn optional_text_of(alloc: Global, bytes: &[u8]) -> Result<(Option<String>, &[u8]), ReadError>
     ensures { ReadsField (λ x. (option_map string_bytes x.0, x.1.now)) result (optional_at utf8_at bytes.now) }
 {
     let (is_there, rest) = flag_of(bytes)?;
@@ -91,8 +93,9 @@ pub(crate) fn optional_bytes_of(
     Ok((Some(Vec::from_slice(alloc, found)?), rest))
 }
 
+/// Whether there is a number, and the number (own). `Fault` where one of them is none.
 #[tactic(auto, unfolding(crate::specs::ByteForms::optional_at))]
-pub(crate) fn optional_number_of(bytes: &[u8]) -> Result<(Option<u64>, &[u8]), ReadError>
+pub fn optional_number_of(bytes: &[u8]) -> Result<(Option<u64>, &[u8]), ReadError>
     ensures { ReadsField (λ x. (x.0, x.1.now)) result (optional_at eight_bytes_at bytes.now) }
 {
     let (is_there, rest) = flag_of(bytes)?;
@@ -168,9 +171,10 @@ pub(crate) fn common_len(before: &[u8], text: &[u8]) -> usize
     count
 }
 
-/// A text behind the one before.
+/// A text behind the one before: how much of its front both have, how long it is, and the rest of it
+/// (own). `Fault` where what they have in common is not told as it is, or bytes are missing.
 #[tactic(auto, unfolding(crate::specs::ByteForms::following_at))]
-pub(crate) fn following_of<'a>(
+pub fn following_of<'a>(
     alloc: Global,
     before: &[u8],
     bytes: &'a [u8],

@@ -4,12 +4,12 @@
 mod callers;
 mod changes;
 mod commands;
-mod error;
-mod fields;
-mod paths;
+pub mod error;
+pub mod fields;
+pub mod paths;
 mod pieces;
-mod properties;
-mod putting;
+pub mod properties;
+pub mod putting;
 mod reading;
 
 pub use error::RecordError;

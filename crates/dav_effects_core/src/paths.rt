@@ -34,9 +34,10 @@ fn are_same(one: &[u8], other: &[u8]) -> bool
     one == other
 }
 
-/// A path, which takes the place of the one before.
+/// A path, which takes the place of the one before (own). `Fault` where it is none, or does not stand there
+/// by its bytes as a folder.
 #[tactic(auto, unfolding(crate::specs::RecordReading::path_at))]
-pub(crate) fn path_of<'a>(
+pub fn path_of<'a>(
     alloc: Global,
     before: &mut Vec<u8>,
     bytes: &'a [u8],

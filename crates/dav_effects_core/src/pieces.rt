@@ -3,10 +3,10 @@ ghost use Rattle.std.specs.Prelude.{◌≡◌, ◌++◌, [], false, length, map,
 ghost use Rattle.std.specs.List.{AllByRecursion, flat_map};
 ghost use Rattle.dav_resource_core.specs.Served.{command_of, request_of};
 ghost use Rattle.dav_notes_core.specs.Changes.{is_look};
-ghost use Rattle.dav_notes_core.specs.Noting.{note_of};
+ghost use Rattle.dav_notes_core.specs.Noting.{AreChanges, note_of};
 ghost use Rattle.dav_effects_core.specs.ByteForms.{FitsInEight, HasCount, counted_text};
 ghost use Rattle.dav_effects_core.specs.RecordText.{asker, bodies_text, body_of, caller_text, head_text, note_text, notes_text, path_behind};
-ghost use Rattle.dav_effects_core.specs.Records.{IsNoted, IsRecord, AreChanges, bytes_of_pieces};
+ghost use Rattle.dav_effects_core.specs.Records.{IsNoted, IsRecord, bytes_of_pieces};
 
 use crate::callers::put_caller;
 use crate::changes::put_command;

@@ -13,8 +13,9 @@ use crate::putting::{put_flag, put_number, put_optional_bytes, put_optional_text
 use dav_files_core::fs::DavProp;
 use std::alloc::{AllocError, Global};
 
+/// A property: its name, prefix, namespace and xml (own). `Fault` where one of them is none.
 #[tactic(auto, unfolding(crate::specs::RecordReading::property_at))]
-fn read_property(alloc: Global, bytes: &[u8]) -> Result<(DavProp, &[u8]), ReadError>
+pub fn read_property(alloc: Global, bytes: &[u8]) -> Result<(DavProp, &[u8]), ReadError>
     ensures { ReadsField (λ x. (property_of x.0, x.1.now)) result (property_at bytes.now) }
 {
     let (name, rest) = text_of(alloc, bytes)?;
@@ -68,8 +69,9 @@ pub(crate) fn patches_of(
     so_many_patches(alloc, count, rest)
 }
 
+/// Puts a property: its name, prefix, namespace and xml (own). `AllocError` where there is no memory for it.
 #[tactic(auto, unfolding(crate::specs::RecordText::stored_property_text))]
-fn put_property(out: &mut Vec<u8>, property: &DavProp) -> Result<(), AllocError>
+pub fn put_property(out: &mut Vec<u8>, property: &DavProp) -> Result<(), AllocError>
     ensures text { OnOk result (out.new.items ≡ out.old.items ++ stored_property_text (property_of property.now)) }
     ensures fits { OnOk result (IsProperty (property_of property.now)) }
 {

@@ -7,15 +7,17 @@ ghost use Rattle.dav_effects_core.specs.RecordText.{drawn_text};
 use crate::fields::common_len;
 use std::alloc::AllocError;
 
+/// Puts a number in eight bytes, the lowest first (own). `AllocError` where there is no memory for it.
 #[tactic(auto, unfolding(crate::specs::ByteForms::number_text))]
-pub(crate) fn put_number(out: &mut Vec<u8>, number: u64) -> Result<(), AllocError>
+pub fn put_number(out: &mut Vec<u8>, number: u64) -> Result<(), AllocError>
     ensures text { OnOk result (out.new.items ≡ out.old.items ++ number_text number) }
     ensures fits { FitsInEight number }
 {
     out.extend_from_slice(&number.to_le_bytes())
 }
 
-pub(crate) fn put_counted(out: &mut Vec<u8>, bytes: &[u8]) -> Result<(), AllocError>
+/// Puts bytes behind their number (own). `AllocError` where there is no memory for it.
+pub fn put_counted(out: &mut Vec<u8>, bytes: &[u8]) -> Result<(), AllocError>
     ensures text { OnOk result (out.new.items ≡ out.old.items ++ counted_text bytes.now) }
     ensures fits { HasCount bytes.now }
 {
@@ -23,21 +25,24 @@ pub(crate) fn put_counted(out: &mut Vec<u8>, bytes: &[u8]) -> Result<(), AllocEr
     out.extend_from_slice(bytes)
 }
 
+/// Puts a text behind the number of its bytes (own). `AllocError` where there is no memory for it.
 #[tactic(auto, using(crate::proofs::Texts::utf8_tests))]
-pub(crate) fn put_text(out: &mut Vec<u8>, text: &str) -> Result<(), AllocError>
+pub fn put_text(out: &mut Vec<u8>, text: &str) -> Result<(), AllocError>
     ensures text { OnOk result (out.new.items ≡ out.old.items ++ counted_text text.now) }
     ensures fits { IsUtf8Text text.now }
 {
     put_counted(out, text.as_bytes())
 }
 
-pub(crate) fn put_flag(out: &mut Vec<u8>, flag: bool) -> Result<(), AllocError>
+/// Puts a yes or no as a byte 1 or 0 (own). `AllocError` where there is no memory for it.
+pub fn put_flag(out: &mut Vec<u8>, flag: bool) -> Result<(), AllocError>
     ensures { OnOk result (out.new.items ≡ out.old.items ++ flag_text flag) }
 {
     out.extend_from_slice(&[flag as u8])
 }
 
-pub(crate) fn put_optional_text(out: &mut Vec<u8>, text: &Option<String>) -> Result<(), AllocError>
+/// Puts whether there is a text, and the text (own). `AllocError` where there is no memory for it.
+pub fn put_optional_text(out: &mut Vec<u8>, text: &Option<String>) -> Result<(), AllocError>
     ensures text { OnOk result (out.new.items
         ≡ out.old.items ++ optional_text counted_text (option_map string_bytes text.now)) }
     ensures fits { OnOk result (IfSome (option_map string_bytes text.now) IsUtf8Text) }
@@ -68,7 +73,8 @@ pub(crate) fn put_optional_bytes(
     }
 }
 
-pub(crate) fn put_optional_number(out: &mut Vec<u8>, number: Option<u64>) -> Result<(), AllocError>
+/// Puts whether there is a number, and the number (own). `AllocError` where there is no memory for it.
+pub fn put_optional_number(out: &mut Vec<u8>, number: Option<u64>) -> Result<(), AllocError>
     ensures text { OnOk result (out.new.items ≡ out.old.items ++ optional_text number_text number) }
     ensures fits { OnOk result (IfSome number FitsInEight) }
 {
@@ -120,9 +126,10 @@ pub(crate) fn put_texts(out: &mut Vec<u8>, texts: &[String]) -> Result<(), Alloc
     Ok(())
 }
 
-/// A text behind the one before.
+/// Puts a text behind the one before: how much of its front both have, how long it is, and the rest of
+/// it (own). `AllocError` where there is no memory for it.
 #[tactic(auto, unfolding(crate::specs::ByteForms::following_text))]
-pub(crate) fn put_following(out: &mut Vec<u8>, before: &[u8], text: &[u8]) -> Result<(), AllocError>
+pub fn put_following(out: &mut Vec<u8>, before: &[u8], text: &[u8]) -> Result<(), AllocError>
     ensures text { OnOk result (out.new.items ≡ out.old.items ++ following_text before.now text.now) }
     ensures fits { HasCount text.now }
 {

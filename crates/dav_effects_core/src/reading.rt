@@ -1,16 +1,16 @@
 //! Records that are read.
 ghost use Rattle.std.specs.Prelude.{◌≡◌, ◌≤◌, List, drop, length, map, IfErr, IfOk, MatchResult};
 ghost use Rattle.dav_resource_core.specs.Served.{command_of};
-ghost use Rattle.dav_notes_core.specs.Noting.{Noted, note_of};
+ghost use Rattle.dav_notes_core.specs.Noting.{AreChanges, Noted, note_of};
 ghost use Rattle.dav_effects_core.specs.Reads.{ReadsField};
-ghost use Rattle.dav_effects_core.specs.RecordFaults.{IsFault, ReadsRecord, record_fault};
+ghost use Rattle.dav_effects_core.specs.RecordFaults.{IsFault, ReadsRecord};
 ghost use Rattle.dav_effects_core.specs.RecordReading.{behind_of, head_at, note_at, notes_at, record_at, start_behind};
 ghost use Rattle.dav_effects_core.specs.RecordText.{asker, body_of, caller_text, path_behind};
-ghost use Rattle.dav_effects_core.specs.Records.{AreChanges, IsRecord};
+ghost use Rattle.dav_effects_core.specs.Records.{IsRecord};
 
 use crate::callers::read_sender;
 use crate::commands::read_command;
-use crate::error::{ReadError, RecordError};
+use crate::error::{ReadError, RecordError, record_error};
 use crate::fields::{counted_of, drawn_of, number_of};
 use dav_notes_core::notes::Note;
 use dav_notes_core::senders::request_by;
@@ -52,18 +52,6 @@ fn read_all(alloc: Global, bytes: &[u8]) -> Result<Vec<Note>, RecordError>
         return Err(RecordError::Damaged { at });
     }
     Ok(notes)
-}
-
-// Of a field that is not read, where it stands, by where the bytes end.
-fn record_error(error: ReadError, end: usize) -> RecordError
-    ensures { result ≡ record_fault end error }
-{
-    match error {
-        ReadError::Memory => RecordError::OutOfMemory,
-        ReadError::Fault(left) => RecordError::Damaged {
-            at: end.saturating_sub(left),
-        },
-    }
 }
 
 // The notes of a head, and the bodies that are left.

@@ -38,7 +38,7 @@ does_alike (Command.Discover path) m a b now x y h k = absurd h
 does_alike (Command.Check path deep) m a b now x y h k = absurd h
 does_alike _ m a b now x y h k = done_alike _ x y a b h k
 
--- a lock that is not in the list is not refreshed_lock
+-- a lock that is not in the list is not refreshed
 refresh_alike : (locks : List Lock) (i now : ℕ) (timeout : Option ℕ) (a b : Lock) → a ≡ refreshed_lock now timeout (get_or locks i a) → b ≡ refreshed_lock now timeout (get_or locks i b)
     → set locks i a ≡ set locks i b
 refresh_alike [] zero now timeout a b p q = refl

@@ -9,7 +9,7 @@ use Rattle.dav_resource_core.specs.Served.{answer_of, refusal_of, reply_of}
 use Rattle.dav_resource_core.specs.Stores.{Stores}
 use Rattle.dav_notes_core.specs.declared.notes.Note.{Note}
 use Rattle.dav_notes_core.specs.Changes.{is_look}
-use Rattle.dav_notes_core.specs.Noting.{Noted, drawn_for, note_for, note_of}
+use Rattle.dav_notes_core.specs.Noting.{AreChanges, Noted, drawn_for, note_for, note_of}
 use Rattle.dav_notes_core.specs.PlayedNotes.{NotePlayed}
 use Rattle.dav_notes_core.specs.Stepping.{AnsweredBy, Draws, SameLiveStores}
 use Rattle.dav_notes_core.specs.Drawing.{stream_giving}
@@ -108,6 +108,21 @@ kept_change : (keeps : Bool) (base : List (Stores × ℕ)) (ns ms : List Note) (
 kept_change true base ns ms now s s' who c next result keeps h le step ok err = changed_from base ns ms now s s' who c next result h le step ok err
 kept_change false base ns ms now s s' who c next result keeps h le step ok err = absurd (false≢true keeps)
 
+-- one more of a command that changes something
+changes_on : (ns : List Noted) (n : Noted) → AreChanges ns → is_look n.request.command ≡ false → AreChanges (ns ++ n ∷ [])
+changes_on [] n h one = (one, tt)
+changes_on (m ∷ ns) n h one = (h.0, changes_on ns n h.1 one)
+
+-- behind a request that is noted where it is done
+changes_behind : (ns ms : List Note) (who : Caller) (c : Command) (next : List ℕ) (result : Result served.Reply served_refusal.Refusal) → AreChanges (map note_of ns) → is_look c ≡ false
+    → OnOk result (map note_of ms ≡ map note_of ns ++ note_for who c next ∷ []) → OnErr result (ms ≡ ns) → AreChanges (map note_of ms)
+changes_behind ns ms who c next (Ok reply) h one ok err = subst AreChanges (sym ok) (changes_on (map note_of ns) (note_for who c next) h one)
+changes_behind ns ms who c next (Err e) h one ok err = subst (λ (xs : List Note). AreChanges (map note_of xs)) (sym err) h
+
+changed_at : (look : Bool) → not look ≡ true → look ≡ false
+changed_at true h = sym h
+changed_at false h = refl
+
 -- without notes and room
 pub holds_none : (keeps : Bool) (none base : List (Stores × ℕ)) (ns : List Note) (used all : ℕ) (who : Sender) (spares : List Sender) (s : Stores) → none ≡ []
     → base ≡ none ++ (s, who.now.0) ∷ [] → ns ≡ [] → used ≡ 0 → spares ≡ [] → NotesHold keeps base ns used all who spares s
@@ -115,6 +130,7 @@ holds_none keeps none base ns used all who spares s empty is no_notes unused no_
     let few : length spares ≡ 0 = ap length no_spares in
     record {
       kept = kept_none keeps none base ns who.now.0 s empty is no_notes;
+      changes = subst (λ (xs : List Note). AreChanges (map note_of xs)) (sym no_notes) tt;
       copies = subst (AreCopies who) (sym no_spares) tt;
       room = omega (arith, few, unused);
     }
@@ -126,6 +142,7 @@ holds_later keeps base ns used all who after old spares s h le none =
     let room : used ≤ all = omega (arith, h.room) in
     subst (λ (xs : List Sender). NotesHold keeps base ns used all after xs s) (sym none) (record {
       kept = kept_later keeps base (map note_of ns) who.now.0 after.now.0 s le h.kept;
+      changes = h.changes;
       copies = tt;
       room = omega (arith, room);
     })
@@ -135,6 +152,7 @@ pub holds_with : (keeps : Bool) (base : List (Stores × ℕ)) (ns ms : List Note
     → NotesHold keeps base ns used all who old s → ms ≡ ns → AreCopies who spares → length spares + used' ≤ all' → NotesHold keeps base ms used' all' who spares s
 holds_with keeps base ns ms used all used' all' who old spares s h same copies room = record {
   kept = subst (λ (xs : List Note). KeptNotes keeps base (map note_of xs) who.now.0 s) (sym same) h.kept;
+  changes = subst (λ (xs : List Note). AreChanges (map note_of xs)) (sym same) h.changes;
   copies = copies;
   room = room;
 }
@@ -146,17 +164,19 @@ pub holds_alone : (keeps : Bool) (base : List (Stores × ℕ)) (ns : List Note) 
 holds_alone keeps base ns used all who after spares s s' c next a h alone step same = record {
   kept = subst (λ (w : Caller). KeptNotes keeps base (map note_of ns) w.now s') (sym same)
       (kept_alone keeps base (map note_of ns) s s' (sender_of who) c next a alone step h.kept);
+  changes = h.changes;
   copies = copies_as who after spares same h.copies;
   room = h.room;
 }
 
 -- behind what is noted where it is done; the caller goes into the note, and a copy takes the place
 pub holds_changed : (keeps : Bool) (base : List (Stores × ℕ)) (ns ns' ms : List Note) (used all : ℕ) (who asker after spare : Sender) (spares : List Sender) (s s' : Stores) (c : Command)
-    (next : List ℕ) (result : Result served.Reply served_refusal.Refusal) → (keeps && not (is_look c)) ≡ true → KeptNotes keeps base (map note_of ns) who.now.0 s → ns' ≡ ns → asker ≡ who
+    (next : List ℕ) (result : Result served.Reply served_refusal.Refusal) → (keeps && not (is_look c)) ≡ true → KeptNotes keeps base (map note_of ns) who.now.0 s
+    → AreChanges (map note_of ns) → ns' ≡ ns → asker ≡ who
     → after ≡ spare → sender_of spare ≡ sender_of who → AnsweredBy (drawn_for c next) s (asking (sender_of asker) c) (answer_of result) s'
     → OnOk result (map note_of ms ≡ map note_of ns' ++ note_for (sender_of asker) c next ∷ []) → OnErr result (ms ≡ ns') → AreCopies who spares → length spares + used ≤ all
     → NotesHold keeps base ms used all after spares s'
-holds_changed keeps base ns ns' ms used all who asker after spare spares s s' c next result is_kept kept items asked put copy step ok err copies room =
+holds_changed keeps base ns ns' ms used all who asker after spare spares s s' c next result is_kept kept changes items asked put copy step ok err copies room =
     let same : sender_of after ≡ sender_of who = ap sender_of put ∙ copy in
     let now : who.now.0 ≤ who.now.0 = omega arith in
     let le : who.now.0 ≤ asker.now.0 = subst (λ (w : Sender). who.now.0 ≤ w.now.0) (sym asked) now in
@@ -164,6 +184,8 @@ holds_changed keeps base ns ns' ms used all who asker after spare spares s s' c 
       kept = subst (λ (w : Caller). KeptNotes keeps base (map note_of ms) w.now s') (ap sender_of asked ∙ sym same)
           (kept_change keeps base ns' ms who.now.0 s s' (sender_of asker) c next result ((and_parts keeps _ is_kept).0)
           (subst (λ (xs : List Note). KeptNotes keeps base (map note_of xs) who.now.0 s) (sym items) kept) le step ok err);
+      changes = changes_behind ns' ms (sender_of asker) c next result (subst (λ (xs : List Note). AreChanges (map note_of xs)) (sym items) changes)
+          (changed_at (is_look c) ((and_parts keeps _ is_kept).1)) ok err;
       copies = copies_as who after spares same copies;
       room = room;
     }

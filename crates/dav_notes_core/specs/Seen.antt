@@ -6,7 +6,7 @@ use Rattle.dav_resource_core.specs.Stores.{Stores, coded_stores}
 use Rattle.dav_notes_core.specs.declared.notes.Note.{Note}
 use Rattle.dav_notes_core.specs.declared.senders.Sender.{Sender}
 use Rattle.dav_notes_core.specs.Asking.{Caller, sender_of}
-use Rattle.dav_notes_core.specs.Noting.{Noted, note_of}
+use Rattle.dav_notes_core.specs.Noting.{AreChanges, Noted, note_of}
 use Rattle.dav_notes_core.specs.PlayedNotes.{NotesLead}
 
 -- the stores, the bytes of the next token, who asks, whether notes are kept, for how many more of the
@@ -48,8 +48,9 @@ KeptNotes false base notes now stores = notes ≡ []
 abbrev pub AreCopies : Sender → List Sender → Type 0
 AreCopies who spares = AllByRecursion (λ spare. sender_of spare ≡ sender_of who) spares
 
--- the notes are kept or there are none, and there is room for a note of each spare caller
+-- the notes are kept or there are none, each is of a change, and there is room for a note of each spare caller
 pub record NotesHold (keeps : Bool) (base : List (Stores × ℕ)) (notes : List Note) (used all : ℕ) (who : Sender) (spares : List Sender) (stores : Stores) : Type 0 where
   pub kept : KeptNotes keeps base (map note_of notes) who.now.0 stores
+  pub changes : AreChanges (map note_of notes)
   pub copies : AreCopies who spares
   pub room : length spares + used ≤ all

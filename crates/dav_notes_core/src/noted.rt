@@ -6,7 +6,7 @@ ghost use Rattle.dav_resource_core.specs.Served.{command_of, answer_of};
 ghost use Rattle.dav_notes_core.specs.Ahead.{drawn_on, was_granted};
 ghost use Rattle.dav_notes_core.specs.Asking.{asking, sender_of};
 ghost use Rattle.dav_notes_core.specs.Changes.{is_look};
-ghost use Rattle.dav_notes_core.specs.Noting.{drawn_for, note_for, note_of};
+ghost use Rattle.dav_notes_core.specs.Noting.{AreChanges, drawn_for, note_for, note_of};
 ghost use Rattle.dav_notes_core.specs.Seen.{AreCopies, KeptNotes, HasNoteRoom};
 ghost use Rattle.dav_notes_core.specs.Stepping.{AnsweredBy, SameLiveStores};
 
@@ -171,6 +171,8 @@ impl NotedStores {
     pub fn take(&mut self) -> Vec<Note>
         ensures notes { KeptNotes self.old.keeps self.old.base (map note_of result.items)
             self.new.who.now self.new.stores }
+        // Each is of a command that changes something.
+        ensures changes { AreChanges (map note_of result.items) }
         // The next notes begin here.
         ensures base { self.new.base ≡ (self.new.stores, self.new.who.now) ∷ [] }
         ensures same { self.new

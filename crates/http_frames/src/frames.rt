@@ -1,5 +1,5 @@
 //! Frames: the bytes of many connections on one stream.
-ghost use Rattle.std.specs.Prelude.{◌≡◌, ◌≢◌, ◌==◌, ◌≤◌, All, Option, codes, ℕ, List, length, take, true, false, Ok, IfOk, IfSome, None, OnOk, OnErr};
+ghost use Rattle.std.specs.Prelude.{◌≡◌, ◌≢◌, ◌==◌, ◌≤◌, All, Option, codes, ℕ, List, length, take, false, Ok, IfOk, IfSome, None, OnOk, OnErr};
 ghost use Rattle.std.specs.Io.KnownBytes.{Appends, Consumes, IsAtEnd, Keeps};
 ghost use Rattle.http_frames.specs.Frames.{wait_text, gone_in, grant_text, head, more_in, piece_in, taken_in, piece_text, clock_in, AppendsFront, BreaksOff, IsFrame, IsPart, bytes_at_hand, unread};
 ghost use Rattle.line_streams.specs.Numerals.{numeral};
@@ -22,8 +22,10 @@ pub const LONGEST_LINE: usize = 4096;
 // A line that goes out has fewer bytes: three words, of which two are numbers.
 const LINE: usize = 64;
 
-// So much room is made before each read, and so much there is at first: a pipe of the listener's holds as much, so one read takes all that has come.
-const ROOM: usize = 1024 * 1024;
+// So much the buffer holds, but for a frame that is longer. A read fills what is free of it, and this much at least.
+const ROOM: usize = 256 * 1024;
+
+const LEAST: usize = 64 * 1024;
 
 /// What the first line of a frame says (own).
 #[derive(Clone, Copy, PartialEq, Eq, Debug)]
@@ -213,7 +215,8 @@ impl<I: Read> Frames<I> {
         ensures keeps { Keeps (unread I.remaining self.old) (unread I.remaining self.new) }
         ensures end { result ≡ Ok false → (bytes_at_hand self.new ≡ bytes_at_hand self.old) × ((part : Option (List ℕ)) × Consumes (unread I.remaining self.new) part (bytes_at_hand self.new) × IsAtEnd part) }
     {
-        self.buffer.reserve(ROOM)?;
+        let free = ROOM.saturating_sub(self.buffer.len());
+        self.buffer.reserve(free.max(LEAST))?;
         let count = self.buffer.read_from(&mut self.input)?;
         Ok(count > 0)
     }

@@ -4,6 +4,7 @@ pub mod Crash
 pub mod Feeding
 pub mod Gates
 pub mod Headers
+pub mod MomentLaws
 pub mod NewFile
 pub mod Numbers
 pub mod Opening

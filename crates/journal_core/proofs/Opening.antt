@@ -1,16 +1,17 @@
 -- What the first bytes of a file tell of it.
 use Rattle.std.proofs.Common.{◌≡◌, ◌≢◌, ◌⊎◌, inl, inr, ℕ, ◌<◌, ◌≤◌, List, [], ◌∷◌, ◌++◌, length, take, drop, slice_index, IsFalse, refl, sym, ◌∙◌, ap, subst, append_assoc, append-nil, length-append, arith}
 use Rattle.std.proofs.lemmas.Bool.{cases_lt}
+use Rattle.std.proofs.lemmas.Grind.{flat_map-append}
 use Rattle.std.proofs.lemmas.List.{take-append-drop, length-take-le, drop_all}
 use Rattle.journal_core.specs.declared.error.JournalError.{JournalError}
 use Rattle.journal_core.specs.declared.error.JournalError.TheVariants.{Foreign, Unsupported, Damaged, Failed, Full, OutOfMemory, TooLarge, NotOpen, Busy}
 use Rattle.journal_core.specs.declared.header.Header.{Header}
 use Rattle.journal_core.specs.declared.reader.Reader.{Reader}
-use Rattle.journal_core.specs.Format.{IsNewFile, IsOf64Bits, StandsFor, journal_front, header_text, magic, rounds_text, version_word}
+use Rattle.journal_core.specs.Format.{Laid, IsNewFile, IsOf64Bits, StandsFor, journal_front, header_text, magic, records_in, rounds_text, version_word}
 use Rattle.journal_core.specs.JournalReading.{EndsThere, HasNoHeader, HasRead, IsNoHeader, IsOfJournal, IsOfThisVersion, IsRefusal}
 use Rattle.journal_core.proofs.Headers.{longer_no_header}
 use Rattle.journal_core.proofs.Numbers.{parts_same}
-use Rattle.journal_core.proofs.Rounds.{damage_refuses, front_len}
+use Rattle.journal_core.proofs.Rounds.{damage_refuses, file_front, front_len}
 
 -- the first bytes are the whole file, or as many as a header has
 pub record IsFrontOf (front file : List ℕ) : Type 0 where
@@ -103,6 +104,18 @@ pub read_not_new : (r : Reader) (file : List ℕ) (done : List (List ℕ)) → H
 read_not_new r file done it new = elim new [
   | inl few ↦ omega (arith, few, ap length it.split, length-append (journal_front it.first r.header it.rounds) it.rest, front_len it.first r.header it.rounds)
   | inr zero ↦ it.made (sym (ap (λ (l : List ℕ). slice_index l 0) it.split) ∙ zero.0)
+]
+
+-- of the records that the file stands for, those that were handed out are the first
+pub read_first : (r : Reader) (file : List ℕ) (done : List (List ℕ)) → HasRead r file done → (h : Header) (records : List (List ℕ)) → StandsFor h file records → (rest : List (List ℕ)) × (records ≡ done ++ rest)
+read_first r file done it h records stands = elim stands [
+  | inl new ↦ absurd (read_not_new r file done it new.0)
+  | inr used ↦
+      let more = (file_front r.header file it.rounds it.first it.rest it.fits it.split it.gates h used.0 used.1).1 in (
+        it.left ++ records_in more.0,
+        sym used.2 ∙ ap (λ (l : List Laid). records_in l) more.1 ∙ flat_map-append (λ (q : Laid). q.1) it.rounds more.0 ∙ ap (λ (l : List (List ℕ)). l ++ records_in more.0) it.same
+            ∙ append_assoc done it.left (records_in more.0),
+      )
 ]
 
 -- where reading ends with damage, the file stands for nothing

@@ -187,6 +187,32 @@ left_is key place (r ∷ done) (q ∷ all) rest behind d a is other none =
     left_is key (place + size_of r) done all rest behind d.1 a.1 (parts.2 ∙ ap (λ k. rounds_text key k all ++ (shut_word ++ behind)) next) other
     (λ p b p_open rest_is. none p b p_open (rest_is ∙ ap (λ k. p.0 ++ (round_text key k (records_text p.1) ++ b)) (sym end)))
 
+-- rounds at the front of a whole file are the first of its rounds
+all_front : (key place : ℕ) (done all : List Laid) (rest behind : List ℕ) → AllByRecursion IsOpen done → AllByRecursion IsOpen all
+    → rounds_text key place done ++ rest ≡ rounds_text key place all ++ (shut_word ++ behind) → (more : List Laid) × (all ≡ done ++ more)
+unfolding rounds_text
+all_front key place [] all rest behind d a is = (all, refl)
+all_front key place (r ∷ done) [] rest behind d a is = absurd (no_round r _ behind d.0 (sym (first_apart key place r done rest) ∙ is))
+all_front key place (r ∷ done) (q ∷ all) rest behind d a is =
+    let xs = rounds_text key (place + size_of r) done ++ rest in
+    let ys = rounds_text key (place + size_of q) all ++ (shut_word ++ behind) in
+    let parts = round_one r.0 q.0 (records_text r.1) (records_text q.1) xs ys key place key place d.0.word a.0.word d.0.short a.0.short
+    (sym (first_apart key place r done rest) ∙ is ∙ first_apart key place q all (shut_word ++ behind)) in
+    let next : place + size_of q ≡ place + size_of r = ap (λ (l : List ℕ). place + (24 + length l)) (sym parts.1) in
+    let same : r.1 ≡ q.1 = records_same r.1 q.1 d.0.short parts.1 in
+    let others = all_front key (place + size_of r) done all rest behind d.1 a.1 (parts.2 ∙ ap (λ k. rounds_text key k all ++ (shut_word ++ behind)) next) in
+    (others.0, λ i. (sym parts.0 i, sym same i) ∷ others.1 i)
+
+-- the same of the file, whose header is the one
+pub file_front : (h : Header) (file : List ℕ) (rounds : List Laid) (first : ℕ) (rest : List ℕ) → IsOf64Bits h → file ≡ journal_front first h rounds ++ rest → AllByRecursion IsOpen rounds
+    → (g : Header) (qs : List Laid) → Lies g file qs → (h ≡ g) × ((more : List Laid) × (qs ≡ rounds ++ more))
+file_front h file rounds first rest fits split gates g qs it =
+    let left = rounds_text h.key 56 rounds ++ rest in
+    let right = rounds_text g.key 56 qs ++ (shut_word ++ it.behind) in
+    let both = header_one first it.first h g left right fits it.fits (sym (front_apart first h rounds rest) ∙ sym split ∙ it.split ∙ front_apart it.first g qs (shut_word ++ it.behind)) in
+    let one_key : left ≡ rounds_text h.key 56 qs ++ (shut_word ++ it.behind) = both.1 ∙ ap (λ (k : Header). rounds_text k.key 56 qs ++ (shut_word ++ it.behind)) (sym both.0) in
+    (both.0, all_front h.key 56 rounds qs rest it.behind gates it.gates one_key)
+
 -- what is refused as damaged stands for no records
 pub damage_refuses : (h : Header) (file : List ℕ) (rounds : List Laid) (place : ℕ) (first : ℕ) (rest : List ℕ) → first ≢ 0 → IsOf64Bits h → file ≡ journal_front first h rounds ++ rest → AllByRecursion IsOpen rounds
     → place ≡ 56 + length (rounds_text h.key 56 rounds) → ((behind : List ℕ) → drop place file ≢ shut_word ++ behind)

@@ -135,6 +135,7 @@ impl<D: Disk, B> Journal<D, B> {
         ensures ends { result ≡ Ok false → (done : List (List ℕ)) → IsBeingRead D.Disk.seen D.Disk.is_clean self.old reader.old done → IsTrue (D.Disk.is_clean (disk_behind self.new))
             → Only (D.Disk.seen (disk_behind self.old)) (D.Disk.may_leave (disk_behind self.old)) → IsSettled D.Disk.seen D.Disk.may_leave D.Disk.is_clean self.new done }
         ensures header { result ≡ Ok false → IsFalse (is_ready self.old) → header_in self.new ≡ header_of reader.old }
+        ensures begun { header_of reader.new ≡ header_of reader.old }
         ensures ready { result ≡ Ok false → IsTrue (is_ready self.new) }
         ensures again { IsTrue (is_ready self.old) → (result ≡ Ok false) × (self.new ≡ self.old) × (reader.new ≡ reader.old) }
         ensures not_yet { result ≢ Ok false → is_ready self.new ≡ is_ready self.old }

@@ -1,7 +1,6 @@
 //! Records that are read and written again, and some that are none.
 ghost use Rattle.std.specs.Prelude.{map};
-ghost use Rattle.dav_notes_core.specs.Noting.{note_of};
-ghost use Rattle.dav_effects_core.specs.Records.{AreChanges};
+ghost use Rattle.dav_notes_core.specs.Noting.{AreChanges, note_of};
 
 use dav_effects_core::{RecordError, read, write};
 use dav_notes_core::notes::Note;

@@ -8,4 +8,6 @@ mod inspected;
 #[cfg(test)]
 mod restored;
 #[cfg(test)]
+mod snapshots;
+#[cfg(test)]
 mod told;

@@ -19,14 +19,16 @@ use dav_path_core::errors::FsResult;
 impl Guarded {
     /// The folders and files, each behind the folder that it stands in. It takes no memory (own).
     pub fn walk(&self) -> MemFsWalk<'_>
-        ensures { IsMapWalk self.now.map result }
+        ensures walk { IsMapWalk self.now.map result }
+        ensures shape { IsResourceMap self.now.map }
     {
         self.fs.walk()
     }
 
     /// The locks, in the order of granting. It takes no memory (own).
     pub fn locks(&self) -> MemLsLocks<'_>
-        ensures { result ≡ self.now.locks }
+        ensures locks { result ≡ self.now.locks }
+        ensures exclusive { Exclusive self.now.locks }
     {
         self.locks.iter()
     }

@@ -37,7 +37,7 @@ invariant_of-self-2 g c =
     let notes = c.change-answer.new.notes in
     holds_changed it.keeps it.base.items it.notes.items c.spare_of.new.notes.items notes.items (vec_len notes) (vec_capacity notes) it.who c.replace-asker.result c.replace-asker.new.dest
     c.in-Ok.spare c.spare_of.new.spares.items it.stores c.change-answer.new.stores (command_of c.args.command) it.next c.change-answer.result (sym c.is_noted.ensures ∙ c.if-not-is_noted.false)
-    c.self.invariant.kept c.spare_of.ensures.notes c.replace-asker.ensures.value c.replace-asker.ensures.after c.in-Ok.ensures.ok c.change-answer.ensures.step c.change-answer.ensures.ok
+    c.self.invariant.kept c.self.invariant.changes c.spare_of.ensures.notes c.replace-asker.ensures.value c.replace-asker.ensures.after c.in-Ok.ensures.ok c.change-answer.ensures.step c.change-answer.ensures.ok
     c.change-answer.ensures.err c.spare_of.ensures.copies (omega (arith, c.in-Ok.ensures.room, c.change-answer.ensures.used, c.change-answer.ensures.capacity))
 
 pub returns-clause-room : goal.returns-clause-room

@@ -1,0 +1,5 @@
+pub mod Private
+pub mod SnapshotReading
+pub mod SnapshotText
+pub mod Snapshots
+pub mod WrittenSnapshots

@@ -1,0 +1,79 @@
+-- How records stand for stores.
+use Rattle.std.proofs.Common.{◌≡◌, ◌≤◌, ℕ, List, [], ◌∷◌, ◌++◌, refl, sym, ◌∙◌, ap, append_assoc, subst}
+use Rattle.std.proofs.lemmas.List.{append-nil}
+use Rattle.std.proofs.lemmas.List.Concat.{flat_map-cons}
+use Rattle.std.specs.List.{flat_map}
+use Rattle.dav_resource_core.specs.Stores.{Stores}
+use Rattle.dav_notes_core.specs.Noting.{Noted}
+use Rattle.dav_notes_core.specs.PlayedNotes.{NotesLead, NotesPlayed}
+use Rattle.dav_notes_core.specs.Stepping.{SameLiveStores}
+use Rattle.dav_notes_core.proofs.LeadLemmas.{played_alike}
+use Rattle.dav_effects_core.specs.Records.{IsRecord}
+use Rattle.dav_effects_core.proofs.Exact.{ok_is}
+use Rattle.dav_effects_core.proofs.NoteForms.{record_again}
+use Rattle.dav_store_core.specs.StandingFor.{AreRecords, Keeps, KeepsAll, NeverBack, last_moment_of}
+
+-- bytes are the record of one list of notes
+pub one_reading : (ns ms : List Noted) (bytes : List ℕ) → IsRecord ns bytes → IsRecord ms bytes → ns ≡ ms
+one_reading ns ms bytes a b = ok_is ns ms (sym (record_again ns bytes a) ∙ record_again ms bytes b)
+
+-- a record stands for one change of the stores
+pub keeps_one : (s t u : Stores) (last m n : ℕ) (bytes : List ℕ) → Keeps s last bytes t m → Keeps s last bytes u n → (t ≡ u) × (m ≡ n)
+keeps_one s t u last m n bytes a b =
+    let same = one_reading a.notes b.notes bytes a.written b.written in (
+      played_alike s t u a.notes a.played (subst (λ (ns : List Noted). NotesPlayed s ns u) (sym same) b.played),
+      a.last_is ∙ ap (last_moment_of last) same ∙ sym b.last_is,
+    )
+
+-- one more record
+pub keeps_more : (s t u : Stores) (last m n : ℕ) (records : List (List ℕ)) (bytes : List ℕ) → KeepsAll s last records t m → Keeps t m bytes u n → KeepsAll s last (records ++ bytes ∷ []) u n
+keeps_more s t u last m n [] bytes a b = (u, n, subst (λ (v : Stores). Keeps v last bytes u n) a.0 (subst (λ (k : ℕ). Keeps t k bytes u n) a.1 b), (refl, refl))
+keeps_more s t u last m n (first ∷ records) bytes a b = (a.0, a.1, a.2, keeps_more a.0 t u a.1 m n records bytes a.3 b)
+
+-- what stands behind records begins with what they stand for
+pub keeps_behind : (s t u : Stores) (last m n : ℕ) (records rest : List (List ℕ)) → KeepsAll s last records t m → KeepsAll s last (records ++ rest) u n → KeepsAll t m rest u n
+keeps_behind s t u last m n [] rest a b = subst (λ (v : Stores). KeepsAll v m rest u n) (sym a.0) (subst (λ (k : ℕ). KeepsAll s k rest u n) (sym a.1) b)
+keeps_behind s t u last m n (first ∷ records) rest a b =
+    let one = keeps_one s a.0 b.0 last a.1 b.1 first a.2 b.2 in
+    keeps_behind a.0 t u a.1 m n records rest a.3 (subst (λ (v : Stores). KeepsAll v a.1 (records ++ rest) u n) (sym one.0) (subst (λ (k : ℕ). KeepsAll b.0 k (records ++ rest) u n) (sym one.1) b.3))
+
+-- where a record cannot be taken, no records with it stand for stores
+pub keeps_not : (s t u : Stores) (last m n : ℕ) (records rest : List (List ℕ)) (bytes : List ℕ) → KeepsAll s last records t m → ((v : Stores) (k : ℕ) → ¬ (Keeps t m bytes v k))
+    → ¬ (KeepsAll s last ((records ++ bytes ∷ []) ++ rest) u n)
+keeps_not s t u last m n records rest bytes a none b =
+    let behind = keeps_behind s t u last m n records (bytes ∷ rest) a (subst (λ (l : List (List ℕ)). KeepsAll s last l u n) (append_assoc records (bytes ∷ []) rest) b) in
+    none behind.0 behind.1 behind.2
+
+-- records stand for one change of the stores
+pub keeps_all_one : (s t u : Stores) (last m n : ℕ) (records : List (List ℕ)) → KeepsAll s last records t m → KeepsAll s last records u n → (t ≡ u) × (m ≡ n)
+keeps_all_one s t u last m n records a b =
+    let behind = keeps_behind s t u last m n records [] a (subst (λ (l : List (List ℕ)). KeepsAll s last l u n) (sym (append-nil records)) b) in (sym behind.0, sym behind.1)
+
+-- of notes that lead from stores to others, the first ones are played there
+record Led (from : ℕ) (s : Stores) (ns ms : List Noted) (now : ℕ) (t : Stores) : Type 0 where
+  pub mid : Stores
+  pub ordered : NeverBack from ns
+  pub played : NotesPlayed s ns mid
+  pub leads : NotesLead (last_moment_of from ns) mid ms now t
+
+led : (from : ℕ) (s : Stores) (ns ms : List Noted) (now : ℕ) (t : Stores) → NotesLead from s (ns ++ ms) now t → Led from s ns ms now t
+led from s [] ms now t h = record { mid = s; ordered = tt; played = refl; leads = h }
+led from s (n ∷ ns) ms now t h =
+    let rest = led n.request.now h.1.0 ns ms now t h.1.2 in
+    record { mid = rest.mid; ordered = (h.0, rest.ordered); played = (h.1.0, h.1.1, rest.played); leads = rest.leads }
+
+-- the records of notes that lead from stores to others stand for these, but for locks that have expired
+pub come_back : (requests : List (List Noted)) (records : List (List ℕ)) (from now : ℕ) (s t : Stores) → AreRecords requests records → NotesLead from s (flat_map (λ ns. ns) requests) now t
+    → (v : Stores) × (last : ℕ) × KeepsAll s from records v last × SameLiveStores now t v × (last ≤ now)
+come_back [] [] from now s t are h = (s, from, (refl, refl), sym h.1, h.0)
+come_back (ns ∷ requests) (bytes ∷ records) from now s t are h =
+    let first = led from s ns (flat_map (λ (ms : List Noted). ms) requests) now t (subst (λ (l : List Noted). NotesLead from s l now t) (flat_map-cons (λ (ms : List Noted). ms) ns requests) h) in
+    let rest = come_back requests records (last_moment_of from ns) now first.mid t are.1 first.leads in (
+      rest.0,
+      rest.1,
+      (first.mid, last_moment_of from ns, record { notes = ns; written = are.0; ordered = first.ordered; played = first.played; last_is = refl }, rest.2),
+      rest.3,
+      rest.4,
+    )
+come_back [] (bytes ∷ records) from now s t are h = absurd are
+come_back (ns ∷ requests) [] from now s t are h = absurd are

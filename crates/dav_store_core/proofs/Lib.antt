@@ -1,0 +1,3 @@
+pub mod KeepLemmas
+pub mod LoadLemmas
+pub mod MomentLemmas

@@ -1,0 +1,42 @@
+-- What the loading of a journal comes to (own).
+use Rattle.std.specs.Prelude.{◌≡◌, ℕ, List, Bool, IsTrue}
+use Rattle.journal_core.specs.declared.header.Header.{Header}
+use Rattle.journal_core.specs.declared.journal.Journal.{Journal}
+use Rattle.journal_core.specs.declared.reader.Reader.{Reader}
+use Rattle.journal_core.specs.Clocked.{EachLeaves, GoesAs, SeesSame}
+use Rattle.journal_core.specs.Format.{StandsFor}
+use Rattle.journal_core.specs.JournalReading.{IsRefusal}
+use Rattle.journal_core.specs.Resting.{IsBeingRead, IsSettled, clocked_of, disk_behind}
+use Rattle.dav_resource_core.specs.Stores.{Stores}
+use Rattle.dav_store_core.specs.declared.error.StoreError.{StoreError}
+use Rattle.dav_store_core.specs.declared.error.StoreError.TheVariants.{Journal as JournalFault, Damaged}
+use Rattle.dav_store_core.specs.StandingFor.{StandFor}
+
+-- the records that were read so far stand for these stores and this last moment
+pub record IsLoading {D B : Type 0} (seen : D → List ℕ) (is_clean : D → Bool) (j : Journal D B) (r : Reader) (began : ℕ) (s : Stores) (last : ℕ) : Type 0 where
+  pub records : List (List ℕ)
+  pub read : IsBeingRead seen is_clean j r records
+  pub stand : StandFor began records s last
+
+-- the journal is settled with records that stand for these stores and this last moment
+pub record IsLoaded {D B : Type 0} (seen : D → List ℕ) (may_leave : D → List ℕ → Type 0) (is_clean : D → Bool) (j : Journal D B) (began : ℕ) (s : Stores) (last : ℕ) : Type 0 where
+  pub records : List (List ℕ)
+  pub settled : IsSettled seen may_leave is_clean j records
+  pub stand : StandFor began records s last
+
+-- the file is refused for what it holds
+abbrev pub IsDamage : StoreError → Type 0
+IsDamage (JournalFault e) = IsRefusal e
+IsDamage (Damaged number) = Unit {0}
+
+-- the file stands for no records that stand for stores
+abbrev pub StandsForNone : ℕ → List ℕ → Type 0
+StandsForNone began file = (h : Header) (records : List (List ℕ)) (s : Stores) (last : ℕ) → StandsFor h file records → ¬ (StandFor began records s last)
+
+-- Nothing was written: what is seen stays the same, at each moment too, and a crash leaves no more than before.
+pub record WritesNothing {D B : Type 0} (seen : D → List ℕ) (may_leave : D → List ℕ → Type 0) (is_clean : D → Bool) (note : B) (old new : Journal D B) : Type 0 where
+  pub seen_is : seen (disk_behind new) ≡ seen (disk_behind old)
+  pub moments : GoesAs SeesSame seen (clocked_of old) (clocked_of new)
+  pub any_moment : EachLeaves may_leave note (may_leave (disk_behind old)) (clocked_of old) (clocked_of new)
+  pub crash : (c : List ℕ) → may_leave (disk_behind new) c → may_leave (disk_behind old) c
+  pub clean : IsTrue (is_clean (disk_behind new)) → IsTrue (is_clean (disk_behind old))

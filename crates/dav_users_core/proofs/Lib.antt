@@ -1,0 +1,3 @@
+pub mod CryptLemmas
+pub mod FileLemmas
+pub mod Texts

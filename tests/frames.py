@@ -14,7 +14,7 @@ WINDOW = 262_144
 HALF = WINDOW // 2
 # A frame has so many bytes at most, and where nothing else is said the tests send so many.
 LARGEST, PIECE = 1_048_576, 65_536
-# Behind a request with a body of more bytes the connection is closed.
+# Where a request with a body of more bytes is refused, the connection is closed.
 LONG_BODY = 524_288
 # Whoever waits so many seconds for the program waits for ever.
 PATIENCE = 30

@@ -93,13 +93,14 @@ held_there before request headers path e site now later s of at same is h =
 
 -- what the method does behind it is the caller's, too
 pub moves_on : (before mid after : Server) (request : Request (List ℕ)) (path : PathText) (who : Caller) → Begins before request mid path who → MayDo before request mid
-    → RunBy who before.state mid.state → RunBy who mid.state after.state → after.last ≡ mid.last → after.options ≡ mid.options → after.clock ≡ mid.clock
+    → RunBy who before.state mid.state → RunBy who mid.state after.state → after.last ≡ mid.last → after.options ≡ mid.options → after.clock ≡ mid.clock → after.noting ≡ mid.noting
     → MayDo before request after
-moves_on before mid after request path who begins moves first more last options clock = record {
+moves_on before mid after request path who begins moves first more last options clock noting = record {
   by_caller = inr (who, begins.from, begins.now ∙ sym last, inl (by_join who before.state mid.state after.state first more));
   moments = subst (λ n. before.last ≤ n) (sym last) moves.moments;
   options = options ∙ moves.options;
   clock = clock ∙ moves.clock;
+  noting = noting ∙ moves.noting;
 }
 
 -- or it ends one of the caller's own locks
@@ -107,9 +108,9 @@ pub moves_ended : (before mid after : Server) (request : Request (List ℕ)) (pa
     → Begins before request mid path who → MayDo before request mid → RunBy who before.state mid.state → Asks who mid.state after.state
     → live mid.last mid.state ≡ live mid.last before.state
     → IfOk result (λ status. Unlocks (head_of request).headers (live who.now mid.state) who (segments path.bytes) status after.state)
-    → OnErr result (RunBy who mid.state after.state) → after.last ≡ mid.last → after.options ≡ mid.options → after.clock ≡ mid.clock
+    → OnErr result (RunBy who mid.state after.state) → after.last ≡ mid.last → after.options ≡ mid.options → after.clock ≡ mid.clock → after.noting ≡ mid.noting
     → MayDo before request after
-moves_ended before mid after request path who (Ok status) begins moves first more still done failed last options clock = record {
+moves_ended before mid after request path who (Ok status) begins moves first more still done failed last options clock noting = record {
   by_caller = inr (
     who,
     begins.from,
@@ -125,9 +126,10 @@ moves_ended before mid after request path who (Ok status) begins moves first mor
   moments = subst (λ n. before.last ≤ n) (sym last) moves.moments;
   options = options ∙ moves.options;
   clock = clock ∙ moves.clock;
+  noting = noting ∙ moves.noting;
 }
-moves_ended before mid after request path who (Err e) begins moves first more still done failed last options clock =
-    moves_on before mid after request path who begins moves first failed last options clock
+moves_ended before mid after request path who (Err e) begins moves first more still done failed last options clock noting =
+    moves_on before mid after request path who begins moves first failed last options clock noting
 
 -- a request that its `If` holds off
 pub held_off : (before after : Server) (request : Request (List ℕ)) (e : Fault) (Refuses : Path → Caller → Type 0) → IsHeld before request after e

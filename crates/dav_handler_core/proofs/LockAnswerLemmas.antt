@@ -102,8 +102,8 @@ module _ (before mid after : Server) (request : Request (List ℕ)) (path : Path
   -- ---- what it asks of the stores
 
   pub moves_locked : MayDo before request mid → RunBy who before.state mid.state → Runs mid.state after.state → LocksOne (live who.now s) who path after.state
-      → after.options ≡ mid.options → after.clock ≡ mid.clock → MayDo before request after
-  moves_locked moves first more does options clock = record {
+      → after.options ≡ mid.options → after.clock ≡ mid.clock → after.noting ≡ mid.noting → MayDo before request after
+  moves_locked moves first more does options clock noting = record {
     by_caller = inr (
       who,
       begins.from,
@@ -117,23 +117,24 @@ module _ (before mid after : Server) (request : Request (List ℕ)) (path : Path
     moments = subst (λ n. before.last ≤ n) (sym same) moves.moments;
     options = options ∙ moves.options;
     clock = clock ∙ moves.clock;
+    noting = noting ∙ moves.noting;
   }
 
   pub moves_granted : (result : Result ℕ Fault) (sent : Sent) → s ≡ mid.state → MayDo before request mid → RunBy who before.state mid.state → Runs mid.state after.state
       → IfOk result (λ status. IsGranted before.options.longest before.options.prefix (head_of request).headers (body_of request) (live who.now s) who path status sent after.state)
-      → IfErr result (λ e. LeavesLock (IsAskedBy (body_of request) (live who.now s) who path) who (segments path.bytes) e s after.state) → after.options ≡ mid.options → after.clock ≡ mid.clock → MayDo before request after
-  moves_granted (Ok status) sent is moves first more done left options clock = moves_locked moves first more (LocksOne.grants done.wanted done.lock done.grants) options clock
-  moves_granted (Err e) sent is moves first more done (inl kept) options clock =
-      moves_on before mid after request path who begins moves first (subst (λ (t : State). RunBy who t after.state) is kept.0) same options clock
-  moves_granted (Err e) sent is moves first more done (inr untold) options clock = moves_locked moves first more (LocksOne.takes_back (untold_by (live who.now s) after.state who (segments path.bytes) (λ l asked. tt) untold.1)) options clock
+      → IfErr result (λ e. LeavesLock (IsAskedBy (body_of request) (live who.now s) who path) who (segments path.bytes) e s after.state) → after.options ≡ mid.options → after.clock ≡ mid.clock → after.noting ≡ mid.noting → MayDo before request after
+  moves_granted (Ok status) sent is moves first more done left options clock noting = moves_locked moves first more (LocksOne.grants done.wanted done.lock done.grants) options clock noting
+  moves_granted (Err e) sent is moves first more done (inl kept) options clock noting =
+      moves_on before mid after request path who begins moves first (subst (λ (t : State). RunBy who t after.state) is kept.0) same options clock noting
+  moves_granted (Err e) sent is moves first more done (inr untold) options clock noting = moves_locked moves first more (LocksOne.takes_back (untold_by (live who.now s) after.state who (segments path.bytes) (λ l asked. tt) untold.1)) options clock noting
 
   pub moves_refreshed : (result : Result ℕ Fault) (sent : Sent) → s ≡ mid.state → MayDo before request mid → RunBy who before.state mid.state → Asks who mid.state after.state
       → IfOk result (λ status. Refreshes before.options.longest before.options.prefix (head_of request).headers (live who.now s) who (segments path.bytes) status sent after.state)
-      → OnErr result (RunBy who mid.state after.state) → after.options ≡ mid.options → after.clock ≡ mid.clock → MayDo before request after
-  moves_refreshed (Ok status) sent is moves first more done looked options clock =
+      → OnErr result (RunBy who mid.state after.state) → after.options ≡ mid.options → after.clock ≡ mid.clock → after.noting ≡ mid.noting → MayDo before request after
+  moves_refreshed (Ok status) sent is moves first more done looked options clock noting =
       let named = of_filter (has_token (live who.now s) (segments path.bytes)) who.tokens done.token (subst (In done.token) (sym done.names) (inl refl)) in
-      moves_locked moves first (runs_of who mid.state after.state more) (LocksOne.refreshes done.token done.timeout (Contains-In who.tokens done.token named.0) done.refreshes) options clock
-  moves_refreshed (Err e) sent is moves first more done looked options clock = moves_on before mid after request path who begins moves first looked same options clock
+      moves_locked moves first (runs_of who mid.state after.state more) (LocksOne.refreshes done.token done.timeout (Contains-In who.tokens done.token named.0) done.refreshes) options clock noting
+  moves_refreshed (Err e) sent is moves first more done looked options clock noting = moves_on before mid after request path who begins moves first looked same options clock noting
 
   pub lock_leaves_by : (result : Result ℕ Fault) → IfErr result (λ e. LeavesLock (IsAskedBy (body_of request) (live who.now s) who path) who (segments path.bytes) e s after.state)
       → IfErr result (λ e. Leaves (Some method.Lock) before request e after)

@@ -395,11 +395,13 @@ module _ (before after other : Server) (request : Request (List ℕ)) (response 
   left_once last states =
       let options : after.options ≡ other.options = h.moves.options ∙ sym k.moves.options in
       let clock : after.clock ≡ other.clock = h.moves.clock ∙ sym k.moves.clock in
+      let noting : after.noting ≡ other.noting = h.moves.noting ∙ sym k.moves.noting in
       λ i. record {
         options = options i;
         state = states i;
         last = sym last i;
         clock = clock i;
+        noting = noting i;
       }
 
   abbrev One : Type 0

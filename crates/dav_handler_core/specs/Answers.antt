@@ -106,6 +106,8 @@ pub record MayDo (before : Server) (request : Request (List ℕ)) (after : Serve
   pub moments : before.last ≤ after.last
   pub options : after.options ≡ before.options
   pub clock : after.clock ≡ before.clock
+  -- notes of what changes begin where they began
+  pub noting : after.noting ≡ before.noting
 
 -- What a refusal leaves: all is as it was, but that locks that have expired may be gone. A COPY or a MOVE that lacked memory may have begun; of a LOCK that lacked memory
 -- once it was granted, the generator has given a token.

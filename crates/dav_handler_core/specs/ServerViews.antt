@@ -4,6 +4,7 @@ use Rattle.rand_core.specs.Stream.{Stream}
 use Rattle.http.specs.declared.request.Request.{Request}
 use Rattle.http_server.specs.declared.response.Response.{Response}
 use Rattle.dav_path_core.specs.declared.util.DavMethod.{DavMethod}
+use Rattle.dav_resource_core.specs.Stores.{Stores}
 use Rattle.dav_faults_core.specs.declared.faults.Fault.{Fault}
 use Rattle.http_server.specs.Response.{fields_of}
 use Rattle.dav_fields_core.specs.AnswerFields.{first_fields}
@@ -14,7 +15,7 @@ use Rattle.dav_handler_core.specs.Answers.{AnswersTo, Leaves, SendsOwn}
 use Rattle.dav_handler_core.specs.MethodAnswers.{GetAnswers}
 use Rattle.dav_handler_core.specs.Server.{Options, Server}
 use Rattle.dav_session_core.specs.Callers.{SameLive}
-use Rattle.dav_session_core.specs.Sessions.{caller, state}
+use Rattle.dav_session_core.specs.Sessions.{caller, noting, state, stores_behind}
 
 abbrev pub options_of : Settings → Options
 options_of s = record {
@@ -32,7 +33,12 @@ server stream d = record {
   state = state stream d.session;
   last = (caller d.session).now;
   clock = d.clock.0;
+  noting = noting d.session;
 }
+
+-- the stores alone
+abbrev pub stores_of_server : {R : Type 0} → Dav R → Stores
+stores_of_server d = stores_behind d.session
 
 -- nothing has changed, but that locks have expired at the moment of the last request
 abbrev pub Unchanged : {R : Type 0} → (R → Stream) → Dav R → Dav R → Type 0

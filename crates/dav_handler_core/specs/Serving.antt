@@ -3,6 +3,7 @@ use Rattle.std.specs.Prelude.{◌≡◌, ◌⊎◌, ◌<◌, ℕ, List, [], ◌�
 use Rattle.rand_core.specs.Stream.{Stream}
 use Rattle.http.specs.declared.request.Request.{Request}
 use Rattle.http.specs.Request.{body_of}
+use Rattle.http.specs.StatusCode.{IsInClass}
 use Rattle.http_server.specs.declared.response.Response.{Response}
 use Rattle.http_server.specs.Response.{fields_of}
 use Rattle.http_frames.specs.declared.clients.Clients.{Clients}
@@ -35,11 +36,15 @@ abbrev pub BeginsTurn : {C : Type 0} → (C → Option ℕ → C → Type 0) →
 BeginsTurn tells old number new =
     (told : Option ℕ) × tells old.clock told new.clock × (new.server ≡ with_clock told old.server)
 
--- The answer to a request with a body of more than 512 KiB says that the connection is closed behind it, where there is memory for that field; all else is sent as it was made (RFC 9112 section 9.6).
+-- a request with a body of more than 512 KiB was refused
+abbrev pub IsLongRefusal : Request (List ℕ) → Response → Type 0
+IsLongRefusal request made = (524_288 < length (body_of request)) × ¬ (IsInClass 200 made.status)
+
+-- The refusal of such a request says that the connection is closed behind it, where there is memory for that field; all else is sent as it was made (RFC 9112 section 9.6).
 pub record IsSent (request : Request (List ℕ)) (made sent : Response) : Type 0 where
   pub status : sent.status ≡ made.status
   pub body : sent.body ≡ made.body
-  pub fields : (fields_of sent ≡ fields_of made) ⊎ ((524_288 < length (body_of request)) × (fields_of sent ≡ fields_of made ++ (codes "connection", codes "close") ∷ []))
+  pub fields : (fields_of sent ≡ fields_of made) ⊎ (IsLongRefusal request made × (fields_of sent ≡ fields_of made ++ (codes "connection", codes "close") ∷ []))
 
 -- A call is answered, and so sent, and the clock is asked nothing.
 abbrev pub Replies : {C : Type 0} → Timing C → Request (List ℕ) → Response → Timing C → Type 0

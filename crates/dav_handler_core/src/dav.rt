@@ -1,5 +1,6 @@
 //! The server: an HTTP service over the stores (RFC 4918 section 9, RFC 9110 section 9).
-ghost use Rattle.std.specs.Prelude.{◌≡◌, ◌<◌, [], true, IfOk, IfErr, OnErr, Err, Option, Some, false};
+ghost use Rattle.std.specs.Prelude.{◌≡◌, ◌<◌, [], ◌∷◌, true, IfErr, OnErr, Err, Option, Some};
+ghost use Rattle.std.specs.Prelude.{IfOk, false, map};
 ghost use Rattle.http.specs.Request.{body_of, head_of};
 ghost use Rattle.http_header.specs.FieldValue.{IsFieldValue};
 ghost use Rattle.http_server.specs.Response.{IsBlank};
@@ -7,7 +8,11 @@ ghost use Rattle.dav_fields_core.specs.AnswerFields.{first_fields, options_field
 ghost use Rattle.dav_fields_core.specs.Fields.{sent_behind, sent_of};
 ghost use Rattle.dav_path_core.specs.declared.util.DavMethod.{DavMethod};
 ghost use Rattle.dav_path_core.specs.declared.util.DavMethod.TheVariants as method;
+ghost use Rattle.dav_notes_core.specs.Ahead.{ahead};
+ghost use Rattle.dav_notes_core.specs.Noting.{AreChanges, note_of};
+ghost use Rattle.dav_notes_core.specs.Seen.{KeptNotes};
 ghost use Rattle.dav_resource_core.specs.Stores.{state_of};
+ghost use Rattle.rand_core.specs.Stream.{fill_bytes};
 ghost use Rattle.dav_handler_core.specs.Answers.{Answers};
 ghost use Rattle.dav_handler_core.specs.Answers.{IsMethod, MayDo};
 ghost use Rattle.dav_handler_core.specs.RequestMoments.{Comes, ComesAt};
@@ -15,7 +20,7 @@ ghost use Rattle.dav_handler_core.specs.RequestMoments.{may_change};
 ghost use Rattle.dav_handler_core.specs.MethodAnswers.{has_body};
 ghost use Rattle.dav_handler_core.specs.ServerViews.{IsAnswered, IsGotBy, LeftBy};
 ghost use Rattle.dav_handler_core.specs.ServerViews.{Unchanged};
-ghost use Rattle.dav_handler_core.specs.ServerViews.{options_of, server};
+ghost use Rattle.dav_handler_core.specs.ServerViews.{options_of, server, stores_of_server};
 ghost use Rattle.dav_faults_core.specs.declared.faults.Fault.TheVariants as fault;
 
 mod beginning;
@@ -35,7 +40,7 @@ use dav_methods_core::methods::{
     copy, delete, get, lock, mkcol, moving, options, propfind, proppatch, put, refresh, unlock,
 };
 use dav_methods_core::refusals::refuse;
-use dav_resource_core::errors::FsResult;
+use dav_notes_core::notes::Note;
 use dav_resource_core::fs::Moment;
 use dav_resource_core::guarded::Guarded;
 use dav_resource_core::util::DavMethod;
@@ -77,28 +82,30 @@ pub struct Dav<R> {
 }
 
 impl<R: Rng + Drop> Dav<R> {
-    /// A server over stores, at the moment. `InsufficientStorage` where it is out of memory.
+    /// A server over stores, at the moment (own). Notes of what changes are kept from now on, or
+    /// never. The bytes of the first lock's token are drawn ahead.
     pub fn new(
         alloc: Global,
         settings: Settings,
         stores: Guarded,
         rng: R,
         now: Moment,
-    ) -> FsResult<Dav<R>>
-        ensures { IfOk result (λ dav. server R.stream dav ≡ record {
+        keeps: bool,
+    ) -> Dav<R>
+        ensures { server R.stream result ≡ record {
           options = options_of settings;
-          state = state_of stores (R.stream rng);
+          state = state_of stores (ahead (fill_bytes 16 (R.stream rng)));
           last = now.0;
           clock = now.0;
-        }) }
+          noting = (keeps, (stores, now.0) ∷ []);
+        } }
     {
-        let session = Session::new(alloc, stores, rng, now)?;
-        Ok(Dav {
+        Dav {
             alloc,
             settings,
-            session,
+            session: Session::new(alloc, stores, rng, now, keeps),
             clock: now,
-        })
+        }
     }
 }
 
@@ -110,6 +117,25 @@ impl<R: Rng> Dav<R> {
         ensures { server R.stream self.new ≡ record (server R.stream self.old) { clock = now.0 } }
     {
         self.clock = now;
+    }
+
+    /// The notes of what has changed since they were taken last, and none where none are kept
+    /// (own). Taken behind each call, they are those of one request.
+    pub fn take_notes(&mut self) -> Vec<Note>
+        ensures notes { KeptNotes (server R.stream self.old).noting.0
+            (server R.stream self.old).noting.1 (map note_of result.items)
+            (server R.stream self.new).last (stores_of_server self.new) }
+        // Each is of a command that changes something.
+        ensures changes { AreChanges (map note_of result.items) }
+        // The next notes begin here, and nothing else is changed.
+        ensures server { server R.stream self.new ≡ record (server R.stream self.old) {
+          noting = (
+            (server R.stream self.old).noting.0,
+            (stores_of_server self.new, (server R.stream self.new).last) ∷ [],
+          );
+        } }
+    {
+        self.session.take()
     }
 
     // GET and HEAD.

@@ -1,5 +1,5 @@
 //! The connections of a server.
-ghost use Rattle.std.specs.Prelude.{◌≡◌, ℕ, List, [], ◌++◌, Option, Result, option_map};
+ghost use Rattle.std.specs.Prelude.{◌≡◌, ℕ, List, [], ◌++◌, IsTrue, Option, Result, option_map};
 ghost use Rattle.std.specs.Io.KnownBytes.{Appends, Consumes};
 ghost use Rattle.http_server.specs.Connection.{config_of, history};
 ghost use Rattle.http_server.specs.Exchange.{Calls};
@@ -15,7 +15,8 @@ ghost use Rattle.dav_handler_core.specs.Server.{Server};
 ghost use Rattle.dav_handler_core.specs.KeptDocuments.{IsNew};
 ghost use Rattle.dav_handler_core.specs.Promises.{EachAnswer, IsLeft, KeepsTo, StandsAt};
 ghost use Rattle.dav_handler_core.specs.ServerViews.{server};
-ghost use Rattle.dav_handler_core.specs.Serving.{AreServed, BeginsTurn, Clocked, IsSent, Leads, Replies, Timing, timing};
+ghost use Rattle.dav_handler_core.specs.Serving.{AreServed, BeginsTurn, Clocked, IsLongRefusal};
+ghost use Rattle.dav_handler_core.specs.Serving.{IsSent, Leads, Replies, Timing, timing};
 ghost use Rattle.dav_handler_core.specs.TagHistories.{Becomes};
 
 use crate::dav::Dav;
@@ -47,7 +48,8 @@ pub trait Clock {
 // are copied.
 const SHARED: u64 = 96 * 1024;
 
-// A connection keeps the room of its longest body while it lasts; a longer one ends it.
+// A connection keeps the room of its longest body while it lasts. Where one of more bytes was
+// refused, it ends.
 const LONG_BODY: usize = 512 * 1024;
 
 /// A server with the clock that tells it the moment of each turn.
@@ -68,21 +70,27 @@ impl<R: Rng, C: Clock> Service for Timed<R, C> {
         response: &mut Response,
     ) -> Result<(), AllocError> {
         self.dav.call(request, response)?;
-        close_behind_long(request, response);
+        close_behind_refused(request, response);
         Ok(())
     }
 }
 
-// Says that the connection is closed behind the answer, where the request had a long body and there
-// is memory for the field: the room that its bytes took is given back so.
-fn close_behind_long(request: &Request<Bytes>, response: &mut Response)
+// Says that the connection is closed behind the refusal of a request with a long body, where there is
+// memory for the field: the room that its bytes took is given back so.
+fn close_behind_refused(request: &Request<Bytes>, response: &mut Response)
     ensures { IsSent request.now response.old response.new }
 {
-    if request.body().len() <= LONG_BODY {
+    if !is_long_refusal(request, response) {
         return;
     }
     let name = HeaderName::from_static("connection");
     let _added = response.add_header(name, HeaderValue::from_static("close"));
+}
+
+fn is_long_refusal(request: &Request<Bytes>, response: &Response) -> bool
+    ensures { IsTrue result → IsLongRefusal request.now response.now }
+{
+    request.body().len() > LONG_BODY && !response.status.is_success()
 }
 
 /// The clock is asked once before each turn. The moment that it or a frame told last is the server's

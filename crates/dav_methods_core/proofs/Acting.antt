@@ -25,7 +25,7 @@ module _ {R : Type 0} {stream : R → Stream} where
 
   -- a question is a request
   pub looks_act : {old new : Session R} → Looks stream old new → Acts stream old new
-  looks_act h = record { run = h.run; who = h.who }
+  looks_act h = record { run = h.run; who = h.who; noting = h.noting }
 
   -- questions in three steps
   pub looks_thrice : {a b c d : Session R} → Looks stream a b → Looks stream b c → Looks stream c d → Looks stream a d
@@ -50,25 +50,27 @@ module _ {R : Type 0} {stream : R → Stream} where
 
   pub acts_asked : {old new : Session R} → Acts stream old new → Requests stream old new
   acts_asked {old} {new} h =
-      record { run = asks_of (caller old) (state stream old) (state stream new) h.run; who = h.who }
+      record { run = asks_of (caller old) (state stream old) (state stream new) h.run; who = h.who; noting = h.noting }
 
   pub asked_on : {old mid new : Session R} → Requests stream old mid → Requests stream mid new → Requests stream old new
   asked_on {old} {mid} {new} h k = record {
     run = asks_join (caller old) (state stream old) (state stream mid) (state stream new) h.run
         (subst (λ w. Asks w (state stream mid) (state stream new)) h.who k.run);
     who = k.who ∙ h.who;
+    noting = k.noting ∙ h.noting;
   }
 
   pub acts_ran : {old new : Session R} → Acts stream old new → Ran stream old new
-  acts_ran {old} {new} h = record { run = runs_by (caller old) (state stream old) (state stream new) h.run; who = h.who }
+  acts_ran {old} {new} h = record { run = runs_by (caller old) (state stream old) (state stream new) h.run; who = h.who; noting = h.noting }
 
   pub asked_ran : {old new : Session R} → Requests stream old new → Ran stream old new
-  asked_ran {old} {new} h = record { run = runs_of (caller old) (state stream old) (state stream new) h.run; who = h.who }
+  asked_ran {old} {new} h = record { run = runs_of (caller old) (state stream old) (state stream new) h.run; who = h.who; noting = h.noting }
 
   pub ran_on : {old mid new : Session R} → Ran stream old mid → Ran stream mid new → Ran stream old new
   ran_on {old} {mid} {new} h k = record {
     run = runs_join (state stream old) (state stream mid) (state stream new) h.run k.run;
     who = k.who ∙ h.who;
+    noting = k.noting ∙ h.noting;
   }
 
 -- what a session is left as by what is asked of it, one request after another

@@ -1,6 +1,6 @@
 -- What is asked before resources are copied, one after another.
 use Rattle.std.proofs.Common.{◌≡◌, ℕ, ◌+◌, ◌<◌, ◌≤◌, List, [], ◌∷◌, ◌++◌, append_assoc, drop, get_or, length, map, Result, Ok, Err, refl, sym, ap, ◌∙◌, subst}
-use Rattle.std.specs.Prelude.{Contains, IfErr}
+use Rattle.std.specs.Prelude.{Contains, IfErr, OnOk}
 use Rattle.std.proofs.lemmas.List.{drop_all}
 use Rattle.std.proofs.lemmas.List.Elements.{Contains-append_left, Contains-append_right}
 use Rattle.dav_locks_core.specs.Lock.{Lock}
@@ -51,3 +51,8 @@ fails_last first rest e h = more_refused rest (first ++ rest) e (Contains-append
 pub fails_behind : {A : Type 0} (first rest : List Lock) (result : Result A Fault) → IfErr result (λ e. IsRefusedBy rest e) → IfErr result (λ e. IsRefusedBy (first ++ rest) e)
 fails_behind first rest (Ok x) h = tt
 fails_behind first rest (Err e) h = fails_last first rest e h
+
+-- where nothing stands in the way of the first ones, nor of the rest
+pub passes_behind : {A : Type 0} (first rest : List Lock) (result : Result A Fault) → first ≡ [] → OnOk result (rest ≡ []) → OnOk result (first ++ rest ≡ [])
+passes_behind first rest (Ok x) none h = ap (λ xs. xs ++ rest) none ∙ h
+passes_behind first rest (Err e) none h = tt

@@ -15,6 +15,7 @@ use Rattle.dav_headers_core.specs.declared.davheaders.timeouts.DavTimeout.{DavTi
 use Rattle.dav_headers_core.specs.declared.davheaders.timeouts.DavTimeout.TheVariants.{Seconds, Infinite}
 use Rattle.dav_files_core.specs.Meta.{Meta as Known, meta_at}
 use Rattle.dav_files_core.specs.ResourcePutting.{put}
+use Rattle.dav_files_core.specs.declared.memfs.Kind.TheVariants.{Folder}
 use Rattle.dav_files_core.specs.Resources.{Resource, at_path}
 use Rattle.dav_locks_core.specs.Lock.{Lock}
 use Rattle.dav_locks_core.specs.Locks.{discovered_locks, end_of, lock_conflicts, lock_path}
@@ -27,7 +28,8 @@ use Rattle.dav_faults_core.specs.declared.faults.Fault.TheVariants as fault
 use Rattle.dav_session_core.specs.Callers.{Caller, SameLive, asking, live, refusing_at}
 use Rattle.dav_session_core.specs.Ends.{HasFolder}
 use Rattle.dav_fields_core.specs.Fields.{Sent}
-use Rattle.dav_session_core.specs.Granting.{AreAbove, HaveTokens, also_naming, granted_lock, stands_above, with_lock, with_token_drawn}
+use Rattle.dav_fields_core.specs.Marking.{IsNone}
+use Rattle.dav_session_core.specs.Granting.{AreAbove, HaveTokens, IsConflictOf, also_naming, granted_lock, stands_above, with_lock, with_token_drawn}
 use Rattle.dav_fields_core.specs.IfTokens.{is_among}
 use Rattle.dav_documents_core.specs.LockDocuments.{discovery_pieces}
 use Rattle.dav_fields_core.specs.LockTimeouts.{can_be_given, given_of, seconds_of}
@@ -36,8 +38,8 @@ use Rattle.dav_methods_core.specs.ToldPaths.{told_path}
 use Rattle.dav_methods_core.specs.LockMethod.{CantBeRead, FailsToLock, Grants, HasRoom, IsGranted, IsInConflict, IsMadeThere, LeavesUntold, Wanted, Wants, WantsInTime, lock_sent, lock_status, refusing_to_make}
 use Rattle.dav_documents_core.specs.Pieces.{written_pieces}
 use Rattle.dav_session_core.specs.StoreRefusals.{put_fault}
-use Rattle.dav_session_core.specs.LocksInTheWay.{IsPathOfOne, is_lock_below}
-use Rattle.dav_methods_core.specs.Rooms.{FoundRoom, IsConflictAt, IsGrantedNow, IsMadeUnder, IsReadyToLock, IsUnmade, LacksRoom}
+use Rattle.dav_session_core.specs.LocksInTheWay.{IsPathOfOne, IsRefusedBy, is_lock_below}
+use Rattle.dav_methods_core.specs.Rooms.{FoundRoom, IsConflictAt, IsGrantedNow, IsMadeUnder, IsReadyToLock, IsUnmade, LacksRoom, conflict_at}
 use Rattle.dav_fields_core.specs.RequestRefusals.{IsLastMoment}
 use Rattle.dav_path_core.proofs.lists.MemberLemmas.{append_none}
 use Rattle.dav_session_core.proofs.Asking.{live_once}
@@ -260,6 +262,23 @@ room_found view known who mid s m m' p found none same still free still' folder 
   subst (λ map. HasFolder map (parent p)) (ap (λ (t : State). t.map) still' ∙ ap (λ (t : State). t.map) still) folder,
 )
 
+-- nothing stands there, by what is known
+pub nothing_known : {A : Type 0} (view : A → Known) (known : Option A) (s : State) (p : Path) → option_map view known ≡ option_map (λ (r : Resource). meta_at r.node) (at_path s.map p) → is_some known ≡ false
+    → at_path s.map p ≡ None
+nothing_known view known s p found none = nothing_at view (λ (r : Resource). meta_at r.node) known (at_path s.map p) found none
+
+-- a lock stands in the way of a file there
+pub lacks_by_lock : (s : State) (who : Caller) (p : Path) (e : Fault) → at_path s.map p ≡ None → IsRefusedBy (refusing_to_make s who p) e → LacksRoom s who p e
+lacks_by_lock s who p fault.InsufficientStorage none h = tt
+lacks_by_lock s who p (fault.Locked at) none h = (none, h)
+lacks_by_lock s who p _ none h = absurd h
+
+-- no folder stands above
+pub lacks_above : (s : State) (who : Caller) (p : Path) (e : Fault) → at_path s.map p ≡ None → refusing_to_make s who p ≡ []
+    → (e ≡ fault.InsufficientStorage) ⊎ ((e ≡ fault.Conflict) × IsNone s.map (parent p) Folder) → LacksRoom s who p e
+lacks_above s who p e none free (inl short) = subst (LacksRoom s who p) (sym short) tt
+lacks_above s who p e none free (inr h) = subst (LacksRoom s who p) (sym h.0) (none, free, h.1)
+
 -- ---- what follows a look of the same caller
 
 pub at_start : (who mid : Caller) (s m : State) (a b : List ℕ) (p q : Path) (Q : State → Caller → List ℕ → Path → Type 0) → mid ≡ who → SameLive who.now s m → b ≡ a → q ≡ p
@@ -324,6 +343,17 @@ module _ (s0 mid : State) (who asker : Caller) (path : PathText) (wanted : Wante
       (subst (λ w. LeavesUntold (λ k. k ≡ lock) (live who.now s0) w (segments path.bytes) after) own
       (h (live who.now s0) lock (ap (λ (w : Caller). live w.now (live who.now s0)) own ∙ live_once who.now s0) (ap (λ (w : Caller). live w.now fin) own ∙ there)
       (ap (λ (l : Lock). lock_path l) is) named ready.have ready.only))
+
+-- a conflict is told as one at the path or above, or below it
+pub conflict_placed : (locks : List Lock) (path : PathText) (e : Fault) → IsConflictOf locks e → IsConflictAt locks path (conflict_at path e)
+conflict_placed locks path fault.InsufficientStorage h = tt
+conflict_placed locks path (fault.ConflictingLock at) h = by (is_lock_below (segments path.bytes) at) refl
+  where
+    by : (below : Bool) → is_lock_below (segments path.bytes) at ≡ below
+        → IsConflictAt locks path (if below then fault.ConflictingMember at path else fault.ConflictingLock at)
+    by true is = (h, is, refl)
+    by false is = (h, is)
+conflict_placed locks path _ h = absurd h
 
 -- no conflict is told where memory is lacking
 pub no_conflict_told : (locks : List Lock) (path : PathText) (e : Fault) → e ≡ fault.InsufficientStorage → IsConflictAt locks path e

@@ -92,6 +92,12 @@ not_made who s s' p (Locked l) can h = (l, h.0, refl)
 not_made who s s' p NoLock can h = absurd h.0
 not_made who s s' p OutOfMemory can h = tt
 
+-- there may be no room for its note
+pub not_made_at : (who : Caller) (s s' : State) (p : Path) (e : Refusal) → CanMake s who p → Serves s (asking who (Command.MkCol p)) (Err e) s' ⊎ (e ≡ OutOfMemory)
+    → CantMake s who p (put_fault false e)
+not_made_at who s s' p e can (inl h) = not_made who s s' p e can h
+not_made_at who s s' p e can (inr lacks) = subst (λ r. CantMake s who p (put_fault false r)) (sym lacks) tt
+
 -- ---- what is known before
 
 -- nothing is known of a path where nothing stands

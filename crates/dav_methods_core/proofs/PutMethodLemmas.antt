@@ -1,6 +1,6 @@
 -- What a PUT leaves of a session, and why it is refused.
 use Rattle.std.proofs.Common.{Bool, true, false, ◌≡◌, ◌≢◌, ◌⊎◌, inl, inr, ℕ, ◌+◌, List, [], ◌++◌, Option, Some, None, Result, Ok, Err, refl, sym, ◌∙◌, ap, subst}
-use Rattle.std.specs.Prelude.{is_some, option_map, IfErr}
+use Rattle.std.specs.Prelude.{is_some, option_map, IfErr, OnOk}
 use Rattle.std.proofs.lemmas.List.Elements.{Contains-append_left, Contains-append_right}
 use Rattle.std.specs.FinMap.{insert}
 use Rattle.dav_path_core.specs.declared.errors.FsError.{FsError}
@@ -122,6 +122,12 @@ put_refused who s s' p bytes (Locked l) h = (l, h.0, refl)
 put_refused who s s' p bytes NoLock h = absurd h.0
 put_refused who s s' p bytes OutOfMemory h = tt
 
+-- there may be no room for its note
+pub put_unmade : (who : Caller) (s s' : State) (p : Path) (bytes : List ℕ) (e : Refusal)
+    → Serves (live who.now s) (asking who (Command.Put p bytes)) (Err e) s' ⊎ (e ≡ OutOfMemory) → CantPut s who p bytes (put_fault (is_some (at_path s.map p)) e)
+put_unmade who s s' p bytes e (inl h) = put_refused who s s' p bytes e h
+put_unmade who s s' p bytes e (inr lacks) = subst (λ r. CantPut s who p bytes (put_fault (is_some (at_path s.map p)) r)) (sym lacks) tt
+
 -- ---- checks of locks
 
 pub first_refused : (who : Caller) (s : State) (p : Path) (there : Bool) (e : Fault) → IsRefusedBy (refusing_at s who p) e
@@ -148,6 +154,16 @@ above_fails who asker s mid p q there (Err e) lacks same still is h =
     let at_start = subst (λ (t : State). IsRefusedBy (refusing_at t who q) e) still at_who in
     let above = subst (λ q. IsRefusedBy (refusing_at (live who.now s) who q) e) is at_start in
     subst (λ b. IsRefusedBy (refusing (live who.now s).locks (as_caller who) (target_by b p)) e) (sym lacks) (above_refused who (live who.now s) p e above)
+
+pub above_passes : {A : Type 0} (who asker : Caller) (s mid : State) (p q : Path) (there : Bool) (result : Result A Fault) → there ≡ false → refusing_at (live who.now s) who p ≡ [] → asker ≡ who
+    → SameLive who.now s mid → q ≡ parent p → OnOk result (refusing_at (live asker.now mid) asker q ≡ []) → OnOk result (refusing (live who.now s).locks (as_caller who) (target_by there p) ≡ [])
+above_passes who asker s mid p q there (Ok x) lacks free same still is h =
+    let s' = live who.now s in
+    let at_who = subst (λ (w : Caller). refusing_at (live w.now mid) w q ≡ []) same h in
+    let at_start = subst (λ (t : State). refusing_at t who q ≡ []) still at_who in
+    let above = subst (λ q. refusing_at s' who q ≡ []) is at_start in
+    subst (λ b. refusing s'.locks (as_caller who) (target_by b p) ≡ []) (sym lacks) (ap (λ xs. xs ++ (refusing_at s' who (parent p) ++ [])) free ∙ ap (λ xs. xs ++ []) above)
+above_passes who asker s mid p q there (Err e) lacks free same still is h = tt
 
 -- the locks that are looked at are those that stand in the way
 pub ways : (who : Caller) (s : State) (p : Path) (bytes : List ℕ) (there : Bool) → there ≡ is_some (at_path s.map p)

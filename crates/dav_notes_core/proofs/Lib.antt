@@ -3,6 +3,7 @@ pub mod AlikeLemmas
 pub mod DrawLemmas
 pub mod LeadLemmas
 pub mod LiveLemmas
+pub mod NamingLemmas
 pub mod NotedLemmas
 pub mod PlayLemmas
 pub mod StreamLemmas

@@ -18,7 +18,7 @@ use Rattle.dav_notes_core.proofs.LeadLemmas.{leads_look, leads_on}
 use Rattle.dav_notes_core.proofs.LiveLemmas.{looks_live, refused_live}
 use Rattle.dav_notes_core.specs.declared.senders.Sender.{Sender}
 use Rattle.dav_notes_core.specs.Seen.{AreCopies, KeptNotes, NotesHold, LeadsFrom}
-use Rattle.dav_notes_core.specs.Asking.{Caller, asking, sender_of}
+use Rattle.dav_notes_core.specs.Asking.{Caller, also_naming, asking, sender_of}
 
 -- notes that begin here
 pub none_from : (none base : List (Stores × ℕ)) (ns : List Note) (s : Stores) (now : ℕ) → none ≡ [] → base ≡ none ++ (s, now) ∷ [] → ns ≡ [] → LeadsFrom base (map note_of ns) now s
@@ -157,6 +157,18 @@ holds_with keeps base ns ms used all used' all' who old spares s h same copies r
   room = room;
 }
 
+-- behind a request that is not noted, of a caller who names one token more
+pub holds_named : (keeps : Bool) (base : List (Stores × ℕ)) (ns : List Note) (used all : ℕ) (who after : Sender) (token : List ℕ) (spares : List Sender) (s s' : Stores) (c : Command)
+    (next : List ℕ) (a : Answer) → NotesHold keeps base ns used all who spares s → (keeps && not (is_look c)) ≡ false
+    → AnsweredBy (drawn_for c next) s (asking (also_naming (sender_of who) token) c) a s' → sender_of after ≡ sender_of who → NotesHold keeps base ns used all after spares s'
+holds_named keeps base ns used all who after token spares s s' c next a h alone step same = record {
+  kept = subst (λ (w : Caller). KeptNotes keeps base (map note_of ns) w.now s') (sym same)
+      (kept_alone keeps base (map note_of ns) s s' (also_naming (sender_of who) token) c next a alone step h.kept);
+  changes = h.changes;
+  copies = copies_as who after spares same h.copies;
+  room = h.room;
+}
+
 -- behind a request that is not noted
 pub holds_alone : (keeps : Bool) (base : List (Stores × ℕ)) (ns : List Note) (used all : ℕ) (who after : Sender) (spares : List Sender) (s s' : Stores) (c : Command) (next : List ℕ)
     (a : Answer) → NotesHold keeps base ns used all who spares s → (keeps && not (is_look c)) ≡ false → AnsweredBy (drawn_for c next) s (asking (sender_of who) c) a s'
@@ -187,6 +199,26 @@ holds_changed keeps base ns ns' ms used all who asker after spare spares s s' c 
       changes = changes_behind ns' ms (sender_of asker) c next result (subst (λ (xs : List Note). AreChanges (map note_of xs)) (sym items) changes)
           (changed_at (is_look c) ((and_parts keeps _ is_kept).1)) ok err;
       copies = copies_as who after spares same copies;
+      room = room;
+    }
+
+-- behind what is noted where it is done, of a caller who names one token more; who asks stays
+pub holds_naming : (keeps : Bool) (base : List (Stores × ℕ)) (ns ns' ms : List Note) (used all : ℕ) (who asker : Sender) (token : List ℕ) (spares : List Sender) (s s' : Stores)
+    (c : Command) (next : List ℕ) (result : Result served.Reply served_refusal.Refusal) → (keeps && not (is_look c)) ≡ true → KeptNotes keeps base (map note_of ns) who.now.0 s
+    → AreChanges (map note_of ns) → ns' ≡ ns → sender_of asker ≡ also_naming (sender_of who) token → AnsweredBy (drawn_for c next) s (asking (sender_of asker) c) (answer_of result) s'
+    → OnOk result (map note_of ms ≡ map note_of ns' ++ note_for (sender_of asker) c next ∷ []) → OnErr result (ms ≡ ns') → AreCopies who spares → length spares + used ≤ all
+    → NotesHold keeps base ms used all who spares s'
+holds_naming keeps base ns ns' ms used all who asker token spares s s' c next result is_kept kept changes items asked step ok err copies room =
+    let now : who.now.0 ≤ who.now.0 = omega arith in
+    let same : asker.now.0 ≡ who.now.0 = ap (λ (w : Caller). w.now) asked in
+    let le : who.now.0 ≤ asker.now.0 = subst (λ n. who.now.0 ≤ n) (sym same) now in
+    record {
+      kept = subst (λ n. KeptNotes keeps base (map note_of ms) n s') same
+          (kept_change keeps base ns' ms who.now.0 s s' (sender_of asker) c next result ((and_parts keeps _ is_kept).0)
+          (subst (λ (xs : List Note). KeptNotes keeps base (map note_of xs) who.now.0 s) (sym items) kept) le step ok err);
+      changes = changes_behind ns' ms (sender_of asker) c next result (subst (λ (xs : List Note). AreChanges (map note_of xs)) (sym items) changes)
+          (changed_at (is_look c) ((and_parts keeps _ is_kept).1)) ok err;
+      copies = copies;
       room = room;
     }
 

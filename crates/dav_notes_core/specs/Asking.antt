@@ -1,5 +1,5 @@
 -- Who asks: the same for all requests that one HTTP request leads to (RFC 4918 sections 6.4 and 10.4).
-use Rattle.std.specs.Prelude.{ℕ, List, Option, map, option_map, string_bytes}
+use Rattle.std.specs.Prelude.{ℕ, List, [], ◌∷◌, ◌++◌, Option, map, option_map, string_bytes}
 use Rattle.dav_resource_core.specs.Requests.{Command, Request}
 use Rattle.dav_notes_core.specs.declared.senders.Sender.{Sender}
 
@@ -15,3 +15,8 @@ sender_of who = record { principal = option_map string_bytes who.principal; toke
 -- the request by which the caller asks for a command
 abbrev pub asking : Caller → Command → Request
 asking who command = record { principal = who.principal; tokens = who.tokens; now = who.now; command = command }
+
+-- the caller with one token more
+abbrev pub also_naming : Caller → List ℕ → Caller
+also_naming who token =
+    record { principal = who.principal; tokens = who.tokens ++ token ∷ []; now = who.now }

@@ -1,17 +1,19 @@
 //! Stores whose changes are noted, where notes are kept.
 ghost use Rattle.std.specs.Prelude.{◌≡◌, ◌≤◌, ◌<◌, ◌+◌, ◌⊎◌, ◌++◌, ◌&&◌, [], ◌∷◌, ℕ, true, false, not};
-ghost use Rattle.std.specs.Prelude.{length, map, vec_len, vec_capacity, IfOk, IsOk, OnOk, OnErr};
+ghost use Rattle.std.specs.Prelude.{length, map, vec_len, vec_capacity, string_bytes, IfOk, IsOk, OnOk};
+ghost use Rattle.std.specs.Prelude.{OnErr};
 ghost use Rattle.rand_core.specs.Stream.{fill_bytes};
+ghost use Rattle.dav_files_core.specs.Resources.{IsResourceMap};
 ghost use Rattle.dav_resource_core.specs.Served.{command_of, answer_of};
 ghost use Rattle.dav_notes_core.specs.Ahead.{drawn_on, was_granted};
-ghost use Rattle.dav_notes_core.specs.Asking.{asking, sender_of};
+ghost use Rattle.dav_notes_core.specs.Asking.{also_naming, asking, sender_of};
 ghost use Rattle.dav_notes_core.specs.Changes.{is_look};
 ghost use Rattle.dav_notes_core.specs.Noting.{AreChanges, drawn_for, note_for, note_of};
 ghost use Rattle.dav_notes_core.specs.Seen.{AreCopies, KeptNotes, HasNoteRoom};
 ghost use Rattle.dav_notes_core.specs.Stepping.{AnsweredBy, SameLiveStores};
 
 use crate::notes::{Note, apply_given, is_grant, is_look};
-use crate::senders::{Sender, asker_of, request_by, taken_out};
+use crate::senders::{Sender, add_token, asker_of, drop_token, request_by, taken_out};
 use dav_resource_core::guarded::{Command, Guarded, Refusal, Reply};
 use http_server::Log;
 use rand_core::Rng;
@@ -140,6 +142,7 @@ impl NotedStores {
         ensures base { self.new.base ≡ self.old.base }
         ensures who { self.new.who ≡ self.old.who }
         ensures keeps { self.new.keeps ≡ self.old.keeps }
+        ensures shape { OnOk result (IsResourceMap self.new.stores.map) }
     {
         let grants = is_grant(&command);
         if !is_noted(self.keeps, &command) {
@@ -163,6 +166,60 @@ impl NotedStores {
         let asker = mem::replace(&mut self.who, spare);
         let answer = change(&mut self.stores, &mut self.notes, self.next, asker, command);
         self.next = draw_next(self.next, rng, grants && answer.is_ok());
+        Ok(answer)
+    }
+
+    /// Makes one request of the caller, who submits one token more for this request alone (own). It
+    /// is answered and noted as by `ask`, but for the room: room for this note is taken beside that
+    /// which was made. `AllocError` where there is none, or no memory for the token, and then nothing
+    /// is done.
+    pub fn ask_naming<R: Rng>(
+        &mut self,
+        token: String,
+        command: Command,
+        rng: &mut R,
+    ) -> Result<Result<Reply, Refusal>, AllocError>
+        ensures step { IfOk result (λ answer.
+            AnsweredBy (drawn_for (command_of command) self.old.next) self.old.stores
+            (asking (also_naming self.old.who (string_bytes token)) (command_of command))
+            (answer_of answer) self.new.stores) }
+        ensures drawn { IfOk result (λ answer. (self.new.next, R.stream rng.new)
+            ≡ drawn_on (was_granted (command_of command) (answer_of answer))
+            (self.old.next, R.stream rng.old)) }
+        ensures untried { OnErr result (self.new ≡ self.old) }
+        ensures undrawn { OnErr result (R.stream rng.new ≡ R.stream rng.old) }
+        ensures room { self.new.room ≡ self.old.room }
+        ensures base { self.new.base ≡ self.old.base }
+        ensures who { self.new.who ≡ self.old.who }
+        ensures keeps { self.new.keeps ≡ self.old.keeps }
+    {
+        let grants = is_grant(&command);
+        if !is_noted(self.keeps, &command) {
+            match answer_naming(
+                &mut self.stores,
+                self.next,
+                &mut self.who,
+                token,
+                command,
+                self.alloc,
+            ) {
+                Ok(alone) => {
+                    self.next = draw_next(self.next, rng, grants && alone.is_ok());
+                    return Ok(alone);
+                }
+                Err(error) => return Err(error),
+            }
+        }
+        let asker = match naming(&self.who, token, &self.spares, &mut self.notes) {
+            Ok(asker) => asker,
+            Err(error) => {
+                drop(command);
+                return Err(error);
+            }
+        };
+        let answer = change(&mut self.stores, &mut self.notes, self.next, asker, command);
+        let granted = grants && answer.is_ok();
+        self.next = draw_next(self.next, rng, granted);
         Ok(answer)
     }
 
@@ -192,6 +249,13 @@ impl NotedStores {
         self.keeps
     }
 
+    /// The stores.
+    pub fn stores(&self) -> &Guarded
+        ensures { result.now ≡ self.now.stores }
+    {
+        &self.stores
+    }
+
     /// Who asks.
     pub fn who(&self) -> &Sender
         ensures { sender_of result.now ≡ self.now.who }
@@ -218,11 +282,40 @@ fn answer_alone(
     ensures step { AnsweredBy (drawn_for (command_of command) next) stores.old
         (asking (sender_of who.old) (command_of command)) (answer_of result) stores.new }
     ensures who { sender_of who.new ≡ sender_of who.old }
+    ensures shape { IsResourceMap stores.new.map }
 {
     let request = request_by(taken_out(who, alloc), command);
     let answer = apply_given(stores, &request, next);
     *who = asker_of(request);
     answer
+}
+
+// The same, of the caller with one token more; where there is no memory for that, nothing is done.
+fn answer_naming(
+    stores: &mut Guarded,
+    next: [u8; 16],
+    who: &mut Sender,
+    token: String,
+    command: Command,
+    alloc: Global,
+) -> Result<Result<Reply, Refusal>, AllocError>
+    ensures step { IfOk result (λ answer. AnsweredBy (drawn_for (command_of command) next)
+        stores.old (asking (also_naming (sender_of who.old) (string_bytes token))
+        (command_of command)) (answer_of answer) stores.new) }
+    ensures untried { OnErr result (stores.new ≡ stores.old) }
+    ensures who { sender_of who.new ≡ sender_of who.old }
+{
+    match add_token(who, token) {
+        Ok(()) => {
+            let answer = answer_alone(stores, next, who, command, alloc);
+            drop_token(who);
+            return Ok(answer);
+        }
+        Err(error) => {
+            drop(command);
+            return Err(error);
+        }
+    }
 }
 
 // A request that may change something, with room for its note.
@@ -241,6 +334,7 @@ fn change(
     ensures err { OnErr result (notes.new.items ≡ notes.old.items) }
     ensures used { vec_len notes.new ≤ vec_len notes.old + 1 }
     ensures capacity { vec_capacity notes.new ≡ vec_capacity notes.old }
+    ensures shape { IsResourceMap stores.new.map }
 {
     let drawn = bytes_of(&command, next);
     let request = request_by(asker, command);
@@ -282,6 +376,28 @@ fn spare_of(
             who.copy()
         }
     }
+}
+
+// The caller with one token more, and room for a note beside those of the spare callers.
+fn naming(
+    who: &Sender,
+    token: String,
+    spares: &Vec<Sender>,
+    notes: &mut Vec<Note>,
+) -> Result<Sender, AllocError>
+    requires room { length spares.now.items + vec_len notes.old ≤ vec_capacity notes.old }
+    ensures ok { IfOk result (λ asker. sender_of asker
+        ≡ also_naming (sender_of who.entry.now) (string_bytes token)) }
+    ensures room { OnOk result
+        (length spares.entry.now.items + vec_len notes.new < vec_capacity notes.new) }
+    ensures room_kept { OnErr result
+        (length spares.entry.now.items + vec_len notes.new ≤ vec_capacity notes.new) }
+    ensures notes { notes.new.items ≡ notes.old.items }
+{
+    let mut asker = who.copy()?;
+    add_token(&mut asker, token)?;
+    notes.reserve(spares.len() + 1)?;
+    Ok(asker)
 }
 
 // Copies of the caller, up to so many.

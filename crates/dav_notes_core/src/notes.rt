@@ -1,5 +1,6 @@
 //! What is noted of a request, and which requests are.
 ghost use Rattle.std.specs.Prelude.{◌≡◌, List, Option, ℕ};
+ghost use Rattle.dav_files_core.specs.Resources.{IsResourceMap};
 ghost use Rattle.dav_resource_core.specs.Served.{answer_of, command_of, request_of};
 ghost use Rattle.dav_notes_core.specs.Changes.{grants, is_look};
 ghost use Rattle.dav_notes_core.specs.Drawing.{stream_giving};
@@ -50,9 +51,10 @@ pub fn apply_given(
     request: &Request,
     bytes: [u8; 16],
 ) -> Result<Reply, Refusal>
-    ensures { (drawn : Option (List ℕ))
+    ensures answered { (drawn : Option (List ℕ))
         → Draws (command_of request.entry.now.command) drawn (stream_giving bytes)
         → AnsweredBy drawn stores.old (request_of request.entry.now) (answer_of result) stores.new }
+    ensures shape { IsResourceMap stores.new.map }
 {
     let mut rng = Drawn { bytes };
     stores.apply(request, &mut rng)

@@ -1,7 +1,7 @@
 //! Who asks.
-ghost use Rattle.std.specs.Prelude.{◌≡◌, IfOk, option_map, string_bytes};
+ghost use Rattle.std.specs.Prelude.{◌≡◌, ℕ, List, IfOk, OnErr, OnOk, option_map, string_bytes};
 ghost use Rattle.dav_resource_core.specs.Served.{command_of, request_of};
-ghost use Rattle.dav_notes_core.specs.Asking.{asking, sender_of};
+ghost use Rattle.dav_notes_core.specs.Asking.{Caller, also_naming, asking, sender_of};
 
 use dav_resource_core::fs::Moment;
 use dav_resource_core::guarded::{Command, Request};
@@ -93,4 +93,22 @@ pub fn taken_out(who: &mut Sender, alloc: Global) -> Sender
         now,
     };
     mem::replace(who, nobody)
+}
+
+/// Adds a token to those that are submitted (own). `AllocError` where there is no memory for it.
+pub fn add_token(who: &mut Sender, token: String) -> Result<(), AllocError>
+    ensures ok { OnOk result (sender_of who.new
+        ≡ also_naming (sender_of who.old) (string_bytes token)) }
+    ensures err { OnErr result (sender_of who.new ≡ sender_of who.old) }
+{
+    who.tokens.push(token)?;
+    Ok(())
+}
+
+/// Takes the token away that was added last (own).
+pub fn drop_token(who: &mut Sender)
+    ensures { (before : Caller) (token : List ℕ) → sender_of who.old ≡ also_naming before token
+        → sender_of who.new ≡ before }
+{
+    drop(who.tokens.pop());
 }

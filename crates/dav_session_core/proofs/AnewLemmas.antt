@@ -165,15 +165,16 @@ module _ (locks : List Lock) (p : Path) (who : LocksCaller) where
 
 -- ---- behind a question of the same caller
 
-module _ (who asker : Caller) (s : State) (p q : Path) (items : List Lock) (tokens : List (List ℕ)) (first : Option Lock) (same : asker ≡ who) (named : tokens ≡ asker.tokens)
+module _ (who asker : Caller) (s : State) (p q : Path) (items : List Lock) (tokens : List (List ℕ)) (principal : Option (List ℕ)) (first : Option Lock) (same : asker ≡ who) (named : tokens ≡ asker.tokens)
+    (called : principal ≡ asker.principal)
     (are : items ≡ discovered_locks s.locks q) (up : q ≡ parent p)
-    (is : first ≡ find (refuses_anew p (with_tokens asker.principal tokens) (any_leads p (with_tokens asker.principal tokens) items)) items) where
+    (is : first ≡ find (refuses_anew p (with_tokens principal tokens) (any_leads p (with_tokens principal tokens) items)) items) where
   abbrev by_caller : LocksCaller → List Lock → Option Lock
   by_caller w xs = find (refuses_anew p w (any_leads p w xs)) xs
 
   first_is : first ≡ by_caller (as_caller who) (discovered_locks s.locks (parent p))
   first_is =
-      is ∙ ap (λ ts. by_caller (with_tokens asker.principal ts) items) named ∙ ap (λ w. by_caller (as_caller w) items) same
+      is ∙ ap (λ name. by_caller (with_tokens name tokens) items) called ∙ ap (λ ts. by_caller (with_tokens asker.principal ts) items) named ∙ ap (λ w. by_caller (as_caller w) items) same
       ∙ ap (by_caller (as_caller who)) (are ∙ ap (discovered_locks s.locks) up)
 
   pub anew_free : first ≡ None → refusing_anew s who p ≡ []

@@ -1,6 +1,6 @@
 -- What goes from the target of a COPY or a MOVE, what is asked before, and what is left.
 use Rattle.std.proofs.Common.{◌≡◌, ◌≢◌, inl, inr, ℕ, false, ◌==◌, List, [], ◌∷◌, ◌++◌, length, map, Some, is_some, Result, Ok, Err, refl, sym, ap, ◌∙◌, subst}
-use Rattle.std.specs.Prelude.{IfErr, IfOk, IsSome}
+use Rattle.std.specs.Prelude.{IfErr, IfOk, IsSome, OnOk}
 use Rattle.std.proofs.lemmas.Bool.{true≢false}
 use Rattle.std.proofs.lemmas.List.Elements.{Contains-append_left, Contains-append_right}
 use Rattle.dav_path_core.specs.Fronts.{Path}
@@ -76,6 +76,17 @@ module _ {A : Type 0} (view : A → Path) (xs : List A) (to : Path) where
             (more_refused anew (removal ++ anew) e (Contains-append_right removal anew)
             (subst (λ w. IsRefusedBy (refusing_anew (live who.now s) w to) e) same
             (subst (λ t. IsRefusedBy (refusing_anew t asker to) e) (same_look who asker s mid same still) h)))
+
+    pub clears : refusing_removal (live who.now s) who (map view xs) ≡ [] → OnOk result (refusing_anew (live asker.now mid) asker to ≡ [])
+        → OnOk result (refusing_clearing (live who.now s) who to (map view xs) ≡ [])
+    clears free h = by result h
+      where
+        by : (result : Result B Fault) → OnOk result (refusing_anew (live asker.now mid) asker to ≡ []) → OnOk result (refusing_clearing (live who.now s) who to (map view xs) ≡ [])
+        by (Ok x) h =
+            let start = live who.now s in
+            let mine = subst (λ w. refusing_anew start w to ≡ []) same (subst (λ t. refusing_anew t asker to ≡ []) (same_look who asker s mid same still) h) in
+            sym (some_go start who some) ∙ ap (λ ls. ls ++ refusing_anew start who to) free ∙ mine
+        by (Err e) h = tt
 
 -- ---- what is left
 

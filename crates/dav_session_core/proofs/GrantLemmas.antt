@@ -1,11 +1,10 @@
 -- What a lock that is granted leaves, and what is left where it is taken back.
-use Rattle.std.proofs.Common.{◌≡◌, ◌⊎◌, inl, inr, ℕ, ◌+◌, ◌-◌, Bool, true, false, ◌&&◌, ◌||◌, cond, List, [], ◌∷◌, ◌++◌, length, map, take, Option, Some, None, Result, Ok, Err, refl, sym, ◌∙◌, ap, subst, arith}
+use Rattle.std.proofs.Common.{◌≡◌, ◌⊎◌, inl, inr, ℕ, ◌+◌, ◌-◌, Bool, true, false, ◌&&◌, ◌||◌, cond, List, [], ◌∷◌, ◌++◌, length, map, Option, Some, None, Result, Ok, Err, refl, sym, ◌∙◌, ap, subst, arith}
 use Rattle.std.specs.Prelude.{bytes_eq, option_map, remove, Contains}
 use Rattle.std.specs.List.{list_any}
 use Rattle.std.proofs.lemmas.Bool.{and_from, and_parts, cases_Bool, or_parts, true≢false}
 use Rattle.std.proofs.lemmas.List.Edits.{remove-append_right}
-use Rattle.std.proofs.Math.Seq.{take-append_seam}
-use Rattle.std.proofs.lemmas.List.{append-nil, length-append, length-map, take-map}
+use Rattle.std.proofs.lemmas.List.{append-nil}
 use Rattle.std.proofs.lemmas.List.Folds.{list_any-append}
 use Rattle.std.proofs.lemmas.Slice.Eq.{bytes_eq-Decides}
 use Rattle.dav_path_core.specs.Fronts.{Path, is_front, parent}
@@ -23,7 +22,7 @@ use Rattle.dav_resource_core.specs.Step.{Serves, State, Step}
 use Rattle.dav_faults_core.specs.declared.faults.Fault.TheVariants as fault
 use Rattle.dav_session_core.specs.Callers.{Caller, asking, live}
 use Rattle.dav_fields_core.specs.IfTokens.{is_among}
-use Rattle.dav_session_core.specs.Granting.{AreAbove, HaveTokens, IsConflictOf, also_naming, granted_lock, stands_above, with_lock, with_token_drawn}
+use Rattle.dav_session_core.specs.Granting.{AreAbove, HaveTokens, IsConflictOf, granted_lock, stands_above, with_lock, with_token_drawn}
 use Rattle.dav_path_core.proofs.paths.AbovePaths.{above}
 use Rattle.dav_path_core.proofs.lists.EachLemmas.{any_map}
 use Rattle.dav_path_core.proofs.paths.SubtreePaths.{any_of}
@@ -189,21 +188,3 @@ not_above s p tokens token have none = elim (cases_Bool (stands_above s p token)
       absurd (true≢false (sym (ap (is_among tokens) (sym same) ∙ among) ∙ none))
   | inr no_one ↦ no_one
 ]
-
--- ---- a token that a caller names for one request
-
-module _ (who asker : Caller) (token : List ℕ) (left : List (List ℕ)) where
-  -- the last token goes again
-  pub named_before : asker ≡ also_naming who token → left ≡ take (length asker.tokens - 1) asker.tokens → record asker { tokens = left } ≡ who
-  named_before named is =
-      let tokens : asker.tokens ≡ who.tokens ++ token ∷ [] = ap (λ (w : Caller). w.tokens) named in
-      let count : length asker.tokens - 1 ≡ length who.tokens =
-      ap (λ (ts : List (List ℕ)). length ts - 1) tokens ∙ omega (arith, length-append who.tokens (token ∷ [])) in
-      let kept : left ≡ who.tokens =
-      is ∙ ap (λ n. take n asker.tokens) count ∙ ap (take (length who.tokens)) tokens ∙ take-append_seam who.tokens (token ∷ []) in
-      ap (λ (w : Caller). record w { tokens = left }) named ∙ ap (λ (ts : List (List ℕ)). record who { tokens = ts }) kept
-
--- the tokens that are left, as contracts see them
-pub tokens_left : {A : Type 0} (f : A → List ℕ) (asked new : List A) → new ≡ take (length asked - 1) asked → map f new ≡ take (length (map f asked) - 1) (map f asked)
-tokens_left f asked new is =
-    ap (map f) is ∙ sym (take-map f (length asked - 1) asked) ∙ ap (λ n. take (n - 1) (map f asked)) (sym (length-map asked f))

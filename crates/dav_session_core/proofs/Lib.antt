@@ -1,4 +1,5 @@
 pub mod AnewLemmas
+pub mod AskedLemmas
 pub mod Asking
 pub mod CallerLaws
 pub mod ClearingLemmas
@@ -10,6 +11,7 @@ pub mod GrantLemmas
 pub mod Looking
 pub mod MakeLemmas
 pub mod MoveLemmas
+pub mod NotedAsking
 pub mod OneConditionLaws
 pub mod OwnLemmas
 pub mod PatchLemmas
@@ -18,5 +20,6 @@ pub mod PutLemmas
 pub mod RefreshLemmas
 pub mod RemovalCheckLemmas
 pub mod RemovalLemmas
+pub mod StandingLemmas
 pub mod SubtreeLemmas
 pub mod WalkOrderLemmas

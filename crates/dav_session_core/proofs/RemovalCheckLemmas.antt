@@ -1,6 +1,6 @@
 -- What is asked before all at or below a path is taken away, one place after another.
 use Rattle.std.proofs.Common.{◌≡◌, ◌≢◌, ℕ, ◌+◌, ◌<◌, ◌≤◌, true, false, List, [], ◌∷◌, ◌++◌, append_assoc, append-nil, drop, get_or, length, map, Result, Ok, Err, sym, ap, ◌∙◌, subst}
-use Rattle.std.specs.Prelude.{Contains, IfErr}
+use Rattle.std.specs.Prelude.{Contains, IfErr, OnOk}
 use Rattle.std.proofs.lemmas.Bool.{true≢false}
 use Rattle.std.proofs.lemmas.List.{drop_all}
 use Rattle.std.proofs.lemmas.List.Elements.{Contains-append_left, Contains-append_right}
@@ -41,6 +41,17 @@ second_fails who asker s mid p q (Err e) same still is h =
     let s' = live who.now s in
     more_refused (at s' who (parent p)) (refusing_removal s' who (p ∷ [])) e
     (λ l within. Contains-append_right (below s' who p) (at s' who (parent p) ++ []) l (Contains-append_left (at s' who (parent p)) [] l within)) above
+
+-- where neither check fails, nothing refuses it
+pub both_pass : {A : Type 0} (who asker : Caller) (s mid : State) (p q : Path) (result : Result A Fault) → below (live who.now s) who p ≡ [] → asker ≡ who → SameLive who.now s mid → q ≡ parent p
+    → OnOk result (at (live asker.now mid) asker q ≡ []) → OnOk result (refusing_removal (live who.now s) who (p ∷ []) ≡ [])
+both_pass who asker s mid p q (Ok x) free same still is h =
+    let s' = live who.now s in
+    let at_who = subst (λ (w : Caller). at (live w.now mid) w q ≡ []) same h in
+    let at_start = subst (λ (t : State). at t who q ≡ []) still at_who in
+    let above = subst (λ q. at s' who q ≡ []) is at_start in
+    ap (λ xs. xs ++ (at s' who (parent p) ++ [])) free ∙ ap (λ xs. xs ++ []) above
+both_pass who asker s mid p q (Err e) free same still is h = tt
 
 -- ---- one place after another
 

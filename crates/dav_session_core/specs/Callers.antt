@@ -1,5 +1,5 @@
 -- Who asks: the same for all requests that one HTTP request leads to (RFC 4918 sections 6.4 and 10.4).
-use Rattle.std.specs.Prelude.{◌≡◌, ◌⊎◌, ℕ, List, Bool, true, false, not, ◌||◌, map, filter, Option, Contains}
+use Rattle.std.specs.Prelude.{◌≡◌, ◌⊎◌, ℕ, List, Bool, true, false, not, ◌||◌, map, filter, Option, Ok, Err, Contains}
 use Rattle.std.specs.List.{list_any}
 use Rattle.http_header.specs.FieldValue.{FieldValue}
 use Rattle.http_header.specs.HeaderMap.{Entries}
@@ -11,11 +11,11 @@ use Rattle.dav_locks_core.specs.Exclusive.{Exclusive}
 use Rattle.dav_locks_core.specs.Lock.{Lock}
 use Rattle.dav_locks_core.specs.Locks.{LockCaller as LocksCaller, check_conflicts, covers, is_held_by, same_text}
 use Rattle.dav_locks_core.specs.Stale.{is_stale}
-use Rattle.dav_resource_core.specs.Requests.{Command, Request, Answer}
-use Rattle.dav_resource_core.specs.Step.{State, Run}
+use Rattle.dav_resource_core.specs.Requests.{Command, Request, Answer, Refusal, OutOfMemory}
+use Rattle.dav_resource_core.specs.Step.{State, Run, Step}
 use Rattle.dav_resource_core.specs.Stores.{state_of}
 use Rattle.dav_notes_core.specs.Stepping.{live_stores}
-pub use Rattle.dav_notes_core.specs.Asking.{Caller, asking}
+pub use Rattle.dav_notes_core.specs.Asking.{Caller, also_naming, asking}
 pub use Rattle.dav_notes_core.specs.Changes.{is_look}
 use Rattle.dav_fields_core.specs.Bases.{Site}
 use Rattle.dav_fields_core.specs.Senders.{NamesPrincipal, Submits}
@@ -32,6 +32,22 @@ changes_locks (Command.Lock path owner timeout shared deep) = true
 changes_locks (Command.Unlock path token) = true
 changes_locks (Command.Refresh path token timeout) = true
 changes_locks _ = false
+
+-- there was no room for the note of a change, and nothing was done
+pub record IsUndone (s : State) (c : Command) (e : Refusal) (s' : State) : Type 0 where
+  pub changes : is_look c ≡ false
+  pub lacks : e ≡ OutOfMemory
+  pub same : s' ≡ s
+
+-- What a caller's request is answered, and what it leaves: it is made, as `Step` says; or, of a change, there is no room for its note, and nothing is done.
+abbrev pub Asked : State → Caller → Command → Answer → State → Type 0
+Asked s who c (Ok reply) s' = Step s (asking who c) (Ok reply) s'
+Asked s who c (Err e) s' = Step s (asking who c) (Err e) s' ⊎ IsUndone s c e s'
+
+-- the same of a caller who names one token more; there may be no memory for that, too
+abbrev pub AskedNaming : State → Caller → List ℕ → Command → Answer → State → Type 0
+AskedNaming s who token c (Ok reply) s' = Step s (asking (also_naming who token) c) (Ok reply) s'
+AskedNaming s who token c (Err e) s' = Step s (asking (also_naming who token) c) (Err e) s' ⊎ ((e ≡ OutOfMemory) × (s' ≡ s))
 
 -- a run of requests leads from one state to the other
 pub record Runs (s s' : State) : Type 0 where

@@ -11,6 +11,7 @@ use Rattle.dav_resource_core.specs.Requests.{Answer, Command}
 use Rattle.dav_resource_core.specs.Step.{Serves, State}
 use Rattle.dav_faults_core.specs.declared.faults.Fault.{Fault}
 use Rattle.dav_faults_core.specs.declared.faults.Fault.TheVariants as fault
+pub use Rattle.dav_session_core.specs.Callers.{also_naming}
 use Rattle.dav_session_core.specs.Callers.{Caller, asking}
 use Rattle.dav_fields_core.specs.IfTokens.{is_among}
 use Rattle.dav_session_core.specs.LocksInTheWay.{IsPathOfOne}
@@ -49,11 +50,6 @@ abbrev pub IsConflictOf : List Lock → Fault → Type 0
 IsConflictOf locks fault.InsufficientStorage = Unit {0}
 IsConflictOf locks (fault.ConflictingLock path) = IsPathOfOne locks path
 IsConflictOf locks e = ⊥
-
--- the caller with one token more
-abbrev pub also_naming : Caller → List ℕ → Caller
-also_naming who token =
-    record { principal = who.principal; tokens = who.tokens ++ token ∷ []; now = who.now }
 
 -- the caller, who names the token besides, puts an empty file at the path, and is answered so
 abbrev pub PutsUnder : State → Caller → Path → List ℕ → Answer → State → Type 0

@@ -1,22 +1,39 @@
--- What a contract sees of a session: the state of its stores and its generator, and who asks.
-use Rattle.std.specs.Prelude.{◌≡◌}
+-- What a contract sees of a session: the state of its stores and its generator, who asks, and where notes of what changed begin.
+use Rattle.std.specs.Prelude.{◌≡◌, ◌+◌, ℕ, Bool, List}
 use Rattle.rand_core.specs.Stream.{Stream}
 use Rattle.dav_resource_core.specs.Step.{State}
-use Rattle.dav_resource_core.specs.Stores.{state_of}
-use Rattle.dav_resource_core.specs.Served.{request_of}
-use Rattle.dav_resource_core.specs.Requests as plain
+use Rattle.dav_resource_core.specs.Stores.{Stores, state_of}
+use Rattle.dav_notes_core.specs.Ahead.{ahead}
+use Rattle.dav_notes_core.specs.Seen.{HasNoteRoom}
 use Rattle.dav_session_core.specs.declared.session.Session.{Session}
 use Rattle.dav_session_core.specs.Callers.{Asks, Caller, RunBy, SameLive, live, Runs}
 
--- of what the generator still gives
+-- of what the generator still gives, with the bytes of the next token, which are drawn ahead
 abbrev pub state : {R : Type 0} → (R → Stream) → Session R → State
-state stream s = state_of s.stores (stream s.rng)
-
-abbrev pub sender : plain.Request → Caller
-sender r = record { principal = r.principal; tokens = r.tokens; now = r.now }
+state stream s = state_of s.stores.stores (ahead (s.stores.next, stream s.rng))
 
 abbrev pub caller : {R : Type 0} → Session R → Caller
-caller s = sender (request_of s.request)
+caller s = s.stores.who
+
+-- the stores alone
+abbrev pub stores_behind : {R : Type 0} → Session R → Stores
+stores_behind s = s.stores.stores
+
+-- whether notes are kept, and the stores and the moment where they begin
+abbrev pub noting : {R : Type 0} → Session R → Bool × List (Stores × ℕ)
+noting s = (s.stores.keeps, s.stores.base)
+
+-- so many changes of the caller's lack no room for their notes
+abbrev pub HasRoomForNotes : {R : Type 0} → ℕ → Session R → Type 0
+HasRoomForNotes count s = HasNoteRoom count s.stores
+
+-- no room for notes has gone
+abbrev pub KeepsRoom : {R : Type 0} → Session R → Session R → Type 0
+KeepsRoom old new = (count : ℕ) → HasRoomForNotes count old → HasRoomForNotes count new
+
+-- the room of one note has gone, at most
+abbrev pub TakesRoom : {R : Type 0} → Session R → Session R → Type 0
+TakesRoom old new = (count : ℕ) → HasRoomForNotes (count + 1) old → HasRoomForNotes count new
 
 -- of these, what has not expired at the moment of who asks
 abbrev pub live_of : {R : Type 0} → (R → Stream) → Session R → State
@@ -30,23 +47,33 @@ live_after stream old new = live (caller old).now (state stream new)
 abbrev pub Stays : {R : Type 0} → (R → Stream) → Session R → Session R → Type 0
 Stays stream old new = SameLive (caller old).now (state stream old) (state stream new)
 
+-- nothing has changed but the room for notes
+pub record IsAsBefore {R : Type 0} (stream : R → Stream) (old new : Session R) : Type 0 where
+  pub state : state stream new ≡ state stream old
+  pub who : caller new ≡ caller old
+  pub noting : noting new ≡ noting old
+
 -- what questions of one caller leave of a session
 pub record Looks {R : Type 0} (stream : R → Stream) (old new : Session R) : Type 0 where
   pub run : RunBy (caller old) (state stream old) (state stream new)
   pub live : Stays stream old new
   pub who : caller new ≡ caller old
+  pub noting : noting new ≡ noting old
 
 -- what requests of one caller leave of a session, of which none grants, ends or refreshes a lock
 pub record Acts {R : Type 0} (stream : R → Stream) (old new : Session R) : Type 0 where
   pub run : RunBy (caller old) (state stream old) (state stream new)
   pub who : caller new ≡ caller old
+  pub noting : noting new ≡ noting old
 
 -- what requests of one caller leave of a session, whatever they are
 pub record Requests {R : Type 0} (stream : R → Stream) (old new : Session R) : Type 0 where
   pub run : Asks (caller old) (state stream old) (state stream new)
   pub who : caller new ≡ caller old
+  pub noting : noting new ≡ noting old
 
 -- what requests leave of a session, of which some may name one more token
 pub record Ran {R : Type 0} (stream : R → Stream) (old new : Session R) : Type 0 where
   pub run : Runs (state stream old) (state stream new)
   pub who : caller new ≡ caller old
+  pub noting : noting new ≡ noting old

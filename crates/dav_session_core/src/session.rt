@@ -2,16 +2,22 @@
 //! are a run of one caller's requests.
 #![tactic(auto, using(crate::proofs::Looking::looks_follow))]
 
-ghost use Rattle.std.specs.Prelude.{◌≡◌, true, false, None, [], IfOk, OnErr, option_map};
-ghost use Rattle.std.specs.Prelude.{string_bytes, map};
+ghost use Rattle.std.specs.Prelude.{◌≡◌, ◌≤◌, ◌⊎◌, true, false, None, [], ◌∷◌, IsOk, OnErr, OnOk};
+ghost use Rattle.std.specs.Prelude.{option_map, string_bytes, map};
+ghost use Rattle.rand_core.specs.Stream.{fill_bytes};
 ghost use Rattle.dav_locks_core.specs.Exclusive.{Exclusive};
 ghost use Rattle.dav_files_core.specs.Resources.{IsResourceMap};
 ghost use Rattle.dav_resource_core.specs.Step.{State, Step};
 ghost use Rattle.dav_resource_core.specs.Served.{command_of, answer_of};
 ghost use Rattle.dav_resource_core.specs.Stores.{state_of};
-ghost use Rattle.dav_session_core.specs.Callers.{Caller, RunBy, KeepsApart, asking};
-ghost use Rattle.dav_session_core.specs.Callers.{changes_locks, is_look};
-ghost use Rattle.dav_session_core.specs.Sessions.{Acts, caller, Looks, Requests, state};
+ghost use Rattle.dav_notes_core.specs.Ahead.{ahead};
+ghost use Rattle.dav_notes_core.specs.Noting.{AreChanges, note_of};
+ghost use Rattle.dav_notes_core.specs.Seen.{KeptNotes};
+ghost use Rattle.dav_session_core.specs.Callers.{Asked, AskedNaming, Caller, RunBy, KeepsApart};
+ghost use Rattle.dav_session_core.specs.Callers.{asking, changes_locks, is_look};
+ghost use Rattle.dav_session_core.specs.Sessions.{Acts, HasRoomForNotes, IsAsBefore, caller, Looks};
+ghost use Rattle.dav_session_core.specs.Sessions.{KeepsRoom, Requests, TakesRoom, noting, state};
+ghost use Rattle.dav_session_core.specs.Sessions.{stores_behind};
 
 mod clearing;
 mod copying;
@@ -29,116 +35,195 @@ mod tokens_above;
 mod unlocking;
 
 pub use copying::Transfer;
-use dav_resource_core::davpath::DavPath;
-use dav_resource_core::errors::{FsError, FsResult};
+use dav_notes_core::noted::NotedStores;
+use dav_notes_core::notes::Note;
+use dav_notes_core::senders::Sender;
 use dav_resource_core::fs::Moment;
-use dav_resource_core::guarded::{Command, Guarded, Refusal, Reply, Request};
+use dav_resource_core::guarded::{Command, Guarded, Refusal, Reply};
 pub use lookups::{any_has, has_token};
 pub use questions::{copy_of, refused};
 use rand_core::Rng;
-use std::alloc::Global;
+use std::alloc::{AllocError, Global};
 pub use subtrees::{last_place_is_bare, walk_without_its_last};
 
-/// The stores, a generator for the tokens of locks, and who asks. Requests reach the stores by
-/// `ask` alone.
+/// The stores and who asks, and a generator for the tokens of locks. Requests reach the stores by
+/// `ask`, `look`, `change` and `ask_naming` alone; where notes are kept, each that changed something
+/// leaves one.
 #[derive(Drop)]
 pub struct Session<R> {
-    stores: Guarded,
+    stores: NotedStores,
     rng: R,
-    // Of the caller who was named last; its command is put in by `ask`.
-    request: Request,
 }
 
 impl<R: Rng + Drop> Session<R> {
-    /// A session over stores, of nobody, at the moment. `InsufficientStorage` where it is out of
-    /// memory.
-    pub fn new(alloc: Global, stores: Guarded, rng: R, now: Moment) -> FsResult<Session<R>>
-        ensures state { IfOk result (λ s. state R.stream s ≡ state_of stores (R.stream rng)) }
-        ensures caller { IfOk result (λ s. caller s
-            ≡ record { principal = None; tokens = []; now = now.0 }) }
+    /// A session over stores, of nobody, at the moment (own). Notes of what changes are kept from
+    /// now on, or never. The bytes of the first token are drawn ahead.
+    pub fn new(alloc: Global, stores: Guarded, rng: R, now: Moment, keeps: bool) -> Session<R>
+        ensures state { state R.stream result
+            ≡ state_of stores (ahead (fill_bytes 16 (R.stream rng))) }
+        ensures caller { caller result ≡ record { principal = None; tokens = []; now = now.0 } }
+        ensures noting { noting result ≡ (keeps, (stores, now.0) ∷ []) }
     {
-        let Ok(path) = DavPath::new(alloc, "/") else {
-            return Err(FsError::InsufficientStorage);
+        let mut rng = rng;
+        let nobody = Sender {
+            principal: None,
+            tokens: Vec::new(alloc),
+            now,
         };
-        Ok(Session {
-            stores,
-            rng,
-            request: Request {
-                principal: None,
-                tokens: Vec::new(alloc),
-                now,
-                command: Command::Meta { path },
-            },
-        })
+        let stores = NotedStores::new(alloc, stores, nobody, keeps, &mut rng);
+        Session { stores, rng }
     }
 }
 
 impl<R: Rng> Session<R> {
-    /// Makes one request of the caller (own). It is answered as by `Guarded::apply`.
+    /// Makes one request of the caller (own). It is answered as by `Guarded::apply`, but for
+    /// `OutOfMemory` of a change that lacks room for its note: then nothing is done.
     pub fn ask(&mut self, command: Command) -> Result<Reply, Refusal>
-        ensures step { Step (state R.stream self.old)
+        ensures asked { Asked (state R.stream self.old) (caller self.old) (command_of command)
+            (answer_of result) (state R.stream self.new) }
+        // With room for its note it is made.
+        ensures step { HasRoomForNotes 1 self.old → Step (state R.stream self.old)
             (asking (caller self.old) (command_of command)) (answer_of result)
             (state R.stream self.new) }
+        ensures room { TakesRoom self.old self.new }
         ensures acts { changes_locks (command_of command) ≡ false
             → Acts R.stream self.old self.new }
         // A question changes nothing, and neither does a refusal.
         ensures looks { is_look (command_of command) ≡ true → Looks R.stream self.old self.new }
         ensures refused { OnErr result (Looks R.stream self.old self.new) }
         ensures requests { Requests R.stream self.old self.new }
+        ensures shape { HasRoomForNotes 1 self.old → IsResourceMap (state R.stream self.new).map }
+    {
+        self.ask_stores(command)
+    }
+
+    /// Asks one question of the caller, which changes nothing (own). It is answered as by
+    /// `Guarded::apply`.
+    pub fn look(&mut self, command: Command) -> Result<Reply, Refusal>
+        requires { is_look (command_of command) ≡ true }
+        ensures step { Step (state R.stream self.old)
+            (asking (caller self.old) (command_of command)) (answer_of result)
+            (state R.stream self.new) }
+        ensures looks { Looks R.stream self.old self.new }
+        ensures room { KeepsRoom self.old self.new }
         ensures shape { IsResourceMap (state R.stream self.new).map }
     {
-        self.request.command = command;
-        self.stores.apply(&self.request, &mut self.rng)
+        self.ask_stores(command)
+    }
+
+    // Makes one request. All that it leaves follows of what is said here.
+    fn ask_stores(&mut self, command: Command) -> Result<Reply, Refusal>
+        ensures asked { Asked (state R.stream self.old) (caller self.old) (command_of command)
+            (answer_of result) (state R.stream self.new) }
+        ensures step { HasRoomForNotes 1 self.old → Step (state R.stream self.old)
+            (asking (caller self.old) (command_of command)) (answer_of result)
+            (state R.stream self.new) }
+        ensures caller { caller self.new ≡ caller self.old }
+        ensures noting { noting self.new ≡ noting self.old }
+        ensures room { TakesRoom self.old self.new }
+        ensures spared { is_look (command_of command) ≡ true → KeepsRoom self.old self.new }
+        ensures shape { (is_look (command_of command) ≡ true) ⊎ HasRoomForNotes 1 self.old
+            → IsResourceMap (state R.stream self.new).map }
+    {
+        self.stores.ask(command, &mut self.rng)?
     }
 
     /// Makes one request of the caller that grants, ends and refreshes no lock (own). It is answered
     /// as by `ask`.
     pub fn change(&mut self, command: Command) -> Result<Reply, Refusal>
         requires keeps { changes_locks (command_of command) ≡ false }
-        ensures step { Step (state R.stream self.old)
+        ensures asked { Asked (state R.stream self.old) (caller self.old) (command_of command)
+            (answer_of result) (state R.stream self.new) }
+        ensures step { HasRoomForNotes 1 self.old → Step (state R.stream self.old)
             (asking (caller self.old) (command_of command)) (answer_of result)
             (state R.stream self.new) }
+        ensures room { TakesRoom self.old self.new }
         ensures acts { Acts R.stream self.old self.new }
         ensures refused { OnErr result (Looks R.stream self.old self.new) }
-        ensures shape { IsResourceMap (state R.stream self.new).map }
+        ensures shape { HasRoomForNotes 1 self.old → IsResourceMap (state R.stream self.new).map }
     {
         self.ask(command)
     }
 
+    /// Makes one request of the caller, who submits one token more for this request alone (own). It
+    /// is answered as by `ask`; `OutOfMemory`, and nothing is done, also where there is no memory for
+    /// the token. The room that was made stays.
+    pub fn ask_naming(&mut self, token: String, command: Command) -> Result<Reply, Refusal>
+        ensures asked { AskedNaming (state R.stream self.old) (caller self.old) (string_bytes token)
+            (command_of command) (answer_of result) (state R.stream self.new) }
+        ensures room { KeepsRoom self.old self.new }
+        ensures caller { caller self.new ≡ caller self.old }
+        ensures noting { noting self.new ≡ noting self.old }
+    {
+        self.stores.ask_naming(token, command, &mut self.rng)?
+    }
+
+    /// Makes room for the notes of so many changes of the caller's, where notes are kept, so that
+    /// none of them lacks memory for its note (own). `AllocError` where there is no memory for them.
+    pub fn make_room(&mut self, count: usize) -> Result<(), AllocError>
+        ensures ok { OnOk result (HasRoomForNotes count self.new) }
+        ensures same { IsAsBefore R.stream self.old self.new }
+        ensures sure { (noting self.old).0 ≡ false → IsOk result }
+    {
+        self.stores.make_room(count)
+    }
+
     /// Names who asks from now on: the principal, the tokens that are submitted, and the moment
-    /// (own).
+    /// (own). Where notes are kept, moments don't go back. The room that was made is gone then.
     pub fn begin(&mut self, principal: Option<String>, tokens: Vec<String>, now: Moment)
+        requires later { (noting self.old).0 ≡ true → (caller self.old).now ≤ now.0 }
         ensures caller { caller self.new ≡ record {
           principal = option_map string_bytes principal;
           tokens = map string_bytes tokens.items;
           now = now.0;
         } }
         ensures state { state R.stream self.new ≡ state R.stream self.old }
+        ensures noting { noting self.new ≡ noting self.old }
     {
-        self.request.principal = principal;
-        self.request.tokens = tokens;
-        self.request.now = now;
+        self.stores.begin(Sender {
+            principal,
+            tokens,
+            now,
+        });
+    }
+
+    /// The notes of what has changed since they were taken last, and none where none are kept (own).
+    /// The room that was made is gone then.
+    pub fn take(&mut self) -> Vec<Note>
+        ensures notes { KeptNotes (noting self.old).0 (noting self.old).1 (map note_of result.items)
+            (caller self.new).now (stores_behind self.new) }
+        // Each is of a command that changes something.
+        ensures changes { AreChanges (map note_of result.items) }
+        // The next notes begin here.
+        ensures noting { noting self.new ≡ (
+          (noting self.old).0,
+          (stores_behind self.new, (caller self.new).now) ∷ [],
+        ) }
+        ensures caller { caller self.new ≡ caller self.old }
+        ensures state { state R.stream self.new ≡ state R.stream self.old }
+    {
+        self.stores.take()
     }
 
     /// The principal of the caller.
     pub fn principal(&self) -> &Option<String>
         ensures { option_map string_bytes result.now ≡ (caller self.now).principal }
     {
-        &self.request.principal
+        &self.stores.who().principal
     }
 
     /// The tokens that the caller submits.
     pub fn tokens(&self) -> &[String]
         ensures { map string_bytes result.now ≡ (caller self.now).tokens }
     {
-        &self.request.tokens
+        &self.stores.who().tokens
     }
 
     /// The moment of the caller.
     pub fn now(&self) -> Moment
         ensures { result.0 ≡ (caller self.now).now }
     {
-        self.request.now
+        self.stores.who().now
     }
 }
 

@@ -1,3 +1,4 @@
 pub mod KeepLemmas
 pub mod LoadLemmas
+pub mod LongLemmas
 pub mod MomentLemmas

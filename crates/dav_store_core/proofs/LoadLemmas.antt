@@ -1,16 +1,20 @@
 -- How a journal is loaded, one record after another.
-use Rattle.std.proofs.Common.{◌≡◌, ℕ, List, [], ◌∷◌, ◌++◌, Bool, IsTrue, refl, sym, ◌∙◌, subst}
+use Rattle.std.proofs.Common.{◌≡◌, ◌+◌, ℕ, List, [], ◌∷◌, ◌++◌, Bool, IsTrue, length, length-append, Result, Ok, Err, refl, sym, ◌∙◌, ap, subst, arith}
+use Rattle.journal_core.specs.declared.error.JournalError.{JournalError}
 use Rattle.journal_core.specs.declared.journal.Journal.{Journal}
 use Rattle.journal_core.specs.declared.reader.Reader.{Reader}
 use Rattle.journal_core.specs.Clocked.{SeesSame}
-use Rattle.journal_core.specs.Format.{StandsFor}
 use Rattle.journal_core.proofs.MomentLaws.{goes_not, goes_two, joined, leaves_weaker, none}
 use Rattle.journal_core.specs.Clocked.{CrashLeaves}
-use Rattle.journal_core.specs.Resting.{IsBeingRead, clocked_of, disk_behind}
+use Rattle.journal_core.specs.JournalReading.{HasRead}
+use Rattle.journal_core.specs.Resting.{clocked_of, disk_behind}
+use Rattle.journal_core.proofs.Causes.{cause_of}
 use Rattle.journal_core.proofs.Opening.{read_first}
 use Rattle.dav_resource_core.specs.Stores.{Stores, start_stores}
 use Rattle.dav_store_core.specs.StandingFor.{Keeps, StandFor}
-use Rattle.dav_store_core.specs.Loading.{IsLoading, StandsForNone, WritesNothing}
+use Rattle.dav_store_core.specs.declared.error.StoreError.{StoreError}
+use Rattle.dav_store_core.specs.declared.error.StoreError.TheVariants.{Journal as JournalFault, Damaged}
+use Rattle.dav_store_core.specs.Loading.{HasLoadCause, IsPlayed, StandsForNone, StopsThere, WritesNothing}
 use Rattle.dav_store_core.proofs.KeepLemmas.{keeps_more, keeps_not}
 
 module _ {D B : Type 0} (seen : D → List ℕ) (may_leave : D → List ℕ → Type 0) (is_clean : D → Bool) where
@@ -35,21 +39,45 @@ module _ {D B : Type 0} (seen : D → List ℕ) (may_leave : D → List ℕ → 
   }
 
 -- behind one record more
-pub loading_more : {D B : Type 0} (seen : D → List ℕ) (is_clean : D → Bool) (j j' : Journal D B) (r r' : Reader) (began : ℕ) (s t : Stores) (last m : ℕ) (bytes : List ℕ)
-    → (it : IsLoading seen is_clean j r began s last) → IsBeingRead seen is_clean j' r' (it.records ++ bytes ∷ []) → Keeps s last bytes t m → IsLoading seen is_clean j' r' began t m
-loading_more seen is_clean j j' r r' began s t last m bytes it read keeps = record {
+pub played_more : (reads reads' : List (List ℕ) → Type 0) (began number : ℕ) (s t : Stores) (last m : ℕ) (bytes : List ℕ) → (it : IsPlayed reads began number s last) → reads' (it.records ++ bytes ∷ [])
+    → Keeps s last bytes t m → IsPlayed reads' began (number + 1) t m
+played_more reads reads' began number s t last m bytes it read keeps = record {
   records = it.records ++ bytes ∷ [];
   read = read;
+  count = omega (arith, length-append it.records (bytes ∷ []), it.count);
   stand = keeps_more (start_stores began) s t began last m it.records bytes it.stand keeps;
 }
 
--- where a record cannot be taken, the file stands for nothing
-pub loads_not : {D B : Type 0} (seen : D → List ℕ) (is_clean : D → Bool) (j j' : Journal D B) (r r' : Reader) (began : ℕ) (s : Stores) (last : ℕ) (bytes file : List ℕ)
-    → (it : IsLoading seen is_clean j r began s last) → IsBeingRead seen is_clean j' r' (it.records ++ bytes ∷ []) → IsTrue (is_clean (disk_behind j')) → seen (disk_behind j') ≡ file
-    → ((v : Stores) (k : ℕ) → ¬ (Keeps s last bytes v k)) → StandsForNone began file
-loads_not seen is_clean j j' r r' began s last bytes file it read clean same none h records t n stands kept =
-    let all = it.records ++ bytes ∷ [] in
-    let other = read.1.0 in
-    let whole : file ≡ other = sym same ∙ read.1.1.0 in
-    let rest = read_first r' other all (read.1.2 clean) h records (subst (λ (f : List ℕ). StandsFor h f records) whole stands) in
-    keeps_not (start_stores began) s t began last n it.records rest.0 bytes it.stand none (subst (λ (l : List (List ℕ)). StandFor began l t n) rest.1 kept)
+-- at a record that cannot be done
+pub stops_there : (reads reads' : List (List ℕ) → Type 0) (began number : ℕ) (s : Stores) (last : ℕ) (bytes : List ℕ) → (it : IsPlayed reads began number s last) → reads' (it.records ++ bytes ∷ [])
+    → ((v : Stores) (k : ℕ) → ¬ (Keeps s last bytes v k)) → StopsThere reads' began number
+stops_there reads reads' began number s last bytes it read none = record {
+  front = it.records;
+  bytes = bytes;
+  stores = s;
+  last = last;
+  read = read;
+  count = it.count;
+  stand = it.stand;
+  fails = none;
+}
+
+-- a file with such a record stands for no stores
+pub loads_not : (reads : List (List ℕ) → Type 0) (r : Reader) (began number : ℕ) (file : List ℕ) → (it : StopsThere reads began number) → HasRead r file (it.front ++ it.bytes ∷ [])
+    → StandsForNone began file
+loads_not reads r began number file it had h records t n stands kept =
+    let rest = read_first r file (it.front ++ it.bytes ∷ []) had h records stands in
+    keeps_not (start_stores began) it.stores t began it.last n it.front rest.0 it.bytes it.stand it.fails (subst (λ (l : List (List ℕ)). StandFor began l t n) rest.1 kept)
+
+-- what tells that a call failed tells it of a longer run
+pub cause_longer : (P Q : Type 0) (stops : ℕ → Type 0) (e : StoreError) → (P → Q) → HasLoadCause P stops e → HasLoadCause Q stops e
+cause_longer P Q stops (JournalFault e) goes it = cause_of P Q e goes it
+cause_longer P Q stops (Damaged number) goes it = it
+
+-- two errors of a journal that are told alike
+pub journal_same : {T : Type 0} (a b : JournalError) → ◌≡◌ {A = Result T StoreError} (Err (JournalFault a)) (Err (JournalFault b)) → a ≡ b
+journal_same {T} a b is = ap of is
+  where
+    of : Result T StoreError → JournalError
+    of (Err (JournalFault e)) = e
+    of _ = a

@@ -1,22 +1,38 @@
 -- What the loading of a journal comes to (own).
-use Rattle.std.specs.Prelude.{◌≡◌, ℕ, List, Bool, IsTrue}
+use Rattle.std.specs.Prelude.{◌≡◌, ℕ, List, [], ◌∷◌, ◌++◌, length, Bool, IsTrue}
 use Rattle.journal_core.specs.declared.header.Header.{Header}
 use Rattle.journal_core.specs.declared.journal.Journal.{Journal}
 use Rattle.journal_core.specs.declared.reader.Reader.{Reader}
 use Rattle.journal_core.specs.Clocked.{EachLeaves, GoesAs, SeesSame}
 use Rattle.journal_core.specs.Format.{StandsFor}
-use Rattle.journal_core.specs.JournalReading.{IsRefusal}
+use Rattle.journal_core.specs.JournalReading.{HasReadCause, IsRefusal}
 use Rattle.journal_core.specs.Resting.{IsBeingRead, IsSettled, clocked_of, disk_behind}
 use Rattle.dav_resource_core.specs.Stores.{Stores}
 use Rattle.dav_store_core.specs.declared.error.StoreError.{StoreError}
 use Rattle.dav_store_core.specs.declared.error.StoreError.TheVariants.{Journal as JournalFault, Damaged}
-use Rattle.dav_store_core.specs.StandingFor.{StandFor}
+use Rattle.dav_store_core.specs.StandingFor.{Keeps, StandFor}
 
--- the records that were read so far stand for these stores and this last moment
-pub record IsLoading {D B : Type 0} (seen : D → List ℕ) (is_clean : D → Bool) (j : Journal D B) (r : Reader) (began : ℕ) (s : Stores) (last : ℕ) : Type 0 where
+-- So many records were read so far, as `reads` says, and they stand for these stores and this last moment.
+pub record IsPlayed (reads : List (List ℕ) → Type 0) (began number : ℕ) (s : Stores) (last : ℕ) : Type 0 where
   pub records : List (List ℕ)
-  pub read : IsBeingRead seen is_clean j r records
+  pub read : reads records
+  pub count : length records ≡ number
   pub stand : StandFor began records s last
+
+-- The record with this number was read. Those before it stand for stores, in which it cannot be done.
+pub record StopsThere (reads : List (List ℕ) → Type 0) (began number : ℕ) : Type 0 where
+  pub front : List (List ℕ)
+  pub bytes : List ℕ
+  pub stores : Stores
+  pub last : ℕ
+  pub read : reads (front ++ bytes ∷ [])
+  pub count : length front ≡ number
+  pub stand : StandFor began front stores last
+  pub fails : (s : Stores) (m : ℕ) → ¬ (Keeps stores last bytes s m)
+
+-- the same of a journal that is read
+abbrev pub IsLoading : {D B : Type 0} → (D → List ℕ) → (D → Bool) → Journal D B → Reader → ℕ → ℕ → Stores → ℕ → Type 0
+IsLoading seen is_clean j r = IsPlayed (IsBeingRead seen is_clean j r)
 
 -- the journal is settled with records that stand for these stores and this last moment
 pub record IsLoaded {D B : Type 0} (seen : D → List ℕ) (may_leave : D → List ℕ → Type 0) (is_clean : D → Bool) (j : Journal D B) (began : ℕ) (s : Stores) (last : ℕ) : Type 0 where
@@ -28,6 +44,11 @@ pub record IsLoaded {D B : Type 0} (seen : D → List ℕ) (may_leave : D → Li
 abbrev pub IsDamage : StoreError → Type 0
 IsDamage (JournalFault e) = IsRefusal e
 IsDamage (Damaged number) = Unit {0}
+
+-- an error of the journal is one of reading it; and a record that is told damaged cannot be done
+abbrev pub HasLoadCause : Type 0 → (ℕ → Type 0) → StoreError → Type 0
+HasLoadCause failed stops (JournalFault e) = HasReadCause failed e
+HasLoadCause failed stops (Damaged number) = stops number
 
 -- the file stands for no records that stand for stores
 abbrev pub StandsForNone : ℕ → List ℕ → Type 0

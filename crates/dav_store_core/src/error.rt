@@ -2,11 +2,7 @@
 ghost use Rattle.std.specs.Prelude.{◌≡◌};
 ghost use Rattle.dav_store_core.specs.declared.error.StoreError.TheVariants.{Journal};
 
-use dav_effects_core::RecordError;
-use dav_notes_core::playing::PlayError;
-use dav_resource_core::errors::FsError;
 use journal_core::JournalError;
-use std::alloc::AllocError;
 use std::fmt;
 
 /// Why stores are not read from a journal (own).

@@ -3,8 +3,11 @@
 
 mod error;
 mod laws;
+mod looking;
+mod opened;
 mod opening;
 
 pub use error::StoreError;
 pub use laws::stores_come_back;
-pub use opening::{Opened, load};
+pub use opened::Opened;
+pub use opening::load;

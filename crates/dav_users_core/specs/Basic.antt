@@ -1,5 +1,5 @@
 -- The name and the password that a field `Authorization` gives (RFC 7617 section 2).
-use Rattle.std.specs.Prelude.{◌==◌, ℕ, Bool, List, [], ◌∷◌, codes, string_bytes, Option, None, Some, Result, Ok, Err, if◌then◌else◌}
+use Rattle.std.specs.Prelude.{◌≡◌, ◌==◌, ℕ, Bool, List, [], ◌∷◌, codes, string_bytes, Option, None, Some, option_map, Result, Ok, Err, IfOk, if◌then◌else◌}
 use Rattle.std.specs.List.{before_first, after_first, list_any}
 use Rattle.std.specs.Str.{is_utf8, str_eq_ignore_ascii_case}
 use Rattle.base64.specs.Engines.{standard}
@@ -43,3 +43,7 @@ given_by value = if is_utf8 value then given_by_text value else None
 
 abbrev pub name_and_password_of : Credentials → NameAndPassword
 name_and_password_of c = record { name = string_bytes c.name; password = string_bytes c.password }
+
+-- the answer is this name and password, or none; unless there is no memory
+abbrev pub GivesCredentials : {E : Type 0} → Result (Option Credentials) E → Option NameAndPassword → Type 0
+GivesCredentials result given = IfOk result (λ some. option_map name_and_password_of some ≡ given)

@@ -1,9 +1,10 @@
 //! The field `Authorization` of the scheme Basic (RFC 7617).
-ghost use Rattle.std.specs.Prelude.{◌≡◌, true, false, None, IfOk, IfSome, option_map, length, ◌<◌};
+ghost use Rattle.std.specs.Prelude.{◌≡◌};
 ghost use Rattle.std.specs.List.{after_first, before_first};
 ghost use Rattle.base64.specs.Engines.{standard};
 ghost use Rattle.base64.specs.GeneralPurpose.{decode_of};
-ghost use Rattle.dav_users_core.specs.Basic.{behind_blanks, given_by, given_by_text, given_in, name_and_password_of, is_basic, is_blank_byte, parted_at_colon};
+ghost use Rattle.dav_users_core.specs.Basic.{GivesCredentials, behind_blanks, given_by, given_by_text};
+ghost use Rattle.dav_users_core.specs.Basic.{given_in, is_basic, is_blank_byte, parted_at_colon};
 
 use crate::users::at_colon;
 use base64::DecodeAllocError;
@@ -20,11 +21,12 @@ pub struct Credentials {
 }
 
 impl Credentials {
-    /// Reads the value of a field `Authorization`: the word `Basic`, in any case, blanks, and in base64, with its padding, a name, a colon and a password, in UTF-8 (RFC 7617 section 2). None
+    /// Reads the value of a field `Authorization`: the word `Basic`, in any case, blanks, and in
+    /// base64, with its padding, a name, a colon and a password, in UTF-8 (RFC 7617 section 2). None
     /// for any other value. `AllocError` where there is no memory.
     #[tactic(auto, using(crate::proofs::Texts::utf8_tests))]
     pub fn read(alloc: Global, value: &[u8]) -> Result<Option<Credentials>, AllocError>
-        ensures { IfOk result (λ some. option_map name_and_password_of some ≡ given_by value.now) }
+        ensures { GivesCredentials result (given_by value.now) }
     {
         let Ok(text) = str::from_utf8(value) else {
             return Ok(None);
@@ -35,7 +37,7 @@ impl Credentials {
 
 // The same of a value that is UTF-8.
 fn read_text(alloc: Global, text: &str) -> Result<Option<Credentials>, AllocError>
-    ensures { IfOk result (λ some. option_map name_and_password_of some ≡ given_by_text text.now) }
+    ensures { GivesCredentials result (given_by_text text.now) }
 {
     let (word, rest) = at_blank(text);
     if !is_basic(word) {
@@ -75,7 +77,7 @@ fn behind_blanks(bytes: &[u8]) -> &[u8]
 // The name and the password that stand there in base64.
 #[tactic(auto, using(crate::proofs::Texts::utf8_tests))]
 fn decoded(alloc: Global, token: &[u8]) -> Result<Option<Credentials>, AllocError>
-    ensures { IfOk result (λ some. option_map name_and_password_of some ≡ given_in (decode_of standard token.now)) }
+    ensures { GivesCredentials result (given_in (decode_of standard token.now)) }
 {
     let bytes = match STANDARD.decode(alloc, token) {
         Ok(bytes) => bytes,
@@ -89,7 +91,7 @@ fn decoded(alloc: Global, token: &[u8]) -> Result<Option<Credentials>, AllocErro
 }
 
 fn parted(alloc: Global, text: &str) -> Result<Option<Credentials>, AllocError>
-    ensures { IfOk result (λ some. option_map name_and_password_of some ≡ parted_at_colon text.now) }
+    ensures { GivesCredentials result (parted_at_colon text.now) }
 {
     let Some((name, password)) = at_colon(text) else {
         return Ok(None);

@@ -6,6 +6,7 @@ ghost use Rattle.dav_users_core.specs.Hashes.{accepts, behind_dollar, behind_sch
 
 use crate::crypting::{LONGEST, crypt};
 use crate::error::LineFault;
+use crate::hashing::kept;
 use crate::letters::{Letters, text_256, text_512};
 use arrayvec::ArrayVec;
 use line_streams::numbers::number;
@@ -83,7 +84,7 @@ pub(crate) fn nobodys_hash() -> PasswordHash {
     PasswordHash {
         scheme: Scheme::Sha512,
         rounds: 5000,
-        salt: salt_of(b"................"),
+        salt: kept(b"................"),
         sum: Letters::new(),
     }
 }
@@ -160,8 +161,8 @@ fn read_salted(
     Ok(PasswordHash {
         scheme,
         rounds,
-        salt: salt_of(salt.as_bytes()),
-        sum: sum_of(sum.as_bytes()),
+        salt: kept(salt.as_bytes()),
+        sum: kept(sum.as_bytes()),
     })
 }
 
@@ -190,28 +191,6 @@ fn are_letters(text: &[u8]) -> bool
     ensures { result ≡ list_all is_letter text.now }
 {
     text.iter().all(|b| b.is_ascii_alphanumeric() || (*b == b'.' || *b == b'/'))
-}
-
-fn salt_of(salt: &[u8]) -> ArrayVec<u8, 16>
-    requires { length salt.now ≤ 16 }
-    ensures { result.items ≡ salt.now }
-{
-    let mut kept = ArrayVec::new();
-    match kept.try_extend_from_slice(salt) {
-        Ok(()) => kept,
-        Err(_) => unreachable!(),
-    }
-}
-
-fn sum_of(sum: &[u8]) -> Letters
-    requires { length sum.now ≤ 86 }
-    ensures { result.items ≡ sum.now }
-{
-    let mut kept = ArrayVec::new();
-    match kept.try_extend_from_slice(sum) {
-        Ok(()) => kept,
-        Err(_) => unreachable!(),
-    }
 }
 
 // What stands before the first `$`, and behind it.

@@ -90,7 +90,8 @@ impl Users {
 
     // The hash of the user with the name.
     fn hash_named(&self, name: &str) -> Option<&PasswordHash>
-        ensures { option_map (λ h. hash_text_of h.now) result ≡ hash_named (users_in self.now) name.now }
+        ensures { option_map (λ h. hash_text_of h.now) result
+            ≡ hash_named (users_in self.now) name.now }
     {
         'looking: for user in &self.users {
             if user.name.as_str() == name {
@@ -103,7 +104,8 @@ impl Users {
     // Adds the user of a line, unless it has none.
     fn add_line(&mut self, alloc: Global, line: &[u8]) -> Result<(), Setback>
         ensures ok { OnOk result (with_line (users_in self.old) line.now ≡ Ok (users_in self.new)) }
-        ensures wrong { IfErr result (λ e. StopsLine e (with_line (users_in self.old) line.now)) }
+        ensures wrong { IfErr result
+            (λ e. StopsLine e (with_line (users_in self.old) line.now)) }
     {
         if has_no_user(line) {
             return Ok(());

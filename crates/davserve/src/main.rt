@@ -100,10 +100,7 @@ fn server(rt: &HostRuntime, choices: Choices) -> Result<Dav<ChaCha20Rng>, Fault>
         None => now(rt)?,
     };
     let stores = Guarded::new(rt.alloc(), now).map_err(|_| AllocError)?;
-    match Dav::new(rt.alloc(), choices.settings, stores, rng, now) {
-        Ok(dav) => Ok(dav),
-        Err(_) => Err(Fault::OutOfMemory),
-    }
+    Ok(Dav::new(rt.alloc(), choices.settings, stores, rng, now, false))
 }
 
 // Serves the one connection that the standard streams are.

@@ -8,7 +8,7 @@ ghost use Rattle.http_frames.specs.Private.Steps.{LooksAlike, BeginsFresh, Hears
 
 use crate::frames::{write_more, write_piece};
 use crate::gate::{OneCall, TurnService};
-use crate::held::{Held, Said, hear, speak, step};
+use crate::held::{Held, Said, hear, rests_with_room, room_for_requests, speak, step};
 use http_server::{Config, Connection};
 use line_streams::Fault;
 use std::alloc::Global;
@@ -51,7 +51,7 @@ pub struct Clients {
 pub struct Bounds {
     /// So much of answers that wait, beside what the service shares, and beside one answer.
     pub waiting: u64,
-    /// So much of requests that have not come whole, beside a window for each connection.
+    /// So much of requests that have not come whole, beside a window for each connection; and of the room that is kept of long ones.
     pub unfinished: u64,
 }
 
@@ -317,8 +317,10 @@ impl Clients {
         let held = self.connections.get(&number)?;
         let (own, due) = (held.waiting, held.due);
         if !self.windows.closed && due > self.windows.into / 2 {
-            let unfinished = self.unfinished().saturating_add(due);
-            if unfinished > self.bounds.unfinished {
+            if self.room_for_requests(number, due) > self.bounds.unfinished {
+                if let Some(other) = self.resting(number) {
+                    return Some(other);
+                }
                 return self.oldest();
             }
         }
@@ -331,13 +333,27 @@ impl Clients {
         None
     }
 
-    // How many bytes came since the last call, of all connections together.
-    fn unfinished(&self) -> u64 {
+    // How many bytes of requests all connections hold, or keep room for, once so many more of this one have come.
+    fn room_for_requests(&self, number: u64, due: u64) -> u64 {
         let mut sum = 0u64;
-        for (_, held) in &self.connections {
-            sum = sum.saturating_add(held.heard.saturating_sub(held.called));
+        for (other, held) in &self.connections {
+            let more = if *other == number { due } else { 0 };
+            sum = sum.saturating_add(room_for_requests(held, more));
         }
         sum
+    }
+
+    // The other connection that rests, keeps the room of a long request, and has been silent for longest.
+    fn resting(&self, number: u64) -> Option<u64> {
+        let mut resting = None;
+        let mut last = u64::MAX;
+        for (other, held) in &self.connections {
+            if *other != number && rests_with_room(held) && held.last < last {
+                resting = Some(*other);
+                last = held.last;
+            }
+        }
+        resting
     }
 
     // The connection within a request of which no byte has come for longest.
@@ -450,6 +466,7 @@ impl Clients {
             round: 0,
             called: 0,
             last: self.frames,
+            longest: 0,
             waiting: 0,
         };
         match self.connections.insert(number, held) {

@@ -15,6 +15,9 @@ use line_streams::Fault;
 use std::collections::VecDeque;
 use std::io::Write;
 
+// The room of a request with so many bytes is not counted once it was called.
+const LONG: u64 = 512 * 1024;
+
 /// A connection that goes on.
 #[derive(Drop)]
 pub(crate) struct Held {
@@ -38,6 +41,8 @@ pub(crate) struct Held {
     /// How many bytes had been received at its last call, and which of all frames brought the last of them.
     pub(crate) called: u64,
     pub(crate) last: u64,
+    /// How many bytes its longest request had, of those that were called, at most.
+    pub(crate) longest: u64,
     /// How many bytes that nobody shares wait of its answer, at most.
     pub(crate) waiting: u64,
 }
@@ -144,6 +149,7 @@ fn settle(held: &mut Held, called: bool, own: u64)
 {
     if called {
         held.part = has_unread(&held.connection);
+        held.longest = held.longest.max(held.heard.saturating_sub(held.called));
         held.called = held.heard;
         held.waiting = own;
     }
@@ -151,6 +157,24 @@ fn settle(held: &mut Held, called: bool, own: u64)
         held.due = held.behind;
         held.news = true;
     }
+}
+
+/// How many bytes of requests the connection holds, or keeps room for, once so many more have come. The room of its longest request is kept while it lasts.
+pub(crate) fn room_for_requests(held: &Held, more: u64) -> u64 {
+    let unanswered = held.heard.saturating_sub(held.called).saturating_add(more);
+    if held.longest > LONG {
+        unanswered.max(held.longest)
+    } else {
+        unanswered
+    }
+}
+
+/// Whether it waits for its client, with no part of a request, and keeps the room of a long one.
+pub(crate) fn rests_with_room(held: &Held) -> bool {
+    held.longest > LONG
+        && held.heard == held.called
+        && !held.queued
+        && waits_for_input(&held.connection)
 }
 
 // Whether the connection goes on, and no answer of it waits.

@@ -148,6 +148,7 @@ impl<D: Disk, B> Journal<D, B> {
         ensures any_moment { EachLeaves D.Disk.may_leave note.now (D.Disk.may_leave (disk_behind self.old)) (clocked_of self.old) (clocked_of self.new) }
         ensures crash { (c : List ℕ) → D.Disk.may_leave (disk_behind self.new) c → D.Disk.may_leave (disk_behind self.old) c }
         ensures cause { IfErr result (λ e. (done : List (List ℕ)) → IsBeingRead D.Disk.seen D.Disk.is_clean self.old reader.old done → HasReadCause (MoreFaults (D.Disk.faults (disk_behind self.old)) (D.Disk.faults (disk_behind self.new))) e) }
+        ensures faults { D.Disk.faults (disk_behind self.old) ≤ D.Disk.faults (disk_behind self.new) }
         ensures clean { IsTrue (D.Disk.is_clean (disk_behind self.new)) → IsTrue (D.Disk.is_clean (disk_behind self.old)) }
         ensures usable { IsTrue (D.Disk.is_usable (disk_behind self.new)) }
     {

@@ -119,7 +119,7 @@ fn play_rows(rt: &HostRuntime, first: &str, rows: &str, size: usize) -> Result<(
     let clock = clock_of(first)?;
     let settings = settings_of(rt.alloc(), first)?;
     let Scenario { stores, script } = Scenario::of(rt.alloc(), rows, clock)?;
-    let mut dav = stores.server(settings, clock)?;
+    let mut dav = stores.server(settings, clock);
     play_script(rt, &mut dav, &script, first, size)
 }
 

@@ -57,11 +57,11 @@ impl Stores {
     }
 
     /// A server over the stores.
-    pub(crate) fn server(self, settings: Settings, clock: Moment) -> FsResult<Dav<Pcg64>> {
+    pub(crate) fn server(self, settings: Settings, clock: Moment) -> Dav<Pcg64> {
         let Stores { alloc, stores, rng } = self;
-        let mut dav = Dav::new(alloc, settings, stores, rng, Moment(0))?;
+        let mut dav = Dav::new(alloc, settings, stores, rng, Moment(0), false);
         dav.set_clock(clock);
-        Ok(dav)
+        dav
     }
 }
 

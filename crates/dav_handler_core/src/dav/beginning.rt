@@ -81,6 +81,7 @@ impl<R: Rng> Dav<R> {
         ensures moments { (server R.stream self.old).last ≤ (server R.stream self.new).last }
         ensures options { (server R.stream self.new).options ≡ (server R.stream self.old).options }
         ensures clock { (server R.stream self.new).clock ≡ (server R.stream self.old).clock }
+        ensures noting { (server R.stream self.new).noting ≡ (server R.stream self.old).noting }
     {
         let path = target_of(self.alloc, request.uri(), &self.settings.prefix)?;
         let principal = principal_of(self.alloc, request.headers(), &self.settings.user_header)?;

@@ -78,7 +78,7 @@ pub fn copy<R: Rng>(
         transfers,
     } = admitted_plan(alloc, session, site, prefix, headers, path)?;
     say_place(alloc, response, prefix, &target, &known)?;
-    session.clear(gone);
+    session.clear(gone)?;
     session.copy_all(&transfers)?;
     Ok(done(&known))
 }

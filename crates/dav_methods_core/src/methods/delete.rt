@@ -43,7 +43,7 @@ pub fn delete<R: Rng>(
 {
     let places = removable(alloc, session, headers, &path)?;
     check_conditions(alloc, session, DavMethod::Delete, headers, &path)?;
-    session.remove_all(places);
+    session.remove_all(places)?;
     Ok(StatusCode::NO_CONTENT)
 }
 

@@ -16,8 +16,7 @@ ghost use Rattle.dav_methods_core.specs.Rooms.{Forgets};
 ghost use Rattle.dav_methods_core.specs.Rooms.{IsMadeUnder, IsReadyToLock, IsUnmade, LacksRoom};
 ghost use Rattle.dav_methods_core.specs.Rooms.{LeavesLock, conflict_at, wanted_of};
 ghost use Rattle.dav_fields_core.specs.RequestRefusals.{IsLastMoment};
-ghost use Rattle.dav_session_core.specs.Sessions.{Ran};
-ghost use Rattle.dav_session_core.specs.Sessions.{Requests};
+ghost use Rattle.dav_session_core.specs.Sessions.{HasRoomForNotes, KeepsRoom, Ran, Requests};
 ghost use Rattle.dav_session_core.specs.Sessions.{Looks, Stays, caller, live_of, state};
 ghost use Rattle.dav_faults_core.specs.declared.faults.Fault.TheVariants as fault;
 
@@ -199,7 +198,8 @@ fn grant<R: Rng>(
 }
 
 // Grants the lock. `ConflictingLock` where another one stands in the way at the path or above, and
-// `ConflictingMember` where it stands below.
+// `ConflictingMember` where it stands below. Room is made for the note of it, and for that of taking
+// it back.
 fn granted<R: Rng>(
     session: &mut Session<R>,
     path: &DavPath,
@@ -217,7 +217,9 @@ fn granted<R: Rng>(
         wanted.shared wanted.deep) path.now e) }
     ensures refused { OnErr result (Looks R.stream session.old session.new) }
     ensures requests { Requests R.stream session.old session.new }
+    ensures room { OnOk result (HasRoomForNotes 1 session.new) }
 {
+    session.make_room(2)?;
     let place = copy_of(path)?;
     match session.grant(
         place,
@@ -269,6 +271,7 @@ fn finish<R: Rng>(
         token.now (segments path.now.bytes) missing e (state R.stream session.new)) }
     ensures refused { OnErr result (Stays R.stream session.old session.new) }
     ensures ran { Ran R.stream session.old session.new }
+    ensures room { KeepsRoom session.old session.new }
 {
     let locks = session.locks_at(copy_of(path)?)?;
     let document = discovery_document(alloc, prefix, session.principal(), session.now(), &locks)?;
@@ -297,6 +300,7 @@ fn tell(alloc: Global, response: &mut Response, document: Vec<u8>, token: &str) 
 // above has its token, as that one would end in its place.
 #[tactic(auto, using(crate::proofs::Acting::all_requests))]
 fn forget<R: Rng>(session: &mut Session<R>, path: DavPath, token: String, above: &[String])
+    requires room { HasRoomForNotes 1 session.old }
     ensures left { Forgets (caller session.old) (segments path.bytes) (string_bytes token)
         (map string_bytes above.now) (state R.stream session.old) (state R.stream session.new) }
     ensures asks { Requests R.stream session.old session.new }

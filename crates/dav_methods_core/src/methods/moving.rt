@@ -98,7 +98,7 @@ fn relocate_all<R: Rng>(
     }
     check_conditions(alloc, session, DavMethod::Move, headers, &path)?;
     say_place(alloc, response, prefix, &target, &known)?;
-    session.clear(gone);
+    session.clear(gone)?;
     session.relocate(path, target)?;
     Ok(done(&known))
 }

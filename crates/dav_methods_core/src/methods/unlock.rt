@@ -41,7 +41,7 @@ pub fn unlock<R: Rng>(
     let token = token_named(alloc, headers)?;
     session.check_unlock(&path, &token)?;
     check_conditions(alloc, session, DavMethod::Unlock, headers, &path)?;
-    session.unlock(path, token);
+    session.unlock(path, token)?;
     Ok(StatusCode::NO_CONTENT)
 }
 

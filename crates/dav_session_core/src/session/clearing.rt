@@ -1,6 +1,6 @@
 //! How a folder at the target of a COPY or a MOVE goes, before anything is written there.
 ghost use Rattle.std.specs.Prelude.{◌≡◌, [], map, option_copied, option_map, string_bytes, IfErr};
-ghost use Rattle.std.specs.Prelude.{IfOk, OnOk};
+ghost use Rattle.std.specs.Prelude.{IfOk, OnErr, OnOk};
 ghost use Rattle.std.specs.List.{find};
 ghost use Rattle.dav_path_core.specs.Segments.{segments};
 ghost use Rattle.dav_locks_core.specs.Locks.{is_held_by};
@@ -9,7 +9,8 @@ ghost use Rattle.dav_session_core.specs.Ends.{GoesFrom};
 ghost use Rattle.dav_session_core.specs.LocksInTheWay.{IsRefusedBy};
 ghost use Rattle.dav_session_core.specs.Private.Anew.{any_leads, leads_to, refuses_anew};
 ghost use Rattle.dav_session_core.specs.Private.Anew.{with_tokens};
-ghost use Rattle.dav_session_core.specs.Sessions.{Acts, caller, live_after, live_of, Looks, state};
+ghost use Rattle.dav_session_core.specs.Sessions.{Acts, IsAsBefore, caller, live_after, live_of};
+ghost use Rattle.dav_session_core.specs.Sessions.{Looks, state};
 ghost use Rattle.dav_session_core.specs.Questions.{FailsToGather, against_anew, against_clearing};
 ghost use Rattle.dav_session_core.specs.Unhindered.{WhereClearable, paths_of};
 
@@ -22,7 +23,7 @@ use dav_resource_core::davpath::DavPath;
 use dav_resource_core::fs::DavMetaData;
 use dav_resource_core::ls::DavLock;
 use rand_core::Rng;
-use std::alloc::Global;
+use std::alloc::{AllocError, Global};
 
 impl<R: Rng> Session<R> {
     /// The paths of a folder and of all that is in it, each folder before its members; none where
@@ -72,24 +73,26 @@ impl<R: Rng> Session<R> {
         ensures looks { Looks R.stream self.old self.new }
     {
         let locks = self.locks_at(path.parent()?)?;
-        match refusing(&locks, path, &self.request.tokens, &self.request.principal) {
+        match refusing(&locks, path, self.tokens(), self.principal()) {
             Some(lock) => Err(Fault::Locked(copy_of(&lock.path)?)),
             None => Ok(()),
         }
     }
 
     /// Takes away a folder with all that is in it, where there are places; they are its walk then
-    /// (RFC 4918 sections 9.8.4 and 9.9.3).
-    pub fn clear(&mut self, places: Vec<DavPath>)
-        ensures cleared { WhereClearable (live_of R.stream self.old) (caller self.old)
-            (paths_of places.items) (λ p. IsCleared (caller self.old).now p
-            (live_of R.stream self.old) (live_after R.stream self.old self.new)) }
+    /// (RFC 4918 sections 9.8.4 and 9.9.3). `AllocError` where there is no room for the notes of
+    /// these requests; then nothing has changed.
+    pub fn clear(&mut self, places: Vec<DavPath>) -> Result<(), AllocError>
+        ensures cleared { OnOk result (WhereClearable (live_of R.stream self.old)
+            (caller self.old) (paths_of places.items) (λ p. IsCleared (caller self.old).now p
+            (live_of R.stream self.old) (live_after R.stream self.old self.new))) }
+        ensures refused { OnErr result (IsAsBefore R.stream self.old self.new) }
         ensures acts { Acts R.stream self.old self.new }
     {
         if places.is_empty() {
-            return;
+            return Ok(());
         }
-        self.remove_all(places);
+        self.remove_all(places)
     }
 }
 

@@ -1,6 +1,6 @@
 //! How a lock is granted, and how one that was granted is taken back.
-ghost use Rattle.std.specs.Prelude.{◌≡◌, ◌⊎◌, [], false, Err, Ok, option_map, string_bytes, IfErr};
-ghost use Rattle.std.specs.Prelude.{IfOk, OnErr, OnOk};
+ghost use Rattle.std.specs.Prelude.{◌≡◌, ◌⊎◌, [], false, Err, Ok, option_map, string_bytes};
+ghost use Rattle.std.specs.Prelude.{IfErr, IfOk, OnErr, OnOk};
 ghost use Rattle.dav_path_core.specs.Segments.{segments};
 ghost use Rattle.dav_locks_core.specs.Exclusive.{Exclusive};
 ghost use Rattle.dav_locks_core.specs.Lock.{Lock};
@@ -8,11 +8,12 @@ ghost use Rattle.dav_locks_core.specs.Locks.{lock_path};
 ghost use Rattle.dav_resource_core.specs.Requests as reply_of;
 ghost use Rattle.dav_resource_core.specs.Requests.{Refusal as refusal};
 ghost use Rattle.dav_resource_core.specs.Step.{State};
-ghost use Rattle.dav_session_core.specs.Callers.{KeepsApart, Runs};
+ghost use Rattle.dav_session_core.specs.Callers.{KeepsApart};
 ghost use Rattle.dav_session_core.specs.Granting.{IsConflictOf, granted_lock, stands_above};
 ghost use Rattle.dav_session_core.specs.Granting.{with_lock, with_token_drawn, PutsUnder};
 ghost use Rattle.dav_session_core.specs.StoreRefusals.{put_fault};
-ghost use Rattle.dav_session_core.specs.Sessions.{Looks, caller, live_of, Requests, state, Stays};
+ghost use Rattle.dav_session_core.specs.Sessions.{HasRoomForNotes, KeepsRoom, Looks, Ran, Requests};
+ghost use Rattle.dav_session_core.specs.Sessions.{Stays, TakesRoom, caller, live_of, state};
 ghost use Rattle.dav_faults_core.specs.declared.faults.Fault.TheVariants as fault;
 ghost use Rattle.dav_session_core.specs.Questions.{against_lock};
 
@@ -49,6 +50,7 @@ impl<R: Rng> Session<R> {
         ensures requests { Requests R.stream self.old self.new }
         ensures apart { Exclusive (state R.stream self.old).locks → KeepsApart (caller self.old)
             (state R.stream self.old) (state R.stream self.new) }
+        ensures room { TakesRoom self.old self.new }
     {
         match self.ask(Command::Lock {
             path,
@@ -65,8 +67,9 @@ impl<R: Rng> Session<R> {
 
     /// Takes a lock back that was granted right before: it is as if it had never been granted, but
     /// that the generator has given a token. The token may be that of no other lock at the path or
-    /// above (RFC 4918 section 9.11).
+    /// above (RFC 4918 section 9.11). There is room for the note of it, so that it isn't refused.
     pub fn take_back(&mut self, path: DavPath, token: String)
+        requires room { HasRoomForNotes 1 self.old }
         ensures taken { (s : State) (l : Lock) → live_of R.stream self.old ≡ with_lock s l
             → lock_path l ≡ segments path.bytes → l.token ≡ string_bytes token
             → stands_above s (segments path.bytes) (string_bytes token) ≡ false
@@ -77,7 +80,8 @@ impl<R: Rng> Session<R> {
     }
 
     /// Makes an empty file under a lock that the caller was granted, whose token it names here
-    /// beside its own (RFC 4918 section 7.3). It answers as a PUT where nothing stands.
+    /// beside its own (RFC 4918 section 7.3). It answers as a PUT where nothing stands. The room for
+    /// notes that was made stays.
     pub fn make_under(&mut self, path: DavPath, token: String) -> Result<(), Fault>
         ensures ok { OnOk result ((reply : reply_of.Reply)
             × PutsUnder (live_of R.stream self.old) (caller self.old) (segments path.bytes)
@@ -87,14 +91,11 @@ impl<R: Rng> Session<R> {
             × PutsUnder (live_of R.stream self.old) (caller self.old) (segments path.bytes)
             (string_bytes token) (Err r) (state R.stream self.new))) }
         ensures refused { OnErr result (Stays R.stream self.old self.new) }
-        ensures run { Runs (state R.stream self.old) (state R.stream self.new) }
-        ensures caller { caller self.new ≡ caller self.old }
+        ensures ran { Ran R.stream self.old self.new }
+        ensures room { KeepsRoom self.old self.new }
     {
-        self.request.tokens.push(token)?;
         let bytes = Bytes::new();
-        let answer = self.ask(Command::Put { path, bytes });
-        drop(self.request.tokens.pop());
-        match answer {
+        match self.ask_naming(token, Command::Put { path, bytes }) {
             Ok(_) => return Ok(()),
             Err(refusal) => return Err(refused(&None, refusal)),
         }

@@ -5,7 +5,7 @@ ghost use Rattle.dav_path_core.specs.Segments.{segments};
 ghost use Rattle.dav_files_core.specs.Resources.{IsResourceMap};
 ghost use Rattle.dav_session_core.specs.Conditions.{has_token};
 ghost use Rattle.dav_session_core.specs.LocksInTheWay.{IsRefusedBy};
-ghost use Rattle.dav_session_core.specs.Sessions.{live_of, Looks, state};
+ghost use Rattle.dav_session_core.specs.Sessions.{KeepsRoom, live_of, Looks, state};
 ghost use Rattle.dav_faults_core.specs.declared.faults.Fault.TheVariants as fault;
 ghost use Rattle.dav_session_core.specs.Questions.{against_change, covering};
 
@@ -40,7 +40,7 @@ impl<R: Rng> Session<R> {
         ensures looks { Looks R.stream self.old self.new }
         ensures shape { OnOk result (IsResourceMap (state R.stream self.new).map) }
     {
-        match self.ask(Command::Check { path, deep }) {
+        match self.look(Command::Check { path, deep }) {
             Ok(_) => Ok(()),
             Err(Refusal::Locked(lock)) => Err(Fault::Locked(lock.path)),
             Err(_) => Err(Fault::InsufficientStorage),
@@ -54,8 +54,9 @@ impl<R: Rng> Session<R> {
         ensures err { IfErr result (λ e. (e ≡ fault.InsufficientStorage)
             × (covering R.stream self.old path ≢ [])) }
         ensures looks { Looks R.stream self.old self.new }
+        ensures room { KeepsRoom self.old self.new }
     {
-        match self.ask(Command::Discover { path }) {
+        match self.look(Command::Discover { path }) {
             Ok(Reply::Locks(locks)) => Ok(locks),
             _ => Err(Fault::InsufficientStorage),
         }

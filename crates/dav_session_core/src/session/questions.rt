@@ -30,7 +30,7 @@ impl<R: Rng> Session<R> {
         ensures looks { Looks R.stream self.old self.new }
         ensures shape { IsResourceMap (state R.stream self.new).map }
     {
-        match self.ask(Command::Meta { path }) {
+        match self.look(Command::Meta { path }) {
             Ok(Reply::Meta(meta)) => Some(meta),
             Ok(_) => None,
             Err(_) => None,
@@ -45,7 +45,7 @@ impl<R: Rng> Session<R> {
             (segments path.bytes) e) }
         ensures looks { Looks R.stream self.old self.new }
     {
-        match self.ask(Command::Read { path, at, count }) {
+        match self.look(Command::Read { path, at, count }) {
             Ok(Reply::Bytes(bytes)) => Ok(bytes),
             Err(Refusal::Fs(FsError::InsufficientStorage)) => Err(Fault::InsufficientStorage),
             _ => Err(Fault::NotFound),
@@ -62,7 +62,7 @@ impl<R: Rng> Session<R> {
         ensures looks { Looks R.stream self.old self.new }
         ensures shape { IsResourceMap (state R.stream self.new).map }
     {
-        match self.ask(Command::List { path }) {
+        match self.look(Command::List { path }) {
             Ok(Reply::Entries(entries)) => Ok(entries),
             Ok(_) => Err(Fault::NotFound),
             Err(refusal) => Err(unlisted(&refusal)),
@@ -81,7 +81,7 @@ impl<R: Rng> Session<R> {
             ≡ covering R.stream self.now path.now) }
         ensures err { IfErr result (FailsToInspect (found_at R.stream self.now path.now)) }
     {
-        match self.stores.inspect(path, self.request.now) {
+        match self.stores.stores().inspect(path, self.now()) {
             Ok(found) => Ok(found),
             Err(FsError::InsufficientStorage) => Err(Fault::InsufficientStorage),
             Err(_) => Err(Fault::NotFound),

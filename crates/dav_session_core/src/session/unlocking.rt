@@ -1,11 +1,12 @@
 //! How a caller ends a lock of its own.
 ghost use Rattle.std.specs.Prelude.{◌≡◌, ◌⊎◌, true, false, not, ◌&&◌, bytes_eq, length, option_map};
-ghost use Rattle.std.specs.Prelude.{string_bytes, IfErr, OnOk};
+ghost use Rattle.std.specs.Prelude.{string_bytes, IfErr, OnErr, OnOk};
 ghost use Rattle.std.specs.List.{list_any};
 ghost use Rattle.dav_path_core.specs.Segments.{segments};
 ghost use Rattle.dav_locks_core.specs.Locks.{covers, same_text};
 ghost use Rattle.dav_session_core.specs.Conditions.{has_token};
-ghost use Rattle.dav_session_core.specs.Sessions.{caller, live_of, Looks, Requests, state};
+ghost use Rattle.dav_session_core.specs.Sessions.{IsAsBefore, caller, live_of, Looks, Requests};
+ghost use Rattle.dav_session_core.specs.Sessions.{state};
 ghost use Rattle.dav_session_core.specs.Unlocking.{EndsOwn, IsAnothers, KeepsLock};
 ghost use Rattle.dav_session_core.specs.Private.Owning.{AllOwn, is_anothers};
 ghost use Rattle.dav_faults_core.specs.declared.faults.Fault.TheVariants as fault;
@@ -19,6 +20,7 @@ use dav_resource_core::davpath::DavPath;
 use dav_resource_core::guarded::Command;
 use dav_resource_core::ls::DavLock;
 use rand_core::Rng;
+use std::alloc::AllocError;
 
 impl<R: Rng> Session<R> {
     /// Whether the caller may end the lock with a token that covers the path (RFC 4918 section
@@ -43,16 +45,20 @@ impl<R: Rng> Session<R> {
     }
 
     /// Ends the caller's own lock with a token that covers the path (RFC 4918 section 9.11).
-    pub fn unlock(&mut self, path: DavPath, token: String)
+    /// `AllocError` where there is no room for the note of it; then nothing has changed.
+    pub fn unlock(&mut self, path: DavPath, token: String) -> Result<(), AllocError>
         requires covered { has_token (live_of R.stream self.old) (segments path.bytes)
             (string_bytes token) ≡ true }
         requires own { ¬ IsAnothers (live_of R.stream self.old) (caller self.old)
             (segments path.bytes) (string_bytes token) }
-        ensures ends { EndsOwn (live_of R.stream self.old) (caller self.old) (segments path.bytes)
-            (string_bytes token) (state R.stream self.new) }
+        ensures ends { OnOk result (EndsOwn (live_of R.stream self.old) (caller self.old)
+            (segments path.bytes) (string_bytes token) (state R.stream self.new)) }
+        ensures refused { OnErr result (IsAsBefore R.stream self.old self.new) }
         ensures requests { Requests R.stream self.old self.new }
     {
+        self.make_room(1)?;
         drop(self.ask(Command::Unlock { path, token }));
+        Ok(())
     }
 
     // Whether each lock with the token at the path or above is the caller's own.
@@ -83,7 +89,7 @@ impl<R: Rng> Session<R> {
         ensures looks { Looks R.stream self.old self.new }
     {
         let locks = self.locks_at(copy_of(path)?)?;
-        if any_anothers(&locks, token, &self.request.principal) {
+        if any_anothers(&locks, token, self.principal()) {
             return Err(Fault::Forbidden);
         }
         Ok(())

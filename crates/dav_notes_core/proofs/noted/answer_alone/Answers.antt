@@ -8,4 +8,4 @@ pub returns-clause-step : goal.returns-clause-step
 returns-clause-step c =
     let command = command_of c.args.command in
     as_asked (request_of c.request_by-request.result) (asking (sender_of c.args.who.now) command) (answer_of c.apply_given-answer.result) c.args.stores.now c.apply_given-answer.new.stores
-    c.args.next (c.request_by-request.ensures ∙ ap (λ (who : Caller). asking who command) c.taken_out.ensures) c.apply_given-answer.ensures
+    c.args.next (c.request_by-request.ensures ∙ ap (λ (who : Caller). asking who command) c.taken_out.ensures) c.apply_given-answer.ensures.answered

@@ -1,7 +1,7 @@
 use Rattle.dav_notes_core.proofs.notes.apply_given.Goals as goal
 
-pub returns : goal.returns
-returns c = λ drawn draws. record {
+pub returns-clause-answered : goal.returns-clause-answered
+returns-clause-answered c = λ drawn draws. record {
   before = _;
   after = _;
   draws = draws;

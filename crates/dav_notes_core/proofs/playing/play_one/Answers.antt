@@ -9,4 +9,4 @@ pub returns-in-Err-clause-held_up : goal.returns-in-Err-clause-held_up
 returns-in-Err-clause-held_up c =
     let note = note_of c.args.note.now in
     subst (HoldsUp c.args.stores.now note c.apply_given.new.stores) (sym c.setback_of.ensures)
-    (held_up c.args.stores.now c.apply_given.new.stores note (refusal_of c.in-Err.refusal) (c.in-Err.ensures note.drawn c.in-Some.ensures.some))
+    (held_up c.args.stores.now c.apply_given.new.stores note (refusal_of c.in-Err.refusal) (c.in-Err.ensures.answered note.drawn c.in-Some.ensures.some))

@@ -33,7 +33,7 @@ returns-clause-ok g c = (
         c.headers-2.result.now (head_of c.args.request.now).headers
         (c.of-site.ensures ∙ ap (site_of c.args.self.now.settings.scheme) c.uri-2.ensures) c.headers-2.ensures c.in_ok-tokens.ensures.ok;
   }),
-  λ changes. subst (λ n. c.args.self.now.session.request.now.0 < n) (sym (ap (λ (w : Caller). w.now) c.begin.ensures.caller))
+  λ changes. subst (λ n. c.args.self.now.session.stores.who.now < n) (sym (ap (λ (w : Caller). w.now) c.begin.ensures.caller))
       (behind_last c.args.changes (server g.R.Rng.stream c.args.self.now) c.in_ok-now.now.0 c.in_ok-now.ensures.ok changes),
 )
 
@@ -41,7 +41,7 @@ pub returns-in_err-path-clause-err : goal.returns-in_err-path-clause-err
 returns-in_err-path-clause-err g c =
     let p = err_from_is_err_and c.from_residual.result c.from_residual.ensures.1 in
     let e = c.in_err-path.field-0.0 in
-    rw (p.1, p.2) (by_target (options_of c.args.self.now.settings) c.args.request.now c.args.self.now.session.request.now.0 c.args.changes e
+    rw (p.1, p.2) (by_target (options_of c.args.self.now.settings) c.args.request.now c.args.self.now.session.stores.who.now c.args.changes e
     (subst (λ prefix. (e ≡ fault.InsufficientStorage) ⊎ RefusesTarget prefix (head_of c.args.request.now).uri e) c.deref.ensures
     (subst (λ uri. (e ≡ fault.InsufficientStorage) ⊎ RefusesTarget c.deref.result.now uri e) c.uri.ensures c.in_err-path.ensures.err)))
 
@@ -49,7 +49,7 @@ pub returns-in_err-principal-clause-err : goal.returns-in_err-principal-clause-e
 returns-in_err-principal-clause-err g c =
     let p = err_from_is_err_and c.from_residual-in_err-principal.result c.from_residual-in_err-principal.ensures.1 in
     let e = c.in_err-principal.field-0.0 in
-    rw (p.1, p.2) (by_principal (options_of c.args.self.now.settings) c.args.request.now c.args.self.now.session.request.now.0 c.args.changes e
+    rw (p.1, p.2) (by_principal (options_of c.args.self.now.settings) c.args.request.now c.args.self.now.session.stores.who.now c.args.changes e
     c.in_ok-path.path
     (subst (λ prefix. IsTargetOf prefix (head_of c.args.request.now).uri c.in_ok-path.path) c.deref.ensures
     (subst (λ uri. IsTargetOf c.deref.result.now uri c.in_ok-path.path) c.uri.ensures c.in_ok-path.ensures.ok))
@@ -59,7 +59,7 @@ pub returns-in_err-tokens-clause-err : goal.returns-in_err-tokens-clause-err
 returns-in_err-tokens-clause-err g c =
     let p = err_from_is_err_and c.from_residual-in_err-tokens.result c.from_residual-in_err-tokens.ensures.1 in
     let e = c.in_err-tokens.field-0.0 in
-    rw (p.1, p.2) (by_tokens (options_of c.args.self.now.settings) c.args.request.now c.args.self.now.session.request.now.0 c.args.changes e
+    rw (p.1, p.2) (by_tokens (options_of c.args.self.now.settings) c.args.request.now c.args.self.now.session.stores.who.now c.args.changes e
     c.in_ok-path.path (option_map string_bytes c.in_ok-principal.principal)
     (subst (λ prefix. IsTargetOf prefix (head_of c.args.request.now).uri c.in_ok-path.path) c.deref.ensures
     (subst (λ uri. IsTargetOf c.deref.result.now uri c.in_ok-path.path) c.uri.ensures c.in_ok-path.ensures.ok))
@@ -74,7 +74,7 @@ pub returns-in_err-now-clause-err : goal.returns-in_err-now-clause-err
 returns-in_err-now-clause-err g c =
     let p = err_from_is_err_and c.from_residual-in_err-now.result c.from_residual-in_err-now.ensures.1 in
     let e = c.in_err-now.field-0.0 in
-    rw (p.1, p.2) (by_moment (options_of c.args.self.now.settings) c.args.request.now c.args.self.now.session.request.now.0 c.args.changes e
+    rw (p.1, p.2) (by_moment (options_of c.args.self.now.settings) c.args.request.now c.args.self.now.session.stores.who.now c.args.changes e
     c.in_ok-path.path
     (record { principal = option_map string_bytes c.in_ok-principal.principal; tokens = map string_bytes c.in_ok-tokens.tokens.items; now = 0 })
     (subst (λ prefix. IsTargetOf prefix (head_of c.args.request.now).uri c.in_ok-path.path) c.deref.ensures
@@ -92,7 +92,7 @@ returns-in_err-now-clause-err g c =
 pub returns-in_err-add_date-clause-err : goal.returns-in_err-add_date-clause-err
 returns-in_err-add_date-clause-err g c =
     let p = err_from_is_err_and c.from_residual-in_err-add_date.result c.from_residual-in_err-add_date.ensures.1 in
-    rw (p.1, p.2) (by_memory (options_of c.args.self.now.settings) c.args.request.now c.args.self.now.session.request.now.0 c.args.changes c.in_err-add_date.field-0.0 c.in_err-add_date.ensures.err)
+    rw (p.1, p.2) (by_memory (options_of c.args.self.now.settings) c.args.request.now c.args.self.now.session.stores.who.now c.args.changes c.in_err-add_date.field-0.0 c.in_err-add_date.ensures.err)
 
 pub returns-clause-dated : goal.returns-clause-dated
 returns-clause-dated g c = (
@@ -109,5 +109,10 @@ returns-clause-moment g c = (
 
 pub returns-clause-moments : goal.returns-clause-moments
 returns-clause-moments g c =
-    subst (λ n. c.args.self.now.session.request.now.0 ≤ n) (sym (ap (λ (w : Caller). w.now) c.begin.ensures.caller))
+    subst (λ n. c.args.self.now.session.stores.who.now ≤ n) (sym (ap (λ (w : Caller). w.now) c.begin.ensures.caller))
     (not_before c.args.changes (server g.R.Rng.stream c.args.self.now) c.in_ok-now.now.0 c.in_ok-now.ensures.ok)
+
+pub begin-requires : goal.begin-requires
+begin-requires g c = record {
+  later = λ keeps. not_before c.args.changes (server g.R.Rng.stream c.args.self.now) c.in_ok-now.now.0 c.in_ok-now.ensures.ok;
+}

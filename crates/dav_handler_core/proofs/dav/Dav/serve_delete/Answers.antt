@@ -45,7 +45,7 @@ returns-clause-answers g c =
 pub returns-clause-moves : goal.returns-clause-moves
 returns-clause-moves g c =
     moves_on (server g.R.Rng.stream c.args.self.now) (server g.R.Rng.stream c.begin_bare.new.self) _ c.args.request.now c.in_ok-path.path (caller c.begin_bare.new.self.session)
-    c.in_ok-path.ensures.ok.0.0 c.begin_bare.ensures.moves c.begin_bare.ensures.run c.delete.ensures.acts.run (ap (λ (w : Caller). w.now) c.delete.ensures.acts.who) refl refl
+    c.in_ok-path.ensures.ok.0.0 c.begin_bare.ensures.moves c.begin_bare.ensures.run c.delete.ensures.acts.run (ap (λ (w : Caller). w.now) c.delete.ensures.acts.who) refl refl c.delete.ensures.acts.noting
 
 pub returns-in_err-path-clause-comes : goal.returns-in_err-path-clause-comes
 returns-in_err-path-clause-comes g c =

@@ -46,7 +46,7 @@ returns-clause-answers g c =
 pub returns-clause-moves : goal.returns-clause-moves
 returns-clause-moves g c =
     moves_on (server g.R.Rng.stream c.args.self.now) (server g.R.Rng.stream c.begin_admitted.new.self) _ c.args.request.now c.in_ok-path.path (caller c.begin_admitted.new.self.session)
-    c.in_ok-path.ensures.ok.0.0 c.begin_admitted.ensures.moves c.begin_admitted.ensures.run c.get.ensures.looks.run (ap (λ (w : Caller). w.now) c.get.ensures.looks.who) refl refl
+    c.in_ok-path.ensures.ok.0.0 c.begin_admitted.ensures.moves c.begin_admitted.ensures.run c.get.ensures.looks.run (ap (λ (w : Caller). w.now) c.get.ensures.looks.who) refl refl c.get.ensures.looks.noting
 
 pub returns-in_err-path-clause-comes : goal.returns-in_err-path-clause-comes
 returns-in_err-path-clause-comes g c =

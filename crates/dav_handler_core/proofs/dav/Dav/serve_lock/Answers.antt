@@ -103,7 +103,7 @@ returns-clause-moves g c =
     (subst (λ prefix. IfOk c.lock.result (λ status. IsGranted mid.options.longest prefix c.headers.result.now c.deref-2.result.now (live who.now s) who path status sent after.state)) c.deref.ensures
     told.2))))
     (subst (λ b. IfErr c.lock.result (λ e. LeavesLock (IsAskedBy b (live who.now s) who path) who (segments path.bytes) e s after.state))
-    (c.deref-2.ensures ∙ c.body-2.ensures) c.lock.ensures.left) refl refl
+    (c.deref-2.ensures ∙ c.body-2.ensures) c.lock.ensures.left) refl refl c.lock.ensures.ran.noting
 
 pub returns-then-is_empty-clause-comes : goal.returns-then-is_empty-clause-comes
 returns-then-is_empty-clause-comes g c =

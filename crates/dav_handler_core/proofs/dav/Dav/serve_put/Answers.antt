@@ -56,7 +56,7 @@ returns-clause-answers g c =
 pub returns-clause-moves : goal.returns-clause-moves
 returns-clause-moves g c =
     moves_on (server g.R.Rng.stream c.args.self.now) (server g.R.Rng.stream c.begin_admitted.new.self) _ c.args.request.now c.in_ok-path.path (caller c.begin_admitted.new.self.session)
-    c.in_ok-path.ensures.ok.0.0 c.begin_admitted.ensures.moves c.begin_admitted.ensures.run c.put.ensures.acts.run (ap (λ (w : Caller). w.now) c.put.ensures.acts.who) refl refl
+    c.in_ok-path.ensures.ok.0.0 c.begin_admitted.ensures.moves c.begin_admitted.ensures.run c.put.ensures.acts.run (ap (λ (w : Caller). w.now) c.put.ensures.acts.who) refl refl c.put.ensures.acts.noting
 
 pub returns-then-contains_key-clause-comes : goal.returns-then-contains_key-clause-comes
 returns-then-contains_key-clause-comes g c = inl (subst HasPart c.headers.ensures (c.contains_key.ensures.0 c.if-contains_key.true), refl)

@@ -70,7 +70,7 @@ returns-clause-moves g c =
     (subst (λ headers. IfOk c.refresh.result (λ status. Refreshes mid.options.longest mid.options.prefix headers (live who.now s) who p status sent after.state)) c.headers.ensures
     (subst (λ prefix. IfOk c.refresh.result (λ status. Refreshes mid.options.longest prefix c.headers.result.now (live who.now s) who p status sent after.state)) c.deref.ensures
     told.2)))
-    (on_err_weaker c.refresh.result (λ (h : Looks g.R.Rng.stream c.begin_admitted.new.self.session c.refresh.new.session). h.run) c.refresh.ensures.looks) refl refl
+    (on_err_weaker c.refresh.result (λ (h : Looks g.R.Rng.stream c.begin_admitted.new.self.session c.refresh.new.session). h.run) c.refresh.ensures.looks) refl refl c.refresh.ensures.asks.noting
 
 pub returns-in_err-path-clause-comes : goal.returns-in_err-path-clause-comes
 returns-in_err-path-clause-comes g c =

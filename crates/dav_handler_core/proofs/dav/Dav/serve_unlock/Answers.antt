@@ -54,7 +54,7 @@ returns-clause-moves g c =
     c.begin_bare.ensures.run c.unlock.ensures.asks.run c.begin_bare.ensures.live
     (subst (λ headers. IfOk c.unlock.result (λ status. Unlocks headers (live who.now mid.state) who (segments c.in_ok-path.path.bytes) status after.state)) c.headers.ensures
     c.unlock.ensures.done)
-    (on_err_weaker c.unlock.result (λ (h : Looks g.R.Rng.stream c.begin_bare.new.self.session c.unlock.new.session). h.run) c.unlock.ensures.looks) (ap (λ (w : Caller). w.now) c.unlock.ensures.asks.who) refl refl
+    (on_err_weaker c.unlock.result (λ (h : Looks g.R.Rng.stream c.begin_bare.new.self.session c.unlock.new.session). h.run) c.unlock.ensures.looks) (ap (λ (w : Caller). w.now) c.unlock.ensures.asks.who) refl refl c.unlock.ensures.asks.noting
 
 pub returns-in_err-path-clause-comes : goal.returns-in_err-path-clause-comes
 returns-in_err-path-clause-comes g c =

@@ -7,5 +7,5 @@ use Rattle.dav_methods_core.proofs.methods.changes.check_above.Goals as goal
 
 pub returns-then-is_dir-clause-ok : goal.returns-then-is_dir-clause-ok
 returns-then-is_dir-clause-ok g c =
-    above_stands c.args.session.now.stores.map (segments c.args.path.now.bytes) _ (meta_of c.in-Some.above) c.in_ok-parent_of.ensures.ok
+    above_stands c.args.session.now.stores.stores.map (segments c.args.path.now.bytes) _ (meta_of c.in-Some.above) c.in_ok-parent_of.ensures.ok
     (sym (ap (option_map meta_of) c.in-Some.is) ∙ c.meta.ensures.found) (c.is_dir.ensures.0 c.if-is_dir.true)

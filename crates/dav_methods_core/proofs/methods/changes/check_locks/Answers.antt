@@ -1,10 +1,10 @@
-use Rattle.std.proofs.Common.{subst}
+use Rattle.std.proofs.Common.{◌≡◌, [], subst}
 use Rattle.std.proofs.lemmas.Result.{err_from_is_err_and}
 use Rattle.dav_path_core.specs.Segments.{segments}
 use Rattle.dav_session_core.specs.Callers.{live, refusing_at}
 use Rattle.dav_session_core.specs.LocksInTheWay.{IsRefusedBy}
 use Rattle.dav_session_core.specs.Sessions as spec
-use Rattle.dav_methods_core.proofs.PutMethodLemmas.{above_fails, first_refused}
+use Rattle.dav_methods_core.proofs.PutMethodLemmas.{above_fails, above_passes, first_refused}
 use Rattle.dav_methods_core.proofs.methods.changes.check_locks.Goals as goal
 
 pub returns-in_err-check-clause-err : goal.returns-in_err-check-clause-err
@@ -20,3 +20,11 @@ pub returns-clause-err : goal.returns-clause-err
 returns-clause-err g c =
     above_fails (spec.caller c.args.session.now) (spec.caller c.check.new.self) (spec.state g.R.Rng.stream c.args.session.now) (spec.state g.R.Rng.stream c.check.new.self)
     (segments c.args.path.now.bytes) _ c.args.there c.check-2.result c.if-there.false c.check.ensures.looks.who c.check.ensures.looks.live c.in_ok-parent_of.ensures.ok c.check-2.ensures.err
+
+pub returns-clause-ok : goal.returns-clause-ok
+returns-clause-ok g c =
+    let who = spec.caller c.args.session.now in
+    let s = spec.state g.R.Rng.stream c.args.session.now in
+    above_passes who (spec.caller c.check.new.self) s (spec.state g.R.Rng.stream c.check.new.self) (segments c.args.path.now.bytes) _ c.args.there c.check-2.result c.if-there.false
+    (subst (λ p. refusing_at (live who.now s) who (segments p.bytes) ≡ []) c.in_ok-copy_of.ensures c.in_ok-check.ensures.ok) c.check.ensures.looks.who c.check.ensures.looks.live
+    c.in_ok-parent_of.ensures.ok c.check-2.ensures.ok

@@ -1,5 +1,5 @@
-use Rattle.std.proofs.Common.{List, ◌++◌, map, sym, subst}
-use Rattle.std.specs.Prelude.{IfErr}
+use Rattle.std.proofs.Common.{◌≡◌, List, [], ◌++◌, map, sym, subst}
+use Rattle.std.specs.Prelude.{IfErr, OnOk}
 use Rattle.std.proofs.lemmas.Result.{err_from_is_err_and}
 use Rattle.dav_path_core.specs.Segments.{segments}
 use Rattle.dav_locks_core.specs.Lock.{Lock}
@@ -12,7 +12,7 @@ use Rattle.dav_methods_core.specs.Placing.{target_by}
 use Rattle.dav_session_core.specs.Sessions as spec
 use Rattle.dav_session_core.proofs.Looking.{looks_on}
 use Rattle.dav_methods_core.proofs.Acting.{held_before}
-use Rattle.dav_methods_core.proofs.CopyCheckLemmas.{fails_behind, fails_first, fails_last, refusing_append}
+use Rattle.dav_methods_core.proofs.CopyCheckLemmas.{fails_behind, fails_first, fails_last, passes_behind, refusing_append}
 use Rattle.dav_methods_core.proofs.methods.copy.check_copy.Goals as goal
 
 -- the locks that refuse some checks
@@ -58,3 +58,18 @@ returns-clause-err g c =
     let both = subst (λ ls. IfErr c.check_each.result (λ e. IsRefusedBy ls e)) (sym (refusing_append (live who.now s).locks (as_caller who) there copies))
     (fails_behind (of_checks there (live who.now s) who) (of_checks copies (live who.now s) who) c.check_each.result here) in
     fails_behind clearing (of_checks (there ++ copies) (live who.now s) who) c.check_each.result both
+
+pub returns-clause-ok : goal.returns-clause-ok
+returns-clause-ok g c =
+    let who = spec.caller c.args.session.now in
+    let s = spec.state g.R.Rng.stream c.args.session.now in
+    let to = segments c.args.to.now.bytes in
+    let clearing = refusing_clearing (live who.now s) who to (map (λ p. segments p.bytes) c.args.gone.now) in
+    let there = target_by c.args.there to in
+    let copies = map (λ t. shallow (segments t.to.bytes)) c.args.transfers.now in
+    let looked = looks_on c.check_clearing.ensures.looks c.check_locks.ensures.looks in
+    let here = held_before (λ w t. of_checks there t w ≡ []) c.check_clearing.ensures.looks c.in_ok-check_locks.ensures.ok in
+    let last = held_before (λ w t. OnOk c.check_each.result (of_checks copies t w ≡ [])) looked c.check_each.ensures.ok in
+    let both = subst (λ ls. OnOk c.check_each.result (ls ≡ [])) (sym (refusing_append (live who.now s).locks (as_caller who) there copies))
+    (passes_behind (of_checks there (live who.now s) who) (of_checks copies (live who.now s) who) c.check_each.result here last) in
+    passes_behind clearing (of_checks (there ++ copies) (live who.now s) who) c.check_each.result c.in_ok-check_clearing.ensures.ok both

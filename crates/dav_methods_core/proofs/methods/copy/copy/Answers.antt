@@ -9,11 +9,13 @@ use Rattle.dav_path_core.specs.Fronts.{Path}
 use Rattle.dav_path_core.specs.Segments.{segments}
 use Rattle.dav_files_core.specs.Meta.{meta_at, meta_of}
 use Rattle.dav_files_core.specs.Resources.{Resource, at_path}
+use Rattle.dav_faults_core.specs.declared.faults.Fault.TheVariants as fault
 use Rattle.dav_session_core.specs.Callers.{live}
 use Rattle.dav_methods_core.specs.CopyMethod.{IsPlanned}
 use Rattle.dav_session_core.specs.Sessions as spec
 use Rattle.dav_session_core.specs.declared.session.copying.Transfer.{Transfer}
 use Rattle.dav_methods_core.proofs.CopyMethodLemmas.{copy_all, copy_begun, copy_left, copy_lost, copy_short}
+use Rattle.dav_session_core.proofs.Looking.{looks_before, looks_on}
 use Rattle.dav_session_core.proofs.PutLemmas.{known_there}
 use Rattle.dav_methods_core.proofs.methods.copy.copy.Goals as goal
 
@@ -48,7 +50,7 @@ returns-in_err-copy_all-clause-err g c =
     let plan = subst (λ ts. IsPlanned c.args.site.now c.args.prefix.now c.args.headers.now (live who.now start) who from known gone (map ends ts)) (sym c.deref.ensures.value)
     c.in_ok-target.ensures.ok in
     let by = c.clear.ensures.acts.who ∙ c.admitted_plan.ensures.looks.who in
-    let short = copy_short c.args.site.now c.args.prefix.now c.args.headers.now who start from known gone pairs plan asker b m c.admitted_plan.ensures.looks.who c.admitted_plan.ensures.looks.live c.clear.ensures.acts.run c.clear.ensures.cleared copier after by c.in_err-copy_all.field-0.0 c.in_err-copy_all.ensures.err in
+    let short = copy_short c.args.site.now c.args.prefix.now c.args.headers.now who start from known gone pairs plan asker b m c.admitted_plan.ensures.looks.who c.admitted_plan.ensures.looks.live c.clear.ensures.acts.run c.in_ok-clear.ensures.cleared copier after by c.in_err-copy_all.field-0.0 c.in_err-copy_all.ensures.err in
     rw (q.1, q.2) (copy_lost c.args.site.now c.args.prefix.now c.args.headers.now who start from c.in_err-copy_all.field-0.0 short)
 
 pub returns-in_err-copy_all-clause-left : goal.returns-in_err-copy_all-clause-left
@@ -68,9 +70,22 @@ returns-in_err-copy_all-clause-left g c =
     let plan = subst (λ ts. IsPlanned c.args.site.now c.args.prefix.now c.args.headers.now (live who.now start) who from known gone (map ends ts)) (sym c.deref.ensures.value)
     c.in_ok-target.ensures.ok in
     let by = c.clear.ensures.acts.who ∙ c.admitted_plan.ensures.looks.who in
-    let short = copy_short c.args.site.now c.args.prefix.now c.args.headers.now who start from known gone pairs plan asker b m c.admitted_plan.ensures.looks.who c.admitted_plan.ensures.looks.live c.clear.ensures.acts.run c.clear.ensures.cleared copier after by c.in_err-copy_all.field-0.0 c.in_err-copy_all.ensures.err in
-    rw (q.1, q.2) (copy_begun c.args.site.now c.args.prefix.now c.args.headers.now who start from known gone pairs plan asker b m c.admitted_plan.ensures.looks.who c.admitted_plan.ensures.looks.live c.clear.ensures.acts.run c.clear.ensures.cleared copier after by
+    let short = copy_short c.args.site.now c.args.prefix.now c.args.headers.now who start from known gone pairs plan asker b m c.admitted_plan.ensures.looks.who c.admitted_plan.ensures.looks.live c.clear.ensures.acts.run c.in_ok-clear.ensures.cleared copier after by c.in_err-copy_all.field-0.0 c.in_err-copy_all.ensures.err in
+    rw (q.1, q.2) (copy_begun c.args.site.now c.args.prefix.now c.args.headers.now who start from known gone pairs plan asker b m c.admitted_plan.ensures.looks.who c.admitted_plan.ensures.looks.live c.clear.ensures.acts.run c.in_ok-clear.ensures.cleared copier after by
     c.in_err-copy_all.field-0.0 short c.in_ok-target.ensures.course c.in_err-copy_all.ensures.begun)
+
+pub returns-in_err-clear-clause-err : goal.returns-in_err-clear-clause-err
+returns-in_err-clear-clause-err g c =
+    let q = err_from_is_err_and c.from_residual-in_err-clear.result c.from_residual-in_err-clear.ensures.1 in
+    rw (q.1, q.2) (copy_lost c.args.site.now c.args.prefix.now c.args.headers.now (spec.caller c.args.session.now) (spec.state g.R.Rng.stream c.args.session.now)
+    (segments c.args.path.now.bytes) fault.InsufficientStorage refl)
+
+pub returns-in_err-clear-clause-left : goal.returns-in_err-clear-clause-left
+returns-in_err-clear-clause-left g c =
+    let q = err_from_is_err_and c.from_residual-in_err-clear.result c.from_residual-in_err-clear.ensures.1 in
+    rw (q.1, q.2) (copy_left c.args.site.now c.args.prefix.now c.args.headers.now (spec.caller c.args.session.now) (spec.state g.R.Rng.stream c.args.session.now)
+    (segments c.args.path.now.bytes) fault.InsufficientStorage (spec.state g.R.Rng.stream c.clear.new.self)
+    (looks_on c.admitted_plan.ensures.looks (looks_before c.in_err-clear.ensures.refused)).live)
 
 pub returns-in_err-say_place-clause-err : goal.returns-in_err-say_place-clause-err
 returns-in_err-say_place-clause-err g c =
@@ -112,5 +127,5 @@ returns-clause-done g c =
     c.in_ok-target.ensures.ok in
     let by = c.clear.ensures.acts.who ∙ c.admitted_plan.ensures.looks.who in
     let there = known_there meta_of (λ (r : Resource). meta_at r.node) c.in_ok-target.field-0.known (at_path start.map (segments plan.to.bytes)) plan.known_is in
-    copy_all c.args.site.now c.args.prefix.now c.args.headers.now who start from known gone pairs plan asker b m c.admitted_plan.ensures.looks.who c.admitted_plan.ensures.looks.live c.clear.ensures.acts.run c.clear.ensures.cleared copier after by
+    copy_all c.args.site.now c.args.prefix.now c.args.headers.now who start from known gone pairs plan asker b m c.admitted_plan.ensures.looks.who c.admitted_plan.ensures.looks.live c.clear.ensures.acts.run c.in_ok-clear.ensures.cleared copier after by
     c.done.result (c.done.ensures ∙ ap (λ b. cond b 204 201) there) c.in_ok-target.ensures.course c.in_ok-copy_all.ensures.copied c.in_ok-copy_all.ensures.made

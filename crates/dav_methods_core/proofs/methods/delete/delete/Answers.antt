@@ -7,7 +7,7 @@ use Rattle.dav_session_core.specs.Callers.{live}
 use Rattle.dav_session_core.specs.Removing.{IsRemoved}
 use Rattle.dav_session_core.specs.Sessions as spec
 use Rattle.dav_session_core.specs.Unhindered.{WhereRemovable}
-use Rattle.dav_session_core.proofs.Looking.{looks_on}
+use Rattle.dav_session_core.proofs.Looking.{looks_before, looks_on}
 use Rattle.dav_methods_core.specs.DeleteMethod.{CanRemove, CantRemove}
 use Rattle.dav_methods_core.proofs.Acting.{held_before}
 use Rattle.dav_methods_core.proofs.CourseLemmas.{course_stays, stopped_after}
@@ -44,5 +44,16 @@ returns-clause-done g c =
       can = can;
       course = course_stays method.Delete p headers who.now s (spec.state g.R.Rng.stream c.removable.new.session) _ c.removable.ensures.looks.live c.in_ok-check_conditions.ensures.ok;
       removed = held_before (λ w t. WhereRemovable t w places (λ p. IsRemoved w.now p t after)) (looks_on c.removable.ensures.looks c.check_conditions.ensures.looks)
-          c.remove_all.ensures.removed p can.no_root can.stood can.walk can.free;
+          c.in_ok-remove_all.ensures.removed p can.no_root can.stood can.walk can.free;
     }
+
+pub returns-in_err-remove_all-clause-err : goal.returns-in_err-remove_all-clause-err
+returns-in_err-remove_all-clause-err g c =
+    let q = err_from_is_err_and c.from_residual-in_err-remove_all.result c.from_residual-in_err-remove_all.ensures.1 in
+    rw (q.1, q.2) (inl tt)
+
+pub returns-in_err-remove_all-clause-refused : goal.returns-in_err-remove_all-clause-refused
+returns-in_err-remove_all-clause-refused g c =
+    let q = err_from_is_err_and c.from_residual-in_err-remove_all.result c.from_residual-in_err-remove_all.ensures.1 in
+    let looks = looks_on (looks_on c.removable.ensures.looks c.check_conditions.ensures.looks) (looks_before c.in_err-remove_all.ensures.refused) in
+    rw q.1 looks.live

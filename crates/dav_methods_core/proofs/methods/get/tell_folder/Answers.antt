@@ -15,7 +15,7 @@ returns-clause-page g c =
     let kept = c.add_content_type.ensures.body ∙ c.add_last_modified.ensures.body in
     let empty = ap (λ b. b.items) kept ∙ c.requires.empty in (
       map listed_entry c.in_ok-entries.entries.items,
-      ap (λ p. read_dir c.args.session.now.stores.map (segments p.bytes)) (sym c.in_ok-copy_of.ensures) ∙ c.in_ok-entries.ensures.ok,
+      ap (λ p. read_dir c.args.session.now.stores.stores.map (segments p.bytes)) (sym c.in_ok-copy_of.ensures) ∙ c.in_ok-entries.ensures.ok,
       c.in_ok-push.ensures ∙ ap (λ old. old ++ c.in_ok-from_vec.field-0) empty ∙ c.in_ok-from_vec.ensures.ok ∙ c.in_ok-page.ensures
           ∙ ap (λ xs. page c.args.path.now (map listed_entry xs)) c.deref.ensures.value,
     )

@@ -13,7 +13,7 @@ use Rattle.dav_methods_core.proofs.methods.get.tell_part.Goals as goal
 
 pub returns-clause-bytes : goal.returns-clause-bytes
 returns-clause-bytes g c = on_ok c.tell_bytes.result _ _
-    (λ read. subst (λ n. IsRead c.args.session.now.stores.map (segments c.args.path.now.bytes) c.args.first n c.tell_bytes.new.response.body.items) c.saturating_sub-count.ensures read)
+    (λ read. subst (λ n. IsRead c.args.session.now.stores.stores.map (segments c.args.path.now.bytes) c.args.first n c.tell_bytes.new.response.body.items) c.saturating_sub-count.ensures read)
     c.tell_bytes.ensures.bytes
 
 pub returns-clause-ok : goal.returns-clause-ok

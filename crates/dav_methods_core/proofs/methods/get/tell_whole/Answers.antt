@@ -11,7 +11,7 @@ use Rattle.dav_methods_core.proofs.methods.get.tell_whole.Goals as goal
 
 pub returns-clause-bytes : goal.returns-clause-bytes
 returns-clause-bytes g c = on_ok c.tell_bytes.result _ _
-    (λ read kind. subst (λ n. IsRead c.args.session.now.stores.map (segments c.args.path.now.bytes) 0 n c.tell_bytes.new.response.body.items) c.len-count.ensures read)
+    (λ read kind. subst (λ n. IsRead c.args.session.now.stores.stores.map (segments c.args.path.now.bytes) 0 n c.tell_bytes.new.response.body.items) c.len-count.ensures read)
     c.tell_bytes.ensures.bytes
 
 pub returns-then-is_dir-clause-ok : goal.returns-then-is_dir-clause-ok

@@ -39,8 +39,14 @@ returns-clause-made g c =
 
 pub returns-in_err-make_under-clause-ran : goal.returns-in_err-make_under-clause-ran
 returns-in_err-make_under-clause-ran g c =
-    ran_on (acts_ran (looks_act c.locks_at.ensures.looks)) (record { run = c.make_under.ensures.run; who = c.make_under.ensures.caller })
+    ran_on (acts_ran (looks_act c.locks_at.ensures.looks)) c.make_under.ensures.ran
 
 pub returns-clause-ran : goal.returns-clause-ran
 returns-clause-ran g c =
-    ran_on (acts_ran (looks_act c.locks_at.ensures.looks)) (record { run = c.make_under.ensures.run; who = c.make_under.ensures.caller })
+    ran_on (acts_ran (looks_act c.locks_at.ensures.looks)) c.make_under.ensures.ran
+
+pub returns-in_err-make_under-clause-room : goal.returns-in_err-make_under-clause-room
+returns-in_err-make_under-clause-room g c = λ count room. c.make_under.ensures.room count (c.locks_at.ensures.room count room)
+
+pub returns-clause-room : goal.returns-clause-room
+returns-clause-room g c = λ count room. c.make_under.ensures.room count (c.locks_at.ensures.room count room)

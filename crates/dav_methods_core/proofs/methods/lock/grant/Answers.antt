@@ -59,3 +59,6 @@ returns-in-Ok-clause-ran g c =
 pub returns-in-Err-clause-ran : goal.returns-in-Err-clause-ran
 returns-in-Err-clause-ran g c =
     ran_on (asked_ran c.granted.ensures.requests) (ran_on c.finish.ensures.ran (asked_ran c.forget.ensures.asks))
+
+pub forget-requires : goal.forget-requires
+forget-requires g c = record { room = c.finish.ensures.room 1 c.in_ok-lock.ensures.room }

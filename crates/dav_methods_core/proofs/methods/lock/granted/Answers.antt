@@ -1,6 +1,77 @@
-use Rattle.dav_session_core.proofs.Looking.{acts_none}
-use Rattle.dav_methods_core.proofs.Acting.{acts_asked}
+use Rattle.std.proofs.Common.{◌≡◌, ◌∙◌, [], sym, subst}
+use Rattle.std.proofs.lemmas.Result.{err_from_is_err_and}
+use Rattle.dav_path_core.specs.PathText.{PathText}
+use Rattle.dav_path_core.specs.Segments.{segments}
+use Rattle.dav_locks_core.specs.Locks.{lock_conflicts}
+use Rattle.dav_resource_core.specs.Step.{State}
+use Rattle.dav_session_core.specs.Callers.{Caller, live}
+use Rattle.dav_session_core.specs.Granting.{IsConflictOf, granted_lock, with_lock}
+use Rattle.dav_session_core.specs.Sessions as spec
+use Rattle.dav_session_core.proofs.Looking.{from_before, looks_before, looks_on, requests_of, requests_on}
+use Rattle.dav_methods_core.specs.Rooms.{IsConflictAt, wanted_of}
+use Rattle.dav_methods_core.proofs.LockLemmas.{conflict_placed}
 use Rattle.dav_methods_core.proofs.methods.lock.granted.Goals as goal
 
+pub returns-in_err-make_room-clause-refused : goal.returns-in_err-make_room-clause-refused
+returns-in_err-make_room-clause-refused g c =
+    let q = err_from_is_err_and c.from_residual.result c.from_residual.ensures.1 in
+    rw q.1 (looks_before c.make_room.ensures.same)
+
+pub returns-in_err-make_room-clause-requests : goal.returns-in_err-make_room-clause-requests
+returns-in_err-make_room-clause-requests g c = requests_of (looks_before c.make_room.ensures.same)
+
+pub returns-in_err-place-clause-refused : goal.returns-in_err-place-clause-refused
+returns-in_err-place-clause-refused g c =
+    let q = err_from_is_err_and c.from_residual-in_err-place.result c.from_residual-in_err-place.ensures.1 in
+    rw q.1 (looks_before c.make_room.ensures.same)
+
 pub returns-in_err-place-clause-requests : goal.returns-in_err-place-clause-requests
-returns-in_err-place-clause-requests g c = acts_asked (acts_none g.R.Rng.stream c.args.session.now)
+returns-in_err-place-clause-requests g c = requests_of (looks_before c.make_room.ensures.same)
+
+pub returns-in_err-by_place-in-Err-clause-refused : goal.returns-in_err-by_place-in-Err-clause-refused
+returns-in_err-by_place-in-Err-clause-refused g c =
+    let q = err_from_is_err_and c.from_residual-in_err-by_place-in-Err.result c.from_residual-in_err-by_place-in-Err.ensures.1 in
+    rw q.1 (looks_on (looks_before c.make_room.ensures.same) c.in-Err.ensures.refused)
+
+pub returns-in_err-by_place-in-Err-clause-requests : goal.returns-in_err-by_place-in-Err-clause-requests
+returns-in_err-by_place-in-Err-clause-requests g c = requests_on (looks_before c.make_room.ensures.same) c.grant.ensures.requests
+
+pub returns-in-Ok-clause-ok : goal.returns-in-Ok-clause-ok
+returns-in-Ok-clause-ok g c =
+    let who = spec.caller c.args.session.now in
+    let s = spec.state g.R.Rng.stream c.args.session.now in
+    let wanted = wanted_of c.args.wanted in
+    let lock_of : PathText → Caller → State → Type 0 = λ p w t. c.in-Ok.lock ≡ granted_lock (live w.now t) w p wanted.owner wanted.timeout wanted.shared wanted.deep in
+    subst (λ (p : PathText). lock_of p who s) c.in_ok-place.ensures (from_before (lock_of c.in_ok-place.place) c.make_room.ensures.same c.in-Ok.ensures.ok)
+
+pub returns-in-Ok-clause-left : goal.returns-in-Ok-clause-left
+returns-in-Ok-clause-left g c =
+    from_before (λ w t. spec.state g.R.Rng.stream c.grant.new.self ≡ with_lock (live w.now t) c.in-Ok.lock) c.make_room.ensures.same c.in-Ok.ensures.left
+
+pub returns-in-Ok-clause-free : goal.returns-in-Ok-clause-free
+returns-in-Ok-clause-free g c =
+    let who = spec.caller c.args.session.now in
+    let s = spec.state g.R.Rng.stream c.args.session.now in
+    let free_at : PathText → Caller → State → Type 0 = λ p w t. lock_conflicts (live w.now t).locks (segments p.bytes) c.args.wanted.shared c.args.wanted.deep ≡ [] in
+    subst (λ (p : PathText). free_at p who s) c.in_ok-place.ensures (from_before (free_at c.in_ok-place.place) c.make_room.ensures.same c.in-Ok.ensures.free)
+
+pub returns-in-Ok-clause-requests : goal.returns-in-Ok-clause-requests
+returns-in-Ok-clause-requests g c = requests_on (looks_before c.make_room.ensures.same) c.grant.ensures.requests
+
+pub returns-in-Ok-clause-room : goal.returns-in-Ok-clause-room
+returns-in-Ok-clause-room g c = c.grant.ensures.room 1 c.in_ok-make_room.ensures.ok
+
+pub returns-in_ok-by_place-in-Err-clause-err : goal.returns-in_ok-by_place-in-Err-clause-err
+returns-in_ok-by_place-in-Err-clause-err g c =
+    let who = spec.caller c.args.session.now in
+    let s = spec.state g.R.Rng.stream c.args.session.now in
+    let in_way : PathText → Caller → State → Type 0 = λ p w t. IsConflictOf (lock_conflicts (live w.now t).locks (segments p.bytes) c.args.wanted.shared c.args.wanted.deep) c.in-Err.fault in
+    let told = subst (λ (p : PathText). in_way p who s) c.in_ok-place.ensures (from_before (in_way c.in_ok-place.place) c.make_room.ensures.same c.in-Err.ensures.err) in
+    subst (IsConflictAt (lock_conflicts (live who.now s).locks (segments c.args.path.now.bytes) c.args.wanted.shared c.args.wanted.deep) c.args.path.now) (sym c.in_ok-by_place-in-Err.ensures)
+    (conflict_placed _ c.args.path.now c.in-Err.fault told)
+
+pub returns-in_ok-by_place-in-Err-clause-refused : goal.returns-in_ok-by_place-in-Err-clause-refused
+returns-in_ok-by_place-in-Err-clause-refused g c = looks_on (looks_before c.make_room.ensures.same) c.in-Err.ensures.refused
+
+pub returns-in_ok-by_place-in-Err-clause-requests : goal.returns-in_ok-by_place-in-Err-clause-requests
+returns-in_ok-by_place-in-Err-clause-requests g c = requests_on (looks_before c.make_room.ensures.same) c.grant.ensures.requests

@@ -1,4 +1,4 @@
-use Rattle.std.proofs.Common.{inl, Ok, Err, sym, subst}
+use Rattle.std.proofs.Common.{inl, Ok, sym, subst}
 use Rattle.std.proofs.lemmas.Result.{err_from_is_err_and}
 use Rattle.dav_path_core.specs.declared.util.DavMethod.TheVariants as method
 use Rattle.dav_path_core.specs.Segments.{segments}
@@ -7,10 +7,11 @@ use Rattle.dav_resource_core.specs.Served.{reply_of, refusal_of}
 use Rattle.dav_session_core.specs.Callers.{live}
 use Rattle.dav_session_core.specs.Sessions as spec
 use Rattle.dav_session_core.proofs.Looking.{looks_on}
+use Rattle.dav_session_core.proofs.AskedLemmas.{behind_look}
 use Rattle.dav_session_core.proofs.PutLemmas.{after_look}
 use Rattle.dav_methods_core.specs.MkcolMethod.{CanMake, CantMake, FailsToMake}
 use Rattle.dav_methods_core.proofs.CourseLemmas.{course_stays, stopped_after}
-use Rattle.dav_methods_core.proofs.MkcolLemmas.{made, not_made}
+use Rattle.dav_methods_core.proofs.MkcolLemmas.{made, not_made_at}
 use Rattle.dav_methods_core.proofs.methods.mkcol.mkcol.Goals as goal
 
 pub returns-in_err-check_making-clause-err : goal.returns-in_err-check_making-clause-err
@@ -38,7 +39,7 @@ returns-in-Ok-clause-done g c =
     (course_stays method.MkCol p c.args.headers.now who.now s (spec.state g.R.Rng.stream c.check_making.new.session) _ c.check_making.ensures.looks.live
     c.in_ok-check_conditions.ensures.ok)
     (after_look who (spec.caller c.check_conditions.new.session) s (spec.state g.R.Rng.stream c.check_conditions.new.session) (spec.state g.R.Rng.stream c.change.new.self)
-    (Command.MkCol p) (Ok (reply_of c.in-Ok.field-0)) looks.who looks.live c.in-Ok.ensures.step)
+    (Command.MkCol p) (Ok (reply_of c.in-Ok.field-0)) looks.who looks.live c.in-Ok.ensures.asked)
 
 pub returns-clause-err : goal.returns-clause-err
 returns-clause-err g c =
@@ -48,6 +49,6 @@ returns-clause-err g c =
     let looks = looks_on c.check_making.ensures.looks c.check_conditions.ensures.looks in
     let e = refusal_of c.in-Err.refusal in
     subst (FailsToMake c.args.headers.now (live who.now s) who p) (sym c.refused.ensures)
-    (inl (not_made who (live who.now s) (spec.state g.R.Rng.stream c.change.new.self) p e c.in_ok-check_making.ensures.ok
-    (after_look who (spec.caller c.check_conditions.new.session) s (spec.state g.R.Rng.stream c.check_conditions.new.session) (spec.state g.R.Rng.stream c.change.new.self)
-    (Command.MkCol p) (Err e) looks.who looks.live c.in-Err.ensures.step)))
+    (inl (not_made_at who (live who.now s) (spec.state g.R.Rng.stream c.change.new.self) p e c.in_ok-check_making.ensures.ok
+    (behind_look who (spec.caller c.check_conditions.new.session) s (spec.state g.R.Rng.stream c.check_conditions.new.session) (spec.state g.R.Rng.stream c.change.new.self)
+    (Command.MkCol p) e looks.who looks.live c.in-Err.ensures.asked)))

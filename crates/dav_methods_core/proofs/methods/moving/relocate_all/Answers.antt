@@ -9,6 +9,7 @@ use Rattle.std.proofs.lemmas.Result.{err_from_is_err_and}
 use Rattle.dav_path_core.specs.Segments.{segments}
 use Rattle.dav_files_core.specs.Meta.{meta_at, meta_of}
 use Rattle.dav_files_core.specs.Resources.{IsResourceMap, Resource, at_path}
+use Rattle.dav_faults_core.specs.declared.faults.Fault.TheVariants as fault
 use Rattle.dav_session_core.specs.Callers.{live}
 use Rattle.dav_session_core.specs.LocksInTheWay.{IsRefusedBy, by_place}
 use Rattle.dav_resource_core.specs.Step.{State}
@@ -17,7 +18,7 @@ use Rattle.dav_session_core.specs.Moving.{refusing_move}
 use Rattle.dav_session_core.specs.Sessions as spec
 use Rattle.dav_methods_core.proofs.MoveCheckLemmas.{movable, move_all, move_begun, move_left, move_locked, move_lost, move_ready, move_short, move_unfit}
 use Rattle.dav_methods_core.proofs.CourseLemmas.{course_stays, stopped_after}
-use Rattle.dav_session_core.proofs.Looking.{acts_on, looks_on}
+use Rattle.dav_session_core.proofs.Looking.{acts_on, looks_before, looks_on}
 use Rattle.dav_methods_core.proofs.Acting.{looks_act_thrice}
 use Rattle.dav_session_core.proofs.PutLemmas.{known_there}
 use Rattle.dav_methods_core.proofs.methods.moving.relocate_all.Goals as goal
@@ -85,6 +86,24 @@ returns-in_err-say_place-clause-left g c =
     rw (q.1, q.2) (move_left c.args.site.now c.args.prefix.now c.args.headers.now (spec.caller c.args.session.now) (spec.state g.R.Rng.stream c.args.session.now)
     (segments c.args.path.bytes) c.in_err-say_place.field-0.0 (spec.state g.R.Rng.stream c.check_conditions.new.session) looks.live)
 
+pub returns-in_err-clear-clause-err : goal.returns-in_err-clear-clause-err
+returns-in_err-clear-clause-err g c =
+    let q = err_from_is_err_and c.from_residual-in_err-clear.result c.from_residual-in_err-clear.ensures.1 in
+    rw (q.1, q.2) (move_lost c.args.site.now c.args.prefix.now c.args.headers.now (spec.caller c.args.session.now) (spec.state g.R.Rng.stream c.args.session.now)
+    (segments c.args.path.bytes) fault.InsufficientStorage refl)
+
+pub returns-in_err-clear-clause-left : goal.returns-in_err-clear-clause-left
+returns-in_err-clear-clause-left g c =
+    let q = err_from_is_err_and c.from_residual-in_err-clear.result c.from_residual-in_err-clear.ensures.1 in
+    let checked = looks_on c.check_move.ensures.looks c.check_conditions.ensures.looks in
+    let looks = looks_on (looks_on c.ends_of.ensures.looks checked) (looks_before c.in_err-clear.ensures.refused) in
+    rw (q.1, q.2) (move_left c.args.site.now c.args.prefix.now c.args.headers.now (spec.caller c.args.session.now) (spec.state g.R.Rng.stream c.args.session.now)
+    (segments c.args.path.bytes) fault.InsufficientStorage (spec.state g.R.Rng.stream c.clear.new.self) looks.live)
+
+pub returns-in_err-clear-clause-acts : goal.returns-in_err-clear-clause-acts
+returns-in_err-clear-clause-acts g c =
+    acts_on (looks_act_thrice c.ends_of.ensures.looks c.check_move.ensures.looks c.check_conditions.ensures.looks) c.clear.ensures.acts
+
 pub returns-clause-sent : goal.returns-clause-sent
 returns-clause-sent g c =
     let to = c.in_ok-target.field-0.target in
@@ -114,7 +133,7 @@ returns-in_err-relocate-clause-err g c =
     let gone = map (λ q. segments q.bytes) c.in_ok-target.field-0.gone.items in
     let free = subst (λ xs. refusing_move (live asker.now a) asker from (segments to.bytes) (map (λ q. segments q.bytes) xs) ≡ []) c.deref.ensures.value c.in-Ok.ensures.ok in
     let ready = move_ready c.args.site.now c.args.prefix.now c.args.headers.now who s from to known gone c.in_ok-target.ensures.ok asker a checker b m c.ends_of.ensures.looks.who c.ends_of.ensures.looks.live
-    checked.who checked.live free shape c.clear.ensures.acts.run c.clear.ensures.cleared in
+    checked.who checked.live free shape c.clear.ensures.acts.run c.in_ok-clear.ensures.cleared in
     let mover = spec.caller c.clear.new.self in
     let after = spec.state g.R.Rng.stream c.relocate.new.self in
     let by = c.clear.ensures.acts.who ∙ checked.who ∙ c.ends_of.ensures.looks.who in
@@ -140,7 +159,7 @@ returns-in_err-relocate-clause-left g c =
     let gone = map (λ q. segments q.bytes) c.in_ok-target.field-0.gone.items in
     let free = subst (λ xs. refusing_move (live asker.now a) asker from (segments to.bytes) (map (λ q. segments q.bytes) xs) ≡ []) c.deref.ensures.value c.in-Ok.ensures.ok in
     let ready = move_ready c.args.site.now c.args.prefix.now c.args.headers.now who s from to known gone c.in_ok-target.ensures.ok asker a checker b m c.ends_of.ensures.looks.who c.ends_of.ensures.looks.live
-    checked.who checked.live free shape c.clear.ensures.acts.run c.clear.ensures.cleared in
+    checked.who checked.live free shape c.clear.ensures.acts.run c.in_ok-clear.ensures.cleared in
     let mover = spec.caller c.clear.new.self in
     let after = spec.state g.R.Rng.stream c.relocate.new.self in
     let by = c.clear.ensures.acts.who ∙ checked.who ∙ c.ends_of.ensures.looks.who in
@@ -172,7 +191,7 @@ returns-clause-done g c =
     let lets = course_stays method.Move from c.args.headers.now who.now s (spec.state g.R.Rng.stream c.check_move.new.session) _ before.live c.in_ok-check_conditions.ensures.ok in
     move_all c.args.site.now c.args.prefix.now c.args.headers.now who s from to known gone c.in_ok-target.ensures.ok m
     (move_ready c.args.site.now c.args.prefix.now c.args.headers.now who s from to known gone c.in_ok-target.ensures.ok asker a checker b m c.ends_of.ensures.looks.who c.ends_of.ensures.looks.live
-    checked.who checked.live free shape c.clear.ensures.acts.run c.clear.ensures.cleared)
+    checked.who checked.live free shape c.clear.ensures.acts.run c.in_ok-clear.ensures.cleared)
     (spec.caller c.clear.new.self) (spec.state g.R.Rng.stream c.relocate.new.self) (c.clear.ensures.acts.who ∙ checked.who ∙ c.ends_of.ensures.looks.who)
     c.done.result c.requires.reaches lets (c.done.ensures ∙ ap (λ b. cond b 204 201) there) c.in_ok-relocate.ensures.moved
 

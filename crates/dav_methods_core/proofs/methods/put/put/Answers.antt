@@ -1,4 +1,4 @@
-use Rattle.std.proofs.Common.{Ok, Err, ◌≡◌, ◌∙◌, inl, sym, ap, subst, is_some, if◌then◌else◌}
+use Rattle.std.proofs.Common.{Ok, ◌≡◌, ◌∙◌, inl, sym, ap, subst, is_some, if◌then◌else◌}
 use Rattle.std.specs.Prelude.{option_map}
 use Rattle.std.proofs.lemmas.Result.{err_from_is_err_and}
 use Rattle.dav_path_core.specs.declared.util.DavMethod.TheVariants as method
@@ -12,11 +12,12 @@ use Rattle.dav_session_core.specs.Ends.{known_at}
 use Rattle.dav_session_core.specs.Sessions as spec
 use Rattle.dav_session_core.specs.StoreRefusals.{put_fault}
 use Rattle.dav_session_core.proofs.Looking.{looks_on}
+use Rattle.dav_session_core.proofs.AskedLemmas.{behind_look}
 use Rattle.dav_session_core.proofs.PutLemmas.{after_look, known_there}
 use Rattle.dav_methods_core.specs.PutMethod.{CanPut, CantPut, FailsToPut}
 use Rattle.dav_methods_core.proofs.Acting.{acts_behind}
 use Rattle.dav_methods_core.proofs.CourseLemmas.{course_stays, stopped_after}
-use Rattle.dav_methods_core.proofs.PutMethodLemmas.{can_put, free_way, lacks_place_at, locked, put_done, put_refused}
+use Rattle.dav_methods_core.proofs.PutMethodLemmas.{can_put, free_way, lacks_place_at, locked, put_done, put_unmade}
 use Rattle.dav_methods_core.proofs.methods.put.put.Goals as goal
 
 pub returns-in_err-check_locks-clause-err : goal.returns-in_err-check_locks-clause-err
@@ -88,7 +89,7 @@ returns-in-Ok-clause-done g c =
           c.meta-known.ensures.looks.who c.meta-known.ensures.looks.live there c.in_ok-check_locks.ensures.ok;
       puts = put_done who s (spec.state g.R.Rng.stream c.change.new.self) p c.args.bytes (reply_of c.in-Ok.field-0)
           (after_look who (spec.caller c.check_conditions.new.session) s (spec.state g.R.Rng.stream c.check_conditions.new.session) (spec.state g.R.Rng.stream c.change.new.self)
-          (Command.Put p c.args.bytes) (Ok (reply_of c.in-Ok.field-0)) looks.who looks.live c.in-Ok.ensures.step);
+          (Command.Put p c.args.bytes) (Ok (reply_of c.in-Ok.field-0)) looks.who looks.live c.in-Ok.ensures.asked);
     }
 
 pub returns-clause-err : goal.returns-clause-err
@@ -103,9 +104,9 @@ returns-clause-err g c =
     let looks = looks_on (looks_on (looks_on c.meta-known.ensures.looks c.check_locks.ensures.looks) c.check_place.ensures.looks) c.check_conditions.ensures.looks in
     let e = refusal_of c.in-Err.refusal in
     subst (FailsToPut s who p c.args.bytes c.args.headers.now) (sym (c.refused.ensures ∙ ap (λ b. put_fault b e) at))
-    (inl (put_refused who s (spec.state g.R.Rng.stream c.change.new.self) p c.args.bytes e
-    (after_look who (spec.caller c.check_conditions.new.session) s (spec.state g.R.Rng.stream c.check_conditions.new.session) (spec.state g.R.Rng.stream c.change.new.self)
-    (Command.Put p c.args.bytes) (Err e) looks.who looks.live c.in-Err.ensures.step)))
+    (inl (put_unmade who s (spec.state g.R.Rng.stream c.change.new.self) p c.args.bytes e
+    (behind_look who (spec.caller c.check_conditions.new.session) s (spec.state g.R.Rng.stream c.check_conditions.new.session) (spec.state g.R.Rng.stream c.change.new.self)
+    (Command.Put p c.args.bytes) e looks.who looks.live c.in-Err.ensures.asked)))
 
 pub returns-in-Ok-clause-acts : goal.returns-in-Ok-clause-acts
 returns-in-Ok-clause-acts g c =

@@ -16,7 +16,7 @@ pub returns-in-Err-Locked-clause-err : goal.returns-in-Err-Locked-clause-err
 returns-in-Err-Locked-clause-err g c =
     let who = spec.caller c.args.self.now in
     let s = spec.state g.R.Rng.stream c.args.self.now in
-    let after = spec.state g.R.Rng.stream c.ask.new.self in
+    let after = spec.state g.R.Rng.stream c.look.new.self in
     let p = segments c.args.path.bytes in
     let deep = c.args.deep in
     subst (λ (l : Lock). IsRefusedBy (check_conflicts (live who.now s).locks p deep (as_caller who)) (fault.Locked l.path)) (sym c.lock.view_is) (check_refused who s after p deep c.in-Err-Locked.lock

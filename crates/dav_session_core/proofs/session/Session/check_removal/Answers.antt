@@ -44,3 +44,6 @@ returns-clause-ok g c =
     let who = spec.caller c.args.self.now in
     all_checked (live who.now (spec.state g.R.Rng.stream c.args.self.now)) who (λ p. segments p.bytes) c.args.places.now c.loop-place.place-index c.loop-place.invariant.left
     c.loop-place-test.false
+
+pub returns-in_err-check_one-clause-looks : goal.returns-in_err-check_one-clause-looks
+returns-in_err-check_one-clause-looks g c = looks_on c.loop-place.invariant.looks c.check_one.ensures.looks

@@ -31,7 +31,7 @@ loop-preserved g c =
     let up : segments c.in_ok-here-2.here.bytes ≡ parent here = c.in_ok-here-2.ensures.above in
     let same = ap (λ (s : State). s.map) c.loop.invariant.looks.live in
     let asked : c.changed.result.0 ≡ last_change (at_path start.map (parent here)) =
-    c.changed.ensures.changed ∙ ap (λ (path : PathText). last_change (at_path c.loop.self.stores.map (segments path.bytes))) c.in_ok-copy_of.ensures
+    c.changed.ensures.changed ∙ ap (λ (path : PathText). last_change (at_path c.loop.self.stores.stores.map (segments path.bytes))) c.in_ok-copy_of.ensures
     ∙ ap (λ (m : ResourceMap). last_change (at_path m (segments c.in_ok-here-2.here.bytes))) same ∙ ap (λ q. last_change (at_path start.map q)) up in
     let less = one_less here c.loop.counter (length p) c.loop.invariant.left (subst (λ n. c.loop.counter < n) c.depth_of-end.ensures c.loop-test.true) in
     let long : length here ≡ length (parent here) + 1 = omega (arith, less, c.loop.invariant.left) in

@@ -14,25 +14,25 @@ use Rattle.dav_session_core.proofs.session.Session.members.Goals as goal
 
 pub returns-in-Ok-clause-ok : goal.returns-in-Ok-clause-ok
 returns-in-Ok-clause-ok g c =
-    let was : read_dir c.args.self.now.stores.map (segments c.args.place.now.bytes) ≡ Ok (map listed_entry c.in-Ok.entries.items) =
-    ap (λ (q : PathText). read_dir c.args.self.now.stores.map (segments q.bytes)) (sym c.in_ok-copy_of.ensures) ∙ c.in-Ok.ensures.ok in
+    let was : read_dir c.args.self.now.stores.stores.map (segments c.args.place.now.bytes) ≡ Ok (map listed_entry c.in-Ok.entries.items) =
+    ap (λ (q : PathText). read_dir c.args.self.now.stores.stores.map (segments q.bytes)) (sym c.in_ok-copy_of.ensures) ∙ c.in-Ok.ensures.ok in
     let p = segments c.args.place.now.bytes in
     IfOk-weaker c.member_paths.result _ _
-    (λ paths h. members_told c.args.self.now.stores.map p c.in-Ok.entries.items _ was (h ∙ ap (λ (es : List MemFsEntry). paths_in p (map (λ e. e.name) es)) c.deref.ensures.value))
+    (λ paths h. members_told c.args.self.now.stores.stores.map p c.in-Ok.entries.items _ was (h ∙ ap (λ (es : List MemFsEntry). paths_in p (map (λ e. e.name) es)) c.deref.ensures.value))
     c.member_paths.ensures.ok
 
 pub returns-in-Ok-clause-err : goal.returns-in-Ok-clause-err
 returns-in-Ok-clause-err g c =
-    let was : read_dir c.args.self.now.stores.map (segments c.args.place.now.bytes) ≡ Ok (map listed_entry c.in-Ok.entries.items) =
-    ap (λ (q : PathText). read_dir c.args.self.now.stores.map (segments q.bytes)) (sym c.in_ok-copy_of.ensures) ∙ c.in-Ok.ensures.ok in
+    let was : read_dir c.args.self.now.stores.stores.map (segments c.args.place.now.bytes) ≡ Ok (map listed_entry c.in-Ok.entries.items) =
+    ap (λ (q : PathText). read_dir c.args.self.now.stores.stores.map (segments q.bytes)) (sym c.in_ok-copy_of.ensures) ∙ c.in-Ok.ensures.ok in
     IfErr-weaker c.member_paths.result _ _ (λ e h. elim h [
       | inl lacks ↦ inl lacks
-      | inr odd ↦ inr (odd.0, odd_told c.args.self.now.stores.map (segments c.args.place.now.bytes) c.in-Ok.entries.items odd.1.0 was (subst (λ es. Contains es odd.1.0) c.deref.ensures.value odd.1.1) odd.1.2)
+      | inr odd ↦ inr (odd.0, odd_told c.args.self.now.stores.stores.map (segments c.args.place.now.bytes) c.in-Ok.entries.items odd.1.0 was (subst (λ es. Contains es odd.1.0) c.deref.ensures.value odd.1.1) odd.1.2)
     ]) c.member_paths.ensures.err
 
 pub returns-in-Err-NotFound-clause-ok : goal.returns-in-Err-NotFound-clause-ok
 returns-in-Err-NotFound-clause-ok g c =
-    let m = c.args.self.now.stores.map in
+    let m = c.args.self.now.stores.stores.map in
     let shape : IsResourceMap m = subst IsResourceMap
     (ap (λ (s : State). s.map) c.list.ensures.looks.live) c.list.ensures.shape in
     let lacks : LacksKind Folder m (segments c.args.place.now.bytes) c.in-Err-NotFound.field-0 =
@@ -44,16 +44,16 @@ returns-in-Err-NotFound-clause-ok g c =
 
 pub returns-in-Ok-clause-plain : goal.returns-in-Ok-clause-plain
 returns-in-Ok-clause-plain g c =
-    let was : read_dir c.args.self.now.stores.map (segments c.args.place.now.bytes)
+    let was : read_dir c.args.self.now.stores.stores.map (segments c.args.place.now.bytes)
     ≡ Ok (map listed_entry c.in-Ok.entries.items) =
-    ap (λ (q : PathText). read_dir c.args.self.now.stores.map (segments q.bytes))
+    ap (λ (q : PathText). read_dir c.args.self.now.stores.stores.map (segments q.bytes))
     (sym c.in_ok-copy_of.ensures) ∙ c.in-Ok.ensures.ok in
-    named_all c.member_paths.result c.args.self.now.stores.map
+    named_all c.member_paths.result c.args.self.now.stores.stores.map
     (segments c.args.place.now.bytes) c.in-Ok.entries.items c.deref.result.now was c.deref.ensures.value c.member_paths.ensures.plain
 
 pub returns-in-Err-NotFound-clause-plain : goal.returns-in-Err-NotFound-clause-plain
 returns-in-Err-NotFound-clause-plain g c =
-    let m = c.args.self.now.stores.map in
+    let m = c.args.self.now.stores.stores.map in
     let shape : IsResourceMap m = subst IsResourceMap
     (ap (λ (s : State). s.map) c.list.ensures.looks.live) c.list.ensures.shape in
     let lacks : LacksKind Folder m (segments c.args.place.now.bytes) c.in-Err-NotFound.field-0 =

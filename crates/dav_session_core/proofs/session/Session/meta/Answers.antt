@@ -9,5 +9,5 @@ use Rattle.dav_session_core.proofs.session.Session.meta.Goals as goal
 
 pub returns-clause-found : goal.returns-clause-found
 returns-clause-found g c = sym (ap (option_map (λ (r : Resource). meta_at r.node))
-    (meta_refused (spec.caller c.args.self.now) (segments c.args.path.bytes) (spec.state g.R.Rng.stream c.args.self.now) (spec.state g.R.Rng.stream c.ask.new.self)
+    (meta_refused (spec.caller c.args.self.now) (segments c.args.path.bytes) (spec.state g.R.Rng.stream c.args.self.now) (spec.state g.R.Rng.stream c.look.new.self)
     (refusal_of c.in-Err.field-0) c.in-Err.ensures.step))

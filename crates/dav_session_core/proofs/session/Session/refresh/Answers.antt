@@ -14,4 +14,4 @@ returns-in-Ok-clause-ok g c =
     let p = segments c.args.path.bytes in
     let token = string_bytes c.args.token in
     refreshed_own who (live who.now s) (spec.state g.R.Rng.stream c.ask.new.self) p token c.args.timeout (reply_of c.in-Ok.field-0)
-    (all_are_own (live who.now s) who p token c.requires.own) c.in-Ok.ensures.step
+    (all_are_own (live who.now s) who p token c.requires.own) c.in-Ok.ensures.asked

@@ -1,41 +1,29 @@
-use Rattle.std.proofs.Common.{map, ap, subst}
-use Rattle.dav_path_core.specs.Segments.{segments}
-use Rattle.dav_resource_core.specs.Served.{answer_of}
+use Rattle.std.proofs.Common.{◌∙◌, subst}
+use Rattle.std.proofs.lemmas.Result.{err_from_is_err_and}
 use Rattle.dav_session_core.specs.Callers.{live}
+use Rattle.dav_session_core.specs.Removing.{IsRemoved}
 use Rattle.dav_session_core.specs.Sessions as spec
-use Rattle.dav_session_core.proofs.RemovalLemmas.{Removing, removing_as, removing_begun, removing_ended}
-use Rattle.dav_path_core.proofs.paths.SubtreePaths.{nothing_left}
-use Rattle.dav_session_core.proofs.Looking.{acts_none, acts_on}
+use Rattle.dav_session_core.specs.Unhindered.{WhereRemovable, paths_of}
+use Rattle.dav_session_core.proofs.Looking.{acts_before, acts_on, from_before}
 use Rattle.dav_session_core.proofs.session.Session.remove_all.Goals as goal
 
-pub loop-path-init : goal.loop-path-init
-loop-path-init g c =
-    let who = spec.caller c.args.self.now in
-    let start = spec.state g.R.Rng.stream c.args.self.now in
-    record {
-      acts = acts_none g.R.Rng.stream c.args.self.now;
-      removing = λ p no_root stood walk free. removing_begun who p start (map (λ q. segments q.bytes) c.args.places.items) stood walk free;
-    }
-
-pub loop-path-preserved : goal.loop-path-preserved
-loop-path-preserved g c =
-    let who = spec.caller c.args.self.now in
-    let start = spec.state g.R.Rng.stream c.args.self.now in
-    let mid = spec.state g.R.Rng.stream c.loop-path.self in
-    let after = spec.state g.R.Rng.stream c.change.new.self in
-    record {
-      acts = acts_on c.loop-path.invariant.acts c.change.ensures.acts;
-      removing = λ p no_root stood walk free.
-          removing_as (λ q. segments q.bytes) who (spec.caller c.loop-path.self) p (live who.now start) mid after c.loop-path.places.items c.pop.new.self.items c.in-Some.path
-          (answer_of c.change.result) no_root c.loop-path.invariant.acts.who c.in-Some.ensures.items (c.loop-path.invariant.removing p no_root stood walk free) c.change.ensures.step;
-    }
-
 pub returns-clause-removed : goal.returns-clause-removed
-returns-clause-removed g c = λ p no_root stood walk free.
-    let who = spec.caller c.args.self.now in
-    let start = spec.state g.R.Rng.stream c.args.self.now in
-    let last = spec.state g.R.Rng.stream c.loop-path.self in
-    removing_ended who p (live who.now start) last
-    (subst (λ xs. Removing who p (live who.now start) xs last)
-    (ap (map (λ q. segments q.bytes)) (nothing_left c.loop-path.places.items c.loop-path.places.len c.loop-path.places.ok.0 c.in_default.ensures.cases.0))
-    (c.loop-path.invariant.removing p no_root stood walk free))
+returns-clause-removed g c =
+    from_before (λ w s. WhereRemovable (live w.now s) w (paths_of c.args.places.items) (λ p. IsRemoved w.now p (live w.now s) (spec.state g.R.Rng.stream c.remove_each.new.self)))
+    c.make_room.ensures.same c.remove_each.ensures.removed
+
+pub returns-in_err-make_room-clause-acts : goal.returns-in_err-make_room-clause-acts
+returns-in_err-make_room-clause-acts g c = acts_before c.make_room.ensures.same
+
+pub returns-clause-acts : goal.returns-clause-acts
+returns-clause-acts g c = acts_on (acts_before c.make_room.ensures.same) c.remove_each.ensures.acts
+
+pub returns-in_err-make_room-clause-refused : goal.returns-in_err-make_room-clause-refused
+returns-in_err-make_room-clause-refused g c =
+    let q = err_from_is_err_and c.from_residual.result c.from_residual.ensures.1 in
+    rw q.1 c.make_room.ensures.same
+
+pub remove_each-requires : goal.remove_each-requires
+remove_each-requires g c = record {
+  room = subst (λ n. spec.HasRoomForNotes n c.make_room.new.self) (c.len.ensures ∙ c.args.places.ok.0) c.in_ok-make_room.ensures.ok;
+}

@@ -1,8 +1,12 @@
 use Rattle.std.specs.Prelude.{string_bytes}
+use Rattle.std.proofs.lemmas.Result.{err_from_is_err_and}
 use Rattle.dav_path_core.specs.Segments.{segments}
+use Rattle.dav_resource_core.specs.Requests.{Command}
 use Rattle.dav_resource_core.specs.Served.{answer_of}
-use Rattle.dav_session_core.specs.Callers.{live}
+use Rattle.dav_resource_core.specs.Step.{Serves}
+use Rattle.dav_session_core.specs.Callers.{asking, live}
 use Rattle.dav_session_core.specs.Sessions as spec
+use Rattle.dav_session_core.proofs.Looking.{from_before, looks_before, requests_of, requests_on}
 use Rattle.dav_session_core.proofs.OwnLemmas.{own_ends}
 use Rattle.dav_session_core.proofs.session.Session.unlock.Goals as goal
 
@@ -10,5 +14,20 @@ pub returns-clause-ends : goal.returns-clause-ends
 returns-clause-ends g c =
     let who = spec.caller c.args.self.now in
     let s = spec.state g.R.Rng.stream c.args.self.now in
-    own_ends who (live who.now s) (spec.state g.R.Rng.stream c.ask.new.self) (segments c.args.path.bytes) (string_bytes c.args.token)
-    (answer_of c.ask.result) c.requires.covered c.requires.own c.ask.ensures.step
+    let p = segments c.args.path.bytes in
+    let token = string_bytes c.args.token in
+    let after = spec.state g.R.Rng.stream c.ask.new.self in
+    own_ends who (live who.now s) after p token (answer_of c.ask.result) c.requires.covered c.requires.own
+    (from_before (λ w t. Serves (live w.now t) (asking w (Command.Unlock p token)) (answer_of c.ask.result) after) c.make_room.ensures.same
+    (c.ask.ensures.step c.in_ok-make_room.ensures.ok))
+
+pub returns-in_err-make_room-clause-requests : goal.returns-in_err-make_room-clause-requests
+returns-in_err-make_room-clause-requests g c = requests_of (looks_before c.make_room.ensures.same)
+
+pub returns-clause-requests : goal.returns-clause-requests
+returns-clause-requests g c = requests_on (looks_before c.make_room.ensures.same) c.ask.ensures.requests
+
+pub returns-in_err-make_room-clause-refused : goal.returns-in_err-make_room-clause-refused
+returns-in_err-make_room-clause-refused g c =
+    let q = err_from_is_err_and c.from_residual.result c.from_residual.ensures.1 in
+    rw q.1 c.make_room.ensures.same

@@ -4,10 +4,10 @@ use Rattle.std.proofs.lemmas.Result.{err_from_is_err_and}
 use Rattle.dav_path_core.specs.Fronts.{Path}
 use Rattle.dav_path_core.specs.PathText.{PathText}
 use Rattle.dav_path_core.specs.Segments.{segments}
-use Rattle.dav_headers_core.specs.declared.davheaders.depths.Depth.TheVariants as depth
 use Rattle.dav_resource_core.specs.Step.{State}
 use Rattle.dav_session_core.specs.MemberPaths.{paths_of_members}
 use Rattle.dav_session_core.specs.Sessions as spec
+use Rattle.dav_session_core.proofs.Looking.{looks_on}
 use Rattle.dav_session_core.proofs.PlaceLemmas.{nowhere_odd}
 use Rattle.dav_session_core.proofs.session.Session.with_members.Goals as goal
 
@@ -32,3 +32,9 @@ returns-clause-ok g c =
     ∙ ap (λ (q : PathText). segments q.bytes ∷ map
     (λ p. segments p.bytes) c.in_ok-members.members.items) c.in_ok-copy_of.ensures
     ∙ ap (λ (ps : List Path). p ∷ ps) there
+
+pub returns-in_err-append-clause-looks : goal.returns-in_err-append-clause-looks
+returns-in_err-append-clause-looks g c = looks_on c.place_alone.ensures.looks c.members.ensures.looks
+
+pub returns-clause-looks : goal.returns-clause-looks
+returns-clause-looks g c = looks_on c.place_alone.ensures.looks c.members.ensures.looks

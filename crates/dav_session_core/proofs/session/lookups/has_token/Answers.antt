@@ -11,7 +11,7 @@ use Rattle.dav_session_core.proofs.session.lookups.has_token.Goals as goal
 
 pub returns-clause-ok : goal.returns-clause-ok
 returns-clause-ok g c =
-    let s = live c.args.session.now.request.now.0 (spec.state g.R.Rng.stream c.args.session.now) in
+    let s = live (spec.caller c.args.session.now).now (spec.state g.R.Rng.stream c.args.session.now) in
     c.any_has.ensures
     ∙ ap (list_any (λ (l : Lock). bytes_eq l.token c.args.token.now)) (c.deref.ensures.value ∙ c.in_ok-locks.ensures.ok)
     ∙ any_discovered (λ (l : Lock). bytes_eq l.token c.args.token.now) s.locks (segments c.in_ok-copy_of.field-0.bytes)

@@ -8,7 +8,7 @@ use Rattle.dav_session_core.specs.Removing.{refusing_removal}
 use Rattle.dav_session_core.specs.Sessions as spec
 use Rattle.dav_session_core.specs.Subtrees.{IsSubtreeWalk}
 use Rattle.dav_session_core.proofs.RemovalLemmas.{Removing}
-use Rattle.dav_session_core.proofs.session.Session.remove_all.Given as goal
+use Rattle.dav_session_core.proofs.session.Session.remove_each.Given as goal
 
 abbrev pub invariant-loop-path : goal.invariant-loop-path
 invariant-loop-path g l =
@@ -17,6 +17,7 @@ invariant-loop-path g l =
     let all = map (λ q. segments q.bytes) l.fn.places.items in
     record {
       acts : spec.Acts g.R.Rng.stream l.fn.self l.self;
+      room : spec.HasRoomForNotes (length l.places.items) l.self;
       removing : (p : Path) → p ≢ [] → IsSome (at_path start.map p) → IsSubtreeWalk start.map p all → refusing_removal (live who.now start) who all ≡ []
           → Removing who p (live who.now start) (map (λ q. segments q.bytes) l.places.items) (spec.state g.R.Rng.stream l.self);
     }

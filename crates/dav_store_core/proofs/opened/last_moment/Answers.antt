@@ -1,6 +1,6 @@
 use Rattle.std.proofs.Common.{◌≤◌, arith}
 use Rattle.dav_store_core.proofs.MomentLemmas.{goes_back, last_now, ordered_on}
-use Rattle.dav_store_core.proofs.opening.last_moment.Goals as goal
+use Rattle.dav_store_core.proofs.opened.last_moment.Goals as goal
 
 pub returns-then-note-last-clause-none : goal.returns-then-note-last-clause-none
 returns-then-note-last-clause-none c = λ _.

@@ -1,7 +1,7 @@
 use Rattle.std.proofs.Common.{◌≡◌, take, map}
 use Rattle.dav_notes_core.specs.Noting.{note_of}
 use Rattle.dav_store_core.specs.StandingFor.{NeverBack, last_moment_of}
-use Rattle.dav_store_core.proofs.opening.last_moment.Given as goal
+use Rattle.dav_store_core.proofs.opened.last_moment.Given as goal
 
 -- the notes so far are in order
 abbrev pub invariant-looking : goal.invariant-looking

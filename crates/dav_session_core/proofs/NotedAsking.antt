@@ -1,0 +1,48 @@
+-- What a session asks of its stores, as steps of its state.
+use Rattle.std.proofs.Common.{◌≡◌, ◌≤◌, ℕ, Bool, true, List, sym, ◌∙◌, ap, subst}
+use Rattle.std.proofs.lemmas.Bool.{false_from_ne_true}
+use Rattle.rand_core.specs.Stream.{Stream, fill_bytes}
+use Rattle.dav_resource_core.specs.Requests.{Answer, Command, Refusal, OutOfMemory}
+use Rattle.dav_resource_core.specs.Step.{Step}
+use Rattle.dav_resource_core.specs.Stores.{Stores, state_of}
+use Rattle.dav_notes_core.specs.Ahead.{ahead, drawn_on, was_granted}
+use Rattle.dav_notes_core.specs.Noting.{drawn_for}
+use Rattle.dav_notes_core.specs.Seen.{Seen}
+use Rattle.dav_notes_core.specs.Stepping.{AnsweredBy}
+use Rattle.dav_notes_core.proofs.AheadLemmas.{asked_step}
+use Rattle.dav_session_core.specs.declared.session.Session.{Session}
+use Rattle.dav_session_core.specs.Callers.{Caller, IsUndone, asking, is_look}
+use Rattle.dav_session_core.specs.Sessions.{KeepsRoom, noting, state}
+
+module _ {R : Type 0} (stream : R → Stream) (old new : Session R) where
+  -- what is asked of the stores by this caller is a step
+  pub step_by : (who : Caller) (c : Command) (a : Answer) → AnsweredBy (drawn_for c old.stores.next) old.stores.stores (asking who c) a new.stores.stores
+      → (new.stores.next, stream new.rng) ≡ drawn_on (was_granted c a) (old.stores.next, stream old.rng) → Step (state stream old) (asking who c) a (state stream new)
+  step_by who c a h drawn = asked_step who c old.stores.stores new.stores.stores a (old.stores.next, stream old.rng) (new.stores.next, stream new.rng) h drawn
+
+  -- the state as the stores are seen, where nothing is drawn
+  pub state_as : (seen : Seen) → new.stores ≡ seen → stream new.rng ≡ stream old.rng → state stream new ≡ state_of seen.stores (ahead (seen.next, stream old.rng))
+  state_as seen stores rng =
+      ap (λ (it : Seen). state_of it.stores (ahead (it.next, stream new.rng))) stores ∙ ap (λ (t : Stream). state_of seen.stores (ahead (seen.next, t))) rng
+
+  -- nothing is done
+  pub undone : (c : Command) (looks : is_look c ≡ true → ⊥) → new.stores ≡ old.stores → stream new.rng ≡ stream old.rng → (e : Refusal) → e ≡ OutOfMemory
+      → IsUndone (state stream old) c e (state stream new)
+  undone c looks stores rng e lacks = record {
+    changes = false_from_ne_true (is_look c) looks;
+    lacks = lacks;
+    same = state_as old.stores stores rng;
+  }
+
+  pub same_noting : new.stores.keeps ≡ old.stores.keeps → new.stores.base ≡ old.stores.base → noting new ≡ noting old
+  same_noting keeps base = ap (λ (b : Bool). (b, new.stores.base)) keeps ∙ ap (λ (xs : List (Stores × ℕ)). (old.stores.keeps, xs)) base
+
+  -- the room stays
+  pub room_kept : new.stores.keeps ≡ old.stores.keeps → new.stores.room ≡ old.stores.room → KeepsRoom old new
+  room_kept keeps room = λ count h kept. subst (λ n. count ≤ n) (sym room) (h (sym keeps ∙ kept))
+
+-- a new session, whose first bytes are drawn ahead
+pub new_state : {R : Type 0} (stream : R → Stream) (s : Session R) (stores : Stores) (t : Stream) → s.stores.stores ≡ stores → (s.stores.next, stream s.rng) ≡ fill_bytes 16 t
+    → state stream s ≡ state_of stores (ahead (fill_bytes 16 t))
+new_state stream s stores t are drawn =
+    ap (λ (x : Stores). state_of x (ahead (s.stores.next, stream s.rng))) are ∙ ap (λ (a : List ℕ × Stream). state_of stores (ahead a)) drawn

@@ -1,0 +1,84 @@
+//! How the stores of a journal are read from any source, which needs no lock and writes nothing.
+ghost use Rattle.std.specs.Prelude.{◌≡◌, ◌+◌, ◌^◌, ◌≤◌, ℕ, List, [], Ok, Err, true, false};
+ghost use Rattle.std.specs.Prelude.{IfErr, IfOk, length};
+ghost use Rattle.journal_core.specs.JournalReading.{HasEnded, IsReading, header_of};
+ghost use Rattle.dav_store_core.specs.Loading.{HasLoadCause, IsDamage, IsPlayed};
+ghost use Rattle.dav_store_core.specs.Loading.{StandsForNone, StopsThere};
+ghost use Rattle.dav_store_core.specs.StandingFor.{StandFor};
+
+use crate::error::StoreError;
+use crate::opened::{Opened, Setback, take_record};
+use dav_resource_core::errors::FsResult;
+use dav_resource_core::fs::Moment;
+use dav_resource_core::guarded::Guarded;
+use journal_core::{JournalError, Reader, Source};
+use std::alloc::Global;
+
+impl Opened {
+    /// The stores of no record: a root folder alone, at the moment that the header names (own).
+    /// `InsufficientStorage` where there is no memory for it.
+    pub fn new(alloc: Global, reader: &Reader) -> FsResult<Opened>
+        ensures { IfOk result (λ o. StandFor (header_of reader.now).began [] o.stores o.last.0) }
+    {
+        let last = Moment(reader.header().began);
+        let stores = Guarded::new(alloc, last)?;
+        Ok(Opened { stores, last })
+    }
+
+    /// Reads the next record from a source, and plays it behind those before, of which there were so
+    /// many (own). False at the end of the journal.
+    ///
+    /// - `Damaged`: the record with that number, counted from 0, is none; or a note of it is of a
+    ///   moment before the last one, or cannot be done, with any memory.
+    /// - `Journal`: the record is not read, as `Reader::next` says; or there is no memory.
+    pub fn read_next<N, S: Source<N>>(
+        &mut self,
+        alloc: Global,
+        source: &mut S,
+        reader: &mut Reader,
+        note: &N,
+        number: u64,
+    ) -> Result<bool, StoreError>
+        requires usable { S.is_usable source.old }
+        ensures on { result ≡ Ok true → (file : List ℕ) (began : ℕ)
+            → IsPlayed (IsReading S.is_at S.is_honest source.old reader.old file) began number
+            self.old.stores self.old.last.0
+            → IsPlayed (IsReading S.is_at S.is_honest source.new reader.new file) began
+            (number + 1) self.new.stores self.new.last.0 }
+        // At the end the stores are those that the file stands for, unless a read lied.
+        ensures ends { result ≡ Ok false → (file : List ℕ) (began : ℕ)
+            → IsPlayed (IsReading S.is_at S.is_honest source.old reader.old file) began number
+            self.old.stores self.old.last.0
+            → S.is_honest source.new
+            → IsPlayed (HasEnded reader.new file) began number self.new.stores
+            self.new.last.0 }
+        // A file that stands for stores is never refused for what it holds.
+        ensures damaged { IfErr result (λ e. IsDamage e → (file : List ℕ) (began : ℕ)
+            → IsPlayed (IsReading S.is_at S.is_honest source.old reader.old file) began number
+            self.old.stores self.old.last.0
+            → S.is_honest source.new → StandsForNone began file) }
+        ensures cause { IfErr result (λ e. (file : List ℕ) (began : ℕ)
+            → IsPlayed (IsReading S.is_at S.is_honest source.old reader.old file) began number
+            self.old.stores self.old.last.0
+            → HasLoadCause (S.fails source.old source.new) (StopsThere
+            (IsReading S.is_at S.is_honest source.new reader.new file) began) e) }
+        ensures large { result ≡ Err (StoreError.Journal JournalError.TooLarge)
+            → (file : List ℕ) (began : ℕ)
+            → IsPlayed (IsReading S.is_at S.is_honest source.old reader.old file) began number
+            self.old.stores self.old.last.0
+            → S.is_honest source.new → 2 ^ 64 ≤ length file }
+        ensures begun { header_of reader.new ≡ header_of reader.old }
+        ensures honest { S.is_honest source.new → S.is_honest source.old }
+        ensures looks { S.looks note.now source.old source.new }
+        ensures usable { S.is_usable source.new }
+    {
+        if !reader.next(source, note)? {
+            return Ok(false);
+        }
+        match take_record(alloc, self, reader.record()) {
+            Ok(()) => Ok(true),
+            Err(Setback::Memory) => Err(StoreError::Journal(JournalError::OutOfMemory)),
+            Err(Setback::Damage) => Err(StoreError::Damaged(number)),
+        }
+    }
+}

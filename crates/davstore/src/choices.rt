@@ -1,0 +1,62 @@
+//! The words behind the program's name.
+use std::alloc::{AllocError, Global};
+
+/// Why the words choose nothing.
+#[derive(Clone, Copy)]
+pub enum Unread {
+    /// They aren't of the program's form.
+    Usage,
+    /// There is no memory for them.
+    OutOfMemory,
+}
+
+impl From<AllocError> for Unread {
+    fn from(_error: AllocError) -> Self {
+        Unread::OutOfMemory
+    }
+}
+
+/// What is told of the file.
+#[derive(Drop)]
+pub enum What {
+    /// Whether it is whole.
+    Check,
+    /// What stands in it, at and below this path.
+    List(String),
+    /// What requests changed, and whether with the bytes that they brought.
+    Log(bool),
+}
+
+/// What the words choose.
+#[derive(Drop)]
+pub struct Choices {
+    /// The file.
+    pub path: String,
+    /// What is told of it.
+    pub what: What,
+}
+
+impl Choices {
+    /// A path, and then `check`; or `list` with a folder or without one; or `log`, with `--bodies` or without it. `Usage` where the words are other than that; `OutOfMemory` where there is no memory for them.
+    pub fn of(alloc: Global, words: &[String]) -> Result<Choices, Unread> {
+        let Some((path, rest)) = words.split_first() else {
+            return Err(Unread::Usage);
+        };
+        let what = match rest {
+            [word] if word.as_str() == "check" => What::Check,
+            [word] if word.as_str() == "list" => What::List(String::from_str(alloc, "/")?),
+            [word, folder] if word.as_str() == "list" => {
+                What::List(String::from_str(alloc, folder.as_str())?)
+            }
+            [word] if word.as_str() == "log" => What::Log(false),
+            [word, option] if word.as_str() == "log" && option.as_str() == "--bodies" => {
+                What::Log(true)
+            }
+            _ => return Err(Unread::Usage),
+        };
+        Ok(Choices {
+            path: String::from_str(alloc, path.as_str())?,
+            what,
+        })
+    }
+}

@@ -1,0 +1,59 @@
+//! Why a script is wrong.
+use dav_effects_core::RecordError;
+use dav_notes_core::playing::PlayError;
+use std::alloc::{AllocError, AllocFailed};
+use std::fmt;
+
+/// Why a script is wrong.
+#[derive(Debug, Drop)]
+pub enum Wrong {
+    /// There is no memory.
+    OutOfMemory,
+    /// A path of the script is none.
+    Path,
+    /// A record that was written is not read.
+    Record(RecordError),
+    /// Notes that were read are not played.
+    Played(PlayError),
+    /// The stores that were played are others.
+    Others,
+    /// The stores that were played from the first record on, all at once, are others.
+    OthersAtOnce,
+}
+
+impl From<AllocError> for Wrong {
+    fn from(_error: AllocError) -> Wrong {
+        Wrong::OutOfMemory
+    }
+}
+
+impl<T: Drop> From<AllocFailed<T>> for Wrong {
+    fn from(_error: AllocFailed<T>) -> Wrong {
+        Wrong::OutOfMemory
+    }
+}
+
+impl From<RecordError> for Wrong {
+    fn from(error: RecordError) -> Wrong {
+        Wrong::Record(error)
+    }
+}
+
+impl From<PlayError> for Wrong {
+    fn from(error: PlayError) -> Wrong {
+        Wrong::Played(error)
+    }
+}
+
+impl fmt::Display for Wrong {
+    fn fmt<W: fmt::Write>(&self, f: &mut fmt::Formatter<W>) -> fmt::Result {
+        match self {
+            Wrong::OutOfMemory => f.write_str("out of memory"),
+            Wrong::Path => f.write_str("a path is none"),
+            Wrong::Record(error) => write!(f, "a record is not read: {error:?}"),
+            Wrong::Played(error) => write!(f, "notes are not played: {error:?}"),
+            Wrong::Others => f.write_str("the stores are others"),
+            Wrong::OthersAtOnce => f.write_str("the stores are others, played at once"),
+        }
+    }
+}

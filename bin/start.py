@@ -6,6 +6,7 @@ start.py PROGRAM [WORD..]
 Each crate that the program stands on is proved in a copy of its own, since one rt command keeps others out of every crate below its own. Crates that do not wait for each other are proved side by side. What is proved is
 moved into the crate's folder out/ as soon as it is done, so that a start that was interrupted goes on from there. All that is told goes to standard error.
 """
+import collections
 import fcntl
 import hashlib
 import os
@@ -22,14 +23,15 @@ PARTS = ("src", "specs", "proofs")
 OF_LISTENER = {"--" + name for name in "listen connections connections-per-address idle head rate stall linger grace memory window".split()}
 OF_BOTH = {"--window"}
 # What each program is built with, so that it ends at once, and what its help says.
-BUILT_WITH = {"davserve": ["--help"], "davreplay": ["0"], "davread": []}
+BUILT_WITH = {"davserve": ["--help"], "davstore": ["/dev/null", "check"], "davreplay": ["0"], "davread": []}
 HELP = {
     "davserve": """\
 usage: bin/davserve [PORT] [OPTION VALUE]..
 
-Serves a WebDAV folder on 127.0.0.1 at PORT, else 8080 (0: any that is free), and prints its URL once it listens. It is empty at first, is kept in memory, and is gone when it ends.
+Serves a WebDAV folder on 127.0.0.1 at PORT, else 8080 (0: any that is free), and prints its URL once it listens. With --store a file keeps it; else it is empty at first, and gone when it ends.
 The first start proves the server before it runs it, which takes some time and is told. A first SIGTERM or interrupt lets what has begun go on for a while, a second ends it at once.
 
+  --store FILE                    the file that keeps what is put, through any crash; it is made where it isn't there. What it keeps stands in memory, too
   --scheme http|https             the scheme by which clients come, where a proxy stands between
   --prefix PATH                   the path that the folder stands at, as /dav
   --user-header NAME              the header in which a proxy names the user; without it all requests are one user
@@ -54,6 +56,14 @@ Of the listener in front of it (docs/OPERATIONS.md):
   --linger SECONDS                how long a connection that is over is still read, so that its last answer is seen; 5 without it
   --grace SECONDS                 how long what has begun goes on behind a first SIGTERM; 10 without it
   --memory BYTES                  how much the server may take, 0 for no limit; half of the machine's without it
+""",
+    "davstore": """\
+usage: bin/davstore FILE check
+       bin/davstore FILE list [FOLDER]
+       bin/davstore FILE log [--bodies]
+
+Says of a file of --store whether it is whole, what stands in it, or what changed it (crates/davstore/README.md). It changes nothing there, and may be run beside the server.
+  --help, --version               this text; the kit and the commit
 """,
     "davreplay": """\
 usage: bin/davreplay SEED
@@ -152,8 +162,9 @@ class Times:
 
     def __init__(self, path):
         rows = [line.split() for line in read(path).splitlines() if line and not line.startswith("#")]
-        self.seconds = {name: float(seconds) for name, seconds, _ in rows}
-        self.gigabytes = {name: float(gigabytes) for name, _, gigabytes in rows}
+        # A crate without a row takes as long and as much as most.
+        self.seconds = collections.defaultdict(lambda: 300, {name: float(seconds) for name, seconds, _ in rows})
+        self.gigabytes = collections.defaultdict(lambda: 3, {name: float(gigabytes) for name, _, gigabytes in rows})
         self.wanted = self.taken = 0
 
     def note(self, name, seconds, jobs):

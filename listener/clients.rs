@@ -137,6 +137,21 @@ impl Clients {
         self.arm(key);
     }
 
+    /// Another program comes, which knows of no client: those that have begun are over, and get what was handed out to them. Those that have said nothing stay.
+    pub fn begin_again(&mut self, to: ToProgram) {
+        (self.to, self.is_asked) = (to, false);
+        self.by_number.clear();
+        let keys: Vec<_> = self.by_key.keys().copied().collect();
+        for key in keys {
+            if let Some(client) = self.by_key.get_mut(&key).filter(|client| client.number.is_some()) {
+                client.number = None;
+                client.is_over = true;
+                client.hears = false;
+                self.settle(key);
+            }
+        }
+    }
+
     // ---- What their sockets have.
 
     pub fn handle(&mut self, key: u64, events: u32) {

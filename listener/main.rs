@@ -18,11 +18,12 @@ mod times;
 
 use addresses::{Address, Listener};
 use options::{Options, USAGE};
+use program::{FromProgram, ToProgram};
 use server::{End, Server};
 use std::fmt::Arguments;
 use std::fs::{read_to_string, File};
 use std::io::{self, ErrorKind, Write};
-use std::process::{exit, Child};
+use std::process::{exit, Child, ExitStatus};
 use std::thread::sleep;
 use std::time::{Duration, Instant};
 
@@ -34,6 +35,11 @@ const NO_PROGRAM: i32 = 3;
 const TOO_FEW_FILES: i32 = 4;
 const PROGRAM_ENDED: i32 = 5;
 const FAILED: i32 = 6;
+
+/// By this status the program says that what was changed could not be kept. So often within so long it is run again then.
+const NOT_KEPT: i32 = 5;
+const AGAIN: usize = 3;
+const WITHIN: Duration = Duration::from_secs(60);
 
 /// Files that are no clients': of the program, of signals, of addresses.
 const OTHER_FILES: u64 = 64;
@@ -102,18 +108,46 @@ fn open(word: &str, address: &Address) -> Listener {
 fn serve(options: &Options, listeners: Vec<Listener>) -> io::Result<i32> {
     let signals = File::from(system::signals(&system::STOPS)?);
     let memory = options.memory.unwrap_or_else(half_of_memory);
-    let started = program::start(&options.program, Some(memory).filter(|bytes| *bytes > 0));
-    let name = options.program[0].to_string_lossy();
-    let (mut child, to, from) = started.unwrap_or_else(|error| end(NO_PROGRAM, format_args!("{}: {}", name, error)));
+    let (mut child, to, from) = run(options, memory);
     let most = (options.connections, options.connections_per_address);
     let clients = clients::Clients::new(poll::Poll::new()?, to, options.limits, most, options.window);
     tell(options, &listeners, memory);
     let mut server = Server::new(clients, from, listeners, signals, options.grace)?;
     notify::notify("READY=1");
-    let why = server.run();
-    // The program sees the end of its input.
-    drop(server);
-    Ok(end_of(&mut child, why, options.grace))
+    let mut begun = Vec::new();
+    loop {
+        let why = server.run();
+        let failed = matches!(why, End::Program) && !server.is_stopping() && is_not_kept(&mut child, options.grace);
+        if !failed || !may_begin(&mut begun) {
+            // The program sees the end of its input.
+            drop(server);
+            return Ok(end_of(&mut child, why, options.grace));
+        }
+        say(format_args!("the program could not keep what was changed; all connections are ended, and it is run again"));
+        let (next, to, from) = run(options, memory);
+        child = next;
+        server.begin_again(to, from)?;
+    }
+}
+
+fn run(options: &Options, memory: u64) -> (Child, ToProgram, FromProgram) {
+    let started = program::start(&options.program, Some(memory).filter(|bytes| *bytes > 0));
+    let name = options.program[0].to_string_lossy();
+    started.unwrap_or_else(|error| end(NO_PROGRAM, format_args!("{}: {}", name, error)))
+}
+
+fn is_not_kept(child: &mut Child, grace: u64) -> bool {
+    wait(child, grace.max(1000)).and_then(|status| status.code()) == Some(NOT_KEPT)
+}
+
+/// Whether the program may be run again now; that is noted then.
+fn may_begin(begun: &mut Vec<Instant>) -> bool {
+    begun.retain(|moment| moment.elapsed() < WITHIN);
+    let may = begun.len() < AGAIN;
+    if may {
+        begun.push(Instant::now());
+    }
+    may
 }
 
 fn half_of_memory() -> u64 {
@@ -140,19 +174,24 @@ fn tell(options: &Options, listeners: &[Listener], memory: u64) {
     }
 }
 
-/// Waits for the program to end, as long as the grace lasts, and tells what it was.
-fn end_of(child: &mut Child, why: End, grace: u64) -> i32 {
-    let latest = Instant::now() + Duration::from_millis(if matches!(why, End::Killed) { 0 } else { grace.max(1000) });
-    let status = loop {
+/// Waits for the program to end, and kills it behind so many milliseconds; its status, if that is known.
+fn wait(child: &mut Child, most: u64) -> Option<ExitStatus> {
+    let latest = Instant::now() + Duration::from_millis(most);
+    loop {
         match child.try_wait() {
             Ok(None) if Instant::now() < latest => sleep(Duration::from_millis(5)),
             Ok(None) => {
                 let _ = child.kill();
-                break child.wait().ok();
+                return child.wait().ok();
             }
-            result => break result.ok().flatten(),
+            result => return result.ok().flatten(),
         }
-    };
+    }
+}
+
+/// Waits for the program to end, as long as the grace lasts, and tells what it was.
+fn end_of(child: &mut Child, why: End, grace: u64) -> i32 {
+    let status = wait(child, if matches!(why, End::Killed) { 0 } else { grace.max(1000) });
     let ended = status.map_or("ended".into(), |it| it.to_string());
     match why {
         End::Stopped | End::Killed => return STOPPED,

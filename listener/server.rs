@@ -2,7 +2,8 @@
 use crate::addresses::Listener;
 use crate::clients::{is_want, Clients, FIRST_KEY};
 use crate::notify::notify;
-use crate::program::FromProgram;
+use crate::poll::Poll;
+use crate::program::{FromProgram, ToProgram};
 use crate::say;
 use crate::system::{Event, IN, OUT};
 use std::fs::File;
@@ -49,11 +50,15 @@ pub struct Server {
     is_writing: bool,
 }
 
+fn add_program(poll: &Poll, to: &ToProgram, from: &FromProgram) -> io::Result<()> {
+    poll.add(to.file.as_raw_fd(), 0, TO_PROGRAM)?;
+    poll.add(from.file.as_raw_fd(), IN, FROM_PROGRAM)
+}
+
 impl Server {
     pub fn new(clients: Clients, from: FromProgram, listeners: Vec<Listener>, signals: File, grace: u64) -> io::Result<Server> {
         let poll = &clients.poll;
-        poll.add(clients.to.file.as_raw_fd(), 0, TO_PROGRAM)?;
-        poll.add(from.file.as_raw_fd(), IN, FROM_PROGRAM)?;
+        add_program(poll, &clients.to, &from)?;
         poll.add(signals.as_raw_fd(), IN, SIGNALS)?;
         for (listener, key) in listeners.iter().zip(FIRST_LISTENER..FIRST_KEY) {
             poll.add(listener.file(), IN, key)?;
@@ -72,6 +77,19 @@ impl Server {
             stops,
             is_writing: false,
         })
+    }
+
+    /// Goes on with another program, behind one that has ended.
+    pub fn begin_again(&mut self, to: ToProgram, from: FromProgram) -> io::Result<()> {
+        // The pipes of the other one are closed, and so the poll knows them no more.
+        self.from = from;
+        self.clients.begin_again(to);
+        self.is_writing = false;
+        add_program(&self.clients.poll, &self.clients.to, &self.from)
+    }
+
+    pub fn is_stopping(&self) -> bool {
+        self.stops.is_some()
     }
 
     /// Serves until something ends it.

@@ -3,7 +3,7 @@
 behind.py serve|echo SEED [DEAF]     DEAF: it reads nothing for so many seconds at first
 
 With `serve` it answers lines: `get N` by N bytes, `last N` by N bytes behind which the connection is over, `wait N` by `ok` after so many milliseconds, `put N` and N bytes behind it by `ok` and N, and any other by
-`refused`, behind which the connection is over. With `echo` it sends back what comes. What it tells is cut at random, and so it asks for more. Ends with 0, and says how many connections are left that are neither over nor gone; or with 4 and a reason where a frame is wrong.
+`refused`, behind which the connection is over. At `end N` it ends with this status. With `echo` it sends back what comes. What it tells is cut at random, and so it asks for more. Ends with 0, and says how many connections are left that are neither over nor gone; or with 4 and a reason where a frame is wrong.
 """
 import os
 import random
@@ -134,6 +134,8 @@ class Program:
             it.due = time.monotonic() + count / 1000
         elif word == b"put":
             it.put = it.body = count
+        elif word == b"end":
+            os._exit(count)
         else:
             it.out += b"refused\n"
             it.closes = True

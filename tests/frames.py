@@ -81,12 +81,13 @@ class Client:
 class Listener:
     """Runs a program and speaks its frames for clients: sends no more than is granted, answers `more`, and says what was taken. It never stops reading.
 
+    What the program says on standard error goes to `said`.
     A client takes all that it is told, but for the numbers in `slow`: for these `take` says it. `hear` is called with each piece, and `asked` before the answer to each `more`.
     What the program does wrong by the frames alone stands in `wrong`.
     """
 
-    def __init__(self, words):
-        self.child = subprocess.Popen(words, stdin=subprocess.PIPE, stdout=subprocess.PIPE, stderr=subprocess.DEVNULL)
+    def __init__(self, words, said=subprocess.DEVNULL):
+        self.child = subprocess.Popen(words, stdin=subprocess.PIPE, stdout=subprocess.PIPE, stderr=said)
         self.to, self.of = self.child.stdin.fileno(), self.child.stdout.fileno()
         os.set_blocking(self.to, False)
         self.clients, self.slow, self.told, self.wrong = {}, set(), collections.defaultdict(list), []

@@ -7,7 +7,7 @@
 //   COUNTS=FILE         at the program's end its requests for memory, reads and writes are written there
 //
 // KIND is memory (malloc, calloc, realloc), read, write, short-read or short-write. The program's requests are counted from
-// 1; those of the loader, before it starts, are not.
+// 1; those of the loader, before it starts, are not, nor is what it writes to standard error before it reads.
 #define _GNU_SOURCE
 #include <errno.h>
 #include <fcntl.h>
@@ -30,7 +30,7 @@ static int started;
 static enum kind fault = KINDS;
 static unsigned long first, every, piece;
 static unsigned long counts[KINDS];
-static int listens;
+static int listens, has_read;
 // The last bytes that were written.
 static char written[5];
 
@@ -110,6 +110,7 @@ static ssize_t up_to_clock(int file, const char *bytes, ssize_t count) {
 }
 
 ssize_t read(int file, void *bytes, size_t count) {
+    has_read |= file == 0;
     if (listens && file == 0 && !memcmp(written, "more\n", 5)) {
         written[0] = 0;
         memcpy(bytes, "none\n", 5);
@@ -125,6 +126,8 @@ ssize_t read(int file, void *bytes, size_t count) {
 }
 
 ssize_t write(int file, const void *bytes, size_t count) {
+    if (file == 2 && !has_read)
+        return __write(file, bytes, count);
     int is_short = fails(SHORT_WRITE);
     if (fails(WRITE)) {
         errno = EIO;

@@ -6,7 +6,9 @@ use Rattle.dav_resource_core.specs.declared.guarded.requests.Reply as served
 use Rattle.dav_resource_core.specs.declared.guarded.requests.Refusal as served_refusal
 use Rattle.dav_resource_core.specs.Requests.{Answer, Command, Request}
 use Rattle.dav_resource_core.specs.Served.{answer_of, refusal_of, reply_of}
-use Rattle.dav_resource_core.specs.Stores.{Stores}
+use Rattle.rand_core.specs.Stream.{Stream}
+use Rattle.dav_resource_core.specs.Step.{Step}
+use Rattle.dav_resource_core.specs.Stores.{Stores, state_of}
 use Rattle.dav_notes_core.specs.declared.notes.Note.{Note}
 use Rattle.dav_notes_core.specs.Changes.{is_look}
 use Rattle.dav_notes_core.specs.Noting.{AreChanges, Noted, drawn_for, note_for, note_of}
@@ -69,6 +71,16 @@ as_asked r q a s s' next same h =
     let asked = subst (λ (p : Request). (drawn : Option (List ℕ)) → Draws p.command drawn (stream_giving next) → AnsweredBy drawn s p a s') same h in
     asked (drawn_for q.command next) (draws_as q.command next)
 
+-- the same of a request that is lent
+pub answered_alone : (who : Caller) (c : Command) (r : Request) (a : Answer) (s s' : Stores) (next : List ℕ) (after : Stream) → r ≡ asking who c
+    → Step (state_of s (stream_giving next)) r a (state_of s' after) → AnsweredBy (drawn_for c next) s (asking who c) a s'
+answered_alone who c r a s s' next after same step = record {
+  before = stream_giving next;
+  after = after;
+  draws = draws_as c next;
+  step = subst (λ (q : Request). Step (state_of s (stream_giving next)) q a (state_of s' after)) same step;
+}
+
 -- ---- what is true of noted stores
 
 -- copies of who is the same
@@ -87,6 +99,11 @@ kept_later : (keeps : Bool) (base : List (Stores × ℕ)) (ns : List Noted) (now
     → KeptNotes keeps base ns later s
 kept_later true base ns now later s le h = look_from base ns now later s s h (le refl) refl
 kept_later false base ns now later s le h = h
+
+-- a question is never noted
+pub look_alone : (keeps look : Bool) → look ≡ true → (keeps && not look) ≡ false
+look_alone true look h = ap not h
+look_alone false look h = refl
 
 looked_at : (look : Bool) → not look ≡ false → look ≡ true
 looked_at true h = refl

@@ -16,6 +16,10 @@ sender_of who = record { principal = option_map string_bytes who.principal; toke
 abbrev pub asking : Caller → Command → Request
 asking who command = record { principal = who.principal; tokens = who.tokens; now = who.now; command = command }
 
+-- the caller who asks by a request
+abbrev pub asker_of : Request → Caller
+asker_of request = record { principal = request.principal; tokens = request.tokens; now = request.now }
+
 -- the caller with one token more
 abbrev pub also_naming : Caller → List ℕ → Caller
 also_naming who token =

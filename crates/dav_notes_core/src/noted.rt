@@ -12,8 +12,9 @@ ghost use Rattle.dav_notes_core.specs.Noting.{AreChanges, drawn_for, note_for, n
 ghost use Rattle.dav_notes_core.specs.Seen.{AreCopies, KeptNotes, HasNoteRoom};
 ghost use Rattle.dav_notes_core.specs.Stepping.{AnsweredBy, SameLiveStores};
 
+use crate::drawn::Drawn;
 use crate::notes::{Note, apply_given, is_grant, is_look};
-use crate::senders::{Sender, add_token, asker_of, drop_token, request_by, taken_out};
+use crate::senders::{Sender, add_token, drop_token, give_back, lent, request_by};
 use dav_resource_core::guarded::{Command, Guarded, Refusal, Reply};
 use http_server::Log;
 use rand_core::Rng;
@@ -77,7 +78,8 @@ impl NotedStores {
     {
         let now = who.now.0;
         let base = Log::new().and(&stores, &now);
-        let next = draw_next([0; 16], rng, true);
+        let mut next = [0; 16];
+        draw_next(&mut next, rng, true);
         NotedStores {
             alloc,
             stores,
@@ -117,6 +119,7 @@ impl NotedStores {
     /// Makes one request of the caller (own). It is answered as by `Guarded::apply`, and where it is
     /// done and may have changed something, it is noted, if notes are kept. Room for the note is
     /// taken first: `AllocError` where there is none, and then nothing is done.
+    #[inline]
     pub fn ask<R: Rng>(
         &mut self,
         command: Command,
@@ -146,14 +149,11 @@ impl NotedStores {
     {
         let grants = is_grant(&command);
         if !is_noted(self.keeps, &command) {
-            let alone = answer_alone(
-                &mut self.stores,
-                self.next,
-                &mut self.who,
-                command,
-                self.alloc,
-            );
-            self.next = draw_next(self.next, rng, grants && alone.is_ok());
+            let request = lent(&mut self.who, command, self.alloc);
+            let mut drawn = Drawn { bytes: self.next };
+            let alone = self.stores.apply(&request, &mut drawn);
+            give_back(&mut self.who, request);
+            draw_next(&mut self.next, rng, grants && alone.is_ok());
             return Ok(alone);
         }
         let spare = match spare_of(&self.who, &mut self.spares, &mut self.notes) {
@@ -165,8 +165,26 @@ impl NotedStores {
         };
         let asker = mem::replace(&mut self.who, spare);
         let answer = change(&mut self.stores, &mut self.notes, self.next, asker, command);
-        self.next = draw_next(self.next, rng, grants && answer.is_ok());
+        draw_next(&mut self.next, rng, grants && answer.is_ok());
         Ok(answer)
+    }
+
+    /// Asks one question of the caller, which changes nothing (own). It is answered as by
+    /// `Guarded::apply`.
+    #[inline]
+    pub fn look(&mut self, command: Command) -> Result<Reply, Refusal>
+        requires { is_look (command_of command) ≡ true }
+        ensures step { AnsweredBy (drawn_for (command_of command) self.old.next) self.old.stores
+            (asking self.old.who (command_of command)) (answer_of result) self.new.stores }
+        ensures looks { SameLiveStores self.old.who.now self.old.stores self.new.stores }
+        ensures same { self.new ≡ record self.old { stores = self.new.stores } }
+        ensures shape { IsResourceMap self.new.stores.map }
+    {
+        let request = lent(&mut self.who, command, self.alloc);
+        let mut drawn = Drawn { bytes: self.next };
+        let answer = self.stores.apply(&request, &mut drawn);
+        give_back(&mut self.who, request);
+        answer
     }
 
     /// Makes one request of the caller, who submits one token more for this request alone (own). It
@@ -204,7 +222,7 @@ impl NotedStores {
                 self.alloc,
             ) {
                 Ok(alone) => {
-                    self.next = draw_next(self.next, rng, grants && alone.is_ok());
+                    draw_next(&mut self.next, rng, grants && alone.is_ok());
                     return Ok(alone);
                 }
                 Err(error) => return Err(error),
@@ -219,7 +237,7 @@ impl NotedStores {
         };
         let answer = change(&mut self.stores, &mut self.notes, self.next, asker, command);
         let granted = grants && answer.is_ok();
-        self.next = draw_next(self.next, rng, granted);
+        draw_next(&mut self.next, rng, granted);
         Ok(answer)
     }
 
@@ -265,32 +283,15 @@ impl NotedStores {
 }
 
 // Whether the command is noted where it is done.
+#[inline]
 fn is_noted(keeps: bool, command: &Command) -> bool
     ensures { result ≡ (keeps && not (is_look (command_of command.now))) }
 {
     keeps && !is_look(command)
 }
 
-// A request that is not noted; the caller is moved in and back.
-fn answer_alone(
-    stores: &mut Guarded,
-    next: [u8; 16],
-    who: &mut Sender,
-    command: Command,
-    alloc: Global,
-) -> Result<Reply, Refusal>
-    ensures step { AnsweredBy (drawn_for (command_of command) next) stores.old
-        (asking (sender_of who.old) (command_of command)) (answer_of result) stores.new }
-    ensures who { sender_of who.new ≡ sender_of who.old }
-    ensures shape { IsResourceMap stores.new.map }
-{
-    let request = request_by(taken_out(who, alloc), command);
-    let answer = apply_given(stores, &request, next);
-    *who = asker_of(request);
-    answer
-}
-
-// The same, of the caller with one token more; where there is no memory for that, nothing is done.
+// A request that is not noted, of the caller with one token more; where there is no memory for that,
+// nothing is done.
 fn answer_naming(
     stores: &mut Guarded,
     next: [u8; 16],
@@ -307,7 +308,9 @@ fn answer_naming(
 {
     match add_token(who, token) {
         Ok(()) => {
-            let answer = answer_alone(stores, next, who, command, alloc);
+            let request = lent(who, command, alloc);
+            let answer = apply_given(stores, &request, next);
+            give_back(who, request);
             drop_token(who);
             return Ok(answer);
         }
@@ -337,14 +340,17 @@ fn change(
     ensures shape { IsResourceMap stores.new.map }
 {
     let drawn = bytes_of(&command, next);
-    let request = request_by(asker, command);
-    match apply_given(stores, &request, next) {
+    let note = Note {
+        request: request_by(asker, command),
+        drawn,
+    };
+    match apply_given(stores, &note.request, next) {
         Ok(reply) => {
-            notes.push_reserved(Note { request, drawn });
+            notes.push_reserved(note);
             Ok(reply)
         }
         Err(refusal) => {
-            drop(request);
+            drop(note);
             Err(refusal)
         }
     }
@@ -423,13 +429,11 @@ fn bytes_of(command: &Command, next: [u8; 16]) -> Option<[u8; 16]>
 }
 
 // The bytes of the next token, anew where those were used.
-fn draw_next<R: Rng>(next: [u8; 16], rng: &mut R, used: bool) -> [u8; 16]
-    ensures { (result, R.stream rng.new) ≡ drawn_on used (next, R.stream rng.old) }
+#[inline]
+fn draw_next<R: Rng>(next: &mut [u8; 16], rng: &mut R, used: bool)
+    ensures { (next.new, R.stream rng.new) ≡ drawn_on used (next.old, R.stream rng.old) }
 {
-    if !used {
-        return next;
+    if used {
+        rng.fill_bytes(next);
     }
-    let mut fresh = [0; 16];
-    rng.fill_bytes(&mut fresh);
-    fresh
 }

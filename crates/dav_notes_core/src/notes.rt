@@ -19,6 +19,7 @@ pub struct Note {
 }
 
 /// Whether the command changes nothing (own).
+#[inline]
 pub fn is_look(command: &Command) -> bool
     ensures { result ≡ is_look (command_of command.now) }
 {
@@ -35,6 +36,7 @@ pub fn is_look(command: &Command) -> bool
 }
 
 /// Whether a token is drawn where the command is done (own).
+#[inline]
 pub fn is_grant(command: &Command) -> bool
     ensures { result ≡ grants (command_of command.now) }
 {
@@ -46,6 +48,7 @@ pub fn is_grant(command: &Command) -> bool
 
 /// Makes one request, where a generator gives these bytes (own). It is answered as by
 /// `Guarded::apply`.
+#[inline]
 pub fn apply_given(
     stores: &mut Guarded,
     request: &Request,

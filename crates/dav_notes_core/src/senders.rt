@@ -1,7 +1,7 @@
 //! Who asks.
 ghost use Rattle.std.specs.Prelude.{◌≡◌, ℕ, List, IfOk, OnErr, OnOk, option_map, string_bytes};
 ghost use Rattle.dav_resource_core.specs.Served.{command_of, request_of};
-ghost use Rattle.dav_notes_core.specs.Asking.{Caller, also_naming, asking, sender_of};
+ghost use Rattle.dav_notes_core.specs.Asking.{Caller, also_naming, asker_of, asking, sender_of};
 
 use dav_resource_core::fs::Moment;
 use dav_resource_core::guarded::{Command, Request};
@@ -44,6 +44,7 @@ fn text_copy(text: &Option<String>) -> Result<Option<String>, AllocError>
 }
 
 /// A request of the sender's (own).
+#[inline]
 pub fn request_by(who: Sender, command: Command) -> Request
     ensures { request_of result ≡ asking (sender_of who) (command_of command) }
 {
@@ -60,39 +61,27 @@ pub fn request_by(who: Sender, command: Command) -> Request
     }
 }
 
-/// The sender of a request (own). Its command is let go.
-pub fn asker_of(request: Request) -> Sender
-    ensures { sender_of result ≡ record {
-      principal = (request_of request).principal;
-      tokens = (request_of request).tokens;
-      now = (request_of request).now;
-    } }
+/// A request of the sender's, who lends it the principal and the tokens (own).
+#[inline(always)]
+pub fn lent(who: &mut Sender, command: Command, alloc: Global) -> Request
+    ensures { request_of result ≡ asking (sender_of who.old) (command_of command) }
 {
-    let Request {
-        principal,
-        tokens,
-        now,
+    Request {
+        principal: who.principal.take(),
+        tokens: mem::replace(&mut who.tokens, Vec::new(alloc)),
+        now: who.now,
         command,
-    } = request;
-    drop(command);
-    Sender {
-        principal,
-        tokens,
-        now,
     }
 }
 
-/// Takes the sender out, and leaves nobody (own).
-pub fn taken_out(who: &mut Sender, alloc: Global) -> Sender
-    ensures { sender_of result ≡ sender_of who.old }
+/// Gives the sender of a request back (own). Its command is let go.
+#[inline(always)]
+pub fn give_back(who: &mut Sender, request: Request)
+    ensures { sender_of who.new ≡ asker_of (request_of request) }
 {
-    let now = who.now;
-    let nobody = Sender {
-        principal: None,
-        tokens: Vec::new(alloc),
-        now,
-    };
-    mem::replace(who, nobody)
+    who.principal = request.principal;
+    who.tokens = request.tokens;
+    who.now = request.now;
 }
 
 /// Adds a token to those that are submitted (own). `AllocError` where there is no memory for it.

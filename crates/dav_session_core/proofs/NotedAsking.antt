@@ -9,7 +9,7 @@ use Rattle.dav_notes_core.specs.Ahead.{ahead, drawn_on, was_granted}
 use Rattle.dav_notes_core.specs.Noting.{drawn_for}
 use Rattle.dav_notes_core.specs.Seen.{Seen}
 use Rattle.dav_notes_core.specs.Stepping.{AnsweredBy}
-use Rattle.dav_notes_core.proofs.AheadLemmas.{asked_step}
+use Rattle.dav_notes_core.proofs.AheadLemmas.{asked_step, look_draws_none}
 use Rattle.dav_session_core.specs.declared.session.Session.{Session}
 use Rattle.dav_session_core.specs.Callers.{Caller, IsUndone, asking, is_look}
 use Rattle.dav_session_core.specs.Sessions.{KeepsRoom, noting, state}
@@ -19,6 +19,13 @@ module _ {R : Type 0} (stream : R → Stream) (old new : Session R) where
   pub step_by : (who : Caller) (c : Command) (a : Answer) → AnsweredBy (drawn_for c old.stores.next) old.stores.stores (asking who c) a new.stores.stores
       → (new.stores.next, stream new.rng) ≡ drawn_on (was_granted c a) (old.stores.next, stream old.rng) → Step (state stream old) (asking who c) a (state stream new)
   step_by who c a h drawn = asked_step who c old.stores.stores new.stores.stores a (old.stores.next, stream old.rng) (new.stores.next, stream new.rng) h drawn
+
+  -- a question is a step that draws nothing
+  pub look_step : (who : Caller) (c : Command) (a : Answer) → is_look c ≡ true → AnsweredBy (drawn_for c old.stores.next) old.stores.stores (asking who c) a new.stores.stores
+      → new.stores ≡ record old.stores { stores = new.stores.stores } → stream new.rng ≡ stream old.rng → Step (state stream old) (asking who c) a (state stream new)
+  look_step who c a look h same rng =
+      step_by who c a h
+      (ap (λ (s : Seen). (s.next, stream new.rng)) same ∙ ap (λ (t : Stream). (old.stores.next, t)) rng ∙ sym (look_draws_none c a (old.stores.next, stream old.rng) look))
 
   -- the state as the stores are seen, where nothing is drawn
   pub state_as : (seen : Seen) → new.stores ≡ seen → stream new.rng ≡ stream old.rng → state stream new ≡ state_of seen.stores (ahead (seen.next, stream old.rng))

@@ -108,10 +108,11 @@ impl<R: Rng> Session<R> {
         ensures room { KeepsRoom self.old self.new }
         ensures shape { IsResourceMap (state R.stream self.new).map }
     {
-        self.ask_stores(command)
+        self.stores.look(command)
     }
 
     // Makes one request. All that it leaves follows of what is said here.
+    #[inline(always)]
     fn ask_stores(&mut self, command: Command) -> Result<Reply, Refusal>
         ensures asked { Asked (state R.stream self.old) (caller self.old) (command_of command)
             (answer_of result) (state R.stream self.new) }

@@ -77,3 +77,15 @@ come_back (ns ∷ requests) (bytes ∷ records) from now s t are h =
     )
 come_back [] (bytes ∷ records) from now s t are h = absurd are
 come_back (ns ∷ requests) [] from now s t are h = absurd are
+
+-- records behind others
+pub keeps_join : (s t u : Stores) (last m n : ℕ) (records rest : List (List ℕ)) → KeepsAll s last records t m → KeepsAll t m rest u n → KeepsAll s last (records ++ rest) u n
+keeps_join s t u last m n [] rest a b = subst (λ (v : Stores). KeepsAll v last rest u n) a.0 (subst (λ (k : ℕ). KeepsAll t k rest u n) a.1 b)
+keeps_join s t u last m n (first ∷ records) rest a b = (a.0, a.1, a.2, keeps_join a.0 t u a.1 m n records rest a.3 b)
+
+-- the record of one more list of notes
+pub records_more : (requests : List (List Noted)) (records : List (List ℕ)) (ns : List Noted) (bytes : List ℕ) → AreRecords requests records → IsRecord ns bytes → AreRecords (requests ++ ns ∷ []) (records ++ bytes ∷ [])
+records_more [] [] ns bytes are w = (w, tt)
+records_more (ms ∷ requests) (first ∷ records) ns bytes are w = (are.0, records_more requests records ns bytes are.1 w)
+records_more [] (first ∷ records) ns bytes are w = absurd are
+records_more (ms ∷ requests) [] ns bytes are w = absurd are

@@ -26,7 +26,8 @@ impl Opened {
     }
 
     /// Reads the next record from a source, and plays it behind those before, of which there were so
-    /// many (own). False at the end of the journal.
+    /// many (own). False at the end of the journal. After an error the stores are of no use: a part of
+    /// the record may have been played.
     ///
     /// - `Damaged`: the record with that number, counted from 0, is none; or a note of it is of a
     ///   moment before the last one, or cannot be done, with any memory.

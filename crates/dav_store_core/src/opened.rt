@@ -1,7 +1,7 @@
 //! Stores that records stand for, one record after another.
 ghost use Rattle.std.specs.Prelude.{◌≡◌, ℕ, None, Err, map, IfSome, OnOk};
 ghost use Rattle.dav_notes_core.specs.Noting.{note_of};
-ghost use Rattle.dav_resource_core.specs.Stores.{Stores, start_stores};
+ghost use Rattle.dav_resource_core.specs.Stores.{Stores};
 ghost use Rattle.dav_store_core.specs.StandingFor.{Keeps, NeverBack, last_moment_of};
 
 use dav_effects_core::{RecordError, read};

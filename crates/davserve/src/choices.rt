@@ -63,11 +63,13 @@ pub struct Choices {
     pub clock: Option<u64>,
     /// Whether there is one connection, without frames.
     pub one: bool,
+    /// The file that keeps the stores; without one they are in memory alone.
+    pub store: Option<String>,
 }
 
 impl Choices {
     /// Perhaps `--one`, and behind it options, each with its value, in any order; of one that comes twice the last counts. `Usage` where a word is none
-    /// of these, or a value is missing or isn't one; `OutOfMemory` where there is no memory for it.
+    /// of these, or a value is missing or isn't one, or where stores that a file keeps meet `--one` or a seed; `OutOfMemory` where there is no memory for it.
     pub fn of(alloc: Global, words: &[String]) -> Result<Choices, Unread> {
         let (one, rest) = match words {
             [first, rest @ ..] if first.as_str() == "--one" => (true, rest),
@@ -91,9 +93,13 @@ impl Choices {
             seed: None,
             clock: None,
             one,
+            store: None,
         };
         for pair in rest.chunks_exact(2) {
             choices.set(alloc, pair[0].as_str(), pair[1].as_str())?;
+        }
+        if choices.store.is_some() && (one || choices.seed.is_some()) {
+            return Err(Unread::Usage);
         }
         Ok(choices)
     }
@@ -125,6 +131,8 @@ impl Choices {
             self.waiting = value.parse()?;
         } else if name == "--unfinished" {
             self.unfinished = value.parse()?;
+        } else if name == "--store" {
+            self.store = Some(String::from_str(alloc, store_of(value)?)?);
         } else if name == "--seed" {
             self.seed = Some(value.parse()?);
         } else if name == "--clock" {
@@ -144,6 +152,15 @@ fn window_of(word: &str) -> Result<u64, Unread> {
     match word.parse()? {
         0 => Err(Unread::Usage),
         window => Ok(window),
+    }
+}
+
+// The file that a word names. `Usage` where it names none.
+fn store_of(word: &str) -> Result<&str, Unread> {
+    if word.is_empty() {
+        Err(Unread::Usage)
+    } else {
+        Ok(word)
     }
 }
 

@@ -1,40 +1,44 @@
 //! Serves many connections on standard input and output, in frames, or one without them: a WebDAV server over stores in memory.
 #![tactic(auto)]
 
-ghost use Rattle.std.specs.Prelude.{◌≡◌, None, false};
-
 mod choices;
+mod clock;
+mod limits;
+mod stopped;
+mod stored;
 
 use choices::{Choices, Unread};
+use clock::{SystemClock, first_moment};
 use dav_handler_core::dav::Dav;
 use dav_handler_core::serving::{Clock, Timed, serve_frames, serve_one};
-use dav_resource_core::fs::Moment;
 use dav_resource_core::guarded::Guarded;
-use http_frames::clients::{Bounds, Clients, Windows};
+use http_frames::clients::Clients;
 use http_frames::frames::Frames;
 use http_frames::gate::OneCall;
 use http_frames::serving::End;
 use http_server::{Config, Connection};
+use limits::Limits;
 use line_streams::Fault;
 use rand::make_rng;
 use rand_chacha::ChaCha20Rng;
 use rand_core::{Rng, SeedableRng};
 use std::alloc::AllocError;
-use std::env;
 use std::hash::RandomState;
 use std::io::{self, BufWriter, ErrorKind, Read, Write};
 use std::process::ExitCode;
-use std::time::{SystemTime, UNIX_EPOCH};
-
-// A client may send so many bytes before it is granted more.
-const INTAKE: u64 = 256 * 1024;
+use std::{env, mem};
+use stopped::Stopped;
+use stored::serve_stored;
 
 // How many bytes are written at once.
 const BUFFER: usize = 64 * 1024;
 
+// What is told at the start where no file keeps the stores.
+const IN_MEMORY: &str = "what is stored is in memory alone, and gone when the server ends\n";
+
 // The words that the program takes.
 const USAGE: &str =
-    "usage: davserve [--help] [--one] [--scheme http|https] [--prefix PATH] [--user-header NAME] [--longest-timeout SECONDS] [--propfind-depth finite|infinite] [--max-body BYTES] [--window BYTES] [--waiting BYTES] [--unfinished BYTES] [--seed NUMBER] [--clock NANOSECONDS|frames]\n";
+    "usage: davserve [--help] [--one] [--scheme http|https] [--prefix PATH] [--user-header NAME] [--longest-timeout SECONDS] [--propfind-depth finite|infinite] [--max-body BYTES] [--window BYTES] [--waiting BYTES] [--unfinished BYTES] [--store FILE] [--seed NUMBER] [--clock NANOSECONDS|frames]\n";
 
 fn main(rt: HostRuntime) -> ExitCode {
     let words = match words(&rt) {
@@ -58,35 +62,38 @@ fn main(rt: HostRuntime) -> ExitCode {
         Ok(End::Whole) => ExitCode::SUCCESS,
         Ok(End::Wrong) => ended(&rt, "a frame is wrong\n", 4),
         Ok(End::Cut) => ended(&rt, "a stream failed\n", 1),
-        Err(Fault::OutOfMemory) => ended(&rt, "out of memory\n", 3),
-        Err(Fault::Io) => ended(&rt, "a stream failed\n", 1),
+        Err(Stopped::Stream(Fault::OutOfMemory)) => ended(&rt, "out of memory\n", 3),
+        Err(Stopped::Stream(Fault::Io)) => ended(&rt, "a stream failed\n", 1),
+        Err(Stopped::Unkept(error)) => {
+            let _told = writeln!(rt.stderr(), "a change could not be kept: {error}");
+            ExitCode::from(5)
+        }
+        Err(Stopped::Refused(error)) => {
+            let _told = writeln!(rt.stderr(), "the store is not opened: {error}");
+            ExitCode::from(6)
+        }
     }
 }
 
-// Answers the requests of the connections, with stores that are empty at first.
-fn run(rt: &HostRuntime, choices: Choices) -> Result<End, Fault> {
-    let mut config = Config::default();
-    config.max_body_len = choices.max_body;
+// Answers the requests of the connections, with stores that a file keeps, or that are empty at first and in memory alone.
+fn run(rt: &HostRuntime, mut choices: Choices) -> Result<End, Stopped> {
+    let limits = Limits::of(&choices);
+    if let Some(path) = mem::replace(&mut choices.store, None) {
+        return serve_stored(rt, path.as_str(), limits, choices);
+    }
+    let _told = rt.stderr().write_all(IN_MEMORY.as_bytes());
     let one = choices.one;
-    let windows = Windows {
-        out: choices.window,
-        into: INTAKE,
-        closed: false,
-    };
-    let bounds = Bounds {
-        waiting: choices.waiting,
-        unfinished: choices.unfinished.max(choices.max_body as u64),
-    };
     let clock = SystemClock {
         rt,
         runs: choices.clock.is_none(),
     };
     let mut dav = server(rt, choices)?;
-    if one {
-        serve_single(rt, config, &mut dav)
+    let end = if one {
+        serve_single(rt, limits.config, &mut dav)
     } else {
-        serve_all(rt, config, windows, bounds, Timed { dav, clock })
-    }
+        serve_all(rt, limits, Timed { dav, clock })
+    };
+    Ok(end?)
 }
 
 // A server over stores that are empty.
@@ -95,10 +102,7 @@ fn server(rt: &HostRuntime, choices: Choices) -> Result<Dav<ChaCha20Rng>, Fault>
         Some(seed) => ChaCha20Rng::seed_from_u64(seed),
         None => make_rng(rt)?,
     };
-    let now = match choices.clock {
-        Some(nanoseconds) => Moment(nanoseconds),
-        None => now(rt)?,
-    };
+    let now = first_moment(rt, choices.clock)?;
     let stores = Guarded::new(rt.alloc(), now).map_err(|_| AllocError)?;
     Ok(Dav::new(rt.alloc(), choices.settings, stores, rng, now, false))
 }
@@ -117,12 +121,10 @@ fn serve_single(
 // Serves the connections that the frames on standard input are of.
 fn serve_all(
     rt: &HostRuntime,
-    config: Config,
-    windows: Windows,
-    bounds: Bounds,
+    limits: Limits,
     server: Timed<ChaCha20Rng, SystemClock<'_>>,
 ) -> Result<End, Fault> {
-    let mut clients = Clients::new(rt.alloc(), RandomState::new(rt)?, config, windows, bounds);
+    let mut clients = limits.clients(rt)?;
     let mut server = OneCall {
         service: server,
         spent: false,
@@ -141,29 +143,6 @@ fn serve_streams<R: Rng, C: Clock, I: Read, O: Write>(
     output: &mut O,
 ) -> Result<End, Fault> {
     serve_frames(clients, server, frames, output)
-}
-
-// The system's clock, where it is the one that counts.
-#[derive(Drop)]
-struct SystemClock<'a> {
-    rt: &'a HostRuntime,
-    runs: bool,
-}
-
-impl Clock for SystemClock<'_> {
-    ghost tells = { λ old told new. (new.runs ≡ old.runs) × (old.runs ≡ false → told ≡ None) };
-
-    fn moment(&mut self) -> Option<Moment> {
-        if self.runs { now(self.rt).ok() } else { None }
-    }
-}
-
-// The system's moment, in nanoseconds since 1970.
-fn now(rt: &HostRuntime) -> io::Result<Moment> {
-    match SystemTime::now(rt)?.duration_since(UNIX_EPOCH) {
-        Ok(since) => Ok(Moment(u64::try_from(since.as_nanos()).unwrap_or(u64::MAX))),
-        Err(_) => Ok(Moment(0)),
-    }
 }
 
 // The words behind the program's name; an error where one is no text.

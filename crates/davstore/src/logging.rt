@@ -25,19 +25,23 @@ pub fn log<I: Read + Drop, O: Write + Drop>(
         Err(error) => return Ok(Some(broken(StoreError::Journal(error), 0, 0)?)),
     };
     for number in 0..u64::MAX {
-        let place = reader.place() as u64;
         match reader.next(&mut source, &()) {
             Ok(true) => {}
             Ok(false) => return Ok(None),
-            Err(error) => return Ok(Some(broken(StoreError::Journal(error), number, place)?)),
+            Err(error) => return stopped(StoreError::Journal(error), number, &reader),
         }
         match read(alloc, reader.record()) {
             Ok(notes) => write_notes(alloc, &notes, bodies, output)?,
             Err(RecordError::OutOfMemory) => return Err(AllocError.into()),
-            Err(_) => return Ok(Some(broken(StoreError::Damaged(number), number, place)?)),
+            Err(_) => return stopped(StoreError::Damaged(number), number, &reader),
         }
     }
     Ok(Some(broken(StoreError::Journal(JournalError::TooLarge), 0, 0)?))
+}
+
+// Where the file is broken.
+fn stopped(error: StoreError, number: u64, reader: &Reader) -> io::Result<Option<Seen>> {
+    Ok(Some(broken(error, number, reader.place() as u64)?))
 }
 
 fn write_notes<O: Write + Drop>(

@@ -24,7 +24,7 @@ pub enum Seen {
         error: StoreError,
         /// How many records stand before it.
         records: u64,
-        /// How many bytes the whole rounds before it have, with the header.
+        /// How many bytes the header and the whole rounds have that were read; the round of a record that can't be done is one of these.
         bytes: u64,
     },
 }

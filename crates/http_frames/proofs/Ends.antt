@@ -11,7 +11,7 @@ use Rattle.http_frames.specs.declared.serving.End.TheVariants.{Whole, Wrong, Cut
 use Rattle.http_frames.specs.Clients.{Has, Stands, asked_of, count_begun, config_of, held_at, queue_of, window_of}
 use Rattle.http_frames.specs.ConnectionEvents.{Event, Going, IsNumber, account}
 use Rattle.http_frames.specs.Frames.{IsFrame, IsPart, bytes_at_hand, unread}
-use Rattle.http_frames.specs.Private.Runs.{IsEndFor, IsWrongFor}
+use Rattle.http_frames.specs.FrameSteps.{IsEndFor, IsWrongFor}
 use Rattle.http_frames.proofs.Moments.{either}
 
 -- ---- the end of the input

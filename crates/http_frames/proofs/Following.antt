@@ -13,7 +13,7 @@ use Rattle.http_frames.specs.Clients.{Has, count_begun}
 use Rattle.http_frames.specs.ConnectionEvents.{Event, Closed}
 use Rattle.http_frames.specs.Frames.{IsFrame, bytes_at_hand, unread}
 use Rattle.http_frames.specs.TurnRuns.{AreSaid, RunsInTurns, Breaks, IsEnd, EventsLead, Moments, ServesFrames, WritesAnswers, told_text}
-use Rattle.http_frames.specs.Private.Runs.{GoesOn, IsEndFor, ReadsOn, TakesFrame}
+use Rattle.http_frames.specs.FrameSteps.{GoesOn, IsEndFor, ReadsOn, TakesFrame}
 use Rattle.http_frames.proofs.Ends.{wrong_end}
 use Rattle.http_frames.proofs.Fronts.{whole}
 use Rattle.http_frames.proofs.Happenings.{leads-append, said-append, texts_then}

@@ -11,12 +11,11 @@ use Rattle.http_frames.specs.declared.frames.Head.TheVariants as head
 use Rattle.http_frames.specs.Clients.{Adds, Joins, StaysSo, Takes, asked_of, count_begun, config_of, held_at, queue_of, window_of}
 use Rattle.http_frames.specs.ConnectionEvents.{Event, Came, Rejected, Took, Gone, Clock, Nothing, IsNumber, event_text}
 use Rattle.http_frames.specs.Frames.{BreaksOff, IsFrame}
-use Rattle.http_frames.specs.TurnRuns.{Breaks, BreaksTold, EventDoes, InOrder, IsSaid, TellsAll, turn_in, windows_after}
-use Rattle.http_frames.specs.Private.Runs.{IsWrongFor, TakesFrame}
+use Rattle.http_frames.specs.TurnRuns.{BreaksTold, EventDoes, InOrder, IsSaid, TellsAll, turn_in, turns_of, windows_after}
+use Rattle.http_frames.specs.FrameSteps.{BreaksUnturned, IsWrongFor, TakesFrame}
 use Rattle.http_frames.proofs.Ends.{taken_wrong, unasked}
-use Rattle.http_frames.proofs.Happenings.{one_leads, one_said, told_leads, told_said}
-use Rattle.http_frames.proofs.Moments.{clock_one, joined, joins_line, one, same_line}
-use Rattle.http_frames.proofs.Running.{breaks_still}
+use Rattle.http_frames.proofs.Happenings.{one_leads, one_said, told_leads, told_said, told_turns}
+use Rattle.http_frames.proofs.Moments.{clock_one, joined, joins_line, one, same_line, still}
 
 -- more was taken than was handed out, or of a connection that has not begun
 pub untaken_frame : (h : Option Head) (n count : ℕ) (c : Clients) (r : Bool) → h ≡ Some (head.Taken n count) → IsTrue r ↔ (IsNumber (count_begun c) n × IfSome (held_at c n) (λ (k : Held). count ≤ k.ahead)) → r ≡ false → IsWrongFor c h
@@ -26,9 +25,9 @@ module _ {S : Type 0} (begins : S → ℕ → S → Type 0) (answers : S → Req
   -- one thing
   takes_one : (h : Option Head) (bytes : List ℕ) (e : Event) (c c' : Clients) (s s' : S) (held holds : Option (List ℕ)) → ((text : List ℕ) → IsFrame h bytes text → IsSaid e text) → Adds c c' e
       → InOrder (turn_in e) (queue_of c) (queue_of c') → config_of c' ≡ config_of c → window_of c' ≡ windows_after (window_of c) (e ∷ []) → EventDoes begins answers clocked e s s' → Appends held holds (event_text e)
-      → TakesFrame begins answers clocked true h bytes c c' s s' held holds
-  takes_one h bytes e c c' s s' held holds says adds line config window does wrote = λ text frame.
-      (e ∷ [], one c c' e adds line config window, one_leads begins answers clocked e s s' does, one_said e text (says text frame), rw (append-nil (event_text e)) wrote)
+      → turns_of (e ∷ []) ≡ [] → TakesFrame begins answers clocked true h bytes c c' s s' held holds
+  takes_one h bytes e c c' s s' held holds says adds line config window does wrote plain = λ text frame.
+      (e ∷ [], one c c' e adds line config window, one_leads begins answers clocked e s s' does, one_said e text (says text frame), rw (append-nil (event_text e)) wrote, plain)
 
   -- nothing, since it is wrong
   refused : (h : Option Head) (bytes : List ℕ) (c c' : Clients) (s : S) (held holds : Option (List ℕ)) → c' ≡ c → holds ≡ held → IsWrongFor c h → TakesFrame begins answers clocked false h bytes c c' s s held holds
@@ -40,9 +39,9 @@ module _ {S : Type 0} (begins : S → ℕ → S → Type 0) (answers : S → Req
       → TakesFrame begins answers clocked true (Some (head.Piece n l)) bytes c c' s s held holds
   piece_taken n l bytes c c' s held holds (inl x) joins config window =
       takes_one (Some (head.Piece n l)) bytes (Came n bytes) c c' s s held holds (λ text frame. frame) x.0 (joins_line n c c' joins) config window refl
-      (subst (λ (t : Option (List ℕ)). Appends held t []) (sym x.1) (Appends-nil held))
+      (subst (λ (t : Option (List ℕ)). Appends held t []) (sym x.1) (Appends-nil held)) refl
   piece_taken n l bytes c c' s held holds (inr x) joins config window =
-      takes_one (Some (head.Piece n l)) bytes (Rejected n bytes) c c' s s held holds (λ text frame. frame) x.1 (joins_line n c c' joins) config window refl x.2
+      takes_one (Some (head.Piece n l)) bytes (Rejected n bytes) c c' s s held holds (λ text frame. frame) x.1 (joins_line n c c' joins) config window refl x.2 refl
 
   pub piece_frame : {E : Type 0} (r : Result Bool E) (h : Option Head) (n l : ℕ) (bytes : List ℕ) (c c' : Clients) (s : S) (held holds : Option (List ℕ)) → h ≡ Some (head.Piece n l)
       → IfOk r (λ taken. IsTrue taken ↔ ((0 < n) × (n ≤ count_begun c + 1))) → (r ≡ Ok true → Takes n bytes c c' held holds) → (r ≡ Ok false → (c' ≡ c) × (holds ≡ held)) → Joins n (queue_of c) (queue_of c')
@@ -55,12 +54,12 @@ module _ {S : Type 0} (begins : S → ℕ → S → Type 0) (answers : S → Req
   piece_frame (Err e) h n l bytes c c' s held holds is order takes refuses joins config window = tt
 
   pub piece_breaks : {A E : Type 0} (r : Result A E) (n : ℕ) (c c' : Clients) (s : S) (held holds : Option (List ℕ)) → OnErr r (StaysSo c c' ⊎ Adds c c' (Gone n)) → OnErr r (BreaksOff held holds) → Joins n (queue_of c) (queue_of c')
-      → config_of c' ≡ config_of c → window_of c' ≡ window_of c → OnErr r (Breaks begins answers clocked c c' s s held holds)
+      → config_of c' ≡ config_of c → window_of c' ≡ window_of c → OnErr r (BreaksUnturned begins answers clocked c c' s s held holds)
   piece_breaks (Ok a) n c c' s held holds fails off joins config window = tt
   piece_breaks (Err e) n c c' s held holds (inl stays) off joins config window =
-      breaks_still begins answers clocked c c' s s held holds stays (joins_line n c c' joins) config window refl off
+      ([], still c c' stays (joins_line n c c' joins) config window, refl, (held, Appends-nil held, off), refl)
   piece_breaks (Err e) n c c' s held holds (inr adds) off joins config window =
-      (Gone n ∷ [], one c c' (Gone n) adds (joins_line n c c' joins) config window, one_leads begins answers clocked (Gone n) s s refl, (held, Appends-nil held, off))
+      (Gone n ∷ [], one c c' (Gone n) adds (joins_line n c c' joins) config window, one_leads begins answers clocked (Gone n) s s refl, (held, Appends-nil held, off), refl)
 
   -- ---- the client is gone
 
@@ -68,7 +67,7 @@ module _ {S : Type 0} (begins : S → ℕ → S → Type 0) (answers : S → Req
       → (r ≡ false → c' ≡ c) → queue_of c' ≡ queue_of c → config_of c' ≡ config_of c → window_of c' ≡ window_of c → TakesFrame begins answers clocked r h bytes c c' s s held held
   gone_frame true h n bytes c c' s held is order takes refuses queue config window =
       subst (λ (h : Option Head). TakesFrame begins answers clocked true h bytes c c' s s held held) (sym is)
-      (takes_one (Some (head.Gone n)) bytes (Gone n) c c' s s held held (λ text frame. frame) (takes refl) (same_line c c' queue) config window refl (Appends-nil held))
+      (takes_one (Some (head.Gone n)) bytes (Gone n) c c' s s held held (λ text frame. frame) (takes refl) (same_line c c' queue) config window refl (Appends-nil held) refl)
   gone_frame false h n bytes c c' s held is order takes refuses queue config window =
       refused h bytes c c' s held held (refuses refl) refl (subst (IsWrongFor c) (sym is) (λ events has number. true≢false (sym (order.1 number))))
 
@@ -78,7 +77,7 @@ module _ {S : Type 0} (begins : S → ℕ → S → Type 0) (answers : S → Req
       → queue_of c' ≡ queue_of c → config_of c' ≡ config_of c → window_of c' ≡ window_of c → TakesFrame begins answers clocked r h bytes c c' s s held held
   nothing_frame true h bytes c c' s held is order takes refuses queue config window =
       subst (λ (h : Option Head). TakesFrame begins answers clocked true h bytes c c' s s held held) (sym is)
-      (takes_one (Some head.Nothing) bytes Nothing c c' s s held held (λ text frame. frame) (takes refl) (same_line c c' queue) config window refl (Appends-nil held))
+      (takes_one (Some head.Nothing) bytes Nothing c c' s s held held (λ text frame. frame) (takes refl) (same_line c c' queue) config window refl (Appends-nil held) refl)
   nothing_frame false h bytes c c' s held is order takes refuses queue config window =
       refused h bytes c c' s held held (refuses refl) refl (subst (IsWrongFor c) (sym is) (unasked c (sym order)))
 
@@ -87,7 +86,7 @@ module _ {S : Type 0} (begins : S → ℕ → S → Type 0) (answers : S → Req
   pub clock_frame : (h : Option Head) (m : ℕ) (bytes : List ℕ) (c : Clients) (s s' : S) (held : Option (List ℕ)) → h ≡ Some (head.Clock m) → clocked s m s' → TakesFrame begins answers clocked true h bytes c c s s' held held
   clock_frame h m bytes c s s' held is word =
       subst (λ (h : Option Head). TakesFrame begins answers clocked true h bytes c c s s' held held) (sym is)
-      (λ text frame. (Clock m ∷ [], clock_one c m, one_leads begins answers clocked (Clock m) s s' word, one_said (Clock m) text frame, Appends-nil held))
+      (λ text frame. (Clock m ∷ [], clock_one c m, one_leads begins answers clocked (Clock m) s s' word, one_said (Clock m) text frame, Appends-nil held, refl))
 
   -- ---- the client has taken bytes
 
@@ -101,12 +100,14 @@ module _ {S : Type 0} (begins : S → ℕ → S → Type 0) (answers : S → Req
           (s, refl, told_leads begins answers clocked y.0 s y.2),
           (text, [], sym (append-nil text), frame, told_said y.0 y.2),
           y.3,
+          told_turns y.0 y.2,
         ))
 
-    pub taken_breaks : BreaksTold c1 c2 held holds → Breaks begins answers clocked c c2 s s held holds
+    pub taken_breaks : BreaksTold c1 c2 held holds → BreaksUnturned begins answers clocked c c2 s s held holds
     taken_breaks y = (
       Took n count ∷ y.0,
       joined c c1 c2 (Took n count ∷ []) y.0 (one c c1 (Took n count) adds (same_line c c1 queue) config window) y.1,
       (s, refl, told_leads begins answers clocked y.0 s y.2),
       y.3,
+      told_turns y.0 y.2,
     )

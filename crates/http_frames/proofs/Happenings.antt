@@ -8,7 +8,7 @@ use Rattle.http.specs.declared.request.Request.{Request}
 use Rattle.http_server.specs.declared.response.Response.{Response}
 use Rattle.http_frames.specs.declared.clients.Windows.{Windows}
 use Rattle.http_frames.specs.ConnectionEvents.{Event, Came, Rejected, Took, Gone, Answered, Told, Granted, Awaited, Ended, Clock, Asked, Nothing, Closed, IsOut, event_text}
-use Rattle.http_frames.specs.TurnRuns.{AreSaid, EventDoes, InOrder, IsSaid, EventsLead, WritesUpTo, told_text, turn_in, windows_after}
+use Rattle.http_frames.specs.TurnRuns.{AreSaid, EventDoes, InOrder, IsSaid, EventsLead, WritesUpTo, told_text, turn_in, turns_of, windows_after}
 
 -- ---- the windows
 
@@ -80,6 +80,11 @@ telling closed Closed out = absurd out
 pub told_said : (es : List Event) → All (IsOut false) es → AreSaid es []
 told_said [] all = refl
 told_said (e ∷ es) all = ([], [], refl, (telling false e (All-head (IsOut false) e es all)).said, told_said es (All-tail (IsOut false) e es all))
+
+pub told_turns : (es : List Event) → All (IsOut false) es → turns_of es ≡ []
+told_turns [] all = refl
+told_turns (e ∷ es) all =
+    ap (λ (t : List ℕ). t ++ turns_of es) (telling false e (All-head (IsOut false) e es all)).turn ∙ told_turns es (All-tail (IsOut false) e es all)
 
 module _ {S : Type 0} (begins : S → ℕ → S → Type 0) (answers : S → Request (List ℕ) → Response → S → Type 0) (clocked : S → ℕ → S → Type 0) where
   told_does : (e : Event) (s : S) → IsOut false e → EventDoes begins answers clocked e s s

@@ -57,10 +57,6 @@ module _ {S : Type 0} (begins : S → ℕ → S → Type 0) (answers : S → Req
       → WritesAnswers begins answers clocked c c' s s' held holds
   wrote_still c c' s s' held holds stays line config window same keeps = ([], still c c' stays line config window, same, refl, kept_none held holds keeps)
 
-  pub breaks_still : (c c' : Clients) (s s' : S) (held holds : Option (List ℕ)) → StaysSo c c' → InOrder [] (queue_of c) (queue_of c') → config_of c' ≡ config_of c → window_of c' ≡ window_of c → s' ≡ s → BreaksOff held holds
-      → Breaks begins answers clocked c c' s s' held holds
-  breaks_still c c' s s' held holds stays line config window same off = ([], still c c' stays line config window, same, (held, Appends-nil held, off))
-
   pub breaks_none : (c : Clients) (s : S) (held holds : Option (List ℕ)) → BreaksOff held holds → Breaks begins answers clocked c c s s held holds
   breaks_none c s held holds off = ([], none c, refl, (held, Appends-nil held, off))
 

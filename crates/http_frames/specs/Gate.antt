@@ -10,6 +10,10 @@ pub record CallsOnce {S : Type 0} (answers : S → Request (List ℕ) → Respon
   pub chain : Chain answers old calls new
 
 module _ {S : Type 0} (begins : S → ℕ → S → Type 0) (answers : S → Request (List ℕ) → Response → S → Type 0) where
-  -- nothing was asked of the service; or it was told that a turn of the connection comes, and then called
+  -- it was told that a turn of the connection comes, and then called
+  abbrev pub IsTold : S → ℕ → List Call → S → Type 0
+  IsTold old number calls new = (told : S) × begins old number told × CallsOnce answers told calls new
+
+  -- nothing was asked of the service, or it was told and called
   abbrev pub TakesTurn : S → ℕ → List Call → S → Type 0
-  TakesTurn old number calls new = ((calls ≡ []) × (new ≡ old)) ⊎ ((told : S) × begins old number told × CallsOnce answers told calls new)
+  TakesTurn old number calls new = ((calls ≡ []) × (new ≡ old)) ⊎ IsTold old number calls new

@@ -1,5 +1,6 @@
 pub mod Clients
 pub mod ConnectionEvents
+pub mod FrameSteps
 pub mod Frames
 pub mod Gate
 pub mod Laws

@@ -3,7 +3,7 @@ ghost use Rattle.std.specs.Prelude.{◌≡◌, [], true, false, Ok, IfOk, OnOk, 
 ghost use Rattle.http_frames.specs.Clients.{Has, count_begun};
 ghost use Rattle.http_frames.specs.Frames.{IsPart, bytes_at_hand, unread};
 ghost use Rattle.http_frames.specs.TurnRuns.{RunsInTurns, Breaks, BreaksTold, TellsAll, WritesAnswers};
-ghost use Rattle.http_frames.specs.Private.Runs.{GoesOn, ReadsOn, TakesFrame};
+ghost use Rattle.http_frames.specs.FrameSteps.{BreaksUnturned, GoesOn, ReadsOn, TakesFrame};
 
 use crate::clients::Clients;
 use crate::frames::{Frames, Head};
@@ -89,8 +89,8 @@ fn turn_or_ask<S: TurnService, O: Write>(
     Ok(false)
 }
 
-// Takes what a frame says; false, and nothing is done, where it is wrong.
-fn take_frame<S: TurnService, O: Write>(
+/// Takes what a frame says; false, and nothing is done, where it is wrong. `Io` where the output fails (own).
+pub fn take_frame<S: TurnService, O: Write>(
     clients: &mut Clients,
     service: &mut OneCall<S>,
     head: Option<Head>,
@@ -98,7 +98,7 @@ fn take_frame<S: TurnService, O: Write>(
     output: &mut O,
 ) -> Result<bool, Fault>
     ensures ok { IfOk result (λ right. TakesFrame S.begins S.answers S.clocked right head bytes.now clients.old clients.new service.old.service service.new.service (O.contents output.old) (O.contents output.new)) }
-    ensures err { OnErr result (Breaks S.begins S.answers S.clocked clients.old clients.new service.old.service service.new.service (O.contents output.old) (O.contents output.new)) }
+    ensures err { OnErr result (BreaksUnturned S.begins S.answers S.clocked clients.old clients.new service.old.service service.new.service (O.contents output.old) (O.contents output.new)) }
 {
     match head {
         None => Ok(false),
@@ -136,8 +136,8 @@ fn give_turn<S: TurnService, O: Write>(
     Ok(true)
 }
 
-// Reads on, and begins a round; or tells the end.
-fn read_on<I: Read>(clients: &mut Clients, frames: &mut Frames<I>) -> Result<Option<End>, Fault>
+/// Reads on, and tells the clients so; or tells the end. `Io` where the input fails, `OutOfMemory` where there is no memory for what comes (own).
+pub fn read_on<I: Read>(clients: &mut Clients, frames: &mut Frames<I>) -> Result<Option<End>, Fault>
     ensures ok { IsPart (bytes_at_hand frames.old) → IfOk result (λ end. ReadsOn end clients.old clients.new (unread I.remaining frames.old) (unread I.remaining frames.new)) }
     ensures err { OnErr result (clients.new ≡ clients.old) }
 {
@@ -173,8 +173,8 @@ fn finish<S: TurnService, O: Write>(
     Err(Fault::Io)
 }
 
-// Hands out what waits, to each connection.
-fn tell_all<O: Write>(clients: &mut Clients, output: &mut O) -> Result<(), Fault>
+/// Hands out what waits, to each connection. `Io` where the output fails (own).
+pub fn tell_all<O: Write>(clients: &mut Clients, output: &mut O) -> Result<(), Fault>
     ensures ok { OnOk result (TellsAll clients.old clients.new (O.contents output.old) (O.contents output.new)) }
     ensures err { OnErr result (BreaksTold clients.old clients.new (O.contents output.old) (O.contents output.new)) }
     ensures begun { count_begun clients.new ≡ count_begun clients.old }
@@ -185,8 +185,8 @@ fn tell_all<O: Write>(clients: &mut Clients, output: &mut O) -> Result<(), Fault
     Ok(())
 }
 
-// Ends connections until all fits within the bounds, and hands out what waits for one, as far as its window goes.
-fn tell<O: Write>(clients: &mut Clients, number: u64, output: &mut O) -> Result<(), Fault>
+/// Ends connections until all fits within the bounds, and hands out what waits for one, as far as its window goes. `Io` where the output fails (own).
+pub fn tell<O: Write>(clients: &mut Clients, number: u64, output: &mut O) -> Result<(), Fault>
     ensures ok { OnOk result (TellsAll clients.old clients.new (O.contents output.old) (O.contents output.new)) }
     ensures err { OnErr result (BreaksTold clients.old clients.new (O.contents output.old) (O.contents output.new)) }
     ensures begun { count_begun clients.new ≡ count_begun clients.old }

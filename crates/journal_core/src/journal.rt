@@ -1,7 +1,7 @@
 //! A journal in a file: it is opened, read to its end, and from then on rounds are appended.
 ghost use Rattle.std.specs.Prelude.{◌≡◌, ◌≢◌, ◌⊎◌, ◌+◌, ◌<◌, ◌≤◌, ◌^◌, ◌++◌, [], ◌∷◌, ℕ, List, None, Some, true, false, Ok, Err, length, IsTrue, IsFalse, IfOk, IfErr, IfSome, OnOk, OnErr};
 ghost use Rattle.sqlite_disk.specs.Disk.{MoreFaults, Only};
-ghost use Rattle.journal_core.specs.Clocked.{EachLeaves, GoesAs, SeesSame};
+ghost use Rattle.journal_core.specs.Clocked.{EachLeaves, GoesAs, SeesSame, past_of};
 ghost use Rattle.journal_core.specs.Format.{IsNewFile, StandsFor};
 ghost use Rattle.journal_core.specs.JournalReading.{HasCause, HasReadCause, HasNoHeader, IsNoHeader, IsRefusal, header_of, record_of};
 ghost use Rattle.journal_core.specs.Resting.{IsBeingRead, IsSettled, StandsAtPlace, clocked_of, disk_behind, header_in, is_ready};
@@ -51,6 +51,17 @@ impl<D: Disk, B> Journal<D, B> {
             len: None,
             is_open: false,
         }
+    }
+
+    /// Notes a moment with no call of the disk (own).
+    pub fn note(&mut self, note: &B)
+        ensures noted { past_of (clocked_of self.new) ≡ past_of (clocked_of self.old) ++ (disk_behind self.new, note.now) ∷ [] }
+        ensures disk { disk_behind self.new ≡ disk_behind self.old }
+        ensures settled { (records : List (List ℕ)) → IsSettled D.Disk.seen D.Disk.may_leave D.Disk.is_clean self.old records → IsSettled D.Disk.seen D.Disk.may_leave D.Disk.is_clean self.new records }
+        ensures ready { is_ready self.new ≡ is_ready self.old }
+        ensures header { header_in self.new ≡ header_in self.old }
+    {
+        self.disk.note(note);
     }
 
     /// Opens the file. Where it is new it is made, with this header, and the journal is open: `None`. Else its header is read, and the reader is to be read to its end.

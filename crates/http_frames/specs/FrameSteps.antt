@@ -9,7 +9,7 @@ use Rattle.http_frames.specs.declared.serving.End.{End}
 use Rattle.http_frames.specs.Clients.{Has, count_begun}
 use Rattle.http_frames.specs.ConnectionEvents.{Event, Closed}
 use Rattle.http_frames.specs.Frames.{IsFrame}
-use Rattle.http_frames.specs.TurnRuns.{AreSaid, IsEnd, IsWrong, EventsLead, Moments, ServesFrames, WritesAnswers, told_text}
+use Rattle.http_frames.specs.TurnRuns.{AreSaid, IsEnd, IsWrong, EventsLead, Moments, ServesFrames, WritesAnswers, WritesUpTo, told_text, turns_of}
 
 -- a frame is wrong for these clients, whatever happened to them
 abbrev pub IsWrongFor : Clients → Option Head → Type 0
@@ -25,12 +25,17 @@ ReadsOn None c c' input input' = Moments [] c c' × Keeps input input'
 ReadsOn (Some end) c c' input input' = Moments (Closed ∷ []) c c' × Keeps input input' × IsEndFor c' end input'
 
 module _ {S : Type 0} (begins : S → ℕ → S → Type 0) (answers : S → Request (List ℕ) → Response → S → Type 0) (clocked : S → ℕ → S → Type 0) where
-  -- what a frame says happened; or it is wrong
+  -- what a frame says happened, and no turn was given; or it is wrong
   abbrev pub TakesFrame : Bool → Option Head → List ℕ → Clients → Clients → S → S → Option (List ℕ) → Option (List ℕ) → Type 0
   TakesFrame true h bytes c c' s s' output output' =
       (text : List ℕ) → IsFrame h bytes text
-      → (more : List Event) × Moments more c c' × EventsLead begins answers clocked s more s' × AreSaid more text × Appends output output' (told_text more)
+      → (more : List Event) × Moments more c c' × EventsLead begins answers clocked s more s' × AreSaid more text × Appends output output' (told_text more) × (turns_of more ≡ [])
   TakesFrame false h bytes c c' s s' output output' = (c' ≡ c) × (s' ≡ s) × (output' ≡ output) × IsWrongFor c h
+
+  -- it failed there, and no turn was given
+  abbrev pub BreaksUnturned : Clients → Clients → S → S → Option (List ℕ) → Option (List ℕ) → Type 0
+  BreaksUnturned c c' s s' output output' =
+      (more : List Event) × Moments more c c' × EventsLead begins answers clocked s more s' × WritesUpTo more output output' × (turns_of more ≡ [])
 
   -- it was served, or it is the end
   abbrev pub GoesOn : Option End → Clients → Clients → S → S → Option (List ℕ) → Option (List ℕ) → Option (List ℕ) → Option (List ℕ) → Type 0

@@ -1,0 +1,3 @@
+pub mod BareAnswers
+pub mod BareRuns
+pub mod StandLemmas

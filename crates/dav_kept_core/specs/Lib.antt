@@ -1,0 +1,4 @@
+pub mod BareServers
+pub mod ChangeProps
+pub mod KeptServers
+pub mod Private

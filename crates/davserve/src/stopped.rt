@@ -1,0 +1,60 @@
+//! Why the program ends before its input does.
+use dav_store_core::StoreError;
+use journal_core::JournalError;
+use kept_frames::KeptError;
+use line_streams::Fault;
+use std::alloc::AllocError;
+use std::io;
+
+/// Why the program ends.
+#[derive(Drop)]
+pub enum Stopped {
+    /// A stream failed, or there is no memory.
+    Stream(Fault),
+    /// The file is refused, or could not be opened or read.
+    Refused(StoreError),
+    /// What was changed could not be kept.
+    Unkept(JournalError),
+}
+
+impl From<Fault> for Stopped {
+    fn from(fault: Fault) -> Stopped {
+        Stopped::Stream(fault)
+    }
+}
+
+impl From<AllocError> for Stopped {
+    fn from(_error: AllocError) -> Stopped {
+        Stopped::Stream(Fault::OutOfMemory)
+    }
+}
+
+impl From<io::Error> for Stopped {
+    fn from(error: io::Error) -> Stopped {
+        Stopped::Stream(Fault::from(error))
+    }
+}
+
+impl From<StoreError> for Stopped {
+    fn from(error: StoreError) -> Stopped {
+        match error {
+            StoreError::Journal(JournalError::OutOfMemory) => Stopped::Stream(Fault::OutOfMemory),
+            refused => Stopped::Refused(refused),
+        }
+    }
+}
+
+impl From<JournalError> for Stopped {
+    fn from(error: JournalError) -> Stopped {
+        Stopped::from(StoreError::Journal(error))
+    }
+}
+
+impl From<KeptError> for Stopped {
+    fn from(error: KeptError) -> Stopped {
+        match error {
+            KeptError::Stream(fault) => Stopped::Stream(fault),
+            KeptError::Journal(error) => Stopped::Unkept(error),
+        }
+    }
+}

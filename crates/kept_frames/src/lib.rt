@@ -1,0 +1,13 @@
+//! A server of many connections whose answers are handed out once a journal keeps what they tell of.
+#![tactic(auto)]
+
+mod error;
+mod recording;
+mod rounds;
+mod serving;
+mod told;
+
+pub use error::KeptError;
+pub use recording::Recording;
+pub use serving::serve_kept;
+pub use told::Told;

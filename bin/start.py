@@ -35,6 +35,8 @@ The first start proves the server before it runs it, which takes some time and i
   --scheme http|https             the scheme by which clients come, where a proxy stands between
   --prefix PATH                   the path that the folder stands at, as /dav
   --user-header NAME              the header in which a proxy names the user; without it all requests are one user
+  --users FILE                    the users who may log in, a line NAME:HASH for each (docs/USERS.md); not with --user-header
+  --realm TEXT                    what a client is told it logs in to; davserve without it
   --longest-timeout SECONDS       the longest time that a lock is given; without it a lock may last for ever
   --propfind-depth finite|infinite    whether a PROPFIND of infinite depth is refused
   --max-body BYTES                the most bytes that a request's body may have

@@ -168,9 +168,14 @@ fn tell(options: &Options, listeners: &[Listener], memory: u64) {
     }
     let open: Vec<_> = listeners.iter().filter(|it| it.is_open()).map(Listener::name).collect();
     if !open.is_empty() {
-        let names_users = options.program.iter().any(|word| word == "--user-header");
-        let what = if names_users { "name itself any user, unless only a proxy gets there" } else { "read and change everything" };
-        say(format_args!("whoever reaches {} can {}", open.join(" "), what));
+        let has = |name: &str| options.program.iter().any(|word| word == name);
+        let open = open.join(" ");
+        if has("--users") {
+            say(format_args!("whoever stands between a client and {open} can read passwords, unless only a proxy gets there: no TLS is spoken"));
+        } else {
+            let what = if has("--user-header") { "name itself any user, unless only a proxy gets there" } else { "read and change everything" };
+            say(format_args!("whoever reaches {open} can {what}"));
+        }
     }
 }
 

@@ -11,6 +11,12 @@ const WINDOW: u64 = 256 * 1024;
 // All answers that wait have so many bytes beside the stores', and all requests that have not come whole, if nothing else is said.
 const BOUND: u64 = 256 * 1024 * 1024;
 
+// The realm of a login, if nothing else is said.
+const REALM: &str = "davserve";
+
+/// The field by which the server is told who has logged in. What a client sends under this name is dropped.
+pub const USER: &str = "x-logged-in-user";
+
 // A body may have so many bytes, if nothing else is said.
 const MAX_BODY: usize = 64 * 1024 * 1024;
 
@@ -65,11 +71,14 @@ pub struct Choices {
     pub one: bool,
     /// The file that keeps the stores; without one they are in memory alone.
     pub store: Option<String>,
+    /// The file of the users who may log in, and the realm that they are told; without one nobody logs in.
+    pub users: Option<String>,
+    pub realm: String,
 }
 
 impl Choices {
     /// Perhaps `--one`, and behind it options, each with its value, in any order; of one that comes twice the last counts. `Usage` where a word is none
-    /// of these, or a value is missing or isn't one, or where stores that a file keeps meet `--one` or a seed; `OutOfMemory` where there is no memory for it.
+    /// of these, or a value is missing or isn't one, or where stores that a file keeps meet `--one` or a seed, or users `--one` or a header that names the principal; `OutOfMemory` where there is no memory for it.
     pub fn of(alloc: Global, words: &[String]) -> Result<Choices, Unread> {
         let (one, rest) = match words {
             [first, rest @ ..] if first.as_str() == "--one" => (true, rest),
@@ -94,12 +103,20 @@ impl Choices {
             clock: None,
             one,
             store: None,
+            users: None,
+            realm: String::from_str(alloc, REALM)?,
         };
         for pair in rest.chunks_exact(2) {
             choices.set(alloc, pair[0].as_str(), pair[1].as_str())?;
         }
         if choices.store.is_some() && (one || choices.seed.is_some()) {
             return Err(Unread::Usage);
+        }
+        if choices.users.is_some() {
+            if one || choices.settings.user_header.is_some() {
+                return Err(Unread::Usage);
+            }
+            choices.settings.user_header = Some(HeaderName::from_static(USER));
         }
         Ok(choices)
     }
@@ -132,7 +149,11 @@ impl Choices {
         } else if name == "--unfinished" {
             self.unfinished = value.parse()?;
         } else if name == "--store" {
-            self.store = Some(String::from_str(alloc, store_of(value)?)?);
+            self.store = Some(String::from_str(alloc, file_of(value)?)?);
+        } else if name == "--users" {
+            self.users = Some(String::from_str(alloc, file_of(value)?)?);
+        } else if name == "--realm" {
+            self.realm = String::from_str(alloc, value)?;
         } else if name == "--seed" {
             self.seed = Some(value.parse()?);
         } else if name == "--clock" {
@@ -156,7 +177,7 @@ fn window_of(word: &str) -> Result<u64, Unread> {
 }
 
 // The file that a word names. `Usage` where it names none.
-fn store_of(word: &str) -> Result<&str, Unread> {
+fn file_of(word: &str) -> Result<&str, Unread> {
     if word.is_empty() {
         Err(Unread::Usage)
     } else {

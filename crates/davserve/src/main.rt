@@ -4,6 +4,7 @@
 mod choices;
 mod clock;
 mod limits;
+mod logins;
 mod stopped;
 mod stored;
 
@@ -14,11 +15,12 @@ use dav_handler_core::serving::{Clock, Timed, serve_frames, serve_one};
 use dav_resource_core::guarded::Guarded;
 use http_frames::clients::Clients;
 use http_frames::frames::Frames;
-use http_frames::gate::OneCall;
-use http_frames::serving::End;
+use http_frames::gate::{OneCall, TurnService};
+use http_frames::serving::{End, serve as serve_turns};
 use http_server::{Config, Connection};
 use limits::Limits;
 use line_streams::Fault;
+use logins::login_over;
 use rand::make_rng;
 use rand_chacha::ChaCha20Rng;
 use rand_core::{Rng, SeedableRng};
@@ -38,7 +40,7 @@ const IN_MEMORY: &str = "what is stored is in memory alone, and gone when the se
 
 // The words that the program takes.
 const USAGE: &str =
-    "usage: davserve [--help] [--one] [--scheme http|https] [--prefix PATH] [--user-header NAME] [--longest-timeout SECONDS] [--propfind-depth finite|infinite] [--max-body BYTES] [--window BYTES] [--waiting BYTES] [--unfinished BYTES] [--store FILE] [--seed NUMBER] [--clock NANOSECONDS|frames]\n";
+    "usage: davserve [--help] [--one] [--scheme http|https] [--prefix PATH] [--user-header NAME] [--longest-timeout SECONDS] [--propfind-depth finite|infinite] [--max-body BYTES] [--window BYTES] [--waiting BYTES] [--unfinished BYTES] [--store FILE] [--users FILE] [--realm TEXT] [--seed NUMBER] [--clock NANOSECONDS|frames]\n";
 
 fn main(rt: HostRuntime) -> ExitCode {
     let words = match words(&rt) {
@@ -72,6 +74,15 @@ fn main(rt: HostRuntime) -> ExitCode {
             let _told = writeln!(rt.stderr(), "the store is not opened: {error}");
             ExitCode::from(6)
         }
+        Err(Stopped::NoUsers(error)) => {
+            let _told = writeln!(rt.stderr(), "the file of users is not read: {error}");
+            ExitCode::from(7)
+        }
+        Err(Stopped::WrongUsers(error)) => {
+            let _told = writeln!(rt.stderr(), "the file of users is wrong: {error}");
+            ExitCode::from(7)
+        }
+        Err(Stopped::WrongRealm) => usage(&rt),
     }
 }
 
@@ -83,17 +94,24 @@ fn run(rt: &HostRuntime, mut choices: Choices) -> Result<End, Stopped> {
     }
     let _told = rt.stderr().write_all(IN_MEMORY.as_bytes());
     let one = choices.one;
+    let users = mem::replace(&mut choices.users, None);
+    let realm = mem::replace(&mut choices.realm, String::new(rt.alloc()));
     let clock = SystemClock {
         rt,
         runs: choices.clock.is_none(),
     };
     let mut dav = server(rt, choices)?;
-    let end = if one {
-        serve_single(rt, limits.config, &mut dav)
-    } else {
-        serve_all(rt, limits, Timed { dav, clock })
-    };
-    Ok(end?)
+    if one {
+        return Ok(serve_single(rt, limits.config, &mut dav)?);
+    }
+    let server = Timed { dav, clock };
+    match users {
+        Some(path) => {
+            let login = login_over(rt, path.as_str(), realm.as_str(), server)?;
+            Ok(serve_login(rt, limits, login)?)
+        }
+        None => Ok(serve_all(rt, limits, server)?),
+    }
 }
 
 // A server over stores that are empty.
@@ -133,6 +151,23 @@ fn serve_all(
     let mut frames = Frames::new(rt.alloc(), rt.stdin())?;
     let mut output = BufWriter::with_capacity(rt.alloc(), BUFFER, rt.stdout())?;
     serve_streams(&mut clients, &mut server, &mut frames, &mut output)
+}
+
+// Serves the connections that the frames on standard input are of, behind a login.
+fn serve_login<S: TurnService + Drop>(
+    rt: &HostRuntime,
+    limits: Limits,
+    service: S,
+) -> Result<End, Fault> {
+    let mut clients = limits.clients(rt)?;
+    let mut server = OneCall {
+        service,
+        spent: false,
+        own: 0,
+    };
+    let mut frames = Frames::new(rt.alloc(), rt.stdin())?;
+    let mut output = BufWriter::with_capacity(rt.alloc(), BUFFER, rt.stdout())?;
+    serve_turns(&mut clients, &mut server, &mut frames, &mut output)
 }
 
 // Serves them on any streams. What is proved of it stands on `serve_frames`; it is told here of no streams in particular, so that its check is short.

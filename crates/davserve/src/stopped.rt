@@ -1,5 +1,7 @@
 //! Why the program ends before its input does.
+use dav_login_core::LoginError;
 use dav_store_core::StoreError;
+use dav_users_core::UsersError;
 use journal_core::JournalError;
 use kept_frames::KeptError;
 use line_streams::Fault;
@@ -15,6 +17,12 @@ pub enum Stopped {
     Refused(StoreError),
     /// What was changed could not be kept.
     Unkept(JournalError),
+    /// The file of users could not be read.
+    NoUsers(io::Error),
+    /// A line of it is wrong.
+    WrongUsers(UsersError),
+    /// The realm can't stand between quotes.
+    WrongRealm,
 }
 
 impl From<Fault> for Stopped {
@@ -55,6 +63,24 @@ impl From<KeptError> for Stopped {
         match error {
             KeptError::Stream(fault) => Stopped::Stream(fault),
             KeptError::Journal(error) => Stopped::Unkept(error),
+        }
+    }
+}
+
+impl From<UsersError> for Stopped {
+    fn from(error: UsersError) -> Stopped {
+        match error {
+            UsersError::OutOfMemory => Stopped::Stream(Fault::OutOfMemory),
+            wrong => Stopped::WrongUsers(wrong),
+        }
+    }
+}
+
+impl From<LoginError> for Stopped {
+    fn from(error: LoginError) -> Stopped {
+        match error {
+            LoginError::OutOfMemory => Stopped::Stream(Fault::OutOfMemory),
+            LoginError::Realm => Stopped::WrongRealm,
         }
     }
 }

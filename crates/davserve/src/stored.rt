@@ -5,10 +5,12 @@ ghost use Rattle.journal_core.specs.Resting.{disk_behind};
 use crate::choices::Choices;
 use crate::clock::{SystemClock, first_moment};
 use crate::limits::Limits;
+use crate::logins::login_over;
 use crate::stopped::Stopped;
 use dav_handler_core::dav::Dav;
 use dav_handler_core::serving::{Clock, Timed};
 use dav_kept_core::{Recorded, serve_store};
+use dav_login_core::Login;
 use dav_resource_core::fs::Moment;
 use dav_resource_core::guarded::Guarded;
 use dav_store_core::{Opened, load};
@@ -18,7 +20,7 @@ use http_frames::gate::OneCall;
 use http_frames::serving::End;
 use journal_core::{Header, Journal, Reader};
 use journal_file::open;
-use kept_frames::Told;
+use kept_frames::{Recording, Told, serve_kept};
 use rand::make_rng;
 use rand_chacha::ChaCha20Rng;
 use rand_core::Rng;
@@ -27,6 +29,7 @@ use sqlite_std_file::Wary;
 use std::alloc::{AllocError, Global};
 use std::hash::{BuildHasher, RandomState};
 use std::io::{self, BufWriter, Read, Write};
+use std::mem;
 
 // How many bytes are written at once.
 const BUFFER: usize = 64 * 1024;
@@ -40,10 +43,12 @@ pub fn serve_stored(
     rt: &HostRuntime,
     path: &str,
     limits: Limits,
-    choices: Choices,
+    mut choices: Choices,
 ) -> Result<End, Stopped> {
+    let users = mem::replace(&mut choices.users, None);
+    let realm = mem::replace(&mut choices.realm, String::new(rt.alloc()));
     let buffer = BufWriter::with_capacity(rt.alloc(), BUFFER, rt.stdout())?;
-    let mut output = Told::new(buffer);
+    let output = Told::new(buffer);
     let now = first_moment(rt, choices.clock)?;
     let header = Header {
         generation: 0,
@@ -57,21 +62,27 @@ pub fn serve_stored(
     });
     let opened = read_all(rt.alloc(), &mut journal, found, now, &output)?;
     tell_ahead(rt, opened.last, now);
-    let mut server = OneCall {
-        service: server_over(rt, choices, opened, now, began)?,
-        spent: false,
-        own: 0,
+    let service = server_over(rt, choices, opened, now, began)?;
+    let mut streams = Streams {
+        clients: limits.clients(rt)?,
+        frames: Frames::new(rt.alloc(), rt.stdin())?,
+        output,
     };
-    let mut clients = limits.clients(rt)?;
-    let mut frames = Frames::new(rt.alloc(), rt.stdin())?;
-    serve_on(
-        rt.alloc(),
-        &mut clients,
-        &mut server,
-        &mut frames,
-        &mut journal,
-        &mut output,
-    )
+    match users {
+        Some(path) => {
+            let login = login_over(rt, path.as_str(), realm.as_str(), service)?;
+            serve_login(rt.alloc(), &mut streams, login, &mut journal)
+        }
+        None => serve_on(rt.alloc(), &mut streams, service, &mut journal),
+    }
+}
+
+// The clients, and the streams of their frames.
+#[derive(Drop)]
+struct Streams<I, O> {
+    clients: Clients,
+    frames: Frames<I>,
+    output: O,
 }
 
 // A server over these stores, which began at the moment that is named last, and whose changes are kept.
@@ -100,17 +111,53 @@ fn server_over<'a>(
 }
 
 // Serves them on any streams and any disk. What is proved of it stands on `serve_store`; it is told here of none in particular, so that its check is short.
-fn serve_on<R: Rng, C: Clock, D: Disk, I: Read, O: Write>(
+fn serve_on<R: Rng + Drop, C: Clock + Drop, D: Disk, I: Read, O: Write>(
     alloc: Global,
-    clients: &mut Clients,
-    server: &mut OneCall<Recorded<R, C>>,
-    frames: &mut Frames<I>,
+    streams: &mut Streams<I, O>,
+    service: Recorded<R, C>,
     journal: &mut Journal<D, O>,
-    output: &mut O,
 ) -> Result<End, Stopped>
     requires usable { IsTrue (D.Disk.is_usable (disk_behind journal.old)) }
 {
-    Ok(serve_store(alloc, clients, server, frames, journal, output)?)
+    let mut server = OneCall {
+        service,
+        spent: false,
+        own: 0,
+    };
+    let end = serve_store(
+        alloc,
+        &mut streams.clients,
+        &mut server,
+        &mut streams.frames,
+        journal,
+        &mut streams.output,
+    )?;
+    Ok(end)
+}
+
+// The same behind a login. What is proved of it stands on `serve_kept`.
+fn serve_login<S: Recording + Drop, D: Disk, I: Read, O: Write>(
+    alloc: Global,
+    streams: &mut Streams<I, O>,
+    service: Login<S>,
+    journal: &mut Journal<D, O>,
+) -> Result<End, Stopped>
+    requires usable { IsTrue (D.Disk.is_usable (disk_behind journal.old)) }
+{
+    let mut server = OneCall {
+        service,
+        spent: false,
+        own: 0,
+    };
+    let end = serve_kept(
+        alloc,
+        &mut streams.clients,
+        &mut server,
+        &mut streams.frames,
+        journal,
+        &mut streams.output,
+    )?;
+    Ok(end)
 }
 
 // The stores that the journal keeps; those of a new one are a root folder alone.

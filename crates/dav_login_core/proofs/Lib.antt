@@ -1,0 +1,4 @@
+pub mod DigestLemmas
+pub mod LoginLemmas
+pub mod MessageLemmas
+pub mod RealmLemmas

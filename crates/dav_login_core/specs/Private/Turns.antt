@@ -1,0 +1,72 @@
+-- The calls and the turns of a login are some of the service behind it.
+use Rattle.std.proofs.Common.{◌⊎◌, ◌≤◌, ℕ, List, [], ◌∷◌, length, refl, ap, subst, ◌∙◌, inl, inr, arith}
+use Rattle.http.specs.declared.request.Request.{Request}
+use Rattle.http_server.specs.declared.response.Response.{Response}
+use Rattle.http_server.specs.Exchange.{Call, Chain}
+use Rattle.http_frames.specs.Gate.{CallsOnce, IsTold}
+use Rattle.dav_login_core.specs.CallsBehind.{AreBehind, LeadsBehind, TurnsBehind}
+use Rattle.dav_login_core.specs.declared.login.Login.{Login}
+use Rattle.dav_login_core.specs.LoggedIn.{Door, HandsOn, LoggedIn, LoginState, TurnsAway, PassesOn}
+use Rattle.dav_login_core.specs.LoginViews.{login}
+
+-- no more are passed on than there are
+behind_short : (door : Door) (calls inner : List Call) → AreBehind door calls inner → length inner ≤ length calls
+behind_short door [] inner none = omega (arith, ap length none)
+behind_short door (c ∷ calls) inner (inl refused) = omega (arith, behind_short door calls inner refused.1)
+behind_short door (c ∷ calls) inner (inr passed) = omega (arith, ap length passed.2, behind_short door calls passed.1 passed.4)
+
+module _ {S : Type 0} (begins : S → ℕ → S → Type 0) (answers : S → Request (List ℕ) → Response → S → Type 0) where
+  -- what the login begins, and what it answers
+  abbrev pub LoginBegins : Login S → ℕ → Login S → Type 0
+  LoginBegins old number new = HandsOn begins (login old) number (login new)
+
+  abbrev pub LoginAnswers : Login S → Request (List ℕ) → Response → Login S → Type 0
+  LoginAnswers old request response new = LoggedIn answers (login old) request response (login new)
+
+  one_more : (c : Call) (calls : List Call) (old next new : LoginState S) → LoggedIn answers old c.0 c.1 next → LeadsBehind answers next calls new
+      → LeadsBehind answers old (c ∷ calls) new
+  one_more c calls old next new answered leads = by answered.answer
+    where
+      behind : AreBehind old.door calls leads.inner
+      behind = subst (λ (d : Door). AreBehind d calls leads.inner) answered.door leads.behind
+
+      by : TurnsAway answers old.door old.service c.0 c.1 next.service ⊎ PassesOn answers old.door old.service c.0 c.1 next.service
+          → LeadsBehind answers old (c ∷ calls) new
+      by (inl refuses) = record {
+        inner = leads.inner;
+        behind = inl (refuses.refused, behind);
+        chain = subst (λ (s : S). Chain answers s leads.inner new.service) refuses.stays leads.chain;
+        door = leads.door ∙ answered.door;
+      }
+      by (inr serves) = record {
+        inner = (serves.inner, c.1) ∷ leads.inner;
+        behind = inr (serves.inner, leads.inner, refl, serves.passed, behind);
+        chain = (next.service, serves.answered, leads.chain);
+        door = leads.door ∙ answered.door;
+      }
+
+  -- the calls of a login lead where those behind it lead the service
+  pub leads_behind : (old new : Login S) (calls : List Call) → Chain LoginAnswers old calls new → LeadsBehind answers (login old) calls (login new)
+  leads_behind old new [] same = record {
+    inner = [];
+    behind = refl;
+    chain = ap (λ (l : Login S). l.service) same;
+    door = ap (λ (l : Login S). (login l).door) same;
+  }
+  leads_behind old new (c ∷ calls) chain = one_more c calls (login old) (login chain.0) (login new) chain.1 (leads_behind chain.0 new calls chain.2)
+
+  -- where the login was told of a turn, the service was
+  pub turns_behind : (old new : Login S) (number : ℕ) (calls : List Call) → IsTold LoginBegins LoginAnswers old number calls new
+      → TurnsBehind begins answers (login old) number calls (login new)
+  turns_behind old new number calls told =
+      let leads = leads_behind told.0 new calls told.2.chain in
+      let once : CallsOnce answers told.0.service leads.inner new.service = record {
+        one = omega (arith, told.2.one, behind_short (login told.0).door calls leads.inner leads.behind);
+        chain = leads.chain;
+      } in
+      record {
+        inner = leads.inner;
+        behind = subst (λ (d : Door). AreBehind d calls leads.inner) told.1.door leads.behind;
+        told = (told.0.service, told.1.service, once);
+        door = leads.door ∙ told.1.door;
+      }

@@ -1,0 +1,37 @@
+//! What the contracts lead to.
+ghost use Rattle.std.specs.Prelude.{◌≡◌, ◌<◌, ◌^◌, ℕ, List, length};
+ghost use Rattle.http_server.specs.Exchange.{Call, Chain};
+ghost use Rattle.http_frames.specs.Gate.{IsTold};
+ghost use Rattle.dav_login_core.specs.CallsBehind.{LeadsBehind, TurnsBehind};
+ghost use Rattle.dav_login_core.specs.Digests.{message};
+ghost use Rattle.dav_login_core.specs.LoggedIn.{HandsOn, LoggedIn};
+ghost use Rattle.dav_login_core.specs.LoginViews.{login};
+ghost use Rattle.dav_login_core.specs.declared.login.Login.{Login};
+
+use http_frames::gate::TurnService;
+use http_server::Service;
+
+/// The law that what is digested tells the name and the password (own): where two digests under one key are the same, either name and password are, or two messages have one sum by SHA-256. It does
+/// nothing.
+#[tactic(auto, using(crate::proofs::MessageLemmas::message_tells))]
+pub fn messages_tell_names_and_passwords()
+    ensures { (key name password name' password' : List ℕ) → length name < 2 ^ 64
+        → length name' < 2 ^ 64 → message key name password ≡ message key name' password'
+        → (name ≡ name') × (password ≡ password') }
+{}
+
+/// The law of calls (own): whatever requests a login is asked, the service behind it is asked those alone that are an OPTIONS without `Authorization`, each as nobody's, or that send a name and a
+/// password that are accepted, each as that user's; all others are answered 401. It does nothing.
+pub fn calls_lead_behind<S: Service>()
+    ensures { (old new : Login S) (calls : List Call)
+        → Chain (λ before request response after. LoggedIn S.answers (login before) request response (login after)) old calls new
+        → LeadsBehind S.answers (login old) calls (login new) }
+{}
+
+/// The law of a turn (own): where a login is told of a turn, the service behind it is, and makes the calls behind the login's. It does nothing.
+pub fn turns_lead_behind<S: TurnService>()
+    ensures { (old new : Login S) (number : ℕ) (calls : List Call)
+        → IsTold (λ before n after. HandsOn S.begins (login before) n (login after))
+        (λ before request response after. LoggedIn S.answers (login before) request response (login after)) old number calls new
+        → TurnsBehind S.begins S.answers (login old) number calls (login new) }
+{}

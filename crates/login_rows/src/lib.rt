@@ -1,0 +1,7 @@
+//! Rows of requests to a login, and what the service behind it is told: tests alone.
+#![tactic(auto)]
+
+#[cfg(test)]
+mod requests;
+#[cfg(test)]
+mod telling;

@@ -20,22 +20,27 @@ import time
 TOP = os.path.dirname(os.path.dirname(os.path.realpath(__file__)))
 PARTS = ("src", "specs", "proofs")
 # The options of the listener; of these the program has one, too.
-OF_LISTENER = {"--" + name for name in "listen connections connections-per-address idle head rate stall linger grace memory window".split()}
+OF_LISTENER = {"--" + name for name in "listen connections connections-per-address idle head rate stall linger grace memory window users".split()}
 OF_BOTH = {"--window"}
+# The options that have no value. They are the program's.
+FLAGS = {"--read-only"}
 # What each program is built with, so that it ends at once, and what its help says.
 BUILT_WITH = {"davserve": ["--help"], "davstore": ["/dev/null", "check"], "davreplay": ["0"], "davread": []}
 HELP = {
     "davserve": """\
-usage: bin/davserve [PORT] [OPTION VALUE]..
+usage: bin/davserve [PORT] [OPTION VALUE].. [--read-only]
 
 Serves a WebDAV folder on 127.0.0.1 at PORT, else 8080 (0: any that is free), and prints its URL once it listens. With --store a file keeps it; else it is empty at first, and gone when it ends.
 The first start proves the server before it runs it, which takes some time and is told. A first SIGTERM or interrupt lets what has begun go on for a while, a second ends it at once.
 
   --store FILE                    the file that keeps what is put, through any crash; it is made where it isn't there. What it keeps stands in memory, too
+  --sync always|second            when FILE has what is changed: before an answer tells of it, as without this; or once a second, so that a crash takes at most the last second's changes
   --scheme http|https             the scheme by which clients come, where a proxy stands between
   --prefix PATH                   the path that the folder stands at, as /dav
   --user-header NAME              the header in which a proxy names the user; without it all requests are one user
-  --users FILE                    the users who may log in, a line NAME:HASH for each (docs/USERS.md); not with --user-header
+  --users FILE                    the users who may log in, a line NAME:HASH for each (docs/USERS.md), read again on SIGHUP; not with --user-header
+  --log FILE                      a line for each request is appended to the file, which may be moved away at any moment; - is standard error
+  --read-only                     lets nothing be changed: all but GET, HEAD, OPTIONS and PROPFIND is answered 403
   --realm TEXT                    what a client is told it logs in to; davserve without it
   --longest-timeout SECONDS       the longest time that a lock is given; without it a lock may last for ever
   --propfind-depth finite|infinite    whether a PROPFIND of infinite depth is refused
@@ -63,8 +68,10 @@ Of the listener in front of it (docs/OPERATIONS.md):
 usage: bin/davstore FILE check
        bin/davstore FILE list [FOLDER]
        bin/davstore FILE log [--bodies]
+       bin/davstore FILE compact
 
 Says of a file of --store whether it is whole, what stands in it, or what changed it (crates/davstore/README.md). It changes nothing there, and may be run beside the server.
+With compact it writes the file anew, without what was deleted or written over; the server must not run meanwhile.
   --help, --version               this text; the kit and the commit
 """,
     "davreplay": """\
@@ -460,11 +467,16 @@ def built(program):
 
 
 def parted(words):
-    """The words of the listener, and those of the program."""
+    """The words of the listener, and those of the program, whom the listener tells the users."""
     first = [words.pop(0)] if words and words[0].isdigit() else []
-    pairs = [words[at : at + 2] for at in range(0, len(words), 2)]
+    pairs = []
+    while words:
+        count = 1 if words[0] in FLAGS else 2
+        pairs.append(words[:count])
+        words = words[count:]
     before = [word for pair in pairs if pair[0] in OF_LISTENER for word in pair]
-    return before + first, [word for pair in pairs if pair[0] not in OF_LISTENER - OF_BOTH for word in pair]
+    logs_in = ["--login"] if any(pair[0] == "--users" for pair in pairs) else []
+    return before + first, logs_in + [word for pair in pairs if pair[0] not in OF_LISTENER - OF_BOTH for word in pair]
 
 
 def main(program, words):

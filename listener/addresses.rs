@@ -56,6 +56,14 @@ pub fn unix_bytes(path: &Path) -> io::Result<Vec<u8>> {
     Ok([&1u16.to_ne_bytes()[..], &name].concat())
 }
 
+/// A client of IPv4 that comes to a socket of IPv6, as a handed one may be, has its own address all the same.
+fn plain(address: IpAddr) -> IpAddr {
+    match address {
+        IpAddr::V6(it) => it.to_ipv4_mapped().map_or(address, IpAddr::V4),
+        IpAddr::V4(_) => address,
+    }
+}
+
 pub enum Listener {
     Internet(TcpListener),
     /// With the path that is removed at the end.
@@ -80,10 +88,10 @@ impl Listener {
         }
     }
 
-    /// The next client, and where it comes from, if that is known. Neither of its calls blocks.
+    /// The next client, and its address; none where it comes by a socket of Unix. Neither of its calls blocks.
     pub fn accept(&self) -> io::Result<(TcpStream, Option<IpAddr>)> {
         let (socket, place) = match self {
-            Listener::Internet(listener) => listener.accept().map(|(socket, place)| (socket, Some(place.ip())))?,
+            Listener::Internet(listener) => listener.accept().map(|(socket, place)| (socket, Some(plain(place.ip()))))?,
             Listener::Unix(listener, _) => (TcpStream::from(OwnedFd::from(listener.accept()?.0)), None),
         };
         socket.set_nonblocking(true)?;
@@ -178,6 +186,15 @@ mod tests {
         assert_eq!(read("unix:/a,mode=666"), Ok(vec![Address::Unix("/a".into(), 0o666)]));
         for word in ["", "80", "127.0.0.1", "127.0.0.1:65536", "unix:", "unix:/a,mode=8", "unix:/a,mode=1777"] {
             assert!(read(word).is_err(), "{}", word);
+        }
+    }
+
+    #[test]
+    fn addresses_of_clients_are_plain() {
+        for (address, wanted) in
+            [("192.0.2.1", "192.0.2.1"), ("::ffff:192.0.2.1", "192.0.2.1"), ("2001:db8::1", "2001:db8::1"), ("::1", "::1")]
+        {
+            assert_eq!(plain(address.parse().unwrap()).to_string(), wanted);
         }
     }
 

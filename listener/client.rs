@@ -11,8 +11,8 @@ const DRAINED: usize = 1 << 20;
 pub struct Client {
     /// Of any family.
     pub socket: TcpStream,
-    /// Where it comes from, as it is counted.
-    pub place: Option<IpAddr>,
+    /// Where it comes from; none where that is a unix socket.
+    pub address: Option<IpAddr>,
     /// Of its frames; none before the first.
     pub number: Option<u64>,
     /// Whether it may still send: its end has not come, nor was it given one.
@@ -49,10 +49,10 @@ fn is_passing(error: &io::Error) -> bool {
 }
 
 impl Client {
-    pub fn new(socket: TcpStream, place: Option<IpAddr>, window: u64, now: u64) -> Client {
+    pub fn new(socket: TcpStream, address: Option<IpAddr>, window: u64, now: u64) -> Client {
         Client {
             socket,
-            place,
+            address,
             number: None,
             hears: true,
             has_ended: false,
@@ -89,7 +89,7 @@ impl Client {
     /// Passes on what it has sent.
     pub fn hear(&mut self, to: &mut ToProgram, now: u64) -> io::Result<Sent> {
         let most = self.granted.min(PIECE as u64) as usize;
-        match to.pass_on(&mut self.number, &mut self.socket, most) {
+        match to.pass_on(&mut self.number, self.address, &mut self.socket, most) {
             Ok(0) => Ok(Sent::End),
             Ok(count) => {
                 self.granted -= count as u64;

@@ -94,7 +94,7 @@ impl Clients {
         }
         self.next_key += 1;
         place.map(|it| *self.by_place.entry(it).or_insert(0) += 1);
-        let mut client = Client::new(socket, place, self.window, self.now);
+        let mut client = Client::new(socket, address, self.window, self.now);
         client.armed = IN;
         self.by_key.insert(key, client);
     }
@@ -109,7 +109,7 @@ impl Clients {
     fn close(&mut self, key: u64) {
         if let Some(client) = self.by_key.remove(&key) {
             client.number.map(|number| self.by_number.remove(&number));
-            if let Some(place) = client.place {
+            if let Some(place) = client.address.map(place_of) {
                 match self.by_place.get_mut(&place) {
                     Some(count) if *count > 1 => *count -= 1,
                     _ => drop(self.by_place.remove(&place)),

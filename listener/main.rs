@@ -15,6 +15,7 @@ mod program;
 mod server;
 mod system;
 mod times;
+mod users;
 
 use addresses::{Address, Listener};
 use options::{Options, USAGE};
@@ -23,11 +24,13 @@ use server::{End, Server};
 use std::fmt::Arguments;
 use std::fs::{read_to_string, File};
 use std::io::{self, ErrorKind, Write};
+use std::path::Path;
 use std::process::{exit, Child, ExitStatus};
 use std::thread::sleep;
 use std::time::{Duration, Instant};
+use users::Users;
 
-/// How it ends: by a signal; where no client can come; by wrong words; where the program can't be run; with too few files; where the program has ended; where the system fails it.
+/// How it ends: by a signal; where no client can come; by wrong words; where the program can't be run; with too few files; where the program has ended; where the system fails it; where the users can't be read.
 const STOPPED: i32 = 0;
 const NO_ADDRESS: i32 = 1;
 const WRONG_WORDS: i32 = 2;
@@ -35,6 +38,7 @@ const NO_PROGRAM: i32 = 3;
 const TOO_FEW_FILES: i32 = 4;
 const PROGRAM_ENDED: i32 = 5;
 const FAILED: i32 = 6;
+const NO_USERS: i32 = 7;
 
 /// By this status the program says that what was changed could not be kept. So often within so long it is run again then.
 const NOT_KEPT: i32 = 5;
@@ -65,21 +69,26 @@ fn main() {
         end(WRONG_WORDS, format_args!("{}", why))
     });
     check_files(options.connections as u64);
+    let users = options.users.as_deref().map(open_users);
     let listeners = listen(&options.addresses);
-    match serve(&options, listeners) {
+    match serve(&options, listeners, users) {
         Ok(status) => exit(status),
         Err(error) => end(FAILED, format_args!("the system fails: {}", error)),
     }
 }
 
 fn check_files(connections: u64) {
-    let (most, needed) = (system::raise_files(), connections + OTHER_FILES);
+    let (most, needed) = (system::limit(system::FILES, u64::MAX), connections + OTHER_FILES);
     match most {
         Ok(most) if most < needed => {
             end(TOO_FEW_FILES, format_args!("{} connections need {} files, and {} may be open: see ulimit -n", connections, needed, most))
         }
         _ => {}
     }
+}
+
+fn open_users(path: &Path) -> Users {
+    Users::open(path).unwrap_or_else(|error| end(NO_USERS, format_args!("the users of {}: {}", path.display(), error)))
 }
 
 /// Where clients come: what is handed over, and what is asked for.
@@ -105,14 +114,15 @@ fn open(word: &str, address: &Address) -> Listener {
 }
 
 /// Runs the program and serves; the status is that of the end.
-fn serve(options: &Options, listeners: Vec<Listener>) -> io::Result<i32> {
-    let signals = File::from(system::signals(&system::STOPS)?);
+fn serve(options: &Options, listeners: Vec<Listener>, users: Option<Users>) -> io::Result<i32> {
+    let signals = File::from(system::signals()?);
     let memory = options.memory.unwrap_or_else(half_of_memory);
     let (mut child, to, from) = run(options, memory);
     let most = (options.connections, options.connections_per_address);
     let clients = clients::Clients::new(poll::Poll::new()?, to, options.limits, most, options.window);
     tell(options, &listeners, memory);
-    let mut server = Server::new(clients, from, listeners, signals, options.grace)?;
+    let keeps_late = options.program.windows(2).any(|words| words[0] == "--sync" && words[1] == "second");
+    let mut server = Server::new(clients, from, listeners, signals, users, options.grace, keeps_late)?;
     notify::notify("READY=1");
     let mut begun = Vec::new();
     loop {
@@ -170,10 +180,16 @@ fn tell(options: &Options, listeners: &[Listener], memory: u64) {
     if !open.is_empty() {
         let has = |name: &str| options.program.iter().any(|word| word == name);
         let open = open.join(" ");
-        if has("--users") {
-            say(format_args!("whoever stands between a client and {open} can read passwords, unless only a proxy gets there: no TLS is spoken"));
+        if options.users.is_some() || has("--users") {
+            say(format_args!(
+                "whoever stands between a client and {open} can read passwords, unless only a proxy gets there: no TLS is spoken"
+            ));
         } else {
-            let what = if has("--user-header") { "name itself any user, unless only a proxy gets there" } else { "read and change everything" };
+            let what = match (has("--user-header"), has("--read-only")) {
+                (true, _) => "name itself any user, unless only a proxy gets there",
+                (false, true) => "read everything",
+                (false, false) => "read and change everything",
+            };
             say(format_args!("whoever reaches {open} can {what}"));
         }
     }

@@ -1,6 +1,7 @@
 //! The words of the command line.
 use crate::times::Limits;
 use std::ffi::OsString;
+use std::path::PathBuf;
 
 pub const USAGE: &str = "\
 usage: listen [OPTION VALUE].. [PORT] PROGRAM [WORD..]
@@ -19,6 +20,8 @@ Listens for clients, runs the program, and moves their bytes to it and back, in 
   --grace SECONDS                 how long what has begun goes on behind a first SIGTERM; 10 without it
   --memory BYTES                  how much the program may take, 0 for no limit; half of the machine's without it
   --window BYTES                  the window of the program; 262144 without it
+  --users FILE                    who may log in, where the program has --login: it is told the text of the file first of all, and again
+                                  on SIGHUP; not over 1 MiB
 ";
 
 #[derive(Debug)]
@@ -31,6 +34,8 @@ pub struct Options {
     /// None where nothing was said.
     pub memory: Option<u64>,
     pub window: u64,
+    /// The file of users, where there is one.
+    pub users: Option<PathBuf>,
     pub program: Vec<OsString>,
 }
 
@@ -45,6 +50,7 @@ impl Options {
             grace: 10_000,
             memory: None,
             window: 262_144,
+            users: None,
             program: Vec::new(),
         }
     }
@@ -67,6 +73,9 @@ impl Options {
         if options.program.is_empty() {
             return Err("there is no program".into());
         }
+        if options.users.is_some() && !options.program.iter().any(|word| word == "--login") {
+            return Err("--users: the program has no --login, and so would let in whoever comes".into());
+        }
         Ok(options)
     }
 
@@ -75,12 +84,17 @@ impl Options {
             self.addresses.push(value.into());
             return Ok(());
         }
+        if name == "--users" && !value.is_empty() {
+            self.users = Some(value.into());
+            return Ok(());
+        }
         let number = value.parse::<u32>().ok().map(u64::from);
         let (least, wanted) = match name {
             "--connections" | "--connections-per-address" | "--rate" | "--window" => (1, number),
             "--idle" | "--head" | "--stall" => (1, number),
             "--linger" | "--grace" => (0, number),
             "--memory" => (0, value.parse().ok()),
+            "--users" => return Err("--users names no file".into()),
             _ => return Err(format!("there is no option {}", name)),
         };
         let number = wanted.filter(|it| *it >= least).ok_or_else(|| format!("{} {}: not such a number", name, value))?;
@@ -115,11 +129,14 @@ mod tests {
         assert_eq!((options.limits.idle, options.connections_per_address), (3000, 5));
         assert_eq!(options.program, ["program", "--idle", "4"]);
         assert_eq!(read("program 80").unwrap().addresses.len(), 0);
+        assert_eq!(read("--users a --users b program --login").unwrap().users, Some(PathBuf::from("b")));
     }
 
     #[test]
     fn wrong_words_are_refused() {
-        for words in ["", "80", "--idle 3", "--idle x program", "--idle 0 program", "--idle", "--none 1 program", "--rate -1 p"] {
+        for words in
+            ["", "80", "--idle 3", "--idle x program", "--idle 0 program", "--idle", "--none 1 program", "--rate -1 p", "--users a p"]
+        {
             assert!(read(words).is_err(), "{}", words);
         }
     }

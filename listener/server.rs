@@ -1,15 +1,17 @@
 //! The loop: whatever comes, from clients, the program or a signal, is looked at in turn.
 use crate::addresses::Listener;
 use crate::clients::{is_want, Clients, FIRST_KEY};
+use crate::frames;
 use crate::notify::notify;
 use crate::poll::Poll;
 use crate::program::{FromProgram, ToProgram};
 use crate::say;
-use crate::system::{Event, IN, OUT};
+use crate::system::{self, Event, IN, OUT};
+use crate::users::Users;
 use std::fs::File;
 use std::io::{self, ErrorKind, Read};
 use std::os::unix::io::AsRawFd;
-use std::time::Instant;
+use std::time::{Instant, SystemTime, UNIX_EPOCH};
 
 const TO_PROGRAM: u64 = 0;
 const FROM_PROGRAM: u64 = 1;
@@ -19,6 +21,8 @@ const FIRST_LISTENER: u64 = 3;
 /// In milliseconds: how often times are looked at, and how long nobody is let in where there was no file or no memory for one.
 const TICK: u64 = 250;
 const PAUSE: u64 = 1000;
+/// So long behind what the program was sent it is told the moment, where that makes it keep what it has changed.
+const KEEPS: u64 = 1000;
 /// So many clients are let in at a time, and so often the program is read.
 const AT_ONCE: usize = 64;
 
@@ -39,6 +43,9 @@ pub struct Server {
     from: FromProgram,
     listeners: Vec<Listener>,
     signals: File,
+    users: Option<Users>,
+    /// Whether their file is to be read again, once the program has taken most of what waits for it.
+    reads_users: bool,
     grace: u64,
     began: Instant,
     /// Whether clients are let in, and from when on again; when times are looked at next; when a stop has no more grace.
@@ -46,6 +53,9 @@ pub struct Server {
     listens_again: u64,
     ticks: u64,
     stops: Option<u64>,
+    /// Whether the program keeps what it has changed once it is told the moment, and when it is told.
+    keeps_late: bool,
+    keeps: Option<u64>,
     /// Whether the pipe to the program is waited for.
     is_writing: bool,
 }
@@ -56,27 +66,40 @@ fn add_program(poll: &Poll, to: &ToProgram, from: &FromProgram) -> io::Result<()
 }
 
 impl Server {
-    pub fn new(clients: Clients, from: FromProgram, listeners: Vec<Listener>, signals: File, grace: u64) -> io::Result<Server> {
+    pub fn new(
+        clients: Clients,
+        from: FromProgram,
+        listeners: Vec<Listener>,
+        signals: File,
+        users: Option<Users>,
+        grace: u64,
+        keeps_late: bool,
+    ) -> io::Result<Server> {
         let poll = &clients.poll;
         add_program(poll, &clients.to, &from)?;
         poll.add(signals.as_raw_fd(), IN, SIGNALS)?;
         for (listener, key) in listeners.iter().zip(FIRST_LISTENER..FIRST_KEY) {
             poll.add(listener.file(), IN, key)?;
         }
-        let (began, stops) = (Instant::now(), None);
-        Ok(Server {
+        let mut server = Server {
             clients,
             from,
             listeners,
             signals,
+            users,
+            reads_users: false,
             grace,
-            began,
+            began: Instant::now(),
             listens: true,
             listens_again: 0,
             ticks: TICK,
-            stops,
+            stops: None,
+            keeps_late,
+            keeps: None,
             is_writing: false,
-        })
+        };
+        server.tell_users();
+        Ok(server)
     }
 
     /// Goes on with another program, behind one that has ended.
@@ -84,6 +107,7 @@ impl Server {
         // The pipes of the other one are closed, and so the poll knows them no more.
         self.from = from;
         self.clients.begin_again(to);
+        self.tell_users();
         self.is_writing = false;
         add_program(&self.clients.poll, &self.clients.to, &self.from)
     }
@@ -95,9 +119,12 @@ impl Server {
     /// Serves until something ends it.
     pub fn run(&mut self) -> End {
         let mut events = [Event::default(); 256];
+        // The program is told the users before anything else comes.
+        let mut went_on = self.write_out();
         loop {
-            if let Err(end) = self.turn(&mut events) {
-                return end;
+            match went_on {
+                Ok(()) => went_on = self.turn(&mut events),
+                Err(end) => return end,
             }
         }
     }
@@ -106,7 +133,7 @@ impl Server {
         // Where the program asks for more, all that has come by now is looked at first.
         let is_asked = self.clients.is_asked;
         let time = if is_asked { 0 } else { self.ticks.saturating_sub(self.clients.now) as i32 };
-        let is_idle = self.clients.is_empty() && self.listens && self.stops.is_none();
+        let is_idle = self.clients.is_empty() && self.listens && self.stops.is_none() && self.keeps.is_none();
         let time = if is_idle && !is_asked { -1 } else { time };
         let count = self.clients.poll.wait(events, time).map_err(|error| End::Failed("waiting", error))?;
         self.clients.now = self.began.elapsed().as_millis() as u64;
@@ -116,6 +143,10 @@ impl Server {
         if is_asked {
             self.clients.say_none();
         }
+        if self.reads_users && self.clients.to.has_room() {
+            self.read_users();
+        }
+        self.tell_moment(count);
         self.write_out()?;
         if self.clients.now >= self.ticks {
             self.ticks = self.clients.now + TICK;
@@ -213,12 +244,30 @@ impl Server {
         Ok(())
     }
 
+    // ---- What is kept late.
+
+    /// Tells the program the moment a second behind what came for it, where that is what it waits for.
+    fn tell_moment(&mut self, count: usize) {
+        if self.keeps_late && count > 0 && self.keeps.is_none() {
+            self.keeps = Some(self.clients.now + KEEPS);
+        }
+        if self.keeps.map_or(false, |at| self.clients.now >= at) && self.clients.to.has_room() {
+            let since = SystemTime::now().duration_since(UNIX_EPOCH).unwrap_or_default();
+            self.clients.to.say(&frames::clock(since.as_nanos() as u64));
+            self.keeps = None;
+        }
+    }
+
     // ---- Signals.
 
     fn take_signals(&mut self) -> Result<(), End> {
         // The kernel tells each in 128 bytes.
         let mut told = [0; 128];
         while matches!(self.signals.read(&mut told), Ok(128)) {
+            if told[..4] == system::HUNG_UP.to_ne_bytes() {
+                self.reads_users = true;
+                continue;
+            }
             if self.stops.is_some() {
                 return Err(End::Killed);
             }
@@ -228,5 +277,28 @@ impl Server {
             self.clients.stop();
         }
         Ok(())
+    }
+
+    // ---- The users.
+
+    /// What was read of them last, where there is a file.
+    fn tell_users(&mut self) {
+        if let Some(users) = &self.users {
+            self.clients.to.say_users(users.text());
+        }
+    }
+
+    /// Tells the program a file that was read again. Where it can't be read, that is said, and the users stay.
+    fn read_users(&mut self) {
+        self.reads_users = false;
+        let users = match &mut self.users {
+            Some(users) => users,
+            None => return say(format_args!("a hang-up reads nothing again: there is no --users")),
+        };
+        if let Err(error) = users.read_again() {
+            return say(format_args!("the users stay: {}: {}", users.path().display(), error));
+        }
+        say(format_args!("the users of {} are read again", users.path().display()));
+        self.tell_users();
     }
 }

@@ -9,8 +9,9 @@ pub const OUT: u32 = 4;
 pub const ERROR: u32 = 8;
 pub const HANG_UP: u32 = 16;
 
-/// An interrupt, and a request to terminate.
-pub const STOPS: [c_int; 2] = [2, 15];
+/// A hang-up. With an interrupt (2) and a request to terminate (15) it is one of the signals that are told in a file, and end neither this process nor the program.
+pub const HUNG_UP: u32 = 1;
+const SIGNALS: [u64; 16] = [1 | 1 << 1 | 1 << 14, 0, 0, 0, 0, 0, 0, 0, 0, 0, 0, 0, 0, 0, 0, 0];
 
 pub const UNIX: c_int = 1;
 pub const STREAM: c_int = 1;
@@ -26,7 +27,7 @@ pub const REUSE_ADDRESS: SocketOption = (1, 2);
 pub const ONLY_IPV6: SocketOption = (41, 26);
 pub const USER_TIMEOUT: SocketOption = (6, 18);
 pub const UNSENT_AT_MOST: SocketOption = (6, 25);
-const FILES: c_int = 7;
+pub const FILES: c_int = 7;
 const ADDRESS_SPACE: c_int = 9;
 
 /// An event, as the kernel lays it out.
@@ -118,31 +119,29 @@ pub fn move_bytes(from: &impl AsRawFd, to: &impl AsRawFd, most: usize) -> io::Re
     checked(count).map(|count| count as usize)
 }
 
+fn block_signals() -> io::Result<c_int> {
+    checked(unsafe { sigprocmask(0, &SIGNALS, null_mut()) })
+}
+
 /// A file in which the signals are told from now on.
-pub fn signals(numbers: &[c_int]) -> io::Result<OwnedFd> {
-    let mut set = [0; 16];
-    set[0] = numbers.iter().fold(0, |bits, number| bits | 1 << (number - 1));
-    checked(unsafe { sigprocmask(0, &set, null_mut()) })?;
-    owned(unsafe { signalfd(-1, &set, CLOSED_ON_EXEC | NON_BLOCKING) })
+pub fn signals() -> io::Result<OwnedFd> {
+    block_signals()?;
+    owned(unsafe { signalfd(-1, &SIGNALS, CLOSED_ON_EXEC | NON_BLOCKING) })
 }
 
 /// Sets a limit of this process, not beyond the hardest, and tells what it is now.
-fn limit(what: c_int, wanted: u64) -> io::Result<u64> {
+pub fn limit(what: c_int, wanted: u64) -> io::Result<u64> {
     let mut limit = [0; 2];
     checked(unsafe { getrlimit(what, &mut limit) })?;
     limit[0] = wanted.min(limit[1]);
     checked(unsafe { setrlimit(what, &limit) }).map(|_| limit[0])
 }
 
-/// Raises the limit of open files as far as it goes, and tells it.
-pub fn raise_files() -> io::Result<u64> {
-    limit(FILES, u64::MAX)
-}
-
-/// The command will run in a session of its own, and with so much memory at most.
+/// The command will run in a session of its own, and with so much memory at most. The end of its input ends it, and no signal that is told here.
 pub fn set_apart(command: &mut Command, memory: Option<u64>) {
     let apart = move || {
         checked(unsafe { setsid() })?;
+        block_signals()?;
         memory.map_or(Ok(0), |bytes| limit(ADDRESS_SPACE, bytes)).map(drop)
     };
     // SAFETY: these calls may be made between fork and exec.

@@ -1,9 +1,11 @@
 """A program behind the listener, for its tests: it speaks the frames of davserve (docs/FORMATS.md), and checks each that comes.
 
-behind.py serve|echo SEED [DEAF]     DEAF: it reads nothing for so many seconds at first
+behind.py serve|echo SEED [DEAF [--login]]     DEAF: it reads nothing for so many seconds at first
 
-With `serve` it answers lines: `get N` by N bytes, `last N` by N bytes behind which the connection is over, `wait N` by `ok` after so many milliseconds, `put N` and N bytes behind it by `ok` and N, and any other by
+With `serve` it answers lines: `get N` by N bytes, `last N` by N bytes behind which the connection is over, `wait N` by `ok` after so many milliseconds, `work N` by the same while it does nothing else, `put N` and N bytes behind it by `ok` and N, `who` by the address that was told of its client, `users` by the names of the users, and any other by
 `refused`, behind which the connection is over. At `end N` it ends with this status. With `echo` it sends back what comes. What it tells is cut at random, and so it asks for more. Ends with 0, and says how many connections are left that are neither over nor gone; or with 4 and a reason where a frame is wrong.
+
+With `--login` it wants the users first of all, and else it wants none. A line of theirs without a colon is wrong: its number is told, and where these are the first users it ends with 7; else those before stay.
 """
 import os
 import random
@@ -25,14 +27,30 @@ class Connection:
         self.came, self.allowed, self.handed, self.taken = 0, WINDOW, 0, 0
         # What is not yet looked at, what is not yet handed out, how many bytes of a body are left, and when an answer is due.
         self.text, self.out, self.body, self.due = bytearray(), bytearray(), 0, None
-        self.put = 0
+        self.put, self.address = 0, b""
+        # Where a pattern goes on that is not yet in `out`, and how much of it is left.
+        self.at = self.left = 0
         # Whether it sends no more, is gone, is to be closed, and is closed; and whether something has come that it was not told of.
         self.has_ended = self.is_gone = self.closes = self.is_over = self.is_new = False
 
 
+    def is_told(self):
+        """Whether something is left to be handed out."""
+        return bool(self.out or self.left)
+
+    def fill(self):
+        """Makes the next piece of the pattern where nothing else is there."""
+        if not self.out and self.left:
+            count, start = min(self.left, len(PATTERN) - 251), self.at % 251
+            self.out += PATTERN[start : start + count]
+            self.at, self.left = self.at + count, self.left - count
+
+
 class Program:
-    def __init__(self, mode, seed, deaf):
+    def __init__(self, mode, seed, deaf, logs_in=False):
         self.mode, self.random, self.begun, self.asked = mode, random.Random(seed), 0, 0
+        # What was told of the client that comes next; the names of the users; and whether they have to come first.
+        self.address, self.users, self.logs_in = None, None, logs_in
         self.connections, self.input, self.output, self.is_open = {}, bytearray(), bytearray(), True
         # The numbers of those that something came of, or whose answer is due later.
         self.touched = set()
@@ -53,7 +71,7 @@ class Program:
         at = 0
         while (end := self.input.find(b"\n", at)) >= 0:
             words, behind = bytes(self.input[at:end]).split(b" "), end + 1
-            length = int(words[1]) if len(words) == 2 and words[0].isdigit() and words[1].isdigit() else 0
+            length = int(words[1]) if len(words) == 2 and (words[0].isdigit() or words[0] == b"users") and words[1].isdigit() else 0
             self.check(length <= LARGEST, f"{words}")
             if len(self.input) < behind + length:
                 break
@@ -65,9 +83,15 @@ class Program:
     def take(self, words, piece):
         numbers = [int(word) for word in words if word.isdigit()]
         self.check(b" ".join(words) == b" ".join(b"%d" % int(word) if word.isdigit() else word for word in words), f"{words}")
+        self.check(not self.logs_in or self.users is not None or words[0] == b"users", f"{words} before the users")
         if words == [b"none"]:
             self.asked -= 1
             self.check(self.asked >= 0, "none")
+        elif words[0] == b"users" and len(words) == 2 and len(numbers) == 1 and self.logs_in:
+            self.take_users(piece)
+        elif words[0] == b"from" and len(words) == 3 and words[1].isdigit():
+            self.check(int(words[1]) == self.begun + 1 and 1 <= len(words[2]) <= 64 and all(33 <= byte <= 126 for byte in words[2]), f"{words}")
+            self.address = words[2]
         elif words[0] == b"taken" and len(words) == 3 and len(numbers) == 2:
             self.take_taken(*numbers)
         elif words[0] == b"gone" and len(words) == 2 and len(numbers) == 1:
@@ -79,6 +103,16 @@ class Program:
         else:
             self.wrong(f"{words}")
 
+    def take_users(self, text):
+        lines = text.splitlines()
+        wrong = next((place for place, line in enumerate(lines, 1) if b":" not in line), None)
+        if wrong:
+            print(f"behind: line {wrong} of the users is wrong", file=sys.stderr, flush=True)
+            if self.users is None:
+                os._exit(7)
+        else:
+            self.users = [line.partition(b":")[0] for line in lines]
+
     def take_taken(self, number, count):
         it = self.connections.get(number)
         self.check(it is not None and not it.is_gone, f"taken of {number}")
@@ -89,7 +123,9 @@ class Program:
     def take_piece(self, number, piece):
         if number not in self.connections:
             self.check(number == self.begun + 1, f"{number} begins behind {self.begun}")
+            self.check(self.address is not None, f"{number} begins without an address")
             self.begun, self.connections[number] = number, Connection()
+            self.connections[number].address, self.address = self.address, None
         it = self.connections[number]
         self.check(not it.has_ended and not it.is_gone, f"{number} goes on behind its end")
         it.has_ended = not piece
@@ -107,7 +143,7 @@ class Program:
         if self.mode == "echo":
             it.out += it.text
             it.text.clear()
-        while it.text and it.due is None and not it.out and not it.closes:
+        while it.text and it.due is None and not it.is_told() and not it.closes:
             if it.body:
                 count = min(it.body, len(it.text))
                 it.body -= count
@@ -120,7 +156,7 @@ class Program:
                 break
             del it.text[: len(line) + 1]
             self.answer_line(it, *line.split())
-        if it.has_ended and it.due is None and not it.out:
+        if it.has_ended and it.due is None and not it.is_told():
             # A client that stops within a request is told so.
             it.out += b"stopped\n" * bool(it.text or it.body)
             it.closes = True
@@ -128,10 +164,17 @@ class Program:
     def answer_line(self, it, word=b"", count=b"0", *_):
         count = int(count) if count.isdigit() else 0
         if word in (b"get", b"last"):
-            it.out += pattern(count)
+            it.at, it.left = 0, count
             it.closes = word == b"last"
         elif word == b"wait":
             it.due = time.monotonic() + count / 1000
+        elif word == b"work":
+            time.sleep(count / 1000)
+            it.out += b"ok\n"
+        elif word == b"who":
+            it.out += it.address + b"\n"
+        elif word == b"users":
+            it.out += b",".join(self.users or []) + b"\n"
         elif word == b"put":
             it.put = it.body = count
         elif word == b"end":
@@ -142,12 +185,13 @@ class Program:
 
     def hand_out(self, number, it):
         """As far as its window goes, in pieces of any length."""
-        while it.out and (room := it.taken + WINDOW - it.handed) > 0:
+        while it.is_told() and (room := it.taken + WINDOW - it.handed) > 0:
+            it.fill()
             count = min(room, len(it.out), self.random.choice([1, 1000, WINDOW, WINDOW, WINDOW]))
             self.output += b"%d %d\n" % (number, count) + it.out[:count]
             it.handed += count
             del it.out[:count]
-        if it.closes and not it.out:
+        if it.closes and not it.is_told():
             it.is_over = True
             self.output += b"%d 0\n" % number
 
@@ -157,11 +201,11 @@ class Program:
             it.due = None
         while True:
             self.answer(it)
-            had = len(it.out)
+            had = it.is_told()
             self.hand_out(number, it)
-            if it.is_over or it.out or not had or it.due is not None:
+            if it.is_over or it.is_told() or not had or it.due is not None:
                 break
-        if not it.is_over and not it.out and it.due is None:
+        if not it.is_over and not it.is_told() and it.due is None:
             if it.allowed - it.came < HALF and self.is_open:
                 self.output += b"grant %d %d\n" % (number, WINDOW - (it.allowed - it.came))
                 it.allowed = it.came + WINDOW
@@ -205,6 +249,6 @@ class Program:
 
 if __name__ == "__main__":
     try:
-        Program(sys.argv[1], int(sys.argv[2]), float(sys.argv[3]) if len(sys.argv) > 3 else 0).run()
+        Program(sys.argv[1], int(sys.argv[2]), float(sys.argv[3]) if len(sys.argv) > 3 else 0, sys.argv[4:] == ["--login"]).run()
     except BrokenPipeError:
         os._exit(1)

@@ -3,10 +3,11 @@
 //   FAILS=NAME:N:ERRNO   the N-th call of this name fails so, counted from 1
 //   COUNTS=FILE          at its end the number of calls of each name is written there, one a line
 //
-// In the programs that the listener runs it does nothing; nor before the listener has its poll, to what std does there of itself as it runs a program.
+// In the programs that the listener runs it does nothing; nor to what std does of itself as the listener runs the first one, between the first pipe and the poll.
 #define _GNU_SOURCE
 #include <dlfcn.h>
 #include <errno.h>
+#include <signal.h>
 #include <stdio.h>
 #include <stdlib.h>
 #include <string.h>
@@ -20,7 +21,7 @@ enum { NAMES = 32 };
 static struct { const char *name; long count; } seen[NAMES];
 static char name[32];
 static long place;
-static int wrong, is_listener, has_begun;
+static int wrong, is_listener, runs, has_begun;
 
 __attribute__((constructor)) static void start(void) {
     char path[4096];
@@ -44,8 +45,9 @@ __attribute__((destructor)) static void tell(void) {
 static int fails(const char *called) {
     if (!is_listener)
         return 0;
+    runs |= !strcmp(called, "pipe2");
     has_begun |= !strcmp(called, "epoll_create1");
-    if (!has_begun && (!strcmp(called, "read") || !strcmp(called, "recv") || !strcmp(called, "waitpid")))
+    if (runs && !has_begun && (!strcmp(called, "read") || !strcmp(called, "recv") || !strcmp(called, "waitpid")))
         return 0;
     int at = 0;
     while (seen[at].name && strcmp(seen[at].name, called))
@@ -79,6 +81,12 @@ CALL(int, signalfd, (int file, const sigset_t *set, int flags), (file, set, flag
 CALL(pid_t, setsid, (void), ())
 CALL(int, ioctl, (int file, unsigned long what, void *value), (file, what, value))
 CALL(int, fcntl, (int file, int what, long value), (file, what, value))
+CALL(int, sigprocmask, (int how, const sigset_t *set, sigset_t *before), (how, set, before))
+CALL(int, getrlimit, (int what, void *limit), (what, limit))
+CALL(int, setrlimit, (int what, const void *limit), (what, limit))
+CALL(int, open64, (const char *path, int flags, mode_t mode), (path, flags, mode))
+CALL(int, statx, (int folder, const char *path, int flags, unsigned what, void *told), (folder, path, flags, what, told))
+CALL(off_t, lseek64, (int file, off_t place, int how), (file, place, how))
 CALL(ssize_t, read, (int file, void *bytes, size_t most), (file, bytes, most))
 CALL(ssize_t, write, (int file, const void *bytes, size_t size), (file, bytes, size))
 CALL(ssize_t, recv, (int file, void *bytes, size_t most, int flags), (file, bytes, most, flags))

@@ -7,6 +7,7 @@
 //   FAIL=ERRNO                  there a call fails so, once, instead: the next one, which does nothing then, or the one behind which it would be killed, which is done
 //   HOLD=SEED                   what is written is held back until the next sync. So a kill drops it; where KILL kills, a random part of it is on the disk
 //   DEAF=SEED                   one sync in three says that it is done, and does nothing
+//   FULL=BYTES                  the disk is full once the file has so many bytes
 #define _GNU_SOURCE
 #include <errno.h>
 #include <fcntl.h>
@@ -31,10 +32,11 @@ static struct { uint64_t syncs, unsynced; } none, *counts = &none;
 static const char *store;
 static struct write *held, **end = &held;
 static uint64_t syncs, writes, written, chance, deaf;
+static off_t most;
 static int kills, is_before, holds, wrong;
 
 __attribute__((constructor)) static void start(void) {
-    const char *path = getenv("COUNTS"), *at = getenv("KILL"), *seed = getenv("HOLD"), *lies = getenv("DEAF"), *fails = getenv("FAIL");
+    const char *path = getenv("COUNTS"), *at = getenv("KILL"), *seed = getenv("HOLD"), *lies = getenv("DEAF"), *fails = getenv("FAIL"), *full = getenv("FULL");
     char where[16] = "";
     store = getenv("STORE");
     int file = path ? open(path, O_RDWR | O_CLOEXEC) : -1;
@@ -46,6 +48,7 @@ __attribute__((constructor)) static void start(void) {
     chance = seed ? strtoul(seed, NULL, 10) : 0;
     wrong = fails ? atoi(fails) : 0;
     deaf = lies ? strtoul(lies, NULL, 10) : 0;
+    most = full ? atol(full) : 0;
     if (!store || (path && (file < 0 || counts == MAP_FAILED)) || (at && !kills))
         _exit(99);
 }
@@ -140,6 +143,13 @@ static long write_at(int file, const void *bytes, size_t size, off_t at) {
         return syscall(SYS_pwrite64, file, bytes, size, at);
     if (ends(file, is_before && written >= writes))
         return -1;
+    if (most && at + (off_t)size > most) {
+        if (at >= most) {
+            errno = ENOSPC;
+            return -1;
+        }
+        size = most - at;
+    }
     long done = size;
     if (holds) {
         struct write *it = malloc(sizeof *it);

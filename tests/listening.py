@@ -21,9 +21,10 @@ LARGE = 20_000_000
 class Listening:
     """A listener that runs. `wrong` has what is wrong with how it ended."""
 
-    def __init__(self, listen, words=(), mode="serve", deaf=0, program=None, environment=None, **more):
-        behind = program or [sys.executable, os.path.join(HERE, "behind.py"), mode, "1", str(deaf)]
-        words = [*words] if "--listen" in words else [*words, "0"]
+    def __init__(self, listen, words=(), mode="serve", deaf=0, users=None, program=None, environment=None, **more):
+        behind = program or [sys.executable, os.path.join(HERE, "behind.py"), mode, "1", str(deaf), *(["--login"] if users else [])]
+        words = [*words, *(["--users", users] if users else [])]
+        words = words if "--listen" in words else [*words, "0"]
         self.said = tempfile.TemporaryFile()
         self.child = subprocess.Popen([listen, *words, *behind], stdout=subprocess.PIPE, stderr=self.said, env={**os.environ, **(environment or {})}, **more)
         self.status = None
@@ -66,6 +67,11 @@ class Listening:
 
     def signal(self, number=signal.SIGTERM):
         self.child.send_signal(number)
+
+    def program(self):
+        """The process of the program."""
+        with open(f"/proc/{self.child.pid}/task/{self.child.pid}/children", encoding="ascii") as children:
+            return int(children.read().split()[0])
 
     def wait(self):
         try:

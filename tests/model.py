@@ -21,8 +21,8 @@ CLOSE = b"Connection: close\r\n"
 NOTHING = b"HTTP/1.1 204 No Content\r\n" + DATED
 ENDS = {
     0: [b""],
-    1: [b"1", b"1 9\n", b"1 9\nabc", b"gone", b"taken 1 1", b"clock 1"],
-    4: [b"x\n", b"\n", b"0 0\n", b"999999 1\nx", b"gone 999999\n", b"taken 999999 1\n", b"1 1048577\n", b"gone\n", b"none 1\n", b"taken 1 999999\n"],
+    1: [b"1", b"1 9\n", b"1 9\nabc", b"gone", b"taken 1 1", b"clock 1", b"from 1", b"users 9\nabc"],
+    4: [b"x\n", b"\n", b"0 0\n", b"999999 1\nx", b"gone 999999\n", b"taken 999999 1\n", b"1 1048577\n", b"gone\n", b"none 1\n", b"taken 1 999999\n", b"from 1 a\n", b"from 999999 a\n", b"users 1048577\n"],
 }
 
 
@@ -187,9 +187,10 @@ class Run:
             sender = self.senders[at]
             if at == self.begun:
                 self.begun += 1
+                self.name(sender)
                 self.send(sender)
             else:
-                self.chance.choice([self.send] * 10 + [self.take] * 4 + [self.settle] * 2 + [self.tell_clock, self.flush, self.end, self.go, self.go_beyond])(sender)
+                self.chance.choice([self.send] * 10 + [self.take] * 4 + [self.settle] * 2 + [self.tell_clock, self.tell_users, self.flush, self.end, self.go, self.go_beyond])(sender)
         # All that is left.
         for sender in self.senders[: self.begun]:
             if self.chance.random() < 0.7:
@@ -215,6 +216,17 @@ class Run:
     def tell_clock(self, _sender):
         """Within the first second, so that no date shows it."""
         self.listener.say(b"clock %d\n" % self.chance.randrange(1_000_000_000))
+
+    def name(self, sender):
+        """Where it comes from, perhaps, and perhaps from elsewhere."""
+        for _ in range(self.chance.choice([0, 1, 1, 1, 2])):
+            address = bytes(self.chance.randrange(33, 127) for _ in range(self.chance.choice([1, 9, 64])))
+            self.listener.say(b"from %d %b\n" % (sender.number, address))
+
+    def tell_users(self, _sender):
+        """To a server that asks nobody to log in."""
+        text = self.chance.randbytes(self.chance.choice([0, 1, 100, 5000]))
+        self.listener.say(b"users %d\n" % len(text) + text)
 
     def flush(self, _sender):
         self.listener.step(0)

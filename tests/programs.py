@@ -1,7 +1,22 @@
 """What the tests and the benches share: the words that they are run with, the programs that they run, and what these take."""
+import contextlib
 import os
 import shutil
+import subprocess
 import sys
+
+# What a test tries where it is there: each program, and the package of Debian that has it.
+PACKAGES = {
+    "cadaver": "cadaver",
+    "litmus": "litmus",
+    "rclone": "rclone",
+    "mount.davfs": "davfs2",
+    "gvfsd-dav": "gvfs-backends",
+    "gio": "libglib2.0-bin",
+    "dbus-run-session": "dbus-daemon",
+}
+# Where programs stand that nobody starts by their name.
+FOLDERS = ["/usr/sbin", "/sbin", "/usr/libexec", "/usr/lib/gvfs"]
 
 
 def stop(why):
@@ -46,6 +61,26 @@ def need(name, *packages):
     """A program that has to be there."""
     if not shutil.which(name):
         stop(f"{name} is needed: apt-get install {' '.join(packages or [name])}")
+
+
+def is_there(name):
+    return shutil.which(name, path=os.pathsep.join([os.environ["PATH"], *FOLDERS])) is not None
+
+
+def is_here(test, name):
+    """Whether one of PACKAGES is there; where it isn't, the test says so."""
+    found = is_there(name)
+    if not found:
+        print(f"{test}: {name} was not there, so nothing was tried with it: apt-get install {PACKAGES[name]}", flush=True)
+    return found
+
+
+def install(*names):
+    """Those of PACKAGES that aren't there, where that can be done."""
+    commands = [["apt-get", "install", "-y", "--no-install-recommends", PACKAGES[name]] for name in names if not is_there(name)]
+    for command in [["apt-get", "update"], *commands] if commands else []:
+        with contextlib.suppress(OSError, subprocess.TimeoutExpired):
+            subprocess.run(["env", "DEBIAN_FRONTEND=noninteractive", *command], stdin=subprocess.DEVNULL, stdout=subprocess.DEVNULL, stderr=subprocess.DEVNULL, timeout=120, check=False)
 
 
 def memory_of(pid, kind="VmHWM"):

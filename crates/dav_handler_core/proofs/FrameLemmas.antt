@@ -6,7 +6,7 @@ use Rattle.http_frames.specs.Gate.{TakesTurn}
 use Rattle.http_frames.specs.TurnRuns.{EventDoes}
 use Rattle.dav_handler_core.specs.Answers.{Answers}
 use Rattle.dav_handler_core.specs.Server.{Server}
-use Rattle.dav_handler_core.specs.Serving.{BeginsTurn, Clocked, Leads, Replies, Timing}
+use Rattle.dav_handler_core.specs.Serving.{BeginsTurn, Clocked, Leads, Listed, Replies, Timing}
 use Rattle.dav_handler_core.specs.TagHistories.{Becomes}
 use Rattle.dav_handler_core.specs.TagHistories.Becomes.{by_clock, by_answer}
 use Rattle.dav_handler_core.proofs.TagLaws.{calls_stay, told_on}
@@ -42,7 +42,7 @@ module _ {C : Type 0} (tells : C → Option ℕ → C → Type 0) (begun : Serve
   turn_becomes number calls s s' run (inr turn) =
       calls_become calls turn.0 s' (begins_becomes number s turn.0 run turn.1) turn.2.chain
 
-  pub event_becomes : (e : Event) (s s' : Timing C) → Becomes begun s.server → EventDoes (BeginsTurn tells) Replies Clocked e s s' → Becomes begun s'.server
+  pub event_becomes : (e : Event) (s s' : Timing C) → Becomes begun s.server → EventDoes (BeginsTurn tells) Replies Clocked Listed e s s' → Becomes begun s'.server
   event_becomes (Answered number calls) s s' run does = turn_becomes number calls s s' run does
   event_becomes (Clock moment) s s' run does = subst (Becomes begun) (sym does.0) (by_clock s.server moment run)
   event_becomes _ s s' run does = subst (λ (t : Timing C). Becomes begun t.server) (sym does) run

@@ -48,7 +48,7 @@ use Rattle.dav_methods_core.specs.ToldPaths.{told_path}
 use Rattle.dav_documents_core.specs.RefusalReading.{IsRooted}
 use Rattle.dav_session_core.specs.Removing.{IsRemoved}
 use Rattle.dav_handler_core.specs.TagHistories.{Becomes}
-use Rattle.dav_handler_core.specs.TagHistories.Becomes.{itself, by_clock, by_answer}
+use Rattle.dav_handler_core.specs.TagHistories.Becomes.{itself, by_clock, by_answer, by_restart}
 use Rattle.dav_session_core.proofs.Asking.{live_once}
 use Rattle.dav_documents_core.proofs.AskedNameLemmas.{lock_owner}
 use Rattle.dav_documents_core.proofs.KeptReadingLaws.{IsKeptUpdate, updates_are_kept}
@@ -381,3 +381,11 @@ run_keeps s s' kept itself = kept
 run_keeps s s' kept (by_clock mid now h) =
     let k = run_keeps s mid kept h in record { exclusive = k.exclusive; shape = k.shape; properties = k.properties; locks = k.locks }
 run_keeps s s' kept (by_answer mid after request response h answer) = answer_keeps mid after request response answer (run_keeps s mid kept h)
+run_keeps s s' kept (by_restart mid after h again) =
+    let k = run_keeps s mid kept h in
+    record {
+      exclusive = again.apart;
+      shape = subst IsResourceMap (sym again.map) k.shape;
+      properties = subst AllKept (sym again.map) k.properties;
+      locks = kept_later mid.last after.last after.state.locks again.moments (subst AreKeptLocks (sym again.locks) k.locks);
+    }

@@ -22,6 +22,7 @@ pub mod PatchAnswerLemmas
 pub mod PathFrameLaws
 pub mod PathHistoryLemmas
 pub mod PromiseLaws
+pub mod RoomLemmas
 mod SameLocks
 pub mod SentAnswerLemmas
 pub mod SentFieldLemmas

@@ -5,7 +5,7 @@ use Rattle.std.proofs.Math.Nat.{le-max_right}
 use Rattle.std.proofs.lemmas.Bool.{cases_Bool, leb-false, leb-true, le-leb, true≢false}
 use Rattle.http.specs.declared.request.Request.{Request}
 use Rattle.http_server.specs.declared.response.Response.{Response}
-use Rattle.dav_path_core.proofs.lists.MemberLemmas.{In-Contains}
+use Rattle.dav_path_core.proofs.lists.MemberLemmas.{Contains-In, In, In-Contains, In-filter}
 use Rattle.dav_locks_core.specs.Exclusive.{Exclusive}
 use Rattle.dav_locks_core.specs.Lock.{Lock}
 use Rattle.dav_locks_core.specs.Stale.{has_come, is_stale}
@@ -15,8 +15,8 @@ use Rattle.dav_handler_core.specs.LockTimes.{FindsNoneBehind, IsEndedByHolder, S
 use Rattle.dav_handler_core.specs.RequestMoments.{ComesAt}
 use Rattle.dav_handler_core.specs.RequestMoments.ComesAt.{begun, unread}
 use Rattle.dav_handler_core.specs.Server.{Server}
-use Rattle.dav_handler_core.specs.TagHistories.{Becomes}
-use Rattle.dav_handler_core.specs.TagHistories.Becomes.{by_answer, by_clock, itself}
+use Rattle.dav_handler_core.specs.TagHistories.{Becomes, Restarts}
+use Rattle.dav_handler_core.specs.TagHistories.Becomes.{by_answer, by_clock, by_restart, itself}
 use Rattle.dav_handler_core.proofs.HoldingLaws.{stands_unless_ended}
 use Rattle.dav_handler_core.proofs.SameLocks.{contained}
 
@@ -38,6 +38,7 @@ run_on s s' (by_clock mid now h) = run_on s mid h
 run_on s s' (by_answer mid after request response h answer) =
     let so_far = run_on s mid h in
     (omega (arith, so_far.0, answer.moves.moments), λ x. answer.exclusive (so_far.1 x))
+run_on s s' (by_restart mid after h again) = let so_far = run_on s mid h in (omega (arith, so_far.0, again.moments), λ x. again.apart)
 
 -- one more clock or answer behind a request that ended it
 ended_more : (l : Lock) (s mid after : Server) → ((b : Server) → Becomes b mid → Becomes b after)
@@ -54,6 +55,13 @@ ended_more l s mid after on h = record {
   stood = h.stood;
   gone = h.gone;
 }
+
+-- a lock that has not expired stands again
+opened_again : (mid after : Server) → Restarts mid after → (l : Lock) → is_stale mid.last l ≡ false → Contains mid.state.locks l → Contains after.state.locks l
+opened_again mid after again l lasts still =
+    let lives : Lock → Bool = λ l. not (is_stale mid.last l) in
+    let here = In-filter lives mid.state.locks l (In-Contains mid.state.locks l still) (ap not lasts) in
+    Contains-In after.state.locks l (of_filter lives after.state.locks l (subst (In l) (sym again.locks) here)).0
 
 -- one more answer: the lock stands, or it is gone, and the request was its holder's
 ended_here : (l : Lock) (s mid after : Server) (request : Request (List ℕ)) (response : Response)
@@ -89,6 +97,12 @@ stands_its_time s s' x (by_answer mid after request response h answer) l stood l
     elim (stands_its_time s mid x h l stood (not_earlier mid.last after.last l answer.moves.moments lasts)) [
       | inl still ↦ ended_here l s mid after request response ((run_on s mid h).1 x) h answer still lasts
       | inr ended ↦ inr (ended_more l s mid after (λ b run. by_answer mid after request response run answer) ended)
+    ]
+stands_its_time s s' x (by_restart mid after h again) l stood lasts =
+    let before = not_earlier mid.last after.last l again.moments lasts in
+    elim (stands_its_time s mid x h l stood before) [
+      | inl still ↦ inl (opened_again mid after again l before still)
+      | inr ended ↦ inr (ended_more l s mid after (λ b run. by_restart mid after run again) ended)
     ]
 
 -- a lock whose end has come at the clock has expired at the moment of a request

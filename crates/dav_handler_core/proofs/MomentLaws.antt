@@ -7,9 +7,9 @@ use Rattle.dav_handler_core.specs.KeptDocuments.{IsNew, KeepsElements}
 use Rattle.dav_handler_core.specs.PathMoments.{DatesTellFiles, IsAlong, IsFileAt, MomentsTellFiles}
 use Rattle.dav_handler_core.specs.Server.{Server}
 use Rattle.dav_handler_core.specs.TagHistories.{Becomes, HasFile, HasNoFiles}
-use Rattle.dav_handler_core.specs.TagHistories.Becomes.{itself, by_clock, by_answer}
+use Rattle.dav_handler_core.specs.TagHistories.Becomes.{itself, by_clock, by_answer, by_restart}
 use Rattle.dav_handler_core.proofs.KeptStoreLaws.{begins_kept, run_keeps}
-use Rattle.dav_handler_core.proofs.TagLaws.{Dates, answer_dates, begins, clock_dates, goes_on, new_stores}
+use Rattle.dav_handler_core.proofs.TagLaws.{Dates, answer_dates, begins, clock_dates, goes_on, new_stores, restart_dates}
 
 -- each file of the later server stood at its path in the earlier one with its bytes, or a moment along the path is later
 record FilesSince (s s' : Server) : Type 0 where
@@ -34,6 +34,7 @@ since s s' kept itself = record { moments = omega arith; files = λ p other here
 since s s' kept (by_clock mid now h) = since_more s mid (record mid { clock = now }) (run_keeps s mid kept h).shape (since s mid kept h) (clock_dates mid now)
 since s s' kept (by_answer mid after request response h answer) =
     since_more s mid after (run_keeps s mid kept h).shape (since s mid kept h) (answer_dates mid after request response answer)
+since s s' kept (by_restart mid after h again) = since_more s mid after (run_keeps s mid kept h).shape (since s mid kept h) (restart_dates mid after again)
 
 pub moments_tell : (begun s s' : Server) → IsNew begun → Becomes begun s → Becomes s s' → MomentsTellFiles s s'
 moments_tell begun s s' new before run p file other here there = elim ((since s s' (run_keeps begun s (begins_kept begun new) before) run).files p other there) [

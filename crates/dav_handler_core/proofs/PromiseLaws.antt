@@ -45,9 +45,9 @@ use Rattle.dav_session_core.specs.Patching.{with_updates}
 use Rattle.dav_documents_core.specs.PropertyUpdates.{Update}
 use Rattle.dav_session_core.specs.Removing.{IsRemoved}
 use Rattle.dav_handler_core.specs.Promises.{Brings, EachAnswer, EachCall, EachOf, EachOfTurn, GetsWhatIsLeft, IsLeft, KeepsTo, StandsAt}
-use Rattle.dav_handler_core.specs.Serving.{BeginsTurn, Clocked, Leads, Replies, Timing}
+use Rattle.dav_handler_core.specs.Serving.{BeginsTurn, Clocked, Leads, Listed, Replies, Timing}
 use Rattle.dav_handler_core.specs.TagHistories.{Becomes}
-use Rattle.dav_handler_core.specs.TagHistories.Becomes.{itself, by_clock, by_answer}
+use Rattle.dav_handler_core.specs.TagHistories.Becomes.{itself, by_clock, by_answer, by_restart}
 use Rattle.dav_handler_core.proofs.FrameLemmas.{begins_becomes, event_becomes}
 use Rattle.dav_handler_core.proofs.AnswerStatuses.{no_fault}
 use Rattle.dav_handler_core.proofs.HoldingLaws.{kept_under_any, kept_unless_held, stands_unless_ended}
@@ -311,6 +311,8 @@ module _ (begun : Server) (new : IsNew begun) where
   left s itself p bytes stands =
       absurd (new_stores new.now stands.0 (p, subst (λ map. at_path map p ≡ Some stands.0) new.map stands.1, stands.2))
   left s (by_clock mid now run) p bytes stands = IsLeft.by_clock mid now p bytes (left mid run p bytes stands)
+  left s (by_restart mid after run again) p bytes stands =
+      IsLeft.by_restart mid after p bytes again (left mid run p bytes (subst (λ map. StandsAt map p bytes) again.map stands))
   left s (by_answer mid after request response run h) p bytes stands =
       let come = comes mid after request p stands.0 stands.1 stands.2 h.method h.result h.own h.done h.refused in
       subst (IsLeft begun after p) stands.3 (of (left mid run) stands.0.node.bytes (stands.0, stands.1, stands.2, refl) come)
@@ -387,7 +389,7 @@ module _ {C : Type 0} (tells : C → Option ℕ → C → Type 0) (begun : Serve
   each_of_turn s number calls s' run (inr turn) =
       each_call turn.0 calls s' (begins_becomes tells begun number s turn.0 run turn.1) turn.2.chain
 
-  each_of : (s : Timing C) (e : Event) (s' : Timing C) → Becomes begun s.server → (does : EventDoes (BeginsTurn tells) Replies Clocked e s s')
+  each_of : (s : Timing C) (e : Event) (s' : Timing C) → Becomes begun s.server → (does : EventDoes (BeginsTurn tells) Replies Clocked Listed e s s')
       → EachOf tells (KeepsTo begun) s e s' does
   each_of s (Answered number calls) s' run does = each_of_turn s number calls s' run does
   each_of s _ s' run does = tt
@@ -405,3 +407,4 @@ left_stand begun s p bytes (IsLeft.by_transfer before after request response fro
 left_stand begun s p bytes (IsLeft.by_lock before after request response path run h done named nothing stands) = stands
 left_stand begun s p bytes (IsLeft.by_answer before after request response q content h old stands) = stands
 left_stand begun s p bytes (IsLeft.by_clock before now q content old) = left_stand begun before q content old
+left_stand begun s p bytes (IsLeft.by_restart before after q content again old) = subst (λ map. StandsAt map q content) (sym again.map) (left_stand begun before q content old)

@@ -42,8 +42,8 @@ use Rattle.dav_methods_core.specs.PutMethod.{Puts}
 use Rattle.dav_session_core.specs.Removing.{IsRemoved}
 use Rattle.dav_handler_core.specs.Serving.{with_clock}
 use Rattle.dav_handler_core.specs.PathMoments.{IsAlong, IsFileAt}
-use Rattle.dav_handler_core.specs.TagHistories.{HasFile, HasNoFiles, MomentsTell, TagsTell, Becomes}
-use Rattle.dav_handler_core.specs.TagHistories.Becomes.{itself, by_clock, by_answer}
+use Rattle.dav_handler_core.specs.TagHistories.{HasFile, HasNoFiles, MomentsTell, Restarts, TagsTell, Becomes}
+use Rattle.dav_handler_core.specs.TagHistories.Becomes.{itself, by_clock, by_answer, by_restart}
 use Rattle.dav_handler_core.proofs.FileHistoryLemmas.{Come, Had, bytes_of, cleared_come, cleared_folder, copied_come, moved_come, removed_come}
 use Rattle.dav_handler_core.proofs.PathHistoryLemmas.{Follow, Stays, cleared_bare, cleared_follows, copied_follows, made_follows, moved_follows, one_follows, patched_stays, removed_follows, stays}
 use Rattle.dav_fields_core.proofs.FileTagLemmas.{tells}
@@ -303,6 +303,9 @@ answer_dates before after request response h =
 pub clock_dates : (s : Server) (now : ℕ) → Dates s (record s { clock = now })
 clock_dates s now = same_map s (record s { clock = now }) (omega arith) refl
 
+pub restart_dates : (s s' : Server) → Restarts s s' → Dates s s'
+restart_dates s s' h = same_map s s' h.moments h.map
+
 -- ---- moments go on to tell
 
 pub begins : (s : Server) → HasNoFiles s.state.map → MomentsTell s
@@ -335,6 +338,7 @@ goes_on s s' tell itself = tell
 goes_on s s' tell (by_clock mid now h) = dates_tell mid (record mid { clock = now }) (goes_on s mid tell h) (clock_dates mid now)
 goes_on s s' tell (by_answer mid after request response h answer) =
     dates_tell mid after (goes_on s mid tell h) (answer_dates mid after request response answer)
+goes_on s s' tell (by_restart mid after h again) = dates_tell mid after (goes_on s mid tell h) (restart_dates mid after again)
 
 -- ---- over a run
 
@@ -360,6 +364,7 @@ since s s' itself = record { moments = omega arith; files = λ file has. inl (fi
 since s s' (by_clock mid now h) = since_more s mid (record mid { clock = now }) (since s mid h) (clock_dates mid now)
 since s s' (by_answer mid after request response h answer) =
     since_more s mid after (since s mid h) (answer_dates mid after request response answer)
+since s s' (by_restart mid after h again) = since_more s mid after (since s mid h) (restart_dates mid after again)
 
 tags_tell : (s s' : Server) → MomentsTell s → Becomes s s' → TagsTell s s'
 tags_tell s s' tell h file other has also fits fits_other same =

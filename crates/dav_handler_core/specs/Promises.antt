@@ -21,8 +21,8 @@ use Rattle.dav_handler_core.specs.Server.{Names, Server, site_for}
 use Rattle.dav_session_core.specs.Callers.{SameLive}
 use Rattle.dav_fields_core.specs.TransferDestinations.{IsDestination}
 use Rattle.dav_handler_core.specs.Holding.{IsKeptUnderAny, IsKeptUnlessHeld, StandsUnlessEnded}
-use Rattle.dav_handler_core.specs.Serving.{BeginsTurn, Clocked, Leads, Replies, Timing}
-use Rattle.dav_handler_core.specs.TagHistories.{Becomes}
+use Rattle.dav_handler_core.specs.Serving.{BeginsTurn, Clocked, Leads, Listed, Replies, Timing}
+use Rattle.dav_handler_core.specs.TagHistories.{Becomes, Restarts}
 
 -- ---- which bytes stand at a path
 
@@ -45,7 +45,7 @@ abbrev pub DoesMethod : {before after : Server} {request : Request (List ℕ)} {
 DoesMethod h m = (h.method ≡ Some m) × ((status : ℕ) × (h.result ≡ Ok status))
 
 -- The bytes that stand at a path, and how they came there since the server began: they were put there; a COPY or a MOVE brought them from a path where they had been left;
--- or a LOCK made an empty file where nothing stood. Each other answer, and each moment that the clock tells, leaves them.
+-- or a LOCK made an empty file where nothing stood. Each other answer, each moment that the clock tells, and each restart leaves them.
 pub data IsLeft (begun : Server) : Server → Path → List ℕ → Type 0 where
   by_put : (before after : Server) (request : Request (List ℕ)) (response : Response) (path : PathText) → Becomes begun before → (h : Answers before request response after)
       → DoesMethod h method.Put → Names before.options request path → StandsAt after.state.map (segments path.bytes) (body_of request)
@@ -58,6 +58,7 @@ pub data IsLeft (begun : Server) : Server → Path → List ℕ → Type 0 where
       → IsLeft begun after (segments path.bytes) []
   by_answer : (before after : Server) (request : Request (List ℕ)) (response : Response) (p : Path) (bytes : List ℕ) → Answers before request response after
       → IsLeft begun before p bytes → StandsAt after.state.map p bytes → IsLeft begun after p bytes
+  by_restart : (before after : Server) (p : Path) (bytes : List ℕ) → Restarts before after → IsLeft begun before p bytes → IsLeft begun after p bytes
   by_clock : (before : Server) (now : ℕ) (p : Path) (bytes : List ℕ) → IsLeft begun before p bytes → IsLeft begun (record before { clock = now }) p bytes
 
 -- ---- each answer
@@ -97,7 +98,7 @@ module _ {C : Type 0} (tells : C → Option ℕ → C → Type 0) (P : Server �
   EachOfTurn s number calls s' (inr turn) = EachCall P turn.0 calls s' turn.2.chain
 
   -- no other event has calls
-  abbrev pub EachOf : (s : Timing C) (e : Event) (s' : Timing C) → EventDoes (BeginsTurn tells) Replies Clocked e s s' → Type 0
+  abbrev pub EachOf : (s : Timing C) (e : Event) (s' : Timing C) → EventDoes (BeginsTurn tells) Replies Clocked Listed e s s' → Type 0
   EachOf s (Answered number calls) s' does = EachOfTurn s number calls s' does
   EachOf s _ s' does = Unit {0}
 

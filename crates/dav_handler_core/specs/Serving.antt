@@ -54,14 +54,18 @@ Replies old request response new = (made : Response) × Answers old.server reque
 abbrev pub Clocked : {C : Type 0} → Timing C → ℕ → Timing C → Type 0
 Clocked old moment new = (new.server ≡ with_clock (Some moment) old.server) × (new.clock ≡ old.clock)
 
+-- A frame tells who the users are, which is nothing to the server.
+abbrev pub Listed : {C : Type 0} → Timing C → List ℕ → Timing C → Type 0
+Listed old file new = new ≡ old
+
 -- ---- a run
 
 -- These events lead from the one to the other: all turns, in their order, are answered by one server, and nothing else changes it but moments that are told.
 abbrev pub Leads : {C : Type 0} → (C → Option ℕ → C → Type 0) → Timing C → List Event → Timing C → Type 0
-Leads tells before events after = frames.EventsLead (BeginsTurn tells) Replies Clocked before events after
+Leads tells before events after = frames.EventsLead (BeginsTurn tells) Replies Clocked Listed before events after
 
 -- The frames were served, however that ended: each connection as if it were alone, and all by one server.
 abbrev pub AreServed : {C E : Type 0} → (C → Option ℕ → C → Type 0) → Result End E → Clients → Clients → Timing C → Timing C
     → Option (List ℕ) → Option (List ℕ) → Option (List ℕ) → Option (List ℕ) → Type 0
 AreServed tells result c c' before after input input' output output' =
-    frames.RunsInTurns (BeginsTurn tells) Replies Clocked result c c' before after input input' output output'
+    frames.RunsInTurns (BeginsTurn tells) Replies Clocked Listed result c c' before after input input' output output'

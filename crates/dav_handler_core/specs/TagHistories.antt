@@ -5,6 +5,8 @@ use Rattle.http_server.specs.declared.response.Response.{Response}
 use Rattle.dav_path_core.specs.Fronts.{Path}
 use Rattle.dav_files_core.specs.declared.memfs.Kind.TheVariants.{File}
 use Rattle.dav_files_core.specs.Resources.{Resource, ResourceMap, at_path}
+use Rattle.dav_locks_core.specs.Exclusive.{Exclusive}
+use Rattle.dav_locks_core.specs.Stale.{without_stale}
 use Rattle.dav_handler_core.specs.Answers.{Answers}
 use Rattle.dav_handler_core.specs.Server.{Server}
 use Rattle.dav_fields_core.specs.FileTags.{tag_of}
@@ -38,8 +40,16 @@ TagsTell s s' = (file other : Resource) → HasFile s.state.map file → HasFile
 
 -- ---- a run
 
--- what a server becomes by its answers, one after another, with its clock set between them
+-- Another server opens what the one kept: it has the same folders and files, the same locks but for those that have expired, and begins at no earlier moment. Its clock, its generator and its settings are its own.
+pub record Restarts (s s' : Server) : Type 0 where
+  pub map : s'.state.map ≡ s.state.map
+  pub locks : without_stale s.last s'.state.locks ≡ without_stale s.last s.state.locks
+  pub apart : Exclusive s'.state.locks
+  pub moments : s.last ≤ s'.last
+
+-- what a server becomes by its answers, one after another, with its clock set between them, over any number of restarts
 pub data Becomes (s : Server) : Server → Type 0 where
   itself : Becomes s s
   by_clock : (mid : Server) (now : ℕ) → Becomes s mid → Becomes s (record mid { clock = now })
   by_answer : (mid after : Server) (request : Request (List ℕ)) (response : Response) → Becomes s mid → Answers mid request response after → Becomes s after
+  by_restart : (mid after : Server) → Becomes s mid → Restarts mid after → Becomes s after

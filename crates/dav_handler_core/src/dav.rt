@@ -25,6 +25,7 @@ ghost use Rattle.dav_faults_core.specs.declared.faults.Fault.TheVariants as faul
 
 mod beginning;
 mod laws;
+mod room;
 mod tag_laws;
 
 use bytes::Bytes;

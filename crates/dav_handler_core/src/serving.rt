@@ -16,7 +16,7 @@ ghost use Rattle.dav_handler_core.specs.KeptDocuments.{IsNew};
 ghost use Rattle.dav_handler_core.specs.Promises.{EachAnswer, IsLeft, KeepsTo, StandsAt};
 ghost use Rattle.dav_handler_core.specs.ServerViews.{server};
 ghost use Rattle.dav_handler_core.specs.Serving.{AreServed, BeginsTurn, Clocked, IsLongRefusal};
-ghost use Rattle.dav_handler_core.specs.Serving.{IsSent, Leads, Replies, Timing, timing};
+ghost use Rattle.dav_handler_core.specs.Serving.{IsSent, Leads, Listed, Replies, Timing, timing};
 ghost use Rattle.dav_handler_core.specs.TagHistories.{Becomes};
 
 use crate::dav::Dav;
@@ -100,7 +100,9 @@ impl<R: Rng, C: Clock> TurnService for Timed<R, C> {
 
     ghost clocked = { λ old moment new. Clocked (timing R.stream old) moment (timing R.stream new) };
 
-    fn begin_turn(&mut self, _number: u64) {
+    ghost listed = { λ old file new. Listed (timing R.stream old) file (timing R.stream new) };
+
+    fn begin_turn(&mut self, _number: u64, _address: &[u8]) {
         if let Some(now) = self.clock.moment() {
             self.dav.set_clock(now);
         }
@@ -116,9 +118,31 @@ impl<R: Rng, C: Clock> TurnService for Timed<R, C> {
         }
     }
 
+    /// Nothing is kept.
+    fn room_for(&self, _request: &Request<Bytes>) -> u64 {
+        0
+    }
+
+    fn most_room(&self, _bytes: u64) -> u64 {
+        0
+    }
+
+    fn refuse_for_room(
+        &mut self,
+        request: &Request<Bytes>,
+        response: &mut Response,
+    ) -> Result<(), AllocError> {
+        self.dav.refuse_for_room(request, response)?;
+        close_behind_refused(request, response);
+        Ok(())
+    }
+
     fn set_clock(&mut self, moment: u64) {
         self.dav.set_clock(Moment(moment));
     }
+
+    /// A server knows no users.
+    fn set_users(&mut self, _file: &[u8]) {}
 }
 
 // Whether a field says that ranges of the answer are served.
@@ -167,6 +191,12 @@ pub fn served_frames_keep_promises<C: Clock>()
         → IsNew begun.server
         → (h : AreServed C.tells result c c' begun after input input' output output')
         → EachAnswer C.tells (KeepsTo begun.server) begun h.done after h.leads }
+    // So it is of a later life: from whatever new stores became, over any number of restarts.
+    ensures lives { (result : Result spec_end.End spec_fault.Fault) (c c' : held.Clients)
+        (begun : Server) (before after : Timing C) (input input' output output' : Option (List ℕ))
+        → IsNew begun → Becomes begun before.server
+        → (h : AreServed C.tells result c c' before after input input' output output')
+        → EachAnswer C.tells (KeepsTo begun) before h.done after h.leads }
     // The bytes that were left at a path are those that stand there.
     ensures exact { (begun s : Server) (p : Path) (bytes : List ℕ) → IsLeft begun s p bytes
         → StandsAt s.state.map p bytes }

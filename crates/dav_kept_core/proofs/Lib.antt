@@ -1,3 +1,4 @@
 pub mod BareAnswers
 pub mod BareRuns
+pub mod LifeLaws
 pub mod StandLemmas

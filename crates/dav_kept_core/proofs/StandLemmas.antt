@@ -6,7 +6,7 @@ use Rattle.http.specs.declared.request.Request.{Request}
 use Rattle.http_server.specs.declared.response.Response.{Response}
 use Rattle.http_server.specs.Exchange.{Call, Chain}
 use Rattle.http_frames.specs.Gate.{IsTold}
-use Rattle.dav_resource_core.specs.Stores.{Stores, start_stores}
+use Rattle.dav_resource_core.specs.Stores.{Stores}
 use Rattle.dav_notes_core.specs.Noting.{AreChanges, Noted}
 use Rattle.dav_notes_core.specs.PlayedNotes.{NotesLead}
 use Rattle.dav_notes_core.specs.Seen.{KeptNotes}
@@ -14,7 +14,7 @@ use Rattle.dav_notes_core.specs.Stepping.{SameLiveStores}
 use Rattle.dav_notes_core.proofs.LeadLemmas.{leads_join}
 use Rattle.dav_effects_core.specs.Records.{IsRecord}
 use Rattle.dav_store_core.specs.StandingFor.{AreRecords, StandFor}
-use Rattle.dav_store_core.proofs.KeepLemmas.{come_back, keeps_all_one, keeps_join, records_more}
+use Rattle.dav_store_core.proofs.KeepLemmas.{records_more, stand_back, stand_one}
 use Rattle.dav_handler_core.specs.Server.{Server}
 use Rattle.dav_kept_core.specs.KeptServers.{BeginsKept, IsFresh, KeptServer, RepliesKept, StandsForServer, TakesNotes, stores_in}
 use Rattle.dav_kept_core.specs.Private.StandLaws.{same_but_clock, stands_alike}
@@ -50,7 +50,7 @@ takes_notes old new notes k changes is =
 module _ {C : Type 0} where
   -- a turn begins
   begun_stands : (tells : C → Option ℕ → C → Type 0) (records : List (List ℕ)) (s s' : KeptServer C) (number : ℕ) → StandsForServer records s → BeginsKept tells s number s' → StandsForServer records s'
-  begun_stands tells records s s' number h x = stands_alike records s s' (same_but_clock x.begins.0 s.timing.server s'.timing.server x.begins.2) x.began h
+  begun_stands tells records s s' number h x = stands_alike records s s' (same_but_clock x.begins.0 s.timing.server s'.timing.server x.begins.2) x.header h
 
   -- ---- a call
 
@@ -59,7 +59,7 @@ module _ {C : Type 0} where
     pub old : List (List ℕ)
     pub start : Stores
     pub from : ℕ
-    pub stand : StandFor s.began old start from
+    pub stand : StandFor s.header old start from
     pub calls : List (List Noted)
     pub made : List (List ℕ)
     pub are : AreRecords calls made
@@ -94,7 +94,7 @@ module _ {C : Type 0} where
         old = h.old;
         start = h.start;
         from = h.from;
-        stand = rw x.began h.stand;
+        stand = rw x.header h.stand;
         calls = h.calls;
         made = h.made;
         are = h.are;
@@ -153,21 +153,21 @@ module _ {C : Type 0} where
   -- ---- what opens again
 
   pub opens_again : (records : List (List ℕ)) (s : KeptServer C) → StandsForServer records s
-      → (t : Stores) × (last : ℕ) × StandFor s.began records t last × SameLiveStores s.timing.server.last (stores_in s.timing.server) t × (last ≤ s.timing.server.last)
+      → (t : Stores) × (last : ℕ) × StandFor s.header records t last × SameLiveStores s.timing.server.last (stores_in s.timing.server) t × (last ≤ s.timing.server.last)
   opens_again records s h =
-      let v = come_back h.calls h.made h.from s.timing.server.last h.start (stores_in s.timing.server) h.are h.leads in (
+      let v = stand_back s.header h.old h.start (stores_in s.timing.server) h.from s.timing.server.last h.calls h.made h.stand h.are h.leads in (
         v.0,
         v.1,
-        rw h.all (keeps_join (start_stores s.began) h.start v.0 s.began h.from v.1 h.old h.made h.stand v.2),
+        rw h.all v.2,
         v.3,
         v.4,
       )
 
-  pub opens_one : (records : List (List ℕ)) (s : KeptServer C) (t : Stores) (last : ℕ) → StandsForServer records s → StandFor s.began records t last
+  pub opens_one : (records : List (List ℕ)) (s : KeptServer C) (t : Stores) (last : ℕ) → StandsForServer records s → StandFor s.header records t last
       → SameLiveStores s.timing.server.last (stores_in s.timing.server) t × (last ≤ s.timing.server.last)
   opens_one records s t last h x =
       let v = opens_again records s h in
-      let one = keeps_all_one (start_stores s.began) v.0 t s.began v.1 last records v.2 x in (
+      let one = stand_one s.header.generation s.header.began v.0 t v.1 last records v.2 x in (
         subst (λ (u : Stores). SameLiveStores s.timing.server.last (stores_in s.timing.server) u) one.0 v.3,
         subst (λ (m : ℕ). m ≤ s.timing.server.last) one.1 v.4,
       )

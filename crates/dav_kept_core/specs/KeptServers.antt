@@ -6,8 +6,10 @@ use Rattle.http.specs.declared.request.Request.{Request}
 use Rattle.http_server.specs.declared.response.Response.{Response}
 use Rattle.http_frames.specs.declared.clients.Clients.{Clients}
 use Rattle.http_frames.specs.declared.serving.End.{End}
+use Rattle.journal_core.specs.declared.header.Header.{Header}
 use Rattle.journal_core.specs.declared.journal.Journal.{Journal}
 use Rattle.kept_frames.specs.KeptRuns.{RunsKept}
+use Rattle.kept_frames.specs.LateRuns.{RunsLate}
 use Rattle.dav_resource_core.specs.Stores.{Stores}
 use Rattle.dav_notes_core.specs.Noting.{AreChanges, Noted, note_of}
 use Rattle.dav_notes_core.specs.PlayedNotes.{NotesLead}
@@ -17,15 +19,15 @@ use Rattle.dav_handler_core.specs.Server.{Server}
 use Rattle.dav_handler_core.specs.Serving.{BeginsTurn, Clocked, Replies, Timing, timing}
 use Rattle.dav_kept_core.specs.declared.recorded.Recorded.{Recorded}
 
--- a server and its clock; the notes of what the last call changed; what changes with each turn; and the moment at which the stores began
+-- a server and its clock; the notes of what the last call changed; what changes with each turn; and the header of the journal that keeps them
 pub record KeptServer (C : Type 0) : Type 0 where
   pub timing : Timing C
   pub notes : List Noted
   pub turn : Bool
-  pub began : ℕ
+  pub header : Header
 
 abbrev pub kept_server : {R C : Type 0} → (R → Stream) → Recorded R C → KeptServer C
-kept_server stream r = record { timing = timing stream r.timed; notes = map note_of r.last.notes.items; turn = r.turn; began = r.began.0 }
+kept_server stream r = record { timing = timing stream r.timed; notes = map note_of r.last.notes.items; turn = r.turn; header = r.header }
 
 -- the stores of a server
 abbrev pub stores_in : Server → Stores
@@ -42,7 +44,7 @@ pub record BeginsKept {C : Type 0} (tells : C → Option ℕ → C → Type 0) (
   pub begins : BeginsTurn tells old.timing number new.timing
   pub notes : new.notes ≡ []
   pub turn : new.turn ≡ not old.turn
-  pub began : new.began ≡ old.began
+  pub header : new.header ≡ old.header
 
 -- the notes are those of what was changed, and the next ones begin here
 pub record TakesNotes (old : Server) (notes : List Noted) (new : Server) : Type 0 where
@@ -57,14 +59,18 @@ pub record RepliesKept {C : Type 0} (old : KeptServer C) (request : Request (Lis
   pub takes : TakesNotes answered.server new.notes new.timing.server
   pub clock : new.timing.clock ≡ answered.clock
   pub turn : new.turn ≡ old.turn
-  pub began : new.began ≡ old.began
+  pub header : new.header ≡ old.header
 
 -- a frame tells the moment
 pub record ClockedKept {C : Type 0} (old : KeptServer C) (moment : ℕ) (new : KeptServer C) : Type 0 where
   pub clocked : Clocked old.timing moment new.timing
   pub notes : new.notes ≡ old.notes
   pub turn : new.turn ≡ old.turn
-  pub began : new.began ≡ old.began
+  pub header : new.header ≡ old.header
+
+-- a frame tells who the users are, which is nothing to the server
+abbrev pub ListedKept : {C : Type 0} → KeptServer C → List ℕ → KeptServer C → Type 0
+ListedKept old file new = new ≡ old
 
 -- ---- what stands for it
 
@@ -74,7 +80,7 @@ pub record StandsForServer {C : Type 0} (records : List (List ℕ)) (s : KeptSer
   pub old : List (List ℕ)
   pub start : Stores
   pub from : ℕ
-  pub stand : StandFor s.began old start from
+  pub stand : StandFor s.header old start from
   pub calls : List (List Noted)
   pub made : List (List ℕ)
   pub are : AreRecords calls made
@@ -86,4 +92,10 @@ pub record StandsForServer {C : Type 0} (records : List (List ℕ)) (s : KeptSer
 abbrev pub AreServedKept : {C D O E : Type 0} → (C → Option ℕ → C → Type 0) → (D → List ℕ) → (D → List ℕ → Type 0) → (D → Bool) → (O → Option (List ℕ)) → Result End E → Clients → Clients
     → KeptServer C → KeptServer C → Journal D O → Journal D O → Option (List ℕ) → Option (List ℕ) → O → O → Type 0
 AreServedKept tells seen may_leave is_clean contents result c c' s s' j j' input input' o o' =
-    RunsKept (BeginsKept tells) RepliesKept ClockedKept StandsForServer seen may_leave is_clean contents result c c' s s' j j' input input' o o'
+    RunsKept (BeginsKept tells) RepliesKept ClockedKept ListedKept StandsForServer seen may_leave is_clean contents result c c' s s' j j' input input' o o'
+
+-- The frames were served, however that ended, and at each moment what happened up to the last tick is kept.
+abbrev pub AreServedLate : {C D O E : Type 0} → (C → Option ℕ → C → Type 0) → (D → List ℕ) → (D → List ℕ → Type 0) → (D → Bool) → (O → Option (List ℕ)) → Result End E → Clients → Clients
+    → KeptServer C → KeptServer C → Journal D O → Journal D O → Option (List ℕ) → Option (List ℕ) → O → O → Type 0
+AreServedLate tells seen may_leave is_clean contents result c c' s s' j j' input input' o o' =
+    RunsLate (BeginsKept tells) RepliesKept ClockedKept ListedKept StandsForServer seen may_leave is_clean contents result c c' s s' j j' input input' o o'

@@ -1,4 +1,5 @@
 pub mod BareServers
 pub mod ChangeProps
 pub mod KeptServers
+pub mod Lives
 pub mod Private

@@ -9,11 +9,11 @@ ghost use Rattle.dav_kept_core.specs.KeptServers.{KeptServer, StandsForServer, s
 /// to its own but for locks that have expired, and for no others. It does nothing.
 pub fn stores_open_again<C>()
     ensures back { (records : List (List ℕ)) (s : KeptServer C) → StandsForServer records s
-        → (t : Stores) × (last : ℕ) × StandFor s.began records t last
+        → (t : Stores) × (last : ℕ) × StandFor s.header records t last
         × SameLiveStores s.timing.server.last (stores_in s.timing.server) t
         × (last ≤ s.timing.server.last) }
     ensures one { (records : List (List ℕ)) (s : KeptServer C) (t : Stores) (last : ℕ)
-        → StandsForServer records s → StandFor s.began records t last
+        → StandsForServer records s → StandFor s.header records t last
         → SameLiveStores s.timing.server.last (stores_in s.timing.server) t
         × (last ≤ s.timing.server.last) }
 {}

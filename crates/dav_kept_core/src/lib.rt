@@ -4,10 +4,12 @@
 mod last_notes;
 mod laws;
 mod recorded;
+mod rooms;
 mod run_laws;
 mod serving;
 
 pub use laws::stores_open_again;
 pub use recorded::Recorded;
-pub use run_laws::kept_runs_are_served;
-pub use serving::serve_store;
+pub use rooms::tree_of;
+pub use run_laws::{kept_runs_are_served, lives_go_on};
+pub use serving::{serve_store, serve_store_late};

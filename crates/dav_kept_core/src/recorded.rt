@@ -1,23 +1,21 @@
 //! A server that has the record of what its last call changed at hand.
-ghost use Rattle.std.specs.Prelude.{◌≡◌, ◌≤◌, ◌++◌, ◌∷◌, [], ℕ, List, OnOk, OnErr};
-ghost use Rattle.std.specs.List.{flat_map};
-ghost use Rattle.journal_core.specs.Resting.{Carries};
-ghost use Rattle.dav_effects_core.specs.Records.{bytes_of_pieces};
+ghost use Rattle.std.specs.Prelude.{◌≡◌, ◌≤◌, ℕ, List};
 ghost use Rattle.dav_store_core.specs.StandingFor.{StandFor};
 ghost use Rattle.dav_handler_core.specs.ServerViews.{server};
-ghost use Rattle.dav_kept_core.specs.Private.StandLaws.{clocked_stands, turn_told};
-ghost use Rattle.dav_kept_core.specs.KeptServers.{BeginsKept, ClockedKept, IsFresh, RepliesKept, StandsForServer, kept_server, stores_in};
+ghost use Rattle.dav_kept_core.specs.Private.StandLaws.{clocked_stands, listed_stands, turn_told};
+ghost use Rattle.dav_kept_core.specs.KeptServers.{BeginsKept, ClockedKept, IsFresh, ListedKept, RepliesKept, StandsForServer, kept_server, stores_in};
 
 use crate::last_notes::LastNotes;
+use crate::rooms::{most_room, room_for, tree_after};
 use bytes::Bytes;
-use dav_effects_core::{Pieces, write};
+use dav_effects_core::write;
 use dav_handler_core::serving::{Clock, Timed};
 use dav_notes_core::notes::Note;
-use dav_resource_core::fs::Moment;
+use dav_store_core::add_record;
 use http::Request;
 use http_frames::gate::TurnService;
 use http_server::{Response, Service};
-use journal_core::Round;
+use journal_core::{Header, Round};
 use kept_frames::Recording;
 use rand_core::Rng;
 use std::alloc::{AllocError, Global};
@@ -29,16 +27,18 @@ pub struct Recorded<R, C> {
     timed: Timed<R, C>,
     last: LastNotes,
     turn: bool,
-    began: Moment,
+    header: Header,
+    // How many bytes a record may have that names all that stands.
+    tree: u64,
 }
 
 impl<R: Rng, C: Clock> Recorded<R, C> {
-    /// This server, whose stores began with a root folder alone at the moment, as the header of
-    /// their journal says (own). Records that stand for its stores stand for it, where it keeps
-    /// notes and none was made.
-    pub fn new(alloc: Global, timed: Timed<R, C>, began: Moment) -> Recorded<R, C>
+    /// This server, whose stores a journal with this header keeps (own). Records that stand for its
+    /// stores stand for it, where it keeps notes and none was made. A record that names all that
+    /// stands there has so many bytes at most, as `tree_of` tells.
+    pub fn new(alloc: Global, timed: Timed<R, C>, header: Header, tree: u64) -> Recorded<R, C>
         ensures { (records : List (List ℕ)) (last : ℕ)
-            → StandFor began.0 records (stores_in (server R.stream timed.dav)) last
+            → StandFor header records (stores_in (server R.stream timed.dav)) last
             → last ≤ (server R.stream timed.dav).last → IsFresh (server R.stream timed.dav)
             → StandsForServer records (kept_server R.stream result) }
     {
@@ -47,7 +47,8 @@ impl<R: Rng, C: Clock> Recorded<R, C> {
             timed,
             last: LastNotes::none(alloc),
             turn: false,
-            began,
+            header,
+            tree,
         }
     }
 }
@@ -62,6 +63,7 @@ impl<R: Rng, C: Clock> Service for Recorded<R, C> {
     ) -> Result<(), AllocError> {
         self.timed.call(request, response)?;
         self.last = LastNotes::of(self.timed.dav.take_notes());
+        self.tree = tree_after(self.tree, &self.last.notes, response.status);
         Ok(())
     }
 }
@@ -71,19 +73,42 @@ impl<R: Rng, C: Clock> TurnService for Recorded<R, C> {
 
     ghost clocked = { λ old moment new. ClockedKept (kept_server R.stream old) moment (kept_server R.stream new) };
 
-    fn begin_turn(&mut self, number: u64) {
+    ghost listed = { λ old file new. ListedKept (kept_server R.stream old) file (kept_server R.stream new) };
+
+    fn begin_turn(&mut self, number: u64, address: &[u8]) {
         self.last = LastNotes::none(self.alloc);
         self.turn = !self.turn;
-        self.timed.begin_turn(number);
+        self.timed.begin_turn(number, address);
     }
 
     fn own_len(&self, request: &Request<Bytes>, response: &Response) -> u64 {
         self.timed.own_len(request, response)
     }
 
+    fn room_for(&self, request: &Request<Bytes>) -> u64 {
+        room_for(request, self.tree)
+    }
+
+    fn most_room(&self, bytes: u64) -> u64 {
+        most_room(bytes, self.tree)
+    }
+
+    fn refuse_for_room(
+        &mut self,
+        request: &Request<Bytes>,
+        response: &mut Response,
+    ) -> Result<(), AllocError> {
+        self.timed.refuse_for_room(request, response)?;
+        self.last = LastNotes::of(self.timed.dav.take_notes());
+        Ok(())
+    }
+
     fn set_clock(&mut self, moment: u64) {
         self.timed.set_clock(moment);
     }
+
+    /// A server knows no users.
+    fn set_users(&mut self, _file: &[u8]) {}
 }
 
 impl<R: Rng, C: Clock> Recording for Recorded<R, C> {
@@ -107,33 +132,6 @@ impl<R: Rng, C: Clock> Recording for Recorded<R, C> {
     ghost turns = { turn_told (kept_server R.stream) C.tells };
 
     ghost clocks = { λ records old moment new. clocked_stands records (kept_server R.stream old) (kept_server R.stream new) moment };
-}
 
-// Adds the record to the round. Its last body is shared.
-fn add_record(round: &mut Round, pieces: Pieces) -> Result<(), AllocError>
-    ensures adds { OnOk result ((records : List (List ℕ)) → Carries round.old records
-        → Carries round.new (records ++ bytes_of_pieces pieces ∷ [])) }
-    ensures fails { OnErr result ((records : List (List ℕ)) → Carries round.old records
-        → Carries round.new records) }
-{
-    let Pieces {
-        mut head,
-        mut bodies,
-    } = pieces;
-    let last = bodies.pop();
-    join(&mut head, &bodies)?;
-    match last {
-        Some(last) => round.add(&head, &last),
-        None => round.add(&head, &Bytes::new()),
-    }
-}
-
-// Adds the bodies to the head.
-fn join(head: &mut Vec<u8>, bodies: &[Bytes]) -> Result<(), AllocError>
-    ensures { OnOk result (head.new.items ≡ head.old.items ++ flat_map (λ body. body) bodies.now) }
-{
-    'joining: for body in bodies {
-        head.extend_from_slice(body)?;
-    }
-    Ok(())
+    ghost lists = { λ records old file new. listed_stands records (kept_server R.stream old) (kept_server R.stream new) file };
 }

@@ -1,5 +1,6 @@
 -- What a login answers, by cases.
-use Rattle.std.proofs.Common.{◌≡◌, ◌⊎◌, ℕ, false, List, [], ◌∷◌, codes, Some, None, sym, ap, subst, ◌∙◌, inl, inr}
+use Rattle.std.proofs.Common.{◌≡◌, ◌⊎◌, ℕ, false, List, [], ◌∷◌, codes, Option, Some, None, MatchOption, Result, Ok, sym, ap, subst, ◌∙◌, inl, inr}
+use Rattle.std.specs.declared.alloc.AllocError.{AllocError}
 use Rattle.std.proofs.lemmas.Option.{none-some, same_Some}
 use Rattle.http_header.specs.FieldValue.{FieldValue, IsFieldValue}
 use Rattle.http.specs.declared.request.Parts.{Parts}
@@ -8,57 +9,92 @@ use Rattle.http.specs.Request.{head_of}
 use Rattle.http_server.specs.declared.response.Response.{Response}
 use Rattle.http_server.specs.Response.{IsResponse}
 use Rattle.dav_users_core.specs.Basic.{NameAndPassword}
-use Rattle.dav_users_core.specs.Users.{UserLine, is_password}
-use Rattle.dav_login_core.specs.Digests.{IsAccepted}
-use Rattle.dav_login_core.specs.LoggedIn.{Door, HasToLogIn, LoggedIn, LoginState}
-use Rattle.dav_login_core.specs.Passing.{AsNobody, AsUser}
+use Rattle.dav_users_core.specs.Users.{UserLine}
+use Rattle.dav_login_core.specs.declared.admitting.Admitted.{Admitted}
+use Rattle.dav_login_core.specs.declared.known.Known.{Known}
+use Rattle.dav_login_core.specs.Admissions.{AreSent, IsFoundToBe}
+use Rattle.dav_login_core.specs.Digests.{IsAccepted, IsTurnedDown, Learns, digest, is_known}
+use Rattle.dav_login_core.specs.LoggedIn.{Door, HasToLogIn, IsNotKnown, IsUsers, LoggedIn, LoginState, StaysOrLearns, TurnsAway}
+use Rattle.dav_login_core.specs.Passing.{AsUser}
 use Rattle.dav_login_core.specs.Sending.{AsksOptions, given_in_field, only, name_and_password_sent}
 
 -- an OPTIONS without `Authorization` sends no name
 unsigned_options : (head : Parts) → AsksOptions head → name_and_password_sent head.headers ≡ None
 unsigned_options head asks = ap (λ (values : List FieldValue). given_in_field (only values)) asks.unsigned
 
--- whoever sends a name and a password has to log in, where they are no user's or the name fits no field
+-- whoever sends a name and a password has to log in, where they are refused or the name fits no field
 pub given_in_vain : (door : Door) (request : Request (List ℕ)) (given : NameAndPassword) → name_and_password_sent (head_of request).headers ≡ Some given
-    → (is_password door.users given.name given.password ≡ false) ⊎ ¬ (IsFieldValue given.name) → HasToLogIn door request
+    → IsTurnedDown door.users door.key given.name given.password ⊎ ¬ (IsFieldValue given.name) → HasToLogIn door request
 given_in_vain door request given is_sent vain = record {
   no_options = λ asks. none-some given (sym (unsigned_options (head_of request) asks) ∙ is_sent);
   unknown = λ other is_other.
       let same : given ≡ other = same_Some given other (sym is_sent ∙ is_other) in
-      subst (λ (g : NameAndPassword). (is_password door.users g.name g.password ≡ false) ⊎ ¬ (IsFieldValue g.name)) same vain;
+      subst (λ (g : NameAndPassword). IsTurnedDown door.users door.key g.name g.password ⊎ ¬ (IsFieldValue g.name)) same vain;
 }
 
--- the doors are the same, where their users and their keys are
-pub same_door : (users users' : List UserLine) (challenge header key key' : List ℕ) → users' ≡ users → key' ≡ key
-    → record { users = users'; challenge = challenge; header = header; key = key' } ≡ (let d : Door = record { users = users; challenge = challenge; header = header; key = key } in d)
-same_door users users' challenge header key key' is_same are_same =
-    ap (λ (u : List UserLine). (let d : Door = record { users = u; challenge = challenge; header = header; key = key' } in d)) is_same
-    ∙ ap (λ (k : List ℕ). (let d : Door = record { users = users; challenge = challenge; header = header; key = k } in d)) are_same
+-- what one request sends is not known, where it is not for what is sent
+pub not_known : (door : Door) (known : List Known) (request : Request (List ℕ)) (given : NameAndPassword)
+    → name_and_password_sent (head_of request).headers ≡ Some given → is_known known (digest door.key given.name given.password) ≡ false
+    → IsNotKnown door known request
+not_known door known request given is_sent unknown = λ other is_other.
+    let same : given ≡ other = same_Some given other (sym is_sent ∙ is_other) in
+    subst (λ (g : NameAndPassword). is_known known (digest door.key g.name g.password) ≡ false) same unknown
 
-module _ {S : Type 0} (answers : S → Request (List ℕ) → Response → S → Type 0) (old new : LoginState S) (request : Request (List ℕ)) (response : Response) where
-  pub refused : HasToLogIn old.door request → IsResponse 401 ((codes "www-authenticate", old.door.challenge) ∷ []) [] response → new ≡ old
-      → LoggedIn answers old request response new
-  refused reason answer stays = record {
-    answer = inl (record { refused = record { reason = reason; answer = answer }; stays = ap (λ (l : LoginState S). l.service) stays });
-    door = ap (λ (l : LoginState S). l.door) stays;
+module _ {S : Type 0} (old new : LoginState S) (request : Request (List ℕ)) (response : Response) where
+  pub turned_away : HasToLogIn old.door request → IsResponse 401 ((codes "www-authenticate", old.door.challenge) ∷ []) [] response → new ≡ old
+      → TurnsAway old request response new
+  turned_away reason answer stays = record { refused = inl (record { reason = reason; answer = answer }); stays = stays }
+
+  pub held_back : (given : NameAndPassword) → name_and_password_sent (head_of request).headers ≡ Some given
+      → is_known old.known (digest old.door.key given.name given.password) ≡ false
+      → IsResponse 429 ((codes "retry-after", codes "1") ∷ []) [] response → new ≡ old → TurnsAway old request response new
+  held_back given is_sent unknown answer stays = record {
+    refused = inr (record { given = given; is_sent = is_sent; answer = answer }, not_known old.door old.known request given is_sent unknown);
+    stays = stays;
   }
 
-  pub served_nobody : AsksOptions (head_of request) → (inner : Request (List ℕ)) → AsNobody old.door.header request inner
-      → answers old.service inner response new.service → new.door ≡ old.door → LoggedIn answers old request response new
-  served_nobody asks inner unnamed answered door = record {
-    answer = inr (record { inner = inner; passed = inl (record { asks = asks; unnamed = unnamed }); answered = answered });
-    door = door;
-  }
+-- it is a user's request
+pub users_request : (door : Door) (request inner : Request (List ℕ)) (given : NameAndPassword) → name_and_password_sent (head_of request).headers ≡ Some given
+    → IsAccepted door.users door.key given.name given.password → AsUser door.header given.name request inner → IsUsers door request inner
+users_request door request inner given is_sent is_accepted named = record { given = given; is_sent = is_sent; is_accepted = is_accepted; named = named }
 
-  pub served_user : (given : NameAndPassword) → name_and_password_sent (head_of request).headers ≡ Some given
-      → IsAccepted old.door.users old.door.key given.name given.password
-      → (inner : Request (List ℕ)) → AsUser old.door.header given.name request inner
-      → answers old.service inner response new.service → new.door ≡ old.door → LoggedIn answers old request response new
-  served_user given is_sent is_accepted inner named answered door = record {
+-- what is let in is what was found
+pub let_in : (P : Admitted → Type 0) (x y : Admitted) → (let r : Result (Option Admitted) AllocError = Ok (Some x) in r) ≡ Ok (Some y) → P x → P y
+let_in P x y e h = let same : x ≡ y = cc in subst P same h
+
+-- the states are the same, where users, keys and what is known are
+pub same_state : {S : Type 0} (users users' : List UserLine) (challenge header key key' : List ℕ) (known known' : List Known) (service : S)
+    → users' ≡ users → key' ≡ key → known' ≡ known
+    → record { door = record { users = users'; challenge = challenge; header = header; key = key' }; known = known'; service = service }
+    ≡ (let s : LoginState S = record { door = record { users = users; challenge = challenge; header = header; key = key }; known = known; service = service } in s)
+same_state {S} users users' challenge header key key' known known' service is_same are_same knows =
+    ap (λ (u : List UserLine). (let s : LoginState S = record { door = record { users = u; challenge = challenge; header = header; key = key' }; known = known'; service = service } in s)) is_same
+    ∙ ap (λ (k : List ℕ). (let s : LoginState S = record { door = record { users = users; challenge = challenge; header = header; key = k }; known = known'; service = service } in s)) are_same
+    ∙ ap (λ (k : List Known). (let s : LoginState S = record { door = record { users = users; challenge = challenge; header = header; key = key }; known = k; service = service } in s)) knows
+
+module _ {S : Type 0} (answers : S → Request (List ℕ) → Response → S → Type 0) (old mid new : LoginState S) (request : Request (List ℕ)) (response : Response) where
+  stays_or_learns : mid ≡ old → (o : Option Known) → AreSent old.door request o → MatchOption o (new.known ≡ mid.known) (λ k. Learns k.digest mid.known new.known)
+      → StaysOrLearns old.door request old.known new.known
+  stays_or_learns same None sent e = inl (e ∙ ap (λ (l : LoginState S). l.known) same)
+  stays_or_learns same (Some k) sent l =
+      inr (
+        sent.0,
+        sent.1,
+        subst (λ (d : List ℕ). Learns d old.known new.known) sent.2
+            (subst (λ (s : LoginState S). Learns k.digest s.known new.known) same l),
+      )
+
+  -- the service answered what was let in, and this was learned
+  pub served : (admitted : Admitted) (service : S) → IsFoundToBe old.door request admitted → mid ≡ old → answers mid.service admitted.inner response service
+      → new.service ≡ service → new.door ≡ mid.door
+      → MatchOption admitted.learned (new.known ≡ mid.known) (λ k. Learns k.digest mid.known new.known) → LoggedIn answers old request response new
+  served admitted service is same answered serves door knows = record {
     answer = inr (record {
-      inner = inner;
-      passed = inr (record { given = given; is_sent = is_sent; is_accepted = is_accepted; named = named });
-      answered = answered;
+      inner = admitted.inner;
+      passed = is.passed;
+      answered = subst (λ (s : S). answers old.service admitted.inner response s) (sym serves)
+          (subst (λ (l : LoginState S). answers l.service admitted.inner response service) same answered);
+      known = stays_or_learns same admitted.learned is.sent knows;
     });
-    door = door;
+    door = door ∙ ap (λ (l : LoginState S). l.door) same;
   }

@@ -1,8 +1,11 @@
+pub mod Admissions
 pub mod CallsBehind
 pub mod Challenges
+pub mod Checking
 pub mod Digests
 pub mod LoggedIn
 pub mod LoginViews
 pub mod Passing
 pub mod Private
+pub mod RunsBehind
 pub mod Sending

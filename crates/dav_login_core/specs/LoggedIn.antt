@@ -1,13 +1,14 @@
--- What a login answers, in front of a service (RFC 7617 section 2, RFC 9110 section 11.6; OPTIONS: own).
-use Rattle.std.specs.Prelude.{◌≡◌, ◌⊎◌, ℕ, false, List, [], ◌∷◌, codes, Some}
+-- What a login answers, in front of a service (RFC 7617 section 2, RFC 9110 section 11.6, RFC 6585 section 4; OPTIONS: own).
+use Rattle.std.specs.Prelude.{◌≡◌, ◌⊎◌, ℕ, false, List, [], ◌∷◌, codes, string_bytes, Some, Ok}
 use Rattle.http_header.specs.FieldValue.{IsFieldValue}
 use Rattle.http.specs.declared.request.Request.{Request}
 use Rattle.http.specs.Request.{head_of}
 use Rattle.http_server.specs.declared.response.Response.{Response}
 use Rattle.http_server.specs.Response.{IsResponse}
 use Rattle.dav_users_core.specs.Basic.{NameAndPassword}
-use Rattle.dav_users_core.specs.Users.{UserLine, is_password}
-use Rattle.dav_login_core.specs.Digests.{IsAccepted}
+use Rattle.dav_users_core.specs.Users.{UserLine, hash_named, users_of}
+use Rattle.dav_login_core.specs.declared.known.Known.{Known}
+use Rattle.dav_login_core.specs.Digests.{IsAccepted, IsTurnedDown, Learns, Retains, digest, is_known}
 use Rattle.dav_login_core.specs.Passing.{AsNobody, AsUser}
 use Rattle.dav_login_core.specs.Sending.{AsksOptions, name_and_password_sent}
 
@@ -18,18 +19,19 @@ pub record Door : Type 0 where
   pub header : List ℕ
   pub key : List ℕ
 
--- a login, and the service behind it
+-- a login, what it knows of names and passwords that were accepted, and the service behind it
 pub record LoginState (S : Type 0) : Type 0 where
   pub door : Door
+  pub known : List Known
   pub service : S
 
 -- ---- whom a request is of
 
--- It is no OPTIONS without `Authorization`, and sends no name and password that are a user's, or a name that no field can have.
+-- It is no OPTIONS without `Authorization`, and what it sends is refused, or is a name that no field can have.
 pub record HasToLogIn (door : Door) (request : Request (List ℕ)) : Type 0 where
   pub no_options : ¬ (AsksOptions (head_of request))
   pub unknown : (given : NameAndPassword) → name_and_password_sent (head_of request).headers ≡ Some given
-      → (is_password door.users given.name given.password ≡ false) ⊎ ¬ (IsFieldValue given.name)
+      → IsTurnedDown door.users door.key given.name given.password ⊎ ¬ (IsFieldValue given.name)
 
 -- it is an OPTIONS without `Authorization`, and the inner request is the same as nobody's
 pub record IsNobodys (door : Door) (request inner : Request (List ℕ)) : Type 0 where
@@ -49,29 +51,66 @@ IsPassedOn door request inner = IsNobodys door request inner ⊎ IsUsers door re
 -- ---- what is answered
 
 -- it is answered 401, with the challenge
-pub record IsTurnedAway (door : Door) (request : Request (List ℕ)) (response : Response) : Type 0 where
+pub record IsUnknown (door : Door) (request : Request (List ℕ)) (response : Response) : Type 0 where
   pub reason : HasToLogIn door request
   pub answer : IsResponse 401 ((codes "www-authenticate", door.challenge) ∷ []) [] response
 
-module _ {S : Type 0} (answers : S → Request (List ℕ) → Response → S → Type 0) (door : Door) (old : S) (request : Request (List ℕ)) (response : Response) (new : S) where
-  -- it is refused, and the service stays as it is
+-- It sends a name and a password, and is answered 429: they are looked at again in a second (RFC 6585 section 4).
+pub record IsPutOff (request : Request (List ℕ)) (response : Response) : Type 0 where
+  pub given : NameAndPassword
+  pub is_sent : name_and_password_sent (head_of request).headers ≡ Some given
+  pub answer : IsResponse 429 ((codes "retry-after", codes "1") ∷ []) [] response
+
+abbrev pub IsTurnedAway : Door → Request (List ℕ) → Response → Type 0
+IsTurnedAway door request response = IsUnknown door request response ⊎ IsPutOff request response
+
+-- what it sends is not known as accepted
+abbrev pub IsNotKnown : Door → List Known → Request (List ℕ) → Type 0
+IsNotKnown door known request =
+    (given : NameAndPassword) → name_and_password_sent (head_of request).headers ≡ Some given
+    → is_known known (digest door.key given.name given.password) ≡ false
+
+-- what is known stays, or what was sent is known, too
+abbrev pub StaysOrLearns : Door → Request (List ℕ) → List Known → List Known → Type 0
+StaysOrLearns door request old new =
+    (new ≡ old)
+    ⊎ ((given : NameAndPassword) × (name_and_password_sent (head_of request).headers ≡ Some given)
+    × Learns (digest door.key given.name given.password) old new)
+
+module _ {S : Type 0} (old : LoginState S) (request : Request (List ℕ)) (response : Response) (new : LoginState S) where
+  -- It is refused, and the service stays as it is, and what is known. It is held back only where what it sends is not known.
   pub record TurnsAway : Type 0 where
-    pub refused : IsTurnedAway door request response
+    pub refused : IsUnknown old.door request response ⊎ (IsPutOff request response × IsNotKnown old.door old.known request)
     pub stays : new ≡ old
 
   -- the service answers the inner request
-  pub record PassesOn : Type 0 where
+  pub record PassesOn (answers : S → Request (List ℕ) → Response → S → Type 0) : Type 0 where
     pub inner : Request (List ℕ)
-    pub passed : IsPassedOn door request inner
-    pub answered : answers old inner response new
+    pub passed : IsPassedOn old.door request inner
+    pub answered : answers old.service inner response new.service
+    pub known : StaysOrLearns old.door request old.known new.known
 
 module _ {S : Type 0} where
   -- the request is refused or served, and the login goes by the same as before
   pub record LoggedIn (answers : S → Request (List ℕ) → Response → S → Type 0) (old : LoginState S) (request : Request (List ℕ)) (response : Response) (new : LoginState S) : Type 0 where
-    pub answer : TurnsAway answers old.door old.service request response new.service ⊎ PassesOn answers old.door old.service request response new.service
+    pub answer : TurnsAway old request response new ⊎ PassesOn old request response new answers
     pub door : new.door ≡ old.door
 
-  -- the service takes word of a number, and the login goes by the same as before
+  -- the service takes word of a number, and the login stays the same
   pub record HandsOn (takes : S → ℕ → S → Type 0) (old : LoginState S) (number : ℕ) (new : LoginState S) : Type 0 where
     pub service : takes old.service number new.service
     pub door : new.door ≡ old.door
+    pub known : new.known ≡ old.known
+
+  -- The users are those of the file, or it has a wrong line or there is no memory: then those in force stay. What is known stays of users with the same line as before.
+  pub record Lists (old : LoginState S) (file : List ℕ) (new : LoginState S) : Type 0 where
+    pub users : ((count : ℕ) × (users_of file ≡ Ok (new.door.users, count))) ⊎ (new.door.users ≡ old.door.users)
+    pub known : Retains (λ k. hash_named old.door.users (string_bytes k.name) ≡ hash_named new.door.users (string_bytes k.name)) old.known new.known
+    pub challenge : new.door.challenge ≡ old.door.challenge
+    pub header : new.door.header ≡ old.door.header
+    pub key : new.door.key ≡ old.door.key
+
+  -- the users are listed, and the service takes word of the file
+  pub record ListsUsers (listed : S → List ℕ → S → Type 0) (old : LoginState S) (file : List ℕ) (new : LoginState S) : Type 0 where
+    pub lists : Lists old file new
+    pub service : listed old.service file new.service

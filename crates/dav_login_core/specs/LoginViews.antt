@@ -3,8 +3,9 @@ use Rattle.dav_users_core.specs.Users.{users_in}
 use Rattle.dav_login_core.specs.declared.login.Login.{Login}
 use Rattle.dav_login_core.specs.LoggedIn.{LoginState}
 
-abbrev pub login : {S : Type 0} → Login S → LoginState S
+abbrev pub login : {S H : Type 0} → Login S H → LoginState S
 login l = record {
   door = record { users = users_in l.accepted.users; challenge = l.challenge.bytes; header = l.header; key = l.accepted.key };
+  known = l.accepted.known.items;
   service = l.service;
 }

@@ -1,26 +1,31 @@
-//! Names and passwords that were accepted, by their digests under a key.
-ghost use Rattle.std.specs.Prelude.{◌≡◌, ◌<◌, ◌≤◌, ◌++◌, ℕ, List, All, false, IsFalse, IsTrue};
+//! Names and passwords that were accepted or refused, by their digests under a key.
+ghost use Rattle.std.specs.Prelude.{◌≡◌, ◌<◌, ◌≤◌, ◌++◌, ℕ, List, [], All, IsTrue, string_bytes};
 ghost use Rattle.std.specs.VecDeque.{deque_len};
 ghost use Rattle.sha2.specs.Hashers.{Holds256};
-ghost use Rattle.dav_users_core.specs.Users.{is_password, users_in};
-ghost use Rattle.dav_login_core.specs.Digests.{IsAccepted, WasAccepted, with_length, digest};
+ghost use Rattle.dav_users_core.specs.Users.{hash_named, users_in};
+ghost use Rattle.dav_login_core.specs.Digests.{ForgetsSome, Learns, Retains, WasAcceptedOf, WasRefused, digest, is_known, with_length};
 
+use crate::known::Known;
 use dav_users_core::Users;
 use sha2::{Digest, Sha256};
 use std::alloc::Global;
 use std::collections::VecDeque;
 
-// So many digests are kept.
+// So many digests are kept of what was accepted, and as many of what was refused.
 const MOST: usize = 1_024;
 
-/// Users, and the digests of names and passwords that were accepted, each once, the newest last.
+/// Users, what of theirs was accepted, each once, the newest last, and what a connection sent in vain.
 #[derive(Drop)]
 pub(crate) struct Accepted {
     pub(crate) users: Users,
     pub(crate) key: [u8; 32],
-    pub(crate) digests: VecDeque<[u8; 32]>,
-    ghost are_accepted: { All (WasAccepted (users_in users) key) digests.items },
-    ghost are_few: { deque_len digests ≤ 1024 },
+    pub(crate) known: VecDeque<Known>,
+    // Numbers of connections, each with the digest of what it sent.
+    pub(crate) refused: VecDeque<(u64, [u8; 32])>,
+    ghost are_accepted: { All (λ k. WasAcceptedOf (users_in users) key (string_bytes k.name) k.digest) known.items },
+    ghost are_refused: { All (λ r. WasRefused (users_in users) key r.1) refused.items },
+    ghost are_few: { deque_len known ≤ 1024 },
+    ghost were_few: { deque_len refused ≤ 1024 },
 }
 
 impl Accepted {
@@ -28,11 +33,13 @@ impl Accepted {
     pub(crate) fn new(alloc: Global, users: Users, key: [u8; 32]) -> Accepted
         ensures users { result.users ≡ users }
         ensures key { result.key ≡ key }
+        ensures known { result.known.items ≡ [] }
     {
         Accepted {
             users,
             key,
-            digests: VecDeque::new(alloc),
+            known: VecDeque::new(alloc),
+            refused: VecDeque::new(alloc),
         }
     }
 
@@ -48,46 +55,78 @@ impl Accepted {
         hash.finalize()
     }
 
-    /// Whether they are accepted, of which this is the digest. Where the digest is not kept, the password is checked.
-    pub(crate) fn accepts(&self, name: &str, password: &str, kept: &[u8; 32]) -> bool
-        requires { kept.now ≡ digest self.now.key name.now password.now }
-        ensures accepted { IsTrue result
-            → IsAccepted (users_in self.now.users) self.now.key name.now password.now }
-        ensures refused { IsFalse result
-            → is_password (users_in self.now.users) name.now password.now ≡ false }
+    /// Whether the digest is kept of what was accepted.
+    pub(crate) fn knows(&self, digest: &[u8; 32]) -> bool
+        ensures { result ≡ is_known self.now.known.items digest.now }
     {
-        self.has(kept) || self.users.check(name, password.as_bytes())
+        self.known.iter().any(|known| known.digest == *digest)
     }
 
-    /// Keeps the digest of what was accepted, and drops the oldest where there are 1,024. It is not kept where there is no memory.
-    pub(crate) fn keep(&mut self, accepted: [u8; 32])
-        requires { WasAccepted (users_in self.old.users) self.old.key accepted }
+    /// Whether the digest is kept of what this connection sent in vain.
+    pub(crate) fn was_refused(&self, connection: u64, digest: [u8; 32]) -> bool
+        ensures { IsTrue result → WasRefused (users_in self.now.users) self.now.key digest }
+    {
+        self.refused.contains(&(connection, digest))
+    }
+
+    /// Keeps what was accepted, and drops the oldest where there are 1,024. It is not kept where there is no memory.
+    pub(crate) fn keep(&mut self, accepted: Known)
+        requires { WasAcceptedOf (users_in self.old.users) self.old.key (string_bytes accepted.name) accepted.digest }
         ensures users { self.new.users ≡ self.old.users }
         ensures key { self.new.key ≡ self.old.key }
+        ensures learns { Learns accepted.digest self.old.known.items self.new.known.items }
     {
-        if self.has(&accepted) {
-            return;
-        }
         self.make_room();
-        let _kept = self.digests.push_back(accepted);
+        let _kept = self.known.push_back(accepted);
     }
 
-    // Drops the oldest digest where there are 1,024.
+    // Drops the oldest of what was accepted, where there are 1,024.
     fn make_room(&mut self)
         ensures users { self.new.users ≡ self.old.users }
         ensures key { self.new.key ≡ self.old.key }
-        ensures room { deque_len self.new.digests < 1024 }
+        ensures room { deque_len self.new.known < 1024 }
+        ensures forgets { ForgetsSome self.old.known.items self.new.known.items }
     {
-        if self.digests.len() >= MOST {
-            let _oldest = self.digests.pop_front();
+        if self.known.len() >= MOST {
+            let _oldest = self.known.pop_front();
         }
     }
 
-    // Whether the digest is kept.
-    fn has(&self, digest: &[u8; 32]) -> bool
-        ensures { IsTrue result → WasAccepted (users_in self.now.users) self.now.key digest.now }
+    /// Keeps the digest of what a connection sent in vain, and drops the oldest where there are 1,024. It is not kept where there is no memory.
+    pub(crate) fn note_refused(&mut self, connection: u64, digest: [u8; 32])
+        requires { WasRefused (users_in self.old.users) self.old.key digest }
+        ensures users { self.new.users ≡ self.old.users }
+        ensures key { self.new.key ≡ self.old.key }
+        ensures known { self.new.known.items ≡ self.old.known.items }
     {
-        self.digests.contains(digest)
+        self.make_room_refused();
+        let _kept = self.refused.push_back((connection, digest));
+    }
+
+    // Drops the oldest of what was refused, where there are 1,024.
+    fn make_room_refused(&mut self)
+        ensures users { self.new.users ≡ self.old.users }
+        ensures key { self.new.key ≡ self.old.key }
+        ensures room { deque_len self.new.refused < 1024 }
+        ensures known { self.new.known.items ≡ self.old.known.items }
+    {
+        if self.refused.len() >= MOST {
+            let _oldest = self.refused.pop_front();
+        }
+    }
+
+    /// From now on the users are these. Of what was accepted there stays what is of users with the same line as before, and nothing of what was refused.
+    pub(crate) fn list(&mut self, alloc: Global, users: Users)
+        ensures users { self.new.users ≡ users }
+        ensures key { self.new.key ≡ self.old.key }
+        ensures known { Retains (λ k. hash_named (users_in self.old.users) (string_bytes k.name) ≡ hash_named (users_in users) (string_bytes k.name))
+            self.old.known.items self.new.known.items }
+    {
+        self.refused = VecDeque::new(alloc);
+        let before = &self.users;
+        self.known
+            .retain(|known| before.has_same(&users, known.name.as_str()));
+        self.users = users;
     }
 }
 

@@ -1,14 +1,24 @@
 //! Login by a name and a password in front of a service (RFC 7617).
 #![tactic(auto)]
 
+mod admitting;
 mod challenges;
+mod checking;
 mod digests;
+mod known;
+mod labels;
 mod laws;
 mod login;
 mod passing;
 mod recording;
 mod sending;
+mod turning;
+mod watching;
+mod weighing;
 
 pub use challenges::LoginError;
-pub use laws::{calls_lead_behind, messages_tell_names_and_passwords, turns_lead_behind};
+pub use laws::{
+    calls_lead_behind, messages_tell_names_and_passwords, runs_lead_behind, turns_lead_behind,
+};
 pub use login::Login;
+pub use watching::Host;

@@ -2,7 +2,9 @@ pub mod EntryForms
 pub mod HeadLemmas
 pub mod LockForms
 pub mod MetLemmas
+pub mod NamedPaths
 pub mod PutLemmas
 pub mod ReadLemmas
 pub mod RepeatLemmas
+pub mod RestoredPaths
 pub mod SnapshotForms

@@ -11,6 +11,6 @@ mod restoring;
 mod walks;
 mod writing;
 
-pub use laws::snapshots_restore;
+pub use laws::{noted_stores_have_paths, snapshots_restore};
 pub use reading::read;
 pub use writing::write;

@@ -1,9 +1,10 @@
 -- How records stand for stores.
-use Rattle.std.proofs.Common.{◌≡◌, ◌≤◌, ℕ, List, [], ◌∷◌, ◌++◌, refl, sym, ◌∙◌, ap, append_assoc, subst}
+use Rattle.std.proofs.Common.{◌≡◌, ◌≤◌, ℕ, zero, suc, List, [], ◌∷◌, ◌++◌, refl, sym, ◌∙◌, ap, append_assoc, subst}
 use Rattle.std.proofs.lemmas.List.{append-nil}
 use Rattle.std.proofs.lemmas.List.Concat.{flat_map-cons}
 use Rattle.std.specs.List.{flat_map}
-use Rattle.dav_resource_core.specs.Stores.{Stores}
+use Rattle.journal_core.specs.declared.header.Header.{Header}
+use Rattle.dav_resource_core.specs.Stores.{Stores, start_stores}
 use Rattle.dav_notes_core.specs.Noting.{Noted}
 use Rattle.dav_notes_core.specs.PlayedNotes.{NotesLead, NotesPlayed}
 use Rattle.dav_notes_core.specs.Stepping.{SameLiveStores}
@@ -11,7 +12,7 @@ use Rattle.dav_notes_core.proofs.LeadLemmas.{played_alike}
 use Rattle.dav_effects_core.specs.Records.{IsRecord}
 use Rattle.dav_effects_core.proofs.Exact.{ok_is}
 use Rattle.dav_effects_core.proofs.NoteForms.{record_again}
-use Rattle.dav_store_core.specs.StandingFor.{AreRecords, Keeps, KeepsAll, NeverBack, last_moment_of}
+use Rattle.dav_store_core.specs.StandingFor.{AreRecords, Keeps, KeepsAll, NeverBack, StandFor, StandByGeneration, last_moment_of}
 
 -- bytes are the record of one list of notes
 pub one_reading : (ns ms : List Noted) (bytes : List ℕ) → IsRecord ns bytes → IsRecord ms bytes → ns ≡ ms
@@ -25,29 +26,12 @@ keeps_one s t u last m n bytes a b =
       a.last_is ∙ ap (last_moment_of last) same ∙ sym b.last_is,
     )
 
--- one more record
-pub keeps_more : (s t u : Stores) (last m n : ℕ) (records : List (List ℕ)) (bytes : List ℕ) → KeepsAll s last records t m → Keeps t m bytes u n → KeepsAll s last (records ++ bytes ∷ []) u n
-keeps_more s t u last m n [] bytes a b = (u, n, subst (λ (v : Stores). Keeps v last bytes u n) a.0 (subst (λ (k : ℕ). Keeps t k bytes u n) a.1 b), (refl, refl))
-keeps_more s t u last m n (first ∷ records) bytes a b = (a.0, a.1, a.2, keeps_more a.0 t u a.1 m n records bytes a.3 b)
-
 -- what stands behind records begins with what they stand for
 pub keeps_behind : (s t u : Stores) (last m n : ℕ) (records rest : List (List ℕ)) → KeepsAll s last records t m → KeepsAll s last (records ++ rest) u n → KeepsAll t m rest u n
 keeps_behind s t u last m n [] rest a b = subst (λ (v : Stores). KeepsAll v m rest u n) (sym a.0) (subst (λ (k : ℕ). KeepsAll s k rest u n) (sym a.1) b)
 keeps_behind s t u last m n (first ∷ records) rest a b =
     let one = keeps_one s a.0 b.0 last a.1 b.1 first a.2 b.2 in
     keeps_behind a.0 t u a.1 m n records rest a.3 (subst (λ (v : Stores). KeepsAll v a.1 (records ++ rest) u n) (sym one.0) (subst (λ (k : ℕ). KeepsAll b.0 k (records ++ rest) u n) (sym one.1) b.3))
-
--- where a record cannot be taken, no records with it stand for stores
-pub keeps_not : (s t u : Stores) (last m n : ℕ) (records rest : List (List ℕ)) (bytes : List ℕ) → KeepsAll s last records t m → ((v : Stores) (k : ℕ) → ¬ (Keeps t m bytes v k))
-    → ¬ (KeepsAll s last ((records ++ bytes ∷ []) ++ rest) u n)
-keeps_not s t u last m n records rest bytes a none b =
-    let behind = keeps_behind s t u last m n records (bytes ∷ rest) a (subst (λ (l : List (List ℕ)). KeepsAll s last l u n) (append_assoc records (bytes ∷ []) rest) b) in
-    none behind.0 behind.1 behind.2
-
--- records stand for one change of the stores
-pub keeps_all_one : (s t u : Stores) (last m n : ℕ) (records : List (List ℕ)) → KeepsAll s last records t m → KeepsAll s last records u n → (t ≡ u) × (m ≡ n)
-keeps_all_one s t u last m n records a b =
-    let behind = keeps_behind s t u last m n records [] a (subst (λ (l : List (List ℕ)). KeepsAll s last l u n) (sym (append-nil records)) b) in (sym behind.0, sym behind.1)
 
 -- of notes that lead from stores to others, the first ones are played there
 record Led (from : ℕ) (s : Stores) (ns ms : List Noted) (now : ℕ) (t : Stores) : Type 0 where
@@ -82,6 +66,54 @@ come_back (ns ∷ requests) [] from now s t are h = absurd are
 pub keeps_join : (s t u : Stores) (last m n : ℕ) (records rest : List (List ℕ)) → KeepsAll s last records t m → KeepsAll t m rest u n → KeepsAll s last (records ++ rest) u n
 keeps_join s t u last m n [] rest a b = subst (λ (v : Stores). KeepsAll v last rest u n) a.0 (subst (λ (k : ℕ). KeepsAll t k rest u n) a.1 b)
 keeps_join s t u last m n (first ∷ records) rest a b = (a.0, a.1, a.2, keeps_join a.0 t u a.1 m n records rest a.3 b)
+
+-- ---- records of a journal of any generation
+
+-- records behind others
+pub stand_join : (g began : ℕ) (s t : Stores) (last m : ℕ) (records rest : List (List ℕ)) → StandByGeneration g began records s last → KeepsAll s last rest t m → StandByGeneration g began (records ++ rest) t m
+stand_join zero began s t last m records rest a b = keeps_join (start_stores began) s t began last m records rest a b
+stand_join (suc g) began s t last m [] rest a b = absurd a
+stand_join (suc g) began s t last m (first ∷ records) rest a b = (a.0, a.1, a.2, keeps_join a.0 s t a.1 last m records rest a.3 b)
+
+-- one more record
+pub stand_more : (g began : ℕ) (s t : Stores) (last m : ℕ) (records : List (List ℕ)) (bytes : List ℕ) → StandByGeneration g began records s last → Keeps s last bytes t m → StandByGeneration g began (records ++ bytes ∷ []) t m
+stand_more g began s t last m records bytes a b = stand_join g began s t last m records (bytes ∷ []) a (t, m, b, (refl, refl))
+
+-- what stands behind records begins with what they stand for
+pub stand_behind : (g began : ℕ) (s t : Stores) (last m : ℕ) (records rest : List (List ℕ)) → StandByGeneration g began records s last → StandByGeneration g began (records ++ rest) t m → KeepsAll s last rest t m
+stand_behind zero began s t last m records rest a b = keeps_behind (start_stores began) s t began last m records rest a b
+stand_behind (suc g) began s t last m [] rest a b = absurd a
+stand_behind (suc g) began s t last m (first ∷ records) rest a b =
+    let same : (a.0, a.1) ≡ (b.0, b.1) = ok_is (a.0, a.1) (b.0, b.1) (sym a.2 ∙ b.2) in
+    keeps_behind a.0 s t a.1 last m records rest a.3 (subst (λ (x : Stores × ℕ). KeepsAll x.0 x.1 (records ++ rest) t m) (sym same) b.3)
+
+-- where a record cannot be taken, no records with it stand for stores
+pub stand_not : (g began : ℕ) (s t : Stores) (last m : ℕ) (records rest : List (List ℕ)) (bytes : List ℕ) → StandByGeneration g began records s last → ((v : Stores) (k : ℕ) → ¬ (Keeps s last bytes v k))
+    → ¬ (StandByGeneration g began ((records ++ bytes ∷ []) ++ rest) t m)
+stand_not g began s t last m records rest bytes a none b =
+    let behind = stand_behind g began s t last m records (bytes ∷ rest) a (subst (λ (l : List (List ℕ)). StandByGeneration g began l t m) (append_assoc records (bytes ∷ []) rest) b) in
+    none behind.0 behind.1 behind.2
+
+-- records stand for one state of the stores
+pub stand_one : (g began : ℕ) (s t : Stores) (last m : ℕ) (records : List (List ℕ)) → StandByGeneration g began records s last → StandByGeneration g began records t m → (s ≡ t) × (last ≡ m)
+stand_one g began s t last m records a b =
+    let behind = stand_behind g began s t last m records [] a (subst (λ (l : List (List ℕ)). StandByGeneration g began l t m) (sym (append-nil records)) b) in (sym behind.0, sym behind.1)
+
+-- no record stands for a root folder alone, in generation 0
+pub stand_begins : (h : Header) → h.generation ≡ 0 → StandFor h [] (start_stores h.began) h.began
+stand_begins h zero_is = subst (λ (g : ℕ). StandByGeneration g h.began [] (start_stores h.began) h.began) (sym zero_is) (refl, refl)
+
+-- Behind records that stand for stores, the records of notes that lead from there to others stand for these, but for locks that have expired.
+pub stand_back : (h : Header) (old : List (List ℕ)) (base s : Stores) (from now : ℕ) (requests : List (List Noted)) (records : List (List ℕ)) → StandFor h old base from → AreRecords requests records
+    → NotesLead from base (flat_map (λ ns. ns) requests) now s → (t : Stores) × (last : ℕ) × StandFor h (old ++ records) t last × SameLiveStores now s t × (last ≤ now)
+stand_back h old base s from now requests records stand are leads =
+    let back = come_back requests records from now base s are leads in (
+      back.0,
+      back.1,
+      stand_join h.generation h.began base back.0 from back.1 old records stand back.2,
+      back.3,
+      back.4,
+    )
 
 -- the record of one more list of notes
 pub records_more : (requests : List (List Noted)) (records : List (List ℕ)) (ns : List Noted) (bytes : List ℕ) → AreRecords requests records → IsRecord ns bytes → AreRecords (requests ++ ns ∷ []) (records ++ bytes ∷ [])

@@ -1,5 +1,5 @@
 -- How long a file is of which so many records were read.
-use Rattle.std.proofs.Common.{◌≡◌, ◌≤◌, ◌*◌, ◌+◌, ℕ, List, [], ◌∷◌, ◌++◌, length, length-append, refl, ap, arith}
+use Rattle.std.proofs.Common.{◌≤◌, ◌*◌, ◌+◌, ℕ, List, [], ◌∷◌, length, length-append, ap, arith}
 use Rattle.std.specs.List.{AllByRecursion}
 use Rattle.std.proofs.lemmas.List.Concat.{flat_map-cons}
 use Rattle.journal_core.specs.declared.reader.Reader.{Reader}

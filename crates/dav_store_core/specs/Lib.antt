@@ -1,2 +1,3 @@
+pub mod Compacting
 pub mod Loading
 pub mod StandingFor

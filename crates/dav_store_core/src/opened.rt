@@ -1,14 +1,20 @@
-//! Stores that records stand for, one record after another.
-ghost use Rattle.std.specs.Prelude.{◌≡◌, ℕ, None, Err, map, IfSome, OnOk};
+//! Stores that records stand for, one record after another, and those of the snapshot in front.
+ghost use Rattle.std.specs.Prelude.{◌≡◌, ◌≢◌, ℕ, None, Ok, Err, map, IfErr, IfOk, IfSome, OnOk};
+ghost use Rattle.journal_core.specs.declared.error.JournalError.TheVariants.{OutOfMemory};
 ghost use Rattle.dav_notes_core.specs.Noting.{note_of};
-ghost use Rattle.dav_resource_core.specs.Stores.{Stores};
+ghost use Rattle.dav_resource_core.specs.Stores.{Stores, start_stores};
+ghost use Rattle.dav_snapshots_core.specs.SnapshotReading.{snapshot_at};
+ghost use Rattle.dav_store_core.specs.declared.error.StoreError.TheVariants.{Journal};
 ghost use Rattle.dav_store_core.specs.StandingFor.{Keeps, NeverBack, last_moment_of};
 
+use crate::error::StoreError;
 use dav_effects_core::{RecordError, read};
 use dav_notes_core::notes::Note;
 use dav_notes_core::playing::{PlayError, play_again};
 use dav_resource_core::fs::Moment;
 use dav_resource_core::guarded::Guarded;
+use dav_snapshots_core::read as read_snapshot;
+use journal_core::JournalError;
 use std::alloc::Global;
 
 /// Stores that a journal keeps (own).
@@ -25,6 +31,34 @@ pub struct Opened {
 pub(crate) enum Setback {
     Memory,
     Damage,
+}
+
+/// A root folder alone, made at that moment.
+pub(crate) fn new_stores(alloc: Global, began: Moment) -> Result<Opened, StoreError>
+    ensures stores { IfOk result (λ o. o.stores ≡ start_stores began.0) }
+    ensures last { IfOk result (λ o. o.last ≡ began) }
+    ensures err { IfErr result (λ e. e ≡ Journal OutOfMemory) }
+{
+    let Ok(stores) = Guarded::new(alloc, began) else {
+        return Err(StoreError::Journal(JournalError::OutOfMemory));
+    };
+    Ok(Opened {
+        stores,
+        last: began,
+    })
+}
+
+/// The stores of a snapshot, at its moment.
+pub(crate) fn take_snapshot(alloc: Global, bytes: &[u8]) -> Result<Opened, Setback>
+    ensures ok { IfOk result (λ o. snapshot_at bytes.now ≡ Ok (o.stores, o.last.0)) }
+    ensures damaged { result ≡ Err Setback.Damage → (s : Stores) (last : ℕ)
+        → snapshot_at bytes.now ≢ Ok (s, last) }
+{
+    match read_snapshot(alloc, bytes) {
+        Ok((stores, last)) => Ok(Opened { stores, last }),
+        Err(RecordError::OutOfMemory) => Err(Setback::Memory),
+        Err(RecordError::Damaged { .. }) => Err(Setback::Damage),
+    }
 }
 
 /// Plays what a record notes behind the records before.

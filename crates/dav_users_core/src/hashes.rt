@@ -1,5 +1,5 @@
 //! The hash of a password, as `htpasswd -5` and `mkpasswd -m sha-512` write it.
-ghost use Rattle.std.specs.Prelude.{◌≡◌, ◌≤◌, true, false, None, IfSome, length};
+ghost use Rattle.std.specs.Prelude.{◌≡◌, ◌≤◌, ◌↔◌, IsTrue, true, false, None, IfSome, length};
 ghost use Rattle.std.specs.List.{after_first, before_first, list_all};
 ghost use Rattle.line_streams.specs.Numerals.{numeral};
 ghost use Rattle.dav_users_core.specs.Hashes.{accepts, behind_dollar, behind_scheme, crypt_text, hash_of, is_dollar, is_equals, is_letter, is_rounds, is_salt, is_sum, letters_in, rounds_in, salt_and_sum, scheme_of, hash_text_of, hash_texts_of};
@@ -59,6 +59,21 @@ impl PasswordHash {
             return false;
         }
         self.letters_of(password).as_slice() == self.sum.as_slice()
+    }
+
+    /// Whether it is the same hash: of one scheme, so many rounds, one salt and one sum.
+    pub(crate) fn is_same(&self, other: &PasswordHash) -> bool
+        ensures { IsTrue result ↔ (hash_text_of self.now ≡ hash_text_of other.now) }
+    {
+        self.scheme == other.scheme && self.rounds == other.rounds && self.has_same_texts(other)
+    }
+
+    // Whether the salt and the sum are the same.
+    fn has_same_texts(&self, other: &PasswordHash) -> bool
+        ensures { IsTrue result
+            ↔ ((self.now.salt.items ≡ other.now.salt.items) × (self.now.sum.items ≡ other.now.sum.items)) }
+    {
+        self.salt.as_slice() == other.salt.as_slice() && self.sum.as_slice() == other.sum.as_slice()
     }
 
     // The letters of the password's sum.

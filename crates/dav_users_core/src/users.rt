@@ -1,5 +1,5 @@
 //! A file of users and their passwords, as htpasswd and mkpasswd write it.
-ghost use Rattle.std.specs.Prelude.{◌≡◌, ◌<◌, ◌∷◌, true, false, List, Result, length, option_map, IfErr, IfSome, None, Ok, OnOk, MatchResult};
+ghost use Rattle.std.specs.Prelude.{◌≡◌, ◌<◌, ◌↔◌, IsTrue, ◌∷◌, true, false, List, Result, length, option_map, IfErr, IfSome, None, Ok, OnOk, MatchResult};
 ghost use Rattle.std.specs.List.{after_first, before_first, list_all, list_any};
 ghost use Rattle.line_streams.specs.Lines.{lines};
 ghost use Rattle.dav_users_core.specs.Hashes.{hash_text_of};
@@ -85,6 +85,18 @@ impl Users {
                 let _hashed = black_box(nobodys_hash().accepts(password));
                 false
             }
+        }
+    }
+
+    /// Whether the user with the name has the same line in both: one hash, or none in either.
+    pub fn has_same(&self, other: &Users, name: &str) -> bool
+        ensures { IsTrue result
+            ↔ (hash_named (users_in self.now) name.now ≡ hash_named (users_in other.now) name.now) }
+    {
+        match (self.hash_named(name), other.hash_named(name)) {
+            (Some(here), Some(there)) => here.is_same(there),
+            (None, None) => true,
+            _ => false,
         }
     }
 

@@ -50,6 +50,15 @@ impl From<ParseIntError> for Unread {
     }
 }
 
+/// When what is changed is on the disk.
+#[derive(Clone, Copy, PartialEq, Eq)]
+pub enum Sync {
+    /// Before an answer tells of it.
+    Always,
+    /// At the next tick, which comes once a second.
+    Second,
+}
+
 /// What the words choose.
 #[derive(Drop)]
 pub struct Choices {
@@ -69,24 +78,32 @@ pub struct Choices {
     pub clock: Option<u64>,
     /// Whether there is one connection, without frames.
     pub one: bool,
+    /// Whether nothing may be changed.
+    pub read_only: bool,
+    /// The file that has a line for each request, `-` for standard error; without one there are no lines.
+    pub log: Option<String>,
     /// The file that keeps the stores; without one they are in memory alone.
     pub store: Option<String>,
-    /// The file of the users who may log in, and the realm that they are told; without one nobody logs in.
+    /// When that file has what is changed.
+    pub sync: Sync,
+    /// Whether the users who may log in come in the first frame.
+    pub login: bool,
+    /// The file of the users who may log in, where they come from one; without one, and without `login`, nobody logs in.
     pub users: Option<String>,
+    /// The realm that clients are told to log in to.
     pub realm: String,
 }
 
 impl Choices {
-    /// Perhaps `--one`, and behind it options, each with its value, in any order; of one that comes twice the last counts. `Usage` where a word is none
-    /// of these, or a value is missing or isn't one, or where stores that a file keeps meet `--one` or a seed, or users `--one` or a header that names the principal; `OutOfMemory` where there is no memory for it.
+    /// Perhaps `--one` or `--login`, and behind it `--read-only`, which has no value, and options, each with its value, in any order; of one that comes twice the last counts. `OutOfMemory`
+    /// where there is no memory for it. `Usage` where a word is none of these, or a value is missing or isn't one; and where stores that a file keeps meet `--one` or a seed, or nothing is kept and it is to be synced each second, users `--one` or
+    /// a header that names the principal, a file of users `--login`, or `--read-only` or a log `--one`.
     pub fn of(alloc: Global, words: &[String]) -> Result<Choices, Unread> {
-        let (one, rest) = match words {
-            [first, rest @ ..] if first.as_str() == "--one" => (true, rest),
-            _ => (false, words),
+        let (one, login, rest) = match words {
+            [first, rest @ ..] if first.as_str() == "--one" => (true, false, rest),
+            [first, rest @ ..] if first.as_str() == "--login" => (false, true, rest),
+            _ => (false, false, words),
         };
-        if rest.len() % 2 != 0 {
-            return Err(Unread::Usage);
-        }
         let mut choices = Choices {
             settings: Settings {
                 scheme: Scheme::Http,
@@ -102,23 +119,58 @@ impl Choices {
             seed: None,
             clock: None,
             one,
+            read_only: false,
+            log: None,
             store: None,
+            sync: Sync::Always,
+            login,
             users: None,
             realm: String::from_str(alloc, REALM)?,
         };
-        for pair in rest.chunks_exact(2) {
-            choices.set(alloc, pair[0].as_str(), pair[1].as_str())?;
-        }
+        choices.set_all(alloc, rest)?;
         if choices.store.is_some() && (one || choices.seed.is_some()) {
             return Err(Unread::Usage);
         }
-        if choices.users.is_some() {
-            if one || choices.settings.user_header.is_some() {
-                return Err(Unread::Usage);
-            }
-            choices.settings.user_header = Some(HeaderName::from_static(USER));
+        if choices.store.is_none() && choices.sync == Sync::Second {
+            return Err(Unread::Usage);
         }
+        if one && (choices.read_only || choices.log.is_some()) {
+            return Err(Unread::Usage);
+        }
+        choices.log_in()?;
         Ok(choices)
+    }
+
+    // Each option with its value.
+    fn set_all(&mut self, alloc: Global, words: &[String]) -> Result<(), Unread> {
+        let mut name = None;
+        for word in words {
+            let word = word.as_str();
+            match name {
+                Some(before) => {
+                    self.set(alloc, before, word)?;
+                    name = None;
+                }
+                None if word == "--read-only" => self.read_only = true,
+                None => name = Some(word),
+            }
+        }
+        match name {
+            Some(_) => Err(Unread::Usage),
+            None => Ok(()),
+        }
+    }
+
+    // Where users log in, the server is told by a field of its own who did.
+    fn log_in(&mut self) -> Result<(), Unread> {
+        if !self.login && self.users.is_none() {
+            return Ok(());
+        }
+        if self.one || self.settings.user_header.is_some() || (self.login && self.users.is_some()) {
+            return Err(Unread::Usage);
+        }
+        self.settings.user_header = Some(HeaderName::from_static(USER));
+        Ok(())
     }
 
     fn set(&mut self, alloc: Global, name: &str, value: &str) -> Result<(), Unread> {
@@ -150,6 +202,14 @@ impl Choices {
             self.unfinished = value.parse()?;
         } else if name == "--store" {
             self.store = Some(String::from_str(alloc, file_of(value)?)?);
+        } else if name == "--sync" {
+            self.sync = match value {
+                "always" => Sync::Always,
+                "second" => Sync::Second,
+                _ => return Err(Unread::Usage),
+            };
+        } else if name == "--log" {
+            self.log = Some(String::from_str(alloc, file_of(value)?)?);
         } else if name == "--users" {
             self.users = Some(String::from_str(alloc, file_of(value)?)?);
         } else if name == "--realm" {

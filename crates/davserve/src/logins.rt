@@ -1,30 +1,75 @@
 //! The login in front of the server.
-use crate::choices::USER;
+use crate::choices::{Choices, USER};
+use crate::host::System;
 use crate::stopped::Stopped;
 use dav_login_core::Login;
 use dav_users_core::Users;
+use http_frames::frames::{Frames, Head};
 use http_header::HeaderName;
 use http_server::Service;
+use line_streams::Fault;
 use rand::make_rng;
 use rand_chacha::ChaCha20Rng;
 use rand_core::Rng;
+use std::alloc::Global;
 use std::fs;
+use std::io::Read;
 
-/// The service behind a login of the users that the file at this path has, in this realm (RFC 7617).
-pub fn login_over<S: Service + Drop>(
+/// The users who may log in, by the first frame or by a file; none where nobody does.
+pub fn chosen_users<I: Read>(
     rt: &HostRuntime,
-    path: &str,
-    realm: &str,
-    service: S,
-) -> Result<Login<S>, Stopped> {
+    choices: &Choices,
+    frames: &mut Frames<I>,
+) -> Result<Option<Users>, Stopped> {
+    if choices.login {
+        return Ok(Some(told_users(rt.alloc(), frames)?));
+    }
+    match &choices.users {
+        Some(path) => Ok(Some(read_users(rt, path.as_str())?)),
+        None => Ok(None),
+    }
+}
+
+// The users that the first frame has; none where it is another, or where the input ends.
+fn told_users<I: Read>(alloc: Global, frames: &mut Frames<I>) -> Result<Users, Stopped> {
+    // A loop is proved to end, so this one counts its turns.
+    for _step in 0..u64::MAX {
+        if let Some(frame) = frames.next() {
+            let Some(Head::Users { .. }) = frame.head else {
+                return Ok(Users::read(alloc, &[])?);
+            };
+            let users = Users::read(alloc, frame.bytes)?;
+            let length = frame.length;
+            frames.skip(length);
+            return Ok(users);
+        }
+        if !frames.read()? {
+            return Ok(Users::read(alloc, &[])?);
+        }
+    }
+    Err(Stopped::Stream(Fault::Io))
+}
+
+// The users that the file at this path has.
+fn read_users(rt: &HostRuntime, path: &str) -> Result<Users, Stopped> {
     let file = match fs::read(rt, path) {
         Ok(file) => file,
         Err(error) => return Err(Stopped::NoUsers(error)),
     };
-    let users = Users::read(rt.alloc(), &file)?;
+    Ok(Users::read(rt.alloc(), &file)?)
+}
+
+/// The service behind a login of these users, in this realm (RFC 7617).
+pub fn login_over<'a, S: Service + Drop>(
+    rt: &'a HostRuntime,
+    users: Users,
+    realm: &str,
+    service: S,
+) -> Result<Login<S, System<'a>>, Stopped> {
     let mut key = [0; 32];
     let mut rng: ChaCha20Rng = make_rng(rt)?;
     rng.fill_bytes(&mut key);
     let header = HeaderName::from_static(USER);
-    Ok(Login::new(rt.alloc(), service, users, realm, header, key)?)
+    let host = System::new(rt)?;
+    Ok(Login::new(rt.alloc(), service, host, users, realm, header, key)?)
 }

@@ -3,8 +3,12 @@
 
 mod choices;
 mod clock;
+mod fronts;
+mod host;
 mod limits;
+mod log;
 mod logins;
+mod progress;
 mod stopped;
 mod stored;
 
@@ -13,17 +17,20 @@ use clock::{SystemClock, first_moment};
 use dav_handler_core::dav::Dav;
 use dav_handler_core::serving::{Clock, Timed, serve_frames, serve_one};
 use dav_resource_core::guarded::Guarded;
+use fronts::{Fronts, Logging};
 use http_frames::clients::Clients;
 use http_frames::frames::Frames;
 use http_frames::gate::{OneCall, TurnService};
 use http_frames::serving::{End, serve as serve_turns};
 use http_server::{Config, Connection};
-use limits::Limits;
+use limits::{BUFFER, Limits};
 use line_streams::Fault;
-use logins::login_over;
+use logins::{chosen_users, login_over};
 use rand::make_rng;
 use rand_chacha::ChaCha20Rng;
 use rand_core::{Rng, SeedableRng};
+use read_only::ReadOnly;
+use request_log::Logged;
 use std::alloc::AllocError;
 use std::hash::RandomState;
 use std::io::{self, BufWriter, ErrorKind, Read, Write};
@@ -32,15 +39,12 @@ use std::{env, mem};
 use stopped::Stopped;
 use stored::serve_stored;
 
-// How many bytes are written at once.
-const BUFFER: usize = 64 * 1024;
-
 // What is told at the start where no file keeps the stores.
 const IN_MEMORY: &str = "what is stored is in memory alone, and gone when the server ends\n";
 
 // The words that the program takes.
 const USAGE: &str =
-    "usage: davserve [--help] [--one] [--scheme http|https] [--prefix PATH] [--user-header NAME] [--longest-timeout SECONDS] [--propfind-depth finite|infinite] [--max-body BYTES] [--window BYTES] [--waiting BYTES] [--unfinished BYTES] [--store FILE] [--users FILE] [--realm TEXT] [--seed NUMBER] [--clock NANOSECONDS|frames]\n";
+    "usage: davserve [--help] [--one|--login] [--read-only] [--scheme http|https] [--prefix PATH] [--user-header NAME] [--longest-timeout SECONDS] [--propfind-depth finite|infinite] [--max-body BYTES] [--window BYTES] [--waiting BYTES] [--unfinished BYTES] [--store FILE] [--sync always|second] [--users FILE] [--realm TEXT] [--log FILE] [--seed NUMBER] [--clock NANOSECONDS|frames]\n";
 
 fn main(rt: HostRuntime) -> ExitCode {
     let words = match words(&rt) {
@@ -83,34 +87,89 @@ fn main(rt: HostRuntime) -> ExitCode {
             ExitCode::from(7)
         }
         Err(Stopped::WrongRealm) => usage(&rt),
+        Err(Stopped::NoLog(error)) => {
+            let _told = writeln!(rt.stderr(), "the log is not opened: {error}");
+            ExitCode::from(8)
+        }
     }
 }
 
 // Answers the requests of the connections, with stores that a file keeps, or that are empty at first and in memory alone.
 fn run(rt: &HostRuntime, mut choices: Choices) -> Result<End, Stopped> {
     let limits = Limits::of(&choices);
-    if let Some(path) = mem::replace(&mut choices.store, None) {
-        return serve_stored(rt, path.as_str(), limits, choices);
+    if choices.one {
+        return Ok(serve_single(rt, limits.config, choices)?);
     }
+    let mut frames = Frames::new(rt.alloc(), rt.stdin())?;
+    let users = chosen_users(rt, &choices, &mut frames)?;
+    let fronts = Fronts::of(rt, &mut choices, users)?;
+    if let Some(path) = mem::replace(&mut choices.store, None) {
+        return serve_stored(rt, path.as_str(), limits, fronts, frames, choices);
+    }
+    serve_in_memory(rt, limits, fronts, frames, choices)
+}
+
+// Serves the connections that the frames are of, with stores that are gone with the program.
+fn serve_in_memory<I: Read + Drop>(
+    rt: &HostRuntime,
+    limits: Limits,
+    fronts: Fronts<'_>,
+    frames: Frames<I>,
+    choices: Choices,
+) -> Result<End, Stopped> {
     let _told = rt.stderr().write_all(IN_MEMORY.as_bytes());
-    let one = choices.one;
-    let users = mem::replace(&mut choices.users, None);
-    let realm = mem::replace(&mut choices.realm, String::new(rt.alloc()));
     let clock = SystemClock {
         rt,
         runs: choices.clock.is_none(),
     };
-    let mut dav = server(rt, choices)?;
-    if one {
-        return Ok(serve_single(rt, limits.config, &mut dav)?);
-    }
+    let dav = server(rt, choices)?;
     let server = Timed { dav, clock };
+    if fronts.is_none() {
+        return Ok(serve_all(rt, limits, frames, server)?);
+    }
+    if fronts.read_only {
+        return serve_users(rt, limits, fronts, frames, ReadOnly::new(server));
+    }
+    serve_users(rt, limits, fronts, frames, server)
+}
+
+// Serves with the service, behind a login where there are users, and behind a log where there is one.
+fn serve_users<S: TurnService + Drop, I: Read + Drop>(
+    rt: &HostRuntime,
+    limits: Limits,
+    fronts: Fronts<'_>,
+    frames: Frames<I>,
+    service: S,
+) -> Result<End, Stopped> {
+    let Fronts {
+        users,
+        realm,
+        log,
+        ..
+    } = fronts;
     match users {
-        Some(path) => {
-            let login = login_over(rt, path.as_str(), realm.as_str(), server)?;
-            Ok(serve_login(rt, limits, login)?)
+        Some(users) => {
+            let login = login_over(rt, users, realm.as_str(), service)?;
+            Ok(serve_logged(rt, limits, log, frames, login)?)
         }
-        None => Ok(serve_all(rt, limits, server)?),
+        None => Ok(serve_logged(rt, limits, log, frames, service)?),
+    }
+}
+
+// Serves with the service, behind a log where there is one.
+fn serve_logged<S: TurnService + Drop, I: Read + Drop>(
+    rt: &HostRuntime,
+    limits: Limits,
+    log: Option<Logging<'_>>,
+    frames: Frames<I>,
+    service: S,
+) -> Result<End, Fault> {
+    match log {
+        Some(Logging { file, user_header }) => {
+            let logged = Logged::new(rt.alloc(), service, file, user_header);
+            serve_turned(rt, limits, frames, logged)
+        }
+        None => serve_turned(rt, limits, frames, service),
     }
 }
 
@@ -126,46 +185,36 @@ fn server(rt: &HostRuntime, choices: Choices) -> Result<Dav<ChaCha20Rng>, Fault>
 }
 
 // Serves the one connection that the standard streams are.
-fn serve_single(
-    rt: &HostRuntime,
-    config: Config,
-    dav: &mut Dav<ChaCha20Rng>,
-) -> Result<End, Fault> {
+fn serve_single(rt: &HostRuntime, config: Config, choices: Choices) -> Result<End, Fault> {
+    let _told = rt.stderr().write_all(IN_MEMORY.as_bytes());
+    let mut dav = server(rt, choices)?;
     let mut connection = Connection::new(rt.alloc(), RandomState::new(rt)?, config);
-    serve_one(&mut connection, dav, &mut rt.stdin(), &mut rt.stdout())?;
+    serve_one(&mut connection, &mut dav, &mut rt.stdin(), &mut rt.stdout())?;
     Ok(End::Whole)
 }
 
-// Serves the connections that the frames on standard input are of.
-fn serve_all(
+// Serves the connections that the frames are of.
+fn serve_all<I: Read + Drop>(
     rt: &HostRuntime,
     limits: Limits,
+    mut frames: Frames<I>,
     server: Timed<ChaCha20Rng, SystemClock<'_>>,
 ) -> Result<End, Fault> {
     let mut clients = limits.clients(rt)?;
-    let mut server = OneCall {
-        service: server,
-        spent: false,
-        own: 0,
-    };
-    let mut frames = Frames::new(rt.alloc(), rt.stdin())?;
+    let mut server = OneCall::new(server);
     let mut output = BufWriter::with_capacity(rt.alloc(), BUFFER, rt.stdout())?;
     serve_streams(&mut clients, &mut server, &mut frames, &mut output)
 }
 
-// Serves the connections that the frames on standard input are of, behind a login.
-fn serve_login<S: TurnService + Drop>(
+// Serves the connections that the frames are of with any service.
+fn serve_turned<S: TurnService + Drop, I: Read + Drop>(
     rt: &HostRuntime,
     limits: Limits,
+    mut frames: Frames<I>,
     service: S,
 ) -> Result<End, Fault> {
     let mut clients = limits.clients(rt)?;
-    let mut server = OneCall {
-        service,
-        spent: false,
-        own: 0,
-    };
-    let mut frames = Frames::new(rt.alloc(), rt.stdin())?;
+    let mut server = OneCall::new(service);
     let mut output = BufWriter::with_capacity(rt.alloc(), BUFFER, rt.stdout())?;
     serve_turns(&mut clients, &mut server, &mut frames, &mut output)
 }

@@ -23,6 +23,8 @@ pub enum Stopped {
     WrongUsers(UsersError),
     /// The realm can't stand between quotes.
     WrongRealm,
+    /// The log could not be opened.
+    NoLog(io::Error),
 }
 
 impl From<Fault> for Stopped {

@@ -2,53 +2,53 @@
 ghost use Rattle.std.specs.Prelude.{IsTrue};
 ghost use Rattle.journal_core.specs.Resting.{disk_behind};
 
-use crate::choices::Choices;
+use crate::choices::{Choices, Sync};
 use crate::clock::{SystemClock, first_moment};
-use crate::limits::Limits;
+use crate::fronts::{Fronts, Logging};
+use crate::limits::{BUFFER, Limits};
 use crate::logins::login_over;
+use crate::progress::Progress;
 use crate::stopped::Stopped;
 use dav_handler_core::dav::Dav;
 use dav_handler_core::serving::{Clock, Timed};
-use dav_kept_core::{Recorded, serve_store};
-use dav_login_core::Login;
+use dav_kept_core::{Recorded, serve_store, serve_store_late, tree_of};
 use dav_resource_core::fs::Moment;
 use dav_resource_core::guarded::Guarded;
-use dav_store_core::{Opened, load};
+use dav_store_core::{Opened, Watch, load};
 use http_frames::clients::Clients;
 use http_frames::frames::Frames;
 use http_frames::gate::OneCall;
 use http_frames::serving::End;
 use journal_core::{Header, Journal, Reader};
 use journal_file::open;
-use kept_frames::{Recording, Told, serve_kept};
+use kept_frames::{Recording, Told, serve_kept, serve_late};
 use rand::make_rng;
 use rand_chacha::ChaCha20Rng;
 use rand_core::Rng;
+use read_only::ReadOnly;
+use request_log::Logged;
 use sqlite_disk::Disk;
 use sqlite_std_file::Wary;
 use std::alloc::{AllocError, Global};
 use std::hash::{BuildHasher, RandomState};
 use std::io::{self, BufWriter, Read, Write};
-use std::mem;
-
-// How many bytes are written at once.
-const BUFFER: usize = 64 * 1024;
 
 // Where the last change lies so many nanoseconds ahead of the clock, that is told at the start.
 const AHEAD: u64 = 60 * 1_000_000_000;
 
 /// Serves the connections that the frames on standard input are of, with the stores of the file at
 /// this path, which keeps what they change. Where there is no file it is made.
-pub fn serve_stored(
+pub fn serve_stored<I: Read + Drop>(
     rt: &HostRuntime,
     path: &str,
     limits: Limits,
-    mut choices: Choices,
+    fronts: Fronts<'_>,
+    frames: Frames<I>,
+    choices: Choices,
 ) -> Result<End, Stopped> {
-    let users = mem::replace(&mut choices.users, None);
-    let realm = mem::replace(&mut choices.realm, String::new(rt.alloc()));
     let buffer = BufWriter::with_capacity(rt.alloc(), BUFFER, rt.stdout())?;
     let output = Told::new(buffer);
+    let sync = choices.sync;
     let now = first_moment(rt, choices.clock)?;
     let header = Header {
         generation: 0,
@@ -56,24 +56,72 @@ pub fn serve_stored(
         began: now.0,
     };
     let (mut journal, found) = open(rt, path, header, &output, Wary)?;
-    let began = Moment(match &found {
-        Some(reader) => reader.header().began,
-        None => header.began,
-    });
-    let opened = read_all(rt.alloc(), &mut journal, found, now, &output)?;
+    let header = match &found {
+        Some(reader) => reader.header(),
+        None => header,
+    };
+    let mut progress = Progress::of(rt, path);
+    let opened = read_all(rt.alloc(), &mut journal, found, now, &output, &mut progress)?;
     tell_ahead(rt, opened.last, now);
-    let service = server_over(rt, choices, opened, now, began)?;
+    let service = server_over(rt, choices, opened, now, header)?;
     let mut streams = Streams {
         clients: limits.clients(rt)?,
-        frames: Frames::new(rt.alloc(), rt.stdin())?,
+        frames,
         output,
     };
+    if fronts.is_none() {
+        return serve_on(rt.alloc(), sync, &mut streams, service, &mut journal);
+    }
+    if fronts.read_only {
+        let service = ReadOnly::new(service);
+        return serve_users(rt, fronts, sync, &mut streams, service, &mut journal);
+    }
+    serve_users(rt, fronts, sync, &mut streams, service, &mut journal)
+}
+
+// Serves with the service, behind a login where there are users, and behind a log where there is one.
+fn serve_users<S: Recording + Drop, D: Disk, I: Read, O: Write>(
+    rt: &HostRuntime,
+    fronts: Fronts<'_>,
+    sync: Sync,
+    streams: &mut Streams<I, O>,
+    service: S,
+    journal: &mut Journal<D, O>,
+) -> Result<End, Stopped>
+    requires usable { IsTrue (D.Disk.is_usable (disk_behind journal.old)) }
+{
+    let Fronts {
+        users,
+        realm,
+        log,
+        ..
+    } = fronts;
     match users {
-        Some(path) => {
-            let login = login_over(rt, path.as_str(), realm.as_str(), service)?;
-            serve_login(rt.alloc(), &mut streams, login, &mut journal)
+        Some(users) => {
+            let login = login_over(rt, users, realm.as_str(), service)?;
+            serve_logged(rt.alloc(), log, sync, streams, login, journal)
         }
-        None => serve_on(rt.alloc(), &mut streams, service, &mut journal),
+        None => serve_logged(rt.alloc(), log, sync, streams, service, journal),
+    }
+}
+
+// Serves with the service, behind a log where there is one.
+fn serve_logged<S: Recording + Drop, D: Disk, I: Read, O: Write>(
+    alloc: Global,
+    log: Option<Logging<'_>>,
+    sync: Sync,
+    streams: &mut Streams<I, O>,
+    service: S,
+    journal: &mut Journal<D, O>,
+) -> Result<End, Stopped>
+    requires usable { IsTrue (D.Disk.is_usable (disk_behind journal.old)) }
+{
+    match log {
+        Some(Logging { file, user_header }) => {
+            let logged = Logged::new(alloc, service, file, user_header);
+            serve_recorded(alloc, sync, streams, logged, journal)
+        }
+        None => serve_recorded(alloc, sync, streams, service, journal),
     }
 }
 
@@ -85,16 +133,17 @@ struct Streams<I, O> {
     output: O,
 }
 
-// A server over these stores, which began at the moment that is named last, and whose changes are kept.
+// A server over these stores, whose changes a journal with this header keeps.
 fn server_over<'a>(
     rt: &'a HostRuntime,
     choices: Choices,
     opened: Opened,
     now: Moment,
-    began: Moment,
+    header: Header,
 ) -> Result<Recorded<ChaCha20Rng, SystemClock<'a>>, Stopped> {
     let first = Moment(now.0.max(opened.last.0));
     let rng: ChaCha20Rng = make_rng(rt)?;
+    let tree = tree_of(&opened.stores);
     let dav = Dav::new(
         rt.alloc(),
         choices.settings,
@@ -107,72 +156,69 @@ fn server_over<'a>(
         rt,
         runs: choices.clock.is_none(),
     };
-    Ok(Recorded::new(rt.alloc(), Timed { dav, clock }, began))
+    Ok(Recorded::new(rt.alloc(), Timed { dav, clock }, header, tree))
 }
 
-// Serves them on any streams and any disk. What is proved of it stands on `serve_store`; it is told here of none in particular, so that its check is short.
+// Serves them on any streams and any disk. What is proved of it stands on `serve_store` and `serve_store_late`; it is told here of none in particular, so that its check is short.
 fn serve_on<R: Rng + Drop, C: Clock + Drop, D: Disk, I: Read, O: Write>(
     alloc: Global,
+    sync: Sync,
     streams: &mut Streams<I, O>,
     service: Recorded<R, C>,
     journal: &mut Journal<D, O>,
 ) -> Result<End, Stopped>
     requires usable { IsTrue (D.Disk.is_usable (disk_behind journal.old)) }
 {
-    let mut server = OneCall {
-        service,
-        spent: false,
-        own: 0,
+    let mut server = OneCall::new(service);
+    let Streams {
+        clients,
+        frames,
+        output,
+    } = streams;
+    let end = match sync {
+        Sync::Always => serve_store(alloc, clients, &mut server, frames, journal, output)?,
+        Sync::Second => serve_store_late(alloc, clients, &mut server, frames, journal, output)?,
     };
-    let end = serve_store(
-        alloc,
-        &mut streams.clients,
-        &mut server,
-        &mut streams.frames,
-        journal,
-        &mut streams.output,
-    )?;
     Ok(end)
 }
 
-// The same behind a login. What is proved of it stands on `serve_kept`.
-fn serve_login<S: Recording + Drop, D: Disk, I: Read, O: Write>(
+// The same with any service of which records are kept. What is proved of it stands on `serve_kept` and `serve_late`.
+fn serve_recorded<S: Recording + Drop, D: Disk, I: Read, O: Write>(
     alloc: Global,
+    sync: Sync,
     streams: &mut Streams<I, O>,
-    service: Login<S>,
+    service: S,
     journal: &mut Journal<D, O>,
 ) -> Result<End, Stopped>
     requires usable { IsTrue (D.Disk.is_usable (disk_behind journal.old)) }
 {
-    let mut server = OneCall {
-        service,
-        spent: false,
-        own: 0,
+    let mut server = OneCall::new(service);
+    let Streams {
+        clients,
+        frames,
+        output,
+    } = streams;
+    let end = match sync {
+        Sync::Always => serve_kept(alloc, clients, &mut server, frames, journal, output)?,
+        Sync::Second => serve_late(alloc, clients, &mut server, frames, journal, output)?,
     };
-    let end = serve_kept(
-        alloc,
-        &mut streams.clients,
-        &mut server,
-        &mut streams.frames,
-        journal,
-        &mut streams.output,
-    )?;
     Ok(end)
 }
 
 // The stores that the journal keeps; those of a new one are a root folder alone.
-fn read_all<D: Disk, B>(
+fn read_all<D: Disk, B, W: Watch>(
     alloc: Global,
     journal: &mut Journal<D, B>,
     found: Option<Reader>,
     now: Moment,
     note: &B,
+    watch: &mut W,
 ) -> Result<Opened, Stopped>
     requires usable { IsTrue (D.Disk.is_usable (disk_behind journal.old)) }
     ensures usable { IsTrue (D.Disk.is_usable (disk_behind journal.new)) }
 {
     match found {
-        Some(mut reader) => Ok(load(alloc, journal, &mut reader, note)?),
+        Some(mut reader) => Ok(load(alloc, journal, &mut reader, note, watch)?),
         None => {
             let stores = Guarded::new(alloc, now).map_err(|_| AllocError)?;
             Ok(Opened { stores, last: now })

@@ -16,7 +16,7 @@ impl From<AllocError> for Unread {
     }
 }
 
-/// What is told of the file.
+/// What is told of the file, or done with it.
 #[derive(Drop)]
 pub enum What {
     /// Whether it is whole.
@@ -25,6 +25,8 @@ pub enum What {
     List(String),
     /// What requests changed, and whether with the bytes that they brought.
     Log(bool),
+    /// It is written anew, as a snapshot of what stands in it.
+    Compact,
 }
 
 /// What the words choose.
@@ -32,12 +34,12 @@ pub enum What {
 pub struct Choices {
     /// The file.
     pub path: String,
-    /// What is told of it.
+    /// What is told of it, or done with it.
     pub what: What,
 }
 
 impl Choices {
-    /// A path, and then `check`; or `list` with a folder or without one; or `log`, with `--bodies` or without it. `Usage` where the words are other than that; `OutOfMemory` where there is no memory for them.
+    /// A path, and then `check`; or `list` with a folder or without one; or `log`, with `--bodies` or without it; or `compact`. `Usage` where the words are other than that; `OutOfMemory` where there is no memory for them.
     pub fn of(alloc: Global, words: &[String]) -> Result<Choices, Unread> {
         let Some((path, rest)) = words.split_first() else {
             return Err(Unread::Usage);
@@ -52,6 +54,7 @@ impl Choices {
             [word, option] if word.as_str() == "log" && option.as_str() == "--bodies" => {
                 What::Log(true)
             }
+            [word] if word.as_str() == "compact" => What::Compact,
             _ => return Err(Unread::Usage),
         };
         Ok(Choices {

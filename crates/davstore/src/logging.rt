@@ -6,12 +6,14 @@ use dav_files_core::fs::DavProp;
 use dav_notes_core::notes::Note;
 use dav_path_core::davpath::DavPath;
 use dav_resource_core::guarded::{Command, Request};
+use dav_snapshots_core::read as read_snapshot;
 use dav_store_core::StoreError;
 use journal_core::{JournalError, Reader, Stream};
 use std::alloc::{AllocError, Global};
 use std::io::{self, BufReader, BufWriter, Read, Write};
 
-/// Writes a line for each change, record after record, up to the end or to where the file is broken, which is told. The records are read, and not played.
+/// Writes a line for each change, record after record, up to the end or to where the file is broken, which is told. The records are read, and not played. Of the snapshot that a compacted file has in
+/// front it writes a line, too.
 pub fn log<I: Read + Drop, O: Write + Drop>(
     alloc: Global,
     input: BufReader<I>,
@@ -25,15 +27,20 @@ pub fn log<I: Read + Drop, O: Write + Drop>(
         Err(error) => return Ok(Some(broken(StoreError::Journal(error), 0, 0)?)),
     };
     for number in 0..u64::MAX {
+        let is_front = number == 0 && reader.header().generation > 0;
         match reader.next(&mut source, &()) {
             Ok(true) => {}
+            Ok(false) if is_front => return stopped(StoreError::Damaged(0), 0, &reader),
             Ok(false) => return Ok(None),
             Err(error) => return stopped(StoreError::Journal(error), number, &reader),
         }
-        match read(alloc, reader.record()) {
-            Ok(notes) => write_notes(alloc, &notes, bodies, output)?,
-            Err(RecordError::OutOfMemory) => return Err(AllocError.into()),
-            Err(_) => return stopped(StoreError::Damaged(number), number, &reader),
+        let told = if is_front {
+            log_snapshot(alloc, reader.record(), output)?
+        } else {
+            log_record(alloc, reader.record(), bodies, output)?
+        };
+        if !told {
+            return stopped(StoreError::Damaged(number), number, &reader);
         }
     }
     Ok(Some(broken(StoreError::Journal(JournalError::TooLarge), 0, 0)?))
@@ -42,6 +49,39 @@ pub fn log<I: Read + Drop, O: Write + Drop>(
 // Where the file is broken.
 fn stopped(error: StoreError, number: u64, reader: &Reader) -> io::Result<Option<Seen>> {
     Ok(Some(broken(error, number, reader.place() as u64)?))
+}
+
+// Writes the lines of a record; false where it is none.
+fn log_record<O: Write + Drop>(
+    alloc: Global,
+    record: &[u8],
+    bodies: bool,
+    output: &mut BufWriter<O>,
+) -> io::Result<bool> {
+    match read(alloc, record) {
+        Ok(notes) => {
+            write_notes(alloc, &notes, bodies, output)?;
+            Ok(true)
+        }
+        Err(RecordError::OutOfMemory) => Err(AllocError.into()),
+        Err(_) => Ok(false),
+    }
+}
+
+// Writes a line for a snapshot, its last moment and how many bytes it has; false where it is none.
+fn log_snapshot<O: Write + Drop>(
+    alloc: Global,
+    record: &[u8],
+    output: &mut BufWriter<O>,
+) -> io::Result<bool> {
+    match read_snapshot(alloc, record) {
+        Ok((_stores, last)) => {
+            writeln!(output, "{} - - snapshot {}", last.0, record.len())?;
+            Ok(true)
+        }
+        Err(RecordError::OutOfMemory) => Err(AllocError.into()),
+        Err(_) => Ok(false),
+    }
 }
 
 fn write_notes<O: Write + Drop>(

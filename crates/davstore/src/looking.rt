@@ -37,10 +37,11 @@ pub fn look<I: Read + Drop>(alloc: Global, input: BufReader<I>) -> io::Result<Se
         Ok(None) => return Ok(Seen::New),
         Err(error) => return broken(StoreError::Journal(error), 0, 0),
     };
-    let Ok(mut opened) = Opened::new(alloc, &reader) else {
-        return Err(AllocError.into());
+    let (mut opened, first) = match Opened::begin(alloc, &mut source, &mut reader, &()) {
+        Ok(begun) => begun,
+        Err(error) => return broken(error, 0, reader.place() as u64),
     };
-    for number in 0..u64::MAX {
+    for number in first..u64::MAX {
         match opened.read_next(alloc, &mut source, &mut reader, &(), number) {
             Ok(true) => {}
             Ok(false) => return Ok(Seen::Whole {

@@ -1,13 +1,15 @@
-//! Looks into a file of stores: whether it is whole, and what stands in it. It takes no lock, and writes nothing into the file.
+//! Looks into a file of stores: whether it is whole, and what stands in it. That takes no lock, and writes nothing into the file. Or compacts it, which does both.
 #![tactic(auto)]
 
 mod choices;
+mod compacting;
 mod listing;
 mod logging;
 mod looking;
 mod paths;
 
 use choices::{Choices, Unread, What};
+use compacting::{Lengths, Uncompacted, compact_file};
 use listing::list;
 use logging::log;
 use looking::{Seen, look};
@@ -19,7 +21,7 @@ use std::process::ExitCode;
 
 // The words that the program takes.
 const USAGE: &str =
-    "usage: davstore PATH check\n       davstore PATH list [FOLDER]\n       davstore PATH log [--bodies]\n";
+    "usage: davstore PATH check\n       davstore PATH list [FOLDER]\n       davstore PATH log [--bodies]\n       davstore PATH compact\n";
 
 // How many bytes are read and written at once.
 const BUFFER: usize = 64 * 1024;
@@ -47,18 +49,18 @@ fn main(rt: HostRuntime) -> ExitCode {
     }
 }
 
-// Looks, and tells what was asked for. Whether the file is whole, and something is there to tell.
+// Does and tells what was asked for. Whether the file is whole, and something is there to tell.
 fn run(rt: &HostRuntime, choices: &Choices) -> io::Result<bool> {
-    let file = File::open(rt, choices.path.as_str())?;
-    let input = BufReader::with_capacity(rt.alloc(), BUFFER, file)?;
     let mut output = BufWriter::with_capacity(rt.alloc(), BUFFER, rt.stdout())?;
+    let path = choices.path.as_str();
     let told = match &choices.what {
+        What::Compact => compact(rt, path, &mut output)?,
         What::Check => {
-            let seen = look(rt.alloc(), input)?;
+            let seen = look(rt.alloc(), input(rt, path)?)?;
             tell(&seen, &mut output)?
         }
         What::List(folder) => {
-            let seen = look(rt.alloc(), input)?;
+            let seen = look(rt.alloc(), input(rt, path)?)?;
             match &seen {
                 Seen::Whole { opened, .. } => {
                     list(rt.alloc(), &opened.stores, folder.as_str(), &mut output)?
@@ -66,13 +68,46 @@ fn run(rt: &HostRuntime, choices: &Choices) -> io::Result<bool> {
                 _ => tell(&seen, &mut output)?,
             }
         }
-        What::Log(bodies) => match log(rt.alloc(), input, *bodies, &mut output)? {
+        What::Log(bodies) => match log(rt.alloc(), input(rt, path)?, *bodies, &mut output)? {
             Some(seen) => tell(&seen, &mut output)?,
             None => true,
         },
     };
     output.flush()?;
     Ok(told)
+}
+
+// The file, which is read from its front.
+fn input(rt: &HostRuntime, path: &str) -> io::Result<BufReader<File>> {
+    let file = File::open(rt, path)?;
+    Ok(BufReader::with_capacity(rt.alloc(), BUFFER, file)?)
+}
+
+// Compacts the file, and tells how long it was and is, or why it stays as it was.
+fn compact<O: Write + Drop>(
+    rt: &HostRuntime,
+    path: &str,
+    output: &mut BufWriter<O>,
+) -> io::Result<bool> {
+    match compact_file(rt, path) {
+        Ok(Lengths { before, now }) => {
+            writeln!(output, "compacted: {before} bytes before, {now} bytes now")?;
+            Ok(true)
+        }
+        Err(Uncompacted::New) => {
+            writeln!(output, "new")?;
+            Ok(true)
+        }
+        Err(Uncompacted::InTheWay) => {
+            writeln!(output, "no store: {path}.new")?;
+            Ok(false)
+        }
+        Err(Uncompacted::Store(error)) => {
+            writeln!(output, "{error}")?;
+            Ok(false)
+        }
+        Err(Uncompacted::Failed(error)) => Err(error),
+    }
 }
 
 // Tells whether the file is whole, and if not, where not.

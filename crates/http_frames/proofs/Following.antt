@@ -21,41 +21,41 @@ use Rattle.http_frames.proofs.Moments.{joined}
 use Rattle.http_frames.proofs.Running.{writes_breaks, written_served, wrote_none, wrote_then}
 use Rattle.http_frames.proofs.Results.{if_ok-err}
 
-module _ {S : Type 0} (begins : S → ℕ → S → Type 0) (answers : S → Request (List ℕ) → Response → S → Type 0) (clocked : S → ℕ → S → Type 0) where
+module _ {S : Type 0} (begins : S → ℕ → S → Type 0) (answers : S → Request (List ℕ) → Response → S → Type 0) (clocked : S → ℕ → S → Type 0) (listed : S → List ℕ → S → Type 0) where
   -- a frame is wrong
   pub wrong_follows : {I : Type 0} (remaining : I → Option (List ℕ)) (frames : Frames I) (h : Option Head) (bytes : List ℕ) (n : ℕ) (c c' : Clients) (s s' : S) (held holds : Option (List ℕ))
-      → TakesFrame begins answers clocked false h bytes c c' s s' held holds → IsFrame h bytes (take n (bytes_at_hand frames))
-      → GoesOn begins answers clocked (Some Wrong) c c' s s' (unread remaining frames) (unread remaining frames) held holds
+      → TakesFrame begins answers clocked listed false h bytes c c' s s' held holds → IsFrame h bytes (take n (bytes_at_hand frames))
+      → GoesOn begins answers clocked listed (Some Wrong) c c' s s' (unread remaining frames) (unread remaining frames) held holds
   wrong_follows remaining frames h bytes n c c' s s' held holds x frame = (
-    subst (λ (c' : Clients). WritesAnswers begins answers clocked c c' s s' held holds) (sym x.0) (subst (λ (s' : S). WritesAnswers begins answers clocked c c s s' held holds) (sym x.1)
-        (subst (λ (t : Option (List ℕ)). WritesAnswers begins answers clocked c c s s held t) (sym x.2) (wrote_none begins answers clocked c s held))),
+    subst (λ (c' : Clients). WritesAnswers begins answers clocked listed c c' s s' held holds) (sym x.0) (subst (λ (s' : S). WritesAnswers begins answers clocked listed c c s s' held holds) (sym x.1)
+        (subst (λ (t : Option (List ℕ)). WritesAnswers begins answers clocked listed c c s s held t) (sym x.2) (wrote_none begins answers clocked listed c s held))),
     Keeps-refl (unread remaining frames),
     subst (λ (c' : Clients). IsEndFor c' Wrong (unread remaining frames)) (sym x.0) (wrong_end remaining frames c h bytes n frame x.3),
   )
 
   -- what nobody is told happened
-  silent : (es : List Event) (c c' : Clients) (s : S) (held : Option (List ℕ)) → Moments es c c' → EventsLead begins answers clocked s es s → AreSaid es [] → told_text es ≡ [] → WritesAnswers begins answers clocked c c' s s held held
+  silent : (es : List Event) (c c' : Clients) (s : S) (held : Option (List ℕ)) → Moments es c c' → EventsLead begins answers clocked listed s es s → AreSaid es [] → told_text es ≡ [] → WritesAnswers begins answers clocked listed c c' s s held held
   silent es c c' s held moments leads said none = (es, moments, leads, said, subst (Appends held held) (sym none) (Appends-nil held))
 
   -- it was read on
-  pub read_follows : (end : Option End) (c c1 c2 : Clients) (s s1 : S) (input input' held holds : Option (List ℕ)) → WritesAnswers begins answers clocked c c1 s s1 held holds → ReadsOn end c1 c2 input input'
-      → GoesOn begins answers clocked end c c2 s s1 input input' held holds
+  pub read_follows : (end : Option End) (c c1 c2 : Clients) (s s1 : S) (input input' held holds : Option (List ℕ)) → WritesAnswers begins answers clocked listed c c1 s s1 held holds → ReadsOn end c1 c2 input input'
+      → GoesOn begins answers clocked listed end c c2 s s1 input input' held holds
   read_follows None c c1 c2 s s1 input input' held holds w x =
-      written_served begins answers clocked c c2 s s1 input input' held holds
-      (wrote_then begins answers clocked c c1 c2 s s1 s1 held holds holds w (silent [] c1 c2 s1 holds x.0 refl refl refl)) x.1
+      written_served begins answers clocked listed c c2 s s1 input input' held holds
+      (wrote_then begins answers clocked listed c c1 c2 s s1 s1 held holds holds w (silent [] c1 c2 s1 holds x.0 refl refl refl)) x.1
   read_follows (Some end) c c1 c2 s s1 input input' held holds w x =
-      (wrote_then begins answers clocked c c1 c2 s s1 s1 held holds holds w (silent (Closed ∷ []) c1 c2 s1 holds x.0 (s1, refl, refl) ([], [], refl, refl, refl) refl), x.1, x.2)
+      (wrote_then begins answers clocked listed c c1 c2 s s1 s1 held holds holds w (silent (Closed ∷ []) c1 c2 s1 holds x.0 (s1, refl, refl) ([], [], refl, refl, refl) refl), x.1, x.2)
 
   -- reading failed
-  pub read_breaks : (c c1 c2 : Clients) (s s1 : S) (held holds : Option (List ℕ)) → WritesAnswers begins answers clocked c c1 s s1 held holds → c2 ≡ c1 → Breaks begins answers clocked c c2 s s1 held holds
+  pub read_breaks : (c c1 c2 : Clients) (s s1 : S) (held holds : Option (List ℕ)) → WritesAnswers begins answers clocked listed c c1 s s1 held holds → c2 ≡ c1 → Breaks begins answers clocked listed c c2 s s1 held holds
   read_breaks c c1 c2 s s1 held holds w same =
-      subst (λ (c2 : Clients). Breaks begins answers clocked c c2 s s1 held holds) (sym same) (writes_breaks begins answers clocked c c1 s s1 held holds w)
+      subst (λ (c2 : Clients). Breaks begins answers clocked listed c c2 s s1 held holds) (sym same) (writes_breaks begins answers clocked listed c c1 s s1 held holds w)
 
   -- ---- a whole run
 
   -- it failed
-  pub broke : {E : Type 0} (r : Result End E) (c c' : Clients) (s s' : S) (input input' held holds : Option (List ℕ)) → IsErr r → Has c [] → Breaks begins answers clocked c c' s s' held holds
-      → RunsInTurns begins answers clocked r c c' s s' input input' held holds
+  pub broke : {E : Type 0} (r : Result End E) (c c' : Clients) (s s' : S) (input input' held holds : Option (List ℕ)) → IsErr r → Has c [] → Breaks begins answers clocked listed c c' s s' held holds
+      → RunsInTurns begins answers clocked listed r c c' s s' input input' held holds
   broke r c c' s s' input input' held holds err h x = record {
     done = x.0;
     always = x.1.always [] h;
@@ -68,9 +68,9 @@ module _ {S : Type 0} (begins : S → ℕ → S → Type 0) (answers : S → Req
   }
 
   -- it came to its end, and then what waited was answered
-  pub ended : {E : Type 0} (end : End) (c c1 c2 c3 : Clients) (s s1 s2 s3 : S) (input between input' held held1 held2 holds : Option (List ℕ)) → Has c [] → ServesFrames begins answers clocked c c1 s s1 input between held held1
-      → GoesOn begins answers clocked (Some end) c1 c2 s1 s2 between input' held1 held2 → WritesAnswers begins answers clocked c2 c3 s2 s3 held2 holds → count_begun c3 ≡ count_begun c2
-      → RunsInTurns {E = E} begins answers clocked (Ok end) c c3 s s3 input input' held holds
+  pub ended : {E : Type 0} (end : End) (c c1 c2 c3 : Clients) (s s1 s2 s3 : S) (input between input' held held1 held2 holds : Option (List ℕ)) → Has c [] → ServesFrames begins answers clocked listed c c1 s s1 input between held held1
+      → GoesOn begins answers clocked listed (Some end) c1 c2 s1 s2 between input' held1 held2 → WritesAnswers begins answers clocked listed c2 c3 s2 s3 held2 holds → count_begun c3 ≡ count_begun c2
+      → RunsInTurns {E = E} begins answers clocked listed (Ok end) c c3 s s3 input input' held holds
   ended end c c1 c2 c3 s s1 s2 s3 input between input' held held1 held2 holds h x f w same =
       let first = x.0 ++ f.0.0 in
       let moments = joined c c1 c2 x.0 f.0.0 x.1 f.0.1 in
@@ -81,7 +81,7 @@ module _ {S : Type 0} (begins : S → ℕ → S → Type 0) (answers : S → Req
         always = all.always [] h;
         has = all.has [] h;
         in_order = all.in_order;
-        leads = leads-append begins answers clocked first w.0 s s2 s3 (leads-append begins answers clocked x.0 f.0.0 s s1 s2 x.2 f.0.2) w.2;
+        leads = leads-append begins answers clocked listed first w.0 s s2 s3 (leads-append begins answers clocked listed x.0 f.0.0 s s1 s2 x.2 f.0.2) w.2;
         writes = (holds, text, whole holds);
         ends = record {
           first = first;

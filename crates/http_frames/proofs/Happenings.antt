@@ -2,12 +2,12 @@
 use Rattle.std.proofs.Common.{◌≡◌, ℕ, Bool, false, List, [], ◌∷◌, ◌++◌, Option, All, refl, sym, ap, ◌∙◌, subst, append_assoc, append-nil}
 use Rattle.std.proofs.KnownBytes.{Appends-trans}
 use Rattle.std.proofs.lemmas.Grind.{flat_map-append}
-use Rattle.std.proofs.lemmas.List.Elements.{All-head, All-tail}
+use Rattle.std.proofs.lemmas.List.Elements.{All-cons, All-head, All-nil, All-tail}
 use Rattle.std.specs.Io.KnownBytes.{Appends}
 use Rattle.http.specs.declared.request.Request.{Request}
 use Rattle.http_server.specs.declared.response.Response.{Response}
 use Rattle.http_frames.specs.declared.clients.Windows.{Windows}
-use Rattle.http_frames.specs.ConnectionEvents.{Event, Came, Rejected, Took, Gone, Answered, Told, Granted, Awaited, Ended, Clock, Asked, Nothing, Closed, IsOut, event_text}
+use Rattle.http_frames.specs.ConnectionEvents.{Event, Came, Rejected, Took, Gone, Answered, Told, Granted, Awaited, Ended, Clock, From, Users, Asked, Nothing, Closed, IsNoTick, IsOut, event_text}
 use Rattle.http_frames.specs.TurnRuns.{AreSaid, EventDoes, InOrder, IsSaid, EventsLead, WritesUpTo, told_text, turn_in, turns_of, windows_after}
 
 -- ---- the windows
@@ -45,12 +45,12 @@ texts_then xs ys held held1 held2 x y = rw (flat_map-append event_text xs ys) (A
 
 -- ---- the service
 
-module _ {S : Type 0} (begins : S → ℕ → S → Type 0) (answers : S → Request (List ℕ) → Response → S → Type 0) (clocked : S → ℕ → S → Type 0) where
-  pub leads-append : (xs ys : List Event) (s s1 s2 : S) → EventsLead begins answers clocked s xs s1 → EventsLead begins answers clocked s1 ys s2 → EventsLead begins answers clocked s (xs ++ ys) s2
-  leads-append [] ys s s1 s2 x y = subst (λ (t : S). EventsLead begins answers clocked t ys s2) x y
+module _ {S : Type 0} (begins : S → ℕ → S → Type 0) (answers : S → Request (List ℕ) → Response → S → Type 0) (clocked : S → ℕ → S → Type 0) (listed : S → List ℕ → S → Type 0) where
+  pub leads-append : (xs ys : List Event) (s s1 s2 : S) → EventsLead begins answers clocked listed s xs s1 → EventsLead begins answers clocked listed s1 ys s2 → EventsLead begins answers clocked listed s (xs ++ ys) s2
+  leads-append [] ys s s1 s2 x y = subst (λ (t : S). EventsLead begins answers clocked listed t ys s2) x y
   leads-append (e ∷ xs) ys s s1 s2 x y = (x.0, x.1, leads-append xs ys x.0 s1 s2 x.2 y)
 
-  pub one_leads : (e : Event) (s s' : S) → EventDoes begins answers clocked e s s' → EventsLead begins answers clocked s (e ∷ []) s'
+  pub one_leads : (e : Event) (s s' : S) → EventDoes begins answers clocked listed e s s' → EventsLead begins answers clocked listed s (e ∷ []) s'
   one_leads e s s' x = (s', x, refl)
 
 -- ---- what goes out
@@ -61,18 +61,21 @@ pub record IsTelling (e : Event) : Type 0 where
   pub said : IsSaid e []
   pub window : (w : Windows) → windows_after w (e ∷ []) ≡ w
   pub out : IsOut false e
+  pub no_tick : IsNoTick e
 
 pub telling : (closed : Bool) (e : Event) → IsOut closed e → IsTelling e
-telling closed (Told n bytes) out = record { turn = refl; said = refl; window = λ w. refl; out = tt }
-telling closed (Granted n count) out = record { turn = refl; said = refl; window = λ w. refl; out = refl }
-telling closed (Awaited n part count) out = record { turn = refl; said = refl; window = λ w. refl; out = tt }
-telling closed (Ended n) out = record { turn = refl; said = refl; window = λ w. refl; out = tt }
+telling closed (Told n bytes) out = record { turn = refl; said = refl; window = λ w. refl; out = tt; no_tick = tt }
+telling closed (Granted n count) out = record { turn = refl; said = refl; window = λ w. refl; out = refl; no_tick = tt }
+telling closed (Awaited n part count) out = record { turn = refl; said = refl; window = λ w. refl; out = tt; no_tick = tt }
+telling closed (Ended n) out = record { turn = refl; said = refl; window = λ w. refl; out = tt; no_tick = tt }
 telling closed (Came n bytes) out = absurd out
 telling closed (Rejected n bytes) out = absurd out
 telling closed (Took n count) out = absurd out
 telling closed (Gone n) out = absurd out
 telling closed (Answered n calls) out = absurd out
 telling closed (Clock moment) out = absurd out
+telling closed (From n address) out = absurd out
+telling closed (Users file) out = absurd out
 telling closed Asked out = absurd out
 telling closed Nothing out = absurd out
 telling closed Closed out = absurd out
@@ -86,8 +89,12 @@ told_turns [] all = refl
 told_turns (e ∷ es) all =
     ap (λ (t : List ℕ). t ++ turns_of es) (telling false e (All-head (IsOut false) e es all)).turn ∙ told_turns es (All-tail (IsOut false) e es all)
 
-module _ {S : Type 0} (begins : S → ℕ → S → Type 0) (answers : S → Request (List ℕ) → Response → S → Type 0) (clocked : S → ℕ → S → Type 0) where
-  told_does : (e : Event) (s : S) → IsOut false e → EventDoes begins answers clocked e s s
+pub told_no_tick : (es : List Event) → All (IsOut false) es → All IsNoTick es
+told_no_tick [] all = All-nil IsNoTick
+told_no_tick (e ∷ es) all = All-cons IsNoTick e es (telling false e (All-head (IsOut false) e es all)).no_tick (told_no_tick es (All-tail (IsOut false) e es all))
+
+module _ {S : Type 0} (begins : S → ℕ → S → Type 0) (answers : S → Request (List ℕ) → Response → S → Type 0) (clocked : S → ℕ → S → Type 0) (listed : S → List ℕ → S → Type 0) where
+  told_does : (e : Event) (s : S) → IsOut false e → EventDoes begins answers clocked listed e s s
   told_does (Told n bytes) s out = refl
   told_does (Granted n count) s out = refl
   told_does (Awaited n part count) s out = refl
@@ -98,11 +105,13 @@ module _ {S : Type 0} (begins : S → ℕ → S → Type 0) (answers : S → Req
   told_does (Gone n) s out = refl
   told_does (Answered n calls) s out = absurd out
   told_does (Clock moment) s out = absurd out
+  told_does (From n address) s out = refl
+  told_does (Users file) s out = absurd out
   told_does Asked s out = refl
   told_does Nothing s out = refl
   told_does Closed s out = refl
 
   -- nothing is done to the service meanwhile
-  pub told_leads : (es : List Event) (s : S) → All (IsOut false) es → EventsLead begins answers clocked s es s
+  pub told_leads : (es : List Event) (s : S) → All (IsOut false) es → EventsLead begins answers clocked listed s es s
   told_leads [] s all = refl
   told_leads (e ∷ es) s all = (s, told_does e s (All-head (IsOut false) e es all), told_leads es s (All-tail (IsOut false) e es all))

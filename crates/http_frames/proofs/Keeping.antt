@@ -9,7 +9,7 @@ use Rattle.http_frames.specs.declared.clients.Clients.{Clients}
 use Rattle.http_frames.specs.declared.held.Held.{Held}
 use Rattle.http_frames.specs.declared.clients.Windows.{Windows}
 use Rattle.http_frames.specs.Clients.{NoTwice, Stands, Has, StaysSo, Adds, asked_of, count_begun, closed_window, config_of, window_of, queue_of, held_at}
-use Rattle.http_frames.specs.ConnectionEvents.{Event, Account, Came, Rejected, Took, Gone, Answered, Told, Granted, Awaited, Ended, Clock, Asked, Nothing, Closed, number_of, add_at, account, asks_after, awaits, is_general, IsNumber, IsOfBegun}
+use Rattle.http_frames.specs.ConnectionEvents.{Event, Account, Came, Rejected, Took, Gone, Answered, Told, Granted, Awaited, Ended, Clock, From, Users, Asked, Nothing, Closed, number_of, add_at, account, asks_after, awaits, is_general, IsNumber, IsOfBegun}
 use Rattle.http_frames.specs.Private.Steps.{LooksAlike, MovesOne}
 use Rattle.http_frames.proofs.Accounts.{account-same, account-other, account-general}
 use Rattle.http_frames.proofs.Places.{Line}
@@ -31,6 +31,8 @@ asking_same b (Granted n count) plain = refl
 asking_same b (Awaited n part count) plain = refl
 asking_same b (Ended n) plain = refl
 asking_same b (Clock moment) plain = refl
+asking_same b (From n address) plain = refl
+asking_same b (Users file) plain = refl
 asking_same b Asked plain = cc
 asking_same b Nothing plain = cc
 asking_same b Closed plain = refl
@@ -185,14 +187,17 @@ module _ (before : Clients) (es : List Event) (e : Event) (general : is_general 
     stands = λ q some within. opened (config_of before) (window_of before) q (queue_of before) (held_at before q) (account q (es ++ e ∷ [])) (stands_then q some within);
   }
 
--- a frame told the moment
-pub clocked : (c : Clients) (moment : ℕ) → Adds c c (Clock moment)
-clocked c moment = λ es h. record {
-  pauses = h.pauses;
-  asked = h.asked ∙ sym (awaits-push es (Clock moment));
-  beyond = h.beyond;
-  numbers = numbers_then c es (Clock moment) refl h;
-  places = h.places;
-  once = h.once;
-  stands = stands_then c es (Clock moment) refl h;
+-- nothing that is seen changed
+pub word_then : (before after : Clients) (e : Event) → is_general e ≡ true → ((b : Bool) → asks_after b e ≡ b) → LooksAlike before after → Adds before after e
+word_then before after e general same x = λ es h. let now = alike_stays before after x es h in record {
+  pauses = now.pauses;
+  asked = now.asked ∙ sym (awaits-push es e ∙ same (awaits es));
+  beyond = now.beyond;
+  numbers = numbers_then after es e general now;
+  places = now.places;
+  once = now.once;
+  stands = stands_then after es e general now;
 }
+
+pub all_alike : (c : Clients) → LooksAlike c c
+all_alike c = record { held = λ q. refl; begun = refl; config = refl; window = refl; asked = refl; queue = refl }

@@ -19,3 +19,4 @@ pub mod Simulations
 pub mod Standing
 pub mod Turning
 pub mod Words
+mod Blanks

@@ -1,11 +1,11 @@
 -- The first line of what was read, and the frame that it begins.
-use Rattle.std.proofs.Common.{◌≡◌, ◌≢◌, ℕ, ◌+◌, ◌-◌, ◌<◌, ◌≤◌, List, [], ◌∷◌, ◌++◌, length, take, drop, get_or, Option, Some, None, All, sym, ap, ◌∙◌, subst, arith, eq-eqb, eqb-true, length-take, length-drop, take-add, take-append-drop, inl, inr}
+use Rattle.std.proofs.Common.{◌≡◌, ◌≢◌, ℕ, ◌+◌, ◌-◌, ◌<◌, ◌≤◌, List, [], ◌∷◌, ◌++◌, length, take, drop, get_or, Option, Some, None, All, refl, sym, ap, ◌∙◌, subst, arith, eq-eqb, eqb-true, length-take, length-drop, take-add, take-append-drop, inl, inr}
 use Rattle.std.proofs.lemmas.List.{get_or-take, take_more}
 use Rattle.std.proofs.lemmas.List.Elements.{All-from_get_or}
 use Rattle.memchr.specs.Find.{IsFirstByte, is_byte}
 use Rattle.http_frames.specs.declared.frames.Head.{Head}
-use Rattle.http_frames.specs.declared.frames.Head.TheVariants.{Piece, Taken, Gone, Clock, Nothing}
-use Rattle.http_frames.specs.Frames.{IsLine, IsFrame, IsPart, head, more_in}
+use Rattle.http_frames.specs.declared.frames.Head.TheVariants.{Piece, Taken, Gone, Clock, From, Users, Nothing}
+use Rattle.http_frames.specs.Frames.{IsLine, IsFrame, IsPart, frame_bytes, head, more_in}
 
 -- no line has come whole
 pub no_feed : (bytes : List ℕ) → IsFirstByte (is_byte 10) bytes None → All (λ b. b ≢ 10) bytes
@@ -31,7 +31,7 @@ bare bytes k m line none = subst (λ (n : ℕ). IsLine (take k bytes) (take n by
 
 -- the line, and the bytes that follow it
 pub framed : (h : Option Head) (bytes : List ℕ) (k m : ℕ) → IsLine (take k bytes) (take (k + 1) bytes) → head (take k bytes) ≡ h → m ≡ more_in h → k + 1 + m ≤ length bytes
-    → IsFrame h (take ((k + 1 + m) - (k + 1)) (drop (k + 1) bytes)) (take (k + 1 + m) bytes)
+    → IsFrame h (frame_bytes h (take k bytes) (take ((k + 1 + m) - (k + 1)) (drop (k + 1) bytes))) (take (k + 1 + m) bytes)
 framed None bytes k m line says is within = inl (take k bytes, bare bytes k m line is, says)
 framed (Some (Piece n l)) bytes k m line says is within =
     let behind = take ((k + 1 + m) - (k + 1)) (drop (k + 1) bytes) in
@@ -46,14 +46,20 @@ framed (Some (Piece n l)) bytes k m line says is within =
 framed (Some (Taken n l)) bytes k m line says is within = (take k bytes, bare bytes k m line is, says)
 framed (Some (Gone n)) bytes k m line says is within = (take k bytes, bare bytes k m line is, says)
 framed (Some (Clock n)) bytes k m line says is within = (take k bytes, bare bytes k m line is, says)
+framed (Some (From n)) bytes k m line says is within = (take k bytes, bare bytes k m line is, says, refl)
+framed (Some (Users l)) bytes k m line says is within =
+    let behind = take ((k + 1 + m) - (k + 1)) (drop (k + 1) bytes) in
+    let all : length behind ≡ l = omega (arith, is, length-take ((k + 1 + m) - (k + 1)) (drop (k + 1) bytes), length-drop (k + 1) bytes) in
+    record {
+      line = take k bytes;
+      first = take (k + 1) bytes;
+      is_line = line;
+      says = says ∙ ap (λ (l : ℕ). Some (Users l)) (sym all);
+      text_is = take-add (k + 1) m bytes ∙ ap (λ (j : ℕ). take (k + 1) bytes ++ take j (drop (k + 1) bytes)) (omega arith);
+    }
 framed (Some Nothing) bytes k m line says is within = (take k bytes, bare bytes k m line is, says)
 
 -- not all bytes that follow it have come
 pub cut : (h : Option Head) (bytes : List ℕ) (k m : ℕ) → IsLine (take k bytes) (take (k + 1) bytes) → head (take k bytes) ≡ h → m ≡ more_in h → length bytes - (k + 1) < m → IsPart bytes
-cut None bytes k m line says is few = absurd (omega (arith, is, few))
-cut (Some (Piece n l)) bytes k m line says is few =
-    inr (take k bytes, take (k + 1) bytes, drop (k + 1) bytes, n, l, sym (take-append-drop (k + 1) bytes), line, says, omega (arith, few, is, length-drop (k + 1) bytes))
-cut (Some (Taken n l)) bytes k m line says is few = absurd (omega (arith, is, few))
-cut (Some (Gone n)) bytes k m line says is few = absurd (omega (arith, is, few))
-cut (Some (Clock n)) bytes k m line says is few = absurd (omega (arith, is, few))
-cut (Some Nothing) bytes k m line says is few = absurd (omega (arith, is, few))
+cut h bytes k m line says is few =
+    inr (take k bytes, take (k + 1) bytes, drop (k + 1) bytes, sym (take-append-drop (k + 1) bytes), line, omega (arith, few, is, ap more_in says, length-drop (k + 1) bytes))

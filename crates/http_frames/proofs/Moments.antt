@@ -5,12 +5,12 @@ use Rattle.std.proofs.lemmas.Grind.{flat_map-append}
 use Rattle.http_frames.specs.declared.clients.Clients.{Clients}
 use Rattle.http_frames.specs.declared.clients.Windows.{Windows}
 use Rattle.http_frames.specs.Clients.{Adds, Alone, Has, Joins, StaysSo, count_begun, config_of, queue_of, window_of}
-use Rattle.http_frames.specs.ConnectionEvents.{Event, Clock, account}
+use Rattle.http_frames.specs.ConnectionEvents.{Event, Clock, Users, account}
 use Rattle.http_frames.specs.TurnRuns.{AtMoment, InOrder, Moments, turn_in, turns_of, windows_after}
 use Rattle.http_frames.proofs.Accounts.{account-none, account-zero}
 use Rattle.http_frames.proofs.Beginning.{new_alone}
 use Rattle.http_frames.proofs.Happenings.{in_order_then, windows-append}
-use Rattle.http_frames.proofs.Keeping.{clocked}
+use Rattle.http_frames.proofs.Keeping.{all_alike, word_then}
 
 -- each connection stands as if it were alone, those too that have not begun
 has_alone-by : (c : Clients) (es : List Event) → Has c es → (n : ℕ) → (0 ≡ n) ⊎ (0 < n) → (n ≤ count_begun c) ⊎ (count_begun c < n) → Alone (config_of c) (window_of c) (account n es)
@@ -84,7 +84,11 @@ one c c' e adds line config window = record {
 
 -- word of the moment
 pub clock_one : (c : Clients) (m : ℕ) → Moments (Clock m ∷ []) c c
-clock_one c m = one c c (Clock m) (clocked c m) ([], sym (append-nil (queue_of c))) refl refl
+clock_one c m = one c c (Clock m) (word_then c c (Clock m) refl (λ b. refl) (all_alike c)) ([], sym (append-nil (queue_of c))) refl refl
+
+-- word of the users
+pub users_one : (c : Clients) (file : List ℕ) → Moments (Users file ∷ []) c c
+users_one c file = one c c (Users file) (word_then c c (Users file) refl (λ b. refl) (all_alike c)) ([], sym (append-nil (queue_of c))) refl refl
 
 -- ---- one after the other
 

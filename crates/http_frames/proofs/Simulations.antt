@@ -5,14 +5,15 @@ use Rattle.http_server.specs.declared.response.Response.{Response}
 use Rattle.http_server.specs.Exchange.{Call, Chain}
 use Rattle.http_frames.specs.declared.clients.Clients.{Clients}
 use Rattle.http_frames.specs.declared.serving.End.{End}
-use Rattle.http_frames.specs.ConnectionEvents.{Event, Came, Rejected, Took, Gone, Answered, Told, Granted, Awaited, Ended, Clock, Asked, Nothing, Closed}
+use Rattle.http_frames.specs.ConnectionEvents.{Event, Came, Rejected, Took, Gone, Answered, Told, Granted, Awaited, Ended, Clock, From, Users, Asked, Nothing, Closed}
 use Rattle.http_frames.specs.Gate.{TakesTurn}
 use Rattle.http_frames.specs.TurnRuns.{RunsInTurns, EventDoes, EventsLead}
 
-module _ {S T : Type 0} (f : S → T) (begins : S → ℕ → S → Type 0) (answers : S → Request (List ℕ) → Response → S → Type 0) (clocked : S → ℕ → S → Type 0) (begins' : T → ℕ → T → Type 0)
-    (answers' : T → Request (List ℕ) → Response → T → Type 0) (clocked' : T → ℕ → T → Type 0) (begins_to : (s : S) (n : ℕ) (s' : S) → begins s n s' → begins' (f s) n (f s'))
+module _ {S T : Type 0} (f : S → T) (begins : S → ℕ → S → Type 0) (answers : S → Request (List ℕ) → Response → S → Type 0) (clocked : S → ℕ → S → Type 0) (listed : S → List ℕ → S → Type 0) (begins' : T → ℕ → T → Type 0)
+    (answers' : T → Request (List ℕ) → Response → T → Type 0) (clocked' : T → ℕ → T → Type 0) (listed' : T → List ℕ → T → Type 0) (begins_to : (s : S) (n : ℕ) (s' : S) → begins s n s' → begins' (f s) n (f s'))
     (answers_to : (s : S) (request : Request (List ℕ)) (response : Response) (s' : S) → answers s request response s' → answers' (f s) request response (f s'))
-    (clocked_to : (s : S) (moment : ℕ) (s' : S) → clocked s moment s' → clocked' (f s) moment (f s')) where
+    (clocked_to : (s : S) (moment : ℕ) (s' : S) → clocked s moment s' → clocked' (f s) moment (f s'))
+    (listed_to : (s : S) (file : List ℕ) (s' : S) → listed s file s' → listed' (f s) file (f s')) where
   pub chain_to : (calls : List Call) (s s' : S) → Chain answers s calls s' → Chain answers' (f s) calls (f s')
   chain_to [] s s' x = ap f x
   chain_to (c ∷ calls) s s' x = (f x.0, answers_to s c.0 c.1 x.0 x.1, chain_to calls x.0 s' x.2)
@@ -21,9 +22,11 @@ module _ {S T : Type 0} (f : S → T) (begins : S → ℕ → S → Type 0) (ans
   turn_to n calls s s' (inl x) = inl (x.0, ap f x.1)
   turn_to n calls s s' (inr x) = inr (f x.0, begins_to s n x.0 x.1, record { one = x.2.one; chain = chain_to calls x.0 s' x.2.chain })
 
-  pub does_to : (e : Event) (s s' : S) → EventDoes begins answers clocked e s s' → EventDoes begins' answers' clocked' e (f s) (f s')
+  pub does_to : (e : Event) (s s' : S) → EventDoes begins answers clocked listed e s s' → EventDoes begins' answers' clocked' listed' e (f s) (f s')
   does_to (Answered n calls) s s' x = turn_to n calls s s' x
   does_to (Clock moment) s s' x = clocked_to s moment s' x
+  does_to (From n address) s s' x = ap f x
+  does_to (Users file) s s' x = listed_to s file s' x
   does_to (Came n bytes) s s' x = ap f x
   does_to (Rejected n bytes) s s' x = ap f x
   does_to (Took n count) s s' x = ap f x
@@ -36,12 +39,12 @@ module _ {S T : Type 0} (f : S → T) (begins : S → ℕ → S → Type 0) (ans
   does_to Nothing s s' x = ap f x
   does_to Closed s s' x = ap f x
 
-  pub leads_to : (es : List Event) (s s' : S) → EventsLead begins answers clocked s es s' → EventsLead begins' answers' clocked' (f s) es (f s')
+  pub leads_to : (es : List Event) (s s' : S) → EventsLead begins answers clocked listed s es s' → EventsLead begins' answers' clocked' listed' (f s) es (f s')
   leads_to [] s s' x = ap f x
   leads_to (e ∷ es) s s' x = (f x.0, does_to e s x.0 x.1, leads_to es x.0 s' x.2)
 
-  pub served_to : {E : Type 0} (result : Result End E) (c c' : Clients) (s s' : S) (input input' output output' : Option (List ℕ)) → RunsInTurns begins answers clocked result c c' s s' input input' output output'
-      → RunsInTurns begins' answers' clocked' result c c' (f s) (f s') input input' output output'
+  pub served_to : {E : Type 0} (result : Result End E) (c c' : Clients) (s s' : S) (input input' output output' : Option (List ℕ)) → RunsInTurns begins answers clocked listed result c c' s s' input input' output output'
+      → RunsInTurns begins' answers' clocked' listed' result c c' (f s) (f s') input input' output output'
   served_to result c c' s s' input input' output output' x = record {
     done = x.done;
     always = x.always;

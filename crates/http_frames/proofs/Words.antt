@@ -1,5 +1,5 @@
 -- A line that is the head of a frame is text: each of its bytes is ASCII.
-use Rattle.std.proofs.Common.{◌≡◌, ℕ, ◌<◌, ◌+◌, Bool, true, false, List, [], ◌∷◌, length, take, drop, suc, Option, Some, None, All, codes, nat_lt, refl, sym, ap, ◌∙◌, subst, arith, rules}
+use Rattle.std.proofs.Common.{◌≡◌, ℕ, ◌<◌, ◌+◌, Bool, true, false, ◌&&◌, List, [], ◌∷◌, length, take, drop, suc, Option, Some, None, All, codes, nat_lt, refl, sym, ap, ◌∙◌, subst, arith, rules}
 use Rattle.std.proofs.lemmas.List.Elements.{All-cons, All-head, All-tail, All-weaker}
 use Rattle.std.proofs.lemmas.Bool.{eqb-true, ltb-true}
 use Rattle.std.proofs.lemmas.List.Sums.{AllPass-from_list_all}
@@ -16,7 +16,7 @@ use Rattle.std.specs.Str.Parse.{digits_value}
 use Rattle.line_streams.proofs.Numerals.{no_digits}
 use Rattle.line_streams.specs.Numerals.{numeral}
 use Rattle.http_frames.specs.declared.frames.Head.{Head}
-use Rattle.http_frames.specs.Frames.{is_single_space, gone_in, clock_in, taken_by, taken_in, piece_in, head_of, head}
+use Rattle.http_frames.specs.Frames.{is_single_space, is_address, is_address_byte, gone_in, clock_in, from_by, from_in, taken_by, taken_in, piece_in, users_head, other_head_of, head_of, head}
 
 abbrev Low : List ℕ → Type 0
 Low bytes = All (λ b. b < 128) bytes
@@ -82,13 +82,40 @@ clock_low : (rest : List ℕ) (n : Option ℕ) (h : Head) → numeral rest ≡ n
 clock_low rest None h is says = cc
 clock_low rest (Some n) h is says = number_low rest (Some n) n is refl
 
+behind_and : (x y : Bool) → (x && y) ≡ true → y ≡ true
+behind_and true y is = is
+behind_and false y is = cc
+
+address_low : (address : List ℕ) → list_all is_address_byte address ≡ true → Low address
+address_low address all =
+    All-weaker (λ b. is_address_byte b ≡ true) (λ b. b < 128) (λ b x. let below = ltb-true b 127 (behind_and (nat_lt 32 b) (nat_lt b 127) x) in omega (arith, below)) address (AllPass-from_list_all is_address_byte address all)
+
+from_low-by : (rest : List ℕ) (n : Option ℕ) (h : Head) (test : Bool) → numeral (before_first is_single_space rest) ≡ n → is_address (after_first is_single_space rest) ≡ test
+    → from_by n (after_first is_single_space rest) ≡ Some h → Low rest
+from_low-by rest None h test is was says = cc
+from_low-by rest (Some n) h false is was says = let none = rw was at says in cc
+from_low-by rest (Some n) h true is was says =
+    let address = after_first is_single_space rest in
+    around rest (number_low (before_first is_single_space rest) (Some n) n is refl)
+    (address_low address (behind_and (nat_lt (length address) 65) (list_all is_address_byte address) (behind_and (nat_lt 0 (length address)) (nat_lt (length address) 65 && list_all is_address_byte address) was)))
+
+users_low : (rest : List ℕ) (n : Option ℕ) (h : Head) → numeral rest ≡ n → users_head n ≡ Some h → Low rest
+users_low rest None h is says = cc
+users_low rest (Some n) h is says = number_low rest (Some n) n is refl
+
+others_low-by : (word rest : List ℕ) (h : Head) (from users : Bool) → bytes_eq word (codes "from") ≡ from → bytes_eq word (codes "users") ≡ users → other_head_of word rest ≡ Some h → Low word × Low rest
+others_low-by word rest h true users is was says =
+    (word_low word (codes "from") refl is, from_low-by rest (numeral (before_first is_single_space rest)) h (is_address (after_first is_single_space rest)) refl refl (rw is at says))
+others_low-by word rest h false true is was says = (word_low word (codes "users") refl was, users_low rest (numeral rest) h refl (rw (is, was) at says))
+others_low-by word rest h false false is was says = piece_low word rest (numeral word) (numeral rest) h refl refl (rw (is, was) at says)
+
 words_low-by : (word rest : List ℕ) (h : Head) (gone taken clock : Bool) → bytes_eq word (codes "gone") ≡ gone → bytes_eq word (codes "taken") ≡ taken → bytes_eq word (codes "clock") ≡ clock
     → head_of word rest ≡ Some h → Low word × Low rest
 words_low-by word rest h true taken clock is was now says = (word_low word (codes "gone") refl is, gone_low rest (numeral rest) h refl (rw is at says))
 words_low-by word rest h false true clock is was now says =
     (word_low word (codes "taken") refl was, taken_low rest (numeral (before_first is_single_space rest)) (numeral (after_first is_single_space rest)) h refl refl (rw (is, was) at says))
 words_low-by word rest h false false true is was now says = (word_low word (codes "clock") refl now, clock_low rest (numeral rest) h refl (rw (is, was, now) at says))
-words_low-by word rest h false false false is was now says = piece_low word rest (numeral word) (numeral rest) h refl refl (rw (is, was, now) at says)
+words_low-by word rest h false false false is was now says = others_low-by word rest h (bytes_eq word (codes "from")) (bytes_eq word (codes "users")) refl refl (rw (is, was, now) at says)
 
 line_low-by : (line : List ℕ) (h : Head) (none : Bool) → bytes_eq line (codes "none") ≡ none → head line ≡ Some h → Low line
 line_low-by line h true is says = word_low line (codes "none") refl is
@@ -124,15 +151,29 @@ no_second rest is =
     let none : after_first is_single_space rest ≡ [] = drop_of_length-le rest {i = position_or_len is_single_space rest + 1} (omega (arith, is)) in
     ap (λ t. taken_by (numeral (before_first is_single_space rest)) (numeral t)) none ∙ ap (taken_by (numeral (before_first is_single_space rest))) numeral_none ∙ taken_by_none _
 
+from_by_none : (n : Option ℕ) → from_by n [] ≡ None
+from_by_none None = refl
+from_by_none (Some n) = refl
+
+pub no_address : (rest : List ℕ) → position_or_len is_single_space rest ≡ length rest → from_in rest ≡ None
+no_address rest is =
+    let none : after_first is_single_space rest ≡ [] = drop_of_length-le rest {i = position_or_len is_single_space rest + 1} (omega (arith, is)) in
+    ap (from_by (numeral (before_first is_single_space rest))) none ∙ from_by_none _
+
 piece_in_none : (n : Option ℕ) → piece_in n None ≡ None
 piece_in_none None = refl
 piece_in_none (Some n) = refl
+
+other_head_of_none : (word : List ℕ) (from users : Bool) → bytes_eq word (codes "from") ≡ from → bytes_eq word (codes "users") ≡ users → other_head_of word [] ≡ None
+other_head_of_none word true users is was = rw is (no_address [] refl)
+other_head_of_none word false true is was = rw (is, was, numeral_none) refl
+other_head_of_none word false false is was = rw (is, was, numeral_none) (piece_in_none (numeral word))
 
 head_of_none : (word : List ℕ) (gone taken clock : Bool) → bytes_eq word (codes "gone") ≡ gone → bytes_eq word (codes "taken") ≡ taken → bytes_eq word (codes "clock") ≡ clock → head_of word [] ≡ None
 head_of_none word true taken clock is was now = rw (is, numeral_none) refl
 head_of_none word false true clock is was now = rw (is, was) (no_second [] refl)
 head_of_none word false false true is was now = rw (is, was, now, numeral_none) refl
-head_of_none word false false false is was now = rw (is, was, now, numeral_none) (piece_in_none (numeral word))
+head_of_none word false false false is was now = rw (is, was, now) (other_head_of_none word (bytes_eq word (codes "from")) (bytes_eq word (codes "users")) refl refl)
 
 -- a line without a blank is no head but for the one word
 pub no_blank : (line : List ℕ) → bytes_eq line (codes "none") ≡ false → position_or_len is_single_space line ≡ length line → head line ≡ None

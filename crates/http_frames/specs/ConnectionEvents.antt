@@ -26,12 +26,17 @@ pub data Event : Type 0 where
   Ended : ℕ → Event
   -- a frame told the moment
   Clock : ℕ → Event
+  -- a frame told the address of the client of the connection that begins next, whose number it is
+  From : ℕ → List ℕ → Event
+  -- a frame told who the users are, as the text of a file
+  Users : List ℕ → Event
   -- `more` was asked, and the answer came that there is nothing
   Asked : Event
   Nothing : Event
   -- the input ended
   Closed : Event
 
+-- the connection that it happened to, and 0 where that is none that has begun
 abbrev pub number_of : Event → ℕ
 number_of (Came number bytes) = number
 number_of (Rejected number bytes) = number
@@ -43,6 +48,8 @@ number_of (Granted number count) = number
 number_of (Awaited number part count) = number
 number_of (Ended number) = number
 number_of (Clock moment) = 0
+number_of (From number address) = 0
+number_of (Users text) = 0
 number_of Asked = 0
 number_of Nothing = 0
 number_of Closed = 0
@@ -54,6 +61,8 @@ IsNumber count number = (0 < number) × (number ≤ count)
 -- it happened to no connection in particular
 abbrev pub is_general : Event → Bool
 is_general (Clock moment) = true
+is_general (From number address) = true
+is_general (Users text) = true
 is_general Asked = true
 is_general Nothing = true
 is_general Closed = true
@@ -70,6 +79,11 @@ IsOut closed (Granted number count) = IsFalse closed
 IsOut closed (Awaited number part count) = Unit {0}
 IsOut closed (Ended number) = Unit {0}
 IsOut closed _ = ⊥
+
+-- no frame told the moment
+abbrev pub IsNoTick : Event → Type 0
+IsNoTick (Clock moment) = ⊥
+IsNoTick _ = Unit {0}
 
 -- the frame that tells it, where one does
 abbrev pub event_text : Event → List ℕ

@@ -1,13 +1,13 @@
 -- Frames: the bytes of many connections on one stream (own).
-use Rattle.std.specs.Prelude.{◌≡◌, ◌≢◌, ◌⊎◌, ◌<◌, ℕ, Bool, true, false, List, [], ◌∷◌, ◌++◌, length, Option, Some, None, All, codes, nat_lt, option_map, ◌==◌, if◌then◌else◌}
+use Rattle.std.specs.Prelude.{◌≡◌, ◌≢◌, ◌⊎◌, ◌<◌, ℕ, Bool, true, false, List, [], ◌∷◌, ◌++◌, length, Option, Some, None, All, codes, nat_lt, option_map, ◌&&◌, ◌==◌, if◌then◌else◌}
 use Rattle.std.specs.Fmt.{decimal}
 use Rattle.std.specs.Io.KnownBytes.{Appends}
-use Rattle.std.specs.List.{before_first, after_first}
+use Rattle.std.specs.List.{before_first, after_first, list_all}
 use Rattle.std.specs.Str.{bytes_eq}
 use Rattle.line_streams.specs.Numerals.{numeral}
 use Rattle.http_frames.specs.declared.frames.Frames.{Frames}
 use Rattle.http_frames.specs.declared.frames.Head.{Head}
-use Rattle.http_frames.specs.declared.frames.Head.TheVariants.{Piece, Taken, Gone, Clock, Nothing}
+use Rattle.http_frames.specs.declared.frames.Head.TheVariants.{Piece, Taken, Gone, Clock, From, Users, Nothing}
 
 -- ---- the head of a frame: words with one blank between them
 
@@ -37,12 +37,42 @@ piece_in None length = None
 piece_in (Some number) None = None
 piece_in (Some number) (Some length) = if nat_lt 1_048_576 length then None else Some (Piece number length)
 
+-- the address of a client: 1 to 64 bytes of 33 to 126
+abbrev pub is_address_byte : ℕ → Bool
+is_address_byte b = nat_lt 32 b && nat_lt b 127
+
+abbrev pub is_address : List ℕ → Bool
+is_address address = nat_lt 0 (length address) && (nat_lt (length address) 65 && list_all is_address_byte address)
+
+abbrev pub from_by : Option ℕ → List ℕ → Option Head
+from_by None address = None
+from_by (Some number) address = if is_address address then Some (From number) else None
+
+-- a number, and the address of that connection's client
+abbrev pub from_in : List ℕ → Option Head
+from_in rest = from_by (numeral (before_first is_single_space rest)) (after_first is_single_space rest)
+
+-- the address of a line that tells one: what stands behind the second blank
+abbrev pub address_in : List ℕ → List ℕ
+address_in line = after_first is_single_space (after_first is_single_space line)
+
+-- so many bytes of a file of users, at most 1 MiB
+abbrev pub users_head : Option ℕ → Option Head
+users_head None = None
+users_head (Some length) = if nat_lt 1_048_576 length then None else Some (Users length)
+
+-- where the first word is none of `gone`, `taken` and `clock`
+abbrev pub other_head_of : List ℕ → List ℕ → Option Head
+other_head_of word rest =
+    if bytes_eq word (codes "from") then from_in rest
+    else (if bytes_eq word (codes "users") then users_head (numeral rest) else piece_in (numeral word) (numeral rest))
+
 -- by the first word and what stands behind it
 abbrev pub head_of : List ℕ → List ℕ → Option Head
 head_of word rest =
     if bytes_eq word (codes "gone") then gone_in (numeral rest)
     else (if bytes_eq word (codes "taken") then taken_in rest
-    else (if bytes_eq word (codes "clock") then clock_in (numeral rest) else piece_in (numeral word) (numeral rest)))
+    else (if bytes_eq word (codes "clock") then clock_in (numeral rest) else other_head_of word rest))
 
 -- what a line says, without its end
 abbrev pub head : List ℕ → Option Head
@@ -51,7 +81,13 @@ head line = if bytes_eq line (codes "none") then Some Nothing else head_of (befo
 -- how many bytes follow the line
 abbrev pub more_in : Option Head → ℕ
 more_in (Some (Piece number length)) = length
+more_in (Some (Users length)) = length
 more_in _ = 0
+
+-- what it gives: the address that its line tells, or the bytes that follow the line
+abbrev pub frame_bytes : Option Head → List ℕ → List ℕ → List ℕ
+frame_bytes (Some (From number)) line behind = address_in line
+frame_bytes _ line behind = behind
 
 -- ---- a frame that comes in
 
@@ -61,17 +97,29 @@ pub record IsLine (line text : List ℕ) : Type 0 where
   pub short : length line < 4096
   pub text_is : text ≡ line ++ 10 ∷ []
 
--- the line says how many bytes of the connection come, and they follow it
-pub record IsPiece (number : ℕ) (bytes text : List ℕ) : Type 0 where
+-- the line says this, and the bytes follow it
+pub record HasBytes (h : Head) (bytes text : List ℕ) : Type 0 where
   pub line : List ℕ
   pub first : List ℕ
   pub is_line : IsLine line first
-  pub says : head line ≡ Some (Piece number (length bytes))
+  pub says : head line ≡ Some h
   pub text_is : text ≡ first ++ bytes
+
+-- the line says how many bytes of the connection come, and they follow it
+abbrev pub IsPiece : ℕ → List ℕ → List ℕ → Type 0
+IsPiece number bytes text = HasBytes (Piece number (length bytes)) bytes text
+
+-- the line says how many bytes of a file of users come, and they follow it
+abbrev pub TellsUsers : List ℕ → List ℕ → Type 0
+TellsUsers bytes text = HasBytes (Users (length bytes)) bytes text
 
 -- the line says this
 abbrev pub Says : Head → List ℕ → Type 0
 Says h text = (line : List ℕ) × IsLine line text × (head line ≡ Some h)
+
+-- the line tells this address of the connection's client
+abbrev pub TellsAddress : ℕ → List ℕ → List ℕ → Type 0
+TellsAddress number address text = (line : List ℕ) × IsLine line text × (head line ≡ Some (From number)) × (address ≡ address_in line)
 
 -- the line is no head, or it has no end within 4096 bytes
 abbrev pub IsWrongLine : List ℕ → Type 0
@@ -84,14 +132,15 @@ IsFrame (Some (Piece number length)) bytes text = IsPiece number bytes text
 IsFrame (Some (Taken number count)) bytes text = Says (Taken number count) text
 IsFrame (Some (Gone number)) bytes text = Says (Gone number) text
 IsFrame (Some (Clock moment)) bytes text = Says (Clock moment) text
+IsFrame (Some (From number)) bytes text = TellsAddress number bytes text
+IsFrame (Some (Users length)) bytes text = TellsUsers bytes text
 IsFrame (Some Nothing) bytes text = Says Nothing text
 
 -- no frame has come whole: its line has no end yet, or its bytes are not all there
 abbrev pub IsPart : List ℕ → Type 0
 IsPart bytes =
     (All (λ b. b ≢ 10) bytes × (length bytes < 4096))
-    ⊎ ((line : List ℕ) × (first : List ℕ) × (rest : List ℕ) × (number : ℕ) × (count : ℕ)
-    × (bytes ≡ first ++ rest) × IsLine line first × (head line ≡ Some (Piece number count)) × (length rest < count))
+    ⊎ ((line : List ℕ) × (first : List ℕ) × (rest : List ℕ) × (bytes ≡ first ++ rest) × IsLine line first × (length rest < more_in (head line)))
 
 -- ---- a stream of frames
 

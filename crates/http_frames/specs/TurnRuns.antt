@@ -11,8 +11,8 @@ use Rattle.http_frames.specs.declared.frames.Head.TheVariants as head
 use Rattle.http_frames.specs.declared.serving.End.{End}
 use Rattle.http_frames.specs.declared.serving.End.TheVariants.{Whole, Wrong, Cut}
 use Rattle.http_frames.specs.Clients.{Has, count_begun, config_of, window_of, queue_of}
-use Rattle.http_frames.specs.ConnectionEvents.{Event, Came, Rejected, Took, Gone, Answered, Clock, Nothing, Going, IsNumber, IsOut, account, awaits, closing, event_text}
-use Rattle.http_frames.specs.Frames.{BreaksOff, IsFrame, IsPart, IsPiece, Says}
+use Rattle.http_frames.specs.ConnectionEvents.{Event, Came, Rejected, Took, Gone, Answered, Clock, From, Users, Nothing, Going, IsNumber, IsOut, account, awaits, closing, event_text}
+use Rattle.http_frames.specs.Frames.{BreaksOff, IsFrame, TellsAddress, IsPart, IsPiece, TellsUsers, Says}
 use Rattle.http_frames.specs.Gate.{TakesTurn}
 
 -- ---- what the events say of the queue, of the windows, of the output and of the input
@@ -44,6 +44,8 @@ IsSaid (Rejected number bytes) text = IsPiece number bytes text
 IsSaid (Took number count) text = Says (head.Taken number count) text
 IsSaid (Gone number) text = Says (head.Gone number) text
 IsSaid (Clock moment) text = Says (head.Clock moment) text
+IsSaid (From number address) text = TellsAddress number address text
+IsSaid (Users file) text = TellsUsers file text
 IsSaid Nothing text = Says head.Nothing text
 IsSaid _ text = text ≡ []
 
@@ -83,11 +85,12 @@ TellsAll c c' output output' =
 abbrev pub BreaksTold : Clients → Clients → Option (List ℕ) → Option (List ℕ) → Type 0
 BreaksTold c c' output output' = (more : List Event) × Moments more c c' × All (IsOut false) more × WritesUpTo more output output'
 
-module _ {S : Type 0} (begins : S → ℕ → S → Type 0) (answers : S → Request (List ℕ) → Response → S → Type 0) (clocked : S → ℕ → S → Type 0) where
+module _ {S : Type 0} (begins : S → ℕ → S → Type 0) (answers : S → Request (List ℕ) → Response → S → Type 0) (clocked : S → ℕ → S → Type 0) (listed : S → List ℕ → S → Type 0) where
   -- what one event does to the service: a turn, or word of the moment
   abbrev pub EventDoes : Event → S → S → Type 0
   EventDoes (Answered number calls) s s' = TakesTurn begins answers s number calls s'
   EventDoes (Clock moment) s s' = clocked s moment s'
+  EventDoes (Users file) s s' = listed s file s'
   EventDoes _ s s' = s' ≡ s
 
   -- all turns, in their order, are one run of one service
@@ -110,8 +113,8 @@ module _ {S : Type 0} (begins : S → ℕ → S → Type 0) (answers : S → Req
   abbrev pub Breaks : Clients → Clients → S → S → Option (List ℕ) → Option (List ℕ) → Type 0
   Breaks c c' s s' output output' = (more : List Event) × Moments more c c' × EventsLead s more s' × WritesUpTo more output output'
 
--- A frame is wrong, after these events: its line is no head; or its number is neither that of a connection that has begun nor, where bytes come, the next; or more was taken than was
--- handed out; or it answers what nobody asked.
+-- A frame is wrong, after these events: its line is no head; or its number is neither that of a connection that has begun nor, where bytes come, the next; or it tells an address,
+-- and its number is not the next; or more was taken than was handed out; or it answers what nobody asked.
 abbrev pub IsWrong : ℕ → List Event → Option Head → Type 0
 IsWrong count events None = Unit {0}
 IsWrong count events (Some (head.Piece number length)) = ¬ ((0 < number) × (number ≤ count + 1))
@@ -119,6 +122,8 @@ IsWrong count events (Some (head.Taken number taken)) =
     ¬ (IsNumber count number) ⊎ (((account number events).place ≡ Going) × (length (account number events).went < (account number events).took + taken))
 IsWrong count events (Some (head.Gone number)) = ¬ (IsNumber count number)
 IsWrong count events (Some (head.Clock moment)) = ⊥
+IsWrong count events (Some (head.From number)) = number ≢ count + 1
+IsWrong count events (Some (head.Users length)) = ⊥
 IsWrong count events (Some head.Nothing) = awaits events ≡ false
 
 -- what stands where no more frames are served, after these events: nothing; a frame that is wrong; or a part of one
@@ -142,13 +147,13 @@ pub record Ends (end : End) (done : List Event) (c' : Clients) (input input' : O
 -- A run, however it ends: at every moment of it the clients stand so that each connection is as if it were alone, all turns are one run of one service, and what was written are the frames of what was told,
 -- one after another, and then at most a front of one more. Where it ends with Ok, its events are exactly those that the frames said that were read, up to the end, and what was written are
 -- exactly its frames.
-pub record RunsInTurns {S E : Type 0} (begins : S → ℕ → S → Type 0) (answers : S → Request (List ℕ) → Response → S → Type 0) (clocked : S → ℕ → S → Type 0)
+pub record RunsInTurns {S E : Type 0} (begins : S → ℕ → S → Type 0) (answers : S → Request (List ℕ) → Response → S → Type 0) (clocked : S → ℕ → S → Type 0) (listed : S → List ℕ → S → Type 0)
     (result : Result End E) (c c' : Clients) (s s' : S) (input input' output output' : Option (List ℕ)) : Type 0 where
   pub done : List Event
   pub always : (moment : ℕ) → AtMoment c [] (take moment done)
   pub has : Has c' done
   pub in_order : InOrder (turns_of done) (queue_of c) (queue_of c')
-  pub leads : EventsLead begins answers clocked s done s'
+  pub leads : EventsLead begins answers clocked listed s done s'
   pub writes : WritesUpTo done output output'
   pub ends : IfOk result (λ end. Ends end done c' input input')
   pub wrote : IfOk result (λ end. Appends output output' (told_text done))

@@ -1,14 +1,15 @@
 //! The connections of many clients, one service behind them all. Bytes are taken, requests are answered one a turn, and answers are handed out, each by a call of its own.
 ghost use Rattle.std.specs.Prelude.{◌≡◌, ◌≢◌, ◌<◌, ◌≤◌, ◌+◌, ◌↔◌, ◌⊎◌, [], ◌∷◌, None, true, false, Ok, IfOk, OnOk, OnErr, IfSome, IsNone, IsSome, IsTrue, IsFalse, codes, max};
 ghost use Rattle.std.specs.Io.KnownBytes.{Appends};
-ghost use Rattle.http_frames.specs.ConnectionEvents.{Asked, Closed, Ended, Gone, IsNumber, Nothing, Took};
+ghost use Rattle.http_frames.specs.ConnectionEvents.{Asked, Closed, Ended, From, Gone, IsNumber, Nothing, Took};
 ghost use Rattle.http_frames.specs.Clients.{Adds, GivesTurn, Has, IsStill, Joins, SameSettings, StaysSo, Takes, TellsNext, asked_of, count_begun, closed_window, config_of, held_at, queue_of, window_of};
 ghost use Rattle.http_frames.specs.Frames.{BreaksOff, piece_text};
 ghost use Rattle.http_frames.specs.Private.Steps.{LooksAlike, BeginsFresh, HearsAt, QuitsAt};
 
-use crate::frames::{write_more, write_piece};
+use crate::frames::{LONGEST_ADDRESS, write_more, write_piece};
 use crate::gate::{OneCall, TurnService};
 use crate::held::{Held, Said, hear, rests_with_room, room_for_requests, speak, step};
+use arrayvec::ArrayVec;
 use http_server::{Config, Connection};
 use line_streams::Fault;
 use std::alloc::Global;
@@ -31,6 +32,8 @@ pub struct Clients {
     config: Config,
     windows: Windows,
     begun: u64,
+    // The address of the client of the next connection, and no bytes where none was told.
+    next_address: ArrayVec<u8, LONGEST_ADDRESS>,
     connections: HashMap<u64, Held, RandomState>,
     queue: VecDeque<u64>,
     // Whether `more` was written, and its answer is to come.
@@ -88,6 +91,7 @@ impl Clients {
             config,
             windows,
             begun: 0,
+            next_address: ArrayVec::new(),
             connections: HashMap::with_hasher(alloc, keys),
             queue: VecDeque::new(alloc),
             asked: false,
@@ -138,6 +142,23 @@ impl Clients {
         write_piece(number, &[], output)?;
         self.begun = number;
         Ok(true)
+    }
+
+    /// Takes word of the address of the client of the connection that begins next; where it comes again before that, the last one counts. False, and nothing is done, where the number is
+    /// not that of the next connection. An address of more than `LONGEST_ADDRESS` bytes is not kept.
+    pub fn name_next(&mut self, number: u64, address: &[u8]) -> bool
+        ensures order { IsTrue result ↔ (number ≡ count_begun self.old + 1) }
+        ensures takes { result ≡ true → Adds self.old self.new (From number address.now) }
+        ensures refused { result ≡ false → self.new ≡ self.old }
+        ensures queue { queue_of self.new ≡ queue_of self.old }
+        ensures settings { SameSettings self.old self.new }
+    {
+        if number == 0 || number - 1 != self.begun {
+            return false;
+        }
+        self.next_address.clear();
+        let _kept = self.next_address.try_extend_from_slice(address);
+        true
     }
 
     /// Takes word that the client of a connection has taken so many bytes more. False, and nothing is done, where the connection has not begun, or these are more than were handed out and
@@ -391,6 +412,17 @@ impl Clients {
         fullest
     }
 
+    /// How many bytes of requests the first of the queue has sent that were not called yet; 0 where nobody waits for a turn.
+    pub fn unanswered(&self) -> u64 {
+        let Some(number) = self.queue.front() else {
+            return 0;
+        };
+        match self.connections.get(number) {
+            Some(held) => held.heard.saturating_sub(held.called),
+            None => 0,
+        }
+    }
+
     /// Whether the answer to `more` is to come.
     pub fn is_asked(&self) -> bool
         ensures { result ≡ asked_of self.now }
@@ -455,6 +487,7 @@ impl Clients {
     {
         let held = Held {
             connection: Connection::new(self.alloc, self.keys, self.config),
+            address: self.next_address.take(),
             ahead: 0,
             heard: 0,
             behind: 0,

@@ -1,7 +1,11 @@
 //! Frames: the bytes of many connections on one stream.
 ghost use Rattle.std.specs.Prelude.{◌≡◌, ◌≢◌, ◌==◌, ◌≤◌, All, Option, codes, ℕ, List, length, take, false, Ok, IfOk, IfSome, None, OnOk, OnErr};
 ghost use Rattle.std.specs.Io.KnownBytes.{Appends, Consumes, IsAtEnd, Keeps};
-ghost use Rattle.http_frames.specs.Frames.{wait_text, gone_in, grant_text, head, more_in, piece_in, taken_in, piece_text, clock_in, AppendsFront, BreaksOff, IsFrame, IsPart, bytes_at_hand, unread};
+ghost use Rattle.http_frames.specs.Frames.{AppendsFront, BreaksOff, IsFrame, IsPart, bytes_at_hand, unread};
+ghost use Rattle.http_frames.specs.Frames.{address_in, clock_in, from_in, frame_bytes, gone_in, head, is_address, is_address_byte};
+ghost use Rattle.http_frames.specs.Frames.{is_single_space, more_in, piece_in, taken_in, users_head};
+ghost use Rattle.http_frames.specs.Frames.{grant_text, piece_text, wait_text};
+ghost use Rattle.std.specs.List.{after_first, list_all};
 ghost use Rattle.line_streams.specs.Numerals.{numeral};
 
 use arrayvec::ArrayString;
@@ -15,6 +19,9 @@ use std::io::{Read, Write};
 
 /// A frame that comes in has so many bytes at most.
 pub const LARGEST: u64 = 1024 * 1024;
+
+/// The address of a client has so many bytes at most (own).
+pub const LONGEST_ADDRESS: usize = 64;
 
 /// The first line of a frame has fewer bytes (own).
 pub const LONGEST_LINE: usize = 4096;
@@ -48,6 +55,13 @@ pub enum Head {
     Gone(u64),
     /// It is this moment now, in nanoseconds since 1970.
     Clock(u64),
+    /// The line tells the address of the client of this connection, the next to begin.
+    From(u64),
+    /// So many bytes of a file of users follow: they are the users now.
+    Users {
+        /// How many bytes.
+        length: u64,
+    },
     /// Nothing more has come.
     Nothing,
 }
@@ -57,7 +71,7 @@ pub enum Head {
 pub struct Frame<'a> {
     /// What its first line says; none where that is no head.
     pub head: Option<Head>,
-    /// Its bytes, behind the first line.
+    /// Its bytes, behind the first line; of `From` the address, which stands in that line.
     pub bytes: &'a [u8],
     /// How many bytes it has, its first line and the line feed too.
     pub length: usize,
@@ -71,8 +85,9 @@ pub struct Frames<I> {
 }
 
 impl Head {
-    /// What a line says, without its end: words with one blank between them, `NUMBER LENGTH`, `taken NUMBER BYTES`, `gone NUMBER`, `clock MOMENT` or `none`, in decimal digits. None for
-    /// any other line, and for a length beyond `LARGEST`.
+    /// What a line says, without its end: words with one blank between them, `NUMBER LENGTH`, `taken NUMBER BYTES`, `gone NUMBER`, `clock MOMENT`,
+    /// `from NUMBER ADDRESS`, `users LENGTH` or `none`, with numbers in decimal digits. None for any other line, for a length beyond `LARGEST`, and for an address that has not 1 to
+    /// `LONGEST_ADDRESS` bytes of 33 to 126.
     pub fn of(line: &[u8]) -> Option<Head>
         ensures { result ≡ head line.now }
     {
@@ -88,6 +103,12 @@ impl Head {
         }
         if word == "clock" {
             return clock_of(rest);
+        }
+        if word == "from" {
+            return from_of(rest);
+        }
+        if word == "users" {
+            return users_of(rest);
         }
         piece_of(word, rest)
     }
@@ -115,6 +136,47 @@ fn taken_of(rest: &str) -> Option<Head>
     let number = number(word)?;
     let count = number_of(count)?;
     Some(Head::Taken { number, count })
+}
+
+// What `from NUMBER ADDRESS` says, by what stands behind its first word.
+fn from_of(rest: &str) -> Option<Head>
+    ensures { result ≡ from_in rest.now }
+{
+    let (word, address) = rest.split_once(' ')?;
+    let number = number(word)?;
+    if !is_address(address.as_bytes()) {
+        return None;
+    }
+    Some(Head::From(number))
+}
+
+fn is_address(address: &[u8]) -> bool
+    ensures { result ≡ is_address address.now }
+{
+    !address.is_empty() && address.len() <= LONGEST_ADDRESS && are_address_bytes(address)
+}
+
+fn are_address_bytes(address: &[u8]) -> bool
+    ensures { result ≡ list_all is_address_byte address.now }
+{
+    address.iter().all(|b| is_address_byte(*b))
+}
+
+fn is_address_byte(b: u8) -> bool
+    ensures { result ≡ is_address_byte b }
+{
+    b > 32 && b < 127
+}
+
+// What `users LENGTH` says, by what stands behind its first word.
+fn users_of(rest: &str) -> Option<Head>
+    ensures { result ≡ users_head (numeral rest.now) }
+{
+    let length = number(rest)?;
+    if length > LARGEST {
+        return None;
+    }
+    Some(Head::Users { length })
 }
 
 // What `NUMBER LENGTH` says.
@@ -153,9 +215,36 @@ pub fn first_frame(bytes: &[u8]) -> Option<Frame<'_>>
     let length = start + more as usize;
     Some(Frame {
         head,
-        bytes: &bytes[start..length],
+        bytes: given_of(head, &bytes[..end], &bytes[start..length]),
         length,
     })
+}
+
+// What the frame gives: the address in its line, or the bytes behind it.
+fn given_of<'a>(head: Option<Head>, line: &'a [u8], behind: &'a [u8]) -> &'a [u8]
+    ensures { result.now ≡ frame_bytes head line.now behind.now }
+{
+    match head {
+        Some(Head::From(_)) => address_of(line),
+        _ => behind,
+    }
+}
+
+// What stands behind the second blank.
+fn address_of(line: &[u8]) -> &[u8]
+    ensures { result.now ≡ address_in line.now }
+{
+    behind_blank(behind_blank(line))
+}
+
+// What stands behind the first blank.
+fn behind_blank(line: &[u8]) -> &[u8]
+    ensures { result.now ≡ after_first is_single_space line.now }
+{
+    match memchr(b' ', line) {
+        Some(at) => &line[at + 1..],
+        None => &line[line.len()..],
+    }
 }
 
 // How many bytes follow the line.
@@ -164,6 +253,7 @@ fn more_of(head: Option<Head>) -> u64
 {
     match head {
         Some(Head::Piece { length, .. }) => length,
+        Some(Head::Users { length }) => length,
         _ => 0,
     }
 }

@@ -1,12 +1,13 @@
 //! A service that is told whose turn it is, and answers one request a turn.
-ghost use Rattle.std.specs.Prelude.{ℕ, IsTrue, IsFalse};
+ghost use Rattle.std.specs.Prelude.{◌≡◌, ℕ, List, OnOk, OnErr, IsTrue, IsFalse};
+ghost use Rattle.http_server.specs.Response.{IsBlank};
 
 use bytes::Bytes;
 use http::Request;
 use http_server::{Response, Service};
 use std::alloc::AllocError;
 
-/// A service that is told before each turn whose it is, and which moment a frame told (own).
+/// A service that is told before each turn whose it is, and what frames told: which moment it is, and who the users are (own).
 pub trait TurnService: Service {
     // From the first state, the word that a turn of this connection comes leaves the second.
     ghost begins: { Self → ℕ → Self → Type 0 };
@@ -14,16 +15,41 @@ pub trait TurnService: Service {
     // From the first state, the word that it is this moment leaves the second.
     ghost clocked: { Self → ℕ → Self → Type 0 };
 
-    /// Takes word that a turn of the connection comes: a request of it may be answered next.
-    fn begin_turn(&mut self, number: u64)
+    // From the first state, the word that the users are those of this file leaves the second.
+    ghost listed: { Self → List ℕ → Self → Type 0 };
+
+    /// Takes word that a turn of the connection comes: a request of it may be answered next. The address is that of the connection's client, and empty where none was told. No clause speaks
+    /// of the address: it is passed on, and a test looks at it.
+    fn begin_turn(&mut self, number: u64, address: &[u8])
         ensures { begins self.old number self.new };
 
     /// How many bytes of an answer that it made are its own, and not shared with what it keeps.
     fn own_len(&self, request: &Request<Bytes>, response: &Response) -> u64;
 
+    /// How many bytes the record of what the request changes has at most; 0 where nothing is kept of it.
+    fn room_for(&self, request: &Request<Bytes>) -> u64;
+
+    /// No less than `room_for` of any request that has so many bytes, its head and its body together.
+    fn most_room(&self, bytes: u64) -> u64;
+
+    /// Answers the request 507, Insufficient Storage (RFC 4918 section 11.5), in place of `call`, where there is no room for the record of what it would change; nothing is changed. As `call`,
+    /// it is given a 200 with no header and no body, and the error is for memory alone and ends the connection.
+    fn refuse_for_room(
+        &mut self,
+        request: &Request<Bytes>,
+        response: &mut Response,
+    ) -> Result<(), AllocError>
+        requires { IsBlank response.old }
+        ensures ok { OnOk result (Self.answers self.old request.now response.new self.new) }
+        ensures err { OnErr result (self.new ≡ self.old) };
+
     /// Takes word that it is this moment now, in nanoseconds since 1970.
     fn set_clock(&mut self, moment: u64)
         ensures { clocked self.old moment self.new };
+
+    /// Takes word that these are the users now, as the text of a file.
+    fn set_users(&mut self, file: &[u8])
+        ensures { listed self.old file.now self.new };
 }
 
 /// A service behind a gate, which lets one request through and then stays shut until it is opened. A request that comes while it is shut ends its connection, as one does for
@@ -36,15 +62,29 @@ pub struct OneCall<S> {
     pub spent: bool,
     /// How many bytes of the last answer are the service's own, and not shared with what it keeps.
     pub own: u64,
+    /// How many bytes there is room for in the record of what the next request changes. One that may need more is refused, and changes nothing.
+    pub room: u64,
 }
 
 impl<S: TurnService> OneCall<S> {
-    /// Tells the service whose turn comes, and opens the gate.
-    pub fn open(&mut self, number: u64)
+    /// The service behind a gate, with room for any record.
+    pub fn new(service: S) -> OneCall<S>
+        ensures { result.service ≡ service }
+    {
+        OneCall {
+            service,
+            spent: false,
+            own: 0,
+            room: u64::MAX,
+        }
+    }
+
+    /// Tells the service whose turn comes, and the address of that connection's client, and opens the gate.
+    pub fn open(&mut self, number: u64, address: &[u8])
         ensures begins { S.begins self.old.service number self.new.service }
         ensures opens { IsFalse self.new.spent }
     {
-        self.service.begin_turn(number);
+        self.service.begin_turn(number, address);
         self.spent = false;
         self.own = 0;
     }
@@ -61,7 +101,11 @@ impl<S: TurnService> Service for OneCall<S> {
         if self.spent {
             return Err(AllocError);
         }
-        self.service.call(request, response)?;
+        if self.service.room_for(request) > self.room {
+            self.service.refuse_for_room(request, response)?;
+        } else {
+            self.service.call(request, response)?;
+        }
         self.spent = true;
         self.own = self.service.own_len(request, response);
         Ok(())

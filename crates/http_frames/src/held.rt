@@ -7,9 +7,10 @@ ghost use Rattle.http_frames.specs.Frames.{BreaksOff};
 ghost use Rattle.http_frames.specs.Private.Steps.{GrantsMore, Hears, IsDeaf, StandsInQueue, JoinsFresh, Reads, Speaks, Sends, Settles, Steps, TellsWait, Waits, WritesOutput};
 
 use crate::clients::Windows;
-use crate::frames::{write_grant, write_piece, write_wait};
+use crate::frames::{LONGEST_ADDRESS, write_grant, write_piece, write_wait};
 use crate::gate::{OneCall, TurnService};
 use crate::waiting::has_unread;
+use arrayvec::ArrayVec;
 use http_server::{Connection, State};
 use line_streams::Fault;
 use std::collections::VecDeque;
@@ -22,6 +23,8 @@ const LONG: u64 = 512 * 1024;
 #[derive(Drop)]
 pub(crate) struct Held {
     pub(crate) connection: Connection,
+    /// The address of its client, and no bytes where none was told.
+    pub(crate) address: ArrayVec<u8, LONGEST_ADDRESS>,
     /// How many bytes were handed out that its client has not taken.
     pub(crate) ahead: u64,
     /// How many bytes were received, how many of them since the last grant, and how many of those may be granted.
@@ -137,7 +140,7 @@ pub(crate) fn step<S: TurnService>(held: &mut Held, number: u64, service: &mut O
     if held.connection.wants_write() {
         return 0;
     }
-    service.open(number);
+    service.open(number, held.address.as_slice());
     held.connection.advance(service);
     settle(held, service.spent, service.own);
     service.own

@@ -16,8 +16,8 @@ use std::io::{Read, Write};
 pub enum End {
     /// At the end of the input.
     Whole,
-    /// At a frame that is wrong: its first line is no head; its number is neither that of a connection that has begun nor, where bytes come, the next; more was taken than was handed out;
-    /// or it answers what nobody asked.
+    /// At a frame that is wrong: its first line is no head; its number is neither that of a connection that has begun nor, where bytes come, the next; it tells an address, and its number is
+    /// not the next; more was taken than was handed out; or it answers what nobody asked.
     Wrong,
     /// The input ended within a frame.
     Cut,
@@ -31,7 +31,7 @@ pub fn serve<S: TurnService, I: Read, O: Write>(
     frames: &mut Frames<I>,
     output: &mut O,
 ) -> Result<End, Fault>
-    ensures { Has clients.old [] → RunsInTurns S.begins S.answers S.clocked result clients.old clients.new service.old.service service.new.service
+    ensures { Has clients.old [] → RunsInTurns S.begins S.answers S.clocked S.listed result clients.old clients.new service.old.service service.new.service
         (unread I.remaining frames.old) (unread I.remaining frames.new) (O.contents output.old) (O.contents output.new) }
 {
     // A loop is proved to end, so this one counts its turns.
@@ -52,9 +52,9 @@ fn go_on<S: TurnService, I: Read, O: Write>(
     frames: &mut Frames<I>,
     output: &mut O,
 ) -> Result<Option<End>, Fault>
-    ensures ok { IfOk result (λ end. GoesOn S.begins S.answers S.clocked end clients.old clients.new service.old.service service.new.service
+    ensures ok { IfOk result (λ end. GoesOn S.begins S.answers S.clocked S.listed end clients.old clients.new service.old.service service.new.service
         (unread I.remaining frames.old) (unread I.remaining frames.new) (O.contents output.old) (O.contents output.new)) }
-    ensures err { OnErr result (Breaks S.begins S.answers S.clocked clients.old clients.new service.old.service service.new.service (O.contents output.old) (O.contents output.new)) }
+    ensures err { OnErr result (Breaks S.begins S.answers S.clocked S.listed clients.old clients.new service.old.service service.new.service (O.contents output.old) (O.contents output.new)) }
 {
     if let Some(frame) = frames.next() {
         let length = frame.length;
@@ -77,8 +77,8 @@ fn turn_or_ask<S: TurnService, O: Write>(
     service: &mut OneCall<S>,
     output: &mut O,
 ) -> Result<bool, Fault>
-    ensures ok { OnOk result (WritesAnswers S.begins S.answers S.clocked clients.old clients.new service.old.service service.new.service (O.contents output.old) (O.contents output.new)) }
-    ensures err { OnErr result (Breaks S.begins S.answers S.clocked clients.old clients.new service.old.service service.new.service (O.contents output.old) (O.contents output.new)) }
+    ensures ok { OnOk result (WritesAnswers S.begins S.answers S.clocked S.listed clients.old clients.new service.old.service service.new.service (O.contents output.old) (O.contents output.new)) }
+    ensures err { OnErr result (Breaks S.begins S.answers S.clocked S.listed clients.old clients.new service.old.service service.new.service (O.contents output.old) (O.contents output.new)) }
 {
     if clients.may_answer() {
         return give_turn(clients, service, output);
@@ -97,14 +97,19 @@ pub fn take_frame<S: TurnService, O: Write>(
     bytes: &[u8],
     output: &mut O,
 ) -> Result<bool, Fault>
-    ensures ok { IfOk result (λ right. TakesFrame S.begins S.answers S.clocked right head bytes.now clients.old clients.new service.old.service service.new.service (O.contents output.old) (O.contents output.new)) }
-    ensures err { OnErr result (BreaksUnturned S.begins S.answers S.clocked clients.old clients.new service.old.service service.new.service (O.contents output.old) (O.contents output.new)) }
+    ensures ok { IfOk result (λ right. TakesFrame S.begins S.answers S.clocked S.listed right head bytes.now clients.old clients.new service.old.service service.new.service (O.contents output.old) (O.contents output.new)) }
+    ensures err { OnErr result (BreaksUnturned S.begins S.answers S.clocked S.listed clients.old clients.new service.old.service service.new.service (O.contents output.old) (O.contents output.new)) }
 {
     match head {
         None => Ok(false),
         Some(Head::Piece { number, .. }) => clients.take(number, bytes, output),
         Some(Head::Gone(number)) => Ok(clients.gone(number)),
         Some(Head::Nothing) => Ok(clients.nothing()),
+        Some(Head::From(number)) => Ok(clients.name_next(number, bytes)),
+        Some(Head::Users { .. }) => {
+            service.service.set_users(bytes);
+            Ok(true)
+        }
         Some(Head::Clock(moment)) => {
             service.service.set_clock(moment);
             Ok(true)
@@ -125,8 +130,8 @@ fn give_turn<S: TurnService, O: Write>(
     service: &mut OneCall<S>,
     output: &mut O,
 ) -> Result<bool, Fault>
-    ensures ok { OnOk result (WritesAnswers S.begins S.answers S.clocked clients.old clients.new service.old.service service.new.service (O.contents output.old) (O.contents output.new)) }
-    ensures err { OnErr result (Breaks S.begins S.answers S.clocked clients.old clients.new service.old.service service.new.service (O.contents output.old) (O.contents output.new)) }
+    ensures ok { OnOk result (WritesAnswers S.begins S.answers S.clocked S.listed clients.old clients.new service.old.service service.new.service (O.contents output.old) (O.contents output.new)) }
+    ensures err { OnErr result (Breaks S.begins S.answers S.clocked S.listed clients.old clients.new service.old.service service.new.service (O.contents output.old) (O.contents output.new)) }
     ensures begun { count_begun clients.new ≡ count_begun clients.old }
 {
     let Some(number) = clients.answer(service) else {
@@ -159,8 +164,8 @@ fn finish<S: TurnService, O: Write>(
     service: &mut OneCall<S>,
     output: &mut O,
 ) -> Result<(), Fault>
-    ensures ok { OnOk result (WritesAnswers S.begins S.answers S.clocked clients.old clients.new service.old.service service.new.service (O.contents output.old) (O.contents output.new)) }
-    ensures err { OnErr result (Breaks S.begins S.answers S.clocked clients.old clients.new service.old.service service.new.service (O.contents output.old) (O.contents output.new)) }
+    ensures ok { OnOk result (WritesAnswers S.begins S.answers S.clocked S.listed clients.old clients.new service.old.service service.new.service (O.contents output.old) (O.contents output.new)) }
+    ensures err { OnErr result (Breaks S.begins S.answers S.clocked S.listed clients.old clients.new service.old.service service.new.service (O.contents output.old) (O.contents output.new)) }
     ensures begun { count_begun clients.new ≡ count_begun clients.old }
 {
     tell_all(clients, output)?;

@@ -16,6 +16,8 @@ pub struct Plan {
     pub is_full: bool,
     /// A write that fails has written so many of its bytes.
     pub part: usize,
+    /// The file can have so many bytes: a write beyond that finds no room, and the calls behind it are made.
+    pub capacity: usize,
 }
 
 /// A disk one of whose calls fails, and each behind it. Its contracts are those of the disk in it, as in the kit's `Fuse`.
@@ -148,13 +150,20 @@ impl<D: Disk> Disk for Breaking<'_, D> {
     }
 
     fn write_at(&mut self, at: usize, bytes: &[u8]) -> io::Result<()> {
-        if self.ledger.note(at, bytes).is_err() {
+        let room = self.plan.capacity.saturating_sub(at);
+        let fitting = bytes.len().min(room);
+        if self.ledger.note(at, &bytes[..fitting]).is_err() {
             return fail(&mut self.refused);
         }
         if !is_made(&mut self.plan, self.ledger) {
-            let part = self.plan.part.min(bytes.len());
+            let part = self.plan.part.min(fitting);
             self.inner.write_at(at, &bytes[..part])?;
             return fail_write(self.plan.is_full, &mut self.refused, &mut self.no_room);
+        }
+        if fitting < bytes.len() {
+            self.ledger.found_full = true;
+            self.inner.write_at(at, &bytes[..fitting])?;
+            return fail_write(true, &mut self.refused, &mut self.no_room);
         }
         self.inner.write_at(at, bytes)
     }

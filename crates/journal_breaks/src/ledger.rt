@@ -21,6 +21,8 @@ pub struct Ledger {
     pub has_failed: bool,
     /// How many calls came after one that failed.
     pub late: u64,
+    /// Whether a write found no room, and the calls behind it were made.
+    pub found_full: bool,
 }
 
 impl Ledger {
@@ -33,6 +35,7 @@ impl Ledger {
             longest: file.len(),
             has_failed: false,
             late: 0,
+            found_full: false,
         })
     }
 

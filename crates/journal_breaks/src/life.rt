@@ -82,9 +82,19 @@ fn plan_of(chance: &mut Chance, is_roomy: bool) -> Plan {
     };
     Plan {
         calls: below(chance, bound),
-        is_full: once_in(chance, 2),
+        // A sync comes behind a write that made room, and found none.
+        is_full: !is_roomy && once_in(chance, 2),
         part: below(chance, 400) as usize,
+        capacity: capacity_of(chance, is_roomy),
     }
+}
+
+// How long the file can be; in half of the runs that make room, no longer than 4 MiB.
+fn capacity_of(chance: &mut Chance, is_roomy: bool) -> usize {
+    if is_roomy && once_in(chance, 2) {
+        return 65_536 + below(chance, 1 << 22) as usize;
+    }
+    usize::MAX
 }
 
 // Whether the error that was told, if any, fits what the disk did.
@@ -95,8 +105,8 @@ fn judge(ledger: &Ledger, plan: Plan, told: Option<JournalError>) -> Result<(), 
     match told {
         None if ledger.has_failed => Err(Wrong::NotTold),
         None => Ok(()),
-        Some(error) if !ledger.has_failed => Err(Wrong::NoCause(error)),
-        Some(JournalError::Full) if plan.is_full => Ok(()),
+        Some(error) if !ledger.has_failed && !ledger.found_full => Err(Wrong::NoCause(error)),
+        Some(JournalError::Full) if plan.is_full || ledger.found_full => Ok(()),
         Some(JournalError::Failed(_)) => Ok(()),
         Some(JournalError::Full) => Err(Wrong::OtherCause),
         Some(error) => Err(Wrong::Refused(error)),
@@ -141,7 +151,7 @@ fn play<D: Disk>(
     let rounds = below(chance, 6);
     for _ in 0..rounds {
         if is_roomy && once_in(chance, 2) {
-            journal.make_room(&())?;
+            let _roomy = journal.make_room_for(&(), below(chance, 1 << 23) as usize)?;
         }
         append_any(alloc, chance, journal, truth)?;
     }

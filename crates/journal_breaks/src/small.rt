@@ -64,6 +64,7 @@ fn small_file(alloc: Global, chance: &mut Chance) -> Result<Vec<u8>, Wrong> {
     let plan = Plan {
         calls: u64::MAX,
         is_full: false,
+        capacity: usize::MAX,
         part: 0,
     };
     let header = Header {

@@ -3,6 +3,7 @@ pub mod Copying
 pub mod Crash
 pub mod Feeding
 pub mod Gates
+pub mod Growing
 pub mod Headers
 pub mod MomentLaws
 pub mod NewFile

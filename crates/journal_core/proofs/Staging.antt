@@ -48,6 +48,9 @@ keeps_not place d = record { longer = omega arith; begins = λ front low it. it 
 keeps_less : (place more : ℕ) → place ≤ more → (d c : List ℕ) → KeepsBelow more d c → KeepsBelow place d c
 keeps_less place more less d c it = record { longer = it.longer; begins = λ front low. it.begins front (omega (arith, low, less)) }
 
+pub keeps_same : (place : ℕ) (d c : List ℕ) → c ≡ d → KeepsBelow place d c
+keeps_same place d c same = subst (λ (f : List ℕ). KeepsBelow place d f) (sym same) (keeps_not place d)
+
 keeps_torn : (place n : ℕ) (d c : List ℕ) → Torn place n d c → KeepsBelow place d c
 keeps_torn place n d c torn = record { longer = torn.no_shorter; begins = λ front low it. torn_begins front place n d c low it torn }
 

@@ -67,3 +67,10 @@ HasDiskCause Full faults faults' refused refused' = MoreFaults faults faults' ×
 HasDiskCause NotOpen faults faults' refused refused' = Unit {0}
 HasDiskCause TooLarge faults faults' refused refused' = Unit {0}
 HasDiskCause _ faults faults' refused refused' = ⊥
+
+-- an error of making room: a call of the disk failed, or it was not begun
+abbrev pub HasRoomCause : JournalError → ℕ → ℕ → Type 0
+HasRoomCause (Failed e) faults faults' = MoreFaults faults faults'
+HasRoomCause Full faults faults' = MoreFaults faults faults'
+HasRoomCause NotOpen faults faults' = Unit {0}
+HasRoomCause _ faults faults' = ⊥

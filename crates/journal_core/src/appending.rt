@@ -1,15 +1,17 @@
 //! Appending a round. The gate behind the last round stands shut on the disk before anything is written behind it, and is opened by a write of its own, once the round is on the disk.
-ghost use Rattle.std.specs.Prelude.{◌≡◌, ◌≢◌, ◌⊎◌, ◌+◌, ◌-◌, Some, ◌<◌, ◌≤◌, ◌^◌, ◌++◌, [], ℕ, List, Ok, Err, length, IsTrue, IsFalse, IfErr, IfSome, IsSome, OnOk};
+ghost use Rattle.std.specs.Prelude.{◌≡◌, ◌≢◌, ◌⊎◌, ◌+◌, ◌-◌, Some, ◌<◌, ◌≤◌, ◌^◌, ◌++◌, [], ℕ, List, true, false, Ok, Err, length, IsTrue, IsFalse, IfErr, IfOk, IfSome, IsSome, OnErr, OnOk};
+ghost use Rattle.sqlite_disk.specs.Disk.{MoreFaults, Only};
 ghost use Rattle.journal_core.specs.Clocked.{EachLeaves};
 ghost use Rattle.journal_core.specs.Format.{StandsFor, records_text};
 ghost use Rattle.journal_core.specs.LiveCopies.{GoesBySteps};
-ghost use Rattle.journal_core.specs.Resting.{Carries, HasDiskCause, IsSettled, clocked_of, disk_behind, gate_of, header_in, len_of, is_ready};
+ghost use Rattle.journal_core.specs.Resting.{Carries, HasDiskCause, HasRoomCause, IsSettled, KnowsLength, clocked_of, disk_behind, gate_of, header_in, len_of, is_ready};
+ghost use Rattle.journal_core.specs.Private.Looks.{Grows};
 ghost use Rattle.journal_core.specs.declared.error.JournalError.TheVariants.{NotOpen, TooLarge};
 
 use crate::error::JournalError;
 use crate::journal::Journal;
 use crate::round::Round;
-use crate::writing::{put, write_error, write_round, write_zeros};
+use crate::writing::{lengthen, put, write_error, write_round};
 use sqlite_disk::Disk;
 
 /// So long no file grows, in bytes.
@@ -94,12 +96,14 @@ impl<D: Disk, B> Journal<D, B> {
         }
     }
 
-    /// Makes room behind the last round, where less than half of it is left: 4 MiB, and an eighth of the file where that is more. It is written with zeros, and on the disk at `Ok` (own).
+    /// Makes room behind the last round for one of so many bytes, as `Round::len` counts them, and tells whether it is there. Where the file is too short it is made longer, so
+    /// that there is room for that, and for 4 MiB, and for an eighth of the file; or as long as the disk has room. What is made is written with zeros, and on the disk at `Ok` (own).
+    ///
+    /// False where the disk is full, or the file would have 2^62 bytes or more; the journal stays open.
     ///
     /// - `NotOpen`: an earlier call failed, or the journal was not read to its end. Nothing is done.
-    /// - `TooLarge`: the last round ends at byte 2^61 or behind it. Nothing is done.
-    /// - `Failed`, `Full`: a call of the disk failed. The journal is not open any more. Its file stands for the same records.
-    pub fn make_room(&mut self, note: &B) -> Result<(), JournalError>
+    /// - `Failed`, `Full`: another call of the disk failed. The journal is not open any more. Its file stands for the same records.
+    pub fn make_room_for(&mut self, note: &B, bytes: usize) -> Result<bool, JournalError>
         requires usable { IsTrue (D.Disk.is_usable (disk_behind self.old)) }
         ensures stays { OnOk result ((records : List (List ℕ)) → IsSettled D.Disk.seen D.Disk.may_leave D.Disk.is_clean self.old records → IsSettled D.Disk.seen D.Disk.may_leave D.Disk.is_clean self.new records) }
         ensures any_moment { (records : List (List ℕ)) → IsSettled D.Disk.seen D.Disk.may_leave D.Disk.is_clean self.old records
@@ -107,14 +111,15 @@ impl<D: Disk, B> Journal<D, B> {
         ensures crash { (records : List (List ℕ)) → IsSettled D.Disk.seen D.Disk.may_leave D.Disk.is_clean self.old records → (c : List ℕ) → D.Disk.may_leave (disk_behind self.new) c → StandsFor (header_in self.old) c records }
         ensures not_open { IsFalse (is_ready self.old) → (self.new ≡ self.old) × (result ≡ Err NotOpen) }
         ensures opens { OnOk result (is_ready self.new ≡ is_ready self.old) }
-        ensures closes { IfErr result (λ e. e ≢ TooLarge → IsFalse (is_ready self.new)) }
-        ensures large { result ≡ Err TooLarge → (self.new ≡ self.old) × (2 ^ 61 ≤ gate_of self.old) }
-        ensures cause { IfErr result (λ e. HasDiskCause e (D.Disk.faults (disk_behind self.old)) (D.Disk.faults (disk_behind self.new)) (D.Disk.tally_of (disk_behind self.old)).refused (D.Disk.tally_of (disk_behind self.new)).refused
+        ensures closes { OnErr result (IsFalse (is_ready self.new)) }
+        ensures cause { IfErr result (λ e. HasRoomCause e (D.Disk.faults (disk_behind self.old)) (D.Disk.faults (disk_behind self.new))
             × (e ≡ NotOpen → IsFalse (is_ready self.old))) }
-        ensures known { OnOk result ((n : ℕ) × (len_of self.new ≡ Some n)) }
-        // There is room for a round of 2 MiB at least.
-        ensures room { OnOk result ((records : List (List ℕ)) → IsSettled D.Disk.seen D.Disk.may_leave D.Disk.is_clean self.old records → IsTrue (D.Disk.is_clean (disk_behind self.new))
-            → gate_of self.new + (32 + 2 ^ 21) ≤ length (D.Disk.seen (disk_behind self.new))) }
+        // There is room, or the disk has none.
+        ensures room { result ≡ Ok true → (records : List (List ℕ)) → IsSettled D.Disk.seen D.Disk.may_leave D.Disk.is_clean self.old records → IsTrue (D.Disk.is_clean (disk_behind self.new))
+            → gate_of self.new + (32 + bytes) ≤ length (D.Disk.seen (disk_behind self.new)) }
+        ensures full { result ≡ Ok false → (records : List (List ℕ)) → IsSettled D.Disk.seen D.Disk.may_leave D.Disk.is_clean self.old records → IsTrue (D.Disk.is_clean (disk_behind self.new))
+            → (2 ^ 62 ≤ gate_of self.old + (32 + bytes)) ⊎ MoreFaults (D.Disk.tally_of (disk_behind self.old)).refused (D.Disk.tally_of (disk_behind self.new)).refused }
+        ensures known { result ≡ Ok true → IsSome (len_of self.new) }
         ensures steps { (records : List (List ℕ)) → IsSettled D.Disk.seen D.Disk.may_leave D.Disk.is_clean self.old records → GoesBySteps D.Disk.seen (header_in self.old) (clocked_of self.old) (clocked_of self.new) }
         ensures end { gate_of self.new ≡ gate_of self.old }
         ensures header { header_in self.new ≡ header_in self.old }
@@ -124,19 +129,36 @@ impl<D: Disk, B> Journal<D, B> {
         if !self.is_open {
             return Err(JournalError::NotOpen);
         }
-        if self.at >= LARGEST / 2 {
-            return Err(JournalError::TooLarge);
+        if self.is_too_large(bytes) {
+            return Ok(false);
         }
+        let wanted = self.at + 32 + bytes;
         self.is_open = false;
-        let len = self.measure(note).map_err(JournalError::Failed)?;
-        let room = ROOM.max(self.at / 8);
-        let (from, to) = (len.max(self.at + 8), self.at + 32 + room);
-        if len < self.at + 32 + room / 2 && from < to {
-            self.len = None;
-            write_zeros(&mut self.disk, note, from, to).map_err(write_error)?;
-            self.len = Some(to);
+        let mut len = self.measure(note).map_err(JournalError::Failed)?;
+        if len < wanted {
+            let room = bytes.max(ROOM).max(self.at / 8);
+            len = self.grow(note, len, self.at + 32 + room)?;
         }
         self.is_open = true;
-        Ok(())
+        Ok(len >= wanted)
+    }
+
+    // Makes the file so long, or as long as the disk has room. How long it is.
+    fn grow(&mut self, note: &B, len: usize, to: usize) -> Result<usize, JournalError>
+        requires usable { IsTrue (D.Disk.is_usable (disk_behind self.old)) }
+        requires longer { (len < to) × (gate_of self.old + 8 < to) × (to < 2 ^ 64) }
+        ensures grows { Grows D.Disk.seen D.Disk.may_leave note.now self.old self.new }
+        ensures durable { OnOk result (Only (D.Disk.seen (disk_behind self.new)) (D.Disk.may_leave (disk_behind self.new))) }
+        ensures knows { IfOk result (λ n. (self.new.len ≡ Some n) × KnowsLength D.Disk.seen D.Disk.is_clean self.new) }
+        ensures full { IfOk result (λ n. IsTrue (D.Disk.is_clean (disk_behind self.new)) → (to ≤ n)
+            ⊎ MoreFaults (D.Disk.tally_of (disk_behind self.old)).refused (D.Disk.tally_of (disk_behind self.new)).refused) }
+        ensures fails { IfErr result (λ e. HasRoomCause e (D.Disk.faults (disk_behind self.old)) (D.Disk.faults (disk_behind self.new)) × (e ≢ NotOpen)) }
+        ensures clean { IsTrue (D.Disk.is_clean (disk_behind self.new)) → IsTrue (D.Disk.is_clean (disk_behind self.old)) }
+        ensures usable { OnOk result (IsTrue (D.Disk.is_usable (disk_behind self.new))) }
+    {
+        let from = len.max(self.at + 8);
+        self.len = None;
+        lengthen(&mut self.disk, note, from, to).map_err(write_error)?;
+        self.measure(note).map_err(JournalError::Failed)
     }
 }

@@ -14,7 +14,7 @@ pub fn copies_are_whole()
     ensures whole { CopiesAreWhole }
 {}
 
-/// What `append` and `make_room` promise of the moments of a call is what `copies_are_whole` asks of a file in use. It does nothing.
+/// What `append` and `make_room_for` promise of the moments of a call is what `copies_are_whole` asks of a file in use. It does nothing.
 pub fn runs_live_on<D: Disk, B>()
     ensures lives { RunsLiveOn D B D.Disk.seen }
 {}

@@ -1,6 +1,6 @@
 //! Writing behind a gate that is shut, and a write with a sync.
-ghost use Rattle.std.specs.Prelude.{◌≡◌, ◌⊎◌, ◌+◌, ◌<◌, ◌≤◌, ◌^◌, ◌++◌, ℕ, List, MatchBool, length, max, IsTrue, IfOk, OnOk};
-ghost use Rattle.sqlite_disk.specs.Disk.{Holds, Torn, Only};
+ghost use Rattle.std.specs.Prelude.{◌≡◌, ◌⊎◌, ◌+◌, ◌<◌, ◌≤◌, ◌^◌, ◌++◌, ℕ, List, MatchBool, length, max, IsTrue, IfOk, OnOk, OnErr};
+ghost use Rattle.sqlite_disk.specs.Disk.{Holds, MoreFaults, Torn, Only};
 ghost use Rattle.journal_core.specs.Clocked.{disk_of, EachLeaves, GoesAs};
 ghost use Rattle.journal_core.specs.Format.{round_text, shut_word};
 ghost use Rattle.sqlite_disk.specs.Refusal.{is_no_room};
@@ -119,8 +119,8 @@ fn write_parts<D: Disk, B>(
     Ok(at)
 }
 
-/// Writes zeros from one place up to another, and has them on the disk at `Ok`.
-pub(crate) fn write_zeros<D: Disk, B>(
+/// Writes zeros from one place up to another, or up to where the disk has no more room, and has them on the disk at `Ok`.
+pub(crate) fn lengthen<D: Disk, B>(
     disk: &mut Clocked<D, B>,
     note: &B,
     from: usize,
@@ -128,11 +128,13 @@ pub(crate) fn write_zeros<D: Disk, B>(
 ) -> io::Result<()>
     requires usable { IsTrue (D.Disk.is_usable (disk_of disk.old)) }
     requires some { from < to }
-    ensures len { OnOk result (length (D.Disk.seen (disk_of disk.new)) ≡ max (length (D.Disk.seen (disk_of disk.old))) to) }
+    ensures len { OnOk result ((length (D.Disk.seen (disk_of disk.new)) ≡ max (length (D.Disk.seen (disk_of disk.old))) to)
+        ⊎ MoreFaults (D.Disk.tally_of (disk_of disk.old)).refused (D.Disk.tally_of (disk_of disk.new)).refused) }
     ensures seen { (front : List ℕ) → length front ≤ from → BeginsWith front (D.Disk.seen (disk_of disk.old)) → BeginsWith front (D.Disk.seen (disk_of disk.new)) }
     ensures durable { OnOk result (Only (D.Disk.seen (disk_of disk.new)) (D.Disk.may_leave (disk_of disk.new))) }
     ensures behind { WritesBehind D.Disk.seen D.Disk.may_leave note.now from disk.old disk.new }
-    ensures counts { IsCounted result (D.Disk.faults (disk_of disk.old)) (D.Disk.faults (disk_of disk.new)) (D.Disk.tally_of (disk_of disk.old)) (D.Disk.tally_of (disk_of disk.new)) }
+    ensures fails { OnErr result (MoreFaults (D.Disk.faults (disk_of disk.old)) (D.Disk.faults (disk_of disk.new))) }
+    ensures faults { D.Disk.faults (disk_of disk.old) ≤ D.Disk.faults (disk_of disk.new) }
     ensures clean { D.Disk.is_clean (disk_of disk.new) ≡ D.Disk.is_clean (disk_of disk.old) }
     ensures usable { OnOk result (IsTrue (D.Disk.is_usable (disk_of disk.new))) }
 {
@@ -140,10 +142,17 @@ pub(crate) fn write_zeros<D: Disk, B>(
     let mut at = from;
     'writing: while at < to {
         let count = (to - at).min(zeros.len());
-        at = write_piece(disk, note, at, &zeros[..count])?;
+        match write_piece(disk, note, at, &zeros[..count]) {
+            Ok(next) => at = next,
+            Err(error) => {
+                if is_no_room(&error) {
+                    return disk.sync(note);
+                }
+                return Err(error);
+            }
+        }
     }
-    disk.sync(note)?;
-    Ok(())
+    disk.sync(note)
 }
 
 /// What a call of the disk that failed is told as.

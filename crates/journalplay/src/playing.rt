@@ -13,6 +13,9 @@ use sqlite_std_file::Wary;
 use std::alloc::Global;
 use std::io::{BufReader, BufWriter, Read, Write};
 
+// Room is made for a round of so many bytes.
+const ROOM: usize = 2 << 20;
+
 /// Opens the file at a path, tells what it has, and answers each line of the input until it ends, or an error of the journal comes.
 pub fn play<I: Read + Drop, O: Write + Drop>(
     rt: &HostRuntime,
@@ -94,7 +97,7 @@ fn answer<D: Disk, O: Write + Drop>(
             writeln!(output, "ok")?;
         }
         Command::Room => {
-            journal.make_room(&())?;
+            let _roomy = journal.make_room_for(&(), ROOM)?;
             writeln!(output, "ok {}", journal.room())?;
         }
         Command::Wrong => writeln!(output, "wrong")?,

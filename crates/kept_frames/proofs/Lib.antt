@@ -1,8 +1,10 @@
 pub mod Giving
 pub mod KeptViews
 pub mod Noting
+pub mod Rooms
 pub mod Standings
 pub mod Steps
 pub mod Taking
 pub mod Turns
+pub mod Waits
 pub mod WholeRuns

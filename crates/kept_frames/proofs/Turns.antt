@@ -3,7 +3,7 @@ use Rattle.std.proofs.Common.{◌≡◌, ℕ, List, [], ◌∷◌, ◌++◌, All
 use Rattle.std.proofs.lemmas.List.Elements.{All-head, All-tail}
 use Rattle.http.specs.declared.request.Request.{Request}
 use Rattle.http_server.specs.declared.response.Response.{Response}
-use Rattle.http_frames.specs.ConnectionEvents.{Event, Answered, Clock, event_text, number_of}
+use Rattle.http_frames.specs.ConnectionEvents.{Event, Answered, Clock, Users, event_text, number_of}
 use Rattle.http_frames.specs.TurnRuns.{AreSaid, EventDoes, EventsLead, IsSaid, told_text, turn_in, turns_of}
 use Rattle.kept_frames.specs.KeptMoments.{IsTurn}
 
@@ -42,15 +42,17 @@ last_none : (xs ys : List ℕ) → xs ++ ys ≡ [] → ys ≡ []
 last_none [] ys none = none
 last_none (x ∷ xs) ys none = absurd (cc)
 
-module _ {S : Type 0} (begins : S → ℕ → S → Type 0) (answers : S → Request (List ℕ) → Response → S → Type 0) (clocked : S → ℕ → S → Type 0) (stands : List (List ℕ) → S → Type 0)
-    (clocks : (records : List (List ℕ)) (old : S) (moment : ℕ) (new : S) → stands records old → clocked old moment new → stands records new) where
-  does_keep : (e : Event) (records : List (List ℕ)) (s s' : S) → turn_in e ≡ [] → EventDoes begins answers clocked e s s' → stands records s → stands records s'
+module _ {S : Type 0} (begins : S → ℕ → S → Type 0) (answers : S → Request (List ℕ) → Response → S → Type 0) (clocked : S → ℕ → S → Type 0) (listed : S → List ℕ → S → Type 0) (stands : List (List ℕ) → S → Type 0)
+    (clocks : (records : List (List ℕ)) (old : S) (moment : ℕ) (new : S) → stands records old → clocked old moment new → stands records new)
+    (lists : (records : List (List ℕ)) (old : S) (file : List ℕ) (new : S) → stands records old → listed old file new → stands records new) where
+  does_keep : (e : Event) (records : List (List ℕ)) (s s' : S) → turn_in e ≡ [] → EventDoes begins answers clocked listed e s s' → stands records s → stands records s'
   does_keep (Answered number calls) records s s' none does stand = absurd (cc)
   does_keep (Clock moment) records s s' none does stand = clocks records s moment s' stand does
+  does_keep (Users file) records s s' none does stand = lists records s file s' stand does
   does_keep _ records s s' none does stand = subst (stands records) (sym does) stand
 
   -- what was kept of the service stands for it still
-  pub lead_keep : (es : List Event) (records : List (List ℕ)) (s s' : S) → turns_of es ≡ [] → EventsLead begins answers clocked s es s' → stands records s → stands records s'
+  pub lead_keep : (es : List Event) (records : List (List ℕ)) (s s' : S) → turns_of es ≡ [] → EventsLead begins answers clocked listed s es s' → stands records s → stands records s'
   lead_keep [] records s s' none leads stand = subst (stands records) (sym leads) stand
   lead_keep (e ∷ es) records s s' none leads stand =
       lead_keep es records leads.0 s' (last_none (turn_in e) (turns_of es) none) leads.2

@@ -10,25 +10,29 @@ use Rattle.http_frames.specs.ConnectionEvents.{Event}
 use Rattle.http_frames.specs.TurnRuns.{AreSaid, IsEnd}
 use Rattle.http_frames.proofs.Fronts.{whole}
 use Rattle.http_frames.proofs.Results.{if_ok-err}
+use Rattle.journal_core.specs.declared.header.Header.{Header}
 use Rattle.journal_core.specs.declared.journal.Journal.{Journal}
-use Rattle.journal_core.specs.Resting.{IsSettled, header_in}
+use Rattle.journal_core.specs.Resting.{IsSettled, disk_behind, header_in}
 use Rattle.kept_frames.specs.KeptMoments.{IsStanding}
-use Rattle.kept_frames.specs.KeptRuns.{RunsKept}
-use Rattle.kept_frames.specs.Rounds.{BreaksKept, GoesOnKept, ServesKept, WritesKept}
-use Rattle.kept_frames.proofs.Standings.{standing_moment}
-use Rattle.kept_frames.proofs.Steps.{happens_then}
+use Rattle.kept_frames.specs.KeptRuns.{RunsKeeping}
+use Rattle.kept_frames.specs.KeptSteps.{StepStanding, StepBreaks, StepGoesOn, StepServes, StepWrites}
+use Rattle.kept_frames.proofs.Standings.{Stays, by_now}
+use Rattle.kept_frames.proofs.Steps.{steps_then}
 
-module _ {S D O : Type 0} {begins : S → ℕ → S → Type 0} {answers : S → Request (List ℕ) → Response → S → Type 0} {clocked : S → ℕ → S → Type 0} {stands : List (List ℕ) → S → Type 0}
-    {seen : D → List ℕ} {may_leave : D → List ℕ → Type 0} {is_clean : D → Bool} {contents : O → Option (List ℕ)} where
+module _ {S D O : Type 0} {begins : S → ℕ → S → Type 0} {answers : S → Request (List ℕ) → Response → S → Type 0} {clocked : S → ℕ → S → Type 0} {listed : S → List ℕ → S → Type 0} {stands : List (List ℕ) → S → Type 0} {seen : D → List ℕ} {may_leave : D → List ℕ → Type 0} {is_clean : D → Bool}
+    {contents : O → Option (List ℕ)} where
   -- before the first step
   begun : (s : S) (j : Journal D O) (o : O) (records : List (List ℕ)) → IsSettled seen may_leave is_clean j records → stands records s
-      → IsStanding begins answers clocked stands seen may_leave is_clean contents (header_in j) s (contents o) [] s j o
+      → IsStanding begins answers clocked listed stands seen may_leave is_clean contents (header_in j) s (contents o) [] s j o
   begun s j o records settled stand = record { header = refl; leads = refl; wrote = Appends-nil (contents o); records = records; settled = settled; stand = stand }
 
+module _ {S D O : Type 0} {begins : S → ℕ → S → Type 0} {answers : S → Request (List ℕ) → Response → S → Type 0} {clocked : S → ℕ → S → Type 0} {listed : S → List ℕ → S → Type 0} {stands : List (List ℕ) → S → Type 0} {seen : D → List ℕ} {may_leave : D → List ℕ → Type 0} {is_clean : D → Bool}
+    {contents : O → Option (List ℕ)} {keeps keeps_end : Header → S → List Event → D → Type 0} where
   -- it failed
   pub broke_kept : {E : Type 0} {c c' : Clients} {s s' : S} {j j' : Journal D O} {o o' : O} {input input' : Option (List ℕ)} {more : List Event} (r : Result End E) (records : List (List ℕ)) → IsErr r → Has c []
-      → IsSettled seen may_leave is_clean j records → stands records s → BreaksKept begins answers clocked stands seen may_leave is_clean contents more c c' s s' j j' o o'
-      → RunsKept begins answers clocked stands seen may_leave is_clean contents r c c' s s' j j' input input' o o'
+      → IsSettled seen may_leave is_clean j records → stands records s
+      → StepBreaks begins answers clocked listed contents keeps keeps_end (IsStanding begins answers clocked listed stands seen may_leave is_clean contents) more c c' s s' j j' o o'
+      → RunsKeeping keeps keeps_end begins answers clocked listed stands seen may_leave is_clean contents r c c' s s' j j' input input' o o'
   broke_kept {E} {c} {c'} {s} {s'} {j} {j'} {o} {o'} {input} {input'} {more} r records err h settled stand x = record {
     run = record {
       done = more;
@@ -45,16 +49,19 @@ module _ {S D O : Type 0} {begins : S → ℕ → S → Type 0} {answers : S →
     settled = if_ok-err _ r err;
   }
 
+module _ {S D O : Type 0} {begins : S → ℕ → S → Type 0} {answers : S → Request (List ℕ) → Response → S → Type 0} {clocked : S → ℕ → S → Type 0} {listed : S → List ℕ → S → Type 0} {stands : List (List ℕ) → S → Type 0} {seen : D → List ℕ} {may_leave : D → List ℕ → Type 0} {is_clean : D → Bool}
+    {contents : O → Option (List ℕ)} {keeps keeps_end : Header → S → List Event → D → Type 0} {May : List Event → Type 0}
+    (stays : Stays begins answers clocked listed stands seen may_leave is_clean contents keeps keeps_end May (IsStanding begins answers clocked listed stands seen may_leave is_clean contents)) where
   -- it came to its end, and then what waited was answered
-  pub ended_kept : {E : Type 0} {c c1 c2 c3 : Clients} {s s1 s2 s3 : S} {j j1 j2 j3 : Journal D O} {o o1 o2 o3 : O} (input between input' : Option (List ℕ)) (end : End) (records : List (List ℕ)) → Has c []
+  pub ended_kept : {E : Type 0} {A B : StepStanding S D O} {c c1 c2 c3 : Clients} {s s1 s2 s3 : S} {j j1 j2 j3 : Journal D O} {o o1 o2 o3 : O} (input between input' : Option (List ℕ)) (end : End) (records : List (List ℕ)) → Has c []
       → IsSettled seen may_leave is_clean j records → stands records s
-      → ServesKept begins answers clocked stands seen may_leave is_clean contents c c1 s s1 j j1 o o1 input between
-      → GoesOnKept begins answers clocked stands seen may_leave is_clean contents (Some end) c1 c2 s1 s2 j1 j2 o1 o2 between input'
-      → WritesKept begins answers clocked stands seen may_leave is_clean contents c2 c3 s2 s3 j2 j3 o2 o3 → count_begun c3 ≡ count_begun c2
-      → RunsKept {E = E} begins answers clocked stands seen may_leave is_clean contents (Ok end) c c3 s s3 j j3 input input' o o3
-  ended_kept {E} {c} {c1} {c2} {c3} {s} {s1} {s2} {s3} {j} {j1} {j2} {j3} {o} {o1} {o2} {o3} input between input' end records h settled stand x f w same =
-      let first = happens_then x.2 f.0.1 in
-      let all = happens_then first w.1 in
+      → StepServes begins answers clocked listed contents keeps keeps_end (IsStanding begins answers clocked listed stands seen may_leave is_clean contents) A c c1 s s1 j j1 o o1 input between
+      → StepGoesOn begins answers clocked listed contents keeps keeps_end A B (Some end) c1 c2 s1 s2 j1 j2 o1 o2 between input'
+      → StepWrites begins answers clocked listed contents keeps keeps_end B (IsStanding begins answers clocked listed stands seen may_leave is_clean contents) c2 c3 s2 s3 j2 j3 o2 o3 → count_begun c3 ≡ count_begun c2
+      → RunsKeeping {E = E} keeps keeps_end begins answers clocked listed stands seen may_leave is_clean contents (Ok end) c c3 s s3 j j3 input input' o o3
+  ended_kept {E} {A} {B} {c} {c1} {c2} {c3} {s} {s1} {s2} {s3} {j} {j1} {j2} {j3} {o} {o1} {o2} {o3} input between input' end records h settled stand x f w same =
+      let first = steps_then x.2 f.0.1 in
+      let all = steps_then first w.1 in
       let before = begun s j o records settled stand in
       let behind = all.stand (header_in j) s (contents o) [] before in
       record {
@@ -78,6 +85,6 @@ module _ {S D O : Type 0} {begins : S → ℕ → S → Type 0} {answers : S →
           wrote = all.wrote;
         };
         each = all.each (header_in j) s (contents o) [] before;
-        last = inl (standing_moment (header_in j) s (contents o) ((x.0 ++ f.0.0) ++ w.0) s3 j3 o3 behind);
+        last = inl (by_now (header_in j) s (contents o) ((x.0 ++ f.0.0) ++ w.0) (disk_behind j3) o3 behind.wrote (stays.now (header_in j) s (contents o) ((x.0 ++ f.0.0) ++ w.0) s3 j3 o3 behind));
         settled = (behind.records, behind.settled, behind.stand);
       }

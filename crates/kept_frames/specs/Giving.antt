@@ -1,20 +1,23 @@
 -- What the turns of a round do, whose answers wait (own).
-use Rattle.std.specs.Prelude.{◌≡◌, ℕ, List, ◌++◌, All}
+use Rattle.std.specs.Prelude.{◌≡◌, ◌⊎◌, ℕ, Bool, List, ◌++◌, All}
 use Rattle.http.specs.declared.request.Request.{Request}
 use Rattle.http_server.specs.declared.response.Response.{Response}
 use Rattle.http_frames.specs.declared.clients.Clients.{Clients}
 use Rattle.http_frames.specs.ConnectionEvents.{Event}
 use Rattle.http_frames.specs.TurnRuns.{EventsLead, Moments, turns_of}
 use Rattle.journal_core.specs.declared.round.Round.{Round}
-use Rattle.journal_core.specs.Resting.{Carries}
+use Rattle.journal_core.specs.declared.journal.Journal.{Journal}
+use Rattle.journal_core.specs.Clocked.{EachLeaves}
+use Rattle.journal_core.specs.Format.{StandsFor}
+use Rattle.journal_core.specs.Resting.{Carries, IsSettled, clocked_of, disk_behind, header_in}
 use Rattle.kept_frames.specs.KeptMoments.{IsTurn}
 
-module _ {S : Type 0} (begins : S → ℕ → S → Type 0) (answers : S → Request (List ℕ) → Response → S → Type 0) (clocked : S → ℕ → S → Type 0) where
+module _ {S : Type 0} (begins : S → ℕ → S → Type 0) (answers : S → Request (List ℕ) → Response → S → Type 0) (clocked : S → ℕ → S → Type 0) (listed : S → List ℕ → S → Type 0) where
   -- these events happened, and they are turns alone
   pub record TurnsAlone (turns : List Event) (c c' : Clients) (s s' : S) : Type 0 where
     pub alone : All IsTurn turns
     pub moments : Moments turns c c'
-    pub leads : EventsLead begins answers clocked s turns s'
+    pub leads : EventsLead begins answers clocked listed s turns s'
 
   -- turns alone were given, and then there was no memory for a record
   abbrev pub BreaksTurns : Clients → Clients → S → S → Type 0
@@ -32,3 +35,31 @@ module _ {S : Type 0} (begins : S → ℕ → S → Type 0) (answers : S → Req
     NotesTurns numbers c c' s s' round =
         (turns : List Event) × TurnsAlone turns c c' s s' × (turns_of turns ≡ numbers)
         × ((new : List (List ℕ)) × Carries round new × ((records : List (List ℕ)) → stands records s → stands (records ++ new) s'))
+
+-- ---- the journal meanwhile, in whose file room is made for the round
+
+module _ {D O : Type 0} (seen : D → List ℕ) (may_leave : D → List ℕ → Type 0) (is_clean : D → Bool) where
+  -- records that it was settled with, it is settled with still
+  abbrev pub StaysSettled : Journal D O → Journal D O → Type 0
+  StaysSettled j j' = (records : List (List ℕ)) → IsSettled seen may_leave is_clean j records → IsSettled seen may_leave is_clean j' records
+
+  -- at each moment between the two, all of them noted beside one output, a crash leaves the records that it was settled with, and so does one behind them
+  pub record KeepsRecords (j j' : Journal D O) (o : O) : Type 0 where
+    pub header : header_in j' ≡ header_in j
+    pub each : (records : List (List ℕ)) → IsSettled seen may_leave is_clean j records → EachLeaves may_leave o (λ file. StandsFor (header_in j) file records) (clocked_of j) (clocked_of j')
+    pub crash : (records : List (List ℕ)) → IsSettled seen may_leave is_clean j records → (file : List ℕ) → may_leave (disk_behind j') file → StandsFor (header_in j) file records
+
+-- ---- and then a round is appended that has such records
+
+module _ {D O : Type 0} (seen : D → List ℕ) (may_leave : D → List ℕ → Type 0) (is_clean : D → Bool) (waits : List (List ℕ) → Type 0) where
+  -- records that it was settled with, it is settled with once the round's stand behind them
+  abbrev pub SettlesWith : Journal D O → Journal D O → Type 0
+  SettlesWith j j' = (records new : List (List ℕ)) → IsSettled seen may_leave is_clean j records → waits new → IsSettled seen may_leave is_clean j' (records ++ new)
+
+  -- at each moment between the two, all of them noted beside one output, a crash leaves the records that it was settled with, or the round's behind them, and so does one behind them
+  pub record KeepsEither (j j' : Journal D O) (o : O) : Type 0 where
+    pub header : header_in j' ≡ header_in j
+    pub each : (records new : List (List ℕ)) → IsSettled seen may_leave is_clean j records → waits new
+        → EachLeaves may_leave o (λ file. StandsFor (header_in j) file records ⊎ StandsFor (header_in j) file (records ++ new)) (clocked_of j) (clocked_of j')
+    pub crash : (records new : List (List ℕ)) → IsSettled seen may_leave is_clean j records → waits new → (file : List ℕ) → may_leave (disk_behind j') file
+        → StandsFor (header_in j) file records ⊎ StandsFor (header_in j) file (records ++ new)

@@ -1,6 +1,9 @@
 pub mod TurnRecords
 pub mod KeptMoments
 pub mod Giving
+pub mod KeptSteps
 pub mod Rounds
 pub mod KeptRuns
+pub mod LateRuns
+pub mod LateSteps
 pub mod Outputs

@@ -1,5 +1,7 @@
 //! Why no more frames are served.
 ghost use Rattle.std.specs.Prelude.{◌≡◌};
+ghost use Rattle.line_streams.specs.declared.Fault.{Fault};
+ghost use Rattle.line_streams.specs.declared.Fault.TheVariants.{OutOfMemory};
 ghost use Rattle.kept_frames.specs.declared.error.KeptError.TheVariants.{Journal, Stream};
 
 use journal_core::JournalError;
@@ -33,12 +35,16 @@ impl From<JournalError> for KeptError {
 }
 
 impl From<io::Error> for KeptError {
+    ghost from_gives = { λ _ e. (fault : Fault) × (e ≡ Stream fault) };
+
     fn from(error: io::Error) -> KeptError {
         KeptError::Stream(error.into())
     }
 }
 
 impl From<AllocError> for KeptError {
+    ghost from_gives = { λ _ e. e ≡ Stream OutOfMemory };
+
     fn from(_error: AllocError) -> KeptError {
         KeptError::Stream(Fault::OutOfMemory)
     }

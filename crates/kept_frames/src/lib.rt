@@ -2,12 +2,14 @@
 #![tactic(auto)]
 
 mod error;
+mod late;
 mod recording;
 mod rounds;
 mod serving;
 mod told;
 
 pub use error::KeptError;
+pub use late::serve_late;
 pub use recording::Recording;
 pub use serving::serve_kept;
 pub use told::Told;

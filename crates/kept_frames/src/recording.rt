@@ -32,4 +32,7 @@ pub trait Recording: TurnService {
 
     // What moment it is changes nothing that is kept.
     ghost clocks: { (records : List (List ℕ)) (old : Self) (moment : ℕ) (new : Self) → stands records old → Self.clocked old moment new → stands records new };
+
+    // Who the users are changes nothing that is kept.
+    ghost lists: { (records : List (List ℕ)) (old : Self) (file : List ℕ) (new : Self) → stands records old → Self.listed old file new → stands records new };
 }

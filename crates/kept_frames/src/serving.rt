@@ -34,7 +34,7 @@ pub fn serve_kept<S: Recording, D: Disk, I: Read, O: Write>(
 ) -> Result<End, KeptError>
     requires usable { IsTrue (D.Disk.is_usable (disk_behind journal.old)) }
     ensures kept { (records : List (List ℕ)) → Has clients.old [] → IsSettled D.Disk.seen D.Disk.may_leave D.Disk.is_clean journal.old records → S.stands records service.old.service
-        → RunsKept S.begins S.answers S.clocked S.stands D.Disk.seen D.Disk.may_leave D.Disk.is_clean O.contents result clients.old clients.new service.old.service service.new.service
+        → RunsKept S.begins S.answers S.clocked S.listed S.stands D.Disk.seen D.Disk.may_leave D.Disk.is_clean O.contents result clients.old clients.new service.old.service service.new.service
         journal.old journal.new (unread I.remaining frames.old) (unread I.remaining frames.new) output.old output.new }
 {
     // A loop is proved to end, so this one counts its turns.
@@ -58,9 +58,9 @@ fn go_on<S: Recording, D: Disk, I: Read, O: Write>(
     output: &mut O,
 ) -> Result<Option<End>, KeptError>
     requires usable { IsTrue (D.Disk.is_usable (disk_behind journal.old)) }
-    ensures ok { IfOk result (λ end. GoesOnKept S.begins S.answers S.clocked S.stands D.Disk.seen D.Disk.may_leave D.Disk.is_clean O.contents end clients.old clients.new service.old.service
+    ensures ok { IfOk result (λ end. GoesOnKept S.begins S.answers S.clocked S.listed S.stands D.Disk.seen D.Disk.may_leave D.Disk.is_clean O.contents end clients.old clients.new service.old.service
         service.new.service journal.old journal.new output.old output.new (unread I.remaining frames.old) (unread I.remaining frames.new)) }
-    ensures err { OnErr result (FailsKept S.begins S.answers S.clocked S.stands D.Disk.seen D.Disk.may_leave D.Disk.is_clean O.contents clients.old clients.new service.old.service
+    ensures err { OnErr result (FailsKept S.begins S.answers S.clocked S.listed S.stands D.Disk.seen D.Disk.may_leave D.Disk.is_clean O.contents clients.old clients.new service.old.service
         service.new.service journal.old journal.new output.old output.new) }
     ensures usable { OnOk result (IsTrue (D.Disk.is_usable (disk_behind journal.new))) }
 {
@@ -89,9 +89,9 @@ fn round_or_ask<S: Recording, D: Disk, O: Write>(
     output: &mut O,
 ) -> Result<bool, KeptError>
     requires usable { IsTrue (D.Disk.is_usable (disk_behind journal.old)) }
-    ensures ok { OnOk result (WritesKept S.begins S.answers S.clocked S.stands D.Disk.seen D.Disk.may_leave D.Disk.is_clean O.contents clients.old clients.new service.old.service
+    ensures ok { OnOk result (WritesKept S.begins S.answers S.clocked S.listed S.stands D.Disk.seen D.Disk.may_leave D.Disk.is_clean O.contents clients.old clients.new service.old.service
         service.new.service journal.old journal.new output.old output.new) }
-    ensures err { OnErr result (FailsKept S.begins S.answers S.clocked S.stands D.Disk.seen D.Disk.may_leave D.Disk.is_clean O.contents clients.old clients.new service.old.service
+    ensures err { OnErr result (FailsKept S.begins S.answers S.clocked S.listed S.stands D.Disk.seen D.Disk.may_leave D.Disk.is_clean O.contents clients.old clients.new service.old.service
         service.new.service journal.old journal.new output.old output.new) }
     ensures usable { OnOk result (IsTrue (D.Disk.is_usable (disk_behind journal.new))) }
 {
@@ -114,9 +114,9 @@ fn finish<S: Recording, D: Disk, O: Write>(
     output: &mut O,
 ) -> Result<(), KeptError>
     requires usable { IsTrue (D.Disk.is_usable (disk_behind journal.old)) }
-    ensures ok { OnOk result (WritesKept S.begins S.answers S.clocked S.stands D.Disk.seen D.Disk.may_leave D.Disk.is_clean O.contents clients.old clients.new service.old.service
+    ensures ok { OnOk result (WritesKept S.begins S.answers S.clocked S.listed S.stands D.Disk.seen D.Disk.may_leave D.Disk.is_clean O.contents clients.old clients.new service.old.service
         service.new.service journal.old journal.new output.old output.new) }
-    ensures err { OnErr result (FailsKept S.begins S.answers S.clocked S.stands D.Disk.seen D.Disk.may_leave D.Disk.is_clean O.contents clients.old clients.new service.old.service
+    ensures err { OnErr result (FailsKept S.begins S.answers S.clocked S.listed S.stands D.Disk.seen D.Disk.may_leave D.Disk.is_clean O.contents clients.old clients.new service.old.service
         service.new.service journal.old journal.new output.old output.new) }
     ensures begun { count_begun clients.new ≡ count_begun clients.old }
 {

@@ -1,15 +1,16 @@
 //! Requests to a login.
-use crate::telling::Telling;
+use crate::telling::{Still, Telling};
 use bytes::{Buf, Bytes};
-use dav_login_core::{Login, LoginError};
+use dav_login_core::Login;
 use dav_users_core::Users;
 use http::Request;
 use http_header::{HeaderName, HeaderValue};
 use http_server::{Response, Service};
 use std::alloc::Global;
+use std::cell::Cell;
 use std::test::Fail;
 
-const USERS: &str = "\
+pub(crate) const USERS: &str = "\
 ann:$5$saltsalt$0IyaXrmV7.sGNS6tirgqHLqX/G.FBvgkYA.lpPdS5sA\n\
 bob:$5$othersalt$rl2lEnK9jqM2yOPn44LF9pjIcHANst8vKfeJ9.VVW77\n";
 
@@ -50,7 +51,13 @@ fn requests_are_let_in(rt: HostRuntime) -> Result<(), Fail> {
         header: header.clone()?,
     };
     let users = Users::read(alloc, USERS.as_bytes())?;
-    let mut login = Login::new(alloc, service, users, "a realm", header, [7; 32])?;
+    let now = Cell::new(0);
+    let unread = Cell::new(0);
+    let host = Still {
+        now: &now,
+        told: &unread,
+    };
+    let mut login = Login::new(alloc, service, host, users, "a realm", header, [7; 32])?;
     for _ in 0..2 {
         for row in ROWS.lines() {
             let (request, wanted) = row.rsplit_once('|').unwrap_or((row, row));
@@ -61,7 +68,7 @@ fn requests_are_let_in(rt: HostRuntime) -> Result<(), Fail> {
     Ok(())
 }
 
-fn told(alloc: Global, login: &mut Login<Telling>, row: &str) -> Result<String, Fail> {
+fn told(alloc: Global, login: &mut Login<Telling, Still<'_>>, row: &str) -> Result<String, Fail> {
     let (method, rest) = row.split_once('|').unwrap_or((row, row));
     let (signed, named) = rest.split_once('|').unwrap_or((rest, rest));
     let mut request = Request::builder(alloc).method(method).uri("/a?b");

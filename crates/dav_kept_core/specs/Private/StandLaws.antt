@@ -1,10 +1,10 @@
--- What the laws of the trait `Recording` say of a kept server: word of the moment changes nothing that is kept, and each turn changes `turn`.
-use Rattle.std.proofs.Common.{◌≡◌, ◌≤◌, ℕ, Option, Some, None, not, List, [], ◌∷◌, length, ◌∙◌, ap, arith}
+-- What the laws of the trait `Recording` say of a kept server: word of the moment or of the users changes nothing that is kept, and each turn changes `turn`.
+use Rattle.std.proofs.Common.{◌≡◌, ◌≤◌, ℕ, Option, Some, None, not, List, [], ◌∷◌, length, ◌∙◌, sym, ap, subst, arith}
 use Rattle.http_server.specs.Exchange.{Call, Chain}
 use Rattle.http_frames.specs.Gate.{IsTold}
 use Rattle.dav_handler_core.specs.Server.{Server}
 use Rattle.dav_handler_core.specs.Serving.{with_clock}
-use Rattle.dav_kept_core.specs.KeptServers.{BeginsKept, ClockedKept, KeptServer, RepliesKept, StandsForServer}
+use Rattle.dav_kept_core.specs.KeptServers.{BeginsKept, ClockedKept, KeptServer, ListedKept, RepliesKept, StandsForServer}
 
 -- all but the clock is the same
 pub record SameButClock (v v' : Server) : Type 0 where
@@ -17,12 +17,12 @@ same_but_clock None v v' is = record { state = ap (λ (s : Server). s.state) is;
 same_but_clock (Some m) v v' is = record { state = ap (λ (s : Server). s.state) is; last = ap (λ (s : Server). s.last) is; noting = ap (λ (s : Server). s.noting) is }
 
 module _ {C : Type 0} where
-  pub stands_alike : (records : List (List ℕ)) (s s' : KeptServer C) → SameButClock s.timing.server s'.timing.server → s'.began ≡ s.began → StandsForServer records s → StandsForServer records s'
-  stands_alike records s s' same began h = record {
+  pub stands_alike : (records : List (List ℕ)) (s s' : KeptServer C) → SameButClock s.timing.server s'.timing.server → s'.header ≡ s.header → StandsForServer records s → StandsForServer records s'
+  stands_alike records s s' same header h = record {
     old = h.old;
     start = h.start;
     from = h.from;
-    stand = rw began h.stand;
+    stand = rw header h.stand;
     calls = h.calls;
     made = h.made;
     are = h.are;
@@ -33,7 +33,11 @@ module _ {C : Type 0} where
 
   -- word of the moment
   pub clocked_stands : (records : List (List ℕ)) (s s' : KeptServer C) (moment : ℕ) → StandsForServer records s → ClockedKept s moment s' → StandsForServer records s'
-  clocked_stands records s s' moment h x = stands_alike records s s' (same_but_clock (Some moment) s.timing.server s'.timing.server x.clocked.0) x.began h
+  clocked_stands records s s' moment h x = stands_alike records s s' (same_but_clock (Some moment) s.timing.server s'.timing.server x.clocked.0) x.header h
+
+  -- word of the users
+  pub listed_stands : (records : List (List ℕ)) (s s' : KeptServer C) (file : List ℕ) → StandsForServer records s → ListedKept s file s' → StandsForServer records s'
+  listed_stands records s s' file h x = subst (StandsForServer records) (sym x) h
 
   -- whatever the service is of which that is seen
   module _ {S : Type 0} (see : S → KeptServer C) where

@@ -5,9 +5,16 @@ use Rattle.http_server.specs.declared.response.Response.{Response}
 use Rattle.http_server.specs.Exchange.{Call, Chain}
 use Rattle.http_frames.specs.Gate.{CallsOnce, IsTold}
 use Rattle.dav_login_core.specs.CallsBehind.{AreBehind, LeadsBehind, TurnsBehind}
+use Rattle.dav_login_core.specs.declared.known.Known.{Known}
 use Rattle.dav_login_core.specs.declared.login.Login.{Login}
-use Rattle.dav_login_core.specs.LoggedIn.{Door, HandsOn, LoggedIn, LoginState, TurnsAway, PassesOn}
+use Rattle.dav_login_core.specs.LoggedIn.{Door, HandsOn, IsPutOff, IsNotKnown, IsTurnedAway, IsUnknown, LoggedIn, LoginState, TurnsAway, PassesOn}
 use Rattle.dav_login_core.specs.LoginViews.{login}
+
+-- it is turned away, whatever is known
+turned : (door : Door) (request : Request (List ℕ)) (response : Response) (known : List Known) → IsUnknown door request response ⊎ (IsPutOff request response × IsNotKnown door known request)
+    → IsTurnedAway door request response
+turned door request response known (inl unknown) = inl unknown
+turned door request response known (inr held) = inr held.0
 
 -- no more are passed on than there are
 behind_short : (door : Door) (calls inner : List Call) → AreBehind door calls inner → length inner ≤ length calls
@@ -15,14 +22,7 @@ behind_short door [] inner none = omega (arith, ap length none)
 behind_short door (c ∷ calls) inner (inl refused) = omega (arith, behind_short door calls inner refused.1)
 behind_short door (c ∷ calls) inner (inr passed) = omega (arith, ap length passed.2, behind_short door calls passed.1 passed.4)
 
-module _ {S : Type 0} (begins : S → ℕ → S → Type 0) (answers : S → Request (List ℕ) → Response → S → Type 0) where
-  -- what the login begins, and what it answers
-  abbrev pub LoginBegins : Login S → ℕ → Login S → Type 0
-  LoginBegins old number new = HandsOn begins (login old) number (login new)
-
-  abbrev pub LoginAnswers : Login S → Request (List ℕ) → Response → Login S → Type 0
-  LoginAnswers old request response new = LoggedIn answers (login old) request response (login new)
-
+module _ {S : Type 0} (answers : S → Request (List ℕ) → Response → S → Type 0) where
   one_more : (c : Call) (calls : List Call) (old next new : LoginState S) → LoggedIn answers old c.0 c.1 next → LeadsBehind answers next calls new
       → LeadsBehind answers old (c ∷ calls) new
   one_more c calls old next new answered leads = by answered.answer
@@ -30,12 +30,12 @@ module _ {S : Type 0} (begins : S → ℕ → S → Type 0) (answers : S → Req
       behind : AreBehind old.door calls leads.inner
       behind = subst (λ (d : Door). AreBehind d calls leads.inner) answered.door leads.behind
 
-      by : TurnsAway answers old.door old.service c.0 c.1 next.service ⊎ PassesOn answers old.door old.service c.0 c.1 next.service
+      by : TurnsAway old c.0 c.1 next ⊎ PassesOn old c.0 c.1 next answers
           → LeadsBehind answers old (c ∷ calls) new
       by (inl refuses) = record {
         inner = leads.inner;
-        behind = inl (refuses.refused, behind);
-        chain = subst (λ (s : S). Chain answers s leads.inner new.service) refuses.stays leads.chain;
+        behind = inl (turned old.door c.0 c.1 old.known refuses.refused, behind);
+        chain = subst (λ (s : LoginState S). Chain answers s.service leads.inner new.service) refuses.stays leads.chain;
         door = leads.door ∙ answered.door;
       }
       by (inr serves) = record {
@@ -45,18 +45,26 @@ module _ {S : Type 0} (begins : S → ℕ → S → Type 0) (answers : S → Req
         door = leads.door ∙ answered.door;
       }
 
+module _ {S H : Type 0} (begins : S → ℕ → S → Type 0) (answers : S → Request (List ℕ) → Response → S → Type 0) where
+  -- what the login begins, and what it answers
+  abbrev pub LoginBegins : Login S H → ℕ → Login S H → Type 0
+  LoginBegins old number new = HandsOn begins (login old) number (login new)
+
+  abbrev pub LoginAnswers : Login S H → Request (List ℕ) → Response → Login S H → Type 0
+  LoginAnswers old request response new = LoggedIn answers (login old) request response (login new)
+
   -- the calls of a login lead where those behind it lead the service
-  pub leads_behind : (old new : Login S) (calls : List Call) → Chain LoginAnswers old calls new → LeadsBehind answers (login old) calls (login new)
+  pub leads_behind : (old new : Login S H) (calls : List Call) → Chain LoginAnswers old calls new → LeadsBehind answers (login old) calls (login new)
   leads_behind old new [] same = record {
     inner = [];
     behind = refl;
-    chain = ap (λ (l : Login S). l.service) same;
-    door = ap (λ (l : Login S). (login l).door) same;
+    chain = ap (λ (l : Login S H). l.service) same;
+    door = ap (λ (l : Login S H). (login l).door) same;
   }
-  leads_behind old new (c ∷ calls) chain = one_more c calls (login old) (login chain.0) (login new) chain.1 (leads_behind chain.0 new calls chain.2)
+  leads_behind old new (c ∷ calls) chain = one_more answers c calls (login old) (login chain.0) (login new) chain.1 (leads_behind chain.0 new calls chain.2)
 
   -- where the login was told of a turn, the service was
-  pub turns_behind : (old new : Login S) (number : ℕ) (calls : List Call) → IsTold LoginBegins LoginAnswers old number calls new
+  pub turns_behind : (old new : Login S H) (number : ℕ) (calls : List Call) → IsTold LoginBegins LoginAnswers old number calls new
       → TurnsBehind begins answers (login old) number calls (login new)
   turns_behind old new number calls told =
       let leads = leads_behind told.0 new calls told.2.chain in

@@ -1,4 +1,4 @@
-use Rattle.dav_kept_core.specs.KeptServers.{BeginsKept, ClockedKept, RepliesKept, StandsForServer, kept_server}
+use Rattle.dav_kept_core.specs.KeptServers.{BeginsKept, ClockedKept, ListedKept, RepliesKept, StandsForServer, kept_server}
 use Rattle.kept_frames.proofs.KeptViews.{kept_to}
 use Rattle.dav_kept_core.proofs.serving.serve_store.Goals as goal
 
@@ -10,7 +10,8 @@ returns g c =
     record {
       kept = λ records has settled stands.
           kept_to see (λ s n s'. BeginsKept tells (see s) n (see s')) (λ s request response s'. RepliesKept (see s) request response (see s')) (λ s moment s'. ClockedKept (see s) moment (see s'))
-          (λ records s. StandsForServer records (see s)) (BeginsKept tells) RepliesKept ClockedKept StandsForServer (λ s n s' x. x) (λ s request response s' x. x) (λ s moment s' x. x) (λ records s x. x)
+          (λ s file s'. ListedKept (see s) file (see s'))
+          (λ records s. StandsForServer records (see s)) (BeginsKept tells) RepliesKept ClockedKept ListedKept StandsForServer (λ s n s' x. x) (λ s request response s' x. x) (λ s moment s' x. x) (λ s file s' x. x) (λ records s x. x)
           g.D.Disk.seen g.D.Disk.may_leave g.D.Disk.is_clean g.O.Write.contents c.serve_kept.result c.args.clients.now c.serve_kept.new.clients c.args.server.now.service c.serve_kept.new.service.service
           c.args.journal.now c.serve_kept.new.journal _ _ c.args.output.now c.serve_kept.new.output (c.serve_kept.ensures.kept records has settled stands);
     }

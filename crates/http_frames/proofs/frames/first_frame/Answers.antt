@@ -1,4 +1,5 @@
-use Rattle.std.proofs.Common.{◌+◌, ◌≤◌, length, length-take, sym, arith, inr}
+use Rattle.std.proofs.Common.{◌+◌, ◌≤◌, ℕ, List, length, take, length-take, sym, subst, arith, inr}
+use Rattle.http_frames.specs.Frames.{IsFrame}
 use Rattle.http_frames.proofs.Lines.{no_feed, none_before, first_line, framed, cut}
 use Rattle.http_frames.proofs.frames.first_frame.Goals as goal
 
@@ -17,7 +18,8 @@ pub returns-clause-some : goal.returns-clause-some
 returns-clause-some c =
     let line = first_line c.args.bytes.now c.in-Some.end c.if-end-ge-LONGEST_LINE.false c.in-Some.ensures in
     let within : c.in-Some.end + 1 + c.more_of-more.result ≤ length c.args.bytes.now = omega (arith, c.if-more-bytes.false, c.in-Some.ensures.0.high) in
-    (within, framed c.of-head.result c.args.bytes.now c.in-Some.end c.more_of-more.result line (sym c.of-head.ensures) c.more_of-more.ensures within)
+    let text = take (c.in-Some.end + 1 + c.more_of-more.result) c.args.bytes.now in
+    (within, subst (λ (bytes : List ℕ). IsFrame c.of-head.result bytes text) (sym c.given_of.ensures) (framed c.of-head.result c.args.bytes.now c.in-Some.end c.more_of-more.result line (sym c.of-head.ensures) c.more_of-more.ensures within))
 
 pub returns-then-end-ge-LONGEST_LINE-clause-some : goal.returns-then-end-ge-LONGEST_LINE-clause-some
 returns-then-end-ge-LONGEST_LINE-clause-some c =

@@ -1,6 +1,6 @@
 use Rattle.std.proofs.Common.{Some, ap, refl, ◌∙◌}
 use Rattle.http_frames.specs.declared.frames.Head.{Head}
-use Rattle.http_frames.proofs.Framing.{clock_frame, gone_frame, nothing_frame, piece_breaks, piece_frame, taken_breaks, taken_frame, untaken_frame}
+use Rattle.http_frames.proofs.Framing.{clock_frame, from_frame, gone_frame, nothing_frame, piece_breaks, piece_frame, taken_breaks, taken_frame, untaken_frame, users_frame}
 use Rattle.http_frames.proofs.Results.{on_err}
 use Rattle.http_frames.proofs.serving.take_frame.Goals as goal
 
@@ -16,7 +16,7 @@ returns-then-not-taken-clause-ok g c =
 pub returns-in_err-tell-in-Some-Taken-clause-err : goal.returns-in_err-tell-in-Some-Taken-clause-err
 returns-in_err-tell-in-Some-Taken-clause-err g c =
     let is = c.in-Some-Taken.is ∙ ap (λ (h : Head). Some h) (rw c.in-Some-Taken.is at c.in-Some-Taken.field-0-is) in
-    let x = taken_breaks g.S.TurnService.begins g.S.Service.answers g.S.TurnService.clocked c.args.head c.in-Some-Taken.number c.in-Some-Taken.count c.args.bytes.now c.args.clients.now c.taken.new.self c.tell.new.clients
+    let x = taken_breaks g.S.TurnService.begins g.S.Service.answers g.S.TurnService.clocked g.S.TurnService.listed c.args.head c.in-Some-Taken.number c.in-Some-Taken.count c.args.bytes.now c.args.clients.now c.taken.new.self c.tell.new.clients
     c.args.service.now.service (g.O.Write.contents c.args.output.now) (g.O.Write.contents c.tell.new.output) is (c.taken.ensures.takes c.if-not-taken.false) c.taken.ensures.queue c.taken.ensures.settings.config
     c.taken.ensures.settings.window c.in_err-tell-in-Some-Taken.ensures.err in
     on_err _ x
@@ -24,36 +24,49 @@ returns-in_err-tell-in-Some-Taken-clause-err g c =
 pub returns-in_ok-tell-in-Some-Taken-clause-ok : goal.returns-in_ok-tell-in-Some-Taken-clause-ok
 returns-in_ok-tell-in-Some-Taken-clause-ok g c =
     let is = c.in-Some-Taken.is ∙ ap (λ (h : Head). Some h) (rw c.in-Some-Taken.is at c.in-Some-Taken.field-0-is) in
-    taken_frame g.S.TurnService.begins g.S.Service.answers g.S.TurnService.clocked c.args.head c.in-Some-Taken.number c.in-Some-Taken.count c.args.bytes.now c.args.clients.now c.taken.new.self c.tell.new.clients
+    taken_frame g.S.TurnService.begins g.S.Service.answers g.S.TurnService.clocked g.S.TurnService.listed c.args.head c.in-Some-Taken.number c.in-Some-Taken.count c.args.bytes.now c.args.clients.now c.taken.new.self c.tell.new.clients
     c.args.service.now.service (g.O.Write.contents c.args.output.now) (g.O.Write.contents c.tell.new.output) is (c.taken.ensures.takes c.if-not-taken.false) c.taken.ensures.queue c.taken.ensures.settings.config
     c.taken.ensures.settings.window c.in_ok-tell-in-Some-Taken.ensures.ok
 
 pub returns-in-Some-Piece-clause-ok : goal.returns-in-Some-Piece-clause-ok
 returns-in-Some-Piece-clause-ok g c =
     let is = c.in-Some-Piece.is ∙ ap (λ (h : Head). Some h) (rw c.in-Some-Piece.is at c.in-Some-Piece.field-0-is) in
-    piece_frame g.S.TurnService.begins g.S.Service.answers g.S.TurnService.clocked c.take.result c.args.head c.in-Some-Piece.number c.in-Some-Piece.field-0-1 c.args.bytes.now c.args.clients.now c.take.new.self
+    piece_frame g.S.TurnService.begins g.S.Service.answers g.S.TurnService.clocked g.S.TurnService.listed c.take.result c.args.head c.in-Some-Piece.number c.in-Some-Piece.field-0-1 c.args.bytes.now c.args.clients.now c.take.new.self
     c.args.service.now.service (g.O.Write.contents c.args.output.now) (g.O.Write.contents c.take.new.output) is c.take.ensures.order c.take.ensures.takes
     (λ same. let x = c.take.ensures.refused same in (x.0, ap g.O.Write.contents x.1)) c.take.ensures.queue c.take.ensures.config c.take.ensures.window
 
 pub returns-in-Some-Piece-clause-err : goal.returns-in-Some-Piece-clause-err
 returns-in-Some-Piece-clause-err g c =
-    piece_breaks g.S.TurnService.begins g.S.Service.answers g.S.TurnService.clocked c.take.result c.in-Some-Piece.number c.args.clients.now c.take.new.self c.args.service.now.service
+    piece_breaks g.S.TurnService.begins g.S.Service.answers g.S.TurnService.clocked g.S.TurnService.listed c.take.result c.in-Some-Piece.number c.args.clients.now c.take.new.self c.args.service.now.service
     (g.O.Write.contents c.args.output.now) (g.O.Write.contents c.take.new.output) c.take.ensures.fails c.take.ensures.breaks c.take.ensures.queue c.take.ensures.config c.take.ensures.window
 
 pub returns-in-Some-Gone-clause-ok : goal.returns-in-Some-Gone-clause-ok
 returns-in-Some-Gone-clause-ok g c =
     let is = c.in-Some-Gone.is ∙ ap (λ (h : Head). Some h) (rw c.in-Some-Gone.is at c.in-Some-Gone.field-0-is) in
-    gone_frame g.S.TurnService.begins g.S.Service.answers g.S.TurnService.clocked c.gone.result c.args.head c.in-Some-Gone.number c.args.bytes.now c.args.clients.now c.gone.new.self c.args.service.now.service
+    gone_frame g.S.TurnService.begins g.S.Service.answers g.S.TurnService.clocked g.S.TurnService.listed c.gone.result c.args.head c.in-Some-Gone.number c.args.bytes.now c.args.clients.now c.gone.new.self c.args.service.now.service
     (g.O.Write.contents c.args.output.now) is c.gone.ensures.order c.gone.ensures.takes c.gone.ensures.refused c.gone.ensures.queue c.gone.ensures.settings.config c.gone.ensures.settings.window
 
 pub returns-in-Some-Nothing-clause-ok : goal.returns-in-Some-Nothing-clause-ok
 returns-in-Some-Nothing-clause-ok g c =
     let is = c.in-Some-Nothing.is ∙ ap (λ (h : Head). Some h) (rw c.in-Some-Nothing.is at c.in-Some-Nothing.field-0-is) in
-    nothing_frame g.S.TurnService.begins g.S.Service.answers g.S.TurnService.clocked c.nothing.result c.args.head c.args.bytes.now c.args.clients.now c.nothing.new.self c.args.service.now.service
+    nothing_frame g.S.TurnService.begins g.S.Service.answers g.S.TurnService.clocked g.S.TurnService.listed c.nothing.result c.args.head c.args.bytes.now c.args.clients.now c.nothing.new.self c.args.service.now.service
     (g.O.Write.contents c.args.output.now) is c.nothing.ensures.order c.nothing.ensures.takes c.nothing.ensures.refused c.nothing.ensures.queue c.nothing.ensures.settings.config c.nothing.ensures.settings.window
 
 pub returns-in-Some-Clock-clause-ok : goal.returns-in-Some-Clock-clause-ok
 returns-in-Some-Clock-clause-ok g c =
     let is = c.in-Some-Clock.is ∙ ap (λ (h : Head). Some h) (rw c.in-Some-Clock.is at c.in-Some-Clock.field-0-is) in
-    clock_frame g.S.TurnService.begins g.S.Service.answers g.S.TurnService.clocked c.args.head c.in-Some-Clock.moment c.args.bytes.now c.args.clients.now c.args.service.now.service c.set_clock.new.self
+    clock_frame g.S.TurnService.begins g.S.Service.answers g.S.TurnService.clocked g.S.TurnService.listed c.args.head c.in-Some-Clock.moment c.args.bytes.now c.args.clients.now c.args.service.now.service c.set_clock.new.self
     (g.O.Write.contents c.args.output.now) is c.set_clock.ensures
+
+pub returns-in-Some-Users-clause-ok : goal.returns-in-Some-Users-clause-ok
+returns-in-Some-Users-clause-ok g c =
+    let is = c.in-Some-Users.is ∙ ap (λ (h : Head). Some h) (rw c.in-Some-Users.is at c.in-Some-Users.field-0-is) in
+    users_frame g.S.TurnService.begins g.S.Service.answers g.S.TurnService.clocked g.S.TurnService.listed c.args.head c.in-Some-Users.field-0-0 c.args.bytes.now c.args.clients.now c.args.service.now.service
+    c.set_users.new.self (g.O.Write.contents c.args.output.now) is c.set_users.ensures
+
+pub returns-in-Some-From-clause-ok : goal.returns-in-Some-From-clause-ok
+returns-in-Some-From-clause-ok g c =
+    let is = c.in-Some-From.is ∙ ap (λ (h : Head). Some h) (rw c.in-Some-From.is at c.in-Some-From.field-0-is) in
+    from_frame g.S.TurnService.begins g.S.Service.answers g.S.TurnService.clocked g.S.TurnService.listed c.name_next.result c.args.head c.in-Some-From.number c.args.bytes.now c.args.clients.now c.name_next.new.self
+    c.args.service.now.service (g.O.Write.contents c.args.output.now) is c.name_next.ensures.order c.name_next.ensures.takes c.name_next.ensures.refused c.name_next.ensures.queue c.name_next.ensures.settings.config
+    c.name_next.ensures.settings.window

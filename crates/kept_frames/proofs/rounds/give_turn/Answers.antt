@@ -10,27 +10,27 @@ use Rattle.kept_frames.proofs.rounds.give_turn.Goals as goal
 pub returns-in_default-clause-ok : goal.returns-in_default-clause-ok
 returns-in_default-clause-ok g c =
     let none = c.in_default.ensures.none refl in
-    notes_none g.S.TurnService.begins g.S.Service.answers g.S.TurnService.clocked g.S.Recording.stands c.args.clients.now c.answer.new.self c.args.service.now.service c.answer.new.service.service c.args.round.now
+    notes_none g.S.TurnService.begins g.S.Service.answers g.S.TurnService.clocked g.S.TurnService.listed g.S.Recording.stands c.args.clients.now c.answer.new.self c.args.service.now.service c.answer.new.service.service c.args.round.now
     (still c.args.clients.now c.answer.new.self none.3 (same_line c.args.clients.now c.answer.new.self (none.1 ∙ sym none.0)) c.answer.ensures.settings.config c.answer.ensures.settings.window)
     (ap (λ (o : OneCall g.row.S.Denot). o.service) none.2)
 
 pub returns-in_err-record-clause-err : goal.returns-in_err-record-clause-err
 returns-in_err-record-clause-err g c =
-    let turn : BreaksTurns g.S.TurnService.begins g.S.Service.answers g.S.TurnService.clocked c.args.clients.now c.answer.new.self c.args.service.now.service c.answer.new.service.service = (
+    let turn : BreaksTurns g.S.TurnService.begins g.S.Service.answers g.S.TurnService.clocked g.S.TurnService.listed c.args.clients.now c.answer.new.self c.args.service.now.service c.answer.new.service.service = (
       Answered c.in-Some.number c.in-Some.ensures.turn.calls ∷ [],
-      alone_one g.S.TurnService.begins g.S.Service.answers g.S.TurnService.clocked c.in-Some.number c.args.clients.now c.answer.new.self c.args.service.now.service c.answer.new.service.service
+      alone_one g.S.TurnService.begins g.S.Service.answers g.S.TurnService.clocked g.S.TurnService.listed c.in-Some.number c.args.clients.now c.answer.new.self c.args.service.now.service c.answer.new.service.service
           c.in-Some.ensures.turn c.in-Some.ensures.first c.answer.ensures.settings.config c.answer.ensures.settings.window,
     ) in
     on_err _ turn
 
 pub returns-in_ok-record-clause-ok : goal.returns-in_ok-record-clause-ok
 returns-in_ok-record-clause-ok g c =
-    notes_asked g.S.TurnService.begins g.S.Service.answers g.S.TurnService.clocked g.S.Recording.stands g.S.Recording.turn g.met.S.Recording.turns c.in-Some.number c.args.clients.now c.answer.new.self
+    notes_asked g.S.TurnService.begins g.S.Service.answers g.S.TurnService.clocked g.S.TurnService.listed g.S.Recording.stands g.S.Recording.turn g.met.S.Recording.turns c.in-Some.number c.args.clients.now c.answer.new.self
     c.args.service.now.service c.answer.new.service.service c.in-Some.ensures.turn c.in-Some.ensures.first c.answer.ensures.settings.config c.answer.ensures.settings.window c.args.round.now c.record.new.round
     (other_true c.turn.result c.turn-before.result c.turn.ensures c.turn-before.ensures c.if-turn-before.true) c.in_ok-record.ensures.adds
 
 pub returns-else-turn-before-clause-ok : goal.returns-else-turn-before-clause-ok
 returns-else-turn-before-clause-ok g c =
-    notes_unasked g.S.TurnService.begins g.S.Service.answers g.S.TurnService.clocked g.S.Recording.stands g.S.Recording.turn g.met.S.Recording.turns c.in-Some.number c.args.clients.now c.answer.new.self
+    notes_unasked g.S.TurnService.begins g.S.Service.answers g.S.TurnService.clocked g.S.TurnService.listed g.S.Recording.stands g.S.Recording.turn g.met.S.Recording.turns c.in-Some.number c.args.clients.now c.answer.new.self
     c.args.service.now.service c.answer.new.service.service c.in-Some.ensures.turn c.in-Some.ensures.first c.answer.ensures.settings.config c.answer.ensures.settings.window c.args.round.now
     (other_false c.turn.result c.turn-before.result c.turn.ensures c.turn-before.ensures c.if-turn-before.false)

@@ -3,13 +3,14 @@ use Rattle.std.proofs.KnownBytes.{Consumes-nil}
 use Rattle.line_streams.specs.declared.Fault.TheVariants.{Io}
 use Rattle.http_frames.specs.Frames.{unread}
 use Rattle.kept_frames.specs.declared.error.KeptError.TheVariants.{Stream}
-use Rattle.kept_frames.proofs.Steps.{breaks_then, happens_breaks, happens_none, happens_then, serves_then}
+use Rattle.kept_frames.proofs.Standings.{kept_stays}
+use Rattle.kept_frames.proofs.Steps.{breaks_then, serves_then, steps_break, steps_none, steps_then}
 use Rattle.kept_frames.proofs.WholeRuns.{broke_kept, ended_kept}
 use Rattle.kept_frames.proofs.serving.serve_kept.Goals as goal
 
 pub loop-step-init : goal.loop-step-init
 loop-step-init g c = record {
-  served = ([], [], happens_none c.args.clients.now c.args.service.now.service c.args.journal.now c.args.output.now, Consumes-nil (unread g.I.Read.remaining c.args.frames.now));
+  served = ([], [], steps_none c.args.clients.now c.args.service.now.service c.args.journal.now c.args.output.now, Consumes-nil (unread g.I.Read.remaining c.args.frames.now));
   usable = c.requires.usable;
 }
 
@@ -24,13 +25,13 @@ returns-in_err-finish g c = record {
   kept = λ records has settled stand.
       let end = rw c.in-Some.is at c.in_ok-ended.ensures.ok in
       broke_kept c.from_residual-in_err-finish.result records c.from_residual-in_err-finish.ensures.0 has settled stand
-      (breaks_then (happens_then c.loop-step.invariant.served.2 end.0.1) c.in_err-finish.ensures.err.1);
+      (breaks_then (steps_then c.loop-step.invariant.served.2 end.0.1) c.in_err-finish.ensures.err.1);
 }
 
 pub returns-in-Some : goal.returns-in-Some
 returns-in-Some g c = record {
   kept = λ records has settled stand.
-      ended_kept (unread g.I.Read.remaining c.args.frames.now) (unread g.I.Read.remaining c.loop-step.frames) (unread g.I.Read.remaining c.go_on.new.frames) c.in-Some.end records has settled stand
+      ended_kept kept_stays (unread g.I.Read.remaining c.args.frames.now) (unread g.I.Read.remaining c.loop-step.frames) (unread g.I.Read.remaining c.go_on.new.frames) c.in-Some.end records has settled stand
       c.loop-step.invariant.served (rw c.in-Some.is at c.in_ok-ended.ensures.ok) c.in_ok-finish.ensures.ok c.finish.ensures.begun;
 }
 
@@ -42,4 +43,4 @@ loop-step-preserved g c = record {
 }
 
 pub returns : goal.returns
-returns g c = record { kept = λ records has settled stand. broke_kept (Err (Stream Io)) records refl has settled stand (happens_breaks c.loop-step.invariant.served.2) }
+returns g c = record { kept = λ records has settled stand. broke_kept (Err (Stream Io)) records refl has settled stand (steps_break kept_stays c.loop-step.invariant.served.2) }

@@ -20,5 +20,5 @@ returns-clause-ok g c =
           (takes_notes answered taken (map note_of c.take_notes.result.items) c.take_notes.ensures.notes c.take_notes.ensures.changes c.take_notes.ensures.server);
       clock = refl;
       turn = refl;
-      began = refl;
+      header = refl;
     }

@@ -1,0 +1,183 @@
+//! Which requests are let in.
+ghost use Rattle.std.specs.Prelude.{◌≡◌, ◌∷◌, [], ℕ, Some, None, Ok, OnOk, OnErr, codes, IfSome, string_bytes};
+ghost use Rattle.http.specs.Request.{head_of};
+ghost use Rattle.http_server.specs.Response.{IsBlank, IsResponse};
+ghost use Rattle.dav_users_core.specs.Basic.{name_and_password_of};
+ghost use Rattle.dav_login_core.specs.Admissions.{IsFoundToBe, WeighsUp};
+ghost use Rattle.dav_login_core.specs.LoggedIn.{TurnsAway};
+ghost use Rattle.dav_login_core.specs.LoginViews.{login};
+ghost use Rattle.dav_login_core.specs.Sending.{name_and_password_sent};
+ghost use Rattle.dav_login_core.specs.Digests.{digest};
+ghost use Rattle.dav_login_core.specs.declared.admitting.Admitted.{Admitted};
+
+use crate::checking::Verdict;
+use crate::known::Known;
+use crate::login::Login;
+use crate::passing::{as_nobody, as_user};
+use crate::sending::{asks_options, credentials_of};
+use crate::watching::Host;
+use crate::weighing::Standing;
+use bytes::Bytes;
+use dav_users_core::Credentials;
+use http::{Request, StatusCode};
+use http_header::{HeaderName, HeaderValue, HeaderValueError};
+use http_server::Response;
+use std::alloc::AllocError;
+
+/// The request that the service is asked, and what was found right for it.
+#[derive(Drop)]
+pub(crate) struct Admitted {
+    pub(crate) inner: Request<Bytes>,
+    pub(crate) learned: Option<Known>,
+}
+
+impl<S, H: Host> Login<S, H> {
+    /// The request that the service is to be asked; or none, and the request is answered.
+    pub(crate) fn admit(
+        &mut self,
+        request: &Request<Bytes>,
+        response: &mut Response,
+    ) -> Result<Option<Admitted>, AllocError>
+        requires { IsBlank response.old }
+        ensures some { (admitted : Admitted) → result ≡ Ok (Some admitted) → IsFoundToBe (login self.old).door request.now admitted }
+        ensures same { (admitted : Admitted) → result ≡ Ok (Some admitted) → self.new ≡ self.old }
+        ensures blank { (admitted : Admitted) → result ≡ Ok (Some admitted) → IsBlank response.new }
+        ensures none { result ≡ Ok None → TurnsAway (login self.old) request.now response.new (login self.new) }
+        ensures err { OnErr result (self.new ≡ self.old) }
+    {
+        match credentials_of(self.alloc, request.headers())? {
+            Some(given) => self.admit_sent(given, request, response),
+            None => self.admit_unsigned(request, response),
+        }
+    }
+
+    // The same of a request that sends no name and no password.
+    fn admit_unsigned(
+        &self,
+        request: &Request<Bytes>,
+        response: &mut Response,
+    ) -> Result<Option<Admitted>, AllocError>
+        requires blank { IsBlank response.old }
+        requires unsigned { name_and_password_sent (head_of request.now).headers ≡ None }
+        ensures some { (admitted : Admitted) → result ≡ Ok (Some admitted) → IsFoundToBe (login self.now).door request.now admitted }
+        ensures blank { (admitted : Admitted) → result ≡ Ok (Some admitted) → IsBlank response.new }
+        ensures none { result ≡ Ok None → TurnsAway (login self.now) request.now response.new (login self.now) }
+    {
+        if !asks_options(request) {
+            self.refuse(response)?;
+            return Ok(None);
+        }
+        let inner = as_nobody(request, &self.header)?;
+        Ok(Some(Admitted {
+            inner,
+            learned: None,
+        }))
+    }
+
+    // The same of a request that sends a name and a password.
+    fn admit_sent(
+        &mut self,
+        given: Credentials,
+        request: &Request<Bytes>,
+        response: &mut Response,
+    ) -> Result<Option<Admitted>, AllocError>
+        requires blank { IsBlank response.old }
+        requires is_sent { name_and_password_sent (head_of request.now).headers ≡ Some (name_and_password_of given) }
+        ensures some { (admitted : Admitted) → result ≡ Ok (Some admitted) → IsFoundToBe (login self.old).door request.now admitted }
+        ensures same { (admitted : Admitted) → result ≡ Ok (Some admitted) → self.new ≡ self.old }
+        ensures blank { (admitted : Admitted) → result ≡ Ok (Some admitted) → IsBlank response.new }
+        ensures none { result ≡ Ok None → TurnsAway (login self.old) request.now response.new (login self.new) }
+        ensures err { OnErr result (self.new ≡ self.old) }
+    {
+        let value = match HeaderValue::from_str(self.alloc, given.name.as_str()) {
+            Ok(value) => value,
+            Err(HeaderValueError::OutOfMemory) => return Err(AllocError),
+            Err(HeaderValueError::Invalid) => {
+                self.refuse(response)?;
+                return Ok(None);
+            }
+        };
+        let digest = self
+            .accepted
+            .digest(given.name.as_str(), given.password.as_str());
+        match self.weigh(&given, digest) {
+            Standing::Accepted => {
+                let inner = as_user(request, &self.header, value)?;
+                Ok(Some(Admitted {
+                    inner,
+                    learned: None,
+                }))
+            }
+            Standing::Right => {
+                let inner = as_user(request, &self.header, value)?;
+                Ok(Some(Admitted {
+                    inner,
+                    learned: Some(Known {
+                        name: given.name,
+                        digest,
+                    }),
+                }))
+            }
+            Standing::Wrong => {
+                self.refuse(response)?;
+                self.accepted.note_refused(self.watch.connection(), digest);
+                Ok(None)
+            }
+            Standing::Again => {
+                self.refuse(response)?;
+                Ok(None)
+            }
+            Standing::TooMany => {
+                hold_back(response)?;
+                Ok(None)
+            }
+        }
+    }
+
+    // What is said of a name and a password with this digest. The password is hashed only where the digest is neither kept of what was accepted nor of what the connection sent in vain, and no
+    // limit of guesses is reached.
+    fn weigh(&mut self, given: &Credentials, sent: [u8; 32]) -> Standing
+        requires { sent ≡ digest self.old.accepted.key (string_bytes given.now.name) (string_bytes given.now.password) }
+        ensures weighs { WeighsUp (login self.old).door (login self.old).known (string_bytes given.now.name) (string_bytes given.now.password) result }
+        ensures same { self.new ≡ self.old }
+    {
+        if self.accepted.knows(&sent) {
+            return Standing::Accepted;
+        }
+        let connection = self.watch.connection();
+        if self.accepted.was_refused(connection, sent) {
+            return Standing::Again;
+        }
+        let accepted = &self.accepted;
+        match self
+            .watch
+            .check(accepted, given.name.as_str(), given.password.as_str())
+        {
+            Verdict::Right => Standing::Right,
+            Verdict::Wrong => Standing::Wrong,
+            Verdict::TooMany => Standing::TooMany,
+        }
+    }
+
+    // Asks for a name and a password (RFC 9110 section 15.5.2).
+    fn refuse(&self, response: &mut Response) -> Result<(), AllocError>
+        requires { IsBlank response.old }
+        ensures { OnOk result (IsResponse 401 ((codes "www-authenticate", self.now.challenge.bytes) ∷ []) [] response.new) }
+    {
+        response.status = StatusCode::UNAUTHORIZED;
+        let name = HeaderName::from_static("www-authenticate");
+        response.add_header(name, self.challenge.clone()?)
+    }
+}
+
+// Says that too many guesses were wrong, and when the next may be right (RFC 6585 section 4).
+fn hold_back(response: &mut Response) -> Result<(), AllocError>
+    requires { IsBlank response.old }
+    ensures { OnOk result (IsResponse 429 ((codes "retry-after", codes "1") ∷ []) [] response.new) }
+{
+    response.status = StatusCode::TOO_MANY_REQUESTS;
+    response.add_header(
+        HeaderName::from_static("retry-after"),
+        HeaderValue::from_static("1"),
+    )
+}

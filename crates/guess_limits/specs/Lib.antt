@@ -1,0 +1,2 @@
+pub mod GuessRuns
+pub mod Guessing

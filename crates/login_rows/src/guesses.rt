@@ -1,0 +1,165 @@
+//! Limits of guesses, and users that change.
+use crate::requests::USERS;
+use crate::telling::{Still, Telling};
+use bytes::Bytes;
+use dav_login_core::Login;
+use dav_users_core::Users;
+use http::Request;
+use http_frames::gate::TurnService;
+use http_header::HeaderName;
+use http_server::{Response, Service};
+use std::alloc::Global;
+use std::cell::Cell;
+use std::test::Fail;
+
+type Guarded<'a> = Login<Telling, Still<'a>>;
+
+// Of each row a connection, the address of its client, what is sent behind `Basic `, and the status; or how many seconds later it is.
+const LIMITED: &str = "\
+1 192.0.2.1 YW5uOnNlY3JldA== 200\n\
+1 192.0.2.1 YW5uOjE= 401\n\
+1 192.0.2.1 YW5uOjE= 401\n\
+1 192.0.2.1 YW5uOjI= 401\n\
+1 192.0.2.1 Ym9iOjM= 401\n\
+1 192.0.2.1 ZXZlOjQ= 401\n\
+1 192.0.2.1 ZXZlOjU= 401\n\
+1 192.0.2.1 ZXZlOjY= 429\n\
+1 192.0.2.1 ZXZlOjc= 429\n\
+2 192.0.2.1 ZXZlOjc= 429\n\
+2 192.0.2.1 YW5uOjE= 429\n\
+1 192.0.2.1 YW5uOjE= 401\n\
+1 192.0.2.1 YW5uOnNlY3JldA== 200\n\
+1 192.0.2.1 Ym9iOnDDpDpzcw== 429\n\
+3 192.0.2.2 ZXZlOjY= 401\n\
+3 192.0.2.2 Ym9iOnDDpDpzcw== 200\n\
+1 192.0.2.1 Ym9iOnDDpDpzcw== 200\n\
+later 1\n\
+1 192.0.2.1 ZXZlOjY= 401\n\
+1 192.0.2.1 ZXZlOjc= 429\n\
+later 60\n\
+1 192.0.2.1 ZXZlOjc= 401\n\
+1 192.0.2.1 ZXZlOjg= 401";
+
+// The same, or a file of users that is listed: `same`, one in which bob's line is another, or `wrong`.
+const LISTED: &str = "\
+1 192.0.2.1 YW5uOnNlY3JldA== 200\n\
+1 192.0.2.1 Ym9iOnDDpDpzcw== 200\n\
+1 192.0.2.1 YW5uOjE= 401\n\
+1 192.0.2.1 YW5uOjI= 401\n\
+1 192.0.2.1 Ym9iOjM= 401\n\
+1 192.0.2.1 ZXZlOjQ= 401\n\
+1 192.0.2.1 ZXZlOjU= 401\n\
+list wrong\n\
+1 192.0.2.1 YW5uOnNlY3JldA== 200\n\
+1 192.0.2.1 Ym9iOnDDpDpzcw== 200\n\
+list another\n\
+1 192.0.2.1 YW5uOnNlY3JldA== 200\n\
+1 192.0.2.1 Ym9iOnDDpDpzcw== 429\n\
+2 192.0.2.2 Ym9iOnDDpDpzcw== 401\n\
+2 192.0.2.2 Ym9iOnNlY3JldA== 200\n\
+list wrong\n\
+1 192.0.2.1 Ym9iOnNlY3JldA== 200\n\
+list same\n\
+1 192.0.2.1 YW5uOnNlY3JldA== 200\n\
+2 192.0.2.2 Ym9iOnNlY3JldA== 401";
+
+const ANOTHER: &str = "\
+ann:$5$saltsalt$0IyaXrmV7.sGNS6tirgqHLqX/G.FBvgkYA.lpPdS5sA\n\
+bob:$5$saltsalt$0IyaXrmV7.sGNS6tirgqHLqX/G.FBvgkYA.lpPdS5sA\n";
+
+#[test]
+fn guesses_are_limited(rt: HostRuntime) -> Result<(), Fail> {
+    let now = Cell::new(5_000_000_000);
+    let told = Cell::new(0);
+    let mut login = login(rt.alloc(), &now, &told)?;
+    for row in LIMITED.lines() {
+        let wanted = row.rsplit_once(' ').unwrap_or((row, row)).1;
+        let answered = played(rt.alloc(), &mut login, &now, row)?;
+        assert!(rt; answered.as_str() == wanted, "{row}: {answered}");
+    }
+    Ok(())
+}
+
+#[test]
+fn users_are_listed(rt: HostRuntime) -> Result<(), Fail> {
+    let now = Cell::new(0);
+    let told = Cell::new(0);
+    let mut login = login(rt.alloc(), &now, &told)?;
+    for row in LISTED.lines() {
+        let wanted = row.rsplit_once(' ').unwrap_or((row, row)).1;
+        let answered = played(rt.alloc(), &mut login, &now, row)?;
+        assert!(rt; answered.as_str() == wanted, "{row}: {answered}");
+    }
+    assert!(rt; told.get() == 2);
+    Ok(())
+}
+
+fn login<'a>(alloc: Global, now: &'a Cell<u64>, told: &'a Cell<u64>) -> Result<Guarded<'a>, Fail> {
+    let header = HeaderName::from_static("x-user");
+    let service = Telling {
+        alloc,
+        header: header.clone()?,
+    };
+    let users = Users::read(alloc, USERS.as_bytes())?;
+    Ok(Login::new(
+        alloc,
+        service,
+        Still { now, told },
+        users,
+        "a realm",
+        header,
+        [7; 32],
+    )?)
+}
+
+// What a row leads to: its last word, where it is no request.
+fn played(
+    alloc: Global,
+    login: &mut Guarded<'_>,
+    now: &Cell<u64>,
+    row: &str,
+) -> Result<String, Fail> {
+    let (first, rest) = row.split_once(' ').unwrap_or((row, row));
+    let last = rest.rsplit_once(' ').unwrap_or((rest, rest)).1;
+    if first == "later" {
+        let seconds = rest.parse::<u64>().unwrap_or(0);
+        now.set(now.get().wrapping_add(seconds.wrapping_mul(1_000_000_000)));
+        return Ok(String::from_str(alloc, last)?);
+    }
+    if first == "list" {
+        login.set_users(match rest {
+            "same" => USERS.as_bytes(),
+            "another" => ANOTHER.as_bytes(),
+            _ => b"no line\n",
+        });
+        return Ok(String::from_str(alloc, last)?);
+    }
+    let (address, sent) = rest.split_once(' ').unwrap_or((rest, rest));
+    login.begin_turn(first.parse::<u64>().unwrap_or(0), address.as_bytes());
+    let token = sent.split_once(' ').unwrap_or((sent, sent)).0;
+    answered(alloc, login, token)
+}
+
+// The status, and what a 429 lacks or has too much.
+fn answered(alloc: Global, login: &mut Guarded<'_>, token: &str) -> Result<String, Fail> {
+    let value = format!(in alloc; "Basic {token}")?;
+    let request = Request::builder(alloc)
+        .method("GET")
+        .uri("/a")
+        .header("authorization", value.as_str())
+        .body(Bytes::from_static(b"x"))?;
+    let mut response = Response::new(alloc);
+    login.call(&request, &mut response)?;
+    let mut text = format!(in alloc; "{}", response.status.as_u16())?;
+    if text.as_str() == "429" {
+        for (name, value) in &response.headers {
+            if name.as_str() != "retry-after" || value.as_bytes() != b"1".as_slice() {
+                text.push_str(name.as_str())?;
+            }
+        }
+        if response.headers.len() != 1 || !response.body.is_empty() {
+            text.push_str(" and more")?;
+        }
+    }
+    Ok(text)
+}

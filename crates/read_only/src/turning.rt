@@ -1,0 +1,54 @@
+//! What the service is told between its calls, and what there is no room for.
+use crate::looking::asks_to_look;
+use crate::service::{ReadOnly, forbid};
+use bytes::Bytes;
+use http::Request;
+use http_frames::gate::TurnService;
+use http_server::Response;
+use std::alloc::AllocError;
+
+/// The service is told each word.
+impl<S: TurnService> TurnService for ReadOnly<S> {
+    ghost begins = { λ old number new. S.begins old.service number new.service };
+
+    ghost clocked = { λ old moment new. S.clocked old.service moment new.service };
+
+    ghost listed = { λ old file new. S.listed old.service file new.service };
+
+    fn begin_turn(&mut self, number: u64, address: &[u8]) {
+        self.service.begin_turn(number, address);
+    }
+
+    fn own_len(&self, request: &Request<Bytes>, response: &Response) -> u64 {
+        self.service.own_len(request, response)
+    }
+
+    /// Nothing is changed, so nothing is kept.
+    fn room_for(&self, _request: &Request<Bytes>) -> u64 {
+        0
+    }
+
+    fn most_room(&self, _bytes: u64) -> u64 {
+        0
+    }
+
+    fn refuse_for_room(
+        &mut self,
+        request: &Request<Bytes>,
+        response: &mut Response,
+    ) -> Result<(), AllocError> {
+        if !asks_to_look(request) {
+            forbid(response);
+            return Ok(());
+        }
+        self.service.refuse_for_room(request, response)
+    }
+
+    fn set_clock(&mut self, moment: u64) {
+        self.service.set_clock(moment);
+    }
+
+    fn set_users(&mut self, file: &[u8]) {
+        self.service.set_users(file);
+    }
+}

@@ -1,0 +1,2 @@
+pub mod LogLines
+pub mod Private

@@ -1,0 +1,178 @@
+"""What the listener tells the program beside the bytes of clients, for tests/listener: where a client comes from, and who the users are, again on each hang-up."""
+import asyncio
+import os
+import signal
+import socket
+import sys
+import tempfile
+import time
+
+import breaking
+from behind import LARGEST, pattern
+from listening import HERE, LARGE, listening, receive, until, whole
+
+USERS = "ann:x\nben:y\n"
+# So many hang-ups random clients go through.
+HANG_UPS = 50
+
+
+def write(path, text):
+    with open(path, "w", encoding="ascii") as file:
+        file.write(text)
+
+
+def asks(family, address, text, source=None):
+    """What a client is told that comes to this address, from that one."""
+    with socket.socket(family) as client:
+        client.settimeout(100)
+        if source:
+            client.bind((source, 0))
+        client.connect(address)
+        client.sendall(text)
+        client.shutdown(socket.SHUT_WR)
+        return whole(client)
+
+
+def places(listen, has_ipv6):
+    """The address of each client is told right before its first bytes."""
+    with listening(listen) as it:
+        held = {source: it.connect(source) for source in ("127.0.0.1", "127.0.0.2", "127.1.2.3")}
+        silent = it.connect("127.9.9.9")
+        for source, client in reversed(held.items()):
+            client.sendall(b"who\n")
+            yield f"who comes from {source}", receive(client, len(source) + 1) == source.encode() + b"\n"
+        silent.close()
+        held["127.0.0.2"].sendall(b"who\n")
+        yield "and still does behind others", receive(held["127.0.0.2"], 10) == b"127.0.0.2\n"
+        for client in held.values():
+            client.close()
+        yield "places: a clean end", it.end() == 0
+    with tempfile.TemporaryDirectory() as folder:
+        path = os.path.join(folder, "socket")
+        words = ["--listen", f"unix:{path}", *(["--listen", "[::1]:0"] if has_ipv6 else [])]
+        with listening(listen, words) as it:
+            yield "who comes by a unix socket", asks(socket.AF_UNIX, path, b"who\n") == b"unix\n"
+            if has_ipv6:
+                yield "who comes by IPv6", asks(socket.AF_INET6, ("::1", int(it.urls[1].rstrip("/").rpartition(":")[2])), b"who\n") == b"::1\n"
+    if has_ipv6 and socket.has_dualstack_ipv6():
+        with socket.create_server(("::", 0), family=socket.AF_INET6, dualstack_ipv6=True) as both:
+            begin = ["bash", "-c", 'exec 3<&"$0"; LISTEN_FDS=1 LISTEN_PID=$$ exec "$@"', str(both.fileno()), listen, "--connections-per-address", "1"]
+            program = [sys.executable, os.path.join(HERE, "behind.py"), "serve", "1"]
+            with listening(begin[0], begin[1:], program=program, pass_fds=[both.fileno()]) as it:
+                address = ("127.0.0.1", both.getsockname()[1])
+                with socket.create_connection(address) as held:
+                    held.sendall(b"who\n")
+                    yield "who comes by IPv4 to a socket of both", receive(held, 10) == b"127.0.0.1\n"
+                    yield "and counts as such", asks(socket.AF_INET, address, b"who\n", "127.0.0.2") == b"127.0.0.2\n"
+
+
+def is_told(it, wanted):
+    """Whether these are the users at last."""
+    return until(lambda: it.asks(b"users\n") == wanted + b"\n")
+
+
+def users(listen, _):
+    with tempfile.TemporaryDirectory() as folder:
+        path = os.path.join(folder, "users")
+        yield from wrong_starts(listen, folder, path)
+        write(path, USERS)
+        with listening(listen, users=path) as it, it.connect() as held:
+            yield "the users are told first of all", it.asks(b"users\n") == b"ann,ben\n"
+            held.sendall(b"get 3\nput 9\n123")
+            yield "before a hang-up", receive(held, 3) == pattern(3)
+            write(path, "ben:y\ncid:z\n")
+            yield "and not again of themselves", it.asks(b"users\n") == b"ann,ben\n"
+            it.signal(signal.SIGHUP)
+            yield "a hang-up tells them again", is_told(it, b"ben,cid")
+            for what, change in changes(path):
+                change()
+                before = it.told().count("the users stay")
+                it.signal(signal.SIGHUP)
+                yield f"{what} is told", until(lambda: it.told().count("the users stay") == before + 1) and path in it.told()
+                yield f"{what}: the users stay", it.asks(b"users\n") == b"ben,cid\n"
+            write(path, "ben:y\nwrong\n")
+            it.signal(signal.SIGHUP)
+            yield "a wrong line is the program's matter", until(lambda: "line 2" in it.told()) and it.asks(b"users\n") == b"ben,cid\n"
+            write(path, "x:" + "y" * (LARGEST - 3) + "\n")
+            it.signal(signal.SIGHUP)
+            yield "a file of 1 MiB is told whole", is_told(it, b"x")
+            it.asks(b"end 5\n")
+            yield "a program that is run again is told them", is_told(it, b"x") and "run again" in it.told()
+            held.close()
+            yield "users: a clean end", it.end() == 0
+
+
+def changes(path):
+    """What makes a file that can't be read, one behind another."""
+    yield "a file that is gone", lambda: os.remove(path)
+    yield "a folder", lambda: os.mkdir(path)
+    yield "a pipe", lambda: (os.rmdir(path), os.mkfifo(path))
+    yield "a long file", lambda: (os.remove(path), write(path, "x:" + "y" * LARGEST))
+
+
+def wrong_starts(listen, folder, path):
+    """Each begins anew with such a file, and leaves none."""
+    from_nothing = [*changes(path)]
+    write(path, "")
+    for what, change in from_nothing:
+        change()
+        with listening(listen, users=path) as it:
+            yield f"{what} at the start", it.wait() == 7 and path in it.told() and it.urls == [""]
+    write(path, "ann:x\nben:y\n\n")
+    with listening(listen, users=path) as it:
+        yield "a wrong line at the start", it.wait() == 5 and "line 3" in it.told() and "exit status: 7" in it.told()
+    with listening(listen, ["--listen", "0.0.0.0:0"], users=path) as it:
+        it.wait()
+        yield "users on an open address", "can read passwords" in it.told()
+    os.remove(path)
+
+
+def hang_ups(listen, _):
+    """A hang-up ends nothing and loses nothing, however many there are, and at whatever moment."""
+    with listening(listen) as it:
+        it.signal(signal.SIGHUP)
+        yield "without users a hang-up says so", until(lambda: "there is no --users" in it.told())
+        for number in (signal.SIGHUP, signal.SIGTERM, signal.SIGINT):
+            os.kill(it.program(), number)
+        yield "signals don't end the program", it.asks(b"get 3\n") == pattern(3) and it.end() == 0
+    with tempfile.TemporaryDirectory() as folder:
+        path = os.path.join(folder, "users")
+        write(path, "x:" + "y" * (LARGEST - 3) + "\n")
+        with listening(listen, users=path, deaf=2) as it:
+            end = time.monotonic() + 1
+            while time.monotonic() < end:
+                it.signal(signal.SIGHUP)
+            yield "a program that reads nothing has no more than some users wait", it.asks(b"users\n") == b"x\n" and it.memory() < 20
+        write(path, USERS)
+        with listening(listen, ["--head", "600"], users=path) as it, it.connect() as sending, it.connect(room=65536) as taking:
+            sending.sendall(b"put 1000000\n")
+            taking.sendall(b"get %d\n" % LARGE)
+            taken = 0
+            for _ in range(100):
+                it.signal(signal.SIGHUP)
+                sending.sendall(bytes(10_000))
+                piece = receive(taking, 100_000)
+                if piece != (pattern(100_000 + 251)[taken % 251 :])[:100_000]:
+                    break
+                taken += len(piece)
+            yield "an upload goes on through a hundred hang-ups", receive(sending, 11) == b"ok 1000000\n"
+            yield "and a download", taken == 10_000_000
+            it.signal()
+            it.signal(signal.SIGHUP)
+            yield "and behind a first signal, up to its end", len(whole(taking)) == LARGE - taken and it.wait() == 0
+        with listening(listen, mode="echo", users=path) as it:
+            counts = asyncio.run(beside_hang_ups(it, breaking.Clients(2, it.port, 1 << 60)))
+            played = sum(counts[kind] for kind in breaking.KINDS)
+            yield f"of {played} random clients beside {HANG_UPS} of them {counts['wrong']} are answered wrongly", counts["wrong"] == 0 and played > breaking.AT_ONCE
+            yield "hang-ups: a clean end", it.end() == 0
+
+
+async def beside_hang_ups(it, clients):
+    """What random clients come to that go on until so many hang-ups were followed."""
+    played = asyncio.ensure_future(clients.play())
+    while not played.done():
+        it.signal(signal.SIGHUP)
+        await asyncio.sleep(0.01)
+        if it.told().count("read again") >= HANG_UPS:
+            clients.left = 0
+    return await played

@@ -35,9 +35,12 @@ The first start proves the server before it runs it, which takes some time and i
 
   --store FILE                    the file that keeps what is put, through any crash; it is made where it isn't there. What it keeps stands in memory, too
   --sync always|second            when FILE has what is changed: before an answer tells of it, as without this; or once a second, so that a crash takes at most the last second's changes
+  --compact-over BYTES            at the start FILE is written anew where it has more bytes than that, 67108864 without this,
+  --compact-useless PERCENT       and where more than so many hundredths of it are of no use any more, 50 without this
   --scheme http|https             the scheme by which clients come, where a proxy stands between
   --prefix PATH                   the path that the folder stands at, as /dav
   --user-header NAME              the header in which a proxy names the user; without it all requests are one user
+  --address-header NAME           the header in which a proxy tells where a client is, for --log and for the limits of guesses of --users; what stands behind the last comma of the last one counts
   --users FILE                    the users who may log in, a line NAME:HASH for each (docs/USERS.md), read again on SIGHUP; not with --user-header
   --log FILE                      a line for each request is appended to the file, which may be moved away at any moment; - is standard error
   --read-only                     lets nothing be changed: all but GET, HEAD, OPTIONS and PROPFIND is answered 403
@@ -69,9 +72,14 @@ usage: bin/davstore FILE check
        bin/davstore FILE list [FOLDER]
        bin/davstore FILE log [--bodies]
        bin/davstore FILE compact
+       bin/davstore FILE import DIR
+       bin/davstore FILE export DIR
+       bin/davstore FILE salvage OUT
 
 Says of a file of --store whether it is whole, what stands in it, or what changed it (crates/davstore/README.md). It changes nothing there, and may be run beside the server.
 With compact it writes the file anew, without what was deleted or written over; the server must not run meanwhile.
+With import it puts what stands in a folder into the file, for which the server must not run either; with export what stands in the file into a new folder.
+With salvage it puts what stood in a file before it is broken into a new file.
   --help, --version               this text; the kit and the commit
 """,
     "davreplay": """\

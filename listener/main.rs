@@ -192,6 +192,9 @@ fn tell(options: &Options, listeners: &[Listener], memory: u64) {
             };
             say(format_args!("whoever reaches {open} can {what}"));
         }
+        if has("--address-header") {
+            say(format_args!("whoever reaches {open} can say to be at any address, unless only a proxy gets there"));
+        }
     }
 }
 

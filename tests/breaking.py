@@ -29,6 +29,10 @@ class Clients:
         await asyncio.gather(*(self.place() for _ in range(AT_ONCE)))
         return self.counts
 
+    def played(self):
+        """How many of them have come and gone."""
+        return sum(self.counts[kind] for kind in KINDS)
+
     async def place(self):
         while self.left:
             self.left -= 1

@@ -17,7 +17,7 @@ LARGEST, PIECE = 1_048_576, 65_536
 # Where a request with a body of more bytes is refused, the connection is closed.
 LONG_BODY = 524_288
 # Whoever waits so many seconds for the program waits for ever.
-PATIENCE = 30
+PATIENCE = 120
 
 
 def request(line, body=None, more=b"", host=b"h"):
@@ -175,7 +175,7 @@ class Listener:
 
     def until(self, holds):
         """Whether it holds at last: not where the program ends first, or nothing comes for too long."""
-        end = time.monotonic() + 10 * PATIENCE
+        end = time.monotonic() + 3 * PATIENCE
         while not holds():
             if self.has_ended or not self.step() or time.monotonic() > end:
                 return False

@@ -11,7 +11,9 @@ from listening import listening, until
 # Of one address: so many wrong checks, and one more a second. Of all: so many, and as many more a second, but for the first of each address.
 OF_ONE, OF_ALL = 5, 20
 SECONDS, RATE, CONNECTIONS = 3, 1000, 10
-PATIENCE = 60
+# A user is served at least once while a guesser is told so many answers on each of its connections, or so many times sixteen where it has fewer.
+TURNS = 5
+PATIENCE = 300
 
 
 def basic(name, word):
@@ -69,6 +71,13 @@ class Guesser:
         await asyncio.gather(*(self.guess_by(client, place, began, seconds) for place, client in enumerate(clients)))
         return time.monotonic() - began
 
+    def told(self):
+        return sum(self.codes.values())
+
+    def goes_on_beside(self, codes):
+        """Whether a user who is answered so meanwhile is always let in, and as often as it has to be, however slow the machine is."""
+        return [*codes] == [200] and codes[200] >= max(1, self.told() // (TURNS * max(16, self.connections)))
+
     async def guess_by(self, client, place, began, seconds):
         count = int(self.rate * seconds / self.connections)
         hears = asyncio.ensure_future(self.hear(client, count))
@@ -108,8 +117,8 @@ async def guessed(it, ann, ben):
     beside, _ = await status(it.port, ann, "127.0.0.3")
     took, (codes, longest) = await guesses, await others
     most = OF_ONE + took + 1
-    yield f"of {sum(guesser.codes.values())} guesses in {took:.1f} s {guesser.codes[401]} are 401, and the others 429", OF_ONE <= guesser.codes[401] <= most and not guesser.wrong
-    yield f"the user's {codes[200]} requests meanwhile, within {longest:.2f} s", [*codes] == [200] and codes[200] > 10
+    yield f"of {guesser.told()} guesses in {took:.1f} s {guesser.codes[401]} are 401, and the others 429", OF_ONE <= guesser.codes[401] <= most and not guesser.wrong
+    yield f"the user's {codes[200]} requests meanwhile, within {longest:.2f} s", guesser.goes_on_beside(codes)
     yield f"who logs in meanwhile from another address, within {seconds:.2f} s", new == 200
     yield "who has logged in, from the guesser's address", beside == 200
     many = [f"127.0.1.{number}" for number in range(1, 41)]
@@ -120,8 +129,8 @@ async def guessed(it, ann, ben):
     new, seconds = await status(it.port, basic("cid", "cid-secret"), "127.0.0.4")
     took, (codes, longest) = await guesses, await others
     most = len(many) + OF_ALL + OF_ALL * took + 1
-    yield f"of {sum(guesser.codes.values())} guesses of forty addresses in {took:.1f} s {guesser.codes[401]} are 401", len(many) <= guesser.codes[401] <= most and not guesser.wrong
-    yield f"the user's {codes[200]} requests beside forty, within {longest:.2f} s", [*codes] == [200] and codes[200] > 10
+    yield f"of {guesser.told()} guesses of forty addresses in {took:.1f} s {guesser.codes[401]} are 401", len(many) <= guesser.codes[401] <= most and not guesser.wrong
+    yield f"the user's {codes[200]} requests beside forty, within {longest:.2f} s", guesser.goes_on_beside(codes)
     yield f"who logs in beside forty from another address, within {seconds:.2f} s", new == 200
     user.close()
     # Then all together have as many guesses again as they may make at once.
@@ -130,6 +139,32 @@ async def guessed(it, ann, ben):
     codes = [await forgetful.asked(basic("ann", "old")) for _ in range(30)] + [await forgetful.asked(basic("ann", f"older {number}")) for number in range(4)]
     forgetful.close()
     yield "who sends the same wrong password again and again has made one guess", codes == [401] * 34
+
+
+def told(address):
+    """A field by which a proxy tells an address."""
+    return f"X-Forwarded-For: 192.0.2.99, {address}\r\n".encode()
+
+
+async def told_apart(it, ann):
+    """Rows of clients whose addresses a proxy tells, on connections of its own."""
+    proxy = await Client.to(it.port)
+    codes = [await proxy.asked(basic("ann", f"{client} {number}") + told(f"192.0.2.{client}")) for client in range(3) for number in range(OF_ONE)]
+    yield "told addresses of one connection have their own guesses", codes == [401] * len(codes)
+    proxy.close()
+    # Then all together have as many guesses again as they may make at once.
+    await asyncio.sleep(1)
+    began, codes = time.monotonic(), collections.Counter()
+    for place in range(1, 11):
+        client = await Client.to(it.port, f"127.0.2.{place}")
+        for number in range(2):
+            codes[await client.asked(basic("ann", f"{place} {number}") + told("2001:db8::7"))] += 1
+        client.close()
+    most = OF_ONE + time.monotonic() - began + 1
+    yield f"one told address of ten connections has {codes[401]} of 20 guesses", OF_ONE <= codes[401] <= most and codes[401] + codes[429] == 20
+    user = await Client.to(it.port)
+    yield "who logs in from another told address, and finds no file", await user.asked(ann + told("2001:db8::8")) == 404
+    user.close()
 
 
 async def changed(it, change, ann, ben):
@@ -187,6 +222,10 @@ def guesses_and_changes(davserve, listen, folder, hashed):
         yield from asyncio.run(gathered(guessed(it, ann, ben)))
         yield from asyncio.run(gathered(changed(it, change, ann, ben)))
         yield "guesses and changes: a clean end", it.end() == 0
+    change(["ann"])
+    with listening(listen, users=path, program=[davserve, "--login", "--address-header", "x-forwarded-for"]) as it:
+        yield from asyncio.run(gathered(told_apart(it, ann)))
+        yield "told addresses: a clean end", it.end() == 0
     change(None, "ann:$5$saltsalt$x\n\nben\n")
     with listening(listen, users=path, program=[davserve, "--login"]) as it:
         yield "a wrong line at the start", it.wait() == 5 and "exit status: 7" in it.told() and "line" in it.told()

@@ -5,8 +5,8 @@ import threading
 import time
 
 from behind import pattern
-from breaking import AT_ONCE, KINDS, Clients
-from listening import listening, receive, reset
+from breaking import AT_ONCE, Clients
+from listening import in_time, listening, receive, reset
 from programs import memory_of
 
 # A download goes at so many bytes a second.
@@ -108,21 +108,30 @@ def downloads(listen, davserve, is_whole):
 
 def long_work(listen, is_whole):
     """The program does nothing else for a while: nobody is closed for that, however short the limits are."""
-    delay = 120_000 if is_whole else 3000
-    with listening(listen, ["--idle", "1", "--head", "1", "--stall", "1"]) as it:
+    return in_time(lambda limit: long_work_within(listen, limit, 120 if is_whole else 3 * limit))
+
+
+def long_work_within(listen, limit, delay):
+    """The rows of twenty clients, or none where they begin too late."""
+    words = [word for name in ("idle", "head", "stall") for word in (f"--{name}", str(limit))]
+    with listening(listen, words) as it:
+        began = time.monotonic()
         clients = [it.connect() for _ in range(20)]
-        for client in clients[1:]:
-            client.sendall(b"get 3\n")
-            receive(client, 3)
-        clients[0].sendall(b"work %d\n" % delay)
-        time.sleep(0.2)
-        for client in clients[1:]:
-            client.sendall(b"get 300000\n")
-        yield f"an answer that is late by {delay // 1000} s", receive(clients[0], 3) == b"ok\n"
-        yield "and those who waited with it", all(receive(client, 300_000) == pattern(300_000) for client in clients[1:])
+        with contextlib.suppress(OSError):
+            for client in clients[1:]:
+                client.sendall(b"get 3\n")
+                receive(client, 3)
+            clients[0].sendall(b"work %d\n" % (1000 * delay))
+            time.sleep(0.2)
+            for client in clients[1:]:
+                client.sendall(b"get 300000\n")
+        if time.monotonic() > began + 0.8 * limit:
+            return None
+        rows = [(f"an answer that is late by {delay} s", receive(clients[0], 3) == b"ok\n")]
+        rows.append(("and those who waited with it", all(receive(client, 300_000) == pattern(300_000) for client in clients[1:])))
         for client in clients:
             reset(client)
-        yield "long work: a clean end", it.end() == 0
+        return [*rows, ("long work: a clean end", it.end() == 0)]
 
 
 async def watched(it, clients, seconds):
@@ -141,9 +150,9 @@ def random_load(listen, is_whole):
     limits = [word for name in ("idle", "head", "stall") for word in (f"--{name}", "600")]
     with listening(listen, limits, mode="echo") as it:
         before = it.files()
-        counts, seen = asyncio.run(watched(it, Clients(3, it.port, 1 << 60), seconds))
+        clients = Clients(3, it.port, 1 << 60)
+        counts, seen = asyncio.run(watched(it, clients, seconds))
         first, last = max(seen[: len(seen) // 2]), max(seen[len(seen) // 2 :])
-        played = sum(counts[kind] for kind in KINDS)
-        yield f"random load for {seconds} s: of {played} clients {counts['wrong']} are answered wrongly, {counts['bytes'] / 1e6:.0f} MB come back", counts["wrong"] == 0 and played > AT_ONCE
+        yield f"random load for {seconds} s: of {clients.played()} clients {counts['wrong']} are answered wrongly, {counts['bytes'] / 1e6:.0f} MB come back", counts["wrong"] == 0 and clients.played() > AT_ONCE
         yield f"its memory: {first / 1000:.1f} MB at most in the first half, {last / 1000:.1f} in the second", last < first + 4000 and last < 64_000
         yield "random load: nothing is left, and a clean end", it.files() - before < 10 and it.end() == 0

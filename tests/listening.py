@@ -35,8 +35,7 @@ class Listening:
         return int(self.urls[0].rstrip("/").rpartition(":")[2])
 
     def told(self):
-        self.said.seek(0)
-        return self.said.read().decode()
+        return all_of(self.said).decode()
 
     def connect(self, source="127.0.0.1", room=None):
         """A client; with a room it has so small a buffer, and takes nothing but what is received."""
@@ -102,6 +101,11 @@ def listening(listen, words=(), **more):
         it.said.close()
 
 
+def all_of(file):
+    """What a file has. It is read at no place of its own, since a process that writes there has the same place."""
+    return os.pread(file.fileno(), os.fstat(file.fileno()).st_size, 0)
+
+
 def whole(client):
     told = bytearray()
     while piece := client.recv(1 << 16):
@@ -137,6 +141,15 @@ def until(holds):
             return False
         time.sleep(0.02)
     return True
+
+
+def in_time(rows_within):
+    """The rows of what has to begin before a limit of so many seconds comes; of a longer limit, where it did not."""
+    for limit in (1, 4, 16):
+        rows = rows_within(limit)
+        if rows is not None:
+            return rows
+    return [(f"it has begun before {limit} seconds are over", False)]
 
 
 def reset(client):

@@ -4,11 +4,17 @@ import os
 import shutil
 import subprocess
 import sys
+import time
 
 # What a test tries where it is there: each program, and the package of Debian that has it.
 PACKAGES = {
+    "caddy": "caddy",
     "cadaver": "cadaver",
+    "curl": "curl",
+    "haproxy": "haproxy",
     "litmus": "litmus",
+    "nginx": "nginx-light",
+    "openssl": "openssl",
     "rclone": "rclone",
     "mount.davfs": "davfs2",
     "gvfsd-dav": "gvfs-backends",
@@ -76,11 +82,19 @@ def is_here(test, name):
 
 
 def install(*names):
-    """Those of PACKAGES that aren't there, where that can be done."""
-    commands = [["apt-get", "install", "-y", "--no-install-recommends", PACKAGES[name]] for name in names if not is_there(name)]
-    for command in [["apt-get", "update"], *commands] if commands else []:
-        with contextlib.suppress(OSError, subprocess.TimeoutExpired):
-            subprocess.run(["env", "DEBIAN_FRONTEND=noninteractive", *command], stdin=subprocess.DEVNULL, stdout=subprocess.DEVNULL, stderr=subprocess.DEVNULL, timeout=120, check=False)
+    """Those of PACKAGES that aren't there, where that can be done. What fails is tried once more a little later, and nothing more where it takes for ever."""
+    packages = list(dict.fromkeys(PACKAGES[name] for name in names if not is_there(name)))
+    with contextlib.suppress(OSError, subprocess.TimeoutExpired):
+        for words in [["update"], *(["install", "-y", "--no-install-recommends", package] for package in packages)] if packages else []:
+            if not does_apt_get(*words):
+                time.sleep(5)
+                does_apt_get(*words)
+
+
+def does_apt_get(*words):
+    """Whether apt-get does this. It waits a while where another one is at work."""
+    command = ["env", "DEBIAN_FRONTEND=noninteractive", "apt-get", "-o", "DPkg::Lock::Timeout=60", *words]
+    return subprocess.run(command, stdin=subprocess.DEVNULL, stdout=subprocess.DEVNULL, stderr=subprocess.DEVNULL, timeout=300, check=False).returncode == 0
 
 
 def memory_of(pid, kind="VmHWM"):

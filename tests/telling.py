@@ -5,6 +5,7 @@ import signal
 import socket
 import sys
 import tempfile
+import threading
 import time
 
 import breaking
@@ -161,18 +162,30 @@ def hang_ups(listen, _):
             it.signal(signal.SIGHUP)
             yield "and behind a first signal, up to its end", len(whole(taking)) == LARGE - taken and it.wait() == 0
         with listening(listen, mode="echo", users=path) as it:
-            counts = asyncio.run(beside_hang_ups(it, breaking.Clients(2, it.port, 1 << 60)))
-            played = sum(counts[kind] for kind in breaking.KINDS)
-            yield f"of {played} random clients beside {HANG_UPS} of them {counts['wrong']} are answered wrongly", counts["wrong"] == 0 and played > breaking.AT_ONCE
+            clients = breaking.Clients(2, it.port, 1 << 60)
+            counts = asyncio.run(beside_hang_ups(it, clients))
+            followed, played = it.told().count("read again"), clients.played()
+            yield f"of {played} random clients beside {followed} of them {counts['wrong']} are answered wrongly", counts["wrong"] == 0 and played > breaking.AT_ONCE and followed >= HANG_UPS
             yield "hang-ups: a clean end", it.end() == 0
 
 
 async def beside_hang_ups(it, clients):
-    """What random clients come to that go on until so many hang-ups were followed."""
-    played = asyncio.ensure_future(clients.play())
-    while not played.done():
-        it.signal(signal.SIGHUP)
-        await asyncio.sleep(0.01)
-        if it.told().count("read again") >= HANG_UPS:
-            clients.left = 0
-    return await played
+    """What random clients come to that go on until so many hang-ups were followed, and more of them have come than there are places."""
+    played, is_over = asyncio.ensure_future(clients.play()), threading.Event()
+
+    def hang_up():
+        while not is_over.wait(0.005):
+            it.signal(signal.SIGHUP)
+
+    # Beside what the clients do, which may take longer than many hang-ups.
+    hangs_up = threading.Thread(target=hang_up)
+    hangs_up.start()
+    try:
+        while not played.done():
+            await asyncio.sleep(0.01)
+            if it.told().count("read again") >= HANG_UPS and clients.played() > breaking.AT_ONCE:
+                clients.left = 0
+        return await played
+    finally:
+        is_over.set()
+        hangs_up.join()

@@ -25,8 +25,11 @@ ONE_IDEA = {
     "choose": "by the value in an option, or without, the same in two crates that know nothing of each other",
     "every": "what each of a list gives, the same in two crates that know nothing of each other",
     "exactly": "Ok with the value that is there, and else the one error, of a header or of a line",
+    "is_address": "the address of a client: 1 to 64 bytes of 33 to 126, the same in two crates that know nothing of each other",
+    "is_blank": "a space or a tab, the same in two crates that know nothing of each other",
     "is_empty": "whether a list is empty, the same in two crates that know nothing of each other",
     "when": "a value where a test holds, the same in two crates that know nothing of each other",
+    "without_blanks": "a text without the blanks at its ends, the same in two crates that know nothing of each other",
     "◌>>=◌": "going on with what there is, and ending where there is none, of options in two crates that know nothing of each other, and of results",
 }
 

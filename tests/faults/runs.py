@@ -95,7 +95,7 @@ class Tallies:
 
     def play_all(self, program, name, played, faults):
         """Plays an input with each of the faults, and tells the wrong runs."""
-        with multiprocessing.get_context("fork").Pool(os.cpu_count(), Worker.begin, [played]) as pool:
+        with multiprocessing.get_context("fork").Pool(len(os.sched_getaffinity(0)), Worker.begin, [played]) as pool:
             for fault, ended in zip(faults, pool.imap(Worker.run, faults, chunksize=8)):
                 why, tally = played.judge(fault, ended), self.counts[program, fault[0]]
                 tally[0] += 1

@@ -63,14 +63,14 @@ pub let_in : (P : Admitted → Type 0) (x y : Admitted) → (let r : Result (Opt
 let_in P x y e h = let same : x ≡ y = cc in subst P same h
 
 -- the states are the same, where users, keys and what is known are
-pub same_state : {S : Type 0} (users users' : List UserLine) (challenge header key key' : List ℕ) (known known' : List Known) (service : S)
+pub same_state : {S : Type 0} (users users' : List UserLine) (challenge header : List ℕ) (address_field : Option (List ℕ)) (key key' : List ℕ) (known known' : List Known) (service : S)
     → users' ≡ users → key' ≡ key → known' ≡ known
-    → record { door = record { users = users'; challenge = challenge; header = header; key = key' }; known = known'; service = service }
-    ≡ (let s : LoginState S = record { door = record { users = users; challenge = challenge; header = header; key = key }; known = known; service = service } in s)
-same_state {S} users users' challenge header key key' known known' service is_same are_same knows =
-    ap (λ (u : List UserLine). (let s : LoginState S = record { door = record { users = u; challenge = challenge; header = header; key = key' }; known = known'; service = service } in s)) is_same
-    ∙ ap (λ (k : List ℕ). (let s : LoginState S = record { door = record { users = users; challenge = challenge; header = header; key = k }; known = known'; service = service } in s)) are_same
-    ∙ ap (λ (k : List Known). (let s : LoginState S = record { door = record { users = users; challenge = challenge; header = header; key = key }; known = k; service = service } in s)) knows
+    → record { door = record { users = users'; challenge = challenge; header = header; address_field = address_field; key = key' }; known = known'; service = service }
+    ≡ (let s : LoginState S = record { door = record { users = users; challenge = challenge; header = header; address_field = address_field; key = key }; known = known; service = service } in s)
+same_state {S} users users' challenge header address_field key key' known known' service is_same are_same knows =
+    ap (λ (u : List UserLine). (let s : LoginState S = record { door = record { users = u; challenge = challenge; header = header; address_field = address_field; key = key' }; known = known'; service = service } in s)) is_same
+    ∙ ap (λ (k : List ℕ). (let s : LoginState S = record { door = record { users = users; challenge = challenge; header = header; address_field = address_field; key = k }; known = known'; service = service } in s)) are_same
+    ∙ ap (λ (k : List Known). (let s : LoginState S = record { door = record { users = users; challenge = challenge; header = header; address_field = address_field; key = key }; known = k; service = service } in s)) knows
 
 module _ {S : Type 0} (answers : S → Request (List ℕ) → Response → S → Type 0) (old mid new : LoginState S) (request : Request (List ℕ)) (response : Response) where
   stays_or_learns : mid ≡ old → (o : Option Known) → AreSent old.door request o → MatchOption o (new.known ≡ mid.known) (λ k. Learns k.digest mid.known new.known)

@@ -63,7 +63,7 @@ module _ {S H : Type 0} (begins : S → ℕ → S → Type 0) (answers : S → R
       (login next).door,
       run.inner,
       refl,
-      record { users = does.lists.users; challenge = does.lists.challenge; header = does.lists.header; key = does.lists.key },
+      record { users = does.lists.users; challenge = does.lists.challenge; header = does.lists.header; address_field = does.lists.address_field; key = does.lists.key },
       run.behind,
     );
     leads = ((login next).service, does.service, run.leads);

@@ -1,5 +1,5 @@
 -- What a login answers, in front of a service (RFC 7617 section 2, RFC 9110 section 11.6, RFC 6585 section 4; OPTIONS: own).
-use Rattle.std.specs.Prelude.{◌≡◌, ◌⊎◌, ℕ, false, List, [], ◌∷◌, codes, string_bytes, Some, Ok}
+use Rattle.std.specs.Prelude.{◌≡◌, ◌⊎◌, ℕ, false, List, [], ◌∷◌, codes, string_bytes, Option, Some, Ok}
 use Rattle.http_header.specs.FieldValue.{IsFieldValue}
 use Rattle.http.specs.declared.request.Request.{Request}
 use Rattle.http.specs.Request.{head_of}
@@ -12,11 +12,13 @@ use Rattle.dav_login_core.specs.Digests.{IsAccepted, IsTurnedDown, Learns, Retai
 use Rattle.dav_login_core.specs.Passing.{AsNobody, AsUser}
 use Rattle.dav_login_core.specs.Sending.{AsksOptions, name_and_password_sent}
 
--- what a login goes by: the users, the value of the field that asks for a password, the name of the header for the principal, and the key
+-- what a login goes by: the users, the value of the field that asks for a password, the name of the header for the principal, that of the field that tells a client's address, where one is chosen, and
+-- the key
 pub record Door : Type 0 where
   pub users : List UserLine
   pub challenge : List ℕ
   pub header : List ℕ
+  pub address_field : Option (List ℕ)
   pub key : List ℕ
 
 -- a login, what it knows of names and passwords that were accepted, and the service behind it
@@ -108,6 +110,7 @@ module _ {S : Type 0} where
     pub known : Retains (λ k. hash_named old.door.users (string_bytes k.name) ≡ hash_named new.door.users (string_bytes k.name)) old.known new.known
     pub challenge : new.door.challenge ≡ old.door.challenge
     pub header : new.door.header ≡ old.door.header
+    pub address_field : new.door.address_field ≡ old.door.address_field
     pub key : new.door.key ≡ old.door.key
 
   -- the users are listed, and the service takes word of the file

@@ -5,7 +5,7 @@ use Rattle.dav_login_core.specs.LoggedIn.{LoginState}
 
 abbrev pub login : {S H : Type 0} → Login S H → LoginState S
 login l = record {
-  door = record { users = users_in l.accepted.users; challenge = l.challenge.bytes; header = l.header; key = l.accepted.key };
+  door = record { users = users_in l.accepted.users; challenge = l.challenge.bytes; header = l.header; address_field = l.watch.field; key = l.accepted.key };
   known = l.accepted.known.items;
   service = l.service;
 }

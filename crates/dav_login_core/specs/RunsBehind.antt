@@ -23,6 +23,7 @@ pub record PutsInForce (file : List ℕ) (old new : Door) : Type 0 where
   pub users : ((count : ℕ) × (users_of file ≡ Ok (new.users, count))) ⊎ (new.users ≡ old.users)
   pub challenge : new.challenge ≡ old.challenge
   pub header : new.header ≡ old.header
+  pub address_field : new.address_field ≡ old.address_field
   pub key : new.key ≡ old.key
 
 -- The second are the first events, but that each turn has those of its calls alone that were passed on. Each call is weighed by the users in force at it: those of the last file before it that was

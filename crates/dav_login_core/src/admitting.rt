@@ -100,7 +100,7 @@ impl<S, H: Host> Login<S, H> {
         let digest = self
             .accepted
             .digest(given.name.as_str(), given.password.as_str());
-        match self.weigh(&given, digest) {
+        match self.weigh(request, &given, digest) {
             Standing::Accepted => {
                 let inner = as_user(request, &self.header, value)?;
                 Ok(Some(Admitted {
@@ -136,7 +136,7 @@ impl<S, H: Host> Login<S, H> {
 
     // What is said of a name and a password with this digest. The password is hashed only where the digest is neither kept of what was accepted nor of what the connection sent in vain, and no
     // limit of guesses is reached.
-    fn weigh(&mut self, given: &Credentials, sent: [u8; 32]) -> Standing
+    fn weigh(&mut self, request: &Request<Bytes>, given: &Credentials, sent: [u8; 32]) -> Standing
         requires { sent ≡ digest self.old.accepted.key (string_bytes given.now.name) (string_bytes given.now.password) }
         ensures weighs { WeighsUp (login self.old).door (login self.old).known (string_bytes given.now.name) (string_bytes given.now.password) result }
         ensures same { self.new ≡ self.old }
@@ -148,11 +148,7 @@ impl<S, H: Host> Login<S, H> {
         if self.accepted.was_refused(connection, sent) {
             return Standing::Again;
         }
-        let accepted = &self.accepted;
-        match self
-            .watch
-            .check(accepted, given.name.as_str(), given.password.as_str())
-        {
+        match self.watch.check(&self.accepted, request, given) {
             Verdict::Right => Standing::Right,
             Verdict::Wrong => Standing::Wrong,
             Verdict::TooMany => Standing::TooMany,

@@ -1,10 +1,16 @@
 //! A password is checked within the limits of guesses.
+ghost use Rattle.std.specs.Prelude.{string_bytes};
 ghost use Rattle.dav_users_core.specs.Users.{is_password, users_in};
 ghost use Rattle.guess_limits.specs.Guessing.{guessing};
-ghost use Rattle.dav_login_core.specs.Checking.{Checks};
+ghost use Rattle.dav_login_core.specs.Checking.{Checks, label_of_client};
 
-use dav_users_core::Users;
+use crate::digests::Accepted;
+use crate::labels::label_of;
+use bytes::Bytes;
+use client_addresses::Addresses;
+use dav_users_core::Credentials;
 use guess_limits::Guesses;
+use http::Request;
 
 /// What is said of a name and a password.
 #[derive(Clone, Copy)]
@@ -17,21 +23,23 @@ pub(crate) enum Verdict {
     TooMany,
 }
 
-/// Whether it is the password of the user with that name, where the label may guess at this moment. Otherwise nothing is hashed.
+/// Whether it is the password of the user with that name, where the client of the request may guess at this moment: it is known by its address. Otherwise nothing is hashed.
 pub(crate) fn check(
     guesses: &mut Guesses,
-    label: u64,
+    addresses: &Addresses,
     now: u64,
-    users: &Users,
-    name: &str,
-    password: &str,
+    accepted: &Accepted,
+    request: &Request<Bytes>,
+    given: &Credentials,
 ) -> Verdict
-    ensures { Checks now label (is_password (users_in users.now) name.now password.now) result (guessing guesses.old) (guessing guesses.new) }
+    ensures { Checks now (label_of_client accepted.now.key addresses.now request.now) (is_password (users_in accepted.now.users) (string_bytes given.now.name) (string_bytes given.now.password)) result (guessing guesses.old) (guessing guesses.new) }
 {
+    let label = label_of(&accepted.key, addresses.of(request));
     if !guesses.ask(label, now) {
         return Verdict::TooMany;
     }
-    if users.check(name, password.as_bytes()) {
+    let users = &accepted.users;
+    if users.check(given.name.as_str(), given.password.as_bytes()) {
         return Verdict::Right;
     }
     guesses.count_wrong(label);

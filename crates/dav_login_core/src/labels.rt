@@ -1,13 +1,12 @@
 //! Labels of addresses.
-ghost use Rattle.std.specs.Prelude.{◌≡◌, ◌++◌, take};
-ghost use Rattle.std.specs.Int.{w64, from_le_bytes};
-ghost use Rattle.sha2.specs.Sha256.{sha256};
+ghost use Rattle.std.specs.Prelude.{◌≡◌};
+ghost use Rattle.dav_login_core.specs.Checking.{label_of};
 
 use sha2::{Digest, Sha256};
 
 /// The label of an address under a key: the first 8 bytes of the SHA-256 of both. Who does not know the key finds no two addresses with one label.
 pub(crate) fn label_of(key: &[u8; 32], address: &[u8]) -> u64
-    ensures { result ≡ from_le_bytes w64 (take 8 (sha256 (key.now ++ address.now))) }
+    ensures { result ≡ label_of key.now address.now }
 {
     let mut hash = Sha256::new();
     hash.update(key);

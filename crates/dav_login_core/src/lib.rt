@@ -20,5 +20,5 @@ pub use challenges::LoginError;
 pub use laws::{
     calls_lead_behind, messages_tell_names_and_passwords, runs_lead_behind, turns_lead_behind,
 };
-pub use login::Login;
+pub use login::{Fields, Login};
 pub use watching::Host;

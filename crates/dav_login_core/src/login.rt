@@ -29,9 +29,19 @@ pub struct Login<S, H> {
     pub(crate) watch: Watch<H>,
 }
 
+/// The fields by which a login tells and is told of clients.
+#[derive(Drop)]
+pub struct Fields {
+    /// It names the principal to the service.
+    pub user: HeaderName,
+    /// It tells the address of a request's client, where a proxy in front sets it or adds to it. A client may send it, too: it has to be chosen only where such a proxy is the only one who reaches the
+    /// service. Without one it is the address of the connection.
+    pub address: Option<HeaderName>,
+}
+
 impl<S: Service + Drop, H: Host + Drop> Login<S, H> {
-    /// The service behind a login of these users. The header names the principal to the service, and the realm stands in the challenge (RFC 9110 section 11.5). Under the key the digests of what
-    /// was accepted are kept, and addresses are told apart: it has to be random, and known to nobody else. The host tells the time, by which guesses are limited.
+    /// The service behind a login of these users. The realm stands in the challenge (RFC 9110 section 11.5). Under the key the digests of what was accepted are kept, and addresses are told apart: it
+    /// has to be random, and known to nobody else. The host tells the time, by which guesses are limited.
     ///
     /// - `Realm`: the realm has a control character other than a tab, or a `"` or `\`.
     /// - `OutOfMemory`: there is no memory.
@@ -41,20 +51,20 @@ impl<S: Service + Drop, H: Host + Drop> Login<S, H> {
         host: H,
         users: Users,
         realm: &str,
-        header: HeaderName,
+        fields: Fields,
         key: [u8; 32],
     ) -> Result<Login<S, H>, LoginError>
-        ensures ok { IfOk result (λ l. login l ≡ record { door = record { users = users_in users; challenge = challenge realm.now; header = header; key = key }; known = []; service = service }) }
+        ensures ok { IfOk result (λ l. login l ≡ record { door = record { users = users_in users; challenge = challenge realm.now; header = fields.user; address_field = fields.address; key = key }; known = []; service = service }) }
         ensures realm { IsErrOf result LoginError.Realm ↔ (is_realm realm.now ≡ false) }
     {
         let challenge = challenge(alloc, realm)?;
         Ok(Login {
             alloc,
             service,
-            header,
+            header: fields.user,
             challenge,
             accepted: Accepted::new(alloc, users, key),
-            watch: Watch::new(alloc, host),
+            watch: Watch::new(alloc, host, fields.address),
         })
     }
 }

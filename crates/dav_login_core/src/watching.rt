@@ -1,14 +1,18 @@
 //! Who guesses, and when.
-ghost use Rattle.std.specs.Prelude.{◌≡◌, true, false, ⊤};
+ghost use Rattle.std.specs.Prelude.{◌≡◌, true, false, [], string_bytes};
+ghost use Rattle.client_addresses.specs.declared.addresses.Addresses.{Addresses};
+ghost use Rattle.client_addresses.specs.ClientAddresses.{kept_address};
 ghost use Rattle.dav_users_core.specs.Users.{is_password, users_in};
 ghost use Rattle.dav_login_core.specs.declared.checking.Verdict.TheVariants.{Right, Wrong};
 
 use crate::checking::{Verdict, check};
 use crate::digests::Accepted;
-use crate::labels::label_of;
-use arrayvec::ArrayVec;
-use dav_users_core::UsersError;
+use bytes::Bytes;
+use client_addresses::Addresses;
+use dav_users_core::{Credentials, UsersError};
 use guess_limits::Guesses;
+use http::Request;
+use http_header::HeaderName;
 use std::alloc::Global;
 use std::marker::Model;
 
@@ -21,40 +25,43 @@ pub trait Host {
     fn tell(&mut self, error: &UsersError);
 }
 
-// An address has no more bytes.
-const LONGEST: usize = 64;
-
-/// The limits of guesses, and whose turn it is. What stands in it decides how soon a password is checked, and never whether it is right: so contracts see nothing of it.
+/// The limits of guesses, whose turn it is, and by what clients are known. The limits decide how soon a password is checked, and never whether it is right: so contracts see nothing of them here. That
+/// they are those of the client's address is said by `check`.
 #[derive(Drop)]
 pub(crate) struct Watch<H> {
     host: H,
     guesses: Guesses,
     connection: u64,
-    address: ArrayVec<u8, LONGEST>,
+    addresses: Addresses,
 }
 
 impl<H> Model for Watch<H> {
-    ghost Value = { ⊤ };
+    ghost Value = { Addresses };
 
-    ghost view = { λ _. tt };
+    ghost view = { λ w. w.addresses };
 }
 
 impl<H: Host> Watch<H> {
-    /// Nobody has guessed.
-    pub(crate) fn new(alloc: Global, host: H) -> Watch<H> {
+    /// Nobody has guessed. Clients are known by this field, where one is chosen.
+    pub(crate) fn new(alloc: Global, host: H, address_field: Option<HeaderName>) -> Watch<H>
+        ensures field { result.field ≡ address_field }
+        ensures connection { result.connection.items ≡ [] }
+    {
         Watch {
             host,
             guesses: Guesses::new(alloc),
             connection: 0,
-            address: ArrayVec::new(),
+            addresses: Addresses::new(address_field),
         }
     }
 
     /// Takes word that a turn of the connection comes, whose client has the address. One that is longer than 64 bytes counts as none.
-    pub(crate) fn turn(&mut self, connection: u64, address: &[u8]) {
+    pub(crate) fn turn(&mut self, connection: u64, address: &[u8])
+        ensures field { self.new.field ≡ self.old.field }
+        ensures connection { self.new.connection.items ≡ kept_address address.now }
+    {
         self.connection = connection;
-        self.address.clear();
-        let _fits = self.address.try_extend_from_slice(address);
+        self.addresses.turn(address);
     }
 
     /// The connection whose turn it is.
@@ -62,27 +69,34 @@ impl<H: Host> Watch<H> {
         self.connection
     }
 
-    /// Whether it is the password of the user with that name, as `check` says, for whose turn it is. The label of an address is made under the key.
-    pub(crate) fn check(&mut self, accepted: &Accepted, name: &str, password: &str) -> Verdict
+    /// Whether it is the password of the user with that name, as `check` says, at this moment.
+    pub(crate) fn check(
+        &mut self,
+        accepted: &Accepted,
+        request: &Request<Bytes>,
+        given: &Credentials,
+    ) -> Verdict
         ensures right { result ≡ Right
-            → is_password (users_in accepted.now.users) name.now password.now ≡ true }
+            → is_password (users_in accepted.now.users) (string_bytes given.now.name) (string_bytes given.now.password) ≡ true }
         ensures wrong { result ≡ Wrong
-            → is_password (users_in accepted.now.users) name.now password.now ≡ false }
+            → is_password (users_in accepted.now.users) (string_bytes given.now.name) (string_bytes given.now.password) ≡ false }
+        ensures same { self.new ≡ self.old }
     {
         let now = self.host.now();
-        let label = label_of(&accepted.key, self.address.as_slice());
         check(
             &mut self.guesses,
-            label,
+            &self.addresses,
             now,
-            &accepted.users,
-            name,
-            password,
+            accepted,
+            request,
+            given,
         )
     }
 
     /// Takes word that a file of users was not read.
-    pub(crate) fn tell(&mut self, error: &UsersError) {
+    pub(crate) fn tell(&mut self, error: &UsersError)
+        ensures { self.new ≡ self.old }
+    {
         self.host.tell(error);
     }
 }

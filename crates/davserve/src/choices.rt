@@ -17,6 +17,12 @@ const REALM: &str = "davserve";
 /// The field by which the server is told who has logged in. What a client sends under this name is dropped.
 pub const USER: &str = "x-logged-in-user";
 
+// A file of so many bytes is not compacted at the start, if nothing else is said.
+const COMPACT_OVER: u64 = 64 * 1024 * 1024;
+
+// So many hundredths of a file may be of no use before it is compacted at the start, if nothing else is said.
+const COMPACT_USELESS: u8 = 50;
+
 // A body may have so many bytes, if nothing else is said.
 const MAX_BODY: usize = 64 * 1024 * 1024;
 
@@ -59,6 +65,15 @@ pub enum Sync {
     Second,
 }
 
+/// When the file of the stores is compacted at the start.
+#[derive(Clone, Copy)]
+pub struct Compacting {
+    /// Only where it has more bytes than that.
+    pub over: u64,
+    /// Only where more than so many hundredths of it are of no use any more.
+    pub useless: u8,
+}
+
 /// What the words choose.
 #[derive(Drop)]
 pub struct Choices {
@@ -86,10 +101,14 @@ pub struct Choices {
     pub store: Option<String>,
     /// When that file has what is changed.
     pub sync: Sync,
+    /// When that file is compacted at the start.
+    pub compacting: Compacting,
     /// Whether the users who may log in come in the first frame.
     pub login: bool,
     /// The file of the users who may log in, where they come from one; without one, and without `login`, nobody logs in.
     pub users: Option<String>,
+    /// The field by which a proxy tells the address of a request's client; without one it is the connection's.
+    pub address_header: Option<HeaderName>,
     /// The realm that clients are told to log in to.
     pub realm: String,
 }
@@ -123,8 +142,13 @@ impl Choices {
             log: None,
             store: None,
             sync: Sync::Always,
+            compacting: Compacting {
+                over: COMPACT_OVER,
+                useless: COMPACT_USELESS,
+            },
             login,
             users: None,
+            address_header: None,
             realm: String::from_str(alloc, REALM)?,
         };
         choices.set_all(alloc, rest)?;
@@ -184,6 +208,8 @@ impl Choices {
             };
         } else if name == "--user-header" {
             self.settings.user_header = Some(HeaderName::from_bytes(alloc, value.as_bytes())?);
+        } else if name == "--address-header" {
+            self.address_header = Some(HeaderName::from_bytes(alloc, value.as_bytes())?);
         } else if name == "--propfind-depth" {
             self.settings.finite_depth = match value {
                 "finite" => true,
@@ -208,6 +234,10 @@ impl Choices {
                 "second" => Sync::Second,
                 _ => return Err(Unread::Usage),
             };
+        } else if name == "--compact-over" {
+            self.compacting.over = value.parse()?;
+        } else if name == "--compact-useless" {
+            self.compacting.useless = share_of(value)?;
         } else if name == "--log" {
             self.log = Some(String::from_str(alloc, file_of(value)?)?);
         } else if name == "--users" {
@@ -233,6 +263,14 @@ fn window_of(word: &str) -> Result<u64, Unread> {
     match word.parse()? {
         0 => Err(Unread::Usage),
         window => Ok(window),
+    }
+}
+
+// The hundredths that a word names. `Usage` where it names none, or more than a hundred.
+fn share_of(word: &str) -> Result<u8, Unread> {
+    match word.parse()? {
+        share if share > 100 => Err(Unread::Usage),
+        share => Ok(share),
     }
 }
 

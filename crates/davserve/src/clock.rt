@@ -4,7 +4,7 @@ ghost use Rattle.std.specs.Prelude.{◌≡◌, None, false};
 use dav_handler_core::serving::Clock;
 use dav_resource_core::fs::Moment;
 use std::io;
-use std::time::{SystemTime, UNIX_EPOCH};
+use work_progress::now;
 
 /// The system's clock, where it is the one that counts.
 #[derive(Drop)]
@@ -20,14 +20,6 @@ impl Clock for SystemClock<'_> {
 
     fn moment(&mut self) -> Option<Moment> {
         if self.runs { now(self.rt).ok() } else { None }
-    }
-}
-
-/// The system's moment, in nanoseconds since 1970. `Err` where the system does not tell it.
-pub fn now(rt: &HostRuntime) -> io::Result<Moment> {
-    match SystemTime::now(rt)?.duration_since(UNIX_EPOCH) {
-        Ok(since) => Ok(Moment(u64::try_from(since.as_nanos()).unwrap_or(u64::MAX))),
-        Err(_) => Ok(Moment(0)),
     }
 }
 

@@ -4,15 +4,18 @@ use crate::log::LogFile;
 use crate::stopped::Stopped;
 use dav_users_core::Users;
 use http_header::HeaderName;
+use std::alloc::AllocError;
 use std::mem;
 
-/// A log of requests, and the header that names the user in them; without one it is the name that a request logs in with.
+/// A log of requests, and the headers by which a proxy tells it of clients.
 #[derive(Drop)]
 pub struct Logging<'a> {
     /// What takes its lines.
     pub file: LogFile<'a>,
-    /// The header that a proxy sets.
+    /// It names the user; without one it is the name that a request logs in with.
     pub user_header: Option<HeaderName>,
+    /// It tells the address of the client; without one it is the connection's.
+    pub address_header: Option<HeaderName>,
 }
 
 /// What stands in front of the server, from inside out: it lets nothing be changed, users log in, and each request has a line in a log.
@@ -24,6 +27,8 @@ pub struct Fronts<'a> {
     pub users: Option<Users>,
     /// The realm that they are told to log in to.
     pub realm: String,
+    /// The header by which a proxy tells the login where a client is.
+    pub address_header: Option<HeaderName>,
     /// The log, where there is one.
     pub log: Option<Logging<'a>>,
 }
@@ -39,6 +44,7 @@ impl<'a> Fronts<'a> {
             Some(name) => Some(Logging {
                 file: LogFile::open(rt, name, choices.clock)?,
                 user_header: header_of(choices, users.is_some())?,
+                address_header: copied(&choices.address_header)?,
             }),
             None => None,
         };
@@ -46,6 +52,7 @@ impl<'a> Fronts<'a> {
             read_only: choices.read_only,
             users,
             realm: mem::replace(&mut choices.realm, String::new(rt.alloc())),
+            address_header: mem::replace(&mut choices.address_header, None),
             log,
         })
     }
@@ -57,9 +64,16 @@ impl<'a> Fronts<'a> {
 }
 
 // The header that names the user of a request as it comes; none where users log in.
-fn header_of(choices: &Choices, logs_in: bool) -> Result<Option<HeaderName>, Stopped> {
-    match &choices.settings.user_header {
-        Some(name) if !logs_in => Ok(Some(name.clone()?)),
-        _ => Ok(None),
+fn header_of(choices: &Choices, logs_in: bool) -> Result<Option<HeaderName>, AllocError> {
+    if logs_in {
+        return Ok(None);
+    }
+    copied(&choices.settings.user_header)
+}
+
+fn copied(name: &Option<HeaderName>) -> Result<Option<HeaderName>, AllocError> {
+    match name {
+        Some(name) => Ok(Some(name.clone()?)),
+        None => Ok(None),
     }
 }

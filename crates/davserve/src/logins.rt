@@ -2,7 +2,7 @@
 use crate::choices::{Choices, USER};
 use crate::host::System;
 use crate::stopped::Stopped;
-use dav_login_core::Login;
+use dav_login_core::{Fields, Login};
 use dav_users_core::Users;
 use http_frames::frames::{Frames, Head};
 use http_header::HeaderName;
@@ -59,17 +59,21 @@ fn read_users(rt: &HostRuntime, path: &str) -> Result<Users, Stopped> {
     Ok(Users::read(rt.alloc(), &file)?)
 }
 
-/// The service behind a login of these users, in this realm (RFC 7617).
+/// The service behind a login of these users, in this realm (RFC 7617). Where a header is named, a proxy tells by it where a client is.
 pub fn login_over<'a, S: Service + Drop>(
     rt: &'a HostRuntime,
     users: Users,
     realm: &str,
+    address_header: Option<HeaderName>,
     service: S,
 ) -> Result<Login<S, System<'a>>, Stopped> {
     let mut key = [0; 32];
     let mut rng: ChaCha20Rng = make_rng(rt)?;
     rng.fill_bytes(&mut key);
-    let header = HeaderName::from_static(USER);
+    let fields = Fields {
+        user: HeaderName::from_static(USER),
+        address: address_header,
+    };
     let host = System::new(rt)?;
-    Ok(Login::new(rt.alloc(), service, host, users, realm, header, key)?)
+    Ok(Login::new(rt.alloc(), service, host, users, realm, fields, key)?)
 }

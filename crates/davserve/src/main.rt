@@ -8,7 +8,6 @@ mod host;
 mod limits;
 mod log;
 mod logins;
-mod progress;
 mod stopped;
 mod stored;
 
@@ -44,7 +43,7 @@ const IN_MEMORY: &str = "what is stored is in memory alone, and gone when the se
 
 // The words that the program takes.
 const USAGE: &str =
-    "usage: davserve [--help] [--one|--login] [--read-only] [--scheme http|https] [--prefix PATH] [--user-header NAME] [--longest-timeout SECONDS] [--propfind-depth finite|infinite] [--max-body BYTES] [--window BYTES] [--waiting BYTES] [--unfinished BYTES] [--store FILE] [--sync always|second] [--users FILE] [--realm TEXT] [--log FILE] [--seed NUMBER] [--clock NANOSECONDS|frames]\n";
+    "usage: davserve [--help] [--one|--login] [--read-only] [--scheme http|https] [--prefix PATH] [--user-header NAME] [--address-header NAME] [--longest-timeout SECONDS] [--propfind-depth finite|infinite] [--max-body BYTES] [--window BYTES] [--waiting BYTES] [--unfinished BYTES] [--store FILE] [--sync always|second] [--compact-over BYTES] [--compact-useless PERCENT] [--users FILE] [--realm TEXT] [--log FILE] [--seed NUMBER] [--clock NANOSECONDS|frames]\n";
 
 fn main(rt: HostRuntime) -> ExitCode {
     let words = match words(&rt) {
@@ -78,6 +77,11 @@ fn main(rt: HostRuntime) -> ExitCode {
             let _told = writeln!(rt.stderr(), "the store is not opened: {error}");
             ExitCode::from(6)
         }
+        Err(Stopped::InTheWay) => ended(
+            &rt,
+            "the store is not opened: beside it stands a file with .new behind its name that is no store\n",
+            6,
+        ),
         Err(Stopped::NoUsers(error)) => {
             let _told = writeln!(rt.stderr(), "the file of users is not read: {error}");
             ExitCode::from(7)
@@ -144,12 +148,13 @@ fn serve_users<S: TurnService + Drop, I: Read + Drop>(
     let Fronts {
         users,
         realm,
+        address_header,
         log,
         ..
     } = fronts;
     match users {
         Some(users) => {
-            let login = login_over(rt, users, realm.as_str(), service)?;
+            let login = login_over(rt, users, realm.as_str(), address_header, service)?;
             Ok(serve_logged(rt, limits, log, frames, login)?)
         }
         None => Ok(serve_logged(rt, limits, log, frames, service)?),
@@ -165,8 +170,14 @@ fn serve_logged<S: TurnService + Drop, I: Read + Drop>(
     service: S,
 ) -> Result<End, Fault> {
     match log {
-        Some(Logging { file, user_header }) => {
-            let logged = Logged::new(rt.alloc(), service, file, user_header);
+        Some(
+            Logging {
+                file,
+                user_header,
+                address_header,
+            },
+        ) => {
+            let logged = Logged::new(rt.alloc(), service, file, user_header, address_header);
             serve_turned(rt, limits, frames, logged)
         }
         None => serve_turned(rt, limits, frames, service),

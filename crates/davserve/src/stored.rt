@@ -1,13 +1,13 @@
 //! Serving with stores that a file keeps.
-ghost use Rattle.std.specs.Prelude.{IsTrue};
+ghost use Rattle.std.specs.Prelude.{IsTrue, IfOk, IfSome};
+ghost use Rattle.sqlite_std_file.specs.File.{file_is_usable};
 ghost use Rattle.journal_core.specs.Resting.{disk_behind};
 
-use crate::choices::{Choices, Sync};
+use crate::choices::{Choices, Compacting, Sync};
 use crate::clock::{SystemClock, first_moment};
 use crate::fronts::{Fronts, Logging};
 use crate::limits::{BUFFER, Limits};
 use crate::logins::login_over;
-use crate::progress::Progress;
 use crate::stopped::Stopped;
 use dav_handler_core::dav::Dav;
 use dav_handler_core::serving::{Clock, Timed};
@@ -19,7 +19,7 @@ use http_frames::clients::Clients;
 use http_frames::frames::Frames;
 use http_frames::gate::OneCall;
 use http_frames::serving::End;
-use journal_core::{Header, Journal, Reader};
+use journal_core::{Header, Journal, JournalError, Reader};
 use journal_file::open;
 use kept_frames::{Recording, Told, serve_kept, serve_late};
 use rand::make_rng;
@@ -28,16 +28,20 @@ use rand_core::Rng;
 use read_only::ReadOnly;
 use request_log::Logged;
 use sqlite_disk::Disk;
-use sqlite_std_file::Wary;
+use sqlite_std_file::{FileFrom, Start, Wary};
 use std::alloc::{AllocError, Global};
-use std::hash::{BuildHasher, RandomState};
-use std::io::{self, BufWriter, Read, Write};
+use std::io::{BufWriter, Read, Write};
+use store_files::{
+    Anew, Compacted, Uncompacted, clear_new, compact_opened, header_of, is_due, length_of,
+};
+use work_progress::Opening;
 
 // Where the last change lies so many nanoseconds ahead of the clock, that is told at the start.
 const AHEAD: u64 = 60 * 1_000_000_000;
 
 /// Serves the connections that the frames on standard input are of, with the stores of the file at
-/// this path, which keeps what they change. Where there is no file it is made.
+/// this path, which keeps what they change. Where there is no file it is made; where too much of it is
+/// of no use any more it is compacted first.
 pub fn serve_stored<I: Read + Drop>(
     rt: &HostRuntime,
     path: &str,
@@ -48,27 +52,137 @@ pub fn serve_stored<I: Read + Drop>(
 ) -> Result<End, Stopped> {
     let buffer = BufWriter::with_capacity(rt.alloc(), BUFFER, rt.stdout())?;
     let output = Told::new(buffer);
-    let sync = choices.sync;
     let now = first_moment(rt, choices.clock)?;
-    let header = Header {
-        generation: 0,
-        key: drawn(rt)?,
-        began: now.0,
-    };
-    let (mut journal, found) = open(rt, path, header, &output, Wary)?;
-    let header = match &found {
-        Some(reader) => reader.header(),
-        None => header,
-    };
-    let mut progress = Progress::of(rt, path);
-    let opened = read_all(rt.alloc(), &mut journal, found, now, &output, &mut progress)?;
+    let Found {
+        journal,
+        header,
+        opened,
+        used,
+    } = find(rt, path, now, &output, Wary)?;
     tell_ahead(rt, opened.last, now);
-    let service = server_over(rt, choices, opened, now, header)?;
-    let mut streams = Streams {
+    let compacted = match is_useless(rt.alloc(), used, choices.compacting, &opened) {
+        true => compacted(rt, path, header, &opened, &output, Anew)?,
+        false => None,
+    };
+    let sync = choices.sync;
+    let streams = Streams {
         clients: limits.clients(rt)?,
         frames,
         output,
     };
+    match compacted {
+        Some(
+            Compacted {
+                journal: anew,
+                header,
+                ..
+            },
+        ) => {
+            // The old file was locked up to here.
+            drop(journal);
+            let service = server_over(rt, choices, opened, now, header)?;
+            serve_fronts(rt, fronts, sync, streams, service, anew)
+        }
+        None => {
+            let service = server_over(rt, choices, opened, now, header)?;
+            serve_fronts(rt, fronts, sync, streams, service, journal)
+        }
+    }
+}
+
+// A file that is open, and the stores that it keeps.
+#[derive(Drop)]
+struct Found<S: Start, B> {
+    journal: Journal<FileFrom<S>, B>,
+    header: Header,
+    opened: Opened,
+    // How many bytes of the file are used.
+    used: u64,
+}
+
+// Opens the file at this path and reads it. Where there is none it is made.
+fn find<S: Start, B>(
+    rt: &HostRuntime,
+    path: &str,
+    now: Moment,
+    output: &B,
+    start: S,
+) -> Result<Found<S, B>, Stopped>
+    ensures usable { IfOk result (λ found. IsTrue (file_is_usable S.Start (disk_behind found.journal))) }
+{
+    let new = header_of(rt, 0, now.0)?;
+    let (mut journal, reader) = open(rt, path, new, output, start)?;
+    let header = match &reader {
+        Some(reader) => reader.header(),
+        None => new,
+    };
+    if let Err(Uncompacted::InTheWay) = clear_new(rt, path) {
+        return Err(Stopped::InTheWay);
+    }
+    let mut opening = Opening::of(rt, path);
+    let (opened, used) = read_all(rt.alloc(), &mut journal, reader, now, output, &mut opening)?;
+    opening.end();
+    Ok(Found {
+        journal,
+        header,
+        opened,
+        used,
+    })
+}
+
+// The file that was compacted. That is told, and so is where it could not be done, and the old one is used on.
+fn compacted<S: Start, B>(
+    rt: &HostRuntime,
+    path: &str,
+    header: Header,
+    opened: &Opened,
+    output: &B,
+    start: S,
+) -> Result<Option<Compacted<S, B>>, Stopped>
+    ensures usable { IfOk result (λ some. IfSome some (λ made. IsTrue (file_is_usable S.Start (disk_behind made.journal)))) }
+{
+    match compact_opened(rt, path, header, opened, output, start) {
+        Ok(made) => {
+            let _told = writeln!(
+                rt.stderr(),
+                "the store was compacted: {} bytes before, {} bytes now",
+                made.before,
+                made.now
+            );
+            Ok(Some(made))
+        }
+        Err(Uncompacted::InTheWay) => Err(Stopped::InTheWay),
+        Err(Uncompacted::Unsynced(error)) => Err(Stopped::from(JournalError::Failed(error))),
+        Err(error) => {
+            let _told = writeln!(rt.stderr(), "the store is not compacted: {error}");
+            Ok(None)
+        }
+    }
+}
+
+// Whether too much of a file, of which so many bytes are used, is of no use any more. Where there is no memory to find out, it isn't.
+fn is_useless(alloc: Global, used: u64, compacting: Compacting, opened: &Opened) -> bool {
+    let Compacting { over, useless } = compacting;
+    if used <= over {
+        return false;
+    }
+    match length_of(alloc, opened) {
+        Ok(left) => is_due(used, left, over, useless),
+        Err(AllocError) => false,
+    }
+}
+
+// Serves with the server, behind what stands in front of it. It is told here of no streams and no disk in particular, so that its check is short.
+fn serve_fronts<R: Rng + Drop, C: Clock + Drop, D: Disk + Drop, I: Read + Drop, O: Write + Drop>(
+    rt: &HostRuntime,
+    fronts: Fronts<'_>,
+    sync: Sync,
+    mut streams: Streams<I, O>,
+    service: Recorded<R, C>,
+    mut journal: Journal<D, O>,
+) -> Result<End, Stopped>
+    requires usable { IsTrue (D.Disk.is_usable (disk_behind journal)) }
+{
     if fronts.is_none() {
         return serve_on(rt.alloc(), sync, &mut streams, service, &mut journal);
     }
@@ -93,12 +207,13 @@ fn serve_users<S: Recording + Drop, D: Disk, I: Read, O: Write>(
     let Fronts {
         users,
         realm,
+        address_header,
         log,
         ..
     } = fronts;
     match users {
         Some(users) => {
-            let login = login_over(rt, users, realm.as_str(), service)?;
+            let login = login_over(rt, users, realm.as_str(), address_header, service)?;
             serve_logged(rt.alloc(), log, sync, streams, login, journal)
         }
         None => serve_logged(rt.alloc(), log, sync, streams, service, journal),
@@ -117,8 +232,14 @@ fn serve_logged<S: Recording + Drop, D: Disk, I: Read, O: Write>(
     requires usable { IsTrue (D.Disk.is_usable (disk_behind journal.old)) }
 {
     match log {
-        Some(Logging { file, user_header }) => {
-            let logged = Logged::new(alloc, service, file, user_header);
+        Some(
+            Logging {
+                file,
+                user_header,
+                address_header,
+            },
+        ) => {
+            let logged = Logged::new(alloc, service, file, user_header, address_header);
             serve_recorded(alloc, sync, streams, logged, journal)
         }
         None => serve_recorded(alloc, sync, streams, service, journal),
@@ -205,7 +326,7 @@ fn serve_recorded<S: Recording + Drop, D: Disk, I: Read, O: Write>(
     Ok(end)
 }
 
-// The stores that the journal keeps; those of a new one are a root folder alone.
+// The stores that the journal keeps, and how many bytes of the file are used; those of a new one are a root folder alone.
 fn read_all<D: Disk, B, W: Watch>(
     alloc: Global,
     journal: &mut Journal<D, B>,
@@ -213,15 +334,18 @@ fn read_all<D: Disk, B, W: Watch>(
     now: Moment,
     note: &B,
     watch: &mut W,
-) -> Result<Opened, Stopped>
+) -> Result<(Opened, u64), Stopped>
     requires usable { IsTrue (D.Disk.is_usable (disk_behind journal.old)) }
     ensures usable { IsTrue (D.Disk.is_usable (disk_behind journal.new)) }
 {
     match found {
-        Some(mut reader) => Ok(load(alloc, journal, &mut reader, note, watch)?),
+        Some(mut reader) => {
+            let opened = load(alloc, journal, &mut reader, note, watch)?;
+            Ok((opened, reader.place() as u64))
+        }
         None => {
             let stores = Guarded::new(alloc, now).map_err(|_| AllocError)?;
-            Ok(Opened { stores, last: now })
+            Ok((Opened { stores, last: now }, 0))
         }
     }
 }
@@ -236,9 +360,4 @@ fn tell_ahead(rt: &HostRuntime, last: Moment, now: Moment) {
             "the last change of the store is {seconds} seconds ahead of the clock"
         );
     }
-}
-
-// A number drawn at random.
-fn drawn(rt: &HostRuntime) -> io::Result<u64> {
-    Ok(RandomState::new(rt)?.hash_one(&0u8))
 }

@@ -27,6 +27,12 @@ pub enum What {
     Log(bool),
     /// It is written anew, as a snapshot of what stands in it.
     Compact,
+    /// What stands in this folder of the system is put into it.
+    Import(String),
+    /// What stands in it is put into this folder of the system, which is made.
+    Export(String),
+    /// What stood in it before it is broken is put into this file, which is made.
+    Salvage(String),
 }
 
 /// What the words choose.
@@ -39,7 +45,7 @@ pub struct Choices {
 }
 
 impl Choices {
-    /// A path, and then `check`; or `list` with a folder or without one; or `log`, with `--bodies` or without it; or `compact`. `Usage` where the words are other than that; `OutOfMemory` where there is no memory for them.
+    /// A path, and then `check`; or `list` with a folder or without one; or `log`, with `--bodies` or without it; or `compact`; or `import` or `export` with a folder of the system; or `salvage` with a file. `Usage` where the words are other than that; `OutOfMemory` where there is no memory for them.
     pub fn of(alloc: Global, words: &[String]) -> Result<Choices, Unread> {
         let Some((path, rest)) = words.split_first() else {
             return Err(Unread::Usage);
@@ -55,6 +61,15 @@ impl Choices {
                 What::Log(true)
             }
             [word] if word.as_str() == "compact" => What::Compact,
+            [word, folder] if word.as_str() == "import" => {
+                What::Import(String::from_str(alloc, folder.as_str())?)
+            }
+            [word, folder] if word.as_str() == "export" => {
+                What::Export(String::from_str(alloc, folder.as_str())?)
+            }
+            [word, file] if word.as_str() == "salvage" => {
+                What::Salvage(String::from_str(alloc, file.as_str())?)
+            }
             _ => return Err(Unread::Usage),
         };
         Ok(Choices {

@@ -1,6 +1,6 @@
 //! What requests changed, a line for each change.
 use crate::looking::{Seen, broken};
-use crate::paths::word_of;
+use crate::paths::{told_path, word_of};
 use dav_effects_core::{RecordError, read};
 use dav_files_core::fs::DavProp;
 use dav_notes_core::notes::Note;
@@ -225,22 +225,14 @@ fn write_patch<O: Write + Drop>(
     Ok(())
 }
 
-// Each segment with a slash before it; a slash for the root. A record does not tell whether a path ended in one.
+// A record does not tell whether a path ended in a slash.
 fn write_path<O: Write + Drop>(
     alloc: Global,
     path: &DavPath,
     output: &mut BufWriter<O>,
 ) -> io::Result<()> {
-    let mut is_root = true;
-    for segment in path.segments() {
-        is_root = false;
-        output.write_all(b"/")?;
-        write_word(alloc, segment, output)?;
-    }
-    if is_root {
-        output.write_all(b"/")?;
-    }
-    Ok(())
+    let told = told_path(alloc, path)?;
+    output.write_all(told.as_str().as_bytes())
 }
 
 fn write_named<O: Write + Drop>(

@@ -1,5 +1,5 @@
 //! Reading a file of stores to its end, or to where it is broken.
-use dav_store_core::{Opened, StoreError};
+use dav_store_core::{Opened, StoreError, Watch};
 use journal_core::{JournalError, Reader, Stream};
 use std::alloc::{AllocError, Global};
 use std::io::{self, BufReader, Read};
@@ -29,8 +29,12 @@ pub enum Seen {
     },
 }
 
-/// Reads all of a file. An error where there is no memory; all else that is wrong is told as `Broken`.
-pub fn look<I: Read + Drop>(alloc: Global, input: BufReader<I>) -> io::Result<Seen> {
+/// Reads all of a file; before each record the watch is told how far. An error where there is no memory; all else that is wrong is told as `Broken`.
+pub fn look<I: Read + Drop, W: Watch>(
+    alloc: Global,
+    input: BufReader<I>,
+    watch: &mut W,
+) -> io::Result<Seen> {
     let mut source = Stream::new(input);
     let mut reader = match Reader::begin(alloc, &mut source, &()) {
         Ok(Some(reader)) => reader,
@@ -42,6 +46,7 @@ pub fn look<I: Read + Drop>(alloc: Global, input: BufReader<I>) -> io::Result<Se
         Err(error) => return broken(error, 0, reader.place() as u64),
     };
     for number in first..u64::MAX {
+        watch.has_read(reader.place());
         match opened.read_next(alloc, &mut source, &mut reader, &(), number) {
             Ok(true) => {}
             Ok(false) => return Ok(Seen::Whole {

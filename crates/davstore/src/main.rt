@@ -1,27 +1,37 @@
-//! Looks into a file of stores: whether it is whole, and what stands in it. That takes no lock, and writes nothing into the file. Or compacts it, which does both.
+//! Looks into a file of stores: whether it is whole, and what stands in it, which it exports, too. That takes no lock, and writes nothing into the file. Or compacts it, or imports into it, which does both.
 #![tactic(auto)]
 
 mod choices;
-mod compacting;
+mod exporting;
+mod failures;
+mod importing;
 mod listing;
 mod logging;
 mod looking;
 mod paths;
+mod salvaging;
+mod sources;
 
 use choices::{Choices, Unread, What};
-use compacting::{Lengths, Uncompacted, compact_file};
+use dav_store_core::StoreError;
+use exporting::export;
+use failures::Failure;
+use importing::import;
 use listing::list;
 use logging::log;
 use looking::{Seen, look};
+use salvaging::{Front, read_front, records_before};
 use std::alloc::AllocError;
 use std::env;
 use std::fs::File;
 use std::io::{self, BufReader, BufWriter, ErrorKind, Write};
 use std::process::ExitCode;
+use store_files::{Compacted, Uncompacted, Unwatched, compact_file, make_store};
+use work_progress::Opening;
 
 // The words that the program takes.
 const USAGE: &str =
-    "usage: davstore PATH check\n       davstore PATH list [FOLDER]\n       davstore PATH log [--bodies]\n       davstore PATH compact\n";
+    "usage: davstore PATH check\n       davstore PATH list [FOLDER]\n       davstore PATH log [--bodies]\n       davstore PATH compact\n       davstore PATH import DIR\n       davstore PATH export DIR\n       davstore PATH salvage OUT\n";
 
 // How many bytes are read and written at once.
 const BUFFER: usize = 64 * 1024;
@@ -44,37 +54,123 @@ fn main(rt: HostRuntime) -> ExitCode {
     match run(&rt, &choices) {
         Ok(true) => ExitCode::SUCCESS,
         Ok(false) => ExitCode::from(1),
-        Err(error) if error.kind() == ErrorKind::OutOfMemory => ended(&rt, "out of memory\n", 3),
-        Err(error) => failed(&rt, choices.path.as_str(), &error),
+        Err(failure) => failed(&rt, choices.path.as_str(), &failure),
     }
 }
 
 // Does and tells what was asked for. Whether the file is whole, and something is there to tell.
-fn run(rt: &HostRuntime, choices: &Choices) -> io::Result<bool> {
+fn run(rt: &HostRuntime, choices: &Choices) -> Result<bool, Failure> {
     let mut output = BufWriter::with_capacity(rt.alloc(), BUFFER, rt.stdout())?;
-    let path = choices.path.as_str();
-    let told = match &choices.what {
-        What::Compact => compact(rt, path, &mut output)?,
-        What::Check => {
-            let seen = look(rt.alloc(), input(rt, path)?)?;
-            tell(&seen, &mut output)?
-        }
-        What::List(folder) => {
-            let seen = look(rt.alloc(), input(rt, path)?)?;
-            match &seen {
-                Seen::Whole { opened, .. } => {
-                    list(rt.alloc(), &opened.stores, folder.as_str(), &mut output)?
-                }
-                _ => tell(&seen, &mut output)?,
-            }
-        }
-        What::Log(bodies) => match log(rt.alloc(), input(rt, path)?, *bodies, &mut output)? {
-            Some(seen) => tell(&seen, &mut output)?,
-            None => true,
-        },
-    };
+    let told = do_what(rt, choices, &mut output);
     output.flush()?;
-    Ok(told)
+    told
+}
+
+fn do_what<O: Write + Drop>(
+    rt: &HostRuntime,
+    choices: &Choices,
+    output: &mut BufWriter<O>,
+) -> Result<bool, Failure> {
+    let path = choices.path.as_str();
+    match &choices.what {
+        What::Check => check(rt, path, output),
+        What::List(folder) => list_below(rt, path, folder.as_str(), output),
+        What::Log(bodies) => log_changes(rt, path, *bodies, output),
+        What::Compact => Ok(compact(rt, path, output)?),
+        What::Import(folder) => import(rt, path, folder.as_str(), output),
+        What::Export(folder) => export_all(rt, path, folder.as_str(), output),
+        What::Salvage(file) => salvage(rt, path, file.as_str(), output),
+    }
+}
+
+fn check<O: Write + Drop>(
+    rt: &HostRuntime,
+    path: &str,
+    output: &mut BufWriter<O>,
+) -> Result<bool, Failure> {
+    let seen = look(rt.alloc(), input(rt, path)?, &mut Unwatched)?;
+    Ok(tell(&seen, output)?)
+}
+
+fn list_below<O: Write + Drop>(
+    rt: &HostRuntime,
+    path: &str,
+    folder: &str,
+    output: &mut BufWriter<O>,
+) -> Result<bool, Failure> {
+    let seen = look(rt.alloc(), input(rt, path)?, &mut Unwatched)?;
+    match &seen {
+        Seen::Whole { opened, .. } => Ok(list(rt.alloc(), &opened.stores, folder, output)?),
+        _ => Ok(tell(&seen, output)?),
+    }
+}
+
+fn log_changes<O: Write + Drop>(
+    rt: &HostRuntime,
+    path: &str,
+    bodies: bool,
+    output: &mut BufWriter<O>,
+) -> Result<bool, Failure> {
+    match log(rt.alloc(), input(rt, path)?, bodies, output)? {
+        Some(seen) => Ok(tell(&seen, output)?),
+        None => Ok(true),
+    }
+}
+
+fn export_all<O: Write + Drop>(
+    rt: &HostRuntime,
+    path: &str,
+    folder: &str,
+    output: &mut BufWriter<O>,
+) -> Result<bool, Failure> {
+    let mut opening = Opening::of(rt, path);
+    let seen = look(rt.alloc(), input(rt, path)?, &mut opening);
+    opening.end();
+    let seen = seen?;
+    match &seen {
+        Seen::Whole { opened, .. } => export(rt, &opened.stores, folder, output),
+        _ => Ok(tell(&seen, output)?),
+    }
+}
+
+// Puts what stood in the file before it is broken into a new one, and tells both. A file that is whole, or has no record before it is broken, is told as `check` tells it, and nothing is made.
+fn salvage<O: Write + Drop>(
+    rt: &HostRuntime,
+    path: &str,
+    to: &str,
+    output: &mut BufWriter<O>,
+) -> Result<bool, Failure> {
+    let seen = look(rt.alloc(), input(rt, path)?, &mut Unwatched)?;
+    let is_whole = tell(&seen, output)?;
+    let Some(records) = records_before(&seen) else {
+        return Ok(is_whole);
+    };
+    drop(seen);
+    let Front { opened, header } = read_front(rt.alloc(), input(rt, path)?, records)?;
+    match make_store(rt, to, header, &opened) {
+        Ok(()) => {
+            let last = opened.last.0;
+            writeln!(output, "salvaged: {records} records, last moment {last}")?;
+            Ok(true)
+        }
+        Err(Uncompacted::InTheWay) => {
+            writeln!(output, "something stands there: {to}")?;
+            Ok(false)
+        }
+        Err(error) => Err(unmade(rt, to, error)?),
+    }
+}
+
+// Why a store could not be made at this path.
+fn unmade(rt: &HostRuntime, path: &str, error: Uncompacted) -> Result<Failure, AllocError> {
+    match error {
+        Uncompacted::Store(StoreError::Journal(error)) => Ok(Failure::from(error)),
+        Uncompacted::Failed(error) | Uncompacted::Unsynced(error) => {
+            Ok(Failure::At(String::from_str(rt.alloc(), path)?, error))
+        }
+        Uncompacted::Store(error) => Ok(Failure::Refused(error)),
+        Uncompacted::New | Uncompacted::InTheWay => Ok(Failure::Refused(StoreError::Damaged(0))),
+    }
 }
 
 // The file, which is read from its front.
@@ -90,7 +186,7 @@ fn compact<O: Write + Drop>(
     output: &mut BufWriter<O>,
 ) -> io::Result<bool> {
     match compact_file(rt, path) {
-        Ok(Lengths { before, now }) => {
+        Ok(Compacted { before, now, .. }) => {
             writeln!(output, "compacted: {before} bytes before, {now} bytes now")?;
             Ok(true)
         }
@@ -106,7 +202,7 @@ fn compact<O: Write + Drop>(
             writeln!(output, "{error}")?;
             Ok(false)
         }
-        Err(Uncompacted::Failed(error)) => Err(error),
+        Err(Uncompacted::Failed(error) | Uncompacted::Unsynced(error)) => Err(error),
     }
 }
 
@@ -154,9 +250,25 @@ fn words(rt: &HostRuntime) -> io::Result<Vec<String>> {
     Ok(words)
 }
 
-// Tells why the file cannot be read. A failed write changes no status.
-fn failed(rt: &HostRuntime, path: &str, error: &io::Error) -> ExitCode {
-    let _written = writeln!(rt.stderr(), "{path}: {error}");
+// Tells why it has ended before its end. A failed write changes no status.
+fn failed(rt: &HostRuntime, path: &str, failure: &Failure) -> ExitCode {
+    if failure.is_for_memory() {
+        return ended(rt, "out of memory\n", 3);
+    }
+    let _written = match failure {
+        Failure::Refused(error) => {
+            let _told = writeln!(rt.stdout(), "{error}");
+            return ExitCode::from(1);
+        }
+        Failure::NotEmpty(folder) => {
+            let _told = writeln!(rt.stdout(), "no empty folder: {folder}");
+            return ExitCode::from(1);
+        }
+        Failure::Unkept(error) => writeln!(rt.stderr(), "{path}: {error}"),
+        Failure::Changed(place) => writeln!(rt.stderr(), "{place}: changed while it was read"),
+        Failure::At(place, error) => writeln!(rt.stderr(), "{place}: {error}"),
+        Failure::Failed(error) => writeln!(rt.stderr(), "{path}: {error}"),
+    };
     ExitCode::from(3)
 }
 

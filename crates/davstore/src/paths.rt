@@ -1,6 +1,7 @@
 //! The paths of what a walk of the stores meets, and words of a line.
 use dav_files_core::fs::DavMetaData;
 use dav_files_core::memfs::MemFsStored;
+use dav_path_core::davpath::DavPath;
 use std::alloc::{AllocError, Global};
 use std::collections::BTreeMap;
 
@@ -38,6 +39,29 @@ impl Paths {
         }
         Ok(path)
     }
+}
+
+/// A path as a word of a line: each segment with a slash before it, its bytes as in `word_of`; a slash for the root.
+pub fn told_path(alloc: Global, path: &DavPath) -> Result<String, AllocError> {
+    let mut told = String::new(alloc);
+    for segment in path.segments() {
+        told.push('/')?;
+        push_name(&mut told, segment)?;
+    }
+    if told.is_empty() {
+        told.push('/')?;
+    }
+    Ok(told)
+}
+
+/// The path of a member of a folder, as a word of a line.
+pub fn told_member(alloc: Global, folder: &DavPath, name: &[u8]) -> Result<String, AllocError> {
+    let mut told = told_path(alloc, folder)?;
+    if !told.ends_with('/') {
+        told.push('/')?;
+    }
+    push_name(&mut told, name)?;
+    Ok(told)
 }
 
 /// Bytes as a word of a line: each that is no letter, digit, `-`, `.`, `_` or `~` as `%HH`.

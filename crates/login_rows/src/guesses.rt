@@ -2,7 +2,7 @@
 use crate::requests::USERS;
 use crate::telling::{Still, Telling};
 use bytes::Bytes;
-use dav_login_core::Login;
+use dav_login_core::{Fields, Login};
 use dav_users_core::Users;
 use http::Request;
 use http_frames::gate::TurnService;
@@ -13,6 +13,8 @@ use std::cell::Cell;
 use std::test::Fail;
 
 type Guarded<'a> = Login<Telling, Still<'a>>;
+
+const FIELD: &str = "x-forwarded-for";
 
 // Of each row a connection, the address of its client, what is sent behind `Basic `, and the status; or how many seconds later it is.
 const LIMITED: &str = "\
@@ -39,6 +41,26 @@ later 1\n\
 later 60\n\
 1 192.0.2.1 ZXZlOjc= 401\n\
 1 192.0.2.1 ZXZlOjg= 401";
+
+// The same, where a field is chosen that tells addresses: its value stands behind a `/`, where the request has it.
+const TOLD: &str = "\
+1 unix/192.0.2.1 YW5uOjE= 401\n\
+1 unix/192.0.2.1 YW5uOjI= 401\n\
+1 unix/192.0.2.1 Ym9iOjM= 401\n\
+1 unix/192.0.2.1 ZXZlOjQ= 401\n\
+1 unix/192.0.2.1 ZXZlOjU= 401\n\
+1 unix/192.0.2.1 ZXZlOjY= 429\n\
+2 192.0.2.7/192.0.2.1 ZXZlOjY= 429\n\
+2 192.0.2.7/192.0.2.2,192.0.2.1 ZXZlOjY= 429\n\
+3 192.0.2.1 ZXZlOjY= 429\n\
+3 192.0.2.1/, ZXZlOjY= 429\n\
+1 unix/192.0.2.2 ZXZlOjY= 401\n\
+1 unix/192.0.2.1,192.0.2.3 ZXZlOjc= 401\n\
+1 unix ZXZlOjg= 401\n\
+4 192.0.2.7 ZXZlOjg= 401\n\
+1 unix/192.0.2.1 YW5uOnNlY3JldA== 429\n\
+1 unix/192.0.2.2 YW5uOnNlY3JldA== 200\n\
+1 unix/192.0.2.1 YW5uOnNlY3JldA== 200";
 
 // The same, or a file of users that is listed: `same`, one in which bob's line is another, or `wrong`.
 const LISTED: &str = "\
@@ -71,8 +93,22 @@ bob:$5$saltsalt$0IyaXrmV7.sGNS6tirgqHLqX/G.FBvgkYA.lpPdS5sA\n";
 fn guesses_are_limited(rt: HostRuntime) -> Result<(), Fail> {
     let now = Cell::new(5_000_000_000);
     let told = Cell::new(0);
-    let mut login = login(rt.alloc(), &now, &told)?;
+    let mut login = login(rt.alloc(), &now, &told, None)?;
     for row in LIMITED.lines() {
+        let wanted = row.rsplit_once(' ').unwrap_or((row, row)).1;
+        let answered = played(rt.alloc(), &mut login, &now, row)?;
+        assert!(rt; answered.as_str() == wanted, "{row}: {answered}");
+    }
+    Ok(())
+}
+
+#[test]
+fn told_addresses_are_limited(rt: HostRuntime) -> Result<(), Fail> {
+    let now = Cell::new(5_000_000_000);
+    let told = Cell::new(0);
+    let field = HeaderName::from_static(FIELD);
+    let mut login = login(rt.alloc(), &now, &told, Some(field))?;
+    for row in TOLD.lines() {
         let wanted = row.rsplit_once(' ').unwrap_or((row, row)).1;
         let answered = played(rt.alloc(), &mut login, &now, row)?;
         assert!(rt; answered.as_str() == wanted, "{row}: {answered}");
@@ -84,7 +120,7 @@ fn guesses_are_limited(rt: HostRuntime) -> Result<(), Fail> {
 fn users_are_listed(rt: HostRuntime) -> Result<(), Fail> {
     let now = Cell::new(0);
     let told = Cell::new(0);
-    let mut login = login(rt.alloc(), &now, &told)?;
+    let mut login = login(rt.alloc(), &now, &told, None)?;
     for row in LISTED.lines() {
         let wanted = row.rsplit_once(' ').unwrap_or((row, row)).1;
         let answered = played(rt.alloc(), &mut login, &now, row)?;
@@ -94,7 +130,12 @@ fn users_are_listed(rt: HostRuntime) -> Result<(), Fail> {
     Ok(())
 }
 
-fn login<'a>(alloc: Global, now: &'a Cell<u64>, told: &'a Cell<u64>) -> Result<Guarded<'a>, Fail> {
+fn login<'a>(
+    alloc: Global,
+    now: &'a Cell<u64>,
+    told: &'a Cell<u64>,
+    address: Option<HeaderName>,
+) -> Result<Guarded<'a>, Fail> {
     let header = HeaderName::from_static("x-user");
     let service = Telling {
         alloc,
@@ -107,7 +148,10 @@ fn login<'a>(alloc: Global, now: &'a Cell<u64>, told: &'a Cell<u64>) -> Result<G
         Still { now, told },
         users,
         "a realm",
-        header,
+        Fields {
+            user: header,
+            address,
+        },
         [7; 32],
     )?)
 }
@@ -134,20 +178,29 @@ fn played(
         });
         return Ok(String::from_str(alloc, last)?);
     }
-    let (address, sent) = rest.split_once(' ').unwrap_or((rest, rest));
+    let (client, sent) = rest.split_once(' ').unwrap_or((rest, rest));
+    let (address, field) = client.split_once('/').unwrap_or((client, ""));
     login.begin_turn(first.parse::<u64>().unwrap_or(0), address.as_bytes());
     let token = sent.split_once(' ').unwrap_or((sent, sent)).0;
-    answered(alloc, login, token)
+    answered(alloc, login, field, token)
 }
 
 // The status, and what a 429 lacks or has too much.
-fn answered(alloc: Global, login: &mut Guarded<'_>, token: &str) -> Result<String, Fail> {
+fn answered(
+    alloc: Global,
+    login: &mut Guarded<'_>,
+    field: &str,
+    token: &str,
+) -> Result<String, Fail> {
     let value = format!(in alloc; "Basic {token}")?;
-    let request = Request::builder(alloc)
+    let mut request = Request::builder(alloc)
         .method("GET")
         .uri("/a")
-        .header("authorization", value.as_str())
-        .body(Bytes::from_static(b"x"))?;
+        .header("authorization", value.as_str());
+    if !field.is_empty() {
+        request = request.header(FIELD, field);
+    }
+    let request = request.body(Bytes::from_static(b"x"))?;
     let mut response = Response::new(alloc);
     login.call(&request, &mut response)?;
     let mut text = format!(in alloc; "{}", response.status.as_u16())?;

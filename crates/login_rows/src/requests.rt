@@ -1,7 +1,7 @@
 //! Requests to a login.
 use crate::telling::{Still, Telling};
 use bytes::{Buf, Bytes};
-use dav_login_core::Login;
+use dav_login_core::{Fields, Login};
 use dav_users_core::Users;
 use http::Request;
 use http_header::{HeaderName, HeaderValue};
@@ -57,7 +57,11 @@ fn requests_are_let_in(rt: HostRuntime) -> Result<(), Fail> {
         now: &now,
         told: &unread,
     };
-    let mut login = Login::new(alloc, service, host, users, "a realm", header, [7; 32])?;
+    let fields = Fields {
+        user: header,
+        address: None,
+    };
+    let mut login = Login::new(alloc, service, host, users, "a realm", fields, [7; 32])?;
     for _ in 0..2 {
         for row in ROWS.lines() {
             let (request, wanted) = row.rsplit_once('|').unwrap_or((row, row));

@@ -1,2 +1,3 @@
 pub mod LogLines
+pub mod LoggedAnswers
 pub mod Private

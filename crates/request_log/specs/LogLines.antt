@@ -21,6 +21,11 @@ escaped_bytes bytes = flat_map escaped_byte bytes
 
 -- ---- a line
 
+-- where a client is, as it stands in a line: `-` where nobody told
+abbrev pub shown_address : List ℕ → List ℕ
+shown_address [] = codes "-"
+shown_address (b ∷ address) = b ∷ address
+
 -- Of one request: where its client is, whom it names, the second in which it was answered as HTTP writes dates, its method and target, the status of its answer and how many bytes its body has, and
 -- how many microseconds it took.
 pub record LogEntry : Type 0 where

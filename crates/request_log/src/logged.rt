@@ -17,13 +17,21 @@ pub struct Logged<S, L> {
 }
 
 impl<S, L: Log> Logged<S, L> {
-    /// The service, and the log that takes a line for each of its answers. The header names the user, where a proxy sets it; without one it is the name that a request logs in with.
-    pub fn new(alloc: Global, service: S, log: L, user_header: Option<HeaderName>) -> Logged<S, L>
-        ensures { result.service ≡ service }
+    /// The service, and the log that takes a line for each of its answers. The first header names the user, where a proxy sets it; without one it is the name that a request logs in with. The second
+    /// tells the address of the client, where a proxy sets it or adds to it; without one it is the connection's.
+    pub fn new(
+        alloc: Global,
+        service: S,
+        log: L,
+        user_header: Option<HeaderName>,
+        address_header: Option<HeaderName>,
+    ) -> Logged<S, L>
+        ensures service { result.service ≡ service }
+        ensures address_header { result.notes.field ≡ address_header }
     {
         Logged {
             service,
-            notes: Notes::new(alloc, log, user_header),
+            notes: Notes::new(alloc, log, user_header, address_header),
         }
     }
 }

@@ -1,10 +1,14 @@
 //! What is noted of a turn, and the line that is written of it.
-ghost use Rattle.std.specs.Prelude.{⊤};
+ghost use Rattle.std.specs.Prelude.{◌≡◌, [], IfOk};
+ghost use Rattle.client_addresses.specs.declared.addresses.Addresses.{Addresses};
+ghost use Rattle.client_addresses.specs.ClientAddresses.{address_of_request, kept_address};
+ghost use Rattle.request_log.specs.LogLines.{shown_address};
+ghost use Rattle.request_log.specs.LoggedAnswers.{IsLineOf};
 
 use crate::lines::{Entry, line_of};
 use crate::names::name_of;
-use arrayvec::ArrayVec;
 use bytes::Bytes;
+use client_addresses::Addresses;
 use http::Request;
 use http_header::HeaderName;
 use http_server::Response;
@@ -27,41 +31,48 @@ pub trait Log {
     fn lost(&mut self);
 }
 
-// An address has no more bytes.
-const LONGEST: usize = 64;
-
-/// The log, and whose turn it is. What stands in it decides what is written to the log, and never what is answered: so contracts see nothing of it.
+/// The log, and whose turn it is. Contracts see by what the address of a request is known.
 #[derive(Drop)]
 pub(crate) struct Notes<L> {
     alloc: Global,
     log: L,
     user_header: Option<HeaderName>,
-    address: ArrayVec<u8, LONGEST>,
+    addresses: Addresses,
     began: u64,
 }
 
 impl<L> Model for Notes<L> {
-    ghost Value = { ⊤ };
+    ghost Value = { Addresses };
 
-    ghost view = { λ _. tt };
+    ghost view = { λ n. n.addresses };
 }
 
 impl<L: Log> Notes<L> {
     /// Nobody has had a turn.
-    pub(crate) fn new(alloc: Global, log: L, user_header: Option<HeaderName>) -> Notes<L> {
+    pub(crate) fn new(
+        alloc: Global,
+        log: L,
+        user_header: Option<HeaderName>,
+        address_header: Option<HeaderName>,
+    ) -> Notes<L>
+        ensures field { result.field ≡ address_header }
+        ensures connection { result.connection.items ≡ [] }
+    {
         Notes {
             alloc,
             log,
             user_header,
-            address: ArrayVec::new(),
+            addresses: Addresses::new(address_header),
             began: 0,
         }
     }
 
     /// Takes word that a turn begins, of a client at the address. One that is longer than 64 bytes counts as none.
-    pub(crate) fn begin(&mut self, address: &[u8]) {
-        self.address.clear();
-        let _fits = self.address.try_extend_from_slice(address);
+    pub(crate) fn begin(&mut self, address: &[u8])
+        ensures field { self.new.field ≡ self.old.field }
+        ensures connection { self.new.connection.items ≡ kept_address address.now }
+    {
+        self.addresses.turn(address);
         self.began = self.log.now();
     }
 
@@ -73,17 +84,16 @@ impl<L: Log> Notes<L> {
         }
     }
 
-    fn line(
-        &mut self,
-        request: &Request<Bytes>,
-        response: &Response,
-    ) -> Result<Vec<u8>, AllocError> {
+    // The line of a request that was answered. `AllocError` where there is no memory.
+    fn line(&mut self, request: &Request<Bytes>, response: &Response) -> Result<Vec<u8>, AllocError>
+        ensures { IfOk result (λ line. IsLineOf self.old request.now response.now line.items) }
+    {
         let took = self.log.now().saturating_sub(self.began) / 1000;
         let date = date_of(self.log.moment());
         let user = name_of(self.alloc, request, &self.user_header)?;
         let target = target_of(self.alloc, request)?;
         let entry = Entry {
-            address: self.from(),
+            address: self.from(request),
             user: &user,
             date: &date,
             method: request.method().as_str().as_bytes(),
@@ -95,12 +105,15 @@ impl<L: Log> Notes<L> {
         line_of(self.alloc, &entry)
     }
 
-    // Where the client is; `-` where that was not told.
-    fn from(&self) -> &[u8] {
-        if self.address.is_empty() {
+    // Where the client of a request is; `-` where that was not told.
+    fn from<'a>(&'a self, request: &'a Request<Bytes>) -> &'a [u8]
+        ensures { result.now ≡ shown_address (address_of_request self.now request.now) }
+    {
+        let address = self.addresses.of(request);
+        if address.is_empty() {
             return b"-";
         }
-        self.address.as_slice()
+        address
     }
 }
 

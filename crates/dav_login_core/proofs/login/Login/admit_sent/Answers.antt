@@ -69,7 +69,7 @@ returns-in_ok-refuse-in-Wrong-clause-none g c = λ _.
     (given_in_vain door c.args.request.now (name_and_password_of c.args.given) c.requires.is_sent (inl (inl c.in-Wrong.ensures.weighs)))
     (subst (λ (l : Login g.row.S.Denot g.row.H.Denot). IsResponse 401 ((codes "www-authenticate", l.challenge.bytes) ∷ []) [] c.refuse-in-Wrong.new.response)
     c.weigh.ensures.same c.in_ok-refuse-in-Wrong.ensures)
-    (same_state (users_in c.weigh.new.self.accepted.users) (users_in c.note_refused.new.self.users) c.weigh.new.self.challenge.bytes c.weigh.new.self.header
+    (same_state (users_in c.weigh.new.self.accepted.users) (users_in c.note_refused.new.self.users) c.weigh.new.self.challenge.bytes c.weigh.new.self.header c.weigh.new.self.watch.field
     c.weigh.new.self.accepted.key c.note_refused.new.self.key c.weigh.new.self.accepted.known.items c.note_refused.new.self.known.items
     c.weigh.new.self.service (ap users_in c.note_refused.ensures.users) c.note_refused.ensures.key c.note_refused.ensures.known
     ∙ ap (λ (l : Login g.row.S.Denot g.row.H.Denot). login l) c.weigh.ensures.same)

@@ -1,4 +1,5 @@
 use Rattle.std.proofs.Common.{◌≡◌, Ok, string_bytes, refl, sym, ap, subst, inl, inr, ◌∙◌}
+use Rattle.client_addresses.specs.declared.addresses.Addresses.{Addresses}
 use Rattle.dav_users_core.specs.declared.users.Users.{Users}
 use Rattle.dav_users_core.specs.Users.{UsersReading, hash_named, users_in}
 use Rattle.dav_login_core.specs.declared.known.Known.{Known}
@@ -20,6 +21,7 @@ returns-in-Ok-clause-lists g c =
           (sym c.list.ensures.users) c.list.ensures.known;
       challenge = refl;
       header = refl;
+      address_field = refl;
       key = c.list.ensures.key;
     }
 
@@ -32,5 +34,6 @@ returns-in-Err-clause-lists g c =
           c.args.self.now.accepted.known.items;
       challenge = refl;
       header = refl;
+      address_field = ap (λ (a : Addresses). a.field) c.tell.ensures;
       key = refl;
     }

@@ -1,0 +1,200 @@
+//! Compacting a store: its file is written anew, as a snapshot of what stands in it, and takes the place of the old one.
+ghost use Rattle.std.specs.Prelude.{[], false, IsTrue, IfOk, OnOk};
+ghost use Rattle.sqlite_std_file.specs.File.{file_is_usable};
+ghost use Rattle.journal_core.specs.Resting.{disk_behind};
+
+use crate::error::Uncompacted;
+use crate::placing::{clear, find_free, is_new, make_like, name_of_new, sync_folder};
+use dav_store_core::{Opened, StoreError, Watch, compact, load};
+use journal_core::{Header, Journal, Reader};
+use journal_file::open;
+use sqlite_disk::Disk;
+use sqlite_std_file::{FileFrom, Start, Wary};
+use std::alloc::Global;
+use std::hash::{BuildHasher, RandomState};
+use std::{fs, io};
+
+/// A file that was compacted (own).
+#[derive(Drop)]
+pub struct Compacted<S: Start, B> {
+    /// The new file, which is open, and locked.
+    pub journal: Journal<FileFrom<S>, B>,
+    /// Its header.
+    pub header: Header,
+    /// How many bytes the old file had.
+    pub before: u64,
+    /// How many it has.
+    pub now: u64,
+}
+
+/// What is supposed of the new file as it is opened: it has no byte (own).
+#[derive(Drop)]
+pub struct Anew;
+
+impl Start for Anew {
+    ghost log = { [] };
+
+    ghost db = { [] };
+
+    ghost is_mixing = { false };
+
+    fn mixes() -> bool {
+        false
+    }
+}
+
+/// Compacts the file at this path, as `compact_opened` does, while no server runs (own). The file is locked
+/// meanwhile. Where a link stands at the path, that is done where it leads.
+///
+/// - `Store`: the old file is refused, as `load` says, or another program has it open.
+/// - `New`: it has no record yet.
+/// - And as `compact_opened` says.
+pub fn compact_file(rt: &HostRuntime, path: &str) -> Result<Compacted<Anew, ()>, Uncompacted> {
+    let real = fs::canonicalize(rt, path)?;
+    if is_new(rt, real.as_str())? {
+        return Err(Uncompacted::New);
+    }
+    let (mut old, found) = open(rt, real.as_str(), header_of(rt, 0, 0)?, &(), Wary)?;
+    let Some(reader) = found else {
+        return Err(Uncompacted::New);
+    };
+    let header = reader.header();
+    let opened = read_all(rt.alloc(), &mut old, reader)?;
+    compact_opened(rt, real.as_str(), header, &opened, &(), Anew)
+}
+
+// The stores of the old file.
+fn read_all<D: Disk>(
+    alloc: Global,
+    journal: &mut Journal<D, ()>,
+    mut reader: Reader,
+) -> Result<Opened, StoreError>
+    requires usable { IsTrue (D.Disk.is_usable (disk_behind journal.old)) }
+{
+    load(alloc, journal, &mut reader, &(), &mut Unwatched)
+}
+
+/// Nobody is told how far a file was read (own).
+#[derive(Drop)]
+pub struct Unwatched;
+
+impl Watch for Unwatched {
+    fn has_read(&mut self, _place: usize) {}
+}
+
+/// Writes what stands in the file at this path, which whoever calls it has open and read, into a new file
+/// beside it, named PATH.new, and gives that the name of the old one, once it is on the disk (own). Where a
+/// link stands at the path, that is done where it leads.
+///
+/// - `InTheWay`: what stands at the name of the new file doesn't begin as a store does.
+/// - `Store`, `Failed`: the new file could not be made and written; it is removed again.
+/// - `Unsynced`: it was given the name of the old one, but the folder could not be synced.
+///
+/// As `journal_file::open` says, a value of each `S` is taken once, and `S` says that the file has no byte.
+pub fn compact_opened<S: Start, B>(
+    rt: &HostRuntime,
+    path: &str,
+    header: Header,
+    opened: &Opened,
+    note: &B,
+    start: S,
+) -> Result<Compacted<S, B>, Uncompacted>
+    ensures usable { IfOk result (λ made. IsTrue (file_is_usable S.Start (disk_behind made.journal))) }
+{
+    let real = fs::canonicalize(rt, path)?;
+    let new = name_of_new(rt, real.as_str())?;
+    clear(rt, new.as_str())?;
+    let later = header_of(rt, header.generation.saturating_add(1), header.began)?;
+    match write_anew(rt, real.as_str(), new.as_str(), later, opened, note, start) {
+        Ok(made) => match sync_folder(rt, real.as_str()) {
+            Ok(()) => Ok(made),
+            Err(error) => Err(Uncompacted::Unsynced(error)),
+        },
+        Err(error) => {
+            let _removed = fs::remove_file(rt, new.as_str());
+            Err(error)
+        }
+    }
+}
+
+/// A header whose key is drawn at random (own).
+pub fn header_of(rt: &HostRuntime, generation: u64, began: u64) -> io::Result<Header> {
+    let key = RandomState::new(rt)?.hash_one(&0u8);
+    Ok(Header {
+        generation,
+        key,
+        began,
+    })
+}
+
+// Writes the new file, and gives it the name of the old one.
+fn write_anew<S: Start, B>(
+    rt: &HostRuntime,
+    old: &str,
+    new: &str,
+    header: Header,
+    opened: &Opened,
+    note: &B,
+    start: S,
+) -> Result<Compacted<S, B>, Uncompacted>
+    ensures usable { IfOk result (λ made. IsTrue (file_is_usable S.Start (disk_behind made.journal))) }
+{
+    make_like(rt, old, new)?;
+    let (mut journal, _) = open(rt, new, header, note, start)?;
+    write_into(rt.alloc(), &mut journal, opened, note)?;
+    let before = fs::metadata(rt, old)?.len();
+    let now = fs::metadata(rt, new)?.len();
+    fs::rename(rt, new, old)?;
+    Ok(Compacted {
+        journal,
+        header,
+        before,
+        now,
+    })
+}
+
+/// Makes a store at this path, where nothing stands, of what was read of another file with this header (own).
+/// It is of the next generation, and on the disk at `Ok`, its name too.
+///
+/// - `InTheWay`: something stands there. It stays.
+/// - `Store`, `Failed`: the file could not be made and written; it is removed again.
+pub fn make_store(
+    rt: &HostRuntime,
+    path: &str,
+    header: Header,
+    opened: &Opened,
+) -> Result<(), Uncompacted> {
+    find_free(rt, path)?;
+    let later = header_of(rt, header.generation.saturating_add(1), header.began)?;
+    let made = write_store(rt, path, later, opened);
+    if made.is_err() {
+        let _removed = fs::remove_file(rt, path);
+    }
+    made
+}
+
+// Writes the store, and puts its name on the disk.
+fn write_store(
+    rt: &HostRuntime,
+    path: &str,
+    header: Header,
+    opened: &Opened,
+) -> Result<(), Uncompacted> {
+    let (mut journal, _) = open(rt, path, header, &(), Anew)?;
+    write_into(rt.alloc(), &mut journal, opened, &())?;
+    let real = fs::canonicalize(rt, path)?;
+    Ok(sync_folder(rt, real.as_str())?)
+}
+
+// The snapshot, which is on the disk at `Ok`.
+fn write_into<D: Disk, B>(
+    alloc: Global,
+    journal: &mut Journal<D, B>,
+    opened: &Opened,
+    note: &B,
+) -> Result<(), StoreError>
+    requires usable { IsTrue (D.Disk.is_usable (disk_behind journal.old)) }
+    ensures usable { OnOk result (IsTrue (D.Disk.is_usable (disk_behind journal.new))) }
+{
+    compact(alloc, journal, &opened.stores, opened.last, note)
+}

@@ -1,0 +1,62 @@
+//! Why a store is not compacted.
+use dav_store_core::StoreError;
+use journal_core::JournalError;
+use std::alloc::AllocError;
+use std::{fmt, io};
+
+/// Why a store is not compacted (own). But for `Unsynced` its file stays as it is.
+#[derive(Drop)]
+pub enum Uncompacted {
+    /// It is broken, or is none, or another program has it open; or the new file has no room.
+    Store(StoreError),
+    /// It has no record yet.
+    New,
+    /// Something that is no store has the name that the new file is to have.
+    InTheWay,
+    /// A call of the system failed, or there is no memory.
+    Failed(io::Error),
+    /// The new file has the name of the old one, but the folder's sync failed, so a crash may give the
+    /// name back to the old one. Nothing may be added to either.
+    Unsynced(io::Error),
+}
+
+impl From<StoreError> for Uncompacted {
+    fn from(error: StoreError) -> Uncompacted {
+        match error {
+            StoreError::Journal(JournalError::OutOfMemory) => Uncompacted::Failed(
+                AllocError.into(),
+            ),
+            StoreError::Journal(JournalError::Failed(error)) => Uncompacted::Failed(error),
+            error => Uncompacted::Store(error),
+        }
+    }
+}
+
+impl From<JournalError> for Uncompacted {
+    fn from(error: JournalError) -> Uncompacted {
+        Uncompacted::from(StoreError::Journal(error))
+    }
+}
+
+impl From<io::Error> for Uncompacted {
+    fn from(error: io::Error) -> Uncompacted {
+        Uncompacted::Failed(error)
+    }
+}
+
+impl From<AllocError> for Uncompacted {
+    fn from(error: AllocError) -> Uncompacted {
+        Uncompacted::Failed(error.into())
+    }
+}
+
+impl fmt::Display for Uncompacted {
+    fn fmt<W: fmt::Write>(&self, f: &mut fmt::Formatter<W>) -> fmt::Result {
+        match self {
+            Uncompacted::Store(error) => write!(f, "{error}"),
+            Uncompacted::New => f.write_str("it has no record yet"),
+            Uncompacted::InTheWay => f.write_str("something else has the name of the new file"),
+            Uncompacted::Failed(error) | Uncompacted::Unsynced(error) => write!(f, "{error}"),
+        }
+    }
+}

@@ -9,13 +9,13 @@ use Rattle.dav_resource_core.specs.Requests.{Refusal, Fs, Locked, NoLock, OutOfM
 use Rattle.dav_resource_core.specs.Stores.{Stores}
 use Rattle.dav_notes_core.specs.Changes.{is_look, lacks_memory}
 use Rattle.dav_notes_core.specs.Noting.{AreChanges, Noted}
-use Rattle.dav_notes_core.specs.PlayedNotes.{NotesLead, NotesPlayed}
+use Rattle.dav_notes_core.specs.PlayedNotes.{NotePlayed, NotesLead, NotesPlayed}
 use Rattle.dav_notes_core.specs.Stepping.{Draws, SameLiveStores, live_stores}
 use Rattle.dav_notes_core.proofs.LeadLemmas.{leads_join, leads_look}
 use Rattle.dav_store_core.specs.StandingFor.{AreRecords, StandFor}
 use Rattle.dav_store_core.proofs.KeepLemmas.{records_more, stand_back}
 use Rattle.dav_import_core.specs.declared.adding.Unimported.{Unimported}
-use Rattle.dav_import_core.specs.declared.adding.Unimported.TheVariants.{File, Folder, NoMoment}
+use Rattle.dav_import_core.specs.declared.adding.Unimported.TheVariants.{File, Folder, NoMoment, Unfinished}
 use Rattle.dav_import_core.specs.declared.adding.Unimported.TheVariants as why
 use Rattle.dav_import_core.specs.Adding.{IsAdded, LeavesAll, StaysLive, Refuses, RefusesBy, reason_for}
 use Rattle.dav_import_core.specs.ImportedEntries.{Source, dating, making, moment_behind, notes_for, unnamed_note}
@@ -31,11 +31,12 @@ leaves_for false (Locked l) = tt
 leaves_for false NoLock = tt
 leaves_for false OutOfMemory = tt
 
--- such a reason says nothing of what stands there, or of the last moment
+-- such a reason says nothing of what stands there, of the last moment, or of a part that was done
 abbrev IsOfStores : Unimported → Type 0
 IsOfStores File = ⊥
 IsOfStores Folder = ⊥
 IsOfStores NoMoment = ⊥
+IsOfStores Unfinished = ⊥
 IsOfStores _ = Unit {0}
 
 of_stores : (b : Bool) (x : Refusal) → IsOfStores (reason_for b x)
@@ -48,11 +49,11 @@ of_stores false OutOfMemory = tt
 -- the error of an entry whose first request is refused
 pub refused_as : (s s' : Stores) (last now : ℕ) (source : Source) (n : Noted) (e : Unimported) → n ≡ unnamed_note now (making source.path source.content) → RefusesBy s n s' e → Refuses s last now source e
 refused_as s s' last now source n why.OutOfMemory is h = tt
-refused_as s s' last now source n why.Unfinished is h = tt
 refused_as s s' last now source n why.NoFolder is h = (s', subst (λ (k : Noted). RefusesBy s k s' why.NoFolder) is h)
 refused_as s s' last now source n why.Locked is h = (s', subst (λ (k : Noted). RefusesBy s k s' why.Locked) is h)
 refused_as s s' last now source n File is h = absurd (subst IsOfStores (sym h.1) (of_stores (lacks_memory h.0) h.0))
 refused_as s s' last now source n Folder is h = absurd (subst IsOfStores (sym h.1) (of_stores (lacks_memory h.0) h.0))
+refused_as s s' last now source n Unfinished is h = absurd (subst IsOfStores (sym h.1) (of_stores (lacks_memory h.0) h.0))
 refused_as s s' last now source n NoMoment is h = absurd (subst IsOfStores (sym h.1) (of_stores (lacks_memory h.0) h.0))
 
 abbrev first_or : Noted → List Noted → Noted
@@ -62,6 +63,11 @@ first_or d (n ∷ ns) = n
 -- the first note makes it
 pub first_makes : (n : Noted) (ns : List Noted) (m : ℕ) (source : Source) → n ∷ ns ≡ notes_for m source → n ≡ unnamed_note m (making source.path source.content)
 first_makes n ns m source is = ap (first_or n) is
+
+-- where a part was done, the first of the notes was played
+pub part_is_done : (s s' : Stores) (last m now : ℕ) (source : Source) (n : Noted) (ns : List Noted) → n ∷ ns ≡ notes_for m source → m ≡ now → NotePlayed s n s' → Refuses s last now source Unfinished
+part_is_done s s' last m now source n ns is at played =
+    subst (λ (k : ℕ). Refuses s last k source Unfinished) at (s', subst (λ (n : Noted). NotePlayed s n s') (first_makes n ns m source is) played)
 
 made_change : (path : Path) (content : Option (List ℕ)) → is_look (making path content) ≡ false
 made_change path None = refl

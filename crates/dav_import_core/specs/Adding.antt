@@ -8,7 +8,7 @@ use Rattle.dav_resource_core.specs.Requests.{Refusal, Locked as LockedBy}
 use Rattle.dav_resource_core.specs.Stores.{Stores}
 use Rattle.dav_notes_core.specs.Changes.{lacks_memory}
 use Rattle.dav_notes_core.specs.Noting.{Noted}
-use Rattle.dav_notes_core.specs.PlayedNotes.{NotesPlayed}
+use Rattle.dav_notes_core.specs.PlayedNotes.{NotePlayed, NotesPlayed}
 use Rattle.dav_notes_core.specs.Stepping.{AnsweredBy, SameLiveStores}
 use Rattle.dav_effects_core.specs.Records.{IsRecord}
 use Rattle.dav_import_core.specs.ImportedEntries.{Source, making, moment_behind, unnamed_note, notes_for}
@@ -62,4 +62,4 @@ Refuses s last now source NoFolder = (s' : Stores) × RefusesBy s (unnamed_note 
 Refuses s last now source Locked = (s' : Stores) × RefusesBy s (unnamed_note now (making source.path source.content)) s' Locked
 Refuses s last now source NoMoment = last + 1 ≡ 2 ^ 64
 Refuses s last now source OutOfMemory = Unit {0}
-Refuses s last now source Unfinished = Unit {0}
+Refuses s last now source Unfinished = (s' : Stores) × NotePlayed s (unnamed_note now (making source.path source.content)) s'

@@ -127,7 +127,17 @@ fn serve_in_memory<I: Read + Drop>(
         runs: choices.clock.is_none(),
     };
     let dav = server(rt, choices)?;
-    let server = Timed { dav, clock };
+    serve_fronts(rt, limits, fronts, frames, Timed { dav, clock })
+}
+
+// Serves with the server, behind what stands in front of it. It is told here of no generator and no clock in particular, so that its check is short.
+fn serve_fronts<R: Rng + Drop, C: Clock + Drop, I: Read + Drop>(
+    rt: &HostRuntime,
+    limits: Limits,
+    fronts: Fronts<'_>,
+    frames: Frames<I>,
+    server: Timed<R, C>,
+) -> Result<End, Stopped> {
     if fronts.is_none() {
         return Ok(serve_all(rt, limits, frames, server)?);
     }
@@ -205,11 +215,11 @@ fn serve_single(rt: &HostRuntime, config: Config, choices: Choices) -> Result<En
 }
 
 // Serves the connections that the frames are of.
-fn serve_all<I: Read + Drop>(
+fn serve_all<R: Rng + Drop, C: Clock + Drop, I: Read + Drop>(
     rt: &HostRuntime,
     limits: Limits,
     mut frames: Frames<I>,
-    server: Timed<ChaCha20Rng, SystemClock<'_>>,
+    server: Timed<R, C>,
 ) -> Result<End, Fault> {
     let mut clients = limits.clients(rt)?;
     let mut server = OneCall::new(server);

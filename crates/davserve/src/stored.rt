@@ -53,18 +53,12 @@ pub fn serve_stored<I: Read + Drop>(
     let buffer = BufWriter::with_capacity(rt.alloc(), BUFFER, rt.stdout())?;
     let output = Told::new(buffer);
     let now = first_moment(rt, choices.clock)?;
-    let Found {
-        journal,
-        header,
-        opened,
-        used,
-    } = find(rt, path, now, &output, Wary)?;
-    tell_ahead(rt, opened.last, now);
-    let compacted = match is_useless(rt.alloc(), used, choices.compacting, &opened) {
-        true => compacted(rt, path, header, &opened, &output, Anew)?,
+    let found = find(rt, path, now, &output, Wary)?;
+    tell_ahead(rt, found.opened.last, now);
+    let compacted = match is_useless(rt.alloc(), &found, choices.compacting) {
+        true => compacted(rt, path, found.header, &found.opened, &output, Anew)?,
         false => None,
     };
-    let sync = choices.sync;
     let streams = Streams {
         clients: limits.clients(rt)?,
         frames,
@@ -73,20 +67,22 @@ pub fn serve_stored<I: Read + Drop>(
     match compacted {
         Some(
             Compacted {
-                journal: anew,
+                journal,
                 header,
                 ..
             },
         ) => {
+            let anew = Found {
+                journal,
+                header,
+                opened: found.opened,
+                used: found.used,
+            };
             // The old file was locked up to here.
-            drop(journal);
-            let service = server_over(rt, choices, opened, now, header)?;
-            serve_fronts(rt, fronts, sync, streams, service, anew)
+            drop(found.journal);
+            serve_found(rt, fronts, choices, streams, anew, now)
         }
-        None => {
-            let service = server_over(rt, choices, opened, now, header)?;
-            serve_fronts(rt, fronts, sync, streams, service, journal)
-        }
+        None => serve_found(rt, fronts, choices, streams, found, now),
     }
 }
 
@@ -160,16 +156,38 @@ fn compacted<S: Start, B>(
     }
 }
 
-// Whether too much of a file, of which so many bytes are used, is of no use any more. Where there is no memory to find out, it isn't.
-fn is_useless(alloc: Global, used: u64, compacting: Compacting, opened: &Opened) -> bool {
+// Whether too much of a file is of no use any more. Where there is no memory to find out, it isn't.
+fn is_useless<S: Start, B>(alloc: Global, found: &Found<S, B>, compacting: Compacting) -> bool {
     let Compacting { over, useless } = compacting;
-    if used <= over {
+    if found.used <= over {
         return false;
     }
-    match length_of(alloc, opened) {
-        Ok(left) => is_due(used, left, over, useless),
+    match length_of(alloc, &found.opened) {
+        Ok(left) => is_due(found.used, left, over, useless),
         Err(AllocError) => false,
     }
+}
+
+// Serves with the stores of a file that is open.
+fn serve_found<S: Start, I: Read + Drop, O: Write + Drop>(
+    rt: &HostRuntime,
+    fronts: Fronts<'_>,
+    choices: Choices,
+    streams: Streams<I, O>,
+    found: Found<S, O>,
+    now: Moment,
+) -> Result<End, Stopped>
+    requires usable { IsTrue (file_is_usable S.Start (disk_behind found.journal)) }
+{
+    let sync = choices.sync;
+    let Found {
+        journal,
+        header,
+        opened,
+        ..
+    } = found;
+    let service = server_over(rt, choices, opened, now, header)?;
+    serve_fronts(rt, fronts, sync, streams, service, journal)
 }
 
 // Serves with the server, behind what stands in front of it. It is told here of no streams and no disk in particular, so that its check is short.

@@ -5,8 +5,8 @@ use Rattle.dav_notes_core.specs.PlayedNotes.{NotesPlayed}
 use Rattle.dav_notes_core.specs.declared.notes.Note.{Note}
 use Rattle.dav_effects_core.specs.Records.{IsRecord, bytes_of_pieces}
 use Rattle.dav_import_core.specs.Adding.{Refuses}
-use Rattle.dav_import_core.specs.ImportedEntries.{notes_for, source_of}
-use Rattle.dav_import_core.proofs.ImportLemmas.{first_makes, refused_as}
+use Rattle.dav_import_core.specs.ImportedEntries.{moment_behind, notes_for, source_of}
+use Rattle.dav_import_core.proofs.ImportLemmas.{first_makes, part_is_done, refused_as}
 use Rattle.dav_import_core.proofs.adding.add.Goals as goal
 
 -- the first note and the others are those of the entry
@@ -40,3 +40,13 @@ returns-in-Ok-add_record-clause-added c =
       written = subst (λ (ns : List Noted). IsRecord ns bytes) (ap (map note_of) c.deref.ensures.value ∙ c.in_ok-notes.ensures) c.in_ok-pieces.ensures.record;
       joined = c.in-Ok-add_record.ensures.adds;
     }
+
+pub returns-in-Err-clause-cause : goal.returns-in-Err-clause-cause
+returns-in-Err-clause-cause c =
+    let both = parts c.deref-2.result.now c.in_ok-notes.notes.items c.in-Some.first.now c.in-Some.rest.now (notes_for c.in_ok-now.now.0 (source_of c.args.entry.now)) c.deref-2.ensures.value c.in-Some.ensures.cases.0 c.in_ok-notes.ensures in
+    part_is_done c.args.opened.now.stores c.make.new.stores c.args.opened.now.last.0 c.in_ok-now.now.0 (moment_behind c.args.opened.now.last.0 c.args.clock.0) (source_of c.args.entry.now) (note_of c.in-Some.first.now) (map note_of c.in-Some.rest.now) both c.in_ok-now.ensures.ok c.in_ok-make.ensures.played
+
+pub returns-clause-cause : goal.returns-clause-cause
+returns-clause-cause c =
+    let both = parts c.deref-2.result.now c.in_ok-notes.notes.items c.in-Some.first.now c.in-Some.rest.now (notes_for c.in_ok-now.now.0 (source_of c.args.entry.now)) c.deref-2.ensures.value c.in-Some.ensures.cases.0 c.in_ok-notes.ensures in
+    part_is_done c.args.opened.now.stores c.make.new.stores c.args.opened.now.last.0 c.in_ok-now.now.0 (moment_behind c.args.opened.now.last.0 c.args.clock.0) (source_of c.args.entry.now) (note_of c.in-Some.first.now) (map note_of c.in-Some.rest.now) both c.in_ok-now.ensures.ok c.in_ok-make.ensures.played

@@ -7,6 +7,7 @@ use crate::paths::{told_member, told_path};
 use crate::sources::{Found, bytes_of, is_one_file, member_of, names_of, source_of, time_of};
 use bytes::Bytes;
 use dav_import_core::{Entry, Unimported, add, check_free};
+use dav_path_core::davpath::ParseError;
 use dav_resource_core::fs::Moment;
 use dav_resource_core::guarded::Guarded;
 use dav_store_core::{Opened, StoreError, load};
@@ -299,7 +300,11 @@ impl<'a> Importer<'a> {
         output: &mut BufWriter<O>,
     ) -> Result<(), Failure> {
         let alloc = self.rt.alloc();
-        let (Ok(text), Ok(path)) = (std::str::from_utf8(name), folder.path.child(name)) else {
+        let child = folder.path.child(name);
+        if let Err(ParseError::OutOfMemory) = child {
+            return Err(AllocError.into());
+        }
+        let (Ok(text), Ok(path)) = (std::str::from_utf8(name), child) else {
             let told = told_member(alloc, &folder.path, name)?;
             return self.tell(told.as_str(), "its name is no text", output);
         };

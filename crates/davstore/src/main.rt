@@ -13,7 +13,6 @@ mod salvaging;
 mod sources;
 
 use choices::{Choices, Unread, What};
-use dav_store_core::StoreError;
 use exporting::export;
 use failures::Failure;
 use importing::import;
@@ -153,23 +152,14 @@ fn salvage<O: Write + Drop>(
             writeln!(output, "salvaged: {records} records, last moment {last}")?;
             Ok(true)
         }
-        Err(Uncompacted::InTheWay) => {
+        Err(Uncompacted::InTheWay | Uncompacted::New) => {
             writeln!(output, "something stands there: {to}")?;
             Ok(false)
         }
-        Err(error) => Err(unmade(rt, to, error)?),
-    }
-}
-
-// Why a store could not be made at this path.
-fn unmade(rt: &HostRuntime, path: &str, error: Uncompacted) -> Result<Failure, AllocError> {
-    match error {
-        Uncompacted::Store(StoreError::Journal(error)) => Ok(Failure::from(error)),
-        Uncompacted::Failed(error) | Uncompacted::Unsynced(error) => {
-            Ok(Failure::At(String::from_str(rt.alloc(), path)?, error))
+        Err(Uncompacted::Store(error)) => Err(Failure::from(error)),
+        Err(Uncompacted::Failed(error) | Uncompacted::Unsynced(error)) => {
+            Err(Failure::At(String::from_str(rt.alloc(), to)?, error))
         }
-        Uncompacted::Store(error) => Ok(Failure::Refused(error)),
-        Uncompacted::New | Uncompacted::InTheWay => Ok(Failure::Refused(StoreError::Damaged(0))),
     }
 }
 

@@ -430,6 +430,11 @@ impl Clients {
         self.asked
     }
 
+    /// How many turns were given since the input was read.
+    pub fn turns(&self) -> u64 {
+        self.turns
+    }
+
     /// How many connections have begun.
     pub fn count(&self) -> u64
         ensures { result ≡ count_begun self.now }

@@ -11,6 +11,9 @@ use crate::gate::{OneCall, TurnService};
 use line_streams::Fault;
 use std::io::{Read, Write};
 
+// The answers of so many turns are written at once.
+const TOGETHER: u64 = 4;
+
 /// Where no more frames are served.
 #[derive(Clone, Copy, PartialEq, Eq, Debug)]
 pub enum End {
@@ -81,12 +84,28 @@ fn turn_or_ask<S: TurnService, O: Write>(
     ensures err { OnErr result (Breaks S.begins S.answers S.clocked S.listed clients.old clients.new service.old.service service.new.service (O.contents output.old) (O.contents output.new)) }
 {
     if clients.may_answer() {
-        return give_turn(clients, service, output);
+        return give_turn_on(clients, service, output);
     }
     if !clients.is_asked() {
         clients.ask(output)?;
     }
     Ok(false)
+}
+
+// Gives one turn, and writes out what was made where enough of it waits, so that clients go on while others have their turns. Whether somebody waited for one.
+fn give_turn_on<S: TurnService, O: Write>(
+    clients: &mut Clients,
+    service: &mut OneCall<S>,
+    output: &mut O,
+) -> Result<bool, Fault>
+    ensures ok { OnOk result (WritesAnswers S.begins S.answers S.clocked S.listed clients.old clients.new service.old.service service.new.service (O.contents output.old) (O.contents output.new)) }
+    ensures err { OnErr result (Breaks S.begins S.answers S.clocked S.listed clients.old clients.new service.old.service service.new.service (O.contents output.old) (O.contents output.new)) }
+{
+    let given = give_turn(clients, service, output)?;
+    if clients.turns().is_multiple_of(TOGETHER) {
+        output.flush()?;
+    }
+    Ok(given)
 }
 
 /// Takes what a frame says; false, and nothing is done, where it is wrong. `Io` where the output fails (own).

@@ -23,6 +23,9 @@ pub const TURNS: u64 = 16;
 /// And none once so many bytes were handed out since then (own).
 pub const TOLD: u64 = 64 * 1024;
 
+/// Once turns have made so many bytes that nobody shares since the input was read, it is asked what else has come before the next one: clients may have taken some of them by then (own).
+pub const MADE: u64 = 256 * 1024;
+
 /// The clients of a server: their connections, numbered from 1 in the order in which they begin, and the queue of those that wait for a turn. A connection that is over, or whose client
 /// is gone, is forgotten, but for its number.
 #[derive(Drop)]
@@ -38,10 +41,11 @@ pub struct Clients {
     queue: VecDeque<u64>,
     // Whether `more` was written, and its answer is to come.
     asked: bool,
-    // How often the input was read, and how many turns were given and bytes handed out since.
+    // How often the input was read, and since then how many turns were given, bytes handed out, and bytes made that nobody shares.
     round: u64,
     turns: u64,
     told: u64,
+    made: u64,
     // How many frames with bytes came.
     frames: u64,
     // No fewer bytes wait that nobody shares, of all connections together.
@@ -98,6 +102,7 @@ impl Clients {
             round: 1,
             turns: 0,
             told: 0,
+            made: 0,
             frames: 0,
             waiting: 0,
             bounds,
@@ -210,6 +215,7 @@ impl Clients {
             held.round = round;
             let own = step(held, number, service);
             self.waiting = self.waiting.saturating_add(own);
+            self.made = self.made.saturating_add(own);
             return Some(number);
         }
         Some(number)
@@ -314,10 +320,11 @@ impl Clients {
         self.round = self.round.wrapping_add(1);
         self.turns = 0;
         self.told = 0;
+        self.made = 0;
     }
 
-    /// Whether a turn may be given. Not while the answer to `more` is to come; nor where the first of the queue had a turn since the input was read, and `TURNS` turns were given or
-    /// `TOLD` bytes handed out since. Once the input has ended, always.
+    /// Whether a turn may be given. Not while the answer to `more` is to come; nor where turns have made `MADE` bytes since the input was read; nor where the first of the queue had a turn
+    /// since then, and `TURNS` turns were given or `TOLD` bytes handed out. Once the input has ended, always.
     pub fn may_answer(&self) -> bool
         ensures closed { IsTrue (window_of self.now).closed → IsTrue result }
         ensures asked { IsFalse (window_of self.now).closed → IsTrue (asked_of self.now) → IsFalse result }
@@ -325,7 +332,7 @@ impl Clients {
         if self.windows.closed {
             return true;
         }
-        !self.asked && !(self.is_long() && self.comes_again())
+        !self.asked && !self.is_full() && !(self.is_long() && self.comes_again())
     }
 
     /// The connection that is to be ended before the next frame is written to this one, and all fits within the bounds; none where it does. What one connection waits to be told is beside
@@ -440,6 +447,11 @@ impl Clients {
         ensures { result ≡ count_begun self.now }
     {
         self.begun
+    }
+
+    // Whether somebody waits for a turn, and turns have made enough since the input was read.
+    fn is_full(&self) -> bool {
+        self.made >= MADE && !self.queue.is_empty()
     }
 
     // Whether enough was done since the input was read.

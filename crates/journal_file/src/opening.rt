@@ -2,6 +2,7 @@
 ghost use Rattle.std.specs.Prelude.{IsTrue, IfOk};
 ghost use Rattle.sqlite_std_file.specs.File.{file_is_usable};
 ghost use Rattle.journal_core.specs.Resting.{disk_behind};
+ghost use Rattle.journal_file.specs.JournalFiles.{IsMadeWith};
 
 use journal_core::{Clocked, Header, Journal, JournalError, Reader, Stream};
 use sqlite_disk::{Files, Start, is_no_room};
@@ -36,6 +37,7 @@ pub fn open<S: Start, B>(
     start: S,
 ) -> Result<(Journal<FileFrom<S>, B>, Option<Reader>), JournalError>
     ensures usable { IfOk result (λ r. IsTrue (file_is_usable S.Start (disk_behind r.0))) }
+    ensures made { IfOk result (λ r. IsMadeWith S.Start header r.0 r.1) }
 {
     find(rt, path)?;
     let Files { log, db } = sqlite_std_file::open(rt, path, start).map_err(told)?;

@@ -1,7 +1,12 @@
 //! Compacting a store: its file is written anew, as a snapshot of what stands in it, and takes the place of the old one.
-ghost use Rattle.std.specs.Prelude.{[], false, IsTrue, IfOk, OnOk};
+ghost use Rattle.std.specs.Prelude.{◌≡◌, ◌<◌, [], false, IsTrue, IfOk, OnOk};
 ghost use Rattle.sqlite_std_file.specs.File.{file_is_usable};
-ghost use Rattle.journal_core.specs.Resting.{disk_behind};
+ghost use Rattle.journal_core.specs.Resting.{disk_behind, header_in};
+ghost use Rattle.journal_file.specs.JournalFiles.{file_is_clean, file_may_leave, file_seen};
+ghost use Rattle.dav_store_core.specs.Compacting.{IsMadeAnew};
+ghost use Rattle.dav_store_core.specs.Loading.{IsLoaded};
+ghost use Rattle.dav_store_core.specs.StandingFor.{HaveRecords};
+ghost use Rattle.store_files.specs.WrittenStores.{IsOnDisk};
 
 use crate::error::Uncompacted;
 use crate::placing::{clear, find_free, is_new, make_like, name_of_new, sync_folder};
@@ -100,6 +105,12 @@ pub fn compact_opened<S: Start, B>(
     start: S,
 ) -> Result<Compacted<S, B>, Uncompacted>
     ensures usable { IfOk result (λ made. IsTrue (file_is_usable S.Start (disk_behind made.journal))) }
+    // What stood in the old file stands in the new one, and is on the disk.
+    ensures kept { IfOk result (λ made. IsOnDisk (file_seen S.Start) (file_may_leave S.Start)
+        (file_is_clean S.Start) made.journal made.header opened.now.stores opened.now.last.0) }
+    ensures next { IfOk result (λ made. header.generation < made.header.generation
+        ⊎ made.header.generation ≡ 2 ^ 64 - 1) }
+    ensures began { IfOk result (λ made. made.header.began ≡ header.began) }
 {
     let real = fs::canonicalize(rt, path)?;
     let new = name_of_new(rt, real.as_str())?;
@@ -117,8 +128,10 @@ pub fn compact_opened<S: Start, B>(
     }
 }
 
-/// A header whose key is drawn at random (own).
-pub fn header_of(rt: &HostRuntime, generation: u64, began: u64) -> io::Result<Header> {
+/// A header whose key is drawn at random (own). `io::Error` where the system gives none.
+pub fn header_of(rt: &HostRuntime, generation: u64, began: u64) -> io::Result<Header>
+    ensures { IfOk result (λ header. (header.generation ≡ generation) × (header.began ≡ began)) }
+{
     let key = RandomState::new(rt)?.hash_one(&0u8);
     Ok(Header {
         generation,
@@ -127,7 +140,7 @@ pub fn header_of(rt: &HostRuntime, generation: u64, began: u64) -> io::Result<He
     })
 }
 
-// Writes the new file, and gives it the name of the old one.
+// Writes the new file, and gives it the name of the old one. `InTheWay` where it isn't new.
 fn write_anew<S: Start, B>(
     rt: &HostRuntime,
     old: &str,
@@ -137,20 +150,42 @@ fn write_anew<S: Start, B>(
     note: &B,
     start: S,
 ) -> Result<Compacted<S, B>, Uncompacted>
+    requires later { 0 < header.generation }
     ensures usable { IfOk result (λ made. IsTrue (file_is_usable S.Start (disk_behind made.journal))) }
+    ensures kept { IfOk result (λ made. IsOnDisk (file_seen S.Start) (file_may_leave S.Start)
+        (file_is_clean S.Start) made.journal header opened.now.stores opened.now.last.0) }
+    ensures header { IfOk result (λ made. made.header ≡ header) }
 {
     make_like(rt, old, new)?;
-    let (mut journal, _) = open(rt, new, header, note, start)?;
-    write_into(rt.alloc(), &mut journal, opened, note)?;
+    let (mut journal, found) = open(rt, new, header, note, start)?;
+    if found.is_some() {
+        return Err(Uncompacted::InTheWay);
+    }
+    write_into(rt.alloc(), &mut journal, header, opened, note)?;
     let before = fs::metadata(rt, old)?.len();
     let now = fs::metadata(rt, new)?.len();
-    fs::rename(rt, new, old)?;
+    put_in_place(rt, new, old, &journal, header, opened)?;
     Ok(Compacted {
         journal,
         header,
         before,
         now,
     })
+}
+
+// Gives the new file the name of the old one, once what stood there is on the disk.
+fn put_in_place<D: Disk, B>(
+    rt: &HostRuntime,
+    new: &str,
+    old: &str,
+    _journal: &Journal<D, B>,
+    _header: Header,
+    _opened: &Opened,
+) -> io::Result<()>
+    requires { IsOnDisk D.Disk.seen D.Disk.may_leave D.Disk.is_clean _journal.now _header
+        _opened.now.stores _opened.now.last.0 }
+{
+    fs::rename(rt, new, old)
 }
 
 /// Makes a store at this path, where nothing stands, of what was read of another file with this header (own).
@@ -166,22 +201,28 @@ pub fn make_store(
 ) -> Result<(), Uncompacted> {
     find_free(rt, path)?;
     let later = header_of(rt, header.generation.saturating_add(1), header.began)?;
-    let made = write_store(rt, path, later, opened);
-    if made.is_err() {
-        let _removed = fs::remove_file(rt, path);
+    match write_store(rt, path, later, opened) {
+        Ok(()) => Ok(()),
+        Err(Uncompacted::InTheWay) => Err(Uncompacted::InTheWay),
+        Err(error) => {
+            let _removed = fs::remove_file(rt, path);
+            Err(error)
+        }
     }
-    made
 }
 
-// Writes the store, and puts its name on the disk.
+// Writes the store, and puts its name on the disk. `InTheWay` where another program has made one there meanwhile.
 fn write_store(
     rt: &HostRuntime,
     path: &str,
     header: Header,
     opened: &Opened,
 ) -> Result<(), Uncompacted> {
-    let (mut journal, _) = open(rt, path, header, &(), Anew)?;
-    write_into(rt.alloc(), &mut journal, opened, &())?;
+    let (mut journal, found) = open(rt, path, header, &(), Anew)?;
+    if found.is_some() {
+        return Err(Uncompacted::InTheWay);
+    }
+    write_into(rt.alloc(), &mut journal, header, opened, &())?;
     let real = fs::canonicalize(rt, path)?;
     Ok(sync_folder(rt, real.as_str())?)
 }
@@ -190,10 +231,16 @@ fn write_store(
 fn write_into<D: Disk, B>(
     alloc: Global,
     journal: &mut Journal<D, B>,
+    _header: Header,
     opened: &Opened,
     note: &B,
 ) -> Result<(), StoreError>
     requires usable { IsTrue (D.Disk.is_usable (disk_behind journal.old)) }
+    requires anew { IsTrue (D.Disk.is_clean (disk_behind journal.old))
+        → IsMadeAnew D.Disk.seen D.Disk.may_leave D.Disk.is_clean journal.old
+        × (header_in journal.old ≡ _header) }
+    ensures written { OnOk result (IsOnDisk D.Disk.seen D.Disk.may_leave D.Disk.is_clean journal.new
+        _header opened.now.stores opened.now.last.0) }
     ensures usable { OnOk result (IsTrue (D.Disk.is_usable (disk_behind journal.new))) }
 {
     compact(alloc, journal, &opened.stores, opened.last, note)

@@ -10,6 +10,7 @@ mod log;
 mod logins;
 mod stopped;
 mod stored;
+mod streams;
 
 use choices::{Choices, Unread};
 use clock::{SystemClock, first_moment};
@@ -17,11 +18,11 @@ use dav_handler_core::dav::Dav;
 use dav_handler_core::serving::{Clock, Timed, serve_frames, serve_one};
 use dav_resource_core::guarded::Guarded;
 use fronts::{Fronts, Logging};
-use http_frames::clients::Clients;
 use http_frames::frames::Frames;
 use http_frames::gate::{OneCall, TurnService};
 use http_frames::serving::{End, serve as serve_turns};
-use http_server::{Config, Connection};
+use http_server::Connection;
+use kept_frames::Told;
 use limits::{BUFFER, Limits};
 use line_streams::Fault;
 use logins::{chosen_users, login_over};
@@ -37,6 +38,7 @@ use std::process::ExitCode;
 use std::{env, mem};
 use stopped::Stopped;
 use stored::serve_stored;
+use streams::Streams;
 
 // What is told at the start where no file keeps the stores.
 const IN_MEMORY: &str = "what is stored is in memory alone, and gone when the server ends\n";
@@ -98,61 +100,81 @@ fn main(rt: HostRuntime) -> ExitCode {
     }
 }
 
-// Answers the requests of the connections, with stores that a file keeps, or that are empty at first and in memory alone.
-fn run(rt: &HostRuntime, mut choices: Choices) -> Result<End, Stopped> {
-    let limits = Limits::of(&choices);
+// Answers the requests of the connections on the standard streams.
+fn run(rt: &HostRuntime, choices: Choices) -> Result<End, Stopped> {
+    let rng = generator(rt, choices.seed)?;
     if choices.one {
-        return Ok(serve_single(rt, limits.config, choices)?);
+        return Ok(serve_single(rt, choices, rng, &mut rt.stdin(), &mut rt.stdout())?);
     }
-    let mut frames = Frames::new(rt.alloc(), rt.stdin())?;
-    let users = chosen_users(rt, &choices, &mut frames)?;
-    let fronts = Fronts::of(rt, &mut choices, users)?;
-    if let Some(path) = mem::replace(&mut choices.store, None) {
-        return serve_stored(rt, path.as_str(), limits, fronts, frames, choices);
-    }
-    serve_in_memory(rt, limits, fronts, frames, choices)
-}
-
-// Serves the connections that the frames are of, with stores that are gone with the program.
-fn serve_in_memory<I: Read + Drop>(
-    rt: &HostRuntime,
-    limits: Limits,
-    fronts: Fronts<'_>,
-    frames: Frames<I>,
-    choices: Choices,
-) -> Result<End, Stopped> {
-    let _told = rt.stderr().write_all(IN_MEMORY.as_bytes());
     let clock = SystemClock {
         rt,
         runs: choices.clock.is_none(),
     };
-    let dav = server(rt, choices)?;
-    serve_fronts(rt, limits, fronts, frames, Timed { dav, clock })
+    let frames = Frames::new(rt.alloc(), rt.stdin())?;
+    let output = BufWriter::with_capacity(rt.alloc(), BUFFER, rt.stdout())?;
+    serve(rt, choices, frames, output, rng, clock)
 }
 
-// Serves with the server, behind what stands in front of it. It is told here of no generator and no clock in particular, so that its check is short.
-fn serve_fronts<R: Rng + Drop, C: Clock + Drop, I: Read + Drop>(
+// The generator of tokens: one that begins as the number says, or else one that nobody can foretell.
+fn generator(rt: &HostRuntime, seed: Option<u64>) -> io::Result<ChaCha20Rng> {
+    match seed {
+        Some(seed) => Ok(ChaCha20Rng::seed_from_u64(seed)),
+        None => make_rng(rt),
+    }
+}
+
+// Serves the connections that the frames are of, with stores that a file keeps, or that are empty at first and in memory alone. It is told here of no streams, generator and clock in particular, and so
+// are the functions that it calls: so their check is short.
+fn serve<R: Rng + Drop, C: Clock + Drop, I: Read + Drop, O: Write + Drop>(
     rt: &HostRuntime,
-    limits: Limits,
+    mut choices: Choices,
+    mut frames: Frames<I>,
+    output: O,
+    rng: R,
+    clock: C,
+) -> Result<End, Stopped> {
+    let limits = Limits::of(&choices);
+    let users = chosen_users(rt, &choices, &mut frames)?;
+    let fronts = Fronts::of(rt, &mut choices, users)?;
+    if let Some(path) = mem::replace(&mut choices.store, None) {
+        let streams = Streams {
+            clients: limits.clients(rt)?,
+            frames,
+            output: Told::new(output),
+        };
+        return serve_stored(rt, path.as_str(), fronts, streams, choices, rng, clock);
+    }
+    let _told = rt.stderr().write_all(IN_MEMORY.as_bytes());
+    let streams = Streams {
+        clients: limits.clients(rt)?,
+        frames,
+        output,
+    };
+    let dav = server(rt, choices, rng)?;
+    serve_fronts(rt, fronts, streams, Timed { dav, clock })
+}
+
+// Serves with the server, behind what stands in front of it.
+fn serve_fronts<R: Rng + Drop, C: Clock + Drop, I: Read + Drop, O: Write + Drop>(
+    rt: &HostRuntime,
     fronts: Fronts<'_>,
-    frames: Frames<I>,
+    streams: Streams<I, O>,
     server: Timed<R, C>,
 ) -> Result<End, Stopped> {
     if fronts.is_none() {
-        return Ok(serve_all(rt, limits, frames, server)?);
+        return Ok(serve_all(streams, server)?);
     }
     if fronts.read_only {
-        return serve_users(rt, limits, fronts, frames, ReadOnly::new(server));
+        return serve_users(rt, fronts, streams, ReadOnly::new(server));
     }
-    serve_users(rt, limits, fronts, frames, server)
+    serve_users(rt, fronts, streams, server)
 }
 
 // Serves with the service, behind a login where there are users, and behind a log where there is one.
-fn serve_users<S: TurnService + Drop, I: Read + Drop>(
+fn serve_users<S: TurnService + Drop, I: Read + Drop, O: Write + Drop>(
     rt: &HostRuntime,
-    limits: Limits,
     fronts: Fronts<'_>,
-    frames: Frames<I>,
+    streams: Streams<I, O>,
     service: S,
 ) -> Result<End, Stopped> {
     let Fronts {
@@ -165,18 +187,17 @@ fn serve_users<S: TurnService + Drop, I: Read + Drop>(
     match users {
         Some(users) => {
             let login = login_over(rt, users, realm.as_str(), address_header, service)?;
-            Ok(serve_logged(rt, limits, log, frames, login)?)
+            Ok(serve_logged(rt, log, streams, login)?)
         }
-        None => Ok(serve_logged(rt, limits, log, frames, service)?),
+        None => Ok(serve_logged(rt, log, streams, service)?),
     }
 }
 
 // Serves with the service, behind a log where there is one.
-fn serve_logged<S: TurnService + Drop, I: Read + Drop>(
+fn serve_logged<S: TurnService + Drop, I: Read + Drop, O: Write + Drop>(
     rt: &HostRuntime,
-    limits: Limits,
     log: Option<Logging<'_>>,
-    frames: Frames<I>,
+    streams: Streams<I, O>,
     service: S,
 ) -> Result<End, Fault> {
     match log {
@@ -188,66 +209,61 @@ fn serve_logged<S: TurnService + Drop, I: Read + Drop>(
             },
         ) => {
             let logged = Logged::new(rt.alloc(), service, file, user_header, address_header);
-            serve_turned(rt, limits, frames, logged)
+            serve_turned(streams, logged)
         }
-        None => serve_turned(rt, limits, frames, service),
+        None => serve_turned(streams, service),
     }
 }
 
 // A server over stores that are empty.
-fn server(rt: &HostRuntime, choices: Choices) -> Result<Dav<ChaCha20Rng>, Fault> {
-    let rng = match choices.seed {
-        Some(seed) => ChaCha20Rng::seed_from_u64(seed),
-        None => make_rng(rt)?,
-    };
+fn server<R: Rng + Drop>(rt: &HostRuntime, choices: Choices, rng: R) -> Result<Dav<R>, Fault> {
     let now = first_moment(rt, choices.clock)?;
     let stores = Guarded::new(rt.alloc(), now).map_err(|_| AllocError)?;
     Ok(Dav::new(rt.alloc(), choices.settings, stores, rng, now, false))
 }
 
-// Serves the one connection that the standard streams are.
-fn serve_single(rt: &HostRuntime, config: Config, choices: Choices) -> Result<End, Fault> {
+// Serves the one connection that the streams are.
+fn serve_single<R: Rng + Drop, I: Read, O: Write>(
+    rt: &HostRuntime,
+    choices: Choices,
+    rng: R,
+    input: &mut I,
+    output: &mut O,
+) -> Result<End, Fault> {
     let _told = rt.stderr().write_all(IN_MEMORY.as_bytes());
-    let mut dav = server(rt, choices)?;
+    let config = Limits::of(&choices).config;
+    let mut dav = server(rt, choices, rng)?;
     let mut connection = Connection::new(rt.alloc(), RandomState::new(rt)?, config);
-    serve_one(&mut connection, &mut dav, &mut rt.stdin(), &mut rt.stdout())?;
+    serve_one(&mut connection, &mut dav, input, output)?;
     Ok(End::Whole)
 }
 
-// Serves the connections that the frames are of.
-fn serve_all<R: Rng + Drop, C: Clock + Drop, I: Read + Drop>(
-    rt: &HostRuntime,
-    limits: Limits,
-    mut frames: Frames<I>,
+// Serves the connections that the frames are of. What is proved of it stands on `serve_frames`.
+fn serve_all<R: Rng + Drop, C: Clock + Drop, I: Read + Drop, O: Write + Drop>(
+    streams: Streams<I, O>,
     server: Timed<R, C>,
 ) -> Result<End, Fault> {
-    let mut clients = limits.clients(rt)?;
+    let Streams {
+        mut clients,
+        mut frames,
+        mut output,
+    } = streams;
     let mut server = OneCall::new(server);
-    let mut output = BufWriter::with_capacity(rt.alloc(), BUFFER, rt.stdout())?;
-    serve_streams(&mut clients, &mut server, &mut frames, &mut output)
+    serve_frames(&mut clients, &mut server, &mut frames, &mut output)
 }
 
-// Serves the connections that the frames are of with any service.
-fn serve_turned<S: TurnService + Drop, I: Read + Drop>(
-    rt: &HostRuntime,
-    limits: Limits,
-    mut frames: Frames<I>,
+// Serves them with any service. What is proved of it stands on `serve` of `http_frames`.
+fn serve_turned<S: TurnService + Drop, I: Read + Drop, O: Write + Drop>(
+    streams: Streams<I, O>,
     service: S,
 ) -> Result<End, Fault> {
-    let mut clients = limits.clients(rt)?;
+    let Streams {
+        mut clients,
+        mut frames,
+        mut output,
+    } = streams;
     let mut server = OneCall::new(service);
-    let mut output = BufWriter::with_capacity(rt.alloc(), BUFFER, rt.stdout())?;
     serve_turns(&mut clients, &mut server, &mut frames, &mut output)
-}
-
-// Serves them on any streams. What is proved of it stands on `serve_frames`; it is told here of no streams in particular, so that its check is short.
-fn serve_streams<R: Rng, C: Clock, I: Read, O: Write>(
-    clients: &mut Clients,
-    server: &mut OneCall<Timed<R, C>>,
-    frames: &mut Frames<I>,
-    output: &mut O,
-) -> Result<End, Fault> {
-    serve_frames(clients, server, frames, output)
 }
 
 // The words behind the program's name; an error where one is no text.

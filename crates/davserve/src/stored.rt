@@ -4,33 +4,29 @@ ghost use Rattle.sqlite_std_file.specs.File.{file_is_usable};
 ghost use Rattle.journal_core.specs.Resting.{disk_behind};
 
 use crate::choices::{Choices, Compacting, Sync};
-use crate::clock::{SystemClock, first_moment};
+use crate::clock::first_moment;
 use crate::fronts::{Fronts, Logging};
-use crate::limits::{BUFFER, Limits};
 use crate::logins::login_over;
 use crate::stopped::Stopped;
+use crate::streams::Streams;
 use dav_handler_core::dav::Dav;
 use dav_handler_core::serving::{Clock, Timed};
 use dav_kept_core::{Recorded, serve_store, serve_store_late, tree_of};
 use dav_resource_core::fs::Moment;
 use dav_resource_core::guarded::Guarded;
 use dav_store_core::{Opened, Watch, load};
-use http_frames::clients::Clients;
-use http_frames::frames::Frames;
 use http_frames::gate::OneCall;
 use http_frames::serving::End;
 use journal_core::{Header, Journal, JournalError, Reader};
 use journal_file::open;
-use kept_frames::{Recording, Told, serve_kept, serve_late};
-use rand::make_rng;
-use rand_chacha::ChaCha20Rng;
+use kept_frames::{Recording, serve_kept, serve_late};
 use rand_core::Rng;
 use read_only::ReadOnly;
 use request_log::Logged;
 use sqlite_disk::Disk;
 use sqlite_std_file::{FileFrom, Start, Wary};
 use std::alloc::{AllocError, Global};
-use std::io::{BufWriter, Read, Write};
+use std::io::{Read, Write};
 use store_files::{
     Anew, Compacted, Uncompacted, clear_new, compact_opened, header_of, is_due, length_of,
 };
@@ -39,30 +35,24 @@ use work_progress::Opening;
 // Where the last change lies so many nanoseconds ahead of the clock, that is told at the start.
 const AHEAD: u64 = 60 * 1_000_000_000;
 
-/// Serves the connections that the frames on standard input are of, with the stores of the file at
-/// this path, which keeps what they change. Where there is no file it is made; where too much of it is
-/// of no use any more it is compacted first.
-pub fn serve_stored<I: Read + Drop>(
+/// Serves the connections that the frames are of, with the stores of the file at this path, which keeps
+/// what they change. Where there is no file it is made; where too much of it is of no use any more it is
+/// compacted first.
+pub fn serve_stored<R: Rng + Drop, C: Clock + Drop, I: Read + Drop, O: Write + Drop>(
     rt: &HostRuntime,
     path: &str,
-    limits: Limits,
     fronts: Fronts<'_>,
-    frames: Frames<I>,
+    streams: Streams<I, O>,
     choices: Choices,
+    rng: R,
+    clock: C,
 ) -> Result<End, Stopped> {
-    let buffer = BufWriter::with_capacity(rt.alloc(), BUFFER, rt.stdout())?;
-    let output = Told::new(buffer);
     let now = first_moment(rt, choices.clock)?;
-    let found = find(rt, path, now, &output, Wary)?;
+    let found = find(rt, path, now, &streams.output, Wary)?;
     tell_ahead(rt, found.opened.last, now);
     let compacted = match is_useless(rt.alloc(), &found, choices.compacting) {
-        true => compacted(rt, path, found.header, &found.opened, &output, Anew)?,
+        true => compacted(rt, path, found.header, &found.opened, &streams.output, Anew)?,
         false => None,
-    };
-    let streams = Streams {
-        clients: limits.clients(rt)?,
-        frames,
-        output,
     };
     match compacted {
         Some(
@@ -80,9 +70,9 @@ pub fn serve_stored<I: Read + Drop>(
             };
             // The old file was locked up to here.
             drop(found.journal);
-            serve_found(rt, fronts, choices, streams, anew, now)
+            serve_found(rt, fronts, choices, streams, anew, now, rng, clock)
         }
-        None => serve_found(rt, fronts, choices, streams, found, now),
+        None => serve_found(rt, fronts, choices, streams, found, now, rng, clock),
     }
 }
 
@@ -169,13 +159,15 @@ fn is_useless<S: Start, B>(alloc: Global, found: &Found<S, B>, compacting: Compa
 }
 
 // Serves with the stores of a file that is open.
-fn serve_found<S: Start, I: Read + Drop, O: Write + Drop>(
+fn serve_found<S: Start, R: Rng + Drop, C: Clock + Drop, I: Read + Drop, O: Write + Drop>(
     rt: &HostRuntime,
     fronts: Fronts<'_>,
     choices: Choices,
     streams: Streams<I, O>,
     found: Found<S, O>,
     now: Moment,
+    rng: R,
+    clock: C,
 ) -> Result<End, Stopped>
     requires usable { IsTrue (file_is_usable S.Start (disk_behind found.journal)) }
 {
@@ -186,11 +178,11 @@ fn serve_found<S: Start, I: Read + Drop, O: Write + Drop>(
         opened,
         ..
     } = found;
-    let service = server_over(rt, choices, opened, now, header)?;
+    let service = server_over(rt.alloc(), choices, opened, now, header, rng, clock);
     serve_fronts(rt, fronts, sync, streams, service, journal)
 }
 
-// Serves with the server, behind what stands in front of it. It is told here of no streams and no disk in particular, so that its check is short.
+// Serves with the server, behind what stands in front of it. It is told here of no disk in particular, so that its check is short.
 fn serve_fronts<R: Rng + Drop, C: Clock + Drop, D: Disk + Drop, I: Read + Drop, O: Write + Drop>(
     rt: &HostRuntime,
     fronts: Fronts<'_>,
@@ -264,41 +256,23 @@ fn serve_logged<S: Recording + Drop, D: Disk, I: Read, O: Write>(
     }
 }
 
-// The clients, and the streams of their frames.
-#[derive(Drop)]
-struct Streams<I, O> {
-    clients: Clients,
-    frames: Frames<I>,
-    output: O,
-}
-
 // A server over these stores, whose changes a journal with this header keeps.
-fn server_over<'a>(
-    rt: &'a HostRuntime,
+fn server_over<R: Rng + Drop, C: Clock + Drop>(
+    alloc: Global,
     choices: Choices,
     opened: Opened,
     now: Moment,
     header: Header,
-) -> Result<Recorded<ChaCha20Rng, SystemClock<'a>>, Stopped> {
+    rng: R,
+    clock: C,
+) -> Recorded<R, C> {
     let first = Moment(now.0.max(opened.last.0));
-    let rng: ChaCha20Rng = make_rng(rt)?;
     let tree = tree_of(&opened.stores);
-    let dav = Dav::new(
-        rt.alloc(),
-        choices.settings,
-        opened.stores,
-        rng,
-        first,
-        true,
-    );
-    let clock = SystemClock {
-        rt,
-        runs: choices.clock.is_none(),
-    };
-    Ok(Recorded::new(rt.alloc(), Timed { dav, clock }, header, tree))
+    let dav = Dav::new(alloc, choices.settings, opened.stores, rng, first, true);
+    Recorded::new(alloc, Timed { dav, clock }, header, tree)
 }
 
-// Serves them on any streams and any disk. What is proved of it stands on `serve_store` and `serve_store_late`; it is told here of none in particular, so that its check is short.
+// Serves on any disk. What is proved of it stands on `serve_store` and `serve_store_late`.
 fn serve_on<R: Rng + Drop, C: Clock + Drop, D: Disk, I: Read, O: Write>(
     alloc: Global,
     sync: Sync,

@@ -1,4 +1,9 @@
 //! Why a store is not compacted.
+ghost use Rattle.std.specs.Prelude.{◌≡◌};
+ghost use Rattle.dav_store_core.specs.declared.error.StoreError.TheVariants.{Journal};
+ghost use Rattle.store_files.specs.declared.error.Uncompacted.TheVariants.{Failed};
+ghost use Rattle.store_files.specs.Tellings.{IsFailure, TellsStore};
+
 use dav_store_core::StoreError;
 use journal_core::JournalError;
 use std::alloc::AllocError;
@@ -21,6 +26,8 @@ pub enum Uncompacted {
 }
 
 impl From<StoreError> for Uncompacted {
+    ghost from_gives = { λ given e. TellsStore given e };
+
     fn from(error: StoreError) -> Uncompacted {
         match error {
             StoreError::Journal(JournalError::OutOfMemory) => Uncompacted::Failed(
@@ -33,18 +40,24 @@ impl From<StoreError> for Uncompacted {
 }
 
 impl From<JournalError> for Uncompacted {
+    ghost from_gives = { λ given e. TellsStore (Journal given) e };
+
     fn from(error: JournalError) -> Uncompacted {
         Uncompacted::from(StoreError::Journal(error))
     }
 }
 
 impl From<io::Error> for Uncompacted {
+    ghost from_gives = { λ given e. e ≡ Failed given };
+
     fn from(error: io::Error) -> Uncompacted {
         Uncompacted::Failed(error)
     }
 }
 
 impl From<AllocError> for Uncompacted {
+    ghost from_gives = { λ _ e. IsFailure e };
+
     fn from(error: AllocError) -> Uncompacted {
         Uncompacted::Failed(error.into())
     }

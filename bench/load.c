@@ -2,6 +2,7 @@
 
    load socket PORT         connects to 127.0.0.1
    load frames IN OUT       speaks the frames of davserve: writes to one descriptor that it has got, and reads from another
+   load plain IN OUT        the same to a build of davserve from before there were windows
 
    Each line of the input is a command: CONNECTIONS SECONDS FILE. The file holds requests, each behind a line with its length. Every connection plays them
    in turn, once where SECONDS is 0, else again and again until so much time has passed; it ends behind the last request. In a request @N@ is the number of the connection, from 0,
@@ -13,6 +14,7 @@
 #include <fcntl.h>
 #include <netinet/tcp.h>
 #include <poll.h>
+#include <stdint.h>
 #include <stdio.h>
 #include <stdlib.h>
 #include <string.h>
@@ -23,8 +25,7 @@
 #include <unistd.h>
 
 enum { MOST = 512, HEAD = 64 * 1024, PIECE = 64 * 1024, TOKEN = 256 };
-/* What may be sent of a connection before more is granted; and half of it, after which it is said what was taken. */
-enum { WINDOW = 256 * 1024, HALF = WINDOW / 2 };
+enum { WINDOW = 256 * 1024 };
 enum part { IN_HEAD, IN_LENGTH, IN_CHUNK_SIZE, IN_CHUNK, IN_TRAILER };
 
 struct text { char *bytes; size_t length; };
@@ -53,6 +54,8 @@ static struct text *requests;
 static size_t request_count;
 static unsigned long answered, wrong;
 static double ends;
+/* What may be sent of a connection before more is granted; once half of it was taken that is said. */
+static size_t window = WINDOW;
 
 static void fail(const char *what) { perror(what); exit(1); }
 
@@ -265,7 +268,7 @@ static struct connection *next_to_send(void) {
 static void next_lines(void) {
     char *to = lines;
     for (struct connection *c = connections; c < connections + count; c++)
-        if (c->taken >= HALF) { to += sprintf(to, "taken %lu %zu\n", c->number, c->taken); c->taken = 0; }
+        if (c->taken >= window / 2) { to += sprintf(to, "taken %lu %zu\n", c->number, c->taken); c->taken = 0; }
     sends = next_to_send();
     if (sends) {
         if (!sends->number) sends->number = ++begun;
@@ -302,7 +305,7 @@ static int send_frames(void) {
 /* Another connection in the place of one that is closed behind its answer. It has its number once its first frame is sent. */
 static void begin_anew(struct connection *c) {
     c->number = c->taken = c->closes = 0;
-    c->granted = WINDOW;
+    c->granted = window;
 }
 
 /* A connection of this command; NULL for an earlier one, of which the program may still tell something. */
@@ -361,7 +364,7 @@ static void play_frames(void) {
     static char buffer[1 << 20];
     /* Connections are numbered in the order of their first frames. */
     turn = 0;
-    for (int n = 0; n < count; n++) { connections[n].number = ++begun; connections[n].granted = WINDOW; begin_next(&connections[n]); }
+    for (int n = 0; n < count; n++) { connections[n].number = ++begun; connections[n].granted = window; begin_next(&connections[n]); }
     for (;;) {
         int open = 0;
         for (int n = 0; n < count; n++) open += !connections[n].done;
@@ -380,7 +383,8 @@ int main(int words, char **word) {
         port = atoi(word[2]);
         watched = epoll_create1(0);
     }
-    else if (words == 4 && !strcmp(word[1], "frames")) {
+    else if (words == 4 && (!strcmp(word[1], "frames") || !strcmp(word[1], "plain"))) {
+        if (!strcmp(word[1], "plain")) window = SIZE_MAX;
         to_server = atoi(word[2]);
         from_server = atoi(word[3]);
         fcntl(to_server, F_SETFL, O_NONBLOCK);

@@ -172,10 +172,10 @@ def wait_for(port):
 
 
 @contextlib.contextmanager
-def on_pipes(load, words):
+def on_pipes(load, words, speech="frames"):
     with stopped(subprocess.Popen(words, stdin=subprocess.PIPE, stdout=subprocess.PIPE, preexec_fn=on_one_processor)) as server:
         ends = server.stdin.fileno(), server.stdout.fileno()
-        with loaded(server.pid, [load, "frames", *map(str, ends)], pass_fds=ends) as it:
+        with loaded(server.pid, [load, speech, *map(str, ends)], pass_fds=ends) as it:
             server.stdin.close()
             server.stdout.close()
             it.begin = None

@@ -4,11 +4,14 @@
 //                  "w INODE OFFSET RESULT HEX" a write at an offset, and all the bytes that were asked for; "s INODE RESULT" a sync; "t INODE LENGTH RESULT" a change of the length;
 //                  "a HEX" what was written to standard output
 //   FAIL=N:ERRNO   of the writes, syncs and changes of the length the N-th fails so, counted from 1
+//   ALSO=1         these are noted, and counted, too: "p INODE RESULT" a read at an offset; "o INODE RESULT" a file or folder that is opened, "r INODE RESULT" a name that a file is given in
+//                  place of its own, "u INODE RESULT" a name that is removed, each with what had the name before
 //   PART=BYTES     the write that fails has written so many of its bytes
 //   PIECE=BYTES    each write moves at most so many bytes
 #define _GNU_SOURCE
 #include <errno.h>
 #include <fcntl.h>
+#include <stdarg.h>
 #include <stdio.h>
 #include <stdlib.h>
 #include <string.h>
@@ -16,7 +19,7 @@
 #include <sys/syscall.h>
 #include <unistd.h>
 
-static int trace = -1, wrong;
+static int trace = -1, wrong, also;
 static unsigned long first, part, piece, count;
 
 static void start(void) __attribute__((constructor));
@@ -24,9 +27,10 @@ static void start(void) __attribute__((constructor));
 static void start(void) {
     const char *path = getenv("TRACE"), *fails = getenv("FAIL"), *front = getenv("PART"), *size = getenv("PIECE");
     if (path)
-        trace = open(path, O_WRONLY | O_CREAT | O_APPEND | O_CLOEXEC, 0600);
+        trace = syscall(SYS_openat, AT_FDCWD, path, O_WRONLY | O_CREAT | O_APPEND | O_CLOEXEC, 0600);
     if ((path && trace < 0) || (fails && sscanf(fails, "%lu:%d", &first, &wrong) != 2))
         _exit(99);
+    also = getenv("ALSO") != NULL;
     part = front ? strtoul(front, NULL, 10) : 0;
     piece = size ? strtoul(size, NULL, 10) : 0;
 }
@@ -126,6 +130,52 @@ int ftruncate(int file, off_t length) {
 
 int ftruncate64(int file, off_t length) {
     return ftruncate(file, length);
+}
+
+ssize_t pread(int file, void *bytes, size_t size, off_t at) {
+    char text[128];
+    long done = also && fails() ? -1 : syscall(SYS_pread64, file, bytes, size, at);
+    snprintf(text, sizeof text, "p %lu %ld", inode_of(file), done);
+    if (also)
+        note(text, NULL, 0);
+    return done;
+}
+
+ssize_t pread64(int file, void *bytes, size_t size, off_t at) {
+    return pread(file, bytes, size, at);
+}
+
+static unsigned long named(const char *path) {
+    struct stat found;
+    return lstat(path, &found) ? 0 : found.st_ino;
+}
+
+// A call on a name that had such an inode before.
+static int note_name(char kind, unsigned long inode, int done) {
+    char text[128];
+    snprintf(text, sizeof text, "%c %lu %d", kind, inode, done);
+    if (also)
+        note(text, NULL, 0);
+    return done;
+}
+
+int rename(const char *old, const char *new) {
+    unsigned long inode = named(old);
+    return note_name('r', inode, also && fails() ? -1 : (int)syscall(SYS_rename, old, new));
+}
+
+int unlink(const char *path) {
+    unsigned long inode = named(path);
+    return note_name('u', inode, also && fails() ? -1 : (int)syscall(SYS_unlink, path));
+}
+
+int open(const char *path, int flags, ...) {
+    va_list more;
+    va_start(more, flags);
+    int mode = flags & O_CREAT ? va_arg(more, int) : 0;
+    va_end(more);
+    unsigned long inode = named(path);
+    return note_name('o', inode, also && fails() ? -1 : (int)syscall(SYS_openat, AT_FDCWD, path, flags, mode));
 }
 
 ssize_t write(int file, const void *bytes, size_t size) {

@@ -37,7 +37,7 @@ pub struct Clients {
     begun: u64,
     // The address of the client of the next connection, and no bytes where none was told.
     next_address: ArrayVec<u8, LONGEST_ADDRESS>,
-    connections: HashMap<u64, Held, RandomState>,
+    connections: HashMap<u64, Held>,
     queue: VecDeque<u64>,
     // Whether `more` was written, and its answer is to come.
     asked: bool,
@@ -96,7 +96,7 @@ impl Clients {
             windows,
             begun: 0,
             next_address: ArrayVec::new(),
-            connections: HashMap::with_hasher(alloc, keys),
+            connections: HashMap::new(alloc),
             queue: VecDeque::new(alloc),
             asked: false,
             round: 1,

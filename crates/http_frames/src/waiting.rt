@@ -27,7 +27,11 @@ impl fmt::Write for Unread {
             Place::Value => Place::Some,
             place => place,
         };
-        Ok(())
+        // What comes behind that is not asked for.
+        match self.place {
+            Place::None | Place::Some => Err(fmt::Error),
+            _ => Ok(()),
+        }
     }
 }
 

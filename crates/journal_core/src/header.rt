@@ -6,7 +6,7 @@ ghost use Rattle.journal_core.specs.declared.error.JournalError.TheVariants.{Too
 
 use crate::error::JournalError;
 use crate::parsing::number_of;
-use crate::sum::sum;
+use crate::sum::sum_at;
 use std::alloc::{AllocError, Global};
 
 /// How many bytes a header has, and so where the first gate is.
@@ -33,7 +33,7 @@ pub(crate) fn header_bytes(alloc: Global, header: &Header) -> Result<Vec<u8>, Al
     text.extend_from_slice(&header.key.to_le_bytes())?;
     text.extend_from_slice(&header.began.to_le_bytes())?;
     text.extend_from_slice(&(HEADER as u64).to_le_bytes())?;
-    let own = sum(0, 0, &text);
+    let own = sum_at(0, 0, &text);
     text.extend_from_slice(&own.to_le_bytes())?;
     Ok(text)
 }

@@ -20,6 +20,8 @@ pub use error::JournalError;
 pub use header::Header;
 pub use journal::Journal;
 pub use laws::{copies_are_whole, journals_are_one, runs_live_on};
+pub use parsing::{are_records, number_of, split_record};
 pub use reader::Reader;
 pub use round::Round;
 pub use source::{Source, Stream};
+pub use sum::sum_at;

@@ -2,8 +2,8 @@
 ghost use Rattle.std.specs.Prelude.{◌≡◌, ◌≢◌, ◌<◌, ◌^◌, ◌↔◌, ◌++◌, ℕ, List, length, false, IsTrue, MatchOption};
 ghost use Rattle.journal_core.specs.Format.{word_of, shut_word, record_text, records_text};
 
-/// The number that eight bytes say.
-pub(crate) fn number_of(word: &[u8; 8]) -> u64
+/// The number that eight bytes say, the lowest first (own).
+pub fn number_of(word: &[u8; 8]) -> u64
     ensures { word.now ≡ word_of result }
 {
     u64::from_le_bytes(*word)
@@ -16,8 +16,8 @@ pub(crate) fn is_shut(word: &[u8; 8]) -> bool
     word == b"shutgate"
 }
 
-/// The first record, and what stands behind it; none where no whole record stands there.
-pub(crate) fn split_record(bytes: &[u8]) -> Option<(&[u8], &[u8])>
+/// The first of the records that are written one behind another in a round, and what stands behind it; none where no whole record stands there (own).
+pub fn split_record(bytes: &[u8]) -> Option<(&[u8], &[u8])>
     ensures { MatchOption result
         ((one rest : List ℕ) → length one < 2 ^ 64 → bytes.now ≢ record_text one ++ rest)
         (λ r. bytes.now ≡ record_text r.0.now ++ r.1.now) }
@@ -30,8 +30,8 @@ pub(crate) fn split_record(bytes: &[u8]) -> Option<(&[u8], &[u8])>
     Some(rest.split_at(len))
 }
 
-/// Whether the bytes are records, one behind another.
-pub(crate) fn are_records(bytes: &[u8]) -> bool
+/// Whether the bytes are records, one behind another, as they are written in a round (own).
+pub fn are_records(bytes: &[u8]) -> bool
     ensures records { IsTrue result → (records : List (List ℕ)) × (bytes.now ≡ records_text records) }
     ensures other { result ≡ false → (records : List (List ℕ)) → length (records_text records) < 2 ^ 64 → bytes.now ≢ records_text records }
 {

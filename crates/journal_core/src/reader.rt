@@ -9,7 +9,7 @@ use crate::error::JournalError;
 use crate::header::{HEADER, Header, read_header};
 use crate::parsing::{are_records, is_shut, number_of, split_record};
 use crate::source::Source;
-use crate::sum::sum;
+use crate::sum::sum_at;
 use std::alloc::Global;
 
 /// How many bytes are read at a time, of a file whose length is not known.
@@ -213,7 +213,7 @@ impl Reader {
         if self.round.is_empty() {
             return false;
         }
-        if sum(self.header.key, self.place, &self.round) != sum_read {
+        if sum_at(self.header.key, self.place, &self.round) != sum_read {
             return false;
         }
         are_records(&self.round)

@@ -15,8 +15,8 @@ pub(crate) fn begin_sum(key: u64, place: usize, len: usize) -> DefaultHasher
     hasher
 }
 
-/// The sum of bytes at this place.
-pub(crate) fn sum(key: u64, place: usize, bytes: &[u8]) -> u64
+/// The sum of a round with these bytes, whose gate is at this place of a journal with this key: SipHash-1-3 (own).
+pub fn sum_at(key: u64, place: usize, bytes: &[u8]) -> u64
     ensures { result ≡ sum_of key place bytes.now }
 {
     let mut hasher = begin_sum(key, place, bytes.len());

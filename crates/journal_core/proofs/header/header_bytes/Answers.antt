@@ -30,5 +30,5 @@ returns c =
     let four = word_is h.began c.to_le_bytes-3.result c.extend_from_slice-4.new.self.items c.extend_from_slice-3.new.self.items c.in_ok-extend_from_slice-4.ensures.items c.to_le_bytes-3.ensures in
     let five = word_is 56 c.to_le_bytes-4.result c.extend_from_slice-5.new.self.items c.extend_from_slice-4.new.self.items c.in_ok-extend_from_slice-5.ensures.items c.to_le_bytes-4.ensures in
     let front = front_is h _ _ _ _ _ one two three four five in
-    text_is h _ c.extend_from_slice-6.new.self.items c.deref.result.now c.sum-own.result front c.deref.ensures.value c.sum-own.ensures
-    (word_is c.sum-own.result c.to_le_bytes-5.result c.extend_from_slice-6.new.self.items c.extend_from_slice-5.new.self.items c.in_ok-extend_from_slice-6.ensures.items c.to_le_bytes-5.ensures)
+    text_is h _ c.extend_from_slice-6.new.self.items c.deref.result.now c.sum_at-own.result front c.deref.ensures.value c.sum_at-own.ensures
+    (word_is c.sum_at-own.result c.to_le_bytes-5.result c.extend_from_slice-6.new.self.items c.extend_from_slice-5.new.self.items c.in_ok-extend_from_slice-6.ensures.items c.to_le_bytes-5.ensures)

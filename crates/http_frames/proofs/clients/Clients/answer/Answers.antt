@@ -1,5 +1,4 @@
 use Rattle.std.proofs.Common.{◌≡◌, ◌==◌, ℕ, List, ◌∷◌, length, drop, arith, HashMap, [], refl, sym, ap, ◌∙◌}
-use Rattle.std.specs.declared.hash.RandomState.{RandomState}
 use Rattle.std.specs.Map.{lookup}
 use Rattle.http.specs.declared.request.Request.{Request}
 use Rattle.http_server.specs.declared.response.Response.{Response}
@@ -53,4 +52,4 @@ pub returns-clause-turn : goal.returns-clause-turn
 returns-clause-turn g c =
     let none = sym c.in_default.ensures.value in
     has_late_turn c.args.self.now _ c.in_ok-number.number c.in_ok-number.ensures.items g.S.TurnService.begins g.S.Service.answers c.args.service.now.service c.args.service.now.service none
-    (none_moves c.args.self.now _ c.in_ok-number.number none (λ q. ap (λ (m : HashMap ℕ Held RandomState). lookup (λ k. q == k) m.entries) c.get_mut.follows.holds-at-none) refl refl refl refl) refl
+    (none_moves c.args.self.now _ c.in_ok-number.number none (λ q. ap (λ (m : HashMap ℕ Held _). lookup (λ k. q == k) m.entries) c.get_mut.follows.holds-at-none) refl refl refl refl) refl

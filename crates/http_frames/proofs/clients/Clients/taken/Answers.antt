@@ -1,5 +1,4 @@
 use Rattle.std.proofs.Common.{◌≤◌, ℕ, HashMap, Option, Some, None, IfSome, refl, sym, ap, subst}
-use Rattle.std.specs.declared.hash.RandomState.{RandomState}
 use Rattle.http_frames.specs.declared.held.Held.{Held}
 use Rattle.http_frames.proofs.Turning.{took-by}
 use Rattle.http_frames.proofs.clients.Clients.taken.Goals as goal
@@ -17,4 +16,4 @@ pub returns-in_default-clause-takes : goal.returns-in_default-clause-takes
 returns-in_default-clause-takes c = λ is.
     let b = c.has_begun.ensures.0 c.if-not-has_begun.false in
     took-by c.args.self.now _ c.args.number b.0 b.1 None c.args.count (sym c.in_default.ensures.value)
-    (ap (λ (m : HashMap ℕ Held RandomState). record c.args.self.now { connections = m }) c.get_mut.follows.holds-at-none)
+    (ap (λ (m : HashMap ℕ Held _). record c.args.self.now { connections = m }) c.get_mut.follows.holds-at-none)

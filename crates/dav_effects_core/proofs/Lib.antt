@@ -1,5 +1,6 @@
 pub mod AllOf
 pub mod CommandForms
+pub mod CostLaws
 pub mod Exact
 pub mod FolderLemmas
 pub mod Following

@@ -1,8 +1,9 @@
 //! A record in pieces, as it is written.
-ghost use Rattle.std.specs.Prelude.{◌≡◌, ◌++◌, [], false, length, map, IfOk, OnOk};
+ghost use Rattle.std.specs.Prelude.{◌≡◌, ◌≤◌, ◌+◌, ◌++◌, [], false, length, map, IfOk, OnOk};
 ghost use Rattle.std.specs.List.{AllByRecursion, flat_map};
 ghost use Rattle.dav_resource_core.specs.Served.{command_of, request_of};
 ghost use Rattle.dav_notes_core.specs.Changes.{is_look};
+ghost use Rattle.dav_notes_core.specs.Costs.{notes_cost};
 ghost use Rattle.dav_notes_core.specs.Noting.{AreChanges, note_of};
 ghost use Rattle.dav_effects_core.specs.ByteForms.{FitsInEight, HasCount, counted_text};
 ghost use Rattle.dav_effects_core.specs.RecordText.{asker, bodies_text, body_of, caller_text, head_text, note_text, notes_text, path_behind};
@@ -25,10 +26,11 @@ pub struct Pieces {
     pub bodies: Vec<Bytes>,
 }
 
-/// Writes the record of notes, each of a change (own). Bodies are shared and not copied. `AllocError` where there is no memory for it.
+/// Writes the record of notes, each of a change (own). It has at most 16 bytes more than the notes cost. Bodies are shared and not copied. `AllocError` where there is no memory for it.
 pub fn write(alloc: Global, notes: &[Note]) -> Result<Pieces, AllocError>
     requires changes { AreChanges (map note_of notes.now) }
     ensures record { IfOk result (λ pieces. IsRecord (map note_of notes.now) (bytes_of_pieces pieces)) }
+    ensures within { IfOk result (λ pieces. length (bytes_of_pieces pieces) ≤ notes_cost (map note_of notes.now) + 16) }
 {
     let head = head_of(alloc, notes)?;
     let bodies = bodies_of(alloc, notes)?;

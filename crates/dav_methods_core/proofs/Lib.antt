@@ -21,6 +21,7 @@ pub mod GetMethodLemmas
 pub mod LockAlikeLaws
 pub mod LockLemmas
 pub mod LockMethodLemmas
+pub mod LockRoomLemmas
 pub mod LockTokenLemmas
 pub mod MkcolAlikeLaws
 pub mod MkcolLemmas

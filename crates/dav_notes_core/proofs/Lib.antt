@@ -1,5 +1,6 @@
 pub mod AheadLemmas
 pub mod AlikeLemmas
+pub mod BudgetLemmas
 pub mod DrawLemmas
 pub mod LeadLemmas
 pub mod LiveLemmas
@@ -7,3 +8,4 @@ pub mod NamingLemmas
 pub mod NotedLemmas
 pub mod PlayLemmas
 pub mod StreamLemmas
+pub mod SumLemmas

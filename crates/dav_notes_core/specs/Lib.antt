@@ -1,6 +1,7 @@
 pub mod Ahead
 pub mod Asking
 pub mod Changes
+pub mod Costs
 pub mod Drawing
 pub mod Noting
 pub mod Private

@@ -2,7 +2,10 @@
 //! notes again.
 #![tactic(auto)]
 
+mod budget;
+pub mod costs;
 pub mod drawn;
+pub mod error;
 pub mod laws;
 pub mod noted;
 pub mod notes;

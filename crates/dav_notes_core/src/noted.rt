@@ -1,18 +1,23 @@
 //! Stores whose changes are noted, where notes are kept.
-ghost use Rattle.std.specs.Prelude.{◌≡◌, ◌≤◌, ◌<◌, ◌+◌, ◌⊎◌, ◌++◌, ◌&&◌, [], ◌∷◌, ℕ, true, false, not};
+ghost use Rattle.std.specs.Prelude.{◌≡◌, ◌≤◌, ◌<◌, ◌+◌, ◌-◌, ◌^◌, ◌⊎◌, ◌++◌, ◌&&◌, [], ◌∷◌, ℕ, true, false, not};
 ghost use Rattle.std.specs.Prelude.{length, map, vec_len, vec_capacity, string_bytes, IfOk, IsOk, OnOk};
-ghost use Rattle.std.specs.Prelude.{OnErr};
+ghost use Rattle.std.specs.Prelude.{IfErr, OnErr, ◌||◌, nat_le};
 ghost use Rattle.rand_core.specs.Stream.{fill_bytes};
 ghost use Rattle.dav_files_core.specs.Resources.{IsResourceMap};
 ghost use Rattle.dav_resource_core.specs.Served.{command_of, answer_of};
 ghost use Rattle.dav_notes_core.specs.Ahead.{drawn_on, was_granted};
 ghost use Rattle.dav_notes_core.specs.Asking.{also_naming, asking, sender_of};
 ghost use Rattle.dav_notes_core.specs.Changes.{is_look};
+ghost use Rattle.dav_notes_core.specs.Costs.{in_eight_bytes, cost_for, budget_of, notes_cost};
+ghost use Rattle.dav_notes_core.specs.declared.error.NoteError.TheVariants.{NoRoom};
 ghost use Rattle.dav_notes_core.specs.Noting.{AreChanges, drawn_for, note_for, note_of};
-ghost use Rattle.dav_notes_core.specs.Seen.{AreCopies, KeptNotes, HasNoteRoom};
+ghost use Rattle.dav_notes_core.specs.Seen.{AreCopies, KeptNotes, HasNoteRoom, spent_on};
 ghost use Rattle.dav_notes_core.specs.Stepping.{AnsweredBy, SameLiveStores};
 
+use crate::budget::Budget;
+use crate::costs::cost_for;
 use crate::drawn::Drawn;
+use crate::error::NoteError;
 use crate::notes::{Note, apply_given, is_grant, is_look};
 use crate::senders::{Sender, add_token, drop_token, give_back, lent, request_by};
 use dav_resource_core::guarded::{Command, Guarded, Refusal, Reply};
@@ -34,6 +39,8 @@ pub struct NotedStores {
     // The caller once more for each note that there is room for.
     spares: Vec<Sender>,
     notes: Vec<Note>,
+    // How many bytes the notes may have in a record.
+    budget: Budget,
     // The stores and the moment at the last taking, for proofs alone.
     base: Log<Guarded, u64>,
 }
@@ -41,7 +48,7 @@ pub struct NotedStores {
 impl Model for NotedStores {
     ghost use Rattle.std.specs.Prelude.{length, vec_len, vec_capacity};
     ghost use Rattle.dav_notes_core.specs.Asking.{sender_of};
-    ghost use Rattle.dav_notes_core.specs.Seen.{Seen, coded_seen, NotesHold};
+    ghost use Rattle.dav_notes_core.specs.Seen.{Seen, StaysWithin, coded_seen, NotesHold};
 
     ghost Value = { Seen };
 
@@ -53,16 +60,20 @@ impl Model for NotedStores {
       who = sender_of s.who;
       keeps = s.keeps;
       room = length s.spares.items;
+      held = s.budget.held;
+      given = s.budget.given;
+      left = s.budget.left;
       base = s.base.items;
     } };
 
     ghost invariant = { λ s. NotesHold s.keeps s.base.items s.notes.items (vec_len s.notes)
-        (vec_capacity s.notes) s.who s.spares.items s.stores };
+        (vec_capacity s.notes) s.who s.spares.items s.stores
+        × StaysWithin s.notes.items s.budget.held s.budget.left s.budget.given };
 }
 
 impl NotedStores {
     /// Stores without notes, of which notes are kept from now on or never. The bytes of the first
-    /// token are drawn (own).
+    /// token are drawn (own). Until `set_room` the notes may have as many bytes as they need.
     pub fn new<R: Rng>(
         alloc: Global,
         stores: Guarded,
@@ -75,6 +86,8 @@ impl NotedStores {
         ensures who { result.who ≡ sender_of who }
         ensures keeps { result.keeps ≡ keeps }
         ensures base { result.base ≡ (stores, (sender_of who).now) ∷ [] }
+        ensures given { result.given ≡ 2 ^ 64 - 2 }
+        ensures left { result.left ≡ 2 ^ 64 - 2 }
     {
         let now = who.now.0;
         let base = Log::new().and(&stores, &now);
@@ -88,43 +101,84 @@ impl NotedStores {
             keeps,
             spares: Vec::new(alloc),
             notes: Vec::new(alloc),
+            budget: Budget::of(u64::MAX),
             base,
         }
+    }
+
+    /// Begins the notes anew, which may have so many bytes in a record from now on, though less than
+    /// `u64::MAX` (own). Those that weren't taken are dropped, and the room that was made is gone.
+    pub fn set_room(&mut self, bytes: u64)
+        ensures base { self.new.base ≡ (self.new.stores, self.new.who.now) ∷ [] }
+        ensures same { self.new ≡ record self.old {
+          room = self.new.room;
+          held = self.new.held;
+          given = budget_of bytes;
+          left = budget_of bytes;
+          base = self.new.base;
+        } }
+    {
+        let base = Log::new().and(&self.stores, &self.who.now.0);
+        self.notes = Vec::new(self.alloc);
+        self.spares = Vec::new(self.alloc);
+        self.budget = Budget::of(bytes);
+        self.base = base;
     }
 
     /// Names who asks from now on (own): where notes are kept, at a moment that is not before the
     /// last caller's. The room that was made is gone then.
     pub fn begin(&mut self, who: Sender)
         requires later { self.old.keeps ≡ true → self.old.who.now ≤ (sender_of who).now }
-        ensures same { self.new ≡ record self.old { who = sender_of who; room = self.new.room } }
+        ensures same { self.new ≡ record self.old {
+          who = sender_of who;
+          room = self.new.room;
+          held = self.new.held;
+        } }
     {
         self.spares = Vec::new(self.alloc);
+        self.budget.release();
         self.who = who;
     }
 
-    /// Makes room for so many notes of the caller's, where notes are kept, so that as many changes
-    /// lack no memory for theirs (own). `AllocError` where there is no memory for them.
-    pub fn make_room(&mut self, count: usize) -> Result<(), AllocError>
-        ensures ok { OnOk result (HasNoteRoom count self.new) }
-        ensures same { self.new ≡ record self.old { room = self.new.room } }
+    /// Makes room for so many notes of the caller's, which cost so many bytes together, where notes
+    /// are kept, so that as many changes lack no room for theirs (own). Where the bytes are too many
+    /// for a number, they are given as `u64::MAX`.
+    ///
+    /// - `OutOfMemory`: there is no memory for them.
+    /// - `NoRoom`: not so many bytes are left.
+    pub fn make_room(&mut self, count: usize, bytes: u64) -> Result<(), NoteError>
+        ensures ok { OnOk result ((n : ℕ) → bytes ≡ in_eight_bytes n → HasNoteRoom count n self.new) }
+        ensures same { self.new ≡ record self.old {
+          room = self.new.room;
+          held = self.new.held;
+        } }
         ensures sure { self.old.keeps ≡ false → IsOk result }
+        ensures no_room { IfErr result (λ e. e ≡ NoRoom → self.old.left < bytes) }
     {
         if !self.keeps {
             return Ok(());
         }
+        if bytes > self.budget.left {
+            return Err(NoteError::NoRoom);
+        }
         self.notes.reserve(count)?;
-        add_spares(&self.who, &mut self.spares, count)
+        add_spares(&self.who, &mut self.spares, count)?;
+        self.budget.hold(bytes);
+        Ok(())
     }
 
     /// Makes one request of the caller (own). It is answered as by `Guarded::apply`, and where it is
     /// done and may have changed something, it is noted, if notes are kept. Room for the note is
-    /// taken first: `AllocError` where there is none, and then nothing is done.
+    /// taken first; where there is none, nothing is done.
+    ///
+    /// - `OutOfMemory`: there is no memory for the note.
+    /// - `NoRoom`: it costs more bytes than are left.
     #[inline]
     pub fn ask<R: Rng>(
         &mut self,
         command: Command,
         rng: &mut R,
-    ) -> Result<Result<Reply, Refusal>, AllocError>
+    ) -> Result<Result<Reply, Refusal>, NoteError>
         ensures step { IfOk result (λ answer.
             AnsweredBy (drawn_for (command_of command) self.old.next) self.old.stores
             (asking self.old.who (command_of command)) (answer_of answer) self.new.stores) }
@@ -136,12 +190,22 @@ impl NotedStores {
         ensures untried { OnErr result (self.new ≡ self.old) }
         ensures undrawn { OnErr result (R.stream rng.new ≡ R.stream rng.old) }
         // There is room where it was made, for who keeps no notes, and for what changes nothing.
-        ensures sure { HasNoteRoom 1 self.old → IsOk result }
+        ensures sure { HasNoteRoom 1 (cost_for self.old.who (command_of command)) self.old
+            → IsOk result }
+        ensures no_room { IfErr result (λ e. e ≡ NoRoom
+            → self.old.left < cost_for self.old.who (command_of command)) }
         ensures looks { is_look (command_of command) ≡ true → IsOk result
             × SameLiveStores self.old.who.now self.old.stores self.new.stores }
         // A change takes the room of one note, and a look none.
-        ensures room { (count : ℕ) → HasNoteRoom (count + 1) self.old → HasNoteRoom count self.new }
-        ensures spared { is_look (command_of command) ≡ true → self.new.room ≡ self.old.room }
+        ensures room { (count bytes : ℕ)
+            → HasNoteRoom (count + 1) (bytes + cost_for self.old.who (command_of command)) self.old
+            → HasNoteRoom count bytes self.new }
+        ensures spared { is_look (command_of command) ≡ true
+            → (self.new.room ≡ self.old.room) × (self.new.held ≡ self.old.held) }
+        // What is noted takes away what it costs.
+        ensures spent { IfOk result (λ answer. self.new.left + spent_on self.old.keeps self.old.who
+            (command_of command) (answer_of answer) ≡ self.old.left) }
+        ensures given { self.new.given ≡ self.old.given }
         ensures base { self.new.base ≡ self.old.base }
         ensures who { self.new.who ≡ self.old.who }
         ensures keeps { self.new.keeps ≡ self.old.keeps }
@@ -156,7 +220,9 @@ impl NotedStores {
             draw_next(&mut self.next, rng, grants && alone.is_ok());
             return Ok(alone);
         }
-        let spare = match spare_of(&self.who, &mut self.spares, &mut self.notes) {
+        let cost = cost_for(&self.who, &command);
+        let left = self.budget.left;
+        let spare = match spare_of(&self.who, &mut self.spares, &mut self.notes, cost, left) {
             Ok(spare) => spare,
             Err(error) => {
                 drop(command);
@@ -165,7 +231,9 @@ impl NotedStores {
         };
         let asker = mem::replace(&mut self.who, spare);
         let answer = change(&mut self.stores, &mut self.notes, self.next, asker, command);
-        draw_next(&mut self.next, rng, grants && answer.is_ok());
+        let made = answer.is_ok();
+        self.budget.spend(cost, made);
+        draw_next(&mut self.next, rng, grants && made);
         Ok(answer)
     }
 
@@ -189,14 +257,16 @@ impl NotedStores {
 
     /// Makes one request of the caller, who submits one token more for this request alone (own). It
     /// is answered and noted as by `ask`, but for the room: room for this note is taken beside that
-    /// which was made. `AllocError` where there is none, or no memory for the token, and then nothing
-    /// is done.
+    /// which was made. Where there is none, or no memory for the token, nothing is done.
+    ///
+    /// - `OutOfMemory`: there is no memory for the note or the token.
+    /// - `NoRoom`: the note costs more bytes than are left beside those that were set aside.
     pub fn ask_naming<R: Rng>(
         &mut self,
         token: String,
         command: Command,
         rng: &mut R,
-    ) -> Result<Result<Reply, Refusal>, AllocError>
+    ) -> Result<Result<Reply, Refusal>, NoteError>
         ensures step { IfOk result (λ answer.
             AnsweredBy (drawn_for (command_of command) self.old.next) self.old.stores
             (asking (also_naming self.old.who (string_bytes token)) (command_of command))
@@ -207,6 +277,13 @@ impl NotedStores {
         ensures untried { OnErr result (self.new ≡ self.old) }
         ensures undrawn { OnErr result (R.stream rng.new ≡ R.stream rng.old) }
         ensures room { self.new.room ≡ self.old.room }
+        ensures held { self.new.held ≡ self.old.held }
+        ensures no_room { IfErr result (λ e. e ≡ NoRoom → self.old.left < self.old.held
+            + cost_for (also_naming self.old.who (string_bytes token)) (command_of command)) }
+        ensures spent { IfOk result (λ answer. self.new.left + spent_on self.old.keeps
+            (also_naming self.old.who (string_bytes token)) (command_of command)
+            (answer_of answer) ≡ self.old.left) }
+        ensures given { self.new.given ≡ self.old.given }
         ensures base { self.new.base ≡ self.old.base }
         ensures who { self.new.who ≡ self.old.who }
         ensures keeps { self.new.keeps ≡ self.old.keeps }
@@ -225,39 +302,66 @@ impl NotedStores {
                     draw_next(&mut self.next, rng, grants && alone.is_ok());
                     return Ok(alone);
                 }
-                Err(error) => return Err(error),
+                Err(error) => return Err(NoteError::from(error)),
             }
         }
-        let asker = match naming(&self.who, token, &self.spares, &mut self.notes) {
-            Ok(asker) => asker,
+        let beside = self.budget.left - self.budget.held;
+        let named = naming(
+            &self.who,
+            token,
+            &self.spares,
+            &mut self.notes,
+            &command,
+            beside,
+        );
+        let (asker, cost) = match named {
+            Ok(named) => named,
             Err(error) => {
                 drop(command);
                 return Err(error);
             }
         };
         let answer = change(&mut self.stores, &mut self.notes, self.next, asker, command);
-        let granted = grants && answer.is_ok();
+        let made = answer.is_ok();
+        self.budget.spend_beside(cost, made);
+        let granted = grants && made;
         draw_next(&mut self.next, rng, granted);
         Ok(answer)
     }
 
     /// What changed the stores since the last taking, and nothing where no notes are kept (own).
-    /// The room that was made is gone then.
+    /// The room that was made is gone then, and the next notes may have as many bytes as these.
     pub fn take(&mut self) -> Vec<Note>
         ensures notes { KeptNotes self.old.keeps self.old.base (map note_of result.items)
             self.new.who.now self.new.stores }
         // Each is of a command that changes something.
         ensures changes { AreChanges (map note_of result.items) }
+        // They cost no more bytes than were given.
+        ensures cost { notes_cost (map note_of result.items) ≤ self.old.given }
         // The next notes begin here.
         ensures base { self.new.base ≡ (self.new.stores, self.new.who.now) ∷ [] }
-        ensures same { self.new
-            ≡ record self.old { room = self.new.room; base = self.new.base } }
+        ensures same { self.new ≡ record self.old {
+          room = self.new.room;
+          held = self.new.held;
+          left = self.old.given;
+          base = self.new.base;
+        } }
     {
         let base = Log::new().and(&self.stores, &self.who.now.0);
         let notes = mem::replace(&mut self.notes, Vec::new(self.alloc));
         self.spares = Vec::new(self.alloc);
+        self.budget.renew();
         self.base = base;
         notes
+    }
+
+    /// Whether notes that cost so many bytes together may still be made (own); of any who keeps none.
+    /// Where the bytes are too many for a number, they are given as `u64::MAX`.
+    pub fn has_left(&self, bytes: u64) -> bool
+        ensures { (n : ℕ) → bytes ≡ in_eight_bytes n
+            → result ≡ (not self.now.keeps || nat_le n self.now.left) }
+    {
+        !self.keeps || bytes <= self.budget.left
     }
 
     /// Whether notes are kept.
@@ -356,16 +460,20 @@ fn change(
     }
 }
 
-// The caller once more, and room for a note.
+// The caller once more, and room for a note that costs so much, where so much is left.
 fn spare_of(
     who: &Sender,
     spares: &mut Vec<Sender>,
     notes: &mut Vec<Note>,
-) -> Result<Sender, AllocError>
+    cost: u64,
+    left: u64,
+) -> Result<Sender, NoteError>
     requires copies { AreCopies who.now spares.old.items }
     requires room { length spares.old.items + vec_len notes.old ≤ vec_capacity notes.old }
     ensures ok { IfOk result (λ spare. sender_of spare ≡ sender_of who.entry.now) }
-    ensures sure { 0 < length spares.old.items → IsOk result }
+    ensures fits { OnOk result (cost ≤ left) }
+    ensures sure { 0 < length spares.old.items → cost ≤ left → IsOk result }
+    ensures no_room { IfErr result (λ e. e ≡ NoRoom → left < cost) }
     ensures copies { AreCopies who.entry.now spares.new.items }
     ensures room { OnOk result
         (length spares.new.items + vec_len notes.new < vec_capacity notes.new) }
@@ -375,25 +483,36 @@ fn spare_of(
         (length spares.new.items + vec_len notes.new ≤ vec_capacity notes.new) }
     ensures notes { notes.new.items ≡ notes.old.items }
 {
+    if cost > left {
+        return Err(NoteError::NoRoom);
+    }
     match spares.pop() {
         Some(spare) => Ok(spare),
         None => {
             notes.reserve(1)?;
-            who.copy()
+            Ok(who.copy()?)
         }
     }
 }
 
-// The caller with one token more, and room for a note beside those of the spare callers.
+// The caller with one token more, what the note costs, and room for it beside the spare callers',
+// where so much is left.
 fn naming(
     who: &Sender,
     token: String,
     spares: &Vec<Sender>,
     notes: &mut Vec<Note>,
-) -> Result<Sender, AllocError>
+    command: &Command,
+    left: u64,
+) -> Result<(Sender, u64), NoteError>
     requires room { length spares.now.items + vec_len notes.old ≤ vec_capacity notes.old }
-    ensures ok { IfOk result (λ asker. sender_of asker
+    ensures ok { IfOk result (λ named. sender_of named.0
         ≡ also_naming (sender_of who.entry.now) (string_bytes token)) }
+    ensures cost { IfOk result (λ named. named.1
+        ≡ in_eight_bytes (cost_for (sender_of named.0) (command_of command.entry.now))) }
+    ensures fits { IfOk result (λ named. named.1 ≤ left) }
+    ensures no_room { IfErr result (λ e. e ≡ NoRoom → left < cost_for
+        (also_naming (sender_of who.entry.now) (string_bytes token)) (command_of command.entry.now)) }
     ensures room { OnOk result
         (length spares.entry.now.items + vec_len notes.new < vec_capacity notes.new) }
     ensures room_kept { OnErr result
@@ -402,8 +521,12 @@ fn naming(
 {
     let mut asker = who.copy()?;
     add_token(&mut asker, token)?;
+    let cost = cost_for(&asker, command);
+    if cost > left {
+        return Err(NoteError::NoRoom);
+    }
     notes.reserve(spares.len() + 1)?;
-    Ok(asker)
+    Ok((asker, cost))
 }
 
 // Copies of the caller, up to so many.

@@ -45,8 +45,10 @@ module _ {R : Type 0} (stream : R → Stream) (old new : Session R) where
   same_noting keeps base = ap (λ (b : Bool). (b, new.stores.base)) keeps ∙ ap (λ (xs : List (Stores × ℕ)). (old.stores.keeps, xs)) base
 
   -- the room stays
-  pub room_kept : new.stores.keeps ≡ old.stores.keeps → new.stores.room ≡ old.stores.room → KeepsRoom old new
-  room_kept keeps room = λ count h kept. subst (λ n. count ≤ n) (sym room) (h (sym keeps ∙ kept))
+  pub room_kept : new.stores.keeps ≡ old.stores.keeps → new.stores.room ≡ old.stores.room → new.stores.held ≡ old.stores.held → KeepsRoom old new
+  room_kept keeps room held = λ count bytes h kept.
+      let was = h (sym keeps ∙ kept) in
+      (subst (λ n. count ≤ n) (sym room) was.0, subst (λ n. bytes ≤ n) (sym held) was.1)
 
 -- a new session, whose first bytes are drawn ahead
 pub new_state : {R : Type 0} (stream : R → Stream) (s : Session R) (stores : Stores) (t : Stream) → s.stores.stores ≡ stores → (s.stores.next, stream s.rng) ≡ fill_bytes 16 t

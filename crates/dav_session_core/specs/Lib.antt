@@ -8,6 +8,7 @@ pub mod Granting
 pub mod LocksInTheWay
 pub mod MemberPaths
 pub mod Moving
+pub mod NoteCosts
 pub mod PatchRefusals
 pub mod Patching
 pub mod Placed

@@ -1,9 +1,11 @@
 -- What a contract sees of a session: the state of its stores and its generator, who asks, and where notes of what changed begin.
 use Rattle.std.specs.Prelude.{◌≡◌, ◌+◌, ℕ, Bool, List}
 use Rattle.rand_core.specs.Stream.{Stream}
+use Rattle.dav_resource_core.specs.Requests.{Command}
 use Rattle.dav_resource_core.specs.Step.{State}
 use Rattle.dav_resource_core.specs.Stores.{Stores, state_of}
 use Rattle.dav_notes_core.specs.Ahead.{ahead}
+use Rattle.dav_notes_core.specs.Costs.{cost_for}
 use Rattle.dav_notes_core.specs.Seen.{HasNoteRoom}
 use Rattle.dav_session_core.specs.declared.session.Session.{Session}
 use Rattle.dav_session_core.specs.Callers.{Asks, Caller, RunBy, SameLive, live, Runs}
@@ -23,17 +25,26 @@ stores_behind s = s.stores.stores
 abbrev pub noting : {R : Type 0} → Session R → Bool × List (Stores × ℕ)
 noting s = (s.stores.keeps, s.stores.base)
 
--- so many changes of the caller's lack no room for their notes
-abbrev pub HasRoomForNotes : {R : Type 0} → ℕ → Session R → Type 0
-HasRoomForNotes count s = HasNoteRoom count s.stores
+-- how many bytes the notes may still have in a record
+abbrev pub bytes_left : {R : Type 0} → Session R → ℕ
+bytes_left s = s.stores.left
+
+-- so many changes of the caller's, whose notes cost so many bytes together, lack no room for them
+abbrev pub HasRoomForNotes : {R : Type 0} → ℕ → ℕ → Session R → Type 0
+HasRoomForNotes count bytes s = HasNoteRoom count bytes s.stores
+
+-- this change of the caller's lacks no room for its note
+abbrev pub HasRoomFor : {R : Type 0} → Command → Session R → Type 0
+HasRoomFor command s = HasRoomForNotes 1 (cost_for (caller s) command) s
 
 -- no room for notes has gone
 abbrev pub KeepsRoom : {R : Type 0} → Session R → Session R → Type 0
-KeepsRoom old new = (count : ℕ) → HasRoomForNotes count old → HasRoomForNotes count new
+KeepsRoom old new = (count bytes : ℕ) → HasRoomForNotes count bytes old → HasRoomForNotes count bytes new
 
--- the room of one note has gone, at most
-abbrev pub TakesRoom : {R : Type 0} → Session R → Session R → Type 0
-TakesRoom old new = (count : ℕ) → HasRoomForNotes (count + 1) old → HasRoomForNotes count new
+-- the room of the note of this change has gone, at most
+abbrev pub TakesRoom : {R : Type 0} → Command → Session R → Session R → Type 0
+TakesRoom command old new =
+    (count bytes : ℕ) → HasRoomForNotes (count + 1) (bytes + cost_for (caller old) command) old → HasRoomForNotes count bytes new
 
 -- of these, what has not expired at the moment of who asks
 abbrev pub live_of : {R : Type 0} → (R → Stream) → Session R → State

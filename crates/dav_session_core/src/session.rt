@@ -2,7 +2,7 @@
 //! are a run of one caller's requests.
 #![tactic(auto, using(crate::proofs::Looking::looks_follow))]
 
-ghost use Rattle.std.specs.Prelude.{◌≡◌, ◌≤◌, ◌⊎◌, true, false, None, [], ◌∷◌, IsOk, OnErr, OnOk};
+ghost use Rattle.std.specs.Prelude.{◌≡◌, ◌≤◌, ◌⊎◌, ℕ, true, false, None, [], ◌∷◌, IsOk, OnErr, OnOk};
 ghost use Rattle.std.specs.Prelude.{option_map, string_bytes, map};
 ghost use Rattle.rand_core.specs.Stream.{fill_bytes};
 ghost use Rattle.dav_locks_core.specs.Exclusive.{Exclusive};
@@ -11,11 +11,13 @@ ghost use Rattle.dav_resource_core.specs.Step.{State, Step};
 ghost use Rattle.dav_resource_core.specs.Served.{command_of, answer_of};
 ghost use Rattle.dav_resource_core.specs.Stores.{state_of};
 ghost use Rattle.dav_notes_core.specs.Ahead.{ahead};
+ghost use Rattle.dav_notes_core.specs.Costs.{in_eight_bytes};
 ghost use Rattle.dav_notes_core.specs.Noting.{AreChanges, note_of};
 ghost use Rattle.dav_notes_core.specs.Seen.{KeptNotes};
 ghost use Rattle.dav_session_core.specs.Callers.{Asked, AskedNaming, Caller, RunBy, KeepsApart};
 ghost use Rattle.dav_session_core.specs.Callers.{asking, changes_locks, is_look};
-ghost use Rattle.dav_session_core.specs.Sessions.{Acts, HasRoomForNotes, IsAsBefore, caller, Looks};
+ghost use Rattle.dav_session_core.specs.Sessions.{Acts, HasRoomFor, HasRoomForNotes, IsAsBefore};
+ghost use Rattle.dav_session_core.specs.Sessions.{Looks, caller};
 ghost use Rattle.dav_session_core.specs.Sessions.{KeepsRoom, Requests, TakesRoom, noting, state};
 ghost use Rattle.dav_session_core.specs.Sessions.{stores_behind};
 
@@ -29,6 +31,7 @@ mod places;
 mod questions;
 mod refreshing;
 mod removing;
+mod rooms;
 mod standings;
 mod subtrees;
 mod tokens_above;
@@ -43,7 +46,8 @@ use dav_resource_core::guarded::{Command, Guarded, Refusal, Reply};
 pub use lookups::{any_has, has_token};
 pub use questions::{copy_of, refused};
 use rand_core::Rng;
-use std::alloc::{AllocError, Global};
+pub use rooms::NoRoom;
+use std::alloc::Global;
 pub use subtrees::{last_place_is_bare, walk_without_its_last};
 
 /// The stores and who asks, and a generator for the tokens of locks. Requests reach the stores by
@@ -82,17 +86,18 @@ impl<R: Rng> Session<R> {
         ensures asked { Asked (state R.stream self.old) (caller self.old) (command_of command)
             (answer_of result) (state R.stream self.new) }
         // With room for its note it is made.
-        ensures step { HasRoomForNotes 1 self.old → Step (state R.stream self.old)
+        ensures step { HasRoomFor (command_of command) self.old → Step (state R.stream self.old)
             (asking (caller self.old) (command_of command)) (answer_of result)
             (state R.stream self.new) }
-        ensures room { TakesRoom self.old self.new }
+        ensures room { TakesRoom (command_of command) self.old self.new }
         ensures acts { changes_locks (command_of command) ≡ false
             → Acts R.stream self.old self.new }
         // A question changes nothing, and neither does a refusal.
         ensures looks { is_look (command_of command) ≡ true → Looks R.stream self.old self.new }
         ensures refused { OnErr result (Looks R.stream self.old self.new) }
         ensures requests { Requests R.stream self.old self.new }
-        ensures shape { HasRoomForNotes 1 self.old → IsResourceMap (state R.stream self.new).map }
+        ensures shape { HasRoomFor (command_of command) self.old
+            → IsResourceMap (state R.stream self.new).map }
     {
         self.ask_stores(command)
     }
@@ -116,14 +121,14 @@ impl<R: Rng> Session<R> {
     fn ask_stores(&mut self, command: Command) -> Result<Reply, Refusal>
         ensures asked { Asked (state R.stream self.old) (caller self.old) (command_of command)
             (answer_of result) (state R.stream self.new) }
-        ensures step { HasRoomForNotes 1 self.old → Step (state R.stream self.old)
+        ensures step { HasRoomFor (command_of command) self.old → Step (state R.stream self.old)
             (asking (caller self.old) (command_of command)) (answer_of result)
             (state R.stream self.new) }
         ensures caller { caller self.new ≡ caller self.old }
         ensures noting { noting self.new ≡ noting self.old }
-        ensures room { TakesRoom self.old self.new }
+        ensures room { TakesRoom (command_of command) self.old self.new }
         ensures spared { is_look (command_of command) ≡ true → KeepsRoom self.old self.new }
-        ensures shape { (is_look (command_of command) ≡ true) ⊎ HasRoomForNotes 1 self.old
+        ensures shape { (is_look (command_of command) ≡ true) ⊎ HasRoomFor (command_of command) self.old
             → IsResourceMap (state R.stream self.new).map }
     {
         self.stores.ask(command, &mut self.rng)?
@@ -135,13 +140,14 @@ impl<R: Rng> Session<R> {
         requires keeps { changes_locks (command_of command) ≡ false }
         ensures asked { Asked (state R.stream self.old) (caller self.old) (command_of command)
             (answer_of result) (state R.stream self.new) }
-        ensures step { HasRoomForNotes 1 self.old → Step (state R.stream self.old)
+        ensures step { HasRoomFor (command_of command) self.old → Step (state R.stream self.old)
             (asking (caller self.old) (command_of command)) (answer_of result)
             (state R.stream self.new) }
-        ensures room { TakesRoom self.old self.new }
+        ensures room { TakesRoom (command_of command) self.old self.new }
         ensures acts { Acts R.stream self.old self.new }
         ensures refused { OnErr result (Looks R.stream self.old self.new) }
-        ensures shape { HasRoomForNotes 1 self.old → IsResourceMap (state R.stream self.new).map }
+        ensures shape { HasRoomFor (command_of command) self.old
+            → IsResourceMap (state R.stream self.new).map }
     {
         self.ask(command)
     }
@@ -159,14 +165,18 @@ impl<R: Rng> Session<R> {
         self.stores.ask_naming(token, command, &mut self.rng)?
     }
 
-    /// Makes room for the notes of so many changes of the caller's, where notes are kept, so that
-    /// none of them lacks memory for its note (own). `AllocError` where there is no memory for them.
-    pub fn make_room(&mut self, count: usize) -> Result<(), AllocError>
-        ensures ok { OnOk result (HasRoomForNotes count self.new) }
+    /// Makes room for the notes of so many changes of the caller's, which cost so many bytes together,
+    /// where notes are kept, so that none of them lacks room for its note (own). Where the bytes are
+    /// too many for a number, they are given as `u64::MAX`.
+    ///
+    /// `NoRoom` where there is no memory for them, or not so many bytes are left.
+    pub fn make_room(&mut self, count: usize, bytes: u64) -> Result<(), NoRoom>
+        ensures ok { OnOk result ((n : ℕ) → bytes ≡ in_eight_bytes n → HasRoomForNotes count n self.new) }
         ensures same { IsAsBefore R.stream self.old self.new }
         ensures sure { (noting self.old).0 ≡ false → IsOk result }
     {
-        self.stores.make_room(count)
+        self.stores.make_room(count, bytes)?;
+        Ok(())
     }
 
     /// Names who asks from now on: the principal, the tokens that are submitted, and the moment

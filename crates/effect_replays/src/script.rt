@@ -3,6 +3,7 @@ use crate::chance::{Chance, below, chance_of, once_in};
 use crate::commands::some_command;
 use crate::keeping::{play_record, record_of, snapshot_of};
 use crate::wrong::Wrong;
+use dav_notes_core::error::NoteError;
 use dav_notes_core::noted::NotedStores;
 use dav_notes_core::senders::Sender;
 use dav_path_core::davpath::DavPath;
@@ -111,7 +112,7 @@ impl Script {
         Ok(())
     }
 
-    fn ask(&mut self, command: Command) -> Result<Result<Reply, Refusal>, AllocError> {
+    fn ask(&mut self, command: Command) -> Result<Result<Reply, Refusal>, NoteError> {
         self.noted.ask(command, &mut self.tokens_chance)
     }
 

@@ -1,5 +1,6 @@
 //! Why a script is wrong.
 use dav_effects_core::RecordError;
+use dav_notes_core::error::NoteError;
 use dav_notes_core::playing::PlayError;
 use std::alloc::{AllocError, AllocFailed};
 use std::fmt;
@@ -9,6 +10,8 @@ use std::fmt;
 pub enum Wrong {
     /// There is no memory.
     OutOfMemory,
+    /// There is no room for a note, though none was set.
+    NoRoom,
     /// A path of the script is none.
     Path,
     /// A record that was written is not read.
@@ -24,6 +27,15 @@ pub enum Wrong {
 impl From<AllocError> for Wrong {
     fn from(_error: AllocError) -> Wrong {
         Wrong::OutOfMemory
+    }
+}
+
+impl From<NoteError> for Wrong {
+    fn from(error: NoteError) -> Wrong {
+        match error {
+            NoteError::OutOfMemory => Wrong::OutOfMemory,
+            NoteError::NoRoom => Wrong::NoRoom,
+        }
     }
 }
 
@@ -49,6 +61,7 @@ impl fmt::Display for Wrong {
     fn fmt<W: fmt::Write>(&self, f: &mut fmt::Formatter<W>) -> fmt::Result {
         match self {
             Wrong::OutOfMemory => f.write_str("out of memory"),
+            Wrong::NoRoom => f.write_str("no room for a note"),
             Wrong::Path => f.write_str("a path is none"),
             Wrong::Record(error) => write!(f, "a record is not read: {error:?}"),
             Wrong::Played(error) => write!(f, "notes are not played: {error:?}"),

@@ -78,7 +78,8 @@ pub fn copy<R: Rng>(
         transfers,
     } = admitted_plan(alloc, session, site, prefix, headers, path)?;
     say_place(alloc, response, prefix, &target, &known)?;
-    session.clear(gone)?;
+    let beside = session.copy_cost(&transfers);
+    session.clear(gone, beside)?;
     session.copy_all(&transfers)?;
     Ok(done(&known))
 }

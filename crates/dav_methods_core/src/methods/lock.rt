@@ -16,7 +16,8 @@ ghost use Rattle.dav_methods_core.specs.Rooms.{Forgets};
 ghost use Rattle.dav_methods_core.specs.Rooms.{IsMadeUnder, IsReadyToLock, IsUnmade, LacksRoom};
 ghost use Rattle.dav_methods_core.specs.Rooms.{LeavesLock, conflict_at, wanted_of};
 ghost use Rattle.dav_fields_core.specs.RequestRefusals.{IsLastMoment};
-ghost use Rattle.dav_session_core.specs.Sessions.{HasRoomForNotes, KeepsRoom, Ran, Requests};
+ghost use Rattle.dav_resource_core.specs.Requests.{Command as command};
+ghost use Rattle.dav_session_core.specs.Sessions.{HasRoomFor, KeepsRoom, Ran, Requests};
 ghost use Rattle.dav_session_core.specs.Sessions.{Looks, Stays, caller, live_of, state};
 ghost use Rattle.dav_faults_core.specs.declared.faults.Fault.TheVariants as fault;
 
@@ -217,9 +218,11 @@ fn granted<R: Rng>(
         wanted.shared wanted.deep) path.now e) }
     ensures refused { OnErr result (Looks R.stream session.old session.new) }
     ensures requests { Requests R.stream session.old session.new }
-    ensures room { OnOk result (HasRoomForNotes 1 session.new) }
+    ensures room { IfOk result (λ lock. HasRoomFor
+        (command.Unlock (segments path.now.bytes) lock.token) session.new) }
 {
-    session.make_room(2)?;
+    let bytes = session.lock_cost(path, &wanted.owner);
+    session.make_room(2, bytes)?;
     let place = copy_of(path)?;
     match session.grant(
         place,
@@ -300,7 +303,8 @@ fn tell(alloc: Global, response: &mut Response, document: Vec<u8>, token: &str) 
 // above has its token, as that one would end in its place.
 #[tactic(auto, using(crate::proofs::Acting::all_requests))]
 fn forget<R: Rng>(session: &mut Session<R>, path: DavPath, token: String, above: &[String])
-    requires room { HasRoomForNotes 1 session.old }
+    requires room { HasRoomFor (command.Unlock (segments path.bytes) (string_bytes token))
+        session.old }
     ensures left { Forgets (caller session.old) (segments path.bytes) (string_bytes token)
         (map string_bytes above.now) (state R.stream session.old) (state R.stream session.new) }
     ensures asks { Requests R.stream session.old session.new }

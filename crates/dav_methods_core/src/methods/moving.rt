@@ -98,7 +98,8 @@ fn relocate_all<R: Rng>(
     }
     check_conditions(alloc, session, DavMethod::Move, headers, &path)?;
     say_place(alloc, response, prefix, &target, &known)?;
-    session.clear(gone)?;
+    let beside = session.move_cost(&path, &target);
+    session.clear(gone, beside)?;
     session.relocate(path, target)?;
     Ok(done(&known))
 }

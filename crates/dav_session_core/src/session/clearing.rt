@@ -1,21 +1,23 @@
 //! How a folder at the target of a COPY or a MOVE goes, before anything is written there.
-ghost use Rattle.std.specs.Prelude.{◌≡◌, [], map, option_copied, option_map, string_bytes, IfErr};
+ghost use Rattle.std.specs.Prelude.{◌≡◌, ◌≤◌, ◌+◌, ℕ, true, [], map, option_copied, option_map, string_bytes, IfErr};
 ghost use Rattle.std.specs.Prelude.{IfOk, OnErr, OnOk};
 ghost use Rattle.std.specs.List.{find};
 ghost use Rattle.dav_path_core.specs.Segments.{segments};
 ghost use Rattle.dav_locks_core.specs.Locks.{is_held_by};
+ghost use Rattle.dav_notes_core.specs.Costs.{in_eight_bytes};
 ghost use Rattle.dav_session_core.specs.Clearing.{IsCleared};
 ghost use Rattle.dav_session_core.specs.Ends.{GoesFrom};
 ghost use Rattle.dav_session_core.specs.LocksInTheWay.{IsRefusedBy};
 ghost use Rattle.dav_session_core.specs.Private.Anew.{any_leads, leads_to, refuses_anew};
 ghost use Rattle.dav_session_core.specs.Private.Anew.{with_tokens};
 ghost use Rattle.dav_session_core.specs.Sessions.{Acts, IsAsBefore, caller, live_after, live_of};
-ghost use Rattle.dav_session_core.specs.Sessions.{Looks, state};
+ghost use Rattle.dav_session_core.specs.NoteCosts.{removal_cost};
+ghost use Rattle.dav_session_core.specs.Sessions.{Looks, bytes_left, noting, state};
 ghost use Rattle.dav_session_core.specs.Questions.{FailsToGather, against_anew, against_clearing};
 ghost use Rattle.dav_session_core.specs.Unhindered.{WhereClearable, paths_of};
 
-use super::Session;
 use super::questions::copy_of;
+use super::{NoRoom, Session};
 use dav_documents_core::lock_documents::is_principal;
 use dav_faults_core::faults::Fault;
 use dav_fields_core::state_tokens::is_among;
@@ -23,7 +25,7 @@ use dav_resource_core::davpath::DavPath;
 use dav_resource_core::fs::DavMetaData;
 use dav_resource_core::ls::DavLock;
 use rand_core::Rng;
-use std::alloc::{AllocError, Global};
+use std::alloc::Global;
 
 impl<R: Rng> Session<R> {
     /// The paths of a folder and of all that is in it, each folder before its members; none where
@@ -79,16 +81,22 @@ impl<R: Rng> Session<R> {
         }
     }
 
-    /// Takes away a folder with all that is in it, where there are places; they are its walk then
-    /// (RFC 4918 sections 9.8.4 and 9.9.3). `AllocError` where there is no room for the notes of
-    /// these requests; then nothing has changed.
-    pub fn clear(&mut self, places: Vec<DavPath>) -> Result<(), AllocError>
+    /// Takes away a folder with all that is in it, where there are places; they are its walk then. So
+    /// many bytes are left for the notes of what follows: where they aren't, nothing is done
+    /// (RFC 4918 sections 9.8.4 and 9.9.3). `NoRoom` where there is no room for the
+    /// notes of these requests; then nothing has changed.
+    pub fn clear(&mut self, places: Vec<DavPath>, beside: u64) -> Result<(), NoRoom>
         ensures cleared { OnOk result (WhereClearable (live_of R.stream self.old)
             (caller self.old) (paths_of places.items) (λ p. IsCleared (caller self.old).now p
             (live_of R.stream self.old) (live_after R.stream self.old self.new))) }
+        // So many bytes were left for all of it.
+        ensures left { OnOk result ((n : ℕ) → beside ≡ in_eight_bytes n
+            → (noting self.old).0 ≡ true
+            → removal_cost (caller self.old) (paths_of places.items) + n ≤ bytes_left self.old) }
         ensures refused { OnErr result (IsAsBefore R.stream self.old self.new) }
         ensures acts { Acts R.stream self.old self.new }
     {
+        self.check_left(&places, beside)?;
         if places.is_empty() {
             return Ok(());
         }

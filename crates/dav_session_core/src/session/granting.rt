@@ -6,13 +6,14 @@ ghost use Rattle.dav_locks_core.specs.Exclusive.{Exclusive};
 ghost use Rattle.dav_locks_core.specs.Lock.{Lock};
 ghost use Rattle.dav_locks_core.specs.Locks.{lock_path};
 ghost use Rattle.dav_resource_core.specs.Requests as reply_of;
+ghost use Rattle.dav_resource_core.specs.Requests.{Command as command};
 ghost use Rattle.dav_resource_core.specs.Requests.{Refusal as refusal};
 ghost use Rattle.dav_resource_core.specs.Step.{State};
 ghost use Rattle.dav_session_core.specs.Callers.{KeepsApart};
 ghost use Rattle.dav_session_core.specs.Granting.{IsConflictOf, granted_lock, stands_above};
 ghost use Rattle.dav_session_core.specs.Granting.{with_lock, with_token_drawn, PutsUnder};
 ghost use Rattle.dav_session_core.specs.StoreRefusals.{put_fault};
-ghost use Rattle.dav_session_core.specs.Sessions.{HasRoomForNotes, KeepsRoom, Looks, Ran, Requests};
+ghost use Rattle.dav_session_core.specs.Sessions.{HasRoomFor, KeepsRoom, Looks, Ran, Requests};
 ghost use Rattle.dav_session_core.specs.Sessions.{Stays, TakesRoom, caller, live_of, state};
 ghost use Rattle.dav_faults_core.specs.declared.faults.Fault.TheVariants as fault;
 ghost use Rattle.dav_session_core.specs.Questions.{against_lock};
@@ -50,7 +51,8 @@ impl<R: Rng> Session<R> {
         ensures requests { Requests R.stream self.old self.new }
         ensures apart { Exclusive (state R.stream self.old).locks → KeepsApart (caller self.old)
             (state R.stream self.old) (state R.stream self.new) }
-        ensures room { TakesRoom self.old self.new }
+        ensures room { TakesRoom (command.Lock path (option_map string_bytes owner) timeout shared
+            deep) self.old self.new }
     {
         match self.ask(Command::Lock {
             path,
@@ -69,7 +71,8 @@ impl<R: Rng> Session<R> {
     /// that the generator has given a token. The token may be that of no other lock at the path or
     /// above (RFC 4918 section 9.11). There is room for the note of it, so that it isn't refused.
     pub fn take_back(&mut self, path: DavPath, token: String)
-        requires room { HasRoomForNotes 1 self.old }
+        requires room { HasRoomFor (command.Unlock (segments path.bytes) (string_bytes token))
+            self.old }
         ensures taken { (s : State) (l : Lock) → live_of R.stream self.old ≡ with_lock s l
             → lock_path l ≡ segments path.bytes → l.token ≡ string_bytes token
             → stands_above s (segments path.bytes) (string_bytes token) ≡ false

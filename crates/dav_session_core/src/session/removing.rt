@@ -4,18 +4,19 @@ ghost use Rattle.dav_path_core.specs.Segments.{segments};
 ghost use Rattle.dav_files_core.specs.Resources.{IsResourceMap};
 ghost use Rattle.dav_session_core.specs.LocksInTheWay.{IsRefusedBy};
 ghost use Rattle.dav_session_core.specs.Removing.{IsRemoved};
+ghost use Rattle.dav_session_core.specs.NoteCosts.{removal_cost};
 ghost use Rattle.dav_session_core.specs.Sessions.{Acts, HasRoomForNotes, IsAsBefore, caller, live_of};
 ghost use Rattle.dav_session_core.specs.Sessions.{Looks, state};
 ghost use Rattle.dav_session_core.specs.Questions.{against_removal};
 ghost use Rattle.dav_session_core.specs.Unhindered.{WhereRemovable, paths_of};
 
-use super::Session;
 use super::questions::copy_of;
+use super::rooms::cost_of_removals;
+use super::{NoRoom, Session};
 use dav_faults_core::faults::Fault;
 use dav_resource_core::davpath::DavPath;
 use dav_resource_core::guarded::Command;
 use rand_core::Rng;
-use std::alloc::AllocError;
 
 impl<R: Rng> Session<R> {
     /// Whether the locks let the caller take away what stands at each of the places (RFC 4918
@@ -48,23 +49,25 @@ impl<R: Rng> Session<R> {
 
     /// Takes away all that stands at or below a path, members before their folders (RFC 4918
     /// section 9.6.1). Where the places are all of it, and no lock refuses to take one away, none
-    /// of these requests is refused. `AllocError` where there is no room for the notes of all of
-    /// them; then nothing has changed.
-    pub fn remove_all(&mut self, places: Vec<DavPath>) -> Result<(), AllocError>
+    /// of these requests is refused. `NoRoom` where there is no room for the notes of
+    /// all of them; then nothing has changed.
+    pub fn remove_all(&mut self, places: Vec<DavPath>) -> Result<(), NoRoom>
         ensures removed { OnOk result (WhereRemovable (live_of R.stream self.old)
             (caller self.old) (paths_of places.items) (λ p. IsRemoved (caller self.old).now p
             (live_of R.stream self.old) (state R.stream self.new))) }
         ensures refused { OnErr result (IsAsBefore R.stream self.old self.new) }
         ensures acts { Acts R.stream self.old self.new }
     {
-        self.make_room(places.len())?;
+        let bytes = cost_of_removals(self.stores.who(), &places);
+        self.make_room(places.len(), bytes)?;
         self.remove_each(places);
         Ok(())
     }
 
     // The same, where there is room for their notes.
     fn remove_each(&mut self, places: Vec<DavPath>)
-        requires room { HasRoomForNotes (length places.items) self.old }
+        requires room { HasRoomForNotes (length places.items)
+            (removal_cost (caller self.old) (paths_of places.items)) self.old }
         ensures removed { WhereRemovable (live_of R.stream self.old) (caller self.old)
             (paths_of places.items) (λ p. IsRemoved (caller self.old).now p
             (live_of R.stream self.old) (state R.stream self.new)) }

@@ -11,16 +11,16 @@ ghost use Rattle.dav_session_core.specs.Unlocking.{EndsOwn, IsAnothers, KeepsLoc
 ghost use Rattle.dav_session_core.specs.Private.Owning.{AllOwn, is_anothers};
 ghost use Rattle.dav_faults_core.specs.declared.faults.Fault.TheVariants as fault;
 
-use super::Session;
 use super::lookups::has_token;
 use super::questions::copy_of;
+use super::{NoRoom, Session};
 use dav_documents_core::lock_documents::is_principal;
 use dav_faults_core::faults::Fault;
+use dav_notes_core::costs::cost_of_unlock;
 use dav_resource_core::davpath::DavPath;
 use dav_resource_core::guarded::Command;
 use dav_resource_core::ls::DavLock;
 use rand_core::Rng;
-use std::alloc::AllocError;
 
 impl<R: Rng> Session<R> {
     /// Whether the caller may end the lock with a token that covers the path (RFC 4918 section
@@ -45,8 +45,8 @@ impl<R: Rng> Session<R> {
     }
 
     /// Ends the caller's own lock with a token that covers the path (RFC 4918 section 9.11).
-    /// `AllocError` where there is no room for the note of it; then nothing has changed.
-    pub fn unlock(&mut self, path: DavPath, token: String) -> Result<(), AllocError>
+    /// `NoRoom` where there is no room for the note of it; then nothing has changed.
+    pub fn unlock(&mut self, path: DavPath, token: String) -> Result<(), NoRoom>
         requires covered { has_token (live_of R.stream self.old) (segments path.bytes)
             (string_bytes token) ≡ true }
         requires own { ¬ IsAnothers (live_of R.stream self.old) (caller self.old)
@@ -56,7 +56,8 @@ impl<R: Rng> Session<R> {
         ensures refused { OnErr result (IsAsBefore R.stream self.old self.new) }
         ensures requests { Requests R.stream self.old self.new }
     {
-        self.make_room(1)?;
+        let bytes = cost_of_unlock(self.stores.who(), &path, token.len());
+        self.make_room(1, bytes)?;
         drop(self.ask(Command::Unlock { path, token }));
         Ok(())
     }

@@ -1,6 +1,6 @@
 use Rattle.std.proofs.Common.{List, [], ◌∷◌, ℕ, map, string_bytes, ap, ◌∙◌}
 use Rattle.std.proofs.lemmas.List.{map-append}
-use Rattle.dav_notes_core.specs.Asking.{Caller, sender_of}
+use Rattle.dav_notes_core.specs.Asking.{sender_of}
 use Rattle.dav_notes_core.proofs.senders.add_token.Goals as goal
 
 pub returns-clause-ok : goal.returns-clause-ok

@@ -46,8 +46,8 @@ returns-in_err-copy_all-clause-err g c =
     let after = spec.state g.R.Rng.stream c.copy_all.new.self in
     let known = option_map meta_of c.in_ok-target.field-0.known in
     let gone = map (λ q. segments q.bytes) c.in_ok-target.field-0.gone.items in
-    let pairs = map ends c.deref.result.now in
-    let plan = subst (λ ts. IsPlanned c.args.site.now c.args.prefix.now c.args.headers.now (live who.now start) who from known gone (map ends ts)) (sym c.deref.ensures.value)
+    let pairs = map ends c.deref-2.result.now in
+    let plan = subst (λ ts. IsPlanned c.args.site.now c.args.prefix.now c.args.headers.now (live who.now start) who from known gone (map ends ts)) (sym c.deref-2.ensures.value)
     c.in_ok-target.ensures.ok in
     let by = c.clear.ensures.acts.who ∙ c.admitted_plan.ensures.looks.who in
     let short = copy_short c.args.site.now c.args.prefix.now c.args.headers.now who start from known gone pairs plan asker b m c.admitted_plan.ensures.looks.who c.admitted_plan.ensures.looks.live c.clear.ensures.acts.run c.in_ok-clear.ensures.cleared copier after by c.in_err-copy_all.field-0.0 c.in_err-copy_all.ensures.err in
@@ -66,8 +66,8 @@ returns-in_err-copy_all-clause-left g c =
     let after = spec.state g.R.Rng.stream c.copy_all.new.self in
     let known = option_map meta_of c.in_ok-target.field-0.known in
     let gone = map (λ q. segments q.bytes) c.in_ok-target.field-0.gone.items in
-    let pairs = map ends c.deref.result.now in
-    let plan = subst (λ ts. IsPlanned c.args.site.now c.args.prefix.now c.args.headers.now (live who.now start) who from known gone (map ends ts)) (sym c.deref.ensures.value)
+    let pairs = map ends c.deref-2.result.now in
+    let plan = subst (λ ts. IsPlanned c.args.site.now c.args.prefix.now c.args.headers.now (live who.now start) who from known gone (map ends ts)) (sym c.deref-2.ensures.value)
     c.in_ok-target.ensures.ok in
     let by = c.clear.ensures.acts.who ∙ c.admitted_plan.ensures.looks.who in
     let short = copy_short c.args.site.now c.args.prefix.now c.args.headers.now who start from known gone pairs plan asker b m c.admitted_plan.ensures.looks.who c.admitted_plan.ensures.looks.live c.clear.ensures.acts.run c.in_ok-clear.ensures.cleared copier after by c.in_err-copy_all.field-0.0 c.in_err-copy_all.ensures.err in
@@ -122,8 +122,8 @@ returns-clause-done g c =
     let after = spec.state g.R.Rng.stream c.copy_all.new.self in
     let known = option_map meta_of c.in_ok-target.field-0.known in
     let gone = map (λ q. segments q.bytes) c.in_ok-target.field-0.gone.items in
-    let pairs = map ends c.deref.result.now in
-    let plan = subst (λ ts. IsPlanned c.args.site.now c.args.prefix.now c.args.headers.now (live who.now start) who from known gone (map ends ts)) (sym c.deref.ensures.value)
+    let pairs = map ends c.deref-2.result.now in
+    let plan = subst (λ ts. IsPlanned c.args.site.now c.args.prefix.now c.args.headers.now (live who.now start) who from known gone (map ends ts)) (sym c.deref-2.ensures.value)
     c.in_ok-target.ensures.ok in
     let by = c.clear.ensures.acts.who ∙ c.admitted_plan.ensures.looks.who in
     let there = known_there meta_of (λ (r : Resource). meta_at r.node) c.in_ok-target.field-0.known (at_path start.map (segments plan.to.bytes)) plan.known_is in

@@ -46,7 +46,7 @@ returns-clause-ran g c =
     ran_on (acts_ran (looks_act c.locks_at.ensures.looks)) c.make_under.ensures.ran
 
 pub returns-in_err-make_under-clause-room : goal.returns-in_err-make_under-clause-room
-returns-in_err-make_under-clause-room g c = λ count room. c.make_under.ensures.room count (c.locks_at.ensures.room count room)
+returns-in_err-make_under-clause-room g c = λ count bytes room. c.make_under.ensures.room count bytes (c.locks_at.ensures.room count bytes room)
 
 pub returns-clause-room : goal.returns-clause-room
-returns-clause-room g c = λ count room. c.make_under.ensures.room count (c.locks_at.ensures.room count room)
+returns-clause-room g c = λ count bytes room. c.make_under.ensures.room count bytes (c.locks_at.ensures.room count bytes room)

@@ -8,7 +8,9 @@ use Rattle.dav_fields_core.specs.Fields.{in_brackets}
 use Rattle.dav_methods_core.specs.Rooms.{wanted_of}
 use Rattle.dav_session_core.specs.Sessions as spec
 use Rattle.dav_methods_core.proofs.LockLemmas.{granted_now, no_conflict_told, short_of, untold_left}
+use Rattle.dav_methods_core.proofs.LockRoomLemmas.{room_kept}
 use Rattle.dav_methods_core.proofs.LockTokenLemmas.{is_held}
+use Rattle.dav_resource_core.specs.Requests.{Command}
 use Rattle.dav_methods_core.proofs.Acting.{asked_ran, ran_on}
 use Rattle.dav_methods_core.proofs.methods.lock.grant.Goals as goal
 
@@ -61,4 +63,9 @@ returns-in-Err-clause-ran g c =
     ran_on (asked_ran c.granted.ensures.requests) (ran_on c.finish.ensures.ran (asked_ran c.forget.ensures.asks))
 
 pub forget-requires : goal.forget-requires
-forget-requires g c = record { room = c.finish.ensures.room 1 c.in_ok-lock.ensures.room }
+forget-requires g c =
+    let command = Command.Unlock (segments c.args.path.bytes) c.in_ok-lock.lock.token in
+    let there = room_kept c.granted.new.session c.finish.new.session c.finish.ensures.room c.finish.ensures.ran.who command c.in_ok-lock.ensures.room in
+    record {
+      room = subst (λ token. spec.HasRoomFor (Command.Unlock (segments c.args.path.bytes) token) c.finish.new.session) (sym (ap (λ (l : Lock). l.token) c.lock.view_is)) there;
+    }

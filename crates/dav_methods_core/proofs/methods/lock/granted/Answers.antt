@@ -1,4 +1,6 @@
-use Rattle.std.proofs.Common.{◌≡◌, ◌∙◌, [], sym, subst}
+use Rattle.std.proofs.Common.{◌≡◌, ◌∙◌, ◌+◌, ℕ, [], length, option_map, string_bytes, sym, ap, subst}
+use Rattle.dav_notes_core.specs.Costs.{in_eight_bytes, cost_for}
+use Rattle.dav_resource_core.specs.Requests.{Command}
 use Rattle.std.proofs.lemmas.Result.{err_from_is_err_and}
 use Rattle.dav_path_core.specs.PathText.{PathText}
 use Rattle.dav_path_core.specs.Segments.{segments}
@@ -10,6 +12,7 @@ use Rattle.dav_session_core.specs.Sessions as spec
 use Rattle.dav_session_core.proofs.Looking.{from_before, looks_before, looks_on, requests_of, requests_on}
 use Rattle.dav_methods_core.specs.Rooms.{IsConflictAt, wanted_of}
 use Rattle.dav_methods_core.proofs.LockLemmas.{conflict_placed}
+use Rattle.dav_methods_core.proofs.LockRoomLemmas.{granted_token_len}
 use Rattle.dav_methods_core.proofs.methods.lock.granted.Goals as goal
 
 pub returns-in_err-make_room-clause-refused : goal.returns-in_err-make_room-clause-refused
@@ -59,7 +62,20 @@ pub returns-in-Ok-clause-requests : goal.returns-in-Ok-clause-requests
 returns-in-Ok-clause-requests g c = requests_on (looks_before c.make_room.ensures.same) c.grant.ensures.requests
 
 pub returns-in-Ok-clause-room : goal.returns-in-Ok-clause-room
-returns-in-Ok-clause-room g c = c.grant.ensures.room 1 c.in_ok-make_room.ensures.ok
+returns-in-Ok-clause-room g c =
+    let who = spec.caller c.args.session.now in
+    let mid = spec.caller c.make_room.new.self in
+    let path = c.args.path.now in
+    let owner = option_map string_bytes c.args.wanted.owner in
+    let token = c.in-Ok.lock.token in
+    let back : Caller → ℕ = λ w. cost_for w (Command.Unlock (segments path.bytes) token) in
+    let Both : PathText → Caller → ℕ = λ p w. cost_for w (Command.Unlock (segments path.bytes) token) + cost_for w (Command.Lock p owner c.args.wanted.timeout c.args.wanted.shared c.args.wanted.deep) in
+    let long : length token ≡ 45 = granted_token_len (live who.now (spec.state g.R.Rng.stream c.args.session.now)) who path owner c.args.wanted.timeout c.args.wanted.shared c.args.wanted.deep
+    c.in-Ok.lock (returns-in-Ok-clause-ok g c) in
+    let bytes = c.lock_cost-bytes.ensures c.args.wanted.timeout c.args.wanted.shared c.args.wanted.deep token long in
+    let room = c.in_ok-make_room.ensures.ok (Both c.in_ok-place.place mid)
+    (bytes ∙ ap (λ (p : PathText). in_eight_bytes (Both p who)) (sym c.in_ok-place.ensures) ∙ ap (λ (w : Caller). in_eight_bytes (Both c.in_ok-place.place w)) (sym c.make_room.ensures.same.who)) in
+    subst (λ (w : Caller). spec.HasRoomForNotes 1 (back w) c.grant.new.self) (sym c.grant.ensures.requests.who) (c.grant.ensures.room 1 (back mid) room)
 
 pub returns-in_ok-by_place-in-Err-clause-err : goal.returns-in_ok-by_place-in-Err-clause-err
 returns-in_ok-by_place-in-Err-clause-err g c =

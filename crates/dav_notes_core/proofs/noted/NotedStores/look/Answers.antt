@@ -12,12 +12,14 @@ use Rattle.dav_notes_core.proofs.noted.NotedStores.look.Goals as goal
 pub invariant_of-self : goal.invariant_of-self
 invariant_of-self c =
     let it = c.self.inside in
-    let command = command_of c.args.command in
-    holds_alone it.keeps it.base.items it.notes.items (vec_len it.notes) (vec_capacity it.notes) it.who c.give_back.new.who it.spares.items it.stores c.apply-answer.new.self command it.next
-    (answer_of c.apply-answer.result) c.self.invariant (look_alone it.keeps (is_look command) c.requires)
-    (answered_alone (sender_of it.who) command (request_of c.lent-request.result) (answer_of c.apply-answer.result) it.stores c.apply-answer.new.self it.next _ c.lent-request.ensures
-    c.apply-answer.ensures.step)
-    (c.give_back.ensures ∙ ap asker_of c.lent-request.ensures)
+    let command = command_of c.args.command in (
+      holds_alone it.keeps it.base.items it.notes.items (vec_len it.notes) (vec_capacity it.notes) it.who c.give_back.new.who it.spares.items it.stores c.apply-answer.new.self command it.next
+          (answer_of c.apply-answer.result) c.self.invariant.0 (look_alone it.keeps (is_look command) c.requires)
+          (answered_alone (sender_of it.who) command (request_of c.lent-request.result) (answer_of c.apply-answer.result) it.stores c.apply-answer.new.self it.next _ c.lent-request.ensures
+          c.apply-answer.ensures.step)
+          (c.give_back.ensures ∙ ap asker_of c.lent-request.ensures),
+      c.self.invariant.1,
+    )
 
 pub returns-clause-step : goal.returns-clause-step
 returns-clause-step c =

@@ -13,7 +13,7 @@ returns-in_err-ask_naming-clause-asked g c =
     rw (q.1, q.2) (inr (refl, state_as g.R.Rng.stream c.args.self.now (record { stores = c.ask_naming.new.self; rng = c.ask_naming.new.rng }) c.args.self.now.stores c.in_err-ask_naming.ensures.untried c.in_err-ask_naming.ensures.undrawn))
 
 pub returns-in_err-ask_naming-clause-room : goal.returns-in_err-ask_naming-clause-room
-returns-in_err-ask_naming-clause-room g c = room_kept g.R.Rng.stream c.args.self.now (record { stores = c.ask_naming.new.self; rng = c.ask_naming.new.rng }) c.ask_naming.ensures.keeps c.ask_naming.ensures.room
+returns-in_err-ask_naming-clause-room g c = room_kept g.R.Rng.stream c.args.self.now (record { stores = c.ask_naming.new.self; rng = c.ask_naming.new.rng }) c.ask_naming.ensures.keeps c.ask_naming.ensures.room c.ask_naming.ensures.held
 
 pub returns-in_err-ask_naming-clause-noting : goal.returns-in_err-ask_naming-clause-noting
 returns-in_err-ask_naming-clause-noting g c = same_noting g.R.Rng.stream c.args.self.now (record { stores = c.ask_naming.new.self; rng = c.ask_naming.new.rng }) c.ask_naming.ensures.keeps c.ask_naming.ensures.base
@@ -26,7 +26,7 @@ returns-clause-asked g c =
     c.in_ok-ask_naming.ensures.drawn)
 
 pub returns-clause-room : goal.returns-clause-room
-returns-clause-room g c = room_kept g.R.Rng.stream c.args.self.now (record { stores = c.ask_naming.new.self; rng = c.ask_naming.new.rng }) c.ask_naming.ensures.keeps c.ask_naming.ensures.room
+returns-clause-room g c = room_kept g.R.Rng.stream c.args.self.now (record { stores = c.ask_naming.new.self; rng = c.ask_naming.new.rng }) c.ask_naming.ensures.keeps c.ask_naming.ensures.room c.ask_naming.ensures.held
 
 pub returns-clause-noting : goal.returns-clause-noting
 returns-clause-noting g c = same_noting g.R.Rng.stream c.args.self.now (record { stores = c.ask_naming.new.self; rng = c.ask_naming.new.rng }) c.ask_naming.ensures.keeps c.ask_naming.ensures.base

@@ -42,7 +42,7 @@ pub returns-clause-noting : goal.returns-clause-noting
 returns-clause-noting g c = same_noting g.R.Rng.stream c.args.self.now (record { stores = c.ask.new.self; rng = c.ask.new.rng }) c.ask.ensures.keeps c.ask.ensures.base
 
 pub returns-clause-spared : goal.returns-clause-spared
-returns-clause-spared g c = λ look. room_kept g.R.Rng.stream c.args.self.now (record { stores = c.ask.new.self; rng = c.ask.new.rng }) c.ask.ensures.keeps (c.ask.ensures.spared look)
+returns-clause-spared g c = λ look. room_kept g.R.Rng.stream c.args.self.now (record { stores = c.ask.new.self; rng = c.ask.new.rng }) c.ask.ensures.keeps (c.ask.ensures.spared look).0 (c.ask.ensures.spared look).1
 
 pub returns-clause-shape : goal.returns-clause-shape
 returns-clause-shape g c = λ h. c.in_ok-ask.ensures.shape

@@ -21,4 +21,4 @@ returns-clause-looks g c =
 pub returns-clause-room : goal.returns-clause-room
 returns-clause-room g c =
     room_kept g.R.Rng.stream c.args.self.now (record { stores = c.look.new.self; rng = c.args.self.now.rng }) (ap (λ (s : Seen). s.keeps) c.look.ensures.same)
-    (ap (λ (s : Seen). s.room) c.look.ensures.same)
+    (ap (λ (s : Seen). s.room) c.look.ensures.same) (ap (λ (s : Seen). s.held) c.look.ensures.same)

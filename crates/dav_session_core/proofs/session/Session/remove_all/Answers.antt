@@ -1,6 +1,10 @@
-use Rattle.std.proofs.Common.{◌∙◌, subst}
+use Rattle.std.proofs.Common.{◌∙◌, List, sym, ap, subst}
+use Rattle.dav_path_core.specs.PathText.{PathText}
+use Rattle.dav_notes_core.specs.Asking.{sender_of}
 use Rattle.std.proofs.lemmas.Result.{err_from_is_err_and}
-use Rattle.dav_session_core.specs.Callers.{live}
+use Rattle.dav_notes_core.specs.Costs.{in_eight_bytes}
+use Rattle.dav_session_core.specs.Callers.{Caller, live}
+use Rattle.dav_session_core.specs.NoteCosts.{removal_cost}
 use Rattle.dav_session_core.specs.Removing.{IsRemoved}
 use Rattle.dav_session_core.specs.Sessions as spec
 use Rattle.dav_session_core.specs.Unhindered.{WhereRemovable, paths_of}
@@ -25,5 +29,7 @@ returns-in_err-make_room-clause-refused g c =
 
 pub remove_each-requires : goal.remove_each-requires
 remove_each-requires g c = record {
-  room = subst (λ n. spec.HasRoomForNotes n c.make_room.new.self) (c.len.ensures ∙ c.args.places.ok.0) c.in_ok-make_room.ensures.ok;
+  room = subst (λ n. spec.HasRoomForNotes n (removal_cost (spec.caller c.make_room.new.self) (paths_of c.args.places.items)) c.make_room.new.self) (c.len.ensures ∙ c.args.places.ok.0)
+      (c.in_ok-make_room.ensures.ok (removal_cost (spec.caller c.make_room.new.self) (paths_of c.args.places.items))
+      (c.cost_of_removals-bytes.ensures ∙ ap (λ (xs : List PathText). in_eight_bytes (removal_cost (sender_of c.who.result.now) (paths_of xs))) c.deref.ensures.value ∙ ap (λ (w : Caller). in_eight_bytes (removal_cost w (paths_of c.args.places.items))) (c.who.ensures ∙ sym c.make_room.ensures.same.who)));
 }

@@ -4,6 +4,7 @@ use Rattle.dav_path_core.specs.Fronts.{Path}
 use Rattle.dav_path_core.specs.Segments.{segments}
 use Rattle.dav_files_core.specs.Resources.{at_path}
 use Rattle.dav_session_core.specs.Callers.{live}
+use Rattle.dav_session_core.specs.NoteCosts.{removal_cost}
 use Rattle.dav_session_core.specs.Removing.{refusing_removal}
 use Rattle.dav_session_core.specs.Sessions as spec
 use Rattle.dav_session_core.specs.Subtrees.{IsSubtreeWalk}
@@ -17,7 +18,7 @@ invariant-loop-path g l =
     let all = map (λ q. segments q.bytes) l.fn.places.items in
     record {
       acts : spec.Acts g.R.Rng.stream l.fn.self l.self;
-      room : spec.HasRoomForNotes (length l.places.items) l.self;
+      room : spec.HasRoomForNotes (length l.places.items) (removal_cost who (map (λ q. segments q.bytes) l.places.items)) l.self;
       removing : (p : Path) → p ≢ [] → IsSome (at_path start.map p) → IsSubtreeWalk start.map p all → refusing_removal (live who.now start) who all ≡ []
           → Removing who p (live who.now start) (map (λ q. segments q.bytes) l.places.items) (spec.state g.R.Rng.stream l.self);
     }

@@ -1,0 +1,126 @@
+//! Why there is no room for the notes of requests, and what those of a lock cost.
+ghost use Rattle.std.specs.Prelude.{◌≡◌, ◌+◌, ◌≤◌, ◌<◌, ℕ, Bool, List, Option, length, option_map};
+ghost use Rattle.std.specs.Prelude.{string_bytes, true, OnErr, OnOk};
+ghost use Rattle.dav_notes_core.specs.Asking.{sender_of};
+ghost use Rattle.dav_notes_core.specs.Costs.{in_eight_bytes, cost_for};
+ghost use Rattle.dav_path_core.specs.Segments.{segments};
+ghost use Rattle.dav_resource_core.specs.Requests.{Command as command};
+ghost use Rattle.dav_session_core.specs.NoteCosts.{copies_cost, removal_cost};
+ghost use Rattle.dav_session_core.specs.Sessions.{bytes_left, caller, noting};
+ghost use Rattle.dav_session_core.specs.Unhindered.{ends_of, paths_of};
+
+use super::Session;
+use super::copying::Transfer;
+use dav_faults_core::faults::Fault;
+use dav_notes_core::costs::{cost_of_lock, cost_of_removal, cost_of_transfer, cost_of_unlock};
+use dav_notes_core::error::NoteError;
+use dav_notes_core::senders::Sender;
+use dav_resource_core::davpath::DavPath;
+use rand_core::Rng;
+
+/// There is no memory for the notes of requests, or they cost more bytes than are left (own).
+#[derive(Debug, Drop)]
+pub struct NoRoom;
+
+impl From<NoteError> for NoRoom {
+    ghost from_gives = { λ _ _. Unit {0} };
+
+    fn from(_: NoteError) -> Self {
+        NoRoom
+    }
+}
+
+impl From<NoRoom> for Fault {
+    ghost use Rattle.std.specs.Prelude.{◌≡◌};
+    ghost use Rattle.dav_faults_core.specs.declared.faults.Fault.TheVariants.{InsufficientStorage};
+
+    ghost from_gives = { λ _ fault. fault ≡ InsufficientStorage };
+
+    /// Either way there is no storage for what is asked (RFC 4918 section 11.5).
+    fn from(_: NoRoom) -> Self {
+        Fault::InsufficientStorage
+    }
+}
+
+// The bytes of a lock's token, which is a URN (RFC 4918 section 6.5).
+const TOKEN: usize = 45;
+
+impl<R: Rng> Session<R> {
+    /// Whether so many bytes are left beside those that the notes of taking places away cost (own).
+    /// `NoRoom` where they aren't.
+    pub fn check_left(&self, places: &[DavPath], beside: u64) -> Result<(), NoRoom>
+        ensures ok { OnOk result ((n : ℕ) → beside ≡ in_eight_bytes n
+            → (noting self.now).0 ≡ true
+            → removal_cost (caller self.now) (paths_of places.now) + n ≤ bytes_left self.now) }
+        ensures err { OnErr result ((n : ℕ) → beside ≡ in_eight_bytes n
+            → bytes_left self.now < removal_cost (caller self.now) (paths_of places.now) + n) }
+    {
+        let bytes = sum_of(cost_of_removals(self.stores.who(), places), beside);
+        if !self.stores.has_left(bytes) {
+            return Err(NoRoom);
+        }
+        Ok(())
+    }
+
+    /// How many bytes the notes of copying resources cost (own); `u64::MAX` where it is more.
+    pub fn copy_cost(&self, transfers: &[Transfer]) -> u64
+        ensures { result
+            ≡ in_eight_bytes (copies_cost (caller self.now) (ends_of transfers.now)) }
+    {
+        cost_of_copies(self.stores.who(), transfers)
+    }
+
+    /// How many bytes the note of moving a resource costs (own); `u64::MAX` where it is more.
+    pub fn move_cost(&self, from: &DavPath, to: &DavPath) -> u64
+        ensures { result ≡ in_eight_bytes (cost_for (caller self.now)
+            (command.Move (segments from.now.bytes) (segments to.now.bytes))) }
+    {
+        cost_of_transfer(self.stores.who(), from, to)
+    }
+
+    /// How many bytes the notes of granting the caller a lock and of taking it back cost (own);
+    /// `u64::MAX` where it is more.
+    pub fn lock_cost(&self, path: &DavPath, owner: &Option<String>) -> u64
+        ensures { (timeout : Option ℕ) (shared deep : Bool) (token : List ℕ) → length token ≡ 45
+            → result ≡ in_eight_bytes
+            (cost_for (caller self.now) (command.Unlock (segments path.now.bytes) token)
+            + cost_for (caller self.now) (command.Lock path.now
+            (option_map string_bytes owner.now) timeout shared deep)) }
+    {
+        let who = self.stores.who();
+        let back = cost_of_unlock(who, path, TOKEN);
+        sum_of(back, cost_of_lock(who, path, owner))
+    }
+}
+
+/// How many bytes the notes of taking places away cost, each a request of the sender's.
+pub(super) fn cost_of_removals(who: &Sender, places: &[DavPath]) -> u64
+    ensures { result
+        ≡ in_eight_bytes (removal_cost (sender_of who.entry.now) (paths_of places.now)) }
+{
+    let mut sum = 0u64;
+    'adding: for place in places {
+        sum = sum.saturating_add(cost_of_removal(who, place));
+    }
+    sum
+}
+
+// How many bytes the notes of the copies cost, each a request of the sender's.
+fn cost_of_copies(who: &Sender, transfers: &[Transfer]) -> u64
+    ensures { result
+        ≡ in_eight_bytes (copies_cost (sender_of who.entry.now) (ends_of transfers.now)) }
+{
+    let mut sum = 0u64;
+    'adding: for transfer in transfers {
+        sum = sum.saturating_add(cost_of_transfer(who, &transfer.from, &transfer.to));
+    }
+    sum
+}
+
+// What both cost together.
+fn sum_of(one: u64, other: u64) -> u64
+    ensures { (n m : ℕ) → one ≡ in_eight_bytes n → other ≡ in_eight_bytes m
+        → result ≡ in_eight_bytes (n + m) }
+{
+    one.saturating_add(other)
+}

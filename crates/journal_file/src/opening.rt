@@ -19,7 +19,7 @@ const MODE: u32 = 0o600;
 ///
 /// - `Foreign`: what stands there is no regular file, or is neither new nor begins as a journal. `Unsupported`: it is a journal of a later version, or has flags that are not known.
 ///   `Damaged`: it begins as a journal, and has no whole header. In these three cases nothing was changed or made, neither there nor beside it.
-/// - `Busy`: another process has the file open, or this one has.
+/// - `Busy`: another process has the file open, or this one has; or another process has put another file in its place meanwhile.
 /// - `Failed`: a call of the system failed. So it is also where the file has a second name, or a rollback journal of SQLite beside it, and where something that is not a regular file has the
 ///   name of the log that the kit makes, which is PATH-wal. `Full`: the disk has no room for the header.
 /// - `OutOfMemory`: there is no memory.
@@ -45,25 +45,37 @@ pub fn open<S: Start, B>(
     let _removed = remove_log(rt, path);
     let mut journal = Journal::new(Clocked::new(db));
     let reader = journal.start(rt.alloc(), note, header)?;
-    Ok((journal, reader))
+    let own = match &reader {
+        Some(reader) => reader.header(),
+        None => header,
+    };
+    match look(rt, path)? {
+        Some(found) if found == own => Ok((journal, reader)),
+        _ => Err(JournalError::Busy),
+    }
 }
 
 // Finds a file that is new or begins as a journal, or makes one that has no byte.
 fn find(rt: &HostRuntime, path: &str) -> Result<(), JournalError> {
     match fs::metadata(rt, path) {
         Ok(found) if !found.is_file() => Err(JournalError::Foreign),
-        Ok(_) => look(rt, path),
+        Ok(_) => {
+            look(rt, path)?;
+            Ok(())
+        }
         Err(error) if error.kind() == ErrorKind::NotFound => make(rt, path).map_err(failed),
         Err(error) => Err(failed(error)),
     }
 }
 
-// Reads the header of a file, without a lock and by no disk.
-fn look(rt: &HostRuntime, path: &str) -> Result<(), JournalError> {
+// Reads the header of the file that has this name, without a lock and by no disk; none where it is new.
+fn look(rt: &HostRuntime, path: &str) -> Result<Option<Header>, JournalError> {
     let file = fs::open(rt, path).map_err(failed)?;
     let mut source = Stream::new(file);
-    let _begun = Reader::begin(rt.alloc(), &mut source, &())?;
-    Ok(())
+    match Reader::begin(rt.alloc(), &mut source, &())? {
+        Some(reader) => Ok(Some(reader.header())),
+        None => Ok(None),
+    }
 }
 
 // Makes a file that has no byte. Where something has this name by now, that fails.

@@ -8,6 +8,7 @@
 //                  place of its own, "u INODE RESULT" a name that is removed, each with what had the name before
 //   PART=BYTES     the write that fails has written so many of its bytes
 //   PIECE=BYTES    each write moves at most so many bytes
+//   LATE=MICROS    the first lock is asked for so much later
 #define _GNU_SOURCE
 #include <errno.h>
 #include <fcntl.h>
@@ -20,12 +21,12 @@
 #include <unistd.h>
 
 static int trace = -1, wrong, also;
-static unsigned long first, part, piece, count;
+static unsigned long first, part, piece, count, late;
 
 static void start(void) __attribute__((constructor));
 
 static void start(void) {
-    const char *path = getenv("TRACE"), *fails = getenv("FAIL"), *front = getenv("PART"), *size = getenv("PIECE");
+    const char *path = getenv("TRACE"), *fails = getenv("FAIL"), *front = getenv("PART"), *size = getenv("PIECE"), *waits = getenv("LATE");
     if (path)
         trace = syscall(SYS_openat, AT_FDCWD, path, O_WRONLY | O_CREAT | O_APPEND | O_CLOEXEC, 0600);
     if ((path && trace < 0) || (fails && sscanf(fails, "%lu:%d", &first, &wrong) != 2))
@@ -33,6 +34,7 @@ static void start(void) {
     also = getenv("ALSO") != NULL;
     part = front ? strtoul(front, NULL, 10) : 0;
     piece = size ? strtoul(size, NULL, 10) : 0;
+    late = waits ? strtoul(waits, NULL, 10) : 0;
 }
 
 static void put(const char *bytes, size_t size) {
@@ -143,6 +145,17 @@ ssize_t pread(int file, void *bytes, size_t size, off_t at) {
 
 ssize_t pread64(int file, void *bytes, size_t size, off_t at) {
     return pread(file, bytes, size, at);
+}
+
+int fcntl(int file, int command, ...) {
+    va_list more;
+    va_start(more, command);
+    long given = va_arg(more, long);
+    va_end(more);
+    if (late && command == F_OFD_SETLK)
+        usleep(late);
+    late = command == F_OFD_SETLK ? 0 : late;
+    return syscall(SYS_fcntl, file, command, given);
 }
 
 static unsigned long named(const char *path) {

@@ -2,7 +2,7 @@
 //! are a run of one caller's requests.
 #![tactic(auto, using(crate::proofs::Looking::looks_follow))]
 
-ghost use Rattle.std.specs.Prelude.{◌≡◌, ◌≤◌, ◌⊎◌, ℕ, true, false, None, [], ◌∷◌, IsOk, OnErr, OnOk};
+ghost use Rattle.std.specs.Prelude.{◌≡◌, ◌≤◌, ◌<◌, ◌⊎◌, ℕ, IfErr, true, false, None, [], ◌∷◌, IsOk, OnErr, OnOk};
 ghost use Rattle.std.specs.Prelude.{option_map, string_bytes, map};
 ghost use Rattle.rand_core.specs.Stream.{fill_bytes};
 ghost use Rattle.dav_locks_core.specs.Exclusive.{Exclusive};
@@ -17,7 +17,8 @@ ghost use Rattle.dav_notes_core.specs.Seen.{KeptNotes};
 ghost use Rattle.dav_session_core.specs.Callers.{Asked, AskedNaming, Caller, RunBy, KeepsApart};
 ghost use Rattle.dav_session_core.specs.Callers.{asking, changes_locks, is_look};
 ghost use Rattle.dav_session_core.specs.Sessions.{Acts, HasRoomFor, HasRoomForNotes, IsAsBefore};
-ghost use Rattle.dav_session_core.specs.Sessions.{Looks, caller};
+ghost use Rattle.dav_session_core.specs.Sessions.{Looks, bytes_left, caller};
+ghost use Rattle.dav_session_core.specs.declared.session.rooms.RoomError.TheVariants as room_error;
 ghost use Rattle.dav_session_core.specs.Sessions.{KeepsRoom, Requests, TakesRoom, noting, state};
 ghost use Rattle.dav_session_core.specs.Sessions.{stores_behind};
 
@@ -38,6 +39,7 @@ mod tokens_above;
 mod unlocking;
 
 pub use copying::Transfer;
+use dav_notes_core::error::NoteError;
 use dav_notes_core::noted::NotedStores;
 use dav_notes_core::notes::Note;
 use dav_notes_core::senders::Sender;
@@ -46,7 +48,7 @@ use dav_resource_core::guarded::{Command, Guarded, Refusal, Reply};
 pub use lookups::{any_has, has_token};
 pub use questions::{copy_of, refused};
 use rand_core::Rng;
-pub use rooms::NoRoom;
+pub use rooms::RoomError;
 use std::alloc::Global;
 pub use subtrees::{last_place_is_bare, walk_without_its_last};
 
@@ -169,14 +171,21 @@ impl<R: Rng> Session<R> {
     /// where notes are kept, so that none of them lacks room for its note (own). Where the bytes are
     /// too many for a number, they are given as `u64::MAX`.
     ///
-    /// `NoRoom` where there is no memory for them, or not so many bytes are left.
-    pub fn make_room(&mut self, count: usize, bytes: u64) -> Result<(), NoRoom>
-        ensures ok { OnOk result ((n : ℕ) → bytes ≡ in_eight_bytes n → HasRoomForNotes count n self.new) }
+    /// - `OutOfMemory`: there is no memory for them.
+    /// - `NoRoom`: not so many bytes are left.
+    pub fn make_room(&mut self, count: usize, bytes: u64) -> Result<(), RoomError>
+        ensures ok { OnOk result ((n : ℕ) → bytes ≡ in_eight_bytes n
+            → HasRoomForNotes count n self.new) }
+        ensures no_room { IfErr result (λ e. e ≡ room_error.NoRoom
+            → bytes_left self.old < bytes) }
         ensures same { IsAsBefore R.stream self.old self.new }
         ensures sure { (noting self.old).0 ≡ false → IsOk result }
     {
-        self.stores.make_room(count, bytes)?;
-        Ok(())
+        match self.stores.make_room(count, bytes) {
+            Ok(()) => Ok(()),
+            Err(NoteError::OutOfMemory) => Err(RoomError::OutOfMemory),
+            Err(NoteError::NoRoom) => Err(RoomError::NoRoom),
+        }
     }
 
     /// Names who asks from now on: the principal, the tokens that are submitted, and the moment

@@ -1,4 +1,5 @@
 //! The words behind the program's name.
+use line_streams::numbers::number;
 use std::alloc::{AllocError, Global};
 
 /// Why the words choose nothing.
@@ -33,6 +34,12 @@ pub enum What {
     Export(String),
     /// What stood in it before it is broken is put into this file, which is made.
     Salvage(String),
+    /// The gate is shut of a round that it has not whole; with true nothing is asked before.
+    Adopt(bool),
+    /// Its rounds are written out as they come, from the one on that ends at this byte.
+    Follow(Option<u64>),
+    /// What comes from one that is followed is added to it.
+    Take,
 }
 
 /// What the words choose.
@@ -45,7 +52,7 @@ pub struct Choices {
 }
 
 impl Choices {
-    /// A path, and then `check`; or `list` with a folder or without one; or `log`, with `--bodies` or without it; or `compact`; or `import` or `export` with a folder of the system; or `salvage` with a file. `Usage` where the words are other than that; `OutOfMemory` where there is no memory for them.
+    /// A path, and then `check`; or `list` with a folder or without one; or `log`, with `--bodies` or without it; or `compact`; or `import` or `export` with a folder of the system; or `salvage` with a file; or what is done with copies. `Usage` where the words are other than that; `OutOfMemory` where there is no memory for them.
     pub fn of(alloc: Global, words: &[String]) -> Result<Choices, Unread> {
         let Some((path, rest)) = words.split_first() else {
             return Err(Unread::Usage);
@@ -70,11 +77,28 @@ impl Choices {
             [word, file] if word.as_str() == "salvage" => {
                 What::Salvage(String::from_str(alloc, file.as_str())?)
             }
-            _ => return Err(Unread::Usage),
+            _ => of_copies(rest)?,
         };
         Ok(Choices {
             path: String::from_str(alloc, path.as_str())?,
             what,
         })
+    }
+}
+
+// What is done with copies: `adopt`, with `--yes` or without it; or `follow`, with a number of bytes or without one; or `take`.
+fn of_copies(words: &[String]) -> Result<What, Unread> {
+    match words {
+        [word] if word.as_str() == "adopt" => Ok(What::Adopt(false)),
+        [word, option] if word.as_str() == "adopt" && option.as_str() == "--yes" => {
+            Ok(What::Adopt(true))
+        }
+        [word] if word.as_str() == "follow" => Ok(What::Follow(None)),
+        [word, byte] if word.as_str() == "follow" => match number(byte.as_str()) {
+            Some(byte) => Ok(What::Follow(Some(byte))),
+            None => Err(Unread::Usage),
+        },
+        [word] if word.as_str() == "take" => Ok(What::Take),
+        _ => Err(Unread::Usage),
     }
 }

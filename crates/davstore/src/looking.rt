@@ -1,6 +1,6 @@
 //! Reading a file of stores to its end, or to where it is broken.
 use dav_store_core::{Opened, StoreError, Watch};
-use journal_core::{JournalError, Reader, Stream};
+use journal_core::{Header, JournalError, Reader, Stream};
 use std::alloc::{AllocError, Global};
 use std::io::{self, BufReader, Read};
 
@@ -13,6 +13,8 @@ pub enum Seen {
     Whole {
         /// The stores.
         opened: Opened,
+        /// The header.
+        header: Header,
         /// How many records it has.
         records: u64,
         /// How many bytes stand before the gate that is shut.
@@ -51,6 +53,7 @@ pub fn look<I: Read + Drop, W: Watch>(
             Ok(true) => {}
             Ok(false) => return Ok(Seen::Whole {
                 opened,
+                header: reader.header(),
                 records: number,
                 bytes: reader.place() as u64,
             }),

@@ -1,21 +1,31 @@
-//! Looks into a file of stores: whether it is whole, and what stands in it, which it exports, too. That takes no lock, and writes nothing into the file. Or compacts it, or imports into it, which does both.
+//! Looks into a file of stores: whether it is whole, and what stands in it, which it exports, too. That takes no lock, and writes nothing into the file. Or compacts it, imports into it, adopts it as a copy, or adds to it what comes from one that is followed, which does both.
 #![tactic(auto)]
 
+mod adopting;
+mod behind;
 mod choices;
 mod exporting;
 mod failures;
+mod following;
 mod importing;
+mod later;
 mod listing;
 mod logging;
 mod looking;
 mod paths;
+mod placed;
 mod salvaging;
 mod sources;
+mod taking;
 
+use adopting::{adopt, end_of, header_of, is_wanted};
+use behind::{Found, Tail, round_behind};
 use choices::{Choices, Unread, What};
 use exporting::export;
 use failures::Failure;
+use following::follow;
 use importing::import;
+use later::{later_in, tell_later};
 use listing::list;
 use logging::log;
 use looking::{Seen, look};
@@ -26,11 +36,12 @@ use std::fs::File;
 use std::io::{self, BufReader, BufWriter, ErrorKind, Write};
 use std::process::ExitCode;
 use store_files::{Compacted, Uncompacted, Unwatched, compact_file, make_store};
+use taking::take;
 use work_progress::Opening;
 
 // The words that the program takes.
 const USAGE: &str =
-    "usage: davstore PATH check\n       davstore PATH list [FOLDER]\n       davstore PATH log [--bodies]\n       davstore PATH compact\n       davstore PATH import DIR\n       davstore PATH export DIR\n       davstore PATH salvage OUT\n";
+    "usage: davstore PATH check\n       davstore PATH list [FOLDER]\n       davstore PATH log [--bodies]\n       davstore PATH compact\n       davstore PATH import DIR\n       davstore PATH export DIR\n       davstore PATH salvage OUT\n       davstore COPY adopt [--yes]\n       davstore PATH follow [BYTE]\n       davstore COPY take\n";
 
 // How many bytes are read and written at once.
 const BUFFER: usize = 64 * 1024;
@@ -79,6 +90,12 @@ fn do_what<O: Write + Drop>(
         What::Import(folder) => import(rt, path, folder.as_str(), output),
         What::Export(folder) => export_all(rt, path, folder.as_str(), output),
         What::Salvage(file) => salvage(rt, path, file.as_str(), output),
+        What::Adopt(is_sure) => adopt_copy(rt, path, *is_sure, output),
+        What::Follow(from) => {
+            follow(rt, path, *from, output)?;
+            Ok(true)
+        }
+        What::Take => take(rt, path, output),
     }
 }
 
@@ -88,7 +105,38 @@ fn check<O: Write + Drop>(
     output: &mut BufWriter<O>,
 ) -> Result<bool, Failure> {
     let seen = look(rt.alloc(), input(rt, path)?, &mut Unwatched)?;
-    Ok(tell(&seen, output)?)
+    let is_whole = tell(&seen, output)?;
+    if let Seen::Whole { header, bytes, .. } = &seen
+        && let Some(found) = round_behind(rt, path, header.key, *bytes)?
+    {
+        let Found { records, bytes } = found;
+        writeln!(
+            output,
+            "behind it a whole round, whose gate is shut: {records} records, {bytes} bytes"
+        )?;
+    }
+    Ok(is_whole)
+}
+
+// Shuts the gate at which a copy is broken, once that is wanted; else why not is told.
+fn adopt_copy<O: Write + Drop>(
+    rt: &HostRuntime,
+    path: &str,
+    is_sure: bool,
+    output: &mut BufWriter<O>,
+) -> Result<bool, Failure> {
+    let seen = look(rt.alloc(), input(rt, path)?, &mut Unwatched)?;
+    tell(&seen, output)?;
+    let Some(end) = end_of(rt, path, &seen, output)? else {
+        return Ok(false);
+    };
+    drop(seen);
+    output.flush()?;
+    if !is_sure && !is_wanted(rt, path, &end)? {
+        writeln!(output, "not adopted")?;
+        return Ok(false);
+    }
+    adopt(rt, path, &end, output)
 }
 
 fn list_below<O: Write + Drop>(
@@ -141,6 +189,9 @@ fn salvage<O: Write + Drop>(
 ) -> Result<bool, Failure> {
     let seen = look(rt.alloc(), input(rt, path)?, &mut Unwatched)?;
     let is_whole = tell(&seen, output)?;
+    if let Seen::Broken { bytes, .. } = &seen {
+        tell_rounds_behind(rt, path, *bytes, output)?;
+    }
     let Some(records) = records_before(&seen) else {
         return Ok(is_whole);
     };
@@ -161,6 +212,21 @@ fn salvage<O: Write + Drop>(
             Err(Failure::At(String::from_str(rt.alloc(), to)?, error))
         }
     }
+}
+
+// Tells what the whole rounds name that stand behind this byte.
+fn tell_rounds_behind<O: Write + Drop>(
+    rt: &HostRuntime,
+    path: &str,
+    bytes: u64,
+    output: &mut BufWriter<O>,
+) -> Result<(), Failure> {
+    let Some(header) = header_of(rt, path)? else {
+        return Ok(());
+    };
+    let mut tail = Tail::of(rt, path, header.key, bytes)?;
+    let later = later_in(rt.alloc(), &mut tail)?;
+    Ok(tell_later(&later, output)?)
 }
 
 // The file, which is read from its front.
@@ -207,6 +273,7 @@ fn tell<O: Write + Drop>(seen: &Seen, output: &mut BufWriter<O>) -> io::Result<b
             opened,
             records,
             bytes,
+            ..
         } => {
             let last = opened.last.0;
             writeln!(

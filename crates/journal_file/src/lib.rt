@@ -3,4 +3,4 @@
 
 mod opening;
 
-pub use opening::open;
+pub use opening::{open, open_file};

@@ -39,10 +39,7 @@ pub fn open<S: Start, B>(
     ensures usable { IfOk result (λ r. IsTrue (file_is_usable S.Start (disk_behind r.0))) }
     ensures made { IfOk result (λ r. IsMadeWith S.Start header r.0 r.1) }
 {
-    find(rt, path)?;
-    let Files { log, db } = sqlite_std_file::open(rt, path, start).map_err(told)?;
-    drop(log);
-    let _removed = remove_log(rt, path);
+    let db = open_file(rt, path, start)?;
     let mut journal = Journal::new(Clocked::new(db));
     let reader = journal.start(rt.alloc(), note, header)?;
     let own = match &reader {
@@ -53,6 +50,22 @@ pub fn open<S: Start, B>(
         Some(found) if found == own => Ok((journal, reader)),
         _ => Err(JournalError::Busy),
     }
+}
+
+/// Opens the file of a journal at this path as a disk, and keeps it locked until that is dropped; its header is not read under the lock (own). Where the file was not there, it is made without a byte. Its
+/// errors, and its premises, are those of `open`.
+pub fn open_file<S: Start>(
+    rt: &HostRuntime,
+    path: &str,
+    start: S,
+) -> Result<FileFrom<S>, JournalError>
+    ensures usable { IfOk result (λ db. IsTrue (file_is_usable S.Start db)) }
+{
+    find(rt, path)?;
+    let Files { log, db } = sqlite_std_file::open(rt, path, start).map_err(told)?;
+    drop(log);
+    let _removed = remove_log(rt, path);
+    Ok(db)
 }
 
 // Finds a file that is new or begins as a journal, or makes one that has no byte.

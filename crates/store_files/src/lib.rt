@@ -11,4 +11,4 @@ pub use compacting::{
 };
 pub use error::Uncompacted;
 pub use measuring::{is_due, length_of};
-pub use placing::clear_new;
+pub use placing::{clear, clear_new, make_like, name_of_new, sync_folder};

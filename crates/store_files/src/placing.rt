@@ -31,8 +31,8 @@ fn clear_log(rt: &HostRuntime, path: &str) -> Result<(), Uncompacted> {
     }
 }
 
-/// The name of the new file of the file at this path.
-pub(crate) fn name_of_new(rt: &HostRuntime, path: &str) -> Result<String, AllocError> {
+/// The name of the new file of the file at this path (own).
+pub fn name_of_new(rt: &HostRuntime, path: &str) -> Result<String, AllocError> {
     format!(in rt.alloc(); "{path}.new")
 }
 
@@ -43,8 +43,11 @@ pub(crate) fn is_new(rt: &HostRuntime, path: &str) -> Result<bool, Uncompacted> 
     Ok(found.is_none())
 }
 
-/// Removes what an earlier call may have left at the name of the new file.
-pub(crate) fn clear(rt: &HostRuntime, path: &str) -> Result<(), Uncompacted> {
+/// Removes what an earlier call may have left at the name of the new file, which is this path (own). Whoever calls it has the file locked that the new one is to replace, or none is there.
+///
+/// - `InTheWay`: what stands there doesn't begin as a store does. It stays.
+/// - `Failed`: a call of the system failed, or there is no memory.
+pub fn clear(rt: &HostRuntime, path: &str) -> Result<(), Uncompacted> {
     match fs::symlink_metadata(rt, path) {
         Ok(found) if !found.is_file() => Err(Uncompacted::InTheWay),
         Ok(_) => match is_new(rt, path) {
@@ -66,8 +69,8 @@ pub(crate) fn find_free(rt: &HostRuntime, path: &str) -> Result<(), Uncompacted>
     }
 }
 
-/// Makes a file that has no byte, with the owner, the group and the mode of another one.
-pub(crate) fn make_like(rt: &HostRuntime, old: &str, new: &str) -> io::Result<()> {
+/// Makes a file that has no byte, with the owner, the group and the mode of another one (own). `Err` where a call of the system failed.
+pub fn make_like(rt: &HostRuntime, old: &str, new: &str) -> io::Result<()> {
     let like = fs::metadata(rt, old)?;
     let file = OpenOptions::new()
         .read(true)
@@ -82,8 +85,8 @@ pub(crate) fn make_like(rt: &HostRuntime, old: &str, new: &str) -> io::Result<()
     file.set_permissions(fs::Permissions::from_mode(like.mode() & 0o777))
 }
 
-/// Puts the names in the file's folder on the disk.
-pub(crate) fn sync_folder(rt: &HostRuntime, path: &str) -> io::Result<()> {
+/// Puts the names in the folder of the file at this path on the disk (own). `Err` where a call of the system failed.
+pub fn sync_folder(rt: &HostRuntime, path: &str) -> io::Result<()> {
     let mut folder = PathBuf::from_str(rt.alloc(), path)?;
     folder.pop();
     File::open(rt, folder.as_str())?.sync_all()

@@ -17,7 +17,7 @@ ghost use Rattle.dav_session_core.specs.Questions.{FailsToGather, against_anew, 
 ghost use Rattle.dav_session_core.specs.Unhindered.{WhereClearable, paths_of};
 
 use super::questions::copy_of;
-use super::{NoRoom, Session};
+use super::{RoomError, Session};
 use dav_documents_core::lock_documents::is_principal;
 use dav_faults_core::faults::Fault;
 use dav_fields_core::state_tokens::is_among;
@@ -81,11 +81,11 @@ impl<R: Rng> Session<R> {
         }
     }
 
-    /// Takes away a folder with all that is in it, where there are places; they are its walk then. So
-    /// many bytes are left for the notes of what follows: where they aren't, nothing is done
-    /// (RFC 4918 sections 9.8.4 and 9.9.3). `NoRoom` where there is no room for the
-    /// notes of these requests; then nothing has changed.
-    pub fn clear(&mut self, places: Vec<DavPath>, beside: u64) -> Result<(), NoRoom>
+    /// Takes away a folder with all that is in it, where there are places; they are its walk then
+    /// (RFC 4918 sections 9.8.4 and 9.9.3). So many bytes are to be left for the notes of what
+    /// follows; where those are too many for a number, they are given as `u64::MAX`. An error, where
+    /// there is no room for the notes of all of this, has changed nothing.
+    pub fn clear(&mut self, places: Vec<DavPath>, beside: u64) -> Result<(), RoomError>
         ensures cleared { OnOk result (WhereClearable (live_of R.stream self.old)
             (caller self.old) (paths_of places.items) (λ p. IsCleared (caller self.old).now p
             (live_of R.stream self.old) (live_after R.stream self.old self.new))) }

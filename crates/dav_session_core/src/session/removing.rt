@@ -12,7 +12,7 @@ ghost use Rattle.dav_session_core.specs.Unhindered.{WhereRemovable, paths_of};
 
 use super::questions::copy_of;
 use super::rooms::cost_of_removals;
-use super::{NoRoom, Session};
+use super::{RoomError, Session};
 use dav_faults_core::faults::Fault;
 use dav_resource_core::davpath::DavPath;
 use dav_resource_core::guarded::Command;
@@ -49,9 +49,9 @@ impl<R: Rng> Session<R> {
 
     /// Takes away all that stands at or below a path, members before their folders (RFC 4918
     /// section 9.6.1). Where the places are all of it, and no lock refuses to take one away, none
-    /// of these requests is refused. `NoRoom` where there is no room for the notes of
-    /// all of them; then nothing has changed.
-    pub fn remove_all(&mut self, places: Vec<DavPath>) -> Result<(), NoRoom>
+    /// of these requests is refused. An error, where there is no room for the notes of all of them,
+    /// has changed nothing.
+    pub fn remove_all(&mut self, places: Vec<DavPath>) -> Result<(), RoomError>
         ensures removed { OnOk result (WhereRemovable (live_of R.stream self.old)
             (caller self.old) (paths_of places.items) (λ p. IsRemoved (caller self.old).now p
             (live_of R.stream self.old) (state R.stream self.new))) }

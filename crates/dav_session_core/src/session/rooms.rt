@@ -13,31 +13,27 @@ use super::Session;
 use super::copying::Transfer;
 use dav_faults_core::faults::Fault;
 use dav_notes_core::costs::{cost_of_lock, cost_of_removal, cost_of_transfer, cost_of_unlock};
-use dav_notes_core::error::NoteError;
 use dav_notes_core::senders::Sender;
 use dav_resource_core::davpath::DavPath;
 use rand_core::Rng;
 
-/// There is no memory for the notes of requests, or they cost more bytes than are left (own).
+/// Why there is no room for the notes of requests (own).
 #[derive(Debug, Drop)]
-pub struct NoRoom;
-
-impl From<NoteError> for NoRoom {
-    ghost from_gives = { λ _ _. Unit {0} };
-
-    fn from(_: NoteError) -> Self {
-        NoRoom
-    }
+pub enum RoomError {
+    /// There is no memory for them.
+    OutOfMemory,
+    /// They cost more bytes than are left.
+    NoRoom,
 }
 
-impl From<NoRoom> for Fault {
+impl From<RoomError> for Fault {
     ghost use Rattle.std.specs.Prelude.{◌≡◌};
     ghost use Rattle.dav_faults_core.specs.declared.faults.Fault.TheVariants.{InsufficientStorage};
 
     ghost from_gives = { λ _ fault. fault ≡ InsufficientStorage };
 
     /// Either way there is no storage for what is asked (RFC 4918 section 11.5).
-    fn from(_: NoRoom) -> Self {
+    fn from(_: RoomError) -> Self {
         Fault::InsufficientStorage
     }
 }
@@ -47,8 +43,8 @@ const TOKEN: usize = 45;
 
 impl<R: Rng> Session<R> {
     /// Whether so many bytes are left beside those that the notes of taking places away cost (own).
-    /// `NoRoom` where they aren't.
-    pub fn check_left(&self, places: &[DavPath], beside: u64) -> Result<(), NoRoom>
+    /// `NoRoom` alone, where they aren't.
+    pub fn check_left(&self, places: &[DavPath], beside: u64) -> Result<(), RoomError>
         ensures ok { OnOk result ((n : ℕ) → beside ≡ in_eight_bytes n
             → (noting self.now).0 ≡ true
             → removal_cost (caller self.now) (paths_of places.now) + n ≤ bytes_left self.now) }
@@ -57,7 +53,7 @@ impl<R: Rng> Session<R> {
     {
         let bytes = sum_of(cost_of_removals(self.stores.who(), places), beside);
         if !self.stores.has_left(bytes) {
-            return Err(NoRoom);
+            return Err(RoomError::NoRoom);
         }
         Ok(())
     }

@@ -13,7 +13,7 @@ ghost use Rattle.dav_faults_core.specs.declared.faults.Fault.TheVariants as faul
 
 use super::lookups::has_token;
 use super::questions::copy_of;
-use super::{NoRoom, Session};
+use super::{RoomError, Session};
 use dav_documents_core::lock_documents::is_principal;
 use dav_faults_core::faults::Fault;
 use dav_notes_core::costs::cost_of_unlock;
@@ -45,8 +45,8 @@ impl<R: Rng> Session<R> {
     }
 
     /// Ends the caller's own lock with a token that covers the path (RFC 4918 section 9.11).
-    /// `NoRoom` where there is no room for the note of it; then nothing has changed.
-    pub fn unlock(&mut self, path: DavPath, token: String) -> Result<(), NoRoom>
+    /// An error, where there is no room for the note of it, has changed nothing.
+    pub fn unlock(&mut self, path: DavPath, token: String) -> Result<(), RoomError>
         requires covered { has_token (live_of R.stream self.old) (segments path.bytes)
             (string_bytes token) ≡ true }
         requires own { ¬ IsAnothers (live_of R.stream self.old) (caller self.old)

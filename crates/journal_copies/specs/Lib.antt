@@ -1,0 +1,4 @@
+pub mod Broken
+pub mod DiskLookLaws
+pub mod DiskLooks
+pub mod WholeRounds

@@ -1,0 +1,367 @@
+"""Copies of stores: what davstore tells of one that ends within a round, how it is adopted, and a copy that takes what is followed."""
+import os
+import random
+import shutil
+import signal
+import struct
+import subprocess
+import time
+
+from frames import frame, request
+
+# So many copies that end somewhere are adopted.
+CUT = 30
+# So often one end of a pipe is killed.
+KILLS = 12
+
+
+def number(value):
+    return struct.pack("<Q", value)
+
+
+def gates_of(content):
+    """Where the gates are of a whole store, from the first to the one that is shut."""
+    gates = [56]
+    while content[gates[-1] : gates[-1] + 8] != b"shutgate":
+        gates.append(gates[-1] + 24 + struct.unpack_from("<Q", content, gates[-1] + 8)[0])
+    return gates
+
+
+def folders(record_of, count, first=0, moment=10000):
+    """Records of folders, each a request of its own."""
+    made = []
+    for place in range(first, first + count):
+        record = record_of(moment + place)
+        record.add(2, (b"n%d" % place,))
+        made.append(record.hex())
+    return made
+
+
+def rows(stores, davserve, record_of, whole):
+    yield from behind(stores, record_of, whole)
+    yield from adopted(stores, record_of, whole)
+    yield from salvaged(stores, record_of, whole)
+    yield from streams(stores, record_of, whole)
+    yield from standby(stores, davserve)
+
+
+def behind(stores, record_of, whole):
+    """A check tells of a whole round behind the gate that is shut."""
+    whole(stores)
+    stores.append(folders(record_of, 1))
+    content = stores.bytes()
+    gates = gates_of(content)
+    size = gates[-1] - gates[-2]
+    stores.write(content[: gates[-2]] + b"shutgate" + content[gates[-2] + 8 :])
+    status, told, _ = stores.ask("check")
+    yield "a whole round behind a gate that is shut", (status, len(told)) == (0, 2) and told[0].startswith("whole: 2 records, ") and told[1] == f"behind it a whole round, whose gate is shut: 1 records, {size} bytes"
+    yield "it is read by nothing else", stores.ask("list", "/n0") == (1, [], "")
+    for name, wrong in (("a round that is cut", content[: gates[-1] - 1]), ("a round with a wrong byte", content[: gates[-1] - 1] + bytes([content[gates[-1] - 1] ^ 1]) + content[gates[-1] :])):
+        stores.write(wrong[: gates[-2]] + b"shutgate" + wrong[gates[-2] + 8 :])
+        yield f"{name} behind it", len(stores.ask("check")[1]) == 1
+
+
+def asked(stores, answer, *words):
+    run = subprocess.run([stores.davstore, stores.path, "adopt", *words], input=answer, capture_output=True, timeout=60, check=False)
+    return run.returncode, run.stdout.decode().splitlines(), run.stderr.decode()
+
+
+def adopted(stores, record_of, whole):
+    whole(stores)
+    stores.append(folders(record_of, 6))
+    content = stores.bytes()
+    gates = gates_of(content)
+    chance, right = random.Random(4), 0
+    for _ in range(CUT):
+        end = chance.randrange(57, gates[-1] + 8)
+        last = max(gate for gate in gates if gate < end)
+        cut = content[:end]
+        before = gates.index(last)
+        stores.write(cut)
+        told = asked(stores, b"", "--yes")
+        wanted = content[:last] + b"shutgate" + content[last + 8 : end]
+        good = told[0] == 0 and told[1][-1] == f"adopted: {before} records, {last} bytes" and stores.bytes() == wanted
+        right += good and stores.ask("check")[1][0].startswith(f"whole: {before} records, {last} bytes")
+        stores.append(folders(record_of, 1, 50))
+        right -= stores.ask("list", "/n50")[0] != 0
+    yield f"of {CUT} copies that end somewhere {right} were adopted rightly", right == CUT
+    cut = content[: gates[-2] + 20]
+    for answer in (b"", b"no\n", b"y\n", b"yes please\n", b" yes\n"):
+        stores.write(cut)
+        status, told, why = asked(stores, answer)
+        yield f"not adopted by {answer!r}", (status, told[-1]) == (1, "not adopted") and "Type yes: " in why and stores.bytes() == cut
+    status, told, _ = asked(stores, b"yes\n")
+    yield "adopted by yes", status == 0 and told[-1].startswith("adopted: ") and stores.ask("check")[0] == 0
+    at = gates[3] + 30
+    refused = (
+        ("a whole store", content, "nothing is to be adopted"),
+        ("an empty file", b"", "nothing is to be adopted"),
+        ("a text", b"no store at all, but a text", "not a journal"),
+        ("a part of a header", content[:20], "damaged at byte 0"),
+        ("a wrong byte before whole rounds", content[:at] + bytes([content[at] ^ 1]) + content[at + 1 :], "not adopted: whole rounds stand behind it"),
+    )
+    for name, wrong, wanted in refused:
+        stores.write(wrong)
+        status, told, _ = asked(stores, b"", "--yes")
+        yield f"{name} is not adopted", status == 1 and told[-1].startswith(wanted) and stores.bytes() == wrong
+    stores.write(content)
+    with subprocess.Popen([stores.journalplay, stores.path], stdin=subprocess.PIPE, stdout=subprocess.PIPE) as held:
+        held.stdout.readline()
+        with open(stores.path, "r+b") as file:
+            file.truncate(gates[-2] + 20)
+        before = stores.bytes()
+        status, told, _ = asked(stores, b"", "--yes")
+        yield "one in use is not adopted", (status, told[-1]) == (1, "the journal is in use") and stores.bytes() == before
+        held.kill()
+    yield "nothing is left beside it", os.listdir(os.path.dirname(stores.path)) == ["store"]
+
+
+def salvaged(stores, record_of, whole):
+    """What the rounds behind the damage name."""
+    whole(stores)
+    stores.append(folders(record_of, 4))
+    content = stores.bytes()
+    gates = gates_of(content)
+    at = gates[2] + 40
+    stores.write(content[:at] + bytes([content[at] ^ 1]) + content[at + 1 :])
+    with_name = os.path.join(os.path.dirname(stores.path), "out")
+    status, told, _ = stores.ask("salvage", with_name)
+    yield "what later rounds name", status == 0 and told[1:] == ["behind it stand 3 whole rounds with 3 records", "named there: /n1", "named there: /n2", "named there: /n3", "salvaged: 2 records, last moment 3000"]
+    os.remove(with_name)
+    whole(stores)
+    wrong = record_of(5000)
+    wrong.add(2, (b"d",))
+    stores.append([wrong.hex(), *folders(record_of, 2)])
+    status, told, _ = stores.ask("salvage", with_name)
+    yield "what rounds behind a record that can't be done name", status == 0 and told[0].startswith("record 2 is damaged: ") and told[1:4] == ["behind it stand 2 whole rounds with 2 records", "named there: /n0", "named there: /n1"] and told[4].startswith("salvaged: 2 records")
+    os.remove(with_name)
+
+
+class Pipe:
+    """A store that is followed, and a copy that takes what comes."""
+
+    def __init__(self, davstore, live, copy):
+        self.davstore, self.live, self.copy = davstore, live, copy
+        self.ends = []
+
+    def start(self, *words):
+        first = subprocess.Popen([self.davstore, self.live, "follow", *words], stdout=subprocess.PIPE, stderr=subprocess.PIPE)
+        second = subprocess.Popen([self.davstore, self.copy, "take"], stdin=first.stdout, stdout=subprocess.PIPE, stderr=subprocess.PIPE)
+        first.stdout.close()
+        self.ends = [first, second]
+
+    def stop(self, which=0):
+        """Kills one end, and then the other; what take told, and its status."""
+        self.ends[which].kill()
+        if which == 0:
+            self.ends[0].wait()
+            told = self.ends[1].communicate(timeout=60)
+        else:
+            told = self.ends[1].communicate(timeout=60)
+            self.ends[0].kill()
+        self.ends[0].wait()
+        self.ends[0].stderr.close()
+        return self.ends[1].returncode, told[0].decode().splitlines(), told[1].decode()
+
+
+def tell(davstore, path, *words):
+    run = subprocess.run([davstore, path, *words], capture_output=True, timeout=60, check=False)
+    return run.returncode, run.stdout.decode().splitlines()
+
+
+def until(is_so, seconds=30):
+    end = time.monotonic() + seconds
+    while time.monotonic() < end:
+        if is_so():
+            return True
+        time.sleep(0.05)
+    return is_so()
+
+
+def used(path):
+    """How many bytes stand before the gate that is shut; none where nothing stands there."""
+    try:
+        with open(path, "rb") as file:
+            return gates_of(file.read())[-1]
+    except (FileNotFoundError, struct.error, IndexError):
+        return 0
+
+
+def are_same(live, copy):
+    """Whether the two are the same up to the gate that is shut, but for the words at gates."""
+    size = used(live)
+    with open(live, "rb") as one, open(copy, "rb") as other:
+        return size and one.read(size + 8) == other.read(size + 8)
+
+
+def streams(stores, record_of, whole):
+    where = os.path.dirname(stores.path)
+    copy = os.path.join(where, "copy")
+    whole(stores)
+    stores.append(folders(record_of, 5))
+    content = stores.bytes()
+    gates = gates_of(content)
+    stream = content[:56] + number(56) + content[56 : gates[-1]]
+    with subprocess.Popen([stores.davstore, stores.path, "follow"], stdout=subprocess.PIPE) as run:
+        yield "the stream is the file's bytes", run.stdout.read(len(stream)) == stream
+        stores.append(folders(record_of, 1, 5))
+        more = stores.bytes()
+        after = gates_of(more)
+        yield "it goes on as the file does", run.stdout.read(after[-1] - gates[-1]) == more[gates[-1] : after[-1]]
+        run.kill()
+    with subprocess.Popen([stores.davstore, stores.path, "follow", str(gates[3])], stdout=subprocess.PIPE) as run:
+        wanted = content[:56] + number(gates[2]) + content[gates[2] : gates[-1]]
+        yield "from a byte on it begins with the round that ends there", run.stdout.read(len(wanted)) == wanted
+        run.kill()
+    with subprocess.Popen([stores.davstore, stores.path, "follow", str(gates[3] + 1)], stdout=subprocess.PIPE, stderr=subprocess.PIPE) as run:
+        yield "from a byte at which none ends it begins at the first", run.stdout.read(len(stream)) == stream
+        run.kill()
+        yield "and that is told", b"no round ends at byte" in run.stderr.read()
+    yield from taken(stores, record_of, copy, content, gates, stream)
+    stores.write(content[: gates[3] + 30] + b"?" + content[gates[3] + 31 :])
+    run = subprocess.run([stores.davstore, stores.path, "follow"], capture_output=True, timeout=60, check=False)
+    yield "a store that is damaged is followed up to there", run.returncode == 1 and run.stdout.startswith(content[:56] + number(56) + content[56 : gates[3]]) and b"damaged at byte" in run.stdout[-40:]
+    for name in ("copy", "copy.new"):
+        if os.path.exists(os.path.join(where, name)):
+            os.remove(os.path.join(where, name))
+
+
+def taken(stores, record_of, copy, content, gates, stream):
+    """What a copy takes of a stream, and what it refuses."""
+
+    def take(given, before=None):
+        if os.path.exists(copy):
+            os.remove(copy)
+        if before is not None:
+            with open(copy, "wb") as file:
+                file.write(before)
+        run = subprocess.run([stores.davstore, copy, "take"], input=given, capture_output=True, timeout=60, check=False)
+        after = None
+        if os.path.exists(copy):
+            with open(copy, "rb") as file:
+                after = file.read()
+        return run.returncode, run.stdout.decode().splitlines(), after
+
+    size = gates[-1]
+    shut = lambda front: front + b"shutgate"
+    status, told, after = take(stream)
+    yield "a copy is made", status == 0 and after == shut(content[:size]) and told == [f"taken: 7 rounds, 7 records, up to byte {size}"]
+    yield "of the one who made it", os.stat(copy).st_mode & 0o777 == 0o600
+    yield "nothing is taken twice", take(stream, after)[::2] == (0, after)
+    chance = random.Random(5)
+    right = 0
+    for _ in range(20):
+        end = chance.randrange(64, len(stream))
+        last = max(gate for gate in gates if gate <= end - 8)
+        status, told, after = take(stream[:end])
+        is_within = last + 8 + 8 <= end
+        good = (status == (1 if is_within else 0)) and (after == shut(content[:last]) if last > 56 else after is None)
+        right += good and (not is_within or told[-1] == f"the stream has no whole round at byte {last}")
+        if after is not None:
+            status, _, after = take(stream, after)
+            right -= not (status == 0 and after == shut(content[:size]))
+    yield f"of 20 streams that are cut {right} were taken rightly", right == 20
+    part = shut(content[: gates[4]])
+    from_there = content[:56] + number(gates[3]) + content[gates[3] : size]
+    yield "a copy goes on", take(from_there, part)[::2] == (0, shut(content[:size]))
+    yield "a longer copy goes on", take(from_there, shut(content[: gates[5]]))[::2] == (0, shut(content[:size]))
+    gap = shut(content[: gates[2]])
+    status, told, after = take(from_there, gap)
+    yield "a gap", (status, told[-1], after) == (1, "a gap: no round of the copy ends where what comes begins", gap)
+    status, told, after = take(from_there)
+    yield "no copy for a stream from a byte on", (status, told[-1], after) == (1, "it does not begin with the first round of a store", None)
+    at = gates[3] + 45
+    wrong = stream[: at + 8] + bytes([stream[at + 8] ^ 1]) + stream[at + 9 :]
+    status, told, after = take(wrong)
+    yield "a wrong byte in the stream", (status, told[-1], after) == (1, f"the stream has no whole round at byte {gates[3]}", shut(content[: gates[3]]))
+    for name, given in (("nothing", b""), ("a text", b"no stream, but a text that is long enough to be one, and more than that"), ("a part of a header", stream[:50])):
+        status, told, after = take(given, part)
+        yield f"{name} comes", (status, told[-1], after) == (1, "no stream of a store", part)
+    yield "a new file is a copy that isn't there", take(stream, b"")[::2] == (0, shut(content[:size]))
+    broken = content[:at] + bytes([content[at] ^ 1]) + content[at + 1 :]
+    for name, before, why in (("a copy that is damaged", broken, f"damaged at byte {gates[3]}"), ("a text at the copy's path", b"no store at all, but a text", "not a journal")):
+        yield name, take(stream, before) == (1, [why], before)
+    with open(f"{copy}.new", "wb") as file:
+        file.write(b"a text")
+    yield "a text in the way of a new file", take(stream)[::2] == (3, None) and os.path.getsize(f"{copy}.new") == 6
+    os.remove(f"{copy}.new")
+    yield from others(stores, record_of, take, content, gates, stream)
+
+
+def others(stores, record_of, take, content, gates, stream):
+    """Stores that part at a round, and other ones."""
+    shut = lambda front: front + b"shutgate"
+    stores.write(shut(content[: gates[4]]))
+    stores.append(folders(record_of, 3, 70))
+    parted = stores.bytes()
+    parted = shut(parted[: gates_of(parted)[-1]])
+    status, told, after = take(stream, parted)
+    yield "a copy that has parted", (status, told[-1], after) == (1, f"the copy has another round at byte {gates[4]}", parted)
+    os.remove(stores.path)
+    run = [stores.journalplay, "--key", "8", "--began", "1001", stores.path]
+    subprocess.run(run, input=f"append {folders(record_of, 1)[0]}\n".encode(), stdout=subprocess.DEVNULL, check=True)
+    other = stores.bytes()
+    status, told, after = take(stream, other)
+    yield "another store", (status, told[-1], after) == (1, "another store comes, and not a later generation of this one", other)
+    stores.write(content)
+    yield "it is compacted", stores.ask("compact")[0] == 0
+    later = stores.bytes()
+    size = gates_of(later)[-1]
+    anew = later[:56] + number(56) + later[56:size]
+    status, told, after = take(stream + b"shutgate" + anew)
+    yield "a copy is made anew where the store was compacted", (status, after) == (0, shut(later[:size]))
+    yield "so it is where the stream begins with it", take(anew, shut(content[: gates[4]]))[::2] == (0, shut(later[:size]))
+    yield "not where it is an earlier generation", take(stream, later)[::2] == (1, later)
+    part = shut(content[: gates[-1]])
+    yield "and not before its first round is whole", take(stream + b"shutgate" + anew[:-1])[1:] == (["taken: 7 rounds, 7 records, up to byte %d" % gates[-1], "the stream has no whole round at byte 56"], part)
+    stores.write(content)
+
+
+def standby(stores, davserve):
+    """A server writes, and its store is followed; either end is killed, and the store is compacted."""
+    where = os.path.dirname(stores.path)
+    copy, chance = os.path.join(where, "copy"), random.Random(6)
+    for path in (stores.path, copy):
+        if os.path.exists(path):
+            os.remove(path)
+    pipe = Pipe(stores.davstore, stores.path, copy)
+    run = [davserve, "--store", stores.path, "--compact-useless", "100"]
+    number_of = 0
+    right = tries = 0
+    with subprocess.Popen(run, stdin=subprocess.PIPE, stdout=subprocess.PIPE, stderr=subprocess.DEVNULL) as server:
+        for turn in range(KILLS):
+            while not os.path.exists(stores.path):
+                time.sleep(0.02)
+            words = [str(used(copy))] if turn % 2 and os.path.exists(copy) else []
+            pipe.start(*words)
+            end = time.monotonic() + chance.random() * 0.6
+            while time.monotonic() < end:
+                number_of += 1
+                server.stdin.write(frame(1, request(b"PUT /%d" % (number_of % 50), chance.randbytes(chance.choice([1, 3000, 60000])))))
+                server.stdin.flush()
+                time.sleep(0.005)
+                os.read(server.stdout.fileno(), 1 << 20)
+            status, told, _ = pipe.stop(turn % 2)
+            tries += 1
+            if os.path.exists(copy):
+                right += tell(stores.davstore, copy, "check")[0] == 0 and (turn % 2 == 1 or status in (0, 1))
+            else:
+                right += 1
+        yield f"of {tries} copies whose pipe was killed {right} are stores", right == tries
+        pipe.start(str(used(copy)))
+        yield "it comes to be as the live one is", until(lambda: are_same(stores.path, copy))
+        listed = tell(stores.davstore, stores.path, "list")
+        yield "what stands in it", listed[0] == 0 and tell(stores.davstore, copy, "list") == listed and len(listed[1]) > 1
+        server.stdin.write(frame(1))
+        server.stdin.close()
+        server.stdout.read()
+        server.wait()
+    yield "the store is compacted while it is followed", tell(stores.davstore, stores.path, "compact")[0] == 0
+    yield "and the copy is made anew", until(lambda: are_same(stores.path, copy)) and tell(stores.davstore, copy, "list") == tell(stores.davstore, stores.path, "list")
+    held = subprocess.run([stores.davstore, copy, "compact"], capture_output=True, timeout=60, check=False)
+    yield "it is locked meanwhile", held.returncode == 1 and b"in use" in held.stdout
+    pipe.stop()
+    served = subprocess.run([davserve, "--store", copy], input=frame(1, request(b"GET /1")) + frame(1), capture_output=True, timeout=100, check=False)
+    yield "it can be served", b"HTTP/1.1 200" in served.stdout
+    yield "nothing is left beside it", sorted(os.listdir(where)) == ["copy", "store"]
+    os.remove(copy)

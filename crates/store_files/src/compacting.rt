@@ -1,5 +1,5 @@
 //! Compacting a store: its file is written anew, as a snapshot of what stands in it, and takes the place of the old one.
-ghost use Rattle.std.specs.Prelude.{◌≡◌, ◌<◌, [], false, IsTrue, IfOk, OnOk};
+ghost use Rattle.std.specs.Prelude.{◌≡◌, ◌<◌, ◌-◌, ◌^◌, ◌⊎◌, [], false, IsTrue, IfOk, OnOk};
 ghost use Rattle.sqlite_std_file.specs.File.{file_is_usable};
 ghost use Rattle.journal_core.specs.Resting.{disk_behind, header_in};
 ghost use Rattle.journal_file.specs.JournalFiles.{file_is_clean, file_may_leave, file_seen};
@@ -217,7 +217,9 @@ fn write_store(
     path: &str,
     header: Header,
     opened: &Opened,
-) -> Result<(), Uncompacted> {
+) -> Result<(), Uncompacted>
+    requires later { 0 < header.generation }
+{
     let (mut journal, found) = open(rt, path, header, &(), Anew)?;
     if found.is_some() {
         return Err(Uncompacted::InTheWay);

@@ -1,8 +1,9 @@
 //! A round whose bytes are there is appended to another journal.
-ghost use Rattle.std.specs.Prelude.{◌≡◌, ◌≢◌, ◌⊎◌, ◌<◌, ◌^◌, ◌++◌, ◌∷◌, [], ℕ, List, Ok, None, true, false, length, IsTrue, IfOk, IfSome, OnOk};
+ghost use Rattle.std.specs.Prelude.{◌≡◌, ◌≢◌, ◌⊎◌, ◌<◌, ◌^◌, ◌++◌, ◌∷◌, [], ℕ, List, Ok, None, true, false, length, IsTrue, IfErr, IfOk, IfSome, OnOk};
 ghost use Rattle.journal_core.specs.Clocked.{EachLeaves};
 ghost use Rattle.journal_core.specs.Format.{StandsFor, records_text};
-ghost use Rattle.journal_core.specs.Resting.{Carries, IsSettled, clocked_of, disk_behind, header_in};
+ghost use Rattle.journal_core.specs.Resting.{Carries, HasDiskCause, IsSettled, clocked_of, disk_behind, header_in};
+ghost use Rattle.journal_core.specs.declared.error.JournalError.TheVariants.{OutOfMemory};
 
 use bytes::Bytes;
 use journal_core::{Journal, JournalError, Round, split_record};
@@ -40,6 +41,12 @@ pub fn append_text<D: Disk, B>(
     // A crash at any moment of the call leaves the records from before it, with those of the round or without.
     ensures crash { (records new : List (List ℕ)) → IsSettled D.Disk.seen D.Disk.may_leave D.Disk.is_clean journal.old records → text.now ≡ records_text new
         → (c : List ℕ) → D.Disk.may_leave (disk_behind journal.new) c → StandsFor (header_in journal.old) c records ⊎ StandsFor (header_in journal.old) c (records ++ new) }
+    // It is false where the bytes are no records alone, and nothing is done then.
+    ensures refused { result ≡ Ok false → (journal.new ≡ journal.old)
+        × ((records : List (List ℕ)) → length (records_text records) < 2 ^ 64 → text.now ≢ records_text records) }
+    // It fails where there is no memory for the round, and then nothing is done; or as `Journal::append` does.
+    ensures cause { IfErr result (λ e. ((e ≡ OutOfMemory) × (journal.new ≡ journal.old))
+        ⊎ HasDiskCause e (D.Disk.faults (disk_behind journal.old)) (D.Disk.faults (disk_behind journal.new)) (D.Disk.tally_of (disk_behind journal.old)).refused (D.Disk.tally_of (disk_behind journal.new)).refused) }
     ensures header { header_in journal.new ≡ header_in journal.old }
     ensures usable { OnOk result (IsTrue (D.Disk.is_usable (disk_behind journal.new))) }
 {

@@ -22,7 +22,6 @@ pub mod PatchAnswerLemmas
 pub mod PathFrameLaws
 pub mod PathHistoryLemmas
 pub mod PromiseLaws
-pub mod RoomLemmas
 mod SameLocks
 pub mod SentAnswerLemmas
 pub mod SentFieldLemmas

@@ -10,7 +10,6 @@ pub mod PathMoments
 pub mod Private
 pub mod Promises
 pub mod RequestMoments
-pub mod RoomRefusals
 pub mod SameAnswers
 pub mod Server
 pub mod ServerViews

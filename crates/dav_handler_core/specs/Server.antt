@@ -4,10 +4,10 @@ use Rattle.http.specs.declared.request.Request.{Request}
 use Rattle.http.specs.Request.{head_of}
 use Rattle.dav_path_core.specs.PathText.{PathText}
 use Rattle.dav_resource_core.specs.Step.{State}
-use Rattle.dav_resource_core.specs.Stores.{Stores}
 use Rattle.dav_fields_core.specs.declared.bases.Scheme.{Scheme}
 use Rattle.dav_fields_core.specs.Bases.{Site, site_of}
 use Rattle.dav_session_core.specs.Callers.{Caller, IsSender}
+use Rattle.dav_session_core.specs.Sessions.{Noting}
 use Rattle.dav_fields_core.specs.Targets.{IsTargetOf}
 
 -- the scheme of the server's URLs, the prefix that they stand behind, the header that names the principal, where there is one, the greatest timeout of a lock,
@@ -19,14 +19,13 @@ pub record Options : Type 0 where
   pub longest : Option ℕ
   pub finite : Bool
 
--- what a server is: its options, the state of its stores, the moment of the last request, what its clock says, and whether notes are kept of what changes, and the stores and the
--- moment where they begin
+-- what a server is: its options, the state of its stores, the moment of the last request, what its clock says, and what it notes of what changes
 pub record Server : Type 0 where
   pub options : Options
   pub state : State
   pub last : ℕ
   pub clock : ℕ
-  pub noting : Bool × List (Stores × ℕ)
+  pub noting : Noting
 
 -- where it is sent: the scheme of the server, and the host of its target, where that has one
 abbrev pub site_for : Options → Request (List ℕ) → Site

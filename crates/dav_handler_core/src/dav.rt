@@ -1,5 +1,5 @@
 //! The server: an HTTP service over the stores (RFC 4918 section 9, RFC 9110 section 9).
-ghost use Rattle.std.specs.Prelude.{◌≡◌, ◌<◌, [], ◌∷◌, true, IfErr, OnErr, Err, Option, Some};
+ghost use Rattle.std.specs.Prelude.{◌≡◌, ◌<◌, ◌≤◌, ◌-◌, ◌^◌, [], ◌∷◌, true, IfErr, OnErr, Err, Option, Some};
 ghost use Rattle.std.specs.Prelude.{IfOk, false, map};
 ghost use Rattle.http.specs.Request.{body_of, head_of};
 ghost use Rattle.http_header.specs.FieldValue.{IsFieldValue};
@@ -9,6 +9,7 @@ ghost use Rattle.dav_fields_core.specs.Fields.{sent_behind, sent_of};
 ghost use Rattle.dav_path_core.specs.declared.util.DavMethod.{DavMethod};
 ghost use Rattle.dav_path_core.specs.declared.util.DavMethod.TheVariants as method;
 ghost use Rattle.dav_notes_core.specs.Ahead.{ahead};
+ghost use Rattle.dav_notes_core.specs.Costs.{notes_cost};
 ghost use Rattle.dav_notes_core.specs.Noting.{AreChanges, note_of};
 ghost use Rattle.dav_notes_core.specs.Seen.{KeptNotes};
 ghost use Rattle.dav_resource_core.specs.Stores.{state_of};
@@ -98,7 +99,11 @@ impl<R: Rng + Drop> Dav<R> {
           state = state_of stores (ahead (fill_bytes 16 (R.stream rng)));
           last = now.0;
           clock = now.0;
-          noting = (keeps, (stores, now.0) ∷ []);
+          noting = record {
+            keeps = keeps;
+            base = (stores, now.0) ∷ [];
+            given = 2 ^ 64 - 2;
+          };
         } }
     {
         Dav {
@@ -123,20 +128,31 @@ impl<R: Rng> Dav<R> {
     /// The notes of what has changed since they were taken last, and none where none are kept
     /// (own). Taken behind each call, they are those of one request.
     pub fn take_notes(&mut self) -> Vec<Note>
-        ensures notes { KeptNotes (server R.stream self.old).noting.0
-            (server R.stream self.old).noting.1 (map note_of result.items)
+        ensures notes { KeptNotes (server R.stream self.old).noting.keeps
+            (server R.stream self.old).noting.base (map note_of result.items)
             (server R.stream self.new).last (stores_of_server self.new) }
         // Each is of a command that changes something.
         ensures changes { AreChanges (map note_of result.items) }
+        // They cost no more bytes than were given.
+        ensures cost { notes_cost (map note_of result.items)
+            ≤ (server R.stream self.old).noting.given }
         // The next notes begin here, and nothing else is changed.
         ensures server { server R.stream self.new ≡ record (server R.stream self.old) {
-          noting = (
-            (server R.stream self.old).noting.0,
-            (stores_of_server self.new, (server R.stream self.new).last) ∷ [],
-          );
+          noting = record {
+            keeps = (server R.stream self.old).noting.keeps;
+            base = (stores_of_server self.new, (server R.stream self.new).last) ∷ [];
+            given = (server R.stream self.old).noting.given;
+          };
         } }
     {
         self.session.take()
+    }
+
+    /// The stores.
+    pub fn stores(&self) -> &Guarded
+        ensures { result.now ≡ stores_of_server self.now }
+    {
+        self.session.stores()
     }
 
     // GET and HEAD.

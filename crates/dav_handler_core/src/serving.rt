@@ -102,7 +102,9 @@ impl<R: Rng, C: Clock> TurnService for Timed<R, C> {
 
     ghost listed = { λ old file new. Listed (timing R.stream old) file (timing R.stream new) };
 
-    fn begin_turn(&mut self, _number: u64, _address: &[u8]) {
+    ghost room = { λ _. 0 };
+
+    fn begin_turn(&mut self, _number: u64, _address: &[u8], _bytes: u64) {
         if let Some(now) = self.clock.moment() {
             self.dav.set_clock(now);
         }
@@ -119,22 +121,8 @@ impl<R: Rng, C: Clock> TurnService for Timed<R, C> {
     }
 
     /// Nothing is kept.
-    fn room_for(&self, _request: &Request<Bytes>) -> u64 {
-        0
-    }
-
     fn most_room(&self, _bytes: u64) -> u64 {
         0
-    }
-
-    fn refuse_for_room(
-        &mut self,
-        request: &Request<Bytes>,
-        response: &mut Response,
-    ) -> Result<(), AllocError> {
-        self.dav.refuse_for_room(request, response)?;
-        close_behind_refused(request, response);
-        Ok(())
     }
 
     fn set_clock(&mut self, moment: u64) {

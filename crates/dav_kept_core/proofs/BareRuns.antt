@@ -12,7 +12,7 @@ use Rattle.dav_handler_core.specs.Answers.{Answers}
 use Rattle.dav_handler_core.specs.Server.{Server}
 use Rattle.dav_handler_core.specs.Serving.{AreServed, BeginsTurn, Clocked, Listed, Replies, Timing, with_clock}
 use Rattle.dav_kept_core.specs.BareServers.{as_served, bare, with_fault}
-use Rattle.dav_kept_core.specs.KeptServers.{BeginsKept, ClockedKept, KeptServer, ListedKept, RepliesKept}
+use Rattle.dav_kept_core.specs.KeptServers.{BeginsKept, ClockedKept, KeptServer, ListedKept, RepliesKept, with_room}
 use Rattle.dav_kept_core.proofs.BareAnswers.{bare_answers}
 
 -- ---- each step
@@ -23,7 +23,7 @@ bare_clock (Some moment) s s' is = ap bare is
 
 module _ {C : Type 0} (tells : C → Option ℕ → C → Type 0) where
   pub bare_begins : (s : KeptServer C) (number : ℕ) (s' : KeptServer C) → BeginsKept tells s number s' → BeginsTurn tells (as_served s) number (as_served s')
-  bare_begins s number s' x = (x.begins.0, x.begins.1, bare_clock x.begins.0 s.timing.server s'.timing.server x.begins.2)
+  bare_begins s number s' x = (x.begins.0, x.begins.1, bare_clock x.begins.0 (with_room x.given s.timing.server) s'.timing.server x.begins.2)
 
   pub bare_replies : (s : KeptServer C) (request : Request (List ℕ)) (response : Response) (s' : KeptServer C) → RepliesKept s request response s' → Replies (as_served s) request response (as_served s')
   bare_replies s request response s' x =

@@ -1,4 +1,5 @@
 pub mod BareAnswers
 pub mod BareRuns
 pub mod LifeLaws
+pub mod RoomLemmas
 pub mod StandLemmas

@@ -7,6 +7,7 @@ use Rattle.http_server.specs.declared.response.Response.{Response}
 use Rattle.http_server.specs.Exchange.{Call, Chain}
 use Rattle.http_frames.specs.Gate.{IsTold}
 use Rattle.dav_resource_core.specs.Stores.{Stores}
+use Rattle.dav_notes_core.specs.Costs.{notes_cost}
 use Rattle.dav_notes_core.specs.Noting.{AreChanges, Noted}
 use Rattle.dav_notes_core.specs.PlayedNotes.{NotesLead}
 use Rattle.dav_notes_core.specs.Seen.{KeptNotes}
@@ -16,14 +17,15 @@ use Rattle.dav_effects_core.specs.Records.{IsRecord}
 use Rattle.dav_store_core.specs.StandingFor.{AreRecords, StandFor}
 use Rattle.dav_store_core.proofs.KeepLemmas.{records_more, stand_back, stand_one}
 use Rattle.dav_handler_core.specs.Server.{Server}
-use Rattle.dav_kept_core.specs.KeptServers.{BeginsKept, IsFresh, KeptServer, RepliesKept, StandsForServer, TakesNotes, stores_in}
-use Rattle.dav_kept_core.specs.Private.StandLaws.{same_but_clock, stands_alike}
+use Rattle.dav_session_core.specs.Sessions.{Noting}
+use Rattle.dav_kept_core.specs.KeptServers.{BeginsKept, IsFresh, KeptServer, RepliesKept, StandsForServer, TakesNotes, stores_in, with_room}
+use Rattle.dav_kept_core.specs.Private.StandLaws.{same_but_clock, stands_alike, stands_roomed}
 
 -- notes that are kept lead from where they begin
-led_from : (noting : Bool × List (Stores × ℕ)) (begun : Stores) (last : ℕ) (notes : List Noted) (now : ℕ) (stores : Stores) → noting ≡ (true, (begun, last) ∷ []) → KeptNotes noting.0 noting.1 notes now stores
+led_from : (noting : Noting) (begun : Stores) (last : ℕ) (notes : List Noted) (now : ℕ) (stores : Stores) → noting.keeps ≡ true → noting.base ≡ (begun, last) ∷ [] → KeptNotes noting.keeps noting.base notes now stores
     → NotesLead last begun notes now stores
-led_from noting begun last notes now stores is k =
-    let x = subst (λ (n : Bool × List (Stores × ℕ)). KeptNotes n.0 n.1 notes now stores) is k in
+led_from noting begun last notes now stores keeps is k =
+    let x = subst (λ (l : List (Stores × ℕ)). KeptNotes true l notes now stores) is (subst (λ (b : Bool). KeptNotes b noting.base notes now stores) keeps k) in
     let same : x.begun ≡ (begun, last) = ap (λ (l : List (Stores × ℕ)). head_or (begun, last) l) (sym x.base_is) in
     subst (λ (b : Stores × ℕ). NotesLead b.1 b.0 notes now stores) same x.leads
   where
@@ -35,22 +37,36 @@ pub on_ok_map : {A E P Q : Type 0} (r : Result A E) → (P → Q) → OnOk r P �
 on_ok_map (Ok a) f p = f p
 on_ok_map (Err e) f p = tt
 
+-- the notes are begun anew, as the code says it: by the stores and the moment afterwards
+abbrev pub begun_from : Server → Server → ℕ → Server
+begun_from old new given = record old { noting = record { keeps = old.noting.keeps; base = (stores_in new, new.last) ∷ []; given = given } }
+
+pub begun_anew : (old new : Server) (given : ℕ) → new ≡ begun_from old new given → new ≡ with_room given old
+begun_anew old new given is =
+    let last : new.last ≡ old.last = ap (λ (v : Server). v.last) is in
+    let stores : stores_in new ≡ stores_in old = ap stores_in is in
+    is ∙ ap (λ (s : Stores). record old { noting = record { keeps = old.noting.keeps; base = (s, new.last) ∷ []; given = given } }) stores
+    ∙ ap (λ (n : ℕ). record old { noting = record { keeps = old.noting.keeps; base = (stores_in old, n) ∷ []; given = given } }) last
+
 -- notes that were taken behind an answer
-pub takes_notes : (old new : Server) (notes : List Noted) → KeptNotes old.noting.0 old.noting.1 notes new.last (stores_in new) → AreChanges notes
-    → new ≡ record old { noting = (old.noting.0, (stores_in new, new.last) ∷ []) } → TakesNotes old notes new
-takes_notes old new notes k changes is =
+pub takes_notes : (old new : Server) (notes : List Noted) → KeptNotes old.noting.keeps old.noting.base notes new.last (stores_in new) → AreChanges notes → notes_cost notes ≤ old.noting.given
+    → new ≡ begun_from old new old.noting.given → TakesNotes old notes new
+takes_notes old new notes k changes cost is =
     let last : new.last ≡ old.last = ap (λ (v : Server). v.last) is in
     let stores : stores_in new ≡ stores_in old = ap stores_in is in
     record {
-      kept = subst (λ (n : ℕ). KeptNotes old.noting.0 old.noting.1 notes n (stores_in old)) last (subst (λ (s : Stores). KeptNotes old.noting.0 old.noting.1 notes new.last s) stores k);
+      kept = subst (λ (n : ℕ). KeptNotes old.noting.keeps old.noting.base notes n (stores_in old)) last (subst (λ (s : Stores). KeptNotes old.noting.keeps old.noting.base notes new.last s) stores k);
       changes = changes;
-      server = is ∙ ap (λ (s : Stores). record old { noting = (old.noting.0, (s, new.last) ∷ []) }) stores ∙ ap (λ (n : ℕ). record old { noting = (old.noting.0, (stores_in old, n) ∷ []) }) last;
+      cost = cost;
+      server = begun_anew old new old.noting.given is;
     }
 
 module _ {C : Type 0} where
   -- a turn begins
   begun_stands : (tells : C → Option ℕ → C → Type 0) (records : List (List ℕ)) (s s' : KeptServer C) (number : ℕ) → StandsForServer records s → BeginsKept tells s number s' → StandsForServer records s'
-  begun_stands tells records s s' number h x = stands_alike records s s' (same_but_clock x.begins.0 s.timing.server s'.timing.server x.begins.2) x.header h
+  begun_stands tells records s s' number h x =
+      let roomed = record s { timing = record { server = with_room x.given s.timing.server; clock = s.timing.clock } } in
+      stands_alike records roomed s' (same_but_clock x.begins.0 roomed.timing.server s'.timing.server x.begins.2) x.header (stands_roomed x.given records s h)
 
   -- ---- a call
 
@@ -85,11 +101,12 @@ module _ {C : Type 0} where
   led_call : (records : List (List ℕ)) (s s' : KeptServer C) (request : Request (List ℕ)) (response : Response) → StandsForServer records s → RepliesKept s request response s' → Leads records s'
   led_call records s s' request response h x =
       let mid = x.answered.server in
-      let kept_is : mid.noting ≡ (true, (stores_in s.timing.server, s.timing.server.last) ∷ []) = x.replies.1.moves.noting ∙ h.fresh in
-      let more = led_from mid.noting (stores_in s.timing.server) s.timing.server.last s'.notes mid.last (stores_in mid) kept_is x.takes.kept in
+      let keeps : mid.noting.keeps ≡ true = ap (λ (n : Noting). n.keeps) x.replies.1.moves.noting ∙ h.fresh.0 in
+      let base : mid.noting.base ≡ (stores_in s.timing.server, s.timing.server.last) ∷ [] = ap (λ (n : Noting). n.base) x.replies.1.moves.noting ∙ h.fresh.1 in
+      let more = led_from mid.noting (stores_in s.timing.server) s.timing.server.last s'.notes mid.last (stores_in mid) keeps base x.takes.kept in
       let state_is : s'.timing.server.state ≡ mid.state = ap (λ (v : Server). v.state) x.takes.server in
       let last_is : s'.timing.server.last ≡ mid.last = ap (λ (v : Server). v.last) x.takes.server in
-      let noting_is : s'.timing.server.noting ≡ (mid.noting.0, (stores_in mid, mid.last) ∷ []) = ap (λ (v : Server). v.noting) x.takes.server in
+      let noting_is : s'.timing.server.noting ≡ (with_room mid.noting.given mid).noting = ap (λ (v : Server). v.noting) x.takes.server in
       record {
         old = h.old;
         start = h.start;
@@ -100,7 +117,7 @@ module _ {C : Type 0} where
         are = h.are;
         all = h.all;
         leads = rw (state_is, last_is) (leads_join h.from s.timing.server.last mid.last h.start (stores_in s.timing.server) (stores_in mid) (flat_map (λ (notes : List Noted). notes) h.calls) s'.notes h.leads more);
-        fresh = noting_is ∙ rw (state_is, last_is) (ap (λ (n : Bool × List (Stores × ℕ)). (n.0, (stores_in mid, mid.last) ∷ [])) kept_is);
+        fresh = (ap (λ (n : Noting). n.keeps) noting_is ∙ keeps, rw (state_is, last_is) (ap (λ (n : Noting). n.base) noting_is));
       }
 
   -- whatever the service is of which that is seen

@@ -6,7 +6,7 @@ use Rattle.dav_kept_core.specs.KeptServers.{KeptServer}
 
 -- the server, of which no notes are kept
 abbrev pub bare : Server → Server
-bare s = record s { noting = (false, []) }
+bare s = record s { noting = record { keeps = false; base = []; given = 0 } }
 
 -- the bare server of a kept one, and its clock
 abbrev pub as_served : {C : Type 0} → KeptServer C → Timing C

@@ -1,5 +1,5 @@
 -- A server whose stores are kept: what its last call changed is at hand, and records stand for it (own).
-use Rattle.std.specs.Prelude.{◌≡◌, ℕ, Bool, true, not, List, [], ◌∷◌, ◌++◌, map, Option, Result}
+use Rattle.std.specs.Prelude.{◌≡◌, ◌≤◌, ◌+◌, ◌==◌, if◌then◌else◌, ℕ, Bool, true, not, List, [], ◌∷◌, ◌++◌, map, Option, Result}
 use Rattle.std.specs.List.{flat_map}
 use Rattle.rand_core.specs.Stream.{Stream}
 use Rattle.http.specs.declared.request.Request.{Request}
@@ -11,6 +11,7 @@ use Rattle.journal_core.specs.declared.journal.Journal.{Journal}
 use Rattle.kept_frames.specs.KeptRuns.{RunsKept}
 use Rattle.kept_frames.specs.LateRuns.{RunsLate}
 use Rattle.dav_resource_core.specs.Stores.{Stores}
+use Rattle.dav_notes_core.specs.Costs.{notes_cost}
 use Rattle.dav_notes_core.specs.Noting.{AreChanges, Noted, note_of}
 use Rattle.dav_notes_core.specs.PlayedNotes.{NotesLead}
 use Rattle.dav_notes_core.specs.Seen.{KeptNotes}
@@ -35,22 +36,36 @@ stores_in s = record { map = s.state.map; locks = s.state.locks }
 
 -- notes are kept, and none was made since the last ones were taken
 abbrev pub IsFresh : Server → Type 0
-IsFresh s = s.noting ≡ (true, (stores_in s, s.last) ∷ [])
+IsFresh s = (s.noting.keeps ≡ true) × (s.noting.base ≡ (stores_in s, s.last) ∷ [])
+
+-- the notes are begun anew, and may have so many bytes
+abbrev pub with_room : ℕ → Server → Server
+with_room bytes s = record s { noting = record { keeps = s.noting.keeps; base = (stores_in s, s.last) ∷ []; given = bytes } }
+
+-- How many bytes the records of notes have in a round, where the notes may have so many: 24 more, and none where there is room for none.
+abbrev pub room_of : ℕ → ℕ
+room_of given = if given == 0 then 0 else given + 24
+
+-- of what the next call changes
+abbrev pub record_room : {C : Type 0} → KeptServer C → ℕ
+record_room s = room_of s.timing.server.noting.given
 
 -- ---- what each step of a run does
 
--- the turn begins, and the last call's notes are dropped
+-- the turn begins, with some room for its notes, and the last call's notes are dropped
 pub record BeginsKept {C : Type 0} (tells : C → Option ℕ → C → Type 0) (old : KeptServer C) (number : ℕ) (new : KeptServer C) : Type 0 where
-  pub begins : BeginsTurn tells old.timing number new.timing
+  pub given : ℕ
+  pub begins : BeginsTurn tells (record { server = with_room given old.timing.server; clock = old.timing.clock }) number new.timing
   pub notes : new.notes ≡ []
   pub turn : new.turn ≡ not old.turn
   pub header : new.header ≡ old.header
 
--- the notes are those of what was changed, and the next ones begin here
+-- the notes are those of what was changed, they cost no more than was given, and the next ones begin here
 pub record TakesNotes (old : Server) (notes : List Noted) (new : Server) : Type 0 where
-  pub kept : KeptNotes old.noting.0 old.noting.1 notes old.last (stores_in old)
+  pub kept : KeptNotes old.noting.keeps old.noting.base notes old.last (stores_in old)
   pub changes : AreChanges notes
-  pub server : new ≡ record old { noting = (old.noting.0, (stores_in old, old.last) ∷ []) }
+  pub cost : notes_cost notes ≤ old.noting.given
+  pub server : new ≡ with_room old.noting.given old
 
 -- the call is answered, and then its notes are taken
 pub record RepliesKept {C : Type 0} (old : KeptServer C) (request : Request (List ℕ)) (response : Response) (new : KeptServer C) : Type 0 where

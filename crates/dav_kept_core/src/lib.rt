@@ -10,6 +10,6 @@ mod serving;
 
 pub use laws::stores_open_again;
 pub use recorded::Recorded;
-pub use rooms::tree_of;
+pub use rooms::Tree;
 pub use run_laws::{kept_runs_are_served, lives_go_on};
 pub use serving::{serve_store, serve_store_late};

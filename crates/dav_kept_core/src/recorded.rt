@@ -3,10 +3,10 @@ ghost use Rattle.std.specs.Prelude.{◌≡◌, ◌≤◌, ℕ, List};
 ghost use Rattle.dav_store_core.specs.StandingFor.{StandFor};
 ghost use Rattle.dav_handler_core.specs.ServerViews.{server};
 ghost use Rattle.dav_kept_core.specs.Private.StandLaws.{clocked_stands, listed_stands, turn_told};
-ghost use Rattle.dav_kept_core.specs.KeptServers.{BeginsKept, ClockedKept, IsFresh, ListedKept, RepliesKept, StandsForServer, kept_server, stores_in};
+ghost use Rattle.dav_kept_core.specs.KeptServers.{BeginsKept, ClockedKept, IsFresh, ListedKept, RepliesKept, StandsForServer, kept_server, record_room, stores_in};
 
 use crate::last_notes::LastNotes;
-use crate::rooms::{most_room, room_for, tree_after};
+use crate::rooms::Tree;
 use bytes::Bytes;
 use dav_effects_core::write;
 use dav_handler_core::serving::{Clock, Timed};
@@ -28,15 +28,16 @@ pub struct Recorded<R, C> {
     last: LastNotes,
     turn: bool,
     header: Header,
-    // How many bytes a record may have that names all that stands.
-    tree: u64,
+    tree: Tree,
 }
+
+/// What a record has beside what its notes cost, and the round beside the record, at most (own).
+const BESIDE: u64 = 24;
 
 impl<R: Rng, C: Clock> Recorded<R, C> {
     /// This server, whose stores a journal with this header keeps (own). Records that stand for its
-    /// stores stand for it, where it keeps notes and none was made. A record that names all that
-    /// stands there has so many bytes at most, as `tree_of` tells.
-    pub fn new(alloc: Global, timed: Timed<R, C>, header: Header, tree: u64) -> Recorded<R, C>
+    /// stores stand for it, where it keeps notes and none was made. The tree is that of its stores.
+    pub fn new(alloc: Global, timed: Timed<R, C>, header: Header, tree: Tree) -> Recorded<R, C>
         ensures { (records : List (List ℕ)) (last : ℕ)
             → StandFor header records (stores_in (server R.stream timed.dav)) last
             → last ≤ (server R.stream timed.dav).last → IsFresh (server R.stream timed.dav)
@@ -53,6 +54,21 @@ impl<R: Rng, C: Clock> Recorded<R, C> {
     }
 }
 
+impl<R: Rng, C: Clock> Recorded<R, C> {
+    // Counts the tree again where what is known of it may be far too much. Where there is no memory for
+    // that, it stays.
+    fn count_again(&mut self)
+        ensures { kept_server R.stream self.new ≡ kept_server R.stream self.old }
+    {
+        if !self.tree.is_stale() {
+            return;
+        }
+        if let Ok(tree) = Tree::of(self.alloc, self.timed.dav.stores()) {
+            self.tree = tree;
+        }
+    }
+}
+
 impl<R: Rng, C: Clock> Service for Recorded<R, C> {
     ghost answers = { λ old request response new. RepliesKept (kept_server R.stream old) request response (kept_server R.stream new) };
 
@@ -63,7 +79,8 @@ impl<R: Rng, C: Clock> Service for Recorded<R, C> {
     ) -> Result<(), AllocError> {
         self.timed.call(request, response)?;
         self.last = LastNotes::of(self.timed.dav.take_notes());
-        self.tree = tree_after(self.tree, &self.last.notes, response.status);
+        self.tree.note(&self.last.notes, response.status);
+        self.count_again();
         Ok(())
     }
 }
@@ -75,32 +92,21 @@ impl<R: Rng, C: Clock> TurnService for Recorded<R, C> {
 
     ghost listed = { λ old file new. ListedKept (kept_server R.stream old) file (kept_server R.stream new) };
 
-    fn begin_turn(&mut self, number: u64, address: &[u8]) {
+    ghost room = { λ s. record_room (kept_server R.stream s) };
+
+    fn begin_turn(&mut self, number: u64, address: &[u8], bytes: u64) {
         self.last = LastNotes::none(self.alloc);
         self.turn = !self.turn;
-        self.timed.begin_turn(number, address);
+        self.timed.dav.set_room(bytes.saturating_sub(BESIDE));
+        self.timed.begin_turn(number, address, bytes);
     }
 
     fn own_len(&self, request: &Request<Bytes>, response: &Response) -> u64 {
         self.timed.own_len(request, response)
     }
 
-    fn room_for(&self, request: &Request<Bytes>) -> u64 {
-        room_for(request, self.tree)
-    }
-
     fn most_room(&self, bytes: u64) -> u64 {
-        most_room(bytes, self.tree)
-    }
-
-    fn refuse_for_room(
-        &mut self,
-        request: &Request<Bytes>,
-        response: &mut Response,
-    ) -> Result<(), AllocError> {
-        self.timed.refuse_for_room(request, response)?;
-        self.last = LastNotes::of(self.timed.dav.take_notes());
-        Ok(())
+        self.tree.most_room(bytes)
     }
 
     fn set_clock(&mut self, moment: u64) {

@@ -1,11 +1,12 @@
-//! How many bytes the record of what a request changes may have. No clause speaks of it: the
-//! numbers are to be no less than what is written, and not much more.
-use bytes::Bytes;
+//! How much room in the file a request may need for the record of what it changes. No clause speaks of
+//! it: a request is told what room there is, and is refused where its notes would cost more.
 use dav_notes_core::notes::Note;
 use dav_resource_core::davpath::DavPath;
+use dav_resource_core::fs::DavMetaData;
 use dav_resource_core::guarded::{Command, Guarded};
-use dav_resource_core::util::DavMethod;
-use http::{Request, StatusCode};
+use http::StatusCode;
+use std::alloc::{AllocError, Global};
+use std::collections::HashMap;
 
 /// The last bytes of the room, which a DELETE and an UNLOCK alone may use (own).
 const LAST: u64 = 1024 * 1024;
@@ -14,105 +15,115 @@ const LAST: u64 = 1024 * 1024;
 /// (own).
 const LEAST: u64 = 4096;
 
-/// So many bytes of a request are counted sixteen times (own).
+/// So many bytes of a request are counted sixteen times: a property, a short one above all, has more
+/// bytes in a record than in its request (own).
 const SPREAD: u64 = 64 * 1024;
 
-/// What a record has for each path beside its name, at most (own).
-const ENTRY: u64 = 64;
+/// What a note costs beside its texts (own).
+const ENTRY: u64 = 104;
 
-/// So many bytes of a COPY's target and headers are counted for each path that is copied (own).
-const BASE: u64 = 256;
+/// So many bytes of a COPY's target, and of who asks, are counted for each path that is copied (own).
+const BASE: u64 = 160;
 
-/// How many bytes a record may have that names each folder and file of the stores, one behind
-/// another in the order of a walk (own).
-pub fn tree_of(stores: &Guarded) -> u64 {
-    let mut sum = 0u64;
-    for stored in stores.walk() {
-        sum = sum.saturating_add(name_room(stored.name()));
+/// What stands in the stores, as far as it tells how much room a request may need: how many folders
+/// and files, and how many bytes their paths have together, or more (own).
+#[derive(Drop)]
+pub struct Tree {
+    count: u64,
+    paths: u64,
+    // How many bytes the paths had when they were counted last.
+    counted: u64,
+}
+
+impl Tree {
+    /// That of the stores. `AllocError` where there is no memory to count it.
+    pub fn of(alloc: Global, stores: &Guarded) -> Result<Tree, AllocError> {
+        let mut folders = HashMap::new(alloc);
+        let mut count = 0u64;
+        let mut paths = 0u64;
+        for stored in stores.walk() {
+            let above = match stored.folder() {
+                Some(folder) => folders.get(&folder).copied().unwrap_or(0),
+                None => 0,
+            };
+            let path = name_len(stored.name()).saturating_add(above);
+            if stored.meta().is_dir() {
+                folders.insert(stored.number(), path)?;
+            }
+            count = count.saturating_add(1);
+            paths = paths.saturating_add(path);
+        }
+        Ok(Tree {
+            count,
+            paths,
+            counted: paths,
+        })
     }
-    sum
-}
 
-/// The same once these notes were made of the request that was answered with this status, where it
-/// was so many bytes before.
-pub(crate) fn tree_after(tree: u64, notes: &[Note], status: StatusCode) -> u64 {
-    let created = status == StatusCode::CREATED;
-    let mut sum = tree;
-    for note in notes {
-        sum = tree_with(sum, &note.request.command, created);
+    /// Notes what a request that was answered with this status changed.
+    pub(crate) fn note(&mut self, notes: &[Note], status: StatusCode) {
+        let created = status == StatusCode::CREATED;
+        for note in notes {
+            self.note_command(&note.request.command, created);
+        }
     }
-    sum
-}
 
-fn tree_with(tree: u64, command: &Command, created: bool) -> u64 {
-    match command {
-        Command::Put { path, .. } if created => more(tree, path),
-        Command::MkCol { path } => more(tree, path),
-        Command::Copy { to, .. } => more(tree, to),
-        Command::Move { from, to } => less(more(tree, to), from),
-        Command::Remove { path } => less(tree, path),
-        _ => tree,
+    /// Whether the paths may have grown so far from what was counted that they are to be counted again.
+    pub(crate) fn is_stale(&self) -> bool {
+        self.paths > self.counted.saturating_mul(2).saturating_add(LAST)
     }
-}
 
-fn more(tree: u64, path: &DavPath) -> u64 {
-    tree.saturating_add(name_room(path.file_name_bytes()))
-}
+    /// How much room a request of so many bytes may need; so much more is left for a DELETE and an
+    /// UNLOCK. A COPY needs most: it takes away what stands at its target, and names each path that is
+    /// copied as it is and as it will be.
+    pub(crate) fn most_room(&self, bytes: u64) -> u64 {
+        let base = bytes.min(BASE).saturating_mul(3);
+        let each = ENTRY.saturating_mul(2).saturating_add(base);
+        sent_room(bytes)
+            .saturating_add(self.paths.saturating_mul(3))
+            .saturating_add(self.count.saturating_mul(each))
+            .saturating_add(LAST)
+    }
 
-fn less(tree: u64, path: &DavPath) -> u64 {
-    tree.saturating_sub(name_room(path.file_name_bytes()))
-}
+    fn note_command(&mut self, command: &Command, created: bool) {
+        match command {
+            Command::Put { path, .. } if created => self.add(path),
+            Command::MkCol { path } => self.add(path),
+            Command::Copy { to, .. } => self.add(to),
+            Command::Move { from, to } => self.rename(from, to),
+            Command::Remove { path } => self.remove(path),
+            _ => {}
+        }
+    }
 
-// Of a folder or file with this name.
-fn name_room(name: &[u8]) -> u64 {
-    (name.len() as u64).saturating_mul(2).saturating_add(ENTRY)
-}
+    fn add(&mut self, path: &DavPath) {
+        self.count = self.count.saturating_add(1);
+        self.paths = self.paths.saturating_add(path_len(path));
+    }
 
-/// How many bytes the record of what the request changes may have, where the whole tree has so
-/// many; 0 where it changes nothing that is kept. What is left behind it is counted with it: only a
-/// DELETE and an UNLOCK may use the last of the room (own).
-pub(crate) fn room_for(request: &Request<Bytes>, tree: u64) -> u64 {
-    let Ok(method) = DavMethod::try_from(request.method()) else {
-        return 0;
-    };
-    let length = length_of(request);
-    match method {
-        DavMethod::Put | DavMethod::MkCol => sent_room(length).saturating_add(LAST),
-        DavMethod::PropPatch | DavMethod::Lock => sent_room(length).saturating_add(LAST),
-        DavMethod::Copy => copy_room(length, tree).saturating_add(LAST),
-        DavMethod::Move => sent_room(length).saturating_add(tree).saturating_add(LAST),
-        DavMethod::Delete => sent_room(length).saturating_add(tree),
-        DavMethod::Unlock => sent_room(length),
-        _ => 0,
+    fn remove(&mut self, path: &DavPath) {
+        self.count = self.count.saturating_sub(1);
+        self.paths = self.paths.saturating_sub(path_len(path));
+    }
+
+    // All that stands may stand below the path.
+    fn rename(&mut self, from: &DavPath, to: &DavPath) {
+        let longer = path_len(to).saturating_sub(path_len(from));
+        self.paths = self.paths.saturating_add(self.count.saturating_mul(longer));
     }
 }
 
-/// No less than that of any request that has so many bytes.
-pub(crate) fn most_room(bytes: u64, tree: u64) -> u64 {
-    copy_room(bytes, tree).saturating_add(LAST)
+// With the slash behind it.
+fn name_len(name: &[u8]) -> u64 {
+    (name.len() as u64).saturating_add(1)
 }
 
-// Of a request of so many bytes that names no path but those that it sends. A property, a short one above all, has more bytes in a record than in its request.
+fn path_len(path: &DavPath) -> u64 {
+    (path.as_bytes().len() as u64).saturating_add(1)
+}
+
+// Of a request of so many bytes that names no path but those that it sends.
 fn sent_room(length: u64) -> u64 {
     let spread = length.min(SPREAD).saturating_mul(15);
     length.saturating_add(spread).saturating_add(LEAST)
-}
-
-// Of a COPY. It takes away what stands at its destination, and names each path that is copied once
-// as it is and once as it will be.
-fn copy_room(length: u64, tree: u64) -> u64 {
-    let bases = (tree / ENTRY).saturating_mul(length.min(BASE));
-    sent_room(length)
-        .saturating_add(tree.saturating_mul(2))
-        .saturating_add(bases)
-}
-
-// How many bytes the target, the values of the headers and the body have.
-fn length_of(request: &Request<Bytes>) -> u64 {
-    let target = request.uri().path().len() as u64;
-    let mut sum = target.saturating_add(request.body().len() as u64);
-    for value in request.headers().values() {
-        sum = sum.saturating_add(value.as_bytes().len() as u64);
-    }
-    sum
 }

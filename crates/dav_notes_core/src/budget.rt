@@ -1,5 +1,5 @@
 //! How many bytes notes may have in a record, and how many of them are left.
-ghost use Rattle.std.specs.Prelude.{◌≡◌, ◌≤◌, ◌-◌, if◌then◌else◌, max};
+ghost use Rattle.std.specs.Prelude.{◌≡◌, ◌≤◌, ◌-◌, if◌then◌else◌, max, min};
 ghost use Rattle.dav_notes_core.specs.Costs.{budget_of};
 
 // What is given, what of it is left, and what of that is set aside.
@@ -42,6 +42,16 @@ impl Budget {
         ensures held { self.new.held ≡ 0 }
     {
         self.held = 0;
+    }
+
+    /// So many bytes fewer are left, or none.
+    pub(crate) fn withhold(&mut self, bytes: u64)
+        ensures given { self.new.given ≡ self.old.given }
+        ensures left { self.new.left ≡ self.old.left - bytes }
+        ensures held { self.new.held ≡ min self.old.held (self.old.left - bytes) }
+    {
+        self.left = self.left.saturating_sub(bytes);
+        self.held = self.held.min(self.left);
     }
 
     /// Sets so many of those that are left aside, or as many as were.

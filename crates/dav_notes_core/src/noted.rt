@@ -125,6 +125,16 @@ impl NotedStores {
         self.base = base;
     }
 
+    /// So many bytes fewer are left for notes, or none, until the notes are taken or begun anew (own).
+    pub fn withhold(&mut self, bytes: u64)
+        ensures { self.new ≡ record self.old {
+          held = self.new.held;
+          left = self.old.left - bytes;
+        } }
+    {
+        self.budget.withhold(bytes);
+    }
+
     /// Names who asks from now on (own): where notes are kept, at a moment that is not before the
     /// last caller's. The room that was made is gone then.
     pub fn begin(&mut self, who: Sender)

@@ -41,8 +41,10 @@ module _ {R : Type 0} (stream : R → Stream) (old new : Session R) where
     same = state_as old.stores stores rng;
   }
 
-  pub same_noting : new.stores.keeps ≡ old.stores.keeps → new.stores.base ≡ old.stores.base → noting new ≡ noting old
-  same_noting keeps base = ap (λ (b : Bool). (b, new.stores.base)) keeps ∙ ap (λ (xs : List (Stores × ℕ)). (old.stores.keeps, xs)) base
+  pub same_noting : new.stores.keeps ≡ old.stores.keeps → new.stores.base ≡ old.stores.base → new.stores.given ≡ old.stores.given → noting new ≡ noting old
+  same_noting keeps base given =
+      ap (λ (b : Bool). record { keeps = b; base = new.stores.base; given = new.stores.given }) keeps ∙ ap (λ (xs : List (Stores × ℕ)). record { keeps = old.stores.keeps; base = xs; given = new.stores.given }) base
+      ∙ ap (λ (n : ℕ). record { keeps = old.stores.keeps; base = old.stores.base; given = n }) given
 
   -- the room stays
   pub room_kept : new.stores.keeps ≡ old.stores.keeps → new.stores.room ≡ old.stores.room → new.stores.held ≡ old.stores.held → KeepsRoom old new

@@ -6,7 +6,7 @@ use Rattle.dav_resource_core.specs.Step.{State}
 use Rattle.dav_resource_core.specs.Stores.{Stores, state_of}
 use Rattle.dav_notes_core.specs.Ahead.{ahead}
 use Rattle.dav_notes_core.specs.Costs.{cost_for}
-use Rattle.dav_notes_core.specs.Seen.{HasNoteRoom}
+use Rattle.dav_notes_core.specs.Seen.{HasNoteRoom, Seen}
 use Rattle.dav_session_core.specs.declared.session.Session.{Session}
 use Rattle.dav_session_core.specs.Callers.{Asks, Caller, RunBy, SameLive, live, Runs}
 
@@ -21,9 +21,17 @@ caller s = s.stores.who
 abbrev pub stores_behind : {R : Type 0} → Session R → Stores
 stores_behind s = s.stores.stores
 
--- whether notes are kept, and the stores and the moment where they begin
-abbrev pub noting : {R : Type 0} → Session R → Bool × List (Stores × ℕ)
-noting s = (s.stores.keeps, s.stores.base)
+-- whether notes are kept, the stores and the moment where they begin, and how many bytes they may have in a record
+pub record Noting : Type 0 where
+  pub keeps : Bool
+  pub base : List (Stores × ℕ)
+  pub given : ℕ
+
+abbrev pub noting_in : Seen → Noting
+noting_in seen = record { keeps = seen.keeps; base = seen.base; given = seen.given }
+
+abbrev pub noting : {R : Type 0} → Session R → Noting
+noting s = noting_in s.stores
 
 -- how many bytes the notes may still have in a record
 abbrev pub bytes_left : {R : Type 0} → Session R → ℕ

@@ -2,7 +2,7 @@
 //! are a run of one caller's requests.
 #![tactic(auto, using(crate::proofs::Looking::looks_follow))]
 
-ghost use Rattle.std.specs.Prelude.{◌≡◌, ◌≤◌, ◌<◌, ◌⊎◌, ℕ, IfErr, true, false, None, [], ◌∷◌, IsOk, OnErr, OnOk};
+ghost use Rattle.std.specs.Prelude.{◌≡◌, ◌≤◌, ◌<◌, ◌⊎◌, ◌-◌, ◌^◌, ℕ, IfErr, true, false, None, [], ◌∷◌, IsOk, OnErr, OnOk};
 ghost use Rattle.std.specs.Prelude.{option_map, string_bytes, map};
 ghost use Rattle.rand_core.specs.Stream.{fill_bytes};
 ghost use Rattle.dav_locks_core.specs.Exclusive.{Exclusive};
@@ -11,7 +11,7 @@ ghost use Rattle.dav_resource_core.specs.Step.{State, Step};
 ghost use Rattle.dav_resource_core.specs.Served.{command_of, answer_of};
 ghost use Rattle.dav_resource_core.specs.Stores.{state_of};
 ghost use Rattle.dav_notes_core.specs.Ahead.{ahead};
-ghost use Rattle.dav_notes_core.specs.Costs.{in_eight_bytes};
+ghost use Rattle.dav_notes_core.specs.Costs.{budget_of, in_eight_bytes, notes_cost};
 ghost use Rattle.dav_notes_core.specs.Noting.{AreChanges, note_of};
 ghost use Rattle.dav_notes_core.specs.Seen.{KeptNotes};
 ghost use Rattle.dav_session_core.specs.Callers.{Asked, AskedNaming, Caller, RunBy, KeepsApart};
@@ -68,7 +68,11 @@ impl<R: Rng + Drop> Session<R> {
         ensures state { state R.stream result
             ≡ state_of stores (ahead (fill_bytes 16 (R.stream rng))) }
         ensures caller { caller result ≡ record { principal = None; tokens = []; now = now.0 } }
-        ensures noting { noting result ≡ (keeps, (stores, now.0) ∷ []) }
+        ensures noting { noting result ≡ record {
+          keeps = keeps;
+          base = (stores, now.0) ∷ [];
+          given = 2 ^ 64 - 2;
+        } }
     {
         let mut rng = rng;
         let nobody = Sender {
@@ -179,7 +183,7 @@ impl<R: Rng> Session<R> {
         ensures no_room { IfErr result (λ e. e ≡ room_error.NoRoom
             → bytes_left self.old < bytes) }
         ensures same { IsAsBefore R.stream self.old self.new }
-        ensures sure { (noting self.old).0 ≡ false → IsOk result }
+        ensures sure { (noting self.old).keeps ≡ false → IsOk result }
     {
         match self.stores.make_room(count, bytes) {
             Ok(()) => Ok(()),
@@ -189,9 +193,16 @@ impl<R: Rng> Session<R> {
     }
 
     /// Names who asks from now on: the principal, the tokens that are submitted, and the moment
-    /// (own). Where notes are kept, moments don't go back. The room that was made is gone then.
-    pub fn begin(&mut self, principal: Option<String>, tokens: Vec<String>, now: Moment)
-        requires later { (noting self.old).0 ≡ true → (caller self.old).now ≤ now.0 }
+    /// (own). Where notes are kept, moments don't go back. The room that was made is gone then, and
+    /// so many bytes fewer are left for notes, or none, until they are taken or begun anew.
+    pub fn begin(
+        &mut self,
+        principal: Option<String>,
+        tokens: Vec<String>,
+        now: Moment,
+        withheld: u64,
+    )
+        requires later { (noting self.old).keeps ≡ true → (caller self.old).now ≤ now.0 }
         ensures caller { caller self.new ≡ record {
           principal = option_map string_bytes principal;
           tokens = map string_bytes tokens.items;
@@ -199,30 +210,57 @@ impl<R: Rng> Session<R> {
         } }
         ensures state { state R.stream self.new ≡ state R.stream self.old }
         ensures noting { noting self.new ≡ noting self.old }
+        ensures left { bytes_left self.new ≡ bytes_left self.old - withheld }
     {
         self.stores.begin(Sender {
             principal,
             tokens,
             now,
         });
+        self.stores.withhold(withheld);
+    }
+
+    /// Begins the notes anew, which may have so many bytes in a record from now on, though less than
+    /// `u64::MAX` (own). Those that weren't taken are dropped, and the room that was made is gone.
+    pub fn set_room(&mut self, bytes: u64)
+        ensures noting { noting self.new ≡ record {
+          keeps = (noting self.old).keeps;
+          base = (stores_behind self.new, (caller self.new).now) ∷ [];
+          given = budget_of bytes;
+        } }
+        ensures left { bytes_left self.new ≡ budget_of bytes }
+        ensures caller { caller self.new ≡ caller self.old }
+        ensures state { state R.stream self.new ≡ state R.stream self.old }
+    {
+        self.stores.set_room(bytes);
     }
 
     /// The notes of what has changed since they were taken last, and none where none are kept (own).
-    /// The room that was made is gone then.
+    /// The room that was made is gone then, and the next notes may have as many bytes as these.
     pub fn take(&mut self) -> Vec<Note>
-        ensures notes { KeptNotes (noting self.old).0 (noting self.old).1 (map note_of result.items)
-            (caller self.new).now (stores_behind self.new) }
+        ensures notes { KeptNotes (noting self.old).keeps (noting self.old).base
+            (map note_of result.items) (caller self.new).now (stores_behind self.new) }
         // Each is of a command that changes something.
         ensures changes { AreChanges (map note_of result.items) }
+        // They cost no more bytes than were given.
+        ensures cost { notes_cost (map note_of result.items) ≤ (noting self.old).given }
         // The next notes begin here.
-        ensures noting { noting self.new ≡ (
-          (noting self.old).0,
-          (stores_behind self.new, (caller self.new).now) ∷ [],
-        ) }
+        ensures noting { noting self.new ≡ record {
+          keeps = (noting self.old).keeps;
+          base = (stores_behind self.new, (caller self.new).now) ∷ [];
+          given = (noting self.old).given;
+        } }
         ensures caller { caller self.new ≡ caller self.old }
         ensures state { state R.stream self.new ≡ state R.stream self.old }
     {
         self.stores.take()
+    }
+
+    /// The stores.
+    pub fn stores(&self) -> &Guarded
+        ensures { result.now ≡ stores_behind self.now }
+    {
+        self.stores.stores()
     }
 
     /// The principal of the caller.

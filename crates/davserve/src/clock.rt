@@ -3,7 +3,6 @@ ghost use Rattle.std.specs.Prelude.{◌≡◌, None, false};
 
 use dav_handler_core::serving::Clock;
 use dav_resource_core::fs::Moment;
-use std::io;
 use work_progress::now;
 
 /// The system's clock, where it is the one that counts.
@@ -20,13 +19,5 @@ impl Clock for SystemClock<'_> {
 
     fn moment(&mut self) -> Option<Moment> {
         if self.runs { now(self.rt).ok() } else { None }
-    }
-}
-
-/// The moment at which the server begins: the one that is chosen, or else the system's. `Err` where the system does not tell it.
-pub fn first_moment(rt: &HostRuntime, chosen: Option<u64>) -> io::Result<Moment> {
-    match chosen {
-        Some(nanoseconds) => Ok(Moment(nanoseconds)),
-        None => now(rt),
     }
 }

@@ -1,44 +1,25 @@
 //! Serves many connections on standard input and output, in frames, or one without them: a WebDAV server over stores in memory.
 #![tactic(auto)]
 
-mod choices;
 mod clock;
-mod fronts;
-mod host;
-mod limits;
-mod log;
-mod logins;
-mod stopped;
-mod stored;
-mod streams;
 
-use choices::{Choices, Unread};
-use clock::{SystemClock, first_moment};
-use dav_handler_core::dav::Dav;
-use dav_handler_core::serving::{Clock, Timed, serve_frames, serve_one};
-use dav_resource_core::guarded::Guarded;
-use fronts::{Fronts, Logging};
+use clock::SystemClock;
+use dav_handler_core::serving::Clock;
 use http_frames::frames::Frames;
-use http_frames::gate::{OneCall, TurnService};
-use http_frames::serving::{End, serve as serve_turns};
-use http_server::Connection;
+use http_frames::serving::End;
 use kept_frames::Told;
-use limits::{BUFFER, Limits};
 use line_streams::Fault;
-use logins::{chosen_users, login_over};
 use rand::make_rng;
 use rand_chacha::ChaCha20Rng;
 use rand_core::{Rng, SeedableRng};
-use read_only::ReadOnly;
-use request_log::Logged;
+use served_in_memory::{serve_in_memory, serve_single};
+use served_stores::{Keeping, serve_stored};
+use server_choices::{BUFFER, Choices, Limits, Unread, chosen_fronts, chosen_users};
+use server_fronts::{Stopped, Streams, first_moment};
 use std::alloc::AllocError;
-use std::hash::RandomState;
 use std::io::{self, BufWriter, ErrorKind, Read, Write};
 use std::process::ExitCode;
 use std::{env, mem};
-use stopped::Stopped;
-use stored::serve_stored;
-use streams::Streams;
 
 // What is told at the start where no file keeps the stores.
 const IN_MEMORY: &str = "what is stored is in memory alone, and gone when the server ends\n";
@@ -104,7 +85,7 @@ fn main(rt: HostRuntime) -> ExitCode {
 fn run(rt: &HostRuntime, choices: Choices) -> Result<End, Stopped> {
     let rng = generator(rt, choices.seed)?;
     if choices.one {
-        return Ok(serve_single(rt, choices, rng, &mut rt.stdin(), &mut rt.stdout())?);
+        return serve_connection(rt, choices, rng);
     }
     let clock = SystemClock {
         rt,
@@ -135,14 +116,20 @@ fn serve<R: Rng + Drop, C: Clock + Drop, I: Read + Drop, O: Write + Drop>(
 ) -> Result<End, Stopped> {
     let limits = Limits::of(&choices);
     let users = chosen_users(rt, &choices, &mut frames)?;
-    let fronts = Fronts::of(rt, &mut choices, users)?;
+    let fronts = chosen_fronts(rt, &mut choices, users)?;
     if let Some(path) = mem::replace(&mut choices.store, None) {
         let streams = Streams {
             clients: limits.clients(rt)?,
             frames,
             output: Told::new(output),
         };
-        return serve_stored(rt, path.as_str(), fronts, streams, choices, rng, clock);
+        let now = first_moment(rt, choices.clock)?;
+        let keeping = Keeping {
+            settings: choices.settings,
+            sync: choices.sync,
+            compacting: choices.compacting,
+        };
+        return serve_stored(rt, path.as_str(), now, fronts, streams, keeping, rng, clock);
     }
     let _told = rt.stderr().write_all(IN_MEMORY.as_bytes());
     let streams = Streams {
@@ -150,120 +137,34 @@ fn serve<R: Rng + Drop, C: Clock + Drop, I: Read + Drop, O: Write + Drop>(
         frames,
         output,
     };
-    let dav = server(rt, choices, rng)?;
-    serve_fronts(rt, fronts, streams, Timed { dav, clock })
+    serve_in_memory(
+        rt,
+        choices.clock,
+        fronts,
+        streams,
+        choices.settings,
+        rng,
+        clock,
+    )
 }
 
-// Serves with the server, behind what stands in front of it.
-fn serve_fronts<R: Rng + Drop, C: Clock + Drop, I: Read + Drop, O: Write + Drop>(
-    rt: &HostRuntime,
-    fronts: Fronts<'_>,
-    streams: Streams<I, O>,
-    server: Timed<R, C>,
-) -> Result<End, Stopped> {
-    if fronts.is_none() {
-        return Ok(serve_all(streams, server)?);
-    }
-    if fronts.read_only {
-        return serve_users(rt, fronts, streams, ReadOnly::new(server));
-    }
-    serve_users(rt, fronts, streams, server)
-}
-
-// Serves with the service, behind a login where there are users, and behind a log where there is one.
-fn serve_users<S: TurnService + Drop, I: Read + Drop, O: Write + Drop>(
-    rt: &HostRuntime,
-    fronts: Fronts<'_>,
-    streams: Streams<I, O>,
-    service: S,
-) -> Result<End, Stopped> {
-    let Fronts {
-        users,
-        realm,
-        address_header,
-        log,
-        ..
-    } = fronts;
-    match users {
-        Some(users) => {
-            let login = login_over(rt, users, realm.as_str(), address_header, service)?;
-            Ok(serve_logged(rt, log, streams, login)?)
-        }
-        None => Ok(serve_logged(rt, log, streams, service)?),
-    }
-}
-
-// Serves with the service, behind a log where there is one.
-fn serve_logged<S: TurnService + Drop, I: Read + Drop, O: Write + Drop>(
-    rt: &HostRuntime,
-    log: Option<Logging<'_>>,
-    streams: Streams<I, O>,
-    service: S,
-) -> Result<End, Fault> {
-    match log {
-        Some(
-            Logging {
-                file,
-                user_header,
-                address_header,
-            },
-        ) => {
-            let logged = Logged::new(rt.alloc(), service, file, user_header, address_header);
-            serve_turned(streams, logged)
-        }
-        None => serve_turned(streams, service),
-    }
-}
-
-// A server over stores that are empty.
-fn server<R: Rng + Drop>(rt: &HostRuntime, choices: Choices, rng: R) -> Result<Dav<R>, Fault> {
-    let now = first_moment(rt, choices.clock)?;
-    let stores = Guarded::new(rt.alloc(), now).map_err(|_| AllocError)?;
-    Ok(Dav::new(rt.alloc(), choices.settings, stores, rng, now, false))
-}
-
-// Serves the one connection that the streams are.
-fn serve_single<R: Rng + Drop, I: Read, O: Write>(
+// Serves the one connection that the standard streams are.
+fn serve_connection<R: Rng + Drop>(
     rt: &HostRuntime,
     choices: Choices,
     rng: R,
-    input: &mut I,
-    output: &mut O,
-) -> Result<End, Fault> {
+) -> Result<End, Stopped> {
     let _told = rt.stderr().write_all(IN_MEMORY.as_bytes());
     let config = Limits::of(&choices).config;
-    let mut dav = server(rt, choices, rng)?;
-    let mut connection = Connection::new(rt.alloc(), RandomState::new(rt)?, config);
-    serve_one(&mut connection, &mut dav, input, output)?;
-    Ok(End::Whole)
-}
-
-// Serves the connections that the frames are of. What is proved of it stands on `serve_frames`.
-fn serve_all<R: Rng + Drop, C: Clock + Drop, I: Read + Drop, O: Write + Drop>(
-    streams: Streams<I, O>,
-    server: Timed<R, C>,
-) -> Result<End, Fault> {
-    let Streams {
-        mut clients,
-        mut frames,
-        mut output,
-    } = streams;
-    let mut server = OneCall::new(server);
-    serve_frames(&mut clients, &mut server, &mut frames, &mut output)
-}
-
-// Serves them with any service. What is proved of it stands on `serve` of `http_frames`.
-fn serve_turned<S: TurnService + Drop, I: Read + Drop, O: Write + Drop>(
-    streams: Streams<I, O>,
-    service: S,
-) -> Result<End, Fault> {
-    let Streams {
-        mut clients,
-        mut frames,
-        mut output,
-    } = streams;
-    let mut server = OneCall::new(service);
-    serve_turns(&mut clients, &mut server, &mut frames, &mut output)
+    Ok(serve_single(
+        rt,
+        choices.clock,
+        config,
+        choices.settings,
+        rng,
+        &mut rt.stdin(),
+        &mut rt.stdout(),
+    )?)
 }
 
 // The words behind the program's name; an error where one is no text.

@@ -1,42 +1,21 @@
 //! Looks into a file of stores: whether it is whole, and what stands in it, which it exports, too. That takes no lock, and writes nothing into the file. Or compacts it, imports into it, adopts it as a copy, or adds to it what comes from one that is followed, which does both.
 #![tactic(auto)]
 
-mod adopting;
-mod behind;
 mod choices;
-mod exporting;
-mod failures;
-mod following;
-mod importing;
-mod later;
-mod listing;
-mod logging;
-mod looking;
-mod paths;
-mod placed;
-mod salvaging;
-mod sources;
-mod taking;
 
-use adopting::{adopt, end_of, header_of, is_wanted};
-use behind::{Found, Tail, round_behind};
 use choices::{Choices, Unread, What};
-use exporting::export;
-use failures::Failure;
-use following::follow;
-use importing::import;
-use later::{later_in, tell_later};
-use listing::list;
-use logging::log;
-use looking::{Seen, look};
-use salvaging::{Front, read_front, records_before};
 use std::alloc::AllocError;
 use std::env;
 use std::fs::File;
 use std::io::{self, BufReader, BufWriter, ErrorKind, Write};
 use std::process::ExitCode;
+use store_copies::{
+    Found, Tail, adopt, end_of, follow, header_of, is_wanted, later_in, round_behind, take,
+    tell_later,
+};
 use store_files::{Compacted, Uncompacted, Unwatched, compact_file, make_store};
-use taking::take;
+use store_imports::{export, import};
+use store_views::{Failure, Front, Seen, list, log, look, read_front, records_before};
 use work_progress::Opening;
 
 // The words that the program takes.

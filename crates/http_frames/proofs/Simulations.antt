@@ -6,7 +6,8 @@ use Rattle.http_server.specs.Exchange.{Call, Chain}
 use Rattle.http_frames.specs.declared.clients.Clients.{Clients}
 use Rattle.http_frames.specs.declared.serving.End.{End}
 use Rattle.http_frames.specs.ConnectionEvents.{Event, Came, Rejected, Took, Gone, Answered, Told, Granted, Awaited, Ended, Clock, From, Users, Asked, Nothing, Closed}
-use Rattle.http_frames.specs.Gate.{TakesTurn}
+use Rattle.http_frames.specs.Clients.{GivesTurn}
+use Rattle.http_frames.specs.Gate.{BeginsWithin, TakesTurn}
 use Rattle.http_frames.specs.TurnRuns.{RunsInTurns, EventDoes, EventsLead}
 
 module _ {S T : Type 0} (f : S → T) (begins : S → ℕ → S → Type 0) (answers : S → Request (List ℕ) → Response → S → Type 0) (clocked : S → ℕ → S → Type 0) (listed : S → List ℕ → S → Type 0) (begins' : T → ℕ → T → Type 0)
@@ -55,3 +56,12 @@ module _ {S T : Type 0} (f : S → T) (begins : S → ℕ → S → Type 0) (ans
     ends = x.ends;
     wrote = x.wrote;
   }
+
+-- a turn within a room is a turn
+module _ {S : Type 0} (begins : S → ℕ → S → Type 0) (room : S → ℕ) (most : ℕ) (answers : S → Request (List ℕ) → Response → S → Type 0) where
+  takes_any : (n : ℕ) (calls : List Call) (s s' : S) → TakesTurn (BeginsWithin begins room most) answers s n calls s' → TakesTurn begins answers s n calls s'
+  takes_any n calls s s' (inl x) = inl x
+  takes_any n calls s s' (inr x) = inr (x.0, x.1.0, x.2)
+
+  pub gives_any : (n : ℕ) (c c' : Clients) (s s' : S) → GivesTurn (BeginsWithin begins room most) answers n c c' s s' → GivesTurn begins answers n c c' s s'
+  gives_any n c c' s s' x = record { calls = x.calls; turn = takes_any n x.calls s s' x.turn; adds = x.adds; waits = x.waits; rests = x.rests }

@@ -9,6 +9,10 @@ pub record CallsOnce {S : Type 0} (answers : S → Request (List ℕ) → Respon
   pub one : length calls ≤ 1
   pub chain : Chain answers old calls new
 
+-- the turn begins, and the service is told of so much room at most
+abbrev pub BeginsWithin : {S : Type 0} → (S → ℕ → S → Type 0) → (S → ℕ) → ℕ → S → ℕ → S → Type 0
+BeginsWithin begins room most old number told = begins old number told × (room told ≤ most)
+
 module _ {S : Type 0} (begins : S → ℕ → S → Type 0) (answers : S → Request (List ℕ) → Response → S → Type 0) where
   -- it was told that a turn of the connection comes, and then called
   abbrev pub IsTold : S → ℕ → List Call → S → Type 0

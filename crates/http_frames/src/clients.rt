@@ -4,6 +4,7 @@ ghost use Rattle.std.specs.Io.KnownBytes.{Appends};
 ghost use Rattle.http_frames.specs.ConnectionEvents.{Asked, Closed, Ended, From, Gone, IsNumber, Nothing, Took};
 ghost use Rattle.http_frames.specs.Clients.{Adds, GivesTurn, Has, IsStill, Joins, SameSettings, StaysSo, Takes, TellsNext, asked_of, count_begun, closed_window, config_of, held_at, queue_of, window_of};
 ghost use Rattle.http_frames.specs.Frames.{BreaksOff, piece_text};
+ghost use Rattle.http_frames.specs.Gate.{BeginsWithin};
 ghost use Rattle.http_frames.specs.Private.Steps.{LooksAlike, BeginsFresh, HearsAt, QuitsAt};
 
 use crate::frames::{LONGEST_ADDRESS, write_more, write_piece};
@@ -205,7 +206,7 @@ impl Clients {
     pub fn answer<S: TurnService>(&mut self, service: &mut OneCall<S>) -> Option<u64>
         ensures first { IfSome result (λ number. queue_of self.old ≡ number ∷ queue_of self.new) }
         ensures none { result ≡ None → (queue_of self.old ≡ []) × (queue_of self.new ≡ []) × (service.new ≡ service.old) × StaysSo self.old self.new }
-        ensures turn { IfSome result (λ number. GivesTurn S.begins S.answers number self.old self.new service.old.service service.new.service) }
+        ensures turn { IfSome result (λ number. GivesTurn (BeginsWithin S.begins S.room service.old.room) S.answers number self.old self.new service.old.service service.new.service) }
         ensures settings { SameSettings self.old self.new }
     {
         let number = self.queue.pop_front()?;

@@ -1,6 +1,5 @@
 //! A service that is told whose turn it is, and answers one request a turn.
-ghost use Rattle.std.specs.Prelude.{◌≡◌, ℕ, List, OnOk, OnErr, IsTrue, IsFalse};
-ghost use Rattle.http_server.specs.Response.{IsBlank};
+ghost use Rattle.std.specs.Prelude.{◌≡◌, ◌≤◌, ℕ, List, IsTrue, IsFalse};
 
 use bytes::Bytes;
 use http::Request;
@@ -18,30 +17,22 @@ pub trait TurnService: Service {
     // From the first state, the word that the users are those of this file leaves the second.
     ghost listed: { Self → List ℕ → Self → Type 0 };
 
-    /// Takes word that a turn of the connection comes: a request of it may be answered next. The address is that of the connection's client, and empty where none was told. No clause speaks
-    /// of the address: it is passed on, and a test looks at it.
-    fn begin_turn(&mut self, number: u64, address: &[u8])
-        ensures { begins self.old number self.new };
+    // How many bytes the record of what the next call changes has at most.
+    ghost room: { Self → ℕ };
+
+    /// Takes word that a turn of the connection comes: a request of it may be answered next. There is room for so many bytes in the record of what the turn changes: a request that may need
+    /// more is answered 507, Insufficient Storage (RFC 4918 section 11.5), and changes nothing. A service of which nothing is kept has `room = { λ _. 0 }`. The address is that of the
+    /// connection's client, and empty where none was told. No clause speaks of the address: it is passed on, and a test looks at it.
+    fn begin_turn(&mut self, number: u64, address: &[u8], bytes: u64)
+        ensures begins { begins self.old number self.new }
+        ensures room { room self.new ≤ bytes };
 
     /// How many bytes of an answer that it made are its own, and not shared with what it keeps.
     fn own_len(&self, request: &Request<Bytes>, response: &Response) -> u64;
 
-    /// How many bytes the record of what the request changes has at most; 0 where nothing is kept of it.
-    fn room_for(&self, request: &Request<Bytes>) -> u64;
-
-    /// No less than `room_for` of any request that has so many bytes, its head and its body together.
+    /// How many bytes of room a request that has so many bytes, head and body together, may need, as far as that can be told before it is read; 0 where nothing is kept. It is a guess that no
+    /// clause speaks of: where it is too small, a request may be answered 507 though the disk has room.
     fn most_room(&self, bytes: u64) -> u64;
-
-    /// Answers the request 507, Insufficient Storage (RFC 4918 section 11.5), in place of `call`, where there is no room for the record of what it would change; nothing is changed. As `call`,
-    /// it is given a 200 with no header and no body, and the error is for memory alone and ends the connection.
-    fn refuse_for_room(
-        &mut self,
-        request: &Request<Bytes>,
-        response: &mut Response,
-    ) -> Result<(), AllocError>
-        requires { IsBlank response.old }
-        ensures ok { OnOk result (Self.answers self.old request.now response.new self.new) }
-        ensures err { OnErr result (self.new ≡ self.old) };
 
     /// Takes word that it is this moment now, in nanoseconds since 1970.
     fn set_clock(&mut self, moment: u64)
@@ -62,7 +53,7 @@ pub struct OneCall<S> {
     pub spent: bool,
     /// How many bytes of the last answer are the service's own, and not shared with what it keeps.
     pub own: u64,
-    /// How many bytes there is room for in the record of what the next request changes. One that may need more is refused, and changes nothing.
+    /// How many bytes there is room for in the record of what the next turn changes.
     pub room: u64,
 }
 
@@ -79,12 +70,13 @@ impl<S: TurnService> OneCall<S> {
         }
     }
 
-    /// Tells the service whose turn comes, and the address of that connection's client, and opens the gate.
+    /// Tells the service whose turn comes, the address of that connection's client, and how much room there is, and opens the gate.
     pub fn open(&mut self, number: u64, address: &[u8])
         ensures begins { S.begins self.old.service number self.new.service }
+        ensures room { S.room self.new.service ≤ self.old.room }
         ensures opens { IsFalse self.new.spent }
     {
-        self.service.begin_turn(number, address);
+        self.service.begin_turn(number, address, self.room);
         self.spent = false;
         self.own = 0;
     }
@@ -101,11 +93,7 @@ impl<S: TurnService> Service for OneCall<S> {
         if self.spent {
             return Err(AllocError);
         }
-        if self.service.room_for(request) > self.room {
-            self.service.refuse_for_room(request, response)?;
-        } else {
-            self.service.call(request, response)?;
-        }
+        self.service.call(request, response)?;
         self.spent = true;
         self.own = self.service.own_len(request, response);
         Ok(())

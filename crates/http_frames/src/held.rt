@@ -4,6 +4,7 @@ ghost use Rattle.http_server.specs.Connection.{history};
 ghost use Rattle.http_server.specs.History.{IsDone};
 ghost use Rattle.http_frames.specs.Clients.{HearsMore, IsFull, IsHeldBack, Joins, history_of};
 ghost use Rattle.http_frames.specs.Frames.{BreaksOff};
+ghost use Rattle.http_frames.specs.Gate.{BeginsWithin};
 ghost use Rattle.http_frames.specs.Private.Steps.{GrantsMore, Hears, IsDeaf, StandsInQueue, JoinsFresh, Reads, Speaks, Sends, Settles, Steps, TellsWait, Waits, WritesOutput};
 
 use crate::clients::Windows;
@@ -134,7 +135,7 @@ fn read_all(connection: &mut Connection, rest: &mut &[u8]) -> Result<(), Fault>
 
 /// One step of a connection, unless an answer of it waits. How many bytes that nobody shares it made.
 pub(crate) fn step<S: TurnService>(held: &mut Held, number: u64, service: &mut OneCall<S>) -> u64
-    ensures { Steps S.begins S.answers number held.old held.new service.old.service service.new.service }
+    ensures { Steps (BeginsWithin S.begins S.room service.old.room) S.answers number held.old held.new service.old.service service.new.service }
 {
     held.queued = false;
     if held.connection.wants_write() {

@@ -1,8 +1,8 @@
 -- Looks at the length, and zeros behind the gate, one after another.
-use Rattle.std.proofs.Common.{refl, ◌≡◌, ℕ, ◌+◌, ◌≤◌, List, sym, ◌∙◌, subst, length, Bool, arith}
+use Rattle.std.proofs.Common.{refl, ◌≡◌, ℕ, ◌+◌, ◌≤◌, List, [], ◌∷◌, ap, sym, ◌∙◌, subst, length, Bool, arith}
 use Rattle.journal_core.specs.declared.journal.Journal.{Journal}
 use Rattle.sqlite_disk.specs.Disk.{Only}
-use Rattle.journal_core.specs.Clocked.{EachLeaves, SeesSame}
+use Rattle.journal_core.specs.Clocked.{EachLeaves, MomentsLead, SeesSame}
 use Rattle.journal_core.specs.Format.{StandsFor}
 use Rattle.journal_core.specs.LiveCopies.{GoesBySteps}
 use Rattle.journal_core.specs.Resting.{IsSettled, KnowsLength, clocked_of, disk_behind}
@@ -35,6 +35,14 @@ module _ {D B : Type 0} (seen : D → List ℕ) (may_leave : D → List ℕ → 
     behind = behind_two seen may_leave note (a.at + 8) (clocked_of a) (clocked_of b) (clocked_of c) first.behind
         (subst (λ n. WritesBehind seen may_leave note (n + 8) (clocked_of b) (clocked_of c)) first.stays.at second.behind);
   }
+
+  -- from moment to moment the file grows no shorter
+  longer_on : (place : ℕ) (file end : List ℕ) (more : List (D × B)) → MomentsLead (KeepsBelow place) seen file more end → length file ≤ length end
+  longer_on place file end [] same = omega (arith, ap (λ (l : List ℕ). length l) same)
+  longer_on place file end (m ∷ more) leads = omega (arith, leads.0.longer, longer_on place (seen m.0) end more leads.1)
+
+  pub grown_longer : (j k : Journal D B) → Grows seen may_leave note j k → length (seen (disk_behind j)) ≤ length (seen (disk_behind k))
+  grown_longer j k grows = longer_on (j.at + 8) (seen (disk_behind j)) (seen (disk_behind k)) grows.behind.moments.0 grows.behind.moments.2
 
   -- of a journal that is at rest
   module _ (j k : Journal D B) (records : List (List ℕ)) (it : IsSettled seen may_leave is_clean j records) (grows : Grows seen may_leave note j k) where

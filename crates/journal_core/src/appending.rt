@@ -122,6 +122,8 @@ impl<D: Disk, B> Journal<D, B> {
         ensures known { result ≡ Ok true → IsSome (len_of self.new) }
         ensures steps { (records : List (List ℕ)) → IsSettled D.Disk.seen D.Disk.may_leave D.Disk.is_clean self.old records → GoesBySteps D.Disk.seen (header_in self.old) (clocked_of self.old) (clocked_of self.new) }
         ensures end { gate_of self.new ≡ gate_of self.old }
+        // No room is lost.
+        ensures longer { OnOk result (length (D.Disk.seen (disk_behind self.old)) ≤ length (D.Disk.seen (disk_behind self.new))) }
         ensures header { header_in self.new ≡ header_in self.old }
         ensures clean { IsTrue (D.Disk.is_clean (disk_behind self.new)) → IsTrue (D.Disk.is_clean (disk_behind self.old)) }
         ensures usable { OnOk result (IsTrue (D.Disk.is_usable (disk_behind self.new))) }

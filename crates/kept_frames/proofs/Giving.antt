@@ -1,5 +1,5 @@
 -- Turns whose answers wait, and the round that keeps what they changed.
-use Rattle.std.proofs.Common.{◌≡◌, ◌≢◌, ◌⊎◌, ℕ, Bool, true, false, not, Option, List, [], ◌∷◌, ◌++◌, All, refl, sym, ap, ◌∙◌, subst, append_assoc, append-nil, inl, inr}
+use Rattle.std.proofs.Common.{◌≡◌, ◌≢◌, ◌⊎◌, ℕ, Bool, true, false, not, Option, List, [], ◌∷◌, ◌++◌, All, refl, sym, ap, ◌∙◌, subst, append_assoc, append-nil, arith, inl, inr}
 use Rattle.std.proofs.KnownBytes.{Appends-nil}
 use Rattle.std.proofs.Math.Bool.{beq}
 use Rattle.std.proofs.lemmas.List.Elements.{All-append, All-cons, All-head, All-nil, All-tail}
@@ -11,7 +11,7 @@ use Rattle.http_server.specs.Exchange.{Call}
 use Rattle.http_frames.specs.declared.clients.Clients.{Clients}
 use Rattle.http_frames.specs.Clients.{GivesTurn, config_of, queue_of, window_of}
 use Rattle.http_frames.specs.ConnectionEvents.{Event, Answered, IsNoTick}
-use Rattle.http_frames.specs.Gate.{IsTold, TakesTurn}
+use Rattle.http_frames.specs.Gate.{BeginsWithin, IsTold, TakesTurn}
 use Rattle.http_frames.specs.TurnRuns.{Moments, told_text, turn_in, turns_of}
 use Rattle.http_frames.proofs.Fronts.{whole}
 use Rattle.http_frames.proofs.Happenings.{leads-append, one_leads, texts_then}
@@ -23,7 +23,7 @@ use Rattle.journal_core.specs.Clocked.{CrashLeaves}
 use Rattle.journal_core.specs.Format.{StandsFor}
 use Rattle.journal_core.specs.Resting.{Carries, clocked_of, disk_behind, header_in}
 use Rattle.journal_core.proofs.MomentLaws.{weaker}
-use Rattle.kept_frames.specs.Giving.{KeepsEither, KeepsRecords, NotesMore, NotesTurns, SettlesWith, StaysSettled, TurnsAlone}
+use Rattle.kept_frames.specs.Giving.{AddsWithin, KeepsEither, KeepsRecords, NotesMore, NotesTurns, SettlesWith, StaysSettled, TurnsAlone}
 use Rattle.kept_frames.specs.KeptMoments.{IsKeptMoment, IsStanding, IsTurn, IsWaiting, KeepsBut}
 use Rattle.kept_frames.specs.KeptSteps.{EachKeeps, StepBreaks, StepWrites, StepKeeps}
 use Rattle.kept_frames.specs.TurnRecords.{RecordsTurn}
@@ -131,13 +131,26 @@ module _ {S : Type 0} (begins : S → ℕ → S → Type 0) (answers : S → Req
         ),
       )
 
-      pub notes_asked : (round round' : Round) → turn s' ≢ turn s → RecordsTurn begins answers stands round round' s' → NotesMore begins answers clocked listed stands (n ∷ []) c c' s s' round round'
-      notes_asked round round' other x = (
+      pub notes_asked : (room : S → ℕ) (round round' : Round) → turn s' ≢ turn s → RecordsTurn begins answers stands room round round' s' → NotesMore begins answers clocked listed stands (n ∷ []) c c' s s' round round'
+      notes_asked room round round' other x = (
         Answered n t.calls ∷ [],
         alone_one n c c' s s' t first config window,
         refl,
-        (x.0, x.1, λ records stand. x.2 s n t.calls records stand (asked other t.turn)),
+        (x.more, x.adds, λ records stand. x.stand s n t.calls records stand (asked other t.turn)),
       )
+
+-- a turn changed nothing
+pub adds_none : (most : ℕ) (round : Round) → AddsWithin most round round
+adds_none most round = λ records carries. ([], subst (Carries round) (sym (append-nil records)) carries, omega arith)
+
+-- what a turn changed fits into the room that the service was told of
+pub adds_told : {S : Type 0} (begins : S → ℕ → S → Type 0) (answers : S → Request (List ℕ) → Response → S → Type 0) (stands : List (List ℕ) → S → Type 0) (room : S → ℕ) (turn : S → Bool) (most n : ℕ) (c c' : Clients) (s s' : S)
+    → GivesTurn (BeginsWithin begins room most) answers n c c' s s' → (round round' : Round) → turn s' ≢ turn s → RecordsTurn begins answers stands room round round' s' → AddsWithin most round round'
+adds_told {S} begins answers stands room turn most n c c' s s' t round round' other x = by t.turn
+  where
+    by : TakesTurn (BeginsWithin begins room most) answers s n t.calls s' → AddsWithin most round round'
+    by (inl none) = absurd (other (ap turn none.1))
+    by (inr told) = λ records carries. (x.more, x.adds records carries, omega (arith, x.fits s told.0 n t.calls told.1.0 told.2, told.1.1))
 
 -- ---- turns whose records wait, and the round that is appended
 

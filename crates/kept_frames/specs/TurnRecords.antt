@@ -1,14 +1,19 @@
 -- What the record of a turn says (own).
-use Rattle.std.specs.Prelude.{ℕ, List, ◌++◌}
+use Rattle.std.specs.Prelude.{ℕ, ◌≤◌, List, ◌++◌, length}
 use Rattle.http.specs.declared.request.Request.{Request}
 use Rattle.http_server.specs.declared.response.Response.{Response}
 use Rattle.http_server.specs.Exchange.{Call}
-use Rattle.http_frames.specs.Gate.{IsTold}
+use Rattle.http_frames.specs.Gate.{CallsOnce, IsTold}
 use Rattle.journal_core.specs.declared.round.Round.{Round}
+use Rattle.journal_core.specs.Format.{records_text}
 use Rattle.journal_core.specs.Resting.{Carries}
 
--- The round has these records more, and where records stood for the service before its last turn, they stand for it with these behind them.
-abbrev pub RecordsTurn : {S : Type 0} → (S → ℕ → S → Type 0) → (S → Request (List ℕ) → Response → S → Type 0) → (List (List ℕ) → S → Type 0) → Round → Round → S → Type 0
-RecordsTurn {S} begins answers stands round round' now =
-    (more : List (List ℕ)) × ((records : List (List ℕ)) → Carries round records → Carries round' (records ++ more))
-    × ((before : S) (number : ℕ) (calls : List Call) (records : List (List ℕ)) → stands records before → IsTold begins answers before number calls now → stands (records ++ more) now)
+-- What the round has more is what the service changed in its last turn.
+pub record RecordsTurn {S : Type 0} (begins : S → ℕ → S → Type 0) (answers : S → Request (List ℕ) → Response → S → Type 0) (stands : List (List ℕ) → S → Type 0) (room : S → ℕ) (round round' : Round) (now : S) : Type 0 where
+  -- it has these records more
+  pub more : List (List ℕ)
+  pub adds : (records : List (List ℕ)) → Carries round records → Carries round' (records ++ more)
+  -- where records stood for the service before the turn, they stand for it with these behind them
+  pub stand : (before : S) (number : ℕ) (calls : List Call) (records : List (List ℕ)) → stands records before → IsTold begins answers before number calls now → stands (records ++ more) now
+  -- they take no more room than it said once it was told of the turn
+  pub fits : (before told : S) (number : ℕ) (calls : List Call) → begins before number told → CallsOnce answers told calls now → length (records_text more) ≤ room told

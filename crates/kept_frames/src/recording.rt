@@ -21,10 +21,10 @@ pub trait Recording: TurnService {
     fn turn(&self) -> bool
         ensures { result ≡ turn self.now };
 
-    /// Adds to the round what the last turn changed, as records; none where nothing was changed.
+    /// Adds to the round what the last turn changed, as records, which have no more room than the service said (`room`); none where nothing was changed.
     /// `AllocError` where there is no memory for it, and then the round is as it was.
     fn record(&self, round: &mut Round) -> Result<(), AllocError>
-        ensures adds { OnOk result (RecordsTurn Self.begins Self.answers stands round.old round.new self.now) }
+        ensures adds { OnOk result (RecordsTurn Self.begins Self.answers stands Self.room round.old round.new self.now) }
         ensures fails { OnErr result ((records : List (List ℕ)) → Carries round.old records → Carries round.new records) };
 
     // A turn is told by the answer of `turn`.

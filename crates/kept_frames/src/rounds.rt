@@ -1,9 +1,9 @@
 //! Rounds of turns: turns are given, what they changed is kept in one round of the journal, and then their answers are handed out.
-ghost use Rattle.std.specs.Prelude.{◌≡◌, ◌++◌, ◌∷◌, [], IfOk, IsTrue, OnErr, OnOk, option_to_list};
+ghost use Rattle.std.specs.Prelude.{◌≡◌, ◌+◌, ◌<◌, ◌≤◌, ◌^◌, ◌++◌, ◌∷◌, [], ℕ, List, IfOk, IsTrue, OnErr, OnOk, length, option_to_list};
 ghost use Rattle.http_frames.specs.Clients.{count_begun};
 ghost use Rattle.http_frames.specs.TurnRuns.{BreaksTold, TellsAll};
-ghost use Rattle.journal_core.specs.Resting.{disk_behind};
-ghost use Rattle.kept_frames.specs.Giving.{BreaksTurns, KeepsRecords, NotesMore, NotesTurns, StaysSettled};
+ghost use Rattle.journal_core.specs.Resting.{Carries, IsSettled, disk_behind, gate_of};
+ghost use Rattle.kept_frames.specs.Giving.{AddsWithin, BreaksTurns, GrowsFirst, EndsWithin, KeepsRecords, LosesNoRoom, NotesMore, NotesTurns, StaysSettled};
 ghost use Rattle.kept_frames.specs.Rounds.{FailsKept, WritesKept};
 
 use crate::error::KeptError;
@@ -43,6 +43,8 @@ pub(crate) fn give_round<S: Recording, D: Disk, O: Write>(
         service.new.service journal.old journal.new output.old output.new) }
     ensures err { OnErr result (FailsKept S.begins S.answers S.clocked S.listed S.stands D.Disk.seen D.Disk.may_leave D.Disk.is_clean O.contents clients.old clients.new service.old.service
         service.new.service journal.old journal.new output.old output.new) }
+    // What is appended stands in the room that was made.
+    ensures grows { OnOk result ((records : List (List ℕ)) → IsSettled D.Disk.seen D.Disk.may_leave D.Disk.is_clean journal.old records → GrowsFirst D.Disk.seen D.Disk.may_leave D.Disk.is_clean journal.old journal.new output.old) }
     ensures begun { count_begun clients.new ≡ count_begun clients.old }
     ensures usable { OnOk result (IsTrue (D.Disk.is_usable (disk_behind journal.new))) }
 {
@@ -70,6 +72,8 @@ fn give_turns<S: Recording, D: Disk, O: Write>(
     ensures begun { count_begun clients.new ≡ count_begun clients.old }
     ensures keeps { KeepsRecords D.Disk.seen D.Disk.may_leave D.Disk.is_clean journal.old journal.new output.now }
     ensures stays { OnOk result (StaysSettled D.Disk.seen D.Disk.may_leave D.Disk.is_clean journal.old journal.new) }
+    ensures room { IfOk result (λ turned. (records new : List (List ℕ)) → IsSettled D.Disk.seen D.Disk.may_leave D.Disk.is_clean journal.old records → Carries turned.round new
+        → EndsWithin D.Disk.seen D.Disk.is_clean journal.new new) }
     ensures usable { OnOk result (IsTrue (D.Disk.is_usable (disk_behind journal.new))) }
 {
     let mut turned = Turned {
@@ -113,6 +117,11 @@ pub(crate) fn set_room<S: Recording, D: Disk, O: Write>(
     ensures same { service.new.service ≡ service.old.service }
     ensures keeps { KeepsRecords D.Disk.seen D.Disk.may_leave D.Disk.is_clean journal.old journal.new output.now }
     ensures stays { OnOk result (StaysSettled D.Disk.seen D.Disk.may_leave D.Disk.is_clean journal.old journal.new) }
+    ensures loses { OnOk result (LosesNoRoom D.Disk.seen D.Disk.is_clean journal.old journal.new) }
+    // What the service is told of stands behind what the round holds.
+    ensures room { OnOk result (0 < service.new.room → (records : List (List ℕ)) → IsSettled D.Disk.seen D.Disk.may_leave D.Disk.is_clean journal.new records → IsTrue (D.Disk.is_clean (disk_behind journal.new))
+        → gate_of journal.new + (32 + (held + service.new.room)) ≤ length (D.Disk.seen (disk_behind journal.new))) }
+    ensures counted { OnOk result (0 < service.new.room → held + service.new.room < 2 ^ 64) }
     ensures usable { OnOk result (IsTrue (D.Disk.is_usable (disk_behind journal.new))) }
 {
     let most = service.service.most_room(clients.unanswered());
@@ -131,6 +140,7 @@ fn make_room<D: Disk, O>(
     requires usable { IsTrue (D.Disk.is_usable (disk_behind journal.old)) }
     ensures keeps { KeepsRecords D.Disk.seen D.Disk.may_leave D.Disk.is_clean journal.old journal.new output.now }
     ensures stays { OnOk result (StaysSettled D.Disk.seen D.Disk.may_leave D.Disk.is_clean journal.old journal.new) }
+    ensures loses { OnOk result (LosesNoRoom D.Disk.seen D.Disk.is_clean journal.old journal.new) }
     ensures usable { OnOk result (IsTrue (D.Disk.is_usable (disk_behind journal.new))) }
 {
     if full || journal.room() as u64 >= wanted {
@@ -152,6 +162,7 @@ pub(crate) fn give_turn<S: Recording>(
     round: &mut Round,
 ) -> Result<Option<u64>, AllocError>
     ensures ok { IfOk result (λ number. NotesMore S.begins S.answers S.clocked S.listed S.stands (option_to_list number) clients.old clients.new service.old.service service.new.service round.old round.new) }
+    ensures fits { OnOk result (AddsWithin service.old.room round.old round.new) }
     ensures err { OnErr result (BreaksTurns S.begins S.answers S.clocked S.listed clients.old clients.new service.old.service service.new.service) }
     ensures begun { count_begun clients.new ≡ count_begun clients.old }
 {

@@ -180,7 +180,7 @@ fn played(
     }
     let (client, sent) = rest.split_once(' ').unwrap_or((rest, rest));
     let (address, field) = client.split_once('/').unwrap_or((client, ""));
-    login.begin_turn(first.parse::<u64>().unwrap_or(0), address.as_bytes());
+    login.begin_turn(first.parse::<u64>().unwrap_or(0), address.as_bytes(), 0);
     let token = sent.split_once(' ').unwrap_or((sent, sent)).0;
     answered(alloc, login, field, token)
 }

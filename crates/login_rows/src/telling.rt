@@ -46,26 +46,16 @@ impl TurnService for Telling {
 
     ghost listed = { λ _ _ _. ⊤ };
 
-    fn begin_turn(&mut self, _number: u64, _address: &[u8]) {}
+    ghost room = { λ _. 0 };
+
+    fn begin_turn(&mut self, _number: u64, _address: &[u8], _bytes: u64) {}
 
     fn own_len(&self, _request: &Request<Bytes>, _response: &Response) -> u64 {
         0
     }
 
-    fn room_for(&self, _request: &Request<Bytes>) -> u64 {
-        0
-    }
-
     fn most_room(&self, _bytes: u64) -> u64 {
         0
-    }
-
-    fn refuse_for_room(
-        &mut self,
-        _request: &Request<Bytes>,
-        response: &mut Response,
-    ) -> Result<(), AllocError> {
-        response.body.push(Bytes::from_static(b"no room"))
     }
 
     fn set_clock(&mut self, _moment: u64) {}

@@ -1,11 +1,9 @@
-//! What the service is told between its calls, and what there is no room for.
-use crate::looking::asks_to_look;
-use crate::service::{ReadOnly, forbid};
+//! What the service is told between its calls.
+use crate::service::ReadOnly;
 use bytes::Bytes;
 use http::Request;
 use http_frames::gate::TurnService;
 use http_server::Response;
-use std::alloc::AllocError;
 
 /// The service is told each word.
 impl<S: TurnService> TurnService for ReadOnly<S> {
@@ -15,8 +13,10 @@ impl<S: TurnService> TurnService for ReadOnly<S> {
 
     ghost listed = { λ old file new. S.listed old.service file new.service };
 
-    fn begin_turn(&mut self, number: u64, address: &[u8]) {
-        self.service.begin_turn(number, address);
+    ghost room = { λ r. S.room r.service };
+
+    fn begin_turn(&mut self, number: u64, address: &[u8], bytes: u64) {
+        self.service.begin_turn(number, address, bytes);
     }
 
     fn own_len(&self, request: &Request<Bytes>, response: &Response) -> u64 {
@@ -24,24 +24,8 @@ impl<S: TurnService> TurnService for ReadOnly<S> {
     }
 
     /// Nothing is changed, so nothing is kept.
-    fn room_for(&self, _request: &Request<Bytes>) -> u64 {
-        0
-    }
-
     fn most_room(&self, _bytes: u64) -> u64 {
         0
-    }
-
-    fn refuse_for_room(
-        &mut self,
-        request: &Request<Bytes>,
-        response: &mut Response,
-    ) -> Result<(), AllocError> {
-        if !asks_to_look(request) {
-            forbid(response);
-            return Ok(());
-        }
-        self.service.refuse_for_room(request, response)
     }
 
     fn set_clock(&mut self, moment: u64) {

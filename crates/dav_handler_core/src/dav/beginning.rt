@@ -16,6 +16,7 @@ ghost use Rattle.dav_handler_core.specs.Server.{IsFrom, Names};
 ghost use Rattle.dav_handler_core.specs.ServerViews.{IsDated, Unchanged, server};
 
 use super::Dav;
+use super::room::withheld_from;
 use bytes::Bytes;
 use dav_faults_core::faults::Fault;
 use dav_fields_core::bases::Site;
@@ -89,7 +90,8 @@ impl<R: Rng> Dav<R> {
         let tokens = tokens_of(self.alloc, &site, request.headers())?;
         let now = self.moment(changes)?;
         add_date(self.alloc, response, date)?;
-        self.session.begin(principal, tokens, now);
+        self.session
+            .begin(principal, tokens, now, withheld_from(request));
         Ok(path)
     }
 

@@ -1,10 +1,10 @@
 -- What the laws of the trait `Recording` say of a kept server: word of the moment or of the users changes nothing that is kept, and each turn changes `turn`.
-use Rattle.std.proofs.Common.{◌≡◌, ◌≤◌, ℕ, Option, Some, None, not, List, [], ◌∷◌, length, ◌∙◌, sym, ap, subst, arith}
+use Rattle.std.proofs.Common.{◌≡◌, ◌≤◌, ℕ, Option, Some, None, not, List, [], ◌∷◌, length, ◌∙◌, refl, sym, ap, subst, arith}
 use Rattle.http_server.specs.Exchange.{Call, Chain}
 use Rattle.http_frames.specs.Gate.{IsTold}
 use Rattle.dav_handler_core.specs.Server.{Server}
 use Rattle.dav_handler_core.specs.Serving.{with_clock}
-use Rattle.dav_kept_core.specs.KeptServers.{BeginsKept, ClockedKept, KeptServer, ListedKept, RepliesKept, StandsForServer}
+use Rattle.dav_kept_core.specs.KeptServers.{BeginsKept, ClockedKept, KeptServer, ListedKept, RepliesKept, StandsForServer, with_room}
 
 -- all but the clock is the same
 pub record SameButClock (v v' : Server) : Type 0 where
@@ -29,6 +29,22 @@ module _ {C : Type 0} where
     all = h.all;
     leads = rw (same.last, same.state) h.leads;
     fresh = rw (same.noting, same.last, same.state) h.fresh;
+  }
+
+  -- the notes are begun anew
+  pub stands_roomed : (given : ℕ) (records : List (List ℕ)) (s : KeptServer C) → StandsForServer records s
+      → StandsForServer records (record s { timing = record { server = with_room given s.timing.server; clock = s.timing.clock } })
+  stands_roomed given records s h = record {
+    old = h.old;
+    start = h.start;
+    from = h.from;
+    stand = h.stand;
+    calls = h.calls;
+    made = h.made;
+    are = h.are;
+    all = h.all;
+    leads = h.leads;
+    fresh = (h.fresh.0, refl);
   }
 
   -- word of the moment

@@ -63,18 +63,23 @@ module _ {S H : Type 0} (begins : S → ℕ → S → Type 0) (answers : S → R
   }
   leads_behind old new (c ∷ calls) chain = one_more answers c calls (login old) (login chain.0) (login new) chain.1 (leads_behind chain.0 new calls chain.2)
 
+  -- where the login was called once at most, so was the service
+  once_by : (old new : Login S H) (calls : List Call) (leads : LeadsBehind answers (login old) calls (login new)) → length calls ≤ 1 → CallsOnce answers old.service leads.inner new.service
+  once_by old new calls leads one = record { one = omega (arith, one, behind_short (login old).door calls leads.inner leads.behind); chain = leads.chain }
+
+  pub once_behind : (old new : Login S H) (calls : List Call) → CallsOnce LoginAnswers old calls new → (inner : List Call) × CallsOnce answers old.service inner new.service
+  once_behind old new calls once =
+      let leads = leads_behind old new calls once.chain in
+      (leads.inner, once_by old new calls leads once.one)
+
   -- where the login was told of a turn, the service was
   pub turns_behind : (old new : Login S H) (number : ℕ) (calls : List Call) → IsTold LoginBegins LoginAnswers old number calls new
       → TurnsBehind begins answers (login old) number calls (login new)
   turns_behind old new number calls told =
       let leads = leads_behind told.0 new calls told.2.chain in
-      let once : CallsOnce answers told.0.service leads.inner new.service = record {
-        one = omega (arith, told.2.one, behind_short (login told.0).door calls leads.inner leads.behind);
-        chain = leads.chain;
-      } in
       record {
         inner = leads.inner;
         behind = subst (λ (d : Door). AreBehind d calls leads.inner) told.1.door leads.behind;
-        told = (told.0.service, told.1.service, once);
+        told = (told.0.service, told.1.service, once_by told.0 new calls leads told.2.one);
         door = leads.door ∙ told.1.door;
       }

@@ -221,8 +221,7 @@ fn granted<R: Rng>(
     ensures room { IfOk result (λ lock. HasRoomFor
         (command.Unlock (segments path.now.bytes) lock.token) session.new) }
 {
-    let bytes = session.lock_cost(path, &wanted.owner);
-    session.make_room(2, bytes)?;
+    session.make_room_to_lock(path, &wanted.owner)?;
     let place = copy_of(path)?;
     match session.grant(
         place,

@@ -91,7 +91,7 @@ impl<R: Rng> Session<R> {
             (live_of R.stream self.old) (live_after R.stream self.old self.new))) }
         // So many bytes were left for all of it.
         ensures left { OnOk result ((n : ℕ) → beside ≡ in_eight_bytes n
-            → (noting self.old).0 ≡ true
+            → (noting self.old).keeps ≡ true
             → removal_cost (caller self.old) (paths_of places.items) + n ≤ bytes_left self.old) }
         ensures refused { OnErr result (IsAsBefore R.stream self.old self.new) }
         ensures acts { Acts R.stream self.old self.new }

@@ -58,10 +58,22 @@ impl<R: Rng> Session<R> {
         ensures refused { OnErr result (IsAsBefore R.stream self.old self.new) }
         ensures acts { Acts R.stream self.old self.new }
     {
-        let bytes = cost_of_removals(self.stores.who(), &places);
-        self.make_room(places.len(), bytes)?;
+        self.make_room_to_remove(&places)?;
         self.remove_each(places);
         Ok(())
+    }
+
+    // Makes room for the notes of taking these places away, where notes are kept.
+    fn make_room_to_remove(&mut self, places: &[DavPath]) -> Result<(), RoomError>
+        ensures ok { OnOk result (HasRoomForNotes (length places.now)
+            (removal_cost (caller self.new) (paths_of places.now)) self.new) }
+        ensures same { IsAsBefore R.stream self.old self.new }
+    {
+        if !self.stores.keeps() {
+            return Ok(());
+        }
+        let bytes = cost_of_removals(self.stores.who(), places);
+        self.make_room(places.len(), bytes)
     }
 
     // The same, where there is room for their notes.

@@ -1,12 +1,13 @@
 //! Why there is no room for the notes of requests, and what those of a lock cost.
 ghost use Rattle.std.specs.Prelude.{◌≡◌, ◌+◌, ◌≤◌, ◌<◌, ℕ, Bool, List, Option, length, option_map};
-ghost use Rattle.std.specs.Prelude.{string_bytes, true, OnErr, OnOk};
+ghost use Rattle.std.specs.Prelude.{string_bytes, true, false, if◌then◌else◌, IfErr, IsOk, OnErr, OnOk};
 ghost use Rattle.dav_notes_core.specs.Asking.{sender_of};
 ghost use Rattle.dav_notes_core.specs.Costs.{in_eight_bytes, cost_for};
 ghost use Rattle.dav_path_core.specs.Segments.{segments};
 ghost use Rattle.dav_resource_core.specs.Requests.{Command as command};
 ghost use Rattle.dav_session_core.specs.NoteCosts.{copies_cost, removal_cost};
-ghost use Rattle.dav_session_core.specs.Sessions.{bytes_left, caller, noting};
+ghost use Rattle.dav_session_core.specs.Sessions.{HasRoomForNotes, IsAsBefore, bytes_left, caller, noting};
+ghost use Rattle.dav_session_core.specs.declared.session.rooms.RoomError.TheVariants as room_error;
 ghost use Rattle.dav_session_core.specs.Unhindered.{ends_of, paths_of};
 
 use super::Session;
@@ -46,11 +47,14 @@ impl<R: Rng> Session<R> {
     /// `NoRoom` alone, where they aren't.
     pub fn check_left(&self, places: &[DavPath], beside: u64) -> Result<(), RoomError>
         ensures ok { OnOk result ((n : ℕ) → beside ≡ in_eight_bytes n
-            → (noting self.now).0 ≡ true
+            → (noting self.now).keeps ≡ true
             → removal_cost (caller self.now) (paths_of places.now) + n ≤ bytes_left self.now) }
         ensures err { OnErr result ((n : ℕ) → beside ≡ in_eight_bytes n
             → bytes_left self.now < removal_cost (caller self.now) (paths_of places.now) + n) }
     {
+        if !self.stores.keeps() {
+            return Ok(());
+        }
         let bytes = sum_of(cost_of_removals(self.stores.who(), places), beside);
         if !self.stores.has_left(bytes) {
             return Err(RoomError::NoRoom);
@@ -58,25 +62,63 @@ impl<R: Rng> Session<R> {
         Ok(())
     }
 
-    /// How many bytes the notes of copying resources cost (own); `u64::MAX` where it is more.
+    /// How many bytes the notes of copying resources cost (own); `u64::MAX` where it is more, and 0
+    /// where no notes are kept.
     pub fn copy_cost(&self, transfers: &[Transfer]) -> u64
-        ensures { result
-            ≡ in_eight_bytes (copies_cost (caller self.now) (ends_of transfers.now)) }
+        ensures { result ≡ (if (noting self.now).keeps then
+            in_eight_bytes (copies_cost (caller self.now) (ends_of transfers.now)) else 0) }
     {
+        if !self.stores.keeps() {
+            return 0;
+        }
         cost_of_copies(self.stores.who(), transfers)
     }
 
-    /// How many bytes the note of moving a resource costs (own); `u64::MAX` where it is more.
+    /// How many bytes the note of moving a resource costs (own); `u64::MAX` where it is more, and 0
+    /// where no notes are kept.
     pub fn move_cost(&self, from: &DavPath, to: &DavPath) -> u64
-        ensures { result ≡ in_eight_bytes (cost_for (caller self.now)
-            (command.Move (segments from.now.bytes) (segments to.now.bytes))) }
+        ensures { result ≡ (if (noting self.now).keeps then in_eight_bytes (cost_for (caller self.now)
+            (command.Move (segments from.now.bytes) (segments to.now.bytes))) else 0) }
     {
+        if !self.stores.keeps() {
+            return 0;
+        }
         cost_of_transfer(self.stores.who(), from, to)
     }
 
-    /// How many bytes the notes of granting the caller a lock and of taking it back cost (own);
-    /// `u64::MAX` where it is more.
-    pub fn lock_cost(&self, path: &DavPath, owner: &Option<String>) -> u64
+    /// Makes room for the notes of granting the caller a lock and of taking it back, where notes are
+    /// kept (own).
+    ///
+    /// - `OutOfMemory`: there is no memory for them.
+    /// - `NoRoom`: not so many bytes are left.
+    pub fn make_room_to_lock(
+        &mut self,
+        path: &DavPath,
+        owner: &Option<String>,
+    ) -> Result<(), RoomError>
+        ensures ok { OnOk result ((timeout : Option ℕ) (shared deep : Bool) (token : List ℕ)
+            → length token ≡ 45 → HasRoomForNotes 2
+            (cost_for (caller self.new) (command.Unlock (segments path.now.bytes) token)
+            + cost_for (caller self.new) (command.Lock path.now
+            (option_map string_bytes owner.now) timeout shared deep)) self.new) }
+        ensures no_room { IfErr result (λ e. e ≡ room_error.NoRoom → (timeout : Option ℕ)
+            (shared deep : Bool) (token : List ℕ) → length token ≡ 45 → bytes_left self.old
+            < cost_for (caller self.old) (command.Unlock (segments path.now.bytes) token)
+            + cost_for (caller self.old) (command.Lock path.now
+            (option_map string_bytes owner.now) timeout shared deep)) }
+        ensures same { IsAsBefore R.stream self.old self.new }
+        ensures sure { (noting self.old).keeps ≡ false → IsOk result }
+    {
+        if !self.stores.keeps() {
+            return Ok(());
+        }
+        let bytes = self.lock_cost(path, owner);
+        self.make_room(2, bytes)
+    }
+
+    // How many bytes the notes of granting the caller a lock and of taking it back cost; `u64::MAX`
+    // where it is more.
+    fn lock_cost(&self, path: &DavPath, owner: &Option<String>) -> u64
         ensures { (timeout : Option ℕ) (shared deep : Bool) (token : List ℕ) → length token ≡ 45
             → result ≡ in_eight_bytes
             (cost_for (caller self.now) (command.Unlock (segments path.now.bytes) token)

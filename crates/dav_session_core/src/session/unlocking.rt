@@ -5,8 +5,9 @@ ghost use Rattle.std.specs.List.{list_any};
 ghost use Rattle.dav_path_core.specs.Segments.{segments};
 ghost use Rattle.dav_locks_core.specs.Locks.{covers, same_text};
 ghost use Rattle.dav_session_core.specs.Conditions.{has_token};
-ghost use Rattle.dav_session_core.specs.Sessions.{IsAsBefore, caller, live_of, Looks, Requests};
-ghost use Rattle.dav_session_core.specs.Sessions.{state};
+ghost use Rattle.dav_resource_core.specs.Requests.{Command as command};
+ghost use Rattle.dav_session_core.specs.Sessions.{HasRoomFor, IsAsBefore, caller, live_of, Looks};
+ghost use Rattle.dav_session_core.specs.Sessions.{Requests, state};
 ghost use Rattle.dav_session_core.specs.Unlocking.{EndsOwn, IsAnothers, KeepsLock};
 ghost use Rattle.dav_session_core.specs.Private.Owning.{AllOwn, is_anothers};
 ghost use Rattle.dav_faults_core.specs.declared.faults.Fault.TheVariants as fault;
@@ -56,10 +57,22 @@ impl<R: Rng> Session<R> {
         ensures refused { OnErr result (IsAsBefore R.stream self.old self.new) }
         ensures requests { Requests R.stream self.old self.new }
     {
-        let bytes = cost_of_unlock(self.stores.who(), &path, token.len());
-        self.make_room(1, bytes)?;
+        self.make_room_to_unlock(&path, &token)?;
         drop(self.ask(Command::Unlock { path, token }));
         Ok(())
+    }
+
+    // Makes room for the note of ending a lock, where notes are kept.
+    fn make_room_to_unlock(&mut self, path: &DavPath, token: &str) -> Result<(), RoomError>
+        ensures ok { OnOk result (HasRoomFor (command.Unlock (segments path.now.bytes) token.now)
+            self.new) }
+        ensures same { IsAsBefore R.stream self.old self.new }
+    {
+        if !self.stores.keeps() {
+            return Ok(());
+        }
+        let bytes = cost_of_unlock(self.stores.who(), path, token.len());
+        self.make_room(1, bytes)
     }
 
     // Whether each lock with the token at the path or above is the caller's own.

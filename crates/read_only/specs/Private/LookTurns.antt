@@ -3,7 +3,7 @@ use Rattle.std.proofs.Common.{◌≤◌, ℕ, Bool, true, false, List, [], ◌�
 use Rattle.http.specs.declared.request.Request.{Request}
 use Rattle.http_server.specs.declared.response.Response.{Response}
 use Rattle.http_server.specs.Exchange.{Call, Chain}
-use Rattle.http_frames.specs.Gate.{IsTold, TakesTurn}
+use Rattle.http_frames.specs.Gate.{CallsOnce, IsTold, TakesTurn}
 use Rattle.read_only.specs.declared.service.ReadOnly.{ReadOnly}
 use Rattle.read_only.specs.Looking.{LetsLook, looking, only_looks}
 
@@ -36,17 +36,14 @@ module _ {S : Type 0} (begins : S → ℕ → S → Type 0) (answers : S → Req
   chain_looks (c ∷ calls) old new chain =
       one_more c calls old.service (chain.0).service new.service chain.1 (chain_looks calls chain.0 new chain.2)
 
+  -- where it was called once at most, so was the service
+  pub once_looks : (old : ReadOnly S) (calls : List Call) (new : ReadOnly S) → CallsOnce ReadsAnswer old calls new → CallsOnce answers old.service (looking calls) new.service
+  once_looks old calls new once = record { one = omega (arith, once.one, looking_short calls); chain = chain_looks calls old new once.chain }
+
   -- where it was told of a turn and called, the service was
   pub told_looks : (old : ReadOnly S) (number : ℕ) (calls : List Call) (new : ReadOnly S) → IsTold ReadsBegin ReadsAnswer old number calls new
       → IsTold begins answers old.service number (looking calls) new.service
-  told_looks old number calls new told = (
-    (told.0).service,
-    told.1,
-    record {
-      one = omega (arith, told.2.one, looking_short calls);
-      chain = chain_looks calls told.0 new told.2.chain;
-    },
-  )
+  told_looks old number calls new told = ((told.0).service, told.1, once_looks told.0 calls new told.2)
 
   pub turn_looks : (number : ℕ) (calls : List Call) (old new : ReadOnly S) → TakesTurn ReadsBegin ReadsAnswer old number calls new
       → TakesTurn begins answers old.service number (looking calls) new.service

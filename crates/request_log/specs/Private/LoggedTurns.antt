@@ -3,7 +3,7 @@ use Rattle.std.proofs.Common.{ℕ, List, [], ◌∷◌, ap}
 use Rattle.http.specs.declared.request.Request.{Request}
 use Rattle.http_server.specs.declared.response.Response.{Response}
 use Rattle.http_server.specs.Exchange.{Call, Chain}
-use Rattle.http_frames.specs.Gate.{IsTold}
+use Rattle.http_frames.specs.Gate.{CallsOnce, IsTold}
 use Rattle.request_log.specs.declared.logged.Logged.{Logged}
 
 module _ {S L : Type 0} (begins : S → ℕ → S → Type 0) (answers : S → Request (List ℕ) → Response → S → Type 0) where
@@ -14,8 +14,10 @@ module _ {S L : Type 0} (begins : S → ℕ → S → Type 0) (answers : S → R
   chain_behind [] old new same = ap (λ (l : Logged S L). l.service) same
   chain_behind (c ∷ calls) old new chain = ((chain.0).service, chain.1, chain_behind calls chain.0 new chain.2)
 
+  pub once_behind : (old : Logged S L) (calls : List Call) (new : Logged S L) → CallsOnce LoggedAnswers old calls new → CallsOnce answers old.service calls new.service
+  once_behind old calls new once = record { one = once.one; chain = chain_behind calls old new once.chain }
+
   pub told_behind : (old : Logged S L) (number : ℕ) (calls : List Call) (new : Logged S L)
       → IsTold (λ (s : Logged S L) (n : ℕ) (s' : Logged S L). begins s.service n s'.service) LoggedAnswers old number calls new
       → IsTold begins answers old.service number calls new.service
-  told_behind old number calls new told =
-      ((told.0).service, told.1, record { one = told.2.one; chain = chain_behind calls told.0 new told.2.chain })
+  told_behind old number calls new told = ((told.0).service, told.1, once_behind told.0 calls new told.2)

@@ -34,7 +34,7 @@ returns g c =
     let x = c.settle.ensures in
     record {
       calls = calls.0;
-      turn = inr (c.open.new.self.service, c.open.ensures.begins, once g.S.Service.answers calls.0 c.open.new.self c.advance.new.service calls.2);
+      turn = inr (c.open.new.self.service, (c.open.ensures.begins, c.open.ensures.room), once g.S.Service.answers calls.0 c.open.new.self c.advance.new.service calls.2);
       made = ap (λ (k : Connection). (history k).calls) x.connection ∙ calls.1;
       quiet = subst (λ (k : Connection). IsQuiet (history c.args.held.now.connection) (history k)) (sym x.connection) c.advance.ensures.quiet;
       settled = λ closed. ap history x.connection ∙ c.advance.ensures.settled closed;

@@ -1,6 +1,6 @@
 use Rattle.http_frames.proofs.Fronts.{whole_kept}
 use Rattle.http_frames.proofs.Results.{on_err}
-use Rattle.http_frames.proofs.Running.{wrote_breaks, wrote_kept}
+use Rattle.http_frames.proofs.Running.{wrote_breaks}
 use Rattle.http_frames.proofs.serving.give_turn_on.Goals as goal
 
 pub returns-in_err-flush-clause-err : goal.returns-in_err-flush-clause-err

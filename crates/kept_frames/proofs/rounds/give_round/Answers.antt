@@ -1,10 +1,10 @@
-use Rattle.std.proofs.Common.{[], ◌++◌, arith, eqb-true, refl, sym, ◌∙◌}
+use Rattle.std.proofs.Common.{[], ◌++◌, Bool, IsTrue, length, ap, subst, arith, eqb-true, refl, sym, ◌∙◌}
 use Rattle.std.proofs.lemmas.List.{nil_from_length}
 use Rattle.journal_core.specs.Resting.{Carries}
 use Rattle.kept_frames.specs.KeptMoments.{IsTurn}
 use Rattle.kept_frames.proofs.Giving.{NoneWait, append_broken, appended, begin_waiting, turned, ungiven, unrecorded}
 use Rattle.kept_frames.proofs.Noting.{told_broken, told_noted}
-use Rattle.kept_frames.proofs.Rooms.{either_made}
+use Rattle.kept_frames.proofs.Rooms.{either_made, nothing_done, within_room}
 use Rattle.kept_frames.proofs.Standings.{kept_stays}
 use Rattle.kept_frames.proofs.Steps.{breaks_then, fails, steps_then}
 use Rattle.kept_frames.proofs.rounds.give_round.Goals as goal
@@ -53,3 +53,23 @@ returns-clause-ok g c =
           (appended IsTurn (Carries turned_by.round) c.give_turns.new.clients c.give_turns.new.service.service either (λ records new settled carries. c.in_ok-append.ensures.acknowledged records new settled carries)))
           (told_noted kept_stays t c.note.ensures.noted c.note.ensures.header c.note.ensures.settled),
     )
+
+pub returns-then-is_empty-clause-grows : goal.returns-then-is_empty-clause-grows
+returns-then-is_empty-clause-grows g c = λ records settled. record { made = c.give_turns.new.journal; keeps = c.give_turns.ensures.keeps; within = λ clean. refl }
+
+pub returns-clause-grows : goal.returns-clause-grows
+returns-clause-grows g c = λ records settled.
+    let made = c.give_turns.new.journal in
+    let after = c.append.new.self in
+    let round = c.in_ok-turned.turned.round in
+    let new = c.in_ok-turned.ensures.ok.3.0 in
+    let carries = c.in_ok-turned.ensures.ok.3.1 in
+    record {
+      made = made;
+      keeps = c.give_turns.ensures.keeps;
+      within = λ clean.
+          ap (λ (d : g.row.D.Denot). length (g.D.Disk.seen d)) c.note.ensures.disk ∙
+          within_room made after records new round (c.in_ok-turned.ensures.stays records settled) carries c.in_ok-append.ensures.room
+          (nothing_done made after round c.append.ensures.not_open c.append.ensures.nothing) (c.in_ok-turned.ensures.room records new settled carries)
+          (subst (λ (b : Bool). IsTrue b) (ap g.D.Disk.is_clean c.note.ensures.disk ∙ c.append.ensures.clean) clean);
+    }

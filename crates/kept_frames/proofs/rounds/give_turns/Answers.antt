@@ -1,7 +1,7 @@
 use Rattle.std.proofs.Common.{[], ◌∷◌, ◌++◌, append-nil, refl, sym, ◌∙◌}
 use Rattle.kept_frames.specs.Giving.{BreaksTurns}
 use Rattle.kept_frames.proofs.Giving.{alone_then, notes_new, notes_same, notes_then}
-use Rattle.kept_frames.proofs.Rooms.{keeps_none, keeps_then}
+use Rattle.kept_frames.proofs.Rooms.{keeps_none, keeps_then, room_none, room_then}
 use Rattle.http_frames.proofs.Results.{on_err}
 use Rattle.kept_frames.proofs.rounds.give_turns.Goals as goal
 
@@ -12,6 +12,7 @@ turns-init g c = record {
   begun = refl;
   keeps = keeps_none c.args.journal.now c.args.output.now;
   stays = λ records settled. settled;
+  room = λ records new settled carries. room_none g.D.Disk.seen g.D.Disk.is_clean c.args.journal.now c.new.result c.new.ensures new carries;
   usable = c.requires.usable;
 }
 
@@ -51,6 +52,12 @@ returns-in_default-clause-keeps g c = keeps_then c.turns.invariant.keeps c.turns
 pub returns-in_default-clause-stays : goal.returns-in_default-clause-stays
 returns-in_default-clause-stays g c = λ records settled. c.in_ok-full.ensures.stays records (c.turns.invariant.stays records settled)
 
+pub returns-in_default-clause-room : goal.returns-in_default-clause-room
+returns-in_default-clause-room g c = λ records new settled carries.
+    room_then c.in_ok-full.ensures.loses c.set_room.new.service.room c.len.result c.turns.turned.round c.give_turn.new.round c.len.ensures.records
+    (λ some clean. c.in_ok-full.ensures.room some records (c.in_ok-full.ensures.stays records (c.turns.invariant.stays records settled)) clean) c.in_ok-full.ensures.counted
+    c.in_ok-number.ensures.fits c.turns.invariant.notes.3.0 c.turns.invariant.notes.3.1 (c.turns.invariant.room records c.turns.invariant.notes.3.0 settled c.turns.invariant.notes.3.1) new carries
+
 pub returns-in_err-add_number-clause-err : goal.returns-in_err-add_number-clause-err
 returns-in_err-add_number-clause-err g c =
     let notes = notes_same g.S.TurnService.begins g.S.Service.answers g.S.TurnService.clocked g.S.TurnService.listed g.S.Recording.stands c.turns.turned.numbers.items c.args.clients.now c.turns.clients c.args.service.now.service c.turns.service.service c.set_room.new.service.service
@@ -74,5 +81,9 @@ turns-preserved g c =
       begun = c.give_turn.ensures.begun ∙ c.turns.invariant.begun;
       keeps = keeps_then c.turns.invariant.keeps c.turns.invariant.stays c.set_room.ensures.keeps;
       stays = λ records settled. c.in_ok-full.ensures.stays records (c.turns.invariant.stays records settled);
+      room = λ records new settled carries.
+          room_then c.in_ok-full.ensures.loses c.set_room.new.service.room c.len.result c.turns.turned.round c.give_turn.new.round c.len.ensures.records
+          (λ some clean. c.in_ok-full.ensures.room some records (c.in_ok-full.ensures.stays records (c.turns.invariant.stays records settled)) clean) c.in_ok-full.ensures.counted
+          c.in_ok-number.ensures.fits c.turns.invariant.notes.3.0 c.turns.invariant.notes.3.1 (c.turns.invariant.room records c.turns.invariant.notes.3.0 settled c.turns.invariant.notes.3.1) new carries;
       usable = c.in_ok-full.ensures.usable;
     }

@@ -1,7 +1,7 @@
-use Rattle.std.proofs.Common.{◌≡◌, IsTrue}
+use Rattle.std.proofs.Common.{◌≡◌, ℕ, List, IsTrue}
 use Rattle.http_frames.specs.Clients.{count_begun}
-use Rattle.journal_core.specs.Resting.{disk_behind}
-use Rattle.kept_frames.specs.Giving.{KeepsRecords, NotesTurns, StaysSettled}
+use Rattle.journal_core.specs.Resting.{Carries, IsSettled, disk_behind}
+use Rattle.kept_frames.specs.Giving.{EndsWithin, KeepsRecords, NotesTurns, StaysSettled}
 use Rattle.kept_frames.proofs.rounds.give_turns.Given as goal
 
 abbrev pub invariant-turns : goal.invariant-turns
@@ -10,5 +10,6 @@ invariant-turns g l = record {
   begun : count_begun l.clients ≡ count_begun l.fn.clients;
   keeps : KeepsRecords g.D.Disk.seen g.D.Disk.may_leave g.D.Disk.is_clean l.fn.journal l.journal l.fn.output;
   stays : StaysSettled g.D.Disk.seen g.D.Disk.may_leave g.D.Disk.is_clean l.fn.journal l.journal;
+  room : (records new : List (List ℕ)) → IsSettled g.D.Disk.seen g.D.Disk.may_leave g.D.Disk.is_clean l.fn.journal records → Carries l.turned.round new → EndsWithin g.D.Disk.seen g.D.Disk.is_clean l.journal new;
   usable : IsTrue (g.D.Disk.is_usable (disk_behind l.journal));
 }

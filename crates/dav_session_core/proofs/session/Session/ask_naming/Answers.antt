@@ -16,7 +16,7 @@ pub returns-in_err-ask_naming-clause-room : goal.returns-in_err-ask_naming-claus
 returns-in_err-ask_naming-clause-room g c = room_kept g.R.Rng.stream c.args.self.now (record { stores = c.ask_naming.new.self; rng = c.ask_naming.new.rng }) c.ask_naming.ensures.keeps c.ask_naming.ensures.room c.ask_naming.ensures.held
 
 pub returns-in_err-ask_naming-clause-noting : goal.returns-in_err-ask_naming-clause-noting
-returns-in_err-ask_naming-clause-noting g c = same_noting g.R.Rng.stream c.args.self.now (record { stores = c.ask_naming.new.self; rng = c.ask_naming.new.rng }) c.ask_naming.ensures.keeps c.ask_naming.ensures.base
+returns-in_err-ask_naming-clause-noting g c = same_noting g.R.Rng.stream c.args.self.now (record { stores = c.ask_naming.new.self; rng = c.ask_naming.new.rng }) c.ask_naming.ensures.keeps c.ask_naming.ensures.base c.ask_naming.ensures.given
 
 pub returns-clause-asked : goal.returns-clause-asked
 returns-clause-asked g c =
@@ -29,4 +29,4 @@ pub returns-clause-room : goal.returns-clause-room
 returns-clause-room g c = room_kept g.R.Rng.stream c.args.self.now (record { stores = c.ask_naming.new.self; rng = c.ask_naming.new.rng }) c.ask_naming.ensures.keeps c.ask_naming.ensures.room c.ask_naming.ensures.held
 
 pub returns-clause-noting : goal.returns-clause-noting
-returns-clause-noting g c = same_noting g.R.Rng.stream c.args.self.now (record { stores = c.ask_naming.new.self; rng = c.ask_naming.new.rng }) c.ask_naming.ensures.keeps c.ask_naming.ensures.base
+returns-clause-noting g c = same_noting g.R.Rng.stream c.args.self.now (record { stores = c.ask_naming.new.self; rng = c.ask_naming.new.rng }) c.ask_naming.ensures.keeps c.ask_naming.ensures.base c.ask_naming.ensures.given

@@ -18,7 +18,7 @@ pub returns-in_err-ask-clause-step : goal.returns-in_err-ask-clause-step
 returns-in_err-ask-clause-step g c = λ room. absurd (false≢true (c.in_err-ask.ensures.sure room))
 
 pub returns-in_err-ask-clause-noting : goal.returns-in_err-ask-clause-noting
-returns-in_err-ask-clause-noting g c = same_noting g.R.Rng.stream c.args.self.now (record { stores = c.ask.new.self; rng = c.ask.new.rng }) c.ask.ensures.keeps c.ask.ensures.base
+returns-in_err-ask-clause-noting g c = same_noting g.R.Rng.stream c.args.self.now (record { stores = c.ask.new.self; rng = c.ask.new.rng }) c.ask.ensures.keeps c.ask.ensures.base c.ask.ensures.given
 
 pub returns-in_err-ask-clause-spared : goal.returns-in_err-ask-clause-spared
 returns-in_err-ask-clause-spared g c = λ look. absurd (false≢true (c.in_err-ask.ensures.looks look).0)
@@ -39,7 +39,7 @@ returns-clause-step g c = λ room.
     step_by g.R.Rng.stream c.args.self.now (record { stores = c.ask.new.self; rng = c.ask.new.rng }) (spec.caller c.args.self.now) (command_of c.args.command) _ c.in_ok-ask.ensures.step c.in_ok-ask.ensures.drawn
 
 pub returns-clause-noting : goal.returns-clause-noting
-returns-clause-noting g c = same_noting g.R.Rng.stream c.args.self.now (record { stores = c.ask.new.self; rng = c.ask.new.rng }) c.ask.ensures.keeps c.ask.ensures.base
+returns-clause-noting g c = same_noting g.R.Rng.stream c.args.self.now (record { stores = c.ask.new.self; rng = c.ask.new.rng }) c.ask.ensures.keeps c.ask.ensures.base c.ask.ensures.given
 
 pub returns-clause-spared : goal.returns-clause-spared
 returns-clause-spared g c = λ look. room_kept g.R.Rng.stream c.args.self.now (record { stores = c.ask.new.self; rng = c.ask.new.rng }) c.ask.ensures.keeps (c.ask.ensures.spared look).0 (c.ask.ensures.spared look).1

@@ -14,7 +14,7 @@ returns-clause-step g c =
 pub returns-clause-looks : goal.returns-clause-looks
 returns-clause-looks g c =
     looked g.R.Rng.stream c.args.self.now (record { stores = c.look.new.self; rng = c.args.self.now.rng }) (command_of c.args.command) (ap (λ (s : Seen). s.who) c.look.ensures.same)
-    (ap (λ (s : Seen). (s.keeps, s.base)) c.look.ensures.same) (answer_of c.look.result)
+    (ap spec.noting_in c.look.ensures.same) (answer_of c.look.result)
     (look_step g.R.Rng.stream c.args.self.now (record { stores = c.look.new.self; rng = c.args.self.now.rng }) (spec.caller c.args.self.now) (command_of c.args.command) (answer_of c.look.result) c.requires
     c.look.ensures.step c.look.ensures.same refl) c.requires
 

@@ -1,11 +1,10 @@
-use Rattle.std.proofs.Common.{rules, string_bytes, sym, ap, ◌∙◌}
+use Rattle.std.proofs.Common.{ℕ, List, string_bytes, subst}
 use Rattle.std.proofs.lemmas.Result.{err_from_is_err_and}
 use Rattle.dav_path_core.specs.Segments.{segments}
 use Rattle.dav_resource_core.specs.Requests.{Command}
 use Rattle.dav_resource_core.specs.Served.{answer_of}
 use Rattle.dav_resource_core.specs.Step.{Serves}
-use Rattle.dav_notes_core.specs.Costs.{in_eight_bytes, cost_for}
-use Rattle.dav_session_core.specs.Callers.{Caller, asking, live}
+use Rattle.dav_session_core.specs.Callers.{asking, live}
 use Rattle.dav_session_core.specs.Sessions as spec
 use Rattle.dav_session_core.proofs.Looking.{from_before, looks_before, requests_of, requests_on}
 use Rattle.dav_session_core.proofs.OwnLemmas.{own_ends}
@@ -19,17 +18,16 @@ returns-clause-ends g c =
     let token = string_bytes c.args.token in
     let after = spec.state g.R.Rng.stream c.ask.new.self in
     own_ends who (live who.now s) after p token (answer_of c.ask.result) c.requires.covered c.requires.own
-    (from_before (λ w t. Serves (live w.now t) (asking w (Command.Unlock p token)) (answer_of c.ask.result) after) c.make_room.ensures.same
-    (c.ask.ensures.step (c.in_ok-make_room.ensures.ok (cost_for (spec.caller c.make_room.new.self) (Command.Unlock p token))
-    (c.cost_of_unlock-bytes.ensures token (search rules) ∙ ap (λ (w : Caller). in_eight_bytes (cost_for w (Command.Unlock p token))) (c.who.ensures ∙ sym c.make_room.ensures.same.who)))))
+    (from_before (λ w t. Serves (live w.now t) (asking w (Command.Unlock p token)) (answer_of c.ask.result) after) c.make_room_to_unlock.ensures.same
+    (c.ask.ensures.step (subst (λ (t : List ℕ). spec.HasRoomFor (Command.Unlock p t) c.make_room_to_unlock.new.self) c.deref.ensures c.in_ok-make_room_to_unlock.ensures.ok)))
 
-pub returns-in_err-make_room-clause-requests : goal.returns-in_err-make_room-clause-requests
-returns-in_err-make_room-clause-requests g c = requests_of (looks_before c.make_room.ensures.same)
+pub returns-in_err-make_room_to_unlock-clause-requests : goal.returns-in_err-make_room_to_unlock-clause-requests
+returns-in_err-make_room_to_unlock-clause-requests g c = requests_of (looks_before c.make_room_to_unlock.ensures.same)
 
 pub returns-clause-requests : goal.returns-clause-requests
-returns-clause-requests g c = requests_on (looks_before c.make_room.ensures.same) c.ask.ensures.requests
+returns-clause-requests g c = requests_on (looks_before c.make_room_to_unlock.ensures.same) c.ask.ensures.requests
 
-pub returns-in_err-make_room-clause-refused : goal.returns-in_err-make_room-clause-refused
-returns-in_err-make_room-clause-refused g c =
+pub returns-in_err-make_room_to_unlock-clause-refused : goal.returns-in_err-make_room_to_unlock-clause-refused
+returns-in_err-make_room_to_unlock-clause-refused g c =
     let q = err_from_is_err_and c.from_residual.result c.from_residual.ensures.1 in
-    rw q.1 c.make_room.ensures.same
+    rw q.1 c.make_room_to_unlock.ensures.same

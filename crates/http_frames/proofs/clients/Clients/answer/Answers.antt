@@ -3,6 +3,7 @@ use Rattle.std.specs.Map.{lookup}
 use Rattle.http.specs.declared.request.Request.{Request}
 use Rattle.http_server.specs.declared.response.Response.{Response}
 use Rattle.http_frames.specs.declared.held.Held.{Held}
+use Rattle.http_frames.specs.Gate.{BeginsWithin}
 use Rattle.http_frames.specs.Private.Steps.{Steps}
 use Rattle.http_frames.proofs.Keeping.{none_moves, alike_stays}
 use Rattle.http_frames.proofs.Turning.{has_turn, has_late_turn}
@@ -43,13 +44,15 @@ returns-in_err-number-clause-none g c = λ is.
 
 pub returns-in-Some-clause-turn : goal.returns-in-Some-clause-turn
 returns-in-Some-clause-turn g c =
+    let begins = BeginsWithin g.S.TurnService.begins g.S.TurnService.room c.args.service.now.room in
     let put = (c.get_mut.follows.holds c.step-own.new.held).3 (rw (sym c.in-Some.ensures.value) refl) in
-    has_turn c.args.self.now _ c.in_ok-number.number c.in_ok-number.ensures.items g.S.TurnService.begins g.S.Service.answers c.args.service.now.service c.step-own.new.service.service c.in-Some.held.now c.step-own.new.held
-    (rounded g.S.TurnService.begins g.S.Service.answers c.in_ok-number.number c.args.self.now.round c.in-Some.held.now c.step-own.new.held _ _ c.step-own.ensures)
+    has_turn c.args.self.now _ c.in_ok-number.number c.in_ok-number.ensures.items begins g.S.Service.answers c.args.service.now.service c.step-own.new.service.service c.in-Some.held.now c.step-own.new.held
+    (rounded begins g.S.Service.answers c.in_ok-number.number c.args.self.now.round c.in-Some.held.now c.step-own.new.held _ _ c.step-own.ensures)
     (sym c.in-Some.ensures.value) (record { puts = put.0; begun = refl; config = refl; window = refl; asked = refl })
 
 pub returns-clause-turn : goal.returns-clause-turn
 returns-clause-turn g c =
+    let begins = BeginsWithin g.S.TurnService.begins g.S.TurnService.room c.args.service.now.room in
     let none = sym c.in_default.ensures.value in
-    has_late_turn c.args.self.now _ c.in_ok-number.number c.in_ok-number.ensures.items g.S.TurnService.begins g.S.Service.answers c.args.service.now.service c.args.service.now.service none
+    has_late_turn c.args.self.now _ c.in_ok-number.number c.in_ok-number.ensures.items begins g.S.Service.answers c.args.service.now.service c.args.service.now.service none
     (none_moves c.args.self.now _ c.in_ok-number.number none (λ q. ap (λ (m : HashMap ℕ Held _). lookup (λ k. q == k) m.entries) c.get_mut.follows.holds-at-none) refl refl refl refl) refl

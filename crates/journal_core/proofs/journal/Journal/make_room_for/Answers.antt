@@ -6,7 +6,7 @@ use Rattle.journal_core.specs.declared.error.JournalError.{JournalError}
 use Rattle.journal_core.specs.declared.journal.Journal.{Journal}
 use Rattle.journal_core.specs.Resting.{IsSettled, KnowsLength, disk_behind}
 use Rattle.journal_core.specs.Private.Looks.{Grows}
-use Rattle.journal_core.proofs.Growing.{grown_crash, grown_moments, grown_settled, grown_steps, grows_on, look_grows}
+use Rattle.journal_core.proofs.Growing.{grown_crash, grown_longer, grown_moments, grown_settled, grown_steps, grows_on, look_grows}
 use Rattle.journal_core.proofs.journal.Journal.make_room_for.Goals as goal
 use Rattle.journal_core.proofs.journal.Journal.make_room_for.Goals.{then-len-wanted+in_ok-len-2, else-len-wanted}
 
@@ -143,3 +143,19 @@ returns-clause-stays g c = λ records it.
     ] in
     let settled = grown_settled seen may_leave is_clean faults note j c.if-len-wanted.self records rest grown both.0 both.1 in
     record { rounds = settled.rounds; lies = settled.lies; same = settled.same; at = settled.at; durable = settled.durable; knows = settled.knows }
+
+pub returns-clause-longer : goal.returns-clause-longer
+returns-clause-longer g c =
+    let seen = g.D.Disk.seen in
+    let may_leave = g.D.Disk.may_leave in
+    let is_clean = g.D.Disk.is_clean in
+    let faults = g.D.Disk.faults in
+    let note = c.args.note.now in
+    let j : Journal g.row.D.Denot g.row.B.Denot = record c.args.self.now { is_open = false } in
+    let k = c.measure.new.self in
+    let looked : Grows seen may_leave note j k = look_grows seen may_leave is_clean faults note j k c.measure.ensures.same c.measure.ensures.looks in
+    let grown : Grows seen may_leave note j c.if-len-wanted.self = elim c.if-len-wanted.branch [
+      | then-len-wanted+in_ok-len-2 w ↦ subst (λ k. Grows seen may_leave note j k) (sym w.self-is) (grows_on seen may_leave is_clean faults note j k w.grow.new.self looked w.grow.ensures.grows)
+      | else-len-wanted w ↦ subst (λ k. Grows seen may_leave note j k) (sym w.self-is) looked
+    ] in
+    grown_longer seen may_leave is_clean faults note j c.if-len-wanted.self grown

@@ -1,0 +1,6 @@
+//! A server whose stores a file keeps: the file is opened, read and compacted, and the server is served over it.
+#![tactic(auto)]
+
+mod stored;
+
+pub use stored::{Compacting, Keeping, serve_stored};

@@ -1,0 +1,112 @@
+//! What is imported: a folder of the system, and what stands in it.
+use bytes::Bytes;
+use dav_path_core::davpath::DavPath;
+use dav_resource_core::fs::Moment;
+use std::alloc::{AllocError, Global};
+use std::fs::{self, Files, Metadata};
+use std::io::{self, BufRead, BufReader, ErrorKind, Read};
+use std::os::unix::fs::MetadataExt;
+use std::time::UNIX_EPOCH;
+use store_views::Failure;
+
+// How many bytes of names are read at once; the system hands out none where one does not fit.
+const NAMES: usize = 64 * 1024;
+
+/// Something that may be imported.
+#[derive(Drop)]
+pub struct Found {
+    /// Its path in the system.
+    pub place: String,
+    /// Its path in the stores.
+    pub path: DavPath,
+}
+
+/// A folder of the system, as the root of the stores.
+pub fn source_of(rt: &HostRuntime, folder: &str) -> Result<Found, Failure> {
+    let alloc = rt.alloc();
+    let found = at(alloc, folder, fs::metadata(rt, folder))?;
+    if !found.is_dir() {
+        let error = io::Error::from(ErrorKind::NotADirectory);
+        return Err(Failure::At(String::from_str(alloc, folder)?, error));
+    }
+    Ok(Found {
+        // With a slash at its end, so that a link to a folder is followed here.
+        place: member_of(alloc, folder, "")?,
+        path: DavPath::from_parts(alloc, "", b"/").map_err(|_| AllocError)?,
+    })
+}
+
+/// What a call of the system answers at this path, or its error with the path.
+pub fn at<T: Drop>(alloc: Global, place: &str, answer: io::Result<T>) -> Result<T, Failure> {
+    match answer {
+        Ok(value) => Ok(value),
+        Err(error) => Err(Failure::At(String::from_str(alloc, place)?, error)),
+    }
+}
+
+/// The path of a member of a folder of the system.
+pub fn member_of(alloc: Global, place: &str, name: &str) -> Result<String, AllocError> {
+    let mut member = String::from_str(alloc, place)?;
+    if !place.ends_with('/') {
+        member.push('/')?;
+    }
+    member.push_str(name)?;
+    Ok(member)
+}
+
+/// The names of what stands in a folder, sorted by their bytes from the last to the first.
+pub fn names_of(rt: &HostRuntime, place: &str) -> Result<Vec<Vec<u8>>, Failure> {
+    let folder = at(rt.alloc(), place, rt.open_dir(place))?;
+    let mut source = BufReader::with_capacity(rt.alloc(), NAMES, folder)?;
+    let mut names = Vec::new(rt.alloc());
+    for _ in 0..u64::MAX {
+        let mut name = Vec::new(rt.alloc());
+        let read = source.read_until(0, &mut name);
+        if at(rt.alloc(), place, read)? == 0 {
+            break;
+        }
+        let _zero = name.pop();
+        if name.as_slice() != b".".as_slice() && name.as_slice() != b"..".as_slice() {
+            names.push(name).map_err(|_| AllocError)?;
+        }
+    }
+    names.sort_by(|one, other| other.as_slice().cmp(one.as_slice()))?;
+    Ok(names)
+}
+
+/// The bytes of the file that was found at this path. `Changed` where it is another one, or changes while it is read.
+pub fn bytes_of(rt: &HostRuntime, place: &str, found: &Metadata) -> Result<Bytes, Failure> {
+    let alloc = rt.alloc();
+    let file = at(alloc, place, fs::open(rt, place))?;
+    let before = at(alloc, place, file.metadata())?;
+    let mut bytes = Vec::new(alloc);
+    let mut input = file.take(before.len().saturating_add(1));
+    let read = input.read_to_end(&mut bytes);
+    let length = at(alloc, place, read)?;
+    let after = at(alloc, place, input.get_ref().metadata())?;
+    if length as u64 != before.len() || !are_same(found, &before) || !are_same(&before, &after) {
+        return Err(Failure::Changed(String::from_str(alloc, place)?));
+    }
+    Ok(Bytes::from_vec(bytes).map_err(|_| AllocError)?)
+}
+
+// Whether this is the same file, unchanged.
+fn are_same(one: &Metadata, other: &Metadata) -> bool {
+    is_one_file(one, other)
+        && one.len() == other.len()
+        && one.mtime() == other.mtime()
+        && one.mtime_nsec() == other.mtime_nsec()
+        && one.ctime() == other.ctime()
+        && one.ctime_nsec() == other.ctime_nsec()
+}
+
+/// Whether this is one file by two names.
+pub fn is_one_file(one: &Metadata, other: &Metadata) -> bool {
+    one.dev() == other.dev() && one.ino() == other.ino()
+}
+
+/// When it was changed; none before 1970, and past the year 2554.
+pub fn time_of(found: &Metadata) -> Option<Moment> {
+    let since = found.modified().ok()?.duration_since(UNIX_EPOCH).ok()?;
+    Some(Moment(u64::try_from(since.as_nanos()).ok()?))
+}

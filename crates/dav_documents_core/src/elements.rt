@@ -77,7 +77,7 @@ pub fn is_dav(element: &[Node], local: &str) -> bool
 fn is_dav_name(name: &Name, local: &str) -> bool
     ensures { result ≡ spec.is_dav_name local.now (name_of name.now) }
 {
-    name.namespace.as_str() == "DAV:" && name.local.as_str() == local
+    matches!(name.namespace.as_bytes(), [b'D', b'A', b'V', b':']) && name.local.as_str() == local
 }
 
 /// The only one of the elements that is the one of `DAV:` with this local name, or none. `BadRequest` where there are several.

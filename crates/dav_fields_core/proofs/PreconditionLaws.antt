@@ -1,6 +1,7 @@
 -- Laws of the conditions of HTTP.
-use Rattle.std.proofs.Common.{◌≡◌, ℕ, Bool, true, false, not, ◌||◌, cond, List, [], Option, Some, None, refl, sym, ap, ◌∙◌}
+use Rattle.std.proofs.Common.{arith, length, ◌≡◌, ℕ, Bool, true, false, not, ◌||◌, cond, List, [], ◌∷◌, Option, Some, None, refl, sym, ap, ◌∙◌}
 use Rattle.std.specs.Prelude.{codes}
+use Rattle.std.proofs.lemmas.Bool.{eqb-true}
 use Rattle.http_header.specs.FieldValue.{FieldValue}
 use Rattle.http_header.specs.HeaderMap.{Entries, get_all}
 use Rattle.dav_headers_core.specs.Optional.{◌>>=◌}
@@ -45,6 +46,11 @@ goes_on m standing headers a b c d e =
     ap (λ w. w >>= λ wanted. cond wanted (course_of_wanted m standing headers) (Some PreconditionFailed)) (wanted standing headers a b)
     ∙ ap (λ n. n >>= λ new. cond new (part_course (is_part_wanted m standing headers)) (cond (is_get_or_head m) (Some NotModified) (Some PreconditionFailed))) (new m standing headers c d)
     ∙ ap part_course (part m standing headers e)
+
+-- what is missing was not sent
+pub none_sent : (values named : List FieldValue) (b : Bool) → values ≡ named → b ≡ is_missing values → b ≡ true → named ≡ []
+none_sent [] named b e h t = sym e
+none_sent (v ∷ vs) named b e h t = absurd (let zero : length (v ∷ vs) ≡ 0 = eqb-true _ _ (sym h ∙ t) in omega (arith, zero))
 
 -- ---- where each course comes from
 

@@ -1,5 +1,7 @@
 //! The conditions of HTTP (RFC 9110 section 13). What they ask for is told from the headers and from what stands at the path. It takes no memory.
-ghost use Rattle.std.specs.Prelude.{◌≡◌, ◌*◌, nat_le, not};
+ghost use Rattle.std.specs.Prelude.{◌≡◌, ◌*◌, Some, nat_le, not, true};
+ghost use Rattle.dav_path_core.specs.declared.util.DavMethod.{DavMethod};
+ghost use Rattle.dav_fields_core.specs.declared.etags.Standing.{Standing};
 ghost use Rattle.std.specs.List.{list_any};
 ghost use Rattle.httpdate.specs.Date.{parse_secs};
 ghost use Rattle.dav_fields_core.specs.ListedTags as listed;
@@ -227,7 +229,27 @@ fn course_of_wanted(
     }
 }
 
-/// The same, with nothing where a condition that is looked at can't be read.
+/// Whether none of the conditions stands in the headers (own): then a request goes on, whatever stands at its path.
+pub fn asks_nothing(headers: &HeaderMap<HeaderValue>) -> bool
+    ensures { result ≡ true → (m : DavMethod) (standing : Standing)
+        → spec.course_of m standing headers.now ≡ Some Course.Proceed }
+{
+    if !is_missing(&headers.get_all("if-match")) {
+        return false;
+    }
+    if !is_missing(&headers.get_all("if-unmodified-since")) {
+        return false;
+    }
+    if !is_missing(&headers.get_all("if-none-match")) {
+        return false;
+    }
+    if !is_missing(&headers.get_all("if-modified-since")) {
+        return false;
+    }
+    is_missing(&headers.get_all("if-range"))
+}
+
+/// What follows from the conditions, as `course_of` tells it, with nothing where one that is looked at can't be read.
 pub fn read_course(
     method: DavMethod,
     standing: &Standing,

@@ -19,7 +19,7 @@ use crate::costs::cost_for;
 use crate::drawn::Drawn;
 use crate::error::NoteError;
 use crate::notes::{Note, apply_given, is_grant, is_look};
-use crate::senders::{Sender, add_token, drop_token, give_back, lent, request_by};
+use crate::senders::{Sender, add_token, drop_token, request_by, swap_asker, unasked};
 use dav_resource_core::guarded::{Command, Guarded, Refusal, Reply};
 use http_server::Log;
 use rand_core::Rng;
@@ -223,10 +223,11 @@ impl NotedStores {
     {
         let grants = is_grant(&command);
         if !is_noted(self.keeps, &command) {
-            let request = lent(&mut self.who, command, self.alloc);
+            let mut request = unasked(command, self.alloc);
             let mut drawn = Drawn { bytes: self.next };
+            swap_asker(&mut self.who, &mut request);
             let alone = self.stores.apply(&request, &mut drawn);
-            give_back(&mut self.who, request);
+            swap_asker(&mut self.who, &mut request);
             draw_next(&mut self.next, rng, grants && alone.is_ok());
             return Ok(alone);
         }
@@ -258,10 +259,11 @@ impl NotedStores {
         ensures same { self.new ≡ record self.old { stores = self.new.stores } }
         ensures shape { IsResourceMap self.new.stores.map }
     {
-        let request = lent(&mut self.who, command, self.alloc);
+        let mut request = unasked(command, self.alloc);
         let mut drawn = Drawn { bytes: self.next };
+        swap_asker(&mut self.who, &mut request);
         let answer = self.stores.apply(&request, &mut drawn);
-        give_back(&mut self.who, request);
+        swap_asker(&mut self.who, &mut request);
         answer
     }
 
@@ -422,9 +424,10 @@ fn answer_naming(
 {
     match add_token(who, token) {
         Ok(()) => {
-            let request = lent(who, command, alloc);
+            let mut request = unasked(command, alloc);
+            swap_asker(who, &mut request);
             let answer = apply_given(stores, &request, next);
-            give_back(who, request);
+            swap_asker(who, &mut request);
             drop_token(who);
             return Ok(answer);
         }

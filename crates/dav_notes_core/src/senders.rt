@@ -61,27 +61,29 @@ pub fn request_by(who: Sender, command: Command) -> Request
     }
 }
 
-/// A request of the sender's, who lends it the principal and the tokens (own).
+/// A request of nobody's (own): without tokens, at the moment 0.
 #[inline(always)]
-pub fn lent(who: &mut Sender, command: Command, alloc: Global) -> Request
-    ensures { request_of result ≡ asking (sender_of who.old) (command_of command) }
+pub fn unasked(command: Command, alloc: Global) -> Request
+    ensures { (request_of result).command ≡ command_of command }
 {
     Request {
-        principal: who.principal.take(),
-        tokens: mem::replace(&mut who.tokens, Vec::new(alloc)),
-        now: who.now,
+        principal: None,
+        tokens: Vec::new(alloc),
+        now: Moment(0),
         command,
     }
 }
 
-/// Gives the sender of a request back (own). Its command is let go.
+/// Swaps who asks by a request with the sender (own). Swapped twice, both are as before.
 #[inline(always)]
-pub fn give_back(who: &mut Sender, request: Request)
-    ensures { sender_of who.new ≡ asker_of (request_of request) }
+pub fn swap_asker(who: &mut Sender, request: &mut Request)
+    ensures who { sender_of who.new ≡ asker_of (request_of request.old) }
+    ensures request { request_of request.new
+        ≡ asking (sender_of who.old) (request_of request.old).command }
 {
-    who.principal = request.principal;
-    who.tokens = request.tokens;
-    who.now = request.now;
+    mem::swap(&mut who.principal, &mut request.principal);
+    mem::swap(&mut who.tokens, &mut request.tokens);
+    mem::swap(&mut who.now, &mut request.now);
 }
 
 /// Adds a token to those that are submitted (own). `AllocError` where there is no memory for it.

@@ -8,6 +8,7 @@ mod ConditionRows
 pub mod CopyMadeLemmas
 pub mod CopyingLemmas
 pub mod GrantLemmas
+pub mod KindLemmas
 pub mod Looking
 pub mod MakeLemmas
 pub mod MoveLemmas

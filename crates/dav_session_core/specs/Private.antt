@@ -1,3 +1,4 @@
 pub mod Anew
 pub mod Gathering
 pub mod Owning
+pub mod WalkPlaces

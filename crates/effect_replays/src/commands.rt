@@ -1,10 +1,10 @@
 //! Commands at random, at few paths, so that they meet.
 use crate::chance::{Chance, below, once_in, one_of, some_bytes};
-use crate::wrong::Wrong;
 use bytes::Bytes;
 use dav_files_core::fs::DavProp;
 use dav_path_core::davpath::DavPath;
 use dav_resource_core::guarded::Command;
+use record_replays::Wrong;
 use std::alloc::{AllocError, Global};
 
 const NAMES: [&str; 4] = ["a", "b", "long name", "%C3%A9"];

@@ -3,9 +3,7 @@
 
 mod chance;
 mod commands;
-mod keeping;
 mod script;
-mod wrong;
 
 use script::{Count, play};
 use std::io::{self, ErrorKind};

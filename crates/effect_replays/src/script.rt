@@ -1,14 +1,13 @@
 //! A script: requests, and what they changed, played again.
 use crate::chance::{Chance, below, chance_of, once_in};
 use crate::commands::some_command;
-use crate::keeping::{play_record, record_of, snapshot_of};
-use crate::wrong::Wrong;
 use dav_notes_core::error::NoteError;
 use dav_notes_core::noted::NotedStores;
 use dav_notes_core::senders::Sender;
 use dav_path_core::davpath::DavPath;
 use dav_resource_core::fs::Moment;
 use dav_resource_core::guarded::{Command, Guarded, Refusal, Reply, Request};
+use record_replays::{Wrong, new_stores, play_record, record_of, same_snapshot};
 use std::alloc::{AllocError, Global};
 
 /// So many records a script has at most.
@@ -65,13 +64,19 @@ impl Script {
             tokens: Vec::new(alloc),
             now: Moment(0),
         };
-        let noted = NotedStores::new(alloc, new_stores(alloc)?, nobody, true, &mut tokens_chance);
+        let noted = NotedStores::new(
+            alloc,
+            new_stores(alloc, Moment(0))?,
+            nobody,
+            true,
+            &mut tokens_chance,
+        );
         Ok(Script {
             alloc,
             chance: chance_of(seed),
             tokens_chance,
             noted,
-            again: new_stores(alloc)?,
+            again: new_stores(alloc, Moment(0))?,
             records: Vec::new(alloc),
             tokens: Vec::new(alloc),
         })
@@ -149,37 +154,23 @@ impl Script {
         let now = self.noted.who().now;
         let _answer = self.ask(root_meta(self.alloc)?)?;
         expire(self.alloc, &mut self.again, now)?;
-        let stands = snapshot_of(self.alloc, self.noted.stores(), now)?;
-        let played = snapshot_of(self.alloc, &self.again, now)?;
-        if stands == played {
-            Ok(())
-        } else {
-            Err(Wrong::Others)
-        }
+        same_snapshot(self.alloc, self.noted.stores(), &self.again, now)?;
+        Ok(())
     }
 
     // All records, one behind the other, on new stores.
     fn play_at_once(&self) -> Result<(), Wrong> {
         let now = self.noted.who().now;
-        let mut stores = new_stores(self.alloc)?;
+        let mut stores = new_stores(self.alloc, Moment(0))?;
         for record in &self.records {
             play_record(self.alloc, &mut stores, record)?;
         }
         expire(self.alloc, &mut stores, now)?;
-        let stands = snapshot_of(self.alloc, self.noted.stores(), now)?;
-        let played = snapshot_of(self.alloc, &stores, now)?;
-        if stands == played {
-            Ok(())
-        } else {
-            Err(Wrong::OthersAtOnce)
+        match same_snapshot(self.alloc, self.noted.stores(), &stores, now) {
+            Ok(_) => Ok(()),
+            Err(Wrong::Others) => Err(Wrong::OthersAtOnce),
+            Err(wrong) => Err(wrong),
         }
-    }
-}
-
-fn new_stores(alloc: Global) -> Result<Guarded, Wrong> {
-    match Guarded::new(alloc, Moment(0)) {
-        Ok(stores) => Ok(stores),
-        Err(_) => Err(Wrong::OutOfMemory),
     }
 }
 

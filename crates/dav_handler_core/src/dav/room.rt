@@ -5,7 +5,6 @@ ghost use Rattle.dav_notes_core.specs.Costs.{budget_of};
 
 use super::Dav;
 use bytes::Bytes;
-use dav_resource_core::util::DavMethod;
 use http::Request;
 use rand_core::Rng;
 
@@ -32,8 +31,8 @@ impl<R: Rng> Dav<R> {
 
 // How many bytes of the room a request leaves to others.
 pub(super) fn withheld_from(request: &Request<Bytes>) -> u64 {
-    match DavMethod::try_from(request.method()) {
-        Ok(DavMethod::Delete | DavMethod::Unlock) => 0,
+    match request.method().as_str() {
+        "DELETE" | "UNLOCK" => 0,
         _ => LAST,
     }
 }

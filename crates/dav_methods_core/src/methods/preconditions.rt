@@ -8,7 +8,7 @@ ghost use Rattle.dav_faults_core.specs.declared.faults.Fault.TheVariants as faul
 
 use dav_faults_core::faults::Fault;
 use dav_fields_core::etags::Standing;
-use dav_fields_core::preconditions::{Course, read_course};
+use dav_fields_core::preconditions::{Course, asks_nothing, read_course};
 use dav_resource_core::davpath::DavPath;
 use dav_resource_core::util::DavMethod;
 use dav_session_core::session::Session;
@@ -34,6 +34,9 @@ pub(super) fn check_conditions<R: Rng>(
         headers.now ≡ Err e)) }
     ensures looks { Looks R.stream session.old session.new }
 {
+    if asks_nothing(headers) {
+        return Ok(());
+    }
     let standing = session.standing(alloc, path)?;
     course_lets(method, headers, &standing)
 }

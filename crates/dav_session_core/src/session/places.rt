@@ -72,7 +72,7 @@ impl<R: Rng> Session<R> {
         ensures looks { Looks R.stream self.old self.new }
     {
         let mut places = self.place_alone(alloc, copy_of(&path)?)?;
-        let mut members = self.members(alloc, &path)?;
+        let mut members = self.members(alloc, path)?;
         places.append(&mut members)?;
         Ok(places)
     }

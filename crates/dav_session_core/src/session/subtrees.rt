@@ -10,6 +10,7 @@ ghost use Rattle.dav_files_core.specs.Finding.{has_members};
 ghost use Rattle.dav_files_core.specs.Resources.{ResourceMap, at_path};
 ghost use Rattle.dav_session_core.specs.MemberPaths.{paths_in, paths_of_members};
 ghost use Rattle.dav_session_core.specs.Private.Gathering.{FailsToName};
+ghost use Rattle.dav_session_core.specs.Private.WalkPlaces.{AreToldPlaces, IsToldPlace, is_listed_folder, place_path};
 ghost use Rattle.dav_session_core.specs.Sessions.{Looks, state};
 ghost use Rattle.dav_session_core.specs.Subtrees.{HasOddMember, IsSubtreeWalk};
 ghost use Rattle.dav_faults_core.specs.declared.faults.Fault.TheVariants as fault;
@@ -23,7 +24,14 @@ use dav_resource_core::davpath::DavPath;
 use dav_resource_core::fs::DavDirEntry;
 use dav_resource_core::memfs::MemFsEntry;
 use rand_core::Rng;
-use std::alloc::Global;
+use std::alloc::{AllocError, Global};
+
+/// Where a walk is. Where it is told to be no folder, nothing stands in it.
+#[derive(Drop)]
+pub(crate) struct Place {
+    pub(crate) path: DavPath,
+    pub(crate) folder: bool,
+}
 
 impl<R: Rng> Session<R> {
     /// The paths of all that stands at a path and below it, by the bytes of their names, and each
@@ -45,28 +53,51 @@ impl<R: Rng> Session<R> {
         }
         let mut places = Vec::new(alloc);
         let mut waiting = Vec::new(alloc);
-        waiting.push(path)?;
+        waiting.push(Place { path, folder: true })?;
         while let Some(place) = waiting.pop() {
-            let mut members = self.members(alloc, &place)?;
+            let mut members = self.places_in(alloc, &place)?;
             members.reverse();
             waiting.append(&mut members)?;
             places.push(place)?;
         }
-        Ok(places)
+        Ok(paths_at(alloc, places)?)
     }
 
     // The paths of a folder's members; none where no folder stands at the path.
-    pub(super) fn members(&mut self, alloc: Global, place: &DavPath) -> Result<Vec<DavPath>, Fault>
+    pub(super) fn members(&mut self, alloc: Global, folder: DavPath) -> Result<Vec<DavPath>, Fault>
         ensures ok { IfOk result (λ paths. paths_of paths.items
-            ≡ paths_of_members (state R.stream self.old).map (segments place.now.bytes)) }
+            ≡ paths_of_members (state R.stream self.old).map (segments folder.bytes)) }
         ensures plain { OnOk result (¬ HasOddMember (state R.stream self.old).map
-            (segments place.now.bytes)) }
+            (segments folder.bytes)) }
         ensures err { IfErr result (λ e. FailsToName (state R.stream self.old).map
-            (segments place.now.bytes) e) }
+            (segments folder.bytes) e) }
         ensures looks { Looks R.stream self.old self.new }
     {
-        match self.list(copy_of(place)?) {
-            Ok(entries) => member_paths(alloc, place, &entries),
+        let place = Place {
+            path: folder,
+            folder: true,
+        };
+        let places = self.places_in(alloc, &place)?;
+        Ok(paths_at(alloc, places)?)
+    }
+
+    // The members of a place; none where no folder stands there. Of a file nothing is asked.
+    fn places_in(&mut self, alloc: Global, place: &Place) -> Result<Vec<Place>, Fault>
+        requires known { IsToldPlace (state R.stream self.old).map place.now }
+        ensures ok { IfOk result (λ places. map place_path places.items
+            ≡ paths_of_members (state R.stream self.old).map (place_path place.now)) }
+        ensures known { IfOk result (λ places. AreToldPlaces (state R.stream self.old).map places.items) }
+        ensures plain { OnOk result (¬ HasOddMember (state R.stream self.old).map
+            (place_path place.now)) }
+        ensures err { IfErr result (λ e. FailsToName (state R.stream self.old).map
+            (place_path place.now) e) }
+        ensures looks { Looks R.stream self.old self.new }
+    {
+        if !place.folder {
+            return Ok(Vec::new(alloc));
+        }
+        match self.list(copy_of(&place.path)?) {
+            Ok(entries) => member_places(alloc, &place.path, &entries),
             Err(Fault::NotFound) => Ok(Vec::new(alloc)),
             Err(fault) => Err(fault),
         }
@@ -96,22 +127,48 @@ pub fn walks_are_equal()
         → IsSubtreeWalk m p others → places ≡ others }
 {}
 
-// The paths of listed members of a folder.
-fn member_paths(
+// Listed members of a folder, as places.
+fn member_places(
     alloc: Global,
     folder: &DavPath,
     entries: &[MemFsEntry],
-) -> Result<Vec<DavPath>, Fault>
-    ensures ok { IfOk result (λ paths. paths_of paths.items
+) -> Result<Vec<Place>, Fault>
+    ensures ok { IfOk result (λ places. map place_path places.items
         ≡ paths_in (segments folder.now.bytes) (map (λ e. e.name) entries.now)) }
+    ensures kinds { IfOk result (λ places. map (λ w. w.folder) places.items
+        ≡ map is_listed_folder entries.now) }
     ensures plain { OnOk result (All (λ e. CanBeSegment e.name) entries.now) }
     ensures err { IfErr result (λ e. (e ≡ fault.InsufficientStorage)
         ⊎ ((e ≡ fault.BadRequest) × ((entry : MemFsEntry) × Contains entries.now entry
         × ¬ CanBeSegment entry.name))) }
 {
-    let mut paths = Vec::new(alloc);
+    let mut places = Vec::new(alloc);
     for entry in entries {
-        paths.push(folder.child(entry.name())?)?;
+        places.push(Place {
+            path: folder.child(entry.name())?,
+            folder: is_folder(entry),
+        })?;
+    }
+    Ok(places)
+}
+
+// Whether a member is listed as a folder.
+fn is_folder(entry: &MemFsEntry) -> bool
+    ensures { result ≡ is_listed_folder entry.now }
+{
+    match entry.is_dir() {
+        Ok(folder) => folder,
+        Err(_) => false,
+    }
+}
+
+// The paths of places.
+fn paths_at(alloc: Global, places: Vec<Place>) -> Result<Vec<DavPath>, AllocError>
+    ensures { IfOk result (λ paths. paths_of paths.items ≡ map place_path places.items) }
+{
+    let mut paths = Vec::new(alloc);
+    for place in places {
+        paths.push(place.path)?;
     }
     Ok(paths)
 }

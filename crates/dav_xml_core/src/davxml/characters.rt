@@ -39,7 +39,7 @@ pub(super) fn no_char_at(text: &str) -> Option<usize>
 pub(super) fn lines_of(alloc: Global, text: &str) -> Result<Vec<char>, AllocError>
     ensures { IfOk result (λ x. x.items ≡ spec.lines_from false (chars text.now)) }
 {
-    let mut lines = Vec::new(alloc);
+    let mut lines = Vec::with_capacity(alloc, text.len())?;
     let mut after_return = false;
     for c in text.chars() {
         if c == '\r' {

@@ -203,7 +203,7 @@ fn tag_name(alloc: Global, name: &Name) -> Result<Vec<u8>, AllocError>
 fn dav_tag(alloc: Global, local: &str) -> Result<Vec<u8>, AllocError>
     ensures { IfOk result (λ x. x.items ≡ spec.tag_name spec.element_prefix (dav_name local.now)) }
 {
-    let mut out = Vec::new(alloc);
+    let mut out = Vec::with_capacity(alloc, local.len().saturating_add(2))?;
     push(&mut out, b"D:")?;
     push(&mut out, local.as_bytes())?;
     Ok(out)
@@ -222,7 +222,9 @@ fn push_dav_start(
 {
     push(out, b"<")?;
     push(out, tag)?;
-    push(out, first)?;
+    if !first.is_empty() {
+        push(out, first)?;
+    }
     push(out, b">")
 }
 

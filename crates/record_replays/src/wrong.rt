@@ -1,19 +1,21 @@
-//! Why a script is wrong.
+//! Why what was played is wrong.
 use dav_effects_core::RecordError;
 use dav_notes_core::error::NoteError;
 use dav_notes_core::playing::PlayError;
 use std::alloc::{AllocError, AllocFailed};
-use std::fmt;
+use std::{fmt, io};
 
-/// Why a script is wrong.
+/// Why what was played is wrong, or could not be tried.
 #[derive(Debug, Drop)]
 pub enum Wrong {
     /// There is no memory.
     OutOfMemory,
     /// There is no room for a note, though none was set.
     NoRoom,
-    /// A path of the script is none.
+    /// A path of the requests is none.
     Path,
+    /// The requests are not read to their end.
+    Stream,
     /// A record that was written is not read.
     Record(RecordError),
     /// Notes that were read are not played.
@@ -36,6 +38,12 @@ impl From<NoteError> for Wrong {
             NoteError::OutOfMemory => Wrong::OutOfMemory,
             NoteError::NoRoom => Wrong::NoRoom,
         }
+    }
+}
+
+impl From<io::Error> for Wrong {
+    fn from(_error: io::Error) -> Wrong {
+        Wrong::Stream
     }
 }
 
@@ -63,6 +71,7 @@ impl fmt::Display for Wrong {
             Wrong::OutOfMemory => f.write_str("out of memory"),
             Wrong::NoRoom => f.write_str("no room for a note"),
             Wrong::Path => f.write_str("a path is none"),
+            Wrong::Stream => f.write_str("the requests are not read"),
             Wrong::Record(error) => write!(f, "a record is not read: {error:?}"),
             Wrong::Played(error) => write!(f, "notes are not played: {error:?}"),
             Wrong::Others => f.write_str("the stores are others"),

@@ -11,7 +11,19 @@ use dav_resource_core::guarded::Guarded;
 use dav_snapshots_core::write as write_stores;
 use std::alloc::{AllocError, Global};
 
-/// The record of notes.
+/// Stores that are empty, whose root was made at the moment (own).
+///
+/// - `OutOfMemory`: there is no memory.
+pub fn new_stores(alloc: Global, now: Moment) -> Result<Guarded, Wrong> {
+    match Guarded::new(alloc, now) {
+        Ok(stores) => Ok(stores),
+        Err(_) => Err(Wrong::OutOfMemory),
+    }
+}
+
+/// The record of notes (own).
+///
+/// - `OutOfMemory`: there is no memory.
 pub fn record_of(alloc: Global, notes: &[Note]) -> Result<Vec<u8>, Wrong>
     requires { AreChanges (map note_of notes.now) }
 {
@@ -19,15 +31,35 @@ pub fn record_of(alloc: Global, notes: &[Note]) -> Result<Vec<u8>, Wrong>
     Ok(bytes_of(alloc, &pieces)?)
 }
 
-/// Reads a record, and plays its notes.
+/// Reads a record, and plays its notes (own).
+///
+/// - `Record`: it is not read. `Played`: its notes are not played.
 pub fn play_record(alloc: Global, stores: &mut Guarded, record: &[u8]) -> Result<(), Wrong> {
     let notes = read(alloc, record)?;
     play_again(stores, &notes)?;
     Ok(())
 }
 
-/// The snapshot of stores, at a moment.
-pub fn snapshot_of(alloc: Global, stores: &Guarded, now: Moment) -> Result<Vec<u8>, Wrong> {
+/// How many bytes the snapshots of both stores have, where they are equal byte by byte (own). Both are taken at the moment.
+///
+/// - `OutOfMemory`: there is no memory. `Others`: they are not equal.
+pub fn same_snapshot(
+    alloc: Global,
+    stores: &Guarded,
+    others: &Guarded,
+    now: Moment,
+) -> Result<usize, Wrong> {
+    let stands = snapshot_of(alloc, stores, now)?;
+    let played = snapshot_of(alloc, others, now)?;
+    if stands == played {
+        Ok(stands.len())
+    } else {
+        Err(Wrong::Others)
+    }
+}
+
+// The snapshot of stores, at a moment.
+fn snapshot_of(alloc: Global, stores: &Guarded, now: Moment) -> Result<Vec<u8>, Wrong> {
     match write_stores(alloc, stores, now) {
         Ok(pieces) => Ok(bytes_of(alloc, &pieces)?),
         Err(_) => Err(Wrong::OutOfMemory),

@@ -1,0 +1,11 @@
+use Rattle.dav_fields_core.proofs.PreconditionLaws.{goes_on, none_sent}
+use Rattle.dav_fields_core.proofs.preconditions.asks_nothing.Goals as goal
+
+pub returns : goal.returns
+returns c = λ missing m standing.
+    goes_on m standing c.args.headers.now
+    (none_sent _ _ c.is_missing.result c.get_all.ensures.value c.is_missing.ensures c.if-not-is_missing.false)
+    (none_sent _ _ c.is_missing-2.result c.get_all-2.ensures.value c.is_missing-2.ensures c.if-not-is_missing-2.false)
+    (none_sent _ _ c.is_missing-3.result c.get_all-3.ensures.value c.is_missing-3.ensures c.if-not-is_missing-3.false)
+    (none_sent _ _ c.is_missing-4.result c.get_all-4.ensures.value c.is_missing-4.ensures c.if-not-is_missing-4.false)
+    (none_sent _ _ c.is_missing-5.result c.get_all-5.ensures.value c.is_missing-5.ensures missing)

@@ -35,16 +35,16 @@ use Rattle.dav_methods_core.specs.RefreshMethod.{FailsToRefresh, Refreshes}
 use Rattle.dav_methods_core.specs.SameFaults.{AreAlike, IsDetermined, LeavesLive}
 use Rattle.dav_methods_core.specs.SentDocuments.{document_sent}
 use Rattle.dav_methods_core.specs.ToldPaths.{told_path}
-use Rattle.dav_methods_core.proofs.CopyAlikeLaws.{copies_once}
-use Rattle.dav_methods_core.proofs.FindAlikeLaws.{find_refusals_alike, finds_once, finds_or_not}
-use Rattle.dav_methods_core.proofs.GetAlikeLaws.{get_refusals_alike, gets_once, gets_or_not}
-use Rattle.dav_methods_core.proofs.LockAlikeLaws.{grants_once, grants_or_not, lock_refusals_alike}
-use Rattle.dav_methods_core.proofs.MoveAlikeLaws.{moves_once}
-use Rattle.dav_methods_core.proofs.PatchAlikeLaws.{patches_once}
-use Rattle.dav_methods_core.proofs.PutAlikeLaws.{puts_once}
-use Rattle.dav_methods_core.proofs.RefreshAlikeLaws.{refresh_refusals_alike, refreshed_or_not, refreshes_once}
-use Rattle.dav_methods_core.proofs.SameFaultLemmas.{IsShort, equal_alike}
-use Rattle.dav_methods_core.proofs.StageLemmas.{AllAlike}
+use Rattle.dav_answers_core.proofs.CopyAlikeLaws.{copies_once}
+use Rattle.dav_answers_core.proofs.FindAlikeLaws.{find_refusals_alike, finds_once, finds_or_not}
+use Rattle.dav_answers_core.proofs.GetAlikeLaws.{get_refusals_alike, gets_once, gets_or_not}
+use Rattle.dav_answers_core.proofs.LockAlikeLaws.{grants_once, grants_or_not, lock_refusals_alike}
+use Rattle.dav_answers_core.proofs.MoveAlikeLaws.{moves_once}
+use Rattle.dav_answers_core.proofs.PatchAlikeLaws.{patches_once}
+use Rattle.dav_answers_core.proofs.PutAlikeLaws.{puts_once}
+use Rattle.dav_answers_core.proofs.RefreshAlikeLaws.{refresh_refusals_alike, refreshed_or_not, refreshes_once}
+use Rattle.dav_answers_core.proofs.SameFaultLemmas.{IsShort, equal_alike}
+use Rattle.dav_answers_core.proofs.StageLemmas.{AllAlike}
 use Rattle.dav_handler_core.specs.MethodAnswers.{Admits, BareAnswers, Begins, ChangeAnswers, CopyAnswers, FindAnswers, GetAnswers, HoldsOff, IsPut, IsWhole, LockAnswers, MoveAnswers, PatchAnswers, PutAnswers, RefusesBody, has_body}
 use Rattle.dav_handler_core.specs.Server.{Server, site_for}
 use Rattle.dav_handler_core.proofs.OneEndLaws.{AreOne, EndsBadly, Ends, EndsWell, IsDoneOnce, at, ends_once}

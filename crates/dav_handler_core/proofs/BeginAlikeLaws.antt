@@ -16,7 +16,7 @@ use Rattle.dav_fields_core.proofs.OneSenderLaws.{one_refused_target, one_submiss
 use Rattle.dav_fields_core.proofs.OneSenderLaws.{principal_or_not, submission_or_bad, target_or_not}
 use Rattle.dav_session_core.specs.Callers.{Caller, IsSender}
 use Rattle.dav_methods_core.specs.SameFaults.{AreAlike}
-use Rattle.dav_methods_core.proofs.SameFaultLemmas.{equal_alike}
+use Rattle.dav_answers_core.proofs.SameFaultLemmas.{equal_alike}
 use Rattle.dav_handler_core.specs.MethodAnswers.{Begins, Unread}
 use Rattle.dav_handler_core.specs.MethodAnswers.Unread.{memory, target, principal, tokens, moment}
 use Rattle.dav_handler_core.specs.Server.{IsFrom, Names, Options, Server, site_for}

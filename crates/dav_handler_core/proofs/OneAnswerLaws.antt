@@ -28,10 +28,10 @@ use Rattle.dav_methods_core.specs.MkcolMethod.{FailsToMake, Makes}
 use Rattle.dav_methods_core.specs.RefusalAnswers.{TellsWhy, refusal_sent}
 use Rattle.dav_methods_core.specs.SameFaults.{AreAlike, IsDetermined}
 use Rattle.dav_methods_core.specs.UnlockMethod.{FailsToUnlock, Unlocks}
-use Rattle.dav_methods_core.proofs.DeleteAlikeLaws.{removes_once}
-use Rattle.dav_methods_core.proofs.MkcolAlikeLaws.{makes_once}
-use Rattle.dav_methods_core.proofs.SameFaultLemmas.{IsShort, equal_alike}
-use Rattle.dav_methods_core.proofs.UnlockAlikeLaws.{unlocks_once}
+use Rattle.dav_answers_core.proofs.DeleteAlikeLaws.{removes_once}
+use Rattle.dav_answers_core.proofs.MkcolAlikeLaws.{makes_once}
+use Rattle.dav_answers_core.proofs.SameFaultLemmas.{IsShort, equal_alike}
+use Rattle.dav_answers_core.proofs.UnlockAlikeLaws.{unlocks_once}
 use Rattle.dav_handler_core.specs.Answers.{Answers, AnswersTo, IsMethod, Leaves, SendsBehind, SendsOwn, status_of}
 use Rattle.dav_handler_core.specs.MethodAnswers.{BareAnswers, IsWhole, PutAnswers, has_body}
 use Rattle.dav_handler_core.specs.RequestMoments.{Comes, ComesAt, answer_moment, may_change}

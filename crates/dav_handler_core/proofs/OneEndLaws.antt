@@ -8,9 +8,9 @@ use Rattle.dav_faults_core.specs.declared.faults.Fault.TheVariants as fault
 use Rattle.dav_fields_core.specs.RequestRefusals.{IsLastMoment}
 use Rattle.dav_session_core.specs.Callers.{Caller, live}
 use Rattle.dav_methods_core.specs.SameFaults.{AreAlike}
-use Rattle.dav_methods_core.proofs.AdmitAlikeLaws.{admitted_or_not, held_off_alike}
-use Rattle.dav_methods_core.proofs.SameFaultLemmas.{IsShort}
-use Rattle.dav_methods_core.proofs.StageLemmas.{AllAlike}
+use Rattle.dav_answers_core.proofs.AdmitAlikeLaws.{admitted_or_not, held_off_alike}
+use Rattle.dav_answers_core.proofs.SameFaultLemmas.{IsShort}
+use Rattle.dav_answers_core.proofs.StageLemmas.{AllAlike}
 use Rattle.dav_handler_core.specs.MethodAnswers.{Admits, Begins, HoldsOff, Unread}
 use Rattle.dav_handler_core.specs.RequestMoments.{ComesAt}
 use Rattle.dav_handler_core.specs.Server.{Server, site_for}

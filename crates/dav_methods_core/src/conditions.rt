@@ -29,8 +29,8 @@ use dav_resource_core::davpath::DavPath;
 use dav_session_core::session::{Session, copy_of, has_token};
 use http_header::{HeaderMap, HeaderValue};
 pub use laws::{
-    conditions_are_weighed_once, held_token_shows_a_lock, not_of_no_lock_holds, one_truth,
-    tagged_lists_are_of_their_tags, tokens_stand_once, untagged_lists_are_of_the_request,
+    held_token_shows_a_lock, not_of_no_lock_holds, one_truth, tagged_lists_are_of_their_tags,
+    tokens_stand_once, untagged_lists_are_of_the_request,
 };
 use rand_core::Rng;
 use std::alloc::Global;

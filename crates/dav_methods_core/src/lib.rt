@@ -3,7 +3,6 @@
 
 pub mod conditions;
 pub mod describing;
-pub mod laws;
 pub mod methods;
 pub mod pages;
 pub mod refusals;

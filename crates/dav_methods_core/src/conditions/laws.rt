@@ -2,40 +2,21 @@
 ghost use Rattle.std.specs.Prelude.{◌≡◌, ◌≢◌, ℕ, Bool, true, false, List, [], ◌∷◌, None, Option};
 ghost use Rattle.std.specs.Prelude.{Some, Contains, bytes_eq};
 ghost use Rattle.std.specs.List.{AllByRecursion, IsDistinct, flat_map, list_any};
-ghost use Rattle.http_header.specs.FieldValue.{FieldValue};
-ghost use Rattle.http_header.specs.HeaderMap.{Entries};
 ghost use Rattle.dav_path_core.specs.Fronts.{Path};
-ghost use Rattle.dav_path_core.specs.PathText.{PathText};
 ghost use Rattle.dav_headers_core.specs.IfBytes.{Token};
 ghost use Rattle.dav_headers_core.specs.IfValues.{Located};
 ghost use Rattle.dav_locks_core.specs.Lock.{Lock};
 ghost use Rattle.dav_locks_core.specs.Locks.{covers};
 ghost use Rattle.dav_resource_core.specs.Step.{State};
-ghost use Rattle.dav_faults_core.specs.declared.faults.Fault.{Fault};
-ghost use Rattle.dav_faults_core.specs.declared.faults.Fault.TheVariants as fault;
 ghost use Rattle.dav_session_core.specs.Conditions.{IfIs, Production, ProductionsAre};
 ghost use Rattle.dav_session_core.specs.Conditions.{conditions_hold, lists_of};
-ghost use Rattle.dav_fields_core.specs.Bases.{Site};
 ghost use Rattle.dav_fields_core.specs.IfTokens.{is_among, tokens_in, tokens_of};
 ghost use Rattle.dav_fields_core.specs.TaggedLists.{Base};
-ghost use Rattle.dav_methods_core.specs.Admitting.{IsAdmitted, IsHeldOff};
-ghost use Rattle.dav_methods_core.specs.SameFaults.{AreAlike};
 
 /// The law that an `If` either holds or doesn't. It does nothing.
 pub fn one_truth()
     ensures { (s : State) (base : Base) (here : Path) (lists : List Located) (holds also : Bool)
         → IfIs s base here lists holds → IfIs s base here lists also → holds ≡ also }
-{}
-
-/// The law that the `If` of a request lets it go on or holds it off, but for want of memory, and
-/// that it holds it off for one reason (RFC 4918 section 10.4). It does nothing.
-pub fn conditions_are_weighed_once()
-    ensures either { (site : Site) (s : State) (headers : Entries FieldValue) (here : PathText)
-        (e : Fault) → IsAdmitted site s headers here → IsHeldOff site s headers here e
-        → e ≡ fault.InsufficientStorage }
-    ensures refused { (site : Site) (s : State) (headers : Entries FieldValue) (here : PathText)
-        (e f : Fault) → IsHeldOff site s headers here e → IsHeldOff site s headers here f
-        → AreAlike e f }
 {}
 
 /// The law that a list of one token that holds shows a lock that covers the resource (RFC 4918

@@ -1,0 +1,16 @@
+pub mod AdmitAlikeLaws
+pub mod CopyAlikeLaws
+pub mod DeleteAlikeLaws
+pub mod EndsAlikeLaws
+pub mod FindAlikeLaws
+pub mod GetAlikeLaws
+pub mod LockAlikeLaws
+pub mod MkcolAlikeLaws
+pub mod MoveAlikeLaws
+pub mod OddNameLemmas
+pub mod PatchAlikeLaws
+pub mod PutAlikeLaws
+pub mod RefreshAlikeLaws
+pub mod SameFaultLemmas
+pub mod StageLemmas
+pub mod UnlockAlikeLaws

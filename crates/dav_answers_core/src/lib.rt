@@ -1,0 +1,4 @@
+//! The laws that a request to a WebDAV server is answered in one way by its method.
+#![tactic(auto)]
+
+pub mod laws;

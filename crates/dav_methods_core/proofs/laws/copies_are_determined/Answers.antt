@@ -1,5 +1,0 @@
-use Rattle.dav_methods_core.proofs.CopyAlikeLaws.{copies_once}
-use Rattle.dav_methods_core.proofs.laws.copies_are_determined.Goals as goal
-
-pub returns : goal.returns
-returns c = copies_once

@@ -1,5 +1,0 @@
-use Rattle.dav_methods_core.proofs.MkcolAlikeLaws.{makes_once}
-use Rattle.dav_methods_core.proofs.laws.makings_are_determined.Goals as goal
-
-pub returns : goal.returns
-returns c = makes_once

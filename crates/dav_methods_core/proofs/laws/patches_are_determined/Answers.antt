@@ -1,5 +1,0 @@
-use Rattle.dav_methods_core.proofs.PatchAlikeLaws.{patches_once}
-use Rattle.dav_methods_core.proofs.laws.patches_are_determined.Goals as goal
-
-pub returns : goal.returns
-returns c = patches_once

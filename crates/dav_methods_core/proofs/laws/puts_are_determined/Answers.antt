@@ -1,5 +1,0 @@
-use Rattle.dav_methods_core.proofs.PutAlikeLaws.{puts_once}
-use Rattle.dav_methods_core.proofs.laws.puts_are_determined.Goals as goal
-
-pub returns : goal.returns
-returns c = λ headers s who p bytes. puts_once headers s who p bytes

@@ -1,5 +1,0 @@
-use Rattle.dav_methods_core.proofs.DeleteAlikeLaws.{removes_once}
-use Rattle.dav_methods_core.proofs.laws.removals_are_determined.Goals as goal
-
-pub returns : goal.returns
-returns c = removes_once

@@ -1,5 +1,0 @@
-use Rattle.dav_methods_core.proofs.UnlockAlikeLaws.{unlocks_once}
-use Rattle.dav_methods_core.proofs.laws.unlocks_are_determined.Goals as goal
-
-pub returns : goal.returns
-returns c = unlocks_once

@@ -10,7 +10,7 @@ use Rattle.dav_fields_core.specs.declared.etags.Standing.{Standing}
 use Rattle.dav_fields_core.specs.declared.etags.Standing.TheVariants.{Nothing, Folder, File}
 use Rattle.dav_fields_core.specs.declared.preconditions.Course.{Course}
 use Rattle.dav_fields_core.specs.declared.preconditions.Course.TheVariants.{Proceed, Whole, NotModified, PreconditionFailed}
-use Rattle.dav_fields_core.specs.Preconditions.{course_of, course_of_wanted, if_modified_since, if_range, if_unmodified_since, is_get, is_get_or_head, is_missing, is_new, is_part_wanted, is_told_by, is_wanted, part_course, second_in, unchanged_since}
+use Rattle.dav_fields_core.specs.Preconditions.{asks_nothing, course_of, course_of_wanted, if_modified_since, if_range, if_unmodified_since, is_get, is_get_or_head, is_missing, is_new, is_part_wanted, is_told_by, is_wanted, part_course, second_in, unchanged_since}
 
 -- ---- what is asked for in no header
 
@@ -51,6 +51,17 @@ goes_on m standing headers a b c d e =
 pub none_sent : (values named : List FieldValue) (b : Bool) → values ≡ named → b ≡ is_missing values → b ≡ true → named ≡ []
 none_sent [] named b e h t = sym e
 none_sent (v ∷ vs) named b e h t = absurd (let zero : length (v ∷ vs) ≡ 0 = eqb-true _ _ (sym h ∙ t) in omega (arith, zero))
+
+-- what is missing is missing under its name
+pub missing_named : (values named : List FieldValue) (b : Bool) → values ≡ named → b ≡ is_missing values → b ≡ is_missing named
+missing_named values named b e h = h ∙ ap is_missing e
+
+-- where the first four are missing, the fifth decides
+pub fifth_decides : (headers : Entries FieldValue) (b : Bool) → is_missing (get_all headers (codes "if-match")) ≡ true
+    → is_missing (get_all headers (codes "if-unmodified-since")) ≡ true → is_missing (get_all headers (codes "if-none-match")) ≡ true
+    → is_missing (get_all headers (codes "if-modified-since")) ≡ true → b ≡ is_missing (get_all headers (codes "if-range"))
+    → b ≡ asks_nothing headers
+fifth_decides headers b tags dates others changes range = rw (tags, dates, others, changes) range
 
 -- ---- where each course comes from
 

@@ -1,5 +1,5 @@
 -- The conditions of HTTP, in the order of RFC 9110 section 13.2.2, of the headers and of what stands at the path.
-use Rattle.std.specs.Prelude.{ℕ, Bool, true, false, not, ◌*◌, ◌/◌, ◌==◌, ◌||◌, nat_le, if◌then◌else◌, List, codes, length, Option, None, Some, is_some, Result, Ok, Err}
+use Rattle.std.specs.Prelude.{ℕ, Bool, true, false, not, ◌*◌, ◌/◌, ◌==◌, ◌||◌, ◌&&◌, nat_le, if◌then◌else◌, List, codes, length, Option, None, Some, is_some, Result, Ok, Err}
 use Rattle.http_header.specs.FieldValue.{FieldValue}
 use Rattle.http_header.specs.HeaderMap.{Entries, get_all}
 use Rattle.httpdate.specs.Date.{parse_secs}
@@ -121,6 +121,13 @@ course_of_wanted m standing headers = is_new m standing headers >>= λ new.
 abbrev pub course_of : DavMethod → Standing → Entries FieldValue → Option Course
 course_of m standing headers = is_wanted standing headers >>= λ wanted.
     if wanted then course_of_wanted m standing headers else Some course.PreconditionFailed
+
+-- none of the five headers is there that a condition can stand in
+abbrev pub asks_nothing : Entries FieldValue → Bool
+asks_nothing headers =
+    is_missing (get_all headers (codes "if-match")) && is_missing (get_all headers (codes "if-unmodified-since"))
+    && is_missing (get_all headers (codes "if-none-match")) && is_missing (get_all headers (codes "if-modified-since"))
+    && is_missing (get_all headers (codes "if-range"))
 
 -- what can't be read is a bad request
 abbrev pub or_bad_request : {A : Type 0} → Option A → Result A Fault

@@ -231,7 +231,8 @@ fn course_of_wanted(
 
 /// Whether none of the conditions stands in the headers (own): then a request goes on, whatever stands at its path.
 pub fn asks_nothing(headers: &HeaderMap<HeaderValue>) -> bool
-    ensures { result ≡ true → (m : DavMethod) (standing : Standing)
+    ensures exact { result ≡ spec.asks_nothing headers.now }
+    ensures goes_on { result ≡ true → (m : DavMethod) (standing : Standing)
         → spec.course_of m standing headers.now ≡ Some Course.Proceed }
 {
     if !is_missing(&headers.get_all("if-match")) {

@@ -55,6 +55,7 @@ pub use laws::{
     locks_stand_their_time, paths_stay_untouched,
 };
 use rand_core::Rng;
+pub use room::LAST_ROOM;
 use std::alloc::{AllocError, Global};
 pub use tag_laws::{calls_make_runs, dates_tell_bytes, moments_tell_files, tags_tell_bytes};
 

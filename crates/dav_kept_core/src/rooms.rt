@@ -1,5 +1,6 @@
 //! How much room in the file a request may need for the record of what it changes. No clause speaks of
 //! it: a request is told what room there is, and is refused where its notes would cost more.
+use dav_handler_core::dav::LAST_ROOM;
 use dav_notes_core::notes::Note;
 use dav_resource_core::davpath::DavPath;
 use dav_resource_core::fs::DavMetaData;
@@ -7,9 +8,6 @@ use dav_resource_core::guarded::{Command, Guarded};
 use http::StatusCode;
 use std::alloc::{AllocError, Global};
 use std::collections::HashMap;
-
-/// The last bytes of the room, which a DELETE and an UNLOCK alone may use (own).
-const LAST: u64 = 1024 * 1024;
 
 /// What a record has beside what the request sent, at most: who asks, and what is the same in each
 /// (own).
@@ -70,7 +68,7 @@ impl Tree {
 
     /// Whether the paths may have grown so far from what was counted that they are to be counted again.
     pub(crate) fn is_stale(&self) -> bool {
-        self.paths > self.counted.saturating_mul(2).saturating_add(LAST)
+        self.paths > self.counted.saturating_mul(2).saturating_add(LAST_ROOM)
     }
 
     /// How much room a request of so many bytes may need; so much more is left for a DELETE and an
@@ -82,7 +80,7 @@ impl Tree {
         sent_room(bytes)
             .saturating_add(self.paths.saturating_mul(3))
             .saturating_add(self.count.saturating_mul(each))
-            .saturating_add(LAST)
+            .saturating_add(LAST_ROOM)
     }
 
     fn note_command(&mut self, command: &Command, created: bool) {

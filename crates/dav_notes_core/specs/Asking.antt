@@ -1,5 +1,5 @@
 -- Who asks: the same for all requests that one HTTP request leads to (RFC 4918 sections 6.4 and 10.4).
-use Rattle.std.specs.Prelude.{ℕ, List, [], ◌∷◌, ◌++◌, Option, map, option_map, string_bytes}
+use Rattle.std.specs.Prelude.{ℕ, List, [], ◌∷◌, ◌++◌, Option, None, map, option_map, string_bytes}
 use Rattle.dav_resource_core.specs.Requests.{Command, Request}
 use Rattle.dav_notes_core.specs.declared.senders.Sender.{Sender}
 
@@ -19,6 +19,10 @@ asking who command = record { principal = who.principal; tokens = who.tokens; no
 -- the caller who asks by a request
 abbrev pub asker_of : Request → Caller
 asker_of request = record { principal = request.principal; tokens = request.tokens; now = request.now }
+
+-- no principal, no tokens, and the moment 0
+abbrev pub nobody : Caller
+nobody = record { principal = None; tokens = []; now = 0 }
 
 -- the caller with one token more
 abbrev pub also_naming : Caller → List ℕ → Caller

@@ -1,7 +1,8 @@
 //! Who asks.
 ghost use Rattle.std.specs.Prelude.{◌≡◌, ℕ, List, IfOk, OnErr, OnOk, option_map, string_bytes};
 ghost use Rattle.dav_resource_core.specs.Served.{command_of, request_of};
-ghost use Rattle.dav_notes_core.specs.Asking.{Caller, also_naming, asker_of, asking, sender_of};
+ghost use Rattle.dav_notes_core.specs.Asking.{Caller, also_naming, asker_of, asking, nobody};
+ghost use Rattle.dav_notes_core.specs.Asking.{sender_of};
 
 use dav_resource_core::fs::Moment;
 use dav_resource_core::guarded::{Command, Request};
@@ -64,7 +65,8 @@ pub fn request_by(who: Sender, command: Command) -> Request
 /// A request of nobody's (own): without tokens, at the moment 0.
 #[inline(always)]
 pub fn unasked(command: Command, alloc: Global) -> Request
-    ensures { (request_of result).command ≡ command_of command }
+    ensures command { (request_of result).command ≡ command_of command }
+    ensures asker { asker_of (request_of result) ≡ nobody }
 {
     Request {
         principal: None,

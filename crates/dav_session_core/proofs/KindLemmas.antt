@@ -15,17 +15,17 @@ use Rattle.dav_files_core.specs.Finding.{members}
 use Rattle.dav_files_core.specs.Listing.{listed_entry, listed_member, read_dir}
 use Rattle.dav_files_core.specs.Meta.{Meta}
 use Rattle.dav_files_core.specs.Outcomes.{◌>>=◌, find_folder}
-use Rattle.dav_files_core.specs.Resources.{IsResourceMap, Resource, ResourceMap, at_path}
+use Rattle.dav_files_core.specs.Resources.{IsResourceMap, Resource, ResourceMap, at_path, is_folder}
 use Rattle.dav_files_core.proofs.listings.DescribingLemmas.{all_stand}
 use Rattle.dav_session_core.specs.declared.session.subtrees.Place.{Place}
 use Rattle.dav_faults_core.specs.declared.faults.Fault.TheVariants as fault
 use Rattle.dav_session_core.specs.Questions.{LacksKind}
 use Rattle.dav_session_core.proofs.SubtreeLemmas.{none_listed, plain_nowhere}
 use Rattle.dav_session_core.specs.MemberPaths.{paths_in}
-use Rattle.dav_session_core.specs.Private.WalkPlaces.{AreToldPlaces, IsToldPlace, is_folder_kind, is_listed_folder, place_path}
+use Rattle.dav_session_core.specs.Private.WalkPlaces.{AreToldPlaces, IsToldPlace, is_listed_folder, place_path}
 use Rattle.dav_session_core.proofs.WalkOrderLemmas.{from_back}
 
-pub folder_told : (b : Bool) (k : Kind) → IsTrue b ↔ (k ≡ Folder) → b ≡ is_folder_kind k
+pub folder_told : (b : Bool) (k : Kind) → IsTrue b ↔ (k ≡ Folder) → b ≡ is_folder k
 folder_told true Folder h = refl
 folder_told true File h = absurd (let is = h.0 refl in cc)
 folder_told false Folder h = absurd (let is : false ≡ true = h.1 refl in cc)
@@ -72,7 +72,7 @@ module _ (m : ResourceMap) (p : Path) (is_map : IsResourceMap m) where
       path : place_path w ≡ p ++ (item.name ∷ [])
       path = cc
 
-      kind : w.folder ≡ is_folder_kind item.meta.kind
+      kind : w.folder ≡ is_folder item.meta.kind
       kind = cc
 
       stands : at_path m (place_path w) ≡ Some e.1
@@ -82,8 +82,8 @@ module _ (m : ResourceMap) (p : Path) (is_map : IsResourceMap m) where
           → ¬ (r.node.kind ≡ Folder)
       no_folder file r there folder =
           let same : r ≡ e.1 = (let both = sym there ∙ stands in cc) in
-          true≢false (ap is_folder_kind (sym folder) ∙ ap (λ (x : Resource). is_folder_kind x.node.kind) same
-          ∙ ap (λ (x : Segment × Meta). is_folder_kind x.1.kind) first ∙ sym kind ∙ file)
+          true≢false (ap is_folder (sym folder) ∙ ap (λ (x : Resource). is_folder x.node.kind) same
+          ∙ ap (λ (x : Segment × Meta). is_folder x.1.kind) first ∙ sym kind ∙ file)
 
       now : IsToldPlace m w
       now file =

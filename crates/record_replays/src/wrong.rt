@@ -12,7 +12,7 @@ pub enum Wrong {
     OutOfMemory,
     /// There is no room for a note, though none was set.
     NoRoom,
-    /// A path of the requests is none.
+    /// A path of the requests is none. Only `effect_replays`, which makes paths, says so.
     Path,
     /// The requests are not read to their end.
     Stream,
@@ -22,7 +22,7 @@ pub enum Wrong {
     Played(PlayError),
     /// The stores that were played are others.
     Others,
-    /// The stores that were played from the first record on, all at once, are others.
+    /// The stores that were played from the first record on, all at once, are others. Only `effect_replays`, which plays them so in the end, says so.
     OthersAtOnce,
 }
 

@@ -16,6 +16,11 @@ use std::io::{self, Read};
 const BEGINS: Moment = Moment(1_000_000_000_000_000_000);
 
 /// Answers the requests that are read, and tells what was played.
+///
+/// - `Stream`: the requests are not read to their end, or the system gives no random bytes.
+/// - `Record`: a record that was written is not read. `Played`: its notes are not played.
+/// - `Others`: the snapshots of both stores are not equal.
+/// - `OutOfMemory`: there is no memory to begin, for a record or for the snapshots.
 pub fn serve_all<R: Rng + Drop, I: Read>(
     rt: &HostRuntime,
     rng: R,

@@ -8,9 +8,9 @@ use bytes::Bytes;
 use http::Request;
 use rand_core::Rng;
 
-// The last bytes of the room, which a DELETE and an UNLOCK alone may use, so that a full disk can be
-// emptied.
-const LAST: u64 = 1024 * 1024;
+/// The last bytes of the room, which a DELETE and an UNLOCK alone may use, so that a full disk can
+/// be emptied (own).
+pub const LAST_ROOM: u64 = 1024 * 1024;
 
 impl<R: Rng> Dav<R> {
     /// Begins the notes anew, which may have so many bytes in a record from now on, though less than
@@ -33,6 +33,6 @@ impl<R: Rng> Dav<R> {
 pub(super) fn withheld_from(request: &Request<Bytes>) -> u64 {
     match request.method().as_str() {
         "DELETE" | "UNLOCK" => 0,
-        _ => LAST,
+        _ => LAST_ROOM,
     }
 }

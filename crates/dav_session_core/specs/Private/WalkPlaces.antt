@@ -1,11 +1,9 @@
 -- Where a walk is, and what it knows of what stands there. Private contracts alone speak of it.
-use Rattle.std.specs.Prelude.{◌≡◌, Bool, true, false, Contains, List, []}
+use Rattle.std.specs.Prelude.{◌≡◌, Bool, false, Contains, List, []}
 use Rattle.dav_path_core.specs.Fronts.{Path}
 use Rattle.dav_path_core.specs.Segments.{segments}
-use Rattle.dav_files_core.specs.declared.memfs.Kind.{Kind}
-use Rattle.dav_files_core.specs.declared.memfs.Kind.TheVariants.{File, Folder}
 use Rattle.dav_files_core.specs.declared.memfs.listing.MemFsEntry.{MemFsEntry}
-use Rattle.dav_files_core.specs.Resources.{ResourceMap}
+use Rattle.dav_files_core.specs.Resources.{ResourceMap, is_folder}
 use Rattle.dav_session_core.specs.MemberPaths.{paths_of_members}
 use Rattle.dav_session_core.specs.Subtrees.{HasOddMember}
 use Rattle.dav_session_core.specs.declared.session.subtrees.Place.{Place}
@@ -13,12 +11,8 @@ use Rattle.dav_session_core.specs.declared.session.subtrees.Place.{Place}
 abbrev pub place_path : Place → Path
 place_path place = segments place.path.bytes
 
-abbrev pub is_folder_kind : Kind → Bool
-is_folder_kind Folder = true
-is_folder_kind File = false
-
 abbrev pub is_listed_folder : MemFsEntry → Bool
-is_listed_folder entry = is_folder_kind entry.meta.kind
+is_listed_folder entry = is_folder entry.meta.kind
 
 -- nothing stands in it
 abbrev pub HasNothingIn : ResourceMap → Path → Type 0

@@ -86,7 +86,8 @@ impl<R: Rng> Session<R> {
         requires known { IsToldPlace (state R.stream self.old).map place.now }
         ensures ok { IfOk result (λ places. map place_path places.items
             ≡ paths_of_members (state R.stream self.old).map (place_path place.now)) }
-        ensures known { IfOk result (λ places. AreToldPlaces (state R.stream self.old).map places.items) }
+        ensures known { IfOk result (λ places. AreToldPlaces (state R.stream self.old).map
+            places.items) }
         ensures plain { OnOk result (¬ HasOddMember (state R.stream self.old).map
             (place_path place.now)) }
         ensures err { IfErr result (λ e. FailsToName (state R.stream self.old).map

@@ -16,9 +16,9 @@ invariant_of-self g c =
     let command = command_of c.args.command in (
       holds_alone it.keeps it.base.items it.notes.items (vec_len it.notes) (vec_capacity it.notes) it.who c.swap_asker-then-not-is_noted.new.who it.spares.items it.stores c.apply-alone.new.self command it.next
           (answer_of c.apply-alone.result) c.self.invariant.0 (sym c.is_noted.ensures ∙ c.if-not-is_noted.true)
-          (answered_alone (sender_of it.who) command (request_of c.swap_asker.new.request) (answer_of c.apply-alone.result) it.stores c.apply-alone.new.self it.next _ (c.swap_asker.ensures.request ∙ ap (asking (sender_of it.who)) c.unasked-request.ensures)
+          (answered_alone (sender_of it.who) command (request_of c.swap_asker.new.request) (answer_of c.apply-alone.result) it.stores c.apply-alone.new.self it.next _ (c.swap_asker.ensures.request ∙ ap (asking (sender_of it.who)) c.unasked-request.ensures.command)
           c.apply-alone.ensures.step)
-          (c.swap_asker-then-not-is_noted.ensures.who ∙ ap asker_of (c.swap_asker.ensures.request ∙ ap (asking (sender_of it.who)) c.unasked-request.ensures)),
+          (c.swap_asker-then-not-is_noted.ensures.who ∙ ap asker_of (c.swap_asker.ensures.request ∙ ap (asking (sender_of it.who)) c.unasked-request.ensures.command)),
       c.self.invariant.1,
     )
 
@@ -27,7 +27,7 @@ returns-then-not-is_noted-clause-step g c =
     let it = c.self.inside in
     let command = command_of c.args.command in
     subst (λ (s : Seen). AnsweredBy (drawn_for command s.next) s.stores (asking s.who command) (answer_of c.apply-alone.result) c.apply-alone.new.self) c.self.view_is
-    (answered_alone (sender_of it.who) command (request_of c.swap_asker.new.request) (answer_of c.apply-alone.result) it.stores c.apply-alone.new.self it.next _ (c.swap_asker.ensures.request ∙ ap (asking (sender_of it.who)) c.unasked-request.ensures)
+    (answered_alone (sender_of it.who) command (request_of c.swap_asker.new.request) (answer_of c.apply-alone.result) it.stores c.apply-alone.new.self it.next _ (c.swap_asker.ensures.request ∙ ap (asking (sender_of it.who)) c.unasked-request.ensures.command)
     c.apply-alone.ensures.step)
 
 pub returns-then-not-is_noted-clause-looks : goal.returns-then-not-is_noted-clause-looks
@@ -37,7 +37,7 @@ returns-then-not-is_noted-clause-looks g c = λ look.
       refl,
       subst (λ (s : Seen). SameLiveStores s.who.now s.stores c.apply-alone.new.self) c.self.view_is
           (looks_live (drawn_for command it.next) it.stores c.apply-alone.new.self (asking (sender_of it.who) command) (answer_of c.apply-alone.result) look
-          (answered_alone (sender_of it.who) command (request_of c.swap_asker.new.request) (answer_of c.apply-alone.result) it.stores c.apply-alone.new.self it.next _ (c.swap_asker.ensures.request ∙ ap (asking (sender_of it.who)) c.unasked-request.ensures)
+          (answered_alone (sender_of it.who) command (request_of c.swap_asker.new.request) (answer_of c.apply-alone.result) it.stores c.apply-alone.new.self it.next _ (c.swap_asker.ensures.request ∙ ap (asking (sender_of it.who)) c.unasked-request.ensures.command)
           c.apply-alone.ensures.step)),
     )
 

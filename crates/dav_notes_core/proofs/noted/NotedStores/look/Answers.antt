@@ -15,9 +15,9 @@ invariant_of-self c =
     let command = command_of c.args.command in (
       holds_alone it.keeps it.base.items it.notes.items (vec_len it.notes) (vec_capacity it.notes) it.who c.swap_asker-2.new.who it.spares.items it.stores c.apply-answer.new.self command it.next
           (answer_of c.apply-answer.result) c.self.invariant.0 (look_alone it.keeps (is_look command) c.requires)
-          (answered_alone (sender_of it.who) command (request_of c.swap_asker.new.request) (answer_of c.apply-answer.result) it.stores c.apply-answer.new.self it.next _ (c.swap_asker.ensures.request ∙ ap (asking (sender_of it.who)) c.unasked-request.ensures)
+          (answered_alone (sender_of it.who) command (request_of c.swap_asker.new.request) (answer_of c.apply-answer.result) it.stores c.apply-answer.new.self it.next _ (c.swap_asker.ensures.request ∙ ap (asking (sender_of it.who)) c.unasked-request.ensures.command)
           c.apply-answer.ensures.step)
-          (c.swap_asker-2.ensures.who ∙ ap asker_of (c.swap_asker.ensures.request ∙ ap (asking (sender_of it.who)) c.unasked-request.ensures)),
+          (c.swap_asker-2.ensures.who ∙ ap asker_of (c.swap_asker.ensures.request ∙ ap (asking (sender_of it.who)) c.unasked-request.ensures.command)),
       c.self.invariant.1,
     )
 
@@ -26,7 +26,7 @@ returns-clause-step c =
     let it = c.self.inside in
     let command = command_of c.args.command in
     subst (λ (s : Seen). AnsweredBy (drawn_for command s.next) s.stores (asking s.who command) (answer_of c.apply-answer.result) c.apply-answer.new.self) c.self.view_is
-    (answered_alone (sender_of it.who) command (request_of c.swap_asker.new.request) (answer_of c.apply-answer.result) it.stores c.apply-answer.new.self it.next _ (c.swap_asker.ensures.request ∙ ap (asking (sender_of it.who)) c.unasked-request.ensures)
+    (answered_alone (sender_of it.who) command (request_of c.swap_asker.new.request) (answer_of c.apply-answer.result) it.stores c.apply-answer.new.self it.next _ (c.swap_asker.ensures.request ∙ ap (asking (sender_of it.who)) c.unasked-request.ensures.command)
     c.apply-answer.ensures.step)
 
 pub returns-clause-looks : goal.returns-clause-looks
@@ -35,5 +35,5 @@ returns-clause-looks c =
     let command = command_of c.args.command in
     subst (λ (s : Seen). SameLiveStores s.who.now s.stores c.apply-answer.new.self) c.self.view_is
     (looks_live (drawn_for command it.next) it.stores c.apply-answer.new.self (asking (sender_of it.who) command) (answer_of c.apply-answer.result) c.requires
-    (answered_alone (sender_of it.who) command (request_of c.swap_asker.new.request) (answer_of c.apply-answer.result) it.stores c.apply-answer.new.self it.next _ (c.swap_asker.ensures.request ∙ ap (asking (sender_of it.who)) c.unasked-request.ensures)
+    (answered_alone (sender_of it.who) command (request_of c.swap_asker.new.request) (answer_of c.apply-answer.result) it.stores c.apply-answer.new.self it.next _ (c.swap_asker.ensures.request ∙ ap (asking (sender_of it.who)) c.unasked-request.ensures.command)
     c.apply-answer.ensures.step))

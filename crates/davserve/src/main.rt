@@ -6,6 +6,7 @@ mod clock;
 use clock::SystemClock;
 use dav_handler_core::serving::Clock;
 use http_frames::frames::Frames;
+use http_frames::gathered::Gathered;
 use http_frames::serving::End;
 use kept_frames::Told;
 use line_streams::Fault;
@@ -14,10 +15,10 @@ use rand_chacha::ChaCha20Rng;
 use rand_core::{Rng, SeedableRng};
 use served_in_memory::{serve_in_memory, serve_single};
 use served_stores::{Keeping, serve_stored};
-use server_choices::{BUFFER, Choices, Limits, Unread, chosen_fronts, chosen_users};
+use server_choices::{Choices, Limits, Unread, chosen_fronts, chosen_users};
 use server_fronts::{Stopped, Streams, first_moment};
 use std::alloc::AllocError;
-use std::io::{self, BufWriter, ErrorKind, Read, Write};
+use std::io::{self, ErrorKind, Read, Write};
 use std::process::ExitCode;
 use std::{env, mem};
 
@@ -92,7 +93,7 @@ fn run(rt: &HostRuntime, choices: Choices) -> Result<End, Stopped> {
         runs: choices.clock.is_none(),
     };
     let frames = Frames::new(rt.alloc(), rt.stdin())?;
-    let output = BufWriter::with_capacity(rt.alloc(), BUFFER, rt.stdout())?;
+    let output = Gathered::new(rt.alloc(), rt.stdout())?;
     serve(rt, choices, frames, output, rng, clock)
 }
 

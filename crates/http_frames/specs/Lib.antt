@@ -3,6 +3,7 @@ pub mod ConnectionEvents
 pub mod FrameSteps
 pub mod Frames
 pub mod Gate
+pub mod Gathered
 pub mod Laws
 pub mod Private
 pub mod TurnRuns

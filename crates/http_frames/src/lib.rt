@@ -4,6 +4,7 @@
 pub mod clients;
 pub mod frames;
 pub mod gate;
+pub mod gathered;
 mod held;
 pub mod laws;
 pub mod serving;

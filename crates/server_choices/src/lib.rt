@@ -7,4 +7,4 @@ mod limits;
 
 pub use choices::{Choices, Unread};
 pub use fronts::{chosen_fronts, chosen_users};
-pub use limits::{BUFFER, Limits};
+pub use limits::Limits;

@@ -8,9 +8,6 @@ use http_server::Config;
 use line_streams::Fault;
 use std::hash::RandomState;
 
-/// So many bytes are gathered before they are written. A piece of an answer that is longer is written from where it stands.
-pub const BUFFER: usize = 64 * 1024;
-
 // A client may send so many bytes before it is granted more.
 const INTAKE: u64 = 256 * 1024;
 

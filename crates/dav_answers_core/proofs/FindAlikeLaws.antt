@@ -26,8 +26,8 @@ use Rattle.dav_session_core.proofs.SubtreeLemmas.{walks_are_equal}
 use Rattle.dav_documents_core.specs.Pieces.{written_pieces}
 use Rattle.dav_documents_core.specs.PropertyDocuments.{Description, multistatus}
 use Rattle.dav_documents_core.specs.PropertyQuestions.{Question, question_in}
-use Rattle.dav_methods_core.specs.PropertyAnswers.{Describes, IsDescribed}
-use Rattle.dav_methods_core.specs.PropfindMethod.{DescribesEach, FailsToFind, Finds, ReachesTo}
+use Rattle.dav_safe_methods_core.specs.PropertyAnswers.{Describes, IsDescribed}
+use Rattle.dav_safe_methods_core.specs.PropfindMethod.{DescribesEach, FailsToFind, Finds, ReachesTo}
 use Rattle.dav_methods_core.specs.SameFaults.{AreAlike}
 use Rattle.dav_answers_core.proofs.OddNameLemmas.{odd_nowhere}
 use Rattle.dav_answers_core.proofs.SameFaultLemmas.{IsShort, equal_alike}

@@ -17,8 +17,8 @@ use Rattle.dav_files_core.specs.declared.memfs.Kind.TheVariants.{File, Folder}
 use Rattle.dav_files_core.specs.Meta.{Meta}
 use Rattle.dav_fields_core.proofs.DateTextLemmas.{date_once}
 use Rattle.dav_fields_core.specs.Fields.{Field, Sent}
-use Rattle.dav_methods_core.specs.FolderPages.{IsPage, IsPaged, page}
-use Rattle.dav_methods_core.specs.GetMethod.{FailsToGet, Gets, HasFields, Tells, get_outcome_of, resource_fields}
+use Rattle.dav_safe_methods_core.specs.FolderPages.{IsPage, IsPaged, page}
+use Rattle.dav_safe_methods_core.specs.GetMethod.{FailsToGet, Gets, HasFields, Tells, get_outcome_of, resource_fields}
 use Rattle.dav_methods_core.specs.SameFaults.{AreAlike}
 use Rattle.dav_answers_core.proofs.SameFaultLemmas.{IsShort, equal_alike}
 

@@ -24,7 +24,7 @@ use Rattle.dav_documents_core.specs.Pieces.{written_pieces}
 use Rattle.dav_methods_core.specs.ChangeConditions.{change_course}
 use Rattle.dav_methods_core.specs.RefreshMethod.{FailsToRefresh, Refreshes, named_there, next_timeout, retimed_locks}
 use Rattle.dav_methods_core.specs.SameFaults.{AreAlike}
-use Rattle.dav_methods_core.specs.SentDocuments.{document_sent}
+use Rattle.dav_safe_methods_core.specs.SentDocuments.{document_sent}
 use Rattle.dav_answers_core.proofs.SameFaultLemmas.{IsShort, equal_alike, one_error}
 
 -- ---- lists of one item

@@ -25,15 +25,15 @@ use Rattle.dav_documents_core.specs.PatchBodies.{patch_nodes}
 use Rattle.dav_xml_core.specs.Writing.{document_bytes}
 use Rattle.dav_session_core.specs.Callers.{Caller, SameLive, live}
 use Rattle.dav_methods_core.specs.CopyMethod.{Copies, FailsToCopy}
-use Rattle.dav_methods_core.specs.GetMethod.{FailsToGet, Gets}
+use Rattle.dav_safe_methods_core.specs.GetMethod.{FailsToGet, Gets}
 use Rattle.dav_methods_core.specs.LockMethod.{FailsToLock, IsGranted}
 use Rattle.dav_methods_core.specs.MoveMethod.{FailsToMove, Moves}
-use Rattle.dav_methods_core.specs.PropfindMethod.{FailsToTell, TellsFound}
+use Rattle.dav_safe_methods_core.specs.PropfindMethod.{FailsToTell, TellsFound}
 use Rattle.dav_methods_core.specs.ProppatchMethod.{FailsToPatch, Patches}
 use Rattle.dav_methods_core.specs.PutMethod.{FailsToPut, Puts, Writes}
 use Rattle.dav_methods_core.specs.RefreshMethod.{FailsToRefresh, Refreshes}
 use Rattle.dav_methods_core.specs.SameFaults.{AreAlike, IsDetermined, LeavesLive}
-use Rattle.dav_methods_core.specs.SentDocuments.{document_sent}
+use Rattle.dav_safe_methods_core.specs.SentDocuments.{document_sent}
 use Rattle.dav_methods_core.specs.ToldPaths.{told_path}
 use Rattle.dav_answers_core.proofs.CopyAlikeLaws.{copies_once}
 use Rattle.dav_answers_core.proofs.FindAlikeLaws.{find_refusals_alike, finds_once, finds_or_not}

@@ -28,7 +28,7 @@ use Rattle.dav_handler_core.specs.MethodAnswers.Unread.{memory, target, principa
 use Rattle.dav_session_core.specs.Callers.{Asks, Caller, RunBy, Runs, asking, live}
 use Rattle.dav_fields_core.specs.Fields.{Sent}
 use Rattle.dav_fields_core.specs.FileTags.{file_tag}
-use Rattle.dav_methods_core.specs.GetMethod.{FailsToGet, Gets}
+use Rattle.dav_safe_methods_core.specs.GetMethod.{FailsToGet, Gets}
 use Rattle.dav_fields_core.specs.AnswerFields.{tag_field}
 use Rattle.dav_session_core.specs.LocksInTheWay.{IsPathOfOne}
 use Rattle.dav_handler_core.specs.Private.Begun.{IsHeld, IsOverladen}

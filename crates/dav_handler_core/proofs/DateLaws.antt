@@ -27,7 +27,7 @@ use Rattle.dav_fields_core.specs.Preconditions.{course_of, if_modified_since, if
 use Rattle.dav_fields_core.proofs.LatestLemmas.{bounds, own_bounds}
 use Rattle.dav_fields_core.proofs.PreconditionLaws.{not_modified_by_date, unmodified_told, wanted_by_date}
 use Rattle.dav_methods_core.specs.ChangeConditions.{changes_by}
-use Rattle.dav_methods_core.specs.GetMethod.{Tells, get_outcome_by, get_outcome_of}
+use Rattle.dav_safe_methods_core.specs.GetMethod.{Tells, get_outcome_by, get_outcome_of}
 use Rattle.dav_handler_core.specs.Answers.{AnswersTo, status_of}
 use Rattle.dav_handler_core.specs.DateConditions.{AsksModifiedSince, AsksUnmodifiedSince, FindsSame, IsSameByDate, told_second}
 use Rattle.dav_handler_core.specs.Deciding.{IsToldAs, Lets, WentOn, looks}

@@ -38,8 +38,8 @@ use Rattle.dav_handler_core.proofs.AnswerStatuses.{IsOfMember, IsOff, fault_high
 use Rattle.dav_fields_core.specs.Fields.{Sent, sent_behind, sent_parts, sent_of, sent_tags}
 use Rattle.dav_handler_core.proofs.SentFieldLemmas.{part_parts, part_tags, tags_told, whole_tags}
 use Rattle.dav_fields_core.specs.FileTags.{own_tags, standing_at, standing_known, standing_of, tag_of}
-use Rattle.dav_methods_core.specs.PropfindMethod.{FailsToFind, FailsToTell}
-use Rattle.dav_methods_core.specs.GetMethod.{FailsToGet, Tells, get_outcome_by, get_outcome_of}
+use Rattle.dav_safe_methods_core.specs.PropfindMethod.{FailsToFind, FailsToTell}
+use Rattle.dav_safe_methods_core.specs.GetMethod.{FailsToGet, Tells, get_outcome_by, get_outcome_of}
 use Rattle.dav_fields_core.specs.Getting.{tags_by}
 use Rattle.dav_methods_core.specs.LockMethod.{FailsToLock}
 use Rattle.dav_methods_core.specs.MkcolMethod.{CantMake, FailsToMake}

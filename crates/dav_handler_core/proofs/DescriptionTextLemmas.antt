@@ -14,7 +14,7 @@ use Rattle.dav_xml_core.specs.Scanning.{is_nil}
 use Rattle.dav_fields_core.specs.ContentTypes.{TypeEntry, content_type, extension, other_type, table, type_in}
 use Rattle.dav_fields_core.specs.FileTags.{file_tag, tag_text}
 use Rattle.dav_documents_core.specs.KeptElements.{IsVisible}
-use Rattle.dav_methods_core.specs.PropertyAnswers.{place_url, segments_url}
+use Rattle.dav_safe_methods_core.specs.PropertyAnswers.{place_url, segments_url}
 use Rattle.dav_fields_core.specs.Dates.{IsHttpDate, IsInternetDate}
 use Rattle.dav_documents_core.specs.RefusalBodies.{front}
 use Rattle.dav_documents_core.proofs.VisibleTextLemmas.{AreVisible, all_joined, decimal_visible, joined, one_more, some_before, some_behind, url_visible}

@@ -25,7 +25,7 @@ use Rattle.dav_session_core.specs.Callers.{Caller, SameLive, live}
 use Rattle.dav_methods_core.specs.CreatedPlaces.{TellsPlace, place_fields}
 use Rattle.dav_methods_core.specs.DeleteMethod.{FailsToRemove, Removes}
 use Rattle.dav_methods_core.specs.MkcolMethod.{FailsToMake, Makes}
-use Rattle.dav_methods_core.specs.RefusalAnswers.{TellsWhy, refusal_sent}
+use Rattle.dav_safe_methods_core.specs.RefusalAnswers.{TellsWhy, refusal_sent}
 use Rattle.dav_methods_core.specs.SameFaults.{AreAlike, IsDetermined}
 use Rattle.dav_methods_core.specs.UnlockMethod.{FailsToUnlock, Unlocks}
 use Rattle.dav_answers_core.proofs.DeleteAlikeLaws.{removes_once}

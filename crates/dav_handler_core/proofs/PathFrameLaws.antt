@@ -29,7 +29,7 @@ use Rattle.dav_session_core.specs.Moving.{IsMoved}
 use Rattle.dav_session_core.specs.Removing.{IsRemoved}
 use Rattle.dav_session_core.proofs.MoveLemmas.{stands_in}
 use Rattle.dav_methods_core.specs.ProppatchMethod.{Changes}
-use Rattle.dav_methods_core.specs.GetMethod.{get_outcome_of}
+use Rattle.dav_safe_methods_core.specs.GetMethod.{get_outcome_of}
 use Rattle.dav_methods_core.proofs.PutMethodLemmas.{put_found}
 use Rattle.dav_handler_core.specs.Answers.{AnswersTo, Leaves}
 use Rattle.dav_handler_core.specs.MethodAnswers.{IsGotten, IsPut, as_found}

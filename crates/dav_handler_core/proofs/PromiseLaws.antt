@@ -35,7 +35,7 @@ use Rattle.dav_session_core.specs.Copying.{IsPartlyCopied, created_at, is_copied
 use Rattle.dav_fields_core.specs.TransferDestinations.{IsDestination}
 use Rattle.dav_fields_core.specs.Fields.{Sent}
 use Rattle.dav_handler_core.proofs.SentAnswerLemmas.{own_body}
-use Rattle.dav_methods_core.specs.GetMethod.{Tells, get_outcome_of}
+use Rattle.dav_safe_methods_core.specs.GetMethod.{Tells, get_outcome_of}
 use Rattle.dav_handler_core.specs.KeptDocuments.{IsNew}
 use Rattle.dav_methods_core.specs.MkcolMethod.{Makes}
 use Rattle.dav_session_core.specs.Moving.{IsMoved}

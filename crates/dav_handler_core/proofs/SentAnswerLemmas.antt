@@ -13,7 +13,7 @@ use Rattle.dav_fields_core.proofs.ReadMarks.{on_ok}
 use Rattle.dav_handler_core.specs.Answers.{Answers, AnswersTo, SendsBehind, SendsOwn}
 use Rattle.dav_handler_core.specs.Server.{Server}
 use Rattle.dav_handler_core.specs.ServerViews.{IsDated}
-use Rattle.dav_methods_core.proofs.SentLemmas.{sent_is}
+use Rattle.dav_safe_methods_core.proofs.SentLemmas.{sent_is}
 
 -- what holds anyway holds where something is done
 pub always : (result : Result ℕ Fault) (P : Type 0) → P → OnOk result P

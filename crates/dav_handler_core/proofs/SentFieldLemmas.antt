@@ -8,9 +8,9 @@ use Rattle.dav_fields_core.specs.AnswerFields.{modified_field, part_field, range
 use Rattle.dav_fields_core.specs.ContentTypes.{content_type}
 use Rattle.dav_fields_core.specs.Fields.{Field, sent_parts, sent_tags}
 use Rattle.dav_fields_core.specs.FileTags.{own_tags, tag_of}
-use Rattle.dav_methods_core.specs.FolderPages.{page_type}
-use Rattle.dav_methods_core.specs.GetMethod.{HasFields}
-use Rattle.dav_methods_core.specs.PropertyAnswers.{last_or}
+use Rattle.dav_safe_methods_core.specs.FolderPages.{page_type}
+use Rattle.dav_safe_methods_core.specs.GetMethod.{HasFields}
+use Rattle.dav_safe_methods_core.specs.PropertyAnswers.{last_or}
 
 pub tags_told : (tags : List (List ℕ)) → sent_tags (tag_fields tags) ≡ tags
 tags_told [] = refl

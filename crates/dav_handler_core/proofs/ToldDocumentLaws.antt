@@ -24,11 +24,11 @@ use Rattle.dav_handler_core.specs.Server.{Server}
 use Rattle.dav_fields_core.specs.Fields.{Sent, sent_behind, sent_of, sent_types}
 use Rattle.dav_fields_core.specs.AnswerFields.{first_fields}
 use Rattle.dav_handler_core.proofs.SentAnswerLemmas.{own_sent}
-use Rattle.dav_methods_core.specs.PropfindMethod.{DescribesEach}
+use Rattle.dav_safe_methods_core.specs.PropfindMethod.{DescribesEach}
 use Rattle.dav_handler_core.specs.KeptDocuments.{IsNew, KeepsElements, TellsXml, is_told_in_xml}
 use Rattle.dav_documents_core.specs.KeptElements.{IsDocument, IsKeptLock, IsKeptProperty, IsVisible}
 use Rattle.dav_documents_core.specs.PatchBodies.{patch_nodes}
-use Rattle.dav_methods_core.specs.PropertyAnswers.{Describes, last_or, place_url}
+use Rattle.dav_safe_methods_core.specs.PropertyAnswers.{Describes, last_or, place_url}
 use Rattle.dav_documents_core.specs.PropertyDocuments.{Description}
 use Rattle.dav_methods_core.specs.RefreshMethod.{retimed_locks}
 use Rattle.dav_methods_core.specs.ToldPaths.{told_path}

@@ -8,7 +8,7 @@ use Rattle.dav_faults_core.specs.Faults.{fault_status}
 use Rattle.dav_faults_core.specs.declared.faults.Fault.{Fault}
 use Rattle.dav_faults_core.specs.declared.faults.Fault.TheVariants as fault
 use Rattle.dav_fields_core.specs.Fields.{Sent}
-use Rattle.dav_methods_core.specs.RefusalAnswers.{NeedsMore}
+use Rattle.dav_safe_methods_core.specs.RefusalAnswers.{NeedsMore}
 use Rattle.dav_handler_core.specs.Answers.{AnswersTo, Leaves, SendsOwn}
 use Rattle.dav_handler_core.specs.MethodAnswers.Unread.{memory}
 use Rattle.dav_handler_core.specs.Server.{Server}

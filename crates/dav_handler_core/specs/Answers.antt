@@ -24,7 +24,7 @@ use Rattle.dav_fields_core.specs.Fields.{Field, Sent, sent_behind, nothing_sent,
 use Rattle.dav_methods_core.specs.LockMethod.{Grants, IsAskedBy, LeavesUntold, Wanted}
 use Rattle.dav_methods_core.specs.MoveMethod.{StartsToMove}
 use Rattle.dav_methods_core.specs.CreatedPlaces.{TellsPlace}
-use Rattle.dav_methods_core.specs.RefusalAnswers.{TellsWhy}
+use Rattle.dav_safe_methods_core.specs.RefusalAnswers.{TellsWhy}
 use Rattle.dav_session_core.specs.Refreshing.{RefreshesOwn}
 use Rattle.dav_methods_core.specs.UnlockMethod.{Unlocks}
 use Rattle.dav_handler_core.specs.Server.{Server, IsFrom, site_for}

@@ -23,7 +23,7 @@ use Rattle.dav_fields_core.specs.TransferDestinations.{overwrites}
 use Rattle.dav_fields_core.specs.Fields.{Sent, sent_parts, sent_tags}
 use Rattle.dav_fields_core.specs.FileTags.{standing_at}
 use Rattle.dav_fields_core.specs.Getting.{tags_by}
-use Rattle.dav_methods_core.specs.GetMethod.{get_outcome_of}
+use Rattle.dav_safe_methods_core.specs.GetMethod.{get_outcome_of}
 use Rattle.dav_methods_core.specs.ChangeConditions.{change_course}
 use Rattle.dav_fields_core.specs.Ranges.{part_text}
 use Rattle.dav_methods_core.specs.RefreshMethod.{named_there}

@@ -10,7 +10,7 @@ use Rattle.dav_methods_core.specs.MkcolMethod.{FailsToMake, Makes}
 use Rattle.dav_methods_core.specs.MoveMethod.{FailsToMove, Moves}
 use Rattle.dav_methods_core.specs.DeleteMethod.{FailsToRemove, Removes}
 use Rattle.dav_methods_core.specs.UnlockMethod.{FailsToUnlock, Unlocks}
-use Rattle.dav_methods_core.specs.PropfindMethod.{FailsToTell, TellsFound}
+use Rattle.dav_safe_methods_core.specs.PropfindMethod.{FailsToTell, TellsFound}
 use Rattle.dav_handler_core.specs.Server.{Server, Options, IsFrom, Names, site_for}
 use Rattle.dav_path_core.specs.declared.util.DavMethod.{DavMethod}
 use Rattle.dav_path_core.specs.declared.util.DavMethod.TheVariants as method
@@ -23,7 +23,7 @@ use Rattle.dav_faults_core.specs.declared.faults.Fault.TheVariants as fault
 use Rattle.dav_methods_core.specs.Admitting.{IsAdmitted, IsHeldOff}
 use Rattle.dav_session_core.specs.Callers.{Caller, live}
 use Rattle.dav_fields_core.specs.FileTags.{tag_of}
-use Rattle.dav_methods_core.specs.GetMethod.{FailsToGet, Gets}
+use Rattle.dav_safe_methods_core.specs.GetMethod.{FailsToGet, Gets}
 use Rattle.dav_fields_core.specs.AnswerFields.{tag_field}
 use Rattle.dav_methods_core.specs.LockMethod.{FailsToLock, IsGranted}
 use Rattle.dav_methods_core.specs.ProppatchMethod.{FailsToPatch, Patches}

@@ -7,7 +7,7 @@ use Rattle.dav_faults_core.specs.Faults.{fault_status}
 use Rattle.dav_fields_core.specs.AnswerFields.{first_fields}
 use Rattle.dav_fields_core.specs.Fields.{sent_behind, sent_of}
 use Rattle.dav_session_core.specs.Callers.{live}
-use Rattle.dav_methods_core.specs.RefusalAnswers.{refusal_sent}
+use Rattle.dav_safe_methods_core.specs.RefusalAnswers.{refusal_sent}
 use Rattle.dav_methods_core.specs.SameFaults.{shows_refusing_lock}
 use Rattle.dav_handler_core.specs.Server.{Server}
 

@@ -15,10 +15,10 @@ use Rattle.dav_fields_core.specs.Fields.{Sent}
 use Rattle.dav_session_core.specs.Callers.{Caller, RunBy}
 use Rattle.dav_methods_core.specs.CopyMethod.{Copies, FailsToCopy}
 use Rattle.dav_methods_core.specs.DeleteMethod.{FailsToRemove, Removes}
-use Rattle.dav_methods_core.specs.GetMethod.{FailsToGet}
+use Rattle.dav_safe_methods_core.specs.GetMethod.{FailsToGet}
 use Rattle.dav_methods_core.specs.MkcolMethod.{FailsToMake, Makes}
 use Rattle.dav_methods_core.specs.MoveMethod.{FailsToMove, Moves}
-use Rattle.dav_methods_core.specs.PropfindMethod.{FailsToTell, TellsFound}
+use Rattle.dav_safe_methods_core.specs.PropfindMethod.{FailsToTell, TellsFound}
 use Rattle.dav_methods_core.specs.ProppatchMethod.{FailsToPatch}
 use Rattle.dav_methods_core.specs.PutMethod.{FailsToPut}
 use Rattle.dav_methods_core.specs.UnlockMethod.{FailsToUnlock, Unlocks}

@@ -1,4 +1,3 @@
-pub mod Acting
 pub mod AdmitLemmas
 pub mod ConditionLaws
 pub mod CopyCheckLemmas
@@ -7,11 +6,7 @@ pub mod CopyPlanLemmas
 pub mod CopyReadyLemmas
 pub mod CourseLemmas
 pub mod DeleteLemmas
-pub mod DescribingLemmas
 pub mod EndsLemmas
-pub mod FindingLemmas
-pub mod FolderPageLemmas
-pub mod GetMethodLemmas
 pub mod LockLemmas
 pub mod LockMethodLemmas
 pub mod LockRoomLemmas
@@ -21,8 +16,6 @@ pub mod MoveCheckLemmas
 pub mod MoveMethodLemmas
 pub mod PutMethodLemmas
 pub mod RefreshMethodLemmas
-pub mod RefusalLemmas
-pub mod SentLemmas
 pub mod TokenTexts
 pub mod ToldPathLemmas
 pub mod TransferRows

@@ -22,7 +22,7 @@ use Rattle.dav_methods_core.specs.ToldPaths.{told_path}
 use Rattle.dav_methods_core.specs.LockMethod.{FailsToLock, IsAskedBy, IsGranted, LeavesUntold, Wanted, WantsInTime}
 use Rattle.dav_methods_core.specs.Rooms.{FoundRoom, IsConflictAt, IsGrantedNow, IsReadyToLock, LeavesLock}
 use Rattle.dav_session_core.proofs.Asking.{join_as, live_as}
-use Rattle.dav_methods_core.proofs.Acting.{held_before, held_behind}
+use Rattle.dav_safe_methods_core.proofs.Acting.{held_before, held_behind}
 use Rattle.dav_methods_core.proofs.LockLemmas.{conflict_by, granted_by, lasts, same_path, untold_by}
 use Rattle.dav_methods_core.proofs.ToldPathLemmas.{told_twice}
 

@@ -1,3 +1,1 @@
-pub mod KnownFields
-pub mod Telling
 pub mod Transfers

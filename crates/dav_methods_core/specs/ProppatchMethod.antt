@@ -16,7 +16,7 @@ use Rattle.dav_session_core.specs.Callers.{Caller, SameLive, refusing_at}
 use Rattle.dav_fields_core.specs.Fields.{Sent}
 use Rattle.dav_session_core.specs.LocksInTheWay.{IsPathOfOne}
 use Rattle.dav_documents_core.specs.PatchBodies.{any_protected, patch_nodes}
-use Rattle.dav_methods_core.specs.SentDocuments.{document_sent}
+use Rattle.dav_safe_methods_core.specs.SentDocuments.{document_sent}
 use Rattle.dav_documents_core.specs.PropertyUpdates.{Update, updates_in}
 use Rattle.dav_session_core.specs.Patching.{IsPatched}
 use Rattle.dav_methods_core.specs.ChangeConditions.{IsStopped, change_course}

@@ -18,7 +18,7 @@ use Rattle.dav_methods_core.specs.ChangeConditions.{change_course}
 use Rattle.dav_documents_core.specs.LockDocuments.{discovery_pieces}
 use Rattle.dav_fields_core.specs.LockTimeouts.{given_of, timeouts_in}
 use Rattle.dav_documents_core.specs.Pieces.{written_pieces}
-use Rattle.dav_methods_core.specs.SentDocuments.{document_sent}
+use Rattle.dav_safe_methods_core.specs.SentDocuments.{document_sent}
 use Rattle.dav_session_core.specs.Unlocking.{IsAnothers}
 use Rattle.dav_session_core.specs.Refreshing.{RefreshesOwn}
 

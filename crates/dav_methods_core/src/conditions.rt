@@ -1,5 +1,5 @@
 //! Whether the `If` of a request holds (RFC 4918 section 10.4).
-#![tactic(auto, using(crate::proofs::Acting::requests))]
+#![tactic(auto, using(dav_safe_methods_core::proofs::Acting::requests))]
 
 ghost use Rattle.std.specs.Prelude.{◌≡◌, IfOk, IfErr, OnOk, map};
 ghost use Rattle.dav_path_core.specs.Segments.{segments};

@@ -48,7 +48,7 @@ use std::alloc::Global;
 /// then, by the conditions of HTTP, which are of the source, `BadRequest` where one can't be read,
 /// and `PreconditionFailed` where one doesn't hold. `InsufficientStorage` may come once some
 /// resources are copied.
-#[tactic(auto, using(crate::proofs::Acting::long_requests))]
+#[tactic(auto, using(dav_safe_methods_core::proofs::Acting::long_requests))]
 pub fn copy<R: Rng>(
     alloc: Global,
     session: &mut Session<R>,
@@ -122,7 +122,7 @@ fn admitted_plan<R: Rng>(
 }
 
 // The plan, but for the conditions.
-#[tactic(auto, using(crate::proofs::Acting::long_requests))]
+#[tactic(auto, using(dav_safe_methods_core::proofs::Acting::long_requests))]
 fn planned<R: Rng>(
     alloc: Global,
     session: &mut Session<R>,
@@ -236,7 +236,7 @@ fn target_of(place: &DavPath, from: &DavPath, to: &DavPath) -> Result<Option<Dav
 }
 
 // Whether the locks let the caller clear the target and write each copy.
-#[tactic(auto, using(crate::proofs::Acting::long_requests))]
+#[tactic(auto, using(dav_safe_methods_core::proofs::Acting::long_requests))]
 fn check_copy<R: Rng>(
     session: &mut Session<R>,
     to: &DavPath,

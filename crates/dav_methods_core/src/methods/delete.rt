@@ -27,7 +27,7 @@ use std::alloc::Global;
 /// and `MemberLocked` where one below it does, with the path of that lock; and then, by the
 /// conditions of HTTP, `BadRequest` where one can't be read, and `PreconditionFailed` where one
 /// doesn't hold.
-#[tactic(auto, using(crate::proofs::Acting::long_requests))]
+#[tactic(auto, using(dav_safe_methods_core::proofs::Acting::long_requests))]
 pub fn delete<R: Rng>(
     alloc: Global,
     session: &mut Session<R>,
@@ -48,7 +48,7 @@ pub fn delete<R: Rng>(
 }
 
 // The places of all that goes, where it can go but for the conditions.
-#[tactic(auto, using(crate::proofs::Acting::long_requests))]
+#[tactic(auto, using(dav_safe_methods_core::proofs::Acting::long_requests))]
 fn removable<R: Rng>(
     alloc: Global,
     session: &mut Session<R>,

@@ -105,7 +105,7 @@ fn is_related(from: &DavPath, to: &DavPath, within: bool) -> bool
 
 // What is known of the target; whether something stands at the source, what stands at the target
 // may be replaced, and a folder stands above it.
-#[tactic(auto, using(crate::proofs::Acting::long_requests))]
+#[tactic(auto, using(dav_safe_methods_core::proofs::Acting::long_requests))]
 fn check_fit<R: Rng>(
     session: &mut Session<R>,
     from: &DavPath,

@@ -24,7 +24,6 @@ ghost use Rattle.dav_faults_core.specs.declared.faults.Fault.TheVariants as faul
 use super::changes::{check_above, check_locks, is_below};
 use super::preconditions::check_conditions;
 use super::told_paths::told_path;
-use crate::refusals::say_document;
 use dav_documents_core::lock_documents::discovery_document;
 use dav_documents_core::lock_infos::{LockInfo, lock_info};
 use dav_faults_core::faults::Fault;
@@ -36,6 +35,7 @@ use dav_resource_core::davpath::DavPath;
 use dav_resource_core::fs::Moment;
 use dav_resource_core::ls::DavLock;
 use dav_resource_core::util::DavMethod;
+use dav_safe_methods_core::refusals::say_document;
 use dav_session_core::session::{Session, copy_of};
 use http::StatusCode;
 use http_header::{HeaderMap, HeaderValue};
@@ -66,7 +66,7 @@ pub struct Wanted {
 /// and `PreconditionFailed` where one doesn't hold; `ConflictingLock` where another lock lets this
 /// one not be granted, with its path, and `ConflictingMember` where that is a member's. Where there
 /// is no memory for the answer, the lock is taken back.
-#[tactic(auto, using(crate::proofs::Acting::all_requests))]
+#[tactic(auto, using(dav_safe_methods_core::proofs::Acting::all_requests))]
 pub fn lock<R: Rng>(
     alloc: Global,
     session: &mut Session<R>,
@@ -136,7 +136,7 @@ fn check_moment(now: Moment) -> Result<(), Fault>
 }
 
 // Whether nothing stands there; then a file can be made.
-#[tactic(auto, using(crate::proofs::Acting::long_requests))]
+#[tactic(auto, using(dav_safe_methods_core::proofs::Acting::long_requests))]
 fn find_room<R: Rng>(session: &mut Session<R>, path: &DavPath) -> Result<bool, Fault>
     ensures ok { IfOk result (λ missing. FoundRoom (live_of R.stream session.old)
         (caller session.old) (segments path.now.bytes) missing) }
@@ -154,7 +154,7 @@ fn find_room<R: Rng>(session: &mut Session<R>, path: &DavPath) -> Result<bool, F
 }
 
 // Grants the lock, and tells of it; where that lacks memory, the lock is taken back.
-#[tactic(auto, using(crate::proofs::Acting::all_requests))]
+#[tactic(auto, using(dav_safe_methods_core::proofs::Acting::all_requests))]
 fn grant<R: Rng>(
     alloc: Global,
     session: &mut Session<R>,
@@ -250,7 +250,7 @@ fn by_place(path: &DavPath, fault: Fault) -> Result<Fault, AllocError>
 }
 
 // Tells of the lock with the token, and makes an empty file under it where nothing stands.
-#[tactic(auto, using(crate::proofs::Acting::all_requests))]
+#[tactic(auto, using(dav_safe_methods_core::proofs::Acting::all_requests))]
 fn finish<R: Rng>(
     alloc: Global,
     session: &mut Session<R>,
@@ -300,7 +300,7 @@ fn tell(alloc: Global, response: &mut Response, document: Vec<u8>, token: &str) 
 
 // Takes the lock back that was granted right before; but not where another lock at the path or
 // above has its token, as that one would end in its place.
-#[tactic(auto, using(crate::proofs::Acting::all_requests))]
+#[tactic(auto, using(dav_safe_methods_core::proofs::Acting::all_requests))]
 fn forget<R: Rng>(session: &mut Session<R>, path: DavPath, token: String, above: &[String])
     requires room { HasRoomFor (command.Unlock (segments path.bytes) (string_bytes token))
         session.old }

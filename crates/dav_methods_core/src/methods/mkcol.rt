@@ -6,11 +6,11 @@ ghost use Rattle.dav_session_core.specs.Sessions.{Acts, Looks, Stays, caller, li
 
 use super::changes::{check_above, check_locks};
 use super::preconditions::check_conditions;
-use crate::describing::is_folder;
 use dav_faults_core::faults::Fault;
 use dav_resource_core::davpath::DavPath;
 use dav_resource_core::guarded::Command;
 use dav_resource_core::util::DavMethod;
+use dav_safe_methods_core::describing::is_folder;
 use dav_session_core::session::{Session, copy_of, refused};
 use http::StatusCode;
 use http_header::{HeaderMap, HeaderValue};
@@ -22,7 +22,7 @@ use std::alloc::Global;
 /// `Locked` where a lock stands in the way; else `MethodNotAllowed` where something stands, and
 /// `Conflict` where there is no folder in which the folder could stand; and then, by the conditions
 /// of HTTP, `BadRequest` where one can't be read, and `PreconditionFailed` where one doesn't hold.
-#[tactic(auto, using(crate::proofs::Acting::long_requests))]
+#[tactic(auto, using(dav_safe_methods_core::proofs::Acting::long_requests))]
 pub fn mkcol<R: Rng>(
     alloc: Global,
     session: &mut Session<R>,
@@ -46,7 +46,7 @@ pub fn mkcol<R: Rng>(
 
 // Whether a folder can be made but for the conditions: the locks let it, nothing stands there, and
 // a folder stands above.
-#[tactic(auto, using(crate::proofs::Acting::long_requests))]
+#[tactic(auto, using(dav_safe_methods_core::proofs::Acting::long_requests))]
 fn check_making<R: Rng>(session: &mut Session<R>, path: &DavPath) -> Result<(), Fault>
     ensures ok { OnOk result (CanMake (live_of R.stream session.old) (caller session.old)
         (segments path.now.bytes)) }

@@ -34,7 +34,7 @@ use std::alloc::Global;
 /// below the target does, with the path of that lock; and then, by the conditions of HTTP, which are
 /// of the source, `BadRequest` where one can't be read, and `PreconditionFailed` where one doesn't
 /// hold. `InsufficientStorage` may come once a folder at the target is gone.
-#[tactic(auto, using(crate::proofs::Acting::long_requests))]
+#[tactic(auto, using(dav_safe_methods_core::proofs::Acting::long_requests))]
 pub fn relocate<R: Rng>(
     alloc: Global,
     session: &mut Session<R>,
@@ -62,7 +62,7 @@ pub fn relocate<R: Rng>(
 }
 
 // The same of a request that reaches all that stands there.
-#[tactic(auto, using(crate::proofs::Acting::long_requests))]
+#[tactic(auto, using(dav_safe_methods_core::proofs::Acting::long_requests))]
 fn relocate_all<R: Rng>(
     alloc: Global,
     session: &mut Session<R>,

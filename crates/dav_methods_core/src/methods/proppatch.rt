@@ -12,13 +12,13 @@ ghost use Rattle.dav_session_core.specs.Sessions.{Acts, Looks, Stays, caller, li
 
 use super::preconditions::check_conditions;
 use super::told_paths::told_path;
-use crate::refusals::say_document;
 use dav_documents_core::patch_bodies::{any_protected, patch_document};
 use dav_documents_core::property_updates::property_updates;
 use dav_faults_core::faults::Fault;
 use dav_resource_core::davpath::DavPath;
 use dav_resource_core::fs::DavProp;
 use dav_resource_core::util::DavMethod;
+use dav_safe_methods_core::refusals::say_document;
 use dav_session_core::session::{Session, copy_of};
 use http::StatusCode;
 use http_header::{HeaderMap, HeaderValue};
@@ -33,7 +33,7 @@ use std::alloc::Global;
 /// `BadRequest` for a body that asks for no such thing; else `NotFound` where nothing stands at the
 /// path; else `Locked` where a lock stands in the way, with its path; and then, by the conditions of
 /// HTTP, `BadRequest` where one can't be read, and `PreconditionFailed` where one doesn't hold.
-#[tactic(auto, using(crate::proofs::Acting::long_requests))]
+#[tactic(auto, using(dav_safe_methods_core::proofs::Acting::long_requests))]
 pub fn proppatch<R: Rng>(
     alloc: Global,
     session: &mut Session<R>,
@@ -64,7 +64,7 @@ pub fn proppatch<R: Rng>(
 }
 
 // The updates that the body asks for, where they can be made but for the conditions.
-#[tactic(auto, using(crate::proofs::Acting::long_requests))]
+#[tactic(auto, using(dav_safe_methods_core::proofs::Acting::long_requests))]
 fn updates_for<R: Rng>(
     alloc: Global,
     session: &mut Session<R>,

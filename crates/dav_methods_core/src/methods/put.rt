@@ -36,7 +36,7 @@ use std::alloc::Global;
 /// `Locked` where a lock stands in the way; else `MethodNotAllowed` on a folder, and `Conflict`
 /// where there is no folder in which the file could stand; else `BadRequest` where a condition of
 /// HTTP can't be read, and `PreconditionFailed` where one doesn't hold.
-#[tactic(auto, using(crate::proofs::Acting::long_requests))]
+#[tactic(auto, using(dav_safe_methods_core::proofs::Acting::long_requests))]
 pub fn put<R: Rng>(
     alloc: Global,
     session: &mut Session<R>,

@@ -6,10 +6,10 @@ ghost use Rattle.dav_methods_core.specs.Reaching.{ReachesDown, folder_stands, re
 ghost use Rattle.dav_session_core.specs.Sessions.{Looks, state};
 ghost use Rattle.dav_faults_core.specs.declared.faults.Fault.TheVariants as fault;
 
-use crate::describing::is_folder;
 use dav_faults_core::faults::Fault;
 use dav_fields_core::depths::{check_whole, reach_in};
 use dav_resource_core::davpath::DavPath;
+use dav_safe_methods_core::describing::is_folder;
 use dav_session_core::session::{Session, copy_of};
 use http_header::{HeaderMap, HeaderValue};
 use rand_core::Rng;

@@ -17,7 +17,6 @@ ghost use Rattle.dav_session_core.specs.Unlocking.{IsAnothers};
 ghost use Rattle.dav_session_core.specs.Sessions.{Looks, caller, live_of, state};
 
 use super::preconditions::check_conditions;
-use crate::refusals::say_document;
 use dav_documents_core::lock_documents::discovery_document;
 use dav_faults_core::faults::Fault;
 use dav_fields_core::lock_timeouts::{given_of, timeouts_in};
@@ -26,6 +25,7 @@ use dav_resource_core::davpath::DavPath;
 use dav_resource_core::fs::Moment;
 use dav_resource_core::ls::DavLock;
 use dav_resource_core::util::DavMethod;
+use dav_safe_methods_core::refusals::say_document;
 use dav_session_core::session::{Session, any_has, copy_of};
 use http::StatusCode;
 use http_header::{HeaderMap, HeaderValue};
@@ -41,7 +41,7 @@ use std::alloc::{AllocError, Global};
 /// that of such a lock, and `BadRequest` where several are; `Forbidden` where a lock with the token
 /// at the path or above has another principal; then `BadRequest` where a condition of HTTP can't
 /// be read, and `PreconditionFailed` where one doesn't hold.
-#[tactic(auto, using(crate::proofs::Acting::all_requests))]
+#[tactic(auto, using(dav_safe_methods_core::proofs::Acting::all_requests))]
 pub fn refresh<R: Rng>(
     alloc: Global,
     session: &mut Session<R>,
@@ -81,7 +81,7 @@ pub fn refresh<R: Rng>(
 
 // The one token that the caller names and that a lock of its own has which covers the path, where
 // the conditions of HTTP let that be refreshed.
-#[tactic(auto, using(crate::proofs::Acting::long_requests))]
+#[tactic(auto, using(dav_safe_methods_core::proofs::Acting::long_requests))]
 fn own_token<R: Rng>(
     alloc: Global,
     session: &mut Session<R>,

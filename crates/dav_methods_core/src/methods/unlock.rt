@@ -24,7 +24,7 @@ use std::alloc::Global;
 /// `Forbidden` where one with it at the path or above has another principal; and then, by the
 /// conditions of HTTP, `BadRequest` where one can't be read, and `PreconditionFailed` where one
 /// doesn't hold.
-#[tactic(auto, using(crate::proofs::Acting::all_requests))]
+#[tactic(auto, using(dav_safe_methods_core::proofs::Acting::all_requests))]
 pub fn unlock<R: Rng>(
     alloc: Global,
     session: &mut Session<R>,

@@ -5,9 +5,9 @@ use Rattle.dav_resource_core.specs.Step.{State}
 use Rattle.dav_session_core.specs.Callers.{Caller}
 use Rattle.dav_fields_core.specs.Fields.{SendsMore, nothing_sent}
 use Rattle.http.specs.Request.{head_of}
-use Rattle.dav_methods_core.proofs.SentLemmas.{sent_done}
+use Rattle.dav_safe_methods_core.proofs.SentLemmas.{sent_done}
 use Rattle.dav_handler_core.proofs.SentAnswerLemmas.{sent_dated}
-use Rattle.dav_methods_core.specs.GetMethod.{FailsToGet, Gets}
+use Rattle.dav_safe_methods_core.specs.GetMethod.{FailsToGet, Gets}
 use Rattle.dav_handler_core.specs.ServerViews.{server}
 use Rattle.dav_session_core.specs.Sessions.{caller, state}
 use Rattle.dav_handler_core.proofs.AnswerLemmas.{get_answered, moves_on, unread_or_held}

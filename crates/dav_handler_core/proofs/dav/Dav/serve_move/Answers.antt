@@ -15,7 +15,7 @@ use Rattle.dav_handler_core.proofs.AnswerLemmas.{bare_answered, bare_unread, mov
 use Rattle.dav_handler_core.proofs.TransferAnswerLemmas.{move_leaves}
 use Rattle.dav_fields_core.specs.Fields.{nothing_sent}
 use Rattle.dav_methods_core.specs.CreatedPlaces.{TellsPlace}
-use Rattle.dav_methods_core.proofs.SentLemmas.{sent_done}
+use Rattle.dav_safe_methods_core.proofs.SentLemmas.{sent_done}
 use Rattle.dav_handler_core.proofs.SentAnswerLemmas.{sent_dated}
 use Rattle.dav_handler_core.proofs.MomentLemmas.{comes_on}
 use Rattle.dav_handler_core.proofs.dav.Dav.serve_move.Goals as goal

@@ -8,9 +8,9 @@ use Rattle.dav_path_core.specs.Segments.{segments}
 use Rattle.dav_handler_core.specs.Server.{Options}
 use Rattle.dav_session_core.specs.Callers.{Caller, live}
 use Rattle.std.proofs.lemmas.Result.{IfOk-weaker}
-use Rattle.dav_methods_core.specs.SentDocuments.{document_sent}
+use Rattle.dav_safe_methods_core.specs.SentDocuments.{document_sent}
 use Rattle.dav_handler_core.proofs.SentAnswerLemmas.{sent_dated}
-use Rattle.dav_methods_core.specs.PropfindMethod.{FailsToTell, TellsFound}
+use Rattle.dav_safe_methods_core.specs.PropfindMethod.{FailsToTell, TellsFound}
 use Rattle.dav_handler_core.specs.ServerViews.{server}
 use Rattle.dav_session_core.specs.Sessions.{caller, state}
 use Rattle.dav_handler_core.proofs.AnswerLemmas.{change_answered, moves_on, unread_or_held}

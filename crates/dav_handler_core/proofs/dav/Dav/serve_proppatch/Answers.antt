@@ -6,7 +6,7 @@ use Rattle.dav_path_core.specs.Segments.{segments}
 use Rattle.dav_handler_core.specs.Server.{Options}
 use Rattle.dav_session_core.specs.Callers.{Caller, live}
 use Rattle.dav_fields_core.specs.Fields.{nothing_sent}
-use Rattle.dav_methods_core.proofs.SentLemmas.{sent_done}
+use Rattle.dav_safe_methods_core.proofs.SentLemmas.{sent_done}
 use Rattle.dav_handler_core.proofs.SentAnswerLemmas.{sent_dated}
 use Rattle.dav_methods_core.specs.ProppatchMethod.{FailsToPatch, Patches}
 use Rattle.dav_handler_core.specs.ServerViews.{server}

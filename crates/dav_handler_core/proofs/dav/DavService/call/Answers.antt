@@ -3,8 +3,8 @@ use Rattle.dav_faults_core.specs.declared.faults.Fault.TheVariants as fault
 use Rattle.dav_handler_core.specs.Server.{Options}
 use Rattle.dav_fields_core.specs.AnswerFields.{first_fields}
 use Rattle.dav_fields_core.specs.Dates.{IsHttpDate}
-use Rattle.dav_methods_core.specs.RefusalAnswers.{IsToldOf}
-use Rattle.dav_methods_core.proofs.SentLemmas.{sent_is}
+use Rattle.dav_safe_methods_core.specs.RefusalAnswers.{IsToldOf}
+use Rattle.dav_safe_methods_core.proofs.SentLemmas.{sent_is}
 use Rattle.dav_handler_core.specs.RequestMoments.{answer_moment}
 use Rattle.dav_handler_core.specs.ServerViews.{server}
 use Rattle.dav_handler_core.proofs.AnswerLemmas.{moves_exclusive, moves_shape}

@@ -10,7 +10,7 @@ use Rattle.dav_session_core.specs.Sessions as spec
 use Rattle.dav_session_core.specs.declared.session.copying.Transfer.{Transfer}
 use Rattle.dav_methods_core.specs.CopyMethod.{CanCopy, CantCopy, IsPlanned}
 use Rattle.dav_session_core.proofs.Looking.{looks_on}
-use Rattle.dav_methods_core.proofs.Acting.{held_before}
+use Rattle.dav_safe_methods_core.proofs.Acting.{held_before}
 use Rattle.dav_methods_core.proofs.CopyMethodLemmas.{copy_halted}
 use Rattle.dav_methods_core.proofs.CourseLemmas.{course_stays, stopped_after}
 use Rattle.dav_methods_core.proofs.methods.copy.admitted_plan.Goals as goal

@@ -11,7 +11,7 @@ use Rattle.dav_session_core.specs.LocksInTheWay.{IsRefusedBy}
 use Rattle.dav_methods_core.specs.Placing.{target_by}
 use Rattle.dav_session_core.specs.Sessions as spec
 use Rattle.dav_session_core.proofs.Looking.{looks_on}
-use Rattle.dav_methods_core.proofs.Acting.{held_before}
+use Rattle.dav_safe_methods_core.proofs.Acting.{held_before}
 use Rattle.dav_methods_core.proofs.CopyCheckLemmas.{fails_behind, fails_first, fails_last, passes_behind, refusing_append}
 use Rattle.dav_methods_core.proofs.methods.copy.check_copy.Goals as goal
 

@@ -10,7 +10,7 @@ use Rattle.dav_session_core.specs.Callers.{Caller, as_caller, live, refusing_at}
 use Rattle.dav_session_core.specs.LocksInTheWay.{IsRefusedBy}
 use Rattle.dav_session_core.specs.Sessions as spec
 use Rattle.dav_session_core.proofs.Looking.{looks_none, looks_on}
-use Rattle.dav_methods_core.proofs.Acting.{held_before}
+use Rattle.dav_safe_methods_core.proofs.Acting.{held_before}
 use Rattle.dav_methods_core.proofs.CopyCheckLemmas.{all_checked, checked_more, refused_one}
 use Rattle.dav_methods_core.proofs.methods.copy.check_each.Goals as goal
 

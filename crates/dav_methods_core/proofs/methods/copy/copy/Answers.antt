@@ -2,7 +2,7 @@ use Rattle.std.proofs.Common.{cond, map, [], ◌++◌, refl, sym, ap, ◌∙◌,
 use Rattle.http_server.specs.Response.{fields_of}
 use Rattle.dav_fields_core.specs.Fields.{Sent}
 use Rattle.dav_methods_core.specs.CreatedPlaces.{place_fields}
-use Rattle.dav_methods_core.proofs.SentLemmas.{sent_is}
+use Rattle.dav_safe_methods_core.proofs.SentLemmas.{sent_is}
 use Rattle.std.specs.Prelude.{option_map}
 use Rattle.std.proofs.lemmas.Result.{err_from_is_err_and}
 use Rattle.dav_path_core.specs.Fronts.{Path}

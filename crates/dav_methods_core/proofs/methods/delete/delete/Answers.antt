@@ -9,7 +9,7 @@ use Rattle.dav_session_core.specs.Sessions as spec
 use Rattle.dav_session_core.specs.Unhindered.{WhereRemovable}
 use Rattle.dav_session_core.proofs.Looking.{looks_before, looks_on}
 use Rattle.dav_methods_core.specs.DeleteMethod.{CanRemove, CantRemove}
-use Rattle.dav_methods_core.proofs.Acting.{held_before}
+use Rattle.dav_safe_methods_core.proofs.Acting.{held_before}
 use Rattle.dav_methods_core.proofs.CourseLemmas.{course_stays, stopped_after}
 use Rattle.dav_methods_core.proofs.methods.delete.delete.Goals as goal
 

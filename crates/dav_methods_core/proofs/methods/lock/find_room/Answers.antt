@@ -11,7 +11,7 @@ use Rattle.dav_session_core.specs.Callers.{live}
 use Rattle.dav_methods_core.specs.LockMethod.{refusing_to_make}
 use Rattle.dav_session_core.specs.LocksInTheWay.{IsRefusedBy}
 use Rattle.dav_session_core.proofs.Looking.{looks_on}
-use Rattle.dav_methods_core.proofs.Acting.{held_before}
+use Rattle.dav_safe_methods_core.proofs.Acting.{held_before}
 use Rattle.dav_methods_core.proofs.LockLemmas.{lacks_above, lacks_by_lock, nothing_known, room_found}
 use Rattle.dav_session_core.specs.Ends.{known_at}
 use Rattle.dav_methods_core.proofs.methods.lock.find_room.Goals as goal

@@ -10,7 +10,7 @@ use Rattle.dav_session_core.specs.Granting.{also_naming}
 use Rattle.dav_session_core.specs.StoreRefusals.{put_fault}
 use Rattle.dav_session_core.specs.Sessions as spec
 use Rattle.dav_methods_core.proofs.LockLemmas.{at_start, made_as, unmade_as}
-use Rattle.dav_methods_core.proofs.Acting.{acts_ran, looks_act, ran_on}
+use Rattle.dav_safe_methods_core.proofs.Acting.{acts_ran, looks_act, ran_on}
 use Rattle.dav_methods_core.proofs.methods.lock.finish.Goals as goal
 
 pub returns-in_err-make_under-clause-err : goal.returns-in_err-make_under-clause-err

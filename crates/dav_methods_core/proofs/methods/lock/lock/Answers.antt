@@ -13,7 +13,7 @@ use Rattle.dav_session_core.proofs.CallerLaws.{by_none}
 use Rattle.dav_session_core.proofs.Looking.{looks_on}
 use Rattle.dav_methods_core.proofs.LockLemmas.{course_by, memory_by, moment_by, not_last, room_by, unread_by}
 use Rattle.dav_methods_core.proofs.LockMethodLemmas.{course_before, done, told_before, leaves, ready, refused}
-use Rattle.dav_methods_core.proofs.Acting.{acts_ran, held_before, looks_act, looks_thrice, ran_on}
+use Rattle.dav_safe_methods_core.proofs.Acting.{acts_ran, held_before, looks_act, looks_thrice, ran_on}
 use Rattle.dav_methods_core.proofs.methods.lock.lock.Goals as goal
 
 pub returns-in_err-wanted-clause-err : goal.returns-in_err-wanted-clause-err

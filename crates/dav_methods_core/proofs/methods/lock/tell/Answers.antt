@@ -2,8 +2,8 @@ use Rattle.std.proofs.Common.{[], ◌∷◌}
 use Rattle.http_server.specs.Response.{fields_of}
 use Rattle.dav_fields_core.specs.AnswerFields.{token_field}
 use Rattle.dav_fields_core.specs.Fields.{sent_of}
-use Rattle.dav_methods_core.specs.SentDocuments.{document_sent}
-use Rattle.dav_methods_core.proofs.SentLemmas.{sent_after}
+use Rattle.dav_safe_methods_core.specs.SentDocuments.{document_sent}
+use Rattle.dav_safe_methods_core.proofs.SentLemmas.{sent_after}
 use Rattle.dav_methods_core.proofs.methods.lock.tell.Goals as goal
 
 pub returns-clause-sent : goal.returns-clause-sent

@@ -4,7 +4,7 @@ use Rattle.std.proofs.lemmas.Result.{err_from_is_err_and}
 use Rattle.dav_path_core.specs.Segments.{segments}
 use Rattle.dav_methods_core.specs.MoveMethod.{FailsToMove, Moves}
 use Rattle.dav_session_core.specs.Sessions as spec
-use Rattle.dav_methods_core.proofs.Acting.{held_before}
+use Rattle.dav_safe_methods_core.proofs.Acting.{held_before}
 use Rattle.dav_methods_core.proofs.MoveCheckLemmas.{leaves_before, move_halted, move_left}
 use Rattle.dav_methods_core.proofs.methods.moving.relocate.Goals as goal
 

@@ -1,7 +1,7 @@
 use Rattle.http_server.specs.Response.{fields_of}
 use Rattle.dav_fields_core.specs.Fields.{Sent}
 use Rattle.dav_methods_core.specs.CreatedPlaces.{place_fields}
-use Rattle.dav_methods_core.proofs.SentLemmas.{sent_is}
+use Rattle.dav_safe_methods_core.proofs.SentLemmas.{sent_is}
 use Rattle.std.proofs.Common.{◌≡◌, inl, [], ◌++◌, map, cond, refl, sym, ap, ◌∙◌, subst}
 use Rattle.dav_path_core.specs.declared.util.DavMethod.TheVariants as method
 use Rattle.std.specs.Prelude.{option_map}
@@ -19,7 +19,7 @@ use Rattle.dav_session_core.specs.Sessions as spec
 use Rattle.dav_methods_core.proofs.MoveCheckLemmas.{movable, move_all, move_begun, move_left, move_locked, move_lost, move_ready, move_short, move_unfit}
 use Rattle.dav_methods_core.proofs.CourseLemmas.{course_stays, stopped_after}
 use Rattle.dav_session_core.proofs.Looking.{acts_on, looks_before, looks_on}
-use Rattle.dav_methods_core.proofs.Acting.{looks_act_thrice}
+use Rattle.dav_safe_methods_core.proofs.Acting.{looks_act_thrice}
 use Rattle.dav_session_core.proofs.PutLemmas.{known_there}
 use Rattle.dav_methods_core.proofs.methods.moving.relocate_all.Goals as goal
 

@@ -8,8 +8,8 @@ use Rattle.dav_xml_core.specs.Writing.{document_bytes}
 use Rattle.dav_session_core.specs.Callers.{live}
 use Rattle.dav_session_core.specs.Patching.{IsPatched}
 use Rattle.dav_resource_core.specs.Step.{State}
-use Rattle.dav_methods_core.proofs.Acting.{held_before}
-use Rattle.dav_methods_core.specs.SentDocuments.{document_sent}
+use Rattle.dav_safe_methods_core.proofs.Acting.{held_before}
+use Rattle.dav_safe_methods_core.specs.SentDocuments.{document_sent}
 use Rattle.dav_documents_core.specs.PatchBodies.{any_protected, patch_nodes}
 use Rattle.dav_methods_core.specs.ProppatchMethod.{CanPatch, CantPatch, Changes}
 use Rattle.dav_methods_core.specs.ToldPaths.{told_path}

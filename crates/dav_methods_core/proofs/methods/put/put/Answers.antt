@@ -15,7 +15,7 @@ use Rattle.dav_session_core.proofs.Looking.{looks_on}
 use Rattle.dav_session_core.proofs.AskedLemmas.{behind_look}
 use Rattle.dav_session_core.proofs.PutLemmas.{after_look, known_there}
 use Rattle.dav_methods_core.specs.PutMethod.{CanPut, CantPut, FailsToPut}
-use Rattle.dav_methods_core.proofs.Acting.{acts_behind}
+use Rattle.dav_safe_methods_core.proofs.Acting.{acts_behind}
 use Rattle.dav_methods_core.proofs.CourseLemmas.{course_stays, stopped_after}
 use Rattle.dav_methods_core.proofs.PutMethodLemmas.{can_put, free_way, lacks_place_at, locked, put_done, put_unmade}
 use Rattle.dav_methods_core.proofs.methods.put.put.Goals as goal

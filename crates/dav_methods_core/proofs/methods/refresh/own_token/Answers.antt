@@ -10,7 +10,7 @@ use Rattle.dav_session_core.specs.Unlocking.{IsAnothers}
 use Rattle.dav_methods_core.specs.ChangeConditions.{change_course}
 use Rattle.dav_session_core.proofs.Looking.{looks_on}
 use Rattle.dav_methods_core.proofs.RefreshMethodLemmas.{fails_anothers, fails_course, fails_unnamed}
-use Rattle.dav_methods_core.proofs.Acting.{held_before}
+use Rattle.dav_safe_methods_core.proofs.Acting.{held_before}
 use Rattle.dav_methods_core.proofs.methods.refresh.own_token.Goals as goal
 
 pub returns-in_err-token-clause-err : goal.returns-in_err-token-clause-err

@@ -11,14 +11,14 @@ use Rattle.dav_session_core.specs.Conditions.{has_token}
 use Rattle.dav_session_core.specs.Sessions as spec
 use Rattle.dav_session_core.specs.Unlocking.{IsAnothers}
 use Rattle.dav_session_core.specs.Refreshing.{RefreshesOwn}
-use Rattle.dav_methods_core.specs.SentDocuments.{document_sent}
+use Rattle.dav_safe_methods_core.specs.SentDocuments.{document_sent}
 use Rattle.dav_documents_core.specs.LockDocuments.{discovery_pieces}
 use Rattle.dav_documents_core.specs.Pieces.{written_pieces}
 use Rattle.dav_methods_core.specs.RefreshMethod.{next_timeout, retimed_locks}
 use Rattle.dav_session_core.proofs.Looking.{looks_on}
 use Rattle.dav_methods_core.proofs.RefreshMethodLemmas.{fails_short, fails_unread}
 use Rattle.dav_session_core.proofs.RefreshLemmas.{first_has}
-use Rattle.dav_methods_core.proofs.Acting.{acts_asked, asked_on, held_before, held_behind, looks_act}
+use Rattle.dav_safe_methods_core.proofs.Acting.{acts_asked, asked_on, held_before, held_behind, looks_act}
 use Rattle.dav_methods_core.proofs.methods.refresh.refresh.Goals as goal
 
 -- ---- a `Timeout` that isn't read

@@ -14,7 +14,7 @@ use Rattle.dav_session_core.specs.Sessions as spec
 use Rattle.dav_session_core.specs.Unlocking.{EndsOwn, IsAnothers, KeepsLock}
 use Rattle.dav_session_core.proofs.Looking.{looks_before, looks_none, looks_on, requests_of, requests_on}
 use Rattle.dav_methods_core.specs.UnlockMethod.{CanUnlock, CantUnlock, FailsToUnlock, NamesToken}
-use Rattle.dav_methods_core.proofs.Acting.{held_before, held_behind}
+use Rattle.dav_safe_methods_core.proofs.Acting.{held_before, held_behind}
 use Rattle.dav_methods_core.proofs.CourseLemmas.{course_stays, stopped_after}
 use Rattle.dav_methods_core.proofs.methods.unlock.unlock.Goals as goal
 

@@ -1,0 +1,7 @@
+pub mod Acting
+pub mod DescribingLemmas
+pub mod FindingLemmas
+pub mod FolderPageLemmas
+pub mod GetMethodLemmas
+pub mod RefusalLemmas
+pub mod SentLemmas

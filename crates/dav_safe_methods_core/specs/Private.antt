@@ -1,0 +1,2 @@
+pub mod KnownFields
+pub mod Telling

@@ -5,9 +5,9 @@
    load plain IN OUT        the same to a build of davserve from before there were windows
 
    Each line of the input is a command: CONNECTIONS SECONDS FILE. The file holds requests, each behind a line with its length. Every connection plays them
-   in turn, once where SECONDS is 0, else again and again until so much time has passed; it ends behind the last request. In a request @N@ is the number of the connection, from 0,
-   and @TOKEN@ the token of the last lock that it was granted. The answer to a command is a line: REQUESTS SECONDS WRONG, the last being how many answers
-   had a status other than 2xx. */
+   in turn, once where SECONDS is 0, else again and again until so much time has passed; it ends behind the last request. In the first 4096 bytes of a request
+   @N@ is the number of the connection, from 0, and @TOKEN@ the token of the last lock that it was granted. The answer to a command is a line:
+   REQUESTS SECONDS WRONG, the last being how many answers had a status other than 2xx. */
 #define _GNU_SOURCE
 #include <arpa/inet.h>
 #include <errno.h>
@@ -24,7 +24,7 @@
 #include <time.h>
 #include <unistd.h>
 
-enum { MOST = 512, HEAD = 64 * 1024, PIECE = 64 * 1024, TOKEN = 256 };
+enum { MOST = 512, HEAD = 64 * 1024, PIECE = 64 * 1024, TOKEN = 256, NEAR = 4096 };
 enum { WINDOW = 256 * 1024 };
 enum part { IN_HEAD, IN_LENGTH, IN_CHUNK_SIZE, IN_CHUNK, IN_TRAILER };
 
@@ -86,21 +86,24 @@ static void read_requests(const char *name) {
     fclose(file);
 }
 
-/* Only short requests have something to be filled in. */
+/* Something is to be filled in near the beginning alone: what comes behind that is copied as it is, so that the client takes little time for a long request. */
 static void fill_in(struct connection *c, struct text *request) {
     free(c->filled);
     c->filled = NULL;
     c->out = request->bytes;
     c->left = request->length;
-    if (!memmem(request->bytes, request->length < 4096 ? request->length : 4096, "@", 1)) return;
-    char *to = c->filled = taken(malloc(request->length + 16 * TOKEN));
-    for (char *from = request->bytes, *end = from + request->length; from < end;) {
+    size_t near = request->length < NEAR ? request->length : NEAR;
+    if (!memchr(request->bytes, '@', near)) return;
+    char *to = c->filled = taken(malloc(request->length + 16 * TOKEN)), *from = request->bytes;
+    for (char *end = from + near; from < end;) {
         if (end - from >= 3 && !memcmp(from, "@N@", 3)) { to += sprintf(to, "%d", (int)(c - connections)); from += 3; }
         else if (end - from >= 7 && !memcmp(from, "@TOKEN@", 7)) { to += sprintf(to, "%s", c->token); from += 7; }
         else *to++ = *from++;
     }
+    size_t rest = request->length - near;
+    memcpy(to, from, rest);
     c->out = c->filled;
-    c->left = to - c->filled;
+    c->left = to + rest - c->filled;
 }
 
 /* The next request of a connection that waits for no answer; none where its turn is over. */

@@ -16,6 +16,7 @@ use memchr::memchr;
 use std::alloc::{AllocError, Global};
 use std::fmt::Write as _;
 use std::io::{Read, Write};
+use std::mem;
 
 /// A frame that comes in has so many bytes at most.
 pub const LARGEST: u64 = 1024 * 1024;
@@ -29,9 +30,10 @@ pub const LONGEST_LINE: usize = 4096;
 // A line that goes out has fewer bytes: three words, of which two are numbers.
 const LINE: usize = 64;
 
-// So much the buffer holds, but for a frame that is longer. A read fills what is free of it, and this much at least.
+// So much each of the two buffers holds, but for a frame that is longer.
 const ROOM: usize = 256 * 1024;
 
+// A read has room for so many bytes at least.
 const LEAST: usize = 64 * 1024;
 
 /// What the first line of a frame says (own).
@@ -82,6 +84,8 @@ pub struct Frame<'a> {
 pub struct Frames<I> {
     input: I,
     buffer: BytesMut,
+    // Nothing is kept in it: what is at hand goes there where the buffer has no room for more behind it.
+    other: BytesMut,
 }
 
 impl Head {
@@ -281,7 +285,12 @@ impl<I: Read> Frames<I> {
         ensures { IfOk result (λ frames. unread I.remaining frames ≡ I.remaining input) }
     {
         let buffer = BytesMut::with_capacity(alloc, ROOM)?;
-        Ok(Frames { input, buffer })
+        let other = BytesMut::with_capacity(alloc, ROOM)?;
+        Ok(Frames {
+            input,
+            buffer,
+            other,
+        })
     }
 
     /// The next frame, where it is whole in what was read.
@@ -305,10 +314,30 @@ impl<I: Read> Frames<I> {
         ensures keeps { Keeps (unread I.remaining self.old) (unread I.remaining self.new) }
         ensures end { result ≡ Ok false → (bytes_at_hand self.new ≡ bytes_at_hand self.old) × ((part : Option (List ℕ)) × Consumes (unread I.remaining self.new) part (bytes_at_hand self.new) × IsAtEnd part) }
     {
-        let free = ROOM.saturating_sub(self.buffer.len());
-        self.buffer.reserve(free.max(LEAST))?;
+        self.make_room_behind()?;
         let count = self.buffer.read_from(&mut self.input)?;
         Ok(count > 0)
+    }
+
+    // Makes room for a read behind what is at hand. A part of a frame is copied into the other buffer, where it fits: `reserve` of the kit would move it within its own, byte by byte.
+    fn make_room_behind(&mut self) -> Result<(), AllocError>
+        ensures at_hand { bytes_at_hand self.new ≡ bytes_at_hand self.old }
+        ensures input { self.new.input ≡ self.old.input }
+        ensures room { OnOk result (LEAST ≤ self.new.buffer.spare) }
+    {
+        if self.buffer.is_empty() {
+            self.buffer.clear();
+        }
+        if spare(&self.buffer) >= LEAST {
+            return Ok(());
+        }
+        self.other.clear();
+        if spare(&self.other).saturating_sub(self.buffer.len()) < LEAST {
+            return self.buffer.reserve(LEAST);
+        }
+        self.other.extend_reserved(self.buffer.as_slice());
+        mem::swap(&mut self.buffer, &mut self.other);
+        Ok(())
     }
 
     /// Whether all that was read was taken.
@@ -317,6 +346,13 @@ impl<I: Read> Frames<I> {
     {
         self.buffer.is_empty()
     }
+}
+
+// How many bytes go behind those of the buffer, where it is.
+fn spare(buffer: &BytesMut) -> usize
+    ensures { result ≡ buffer.now.spare }
+{
+    buffer.capacity() - buffer.len()
 }
 
 /// Writes bytes of a connection as a frame; none say that the connection is over. `Io` where the output fails; a front of the frame was written then (own).

@@ -19,6 +19,7 @@ ONE_IDEA = {
     "Found": "what a reader found and what it left, in dav_headers_core and in dav_xml_core, which know nothing of each other",
     "Gives": "a value exactly as expected or a refusal where none is, out of memory aside, by the error of the readers of headers, of lines and of XML",
     "IsReadAs": "a value exactly as expected or a refusal where none is, of a whole document by the error of XML, and of a body by a fault",
+    "KeepsAll": "that nothing is lost from one state to another: of the bytes that an output was given, and of the records that stores stand for; no file cites both",
     "Node": "what a tree is made of: of the stores a folder or a file, of XML a start, a text or an end; no file cites both",
     "Refuses": "that an error comes only where nothing is expected, and out of memory anywhere, in two crates that know nothing of each other",
     "Represents": "that a keyed tree and what it stands for agree, a resource map or a list of locks, private to each of two crates",

@@ -1,7 +1,7 @@
 //! An output in front of another one, which writes little at a time together.
 ghost use Rattle.std.specs.Prelude.{◌≡◌, [], IfOk, OnOk};
 ghost use Rattle.std.specs.Io.KnownBytes.{Keeps};
-ghost use Rattle.http_frames.specs.Gathered.{gathered_contents, waiting};
+ghost use Rattle.http_frames.specs.Gathered.{KeepsAll, gathered_contents, waiting};
 
 use bytes::BytesMut;
 use std::alloc::{AllocError, Global};
@@ -20,7 +20,8 @@ pub struct Gathered<O: Write + Drop> {
 impl<O: Write + Drop> Gathered<O> {
     /// Nothing waits yet. `AllocError` where there is no memory for what may wait (own).
     pub fn new(alloc: Global, output: O) -> Result<Gathered<O>, AllocError>
-        ensures keeps { IfOk result (λ g. Keeps (O.contents output) (gathered_contents O.contents g)) }
+        ensures keeps { IfOk result (λ g. Keeps (O.contents output)
+            (gathered_contents O.contents g)) }
         ensures nothing { IfOk result (λ g. waiting g ≡ []) }
     {
         let buffer = BytesMut::with_capacity(alloc, ROOM)?;
@@ -30,7 +31,7 @@ impl<O: Write + Drop> Gathered<O> {
     // Writes out what waits. What a failure leaves unwritten waits on.
     fn write_out(&mut self) -> io::Result<()>
         ensures empty { OnOk result (waiting self.new ≡ []) }
-        ensures bytes { Keeps (gathered_contents O.contents self.old) (gathered_contents O.contents self.new) }
+        ensures bytes { KeepsAll O.contents self.old self.new }
     {
         // A loop is proved to end, so this one counts its turns.
         for _turn in 0..u64::MAX {
@@ -64,7 +65,7 @@ impl<O: Write + Drop> Write for Gathered<O> {
     }
 
     fn flush(&mut self) -> io::Result<()>
-        ensures bytes { Keeps (gathered_contents O.contents self.old) (gathered_contents O.contents self.new) }
+        ensures bytes { KeepsAll O.contents self.old self.new }
         ensures ok { OnOk result (waiting self.new ≡ []) }
     {
         self.write_out()?;

@@ -16,8 +16,9 @@ use journal_file::open;
 use sqlite_disk::Disk;
 use sqlite_std_file::{FileFrom, Start, Wary};
 use std::alloc::Global;
+use std::fs;
 use std::hash::{BuildHasher, RandomState};
-use std::{fs, io};
+use std::io::{self, ErrorKind};
 
 /// A file that was compacted (own).
 #[derive(Drop)]
@@ -91,7 +92,8 @@ impl Watch for Unwatched {
 /// beside it, named PATH.new, and gives that the name of the old one, once it is on the disk (own). Where a
 /// link stands at the path, that is done where it leads.
 ///
-/// - `InTheWay`: what stands at the name of the new file doesn't begin as a store does.
+/// - `InTheWay`: what stands at the name of the new file doesn't begin as a store does, or came there
+///   meanwhile. It stays.
 /// - `Store`, `Failed`: the new file could not be made and written; it is removed again.
 /// - `Unsynced`: it was given the name of the old one, but the folder could not be synced.
 ///
@@ -121,6 +123,7 @@ pub fn compact_opened<S: Start, B>(
             Ok(()) => Ok(made),
             Err(error) => Err(Uncompacted::Unsynced(error)),
         },
+        Err(Uncompacted::InTheWay) => Err(Uncompacted::InTheWay),
         Err(error) => {
             let _removed = fs::remove_file(rt, new.as_str());
             Err(error)
@@ -156,7 +159,7 @@ fn write_anew<S: Start, B>(
         (file_is_clean S.Start) made.journal header opened.now.stores opened.now.last.0) }
     ensures header { IfOk result (λ made. made.header ≡ header) }
 {
-    make_like(rt, old, new)?;
+    make_like(rt, old, new).map_err(not_made)?;
     let (mut journal, found) = open(rt, new, header, note, start)?;
     if found.is_some() {
         return Err(Uncompacted::InTheWay);
@@ -171,6 +174,14 @@ fn write_anew<S: Start, B>(
         before,
         now,
     })
+}
+
+// Why the new file is not made: where something has its name, that came there meanwhile.
+fn not_made(error: io::Error) -> Uncompacted {
+    match error.kind() {
+        ErrorKind::AlreadyExists => Uncompacted::InTheWay,
+        _ => Uncompacted::Failed(error),
+    }
 }
 
 // Gives the new file the name of the old one, once what stood there is on the disk.

@@ -3,5 +3,4 @@ pub mod DescribingLemmas
 pub mod FindingLemmas
 pub mod FolderPageLemmas
 pub mod GetMethodLemmas
-pub mod RefusalLemmas
 pub mod SentLemmas

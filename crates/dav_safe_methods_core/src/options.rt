@@ -1,5 +1,4 @@
 //! OPTIONS.
-#![tactic(auto, using(crate::proofs::Acting::requests))]
 
 ghost use Rattle.std.specs.Prelude.{◌≡◌, [], IfErr, IfOk, OnOk};
 ghost use Rattle.http_server.specs.Response.{fields_of};

@@ -6,8 +6,11 @@ import subprocess
 import sys
 import time
 
-# What a test tries where it is there: each program, and the package of Debian that has it.
+# What a test needs, or tries where it is there: each program, or file, and the package of Debian that has it.
 PACKAGES = {
+    "gcc": "gcc",
+    "/usr/include/stdio.h": "libc6-dev",
+    "strace": "strace",
     "caddy": "caddy",
     "cadaver": "cadaver",
     "curl": "curl",
@@ -20,6 +23,7 @@ PACKAGES = {
     "gvfsd-dav": "gvfs-backends",
     "gio": "libglib2.0-bin",
     "dbus-run-session": "dbus-daemon",
+    "setarch": "util-linux",
 }
 # Where programs stand that nobody starts by their name.
 FOLDERS = ["/usr/sbin", "/sbin", "/usr/libexec", "/usr/lib/gvfs"]
@@ -59,7 +63,7 @@ def numbers(usage, given):
 def program(path):
     """The path of a program, from any folder."""
     if not os.path.isfile(path) or not os.access(path, os.X_OK):
-        stop(f"There is no program {path}. bin/davserve, bin/davreplay and bin/davread build those in crates/NAME/out.")
+        stop(f"There is no program {path}. bin/NAME --path tells where each stands.")
     return os.path.abspath(path)
 
 
@@ -70,7 +74,7 @@ def need(name, *packages):
 
 
 def is_there(name):
-    return shutil.which(name, path=os.pathsep.join([os.environ["PATH"], *FOLDERS])) is not None
+    return os.path.exists(name) if name.startswith("/") else shutil.which(name, path=os.pathsep.join([os.environ["PATH"], *FOLDERS])) is not None
 
 
 def is_here(test, name):

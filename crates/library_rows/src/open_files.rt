@@ -10,7 +10,7 @@ use std::io::SeekFrom;
 use std::test::Fail;
 
 // `new` puts `abc` at /a and opens it; `open PATH HOW` opens another file in its place. `-` stands for no bytes. `read`, `write`, `seek` and
-// `length` are calls of the open file, and `all PATH` reads a file anew.
+// `meta` are calls of the open file, the last one tells its length and its times, and `all PATH` reads a file anew.
 const ROWS: &str = "new
 open /a append = ok
 read 1 = a
@@ -27,7 +27,7 @@ seek current 0 = 5
 new
 seek start 5 = 5
 write - = ok
-length = 5
+meta = 5 5 5
 seek current 0 = 5
 new
 seek end -1 = 2
@@ -64,7 +64,7 @@ write x = Forbidden
 seek end 0 = Forbidden
 seek start 2 = 2
 seek current 1 = 3
-length = 0
+meta = 0 5 7
 new
 open /d/f create = ok
 write ab = ok
@@ -85,7 +85,7 @@ write w = NotFound
 seek end 0 = NotFound
 seek start 1 = 1
 seek current 1 = 2
-length = NotFound
+meta = NotFound
 all /a = xyz
 new
 put /b xyz = ok
@@ -99,15 +99,15 @@ open /b - = NotFound
 open /a/b create = Forbidden
 open /x/y create = NotFound
 open / - = Forbidden
-length = 3
+meta = 3 5 5
 open /a truncate = ok
-length = 0
+meta = 0 20 5
 open /b create = ok
-length = 0
+meta = 0 20 20
 open /c create = ok
 seek start 2 = 2
 write z = ok
-length = 3";
+meta = 3 20 20";
 
 // Files, and the one that is open.
 #[derive(Drop)]
@@ -135,7 +135,7 @@ fn answer_to(alloc: Global, opened: &mut Opened, call: &str) -> FsResult<String>
         "read" => read(alloc, opened, words),
         "write" => write(alloc, opened, words),
         "seek" => seek(alloc, opened, words),
-        "length" => length(alloc, opened),
+        "meta" => meta(alloc, opened),
         "all" => all(alloc, &mut opened.files, words),
         "open" => open(alloc, opened, words),
         _ => changed(alloc, &mut opened.files, call, words),
@@ -158,9 +158,10 @@ fn seek(alloc: Global, opened: &mut Opened, words: &str) -> FsResult<String> {
     Ok(format!(in alloc; "{at}")?)
 }
 
-fn length(alloc: Global, opened: &mut Opened) -> FsResult<String> {
+fn meta(alloc: Global, opened: &mut Opened) -> FsResult<String> {
     let meta = opened.file.metadata(&opened.files)?;
-    Ok(format!(in alloc; "{}", meta.length)?)
+    let (modified, created) = (meta.modified.0, meta.created.0);
+    Ok(format!(in alloc; "{} {modified} {created}", meta.length)?)
 }
 
 fn all(alloc: Global, files: &mut MemFs, path: &str) -> FsResult<String> {

@@ -21,13 +21,15 @@ fn property(alloc: Global, number: u64) -> Result<DavProp, AllocError> {
     })
 }
 
-// Properties are set from the last to the first, and then the first is removed.
+// Properties are set from the last to the first, and then the first is removed: no namespace is the empty one.
 fn patch(alloc: Global) -> Result<Vec<(bool, DavProp)>, AllocError> {
     let mut patch = Vec::new(alloc);
     for number in (0..MANY).rev() {
         patch.push((true, property(alloc, number)?))?;
     }
-    patch.push((false, property(alloc, 0)?))?;
+    let mut first = property(alloc, 0)?;
+    first.namespace = Some(String::new(alloc));
+    patch.push((false, first))?;
     Ok(patch)
 }
 

@@ -102,6 +102,15 @@ def parted(words):
     return before + first, logs_in + [word for pair in pairs if pair[0] not in OF_LISTENER - OF_BOTH for word in pair]
 
 
+def run(path, words):
+    """Goes on as the program at a path."""
+    try:
+        os.execv(path, words)
+    except OSError as why:
+        tell(f"{path} can't be run: {why.strerror}" + ("; where its folder is no place for programs, TMPDIR may name another one" if builds.is_released(path) else ""))
+        sys.exit(126)
+
+
 def main(program, words):
     if "--help" in words:
         print(HELP[program], end="")
@@ -119,9 +128,9 @@ def main(program, words):
     elif program == "davserve":
         listen = place_of(LISTENER)
         before, behind = parted(words)
-        os.execv(listen, ["listen", *before, place_of(program), *behind])
+        run(listen, ["listen", *before, place_of(program), *behind])
     else:
-        os.execv(place_of(program), [program, *words])
+        run(place_of(program), [program, *words])
 
 
 if __name__ == "__main__":

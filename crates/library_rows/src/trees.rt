@@ -1,7 +1,7 @@
-//! Rows of trees: a call, and behind ` = ` its answer.
+//! Rows of trees: a call, and behind ` = ` its answer; and a wide and a deep tree, where there is memory.
 use crate::words::{first_word, row_of, told};
 use dav_path_core::errors::{FsError, FsResult};
-use dav_path_core::tree::Tree;
+use dav_path_core::tree::{ROOT_ID, Tree};
 use std::alloc::Global;
 use std::test::Fail;
 
@@ -365,5 +365,56 @@ fn plays_on_trees(rt: HostRuntime) -> Result<(), Fail> {
         let answer = answered(rt.alloc(), &mut tree, call)?;
         assert!(rt; answer.as_str() == wanted, "{row}, not {answer}");
     }
+    Ok(())
+}
+
+const MANY: u64 = 10_000;
+
+// How many children a wide node has: to add one, a tree walks those that are there.
+const WIDE: u64 = 1_000;
+
+/// A tree whose root has so many children.
+fn wide(alloc: Global) -> FsResult<Letters> {
+    let mut tree = Tree::new(alloc, 0)?;
+    for key in 0..WIDE {
+        tree.add_child(ROOT_ID, key, key, false)?;
+    }
+    Ok(tree)
+}
+
+/// A chain of so many nodes below the root.
+fn deep(alloc: Global) -> FsResult<Letters> {
+    let mut tree = Tree::new(alloc, 0)?;
+    let mut at = ROOT_ID;
+    for turn in 0..MANY {
+        at = tree.add_child(at, 0, turn, false)?;
+    }
+    Ok(tree)
+}
+
+// Puts another node at the end, and carries the lower half to the root: the item that went, the number that came, and the parent of the half.
+fn carry_half(tree: &mut Letters) -> FsResult<[Option<u64>; 3]> {
+    *tree.get_node_mut(10_001)? = 7;
+    let gone = tree.delete_node(10_001)?.item;
+    let added = tree.add_child(9_999, 0, 7, true)?;
+    tree.move_node(5_000, ROOT_ID, 1, false)?;
+    Ok([Some(gone), Some(added), tree.parent_of(5_000)?])
+}
+
+// Drops both halves: what is left of each, and below the root.
+fn drop_halves(tree: &mut Letters) -> FsResult<[Option<u64>; 3]> {
+    tree.delete_subtree(2)?;
+    let cut = tree.get_node(4_999).ok().copied();
+    tree.delete_subtree(5_000)?;
+    let end = tree.get_node(10_002).ok().copied();
+    Ok([cut, end, tree.first_child(ROOT_ID)?])
+}
+
+#[test]
+fn keeps_wide_and_deep_trees(rt: HostRuntime) -> Result<(), Fail> {
+    assert!(rt; children(rt.alloc(), &wide(rt.alloc())?, ROOT_ID)? == WIDE);
+    let mut tree = deep(rt.alloc())?;
+    assert!(rt; carry_half(&mut tree)? == [Some(7), Some(10_002), Some(ROOT_ID)]);
+    assert!(rt; drop_halves(&mut tree)? == [None, None, None]);
     Ok(())
 }

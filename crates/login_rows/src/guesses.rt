@@ -1,5 +1,4 @@
 //! Limits of guesses, and users that change.
-use crate::requests::USERS;
 use crate::telling::{Still, Telling};
 use bytes::Bytes;
 use dav_login_core::{Fields, Login};
@@ -13,6 +12,10 @@ use std::cell::Cell;
 use std::test::Fail;
 
 type Guarded<'a> = Login<Telling, Still<'a>>;
+
+const USERS: &str = "\
+ann:$5$saltsalt$0IyaXrmV7.sGNS6tirgqHLqX/G.FBvgkYA.lpPdS5sA\n\
+bob:$5$othersalt$rl2lEnK9jqM2yOPn44LF9pjIcHANst8vKfeJ9.VVW77\n";
 
 const FIELD: &str = "x-forwarded-for";
 

@@ -1,11 +1,7 @@
-//! Rows of requests to a login, and what the service behind it is told: tests alone.
+//! Rows of guesses at passwords, by a clock that stands still: tests alone.
 #![tactic(auto)]
 
 #[cfg(test)]
-mod addresses;
-#[cfg(test)]
 mod guesses;
-#[cfg(test)]
-mod requests;
 #[cfg(test)]
 mod telling;

@@ -1,5 +1,8 @@
-//! Clones of headers, where there is memory. That each is equal to its source say the clauses `is_clone`.
+//! Clones of headers, where there is memory: that each is equal to its source say the clauses `is_clone`. And clones of entries and of options of files, which are equal.
+use dav_files_core::fs::{DavDirEntry, DavFileSystem, Moment, OpenOptions, ReadDirMeta};
+use dav_files_core::memfs::MemFs;
 use dav_headers_core::davheaders::*;
+use dav_path_core::davpath::DavPath;
 use std::alloc::{AllocError, Global};
 use std::test::Fail;
 
@@ -57,5 +60,31 @@ fn values_can_be_cloned(rt: HostRuntime) -> Result<(), Fail> {
     assert!(rt; texts(alloc)? == [true; 5]);
     assert!(rt; lists(alloc)? == [true; 5]);
     assert!(rt; can_be_cloned(&If(vec![in alloc; list(alloc)?]?)));
+    Ok(())
+}
+
+#[test]
+fn entries_are_cloned(rt: HostRuntime) -> Result<(), Fail> {
+    let alloc = rt.alloc();
+    let mut files = MemFs::new(alloc, Moment(1))?;
+    files.put(&DavPath::new(alloc, "/a b")?, b"abc", Moment(2))?;
+    for entry in files.read_dir(&DavPath::new(alloc, "/")?, ReadDirMeta::Data)? {
+        let copy = entry.clone()?;
+        assert!(rt; copy.name() == b"a b".as_slice());
+        assert!(rt; copy.metadata()? == entry.metadata()?);
+    }
+    Ok(())
+}
+
+#[test]
+fn options_are_cloned(rt: HostRuntime) -> Result<(), Fail> {
+    let mut options = OpenOptions::default();
+    assert!(rt; options == OpenOptions::new());
+    options.append = true;
+    options.size = Some(7);
+    options.checksum = Some(String::from_str(rt.alloc(), "SHA-1:7")?);
+    let copy = options.clone()?;
+    assert!(rt; copy == options);
+    assert!(rt; copy.append && copy.size == Some(7) && copy.checksum.is_some());
     Ok(())
 }

@@ -3,4 +3,4 @@
 
 mod stored;
 
-pub use stored::{Compacting, Keeping, serve_stored};
+pub use stored::{Keeping, serve_stored};

@@ -15,7 +15,7 @@ use journal_core::{Header, Journal, JournalError, Reader};
 use journal_file::open;
 use rand_core::Rng;
 use read_only::ReadOnly;
-use server_fronts::{Fronts, Stopped, Streams, Sync, serve_kept_behind};
+use server_fronts::{Compacting, Fronts, Stopped, Streams, Sync, serve_kept_behind};
 use sqlite_disk::Disk;
 use sqlite_std_file::{FileFrom, Start, Wary};
 use std::alloc::{AllocError, Global};
@@ -27,15 +27,6 @@ use work_progress::Opening;
 
 // Where the last change lies so many nanoseconds ahead of the clock, that is told at the start.
 const AHEAD: u64 = 60 * 1_000_000_000;
-
-/// When the file of the stores is compacted at the start (own).
-#[derive(Clone, Copy)]
-pub struct Compacting {
-    /// Only where it has more bytes than that.
-    pub over: u64,
-    /// Only where more than so many hundredths of it are of no use any more.
-    pub useless: u8,
-}
 
 /// How the stores of a file are kept and served (own).
 #[derive(Drop)]

@@ -2,8 +2,7 @@
 use dav_handler_core::conditions::Scheme;
 use dav_handler_core::dav::Settings;
 use http_header::{HeaderName, HeaderNameError};
-use served_stores::Compacting;
-use server_fronts::{Sync, USER};
+use server_fronts::{Compacting, Sync, USER};
 use std::alloc::{AllocError, Global};
 use std::num::ParseIntError;
 

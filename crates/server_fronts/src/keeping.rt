@@ -24,6 +24,15 @@ pub enum Sync {
     Second,
 }
 
+/// When the file of the stores is compacted at the start (own).
+#[derive(Clone, Copy)]
+pub struct Compacting {
+    /// Only where it has more bytes than that.
+    pub over: u64,
+    /// Only where more than so many hundredths of it are of no use any more.
+    pub useless: u8,
+}
+
 /// Serves with the service, of which the journal has records, behind a login where there are users, and behind a log where there is one (own). Whether nothing may be changed is the service's own.
 ///
 /// - `WrongRealm`: the realm can't stand between quotes. `Stream`: a stream failed, or there is no memory. `Unkept`: what was changed could not be kept.

@@ -14,7 +14,7 @@ mod turns;
 pub use clock::first_moment;
 pub use fronts::{Fronts, Logging};
 pub use host::System;
-pub use keeping::{Sync, serve_kept_behind};
+pub use keeping::{Compacting, Sync, serve_kept_behind};
 pub use log::LogFile;
 pub use logins::{USER, login_over, read_users, told_users};
 pub use stopped::Stopped;

@@ -1,6 +1,6 @@
 //! Clones of headers, where there is memory: that each is equal to its source say the clauses `is_clone`. And clones of entries and of options of files, which are equal.
 use dav_files_core::fs::{DavDirEntry, DavFileSystem, Moment, OpenOptions, ReadDirMeta};
-use dav_files_core::memfs::MemFs;
+use dav_files_core::memfs::{MemFs, MemFsEntry};
 use dav_headers_core::davheaders::*;
 use dav_path_core::davpath::DavPath;
 use std::alloc::{AllocError, Global};
@@ -63,15 +63,25 @@ fn values_can_be_cloned(rt: HostRuntime) -> Result<(), Fail> {
     Ok(())
 }
 
-#[test]
-fn entries_are_cloned(rt: HostRuntime) -> Result<(), Fail> {
-    let alloc = rt.alloc();
+// The entries of a folder with one file.
+fn entries(alloc: Global) -> Result<Vec<MemFsEntry>, Fail> {
     let mut files = MemFs::new(alloc, Moment(1))?;
     files.put(&DavPath::new(alloc, "/a b")?, b"abc", Moment(2))?;
-    for entry in files.read_dir(&DavPath::new(alloc, "/")?, ReadDirMeta::Data)? {
-        let copy = entry.clone()?;
-        assert!(rt; copy.name() == b"a b".as_slice());
-        assert!(rt; copy.metadata()? == entry.metadata()?);
+    Ok(files.read_dir(&DavPath::new(alloc, "/")?, ReadDirMeta::Data)?)
+}
+
+// Whether the clone of an entry has its name and says the same of it.
+fn is_alike(entry: &MemFsEntry) -> Result<bool, Fail> {
+    let copy = entry.clone()?;
+    Ok(copy.name() == b"a b".as_slice() && copy.metadata()? == entry.metadata()?)
+}
+
+#[test]
+fn entries_are_cloned(rt: HostRuntime) -> Result<(), Fail> {
+    let entries = entries(rt.alloc())?;
+    assert!(rt; entries.len() == 1);
+    for entry in &entries {
+        assert!(rt; is_alike(entry)?);
     }
     Ok(())
 }

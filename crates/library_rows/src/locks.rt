@@ -58,22 +58,44 @@ fn is_random(token: &[u8]) -> bool {
     token.get(23) == Some(&b'4') && token.get(28).is_some_and(|byte| b"89ab".contains(byte))
 }
 
-// Whether a lock with this owner, at a path with this prefix, is granted, shown three times, and refreshed.
-fn keeps(alloc: Global, prefix: &str, owner: Option<&str>) -> Result<bool, Fail> {
-    let mut locks = MemLs::new(alloc)?;
-    let mut rng = Pcg64::seed_from_u64(1);
-    let path = path_of(alloc, prefix)?;
-    let granted = lock(&mut locks, &path, owner, &mut rng)
-        .ok()
-        .ok_or("refused")?;
-    let mut kept = is_wanted(&granted, &path, owner, 2_000_000_005);
-    for shown in discover(&mut locks, &path)? {
-        kept = kept && is_wanted(&shown, &path, owner, 2_000_000_005);
+// The token of a lock that is granted as it is wanted.
+fn granted(locks: &mut MemLs, path: &DavPath, owner: Option<&str>) -> Option<String> {
+    match lock(locks, path, owner, &mut Pcg64::seed_from_u64(1)) {
+        Ok(lock) if is_wanted(&lock, path, owner, 2_000_000_005) => Some(lock.token),
+        _ => None,
     }
-    let refreshed = refresh(&mut locks, &path, granted.token.as_str())
-        .ok()
-        .ok_or("refused")?;
-    Ok(kept && is_wanted(&refreshed, &path, owner, 3_000_000_005))
+}
+
+// Whether one lock is shown, as it is wanted.
+fn shows(locks: &mut MemLs, path: &DavPath, owner: Option<&str>) -> Result<bool, AllocError> {
+    let shown = discover(locks, path)?;
+    Ok(
+        shown.len() == 1
+            && shown
+                .iter()
+                .all(|lock| is_wanted(lock, path, owner, 2_000_000_005)),
+    )
+}
+
+// Whether the lock gets another end.
+fn refreshes(locks: &mut MemLs, path: &DavPath, owner: Option<&str>, token: &str) -> bool {
+    match refresh(locks, path, token) {
+        Ok(lock) => is_wanted(&lock, path, owner, 3_000_000_005),
+        Err(_) => false,
+    }
+}
+
+fn keeps_there(locks: &mut MemLs, path: &DavPath, owner: Option<&str>) -> Result<bool, Fail> {
+    let Some(token) = granted(locks, path, owner) else {
+        return Ok(false);
+    };
+    Ok(shows(locks, path, owner)? && refreshes(locks, path, owner, token.as_str()))
+}
+
+// Whether a lock with this owner, at a path with this prefix, is granted, shown, and refreshed.
+fn keeps(alloc: Global, prefix: &str, owner: Option<&str>) -> Result<bool, Fail> {
+    let path = path_of(alloc, prefix)?;
+    keeps_there(&mut MemLs::new(alloc)?, &path, owner)
 }
 
 // An owner of 100,000 digits.

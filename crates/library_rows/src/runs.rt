@@ -58,22 +58,27 @@ fn is_in_turn(place: usize, answer: &Answer) -> bool {
     }
 }
 
-// How many answers come, up to one that is wrong.
-fn right_answers(alloc: Global, count: usize) -> Result<usize, Fail> {
+// What a run of so many turns is answered.
+fn answers(alloc: Global, count: usize) -> Result<Vec<Answer>, Fail> {
     let mut stores = Guarded::new(alloc, Moment(0))?;
-    let answers = run(&mut stores, &requests(alloc, count)?)?;
+    let requests = requests(alloc, count)?;
+    Ok(run(&mut stores, &requests)?)
+}
+
+// How many answers come, up to one that is wrong.
+fn right(answers: &[Answer]) -> usize {
     for (place, answer) in answers.iter().enumerate() {
         if !is_in_turn(place, answer) {
-            return Ok(place);
+            return place;
         }
     }
-    Ok(answers.len())
+    answers.len()
 }
 
 #[test]
 fn runs_go_on_after_a_refusal(rt: HostRuntime) -> Result<(), Fail> {
-    for (count, answers) in [(0, 0), (1, 3), (5_000, 15_000)] {
-        assert_eq!(rt; right_answers(rt.alloc(), count)?, answers);
+    for (count, wanted) in [(0, 0), (1, 3), (5_000, 15_000)] {
+        assert_eq!(rt; right(&answers(rt.alloc(), count)?), wanted);
     }
     Ok(())
 }

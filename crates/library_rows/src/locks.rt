@@ -59,11 +59,14 @@ fn is_random(token: &[u8]) -> bool {
 }
 
 // The token of a lock that is granted as it is wanted.
-fn granted(locks: &mut MemLs, path: &DavPath, owner: Option<&str>) -> Option<String> {
-    match lock(locks, path, owner, &mut Pcg64::seed_from_u64(1)) {
-        Ok(lock) if is_wanted(&lock, path, owner, 2_000_000_005) => Some(lock.token),
-        _ => None,
+fn granted(locks: &mut MemLs, path: &DavPath, owner: Option<&str>) -> Result<String, Fail> {
+    let granted = lock(locks, path, owner, &mut Pcg64::seed_from_u64(1))
+        .ok()
+        .ok_or("refused")?;
+    if !is_wanted(&granted, path, owner, 2_000_000_005) {
+        return Err(Fail::from("another lock"));
     }
+    Ok(granted.token.clone()?)
 }
 
 // Whether one lock is shown, as it is wanted.
@@ -86,9 +89,7 @@ fn refreshes(locks: &mut MemLs, path: &DavPath, owner: Option<&str>, token: &str
 }
 
 fn keeps_there(locks: &mut MemLs, path: &DavPath, owner: Option<&str>) -> Result<bool, Fail> {
-    let Some(token) = granted(locks, path, owner) else {
-        return Ok(false);
-    };
+    let token = granted(locks, path, owner)?;
     Ok(shows(locks, path, owner)? && refreshes(locks, path, owner, token.as_str()))
 }
 

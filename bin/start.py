@@ -29,8 +29,8 @@ def version(program):
     if not build:
         return f"{program}, neither built here nor released from these sources"
     how = "built" if program == LISTENER else "proved"
-    where = f"{how} here" if build == builds.built_here(program, sources) else "released"
-    words = [f"{program}, {where}, {how} with {build.made_by}", f"needs glibc {build.libc} or later" if build.libc != "0" else ""]
+    where = "here" if build == builds.built_here(program, sources) else "before its release"
+    words = [f"{program}, {how} {where} by {build.made_by}", f"needs glibc {build.libc} or later" if build.libc != "0" else ""]
     git = ["git", "-C", TOP, "rev-parse", "HEAD"]
     commit = builds.said_by(*git)
     return ", ".join(filter(None, [*words, f"commit {commit}" if commit else ""]))

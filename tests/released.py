@@ -76,7 +76,7 @@ def runs(room):
     status, out, told = room.start("davread", "--path", path=room.few)
     yield "its place is told", (status, told) == (0, "") and os.path.samefile(os.path.dirname(out.strip()), room.path("release/out"))
     status, out, told = room.start("davread", "--version", path=room.few)
-    yield "and what it is", (status, told) == (0, "") and "released" in out and "a kit" in out
+    yield "and what it is", (status, told) == (0, "") and "release" in out and "a kit" in out
     room.write_program("release/out/davread", UNPROVED)
     yield "what was changed there isn't run", room.start("davread", "a", path=room.few)[:2] == RIGHT and room.text("release/out/davread") != UNPROVED
     room.write_program("crates/davread/out/davread", UNPROVED)

@@ -93,7 +93,7 @@ def note(program, sources):
 
 
 def has_bytes(path, wanted):
-    """Whether a file of this user's or of root's is there, may be run, and has these bytes."""
+    """Whether a file is there, may be run, and has these bytes."""
     with contextlib.suppress(OSError):
         return os.access(path, os.X_OK) and hashlib.sha256(bytes_of(path)).hexdigest() == wanted
     return False
@@ -189,20 +189,15 @@ def check_libc(build):
 
 
 def place(program):
-    """The line of what may be run of a program without building it, and its path; None where nothing fits the sources. Raises Broken and Elsewhere."""
+    """The path of what may be run of a program without building it, and its line where it is the release; None where nothing fits the sources. Raises Broken and Elsewhere."""
     sources = sources_of(program)
     if build := built_here(program, sources):
         check_libc(build)
-        return build, place_of(program)
+        return place_of(program), None
     if build := released(program, sources):
         check_machine(build)
-        return build, unpacked_place(build)
+        return unpacked_place(build), build
     return None
-
-
-def is_released(path):
-    """Whether a program is one that was unpacked."""
-    return not path.startswith((os.path.join(TOP, "crates") + os.sep, os.path.join(TOP, "listener") + os.sep))
 
 
 def compared(build):

@@ -25,14 +25,14 @@ FLAGS = {"--read-only"}
 def version(program):
     """What would be run, what it was proved with, and what it needs."""
     sources = builds.sources_of(program)
-    build = builds.built_here(program, sources) or builds.released(program, sources)
+    here = builds.built_here(program, sources)
+    build = here or builds.released(program, sources)
     if not build:
         return f"{program}, neither built here nor released from these sources"
     how = "built" if program == LISTENER else "proved"
-    where = "here" if build == builds.built_here(program, sources) else "before its release"
+    where = "here" if here else "before its release"
     words = [f"{program}, {how} {where} by {build.made_by}", f"needs glibc {build.libc} or later" if build.libc != "0" else ""]
-    git = ["git", "-C", TOP, "rev-parse", "HEAD"]
-    commit = builds.said_by(*git)
+    commit = builds.said_by("git", "-C", TOP, "rev-parse", "HEAD")
     return ", ".join(filter(None, [*words, f"commit {commit}" if commit else ""]))
 
 
@@ -40,18 +40,15 @@ def found(program, is_told=True):
     """The path of a program that was built here, or released, from these sources; none where neither is there. What stands in the way of running it ends all."""
     build_it = f"bin/{program} --prove"
     try:
-        place = builds.place(program)
+        path, release = builds.place(program) or (None, None)
     except builds.Broken as why:
         tell(f"{why}. It is not run. Get the file anew, as by `git checkout release`, or build the program here: {build_it}")
         sys.exit(1)
     except builds.Elsewhere as why:
         tell(f"{why}. " + (f"It may be built here: {build_it}" if builds.maker(program) else "Building it here needs a Rattle kit, and rustc for the listener."))
         sys.exit(1)
-    if not place:
-        return None
-    build, path = place
-    if is_told and builds.is_released(path) and program != LISTENER:
-        tell(f"{program}: this is the release, which was proved with {build.made_by}. To prove it here: {build_it}")
+    if is_told and release and program != LISTENER:
+        tell(f"{program}: this is the release, which was proved with {release.made_by}. To prove it here: {build_it}")
     return path
 
 
@@ -107,7 +104,7 @@ def run(path, words):
     try:
         os.execv(path, words)
     except OSError as why:
-        tell(f"{path} can't be run: {why.strerror}" + ("; where its folder is no place for programs, TMPDIR may name another one" if builds.is_released(path) else ""))
+        tell(f"{path} can't be run: {why.strerror}. Where its folder is no place for programs, TMPDIR may name another one")
         sys.exit(126)
 
 

@@ -110,14 +110,14 @@ def run(path, words):
 
 def main(program, words):
     if "--help" in words:
-        print(HELP[program], end="")
+        print(HELP[program], end="", flush=True)
     elif "--version" in words:
-        print(version(program))
+        print(version(program), flush=True)
     elif words == ["--path"]:
         path = found(program, is_told=False)
         if not path:
             tell(f"{program} was neither built here nor released from these sources: bin/{program} --prove builds it")
-        print(path or "", end="\n" if path else "")
+        print(path or "", end="\n" if path else "", flush=True)
         sys.exit(not path)
     elif words == ["--prove"]:
         others = [LISTENER] if program == "davserve" else []
@@ -137,6 +137,10 @@ if __name__ == "__main__":
         signal.signal(signal.SIGHUP, lambda *_: sys.exit(129))
     try:
         main(sys.argv[1], sys.argv[2:])
+    except BrokenPipeError:
+        # Whoever read the text has enough of it, as head does.
+        os.dup2(os.open(os.devnull, os.O_WRONLY), 1)
+        sys.exit(141)
     except KeyboardInterrupt:
         tell("\ninterrupted: the next start goes on from what is proved")
         sys.exit(130)

@@ -154,8 +154,9 @@ def places_of_release(build):
     with contextlib.suppress(OSError):
         os.makedirs(first, exist_ok=True)
     yield first
-    temporary = os.path.join(tempfile.gettempdir(), f"davserve-{os.geteuid()}-{build.bytes[:16]}")
-    yield temporary if own_folder(temporary) else tempfile.mkdtemp(prefix="davserve-")
+    with contextlib.suppress(OSError):
+        temporary = os.path.join(tempfile.gettempdir(), f"davserve-{os.geteuid()}-{build.bytes[:16]}")
+        yield temporary if own_folder(temporary) else tempfile.mkdtemp(prefix="davserve-")
 
 
 def unpacked_place(build):

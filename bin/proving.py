@@ -125,7 +125,6 @@ class Check:
     def lay(self):
         """Lays the crate and those below it out, and gives what is proved of them. What an interrupted start left of the crate itself stays."""
         os.makedirs(self.copy, exist_ok=True)
-        shutil.copy2(os.path.join(TOP, "crates.txt"), self.copy)
         names = [*self.crate.below, self.crate.name]
         with open(os.path.join(self.copy, "crates.txt"), "w", encoding="utf-8") as file:
             lines = read(os.path.join(TOP, "crates.txt")).splitlines(True)
@@ -281,7 +280,7 @@ class Start:
             print("\r\033[K", end="", file=sys.stderr, flush=True)
 
     def say_how_far(self):
-        """Says at which functions the crates are: in one line that is written over on a terminal, else in one line a minute."""
+        """Says how many functions of the crates that run are proved: in one line that is written over on a terminal, else in one line a minute."""
         if time.monotonic() < self.told + (1 if self.is_terminal else 60) or not self.running:
             return
         self.told = time.monotonic()

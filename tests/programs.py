@@ -86,8 +86,8 @@ def is_here(test, name):
 
 
 def install(*names):
-    """Those of PACKAGES that aren't there, where that can be done. What fails is tried once more a little later, and nothing more where it takes for ever."""
-    packages = list(dict.fromkeys(PACKAGES[name] for name in names if not is_there(name)))
+    """Those that aren't there, each by its package of PACKAGES or else by its own name, where that can be done. What fails is tried once more a little later, and nothing more where it takes for ever."""
+    packages = list(dict.fromkeys(PACKAGES.get(name, name) for name in names if not is_there(name)))
     with contextlib.suppress(OSError, subprocess.TimeoutExpired):
         for words in [["update"], *(["install", "-y", "--no-install-recommends", package] for package in packages)] if packages else []:
             if not does_apt_get(*words):

@@ -14,7 +14,7 @@ use Rattle.dav_path_core.proofs.paths.SubtreePaths.{rest_of, some_of}
 use Rattle.dav_files_core.specs.Resources.{IsResourceMap, Resource, ResourceMap, at_path}
 use Rattle.dav_files_core.proofs.moves.MovingLemmas.{front_there}
 use Rattle.dav_locks_core.specs.Lock.{Lock}
-use Rattle.dav_resource_core.specs.Step.{State}
+use Rattle.dav_guarded_core.specs.Step.{State}
 use Rattle.dav_faults_core.specs.declared.faults.Fault.{Fault}
 use Rattle.dav_faults_core.specs.declared.faults.Fault.TheVariants as fault
 use Rattle.dav_session_core.specs.Callers.{Caller}

@@ -12,7 +12,7 @@ use Rattle.dav_path_core.specs.Segments.{segments}
 use Rattle.dav_path_core.proofs.lists.FinMaps.{dec, one_some}
 use Rattle.dav_path_core.proofs.lists.Orders.{path_exact, path_total}
 use Rattle.dav_files_core.specs.Resources.{Resource, ResourceMap, at_path}
-use Rattle.dav_resource_core.specs.Step.{State}
+use Rattle.dav_guarded_core.specs.Step.{State}
 use Rattle.dav_faults_core.specs.declared.faults.Fault.{Fault}
 use Rattle.dav_faults_core.specs.declared.faults.Fault.TheVariants as fault
 use Rattle.dav_documents_core.specs.PatchBodies.{any_protected}

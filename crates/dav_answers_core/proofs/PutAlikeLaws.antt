@@ -14,7 +14,7 @@ use Rattle.dav_files_core.specs.Outcomes.{Outcome, ◌>>=◌, with_other_node}
 use Rattle.dav_files_core.specs.ResourcePutting.{put, put_at}
 use Rattle.dav_files_core.specs.Resources.{Resource, ResourceMap, at_path}
 use Rattle.dav_locks_core.specs.Lock.{Lock}
-use Rattle.dav_resource_core.specs.Step.{State}
+use Rattle.dav_guarded_core.specs.Step.{State}
 use Rattle.dav_faults_core.specs.declared.faults.Fault.{Fault}
 use Rattle.dav_faults_core.specs.declared.faults.Fault.TheVariants as fault
 use Rattle.dav_session_core.specs.Callers.{Caller, live}

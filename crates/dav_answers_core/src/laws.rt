@@ -8,7 +8,7 @@ ghost use Rattle.dav_path_core.specs.Fronts.{Path};
 ghost use Rattle.dav_path_core.specs.PathText.{PathText};
 ghost use Rattle.dav_path_core.specs.Segments.{segments};
 ghost use Rattle.dav_files_core.specs.Resources.{IsResourceMap, ResourceMap};
-ghost use Rattle.dav_resource_core.specs.Step.{State};
+ghost use Rattle.dav_guarded_core.specs.Step.{State};
 ghost use Rattle.dav_fields_core.specs.Bases.{Site};
 ghost use Rattle.dav_fields_core.specs.Fields.{Sent};
 ghost use Rattle.dav_faults_core.specs.declared.faults.Fault.{Fault};

@@ -35,10 +35,6 @@ ends n so_far (Text text) nodes h = absurd (omega arith)
 ends zero so_far End nodes h = ap (λ (rest : List (List Node)). (so_far ++ End ∷ []) ∷ rest) (outside [] (so_far ++ End ∷ []) nodes)
 ends (suc n) so_far End nodes h = absurd (omega arith)
 
-nothing_left : (depth : ℕ) (so_far : List Node) → elements_from depth so_far [] ≡ []
-nothing_left zero so_far = refl
-nothing_left (suc n) so_far = refl
-
 depth_grows : (depth at : ℕ) (node : Node) → depth ≤ at → depth_behind depth node ≤ at + 1
 depth_grows depth at (Start name attributes) h = omega arith
 depth_grows depth at (Text text) h = omega arith
@@ -56,12 +52,6 @@ pub record Finds (nodes : List Node) (found : List (List Node)) (depth first at 
   pub within : depth ≤ at
   pub before : first ≤ at
   pub all : found ++ elements_from depth (between first at nodes) (drop at nodes) ≡ elements_from 0 [] nodes
-
-pub found_all : (nodes : List Node) (found : List (List Node)) (depth first at : ℕ) → length nodes ≤ at → Finds nodes found depth first at
-    → found ≡ elements_from 0 [] nodes
-found_all nodes found depth first at past h =
-    sym (append-nil found) ∙ ap (λ (es : List (List Node)). found ++ es) (sym (nothing_left depth (between first at nodes)))
-    ∙ ap (λ (rest : List Node). found ++ elements_from depth (between first at nodes) rest) (sym (drop_all at nodes past)) ∙ h.all
 
 -- a part of a slice, as the code takes it
 pub part_between : {A : Type 0} (view : A → Node) (xs : List A) (first end : ℕ) → first ≤ end

@@ -106,8 +106,3 @@ unfolding digits
 decimal_visible n = record { some = one_digit 63 n; each = digits_visible 64 n [] refl }
 
 -- ---- tables
-
-pub indexed : (texts : List (List ℕ)) (i : ℕ) → AllByRecursion AreVisible texts → AreVisible (slice_index_or texts i [])
-indexed [] i h = refl
-indexed (text ∷ texts) zero h = h.0
-indexed (text ∷ texts) (suc i) h = indexed texts i h.1

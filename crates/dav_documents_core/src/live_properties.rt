@@ -6,7 +6,7 @@ ghost use Rattle.dav_documents_core.specs.LiveProperties as spec;
 use dav_xml_core::davxml::Name;
 
 /// A property that the server makes itself, which no client sets.
-#[derive(Debug, Clone, Copy)]
+#[derive(Clone, Copy)]
 pub enum Live {
     /// When the resource was made (RFC 4918 section 15.1).
     CreationDate,

@@ -19,7 +19,7 @@ use dav_xml_core::davxml::Node;
 use std::alloc::{AllocError, Global};
 
 /// What a LOCK asks for (RFC 4918 section 14.11).
-#[derive(Debug, Drop)]
+#[derive(Drop)]
 pub struct LockInfo {
     /// Others may hold a lock there, too.
     pub shared: bool,

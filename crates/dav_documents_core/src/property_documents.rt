@@ -27,7 +27,7 @@ use names::{has_value, rise, write_missing};
 use std::alloc::{AllocError, Global};
 
 /// What may be told of a resource (own).
-#[derive(Debug, Drop)]
+#[derive(Drop)]
 pub struct Description {
     /// Its URL. That of a folder ends in a slash.
     pub url: String,

@@ -16,7 +16,7 @@ use names::names_within;
 use std::alloc::Global;
 
 /// What a PROPFIND asks for (RFC 4918 section 9.1).
-#[derive(Debug, Drop)]
+#[derive(Drop)]
 pub enum Question {
     /// All that stands there, with its value; and of these names whether they stand there.
     All(Vec<Name>),

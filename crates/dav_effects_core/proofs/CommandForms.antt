@@ -6,7 +6,7 @@ use Rattle.std.proofs.lemmas.List.{length-take}
 use Rattle.dav_path_core.specs.Fronts.{Path}
 use Rattle.dav_path_core.specs.PathText.{PathText, folder_bytes}
 use Rattle.dav_files_core.specs.Resources.{Property}
-use Rattle.dav_resource_core.specs.Requests.{Command}
+use Rattle.dav_guarded_core.specs.Requests.{Command}
 use Rattle.dav_effects_core.specs.ByteForms.{Reading, ◌>>=◌, FitsInEight, HasCount, IsUtf8Text, number_text, counted_text, flag_text, optional_text, each_text, following_text, pair_at, value_at, only_at, eight_bytes_at, utf8_at, flag_at, optional_at, each_at, following_at}
 use Rattle.dav_effects_core.specs.RecordReading.{path_at, patch_at, two_paths_at, body_is_left, put_command_at, write_command_at, patches_at, lock_at, unlock_at, refresh_at, command_at, command_fields_at}
 use Rattle.dav_effects_core.specs.RecordText.{path_text, patch_text, command_text, body_of}

@@ -8,7 +8,7 @@ use Rattle.std.proofs.lemmas.List.Sums.{sum_by-cons}
 use Rattle.dav_path_core.specs.Fronts.{Path}
 use Rattle.dav_path_core.specs.PathText.{folder_bytes}
 use Rattle.dav_files_core.specs.Resources.{Property}
-use Rattle.dav_resource_core.specs.Requests.{Command}
+use Rattle.dav_guarded_core.specs.Requests.{Command}
 use Rattle.dav_notes_core.specs.Asking.{Caller}
 use Rattle.dav_notes_core.specs.Costs.{text_cost, path_cost, property_cost, patch_cost, caller_cost, command_cost, note_cost, notes_cost}
 use Rattle.dav_notes_core.specs.Noting.{Noted}

@@ -37,20 +37,9 @@ pub common_one : (a b : List ℕ) (i : ℕ) → i < length a → i < length b �
     → common_len (drop i a) (drop i b) ≡ suc (common_len (drop (i + 1) a) (drop (i + 1) b))
 common_one a b i lt lt' same = rw add-one (common_next a b i lt lt' same)
 
--- the next byte of both is not the same
-pub common_other : (a b : List ℕ) (i : ℕ) → i < length a → i < length b → get_or a i 0 ≢ get_or b i 0 → common_len (drop i a) (drop i b) ≡ 0
-common_other [] b i lt lt' other = absurd (omega arith)
-common_other (x ∷ a) [] i lt lt' other = absurd (omega arith)
-common_other (x ∷ a) (y ∷ b) zero lt lt' other = rw (ne_eqb x y other) refl
-common_other (x ∷ a) (y ∷ b) (suc i) lt lt' other = common_other a b i (omega arith) (omega arith) other
-
 common_nil : (a : List ℕ) → common_len a [] ≡ 0
 common_nil [] = refl
 common_nil (x ∷ a) = refl
-
--- one of them has no more
-pub common_end_before : (a b : List ℕ) (i : ℕ) → length a ≤ i → common_len (drop i a) b ≡ 0
-common_end_before a b i le = rw (nil_from_length (drop i a) (omega (arith, length-drop i a))) refl
 
 pub common_end_text : (a b : List ℕ) (i : ℕ) → length b ≤ i → common_len a (drop i b) ≡ 0
 common_end_text a b i le = rw (nil_from_length (drop i b) (omega (arith, length-drop i b))) (common_nil a)

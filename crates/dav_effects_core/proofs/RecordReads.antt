@@ -1,7 +1,7 @@
 -- What follows from the reading of a record.
 use Rattle.std.proofs.Common.{◌≡◌, ℕ, false, List as Sequence, [], ◌∷◌, map, Result, Ok, Err, refl, sym, ◌∙◌}
 use Rattle.std.specs.List.{AllByRecursion}
-use Rattle.dav_resource_core.specs.Requests.{Command}
+use Rattle.dav_guarded_core.specs.Requests.{Command}
 use Rattle.dav_notes_core.specs.Changes.{is_look}
 use Rattle.std.specs.Prelude.{IfOk, IfErr, MatchResult}
 use Rattle.std.specs.Global.{Vec}

@@ -5,7 +5,7 @@ use Rattle.dav_path_core.specs.Fronts.{Path}
 use Rattle.dav_path_core.specs.PathText.{folder_bytes}
 use Rattle.dav_path_core.specs.Segments.{segments}
 use Rattle.dav_files_core.specs.Resources.{Property}
-use Rattle.dav_resource_core.specs.Requests.{Command}
+use Rattle.dav_guarded_core.specs.Requests.{Command}
 use Rattle.dav_notes_core.specs.Asking.{Caller, asking}
 use Rattle.dav_notes_core.specs.Noting.{Noted}
 use Rattle.dav_effects_core.specs.ByteForms.{Reading, ◌>>=◌, pair_at, value_at, only_at, eight_bytes_at, bytes_at, counted_at, utf8_at, flag_at, optional_at, each_at, following_at}

@@ -4,7 +4,7 @@ use Rattle.std.specs.List.{flat_map}
 use Rattle.dav_path_core.specs.Fronts.{Path}
 use Rattle.dav_path_core.specs.PathText.{folder_bytes}
 use Rattle.dav_files_core.specs.Resources.{Property}
-use Rattle.dav_resource_core.specs.Requests.{Command, Request}
+use Rattle.dav_guarded_core.specs.Requests.{Command, Request}
 use Rattle.dav_notes_core.specs.Asking.{Caller}
 use Rattle.dav_notes_core.specs.Noting.{Noted}
 use Rattle.dav_effects_core.specs.ByteForms.{number_text, counted_text, flag_text, optional_text, each_text, following_text}

@@ -5,7 +5,7 @@ use Rattle.dav_path_core.specs.Fronts.{Path}
 use Rattle.dav_path_core.specs.PathText.{PathText, folder_bytes}
 use Rattle.dav_path_core.specs.Segments.{segments}
 use Rattle.dav_files_core.specs.Resources.{Property}
-use Rattle.dav_resource_core.specs.Requests.{Command}
+use Rattle.dav_guarded_core.specs.Requests.{Command}
 use Rattle.dav_notes_core.specs.Asking.{Caller}
 use Rattle.dav_notes_core.specs.Noting.{Noted}
 use Rattle.dav_effects_core.specs.declared.pieces.Pieces.{Pieces}

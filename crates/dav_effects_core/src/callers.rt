@@ -1,6 +1,6 @@
 //! Callers, each behind the one before.
 ghost use Rattle.std.specs.Prelude.{◌≡◌, ◌++◌, IfOk, OnOk};
-ghost use Rattle.dav_resource_core.specs.Served.{request_of};
+ghost use Rattle.dav_guarded_core.specs.Served.{request_of};
 ghost use Rattle.dav_notes_core.specs.Asking.{sender_of};
 ghost use Rattle.dav_effects_core.specs.ByteForms.{HasCount, following_text};
 ghost use Rattle.dav_effects_core.specs.RecordReading.{caller_at, whole_caller_at};
@@ -12,8 +12,8 @@ use crate::error::{ReadError, at_field};
 use crate::fields::{all_texts_of, following_of, number_of, optional_text_of};
 use crate::putting::{put_following, put_number, put_optional_text, put_texts};
 use dav_notes_core::senders::Sender;
-use dav_resource_core::fs::Moment;
-use dav_resource_core::guarded::Request;
+use dav_guarded_core::fs::Moment;
+use dav_guarded_core::guarded::Request;
 use std::alloc::{AllocError, Global};
 
 #[tactic(auto, unfolding(crate::specs::RecordReading::whole_caller_at))]

@@ -2,7 +2,7 @@
 ghost use Rattle.std.specs.Prelude.{◌≡◌, ◌++◌, ◌∷◌, false, IfSome, OnOk, option_map, string_bytes};
 ghost use Rattle.dav_path_core.specs.PathText.{folder_bytes};
 ghost use Rattle.dav_path_core.specs.Segments.{segments};
-ghost use Rattle.dav_resource_core.specs.Served.{command_of};
+ghost use Rattle.dav_guarded_core.specs.Served.{command_of};
 ghost use Rattle.dav_notes_core.specs.Changes.{is_look};
 ghost use Rattle.dav_effects_core.specs.ByteForms.{FitsInEight, IsUtf8Text, counted_text, flag_text, following_text, number_text, optional_text};
 ghost use Rattle.dav_effects_core.specs.RecordText.{command_text, path_behind, path_text};
@@ -15,7 +15,7 @@ use crate::putting::{
     put_text,
 };
 use dav_path_core::davpath::DavPath;
-use dav_resource_core::guarded::Command;
+use dav_guarded_core::guarded::Command;
 use std::alloc::{AllocError, Global};
 
 // What stands at the front of a command: the byte that says which it is, and its path.

@@ -2,8 +2,8 @@
 ghost use Rattle.std.specs.Prelude.{◌≡◌, ◌≤◌, ◌<◌, [], length, IfOk};
 ghost use Rattle.dav_path_core.specs.PathText.{folder_bytes};
 ghost use Rattle.dav_path_core.specs.Segments.{segments};
-ghost use Rattle.dav_resource_core.specs.Served.{command_of};
-ghost use Rattle.dav_resource_core.specs.Requests as plain;
+ghost use Rattle.dav_guarded_core.specs.Served.{command_of};
+ghost use Rattle.dav_guarded_core.specs.Requests as plain;
 ghost use Rattle.dav_effects_core.specs.ByteForms.{value_at};
 ghost use Rattle.dav_effects_core.specs.RecordReading.{command_at, command_fields_at, lock_at, path_at, patches_at, put_command_at, refresh_at, two_paths_at, unlock_at, write_command_at};
 ghost use Rattle.dav_effects_core.specs.RecordText.{body_of, path_behind};
@@ -18,7 +18,7 @@ use crate::paths::path_of;
 use crate::properties::patches_of;
 use bytes::Bytes;
 use dav_path_core::davpath::DavPath;
-use dav_resource_core::guarded::Command;
+use dav_guarded_core::guarded::Command;
 use std::alloc::Global;
 
 #[tactic(auto, unfolding(crate::specs::RecordReading::put_command_at))]

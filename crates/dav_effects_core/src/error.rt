@@ -8,7 +8,7 @@ use dav_path_core::davpath::ParseError;
 use std::alloc::{AllocError, AllocFailed};
 
 /// Why a record is not read (own).
-#[derive(Debug, Drop)]
+#[derive(Drop)]
 pub enum RecordError {
     /// There is no memory for it.
     OutOfMemory,
@@ -20,7 +20,7 @@ pub enum RecordError {
 }
 
 /// Why a field is not read (own).
-#[derive(Debug, Drop)]
+#[derive(Drop)]
 pub enum ReadError {
     /// There is no memory for it.
     Memory,

@@ -1,7 +1,7 @@
 //! A record in pieces, as it is written.
 ghost use Rattle.std.specs.Prelude.{◌≡◌, ◌≤◌, ◌+◌, ◌++◌, [], false, length, map, IfOk, OnOk};
 ghost use Rattle.std.specs.List.{AllByRecursion, flat_map};
-ghost use Rattle.dav_resource_core.specs.Served.{command_of, request_of};
+ghost use Rattle.dav_guarded_core.specs.Served.{command_of, request_of};
 ghost use Rattle.dav_notes_core.specs.Changes.{is_look};
 ghost use Rattle.dav_notes_core.specs.Costs.{notes_cost};
 ghost use Rattle.dav_notes_core.specs.Noting.{AreChanges, note_of};
@@ -14,7 +14,7 @@ use crate::changes::put_command;
 use crate::putting::{put_counted, put_drawn, put_number};
 use bytes::Bytes;
 use dav_notes_core::notes::Note;
-use dav_resource_core::guarded::Command;
+use dav_guarded_core::guarded::Command;
 use std::alloc::{AllocError, Global};
 
 /// A record, in the order in which its bytes stand (own).

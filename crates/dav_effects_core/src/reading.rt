@@ -1,6 +1,6 @@
 //! Records that are read.
 ghost use Rattle.std.specs.Prelude.{◌≡◌, ◌≤◌, List, drop, length, map, IfErr, IfOk, MatchResult};
-ghost use Rattle.dav_resource_core.specs.Served.{command_of};
+ghost use Rattle.dav_guarded_core.specs.Served.{command_of};
 ghost use Rattle.dav_notes_core.specs.Noting.{AreChanges, Noted, note_of};
 ghost use Rattle.dav_effects_core.specs.Reads.{ReadsField};
 ghost use Rattle.dav_effects_core.specs.RecordFaults.{IsFault, ReadsRecord};
@@ -14,7 +14,7 @@ use crate::error::{ReadError, RecordError, record_error};
 use crate::fields::{counted_of, drawn_of, number_of};
 use dav_notes_core::notes::Note;
 use dav_notes_core::senders::request_by;
-use dav_resource_core::guarded::Command;
+use dav_guarded_core::guarded::Command;
 use std::alloc::Global;
 
 /// Reads a record (own). What is read could have been written so, and what is written is read as the same.

@@ -9,7 +9,7 @@ use http::StatusCode;
 use std::alloc::{AllocError, AllocFailed};
 
 /// Why an HTTP request is refused. Nothing was changed, but locks that have expired may be gone.
-#[derive(Debug, Drop)]
+#[derive(Drop)]
 pub enum Fault {
     /// 207: a lock of a member stands in the way, at this path (RFC 4918 sections 9.6.1 and 13).
     MemberLocked(DavPath),

@@ -109,6 +109,3 @@ tags_known m p r = by r.node.kind refl
     by : (k : Kind) → r.node.kind ≡ k → tags_by (standing_known m p (meta_at r.node)) ≡ own_tags r
     by Folder is = rw is refl
     by File is = rw is refl
-
-pub folder_untagged : (m : ResourceMap) (p : Path) (known : Meta) → known.kind ≡ Folder → tags_by (standing_known m p known) ≡ []
-folder_untagged m p known is = rw is refl

@@ -86,21 +86,6 @@ module _ (site : Site) (headers : Entries FieldValue) where
     one_there : get_all headers (codes "if") ≢ []
     one_there none = let e : value ∷ [] ≡ [] = sym there ∙ none in cc
 
-    pub says_behind : (front : List ℕ) → IsFront site headers front → (lists : List Located)
-        → ReadsBehind front (value ∷ []) lists → IfSays site headers lists
-    says_behind front is_front lists h =
-        inl (
-          front,
-          is_front,
-          subst (λ (values : List FieldValue). ReadsBehind front values lists)
-              (sym there) h,
-        )
-
-    pub says_itself : ((front : List ℕ) → ¬ IsFront site headers front) → (lists : List Located)
-        → ReadsAs (value ∷ []) lists → IfSays site headers lists
-    says_itself none lists h = inr
-        (none, subst (λ (values : List FieldValue). ReadsAs values lists) (sym there) h)
-
     pub bad_behind : (front : List ℕ) → IsFront site headers front
         → ((lists : List Located) → ¬ ReadsBehind front (value ∷ []) lists) → HasBadIf site headers
     bad_behind front is_front unread = (one_there, refuted)

@@ -21,11 +21,6 @@ known_as None known h = absurd (cc)
 pub known_entry : (m : ResourceMap) (p : Path) (known : Meta) → IsKnown m p known → (r : Resource) × (at_path m p ≡ Some r) × (known ≡ meta_at r.node)
 known_entry m p known h = known_as (at_path m p) known h
 
--- nothing is known
-pub nothing_known : (o : Option Resource) → None ≡ option_map (λ r. meta_at r.node) o → o ≡ None
-nothing_known (Some r) h = absurd (cc)
-nothing_known None h = refl
-
 -- ---- bytes
 
 pub read_of : (r : Resource) (map other : ResourceMap) (p : Path) (at count : ℕ) (bytes : List ℕ) → other ≡ map → IsRead other p at count bytes → at_path map p ≡ Some r

@@ -44,10 +44,6 @@ sent_tags fields = values_in fields (codes "etag")
 abbrev pub sent_parts : List Field → List (List ℕ)
 sent_parts fields = values_in fields (codes "content-range")
 
--- the tokens of locks (RFC 4918 section 10.5)
-abbrev pub sent_tokens : List Field → List (List ℕ)
-sent_tokens fields = values_in fields (codes "lock-token")
-
 -- the types of the body (RFC 9110 section 8.3)
 abbrev pub sent_types : List Field → List (List ℕ)
 sent_types fields = values_in fields (codes "content-type")

@@ -19,7 +19,7 @@ use std::marker::Model;
 use url::{ParseError, Url};
 
 /// The scheme of the URLs of a server, as its clients see them.
-#[derive(Debug, Clone, Copy, PartialEq, Eq)]
+#[derive(Clone, Copy, PartialEq, Eq)]
 pub enum Scheme {
     /// `http`.
     Http,

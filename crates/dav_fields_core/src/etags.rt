@@ -11,7 +11,7 @@ use dav_headers_core::davheaders::{ETag, HeaderError};
 use std::alloc::{AllocError, Global};
 
 /// What stands at a path, as conditions see it.
-#[derive(Debug, Drop)]
+#[derive(Drop)]
 pub enum Standing {
     /// Nothing.
     Nothing,

@@ -25,7 +25,7 @@ pub use laws::{
 use std::convert::AsStr;
 
 /// What follows from the conditions of a request.
-#[derive(Debug, Clone, Copy, PartialEq, Eq)]
+#[derive(Clone, Copy, PartialEq, Eq)]
 pub enum Course {
     /// The request is done.
     Proceed,

@@ -10,7 +10,7 @@ use dav_headers_core::davheaders::XUpdateRange;
 use http_header::{GetAll, HeaderValue};
 
 /// Which bytes of a file are asked for.
-#[derive(Debug, Clone, Copy, PartialEq, Eq)]
+#[derive(Clone, Copy, PartialEq, Eq)]
 pub enum Extent {
     /// All of them.
     Whole,

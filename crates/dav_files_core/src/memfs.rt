@@ -198,6 +198,7 @@ mod tests {
     use super::*;
     use crate::fs::{DavFile, DavFileSystem, DavProp, OpenOptions};
     use std::io::SeekFrom;
+    use std::process::Abort;
     use std::test::Fail;
 
     fn property(alloc: Global) -> FsResult<DavProp> {
@@ -209,42 +210,73 @@ mod tests {
         })
     }
 
-    // A file is written while its folder is renamed, and the folder is copied onto a file.
-    fn stored(alloc: Global) -> Result<MemFs, Fail> {
-        let mut files = MemFs::new(alloc, Moment(1))?;
-        let (old, new) = (DavPath::new(alloc, "/d")?, DavPath::new(alloc, "/e")?);
+    // A file is written while its folder is renamed.
+    fn write_while_renamed(alloc: Global, files: &mut MemFs, new: &DavPath) -> Result<(), Fail> {
+        let old = DavPath::new(alloc, "/d")?;
         files.create_dir(&old, Moment(2))?;
         let path = DavPath::new(alloc, "/d/f")?;
         files.put(&path, b"abc", Moment(5))?;
         let mut file = files.open(&path, OpenOptions::write(), Moment(6))?;
-        files.rename(&old, &new, Moment(7))?;
-        file.seek(&files, SeekFrom::Start(5))?;
-        file.write_bytes(&mut files, Bytes::from_static(b"z"))?;
-        files.patch_props(&new, vec![in alloc; (true, property(alloc)?)]?)?;
+        files.rename(&old, new, Moment(7))?;
+        file.seek(files, SeekFrom::Start(5))?;
+        file.write_bytes(files, Bytes::from_static(b"z"))?;
+        Ok(())
+    }
+
+    // A folder with a property is copied onto a file.
+    fn copy_onto_a_file(alloc: Global, files: &mut MemFs, folder: &DavPath) -> Result<(), Fail> {
+        files.patch_props(folder, vec![in alloc; (true, property(alloc)?)]?)?;
         let copy = DavPath::new(alloc, "/q")?;
         files.put(&copy, b"x", Moment(8))?;
-        files.copy(&new, &copy, Moment(9))?;
-        Ok(files)
+        files.copy(folder, &copy, Moment(9))?;
+        Ok(())
+    }
+
+    // The number of the node with a name of one byte.
+    fn number_below(files: &MemFs, folder: u64, name: u8) -> FsResult<u64> {
+        files.tree.find_child(folder, |known| known.as_slice() == [name].as_slice())
+    }
+
+    fn stands_in_the_tree(rt: &impl Abort, alloc: Global, files: &MemFs) -> Result<(), Fail> {
+        let folder = number_below(files, ROOT_ID, b'e')?;
+        let id = number_below(files, folder, b'f')?;
+        let node = node_of(&files.tree, id)?;
+        assert!(rt; files.tree.parent_of(id)? == Some(folder));
+        assert!(rt; node.content.as_slice() == b"abc\0\0z".as_slice());
+        let copy = node_of(&files.tree, number_below(files, ROOT_ID, b'q')?)?;
+        assert!(rt; !copy.is_file());
+        assert!(rt; copy.props.list(alloc, true)?.len() == 1);
+        Ok(())
+    }
+
+    fn are_kept_in_a_tree(rt: &impl Abort, alloc: Global, files: &mut MemFs) -> Result<(), Fail> {
+        let folder = DavPath::new(alloc, "/e")?;
+        write_while_renamed(alloc, files, &folder)?;
+        copy_onto_a_file(alloc, files, &folder)?;
+        stands_in_the_tree(rt, alloc, files)
     }
 
     #[test]
     fn keeps_its_files_in_a_tree(rt: HostRuntime) -> Result<(), Fail> {
-        let files = stored(rt.alloc())?;
-        let folder = files
-            .tree
-            .find_child(ROOT_ID, |name| name.as_slice() == b"e".as_slice())?;
-        let id = files
-            .tree
-            .find_child(folder, |name| name.as_slice() == b"f".as_slice())?;
-        let node = node_of(&files.tree, id)?;
-        assert!(rt; files.tree.parent_of(id)? == Some(folder));
-        assert!(rt; node.content.as_slice() == b"abc\0\0z".as_slice());
-        let copied = files
-            .tree
-            .find_child(ROOT_ID, |name| name.as_slice() == b"q".as_slice())?;
-        let copy = node_of(&files.tree, copied)?;
-        assert!(rt; !copy.is_file());
-        assert!(rt; copy.props.list(rt.alloc(), true)?.len() == 1);
+        let mut files = MemFs::new(rt.alloc(), Moment(1))?;
+        are_kept_in_a_tree(&rt, rt.alloc(), &mut files)
+    }
+
+    // A part that was read of a file with a copy is shared until the file is written and the copy is gone.
+    fn shares_bytes(rt: &impl Abort, files: &mut MemFs, path: &DavPath, copy: &DavPath) -> Result<(), Fail> {
+        files.put(path, b"abc", Moment(2))?;
+        files.copy(path, copy, Moment(3))?;
+        let mut file = files.open(path, OpenOptions::write(), Moment(4))?;
+        let shared = file.read_bytes(files, 9)?;
+        assert!(rt; !shared.is_unique());
+        file.seek(files, SeekFrom::Start(1))?;
+        file.write_bytes(files, Bytes::from_static(b"xyz"))?;
+        assert!(rt; !shared.is_unique());
+        files.remove_file(copy, Moment(5))?;
+        assert!(rt; shared.is_unique());
+        assert!(rt; shared.as_slice() == b"abc".as_slice());
+        let id = number_below(files, ROOT_ID, b'f')?;
+        assert!(rt; node_of(&files.tree, id)?.content.as_slice() == b"axyz".as_slice());
         Ok(())
     }
 
@@ -252,25 +284,8 @@ mod tests {
     #[test]
     fn copies_and_parts_share_bytes(rt: HostRuntime) -> Result<(), Fail> {
         let mut files = MemFs::new(rt.alloc(), Moment(1))?;
-        let (path, copy) = (
-            DavPath::new(rt.alloc(), "/f")?,
-            DavPath::new(rt.alloc(), "/g")?,
-        );
-        files.put(&path, b"abc", Moment(2))?;
-        files.copy(&path, &copy, Moment(3))?;
-        let mut file = files.open(&path, OpenOptions::write(), Moment(4))?;
-        let shared = file.read_bytes(&files, 9)?;
-        assert!(rt; !shared.is_unique());
-        file.seek(&files, SeekFrom::Start(1))?;
-        file.write_bytes(&mut files, Bytes::from_static(b"xyz"))?;
-        assert!(rt; !shared.is_unique());
-        files.remove_file(&copy, Moment(5))?;
-        assert!(rt; shared.is_unique());
-        assert!(rt; shared.as_slice() == b"abc".as_slice());
-        let id = files
-            .tree
-            .find_child(ROOT_ID, |name| name.as_slice() == b"f".as_slice())?;
-        assert!(rt; node_of(&files.tree, id)?.content.as_slice() == b"axyz".as_slice());
-        Ok(())
+        let path = DavPath::new(rt.alloc(), "/f")?;
+        let copy = DavPath::new(rt.alloc(), "/g")?;
+        shares_bytes(&rt, &mut files, &path, &copy)
     }
 }

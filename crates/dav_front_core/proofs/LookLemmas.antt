@@ -14,8 +14,8 @@ use Rattle.dav_path_core.specs.declared.util.DavMethod.{DavMethod}
 use Rattle.dav_path_core.specs.declared.util.DavMethod.TheVariants as method
 use Rattle.dav_path_core.specs.Methods.{word}
 use Rattle.dav_faults_core.specs.declared.faults.Fault.{Fault}
-use Rattle.dav_resource_core.specs.Step.{State}
-use Rattle.dav_resource_core.specs.Stores.{Stores}
+use Rattle.dav_guarded_core.specs.Step.{State}
+use Rattle.dav_guarded_core.specs.Stores.{Stores}
 use Rattle.dav_notes_core.proofs.LiveLemmas.{same_later}
 use Rattle.dav_session_core.specs.Callers.{SameLive, live}
 use Rattle.dav_fields_core.specs.Fields.{Sent}

@@ -35,7 +35,7 @@ use Rattle.dav_handler_core.specs.KeptDocuments.{IsNew}
 use Rattle.dav_handler_core.specs.PathMoments.{IsAlong, IsFileAt}
 use Rattle.dav_handler_core.specs.Server.{Server}
 use Rattle.dav_handler_core.specs.TagHistories.{Becomes}
-use Rattle.dav_resource_core.specs.Checks.{has}
+use Rattle.dav_guarded_core.specs.Checks.{has}
 use Rattle.dav_handler_core.specs.MethodAnswers.{IsGotten}
 use Rattle.dav_handler_core.proofs.AnswerStatuses.{lock_low, no_fault, put_between, transfer_low}
 use Rattle.dav_handler_core.proofs.MomentLaws.{dates_tell}

@@ -9,7 +9,7 @@ use Rattle.dav_path_core.proofs.paths.FrontLemmas.{is_same_path-same}
 use Rattle.dav_files_core.specs.declared.memfs.Kind.TheVariants.{Folder, File}
 use Rattle.dav_files_core.specs.Following.{dated_entry}
 use Rattle.dav_files_core.specs.Resources.{Node, Resource, ResourceMap, at_path}
-use Rattle.dav_resource_core.specs.Step.{State}
+use Rattle.dav_guarded_core.specs.Step.{State}
 use Rattle.dav_session_core.specs.Clearing.{IsCleared}
 use Rattle.dav_session_core.specs.Copying.{IsPartlyCopied, copy_at, created_at, is_copied, node_at}
 use Rattle.dav_session_core.specs.Ends.{HasFolder}

@@ -24,7 +24,7 @@ use Rattle.dav_locks_core.specs.Stale.{is_stale, without_stale}
 use Rattle.dav_locks_core.proofs.laws.CheckLemmas.{any_lock_held}
 use Rattle.dav_locks_core.proofs.laws.EndedLemmas.{found_at}
 use Rattle.dav_locks_core.proofs.laws.StandInLemmas.{In-StandIn}
-use Rattle.dav_resource_core.specs.Step.{State}
+use Rattle.dav_guarded_core.specs.Step.{State}
 use Rattle.dav_handler_core.specs.Answers.{Answers, EndsOne, LocksOne}
 use Rattle.dav_handler_core.specs.Server.{IsFrom, Server}
 use Rattle.dav_handler_core.specs.MethodAnswers.{as_found}

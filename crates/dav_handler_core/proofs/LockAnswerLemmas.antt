@@ -9,7 +9,7 @@ use Rattle.dav_path_core.specs.PathText.{PathText}
 use Rattle.dav_path_core.specs.Segments.{segments}
 use Rattle.dav_files_core.specs.Finding.{has_any}
 use Rattle.dav_path_core.proofs.lists.MemberLemmas.{In, Contains-In}
-use Rattle.dav_resource_core.specs.Step.{State}
+use Rattle.dav_guarded_core.specs.Step.{State}
 use Rattle.dav_faults_core.specs.declared.faults.Fault.{Fault}
 use Rattle.dav_faults_core.specs.declared.faults.Fault.TheVariants as fault
 use Rattle.dav_handler_core.specs.MethodAnswers.{Admits, Begins, LockAnswers, Unread, as_found, has_body}

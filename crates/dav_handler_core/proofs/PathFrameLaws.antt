@@ -14,7 +14,7 @@ use Rattle.dav_path_core.proofs.paths.FrontLemmas.{is_same_path-same}
 use Rattle.dav_files_core.specs.declared.memfs.Kind.TheVariants.{File, Folder}
 use Rattle.dav_files_core.specs.Following.{dated_entry}
 use Rattle.dav_files_core.specs.Resources.{IsResourceMap, Resource, ResourceMap, at_path}
-use Rattle.dav_resource_core.specs.Step.{State}
+use Rattle.dav_guarded_core.specs.Step.{State}
 use Rattle.dav_faults_core.specs.declared.faults.Fault.{Fault}
 use Rattle.dav_faults_core.specs.declared.faults.Fault.TheVariants as fault
 use Rattle.dav_documents_core.specs.PatchBodies.{any_protected}

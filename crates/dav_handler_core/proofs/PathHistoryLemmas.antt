@@ -11,7 +11,7 @@ use Rattle.dav_path_core.proofs.paths.SubtreePaths.{rest_of}
 use Rattle.dav_files_core.specs.Following.{dated_entry, dated_folder}
 use Rattle.dav_files_core.specs.Resources.{IsResourceMap, Node, Resource, ResourceMap, at_path}
 use Rattle.dav_files_core.proofs.paths.RemovedMaps.{above_out, front_none}
-use Rattle.dav_resource_core.specs.Step.{State}
+use Rattle.dav_guarded_core.specs.Step.{State}
 use Rattle.dav_session_core.specs.Clearing.{IsCleared}
 use Rattle.dav_session_core.specs.Copying.{IsPartlyCopied, copy_at, created_at, is_copied, node_at}
 use Rattle.dav_session_core.specs.Ends.{HasFolder}

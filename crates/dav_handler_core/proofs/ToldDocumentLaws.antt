@@ -15,7 +15,7 @@ use Rattle.dav_files_core.specs.Resources.{Resource, at_path, is_folder}
 use Rattle.dav_files_core.proofs.properties.PropertyMapLemmas.{key_total}
 use Rattle.dav_locks_core.specs.Lock.{Lock}
 use Rattle.dav_locks_core.specs.Locks.{discovered_locks, refreshed_lock}
-use Rattle.dav_resource_core.specs.Step.{State}
+use Rattle.dav_guarded_core.specs.Step.{State}
 use Rattle.dav_xml_core.specs.Reading.{document_of}
 use Rattle.dav_faults_core.specs.declared.faults.Fault.{Fault}
 use Rattle.dav_handler_core.specs.Answers.{Answers, AnswersTo}

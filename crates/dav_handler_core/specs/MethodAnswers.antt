@@ -18,7 +18,7 @@ use Rattle.dav_path_core.specs.PathText.{PathText}
 use Rattle.dav_path_core.specs.Segments.{segments}
 use Rattle.dav_path_core.specs.Fronts.{Path}
 use Rattle.dav_files_core.specs.Finding.{has_any}
-use Rattle.dav_resource_core.specs.Step.{State}
+use Rattle.dav_guarded_core.specs.Step.{State}
 use Rattle.dav_faults_core.specs.declared.faults.Fault.TheVariants as fault
 use Rattle.dav_methods_core.specs.Admitting.{IsAdmitted, IsHeldOff}
 use Rattle.dav_session_core.specs.Callers.{Caller, live}

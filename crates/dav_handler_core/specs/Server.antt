@@ -3,7 +3,7 @@ use Rattle.std.specs.Prelude.{Bool, ℕ, List, Option}
 use Rattle.http.specs.declared.request.Request.{Request}
 use Rattle.http.specs.Request.{head_of}
 use Rattle.dav_path_core.specs.PathText.{PathText}
-use Rattle.dav_resource_core.specs.Step.{State}
+use Rattle.dav_guarded_core.specs.Step.{State}
 use Rattle.dav_fields_core.specs.declared.bases.Scheme.{Scheme}
 use Rattle.dav_fields_core.specs.Bases.{Site, site_of}
 use Rattle.dav_session_core.specs.Callers.{Caller, IsSender}

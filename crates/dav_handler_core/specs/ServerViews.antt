@@ -4,7 +4,7 @@ use Rattle.rand_core.specs.Stream.{Stream}
 use Rattle.http.specs.declared.request.Request.{Request}
 use Rattle.http_server.specs.declared.response.Response.{Response}
 use Rattle.dav_path_core.specs.declared.util.DavMethod.{DavMethod}
-use Rattle.dav_resource_core.specs.Stores.{Stores}
+use Rattle.dav_guarded_core.specs.Stores.{Stores}
 use Rattle.dav_faults_core.specs.declared.faults.Fault.{Fault}
 use Rattle.http_server.specs.Response.{fields_of}
 use Rattle.dav_fields_core.specs.AnswerFields.{first_fields}

@@ -12,7 +12,7 @@ ghost use Rattle.dav_notes_core.specs.Ahead.{ahead};
 ghost use Rattle.dav_notes_core.specs.Costs.{notes_cost};
 ghost use Rattle.dav_notes_core.specs.Noting.{AreChanges, note_of};
 ghost use Rattle.dav_notes_core.specs.Seen.{KeptNotes};
-ghost use Rattle.dav_resource_core.specs.Stores.{state_of};
+ghost use Rattle.dav_guarded_core.specs.Stores.{state_of};
 ghost use Rattle.rand_core.specs.Stream.{fill_bytes};
 ghost use Rattle.dav_handler_core.specs.Answers.{Answers};
 ghost use Rattle.dav_handler_core.specs.Answers.{IsMethod, MayDo};
@@ -43,9 +43,9 @@ use dav_methods_core::methods::{
 };
 use dav_methods_core::refusals::refuse;
 use dav_notes_core::notes::Note;
-use dav_resource_core::fs::Moment;
-use dav_resource_core::guarded::Guarded;
-use dav_resource_core::util::DavMethod;
+use dav_guarded_core::fs::Moment;
+use dav_guarded_core::guarded::Guarded;
+use dav_guarded_core::util::DavMethod;
 use dav_session_core::session::Session;
 use http::{Request, StatusCode};
 use http_header::HeaderName;
@@ -60,7 +60,7 @@ use std::alloc::{AllocError, Global};
 pub use tag_laws::{calls_make_runs, dates_tell_bytes, moments_tell_files, tags_tell_bytes};
 
 /// What whoever runs a server chooses.
-#[derive(Debug, Drop)]
+#[derive(Drop)]
 pub struct Settings {
     /// The scheme of its URLs, with which the resource tags of an `If` are compared (own).
     pub scheme: Scheme,

@@ -1,4 +1,4 @@
-//! A WebDAV server over the stores of `dav_resource_core`, as a service of the kit's `http_server`.
+//! A WebDAV server over the stores of `dav_guarded_core`, as a service of the kit's `http_server`.
 //! The modules of the crates below whose items its callers name stand here too.
 #![tactic(auto)]
 

@@ -21,7 +21,7 @@ ghost use Rattle.dav_handler_core.specs.TagHistories.{Becomes};
 
 use crate::dav::Dav;
 use bytes::Bytes;
-use dav_resource_core::fs::Moment;
+use dav_guarded_core::fs::Moment;
 use http::Request;
 use http_frames::clients::Clients;
 use http_frames::frames::Frames;

@@ -5,8 +5,8 @@ use Rattle.std.specs.List.{flat_map}
 use Rattle.rand_core.specs.Stream.{Stream}
 use Rattle.journal_core.specs.declared.header.Header.{Header}
 use Rattle.dav_path_core.specs.Fronts.{Path}
-use Rattle.dav_resource_core.specs.Requests.{Refusal, Fs, Locked, NoLock, OutOfMemory}
-use Rattle.dav_resource_core.specs.Stores.{Stores}
+use Rattle.dav_guarded_core.specs.Requests.{Refusal, Fs, Locked, NoLock, OutOfMemory}
+use Rattle.dav_guarded_core.specs.Stores.{Stores}
 use Rattle.dav_notes_core.specs.Changes.{is_look, lacks_memory}
 use Rattle.dav_notes_core.specs.Noting.{AreChanges, Noted}
 use Rattle.dav_notes_core.specs.PlayedNotes.{NotePlayed, NotesLead, NotesPlayed}
@@ -69,23 +69,6 @@ pub part_is_done : (s s' : Stores) (last m now : ℕ) (source : Source) (n : Not
 part_is_done s s' last m now source n ns is at played =
     subst (λ (k : ℕ). Refuses s last k source Unfinished) at (s', subst (λ (n : Noted). NotePlayed s n s') (first_makes n ns m source is) played)
 
-made_change : (path : Path) (content : Option (List ℕ)) → is_look (making path content) ≡ false
-made_change path None = refl
-made_change path (Some bytes) = refl
-
-dated_changes : (m : ℕ) (path : Path) (modified : Option ℕ) → AreChanges (dating m path modified)
-dated_changes m path None = tt
-dated_changes m path (Some x) = (refl, tt)
-
--- each note is of a change
-pub changes_for : (m : ℕ) (source : Source) → AreChanges (notes_for m source)
-changes_for m source = (made_change source.path source.content, dated_changes m source.path source.modified)
-
--- no lock is granted
-pub makes_draw : (path : Path) (content : Option (List ℕ)) (s : Stream) → Draws (making path content) None s
-makes_draw path None s = tt
-makes_draw path (Some bytes) s = tt
-
 -- ---- notes of one moment
 
 abbrev AllAt : ℕ → List Noted → Type 0
@@ -107,10 +90,6 @@ leads_at last m s t (n ∷ ns) all le h =
     (before, (h.0, h.1, leads_at n.request.now m h.0 t ns all.1 after h.2))
 
 -- ---- an entry more, or none
-
--- the moment of an entry is a later one
-pub moment_later : (last clock : ℕ) → last < moment_behind last clock
-moment_later last clock = omega arith
 
 -- the requests of one entry more
 flat_more : (requests : List (List Noted)) (ns : List Noted) → flat_map (λ (l : List Noted). l) requests ++ ns ≡ flat_map (λ l. l) (requests ++ ns ∷ [])

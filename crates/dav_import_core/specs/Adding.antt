@@ -4,8 +4,8 @@ use Rattle.dav_path_core.specs.declared.errors.FsError.{FsError}
 use Rattle.dav_files_core.specs.declared.memfs.Kind.TheVariants.{Folder as FolderKind}
 use Rattle.dav_files_core.specs.Describing.{metadata}
 use Rattle.dav_files_core.specs.Meta.{Meta}
-use Rattle.dav_resource_core.specs.Requests.{Refusal, Locked as LockedBy}
-use Rattle.dav_resource_core.specs.Stores.{Stores}
+use Rattle.dav_guarded_core.specs.Requests.{Refusal, Locked as LockedBy}
+use Rattle.dav_guarded_core.specs.Stores.{Stores}
 use Rattle.dav_notes_core.specs.Changes.{lacks_memory}
 use Rattle.dav_notes_core.specs.Noting.{Noted}
 use Rattle.dav_notes_core.specs.PlayedNotes.{NotePlayed, NotesPlayed}

@@ -1,7 +1,7 @@
 -- Entries that are added one after another, and the records that are kept of them (own).
 use Rattle.std.specs.Prelude.{ℕ, List, ◌++◌}
 use Rattle.std.specs.List.{flat_map}
-use Rattle.dav_resource_core.specs.Stores.{Stores}
+use Rattle.dav_guarded_core.specs.Stores.{Stores}
 use Rattle.dav_notes_core.specs.Noting.{Noted}
 use Rattle.dav_notes_core.specs.PlayedNotes.{NotesLead}
 use Rattle.dav_store_core.specs.StandingFor.{AreRecords}

@@ -4,7 +4,7 @@ ghost use Rattle.dav_path_core.specs.Segments.{segments};
 ghost use Rattle.dav_files_core.specs.Describing.{metadata};
 ghost use Rattle.rand_core.specs.Stream.{Stream};
 ghost use Rattle.journal_core.specs.Resting.{Carries};
-ghost use Rattle.dav_resource_core.specs.Served.{command_of, refusal_of};
+ghost use Rattle.dav_guarded_core.specs.Served.{command_of, refusal_of};
 ghost use Rattle.dav_notes_core.specs.Noting.{note_of};
 ghost use Rattle.dav_notes_core.specs.PlayedNotes.{NotePlayed};
 ghost use Rattle.dav_notes_core.specs.Stepping.{Draws, SameLiveStores};
@@ -19,14 +19,14 @@ use dav_notes_core::notes::{Note, apply_given};
 use dav_notes_core::playing::play_again;
 use dav_path_core::davpath::DavPath;
 use dav_path_core::errors::FsError;
-use dav_resource_core::fs::Moment;
-use dav_resource_core::guarded::{Guarded, Refusal};
+use dav_guarded_core::fs::Moment;
+use dav_guarded_core::guarded::{Guarded, Refusal};
 use dav_store_core::{Opened, add_record};
 use journal_core::Round;
 use std::alloc::{AllocError, Global};
 
 /// Why a file or a folder is not added (own).
-#[derive(Debug, Clone, Copy)]
+#[derive(Clone, Copy)]
 pub enum Unimported {
     /// A file stands at its path.
     File,

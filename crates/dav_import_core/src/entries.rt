@@ -2,7 +2,7 @@
 ghost use Rattle.std.specs.Prelude.{◌≡◌, map, IfOk};
 ghost use Rattle.dav_path_core.specs.Segments.{segments};
 ghost use Rattle.dav_files_core.specs.Properties.{property_of};
-ghost use Rattle.dav_resource_core.specs.Served.{command_of};
+ghost use Rattle.dav_guarded_core.specs.Served.{command_of};
 ghost use Rattle.dav_notes_core.specs.Noting.{note_of};
 ghost use Rattle.dav_import_core.specs.ImportedEntries.{dating, making, notes_for, source_of, unnamed_note};
 
@@ -10,8 +10,8 @@ use crate::properties::time_property;
 use bytes::Bytes;
 use dav_notes_core::notes::Note;
 use dav_path_core::davpath::DavPath;
-use dav_resource_core::fs::Moment;
-use dav_resource_core::guarded::{Command, Request};
+use dav_guarded_core::fs::Moment;
+use dav_guarded_core::guarded::{Command, Request};
 use std::alloc::{AllocError, Global};
 
 /// A file or a folder that is imported (own).

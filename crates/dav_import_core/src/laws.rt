@@ -4,7 +4,7 @@ ghost use Rattle.journal_core.specs.declared.header.Header.{Header};
 ghost use Rattle.journal_core.specs.declared.round.Round.{Round};
 ghost use Rattle.journal_core.specs.Resting.{Carries};
 ghost use Rattle.dav_notes_core.specs.Stepping.{SameLiveStores};
-ghost use Rattle.dav_resource_core.specs.Stores.{Stores};
+ghost use Rattle.dav_guarded_core.specs.Stores.{Stores};
 ghost use Rattle.dav_store_core.specs.StandingFor.{StandFor};
 ghost use Rattle.dav_import_core.specs.Adding.{IsAdded, StaysLive};
 ghost use Rattle.dav_import_core.specs.ImportedEntries.{Source};

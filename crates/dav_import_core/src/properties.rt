@@ -4,7 +4,7 @@ ghost use Rattle.dav_files_core.specs.Properties.{property_of};
 ghost use Rattle.dav_import_core.specs.ImportedEntries.{time_property, time_xml};
 
 use dav_files_core::fs::DavProp;
-use dav_resource_core::fs::Moment;
+use dav_guarded_core::fs::Moment;
 use std::alloc::{AllocError, Global};
 
 /// The namespace of what an import keeps (own).

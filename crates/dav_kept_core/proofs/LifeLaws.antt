@@ -3,7 +3,7 @@ use Rattle.std.proofs.Common.{ℕ, List, Option, ap}
 use Rattle.http_frames.specs.ConnectionEvents.{Event}
 use Rattle.http_frames.specs.TurnRuns.{EventsLead}
 use Rattle.http_frames.proofs.Simulations.{leads_to}
-use Rattle.dav_resource_core.specs.Stores.{Stores}
+use Rattle.dav_guarded_core.specs.Stores.{Stores}
 use Rattle.dav_handler_core.specs.Server.{Server}
 use Rattle.dav_handler_core.specs.Serving.{BeginsTurn, Clocked, Listed, Replies}
 use Rattle.dav_handler_core.specs.TagHistories.{Becomes, Restarts}

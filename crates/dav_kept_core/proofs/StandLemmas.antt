@@ -6,7 +6,7 @@ use Rattle.http.specs.declared.request.Request.{Request}
 use Rattle.http_server.specs.declared.response.Response.{Response}
 use Rattle.http_server.specs.Exchange.{Call, Chain}
 use Rattle.http_frames.specs.Gate.{IsTold}
-use Rattle.dav_resource_core.specs.Stores.{Stores}
+use Rattle.dav_guarded_core.specs.Stores.{Stores}
 use Rattle.dav_notes_core.specs.Costs.{notes_cost}
 use Rattle.dav_notes_core.specs.Noting.{AreChanges, Noted}
 use Rattle.dav_notes_core.specs.PlayedNotes.{NotesLead}

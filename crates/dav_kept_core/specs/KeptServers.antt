@@ -10,7 +10,7 @@ use Rattle.journal_core.specs.declared.header.Header.{Header}
 use Rattle.journal_core.specs.declared.journal.Journal.{Journal}
 use Rattle.kept_frames.specs.KeptRuns.{RunsKept}
 use Rattle.kept_frames.specs.LateRuns.{RunsLate}
-use Rattle.dav_resource_core.specs.Stores.{Stores}
+use Rattle.dav_guarded_core.specs.Stores.{Stores}
 use Rattle.dav_notes_core.specs.Costs.{notes_cost}
 use Rattle.dav_notes_core.specs.Noting.{AreChanges, Noted, note_of}
 use Rattle.dav_notes_core.specs.PlayedNotes.{NotesLead}

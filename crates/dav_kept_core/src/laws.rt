@@ -1,7 +1,7 @@
 //! The laws of servers that are kept, over plain data. They do nothing.
 ghost use Rattle.std.specs.Prelude.{◌≡◌, ◌≤◌, ℕ, List};
 ghost use Rattle.dav_notes_core.specs.Stepping.{SameLiveStores};
-ghost use Rattle.dav_resource_core.specs.Stores.{Stores};
+ghost use Rattle.dav_guarded_core.specs.Stores.{Stores};
 ghost use Rattle.dav_store_core.specs.StandingFor.{StandFor};
 ghost use Rattle.dav_kept_core.specs.KeptServers.{KeptServer, StandsForServer, stores_in};
 

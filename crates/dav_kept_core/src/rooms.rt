@@ -2,9 +2,9 @@
 //! it: a request is told what room there is, and is refused where its notes would cost more.
 use dav_handler_core::dav::LAST_ROOM;
 use dav_notes_core::notes::Note;
-use dav_resource_core::davpath::DavPath;
-use dav_resource_core::fs::DavMetaData;
-use dav_resource_core::guarded::{Command, Guarded};
+use dav_guarded_core::davpath::DavPath;
+use dav_guarded_core::fs::DavMetaData;
+use dav_guarded_core::guarded::{Command, Guarded};
 use http::StatusCode;
 use std::alloc::{AllocError, Global};
 use std::collections::HashMap;

@@ -13,7 +13,7 @@ use Rattle.dav_headers_core.specs.IfBytes.{Condition, Token}
 use Rattle.dav_headers_core.specs.IfValues.{Located}
 use Rattle.dav_locks_core.specs.Lock.{Lock}
 use Rattle.dav_locks_core.specs.Locks.{covers}
-use Rattle.dav_resource_core.specs.Step.{State}
+use Rattle.dav_guarded_core.specs.Step.{State}
 use Rattle.dav_session_core.specs.Conditions.{ListsAre, OneHolds, Production, ProductionIs, ProductionsAre, conditions_hold, has_token, lists_of, untagged_list}
 use Rattle.dav_fields_core.specs.TaggedLists.{Base, SpeaksOf, spread_from}
 use Rattle.dav_session_core.proofs.ConditionLemmas.{goes_on, holds_here}

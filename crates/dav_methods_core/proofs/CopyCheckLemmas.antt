@@ -5,7 +5,7 @@ use Rattle.std.proofs.lemmas.List.{drop_all}
 use Rattle.std.proofs.lemmas.List.Elements.{Contains-append_left, Contains-append_right}
 use Rattle.dav_locks_core.specs.Lock.{Lock}
 use Rattle.dav_locks_core.specs.Locks.{LockCaller as LocksCaller, check_conflicts}
-use Rattle.dav_resource_core.specs.Checks.{Check, refusing}
+use Rattle.dav_guarded_core.specs.Checks.{Check, refusing}
 use Rattle.dav_faults_core.specs.declared.faults.Fault.{Fault}
 use Rattle.dav_session_core.specs.LocksInTheWay.{IsRefusedBy}
 use Rattle.dav_session_core.proofs.ConditionLemmas.{drop_seen}

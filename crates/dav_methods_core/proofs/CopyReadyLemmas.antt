@@ -11,8 +11,8 @@ use Rattle.dav_files_core.specs.Following.{dated_entry}
 use Rattle.dav_files_core.specs.Resources.{IsResourceMap, Resource, at_path}
 use Rattle.dav_locks_core.specs.Lock.{Lock}
 use Rattle.dav_locks_core.specs.Locks.{check_conflicts, without_below}
-use Rattle.dav_resource_core.specs.Checks.{has, member, refusing, shallow, target}
-use Rattle.dav_resource_core.specs.Step.{State}
+use Rattle.dav_guarded_core.specs.Checks.{has, member, refusing, shallow, target}
+use Rattle.dav_guarded_core.specs.Step.{State}
 use Rattle.dav_session_core.specs.Callers.{Caller, as_caller}
 use Rattle.dav_session_core.specs.Clearing.{IsCleared, refusing_anew, refusing_clearing}
 use Rattle.dav_session_core.specs.Copying.{AreCopied, IsReady, is_copied, refusing_copies}

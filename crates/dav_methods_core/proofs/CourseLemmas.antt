@@ -4,7 +4,7 @@ use Rattle.http_header.specs.FieldValue.{FieldValue}
 use Rattle.http_header.specs.HeaderMap.{Entries}
 use Rattle.dav_path_core.specs.declared.util.DavMethod.{DavMethod}
 use Rattle.dav_path_core.specs.Fronts.{Path}
-use Rattle.dav_resource_core.specs.Step.{State}
+use Rattle.dav_guarded_core.specs.Step.{State}
 use Rattle.dav_faults_core.specs.declared.faults.Fault.{Fault}
 use Rattle.dav_faults_core.specs.declared.faults.Fault.TheVariants as fault
 use Rattle.dav_fields_core.specs.declared.preconditions.Course.{Course}
@@ -16,14 +16,6 @@ use Rattle.dav_methods_core.specs.ChangeConditions.{IsStopped, change_course, ch
 pub course_stays : (m : DavMethod) (p : Path) (headers : Entries FieldValue) (now : ℕ) (s mid : State) (course : Result (Unit {0}) Fault) → SameLive now s mid
     → change_course m mid.map p headers ≡ course → change_course m s.map p headers ≡ course
 course_stays m p headers now s mid course same h = subst (λ (t : State). change_course m t.map p headers ≡ course) same h
-
--- it is refused by one of two faults
-pub refusing_course : (o : Option Course) (e : Fault) → changes_by o ≡ Err e → (e ≡ fault.BadRequest) ⊎ (e ≡ fault.PreconditionFailed)
-refusing_course None e h = inl (cc)
-refusing_course (Some course.PreconditionFailed) e h = inr (cc)
-refusing_course (Some course.NotModified) e h = inr (cc)
-refusing_course (Some course.Whole) e h = absurd (cc)
-refusing_course (Some course.Proceed) e h = absurd (cc)
 
 -- behind questions, a method that could be done is stopped, or lacks memory to look
 pub stopped_after : (m : DavMethod) (p : Path) (headers : Entries FieldValue) (now : ℕ) (s mid : State) → SameLive now s mid → (Cant : Fault → Type 0) (Can : Type 0) (e : Fault)

@@ -20,9 +20,9 @@ use Rattle.dav_files_core.specs.Resources.{Resource, at_path}
 use Rattle.dav_locks_core.specs.Lock.{Lock}
 use Rattle.dav_locks_core.specs.Locks.{discovered_locks, end_of, lock_conflicts, lock_path}
 use Rattle.dav_locks_core.specs.Stale.{has_come, is_stale, without_stale}
-use Rattle.dav_resource_core.specs.Requests.{Command, Refusal, Reply}
-use Rattle.dav_resource_core.specs.Step.{Serves, State}
-use Rattle.dav_resource_core.proofs.Frame.{change_left}
+use Rattle.dav_guarded_core.specs.Requests.{Command, Refusal, Reply}
+use Rattle.dav_guarded_core.specs.Step.{Serves, State}
+use Rattle.dav_guarded_core.proofs.Frame.{change_left}
 use Rattle.dav_faults_core.specs.declared.faults.Fault.{Fault}
 use Rattle.dav_faults_core.specs.declared.faults.Fault.TheVariants as fault
 use Rattle.dav_session_core.specs.Callers.{Caller, SameLive, asking, live, refusing_at}
@@ -236,10 +236,6 @@ module _ (most : Option ℕ) (headers : Entries FieldValue) (body : List ℕ) (s
 module _ (s : State) (who : Caller) (p : Path) (once : live who.now s ≡ s) where
   pub back : {Is : Lock → Type 0} (s' : State) → s' ≡ with_token_drawn s → LeavesUntold Is s who p s'
   back s' is = inl (ap (live who.now) is ∙ ap with_token_drawn once)
-
-  pub kept_there : (old : State) (l : Lock) (token : List ℕ) (above : List (List ℕ)) → live who.now old ≡ with_lock s l → l.token ≡ token → AreAbove s p above
-      → is_among above token ≡ true → LeavesUntold (λ k. k ≡ l) s who p old
-  kept_there old l token above is named only among = inr (l, is, ap (stands_above s p) named ∙ only token among, refl)
 
 pub untold_by : {P Q : Lock → Type 0} (s s' : State) (who : Caller) (p : Path) → ((l : Lock) → P l → Q l) → LeavesUntold P s who p s' → LeavesUntold Q s who p s'
 untold_by s s' who p weaker (inl left) = inl left

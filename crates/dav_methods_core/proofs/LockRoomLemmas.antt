@@ -9,8 +9,8 @@ use Rattle.dav_path_core.specs.PathText.{PathText}
 use Rattle.dav_locks_core.specs.Lock.{Lock}
 use Rattle.dav_locks_core.specs.Tokens.{token_from}
 use Rattle.dav_notes_core.specs.Costs.{cost_for}
-use Rattle.dav_resource_core.specs.Requests.{Command}
-use Rattle.dav_resource_core.specs.Step.{State}
+use Rattle.dav_guarded_core.specs.Requests.{Command}
+use Rattle.dav_guarded_core.specs.Step.{State}
 use Rattle.dav_session_core.specs.declared.session.Session.{Session}
 use Rattle.dav_session_core.specs.Callers.{Caller}
 use Rattle.dav_session_core.specs.Granting.{granted_lock}

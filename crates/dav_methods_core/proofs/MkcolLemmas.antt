@@ -15,9 +15,9 @@ use Rattle.dav_files_core.specs.Outcomes.{Outcome, ◌>>=◌, only_folder, with_
 use Rattle.dav_files_core.specs.Resources.{Resource, ResourceMap, at_path, is_folder}
 use Rattle.dav_files_core.specs.Meta.{Meta, meta_at}
 use Rattle.dav_fields_core.proofs.ReadMarks.{known_entry}
-use Rattle.dav_resource_core.specs.Requests.{Command, Reply, Refusal, Fs, Locked, NoLock, OutOfMemory}
-use Rattle.dav_resource_core.specs.Step.{State, Serves}
-use Rattle.dav_resource_core.proofs.Frame.{change_left}
+use Rattle.dav_guarded_core.specs.Requests.{Command, Reply, Refusal, Fs, Locked, NoLock, OutOfMemory}
+use Rattle.dav_guarded_core.specs.Step.{State, Serves}
+use Rattle.dav_guarded_core.proofs.Frame.{change_left}
 use Rattle.dav_session_core.specs.Callers.{Caller, asking}
 use Rattle.dav_session_core.specs.Ends.{HasFolder, known_at}
 use Rattle.dav_session_core.specs.LocksInTheWay.{IsRefusedBy}

@@ -12,7 +12,7 @@ use Rattle.dav_files_core.specs.Following.{dated_entry}
 use Rattle.dav_files_core.specs.Resources.{IsResourceMap, at_path}
 use Rattle.dav_locks_core.specs.Lock.{Lock}
 use Rattle.dav_locks_core.specs.Locks.{LockCaller as LocksCaller, check_conflicts, is_at_or_below, refuses_change, without_below}
-use Rattle.dav_resource_core.specs.Step.{State}
+use Rattle.dav_guarded_core.specs.Step.{State}
 use Rattle.dav_session_core.specs.Callers.{Caller, as_caller}
 use Rattle.dav_session_core.specs.Clearing.{IsCleared, refusing_anew}
 use Rattle.dav_methods_core.specs.TransferEnds.{EndsFit}

@@ -15,10 +15,10 @@ use Rattle.dav_files_core.specs.Meta.{Meta, meta_at}
 use Rattle.dav_files_core.specs.Outcomes.{Outcome, ◌>>=◌, find_folder, with_new_entry, with_other_node, new_file}
 use Rattle.dav_files_core.specs.ResourcePutting.{put, put_at}
 use Rattle.dav_files_core.specs.Resources.{Node, Resource, ResourceMap, at_path}
-use Rattle.dav_resource_core.specs.Checks.{refusing}
-use Rattle.dav_resource_core.specs.Requests.{Command, Reply, Refusal, Fs, Locked, NoLock, OutOfMemory}
-use Rattle.dav_resource_core.specs.Step.{State, Serves}
-use Rattle.dav_resource_core.proofs.Frame.{change_left}
+use Rattle.dav_guarded_core.specs.Checks.{refusing}
+use Rattle.dav_guarded_core.specs.Requests.{Command, Reply, Refusal, Fs, Locked, NoLock, OutOfMemory}
+use Rattle.dav_guarded_core.specs.Step.{State, Serves}
+use Rattle.dav_guarded_core.proofs.Frame.{change_left}
 use Rattle.dav_faults_core.specs.declared.faults.Fault.{Fault}
 use Rattle.dav_faults_core.specs.declared.faults.Fault.TheVariants as fault
 use Rattle.dav_session_core.specs.Callers.{Caller, SameLive, as_caller, asking, live, refusing_at}

@@ -62,12 +62,6 @@ module _ (path : PathText) where
   pub told_folder : (m : ResourceMap) (known : Meta) → Some known ≡ known_at m (segments path.bytes) → is_folder known.kind ≡ true → with_slash path ≡ told_path m path
   told_folder m known is folder = sym (ap (λ b. cond b (with_slash path) path) folder) ∙ ap (λ o. told_by o path) is
 
-  pub told_file : (m : ResourceMap) (known : Meta) → Some known ≡ known_at m (segments path.bytes) → is_folder known.kind ≡ false → path ≡ told_path m path
-  told_file m known is file = sym (ap (λ b. cond b (with_slash path) path) file) ∙ ap (λ o. told_by o path) is
-
-  pub told_nothing : (m : ResourceMap) → None ≡ known_at m (segments path.bytes) → path ≡ told_path m path
-  told_nothing m is = ap (λ o. told_by o path) is
-
   -- ---- it begins with a slash where the path does
 
   rooted_slashed : IsRooted path → IsRooted (with_slash path)

@@ -13,9 +13,9 @@ use Rattle.dav_files_core.specs.Meta.{meta_at}
 use Rattle.dav_files_core.specs.Resources.{Resource, ResourceMap, at_path}
 use Rattle.dav_locks_core.specs.Lock.{Lock}
 use Rattle.dav_locks_core.specs.Locks.{LockCaller as LocksCaller, any_held, check_conflicts, covers, is_held_by, is_at_or_below, lock_conflicts, lock_path, refuses_change, refuses_lock, same_text}
-use Rattle.dav_resource_core.specs.Checks.{member, refusing, shallow, target}
-use Rattle.dav_resource_core.specs.Requests.{Command, Refusal, Fs, Locked, NoLock, OutOfMemory}
-use Rattle.dav_resource_core.specs.Step.{Serves, State, conflicts}
+use Rattle.dav_guarded_core.specs.Checks.{member, refusing, shallow, target}
+use Rattle.dav_guarded_core.specs.Requests.{Command, Refusal, Fs, Locked, NoLock, OutOfMemory}
+use Rattle.dav_guarded_core.specs.Step.{Serves, State, conflicts}
 use Rattle.dav_faults_core.specs.declared.faults.Fault.TheVariants as fault
 use Rattle.dav_session_core.specs.Callers.{Caller, as_caller, asking, refusing_at}
 use Rattle.dav_session_core.specs.Ends.{HasFolder}

@@ -4,7 +4,7 @@ use Rattle.dav_path_core.specs.Fronts.{Path, parent}
 use Rattle.dav_files_core.specs.declared.memfs.Kind.TheVariants.{Folder, File}
 use Rattle.dav_files_core.specs.Meta.{Meta}
 use Rattle.dav_files_core.specs.Resources.{Resource, ResourceMap, at_path}
-use Rattle.dav_resource_core.specs.Checks.{Check, member, shallow}
+use Rattle.dav_guarded_core.specs.Checks.{Check, member, shallow}
 use Rattle.dav_faults_core.specs.declared.faults.Fault.{Fault}
 use Rattle.dav_faults_core.specs.declared.faults.Fault.TheVariants as fault
 use Rattle.dav_fields_core.specs.Marking.{IsNone}

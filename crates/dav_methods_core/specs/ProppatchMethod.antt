@@ -8,7 +8,7 @@ use Rattle.dav_path_core.specs.Fronts.{Path}
 use Rattle.dav_path_core.specs.PathText.{PathText}
 use Rattle.dav_path_core.specs.Segments.{segments}
 use Rattle.dav_files_core.specs.Resources.{at_path}
-use Rattle.dav_resource_core.specs.Step.{State}
+use Rattle.dav_guarded_core.specs.Step.{State}
 use Rattle.dav_xml_core.specs.Writing.{document_bytes}
 use Rattle.dav_faults_core.specs.declared.faults.Fault.{Fault}
 use Rattle.dav_faults_core.specs.declared.faults.Fault.TheVariants as fault

@@ -10,7 +10,7 @@ use Rattle.dav_path_core.specs.declared.util.DavMethod.TheVariants as method
 use Rattle.dav_path_core.specs.Fronts.{Path}
 use Rattle.dav_headers_core.specs.declared.davheaders.timeouts.DavTimeout.{DavTimeout}
 use Rattle.dav_locks_core.specs.Locks.{discovered_locks, refreshed_lock}
-use Rattle.dav_resource_core.specs.Step.{State}
+use Rattle.dav_guarded_core.specs.Step.{State}
 use Rattle.dav_session_core.specs.Callers.{Caller}
 use Rattle.dav_session_core.specs.Conditions.{has_token}
 use Rattle.dav_fields_core.specs.Fields.{Sent}

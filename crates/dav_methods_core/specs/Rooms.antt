@@ -9,8 +9,8 @@ use Rattle.dav_files_core.specs.Resources.{at_path}
 use Rattle.dav_locks_core.specs.Lock.{Lock}
 use Rattle.dav_locks_core.specs.Locks.{discovered_locks, lock_path}
 use Rattle.dav_locks_core.specs.Stale.{is_stale}
-use Rattle.dav_resource_core.specs.Requests.{Command, Refusal, Reply}
-use Rattle.dav_resource_core.specs.Step.{Serves, State}
+use Rattle.dav_guarded_core.specs.Requests.{Command, Refusal, Reply}
+use Rattle.dav_guarded_core.specs.Step.{Serves, State}
 use Rattle.dav_faults_core.specs.declared.faults.Fault.{Fault}
 use Rattle.dav_faults_core.specs.declared.faults.Fault.TheVariants as fault
 use Rattle.dav_methods_core.specs.declared.methods.lock.Wanted.{Wanted}

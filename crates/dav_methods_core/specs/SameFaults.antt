@@ -1,6 +1,6 @@
 -- Refusals that are the same but for which of several locks they show (own).
 use Rattle.std.specs.Prelude.{◌≡◌, ◌⊎◌, ℕ, Bool, true, false, Option, None, Some, IsSome}
-use Rattle.dav_resource_core.specs.Step.{State}
+use Rattle.dav_guarded_core.specs.Step.{State}
 use Rattle.dav_fields_core.specs.Fields.{Sent}
 use Rattle.dav_session_core.specs.Callers.{live}
 use Rattle.dav_faults_core.specs.declared.faults.Fault.{Fault}

@@ -24,8 +24,8 @@ use dav_fields_core::preconditions::has_tag;
 use dav_fields_core::senders::if_of;
 pub use dav_fields_core::state_tokens::tokens;
 use dav_fields_core::tagged::spoken_of;
-use dav_resource_core::davheaders::{ETag, If, IfCondition, IfItem, IfList};
-use dav_resource_core::davpath::DavPath;
+use dav_guarded_core::davheaders::{ETag, If, IfCondition, IfItem, IfList};
+use dav_guarded_core::davpath::DavPath;
 use dav_session_core::session::{Session, copy_of, has_token};
 use http_header::{HeaderMap, HeaderValue};
 pub use laws::{

@@ -4,9 +4,9 @@ use Rattle.std.proofs.lemmas.Bool.{false≢true}
 use Rattle.rand_core.specs.Stream.{Stream, fill_bytes}
 use Rattle.rand_core.proofs.StepsLemmas.{fill_bytes-stream_of}
 use Rattle.dav_locks_core.specs.Tokens.{token_from}
-use Rattle.dav_resource_core.specs.Requests.{Command, Answer}
-use Rattle.dav_resource_core.specs.Step.{Step}
-use Rattle.dav_resource_core.specs.Stores.{Stores, state_of}
+use Rattle.dav_guarded_core.specs.Requests.{Command, Answer}
+use Rattle.dav_guarded_core.specs.Step.{Step}
+use Rattle.dav_guarded_core.specs.Stores.{Stores, state_of}
 use Rattle.dav_notes_core.specs.Stepping.{AnsweredBy, Draws, left_by}
 use Rattle.dav_notes_core.proofs.StreamLemmas.{steps_with}
 use Rattle.dav_notes_core.specs.Ahead.{ahead, ahead_steps, drawn_on, was_granted}

@@ -10,10 +10,10 @@ use Rattle.dav_files_core.specs.Resources.{ResourceMap}
 use Rattle.dav_locks_core.specs.Lock.{Lock}
 use Rattle.dav_locks_core.specs.Locks.{refreshed_lock}
 use Rattle.dav_locks_core.specs.NewLock.{new_lock}
-use Rattle.dav_resource_core.specs.Requests.{Command, Request, Reply, Refusal, Fs, Locked, NoLock, OutOfMemory}
-use Rattle.dav_resource_core.specs.ResourceStep.{Does}
-use Rattle.dav_resource_core.specs.Step.{State, Effect, FindsNone, conflicts_by}
-use Rattle.dav_resource_core.specs.Stores.{Stores, state_of}
+use Rattle.dav_guarded_core.specs.Requests.{Command, Request, Reply, Refusal, Fs, Locked, NoLock, OutOfMemory}
+use Rattle.dav_guarded_core.specs.ResourceStep.{Does}
+use Rattle.dav_guarded_core.specs.Step.{State, Effect, FindsNone, conflicts_by}
+use Rattle.dav_guarded_core.specs.Stores.{Stores, state_of}
 use Rattle.dav_notes_core.specs.Changes.{lacks_memory}
 use Rattle.dav_notes_core.specs.Stepping.{AnsweredBy, Draws, SameLiveStores, live_stores}
 use Rattle.dav_notes_core.proofs.DrawLemmas.{tokens_alike}

@@ -2,10 +2,10 @@
 use Rattle.std.proofs.Common.{◌≡◌, ℕ, ◌+◌, ◌-◌, ◌^◌, ◌≤◌, ◌<◌, arith, Bool, true, false, cond, not, ◌&&◌, List, [], ◌∷◌, ◌++◌, map, Result, Ok, Err, is_ok, sym, subst, ap, ◌∙◌}
 use Rattle.std.specs.Prelude.{OnOk, OnErr}
 use Rattle.std.proofs.lemmas.List.Sums.{sum_by_push}
-use Rattle.dav_resource_core.specs.declared.guarded.requests.Reply as served
-use Rattle.dav_resource_core.specs.declared.guarded.requests.Refusal as served_refusal
-use Rattle.dav_resource_core.specs.Requests.{Answer, Command}
-use Rattle.dav_resource_core.specs.Served.{answer_of}
+use Rattle.dav_guarded_core.specs.declared.guarded.requests.Reply as served
+use Rattle.dav_guarded_core.specs.declared.guarded.requests.Refusal as served_refusal
+use Rattle.dav_guarded_core.specs.Requests.{Answer, Command}
+use Rattle.dav_guarded_core.specs.Served.{answer_of}
 use Rattle.dav_notes_core.specs.declared.notes.Note.{Note}
 use Rattle.dav_notes_core.specs.Asking.{Caller}
 use Rattle.dav_notes_core.specs.Changes.{is_look}

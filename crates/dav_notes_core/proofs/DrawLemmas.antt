@@ -7,7 +7,7 @@ use Rattle.rand_core.specs.Stream.{Stream, fill_bytes}
 use Rattle.uuid.specs.Parts.{v4_of_fill}
 use Rattle.uuid.specs.Text.{urn_text, lower}
 use Rattle.dav_locks_core.specs.Tokens.{token_from}
-use Rattle.dav_resource_core.specs.Requests.{Command}
+use Rattle.dav_guarded_core.specs.Requests.{Command}
 use Rattle.dav_notes_core.specs.Changes.{grants}
 use Rattle.dav_notes_core.specs.Drawing.{stream_giving}
 use Rattle.dav_notes_core.specs.Stepping.{Draws}
@@ -35,20 +35,10 @@ pub draws_some : (c : Command) (bytes : List ℕ) → Draws c (Some bytes) (stre
 draws_some (Command.Lock path owner timeout shared deep) bytes = ap Some (sym (fill-stream_giving bytes))
 draws_some _ bytes = tt
 
--- for a command that grants no lock
-pub draws_any : (c : Command) (drawn : Option (List ℕ)) (stream : Stream) → grants c ≡ false → Draws c drawn stream
-draws_any (Command.Lock path owner timeout shared deep) drawn stream h = absurd (true≢false h)
-draws_any _ drawn stream h = tt
-
 -- only for it there need to be bytes
 pub draws_as : (c : Command) (bytes : List ℕ) → Draws c (cond (grants c) (Some bytes) None) (stream_giving bytes)
 draws_as (Command.Lock path owner timeout shared deep) bytes = ap Some (sym (fill-stream_giving bytes))
 draws_as _ bytes = tt
-
--- a lock is not granted without bytes
-pub draws_none : (c : Command) (stream : Stream) → grants c ≡ true → Draws c None stream → ⊥
-draws_none (Command.Lock path owner timeout shared deep) stream h d = absurd (cc)
-draws_none _ stream h d = true≢false (sym h)
 
 -- the token is made of the bytes alone
 token_alike : (f g : Stream) → (fill_bytes 16 f).0 ≡ (fill_bytes 16 g).0 → (token_from f).0 ≡ (token_from g).0

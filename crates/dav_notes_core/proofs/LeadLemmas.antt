@@ -1,6 +1,6 @@
 -- How notes go on, and what they lead to when they are played.
 use Rattle.std.proofs.Common.{◌≡◌, ℕ, ◌≤◌, arith, List, [], ◌∷◌, ◌++◌, Ok, refl, sym, subst, ap, ◌∙◌}
-use Rattle.dav_resource_core.specs.Stores.{Stores}
+use Rattle.dav_guarded_core.specs.Stores.{Stores}
 use Rattle.dav_notes_core.specs.Noting.{Noted}
 use Rattle.dav_notes_core.specs.PlayedNotes.{NotesLead, NotesPlayed, NotePlayed, StopsAt}
 use Rattle.dav_notes_core.specs.Stepping.{SameLiveStores, live_stores}

@@ -14,11 +14,11 @@ use Rattle.dav_files_core.specs.Resources.{ResourceMap}
 use Rattle.dav_locks_core.specs.Lock.{Lock}
 use Rattle.dav_locks_core.specs.Stale.{has_come, is_stale, without_stale}
 use Rattle.dav_locks_core.proofs.laws.StaleLemmas.{stale_once}
-use Rattle.dav_resource_core.specs.Requests.{Command, Request, Reply, Bytes, Entries, Meta, Props, Value, Answer, Refusal, Fs, Locked, NoLock, OutOfMemory}
-use Rattle.dav_resource_core.specs.ResourceStep.{tells}
-use Rattle.dav_resource_core.specs.Step.{Same, Effect, Serves}
-use Rattle.dav_resource_core.specs.Stores.{Stores, state_of}
-use Rattle.dav_resource_core.proofs.Frame.{told_left}
+use Rattle.dav_guarded_core.specs.Requests.{Command, Request, Reply, Bytes, Entries, Meta, Props, Value, Answer, Refusal, Fs, Locked, NoLock, OutOfMemory}
+use Rattle.dav_guarded_core.specs.ResourceStep.{tells}
+use Rattle.dav_guarded_core.specs.Step.{Same, Effect, Serves}
+use Rattle.dav_guarded_core.specs.Stores.{Stores, state_of}
+use Rattle.dav_guarded_core.proofs.Frame.{told_left}
 use Rattle.dav_notes_core.specs.Changes.{is_look}
 use Rattle.dav_notes_core.specs.Stepping.{AnsweredBy, SameLiveStores, live_stores}
 

@@ -2,13 +2,13 @@
 use Rattle.std.proofs.Common.{◌≡◌, ℕ, ◌+◌, ◌≤◌, length, arith, Bool, true, false, not, ◌&&◌, List, [], ◌∷◌, ◌++◌, ◌⊎◌, inl, inr, length-append, map, Option, Result, Ok, Err, refl, sym, subst, ap, ◌∙◌}
 use Rattle.std.specs.Prelude.{OnOk, OnErr}
 use Rattle.std.proofs.lemmas.Bool.{and_parts, false≢true}
-use Rattle.dav_resource_core.specs.declared.guarded.requests.Reply as served
-use Rattle.dav_resource_core.specs.declared.guarded.requests.Refusal as served_refusal
-use Rattle.dav_resource_core.specs.Requests.{Answer, Command, Request}
-use Rattle.dav_resource_core.specs.Served.{answer_of, refusal_of, reply_of}
+use Rattle.dav_guarded_core.specs.declared.guarded.requests.Reply as served
+use Rattle.dav_guarded_core.specs.declared.guarded.requests.Refusal as served_refusal
+use Rattle.dav_guarded_core.specs.Requests.{Answer, Command, Request}
+use Rattle.dav_guarded_core.specs.Served.{answer_of, refusal_of, reply_of}
 use Rattle.rand_core.specs.Stream.{Stream}
-use Rattle.dav_resource_core.specs.Step.{Step}
-use Rattle.dav_resource_core.specs.Stores.{Stores, state_of}
+use Rattle.dav_guarded_core.specs.Step.{Step}
+use Rattle.dav_guarded_core.specs.Stores.{Stores, state_of}
 use Rattle.dav_notes_core.specs.declared.notes.Note.{Note}
 use Rattle.dav_notes_core.specs.Changes.{is_look}
 use Rattle.dav_notes_core.specs.Noting.{AreChanges, Noted, drawn_for, note_for, note_of}
@@ -164,16 +164,6 @@ holds_later keeps base ns used all who after old spares s h le none =
       room = omega (arith, room);
     })
 
--- with other room
-pub holds_with : (keeps : Bool) (base : List (Stores × ℕ)) (ns ms : List Note) (used all used' all' : ℕ) (who : Sender) (old spares : List Sender) (s : Stores)
-    → NotesHold keeps base ns used all who old s → ms ≡ ns → AreCopies who spares → length spares + used' ≤ all' → NotesHold keeps base ms used' all' who spares s
-holds_with keeps base ns ms used all used' all' who old spares s h same copies room = record {
-  kept = subst (λ (xs : List Note). KeptNotes keeps base (map note_of xs) who.now.0 s) (sym same) h.kept;
-  changes = subst (λ (xs : List Note). AreChanges (map note_of xs)) (sym same) h.changes;
-  copies = copies;
-  room = room;
-}
-
 -- behind a request that is not noted, of a caller who names one token more
 pub holds_named : (keeps : Bool) (base : List (Stores × ℕ)) (ns : List Note) (used all : ℕ) (who after : Sender) (token : List ℕ) (spares : List Sender) (s s' : Stores) (c : Command)
     (next : List ℕ) (a : Answer) → NotesHold keeps base ns used all who spares s → (keeps && not (is_look c)) ≡ false
@@ -243,14 +233,6 @@ holds_naming keeps base ns ns' ms used all who asker token spares s s' c next re
 pub copies_more : (who : Sender) (spares : List Sender) (spare : Sender) → AreCopies who spares → sender_of spare ≡ sender_of who → AreCopies who (spares ++ spare ∷ [])
 copies_more who [] spare h same = (same, tt)
 copies_more who (x ∷ spares) spare h same = (h.0, copies_more who spares spare h.1 same)
-
--- the last taken away
-pub copies_fewer : (who : Sender) (all spares : List Sender) (spare : Sender) → all ≡ spares ++ spare ∷ [] → AreCopies who all → AreCopies who spares × (sender_of spare ≡ sender_of who)
-copies_fewer who all spares spare is h = by spares (subst (AreCopies who) is h)
-  where
-    by : (xs : List Sender) → AreCopies who (xs ++ spare ∷ []) → AreCopies who xs × (sender_of spare ≡ sender_of who)
-    by [] h = (tt, h.0)
-    by (x ∷ xs) h = let rest = by xs h.1 in ((h.0, rest.0), rest.1)
 
 pub grown : (spares : List Sender) (spare : Sender) (n : ℕ) → length spares ≡ n → length (spares ++ spare ∷ []) ≡ n + 1
 grown spares spare n same = omega (arith, length-append spares (spare ∷ []), same)

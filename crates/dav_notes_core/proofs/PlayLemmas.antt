@@ -3,8 +3,8 @@ use Rattle.std.proofs.Common.{◌≡◌, ℕ, suc, ◌+◌, ◌<◌, ◌≤◌, 
 use Rattle.std.specs.Prelude.{MatchResult, IfErr, OnOk}
 use Rattle.std.proofs.lemmas.List.{take_more, map_push, map-append, length-map, length-take-le, take-append-drop}
 use Rattle.std.proofs.Math.Seq.{drop-cons}
-use Rattle.dav_resource_core.specs.Requests.{Refusal}
-use Rattle.dav_resource_core.specs.Stores.{Stores}
+use Rattle.dav_guarded_core.specs.Requests.{Refusal}
+use Rattle.dav_guarded_core.specs.Stores.{Stores}
 use Rattle.dav_notes_core.specs.declared.notes.Note.{Note}
 use Rattle.dav_notes_core.specs.declared.playing.PlayError.{PlayError}
 use Rattle.dav_notes_core.specs.declared.playing.PlayError.TheVariants.{OutOfMemory, Damaged}

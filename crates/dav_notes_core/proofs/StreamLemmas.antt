@@ -4,9 +4,9 @@ use Rattle.std.specs.Prelude.{Contains, is_ok}
 use Rattle.rand_core.specs.Stream.{Stream}
 use Rattle.dav_locks_core.specs.Lock.{Lock}
 use Rattle.dav_locks_core.specs.NewLock.{new_lock}
-use Rattle.dav_resource_core.specs.Requests.{Command, Request, Reply, Granted, Answer, Refusal, Fs, Locked, NoLock, OutOfMemory}
-use Rattle.dav_resource_core.specs.Step.{Effect, MayLackMemory, Serves, Step}
-use Rattle.dav_resource_core.specs.Stores.{Stores, state_of}
+use Rattle.dav_guarded_core.specs.Requests.{Command, Request, Reply, Granted, Answer, Refusal, Fs, Locked, NoLock, OutOfMemory}
+use Rattle.dav_guarded_core.specs.Step.{Effect, MayLackMemory, Serves, Step}
+use Rattle.dav_guarded_core.specs.Stores.{Stores, state_of}
 use Rattle.dav_notes_core.specs.Changes.{grants}
 use Rattle.dav_notes_core.specs.Stepping.{AnsweredBy, Draws, left_by, live_stores}
 use Rattle.dav_notes_core.proofs.AlikeLemmas.{conflicts_alike}

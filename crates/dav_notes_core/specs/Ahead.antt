@@ -2,7 +2,7 @@
 use Rattle.std.specs.Prelude.{ℕ, List, Bool, true, false, ◌==◌, ◌&&◌, is_ok, if◌then◌else◌}
 use Rattle.rand_core.specs.Stream.{Stream, next_u32, next_u64, fill_bytes}
 use Rattle.rand_core.specs.Steps.{Steps, stream_of}
-use Rattle.dav_resource_core.specs.Requests.{Command, Answer}
+use Rattle.dav_guarded_core.specs.Requests.{Command, Answer}
 use Rattle.dav_notes_core.specs.Changes.{grants}
 
 -- who asks for sixteen bytes gets those that are ahead, and the next are drawn; all else is asked of the generator

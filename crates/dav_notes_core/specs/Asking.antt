@@ -1,6 +1,6 @@
 -- Who asks: the same for all requests that one HTTP request leads to (RFC 4918 sections 6.4 and 10.4).
 use Rattle.std.specs.Prelude.{ℕ, List, [], ◌∷◌, ◌++◌, Option, None, map, option_map, string_bytes}
-use Rattle.dav_resource_core.specs.Requests.{Command, Request}
+use Rattle.dav_guarded_core.specs.Requests.{Command, Request}
 use Rattle.dav_notes_core.specs.declared.senders.Sender.{Sender}
 
 -- the principal, the tokens that are submitted, and the moment

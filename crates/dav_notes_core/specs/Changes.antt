@@ -1,7 +1,7 @@
 -- Which commands only look at the stores, which draw a token, and which refusals are for want of memory.
 use Rattle.std.specs.Prelude.{Bool, true, false}
 use Rattle.dav_path_core.specs.declared.errors.FsError.TheVariants.{InsufficientStorage}
-use Rattle.dav_resource_core.specs.Requests.{Command, Refusal, Fs, OutOfMemory}
+use Rattle.dav_guarded_core.specs.Requests.{Command, Refusal, Fs, OutOfMemory}
 
 -- the command changes nothing
 abbrev pub is_look : Command → Bool

@@ -3,7 +3,7 @@ use Rattle.std.specs.Prelude.{â„•, Bool, List as Sequence, Option, Some, None, â
 use Rattle.std.specs.List.{sum_by}
 use Rattle.dav_path_core.specs.Fronts.{Path}
 use Rattle.dav_files_core.specs.Resources.{Property}
-use Rattle.dav_resource_core.specs.Requests.{Command}
+use Rattle.dav_guarded_core.specs.Requests.{Command}
 use Rattle.dav_notes_core.specs.Asking.{Caller, asker_of}
 use Rattle.dav_notes_core.specs.Noting.{Noted}
 

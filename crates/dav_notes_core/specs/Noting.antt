@@ -1,8 +1,8 @@
 -- Notes of the code as plain data, without where they lie in memory, and what is noted of a command.
 use Rattle.std.specs.Prelude.{◌≡◌, ℕ, List, Option, Some, None, false, if◌then◌else◌}
 use Rattle.std.specs.List.{AllByRecursion}
-use Rattle.dav_resource_core.specs.Requests.{Command, Request}
-use Rattle.dav_resource_core.specs.Served.{request_of}
+use Rattle.dav_guarded_core.specs.Requests.{Command, Request}
+use Rattle.dav_guarded_core.specs.Served.{request_of}
 use Rattle.dav_notes_core.specs.declared.notes.Note.{Note}
 use Rattle.dav_notes_core.specs.Asking.{Caller, asking}
 use Rattle.dav_notes_core.specs.Changes.{grants, is_look}

@@ -1,7 +1,7 @@
 -- Notes that are played, and what they lead to.
 use Rattle.std.specs.Prelude.{◌≡◌, ◌≤◌, ℕ, List, [], ◌∷◌, ◌++◌, length, true, Ok, Err}
-use Rattle.dav_resource_core.specs.Requests.{Reply, Refusal}
-use Rattle.dav_resource_core.specs.Stores.{Stores}
+use Rattle.dav_guarded_core.specs.Requests.{Reply, Refusal}
+use Rattle.dav_guarded_core.specs.Stores.{Stores}
 use Rattle.dav_notes_core.specs.Changes.{lacks_memory}
 use Rattle.dav_notes_core.specs.Noting.{Noted}
 use Rattle.dav_notes_core.specs.Stepping.{AnsweredBy, SameLiveStores}

@@ -2,10 +2,10 @@
 use Rattle.std.specs.Prelude.{◌≡◌, ◌≤◌, ◌<◌, ◌+◌, ◌-◌, ◌^◌, ℕ, List, Option, Bool, true, false, [], ◌∷◌, length, map, not, ◌&&◌, is_ok, if◌then◌else◌, refl}
 use Rattle.std.specs.Coded.{Coded, code_by, coded×, coded_bool, coded_list, coded_option, coded_ℕ}
 use Rattle.std.specs.List.{AllByRecursion}
-use Rattle.dav_resource_core.specs.Stores.{Stores, coded_stores}
+use Rattle.dav_guarded_core.specs.Stores.{Stores, coded_stores}
 use Rattle.dav_notes_core.specs.declared.notes.Note.{Note}
 use Rattle.dav_notes_core.specs.declared.senders.Sender.{Sender}
-use Rattle.dav_resource_core.specs.Requests.{Answer, Command}
+use Rattle.dav_guarded_core.specs.Requests.{Answer, Command}
 use Rattle.dav_notes_core.specs.Asking.{Caller, sender_of}
 use Rattle.dav_notes_core.specs.Changes.{is_look}
 use Rattle.dav_notes_core.specs.Costs.{cost_for, notes_cost}

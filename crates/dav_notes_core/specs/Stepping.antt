@@ -3,9 +3,9 @@ use Rattle.std.specs.Prelude.{◌≡◌, ℕ, List, Bool, true, false, Option, S
 use Rattle.rand_core.specs.Stream.{Stream, fill_bytes}
 use Rattle.dav_locks_core.specs.Stale.{without_stale}
 use Rattle.dav_locks_core.specs.Tokens.{token_from}
-use Rattle.dav_resource_core.specs.Requests.{Command, Request, Answer}
-use Rattle.dav_resource_core.specs.Step.{Step}
-use Rattle.dav_resource_core.specs.Stores.{Stores, state_of}
+use Rattle.dav_guarded_core.specs.Requests.{Command, Request, Answer}
+use Rattle.dav_guarded_core.specs.Step.{Step}
+use Rattle.dav_guarded_core.specs.Stores.{Stores, state_of}
 
 -- the next sixteen bytes of the generator are those; only of a lock that is to be granted it matters
 abbrev pub Draws : Command → Option (List ℕ) → Stream → Type 0

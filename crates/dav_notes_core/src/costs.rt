@@ -3,16 +3,16 @@ ghost use Rattle.std.specs.Prelude.{◌≡◌, ◌+◌, ℕ, Bool, List, Option,
 ghost use Rattle.std.specs.List.{sum_by};
 ghost use Rattle.dav_files_core.specs.Properties.{patch_update, property_of};
 ghost use Rattle.dav_path_core.specs.Segments.{segments};
-ghost use Rattle.dav_resource_core.specs.Requests.{Command as plain};
-ghost use Rattle.dav_resource_core.specs.Served.{command_of};
+ghost use Rattle.dav_guarded_core.specs.Requests.{Command as plain};
+ghost use Rattle.dav_guarded_core.specs.Served.{command_of};
 ghost use Rattle.dav_notes_core.specs.Asking.{sender_of};
 ghost use Rattle.dav_notes_core.specs.Costs.{in_eight_bytes, caller_cost, command_cost, cost_for};
 ghost use Rattle.dav_notes_core.specs.Costs.{patch_cost, path_cost, property_cost, text_cost};
 
 use crate::senders::Sender;
-use dav_resource_core::davpath::DavPath;
-use dav_resource_core::fs::DavProp;
-use dav_resource_core::guarded::Command;
+use dav_guarded_core::davpath::DavPath;
+use dav_guarded_core::fs::DavProp;
+use dav_guarded_core::guarded::Command;
 
 // What a note has beside its texts, at most.
 const FIXED: u64 = 104;

@@ -4,7 +4,7 @@ ghost use Rattle.dav_notes_core.specs.Drawing.{stream_giving};
 use rand_core::Rng;
 
 /// Gives these bytes to whoever draws sixteen, each time; nothing but zeros to others (own).
-#[derive(Debug, Drop)]
+#[derive(Drop)]
 pub struct Drawn {
     /// The bytes.
     pub bytes: [u8; 16],

@@ -1,11 +1,11 @@
 //! Why a note was not made.
 ghost use Rattle.std.specs.Prelude.{◌≡◌};
 
-use dav_resource_core::guarded::Refusal;
+use dav_guarded_core::guarded::Refusal;
 use std::alloc::AllocError;
 
 /// Why there is no room for a note (own).
-#[derive(Debug, Drop)]
+#[derive(Drop)]
 pub enum NoteError {
     /// There was no memory for it.
     OutOfMemory,
@@ -24,7 +24,7 @@ impl From<AllocError> for NoteError {
 }
 
 impl From<NoteError> for Refusal {
-    ghost use Rattle.dav_resource_core.specs.declared.guarded.requests.Refusal.TheVariants as refusal;
+    ghost use Rattle.dav_guarded_core.specs.declared.guarded.requests.Refusal.TheVariants as refusal;
 
     ghost from_gives = { λ _ r. r ≡ refusal.OutOfMemory };
 

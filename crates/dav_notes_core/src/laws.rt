@@ -1,9 +1,9 @@
 //! The laws of notes and of noted stores, over plain data. They do nothing.
 ghost use Rattle.std.specs.Prelude.{◌≡◌, ◌≤◌, ℕ, List, [], true, ◌∷◌, ◌++◌, ◌&&◌, is_ok, Option, Ok, Err};
 ghost use Rattle.rand_core.specs.Stream.{Stream};
-ghost use Rattle.dav_resource_core.specs.Requests as plain;
-ghost use Rattle.dav_resource_core.specs.Step.{Step};
-ghost use Rattle.dav_resource_core.specs.Stores.{Stores, state_of};
+ghost use Rattle.dav_guarded_core.specs.Requests as plain;
+ghost use Rattle.dav_guarded_core.specs.Step.{Step};
+ghost use Rattle.dav_guarded_core.specs.Stores.{Stores, state_of};
 ghost use Rattle.dav_notes_core.specs.Ahead.{ahead, drawn_on, was_granted};
 ghost use Rattle.dav_notes_core.specs.Asking.{Caller, asking};
 ghost use Rattle.dav_notes_core.specs.Changes.{grants, is_look};

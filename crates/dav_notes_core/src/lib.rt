@@ -1,4 +1,4 @@
-//! The stores of `dav_resource_core` with notes of the requests that changed them, and the playing of
+//! The stores of `dav_guarded_core` with notes of the requests that changed them, and the playing of
 //! notes again.
 #![tactic(auto)]
 

@@ -4,7 +4,7 @@ ghost use Rattle.std.specs.Prelude.{length, map, vec_len, vec_capacity, string_b
 ghost use Rattle.std.specs.Prelude.{IfErr, OnErr, ◌||◌, nat_le};
 ghost use Rattle.rand_core.specs.Stream.{fill_bytes};
 ghost use Rattle.dav_files_core.specs.Resources.{IsResourceMap};
-ghost use Rattle.dav_resource_core.specs.Served.{command_of, answer_of};
+ghost use Rattle.dav_guarded_core.specs.Served.{command_of, answer_of};
 ghost use Rattle.dav_notes_core.specs.Ahead.{drawn_on, was_granted};
 ghost use Rattle.dav_notes_core.specs.Asking.{also_naming, asking, sender_of};
 ghost use Rattle.dav_notes_core.specs.Changes.{is_look};
@@ -20,7 +20,7 @@ use crate::drawn::Drawn;
 use crate::error::NoteError;
 use crate::notes::{Note, apply_given, is_grant, is_look};
 use crate::senders::{Sender, add_token, drop_token, request_by, swap_asker, unasked};
-use dav_resource_core::guarded::{Command, Guarded, Refusal, Reply};
+use dav_guarded_core::guarded::{Command, Guarded, Refusal, Reply};
 use http_server::Log;
 use rand_core::Rng;
 use std::alloc::{AllocError, Global};

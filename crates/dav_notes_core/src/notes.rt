@@ -1,16 +1,16 @@
 //! What is noted of a request, and which requests are.
 ghost use Rattle.std.specs.Prelude.{◌≡◌, List, Option, ℕ};
 ghost use Rattle.dav_files_core.specs.Resources.{IsResourceMap};
-ghost use Rattle.dav_resource_core.specs.Served.{answer_of, command_of, request_of};
+ghost use Rattle.dav_guarded_core.specs.Served.{answer_of, command_of, request_of};
 ghost use Rattle.dav_notes_core.specs.Changes.{grants, is_look};
 ghost use Rattle.dav_notes_core.specs.Drawing.{stream_giving};
 ghost use Rattle.dav_notes_core.specs.Stepping.{AnsweredBy, Draws};
 
 use crate::drawn::Drawn;
-use dav_resource_core::guarded::{Command, Guarded, Refusal, Reply, Request};
+use dav_guarded_core::guarded::{Command, Guarded, Refusal, Reply, Request};
 
 /// A request that was done and may have changed something (own).
-#[derive(Debug, Drop)]
+#[derive(Drop)]
 pub struct Note {
     /// Who asked, with which tokens, when, and for what.
     pub request: Request,

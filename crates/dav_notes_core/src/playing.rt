@@ -1,8 +1,8 @@
 //! Notes that are played again, in order.
 ghost use Rattle.std.specs.Prelude.{◌≡◌, ℕ, ◌≤◌, List, map, IfErr, IfNone, IfSome, MatchResult, OnOk, Some};
 ghost use Rattle.rand_core.specs.Stream.{Stream};
-ghost use Rattle.dav_resource_core.specs.Served.{answer_of, command_of, refusal_of};
-ghost use Rattle.dav_resource_core.specs.Stores.{Stores};
+ghost use Rattle.dav_guarded_core.specs.Served.{answer_of, command_of, refusal_of};
+ghost use Rattle.dav_guarded_core.specs.Stores.{Stores};
 ghost use Rattle.dav_notes_core.specs.Changes.{lacks_memory};
 ghost use Rattle.dav_notes_core.specs.Drawing.{stream_giving};
 ghost use Rattle.dav_notes_core.specs.Noting.{note_of};
@@ -11,11 +11,11 @@ ghost use Rattle.dav_notes_core.specs.Private.Setbacks.{HoldsUp, setback_by};
 ghost use Rattle.dav_notes_core.specs.Stepping.{Draws, SameLiveStores};
 
 use crate::notes::{Note, apply_given, is_grant};
-use dav_resource_core::errors::FsError;
-use dav_resource_core::guarded::{Guarded, Refusal};
+use dav_guarded_core::errors::FsError;
+use dav_guarded_core::guarded::{Guarded, Refusal};
 
 /// Why notes were not played to their end (own).
-#[derive(Debug, Drop)]
+#[derive(Drop)]
 pub enum PlayError {
     /// There was no memory for one of them. Those before it are done.
     OutOfMemory,

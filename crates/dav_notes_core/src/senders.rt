@@ -1,16 +1,16 @@
 //! Who asks.
 ghost use Rattle.std.specs.Prelude.{◌≡◌, ℕ, List, IfOk, OnErr, OnOk, option_map, string_bytes};
-ghost use Rattle.dav_resource_core.specs.Served.{command_of, request_of};
+ghost use Rattle.dav_guarded_core.specs.Served.{command_of, request_of};
 ghost use Rattle.dav_notes_core.specs.Asking.{Caller, also_naming, asker_of, asking, nobody};
 ghost use Rattle.dav_notes_core.specs.Asking.{sender_of};
 
-use dav_resource_core::fs::Moment;
-use dav_resource_core::guarded::{Command, Request};
+use dav_guarded_core::fs::Moment;
+use dav_guarded_core::guarded::{Command, Request};
 use std::alloc::{AllocError, Global};
 use std::mem;
 
 /// Who asks (RFC 4918 sections 6.4 and 10.4).
-#[derive(Debug, Drop)]
+#[derive(Drop)]
 pub struct Sender {
     /// None where nobody is named.
     pub principal: Option<String>,

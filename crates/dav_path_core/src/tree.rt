@@ -421,20 +421,3 @@ impl<K: Eq + Hash + Clone, D> Tree<K, D> {
         unreachable!()
     }
 }
-
-#[cfg(test)]
-mod tests {
-    use super::*;
-    use std::test::Fail;
-
-    #[test]
-    fn gives_each_number_and_no_more(rt: HostRuntime) -> Result<(), Fail> {
-        let mut tree: Tree<u8, u8> = Tree::new(rt.alloc(), 0)?;
-        tree.next = u64::MAX - 1;
-        assert!(rt; tree.add_child(ROOT_ID, 1, 10, false)? == u64::MAX - 1);
-        assert!(rt; tree.add_child(ROOT_ID, 2, 20, false) == Err(FsError::InsufficientStorage));
-        assert!(rt; tree.next == u64::MAX);
-        assert!(rt; tree.get_child(ROOT_ID, &2) == Err(FsError::NotFound));
-        Ok(())
-    }
-}

@@ -1,10 +1,3 @@
-pub mod AloneLaws
-pub mod BelowLaws
-pub mod Frame
 pub mod LabelLemmas
 pub mod PlayingLaws
-pub mod RunLaws
-pub mod Serving
-pub mod StepLaws
-pub mod Telling
 pub mod Texts

@@ -17,13 +17,13 @@ use Rattle.rand_pcg.specs.Pcg.{pcg64, pcg64_of_seed}
 use Rattle.line_streams.specs.Lines.{lines}
 use Rattle.line_streams.proofs.LineLaws.{lines_step}
 use Rattle.std.proofs.Math.Seq.{take-append_seam}
-use Rattle.dav_resource_core.specs.declared.guarded.requests.Request.{Request}
+use Rattle.dav_guarded_core.specs.declared.guarded.requests.Request.{Request}
 use Rattle.dav_resource_core.specs.declared.davreplay.lines.Unread.{Unread}
 use Rattle.dav_resource_core.specs.declared.davreplay.lines.Unread.TheVariants.{Malformed, BadPath, OutOfMemory}
 use Rattle.dav_resource_core.specs.Private.Playing.{Played, PlaysLine, LinePlayed, LineStopped, LinesPlayed, AreLines, BeginWith, InputPlayed, PlayedPart, WroteNext}
 use Rattle.dav_resource_core.specs.Private.LineReading.{LineIs}
 use Rattle.dav_resource_core.specs.Replaying.{ReplayedPart, ReplayedTo, generator}
-use Rattle.dav_resource_core.specs.Stores.{Stores, start_stores, state_of}
+use Rattle.dav_guarded_core.specs.Stores.{Stores, start_stores, state_of}
 
 -- ---- a chain of lines
 

@@ -15,7 +15,7 @@ use Rattle.dav_files_core.specs.declared.memfs.Kind.TheVariants.{Folder, File}
 use Rattle.dav_files_core.specs.Meta.{Meta}
 use Rattle.dav_files_core.specs.Resources.{Property}
 use Rattle.dav_locks_core.specs.Lock.{Lock}
-use Rattle.dav_resource_core.specs.Requests.{Command, Reply, Done, Bytes, Entries, Meta as Known, Patched, Props, Value, Granted, Locks, Answer, Locked, NoLock, OutOfMemory, Fs}
+use Rattle.dav_guarded_core.specs.Requests.{Command, Reply, Done, Bytes, Entries, Meta as Known, Patched, Props, Value, Granted, Locks, Answer, Locked, NoLock, OutOfMemory, Fs}
 
 -- `ok`, and what is told behind it
 abbrev pub ok_line : List ℕ → List ℕ

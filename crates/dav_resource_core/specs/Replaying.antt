@@ -7,7 +7,7 @@ use Rattle.rand_core.specs.Steps.{steps_u64_low, stream_of}
 use Rattle.rand_core.specs.Stream.{Stream}
 use Rattle.rand_pcg.specs.Pcg.{pcg64, pcg64_of_seed}
 use Rattle.dav_resource_core.specs.Private.Playing.{Played, InputPlayed, PlayedPart}
-use Rattle.dav_resource_core.specs.Stores.{start_stores, state_of}
+use Rattle.dav_guarded_core.specs.Stores.{start_stores, state_of}
 
 -- what the generator gives that begins with this seed
 abbrev pub generator : ℕ → Stream

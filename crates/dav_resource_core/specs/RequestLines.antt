@@ -11,7 +11,7 @@ use Rattle.dav_headers_core.specs.CommaPieces.{is_comma}
 use Rattle.dav_path_core.specs.PathText.{PathText}
 use Rattle.dav_path_core.specs.Segments.{segments, is_nonempty}
 use Rattle.dav_files_core.specs.Resources.{Property}
-use Rattle.dav_resource_core.specs.Requests as plain
+use Rattle.dav_guarded_core.specs.Requests as plain
 use Rattle.line_streams.specs.Numerals.{numeral}
 
 -- a space

@@ -5,7 +5,7 @@ ghost use Rattle.std.specs.Io.KnownBytes.{Appends, Keeps};
 ghost use Rattle.std.specs.List.{concat};
 ghost use Rattle.dav_resource_core.specs.Private.Playing.{PlaysLine, LinePlayed, LineStopped, InputPlayed, PlayedPart};
 ghost use Rattle.dav_resource_core.specs.Replaying.{Replayed, ReplayedPart, ReplayedTo};
-ghost use Rattle.dav_resource_core.specs.Stores.{state_of};
+ghost use Rattle.dav_guarded_core.specs.Stores.{state_of};
 ghost use Rattle.dav_resource_core.specs.Seeds.{seed};
 
 mod answers;
@@ -14,7 +14,7 @@ mod lines;
 mod names;
 mod playing;
 
-use crate::guarded::{Guarded, Request};
+use dav_guarded_core::guarded::{Guarded, Request};
 use dav_files_core::fs::Moment;
 use labels::Labels;
 use line_streams::numbers::number;

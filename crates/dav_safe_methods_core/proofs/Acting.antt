@@ -1,7 +1,7 @@
 -- Requests that follow one another, of which some do more than others.
 use Rattle.std.proofs.Common.{◌∙◌, subst, sym}
 use Rattle.rand_core.specs.Stream.{Stream}
-use Rattle.dav_resource_core.specs.Step.{State}
+use Rattle.dav_guarded_core.specs.Step.{State}
 use Rattle.dav_session_core.specs.declared.session.Session.{Session}
 use Rattle.dav_session_core.specs.Callers.{Asks, Caller}
 use Rattle.dav_session_core.specs.Sessions.{Acts, Looks, Requests, caller, live_of, state, Ran}

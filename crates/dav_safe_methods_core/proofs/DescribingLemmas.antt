@@ -10,7 +10,7 @@ use Rattle.dav_files_core.specs.Properties.{get_props, shown_property}
 use Rattle.dav_files_core.specs.Resources.{Property, Resource, ResourceMap, at_path}
 use Rattle.dav_locks_core.specs.Lock.{Lock}
 use Rattle.dav_locks_core.specs.Locks.{discovered_locks}
-use Rattle.dav_resource_core.specs.Step.{State}
+use Rattle.dav_guarded_core.specs.Step.{State}
 use Rattle.dav_safe_methods_core.specs.PropertyAnswers.{Describes, IsDescribed}
 use Rattle.dav_documents_core.specs.PropertyDocuments.{Description}
 

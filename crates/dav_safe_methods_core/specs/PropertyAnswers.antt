@@ -8,7 +8,7 @@ use Rattle.dav_files_core.specs.Meta.{Meta, meta_at}
 use Rattle.dav_files_core.specs.Resources.{Property, Resource, at_path, is_folder}
 use Rattle.dav_locks_core.specs.Lock.{Lock}
 use Rattle.dav_locks_core.specs.Locks.{discovered_locks}
-use Rattle.dav_resource_core.specs.Step.{State}
+use Rattle.dav_guarded_core.specs.Step.{State}
 use Rattle.dav_fields_core.specs.ContentTypes.{content_type}
 use Rattle.dav_fields_core.specs.Dates.{IsHttpDate, IsInternetDate}
 use Rattle.dav_fields_core.specs.FileTags.{file_tag}

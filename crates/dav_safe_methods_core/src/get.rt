@@ -28,10 +28,10 @@ use dav_fields_core::fields::{
 };
 use dav_fields_core::preconditions::{Course, read_course};
 use dav_fields_core::ranges::{Extent, extent_of};
-use dav_resource_core::davpath::DavPath;
-use dav_resource_core::fs::DavMetaData;
-use dav_resource_core::memfs::MemFsMeta;
-use dav_resource_core::util::DavMethod;
+use dav_guarded_core::davpath::DavPath;
+use dav_guarded_core::fs::DavMetaData;
+use dav_guarded_core::memfs::MemFsMeta;
+use dav_guarded_core::util::DavMethod;
 use dav_session_core::session::{Session, copy_of};
 use http::StatusCode;
 use http_header::{HeaderMap, HeaderValue};

@@ -5,9 +5,9 @@ ghost use Rattle.dav_path_core.specs.Url.{url};
 ghost use Rattle.dav_files_core.specs.Listing.{listed_entry};
 ghost use Rattle.dav_safe_methods_core.specs.FolderPages as spec;
 
-use dav_resource_core::davpath::{DavPath, escaped};
-use dav_resource_core::fs::DavDirEntry;
-use dav_resource_core::memfs::MemFsEntry;
+use dav_guarded_core::davpath::{DavPath, escaped};
+use dav_guarded_core::fs::DavDirEntry;
+use dav_guarded_core::memfs::MemFsEntry;
 use std::alloc::{AllocError, Global};
 
 /// An HTML page with a link to each member of a folder, in order. Names are escaped in links and in

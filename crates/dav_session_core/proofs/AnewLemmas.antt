@@ -8,7 +8,7 @@ use Rattle.dav_path_core.proofs.lists.MemberLemmas.{Contains-In, In, In-filter}
 use Rattle.dav_path_core.proofs.paths.FrontLemmas.{is_front-refl, is_front-trans, is_same_path-same}
 use Rattle.dav_locks_core.specs.Lock.{Lock}
 use Rattle.dav_locks_core.specs.Locks.{LockCaller as LocksCaller, any_held, covering_at, covering_from, covers, discovered_locks, height, is_held_by, is_at_or_below, lock_path, refuses_change, without_below}
-use Rattle.dav_resource_core.specs.Step.{State}
+use Rattle.dav_guarded_core.specs.Step.{State}
 use Rattle.dav_session_core.specs.Callers.{Caller, as_caller}
 use Rattle.dav_session_core.specs.Clearing.{refusing_anew}
 use Rattle.dav_session_core.specs.Private.Anew.{any_leads, leads_to, refuses_anew, with_tokens}

@@ -10,12 +10,12 @@ use Rattle.dav_documents_core.specs.PropertyUpdates.{Update}
 use Rattle.dav_locks_core.specs.Exclusive.{Exclusive}
 use Rattle.dav_locks_core.specs.Lock.{Lock}
 use Rattle.dav_locks_core.specs.Locks.{lock_conflicts}
-use Rattle.dav_resource_core.specs.Requests.{Answer, Command, Locked, Refusal, OutOfMemory}
-use Rattle.dav_resource_core.specs.Served.{answer_of, refusal_of}
-use Rattle.dav_resource_core.specs.Step.{Serves, State, Step}
-use Rattle.dav_resource_core.specs.declared.guarded.requests.Refusal as served_refusal
-use Rattle.dav_resource_core.specs.declared.guarded.requests.Reply as served
-use Rattle.dav_resource_core.proofs.StepLaws.{Same-refl}
+use Rattle.dav_guarded_core.specs.Requests.{Answer, Command, Locked, Refusal, OutOfMemory}
+use Rattle.dav_guarded_core.specs.Served.{answer_of, refusal_of}
+use Rattle.dav_guarded_core.specs.Step.{Serves, State, Step}
+use Rattle.dav_guarded_core.specs.declared.guarded.requests.Refusal as served_refusal
+use Rattle.dav_guarded_core.specs.declared.guarded.requests.Reply as served
+use Rattle.dav_guarded_core.proofs.StepLaws.{Same-refl}
 use Rattle.dav_faults_core.specs.declared.faults.Fault.TheVariants as fault
 use Rattle.dav_session_core.specs.declared.session.Session.{Session}
 use Rattle.dav_session_core.specs.Callers.{Asked, AskedNaming, Asks, Caller, KeepsApart, RunBy, Runs, SameLive, also_naming, asking, changes_locks, is_look, live}

@@ -15,18 +15,18 @@ use Rattle.dav_files_core.specs.ContentParts.{read_at}
 use Rattle.dav_files_core.specs.Properties.{get_props, get_prop}
 use Rattle.dav_files_core.specs.Resources.{Resource, ResourceMap, at_path}
 use Rattle.dav_locks_core.proofs.laws.StaleLemmas.{stale_once}
-use Rattle.dav_resource_core.specs.Requests.{Command, Reply, Meta, Bytes, Entries, Props, Value, Answer, Refusal, Fs, Locked, NoLock, OutOfMemory}
-use Rattle.dav_resource_core.specs.ResourceStep.{tells, MayLackOnMap}
-use Rattle.dav_resource_core.specs.Step.{State, Same, Effect, Step, Run}
-use Rattle.dav_resource_core.proofs.Frame.{told_left}
-use Rattle.dav_resource_core.proofs.RunLaws.{run_join}
-use Rattle.dav_resource_core.proofs.StepLaws.{Same-equal, Same-refl, outcome}
+use Rattle.dav_guarded_core.specs.Requests.{Command, Reply, Meta, Bytes, Entries, Props, Value, Answer, Refusal, Fs, Locked, NoLock, OutOfMemory}
+use Rattle.dav_guarded_core.specs.ResourceStep.{tells, MayLackOnMap}
+use Rattle.dav_guarded_core.specs.Step.{State, Same, Effect, Step, Run}
+use Rattle.dav_guarded_core.proofs.Frame.{told_left}
+use Rattle.dav_guarded_core.proofs.RunLaws.{run_join}
+use Rattle.dav_guarded_core.proofs.StepLaws.{Same-equal, Same-refl, outcome}
 use Rattle.dav_faults_core.specs.declared.faults.Fault.{Fault}
 use Rattle.dav_faults_core.specs.declared.faults.Fault.TheVariants as fault
 use Rattle.dav_session_core.specs.StoreRefusals.{list_fault}
 use Rattle.dav_session_core.specs.Callers.{Asks, Caller, RunBy, asking, changes_locks, is_look, live, SameLive}
 use Rattle.dav_session_core.proofs.CallerLaws.{asks_of}
-use Rattle.dav_resource_core.proofs.Telling.{list_refused, meta_missing}
+use Rattle.dav_guarded_core.proofs.Telling.{list_refused, meta_missing}
 
 -- ---- runs that follow one another
 

@@ -17,11 +17,11 @@ use Rattle.dav_locks_core.specs.Lock.{Lock}
 use Rattle.dav_locks_core.specs.Locks.{covers, is_at_or_below}
 use Rattle.dav_locks_core.specs.Stale.{is_stale}
 use Rattle.dav_locks_core.proofs.laws.StandInLemmas.{In-StandIn, StandIn-trans, StandIn-filtered}
-use Rattle.dav_resource_core.specs.Naming.{unlocks, refreshes, touched_in, touches}
-use Rattle.dav_resource_core.specs.Requests.{Command, Request, Reply, Answer}
-use Rattle.dav_resource_core.specs.Step.{Effect, State, Step, Run, start_of}
-use Rattle.dav_resource_core.proofs.RunLaws.{keeps_locks, run_join, run_shape}
-use Rattle.dav_resource_core.proofs.StepLaws.{Same-refl, outcome, step_any_isolated, step_exclusive, step_stands}
+use Rattle.dav_guarded_core.specs.Naming.{unlocks, refreshes, touched_in, touches}
+use Rattle.dav_guarded_core.specs.Requests.{Command, Request, Reply, Answer}
+use Rattle.dav_guarded_core.specs.Step.{Effect, State, Step, Run, start_of}
+use Rattle.dav_guarded_core.proofs.RunLaws.{keeps_locks, run_join, run_shape}
+use Rattle.dav_guarded_core.proofs.StepLaws.{Same-refl, outcome, step_any_isolated, step_exclusive, step_stands}
 use Rattle.dav_session_core.proofs.AnewLemmas.{of_filter}
 use Rattle.dav_session_core.specs.Callers.{Asks, Caller, HoldsAbove, RunBy, Runs, KeepsApart, asking, changes_locks, holds}
 

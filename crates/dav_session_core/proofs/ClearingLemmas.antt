@@ -12,7 +12,7 @@ use Rattle.dav_files_core.specs.declared.memfs.Kind.TheVariants.{Folder}
 use Rattle.dav_files_core.specs.Meta.{Meta}
 use Rattle.dav_files_core.specs.Resources.{ResourceMap, at_path}
 use Rattle.dav_locks_core.specs.Stale.{without_stale}
-use Rattle.dav_resource_core.specs.Step.{State}
+use Rattle.dav_guarded_core.specs.Step.{State}
 use Rattle.dav_faults_core.specs.declared.faults.Fault.{Fault}
 use Rattle.dav_session_core.specs.Callers.{Caller, SameLive, live}
 use Rattle.dav_session_core.specs.Clearing.{IsCleared, refusing_anew, refusing_clearing}

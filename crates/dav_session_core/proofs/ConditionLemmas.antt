@@ -5,7 +5,7 @@ use Rattle.std.specs.Option.{option_or}
 use Rattle.url.specs.Parts.{Parts}
 use Rattle.dav_path_core.specs.Fronts.{Path}
 use Rattle.dav_headers_core.specs.IfValues.{Located}
-use Rattle.dav_resource_core.specs.Step.{State}
+use Rattle.dav_guarded_core.specs.Step.{State}
 use Rattle.dav_session_core.specs.Callers.{Caller, RunBy, SameLive, live}
 use Rattle.dav_session_core.specs.Conditions.{ListsAre, conditions_hold}
 use Rattle.dav_fields_core.specs.TaggedLists.{Base, SpeaksOf, spread_from}
@@ -20,20 +20,9 @@ pub record Looks (who : Caller) (s : State) (after : Caller) (s' : State) : Type
   pub live : SameLive who.now s s'
   pub caller : after ≡ who
 
-pub looks_none : (who : Caller) (s : State) → Looks who s who s
-looks_none who s = record { run = by_none who s; live = refl; caller = refl }
-
 -- what lasts is the same in the middle
 pub same_state : (who : Caller) (s : State) (mid : Caller) (m : State) → Looks who s mid m → live mid.now m ≡ live who.now s
 same_state who s mid m h = ap (λ (w : Caller). live w.now m) h.caller ∙ h.live
-
-pub looks_on : (who : Caller) (s : State) (mid : Caller) (m : State) (after : Caller) (s' : State) → Looks who s mid m → RunBy mid m s' → SameLive mid.now m s' → after ≡ mid
-    → Looks who s after s'
-looks_on who s mid m after s' h run same caller = record {
-  run = by_join who s m s' h.run (subst (λ w. RunBy w m s') h.caller run);
-  live = subst (λ (w : Caller). SameLive w.now m s') h.caller same ∙ h.live;
-  caller = caller ∙ h.caller;
-}
 
 -- ---- conditions one after another
 

@@ -10,7 +10,7 @@ use Rattle.dav_files_core.specs.Resources.{ResourceMap}
 use Rattle.dav_headers_core.specs.IfBytes.{Token, Condition}
 use Rattle.dav_headers_core.specs.IfValues.{Located}
 use Rattle.dav_locks_core.specs.Lock.{Lock}
-use Rattle.dav_resource_core.specs.Step.{State}
+use Rattle.dav_guarded_core.specs.Step.{State}
 use Rattle.dav_session_core.specs.Conditions.{conditions_hold, untagged_list}
 use Rattle.dav_fields_core.specs.IfTokens.{tokens_of}
 use Rattle.dav_fields_core.specs.TaggedLists.{spread_tags}

@@ -14,11 +14,11 @@ use Rattle.dav_files_core.specs.Outcomes.{Outcome, ◌>>=◌, with_new_entry, wi
 use Rattle.dav_files_core.specs.Resources.{IsResourceMap, Node, Resource, ResourceMap, at_path}
 use Rattle.dav_files_core.proofs.changes.MakingLemmas.{folder_found}
 use Rattle.dav_files_core.proofs.moves.MovingLemmas.{front_there}
-use Rattle.dav_resource_core.specs.Checks.{refusing, target}
-use Rattle.dav_resource_core.specs.Requests.{Answer, Command, Reply, Fs, Locked, NoLock, OutOfMemory}
-use Rattle.dav_resource_core.specs.Step.{Serves, State, Step}
-use Rattle.dav_resource_core.proofs.Frame.{change_left}
-use Rattle.dav_resource_core.proofs.StepLaws.{Same-equal}
+use Rattle.dav_guarded_core.specs.Checks.{refusing, target}
+use Rattle.dav_guarded_core.specs.Requests.{Answer, Command, Reply, Fs, Locked, NoLock, OutOfMemory}
+use Rattle.dav_guarded_core.specs.Step.{Serves, State, Step}
+use Rattle.dav_guarded_core.proofs.Frame.{change_left}
+use Rattle.dav_guarded_core.proofs.StepLaws.{Same-equal}
 use Rattle.dav_session_core.specs.Callers.{Caller, as_caller, asking}
 use Rattle.dav_session_core.specs.Copying.{copies_made, created_at, node_at}
 use Rattle.dav_session_core.specs.Ends.{HasFolder}

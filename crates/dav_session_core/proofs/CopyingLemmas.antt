@@ -13,9 +13,9 @@ use Rattle.dav_files_core.specs.Resources.{Node, Resource, ResourceMap, at_path}
 use Rattle.dav_files_core.proofs.walks.FoundLemmas.{parent-snoc}
 use Rattle.dav_locks_core.specs.Lock.{Lock}
 use Rattle.dav_locks_core.specs.Locks.{LockCaller as LocksCaller, check_conflicts}
-use Rattle.dav_resource_core.specs.Checks.{Check, has, member, refusing, shallow, target}
-use Rattle.dav_resource_core.specs.Requests.{Answer, Command, Reply}
-use Rattle.dav_resource_core.specs.Step.{State, Step}
+use Rattle.dav_guarded_core.specs.Checks.{Check, has, member, refusing, shallow, target}
+use Rattle.dav_guarded_core.specs.Requests.{Answer, Command, Reply}
+use Rattle.dav_guarded_core.specs.Step.{State, Step}
 use Rattle.dav_session_core.specs.Callers.{Caller, as_caller, asking, live}
 use Rattle.dav_session_core.specs.Copying.{IsCopied, IsPartlyCopied, IsReady, source_and_target, copy_at, created_at, is_copied, node_at, NotCopied}
 use Rattle.dav_session_core.specs.Ends.{HasFolder}

@@ -14,11 +14,11 @@ use Rattle.dav_path_core.proofs.lists.MemberLemmas.{In-Contains, Contains-In, fi
 use Rattle.dav_path_core.proofs.paths.FrontLemmas.{is_front-refl, is_front-trans}
 use Rattle.dav_locks_core.specs.Lock.{Lock}
 use Rattle.dav_locks_core.specs.Locks.{better, covers, discovered_locks, found_token, found_from, found_here, height, lock_conflicts, lock_path}
-use Rattle.dav_resource_core.specs.Requests.{Command, Granted, Refusal, Reply}
-use Rattle.dav_resource_core.specs.Served.{answer_of, refusal_of, reply_of}
-use Rattle.dav_resource_core.specs.declared.guarded.requests.Reply as served
-use Rattle.dav_resource_core.specs.declared.guarded.requests.Refusal as served_refusal
-use Rattle.dav_resource_core.specs.Step.{Serves, State, Step}
+use Rattle.dav_guarded_core.specs.Requests.{Command, Granted, Refusal, Reply}
+use Rattle.dav_guarded_core.specs.Served.{answer_of, refusal_of, reply_of}
+use Rattle.dav_guarded_core.specs.declared.guarded.requests.Reply as served
+use Rattle.dav_guarded_core.specs.declared.guarded.requests.Refusal as served_refusal
+use Rattle.dav_guarded_core.specs.Step.{Serves, State, Step}
 use Rattle.dav_faults_core.specs.declared.faults.Fault.TheVariants as fault
 use Rattle.dav_session_core.specs.Callers.{Caller, asking, live}
 use Rattle.dav_fields_core.specs.IfTokens.{is_among}
@@ -34,18 +34,6 @@ use Rattle.dav_locks_core.proofs.answers.CoveringTokens.{any_discovered}
 module _ (who : Caller) (s s' : State) (path : PathText) (owner : Option (List ℕ)) (timeout : Option ℕ) (shared deep : Bool) where
   abbrev Wants : Command
   Wants = Command.Lock path owner timeout shared deep
-
-  pub granted_is : (lock : Lock) → Step s (asking who Wants) (Ok (Granted lock)) s' → lock ≡ granted_lock (live who.now s) who path owner timeout shared deep
-  granted_is lock h =
-      let new = granted_lock (live who.now s) who path owner timeout shared deep in
-      let same : Granted lock ≡ Granted new = h.1.0 in cc
-
-  pub granted_left : (lock : Lock) → Step s (asking who Wants) (Ok (Granted lock)) s' → s' ≡ with_lock (live who.now s) lock
-  granted_left lock h =
-      let left = h.1.1 in
-      let new = granted_lock (live who.now s) who path owner timeout shared deep in
-      let all : s' ≡ with_lock (live who.now s) new = rw (sym left.map_is, sym left.locks_are, sym left.rng_is) refl in
-      all ∙ ap (with_lock (live who.now s)) (sym (granted_is lock h))
 
   pub conflict_shown : (l : Lock) → Step s (asking who Wants) (Err (Refusal.Locked l)) s'
       → IsConflictOf (lock_conflicts (live who.now s).locks (segments path.bytes) shared deep) (fault.ConflictingLock l.path)

@@ -2,8 +2,8 @@
 use Rattle.std.proofs.Common.{◌≡◌, true, false, refl, sym, ap, subst, ◌∙◌}
 use Rattle.std.proofs.lemmas.Bool.{false≢true}
 use Rattle.rand_core.specs.Stream.{Stream}
-use Rattle.dav_resource_core.specs.Requests.{Command}
-use Rattle.dav_resource_core.specs.Step.{State}
+use Rattle.dav_guarded_core.specs.Requests.{Command}
+use Rattle.dav_guarded_core.specs.Step.{State}
 use Rattle.dav_session_core.specs.declared.session.Session.{Session}
 use Rattle.dav_session_core.specs.Callers.{Asks, Caller, RunBy, changes_locks, is_look, live}
 use Rattle.dav_session_core.specs.Sessions.{Acts, IsAsBefore, Looks, Requests, caller, state}

@@ -23,9 +23,9 @@ use Rattle.dav_files_core.proofs.laws.DoneLemmas.{touched_none, touched_other}
 use Rattle.dav_files_core.proofs.moves.MovedLemmas.{moved_from, moved_other, moved_to}
 use Rattle.dav_files_core.proofs.walks.FoundLemmas.{find_there, parent-snoc}
 use Rattle.dav_files_core.proofs.walks.HasMembersLemmas.{has_none}
-use Rattle.dav_resource_core.specs.Requests.{Command, Reply, Refusal, Fs, Locked, NoLock, OutOfMemory}
-use Rattle.dav_resource_core.specs.Step.{Same, Serves, State}
-use Rattle.dav_resource_core.proofs.Frame.{change_left}
+use Rattle.dav_guarded_core.specs.Requests.{Command, Reply, Refusal, Fs, Locked, NoLock, OutOfMemory}
+use Rattle.dav_guarded_core.specs.Step.{Same, Serves, State}
+use Rattle.dav_guarded_core.proofs.Frame.{change_left}
 use Rattle.dav_session_core.specs.Callers.{Caller, asking}
 use Rattle.dav_session_core.specs.Clearing.{refusing_clearing}
 use Rattle.dav_session_core.specs.Ends.{HasFolder, is_related}

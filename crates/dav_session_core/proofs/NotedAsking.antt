@@ -2,9 +2,9 @@
 use Rattle.std.proofs.Common.{◌≡◌, ◌≤◌, ℕ, Bool, true, List, sym, ◌∙◌, ap, subst}
 use Rattle.std.proofs.lemmas.Bool.{false_from_ne_true}
 use Rattle.rand_core.specs.Stream.{Stream, fill_bytes}
-use Rattle.dav_resource_core.specs.Requests.{Answer, Command, Refusal, OutOfMemory}
-use Rattle.dav_resource_core.specs.Step.{Step}
-use Rattle.dav_resource_core.specs.Stores.{Stores, state_of}
+use Rattle.dav_guarded_core.specs.Requests.{Answer, Command, Refusal, OutOfMemory}
+use Rattle.dav_guarded_core.specs.Step.{Step}
+use Rattle.dav_guarded_core.specs.Stores.{Stores, state_of}
 use Rattle.dav_notes_core.specs.Ahead.{ahead, drawn_on, was_granted}
 use Rattle.dav_notes_core.specs.Noting.{drawn_for}
 use Rattle.dav_notes_core.specs.Seen.{Seen}

@@ -7,7 +7,7 @@ use Rattle.dav_path_core.specs.Fronts.{Path}
 use Rattle.dav_path_core.specs.PathText.{PathText}
 use Rattle.dav_path_core.specs.Segments.{segments}
 use Rattle.dav_headers_core.specs.IfValues.{Located}
-use Rattle.dav_resource_core.specs.Step.{State}
+use Rattle.dav_guarded_core.specs.Step.{State}
 use Rattle.dav_fields_core.specs.TaggedLists.{Base, IsNamed, SpeaksOf, spread_tags}
 use Rattle.dav_fields_core.proofs.OnePathLaws.{one_path}
 use Rattle.dav_session_core.specs.Conditions.{IfIs, NoneHolds, OneHolds, conditions_hold}

@@ -10,8 +10,8 @@ use Rattle.dav_path_core.proofs.paths.FrontLemmas.{is_front-refl, is_front-trans
 use Rattle.dav_locks_core.specs.Lock.{Lock}
 use Rattle.dav_locks_core.specs.Locks.{lock_path, covers, found_token, found_from, found_here, better, height}
 use Rattle.dav_locks_core.proofs.laws.EndedLemmas.{found_at, found_from_at}
-use Rattle.dav_resource_core.specs.Requests.{Answer, Command, Reply, Refusal, Fs, Locked, NoLock, OutOfMemory}
-use Rattle.dav_resource_core.specs.Step.{IsState, Serves, State}
+use Rattle.dav_guarded_core.specs.Requests.{Answer, Command, Reply, Refusal, Fs, Locked, NoLock, OutOfMemory}
+use Rattle.dav_guarded_core.specs.Step.{IsState, Serves, State}
 use Rattle.dav_session_core.specs.Callers.{Caller, asking, is_own, live}
 use Rattle.dav_faults_core.specs.declared.faults.Fault.{Fault}
 use Rattle.dav_faults_core.specs.declared.faults.Fault.TheVariants as fault

@@ -11,9 +11,9 @@ use Rattle.dav_files_core.specs.Finding.{refusal_at}
 use Rattle.dav_files_core.specs.Outcomes.{Outcome, ◌>>=◌, with_other_node}
 use Rattle.dav_files_core.specs.Properties.{patch_answers, patch_props, patched_properties}
 use Rattle.dav_files_core.specs.Resources.{Resource, ResourceMap, at_path}
-use Rattle.dav_resource_core.specs.Requests.{Command, Reply, Refusal, Fs, Locked, NoLock, OutOfMemory}
-use Rattle.dav_resource_core.specs.ResourceStep.{patches}
-use Rattle.dav_resource_core.specs.Step.{State, Serves}
+use Rattle.dav_guarded_core.specs.Requests.{Command, Reply, Refusal, Fs, Locked, NoLock, OutOfMemory}
+use Rattle.dav_guarded_core.specs.ResourceStep.{patches}
+use Rattle.dav_guarded_core.specs.Step.{State, Serves}
 use Rattle.dav_session_core.specs.Callers.{Caller, asking, refusing_at}
 use Rattle.dav_session_core.specs.Patching.{IsPatched, KeepsProperties, with_updates}
 use Rattle.dav_session_core.specs.PatchRefusals.{patch_fault}

@@ -23,12 +23,6 @@ stands_at view m xs i x lt is all =
     let at : get_or (map view xs) i (view x) ≡ view x = get_or-map view xs i x (view x) lt ∙ ap view (sym is) in
     all (view x) (subst (Contains (map view xs)) at (Contains-get_or (map view xs) i (view x) below))
 
-pub one_stands : (m : ResourceMap) (p : Path) (places : List Path) → places ≡ p ∷ [] → IsSome (at_path m p) → AllStand m places
-one_stands m p places is here = subst (AllStand m) (sym is) (λ q c. elim (In-Contains (p ∷ []) q c) [
-  | inl same ↦ subst (λ r. IsSome (at_path m r)) same here
-  | inr none ↦ absurd none
-])
-
 pub members_stand : (m : ResourceMap) (p : Path) (places : List Path)
     → places ≡ p ∷ paths_of_members m p → IsSome (at_path m p) → AllStand m places
 members_stand m p places is here = subst (AllStand m) (sym is)

@@ -9,9 +9,9 @@ use Rattle.dav_files_core.specs.Meta.{Meta}
 use Rattle.dav_files_core.specs.Resources.{Resource, ResourceMap, at_path}
 use Rattle.dav_locks_core.specs.Lock.{Lock}
 use Rattle.dav_locks_core.specs.Locks.{check_conflicts}
-use Rattle.dav_resource_core.specs.Requests.{Command, Answer, Locked}
-use Rattle.dav_resource_core.specs.ResourceStep.{changes}
-use Rattle.dav_resource_core.specs.Step.{State, Serves, Step, IsState}
+use Rattle.dav_guarded_core.specs.Requests.{Command, Answer, Locked}
+use Rattle.dav_guarded_core.specs.ResourceStep.{changes}
+use Rattle.dav_guarded_core.specs.Step.{State, Serves, Step, IsState}
 use Rattle.dav_faults_core.specs.declared.faults.Fault.{Fault}
 use Rattle.dav_faults_core.specs.declared.faults.Fault.TheVariants as fault
 use Rattle.dav_session_core.specs.Callers.{Caller, SameLive, as_caller, asking, live}

@@ -9,9 +9,9 @@ use Rattle.dav_path_core.specs.Fronts.{Path}
 use Rattle.dav_path_core.proofs.lists.MemberLemmas.{In}
 use Rattle.dav_path_core.proofs.lists.PlaceLemmas.{map-filter}
 use Rattle.dav_locks_core.specs.Locks.{discovered_locks}
-use Rattle.dav_resource_core.specs.Requests.{Command, Reply, Refusal, Locks, Fs, Locked, NoLock, OutOfMemory}
-use Rattle.dav_resource_core.specs.Step.{Same, Serves, State, Step}
-use Rattle.dav_resource_core.proofs.StepLaws.{Same-equal}
+use Rattle.dav_guarded_core.specs.Requests.{Command, Reply, Refusal, Locks, Fs, Locked, NoLock, OutOfMemory}
+use Rattle.dav_guarded_core.specs.Step.{Same, Serves, State, Step}
+use Rattle.dav_guarded_core.proofs.StepLaws.{Same-equal}
 use Rattle.dav_session_core.specs.Callers.{Asks, Caller, RunBy, asking, live}
 use Rattle.dav_session_core.specs.Private.Owning.{AllOwn}
 use Rattle.dav_session_core.specs.Refreshing.{RefreshesOwn}
@@ -43,16 +43,6 @@ refused_run who c p s s' e h = by_one who s s' (Command.Discover p) (Ok (Locks (
     left (Locked l) h = h.1
     left NoLock h = h.1
     left OutOfMemory h = h.1
-
--- ---- behind questions of the same caller
-
-module _ (who : Caller) (s : State) (asker : Caller) (a : State) (looks : Looks who s asker a) where
-  -- what holds of what they left holds of what they found
-  pub as_found : (P : State → Caller → Type 0) → P (live asker.now a) asker → P (live who.now s) who
-  as_found P h = subst (λ (t : State). P t who) (same_state who s asker a looks) (subst (λ (w : Caller). P (live asker.now a) w) looks.caller h)
-
-  pub asks_behind : (s' : State) → Asks asker a s' → Asks who s s'
-  asks_behind s' h = asks_join who s a s' (asks_of who s a looks.run) (subst (λ (w : Caller). Asks w a s') looks.caller h)
 
 -- ---- what a filter keeps
 

@@ -8,7 +8,7 @@ use Rattle.dav_path_core.specs.Fronts.{Path, parent}
 use Rattle.dav_files_core.specs.Folders.{is_root}
 use Rattle.dav_locks_core.specs.Lock.{Lock}
 use Rattle.dav_locks_core.specs.Locks.{check_conflicts}
-use Rattle.dav_resource_core.specs.Step.{State}
+use Rattle.dav_guarded_core.specs.Step.{State}
 use Rattle.dav_faults_core.specs.declared.faults.Fault.{Fault}
 use Rattle.dav_session_core.specs.Callers.{Caller, SameLive, as_caller, live}
 use Rattle.dav_session_core.specs.LocksInTheWay.{IsRefusedBy}

@@ -24,11 +24,11 @@ use Rattle.dav_files_core.proofs.laws.DoneLemmas.{touched_none, touched_other}
 use Rattle.dav_locks_core.specs.Lock.{Lock}
 use Rattle.dav_locks_core.specs.Locks.{LockCaller as LocksCaller, any_held, check_conflicts, covers, is_held_by, is_at_or_below, lock_path, refuses_change, without_below}
 use Rattle.dav_locks_core.specs.Stale.{is_stale, without_stale}
-use Rattle.dav_resource_core.specs.Checks.{member, refusing}
-use Rattle.dav_resource_core.specs.Requests.{Answer, Command, Fs, Locked, NoLock, OutOfMemory}
-use Rattle.dav_resource_core.specs.ResourceStep.{MayLackOnMap, changes}
-use Rattle.dav_resource_core.specs.Step.{Serves, State, Step}
-use Rattle.dav_resource_core.proofs.Frame.{change_left}
+use Rattle.dav_guarded_core.specs.Checks.{member, refusing}
+use Rattle.dav_guarded_core.specs.Requests.{Answer, Command, Fs, Locked, NoLock, OutOfMemory}
+use Rattle.dav_guarded_core.specs.ResourceStep.{MayLackOnMap, changes}
+use Rattle.dav_guarded_core.specs.Step.{Serves, State, Step}
+use Rattle.dav_guarded_core.proofs.Frame.{change_left}
 use Rattle.dav_session_core.specs.Callers.{Caller, as_caller, asking, live}
 use Rattle.dav_session_core.specs.Removing.{IsRemoved, refusing_removal}
 use Rattle.dav_session_core.proofs.WalkOrderLemmas.{not_above}

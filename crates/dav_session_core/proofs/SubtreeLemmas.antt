@@ -20,7 +20,7 @@ use Rattle.dav_files_core.specs.Resources.{Resource, ResourceMap, at_path, IsRes
 use Rattle.dav_files_core.proofs.listings.MemberLemmas.{get-members}
 use Rattle.dav_files_core.proofs.moves.MovingLemmas.{front_there}
 use Rattle.dav_files_core.proofs.walks.HasMembersLemmas.{has_none}
-use Rattle.dav_resource_core.specs.Step.{State}
+use Rattle.dav_guarded_core.specs.Step.{State}
 use Rattle.dav_faults_core.specs.declared.faults.Fault.{Fault}
 use Rattle.dav_faults_core.specs.declared.faults.Fault.TheVariants as fault
 use Rattle.dav_session_core.specs.Callers.{Caller}

@@ -11,9 +11,9 @@ use Rattle.dav_locks_core.specs.Exclusive.{Exclusive}
 use Rattle.dav_locks_core.specs.Lock.{Lock}
 use Rattle.dav_locks_core.specs.Locks.{LockCaller as LocksCaller, check_conflicts, covers, is_held_by, same_text}
 use Rattle.dav_locks_core.specs.Stale.{is_stale}
-use Rattle.dav_resource_core.specs.Requests.{Command, Request, Answer, Refusal, OutOfMemory}
-use Rattle.dav_resource_core.specs.Step.{State, Run, Step}
-use Rattle.dav_resource_core.specs.Stores.{state_of}
+use Rattle.dav_guarded_core.specs.Requests.{Command, Request, Answer, Refusal, OutOfMemory}
+use Rattle.dav_guarded_core.specs.Step.{State, Run, Step}
+use Rattle.dav_guarded_core.specs.Stores.{state_of}
 use Rattle.dav_notes_core.specs.Stepping.{live_stores}
 pub use Rattle.dav_notes_core.specs.Asking.{Caller, also_naming, asking}
 pub use Rattle.dav_notes_core.specs.Changes.{is_look}

@@ -6,7 +6,7 @@ use Rattle.dav_path_core.specs.Fronts.{Path}
 use Rattle.dav_headers_core.specs.IfBytes.{Item, Token, Tag, Condition}
 use Rattle.dav_headers_core.specs.IfValues.{Located}
 use Rattle.dav_locks_core.specs.Locks.{covers}
-use Rattle.dav_resource_core.specs.Step.{State}
+use Rattle.dav_guarded_core.specs.Step.{State}
 use Rattle.dav_fields_core.specs.declared.listed_tags.Comparison.TheVariants.{Strong}
 use Rattle.dav_fields_core.specs.FileTags.{standing_at}
 use Rattle.dav_fields_core.specs.Preconditions.{has_tag}

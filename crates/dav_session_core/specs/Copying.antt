@@ -6,13 +6,13 @@ use Rattle.dav_files_core.specs.Outcomes.{Outcome, ◌>>=◌}
 use Rattle.dav_files_core.specs.ResourceCopying.{copy}
 use Rattle.dav_files_core.specs.Resources.{IsResourceMap, Node, ResourceMap, at_path}
 use Rattle.dav_locks_core.specs.Lock.{Lock}
-use Rattle.dav_resource_core.specs.Checks.{refusing, shallow, target}
-use Rattle.dav_resource_core.specs.Step.{State, Step}
+use Rattle.dav_guarded_core.specs.Checks.{refusing, shallow, target}
+use Rattle.dav_guarded_core.specs.Step.{State, Step}
 use Rattle.dav_faults_core.specs.declared.faults.Fault.{Fault}
 use Rattle.dav_faults_core.specs.declared.faults.Fault.TheVariants as fault
 use Rattle.dav_session_core.specs.Callers.{Caller, as_caller, asking}
 use Rattle.dav_session_core.specs.Ends.{HasFolder}
-use Rattle.dav_resource_core.specs.Requests.{Command, Refusal}
+use Rattle.dav_guarded_core.specs.Requests.{Command, Refusal}
 use Rattle.dav_session_core.specs.StoreRefusals.{put_fault}
 use Rattle.dav_session_core.specs.Subtrees.{ComesBefore}
 

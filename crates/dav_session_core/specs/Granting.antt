@@ -7,8 +7,8 @@ use Rattle.dav_locks_core.specs.Lock.{Lock}
 use Rattle.dav_locks_core.specs.Locks.{found_here, lock_path}
 use Rattle.dav_locks_core.specs.NewLock.{new_lock}
 use Rattle.dav_locks_core.specs.Tokens.{token_from}
-use Rattle.dav_resource_core.specs.Requests.{Answer, Command}
-use Rattle.dav_resource_core.specs.Step.{Serves, State}
+use Rattle.dav_guarded_core.specs.Requests.{Answer, Command}
+use Rattle.dav_guarded_core.specs.Step.{Serves, State}
 use Rattle.dav_faults_core.specs.declared.faults.Fault.{Fault}
 use Rattle.dav_faults_core.specs.declared.faults.Fault.TheVariants as fault
 pub use Rattle.dav_session_core.specs.Callers.{also_naming}

@@ -5,7 +5,7 @@ use Rattle.dav_files_core.specs.Following.{dated_folder}
 use Rattle.dav_files_core.specs.Resources.{IsResourceMap, at_path}
 use Rattle.dav_locks_core.specs.Lock.{Lock}
 use Rattle.dav_locks_core.specs.Locks.{without_below}
-use Rattle.dav_resource_core.specs.Step.{State}
+use Rattle.dav_guarded_core.specs.Step.{State}
 use Rattle.dav_session_core.specs.Callers.{Caller}
 use Rattle.dav_session_core.specs.Clearing.{refusing_clearing}
 use Rattle.dav_session_core.specs.Ends.{HasFolder, is_related}

@@ -6,8 +6,8 @@ use Rattle.dav_files_core.specs.Following.{dated_entry}
 use Rattle.dav_files_core.specs.Resources.{at_path}
 use Rattle.dav_locks_core.specs.Lock.{Lock}
 use Rattle.dav_locks_core.specs.Locks.{without_below}
-use Rattle.dav_resource_core.specs.Checks.{member, refusing}
-use Rattle.dav_resource_core.specs.Step.{State}
+use Rattle.dav_guarded_core.specs.Checks.{member, refusing}
+use Rattle.dav_guarded_core.specs.Step.{State}
 use Rattle.dav_session_core.specs.Callers.{Caller, as_caller}
 
 -- the locks that refuse the caller to take away what stands at the places: at one of them, below it, or at the folder that it stands in

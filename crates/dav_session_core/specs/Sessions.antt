@@ -1,9 +1,9 @@
 -- What a contract sees of a session: the state of its stores and its generator, who asks, and where notes of what changed begin.
 use Rattle.std.specs.Prelude.{◌≡◌, ◌+◌, ℕ, Bool, List}
 use Rattle.rand_core.specs.Stream.{Stream}
-use Rattle.dav_resource_core.specs.Requests.{Command}
-use Rattle.dav_resource_core.specs.Step.{State}
-use Rattle.dav_resource_core.specs.Stores.{Stores, state_of}
+use Rattle.dav_guarded_core.specs.Requests.{Command}
+use Rattle.dav_guarded_core.specs.Step.{State}
+use Rattle.dav_guarded_core.specs.Stores.{Stores, state_of}
 use Rattle.dav_notes_core.specs.Ahead.{ahead}
 use Rattle.dav_notes_core.specs.Costs.{cost_for}
 use Rattle.dav_notes_core.specs.Seen.{HasNoteRoom, Seen}

@@ -1,7 +1,7 @@
 -- The faults of methods, by what the stores refuse.
 use Rattle.std.specs.Prelude.{Bool, true, false}
 use Rattle.dav_path_core.specs.declared.errors.FsError.TheVariants.{InsufficientStorage}
-use Rattle.dav_resource_core.specs.Requests.{Refusal, Fs, Locked, NoLock, OutOfMemory}
+use Rattle.dav_guarded_core.specs.Requests.{Refusal, Fs, Locked, NoLock, OutOfMemory}
 use Rattle.dav_faults_core.specs.declared.faults.Fault.{Fault}
 use Rattle.dav_faults_core.specs.declared.faults.Fault.TheVariants as fault
 

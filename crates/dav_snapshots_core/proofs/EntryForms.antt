@@ -13,7 +13,7 @@ use Rattle.dav_files_core.specs.declared.memfs.Kind.TheVariants.{Folder, File}
 use Rattle.dav_files_core.specs.Resources.{Resource, ResourceMap, is_folder}
 use Rattle.dav_files_core.specs.Restoring.{restore, restore_all}
 use Rattle.dav_locks_core.specs.Lock.{Lock}
-use Rattle.dav_resource_core.specs.Stores.{Stores}
+use Rattle.dav_guarded_core.specs.Stores.{Stores}
 use Rattle.dav_files_core.specs.Outcomes.{◌>>=◌}
 use Rattle.dav_effects_core.specs.ByteForms.{each_text, flag_text, number_text}
 use Rattle.dav_effects_core.specs.RecordReading.{property_at}

@@ -1,7 +1,7 @@
 -- The head of a snapshot, as far as it is read.
 use Rattle.std.proofs.Common.{◌≡◌, ℕ, false, eqb, List, [], length, Ok, Err, refl, subst}
 use Rattle.dav_files_core.specs.Restoring.{with_later_next}
-use Rattle.dav_resource_core.specs.Stores.{Stores, start_stores}
+use Rattle.dav_guarded_core.specs.Stores.{Stores, start_stores}
 use Rattle.dav_effects_core.specs.declared.error.ReadError.{ReadError}
 use Rattle.dav_effects_core.specs.declared.error.ReadError.TheVariants.{Memory, Fault}
 use Rattle.dav_effects_core.specs.ByteForms.{eight_bytes_at}

@@ -24,11 +24,11 @@ use Rattle.dav_files_core.specs.ResourcePutting.{put, put_at}
 use Rattle.dav_files_core.specs.Resources.{Node, Property, Resource, ResourceMap, at_path}
 use Rattle.dav_files_core.specs.Restoring.{can_stand, is_root_folder, restore, restore_at, with_restored_entry}
 use Rattle.dav_files_core.proofs.moves.MovedLemmas.{get-moved}
-use Rattle.dav_resource_core.specs.Requests.{Command, Reply, Request}
-use Rattle.dav_resource_core.specs.ResourceStep.{Does}
-use Rattle.dav_resource_core.specs.Step.{Effect, State}
-use Rattle.dav_resource_core.specs.Stores.{Stores, state_of}
-use Rattle.dav_resource_core.proofs.Frame.{change_left, patch_left}
+use Rattle.dav_guarded_core.specs.Requests.{Command, Reply, Request}
+use Rattle.dav_guarded_core.specs.ResourceStep.{Does}
+use Rattle.dav_guarded_core.specs.Step.{Effect, State}
+use Rattle.dav_guarded_core.specs.Stores.{Stores, state_of}
+use Rattle.dav_guarded_core.proofs.Frame.{change_left, patch_left}
 use Rattle.dav_notes_core.specs.Noting.{Noted}
 use Rattle.dav_notes_core.specs.PlayedNotes.{NotesPlayed}
 use Rattle.dav_effects_core.specs.Records.{IsChange, IsNoted, IsPath}

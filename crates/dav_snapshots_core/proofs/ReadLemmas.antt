@@ -2,7 +2,7 @@
 use Rattle.std.proofs.Common.{◌≡◌, ℕ, List, Result, Ok, Err, refl, sym, ap, ◌∙◌}
 use Rattle.std.specs.Prelude.{IfErr, IfOk, MatchResult}
 use Rattle.dav_path_core.specs.declared.util.Moment.{Moment}
-use Rattle.dav_resource_core.specs.Stores.{Stores}
+use Rattle.dav_guarded_core.specs.Stores.{Stores}
 use Rattle.dav_effects_core.specs.declared.error.RecordError.{RecordError}
 use Rattle.dav_effects_core.specs.declared.error.RecordError.TheVariants.{OutOfMemory, Damaged}
 use Rattle.dav_effects_core.specs.RecordFaults.{IsFault}

@@ -11,7 +11,7 @@ use Rattle.dav_files_core.specs.Resources.{Property, ResourceMap}
 use Rattle.dav_files_core.specs.Restoring.{restore}
 use Rattle.dav_locks_core.specs.Lock.{Lock}
 use Rattle.dav_locks_core.specs.Locks.{lock_conflicts, lock_path}
-use Rattle.dav_resource_core.specs.Stores.{Stores, start_stores}
+use Rattle.dav_guarded_core.specs.Stores.{Stores, start_stores}
 use Rattle.dav_effects_core.specs.ByteForms.{Reading, ◌>>=◌, counted_at, each_at, eight_bytes_at, flag_at, following_at, only_at, pair_at}
 use Rattle.dav_effects_core.specs.RecordReading.{body_is_left, is_folder_text, path_at, property_at, whole_of_head, whole_of_parts}
 use Rattle.dav_effects_core.proofs.Exact.{bind_ok, guard_true, ok_is}

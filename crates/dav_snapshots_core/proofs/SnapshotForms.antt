@@ -11,7 +11,7 @@ use Rattle.dav_files_core.specs.Walks.{Stored, stored_entry}
 use Rattle.dav_files_core.proofs.laws.RestoredLaws.{restored_from_walk}
 use Rattle.dav_locks_core.specs.Exclusive.{Exclusive}
 use Rattle.dav_locks_core.specs.Lock.{Lock}
-use Rattle.dav_resource_core.specs.Stores.{Stores, start_stores}
+use Rattle.dav_guarded_core.specs.Stores.{Stores, start_stores}
 use Rattle.dav_effects_core.specs.ByteForms.{number_text}
 use Rattle.dav_effects_core.proofs.Exact.{counted_exact, number_exact}
 use Rattle.dav_snapshots_core.specs.SnapshotReading.{entry_step, lock_step, numbered_from, repeat_at, snapshot_at, snapshot_head_at, standing, steps_at}

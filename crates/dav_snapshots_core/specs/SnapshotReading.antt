@@ -12,7 +12,7 @@ use Rattle.dav_files_core.specs.Resources.{Property, ResourceMap}
 use Rattle.dav_files_core.specs.Restoring.{restore, with_later_next}
 use Rattle.dav_locks_core.specs.Lock.{Lock}
 use Rattle.dav_locks_core.specs.Locks.{lock_conflicts, lock_path}
-use Rattle.dav_resource_core.specs.Stores.{Stores, start_stores}
+use Rattle.dav_guarded_core.specs.Stores.{Stores, start_stores}
 use Rattle.dav_effects_core.specs.ByteForms.{Reading, ◌>>=◌, pair_at, value_at, only_at, eight_bytes_at, counted_at, utf8_at, flag_at, optional_at, each_at, following_at}
 use Rattle.dav_effects_core.specs.RecordReading.{body_is_left, path_at, property_at, whole_of_parts}
 use Rattle.dav_snapshots_core.specs.Snapshots.{SnapshotEntry, resource_from}

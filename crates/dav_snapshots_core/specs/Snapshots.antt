@@ -9,7 +9,7 @@ use Rattle.dav_files_core.specs.Restoring.{properties_from}
 use Rattle.dav_files_core.specs.Walks.{IsMapWalk, Stored}
 use Rattle.dav_locks_core.specs.Exclusive.{Exclusive}
 use Rattle.dav_locks_core.specs.Lock.{Lock}
-use Rattle.dav_resource_core.specs.Stores.{Stores}
+use Rattle.dav_guarded_core.specs.Stores.{Stores}
 
 -- a folder or a file, with its properties in their order
 pub record SnapshotEntry : Type 0 where

@@ -6,7 +6,7 @@ use Rattle.dav_path_core.specs.PathText.{folder_bytes}
 use Rattle.dav_path_core.specs.Segments.{segments}
 use Rattle.dav_files_core.specs.Resources.{Resource, ResourceMap, at_path}
 use Rattle.dav_locks_core.specs.Lock.{Lock}
-use Rattle.dav_resource_core.specs.Stores.{Stores}
+use Rattle.dav_guarded_core.specs.Stores.{Stores}
 use Rattle.dav_effects_core.specs.ByteForms.{FitsInEight, HasCount, IsUtf8Text}
 use Rattle.dav_effects_core.specs.Records.{IsPathText, IsProperty}
 use Rattle.dav_snapshots_core.specs.SnapshotText.{snapshot_head, snapshot_text}

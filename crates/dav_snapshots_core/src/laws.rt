@@ -5,7 +5,7 @@ ghost use Rattle.dav_files_core.specs.Outcomes.{start};
 ghost use Rattle.dav_notes_core.specs.Noting.{Noted};
 ghost use Rattle.dav_notes_core.specs.PlayedNotes.{NotesPlayed};
 ghost use Rattle.dav_effects_core.specs.Records.{IsNoted};
-ghost use Rattle.dav_resource_core.specs.Stores.{Stores};
+ghost use Rattle.dav_guarded_core.specs.Stores.{Stores};
 ghost use Rattle.dav_snapshots_core.specs.SnapshotReading.{snapshot_at};
 ghost use Rattle.dav_snapshots_core.specs.WrittenSnapshots.{HasPaths, IsSnapshot};
 

@@ -1,6 +1,6 @@
 //! Snapshots that are read.
 ghost use Rattle.std.specs.Prelude.{◌≡◌, ℕ, Ok, MatchResult, IfErr, IfOk};
-ghost use Rattle.dav_resource_core.specs.Stores.{Stores};
+ghost use Rattle.dav_guarded_core.specs.Stores.{Stores};
 ghost use Rattle.dav_effects_core.specs.Reads.{ReadsField};
 ghost use Rattle.dav_effects_core.specs.RecordFaults.{IsFault};
 ghost use Rattle.dav_snapshots_core.specs.Private.ReadSnapshots.{ReadsSnapshot};
@@ -12,7 +12,7 @@ use dav_effects_core::RecordError;
 use dav_effects_core::error::{ReadError, record_error};
 use dav_effects_core::fields::{counted_of, number_of};
 use dav_files_core::fs::Moment;
-use dav_resource_core::guarded::Guarded;
+use dav_guarded_core::guarded::Guarded;
 use std::alloc::Global;
 
 /// Reads a snapshot: the stores as they stood, with all numbers and times, the locks in their order, and

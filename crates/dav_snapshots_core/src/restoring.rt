@@ -2,7 +2,7 @@
 ghost use Rattle.std.specs.Prelude.{◌≡◌, MatchResult};
 ghost use Rattle.dav_path_core.specs.Segments.{segments};
 ghost use Rattle.dav_files_core.specs.Restoring.{resource_of, restore};
-ghost use Rattle.dav_resource_core.specs.Stores.{start_stores};
+ghost use Rattle.dav_guarded_core.specs.Stores.{start_stores};
 ghost use Rattle.dav_effects_core.specs.declared.error.ReadError.TheVariants.{Memory};
 ghost use Rattle.dav_effects_core.specs.Reads.{ReadsField};
 ghost use Rattle.dav_snapshots_core.specs.Private.ReadSnapshots.{restore_fault};
@@ -17,7 +17,7 @@ use dav_files_core::memfs::MemFsRestored;
 use dav_locks_core::ls::{DavLock, LockError};
 use dav_path_core::davpath::DavPath;
 use dav_path_core::errors::FsError;
-use dav_resource_core::guarded::Guarded;
+use dav_guarded_core::guarded::Guarded;
 use std::alloc::Global;
 
 // A refusal of the stores, of what begins with so many bytes left.

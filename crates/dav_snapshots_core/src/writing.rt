@@ -19,7 +19,7 @@ use dav_files_core::memfs::MemFsStored;
 use dav_locks_core::ls::DavLock;
 use dav_locks_core::memls::MemLsLocks;
 use dav_path_core::errors::FsResult;
-use dav_resource_core::guarded::Guarded;
+use dav_guarded_core::guarded::Guarded;
 use std::alloc::{AllocError, Global};
 
 /// Writes what stands in the stores, and the last moment that is noted of them, as a snapshot (own). The

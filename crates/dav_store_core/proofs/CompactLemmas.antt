@@ -7,7 +7,7 @@ use Rattle.journal_core.specs.Clocked.{EachLeaves}
 use Rattle.journal_core.specs.Format.{StandsFor}
 use Rattle.journal_core.specs.Resting.{HasDiskCause, IsSettled, clocked_of, header_in}
 use Rattle.journal_core.proofs.MomentLaws.{leaves_weaker}
-use Rattle.dav_resource_core.specs.Stores.{Stores}
+use Rattle.dav_guarded_core.specs.Stores.{Stores}
 use Rattle.dav_snapshots_core.specs.WrittenSnapshots.{IsSnapshot}
 use Rattle.dav_store_core.specs.Compacting.{HasCompactingCause, IsCompactedOrEmpty, IsMadeAnew}
 use Rattle.dav_store_core.specs.declared.error.StoreError.TheVariants.{Journal as JournalFault}
@@ -31,15 +31,3 @@ module _ {D B : Type 0} (seen : D → List ℕ) (may_leave : D → List ℕ → 
 
     pub loaded : (new : Journal D B) → IsSettled seen may_leave is_clean new ([] ++ bytes ∷ []) → IsLoaded seen may_leave is_clean new (header_in j) s last
     loaded new settled = record { records = bytes ∷ []; settled = settled; stand = stands }
-
--- what the journal tells of an append
-pub append_cause : (e : JournalError) (ready : Bool) (f f' r r' : ℕ) → HasDiskCause e f f' r r' × (e ≡ NotOpen → IsFalse ready) → HasCompactingCause (JournalFault e) ready f f' r r'
-append_cause (Failed x) ready f f' r r' it = it.0
-append_cause Full ready f f' r r' it = it.0
-append_cause OutOfMemory ready f f' r r' it = tt
-append_cause Foreign ready f f' r r' it = it.0
-append_cause Unsupported ready f f' r r' it = it.0
-append_cause (Damaged at) ready f f' r r' it = it.0
-append_cause TooLarge ready f f' r r' it = it.0
-append_cause NotOpen ready f f' r r' it = it.1 refl
-append_cause Busy ready f f' r r' it = it.0

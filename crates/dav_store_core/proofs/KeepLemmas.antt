@@ -4,7 +4,7 @@ use Rattle.std.proofs.lemmas.List.{append-nil}
 use Rattle.std.proofs.lemmas.List.Concat.{flat_map-cons}
 use Rattle.std.specs.List.{flat_map}
 use Rattle.journal_core.specs.declared.header.Header.{Header}
-use Rattle.dav_resource_core.specs.Stores.{Stores, start_stores}
+use Rattle.dav_guarded_core.specs.Stores.{Stores, start_stores}
 use Rattle.dav_notes_core.specs.Noting.{Noted}
 use Rattle.dav_notes_core.specs.PlayedNotes.{NotesLead, NotesPlayed}
 use Rattle.dav_notes_core.specs.Stepping.{SameLiveStores}

@@ -11,7 +11,7 @@ use Rattle.journal_core.specs.JournalReading.{HasRead}
 use Rattle.journal_core.specs.Resting.{clocked_of, disk_behind}
 use Rattle.journal_core.proofs.Causes.{cause_of}
 use Rattle.journal_core.proofs.Opening.{read_first}
-use Rattle.dav_resource_core.specs.Stores.{Stores}
+use Rattle.dav_guarded_core.specs.Stores.{Stores}
 use Rattle.dav_store_core.specs.StandingFor.{Keeps, StandFor}
 use Rattle.dav_store_core.specs.declared.error.StoreError.{StoreError}
 use Rattle.dav_store_core.specs.declared.error.StoreError.TheVariants.{Journal as JournalFault, Damaged}
@@ -19,14 +19,6 @@ use Rattle.dav_store_core.specs.Loading.{HasLoadCause, IsPlayed, StandsForNone, 
 use Rattle.dav_store_core.proofs.KeepLemmas.{stand_more, stand_not}
 
 module _ {D B : Type 0} (seen : D → List ℕ) (may_leave : D → List ℕ → Type 0) (is_clean : D → Bool) where
-  pub nothing_yet : (note : B) (j : Journal D B) → WritesNothing seen may_leave is_clean note j j
-  nothing_yet note j = record {
-    seen_is = refl;
-    moments = goes_not SeesSame seen (clocked_of j);
-    any_moment = none (CrashLeaves may_leave note (may_leave (disk_behind j))) (clocked_of j);
-    crash = λ c left. left;
-    clean = λ clean. clean;
-  }
 
   pub nothing_two : (note : B) (old mid new : Journal D B) → WritesNothing seen may_leave is_clean note old mid → WritesNothing seen may_leave is_clean note mid new
       → WritesNothing seen may_leave is_clean note old new

@@ -5,7 +5,7 @@ use Rattle.journal_core.specs.declared.reader.Reader.{Reader}
 use Rattle.journal_core.specs.JournalReading.{HasEnded, HasRead}
 use Rattle.journal_core.proofs.Opening.{read_first}
 use Rattle.journal_core.proofs.Rounds.{stands_for_one}
-use Rattle.dav_resource_core.specs.Stores.{Stores, start_stores}
+use Rattle.dav_guarded_core.specs.Stores.{Stores, start_stores}
 use Rattle.dav_snapshots_core.specs.SnapshotReading.{snapshot_at}
 use Rattle.dav_snapshots_core.specs.WrittenSnapshots.{HasPaths, IsSnapshot}
 use Rattle.dav_snapshots_core.proofs.NamedPaths.{new_paths, notes_keep_paths}

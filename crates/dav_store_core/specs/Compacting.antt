@@ -5,7 +5,7 @@ use Rattle.journal_core.specs.declared.header.Header.{Header}
 use Rattle.journal_core.specs.declared.journal.Journal.{Journal}
 use Rattle.journal_core.specs.Format.{StandsFor}
 use Rattle.journal_core.specs.Resting.{HasDiskCause, IsSettled, header_in}
-use Rattle.dav_resource_core.specs.Stores.{Stores}
+use Rattle.dav_guarded_core.specs.Stores.{Stores}
 use Rattle.dav_store_core.specs.declared.error.StoreError.{StoreError}
 use Rattle.dav_store_core.specs.declared.error.StoreError.TheVariants.{Journal as JournalFault, Damaged}
 use Rattle.dav_store_core.specs.StandingFor.{StandFor}

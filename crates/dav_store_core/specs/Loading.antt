@@ -7,7 +7,7 @@ use Rattle.journal_core.specs.Clocked.{EachLeaves, GoesAs, SeesSame}
 use Rattle.journal_core.specs.Format.{StandsFor}
 use Rattle.journal_core.specs.JournalReading.{HasReadCause, IsRefusal}
 use Rattle.journal_core.specs.Resting.{IsBeingRead, IsSettled, clocked_of, disk_behind}
-use Rattle.dav_resource_core.specs.Stores.{Stores}
+use Rattle.dav_guarded_core.specs.Stores.{Stores}
 use Rattle.dav_snapshots_core.specs.SnapshotReading.{snapshot_at}
 use Rattle.dav_store_core.specs.declared.error.StoreError.{StoreError}
 use Rattle.dav_store_core.specs.declared.error.StoreError.TheVariants.{Journal as JournalFault, Damaged}

@@ -1,7 +1,7 @@
 -- The stores that the records of a journal stand for, one behind another (own).
 use Rattle.std.specs.Prelude.{◌≡◌, ◌≤◌, ℕ, zero, suc, List, [], ◌∷◌, Ok}
 use Rattle.journal_core.specs.declared.header.Header.{Header}
-use Rattle.dav_resource_core.specs.Stores.{Stores, start_stores}
+use Rattle.dav_guarded_core.specs.Stores.{Stores, start_stores}
 use Rattle.dav_notes_core.specs.Noting.{Noted}
 use Rattle.dav_notes_core.specs.PlayedNotes.{NotesPlayed}
 use Rattle.dav_effects_core.specs.Records.{IsRecord}

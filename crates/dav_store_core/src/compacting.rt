@@ -13,8 +13,8 @@ ghost use Rattle.dav_store_core.specs.StandingFor.{HaveRecords};
 
 use crate::error::StoreError;
 use crate::rounds::add_record;
-use dav_resource_core::fs::Moment;
-use dav_resource_core::guarded::Guarded;
+use dav_guarded_core::fs::Moment;
+use dav_guarded_core::guarded::Guarded;
 use dav_snapshots_core::write;
 use journal_core::{Journal, JournalError, Round};
 use sqlite_disk::Disk;

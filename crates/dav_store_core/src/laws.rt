@@ -5,7 +5,7 @@ ghost use Rattle.journal_core.specs.declared.header.Header.{Header};
 ghost use Rattle.dav_notes_core.specs.Noting.{Noted};
 ghost use Rattle.dav_notes_core.specs.PlayedNotes.{NotesLead};
 ghost use Rattle.dav_notes_core.specs.Stepping.{SameLiveStores};
-ghost use Rattle.dav_resource_core.specs.Stores.{Stores, start_stores};
+ghost use Rattle.dav_guarded_core.specs.Stores.{Stores, start_stores};
 ghost use Rattle.dav_snapshots_core.specs.WrittenSnapshots.{HasPaths, IsSnapshot};
 ghost use Rattle.dav_store_core.specs.StandingFor.{HaveRecords, AreRecords, StandFor};
 

@@ -8,7 +8,7 @@ ghost use Rattle.dav_store_core.specs.Loading.{LacksSnapshot, StandsForNone, Sto
 
 use crate::error::StoreError;
 use crate::opened::{Opened, Setback, new_stores, take_record, take_snapshot};
-use dav_resource_core::fs::Moment;
+use dav_guarded_core::fs::Moment;
 use journal_core::{JournalError, Reader, Source};
 use std::alloc::Global;
 

@@ -12,7 +12,7 @@ use base64::engine::general_purpose::STANDARD;
 use std::alloc::{AllocError, Global};
 
 /// A name and a password that somebody sent (RFC 7617 section 2).
-#[derive(Debug, Drop)]
+#[derive(Drop)]
 pub struct Credentials {
     /// The name. It has no colon.
     pub name: String,

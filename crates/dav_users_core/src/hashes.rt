@@ -18,7 +18,7 @@ const LEAST: u64 = 1_000;
 const MOST: u64 = 20_000;
 
 /// How a password is hashed.
-#[derive(Clone, Copy, PartialEq, Eq, Debug)]
+#[derive(Clone, Copy, PartialEq, Eq)]
 pub enum Scheme {
     /// By SHA-256: `$5$`.
     Sha256,
@@ -27,7 +27,7 @@ pub enum Scheme {
 }
 
 /// The hash of a password (own).
-#[derive(Debug, Drop)]
+#[derive(Drop)]
 pub struct PasswordHash {
     pub(crate) scheme: Scheme,
     pub(crate) rounds: u32,

@@ -15,14 +15,14 @@ use std::alloc::{AllocError, AllocFailed, Global};
 use std::hint::black_box;
 
 /// A user, and the hash of its password.
-#[derive(Debug, Drop)]
+#[derive(Drop)]
 pub(crate) struct User {
     pub(crate) name: String,
     pub(crate) hash: PasswordHash,
 }
 
 /// Users and the hashes of their passwords, each name once (own).
-#[derive(Debug, Drop)]
+#[derive(Drop)]
 pub struct Users {
     pub(crate) users: Vec<User>,
 }

@@ -214,9 +214,6 @@ binds_of k (attribute ∷ attributes) h =
 
 -- ---- what a prefix is bound to
 
-abbrev binds_it : List ℕ → Binding → Bool
-binds_it prefix b = bytes_eq b.prefix prefix
-
 -- no binding of the list is of the prefix
 abbrev pub lacks : List ℕ → List Binding → Bool
 lacks prefix bindings = list_all (λ b. not (bytes_eq b.prefix prefix)) bindings

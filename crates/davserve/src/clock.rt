@@ -2,7 +2,7 @@
 ghost use Rattle.std.specs.Prelude.{◌≡◌, None, false};
 
 use dav_handler_core::serving::Clock;
-use dav_resource_core::fs::Moment;
+use dav_guarded_core::fs::Moment;
 use work_progress::now;
 
 /// The system's clock, where it is the one that counts.

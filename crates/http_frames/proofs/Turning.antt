@@ -68,9 +68,6 @@ module _ (before after : Clients) (n : ℕ) (some : 0 < n) (within : n ≤ count
       adds (Some k) (Some x.0) (Took n count) is x.1 (λ a s. same_line x.4) refl refl
       (λ a pauses once s. rw x.4 (took (config_of before) (window_of before) n (queue_of before) k x.0 a count x.2 x.3 s))
 
-  pub takes : (count : ℕ) → TakesAt (held_at before n) n count before after → Adds before after (Took n count)
-  takes count x = took-by (held_at before n) count refl x
-
   -- its client is gone
   gone-by : (o : Option Held) → held_at before n ≡ o → MovesOne n None before after → queue_of after ≡ queue_of before → Adds before after (Gone n)
   gone-by None is m queue =

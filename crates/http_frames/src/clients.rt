@@ -55,7 +55,7 @@ pub struct Clients {
 }
 
 /// How much all connections together may hold, in bytes.
-#[derive(Clone, Copy, PartialEq, Eq, Debug)]
+#[derive(Clone, Copy, PartialEq, Eq)]
 pub struct Bounds {
     /// So much of answers that wait, beside what the service shares, and beside one answer.
     pub waiting: u64,
@@ -64,7 +64,7 @@ pub struct Bounds {
 }
 
 /// How far answers go ahead of what was taken, and input ahead of what was granted, in bytes, and whether the input ended; then answers go as far as they are long, and nothing is granted.
-#[derive(Clone, Copy, PartialEq, Eq, Debug)]
+#[derive(Clone, Copy, PartialEq, Eq)]
 pub struct Windows {
     /// So many bytes beyond what was taken.
     pub out: u64,

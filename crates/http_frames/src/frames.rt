@@ -37,7 +37,7 @@ const ROOM: usize = 256 * 1024;
 const LEAST: usize = 64 * 1024;
 
 /// What the first line of a frame says (own).
-#[derive(Clone, Copy, PartialEq, Eq, Debug)]
+#[derive(Clone, Copy, PartialEq, Eq)]
 pub enum Head {
     /// So many bytes of a connection follow.
     Piece {

@@ -15,7 +15,7 @@ use std::io::{Read, Write};
 const TOGETHER: u64 = 4;
 
 /// Where no more frames are served.
-#[derive(Clone, Copy, PartialEq, Eq, Debug)]
+#[derive(Clone, Copy, PartialEq, Eq)]
 pub enum End {
     /// At the end of the input.
     Whole,

@@ -36,9 +36,6 @@ module _ {D B : Type 0} (seen : D → List ℕ) (may_leave : D → List ℕ → 
   pub begun : BeginsWith to_gate (seen (disk_behind j))
   begun = (it.lies.behind, it.lies.split ∙ sym (append_assoc before shut_word it.lies.behind))
 
-  pub within : j.at + 8 ≤ length (seen (disk_behind j))
-  within = omega (arith, at_behind, ap length begun.1, length-append to_gate begun.0)
-
   pub all_begun : AllBegin to_gate (may_leave (disk_behind j))
   all_begun c left = subst (λ (f : List ℕ). BeginsWith to_gate f) (sym (it.durable c left)) begun
 
@@ -54,9 +51,6 @@ module _ {D B : Type 0} (seen : D → List ℕ) (may_leave : D → List ℕ → 
 
   pub stands_still : (c : List ℕ) → BeginsWith to_gate c → StandsFor j.header c records
   stands_still c is = inr (it.rounds, lies_still c is, it.same)
-
-  pub now_stands : (c : List ℕ) → may_leave (disk_behind j) c → StandsFor j.header c records
-  now_stands c left = stands_still c (all_begun c left)
 
   -- what is written behind the gate makes steps
   step_behind : (a b : List ℕ) → BeginsWith to_gate a → KeepsBelow (j.at + 8) a b → MayStep j.header a b × BeginsWith to_gate b

@@ -33,15 +33,6 @@ piece_there front text d c at place it torn holds =
     let rest = drop (length text) (drop (length front) c) in
     (rest, written front it.0 text c torn' holds' ∙ sym (append_assoc front text rest))
 
-pub piece_len : (text d c : List ℕ) (at : ℕ) → Torn at (length text) d c → Holds c at text → length c ≡ max (length d) (at + length text)
-piece_len text d c at torn holds = omega (arith, torn.no_shorter, torn.no_longer, holds.within)
-
-pub begins_none : (front c : List ℕ) → BeginsWith front c → BeginsWith (front ++ []) c
-begins_none front c it = (it.0, it.1 ∙ sym (append_assoc front [] it.0))
-
-pub begins_two : (front one two c : List ℕ) → BeginsWith ((front ++ one) ++ two) c → BeginsWith (front ++ (one ++ two)) c
-begins_two front one two c it = (it.0, it.1 ∙ ap (λ (l : List ℕ). l ++ it.0) (append_assoc front one two))
-
 keeps_not : (place : ℕ) (d : List ℕ) → KeepsBelow place d d
 keeps_not place d = record { longer = omega arith; begins = λ front low it. it }
 
@@ -55,8 +46,6 @@ keeps_torn : (place n : ℕ) (d c : List ℕ) → Torn place n d c → KeepsBelo
 keeps_torn place n d c torn = record { longer = torn.no_shorter; begins = λ front low it. torn_begins front place n d c low it torn }
 
 module _ {D B : Type 0} (seen : D → List ℕ) (may_leave : D → List ℕ → Type 0) (note : B) where
-  pub behind_not : (place : ℕ) (k : Clocked D B) → WritesBehind seen may_leave note place k k
-  behind_not place k = record { crash = λ front low all. all; any_moment = λ front low all. none (CrashLeaves may_leave note (BeginsWith front)) k; moments = goes_not (KeepsBelow place) seen k }
 
   -- below less it writes nothing either
   pub behind_less : (place more : ℕ) (old new : Clocked D B) → place ≤ more → WritesBehind seen may_leave note more old new → WritesBehind seen may_leave note place old new
@@ -110,9 +99,6 @@ counted_two {T = T} x (Err e) a b c s t u first second = record {
 -- what is told of it is the same
 pub counted_err : {S T : Type 0} (e : Error) (a b : ℕ) (s t : Tally) → IsCounted {T = S} (Err e) a b s t → IsCounted {T = T} (Err e) a b s t
 counted_err e a b s t it = record { faults = it.faults; refused = record { caught = it.refused.caught; refused = it.refused.refused } }
-
-pub counted_ok : {S T : Type 0} (x : S) (y : T) (a b : ℕ) (s t : Tally) → IsCounted {T = S} (Ok x) a b s t → IsCounted {T = T} (Ok y) a b s t
-counted_ok x y a b s t it = record { faults = it.faults; refused = record { caught = it.refused.caught; refused = it.refused.refused } }
 
 pub begins_as : (a b c : List ℕ) → a ≡ b → BeginsWith a c → BeginsWith b c
 begins_as a b c is it = (it.0, it.1 ∙ ap (λ (l : List ℕ). l ++ it.0) is)

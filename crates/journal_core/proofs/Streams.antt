@@ -20,13 +20,6 @@ gives_more (Some xs) (Some ys) file bytes at is within it =
       sym (ap (λ (l : List ℕ). take (length bytes) l) there ∙ take_at bytes ys (length bytes) refl),
     )
 
--- nothing is left
-pub gives_none : (known : Option (List ℕ)) (file : List ℕ) (at : ℕ) → known ≡ Some (drop at file) → at ≤ length file → IsAtEnd known → length file ≡ at
-gives_none None file at is within it = absurd (cc)
-gives_none (Some xs) file at is within it =
-    let xs_are : xs ≡ drop at file = cc in
-    omega (arith, within, ap length xs_are, ap length it, length-drop at file)
-
 -- a read behind the bytes that are there, and what stands behind the room for it
 pub read_behind : (r : Result ℕ Error) (known known' : Option (List ℕ)) (count : ℕ) (old new tail : List ℕ) → count ≤ length old → ReadsAtMost r new → ReadConsumes known known' r new
     → IfOk r (λ n. (file : List ℕ) (at : ℕ) → (known ≡ Some (drop at file)) × (at ≤ length file)

@@ -13,7 +13,7 @@ use std::alloc::{AllocError, Global};
 pub(crate) const HEADER: usize = 56;
 
 /// What the header of a journal says (own).
-#[derive(Clone, Copy, PartialEq, Eq, Debug)]
+#[derive(Clone, Copy, PartialEq, Eq)]
 pub struct Header {
     /// How often what the journal keeps was written anew.
     pub generation: u64,

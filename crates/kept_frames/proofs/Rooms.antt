@@ -22,13 +22,6 @@ module _ {D O : Type 0} {seen : D → List ℕ} {may_leave : D → List ℕ → 
     crash = λ records settled. settled_leaves (header_in j) j records refl settled;
   }
 
-  -- room was made, or no more of it
-  pub keeps_made : (j j' : Journal D O) (o : O) → header_in j' ≡ header_in j
-      → ((records : List (List ℕ)) → IsSettled seen may_leave is_clean j records → EachLeaves may_leave o (λ file. StandsFor (header_in j) file records) (clocked_of j) (clocked_of j'))
-      → ((records : List (List ℕ)) → IsSettled seen may_leave is_clean j records → (file : List ℕ) → may_leave (disk_behind j') file → StandsFor (header_in j) file records)
-      → KeepsRecords seen may_leave is_clean j j' o
-  keeps_made j j' o same moments leaves = record { header = same; each = moments; crash = leaves }
-
   module _ {j j1 : Journal D O} {o : O} (k : KeepsRecords seen may_leave is_clean j j1 o) (stays : StaysSettled seen may_leave is_clean j j1) where
     pub keeps_then : {j2 : Journal D O} → KeepsRecords seen may_leave is_clean j1 j2 o → KeepsRecords seen may_leave is_clean j j2 o
     keeps_then {j2} l = record {

@@ -1,5 +1,5 @@
 //! The moment at which a server begins.
-use dav_resource_core::fs::Moment;
+use dav_guarded_core::fs::Moment;
 use std::io;
 use work_progress::now;
 

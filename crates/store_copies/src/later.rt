@@ -2,7 +2,7 @@
 use crate::behind::Tail;
 use dav_effects_core::{RecordError, read};
 use dav_path_core::davpath::DavPath;
-use dav_resource_core::guarded::Command;
+use dav_guarded_core::guarded::Command;
 use journal_core::split_record;
 use std::alloc::{AllocError, Global};
 use std::io::{self, BufWriter, Write};

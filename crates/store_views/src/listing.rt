@@ -1,8 +1,8 @@
 //! What stands in the stores, a line each.
 use crate::paths::Paths;
 use dav_files_core::fs::{DavMetaData, Moment};
-use dav_resource_core::errors::FsResult;
-use dav_resource_core::guarded::Guarded;
+use dav_guarded_core::errors::FsResult;
+use dav_guarded_core::guarded::Guarded;
 use std::alloc::{AllocError, Global};
 use std::io::{self, BufWriter, Write};
 

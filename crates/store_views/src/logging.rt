@@ -5,7 +5,7 @@ use dav_effects_core::{RecordError, read};
 use dav_files_core::fs::DavProp;
 use dav_notes_core::notes::Note;
 use dav_path_core::davpath::DavPath;
-use dav_resource_core::guarded::{Command, Request};
+use dav_guarded_core::guarded::{Command, Request};
 use dav_snapshots_core::read as read_snapshot;
 use dav_store_core::StoreError;
 use journal_core::{JournalError, Reader, Stream};

@@ -6,8 +6,8 @@ use Rattle.dav_locks_core.specs.Stale.{without_stale}
 use Rattle.dav_locks_core.proofs.laws.StaleLemmas.{stale_once}
 use Rattle.dav_resource_core.specs.Requests.{Command, Request, Reply, Meta, Answer, Refusal, Fs, Locked, NoLock, OutOfMemory}
 use Rattle.dav_resource_core.specs.Step.{State, Same, Effect, Serves, Step, start_of}
-use Rattle.dav_resource_core.proofs.Frame.{told_left}
-use Rattle.dav_resource_core.proofs.StepLaws.{Same-equal, outcome}
+use Rattle.dav_guarded_core.proofs.Frame.{told_left}
+use Rattle.dav_guarded_core.proofs.StepLaws.{Same-equal, outcome}
 
 -- what a `Meta` that is answered does
 told_alone : (s s' : State) (r : Request) (path : Path) (reply : Reply) → Effect (Command.Meta path) s r reply s' → Same s s'

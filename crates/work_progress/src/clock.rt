@@ -1,5 +1,5 @@
 //! The system's clock.
-use dav_resource_core::fs::Moment;
+use dav_guarded_core::fs::Moment;
 use std::io;
 use std::time::{SystemTime, UNIX_EPOCH};
 

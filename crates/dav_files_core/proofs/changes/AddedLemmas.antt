@@ -81,13 +81,6 @@ module _ (m : ResourceMap) (is_map : IsResourceMap m) (p : Path) (s : Segment) (
   below_next : (q : Path) (x : Resource) → at_path m q ≡ Some x → ¬ (x.number ≡ m.next)
   below_next q x h e = let lt = is_map.below q x h in absurd (omega (arith, lt, e))
 
-  pub added_kept : (q : Path) (x : Resource) → at_path m q ≡ Some x → at_path (with_new_entry m (p ++ (s ∷ [])) new) q ≡ Some x
-  added_kept = added_as_kept m is_map p s r new m.next (m.next + 1) below_next (next_positive m is_map) (omega arith) (omega arith) here folder free new_bare
-
-  pub added_cases : (q : Path) (x : Resource) → at_path (with_new_entry m (p ++ (s ∷ [])) new) q ≡ Some x
-      → ((q ≡ p ++ (s ∷ [])) × (x ≡ record { number = m.next; node = new })) ⊎ (¬ (q ≡ p ++ (s ∷ [])) × (at_path m q ≡ Some x))
-  added_cases = added_as_cases m is_map p s r new m.next (m.next + 1) below_next (next_positive m is_map) (omega arith) (omega arith) here folder free new_bare
-
   pub IsResourceMap-added : IsResourceMap (with_new_entry m (p ++ (s ∷ [])) new)
   IsResourceMap-added = IsResourceMap-added_as m is_map p s r new m.next (m.next + 1) below_next (next_positive m is_map) (omega arith) (omega arith) here folder free new_bare
 

@@ -93,10 +93,3 @@ module _ (t : FileTree) (m : ResourceMap) (rep : Represents t m) (path : Path) (
       let rep' = Represents-added t m rep (parent path) h.2.0 name node folder.0 folder.1 free bare in
       subst (λ p. Represents t' (with_new_entry m p node)) (sym h.1)
       (subst (λ t'. Represents t' (with_new_entry m (parent path ++ (name ∷ [])) node)) (sym (e ∙ (λ j. add t (sym h.2.2 j) (is j) node))) rep')
-
-  -- a file added there
-  pub with_file : (key : Segment) → key ≡ name → (bytes : List ℕ) (now : ℕ) (node : Node) → node ≡ new_file bytes now → (t' : FileTree) → t' ≡ add t id key node → Represents t' (with_new_entry m path (new_file bytes now))
-  with_file key is bytes now node node_is t' e =
-      let rep' = Represents-added t m rep (parent path) h.2.0 name (new_file bytes now) folder.0 folder.1 free (λ f. absurd (cc)) in
-      subst (λ p. Represents t' (with_new_entry m p (new_file bytes now))) (sym h.1)
-      (subst (λ t'. Represents t' (with_new_entry m (parent path ++ (name ∷ [])) (new_file bytes now))) (sym (e ∙ (λ j. add t (sym h.2.2 j) (is j) (node_is j)))) rep')

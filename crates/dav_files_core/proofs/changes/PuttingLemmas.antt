@@ -19,14 +19,3 @@ found_number m p id h = by (at_path m p) refl
     by : (o : Option Resource) → at_path m p ≡ o → (r : Resource) × (at_path m p ≡ Some r) × (r.number ≡ id)
     by None e = let both : ◌≡◌ {A = Result ℕ FsError} (Ok id) (Err (refusal_at m p)) = h ∙ ap (λ o. ok_or o (refusal_at m p) >>= (λ (r : Resource). Ok r.number)) e in absurd (cc)
     by (Some r) e = let both : ◌≡◌ {A = Result ℕ FsError} (Ok id) (Ok r.number) = h ∙ ap (λ o. ok_or o (refusal_at m p) >>= (λ (r : Resource). Ok r.number)) e in (r, e, cc)
-
-module _ (m : ResourceMap) (p : Path) (bytes : List ℕ) (now : ℕ) where
-  pub put_missing : (folder : ℕ) (name : Segment) → IsMissing m p folder name → put m p bytes now ≡ Ok (tt, with_new_entry m p (new_file bytes now))
-  put_missing folder name h = ap (put_at m p bytes now) (not_there m p NotFound h.0) ∙ ap (λ (f : Result Resource FsError). f >>= λ (_ : Resource). Ok (tt, with_new_entry m p (new_file bytes now))) h.2.1
-
-  module _ (r : Resource) (here : at_path m p ≡ Some r) where
-    pub put_folder : r.node.kind ≡ Folder → put m p bytes now ≡ Err Forbidden
-    put_folder k = ap (put_at m p bytes now) here ∙ ap (λ k. elim k [ Folder ↦ Err Forbidden | File ↦ Ok r ] >>= (λ (r : Resource). Ok (tt, with_other_node m p r (record r.node { bytes = bytes; modified = now })))) k
-
-    pub put_file : r.node.kind ≡ File → put m p bytes now ≡ Ok (tt, with_other_node m p r (record r.node { bytes = bytes; modified = now }))
-    put_file k = ap (put_at m p bytes now) here ∙ ap (λ k. elim k [ Folder ↦ Err Forbidden | File ↦ Ok r ] >>= (λ (r : Resource). Ok (tt, with_other_node m p r (record r.node { bytes = bytes; modified = now })))) k

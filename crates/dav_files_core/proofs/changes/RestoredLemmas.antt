@@ -26,18 +26,9 @@ not_or false false h = (refl, refl)
 not_or true b h = absurd (true≢false (sym h))
 not_or false true h = absurd (true≢false (sym h))
 
-differs : (n k : ℕ) → (n == k) ≡ false → ¬ (n ≡ k)
-differs n k h e = true≢false (sym (eq-eqb n k e) ∙ h)
-
 module _ (r : Resource) (h : can_stand r ≡ true) where
   apart : ((r.number == 0) ≡ false) × ((r.number == 18446744073709551615) ≡ false)
   apart = not_or (r.number == 0) (r.number == 18446744073709551615) (and_parts _ _ h).0
-
-  pub stands_positive : 0 < r.number
-  stands_positive = let ne = differs r.number 0 apart.0 in omega (arith, ne)
-
-  pub stands_given : r.number < 18446744073709551616 → r.number < 18446744073709551615
-  stands_given fits = let ne = differs r.number 18446744073709551615 apart.1 in omega (arith, ne, fits)
 
 -- the root that is there, and anything else
 module _ (m : ResourceMap) (is_map : IsResourceMap m) (p : Path) (x r : Resource) (here : at_path m p ≡ Some x) (id : ℕ) (number : x.number ≡ id) where
@@ -46,9 +37,6 @@ module _ (m : ResourceMap) (is_map : IsResourceMap m) (p : Path) (x r : Resource
 
   pub not_root_there : ((id == 1) && ((r.number == 1) && is_folder r.node.kind)) ≡ false → restore_at m p r (Some x) ≡ Err Exists
   not_root_there e = ap (λ b. let o : Outcome (Unit {0}) = cond b (Ok (tt, with_other_node m p x r.node)) (Err Exists) in o) (asked ∙ e)
-
-  pub root_there : ((id == 1) && ((r.number == 1) && is_folder r.node.kind)) ≡ true → restore_at m p r (Some x) ≡ Ok (tt, with_other_node m p x r.node)
-  root_there e = ap (λ b. let o : Outcome (Unit {0}) = cond b (Ok (tt, with_other_node m p x r.node)) (Err Exists) in o) (asked ∙ e)
 
 -- a next number that is raised, in the tree and in the map
 pub Represents-raised : (t : FileTree) (m : ResourceMap) → Represents t m → (next : ℕ) → Represents (raised_tree t next) (with_later_next m next)

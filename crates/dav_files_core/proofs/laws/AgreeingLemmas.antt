@@ -81,12 +81,6 @@ parent_front folder p h =
 
 -- ---- outcomes that are alike
 module _ {A : Type 0} (R : A → A → Type 0) where
-  alike_same : (o u : Result A FsError) → u ≡ o → ((x : A) → R x x) → Alike R o u
-  alike_same o u e r = subst (λ u. Alike R o u) (sym e) (by o)
-    where
-      by : (o : Result A FsError) → Alike R o o
-      by (Ok x) = r x
-      by (Err d) = refl
 
   -- a choice by a test that has one answer
   alike_if : (a b : Bool) (o u o' u' : Result A FsError) → b ≡ a → Alike R o u → Alike R o' u' → Alike R (if a then o else o') (if b then u else u')

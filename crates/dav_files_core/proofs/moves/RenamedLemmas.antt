@@ -133,9 +133,6 @@ module _ (m : ResourceMap) (is_map : IsResourceMap m) (from : Path) (r : Resourc
             by [] e = member s [] e
             by (x ∷ u) e = member x (u ++ (s ∷ [])) e
 
-    pub never_root : ¬ (from ≡ [])
-    never_root e = true≢false (sym (ap is_root e) ∙ (put m from p name m' h).not_up)
-
     -- the whole call
     pub renamed : (now : ℕ) → rename m from target now ≡ Ok (tt, with_modified_time (with_modified_time m' (parent from) now) p now)
     renamed now = in_folder now ∙ ap (λ (o : Result ResourceMap FsError). o >>= done now p) h
@@ -182,9 +179,6 @@ module _ (m : ResourceMap) (is_map : IsResourceMap m) (from : Path) (r : Resourc
         by : (o : Result ResourceMap FsError) → ◌≡◌ {A = Outcome (Unit {0})} (o >>= λ (m : ResourceMap). Ok (tt, m)) (Ok (tt, m')) → o ≡ Ok m'
         by (Ok x) h = let pairs : (tt {0}, x) ≡ (tt {0}, m') = cc in ap (λ (x : Unit {0} × ResourceMap). Ok x.1) pairs
         by (Err e) h = absurd (cc)
-
-    pub source_not_root : StandsIn m from None → ⊥
-    source_not_root e = never_root m is_map from r source q name target.2 target.4 m' relocated_is e
 
     pub away : (above : ℕ) → StandsIn m from (Some above) → Away m m' from to above folder
     away above s =

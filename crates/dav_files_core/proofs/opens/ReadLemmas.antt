@@ -58,20 +58,6 @@ module _ (read write append : Bool) (m : ResourceMap) (p : Path) (now : ℕ) whe
     found : (r : Resource) → at_path m p ≡ Some r → read_at m p at count ≡ (only_file r >>= λ (r : Resource). Ok (part r.node.bytes at count))
     found r here = ap (λ (o : Option Resource). ok_or o (refusal_at m p) >>= (λ (r : Resource). only_file r >>= (λ (r : Resource). Ok (part r.node.bytes at count)))) here
 
-    pub open_refused : (e : FsError) → opening m p (using read write append) now ≡ Err e → read_at m p at count ≡ Err e
-    open_refused e h = by (at_path m p) refl h
-      where
-        kind : (r : Resource) (k : Kind) → by_kind r k >>= opens ≡ Err e → (by_kind r k >>= λ (r : Resource). Ok (part r.node.bytes at count)) ≡ Err e
-        kind r Folder h = ap (λ (e : FsError). Err e) (let is : Forbidden ≡ e = cc in is)
-        kind r File h = absurd (cc)
-
-        by : (o : Option Resource) → at_path m p ≡ o → opening_at m p (using read write append) now o ≡ Err e → read_at m p at count ≡ Err e
-        by (Some r) here h = found r here ∙ kind r r.node.kind h
-        by None none h =
-            let is : ◌≡◌ {A = Outcome OpenFile} (Err (refusal_at m p)) (Err e) = sym (ap (λ o. ok_or o (refusal_at m p) >>= opens) none) ∙ h in
-            ap (λ (o : Option Resource). ok_or o (refusal_at m p) >>= (λ (r : Resource). only_file r >>= (λ (r : Resource). Ok (part r.node.bytes at count)))) none
-            ∙ ap (λ (e : FsError). Err e) (let same : refusal_at m p ≡ e = cc in same)
-
     module _ (is_map : IsResourceMap m) (f : OpenFile) (m' : ResourceMap) (o : OpenedAt append m p f m') where
       abbrev file : OpenFile
       file = record f { position = at }

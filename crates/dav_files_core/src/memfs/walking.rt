@@ -151,32 +151,3 @@ impl MemFs {
         }
     }
 }
-
-#[cfg(test)]
-mod tests {
-    use super::*;
-    use crate::fs::{DavFileSystem, Moment};
-    use dav_path_core::davpath::DavPath;
-    use std::test::Fail;
-
-    #[test]
-    fn lends_all_that_stands_here(rt: HostRuntime) -> Result<(), Fail> {
-        let mut files = MemFs::new(rt.alloc(), Moment(1))?;
-        files.create_dir(&DavPath::new(rt.alloc(), "/d")?, Moment(2))?;
-        files.put(&DavPath::new(rt.alloc(), "/d/f")?, b"abc", Moment(3))?;
-        let met: Vec<(u64, Option<u64>, usize)> = files
-            .walk()
-            .map(|stored| (stored.number(), stored.folder(), stored.bytes().len()))
-            .collect(rt.alloc())?;
-        assert!(rt; met.as_slice() == [(1, None, 0), (2, Some(1), 0), (3, Some(2), 3)].as_slice());
-        let mut names = Vec::new(rt.alloc());
-        for stored in files.walk() {
-            names.extend_from_slice(stored.name())?;
-            assert!(rt; stored.content(rt.alloc())?.as_slice() == stored.bytes());
-            assert!(rt; stored.meta().created == Moment(stored.number()));
-            assert!(rt; stored.props().count() == 0);
-        }
-        assert!(rt; names.as_slice() == b"df".as_slice());
-        Ok(())
-    }
-}

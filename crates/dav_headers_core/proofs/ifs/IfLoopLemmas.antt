@@ -18,9 +18,6 @@ with_front front found = found >>= λ x. Some (front ++ x.0, x.1)
 left : (n k : ℕ) → k < n → n - k ≡ suc (n - (k + 1))
 left n k lt = omega arith
 
-none_left : (n k : ℕ) → n ≤ k → n - k ≡ 0
-none_left n k le = omega arith
-
 -- ---- conditions
 
 abbrev turn : ℕ → List ℕ → Option (List ℕ) → Found (List Condition)

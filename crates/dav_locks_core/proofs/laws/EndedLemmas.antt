@@ -69,25 +69,6 @@ LocksEnded-trans g h ignores (x ∷ a) (y ∷ b) (z ∷ c) p q = elim p [
   | inr lost ↦ inr (or_left _ _ lost.0, LocksEnded-trans g h ignores a (y ∷ b) (z ∷ c) lost.1 q)
 ]
 
--- what isn't gone stands, but for its timeout
-pub In-LocksEnded : (gone : Lock → Bool) (l : Lock) → gone l ≡ false → (old new : List Lock) → LocksEnded gone old new → In l old
-    → (k : Lock) × In k new × SameButTimes l k
-In-LocksEnded gone l keep [] new p i = absurd i
-In-LocksEnded gone l keep (a ∷ old) [] p i = elim i [
-  | inl here ↦ absurd (false≢true (sym keep ∙ ap gone (sym here) ∙ p.0))
-  | inr there ↦ In-LocksEnded gone l keep old [] p.1 there
-]
-In-LocksEnded gone l keep (a ∷ old) (b ∷ new) p i = elim p [
-  | inl same ↦ elim i [
-    | inl here ↦ (b, inl refl, subst (λ a. SameButTimes a b) here same.0)
-    | inr there ↦ let k = In-LocksEnded gone l keep old new same.1 there in (k.0, inr k.1, k.2)
-  ]
-  | inr lost ↦ elim i [
-    | inl here ↦ absurd (false≢true (sym keep ∙ ap gone (sym here) ∙ lost.0))
-    | inr there ↦ In-LocksEnded gone l keep old (b ∷ new) lost.1 there
-  ]
-]
-
 -- ---- the place that is found
 
 better_one : (a b : Option (ℕ × ℕ)) (p : ℕ × ℕ) → better a b ≡ Some p → (a ≡ Some p) ⊎ (b ≡ Some p)

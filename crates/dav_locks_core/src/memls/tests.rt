@@ -35,17 +35,30 @@ fn stand_at_their_nodes(rt: &impl Abort, locks: &MemLs) -> Result<(), Fail> {
     Ok(())
 }
 
+// A lock without an owner or an end.
+fn take(
+    alloc: Global,
+    locks: &mut MemLs,
+    rng: &mut Pcg64,
+    text: &str,
+    shared: bool,
+) -> Result<Result<DavLock, LockError>, Fail> {
+    let path = DavPath::new(alloc, text)?;
+    Ok(locks.lock(&path, None, None, None, shared, false, Moment(5), rng))
+}
+
+fn are_kept_at_their_nodes(rt: &impl Abort, alloc: Global, locks: &mut MemLs) -> Result<(), Fail> {
+    let mut rng = Pcg64::seed_from_u64(1);
+    for text in ["/a", "/a/b"] {
+        assert!(rt; take(alloc, locks, &mut rng, text, false)?.is_ok(), "{text}");
+    }
+    stand_at_their_nodes(rt, locks)
+}
+
 #[test]
 fn keeps_locks_at_their_nodes(rt: HostRuntime) -> Result<(), Fail> {
-    let alloc = rt.alloc();
-    let mut rng = Pcg64::seed_from_u64(1);
-    let mut locks = MemLs::new(alloc)?;
-    for text in ["/a", "/a/b"] {
-        let path = DavPath::new(alloc, text)?;
-        let answer = locks.lock(&path, None, None, None, false, false, Moment(5), &mut rng);
-        assert!(rt; answer.is_ok(), "{text}");
-    }
-    stand_at_their_nodes(&rt, &locks)
+    let mut locks = MemLs::new(rt.alloc())?;
+    are_kept_at_their_nodes(&rt, rt.alloc(), &mut locks)
 }
 
 // No locks, and one grant number left.
@@ -63,18 +76,24 @@ fn near_the_end(alloc: Global) -> FsResult<MemLs> {
     })
 }
 
-#[test]
-fn grants_to_the_last_number(rt: HostRuntime) -> Result<(), Fail> {
-    let alloc = rt.alloc();
+fn are_granted_to_the_last_number(
+    rt: &impl Abort,
+    alloc: Global,
+    locks: &mut MemLs,
+) -> Result<(), Fail> {
     let mut rng = Pcg64::seed_from_u64(1);
-    let mut locks = near_the_end(alloc)?;
-    let path = DavPath::new(alloc, "/a")?;
-    let first = locks.lock(&path, None, None, None, true, false, Moment(5), &mut rng);
+    let first = take(alloc, locks, &mut rng, "/a", true)?;
     assert!(rt; first.is_ok() && locks.next == u64::MAX);
-    let second = locks.lock(&path, None, None, None, true, false, Moment(5), &mut rng);
+    let second = take(alloc, locks, &mut rng, "/a", true)?;
     assert!(rt; matches!(second, Err(LockError::OutOfMemory)));
     assert!(rt; locks.next == u64::MAX);
     Ok(())
+}
+
+#[test]
+fn grants_to_the_last_number(rt: HostRuntime) -> Result<(), Fail> {
+    let mut locks = near_the_end(rt.alloc())?;
+    are_granted_to_the_last_number(&rt, rt.alloc(), &mut locks)
 }
 
 // A call, a timeout, and how many nodes the tree has then and how many ends are noted. `unlock` and `refresh` take the place of
@@ -105,55 +124,93 @@ expire 3000000004 - 2 1
 unlock 0 - 2 0
 expire 3000000005 - 2 0";
 
-#[test]
-fn holds_what_its_locks_need(rt: HostRuntime) -> Result<(), Fail> {
-    let alloc = rt.alloc();
-    let mut rng = Pcg64::seed_from_u64(1);
-    let mut locks = MemLs::new(alloc)?;
-    let mut granted: Vec<DavLock> = Vec::new(alloc);
-    for row in CALLS.split('\n') {
-        let words: Vec<&str> = row.split(' ').collect(alloc)?;
-        let [call, word, timeout, nodes, ends] = words.as_slice() else {
-            return Err("no row")?;
-        };
-        let timeout = timeout.parse::<u64>().ok();
-        match *call {
-            "new" => {
-                locks = MemLs::new(alloc)?;
-                granted.clear();
-            }
-            "lock" => {
-                let path = DavPath::new(alloc, word)?;
-                let answer = locks.lock(
-                    &path,
-                    None,
-                    None,
-                    timeout,
-                    false,
-                    false,
-                    Moment(5),
-                    &mut rng,
-                );
-                if let Ok(lock) = answer {
-                    granted.push(lock)?;
-                }
-            }
-            "unlock" => {
-                let lock = granted.get(word.parse::<usize>()?).ok_or("no lock")?;
-                let answer = locks.unlock(&lock.path, lock.token.as_str(), Moment(6));
-                assert!(rt; answer.is_ok(), "{row}");
-            }
-            "refresh" => {
-                let lock = granted.get(word.parse::<usize>()?).ok_or("no lock")?;
-                let answer = locks.refresh(&lock.path, lock.token.as_str(), timeout, Moment(6));
-                assert!(rt; answer.is_ok(), "{row}");
-            }
-            "expire" => locks.expire(Moment(word.parse()?)),
-            _ => locks.delete(&DavPath::new(alloc, word)?, Moment(6)),
-        }
-        assert_eq!(rt; locks.tree.node_count(), nodes.parse()?, "{row}");
-        assert_eq!(rt; locks.node_count(), locks.tree.node_count());
-        assert_eq!(rt; locks.ends.by_end.len(), ends.parse()?, "{row}");
+// Locks a path, or notes that it could not.
+fn play_lock(
+    alloc: Global,
+    locks: &mut MemLs,
+    granted: &mut Vec<DavLock>,
+    word: &str,
+    timeout: Option<u64>,
+) -> Result<(), Fail> {
+    let path = DavPath::new(alloc, word)?;
+    let mut rng = Pcg64::seed_from_u64(granted.len() as u64);
+    let answer = locks.lock(&path, None, None, timeout, false, false, Moment(5), &mut rng);
+    if let Ok(lock) = answer {
+        granted.push(lock)?;
     }
     Ok(())
+}
+
+// Unlocks or refreshes a lock, which `word` names by its place among those granted.
+fn play_by_lock(
+    locks: &mut MemLs,
+    granted: &[DavLock],
+    call: &str,
+    word: &str,
+    timeout: Option<u64>,
+) -> Result<bool, Fail> {
+    let lock = granted.get(word.parse::<usize>()?).ok_or("no lock")?;
+    if call == "unlock" {
+        return Ok(locks.unlock(&lock.path, lock.token.as_str(), Moment(6)).is_ok());
+    }
+    Ok(locks.refresh(&lock.path, lock.token.as_str(), timeout, Moment(6)).is_ok())
+}
+
+fn play_call(
+    rt: &impl Abort,
+    alloc: Global,
+    locks: &mut MemLs,
+    granted: &mut Vec<DavLock>,
+    call: &str,
+    word: &str,
+    timeout: Option<u64>,
+) -> Result<(), Fail> {
+    match call {
+        "new" => {
+            *locks = MemLs::new(alloc)?;
+            granted.clear();
+        }
+        "lock" => play_lock(alloc, locks, granted, word, timeout)?,
+        "expire" => locks.expire(Moment(word.parse()?)),
+        "delete" => locks.delete(&DavPath::new(alloc, word)?, Moment(6)),
+        _ => assert!(rt; play_by_lock(locks, granted.as_slice(), call, word, timeout)?, "{call} {word}"),
+    }
+    Ok(())
+}
+
+fn play_row(
+    rt: &impl Abort,
+    alloc: Global,
+    locks: &mut MemLs,
+    granted: &mut Vec<DavLock>,
+    row: &str,
+) -> Result<(), Fail> {
+    let words: Vec<&str> = row.split(' ').collect(alloc)?;
+    let [call, word, timeout, nodes, ends] = words.as_slice() else {
+        return Err("no row")?;
+    };
+    play_call(rt, alloc, locks, granted, call, word, timeout.parse::<u64>().ok())?;
+    assert_eq!(rt; locks.tree.node_count(), nodes.parse()?, "{row}");
+    assert_eq!(rt; locks.node_count(), locks.tree.node_count());
+    assert_eq!(rt; locks.ends.by_end.len(), ends.parse()?, "{row}");
+    Ok(())
+}
+
+fn play_rows(
+    rt: &impl Abort,
+    alloc: Global,
+    locks: &mut MemLs,
+    granted: &mut Vec<DavLock>,
+) -> Result<(), Fail> {
+    for row in CALLS.split('\n') {
+        play_row(rt, alloc, locks, granted, row)?;
+    }
+    Ok(())
+}
+
+#[test]
+fn holds_what_its_locks_need(rt: HostRuntime) -> Result<(), Fail> {
+    let mut locks = MemLs::new(rt.alloc())?;
+    let mut granted: Vec<DavLock> = Vec::new(rt.alloc());
+    play_rows(&rt, rt.alloc(), &mut locks, &mut granted)
 }

@@ -7,7 +7,7 @@ ghost use Rattle.dav_headers_core.specs.IfBytes.{Token};
 ghost use Rattle.dav_headers_core.specs.IfValues.{Located};
 ghost use Rattle.dav_locks_core.specs.Lock.{Lock};
 ghost use Rattle.dav_locks_core.specs.Locks.{covers};
-ghost use Rattle.dav_resource_core.specs.Step.{State};
+ghost use Rattle.dav_guarded_core.specs.Step.{State};
 ghost use Rattle.dav_session_core.specs.Conditions.{IfIs, Production, ProductionsAre};
 ghost use Rattle.dav_session_core.specs.Conditions.{conditions_hold, lists_of};
 ghost use Rattle.dav_fields_core.specs.IfTokens.{is_among, tokens_in, tokens_of};

@@ -13,14 +13,14 @@ ghost use Rattle.dav_methods_core.specs.CreatedPlaces.{place_fields};
 ghost use Rattle.dav_methods_core.specs.Placing.{target_by};
 ghost use Rattle.dav_session_core.specs.Sessions.{Looks, caller, live_of, state};
 ghost use Rattle.dav_faults_core.specs.declared.faults.Fault.TheVariants as fault;
-ghost use Rattle.dav_resource_core.specs.Checks.{refusing};
+ghost use Rattle.dav_guarded_core.specs.Checks.{refusing};
 
 use dav_documents_core::documents::url_text;
 use dav_faults_core::faults::Fault;
 use dav_fields_core::fields::add_location;
-use dav_resource_core::davpath::DavPath;
-use dav_resource_core::fs::DavMetaData;
-use dav_resource_core::memfs::MemFsMeta;
+use dav_guarded_core::davpath::DavPath;
+use dav_guarded_core::fs::DavMetaData;
+use dav_guarded_core::memfs::MemFsMeta;
 use dav_session_core::session::{Session, copy_of};
 use http::StatusCode;
 use http_server::Response;

@@ -16,7 +16,7 @@ ghost use Rattle.dav_methods_core.specs.Rooms.{Forgets};
 ghost use Rattle.dav_methods_core.specs.Rooms.{IsMadeUnder, IsReadyToLock, IsUnmade, LacksRoom};
 ghost use Rattle.dav_methods_core.specs.Rooms.{LeavesLock, conflict_at, wanted_of};
 ghost use Rattle.dav_fields_core.specs.RequestRefusals.{IsLastMoment};
-ghost use Rattle.dav_resource_core.specs.Requests.{Command as command};
+ghost use Rattle.dav_guarded_core.specs.Requests.{Command as command};
 ghost use Rattle.dav_session_core.specs.Sessions.{HasRoomFor, KeepsRoom, Ran, Requests};
 ghost use Rattle.dav_session_core.specs.Sessions.{Looks, Stays, caller, live_of, state};
 ghost use Rattle.dav_faults_core.specs.declared.faults.Fault.TheVariants as fault;
@@ -31,10 +31,10 @@ use dav_fields_core::depths::reach_in;
 use dav_fields_core::fields::add_lock_token;
 use dav_fields_core::lock_timeouts::{given_of, timeouts_in};
 use dav_fields_core::state_tokens::is_among;
-use dav_resource_core::davpath::DavPath;
-use dav_resource_core::fs::Moment;
-use dav_resource_core::ls::DavLock;
-use dav_resource_core::util::DavMethod;
+use dav_guarded_core::davpath::DavPath;
+use dav_guarded_core::fs::Moment;
+use dav_guarded_core::ls::DavLock;
+use dav_guarded_core::util::DavMethod;
 use dav_safe_methods_core::refusals::say_document;
 use dav_session_core::session::{Session, copy_of};
 use http::StatusCode;
@@ -44,7 +44,7 @@ use rand_core::Rng;
 use std::alloc::{AllocError, Global};
 
 /// What a LOCK asks for.
-#[derive(Debug, Drop)]
+#[derive(Drop)]
 pub struct Wanted {
     /// The owner's element, as it is kept.
     pub owner: Option<String>,

@@ -7,9 +7,9 @@ ghost use Rattle.dav_session_core.specs.Sessions.{Acts, Looks, Stays, caller, li
 use super::changes::{check_above, check_locks};
 use super::preconditions::check_conditions;
 use dav_faults_core::faults::Fault;
-use dav_resource_core::davpath::DavPath;
-use dav_resource_core::guarded::Command;
-use dav_resource_core::util::DavMethod;
+use dav_guarded_core::davpath::DavPath;
+use dav_guarded_core::guarded::Command;
+use dav_guarded_core::util::DavMethod;
 use dav_safe_methods_core::describing::is_folder;
 use dav_session_core::session::{Session, copy_of, refused};
 use http::StatusCode;

@@ -9,8 +9,8 @@ ghost use Rattle.dav_faults_core.specs.declared.faults.Fault.TheVariants as faul
 use dav_faults_core::faults::Fault;
 use dav_fields_core::etags::Standing;
 use dav_fields_core::preconditions::{Course, asks_nothing, read_course};
-use dav_resource_core::davpath::DavPath;
-use dav_resource_core::util::DavMethod;
+use dav_guarded_core::davpath::DavPath;
+use dav_guarded_core::util::DavMethod;
 use dav_session_core::session::Session;
 use http_header::{HeaderMap, HeaderValue};
 use rand_core::Rng;

@@ -8,7 +8,7 @@ ghost use Rattle.dav_faults_core.specs.declared.faults.Fault.TheVariants as faul
 
 use dav_faults_core::faults::Fault;
 use dav_fields_core::depths::{check_whole, reach_in};
-use dav_resource_core::davpath::DavPath;
+use dav_guarded_core::davpath::DavPath;
 use dav_safe_methods_core::describing::is_folder;
 use dav_session_core::session::{Session, copy_of};
 use http_header::{HeaderMap, HeaderValue};

@@ -5,7 +5,7 @@ ghost use Rattle.dav_session_core.specs.Sessions.{Looks, state};
 ghost use Rattle.dav_faults_core.specs.declared.faults.Fault.TheVariants as fault;
 
 use dav_faults_core::faults::Fault;
-use dav_resource_core::davpath::DavPath;
+use dav_guarded_core::davpath::DavPath;
 use dav_safe_methods_core::describing::is_folder;
 use dav_session_core::session::{Session, copy_of};
 use rand_core::Rng;

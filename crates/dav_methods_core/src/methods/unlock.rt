@@ -10,8 +10,8 @@ ghost use Rattle.dav_faults_core.specs.declared.faults.Fault.TheVariants as faul
 use super::preconditions::check_conditions;
 use dav_faults_core::faults::Fault;
 use dav_fields_core::senders::value_of;
-use dav_resource_core::davpath::DavPath;
-use dav_resource_core::util::DavMethod;
+use dav_guarded_core::davpath::DavPath;
+use dav_guarded_core::util::DavMethod;
 use dav_session_core::session::Session;
 use http::StatusCode;
 use http_header::{HeaderMap, HeaderName, HeaderValue};

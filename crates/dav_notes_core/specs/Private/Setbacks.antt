@@ -1,6 +1,6 @@
 -- What holds up one note.
 use Rattle.std.specs.Prelude.{Bool, true, false}
-use Rattle.dav_resource_core.specs.Stores.{Stores}
+use Rattle.dav_guarded_core.specs.Stores.{Stores}
 use Rattle.dav_notes_core.specs.declared.playing.Setback.{Setback}
 use Rattle.dav_notes_core.specs.declared.playing.Setback.TheVariants.{Memory, Damage}
 use Rattle.dav_notes_core.specs.Noting.{Noted}

@@ -15,14 +15,7 @@ use Rattle.dav_path_core.proofs.trees.Trees.{none≢some}
 use Rattle.dav_path_core.proofs.children.Views.{entry-view}
 use Rattle.dav_path_core.proofs.children.Walks.{Walk, walk_start, walk_next, walk_end}
 
-placed_at : {K : Type 0} (o : Option (ℕ × K)) (p : ℕ) → option_map (λ q. q.0) o ≡ Some p → (q : ℕ × K) × (o ≡ Some q)
-placed_at None p e = absurd (none≢some p e)
-placed_at (Some q) p e = (q, refl)
-
 module _ {K D : Type 0} where
-  -- a node with a parent has a place
-  pub placed : (t : Keyed K D) (n p : ℕ) → parent_number t n ≡ Some p → (q : ℕ × K) × (parent_and_key t n ≡ Some q)
-  placed t n p e = placed_at (parent_and_key t n) p e
 
   -- a walk along the children of p that stands at a number, with the pairs of those that it has passed
   pub record Gathered (eq : K → K → Bool) (t : TreeValue K D) (p : ℕ) (at : Option ℕ) (pairs : List (K × ℕ)) : Type 0 where

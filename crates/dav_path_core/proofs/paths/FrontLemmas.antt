@@ -105,16 +105,3 @@ fronts_of_one (x ∷ a) (y ∷ b) (z ∷ c) h k =
       | inl r ↦ inl (is_front-cons x y a b (p.0 ∙ sym q.0) r)
       | inr r ↦ inr (is_front-cons y x b a (q.0 ∙ sym p.0) r)
     ]
-
-above : (f q : Path) → is_front f q ≡ true → (f ≡ q) ⊎ (is_front f (parent q) ≡ true)
-above [] q h = inr refl
-above (x ∷ f) [] h = absurd (false≢true h)
-above (x ∷ []) (y ∷ []) h = inl (ap (λ z. z ∷ []) (is_front-parts x y [] [] h).0)
-above (x ∷ z ∷ f) (y ∷ []) h = absurd (false≢true (is_front-parts x y (z ∷ f) [] h).1)
-above (x ∷ f) (y ∷ w ∷ q) h =
-    let p = is_front-parts x y f (w ∷ q) h in
-    let head : x ≡ y = p.0 in
-    elim (above f (w ∷ q) p.1) [
-      | inl e ↦ inl (cc)
-      | inr r ↦ inr (is_front-cons x y f (parent (w ∷ q)) p.0 r)
-    ]

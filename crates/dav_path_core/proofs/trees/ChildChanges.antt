@@ -40,6 +40,3 @@ module _ {K D : Type 0} (t : Keyed K D) where
           | inl here ↦ subst (λ v. IsChild t q l v) (sym here.0) (ap parent_and_key_of at ∙ here.1)
           | inr other ↦ other.1
         ]
-
-    pub child-with_item : (q m : ℕ) (l : K) → IsChild (with_item t n d) q l m → IsChild t q l m
-    child-with_item = child-with_item-at (entry t n) refl

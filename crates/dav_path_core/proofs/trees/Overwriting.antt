@@ -52,9 +52,6 @@ module _ {K D : Type 0} where
     old_apart : c ≢ t.next
     old_apart = new_apart c old_known
 
-    p_apart : p ≢ c
-    p_apart is = no_cycle (parent_number t) (top eq t tree) old_parent (tree.attached p known) (subst (λ v. Under (parent_number t) v p) is here)
-
     -- the parents of w are those of t but for the new number and the old child
     module _ (w : Keyed K D) (same : (q : ℕ) → q ≢ t.next → q ≢ c → parent_number w q ≡ parent_number t q) where
       back : {q : ℕ} → Under (parent_number w) c q → IsKnown t q → Under (parent_number t) c q

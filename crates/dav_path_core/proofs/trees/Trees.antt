@@ -206,10 +206,6 @@ module _ {K D : Type 0} where
           ];
         }
 
-    pub IsTree-add : (t : Keyed K D) (p : ℕ) (k : K) (d : D) → IsTree eq t → IsKnown t p → child (eq k) t p ≡ None → IsTree eq (add t p k d)
-    IsTree-add t p k d tree known free =
-        IsTree-add_as t t.next (t.next + 1) p k d tree (no_next eq t tree) (next_positive eq t tree) (omega arith) (omega arith) known free
-
   pub IsTree-lone : (eq : K → K → Bool) (d : D) → IsTree eq (lone d)
   IsTree-lone eq d =
       let e : Entry K D = record { parent_and_key = None; item = d } in
@@ -259,7 +255,3 @@ module _ {K D : Type 0} where
         ap (λ b. cond b (cond (is_some (child (eq k) t p) && not overwrite) (Some Exists) None) (Some NotFound)) h
         ∙ ap (λ b. cond (is_some (child (eq k) t p) && not b) (Some Exists) None) o
         ∙ ap (λ b. cond b (Some Exists) None) (and_right (is_some (child (eq k) t p)) (not true) refl)
-
-    -- nothing is cleared where the key is free
-    pub cleared-free : child (eq k) t p ≡ None → without_key eq t p k ≡ t
-    cleared-free c = ap (cleared_at t) c

@@ -179,9 +179,6 @@ module _ {K D : Type 0} {eq : K → K → Bool} (t : TreeValue K D) (shape : IsT
       up_one : (p : ℕ) × (parent_number t.keyed at ≡ Some p) × Under (parent_number t.keyed) top p
       up_one = Under-step c.under ne
 
-      pub has_parent : parent_number t.keyed at ≡ None → ⊥
-      has_parent e = none≢some up_one.0 (sym e ∙ up_one.1)
-
       pub climb_up : (p : ℕ) → after t at ≡ None → parent_number t.keyed at ≡ Some p → ClimbsTo t top n p (turn + 1)
       climb_up p last e =
           let same : up_one.0 ≡ p = same_some up_one.0 p (sym up_one.1 ∙ e) in

@@ -105,20 +105,3 @@ impl<K: Eq + Hash + Clone, D> Tree<K, D> {
         }
     }
 }
-
-#[cfg(test)]
-mod tests {
-    use super::*;
-    use std::test::Fail;
-
-    #[test]
-    fn meets_each_node_behind_its_parent(rt: HostRuntime) -> Result<(), Fail> {
-        let mut tree: Tree<u8, u8> = Tree::new(rt.alloc(), 0)?;
-        let folder = tree.add_child(ROOT_ID, 1, 10, false)?;
-        let other = tree.add_child(ROOT_ID, 2, 20, false)?;
-        let below = tree.add_child(folder, 3, 30, false)?;
-        let met: Vec<u64> = tree.walk().collect(rt.alloc())?;
-        assert!(rt; met.as_slice() == [ROOT_ID, other, folder, below].as_slice());
-        Ok(())
-    }
-}

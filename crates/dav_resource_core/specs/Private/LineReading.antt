@@ -6,19 +6,19 @@ use Rattle.dav_path_core.specs.PathText.{PathText}
 use Rattle.dav_path_core.specs.PathReading.{Read}
 use Rattle.dav_path_core.specs.declared.davpath.ParseError.{ParseError}
 use Rattle.dav_path_core.specs.declared.davpath.ParseError.TheVariants.{OutOfMemory as NoRoom}
-use Rattle.dav_resource_core.specs.declared.guarded.requests.Command.{Command}
-use Rattle.dav_resource_core.specs.declared.guarded.requests.Request.{Request}
+use Rattle.dav_guarded_core.specs.declared.guarded.requests.Command.{Command}
+use Rattle.dav_guarded_core.specs.declared.guarded.requests.Request.{Request}
 use Rattle.dav_resource_core.specs.declared.davreplay.lines.Unread.{Unread}
 use Rattle.dav_resource_core.specs.declared.davreplay.lines.Unread.TheVariants.{Malformed, BadPath, OutOfMemory}
 use Rattle.dav_resource_core.specs.RequestLines.{Form, form_alone, has_two_paths, form_of_ends, form_with_one, form_with_two, form_with_three, words, Head, head_form, request_with}
-use Rattle.dav_resource_core.specs.declared.guarded.requests.Reply.{Reply}
-use Rattle.dav_resource_core.specs.declared.guarded.requests.Reply.TheVariants.{Lock as Granted}
-use Rattle.dav_resource_core.specs.declared.guarded.requests.Refusal.{Refusal}
-use Rattle.dav_resource_core.specs.declared.guarded.requests.Refusal.TheVariants.{Fs, Locked, NoLock, OutOfMemory as NoMemory}
+use Rattle.dav_guarded_core.specs.declared.guarded.requests.Reply.{Reply}
+use Rattle.dav_guarded_core.specs.declared.guarded.requests.Reply.TheVariants.{Lock as Granted}
+use Rattle.dav_guarded_core.specs.declared.guarded.requests.Refusal.{Refusal}
+use Rattle.dav_guarded_core.specs.declared.guarded.requests.Refusal.TheVariants.{Fs, Locked, NoLock, OutOfMemory as NoMemory}
 use Rattle.dav_resource_core.specs.AnswerTexts.{error_line, locked_line, no_lock_line, out_of_memory_line}
 use Rattle.dav_resource_core.specs.Labels.{label_in}
-use Rattle.dav_resource_core.specs.Requests as plain
-use Rattle.dav_resource_core.specs.Served.{command_of, request_of}
+use Rattle.dav_guarded_core.specs.Requests as plain
+use Rattle.dav_guarded_core.specs.Served.{command_of, request_of}
 
 -- what a word says, or that it is malformed
 abbrev pub exactly : {U : Type 0} → Option U → Result U Unread

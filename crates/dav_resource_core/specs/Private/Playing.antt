@@ -5,13 +5,13 @@ use Rattle.std.specs.List.{concat}
 use Rattle.line_streams.specs.Lines.{lines}
 use Rattle.dav_resource_core.specs.declared.davreplay.lines.Unread.{Unread}
 use Rattle.dav_resource_core.specs.declared.davreplay.lines.Unread.TheVariants.{Malformed, BadPath, OutOfMemory}
-use Rattle.dav_resource_core.specs.declared.guarded.requests.Request.{Request}
+use Rattle.dav_guarded_core.specs.declared.guarded.requests.Request.{Request}
 use Rattle.dav_resource_core.specs.AnswerTexts.{answer_line, bad_path_line, out_of_memory_line, tokens_after}
 use Rattle.dav_resource_core.specs.Labels.{label_in}
 use Rattle.dav_resource_core.specs.Private.LineReading.{LineIs}
-use Rattle.dav_resource_core.specs.Requests as plain
-use Rattle.dav_resource_core.specs.Served.{request_of}
-use Rattle.dav_resource_core.specs.Step.{State, Step}
+use Rattle.dav_guarded_core.specs.Requests as plain
+use Rattle.dav_guarded_core.specs.Served.{request_of}
+use Rattle.dav_guarded_core.specs.Step.{State, Step}
 
 -- the stores with what the generator still gives, and the tokens of the locks granted so far, in the order of granting
 abbrev pub Played : Type 0

@@ -13,7 +13,7 @@ ghost use Rattle.dav_resource_core.specs.Private.LineReading.{refusal_line};
 use super::OUT_OF_MEMORY;
 use super::labels::Labels;
 use super::names::file_error;
-use crate::guarded::Refusal;
+use dav_guarded_core::guarded::Refusal;
 use dav_files_core::fs::{DavDirEntry, DavProp};
 use dav_files_core::memfs::{Kind, MemFsEntry, MemFsMeta};
 use dav_locks_core::ls::DavLock;

@@ -6,11 +6,11 @@ ghost use Rattle.dav_files_core.specs.Properties.{property_of};
 ghost use Rattle.dav_headers_core.specs.CommaPieces.{is_comma};
 ghost use Rattle.line_streams.specs.Numerals.{numeral};
 ghost use Rattle.dav_resource_core.specs.RequestLines.{words, depth_of_word, scope_of_word, timeout_word, place_word, number_or, head_form, text_word, hex_word, is_count, is_label, labels_word, put_form, write_form, read_form, move_form, copy_form, set_form, delete_form, props_form, prop_form, lock_form, check_form, unlock_form, refresh_form, form_alone, has_two_paths, form_of_ends, form_with_one, form_with_two, form_with_three};
-ghost use Rattle.dav_resource_core.specs.Requests.Command.{PatchProps};
+ghost use Rattle.dav_guarded_core.specs.Requests.Command.{PatchProps};
 ghost use Rattle.dav_resource_core.specs.Private.LineReading.{exactly, Gives, IsWithOne, CommandIs, both, command_reading, IsReadCommand, IsReadOrRoom, IsAskedOrRoom, line_request, WordsAre, LineIs};
 
 use super::labels::Labels;
-use crate::guarded::{Command, Request};
+use dav_guarded_core::guarded::{Command, Request};
 use bytes::Bytes;
 use dav_files_core::fs::{DavProp, Moment};
 use dav_path_core::davpath::{DavPath, ParseError};

@@ -4,18 +4,18 @@ ghost use Rattle.std.specs.Io.KnownBytes.{Appends};
 ghost use Rattle.dav_resource_core.specs.AnswerTexts.{answer_line, label_text, lock_line, ok_line, reply_line, spaced_word, tokens_after};
 ghost use Rattle.dav_resource_core.specs.Labels.{label_in};
 ghost use Rattle.dav_resource_core.specs.Private.LineReading.{IsNoLock};
-ghost use Rattle.dav_resource_core.specs.Requests as plain;
-ghost use Rattle.dav_resource_core.specs.declared.guarded.requests.Reply.TheVariants.{Lock as Granted};
+ghost use Rattle.dav_guarded_core.specs.Requests as plain;
+ghost use Rattle.dav_guarded_core.specs.declared.guarded.requests.Reply.TheVariants.{Lock as Granted};
 ghost use Rattle.dav_resource_core.specs.Private.Playing.{PlaysRequest};
-ghost use Rattle.dav_resource_core.specs.Served.{answer_of, command_of, reply_of, request_of};
-ghost use Rattle.dav_resource_core.specs.Stores.{state_of};
+ghost use Rattle.dav_guarded_core.specs.Served.{answer_of, command_of, reply_of, request_of};
+ghost use Rattle.dav_guarded_core.specs.Stores.{state_of};
 
 use super::answers::{
     write_bytes, write_entries, write_locks, write_meta, write_props, write_refreshed,
     write_refusal, write_statuses,
 };
 use super::labels::Labels;
-use crate::guarded::{Command, Guarded, Refusal, Reply, Request};
+use dav_guarded_core::guarded::{Command, Guarded, Refusal, Reply, Request};
 use dav_locks_core::ls::DavLock;
 use line_streams::Fault;
 use rand_core::Rng;

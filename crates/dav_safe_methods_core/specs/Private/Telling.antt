@@ -2,7 +2,7 @@
 use Rattle.std.specs.Prelude.{◌≡◌, ℕ, List, flat_map}
 use Rattle.dav_xml_core.specs.Writing.{Writing}
 use Rattle.dav_path_core.specs.Fronts.{Path}
-use Rattle.dav_resource_core.specs.Step.{State}
+use Rattle.dav_guarded_core.specs.Step.{State}
 use Rattle.dav_session_core.specs.Callers.{Caller}
 use Rattle.dav_safe_methods_core.specs.PropfindMethod.{DescribesEach}
 use Rattle.dav_documents_core.specs.Pieces.{and_pieces}

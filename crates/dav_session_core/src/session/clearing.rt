@@ -21,9 +21,9 @@ use super::{RoomError, Session};
 use dav_documents_core::lock_documents::is_principal;
 use dav_faults_core::faults::Fault;
 use dav_fields_core::state_tokens::is_among;
-use dav_resource_core::davpath::DavPath;
-use dav_resource_core::fs::DavMetaData;
-use dav_resource_core::ls::DavLock;
+use dav_guarded_core::davpath::DavPath;
+use dav_guarded_core::fs::DavMetaData;
+use dav_guarded_core::ls::DavLock;
 use rand_core::Rng;
 use std::alloc::Global;
 

@@ -1,8 +1,8 @@
 //! How resources are copied, so that no lock stops it half-way.
 ghost use Rattle.std.specs.Prelude.{◌≡◌, Ok, IfErr, OnErr, OnOk};
 ghost use Rattle.dav_path_core.specs.Segments.{segments};
-ghost use Rattle.dav_resource_core.specs.Requests.{Command as command, Reply};
-ghost use Rattle.dav_resource_core.specs.Step.{Step};
+ghost use Rattle.dav_guarded_core.specs.Requests.{Command as command, Reply};
+ghost use Rattle.dav_guarded_core.specs.Step.{Step};
 ghost use Rattle.dav_session_core.specs.Callers.{asking};
 ghost use Rattle.dav_session_core.specs.Copying.{IsCopied, IsPartlyCopied};
 ghost use Rattle.dav_session_core.specs.Copying.{NotCopied, copies_made};
@@ -13,12 +13,12 @@ ghost use Rattle.dav_session_core.specs.Unhindered.{WhereReady, ends_of};
 use super::Session;
 use super::questions::{copy_of, refused};
 use dav_faults_core::faults::Fault;
-use dav_resource_core::davpath::DavPath;
-use dav_resource_core::guarded::Command;
+use dav_guarded_core::davpath::DavPath;
+use dav_guarded_core::guarded::Command;
 use rand_core::Rng;
 
 /// A resource that is copied, and the place that it is copied to (own).
-#[derive(Debug, Drop)]
+#[derive(Drop)]
 pub struct Transfer {
     /// The path of the resource.
     pub from: DavPath,

@@ -5,10 +5,10 @@ ghost use Rattle.dav_path_core.specs.Segments.{segments};
 ghost use Rattle.dav_locks_core.specs.Exclusive.{Exclusive};
 ghost use Rattle.dav_locks_core.specs.Lock.{Lock};
 ghost use Rattle.dav_locks_core.specs.Locks.{lock_path};
-ghost use Rattle.dav_resource_core.specs.Requests as reply_of;
-ghost use Rattle.dav_resource_core.specs.Requests.{Command as command};
-ghost use Rattle.dav_resource_core.specs.Requests.{Refusal as refusal};
-ghost use Rattle.dav_resource_core.specs.Step.{State};
+ghost use Rattle.dav_guarded_core.specs.Requests as reply_of;
+ghost use Rattle.dav_guarded_core.specs.Requests.{Command as command};
+ghost use Rattle.dav_guarded_core.specs.Requests.{Refusal as refusal};
+ghost use Rattle.dav_guarded_core.specs.Step.{State};
 ghost use Rattle.dav_session_core.specs.Callers.{KeepsApart};
 ghost use Rattle.dav_session_core.specs.Granting.{IsConflictOf, granted_lock, stands_above};
 ghost use Rattle.dav_session_core.specs.Granting.{with_lock, with_token_drawn, PutsUnder};
@@ -22,9 +22,9 @@ use super::Session;
 use super::questions::refused;
 use bytes::Bytes;
 use dav_faults_core::faults::Fault;
-use dav_resource_core::davpath::DavPath;
-use dav_resource_core::guarded::{Command, Refusal, Reply};
-use dav_resource_core::ls::DavLock;
+use dav_guarded_core::davpath::DavPath;
+use dav_guarded_core::guarded::{Command, Refusal, Reply};
+use dav_guarded_core::ls::DavLock;
 use rand_core::Rng;
 
 impl<R: Rng> Session<R> {

@@ -12,9 +12,9 @@ ghost use Rattle.dav_session_core.specs.Questions.{against_change, covering};
 use super::Session;
 use super::questions::copy_of;
 use dav_faults_core::faults::Fault;
-use dav_resource_core::davpath::DavPath;
-use dav_resource_core::guarded::{Command, Refusal, Reply};
-use dav_resource_core::ls::DavLock;
+use dav_guarded_core::davpath::DavPath;
+use dav_guarded_core::guarded::{Command, Refusal, Reply};
+use dav_guarded_core::ls::DavLock;
 use rand_core::Rng;
 use std::convert::AsStr;
 

@@ -5,14 +5,14 @@ ghost use Rattle.dav_files_core.specs.Properties.{patch_update};
 ghost use Rattle.dav_session_core.specs.Patching.{IsPatched, KeepsProperties};
 ghost use Rattle.dav_session_core.specs.PatchRefusals.{patch_fault};
 ghost use Rattle.dav_session_core.specs.Sessions.{Acts, caller, live_of, state, Stays};
-ghost use Rattle.dav_resource_core.specs.Served.{refusal_of};
+ghost use Rattle.dav_guarded_core.specs.Served.{refusal_of};
 
 use super::Session;
 use dav_faults_core::faults::Fault;
-use dav_resource_core::davpath::DavPath;
-use dav_resource_core::errors::FsError;
-use dav_resource_core::fs::DavProp;
-use dav_resource_core::guarded::{Command, Refusal};
+use dav_guarded_core::davpath::DavPath;
+use dav_guarded_core::errors::FsError;
+use dav_guarded_core::fs::DavProp;
+use dav_guarded_core::guarded::{Command, Refusal};
 use rand_core::Rng;
 
 impl<R: Rng> Session<R> {

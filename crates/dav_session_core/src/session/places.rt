@@ -11,8 +11,8 @@ ghost use Rattle.dav_session_core.specs.Unhindered.{paths_of};
 use super::Session;
 use super::questions::copy_of;
 use dav_faults_core::faults::Fault;
-use dav_resource_core::davheaders::Depth;
-use dav_resource_core::davpath::DavPath;
+use dav_guarded_core::davheaders::Depth;
+use dav_guarded_core::davpath::DavPath;
 use rand_core::Rng;
 use std::alloc::{AllocError, Global};
 

@@ -9,16 +9,16 @@ ghost use Rattle.dav_files_core.specs.Resources.{IsResourceMap};
 ghost use Rattle.dav_fields_core.specs.Marking.{IsRead};
 ghost use Rattle.dav_session_core.specs.StoreRefusals.{list_fault, put_fault};
 ghost use Rattle.dav_session_core.specs.Sessions.{Looks, state};
-ghost use Rattle.dav_resource_core.specs.Served.{refusal_of};
+ghost use Rattle.dav_guarded_core.specs.Served.{refusal_of};
 ghost use Rattle.dav_session_core.specs.Questions.{FailsToInspect, LacksKind, covering, found_at};
 
 use super::Session;
 use bytes::Bytes;
 use dav_faults_core::faults::Fault;
-use dav_resource_core::davpath::DavPath;
-use dav_resource_core::errors::FsError;
-use dav_resource_core::guarded::{Command, Inspection, Refusal, Reply};
-use dav_resource_core::memfs::{MemFsEntry, MemFsMeta};
+use dav_guarded_core::davpath::DavPath;
+use dav_guarded_core::errors::FsError;
+use dav_guarded_core::guarded::{Command, Inspection, Refusal, Reply};
+use dav_guarded_core::memfs::{MemFsEntry, MemFsMeta};
 use rand_core::Rng;
 use std::alloc::AllocError;
 

@@ -9,8 +9,8 @@ ghost use Rattle.dav_faults_core.specs.declared.faults.Fault.TheVariants as faul
 
 use super::Session;
 use dav_faults_core::faults::Fault;
-use dav_resource_core::davpath::DavPath;
-use dav_resource_core::guarded::Command;
+use dav_guarded_core::davpath::DavPath;
+use dav_guarded_core::guarded::Command;
 use rand_core::Rng;
 
 impl<R: Rng> Session<R> {

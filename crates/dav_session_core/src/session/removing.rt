@@ -14,8 +14,8 @@ use super::questions::copy_of;
 use super::rooms::cost_of_removals;
 use super::{RoomError, Session};
 use dav_faults_core::faults::Fault;
-use dav_resource_core::davpath::DavPath;
-use dav_resource_core::guarded::Command;
+use dav_guarded_core::davpath::DavPath;
+use dav_guarded_core::guarded::Command;
 use rand_core::Rng;
 
 impl<R: Rng> Session<R> {

@@ -4,7 +4,7 @@ ghost use Rattle.std.specs.Prelude.{string_bytes, true, false, if◌then◌else�
 ghost use Rattle.dav_notes_core.specs.Asking.{sender_of};
 ghost use Rattle.dav_notes_core.specs.Costs.{in_eight_bytes, cost_for};
 ghost use Rattle.dav_path_core.specs.Segments.{segments};
-ghost use Rattle.dav_resource_core.specs.Requests.{Command as command};
+ghost use Rattle.dav_guarded_core.specs.Requests.{Command as command};
 ghost use Rattle.dav_session_core.specs.NoteCosts.{copies_cost, removal_cost};
 ghost use Rattle.dav_session_core.specs.Sessions.{HasRoomForNotes, IsAsBefore, bytes_left, caller, noting};
 ghost use Rattle.dav_session_core.specs.declared.session.rooms.RoomError.TheVariants as room_error;
@@ -15,11 +15,11 @@ use super::copying::Transfer;
 use dav_faults_core::faults::Fault;
 use dav_notes_core::costs::{cost_of_lock, cost_of_removal, cost_of_transfer, cost_of_unlock};
 use dav_notes_core::senders::Sender;
-use dav_resource_core::davpath::DavPath;
+use dav_guarded_core::davpath::DavPath;
 use rand_core::Rng;
 
 /// Why there is no room for the notes of requests (own).
-#[derive(Debug, Drop)]
+#[derive(Drop)]
 pub enum RoomError {
     /// There is no memory for them.
     OutOfMemory,

@@ -14,9 +14,9 @@ use super::questions::copy_of;
 use super::unlocking::depth_of;
 use dav_faults_core::faults::Fault;
 use dav_fields_core::etags::{Standing, file_tag};
-use dav_resource_core::davpath::DavPath;
-use dav_resource_core::fs::{DavMetaData, Moment};
-use dav_resource_core::memfs::MemFsMeta;
+use dav_guarded_core::davpath::DavPath;
+use dav_guarded_core::fs::{DavMetaData, Moment};
+use dav_guarded_core::memfs::MemFsMeta;
 use rand_core::Rng;
 use std::alloc::Global;
 

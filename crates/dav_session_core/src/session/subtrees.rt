@@ -20,9 +20,9 @@ ghost use Rattle.dav_session_core.specs.Unhindered.{paths_of};
 use super::Session;
 use super::questions::copy_of;
 use dav_faults_core::faults::Fault;
-use dav_resource_core::davpath::DavPath;
-use dav_resource_core::fs::DavDirEntry;
-use dav_resource_core::memfs::MemFsEntry;
+use dav_guarded_core::davpath::DavPath;
+use dav_guarded_core::fs::DavDirEntry;
+use dav_guarded_core::memfs::MemFsEntry;
 use rand_core::Rng;
 use std::alloc::{AllocError, Global};
 

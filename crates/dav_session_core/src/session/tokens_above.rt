@@ -10,8 +10,8 @@ use super::Session;
 use super::questions::copy_of;
 use super::unlocking::depth_of;
 use dav_faults_core::faults::Fault;
-use dav_resource_core::davpath::DavPath;
-use dav_resource_core::ls::DavLock;
+use dav_guarded_core::davpath::DavPath;
+use dav_guarded_core::ls::DavLock;
 use rand_core::Rng;
 use std::alloc::{AllocError, Global};
 

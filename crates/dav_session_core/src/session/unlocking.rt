@@ -5,7 +5,7 @@ ghost use Rattle.std.specs.List.{list_any};
 ghost use Rattle.dav_path_core.specs.Segments.{segments};
 ghost use Rattle.dav_locks_core.specs.Locks.{covers, same_text};
 ghost use Rattle.dav_session_core.specs.Conditions.{has_token};
-ghost use Rattle.dav_resource_core.specs.Requests.{Command as command};
+ghost use Rattle.dav_guarded_core.specs.Requests.{Command as command};
 ghost use Rattle.dav_session_core.specs.Sessions.{HasRoomFor, IsAsBefore, caller, live_of, Looks};
 ghost use Rattle.dav_session_core.specs.Sessions.{Requests, state};
 ghost use Rattle.dav_session_core.specs.Unlocking.{EndsOwn, IsAnothers, KeepsLock};
@@ -18,9 +18,9 @@ use super::{RoomError, Session};
 use dav_documents_core::lock_documents::is_principal;
 use dav_faults_core::faults::Fault;
 use dav_notes_core::costs::cost_of_unlock;
-use dav_resource_core::davpath::DavPath;
-use dav_resource_core::guarded::Command;
-use dav_resource_core::ls::DavLock;
+use dav_guarded_core::davpath::DavPath;
+use dav_guarded_core::guarded::Command;
+use dav_guarded_core::ls::DavLock;
 use rand_core::Rng;
 
 impl<R: Rng> Session<R> {

@@ -3,7 +3,7 @@ use Rattle.std.specs.Prelude.{◌≡◌, ℕ, Result, Ok, Err}
 use Rattle.dav_path_core.specs.declared.errors.FsError.{FsError}
 use Rattle.dav_path_core.specs.declared.errors.FsError.TheVariants.{InsufficientStorage}
 use Rattle.dav_path_core.specs.declared.util.Moment.{Moment}
-use Rattle.dav_resource_core.specs.Stores.{Stores}
+use Rattle.dav_guarded_core.specs.Stores.{Stores}
 use Rattle.dav_effects_core.specs.declared.error.ReadError.{ReadError}
 use Rattle.dav_effects_core.specs.declared.error.ReadError.TheVariants.{Memory, Fault}
 use Rattle.dav_effects_core.specs.declared.error.RecordError.{RecordError}

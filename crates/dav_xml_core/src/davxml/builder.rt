@@ -19,7 +19,7 @@ use super::scope::Scope;
 use std::alloc::{AllocError, Global};
 
 /// An element that has begun.
-#[derive(Debug, Drop)]
+#[derive(Drop)]
 pub(super) struct Element<'a> {
     pub(super) name: QName<'a>,
     /// How many of the bindings hold around it.
@@ -27,7 +27,7 @@ pub(super) struct Element<'a> {
 }
 
 /// What a front of a document says.
-#[derive(Debug, Drop)]
+#[derive(Drop)]
 pub(super) struct Builder<'a> {
     pub(super) nodes: Vec<Node>,
     /// The text since the last node.

@@ -2,7 +2,7 @@
 use std::rc::RcStr;
 
 /// The name of an element or an attribute (Namespaces in XML 1.0 section 2.1).
-#[derive(Debug, Drop)]
+#[derive(Drop)]
 pub struct Name {
     /// The name of its namespace, which many names share. Without a namespace it is empty.
     pub namespace: RcStr,
@@ -11,7 +11,7 @@ pub struct Name {
 }
 
 /// An attribute with its value, in which references are replaced (XML 1.0 section 3.3.3).
-#[derive(Debug, Drop)]
+#[derive(Drop)]
 pub struct Attribute {
     /// Its name.
     pub name: Name,
@@ -20,7 +20,7 @@ pub struct Attribute {
 }
 
 /// A part of a document, in the order of its text (own).
-#[derive(Debug, Drop)]
+#[derive(Drop)]
 pub enum Node {
     /// An element begins. Declarations of namespaces are no attributes of it.
     Start(Name, Vec<Attribute>),
@@ -32,7 +32,7 @@ pub enum Node {
 
 /// A document (own): the nodes of one element, in the order of its text. Each element that begins ends, and an empty one
 /// begins and ends. Comments, processing instructions and what stands outside the element are no part of it.
-#[derive(Debug, Drop)]
+#[derive(Drop)]
 pub struct Document {
     /// The nodes.
     pub nodes: Vec<Node>,

@@ -25,7 +25,7 @@ pub enum XmlError {
 }
 
 /// Why a part of a text isn't read.
-#[derive(Debug, Drop, Clone, Copy, PartialEq, Eq)]
+#[derive(Drop, Clone, Copy, PartialEq, Eq)]
 pub(super) enum Fault {
     /// It is not as its production says.
     Malformed,
@@ -74,7 +74,7 @@ impl<T: Drop> From<AllocFailed<T>> for XmlError {
 }
 
 /// Why a document isn't read.
-#[derive(Debug, Drop, Clone, Copy, PartialEq, Eq)]
+#[derive(Drop, Clone, Copy, PartialEq, Eq)]
 pub(super) enum Halt {
     /// It is not as the productions say, from where so many characters are left.
     Malformed {

@@ -13,7 +13,7 @@ use super::scan::{after_char, after_mark, begins_white, skip_white, until};
 use std::alloc::Global;
 
 /// An attribute as it is written.
-#[derive(Debug, Drop)]
+#[derive(Drop)]
 pub(super) struct RawAttribute<'a> {
     pub(super) name: QName<'a>,
     /// What stands between the quotes.
@@ -21,7 +21,7 @@ pub(super) struct RawAttribute<'a> {
 }
 
 /// A part of a document's text.
-#[derive(Debug, Drop)]
+#[derive(Drop)]
 pub(super) enum Piece<'a> {
     /// A start tag, or an empty one.
     Tag(QName<'a>, Vec<RawAttribute<'a>>, bool),

@@ -8,7 +8,7 @@ ghost use Rattle.dav_xml_core.specs.Views as views;
 use super::scan::after_char;
 
 /// A name as it is written. Without a prefix, the prefix is empty.
-#[derive(Clone, Copy, Debug)]
+#[derive(Clone, Copy)]
 pub(super) struct QName<'a> {
     pub(super) prefix: &'a [char],
     pub(super) local: &'a [char],

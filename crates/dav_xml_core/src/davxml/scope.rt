@@ -10,7 +10,7 @@ use std::marker::Model;
 use std::rc::RcStr;
 
 /// A prefix, which is empty for the default namespace, and what it is bound to.
-#[derive(Debug, Drop)]
+#[derive(Drop)]
 pub(super) struct Binding<'a> {
     prefix: &'a [char],
     pub(super) namespace: RcStr,
@@ -21,7 +21,7 @@ pub(super) struct Binding<'a> {
 }
 
 /// The bindings that hold, in their order. A prefix is bound by the last binding of it.
-#[derive(Debug, Drop)]
+#[derive(Drop)]
 pub(super) struct Scope<'a> {
     bindings: Vec<Binding<'a>>,
     /// The place of the last binding of each prefix.

@@ -24,7 +24,7 @@ const XML_NAMESPACE: &str = "http://www.w3.org/XML/1998/namespace";
 
 /// A document that is written as it is made: what is written so far, and the names of the elements that have begun and not
 /// ended. After an error it is of no use.
-#[derive(Debug, Drop)]
+#[derive(Drop)]
 pub struct Writer {
     alloc: Global,
     first: &'static [u8],

@@ -1,6 +1,6 @@
 use Rattle.std.proofs.Common.{drop, arith}
 use Rattle.dav_effects_core.specs.ByteForms.{common_len}
-use Rattle.dav_effects_core.proofs.Fronts.{common_one, common_other, common_end_before, common_end_text}
+use Rattle.dav_effects_core.proofs.Fronts.{common_one, common_end_text}
 use Rattle.dav_effects_core.proofs.fields.common_len.Goals as goal
 
 pub comparing-preserved : goal.comparing-preserved

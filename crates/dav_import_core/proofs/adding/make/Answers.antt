@@ -1,5 +1,5 @@
 use Rattle.std.proofs.Common.{sym, subst}
-use Rattle.dav_resource_core.specs.Served.{refusal_of, reply_of, request_of}
+use Rattle.dav_guarded_core.specs.Served.{refusal_of, reply_of, request_of}
 use Rattle.dav_notes_core.proofs.LiveLemmas.{refused_live}
 use Rattle.dav_notes_core.specs.Changes.{lacks_memory}
 use Rattle.dav_import_core.specs.Adding.{LeavesAll}

@@ -1,6 +1,6 @@
 use Rattle.std.proofs.Common.{◌≡◌, ◌+◌, true, drop, refl, sym, ap, ◌∙◌}
 use Rattle.dav_headers_core.specs.IfValues.{condition_of, conditions_of}
-use Rattle.dav_resource_core.specs.Step.{State}
+use Rattle.dav_guarded_core.specs.Step.{State}
 use Rattle.dav_session_core.specs.Callers.{live}
 use Rattle.dav_session_core.specs.Conditions.{condition_holds, conditions_hold}
 use Rattle.dav_session_core.specs.Sessions as spec

@@ -2,7 +2,7 @@ use Rattle.std.proofs.Common.{◌≡◌, ◌+◌, true, false, List, drop, map, 
 use Rattle.std.specs.Option.{option_or}
 use Rattle.dav_path_core.specs.Segments.{segments}
 use Rattle.dav_headers_core.specs.IfValues.{Located, located_list, conditions_of}
-use Rattle.dav_resource_core.specs.Step.{State}
+use Rattle.dav_guarded_core.specs.Step.{State}
 use Rattle.dav_session_core.specs.Callers.{live}
 use Rattle.dav_session_core.specs.Conditions.{ListsAre, conditions_hold}
 use Rattle.dav_session_core.specs.Sessions as spec

@@ -1,5 +1,5 @@
 use Rattle.std.proofs.Common.{◌∙◌, ap, string_bytes}
-use Rattle.dav_resource_core.specs.Served.{answer_of, command_of, request_of}
+use Rattle.dav_guarded_core.specs.Served.{answer_of, command_of, request_of}
 use Rattle.dav_notes_core.specs.Asking.{Caller, also_naming, asker_of, asking, sender_of}
 use Rattle.dav_notes_core.proofs.NotedLemmas.{as_asked}
 use Rattle.dav_notes_core.proofs.noted.answer_naming.Goals as goal

@@ -1,4 +1,4 @@
-use Rattle.dav_resource_core.specs.Served.{command_of, request_of}
+use Rattle.dav_guarded_core.specs.Served.{command_of, request_of}
 use Rattle.dav_notes_core.specs.Asking.{asking, sender_of}
 use Rattle.dav_notes_core.proofs.NotedLemmas.{as_asked}
 use Rattle.dav_notes_core.proofs.noted.change.Goals as goal

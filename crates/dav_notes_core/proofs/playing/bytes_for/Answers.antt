@@ -1,5 +1,5 @@
 use Rattle.std.proofs.Common.{ℕ, List, Option, sym, subst}
-use Rattle.dav_resource_core.specs.Served.{command_of}
+use Rattle.dav_guarded_core.specs.Served.{command_of}
 use Rattle.dav_notes_core.specs.Drawing.{stream_giving}
 use Rattle.dav_notes_core.specs.Stepping.{Draws}
 use Rattle.dav_notes_core.proofs.DrawLemmas.{draws_some}

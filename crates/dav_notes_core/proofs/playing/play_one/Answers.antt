@@ -1,5 +1,5 @@
 use Rattle.std.proofs.Common.{sym, subst}
-use Rattle.dav_resource_core.specs.Served.{refusal_of}
+use Rattle.dav_guarded_core.specs.Served.{refusal_of}
 use Rattle.dav_notes_core.specs.Noting.{note_of}
 use Rattle.dav_notes_core.specs.Private.Setbacks.{HoldsUp}
 use Rattle.dav_notes_core.proofs.PlayLemmas.{held_up}

@@ -1,6 +1,6 @@
 use Rattle.std.specs.Io.Buffered.{writer_contents}
 use Rattle.dav_resource_core.specs.Private.Playing.{Played}
-use Rattle.dav_resource_core.specs.Stores.{state_of}
+use Rattle.dav_guarded_core.specs.Stores.{state_of}
 use Rattle.dav_resource_core.proofs.PlayingLaws.{line_stopped_by, part_written}
 use Rattle.dav_resource_core.proofs.davreplay.play_line.Goals as goal
 

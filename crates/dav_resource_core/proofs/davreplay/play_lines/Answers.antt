@@ -1,6 +1,6 @@
 use Rattle.std.proofs.Common.{subst, sym}
 use Rattle.std.specs.Io.Buffered.{reader_remaining, writer_contents}
-use Rattle.dav_resource_core.specs.Stores.{state_of}
+use Rattle.dav_guarded_core.specs.Stores.{state_of}
 use Rattle.dav_resource_core.proofs.PlayingLaws.{Gave, kept_same, none_played, one_more, all_played, stopped, stopped_before, stopped_by, stopped_within}
 use Rattle.dav_resource_core.proofs.davreplay.play_lines.Goals as goal
 

@@ -1,5 +1,5 @@
 use Rattle.std.specs.Io.Buffered.{reader_remaining, writer_contents}
-use Rattle.dav_resource_core.specs.Stores.{state_of}
+use Rattle.dav_guarded_core.specs.Stores.{state_of}
 use Rattle.dav_resource_core.proofs.PlayingLaws.{PlayedFront}
 use Rattle.dav_resource_core.proofs.davreplay.play_lines.Given as goal
 

@@ -1,6 +1,6 @@
 use Rattle.std.proofs.Common.{inr, refl, sym, ap, ◌∙◌, subst}
 use Rattle.std.proofs.lemmas.Result.{err_from_is_err_and}
-use Rattle.dav_resource_core.specs.Step.{State}
+use Rattle.dav_guarded_core.specs.Step.{State}
 use Rattle.dav_handler_core.specs.Server.{IsFrom, Options, site_for}
 use Rattle.dav_fields_core.specs.Bases.{site_of}
 use Rattle.dav_session_core.specs.Callers.{Caller, RunBy}

@@ -1,7 +1,7 @@
 use Rattle.std.proofs.Common.{refl, ap, subst, false}
 use Rattle.std.specs.Prelude.{IfOk, IfErr}
 use Rattle.dav_path_core.specs.Segments.{segments}
-use Rattle.dav_resource_core.specs.Step.{State}
+use Rattle.dav_guarded_core.specs.Step.{State}
 use Rattle.dav_session_core.specs.Callers.{Caller}
 use Rattle.dav_fields_core.specs.Fields.{SendsMore, nothing_sent}
 use Rattle.http.specs.Request.{head_of}

@@ -1,6 +1,6 @@
 use Rattle.std.proofs.Common.{inl, inr, true, refl, ◌∙◌, ap, subst}
 use Rattle.std.proofs.lemmas.Result.{err_from_is_err_and}
-use Rattle.dav_resource_core.specs.Step.{State}
+use Rattle.dav_guarded_core.specs.Step.{State}
 use Rattle.dav_session_core.specs.Callers.{Caller}
 use Rattle.dav_fields_core.specs.Fields.{nothing_sent}
 use Rattle.dav_handler_core.proofs.SentAnswerLemmas.{always, sent_dated}

@@ -3,8 +3,8 @@ use Rattle.std.specs.Prelude.{IfErr, OnOk}
 use Rattle.std.proofs.lemmas.Result.{err_from_is_err_and}
 use Rattle.dav_path_core.specs.Segments.{segments}
 use Rattle.dav_locks_core.specs.Lock.{Lock}
-use Rattle.dav_resource_core.specs.Checks.{Check, refusing, shallow}
-use Rattle.dav_resource_core.specs.Step.{State}
+use Rattle.dav_guarded_core.specs.Checks.{Check, refusing, shallow}
+use Rattle.dav_guarded_core.specs.Step.{State}
 use Rattle.dav_session_core.specs.Callers.{Caller, as_caller, live}
 use Rattle.dav_session_core.specs.Clearing.{refusing_clearing}
 use Rattle.dav_session_core.specs.LocksInTheWay.{IsRefusedBy}

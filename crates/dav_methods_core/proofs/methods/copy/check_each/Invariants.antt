@@ -1,6 +1,6 @@
 use Rattle.std.proofs.Common.{◌≡◌, drop, map}
 use Rattle.dav_path_core.specs.Segments.{segments}
-use Rattle.dav_resource_core.specs.Checks.{refusing, shallow}
+use Rattle.dav_guarded_core.specs.Checks.{refusing, shallow}
 use Rattle.dav_session_core.specs.Callers.{as_caller, live}
 use Rattle.dav_session_core.specs.Sessions as spec
 use Rattle.dav_methods_core.proofs.methods.copy.check_each.Given as goal

@@ -5,8 +5,8 @@ use Rattle.dav_path_core.specs.Segments.{segments}
 use Rattle.dav_path_core.specs.Fronts.{Path}
 use Rattle.dav_files_core.specs.Meta.{meta_at, meta_of}
 use Rattle.dav_files_core.specs.Resources.{IsResourceMap, Resource, at_path}
-use Rattle.dav_resource_core.specs.Checks.{has, shallow}
-use Rattle.dav_resource_core.specs.Step.{State}
+use Rattle.dav_guarded_core.specs.Checks.{has, shallow}
+use Rattle.dav_guarded_core.specs.Step.{State}
 use Rattle.dav_session_core.specs.declared.session.copying.Transfer.{Transfer}
 use Rattle.dav_session_core.specs.Callers.{live}
 use Rattle.dav_methods_core.specs.CopyMethod.{CantCopy}

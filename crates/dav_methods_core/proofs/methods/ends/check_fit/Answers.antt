@@ -4,7 +4,7 @@ use Rattle.dav_path_core.specs.PathText.{PathText}
 use Rattle.dav_path_core.specs.Segments.{segments}
 use Rattle.dav_files_core.specs.Meta.{meta_at, meta_of}
 use Rattle.dav_files_core.specs.Resources.{Resource, ResourceMap, at_path}
-use Rattle.dav_resource_core.specs.Step.{State}
+use Rattle.dav_guarded_core.specs.Step.{State}
 use Rattle.dav_session_core.specs.Ends.{HasFolder}
 use Rattle.dav_session_core.specs.Ends.{known_at}
 use Rattle.dav_session_core.specs.Sessions as spec

@@ -2,8 +2,8 @@ use Rattle.std.proofs.Common.{◌≡◌, ◌⊎◌, false, [], Ok, Err, string_b
 use Rattle.std.proofs.lemmas.Result.{err_from_is_err_and}
 use Rattle.dav_path_core.specs.PathText.{PathText}
 use Rattle.dav_path_core.specs.Segments.{segments}
-use Rattle.dav_resource_core.specs.Requests.{Command, Refusal, Reply}
-use Rattle.dav_resource_core.specs.Step.{Serves}
+use Rattle.dav_guarded_core.specs.Requests.{Command, Refusal, Reply}
+use Rattle.dav_guarded_core.specs.Step.{Serves}
 use Rattle.dav_faults_core.specs.declared.faults.Fault.TheVariants as fault
 use Rattle.dav_session_core.specs.Callers.{asking}
 use Rattle.dav_session_core.specs.Granting.{also_naming}

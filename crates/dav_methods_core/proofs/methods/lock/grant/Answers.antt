@@ -10,7 +10,7 @@ use Rattle.dav_session_core.specs.Sessions as spec
 use Rattle.dav_methods_core.proofs.LockLemmas.{granted_now, no_conflict_told, short_of, untold_left}
 use Rattle.dav_methods_core.proofs.LockRoomLemmas.{room_kept}
 use Rattle.dav_methods_core.proofs.LockTokenLemmas.{is_held}
-use Rattle.dav_resource_core.specs.Requests.{Command}
+use Rattle.dav_guarded_core.specs.Requests.{Command}
 use Rattle.dav_safe_methods_core.proofs.Acting.{asked_ran, ran_on}
 use Rattle.dav_methods_core.proofs.methods.lock.grant.Goals as goal
 

@@ -1,11 +1,11 @@
 use Rattle.std.proofs.Common.{◌≡◌, ◌+◌, ℕ, [], length, option_map, string_bytes, sym, subst}
 use Rattle.dav_notes_core.specs.Costs.{cost_for}
-use Rattle.dav_resource_core.specs.Requests.{Command}
+use Rattle.dav_guarded_core.specs.Requests.{Command}
 use Rattle.std.proofs.lemmas.Result.{err_from_is_err_and}
 use Rattle.dav_path_core.specs.PathText.{PathText}
 use Rattle.dav_path_core.specs.Segments.{segments}
 use Rattle.dav_locks_core.specs.Locks.{lock_conflicts}
-use Rattle.dav_resource_core.specs.Step.{State}
+use Rattle.dav_guarded_core.specs.Step.{State}
 use Rattle.dav_session_core.specs.Callers.{Caller, live}
 use Rattle.dav_session_core.specs.Granting.{IsConflictOf, granted_lock, with_lock}
 use Rattle.dav_session_core.specs.Sessions as spec

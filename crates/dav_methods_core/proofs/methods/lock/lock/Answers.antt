@@ -2,7 +2,7 @@ use Rattle.std.proofs.Common.{◌≡◌, ◌⊎◌, ◌<◌, ◌-◌, ◌^◌, L
 use Rattle.std.proofs.lemmas.Result.{err_from_is_err_and}
 use Rattle.dav_path_core.specs.declared.util.DavMethod.TheVariants as method
 use Rattle.dav_path_core.specs.Segments.{segments}
-use Rattle.dav_resource_core.specs.Step.{State}
+use Rattle.dav_guarded_core.specs.Step.{State}
 use Rattle.dav_faults_core.specs.declared.faults.Fault.TheVariants as fault
 use Rattle.dav_methods_core.specs.ChangeConditions.{change_course}
 use Rattle.dav_session_core.specs.Callers.{live}

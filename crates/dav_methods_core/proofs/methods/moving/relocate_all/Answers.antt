@@ -12,7 +12,7 @@ use Rattle.dav_files_core.specs.Resources.{IsResourceMap, Resource, at_path}
 use Rattle.dav_faults_core.specs.declared.faults.Fault.TheVariants as fault
 use Rattle.dav_session_core.specs.Callers.{live}
 use Rattle.dav_session_core.specs.LocksInTheWay.{IsRefusedBy, by_place}
-use Rattle.dav_resource_core.specs.Step.{State}
+use Rattle.dav_guarded_core.specs.Step.{State}
 use Rattle.dav_methods_core.specs.MoveMethod.{CantMove, IsMovable}
 use Rattle.dav_session_core.specs.Moving.{refusing_move}
 use Rattle.dav_session_core.specs.Sessions as spec

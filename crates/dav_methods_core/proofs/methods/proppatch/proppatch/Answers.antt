@@ -7,7 +7,7 @@ use Rattle.dav_files_core.specs.Properties.{patch_update}
 use Rattle.dav_xml_core.specs.Writing.{document_bytes}
 use Rattle.dav_session_core.specs.Callers.{live}
 use Rattle.dav_session_core.specs.Patching.{IsPatched}
-use Rattle.dav_resource_core.specs.Step.{State}
+use Rattle.dav_guarded_core.specs.Step.{State}
 use Rattle.dav_safe_methods_core.proofs.Acting.{held_before}
 use Rattle.dav_safe_methods_core.specs.SentDocuments.{document_sent}
 use Rattle.dav_documents_core.specs.PatchBodies.{any_protected, patch_nodes}

@@ -5,9 +5,9 @@ use Rattle.dav_path_core.specs.declared.util.DavMethod.TheVariants as method
 use Rattle.dav_path_core.specs.Segments.{segments}
 use Rattle.dav_files_core.specs.Meta.{meta_at, meta_of}
 use Rattle.dav_files_core.specs.Resources.{Resource, at_path}
-use Rattle.dav_resource_core.specs.Requests.{Command}
-use Rattle.dav_resource_core.specs.Served.{reply_of, refusal_of}
-use Rattle.dav_resource_core.specs.Step.{State}
+use Rattle.dav_guarded_core.specs.Requests.{Command}
+use Rattle.dav_guarded_core.specs.Served.{reply_of, refusal_of}
+use Rattle.dav_guarded_core.specs.Step.{State}
 use Rattle.dav_session_core.specs.Ends.{known_at}
 use Rattle.dav_session_core.specs.Sessions as spec
 use Rattle.dav_session_core.specs.StoreRefusals.{put_fault}

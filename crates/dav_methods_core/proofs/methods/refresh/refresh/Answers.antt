@@ -5,7 +5,7 @@ use Rattle.dav_path_core.specs.Segments.{segments}
 use Rattle.dav_headers_core.specs.declared.davheaders.timeouts.DavTimeout.{DavTimeout}
 use Rattle.dav_locks_core.specs.Lock.{Lock}
 use Rattle.dav_locks_core.specs.Locks.{discovered_locks}
-use Rattle.dav_resource_core.specs.Step.{State}
+use Rattle.dav_guarded_core.specs.Step.{State}
 use Rattle.dav_session_core.specs.Callers.{Caller, live}
 use Rattle.dav_session_core.specs.Conditions.{has_token}
 use Rattle.dav_session_core.specs.Sessions as spec

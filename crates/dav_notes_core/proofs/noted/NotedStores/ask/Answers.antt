@@ -1,5 +1,5 @@
 use Rattle.std.proofs.Common.{rules, ◌≡◌, ◌+◌, refl, sym, subst, ap, ◌∙◌, arith, vec_len, vec_capacity}
-use Rattle.dav_resource_core.specs.Served.{answer_of, command_of, request_of}
+use Rattle.dav_guarded_core.specs.Served.{answer_of, command_of, request_of}
 use Rattle.dav_notes_core.specs.Stepping.{AnsweredBy, SameLiveStores}
 use Rattle.dav_notes_core.proofs.LiveLemmas.{looks_live}
 use Rattle.dav_notes_core.specs.Costs.{cost_for}

@@ -1,5 +1,5 @@
 use Rattle.std.proofs.Common.{rules, ◌≡◌, ◌+◌, sym, subst, ◌∙◌, arith, string_bytes, vec_len, vec_capacity}
-use Rattle.dav_resource_core.specs.Served.{answer_of, command_of}
+use Rattle.dav_guarded_core.specs.Served.{answer_of, command_of}
 use Rattle.dav_notes_core.specs.Asking.{Caller, also_naming, sender_of}
 use Rattle.dav_notes_core.specs.Seen.{Seen, spent_on}
 use Rattle.dav_notes_core.proofs.BudgetLemmas.{held_beside, spent_alone, spent_changed, within_changed}

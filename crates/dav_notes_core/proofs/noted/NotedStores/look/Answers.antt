@@ -1,5 +1,5 @@
 use Rattle.std.proofs.Common.{◌∙◌, ap, subst, vec_len, vec_capacity}
-use Rattle.dav_resource_core.specs.Served.{answer_of, command_of, request_of}
+use Rattle.dav_guarded_core.specs.Served.{answer_of, command_of, request_of}
 use Rattle.dav_notes_core.specs.Asking.{asker_of, asking, sender_of}
 use Rattle.dav_notes_core.specs.Changes.{is_look}
 use Rattle.dav_notes_core.specs.Noting.{drawn_for}

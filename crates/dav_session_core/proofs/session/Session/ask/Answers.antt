@@ -1,5 +1,5 @@
 use Rattle.std.proofs.Common.{inr}
-use Rattle.dav_resource_core.specs.Served.{answer_of, command_of}
+use Rattle.dav_guarded_core.specs.Served.{answer_of, command_of}
 use Rattle.dav_session_core.specs.Sessions as spec
 use Rattle.dav_session_core.proofs.AskedLemmas.{asked_acts, asked_looked, asked_requests, looked, unmade_looks}
 use Rattle.dav_session_core.proofs.session.Session.ask.Goals as goal

@@ -1,6 +1,6 @@
 use Rattle.std.proofs.Common.{inr, refl, string_bytes}
 use Rattle.std.proofs.lemmas.Result.{err_from_is_err_and}
-use Rattle.dav_resource_core.specs.Served.{command_of}
+use Rattle.dav_guarded_core.specs.Served.{command_of}
 use Rattle.dav_session_core.specs.Callers.{also_naming}
 use Rattle.dav_session_core.specs.Sessions as spec
 use Rattle.dav_session_core.proofs.AskedLemmas.{asked_named}

@@ -1,8 +1,8 @@
 use Rattle.std.proofs.Common.{inl, inr, refl}
 use Rattle.std.proofs.lemmas.Bool.{false≢true}
 use Rattle.std.proofs.lemmas.Result.{err_from_is_err_and}
-use Rattle.dav_resource_core.specs.Requests.{OutOfMemory}
-use Rattle.dav_resource_core.specs.Served.{command_of}
+use Rattle.dav_guarded_core.specs.Requests.{OutOfMemory}
+use Rattle.dav_guarded_core.specs.Served.{command_of}
 use Rattle.dav_session_core.specs.Sessions as spec
 use Rattle.dav_session_core.proofs.AskedLemmas.{asked_of}
 use Rattle.dav_session_core.proofs.NotedAsking.{room_kept, same_noting, step_by, undone}

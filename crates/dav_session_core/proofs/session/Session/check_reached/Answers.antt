@@ -2,9 +2,9 @@ use Rattle.std.proofs.Common.{Err, sym, subst}
 use Rattle.dav_path_core.specs.Segments.{segments}
 use Rattle.dav_locks_core.specs.Lock.{Lock}
 use Rattle.dav_locks_core.specs.Locks.{check_conflicts}
-use Rattle.dav_resource_core.specs.Requests.{Command}
-use Rattle.dav_resource_core.specs.Served.{refusal_of}
-use Rattle.dav_resource_core.specs.Step.{Step}
+use Rattle.dav_guarded_core.specs.Requests.{Command}
+use Rattle.dav_guarded_core.specs.Served.{refusal_of}
+use Rattle.dav_guarded_core.specs.Step.{Step}
 use Rattle.dav_faults_core.specs.declared.faults.Fault.TheVariants as fault
 use Rattle.dav_session_core.specs.Callers.{as_caller, asking, live}
 use Rattle.dav_session_core.specs.LocksInTheWay.{IsRefusedBy}

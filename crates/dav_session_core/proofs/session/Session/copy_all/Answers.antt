@@ -4,7 +4,7 @@ use Rattle.std.proofs.lemmas.Result.{err_from_is_err_and}
 use Rattle.dav_path_core.specs.Segments.{segments}
 use Rattle.dav_path_core.specs.Fronts.{Path}
 use Rattle.dav_files_core.specs.Resources.{ResourceMap}
-use Rattle.dav_resource_core.specs.Step.{State}
+use Rattle.dav_guarded_core.specs.Step.{State}
 use Rattle.dav_session_core.specs.Callers.{Caller, live}
 use Rattle.dav_session_core.specs.Copying.{IsReady, copies_made}
 use Rattle.dav_session_core.specs.Sessions as spec

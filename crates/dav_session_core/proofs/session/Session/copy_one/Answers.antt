@@ -1,9 +1,9 @@
 use Rattle.std.proofs.Common.{Ok, subst, sym}
 use Rattle.dav_path_core.specs.PathText.{PathText}
 use Rattle.dav_path_core.specs.Segments.{segments}
-use Rattle.dav_resource_core.specs.Requests.{Command}
-use Rattle.dav_resource_core.specs.Served.{refusal_of, reply_of}
-use Rattle.dav_resource_core.specs.Step.{Step}
+use Rattle.dav_guarded_core.specs.Requests.{Command}
+use Rattle.dav_guarded_core.specs.Served.{refusal_of, reply_of}
+use Rattle.dav_guarded_core.specs.Step.{Step}
 use Rattle.dav_faults_core.specs.declared.faults.Fault.{Fault}
 use Rattle.dav_session_core.specs.Callers.{asking}
 use Rattle.dav_session_core.specs.Copying.{NotCopied}

@@ -2,8 +2,8 @@ use Rattle.std.proofs.Common.{Err, option_map, string_bytes, subst, sym}
 use Rattle.dav_path_core.specs.Segments.{segments}
 use Rattle.dav_locks_core.specs.Lock.{Lock}
 use Rattle.dav_locks_core.specs.Locks.{lock_conflicts}
-use Rattle.dav_resource_core.specs.Requests.{Command}
-use Rattle.dav_resource_core.specs.Served.{answer_of, refusal_of}
+use Rattle.dav_guarded_core.specs.Requests.{Command}
+use Rattle.dav_guarded_core.specs.Served.{answer_of, refusal_of}
 use Rattle.dav_faults_core.specs.declared.faults.Fault.TheVariants as fault
 use Rattle.dav_session_core.specs.Callers.{Asked, live}
 use Rattle.dav_session_core.specs.Granting.{IsConflictOf}

@@ -5,7 +5,7 @@ use Rattle.dav_path_core.specs.PathText.{PathText}
 use Rattle.dav_path_core.specs.Segments.{segments}
 use Rattle.dav_path_core.proofs.paths.AbovePaths.{one_less}
 use Rattle.dav_files_core.specs.Resources.{ResourceMap, at_path}
-use Rattle.dav_resource_core.specs.Step.{State}
+use Rattle.dav_guarded_core.specs.Step.{State}
 use Rattle.dav_fields_core.specs.LatestMoments.{last_change, latest_above}
 use Rattle.dav_fields_core.proofs.LatestLemmas.{at_top, one_up}
 use Rattle.dav_session_core.specs.Sessions as spec

@@ -1,6 +1,6 @@
 use Rattle.std.proofs.Common.{sym, subst}
 use Rattle.dav_path_core.specs.Segments.{segments}
-use Rattle.dav_resource_core.specs.Served.{refusal_of}
+use Rattle.dav_guarded_core.specs.Served.{refusal_of}
 use Rattle.dav_session_core.specs.Sessions as spec
 use Rattle.dav_session_core.proofs.Asking.{Unlisted, unlisted}
 use Rattle.dav_session_core.proofs.session.Session.list.Goals as goal

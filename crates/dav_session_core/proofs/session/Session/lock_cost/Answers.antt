@@ -1,6 +1,6 @@
 use Rattle.std.proofs.Common.{◌∙◌, option_map, string_bytes, ap}
 use Rattle.dav_path_core.specs.Segments.{segments}
-use Rattle.dav_resource_core.specs.Requests.{Command}
+use Rattle.dav_guarded_core.specs.Requests.{Command}
 use Rattle.dav_notes_core.specs.Asking.{Caller}
 use Rattle.dav_notes_core.specs.Costs.{cost_for, in_eight_bytes}
 use Rattle.dav_session_core.specs.Sessions.{caller}

@@ -1,6 +1,6 @@
 use Rattle.std.proofs.Common.{ap, refl}
 use Rattle.dav_notes_core.specs.Seen.{Seen}
-use Rattle.dav_resource_core.specs.Served.{answer_of, command_of}
+use Rattle.dav_guarded_core.specs.Served.{answer_of, command_of}
 use Rattle.dav_session_core.specs.Sessions as spec
 use Rattle.dav_session_core.proofs.AskedLemmas.{looked}
 use Rattle.dav_session_core.proofs.NotedAsking.{look_step, room_kept}

@@ -1,7 +1,7 @@
 use Rattle.std.proofs.Common.{◌≡◌, ◌∙◌, ℕ, sym, ap, rules}
 use Rattle.std.proofs.lemmas.Result.{on_ok_weaker}
 use Rattle.dav_path_core.specs.Segments.{segments}
-use Rattle.dav_resource_core.specs.Requests.{Command}
+use Rattle.dav_guarded_core.specs.Requests.{Command}
 use Rattle.dav_notes_core.specs.Asking.{Caller}
 use Rattle.dav_notes_core.specs.Costs.{cost_for, in_eight_bytes}
 use Rattle.dav_session_core.specs.Sessions as spec

@@ -1,7 +1,7 @@
 use Rattle.std.proofs.Common.{◌≡◌, ◌⊎◌, false, Ok, Err, string_bytes, sym, subst}
 use Rattle.dav_path_core.specs.Segments.{segments}
-use Rattle.dav_resource_core.specs.Requests.{Command, Refusal}
-use Rattle.dav_resource_core.specs.Served.{answer_of, refusal_of, reply_of}
+use Rattle.dav_guarded_core.specs.Requests.{Command, Refusal}
+use Rattle.dav_guarded_core.specs.Served.{answer_of, refusal_of, reply_of}
 use Rattle.dav_faults_core.specs.declared.faults.Fault.{Fault}
 use Rattle.dav_faults_core.specs.declared.faults.Fault.TheVariants as fault
 use Rattle.dav_session_core.specs.Callers.{AskedNaming, live}

@@ -2,7 +2,7 @@ use Rattle.std.proofs.Common.{sym, ap, option_map}
 use Rattle.dav_path_core.specs.Segments.{segments}
 use Rattle.dav_files_core.specs.Meta.{meta_at}
 use Rattle.dav_files_core.specs.Resources.{Resource}
-use Rattle.dav_resource_core.specs.Served.{refusal_of}
+use Rattle.dav_guarded_core.specs.Served.{refusal_of}
 use Rattle.dav_session_core.specs.Sessions as spec
 use Rattle.dav_session_core.proofs.Asking.{meta_refused}
 use Rattle.dav_session_core.proofs.session.Session.meta.Goals as goal

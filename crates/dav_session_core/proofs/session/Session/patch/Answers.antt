@@ -1,7 +1,7 @@
 use Rattle.std.proofs.Common.{map, sym, subst}
 use Rattle.dav_path_core.specs.Segments.{segments}
 use Rattle.dav_files_core.specs.Properties.{patch_update}
-use Rattle.dav_resource_core.specs.Served.{reply_of, refusal_of}
+use Rattle.dav_guarded_core.specs.Served.{reply_of, refusal_of}
 use Rattle.dav_session_core.specs.Callers.{live}
 use Rattle.dav_session_core.specs.Patching.{KeepsProperties}
 use Rattle.dav_session_core.specs.Sessions as spec

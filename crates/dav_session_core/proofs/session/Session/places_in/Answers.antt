@@ -6,7 +6,7 @@ use Rattle.dav_files_core.specs.Listing.{listed_entry, read_dir}
 use Rattle.dav_files_core.specs.declared.memfs.listing.MemFsEntry.{MemFsEntry}
 use Rattle.dav_files_core.specs.declared.memfs.Kind.TheVariants.{Folder}
 use Rattle.dav_files_core.specs.Resources.{IsResourceMap}
-use Rattle.dav_resource_core.specs.Step.{State}
+use Rattle.dav_guarded_core.specs.Step.{State}
 use Rattle.dav_session_core.specs.MemberPaths.{paths_in}
 use Rattle.dav_session_core.specs.Questions.{LacksKind}
 use Rattle.dav_session_core.specs.Private.WalkPlaces.{is_listed_folder, place_path}

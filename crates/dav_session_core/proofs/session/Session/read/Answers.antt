@@ -1,8 +1,8 @@
 use Rattle.std.proofs.Common.{◌≡◌, ◌∙◌, sym, ap, take, drop}
 use Rattle.dav_path_core.specs.Segments.{segments}
-use Rattle.dav_resource_core.specs.Requests.{Bytes}
-use Rattle.dav_resource_core.specs.Served.{reply_of}
-use Rattle.dav_resource_core.proofs.Telling.{read_tells}
+use Rattle.dav_guarded_core.specs.Requests.{Bytes}
+use Rattle.dav_guarded_core.specs.Served.{reply_of}
+use Rattle.dav_guarded_core.proofs.Telling.{read_tells}
 use Rattle.dav_session_core.proofs.session.Session.read.Goals as goal
 
 pub returns-in-Ok-Bytes-clause-ok : goal.returns-in-Ok-Bytes-clause-ok

@@ -2,12 +2,12 @@ use Rattle.std.proofs.Common.{◌≡◌, ◌∙◌, ℕ, ◌+◌, ◌≤◌, Lis
 use Rattle.std.proofs.lemmas.List.{length-append, map_push}
 use Rattle.std.proofs.lemmas.List.Sums.{sum_by_push}
 use Rattle.dav_path_core.specs.PathText.{PathText}
-use Rattle.dav_resource_core.specs.Requests.{Command}
+use Rattle.dav_guarded_core.specs.Requests.{Command}
 use Rattle.dav_notes_core.specs.Asking.{Caller}
 use Rattle.dav_notes_core.specs.Costs.{cost_for}
 use Rattle.dav_session_core.specs.NoteCosts.{removal_cost}
 use Rattle.dav_path_core.specs.Segments.{segments}
-use Rattle.dav_resource_core.specs.Served.{answer_of}
+use Rattle.dav_guarded_core.specs.Served.{answer_of}
 use Rattle.dav_session_core.specs.declared.session.Session.{Session}
 use Rattle.dav_session_core.specs.Callers.{live}
 use Rattle.dav_session_core.specs.Sessions as spec

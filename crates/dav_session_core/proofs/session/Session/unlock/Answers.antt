@@ -1,9 +1,9 @@
 use Rattle.std.proofs.Common.{ℕ, List, string_bytes, subst}
 use Rattle.std.proofs.lemmas.Result.{err_from_is_err_and}
 use Rattle.dav_path_core.specs.Segments.{segments}
-use Rattle.dav_resource_core.specs.Requests.{Command}
-use Rattle.dav_resource_core.specs.Served.{answer_of}
-use Rattle.dav_resource_core.specs.Step.{Serves}
+use Rattle.dav_guarded_core.specs.Requests.{Command}
+use Rattle.dav_guarded_core.specs.Served.{answer_of}
+use Rattle.dav_guarded_core.specs.Step.{Serves}
 use Rattle.dav_session_core.specs.Callers.{asking, live}
 use Rattle.dav_session_core.specs.Sessions as spec
 use Rattle.dav_session_core.proofs.Looking.{from_before, looks_before, requests_of, requests_on}

@@ -5,7 +5,7 @@ use Rattle.dav_path_core.specs.PathText.{PathText}
 use Rattle.dav_path_core.specs.Segments.{segments}
 use Rattle.dav_files_core.specs.Meta.{meta_at}
 use Rattle.dav_files_core.specs.Resources.{IsResourceMap, Resource, at_path}
-use Rattle.dav_resource_core.specs.Step.{State}
+use Rattle.dav_guarded_core.specs.Step.{State}
 use Rattle.dav_session_core.specs.Sessions as spec
 use Rattle.dav_session_core.specs.Subtrees.{IsSubtreeWalk}
 use Rattle.dav_session_core.proofs.Looking.{as_looks, looks_on}

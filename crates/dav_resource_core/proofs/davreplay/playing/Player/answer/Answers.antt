@@ -1,6 +1,6 @@
 use Rattle.std.proofs.Common.{Result, Ok, Err, refl}
 use Rattle.std.specs.Prelude.{OnOk}
-use Rattle.dav_resource_core.specs.Served.{answer_of}
+use Rattle.dav_guarded_core.specs.Served.{answer_of}
 use Rattle.dav_resource_core.proofs.davreplay.playing.Player.answer.Goals as goal
 
 joined : {A E : Type 0} (r : Result A E) (P Q W : Type 0) → (P → Q → W) → OnOk r P → OnOk r Q → OnOk r W

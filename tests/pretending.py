@@ -29,6 +29,16 @@ print(f"{len(edits) - failed} passed, {failed} failed")
 sys.exit(1 if failed else 0)
 """
 
+# What the gate does with rt, without what it does before and behind that: it says its status, its last line, what is wrong with wrong bodies, and what is told of them.
+GATE = """import json, runpy, sys
+sys.path.insert(0, "tests")
+gate = runpy.run_path("tests/run", run_name="gate")
+gate["bodies"].end_on_signals()
+print(json.dumps(gate["proved"]()))
+"""
+# (without the modules of the machine it starts sooner)
+PYTHON = (sys.executable, "-S")
+
 
 class Pretended:
     """Such an rt, in a folder of its own."""

@@ -52,8 +52,8 @@ def crate_of(body):
 
 
 def there():
-    """The wrong bodies that are there, by their crates."""
-    return sorted(f"{crate}/{name}" for crate in folders() for name in os.listdir(os.path.join(FOLDER, crate)) if NAME.fullmatch(name))
+    """The wrong bodies that are there, of crates that are there."""
+    return sorted(f"{crate}/{name}" for crate in {*folders()} & {*uses_of_crates()} for name in os.listdir(os.path.join(FOLDER, crate)) if NAME.fullmatch(name))
 
 
 def folders():
@@ -136,6 +136,8 @@ def take_away(root, bodies):
     for body in bodies:
         with contextlib.suppress(OSError):
             os.remove(place_of(root, body))
+        with contextlib.suppress(OSError):
+            # (where it has no other one)
             os.rmdir(os.path.dirname(place_of(root, body)))
 
 

@@ -5,6 +5,7 @@ import sys
 
 TOP = os.path.dirname(os.path.dirname(os.path.realpath(__file__)))
 PARTS = ("src", "specs", "proofs")
+CONTRACTS = ("src", "specs")
 # The program that has the clients. It is no crate, and rustc builds it.
 LISTENER = "listen"
 
@@ -30,10 +31,15 @@ class Crate:
         self.out = os.path.join(self.folder, "out")
 
 
+def uses_of_crates():
+    """What each crate of crates.txt uses, as its line there says it: crates of this repository, and libraries of the kit."""
+    lines = [line.split("#")[0].partition(":") for line in read(os.path.join(TOP, "crates.txt")).splitlines()]
+    return {name.strip(): words.split() for name, colon, words in lines if colon}
+
+
 def crates_of(program):
     """The crates that the program stands on, and itself, each behind those that it uses, by their names."""
-    lines = [line.split("#")[0].partition(":") for line in read(os.path.join(TOP, "crates.txt")).splitlines()]
-    uses = {name.strip(): words.split() for name, colon, words in lines if colon}
+    uses = uses_of_crates()
     found = {}
 
     def add(name):
@@ -79,6 +85,20 @@ def sum_of(crate, known):
         parts = [own_sum(crate.folder), *(f"{name} {sum_of(crate.below[name], known)}" for name in sorted(crate.below))]
         known[crate.name] = hashlib.sha256("\n".join(parts).encode()).hexdigest()
     return known[crate.name]
+
+
+def sum_of_contracts(crate, known):
+    """A sum of what the crates above know of a crate: its code and its definitions, and none of its proofs."""
+    if crate.name not in known:
+        known[crate.name] = sum_of_files(crate.folder, CONTRACTS)
+    return known[crate.name]
+
+
+def sum_of_verdict(name, known):
+    """A sum of what decides whether a changed text of a crate is refused: its own files, what its line of crates.txt says, and the contracts of the crates below it."""
+    crate = crates_of(name)[name]
+    parts = [own_sum(crate.folder), " ".join(uses_of_crates()[name]), *(f"{below} {sum_of_contracts(crate.below[below], known)}" for below in sorted(crate.below))]
+    return hashlib.sha256("\n".join(parts).encode()).hexdigest()
 
 
 def sources_of(program):

@@ -11,9 +11,9 @@ ghost use Rattle.dav_effects_core.specs.Reads.{ReadsField};
 use crate::error::{ReadError, at_field};
 use crate::fields::{all_texts_of, following_of, number_of, optional_text_of};
 use crate::putting::{put_following, put_number, put_optional_text, put_texts};
-use dav_notes_core::senders::Sender;
 use dav_guarded_core::fs::Moment;
 use dav_guarded_core::guarded::Request;
+use dav_notes_core::senders::Sender;
 use std::alloc::{AllocError, Global};
 
 #[tactic(auto, unfolding(crate::specs::RecordReading::whole_caller_at))]

@@ -14,8 +14,8 @@ use crate::putting::{
     put_flag, put_following, put_number, put_optional_number, put_optional_size, put_optional_text,
     put_text,
 };
-use dav_path_core::davpath::DavPath;
 use dav_guarded_core::guarded::Command;
+use dav_path_core::davpath::DavPath;
 use std::alloc::{AllocError, Global};
 
 // What stands at the front of a command: the byte that says which it is, and its path.

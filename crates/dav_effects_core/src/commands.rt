@@ -17,8 +17,8 @@ use crate::fields::{
 use crate::paths::path_of;
 use crate::properties::patches_of;
 use bytes::Bytes;
-use dav_path_core::davpath::DavPath;
 use dav_guarded_core::guarded::Command;
+use dav_path_core::davpath::DavPath;
 use std::alloc::Global;
 
 #[tactic(auto, unfolding(crate::specs::RecordReading::put_command_at))]

@@ -13,8 +13,8 @@ use crate::callers::put_caller;
 use crate::changes::put_command;
 use crate::putting::{put_counted, put_drawn, put_number};
 use bytes::Bytes;
-use dav_notes_core::notes::Note;
 use dav_guarded_core::guarded::Command;
+use dav_notes_core::notes::Note;
 use std::alloc::{AllocError, Global};
 
 /// A record, in the order in which its bytes stand (own).

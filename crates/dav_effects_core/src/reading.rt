@@ -12,9 +12,9 @@ use crate::callers::read_sender;
 use crate::commands::read_command;
 use crate::error::{ReadError, RecordError, record_error};
 use crate::fields::{counted_of, drawn_of, number_of};
+use dav_guarded_core::guarded::Command;
 use dav_notes_core::notes::Note;
 use dav_notes_core::senders::request_by;
-use dav_guarded_core::guarded::Command;
 use std::alloc::Global;
 
 /// Reads a record (own). What is read could have been written so, and what is written is read as the same.

@@ -234,7 +234,9 @@ mod tests {
 
     // The number of the node with a name of one byte.
     fn number_below(files: &MemFs, folder: u64, name: u8) -> FsResult<u64> {
-        files.tree.find_child(folder, |known| known.as_slice() == [name].as_slice())
+        files
+            .tree
+            .find_child(folder, |known| known.as_slice() == [name].as_slice())
     }
 
     fn stands_in_the_tree(rt: &impl Abort, alloc: Global, files: &MemFs) -> Result<(), Fail> {
@@ -263,7 +265,12 @@ mod tests {
     }
 
     // A part that was read of a file with a copy is shared until the file is written and the copy is gone.
-    fn shares_bytes(rt: &impl Abort, files: &mut MemFs, path: &DavPath, copy: &DavPath) -> Result<(), Fail> {
+    fn shares_bytes(
+        rt: &impl Abort,
+        files: &mut MemFs,
+        path: &DavPath,
+        copy: &DavPath,
+    ) -> Result<(), Fail> {
         files.put(path, b"abc", Moment(2))?;
         files.copy(path, copy, Moment(3))?;
         let mut file = files.open(path, OpenOptions::write(), Moment(4))?;

@@ -38,14 +38,14 @@ use dav_faults_core::faults::Fault;
 use dav_fields_core::bases::{Scheme, Site};
 use dav_fields_core::dates::date_bytes;
 use dav_fields_core::fields::add_date;
+use dav_guarded_core::fs::Moment;
+use dav_guarded_core::guarded::Guarded;
+use dav_guarded_core::util::DavMethod;
 use dav_methods_core::methods::{
     copy, delete, get, lock, mkcol, moving, options, propfind, proppatch, put, refresh, unlock,
 };
 use dav_methods_core::refusals::refuse;
 use dav_notes_core::notes::Note;
-use dav_guarded_core::fs::Moment;
-use dav_guarded_core::guarded::Guarded;
-use dav_guarded_core::util::DavMethod;
 use dav_session_core::session::Session;
 use http::{Request, StatusCode};
 use http_header::HeaderName;

@@ -15,12 +15,12 @@ ghost use Rattle.dav_import_core.specs.declared.adding.Unimported.TheVariants as
 use crate::entries::{Entry, notes_of};
 use dav_effects_core::write;
 use dav_files_core::fs::DavMetaData;
+use dav_guarded_core::fs::Moment;
+use dav_guarded_core::guarded::{Guarded, Refusal};
 use dav_notes_core::notes::{Note, apply_given};
 use dav_notes_core::playing::play_again;
 use dav_path_core::davpath::DavPath;
 use dav_path_core::errors::FsError;
-use dav_guarded_core::fs::Moment;
-use dav_guarded_core::guarded::{Guarded, Refusal};
 use dav_store_core::{Opened, add_record};
 use journal_core::Round;
 use std::alloc::{AllocError, Global};

@@ -8,10 +8,10 @@ ghost use Rattle.dav_import_core.specs.ImportedEntries.{dating, making, notes_fo
 
 use crate::properties::time_property;
 use bytes::Bytes;
-use dav_notes_core::notes::Note;
-use dav_path_core::davpath::DavPath;
 use dav_guarded_core::fs::Moment;
 use dav_guarded_core::guarded::{Command, Request};
+use dav_notes_core::notes::Note;
+use dav_path_core::davpath::DavPath;
 use std::alloc::{AllocError, Global};
 
 /// A file or a folder that is imported (own).

@@ -1,10 +1,10 @@
 //! How much room in the file a request may need for the record of what it changes. No clause speaks of
 //! it: a request is told what room there is, and is refused where its notes would cost more.
-use dav_handler_core::dav::LAST_ROOM;
-use dav_notes_core::notes::Note;
 use dav_guarded_core::davpath::DavPath;
 use dav_guarded_core::fs::DavMetaData;
 use dav_guarded_core::guarded::{Command, Guarded};
+use dav_handler_core::dav::LAST_ROOM;
+use dav_notes_core::notes::Note;
 use http::StatusCode;
 use std::alloc::{AllocError, Global};
 use std::collections::HashMap;

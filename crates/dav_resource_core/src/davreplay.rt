@@ -14,8 +14,8 @@ mod lines;
 mod names;
 mod playing;
 
-use dav_guarded_core::guarded::{Guarded, Request};
 use dav_files_core::fs::Moment;
+use dav_guarded_core::guarded::{Guarded, Request};
 use labels::Labels;
 use line_streams::numbers::number;
 use line_streams::{Fault, read_line};

@@ -39,12 +39,12 @@ mod tokens_above;
 mod unlocking;
 
 pub use copying::Transfer;
+use dav_guarded_core::fs::Moment;
+use dav_guarded_core::guarded::{Command, Guarded, Refusal, Reply};
 use dav_notes_core::error::NoteError;
 use dav_notes_core::noted::NotedStores;
 use dav_notes_core::notes::Note;
 use dav_notes_core::senders::Sender;
-use dav_guarded_core::fs::Moment;
-use dav_guarded_core::guarded::{Command, Guarded, Refusal, Reply};
 pub use lookups::{any_has, has_token};
 pub use questions::{copy_of, refused};
 use rand_core::Rng;

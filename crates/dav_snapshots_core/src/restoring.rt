@@ -14,10 +14,10 @@ use dav_effects_core::error::ReadError;
 use dav_effects_core::fields::number_of;
 use dav_files_core::fs::Moment;
 use dav_files_core::memfs::MemFsRestored;
+use dav_guarded_core::guarded::Guarded;
 use dav_locks_core::ls::{DavLock, LockError};
 use dav_path_core::davpath::DavPath;
 use dav_path_core::errors::FsError;
-use dav_guarded_core::guarded::Guarded;
 use std::alloc::Global;
 
 // A refusal of the stores, of what begins with so many bytes left.

@@ -16,10 +16,10 @@ use dav_effects_core::Pieces;
 use dav_effects_core::putting::{put_counted, put_number};
 use dav_files_core::fs::Moment;
 use dav_files_core::memfs::MemFsStored;
+use dav_guarded_core::guarded::Guarded;
 use dav_locks_core::ls::DavLock;
 use dav_locks_core::memls::MemLsLocks;
 use dav_path_core::errors::FsResult;
-use dav_guarded_core::guarded::Guarded;
 use std::alloc::{AllocError, Global};
 
 /// Writes what stands in the stores, and the last moment that is noted of them, as a snapshot (own). The

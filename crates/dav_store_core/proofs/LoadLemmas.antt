@@ -19,7 +19,6 @@ use Rattle.dav_store_core.specs.Loading.{HasLoadCause, IsPlayed, StandsForNone, 
 use Rattle.dav_store_core.proofs.KeepLemmas.{stand_more, stand_not}
 
 module _ {D B : Type 0} (seen : D → List ℕ) (may_leave : D → List ℕ → Type 0) (is_clean : D → Bool) where
-
   pub nothing_two : (note : B) (old mid new : Journal D B) → WritesNothing seen may_leave is_clean note old mid → WritesNothing seen may_leave is_clean note mid new
       → WritesNothing seen may_leave is_clean note old new
   nothing_two note old mid new a b = record {

@@ -9,10 +9,10 @@ ghost use Rattle.dav_store_core.specs.StandingFor.{Keeps, NeverBack, last_moment
 
 use crate::error::StoreError;
 use dav_effects_core::{RecordError, read};
-use dav_notes_core::notes::Note;
-use dav_notes_core::playing::{PlayError, play_again};
 use dav_guarded_core::fs::Moment;
 use dav_guarded_core::guarded::Guarded;
+use dav_notes_core::notes::Note;
+use dav_notes_core::playing::{PlayError, play_again};
 use dav_snapshots_core::read as read_snapshot;
 use journal_core::JournalError;
 use std::alloc::Global;

@@ -6,7 +6,7 @@ use std::alloc::AllocError;
 use std::fmt;
 
 /// What is wrong with a line of a file of users (own).
-#[derive(Clone, Copy, PartialEq, Eq)]
+#[derive(Debug, Clone, Copy, PartialEq, Eq)]
 pub enum LineFault {
     /// It is not UTF-8.
     Text,

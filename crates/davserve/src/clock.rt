@@ -1,8 +1,8 @@
 //! The clock of the server.
 ghost use Rattle.std.specs.Prelude.{◌≡◌, None, false};
 
-use dav_handler_core::serving::Clock;
 use dav_guarded_core::fs::Moment;
+use dav_handler_core::serving::Clock;
 use work_progress::now;
 
 /// The system's clock, where it is the one that counts.

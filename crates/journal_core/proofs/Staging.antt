@@ -46,7 +46,6 @@ keeps_torn : (place n : ℕ) (d c : List ℕ) → Torn place n d c → KeepsBelo
 keeps_torn place n d c torn = record { longer = torn.no_shorter; begins = λ front low it. torn_begins front place n d c low it torn }
 
 module _ {D B : Type 0} (seen : D → List ℕ) (may_leave : D → List ℕ → Type 0) (note : B) where
-
   -- below less it writes nothing either
   pub behind_less : (place more : ℕ) (old new : Clocked D B) → place ≤ more → WritesBehind seen may_leave note more old new → WritesBehind seen may_leave note place old new
   behind_less place more old new less it = record { crash = λ front low all. it.crash front (omega (arith, low, less)) all; any_moment = λ front low all. it.any_moment front (omega (arith, low, less)) all; moments = goes_weaker (KeepsBelow more) seen (KeepsBelow place) (keeps_less place more less) old new it.moments }

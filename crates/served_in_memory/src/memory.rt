@@ -1,7 +1,7 @@
 //! Serving with stores that are empty at first, and in memory alone.
+use dav_guarded_core::guarded::Guarded;
 use dav_handler_core::dav::{Dav, Settings};
 use dav_handler_core::serving::{Clock, Timed, serve_frames, serve_one};
-use dav_guarded_core::guarded::Guarded;
 use http_frames::gate::OneCall;
 use http_frames::serving::End;
 use http_server::{Config, Connection};

@@ -3,11 +3,11 @@ ghost use Rattle.std.specs.Prelude.{IsTrue, IfOk, IfSome};
 ghost use Rattle.sqlite_std_file.specs.File.{file_is_usable};
 ghost use Rattle.journal_core.specs.Resting.{disk_behind};
 
+use dav_guarded_core::fs::Moment;
+use dav_guarded_core::guarded::Guarded;
 use dav_handler_core::dav::{Dav, Settings};
 use dav_handler_core::serving::{Clock, Timed};
 use dav_kept_core::{Recorded, Tree, serve_store, serve_store_late};
-use dav_guarded_core::fs::Moment;
-use dav_guarded_core::guarded::Guarded;
 use dav_store_core::{Opened, Watch, load};
 use http_frames::gate::OneCall;
 use http_frames::serving::End;

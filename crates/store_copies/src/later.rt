@@ -1,8 +1,8 @@
 //! What whole rounds behind a place where a file is broken name.
 use crate::behind::Tail;
 use dav_effects_core::{RecordError, read};
-use dav_path_core::davpath::DavPath;
 use dav_guarded_core::guarded::Command;
+use dav_path_core::davpath::DavPath;
 use journal_core::split_record;
 use std::alloc::{AllocError, Global};
 use std::io::{self, BufWriter, Write};

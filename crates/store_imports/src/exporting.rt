@@ -2,9 +2,9 @@
 use crate::sources::{at, member_of, names_of};
 use dav_files_core::fs::DavMetaData;
 use dav_files_core::memfs::MemFsStored;
-use dav_import_core::time_of;
 use dav_guarded_core::fs::Moment;
 use dav_guarded_core::guarded::Guarded;
+use dav_import_core::time_of;
 use std::alloc::{AllocError, Global};
 use std::collections::BTreeMap;
 use std::fs::{self, File, OpenOptions};

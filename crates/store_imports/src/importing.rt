@@ -4,10 +4,10 @@ ghost use Rattle.journal_core.specs.Resting.{disk_behind};
 
 use crate::sources::{Found, bytes_of, is_one_file, member_of, names_of, source_of, time_of};
 use bytes::Bytes;
-use dav_import_core::{Entry, Unimported, add, check_free};
-use dav_path_core::davpath::ParseError;
 use dav_guarded_core::fs::Moment;
 use dav_guarded_core::guarded::Guarded;
+use dav_import_core::{Entry, Unimported, add, check_free};
+use dav_path_core::davpath::ParseError;
 use dav_store_core::{Opened, StoreError, load};
 use journal_core::{Journal, JournalError, Reader, Round};
 use journal_file::open;

@@ -1,7 +1,7 @@
 //! What is imported: a folder of the system, and what stands in it.
 use bytes::Bytes;
-use dav_path_core::davpath::DavPath;
 use dav_guarded_core::fs::Moment;
+use dav_path_core::davpath::DavPath;
 use std::alloc::{AllocError, Global};
 use std::fs::{self, Files, Metadata};
 use std::io::{self, BufRead, BufReader, ErrorKind, Read};

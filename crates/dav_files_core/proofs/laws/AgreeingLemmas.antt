@@ -81,7 +81,6 @@ parent_front folder p h =
 
 -- ---- outcomes that are alike
 module _ {A : Type 0} (R : A → A → Type 0) where
-
   -- a choice by a test that has one answer
   alike_if : (a b : Bool) (o u o' u' : Result A FsError) → b ≡ a → Alike R o u → Alike R o' u' → Alike R (if a then o else o') (if b then u else u')
   alike_if a b o u o' u' e k l = subst (λ b. Alike R (if a then o else o') (if b then u else u')) (sym e) (by a)

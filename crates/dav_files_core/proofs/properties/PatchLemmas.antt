@@ -246,7 +246,6 @@ undone props between new keys absent others gone = same_map key_total key_exact 
 -- ---- the whole of a patch
 module _ (props room new : Properties) (patch : List (Bool × Property)) (changes : KeyChanges) (keys : List Key) (missing : AreMissing props changes keys)
     (others : (q : Key) → is_among_keys keys q ≡ false → get room q ≡ get props q) (made : (q : Key) → is_among_keys keys q ≡ true → IsSome (get room q)) where
-
   pub all_patched : ComesTo patch changes → ((q : Key) → get new q ≡ unwrap_or (get changes q) (get room q)) → new ≡ patched_properties props patch
   all_patched comes done = same_map key_total key_exact new (patched_properties props patch) (λ q. done q ∙ by q (get changes q) refl ∙ sym (comes props q))
     where

@@ -51,11 +51,7 @@ fn lock_nothing(alloc: Global) -> Result<Command, Fail> {
 }
 
 // The answer to one request.
-fn answer(
-    stores: &mut Guarded,
-    rng: &mut Pcg64,
-    request: Request,
-) -> Result<Reply, Refusal> {
+fn answer(stores: &mut Guarded, rng: &mut Pcg64, request: Request) -> Result<Reply, Refusal> {
     stores.apply(&request, rng)
 }
 
@@ -78,7 +74,11 @@ fn move_under_a_lock(rt: &impl Abort, alloc: Global, stores: &mut Guarded) -> Re
     let refused = answer(stores, &mut rng, unnamed(alloc, move_folder(alloc)?)?);
     let token = refusing_token(refused)?;
     let tokens = vec![in alloc; token.clone()?]?;
-    let moved = answer(stores, &mut rng, request(alloc, tokens, move_folder(alloc)?)?);
+    let moved = answer(
+        stores,
+        &mut rng,
+        request(alloc, tokens, move_folder(alloc)?)?,
+    );
     assert!(rt; matches!(moved, Ok(Reply::Done)));
     Ok(token)
 }

@@ -50,7 +50,10 @@ fn take(
 fn are_kept_at_their_nodes(rt: &impl Abort, alloc: Global, locks: &mut MemLs) -> Result<(), Fail> {
     let mut rng = Pcg64::seed_from_u64(1);
     for text in ["/a", "/a/b"] {
-        assert!(rt; take(alloc, locks, &mut rng, text, false)?.is_ok(), "{text}");
+        assert!(rt;
+            take(alloc, locks, &mut rng, text, false)?.is_ok(),
+            "{text}"
+        );
     }
     stand_at_their_nodes(rt, locks)
 }
@@ -134,7 +137,16 @@ fn play_lock(
 ) -> Result<(), Fail> {
     let path = DavPath::new(alloc, word)?;
     let mut rng = Pcg64::seed_from_u64(granted.len() as u64);
-    let answer = locks.lock(&path, None, None, timeout, false, false, Moment(5), &mut rng);
+    let answer = locks.lock(
+        &path,
+        None,
+        None,
+        timeout,
+        false,
+        false,
+        Moment(5),
+        &mut rng,
+    );
     if let Ok(lock) = answer {
         granted.push(lock)?;
     }
@@ -151,9 +163,17 @@ fn play_by_lock(
 ) -> Result<bool, Fail> {
     let lock = granted.get(word.parse::<usize>()?).ok_or("no lock")?;
     if call == "unlock" {
-        return Ok(locks.unlock(&lock.path, lock.token.as_str(), Moment(6)).is_ok());
+        return Ok(
+            locks
+                .unlock(&lock.path, lock.token.as_str(), Moment(6))
+                .is_ok(),
+        );
     }
-    Ok(locks.refresh(&lock.path, lock.token.as_str(), timeout, Moment(6)).is_ok())
+    Ok(
+        locks
+            .refresh(&lock.path, lock.token.as_str(), timeout, Moment(6))
+            .is_ok(),
+    )
 }
 
 fn play_call(
@@ -173,7 +193,10 @@ fn play_call(
         "lock" => play_lock(alloc, locks, granted, word, timeout)?,
         "expire" => locks.expire(Moment(word.parse()?)),
         "delete" => locks.delete(&DavPath::new(alloc, word)?, Moment(6)),
-        _ => assert!(rt; play_by_lock(locks, granted.as_slice(), call, word, timeout)?, "{call} {word}"),
+        _ => assert!(rt;
+            play_by_lock(locks, granted.as_slice(), call, word, timeout)?,
+            "{call} {word}"
+        ),
     }
     Ok(())
 }
@@ -189,7 +212,15 @@ fn play_row(
     let [call, word, timeout, nodes, ends] = words.as_slice() else {
         return Err("no row")?;
     };
-    play_call(rt, alloc, locks, granted, call, word, timeout.parse::<u64>().ok())?;
+    play_call(
+        rt,
+        alloc,
+        locks,
+        granted,
+        call,
+        word,
+        timeout.parse::<u64>().ok(),
+    )?;
     assert_eq!(rt; locks.tree.node_count(), nodes.parse()?, "{row}");
     assert_eq!(rt; locks.node_count(), locks.tree.node_count());
     assert_eq!(rt; locks.ends.by_end.len(), ends.parse()?, "{row}");

@@ -16,7 +16,6 @@ use Rattle.dav_path_core.proofs.children.Views.{entry-view}
 use Rattle.dav_path_core.proofs.children.Walks.{Walk, walk_start, walk_next, walk_end}
 
 module _ {K D : Type 0} where
-
   -- a walk along the children of p that stands at a number, with the pairs of those that it has passed
   pub record Gathered (eq : K → K → Bool) (t : TreeValue K D) (p : ℕ) (at : Option ℕ) (pairs : List (K × ℕ)) : Type 0 where
     pub walk : Walk t p at (map (λ q. q.1) pairs)

@@ -10,9 +10,9 @@ ghost use Rattle.dav_guarded_core.specs.Requests.Command.{PatchProps};
 ghost use Rattle.dav_resource_core.specs.Private.LineReading.{exactly, Gives, IsWithOne, CommandIs, both, command_reading, IsReadCommand, IsReadOrRoom, IsAskedOrRoom, line_request, WordsAre, LineIs};
 
 use super::labels::Labels;
-use dav_guarded_core::guarded::{Command, Request};
 use bytes::Bytes;
 use dav_files_core::fs::{DavProp, Moment};
+use dav_guarded_core::guarded::{Command, Request};
 use dav_path_core::davpath::{DavPath, ParseError};
 use line_streams::numbers::{is_digits, number};
 use std::alloc::{AllocError, AllocFailed, Global};

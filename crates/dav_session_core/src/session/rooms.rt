@@ -13,9 +13,9 @@ ghost use Rattle.dav_session_core.specs.Unhindered.{ends_of, paths_of};
 use super::Session;
 use super::copying::Transfer;
 use dav_faults_core::faults::Fault;
+use dav_guarded_core::davpath::DavPath;
 use dav_notes_core::costs::{cost_of_lock, cost_of_removal, cost_of_transfer, cost_of_unlock};
 use dav_notes_core::senders::Sender;
-use dav_guarded_core::davpath::DavPath;
 use rand_core::Rng;
 
 /// Why there is no room for the notes of requests (own).

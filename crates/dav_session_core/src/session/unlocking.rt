@@ -17,10 +17,10 @@ use super::questions::copy_of;
 use super::{RoomError, Session};
 use dav_documents_core::lock_documents::is_principal;
 use dav_faults_core::faults::Fault;
-use dav_notes_core::costs::cost_of_unlock;
 use dav_guarded_core::davpath::DavPath;
 use dav_guarded_core::guarded::Command;
 use dav_guarded_core::ls::DavLock;
+use dav_notes_core::costs::cost_of_unlock;
 use rand_core::Rng;
 
 impl<R: Rng> Session<R> {

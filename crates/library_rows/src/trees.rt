@@ -7,7 +7,8 @@ use std::test::Fail;
 
 type Letters = Tree<u64, u64>;
 
-// `add PARENT KEY ITEM` and `move ID PARENT KEY`, with `!` to overwrite; `lost N` counts unknown numbers up to N, `children ID` the children.
+// `add PARENT KEY ITEM` and `move ID PARENT KEY`, with `!` to overwrite; `lost N` counts unknown numbers up to N, `children ID` the children;
+// `walk 1` tells all in the order of a walk, and `raise N` the next number once it is N at least.
 // No node is 0. The last two trees have wide nodes.
 const ROWS: &str = "new = 0
 add 1 a 20 = 2
@@ -261,7 +262,18 @@ delete-subtree 2 = 0
 get 1 a = NotFound
 get 2 c = NotFound
 add 1 a 1 = 20
-get 20 c = NotFound";
+get 20 c = NotFound
+new = 0
+add 1 a 10 = 2
+add 1 b 20 = 3
+add 2 c 30 = 4
+walk 1 = 1324
+raise 18446744073709551614 = 18446744073709551614
+add 1 d 40 = 18446744073709551614
+raise 0 = 18446744073709551615
+add 1 e 50 = InsufficientStorage
+raise 0 = 18446744073709551615
+get 1 e = NotFound";
 
 fn answer_to(alloc: Global, tree: &mut Letters, call: &str) -> FsResult<u64> {
     let (name, rest) = first_word(call);
@@ -285,6 +297,8 @@ fn of_node(alloc: Global, tree: &mut Letters, name: &str, id: u64) -> FsResult<u
         "next" => Ok(tree.next_sibling(id)?.unwrap_or(0)),
         "children" => children(alloc, tree, id),
         "lost" => Ok(lost(tree, id)),
+        "walk" => Ok(walked(tree)),
+        "raise" => Ok(raised(tree, id)),
         "delete" => Ok(tree.delete_node(id)?.item),
         "delete-subtree" => done(tree.delete_subtree(id)),
         _ => Err(FsError::NotImplemented),
@@ -327,6 +341,21 @@ fn done(answer: FsResult<()>) -> FsResult<u64> {
 fn children(alloc: Global, tree: &Letters, id: u64) -> FsResult<u64> {
     let pairs: Vec<(u64, u64)> = tree.get_children(id)?.collect(alloc)?;
     Ok(pairs.len() as u64)
+}
+
+// The numbers that a walk meets, in order, as the digits of one.
+fn walked(tree: &Letters) -> u64 {
+    let mut digits = 0u64;
+    for id in tree.walk() {
+        digits = digits.saturating_mul(10).saturating_add(id);
+    }
+    digits
+}
+
+// The next number, once it is raised.
+fn raised(tree: &mut Letters, next: u64) -> u64 {
+    tree.raise_next_number(next);
+    tree.next_number()
 }
 
 // How many numbers from 1 to another are unknown.

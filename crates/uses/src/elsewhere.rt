@@ -31,16 +31,21 @@ mod tests {
     use super::*;
     use dav_files_core::memfs::MemFs;
     use dav_path_core::errors::FsError;
+    use std::alloc::Global;
+    use std::process::Abort;
     use std::test::Fail;
 
-    #[test]
-    fn makes_a_folder_elsewhere(rt: HostRuntime) -> Result<(), Fail> {
-        let alloc = rt.alloc();
-        let mut files = MemFs::new(alloc, Moment(1))?;
+    fn makes(rt: &impl Abort, alloc: Global, files: &mut MemFs) -> Result<(), Fail> {
         let (first, second) = (DavPath::new(alloc, "/a")?, DavPath::new(alloc, "/b")?);
-        make_elsewhere(&mut files, &first, &second, Moment(2))?;
+        make_elsewhere(files, &first, &second, Moment(2))?;
         assert!(rt; files.metadata(&first) == Err(FsError::NotFound));
         assert_eq!(rt; files.metadata(&second)?.created, Moment(2));
         Ok(())
+    }
+
+    #[test]
+    fn makes_a_folder_elsewhere(rt: HostRuntime) -> Result<(), Fail> {
+        let mut files = MemFs::new(rt.alloc(), Moment(1))?;
+        makes(&rt, rt.alloc(), &mut files)
     }
 }

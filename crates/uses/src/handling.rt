@@ -206,6 +206,7 @@ mod tests {
     use dav_resource_core::fs::Moment;
     use rand_core::SeedableRng;
     use rand_pcg::Pcg64;
+    use std::process::Abort;
     use std::test::Fail;
 
     // Requests in order, each with its status.
@@ -296,10 +297,7 @@ delete /f = 204";
         }
     }
 
-    #[test]
-    fn answers_requests(rt: HostRuntime) -> Result<(), Fail> {
-        let alloc = rt.alloc();
-        let mut stores = Guarded::new(alloc, Moment(0))?;
+    fn plays(rt: &impl Abort, alloc: Global, stores: &mut Guarded) -> Result<(), Fail> {
         let mut rng = Pcg64::seed_from_u64(1);
         for line in ROWS.split('\n') {
             let (row, status) = line.split_once(" = ").ok_or("no status")?;
@@ -309,9 +307,15 @@ delete /f = 204";
                 now: Moment(5),
                 command: command_of(alloc, row)?,
             };
-            let answer = answer(alloc, &mut stores, &request, &mut rng).as_u16();
+            let answer = answer(alloc, stores, &request, &mut rng).as_u16();
             assert!(rt; status.parse::<u16>() == Ok(answer), "{row}");
         }
         Ok(())
+    }
+
+    #[test]
+    fn answers_requests(rt: HostRuntime) -> Result<(), Fail> {
+        let mut stores = Guarded::new(rt.alloc(), Moment(0))?;
+        plays(&rt, rt.alloc(), &mut stores)
     }
 }

@@ -86,23 +86,28 @@ mod tests {
     use super::*;
     use rand_core::SeedableRng;
     use rand_pcg::Pcg64;
+    use std::alloc::Global;
+    use std::process::Abort;
     use std::test::Fail;
+
+    fn asks(rt: &impl Abort, alloc: Global, locks: &mut MemLs) -> Result<(), Fail> {
+        let mut rng = Pcg64::seed_from_u64(1);
+        let path = DavPath::new(alloc, "/a")?;
+        let Ok(token) = take(locks, &path, "ann", 60, Moment(5), &mut rng) else {
+            return Err("refused")?;
+        };
+        assert!(rt; take(locks, &path, "bob", 60, Moment(6), &mut rng).is_err());
+        assert!(rt; !may_change(locks, &path, "ann", &[], Moment(7))?);
+        let tokens = vec![in alloc; token]?;
+        assert!(rt; may_change(locks, &path, "ann", &tokens, Moment(7))?);
+        assert!(rt; !may_change(locks, &path, "bob", &tokens, Moment(7))?);
+        Ok(())
+    }
 
     #[test]
     fn takes_and_asks(rt: HostRuntime) -> Result<(), Fail> {
-        let alloc = rt.alloc();
-        let mut locks = MemLs::new(alloc)?;
-        let mut rng = Pcg64::seed_from_u64(1);
-        let path = DavPath::new(alloc, "/a")?;
-        let Ok(token) = take(&mut locks, &path, "ann", 60, Moment(5), &mut rng) else {
-            return Err("refused")?;
-        };
-        assert!(rt; take(&mut locks, &path, "bob", 60, Moment(6), &mut rng).is_err());
-        assert!(rt; !may_change(&mut locks, &path, "ann", &[], Moment(7))?);
-        let tokens = vec![in alloc; token]?;
-        assert!(rt; may_change(&mut locks, &path, "ann", &tokens, Moment(7))?);
-        assert!(rt; !may_change(&mut locks, &path, "bob", &tokens, Moment(7))?);
-        Ok(())
+        let mut locks = MemLs::new(rt.alloc())?;
+        asks(&rt, rt.alloc(), &mut locks)
     }
 
     // Whether a path is taken over, and how many locks cover it then.
@@ -116,19 +121,22 @@ mod tests {
         Ok((is_taken, locks.discover(path, now)?.len()))
     }
 
-    #[test]
-    fn takes_over(rt: HostRuntime) -> Result<(), Fail> {
-        let alloc = rt.alloc();
-        let mut locks = MemLs::new(alloc)?;
+    fn takes_both(rt: &impl Abort, alloc: Global, locks: &mut MemLs) -> Result<(), Fail> {
         let mut rng = Pcg64::seed_from_u64(1);
         let above = DavPath::new(alloc, "/a")?;
         let path = DavPath::new(alloc, "/a/b")?;
         for place in [&above, &path] {
-            assert!(rt; take(&mut locks, place, "ann", 60, Moment(5), &mut rng).is_ok());
+            assert!(rt; take(locks, place, "ann", 60, Moment(5), &mut rng).is_ok());
         }
-        assert!(rt; covering(&mut locks, &path, Moment(6), &mut rng)? == (true, 1));
-        assert!(rt; covering(&mut locks, &above, Moment(7), &mut rng)? == (true, 1));
+        assert!(rt; covering(locks, &path, Moment(6), &mut rng)? == (true, 1));
+        assert!(rt; covering(locks, &above, Moment(7), &mut rng)? == (true, 1));
         assert_eq!(rt; locks.discover(&path, Moment(8))?.len(), 1);
         Ok(())
+    }
+
+    #[test]
+    fn takes_over(rt: HostRuntime) -> Result<(), Fail> {
+        let mut locks = MemLs::new(rt.alloc())?;
+        takes_both(&rt, rt.alloc(), &mut locks)
     }
 }

@@ -27,18 +27,23 @@ mod tests {
     use dav_files_core::fs::{DavFileSystem, Moment, OpenOptions};
     use dav_files_core::memfs::MemFs;
     use dav_path_core::davpath::DavPath;
+    use std::alloc::Global;
+    use std::process::Abort;
     use std::test::Fail;
 
-    #[test]
-    fn writes_a_part(rt: HostRuntime) -> Result<(), Fail> {
-        let alloc = rt.alloc();
-        let mut files = MemFs::new(alloc, Moment(1))?;
+    fn writes(rt: &impl Abort, alloc: Global, files: &mut MemFs) -> Result<(), Fail> {
         let path = DavPath::new(alloc, "/a")?;
         files.put(&path, b"abcdef", Moment(2))?;
         let mut file = files.open(&path, OpenOptions::write(), Moment(3))?;
-        write_part(&mut files, &mut file, 2, Bytes::from_static(b"xy"))?;
-        file.seek(&files, SeekFrom::Start(0))?;
-        assert!(rt; file.read_bytes(&files, 9)?.as_slice() == b"abxyef".as_slice());
+        write_part(files, &mut file, 2, Bytes::from_static(b"xy"))?;
+        file.seek(files, SeekFrom::Start(0))?;
+        assert!(rt; file.read_bytes(files, 9)?.as_slice() == b"abxyef".as_slice());
         Ok(())
+    }
+
+    #[test]
+    fn writes_a_part(rt: HostRuntime) -> Result<(), Fail> {
+        let mut files = MemFs::new(rt.alloc(), Moment(1))?;
+        writes(&rt, rt.alloc(), &mut files)
     }
 }

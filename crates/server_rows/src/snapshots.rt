@@ -1,5 +1,6 @@
 //! Stores that are written as snapshots, read, and written again; and snapshots that are none.
-use crate::restored::played;
+use crate::calls::empty;
+use crate::restored::play;
 use crate::told::told;
 use dav_effects_core::{Pieces, RecordError};
 use dav_files_core::fs::Moment;
@@ -106,8 +107,13 @@ fn snapshots_are_read_and_written(rt: HostRuntime) -> Result<(), Fail> {
 
 // The snapshot of the stores behind the calls, and what stands there.
 fn stood(alloc: Global) -> Result<(Vec<u8>, String), Fail> {
-    let stores = played(alloc)?;
-    told_with(alloc, &stores, Moment(9))
+    let mut stores = empty(alloc)?;
+    played_with(alloc, &mut stores)
+}
+
+fn played_with(alloc: Global, stores: &mut Guarded) -> Result<(Vec<u8>, String), Fail> {
+    play(alloc, stores)?;
+    told_with(alloc, stores, Moment(9))
 }
 
 // The snapshot of the stores that are read, and what stands there.

@@ -10,6 +10,11 @@ use rand_pcg::Pcg64;
 use std::alloc::{AllocError, Global};
 use std::test::Fail;
 
+// Empty stores, at the moment 0.
+pub(crate) fn empty(alloc: Global) -> FsResult<Guarded> {
+    Guarded::new(alloc, Moment(0))
+}
+
 pub(crate) fn apply(
     stores: &mut Guarded,
     request: &Request,

@@ -7,8 +7,9 @@ use http::Request;
 use http_frames::gate::TurnService;
 use http_header::HeaderName;
 use http_server::{Response, Service};
-use std::alloc::Global;
+use std::alloc::{AllocError, Global};
 use std::cell::Cell;
+use std::process::Abort;
 use std::test::Fail;
 
 type Guarded<'a> = Login<Telling, Still<'a>>;
@@ -97,12 +98,7 @@ fn guesses_are_limited(rt: HostRuntime) -> Result<(), Fail> {
     let now = Cell::new(5_000_000_000);
     let told = Cell::new(0);
     let mut login = login(rt.alloc(), &now, &told, None)?;
-    for row in LIMITED.lines() {
-        let wanted = row.rsplit_once(' ').unwrap_or((row, row)).1;
-        let answered = played(rt.alloc(), &mut login, &now, row)?;
-        assert!(rt; answered.as_str() == wanted, "{row}: {answered}");
-    }
-    Ok(())
+    play(&rt, rt.alloc(), &mut login, &now, LIMITED)
 }
 
 #[test]
@@ -111,12 +107,7 @@ fn told_addresses_are_limited(rt: HostRuntime) -> Result<(), Fail> {
     let told = Cell::new(0);
     let field = HeaderName::from_static(FIELD);
     let mut login = login(rt.alloc(), &now, &told, Some(field))?;
-    for row in TOLD.lines() {
-        let wanted = row.rsplit_once(' ').unwrap_or((row, row)).1;
-        let answered = played(rt.alloc(), &mut login, &now, row)?;
-        assert!(rt; answered.as_str() == wanted, "{row}: {answered}");
-    }
-    Ok(())
+    play(&rt, rt.alloc(), &mut login, &now, TOLD)
 }
 
 #[test]
@@ -124,12 +115,23 @@ fn users_are_listed(rt: HostRuntime) -> Result<(), Fail> {
     let now = Cell::new(0);
     let told = Cell::new(0);
     let mut login = login(rt.alloc(), &now, &told, None)?;
-    for row in LISTED.lines() {
+    let listed = play(&rt, rt.alloc(), &mut login, &now, LISTED);
+    assert!(rt; told.get() == 2);
+    listed
+}
+
+fn play(
+    rt: &impl Abort,
+    alloc: Global,
+    login: &mut Guarded<'_>,
+    now: &Cell<u64>,
+    rows: &str,
+) -> Result<(), Fail> {
+    for row in rows.lines() {
         let wanted = row.rsplit_once(' ').unwrap_or((row, row)).1;
-        let answered = played(rt.alloc(), &mut login, &now, row)?;
+        let answered = played(alloc, login, now, row)?;
         assert!(rt; answered.as_str() == wanted, "{row}: {answered}");
     }
-    assert!(rt; told.get() == 2);
     Ok(())
 }
 
@@ -195,6 +197,12 @@ fn answered(
     field: &str,
     token: &str,
 ) -> Result<String, Fail> {
+    let request = request_of(alloc, field, token)?;
+    let mut response = Response::new(alloc);
+    called(alloc, login, &request, &mut response)
+}
+
+fn request_of(alloc: Global, field: &str, token: &str) -> Result<Request<Bytes>, Fail> {
     let value = format!(in alloc; "Basic {token}")?;
     let mut request = Request::builder(alloc)
         .method("GET")
@@ -203,19 +211,31 @@ fn answered(
     if !field.is_empty() {
         request = request.header(FIELD, field);
     }
-    let request = request.body(Bytes::from_static(b"x"))?;
-    let mut response = Response::new(alloc);
-    login.call(&request, &mut response)?;
+    Ok(request.body(Bytes::from_static(b"x"))?)
+}
+
+fn called(
+    alloc: Global,
+    login: &mut Guarded<'_>,
+    request: &Request<Bytes>,
+    response: &mut Response,
+) -> Result<String, Fail> {
+    login.call(request, response)?;
+    Ok(status_of(alloc, response)?)
+}
+
+fn status_of(alloc: Global, response: &Response) -> Result<String, AllocError> {
     let mut text = format!(in alloc; "{}", response.status.as_u16())?;
-    if text.as_str() == "429" {
-        for (name, value) in &response.headers {
-            if name.as_str() != "retry-after" || value.as_bytes() != b"1".as_slice() {
-                text.push_str(name.as_str())?;
-            }
+    if text.as_str() != "429" {
+        return Ok(text);
+    }
+    for (name, value) in &response.headers {
+        if name.as_str() != "retry-after" || value.as_bytes() != b"1".as_slice() {
+            text.push_str(name.as_str())?;
         }
-        if response.headers.len() != 1 || !response.body.is_empty() {
-            text.push_str(" and more")?;
-        }
+    }
+    if response.headers.len() != 1 || !response.body.is_empty() {
+        text.push_str(" and more")?;
     }
     Ok(text)
 }

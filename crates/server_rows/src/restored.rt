@@ -1,14 +1,17 @@
 //! Stores that are walked and restored as they stood, and rows of what is refused.
-use crate::calls::{apply, entry, path_of, raise_next_number, request, restore, restore_lock};
+use crate::calls::{
+    apply, empty, entry, path_of, raise_next_number, request, restore, restore_lock,
+};
 use crate::told::told;
 use bytes::Bytes;
-use dav_files_core::fs::{DavProp, Moment};
+use dav_files_core::fs::DavProp;
 use dav_files_core::memfs::{Kind, MemFsRestored, MemFsStored};
 use dav_path_core::davpath::DavPath;
 use dav_resource_core::guarded::{Command, Guarded};
 use rand_core::SeedableRng;
 use rand_pcg::Pcg64;
 use std::alloc::Global;
+use std::process::Abort;
 use std::test::Fail;
 
 // COMMAND PATH, and what the command needs, each at the next moment, from 1 on.
@@ -52,44 +55,59 @@ const REFUSALS: &str = "0 file /x - = Err(Forbidden)
 
 #[test]
 fn stores_are_restored_as_they_stood(rt: HostRuntime) -> Result<(), Fail> {
-    let alloc = rt.alloc();
-    let stores = played(alloc)?;
-    let stood = told(alloc, &stores)?;
+    let mut stores = empty(rt.alloc())?;
+    play(rt.alloc(), &mut stores)?;
+    are_restored(&rt, rt.alloc(), &stores)
+}
+
+fn are_restored(rt: &impl Abort, alloc: Global, stores: &Guarded) -> Result<(), Fail> {
+    let mut again = empty(alloc)?;
+    are_as_they_stood(rt, alloc, stores, &mut again)
+}
+
+fn are_as_they_stood(
+    rt: &impl Abort,
+    alloc: Global,
+    stores: &Guarded,
+    again: &mut Guarded,
+) -> Result<(), Fail> {
+    let stood = told(alloc, stores)?;
     assert!(rt; stood.as_str().starts_with(STOOD), "{stood}");
-    let again = restored(alloc, &stores)?;
-    let stands = told(alloc, &again)?;
+    restore_all(alloc, stores, again)?;
+    let stands = told(alloc, again)?;
     assert!(rt; stands == stood, "{stands}");
     Ok(())
 }
 
 #[test]
 fn entries_are_refused(rt: HostRuntime) -> Result<(), Fail> {
-    let alloc = rt.alloc();
-    let mut stores = Guarded::new(alloc, Moment(0))?;
-    let _first = restore_row(alloc, &mut stores, "2 folder /d -")?;
-    let _second = restore_row(alloc, &mut stores, "3 file /d/f -")?;
+    let mut stores = empty(rt.alloc())?;
+    are_refused(&rt, rt.alloc(), &mut stores)
+}
+
+fn are_refused(rt: &impl Abort, alloc: Global, stores: &mut Guarded) -> Result<(), Fail> {
+    let _first = restore_row(alloc, stores, "2 folder /d -")?;
+    let _second = restore_row(alloc, stores, "3 file /d/f -")?;
     for row in REFUSALS.split('\n') {
         let (call, wanted) = row.split_once(" = ").ok_or("no answer")?;
-        let answer = restore_row(alloc, &mut stores, call)?;
+        let answer = restore_row(alloc, stores, call)?;
         assert!(rt; answer.as_str() == wanted, "{row}, not {answer}");
     }
     Ok(())
 }
 
-// Stores behind the calls.
-pub(crate) fn played(alloc: Global) -> Result<Guarded, Fail> {
-    let mut stores = Guarded::new(alloc, Moment(0))?;
+/// Plays the calls.
+pub(crate) fn play(alloc: Global, stores: &mut Guarded) -> Result<(), Fail> {
     let mut rng = Pcg64::seed_from_u64(1);
     let mut now = 0_u64;
     for call in CALLS.split('\n') {
         now = now.saturating_add(1);
         let request = request(alloc, now, command_of(alloc, call)?)?;
-        match apply(&mut stores, &request, &mut rng) {
-            Ok(_reply) => {},
-            Err(_refusal) => return Err(Fail::from("a call is refused")),
+        if apply(stores, &request, &mut rng).is_err() {
+            return Err(Fail::from("a call is refused"));
         }
     }
-    Ok(stores)
+    Ok(())
 }
 
 // A word, and the words behind it.
@@ -144,25 +162,39 @@ fn lock(path: DavPath, timeout: &str) -> Result<Command, Fail> {
     })
 }
 
-// New stores with all that a walk of others gives.
-fn restored(alloc: Global, stores: &Guarded) -> Result<Guarded, Fail> {
-    let mut again = Guarded::new(alloc, Moment(7))?;
-    let mut met = Vec::new(alloc);
-    for stored in stores.walk() {
-        let bytes = path_bytes(alloc, &met, &stored)?;
-        let path = path_of(alloc, bytes.as_slice())?;
-        met.push((stored.number(), bytes))?;
-        if restore(&mut again, &path, copy_of(alloc, &stored)?).is_err() {
-            return Err(Fail::from("an entry is refused"));
-        }
-    }
+// Restores all that a walk of other stores gives, and their locks.
+fn restore_all(alloc: Global, stores: &Guarded, again: &mut Guarded) -> Result<(), Fail> {
+    restore_entries(alloc, stores, again)?;
     for lock in stores.locks() {
-        if restore_lock(&mut again, lock.clone()?).is_err() {
+        if restore_lock(again, lock.clone()?).is_err() {
             return Err(Fail::from("a lock is refused"));
         }
     }
-    raise_next_number(&mut again, stores.next_number());
-    Ok(again)
+    raise_next_number(again, stores.next_number());
+    Ok(())
+}
+
+fn restore_entries(alloc: Global, stores: &Guarded, again: &mut Guarded) -> Result<(), Fail> {
+    let mut met = Vec::new(alloc);
+    for stored in stores.walk() {
+        let bytes = path_bytes(alloc, &met, &stored)?;
+        restore_entry(alloc, again, bytes.as_slice(), &stored)?;
+        met.push((stored.number(), bytes))?;
+    }
+    Ok(())
+}
+
+fn restore_entry(
+    alloc: Global,
+    again: &mut Guarded,
+    bytes: &[u8],
+    stored: &MemFsStored<'_>,
+) -> Result<(), Fail> {
+    let path = path_of(alloc, bytes)?;
+    match restore(again, &path, copy_of(alloc, stored)?) {
+        Ok(()) => Ok(()),
+        Err(_) => Err(Fail::from("an entry is refused")),
+    }
 }
 
 // The bytes of an entry's path: those of the folder that it stands in, which was met before, and its name.

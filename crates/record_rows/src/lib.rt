@@ -1,5 +1,0 @@
-//! Rows of records of changes: tests alone.
-#![tactic(auto)]
-
-#[cfg(test)]
-mod records;

@@ -11,8 +11,8 @@ ghost use Rattle.dav_effects_core.specs.Records.{IsChange, IsPath, IsPathText};
 use crate::paths::put_path;
 use crate::properties::put_patches;
 use crate::putting::{
-    put_flag, put_following, put_number, put_optional_number, put_optional_size, put_optional_text,
-    put_text,
+    put_following, put_lock_kind, put_number, put_optional_number, put_optional_size,
+    put_optional_text, put_text,
 };
 use dav_guarded_core::guarded::Command;
 use dav_path_core::davpath::DavPath;
@@ -66,8 +66,8 @@ fn put_lock_path(out: &mut Vec<u8>, before: &mut Vec<u8>, path: &DavPath) -> Res
     before.extend_from_slice(path.as_bytes())
 }
 
-// Which locks are asked for.
-fn put_lock_kind(
+// Which locks are asked for, and whose they are said to be.
+fn put_wanted(
     out: &mut Vec<u8>,
     owner: &Option<String>,
     timeout: Option<u64>,
@@ -80,9 +80,7 @@ fn put_lock_kind(
     ensures timeout { OnOk result (IfSome timeout FitsInEight) }
 {
     put_optional_text(out, owner)?;
-    put_optional_number(out, timeout)?;
-    put_flag(out, shared)?;
-    put_flag(out, deep)
+    put_lock_kind(out, timeout, shared, deep)
 }
 
 /// Puts a command that changes something.
@@ -124,7 +122,7 @@ pub(crate) fn put_command(
             deep,
         } => {
             put_lock_path(out, before, path)?;
-            return put_lock_kind(out, owner, *timeout, *shared, *deep);
+            return put_wanted(out, owner, *timeout, *shared, *deep);
         }
         Command::Unlock { path, token } => {
             put_place(alloc, out, before, 8, path)?;

@@ -87,6 +87,22 @@ pub fn put_optional_number(out: &mut Vec<u8>, number: Option<u64>) -> Result<(),
     }
 }
 
+/// Puts which locks are asked for, or which one stands: its timeout in seconds, whether it is shared, and whether it is deep (own). `AllocError` where there is no
+/// memory for it.
+pub fn put_lock_kind(
+    out: &mut Vec<u8>,
+    timeout: Option<u64>,
+    shared: bool,
+    deep: bool,
+) -> Result<(), AllocError>
+    ensures text { OnOk result (out.new.items ≡ out.old.items ++ (optional_text number_text timeout ++ (flag_text shared ++ flag_text deep))) }
+    ensures timeout { OnOk result (IfSome timeout FitsInEight) }
+{
+    put_optional_number(out, timeout)?;
+    put_flag(out, shared)?;
+    put_flag(out, deep)
+}
+
 pub(crate) fn put_optional_size(out: &mut Vec<u8>, size: Option<usize>) -> Result<(), AllocError>
     ensures text { OnOk result (out.new.items ≡ out.old.items ++ optional_text number_text size) }
     ensures fits { OnOk result (IfSome size FitsInEight) }

@@ -11,7 +11,7 @@ use dav_effects_core::fields::{
     flag_of, following_of, optional_number_of, optional_text_of, text_of,
 };
 use dav_effects_core::putting::{
-    put_flag, put_following, put_optional_number, put_optional_text, put_text,
+    put_following, put_lock_kind, put_optional_number, put_optional_text, put_text,
 };
 use dav_files_core::fs::Moment;
 use dav_locks_core::ls::DavLock;
@@ -39,7 +39,7 @@ fn moment_from(number: Option<u64>) -> Option<Moment>
 }
 
 // Whose the lock is, when it ends, and which it is.
-fn put_lock_kind(
+fn put_lock_state(
     out: &mut Vec<u8>,
     principal: &Option<String>,
     owner: &Option<String>,
@@ -59,9 +59,7 @@ fn put_lock_kind(
     put_optional_text(out, principal)?;
     put_optional_text(out, owner)?;
     put_optional_number(out, timeout_at)?;
-    put_optional_number(out, timeout)?;
-    put_flag(out, shared)?;
-    put_flag(out, deep)
+    put_lock_kind(out, timeout, shared, deep)
 }
 
 /// Puts a lock behind the path before.
@@ -73,7 +71,7 @@ pub(crate) fn put_lock(out: &mut Vec<u8>, before: &[u8], lock: &DavLock) -> Resu
     put_text(out, &lock.token)?;
     put_text(out, lock.path.prefix())?;
     put_following(out, before, lock.path.as_bytes())?;
-    put_lock_kind(
+    put_lock_state(
         out,
         &lock.principal,
         &lock.owner,

@@ -4,6 +4,7 @@ use crate::restored::play;
 use crate::told::told;
 use dav_path_core::davpath::DavPath;
 use dav_path_core::errors::FsResult;
+use dav_resource_core::guarded::Guarded;
 use std::alloc::{AllocError, Global};
 use std::process::Abort;
 use std::test::Fail;

@@ -73,7 +73,9 @@ class Pretended:
             return []
         with open(path, encoding="utf-8") as file:
             found = [json.loads(line) for line in file]
-        os.remove(path)
+        if found:
+            # (a file without a line is one that it is about to write)
+            os.remove(path)
         return found
 
     def begin(self, *words, where):

@@ -87,6 +87,18 @@ def changed(found):
     return [body for body, its in found.items() if noted.get(body) != its]
 
 
+def due(found):
+    """Of wrong bodies with their sums, those that the gate tries: they were refused once, and their sum is another than then."""
+    noted = table()
+    return [body for body in changed(found) if body in noted]
+
+
+def new(found):
+    """Of these, those that were never refused: they are tried by hand first."""
+    noted = table()
+    return [body for body in found if body not in noted]
+
+
 def faults():
     """What is wrong with the folder and the table, whichever bodies are tried."""
     crates = uses_of_crates()

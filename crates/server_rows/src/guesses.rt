@@ -198,8 +198,7 @@ fn answered(
     token: &str,
 ) -> Result<String, Fail> {
     let request = request_of(alloc, field, token)?;
-    let mut response = Response::new(alloc);
-    called(alloc, login, &request, &mut response)
+    called(alloc, login, &request)
 }
 
 fn request_of(alloc: Global, field: &str, token: &str) -> Result<Request<Bytes>, Fail> {
@@ -218,10 +217,10 @@ fn called(
     alloc: Global,
     login: &mut Guarded<'_>,
     request: &Request<Bytes>,
-    response: &mut Response,
 ) -> Result<String, Fail> {
-    login.call(request, response)?;
-    Ok(status_of(alloc, response)?)
+    let mut response = Response::new(alloc);
+    login.call(request, &mut response)?;
+    Ok(status_of(alloc, &response)?)
 }
 
 fn status_of(alloc: Global, response: &Response) -> Result<String, AllocError> {

@@ -4,9 +4,9 @@ use Rattle.rand_core.specs.Stream.{Stream}
 use Rattle.http_frames.specs.ConnectionEvents.{Event}
 use Rattle.http_frames.specs.TurnRuns.{EventsLead}
 use Rattle.http_frames.proofs.Simulations.{leads_to}
-use Rattle.read_only.specs.declared.service.ReadOnly.{ReadOnly}
-use Rattle.read_only.specs.Looking.{with_looks}
-use Rattle.read_only.proofs.LookRuns.{leads_looks}
+use Rattle.turn_fronts.specs.declared.read_only.ReadOnly.{ReadOnly}
+use Rattle.turn_fronts.specs.Looking.{with_looks}
+use Rattle.turn_fronts.proofs.LookRuns.{leads_looks}
 use Rattle.dav_login_core.specs.declared.login.Login.{Login}
 use Rattle.dav_login_core.specs.LoginViews.{login}
 use Rattle.dav_login_core.proofs.RunLemmas.{run_behind}

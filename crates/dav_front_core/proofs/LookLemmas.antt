@@ -9,7 +9,7 @@ use Rattle.http_server.specs.Exchange.{Call, Chain}
 use Rattle.http_frames.specs.ConnectionEvents.{Event, Answered, Clock}
 use Rattle.http_frames.specs.Gate.{TakesTurn}
 use Rattle.http_frames.specs.TurnRuns.{EventDoes}
-use Rattle.read_only.specs.Looking.{looking, only_looks, with_looks}
+use Rattle.turn_fronts.specs.Looking.{looking, only_looks, with_looks}
 use Rattle.dav_path_core.specs.declared.util.DavMethod.{DavMethod}
 use Rattle.dav_path_core.specs.declared.util.DavMethod.TheVariants as method
 use Rattle.dav_path_core.specs.Methods.{word}

@@ -2,8 +2,8 @@
 use Rattle.std.specs.Prelude.{◌≤◌, ℕ, Option, List}
 use Rattle.rand_core.specs.Stream.{Stream}
 use Rattle.http_frames.specs.ConnectionEvents.{Event}
-use Rattle.read_only.specs.declared.service.ReadOnly.{ReadOnly}
-use Rattle.read_only.specs.Looking.{ReadOnlyRun}
+use Rattle.turn_fronts.specs.declared.read_only.ReadOnly.{ReadOnly}
+use Rattle.turn_fronts.specs.Looking.{ReadOnlyRun}
 use Rattle.dav_login_core.specs.declared.login.Login.{Login}
 use Rattle.dav_login_core.specs.LoggedIn.{Door}
 use Rattle.dav_login_core.specs.RunsBehind.{AreRunBehind, LoginRun}

@@ -1,7 +1,7 @@
 //! The laws of a server behind a login, and of one that is read-only.
 ghost use Rattle.std.specs.Prelude.{List};
 ghost use Rattle.http_frames.specs.ConnectionEvents.{Event};
-ghost use Rattle.read_only.specs.declared.service.ReadOnly.{ReadOnly};
+ghost use Rattle.turn_fronts.specs.declared.read_only.ReadOnly.{ReadOnly};
 ghost use Rattle.dav_login_core.specs.declared.login.Login.{Login};
 ghost use Rattle.dav_login_core.specs.LoginViews.{login};
 ghost use Rattle.dav_handler_core.specs.declared.serving.Timed.{Timed};

@@ -1,6 +1,9 @@
 pub mod DigestLemmas
+pub mod LastLemmas
 pub mod LoginLemmas
 pub mod MessageLemmas
+pub mod Rates
 pub mod RealmLemmas
 pub mod RetainLemmas
 pub mod RunLemmas
+pub mod Sifting

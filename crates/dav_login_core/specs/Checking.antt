@@ -3,9 +3,9 @@ use Rattle.std.specs.Prelude.{◌≡◌, ℕ, Bool, true, false, List, ◌++◌,
 use Rattle.std.specs.Int.{w64, from_le_bytes}
 use Rattle.sha2.specs.Sha256.{sha256}
 use Rattle.http.specs.declared.request.Request.{Request}
-use Rattle.client_addresses.specs.declared.addresses.Addresses.{Addresses}
-use Rattle.client_addresses.specs.ClientAddresses.{address_of_request}
-use Rattle.guess_limits.specs.Guessing.{AsksAt, CountsWrong, GuessState, may_guess}
+use Rattle.dav_login_core.specs.declared.addresses.Addresses.{Addresses}
+use Rattle.dav_login_core.specs.ClientAddresses.{address_of_request}
+use Rattle.dav_login_core.specs.Guessing.{AsksAt, CountsWrong, GuessState, may_guess}
 use Rattle.dav_login_core.specs.declared.checking.Verdict.{Verdict}
 use Rattle.dav_login_core.specs.declared.checking.Verdict.TheVariants.{Right, Wrong, TooMany}
 

@@ -2,7 +2,10 @@ pub mod Admissions
 pub mod CallsBehind
 pub mod Challenges
 pub mod Checking
+pub mod ClientAddresses
 pub mod Digests
+pub mod GuessRuns
+pub mod Guessing
 pub mod LoggedIn
 pub mod LoginViews
 pub mod Passing

@@ -1,15 +1,15 @@
 //! A password is checked within the limits of guesses.
 ghost use Rattle.std.specs.Prelude.{string_bytes};
 ghost use Rattle.dav_users_core.specs.Users.{is_password, users_in};
-ghost use Rattle.guess_limits.specs.Guessing.{guessing};
+ghost use Rattle.dav_login_core.specs.Guessing.{guessing};
 ghost use Rattle.dav_login_core.specs.Checking.{Checks, label_of_client};
 
+use crate::addresses::Addresses;
 use crate::digests::Accepted;
+use crate::guesses::Guesses;
 use crate::labels::label_of;
 use bytes::Bytes;
-use client_addresses::Addresses;
 use dav_users_core::Credentials;
-use guess_limits::Guesses;
 use http::Request;
 
 /// What is said of a name and a password.

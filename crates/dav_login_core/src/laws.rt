@@ -1,10 +1,12 @@
 //! What the contracts lead to.
-ghost use Rattle.std.specs.Prelude.{◌≡◌, ◌<◌, ◌^◌, ℕ, List, length};
+ghost use Rattle.std.specs.Prelude.{◌≡◌, ◌<◌, ◌≤◌, ◌+◌, ◌*◌, ◌^◌, ℕ, List, length};
 ghost use Rattle.http_server.specs.Exchange.{Call, Chain};
 ghost use Rattle.http_frames.specs.ConnectionEvents.{Event};
 ghost use Rattle.http_frames.specs.Gate.{IsTold};
 ghost use Rattle.dav_login_core.specs.CallsBehind.{LeadsBehind, TurnsBehind};
 ghost use Rattle.dav_login_core.specs.Digests.{message};
+ghost use Rattle.dav_login_core.specs.GuessRuns.{GuessEvent, Happen, wrong_again, wrong_of, wrong_of_strangers};
+ghost use Rattle.dav_login_core.specs.Guessing.{GuessState, second};
 ghost use Rattle.dav_login_core.specs.LoggedIn.{HandsOn, LoggedIn};
 ghost use Rattle.dav_login_core.specs.LoginViews.{login};
 ghost use Rattle.dav_login_core.specs.RunsBehind.{LoginRun, RunsBehind};
@@ -45,4 +47,15 @@ pub fn runs_lead_behind<S: TurnService, H>()
     ensures { (old new : Login S H) (events : List Event)
         → LoginRun S.begins S.answers S.clocked S.listed old events new
         → RunsBehind S.begins S.answers S.clocked S.listed (login old) events (login new) }
+{}
+
+/// The law of limits (own). Of the guesses that were let through in some seconds, whatever else happened, those that were wrong are at most five and as many as the seconds, of each label that has a
+/// bucket of its own, and of all others together; and at most twenty and twenty for each second, of all that had a wrong one in the minute before. It does nothing.
+pub fn few_guesses_are_wrong()
+    ensures own { (old new : GuessState) (events : List GuessEvent) (label seconds : ℕ) → Happen events old new
+        → new.latest ≤ old.latest + seconds * second → wrong_of label events ≤ 5 + seconds }
+    ensures strangers { (old new : GuessState) (events : List GuessEvent) (seconds : ℕ) → Happen events old new
+        → new.latest ≤ old.latest + seconds * second → wrong_of_strangers events ≤ 5 + seconds }
+    ensures again { (old new : GuessState) (events : List GuessEvent) (seconds : ℕ) → Happen events old new
+        → new.latest ≤ old.latest + seconds * second → wrong_again events ≤ 20 + 20 * seconds }
 {}

@@ -1,16 +1,16 @@
 //! Who guesses, and when.
 ghost use Rattle.std.specs.Prelude.{◌≡◌, true, false, [], string_bytes};
-ghost use Rattle.client_addresses.specs.declared.addresses.Addresses.{Addresses};
-ghost use Rattle.client_addresses.specs.ClientAddresses.{kept_address};
+ghost use Rattle.dav_login_core.specs.declared.addresses.Addresses.{Addresses};
+ghost use Rattle.dav_login_core.specs.ClientAddresses.{kept_address};
 ghost use Rattle.dav_users_core.specs.Users.{is_password, users_in};
 ghost use Rattle.dav_login_core.specs.declared.checking.Verdict.TheVariants.{Right, Wrong};
 
+use crate::addresses::Addresses;
 use crate::checking::{Verdict, check};
 use crate::digests::Accepted;
+use crate::guesses::Guesses;
 use bytes::Bytes;
-use client_addresses::Addresses;
 use dav_users_core::{Credentials, UsersError};
-use guess_limits::Guesses;
 use http::Request;
 use http_header::HeaderName;
 use std::alloc::Global;

@@ -20,7 +20,7 @@ use Rattle.std.proofs.Math.Seq.{take-append_seam}
 use Rattle.dav_guarded_core.specs.declared.guarded.requests.Request.{Request}
 use Rattle.dav_resource_core.specs.declared.davreplay.lines.Unread.{Unread}
 use Rattle.dav_resource_core.specs.declared.davreplay.lines.Unread.TheVariants.{Malformed, BadPath, OutOfMemory}
-use Rattle.dav_resource_core.specs.Private.Playing.{Played, PlaysLine, LinePlayed, LineStopped, LinesPlayed, AreLines, BeginWith, InputPlayed, PlayedPart, WroteNext}
+use Rattle.dav_resource_core.specs.Private.Playing.{Played, PlaysLine, LinePlayed, LineStopped, SaidStopped, LinesPlayed, AreLines, BeginWith, InputPlayed, PlayedPart, WroteNext}
 use Rattle.dav_resource_core.specs.Private.LineReading.{LineIs}
 use Rattle.dav_resource_core.specs.Replaying.{ReplayedPart, ReplayedTo, generator}
 use Rattle.dav_guarded_core.specs.Stores.{Stores, start_stores, state_of}
@@ -183,8 +183,9 @@ onerr (Err e) P h = h
 pub stopped_by : {A E : Type 0} (r : Result A E) (p : Played) (input old new : Option (List ℕ)) → PlayedPart p input old new → OnErr r (PlayedPart p input old new)
 stopped_by r p input old new part = onerr r (PlayedPart p input old new) part
 
-pub line_stopped_by : {A E : Type 0} (r : Result A E) (p : Played) (line : List ℕ) (old new : Option (List ℕ)) → LineStopped p line old new → OnErr r (LineStopped p line old new)
-line_stopped_by r p line old new part = onerr r (LineStopped p line old new) part
+pub said_stopped_by : {A E : Type 0} (r : Result A E) (p : Played) (said : Result (Option Request) Unread) (old new : Option (List ℕ)) → SaidStopped p said old new
+    → OnErr r (SaidStopped p said old new)
+said_stopped_by r p said old new part = onerr r (SaidStopped p said old new) part
 
 pub wrote_by : {A E : Type 0} (r : Result A E) (text : List ℕ) (old new : Option (List ℕ)) → (count : ℕ) × Appends old new (take count text)
     → OnErr r ((count : ℕ) × Appends old new (take count text))
@@ -233,13 +234,26 @@ pub part_of : {E : Type 0} (r : Result (Option ℕ) E) (p p' : Played) (input ol
 part_of (Ok end) p p' input old new new' ok err same = kept_part p input old new new' (whole_part p p' input old new end ok.0 ok.1 ok.2) same
 part_of (Err e) p p' input old new new' ok err same = kept_part p input old new new' err same
 
--- of a line whose text was made, a front was written
-pub part_written : (p p' : Played) (line : List ℕ) (said : Result (Option Request) Unread) (on : Bool) (before after text written : List ℕ) (old new : Option (List ℕ)) (count : ℕ)
-    → LineIs p.1 line said → PlaysLine p said on p' written → before ≡ [] → Appends (Some before) (Some after) written → text ≡ after → Appends old new (take count text)
-    → LineStopped p line old new
-part_written p p' line said on before after text written old new count is follows none grown same more =
+-- of what a line says, whose text was made, a front was written
+pub part_written : (p p' : Played) (said : Result (Option Request) Unread) (on : Bool) (before after text written : List ℕ) (old new : Option (List ℕ)) (count : ℕ)
+    → PlaysLine p said on p' written → before ≡ [] → Appends (Some before) (Some after) written → text ≡ after → Appends old new (take count text)
+    → SaidStopped p said old new
+part_written p p' said on before after text written old new count follows none grown same more =
     let made : text ≡ written = same ∙ grown ∙ ap (λ l. l ++ written) none in
-    (take count text, more, inr (on, p', written, count, (said, is, follows), ap (take count) made))
+    (take count text, more, inr (on, p', written, count, follows, ap (take count) made))
+
+-- and so of a line that says it
+pub line_stopped : {A E : Type 0} (r : Result A E) (p : Played) (line : List ℕ) (said : Result (Option Request) Unread) (old new : Option (List ℕ)) → LineIs p.1 line said
+    → OnErr r (SaidStopped p said old new) → OnErr r (LineStopped p line old new)
+line_stopped (Ok x) p line said old new is part = tt
+line_stopped (Err e) p line said old new is part = (
+  part.0,
+  part.1,
+  elim part.2 [
+    | inl none ↦ inl none
+    | inr wrote ↦ inr (wrote.0, wrote.1, wrote.2.0, wrote.2.1, (said, is, wrote.2.2.0), wrote.2.2.1)
+  ],
+)
 
 -- ---- a text that is written piece by piece
 
@@ -335,3 +349,9 @@ began seed stores rng tokens left input old new stores_are rng_is none whole par
     (subst (λ r. PlayedPart (state_of stores (stream_of (steps_u64_low pcg64) r), []) input old new) rng_is
     (subst (λ i. PlayedPart (state_of stores (stream_of (steps_u64_low pcg64) rng), []) i old new) whole
     (subst (λ ts. PlayedPart (state_of stores (stream_of (steps_u64_low pcg64) rng), ts) left old new) none part)))
+
+pub began_by : {A E : Type 0} (r : Result A E) (seed : ℕ) (stores : Stores) (rng : Lcg) (tokens : List (List ℕ)) (left input old new : Option (List ℕ))
+    → stores ≡ start_stores 0 → rng ≡ pcg64_of_seed (pcg32_seed 32 seed) → tokens ≡ [] → left ≡ input
+    → OnErr r (PlayedPart (state_of stores (stream_of (steps_u64_low pcg64) rng), tokens) left old new) → OnErr r (ReplayedPart seed input old new)
+began_by (Ok x) seed stores rng tokens left input old new stores_are rng_is none whole part = tt
+began_by (Err e) seed stores rng tokens left input old new stores_are rng_is none whole part = began seed stores rng tokens left input old new stores_are rng_is none whole part

@@ -3,7 +3,7 @@ ghost use Rattle.std.specs.Prelude.{◌≡◌, ◌≤◌, ◌⊎◌, ℕ, List, 
 ghost use Rattle.std.specs.Io.Buffered.{reader_remaining, writer_contents};
 ghost use Rattle.std.specs.Io.KnownBytes.{Appends, Keeps};
 ghost use Rattle.std.specs.List.{concat};
-ghost use Rattle.dav_resource_core.specs.Private.Playing.{PlaysLine, LinePlayed, LineStopped, InputPlayed, PlayedPart};
+ghost use Rattle.dav_resource_core.specs.Private.Playing.{PlaysLine, LinePlayed, LineStopped, SaidStopped, InputPlayed, PlayedPart};
 ghost use Rattle.dav_resource_core.specs.Replaying.{Replayed, ReplayedPart, ReplayedTo};
 ghost use Rattle.dav_guarded_core.specs.Stores.{state_of};
 ghost use Rattle.dav_resource_core.specs.Seeds.{seed};
@@ -113,6 +113,7 @@ fn play<I: Read + Drop, O: Write + Drop>(
     ensures err { OnErr result (ReplayedPart seed (I.remaining input)
         (writer_contents O.contents output.old) (writer_contents O.contents output.new)) }
 {
+    let mut input = BufReader::with_capacity(alloc, BUFFER, input)?;
     let Ok(stores) = Guarded::new(alloc, Moment(0)) else {
         return Err(Fault::OutOfMemory);
     };
@@ -121,8 +122,23 @@ fn play<I: Read + Drop, O: Write + Drop>(
         rng: Pcg64::seed_from_u64(seed),
         labels: Labels::new(alloc),
     };
-    let mut input = BufReader::with_capacity(alloc, BUFFER, input)?;
-    let played = play_lines(alloc, &mut player, &mut input, output);
+    play_all(alloc, &mut player, &mut input, output)
+}
+
+// Plays all lines, and writes out what was answered, also before a fault.
+fn play_all<R: Rng + Drop, I: Read + Drop, O: Write + Drop>(
+    alloc: Global,
+    player: &mut Player<R>,
+    input: &mut BufReader<I>,
+    output: &mut BufWriter<O>,
+) -> Result<Option<u64>, Fault>
+    ensures ok { IfOk result (λ end. (texts : List (List ℕ)) × InputPlayed (state_of player.old.stores (R.stream player.old.rng), player.old.labels)
+        (reader_remaining I.remaining input.old) end texts (state_of player.new.stores (R.stream player.new.rng), player.new.labels)
+        × Appends (writer_contents O.contents output.old) (writer_contents O.contents output.new) (concat texts)) }
+    ensures err { OnErr result (PlayedPart (state_of player.old.stores (R.stream player.old.rng), player.old.labels)
+        (reader_remaining I.remaining input.old) (writer_contents O.contents output.old) (writer_contents O.contents output.new)) }
+{
+    let played = play_lines(alloc, player, input, output);
     output.flush()?;
     played
 }
@@ -167,6 +183,22 @@ fn play_line<R: Rng + Drop, O: Write + Drop>(
         (writer_contents O.contents output.old) (writer_contents O.contents output.new)) }
 {
     let said = request_of(alloc, &player.labels, line);
+    play_said(player, &said, text, output)
+}
+
+// The same of what a line says.
+fn play_said<R: Rng + Drop, O: Write + Drop>(
+    player: &mut Player<R>,
+    said: &Result<Option<Request>, Unread>,
+    text: &mut Vec<u8>,
+    output: &mut BufWriter<O>,
+) -> Result<bool, Fault>
+    ensures ok { IfOk result (λ right. (written : List ℕ) × PlaysLine (state_of player.old.stores (R.stream player.old.rng), player.old.labels) said.now right
+        (state_of player.new.stores (R.stream player.new.rng), player.new.labels) written
+        × Appends (writer_contents O.contents output.old) (writer_contents O.contents output.new) written) }
+    ensures err { OnErr result (SaidStopped (state_of player.old.stores (R.stream player.old.rng), player.old.labels) said.now
+        (writer_contents O.contents output.old) (writer_contents O.contents output.new)) }
+{
     text.clear();
     let right = follow(player, said, text)?;
     write_text(text, output)?;
@@ -210,22 +242,22 @@ fn write_piece<O: Write>(text: &[u8], output: &mut O) -> Result<usize, Fault>
 // What follows what a line says, and what is written for it.
 fn follow<R: Rng + Drop, O: Write>(
     player: &mut Player<R>,
-    said: Result<Option<Request>, Unread>,
+    said: &Result<Option<Request>, Unread>,
     output: &mut O,
 ) -> Result<bool, Fault>
-    ensures { IfOk result (λ right. (written : List ℕ) × PlaysLine (state_of player.old.stores (R.stream player.old.rng), player.old.labels) said right
+    ensures { IfOk result (λ right. (written : List ℕ) × PlaysLine (state_of player.old.stores (R.stream player.old.rng), player.old.labels) said.now right
         (state_of player.new.stores (R.stream player.new.rng), player.new.labels) written
         × Appends (O.contents output.old) (O.contents output.new) written) }
 {
     match said {
         Ok(Some(request)) => {
-            player.answer(&request, output)?;
+            player.answer(request, output)?;
             Ok(true)
         }
         Ok(None) => Ok(true),
         Err(Unread::Malformed) => Ok(false),
         Err(Unread::BadPath(error)) => {
-            writeln!(output, "bad path {}", path_error(error))?;
+            writeln!(output, "bad path {}", path_error(*error))?;
             Ok(true)
         }
         Err(Unread::OutOfMemory) => {

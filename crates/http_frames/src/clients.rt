@@ -10,6 +10,7 @@ ghost use Rattle.http_frames.specs.Private.Steps.{LooksAlike, BeginsFresh, Hears
 use crate::frames::{LONGEST_ADDRESS, write_more, write_piece};
 use crate::gate::{OneCall, TurnService};
 use crate::held::{Held, Said, hear, rests_with_room, room_for_requests, speak, step};
+use crate::table::{forget, place};
 use arrayvec::ArrayVec;
 use http_server::{Config, Connection};
 use line_streams::Fault;
@@ -197,7 +198,7 @@ impl Clients {
         if !self.has_begun(number) {
             return false;
         }
-        let _gone = self.connections.remove(&number);
+        forget(&mut self.connections, number);
         true
     }
 
@@ -252,7 +253,7 @@ impl Clients {
             }
             Said::Over => {
                 write_piece(number, &[], output)?;
-                let _held = self.connections.remove(&number);
+                forget(&mut self.connections, number);
                 Ok(true)
             }
             Said::NoRoom => self.end(number, output),
@@ -272,7 +273,7 @@ impl Clients {
             return Ok(false);
         }
         write_piece(number, &[], output)?;
-        let _held = self.connections.remove(&number);
+        forget(&mut self.connections, number);
         Ok(true)
     }
 
@@ -520,13 +521,11 @@ impl Clients {
             longest: 0,
             waiting: 0,
         };
-        match self.connections.insert(number, held) {
-            Ok(_none) => {
-                self.begun = number;
-                true
-            }
-            Err(_held) => false,
+        if !place(&mut self.connections, number, held) {
+            return false;
         }
+        self.begun = number;
+        true
     }
 
     // Takes bytes of a connection that has begun. Where they are not taken, and it is not told so, the connection is gone.
@@ -563,7 +562,7 @@ impl Clients {
         if hear(held, &mut self.queue, number, into, frame, bytes) {
             return true;
         }
-        let _held = self.connections.remove(&number);
+        forget(&mut self.connections, number);
         false
     }
 }

@@ -8,4 +8,5 @@ pub mod gathered;
 mod held;
 pub mod laws;
 pub mod serving;
+mod table;
 mod waiting;

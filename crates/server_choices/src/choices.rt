@@ -1,8 +1,5 @@
 //! The words behind the program's name.
-use dav_handler_core::conditions::Scheme;
-use dav_handler_core::dav::Settings;
 use http_header::{HeaderName, HeaderNameError};
-use server_fronts::{Compacting, Sync, USER};
 use std::alloc::{AllocError, Global};
 use std::num::ParseIntError;
 
@@ -23,6 +20,24 @@ const COMPACT_USELESS: u8 = 50;
 
 // A body may have so many bytes, if nothing else is said.
 const MAX_BODY: usize = 64 * 1024 * 1024;
+
+/// When what is changed is on the disk (own).
+#[derive(Clone, Copy, PartialEq, Eq)]
+pub enum Sync {
+    /// Before an answer tells of it.
+    Always,
+    /// At the next tick, which comes once a second.
+    Second,
+}
+
+/// When the file of the stores is compacted at the start (own).
+#[derive(Clone, Copy)]
+pub struct Compacting {
+    /// Only where it has more bytes than that.
+    pub over: u64,
+    /// Only where more than so many hundredths of it are of no use any more.
+    pub useless: u8,
+}
 
 /// Why the words choose nothing.
 #[derive(Clone, Copy)]
@@ -57,8 +72,16 @@ impl From<ParseIntError> for Unread {
 /// What the words choose.
 #[derive(Drop)]
 pub struct Choices {
-    /// The prefix, the header that names the principal, and the greatest timeout of a lock.
-    pub settings: Settings,
+    /// Whether clients come by `https`, by a proxy in front.
+    pub https: bool,
+    /// The path that URLs stand behind; empty for none.
+    pub prefix: String,
+    /// The header by which a proxy in front names the principal.
+    pub user_header: Option<HeaderName>,
+    /// The greatest timeout that a lock gets, in seconds.
+    pub longest_timeout: Option<u32>,
+    /// Whether a PROPFIND all the way down is refused.
+    pub finite_depth: bool,
     /// A request's body has so many bytes at most.
     pub max_body: usize,
     /// So many bytes are handed out to a client beyond what it has taken.
@@ -98,26 +121,27 @@ impl Choices {
     /// where there is no memory for it. `Usage` where a word is none of these, or a value is missing or isn't one; and where stores that a file keeps meet `--one` or a seed, or nothing is kept and it is to be synced each second, users `--one` or
     /// a header that names the principal, a file of users `--login`, or `--read-only` or a log `--one`.
     pub fn of(alloc: Global, words: &[String]) -> Result<Choices, Unread> {
-        let (one, login, rest) = match words {
-            [first, rest @ ..] if first.as_str() == "--one" => (true, false, rest),
-            [first, rest @ ..] if first.as_str() == "--login" => (false, true, rest),
-            _ => (false, false, words),
-        };
-        let mut choices = Choices {
-            settings: Settings {
-                scheme: Scheme::Http,
-                prefix: String::new(alloc),
-                user_header: None,
-                longest_timeout: None,
-                finite_depth: false,
-            },
+        let mut choices = Choices::unsaid(alloc)?;
+        choices.read(alloc, words)?;
+        Ok(choices)
+    }
+
+    // Those where nothing is said.
+    fn unsaid(alloc: Global) -> Result<Choices, AllocError> {
+        let realm = String::from_str(alloc, REALM)?;
+        Ok(Choices {
+            https: false,
+            prefix: String::new(alloc),
+            user_header: None,
+            longest_timeout: None,
+            finite_depth: false,
             max_body: MAX_BODY,
             window: WINDOW,
             waiting: BOUND,
             unfinished: BOUND,
             seed: None,
             clock: None,
-            one,
+            one: false,
             read_only: false,
             log: None,
             store: None,
@@ -126,23 +150,35 @@ impl Choices {
                 over: COMPACT_OVER,
                 useless: COMPACT_USELESS,
             },
-            login,
+            login: false,
             users: None,
             address_header: None,
-            realm: String::from_str(alloc, REALM)?,
-        };
-        choices.set_all(alloc, rest)?;
-        if choices.store.is_some() && (one || choices.seed.is_some()) {
-            return Err(Unread::Usage);
+            realm,
+        })
+    }
+
+    /// Whether users log in.
+    pub fn logs_in(&self) -> bool {
+        self.login || self.users.is_some()
+    }
+
+    fn read(&mut self, alloc: Global, words: &[String]) -> Result<(), Unread> {
+        match words {
+            [first, rest @ ..] if first.as_str() == "--one" => {
+                self.one = true;
+                self.set_all(alloc, rest)?;
+            }
+            [first, rest @ ..] if first.as_str() == "--login" => {
+                self.login = true;
+                self.set_all(alloc, rest)?;
+            }
+            _ => self.set_all(alloc, words)?,
         }
-        if choices.store.is_none() && choices.sync == Sync::Second {
-            return Err(Unread::Usage);
+        if self.go_together() {
+            Ok(())
+        } else {
+            Err(Unread::Usage)
         }
-        if one && (choices.read_only || choices.log.is_some()) {
-            return Err(Unread::Usage);
-        }
-        choices.log_in()?;
-        Ok(choices)
     }
 
     // Each option with its value.
@@ -165,39 +201,37 @@ impl Choices {
         }
     }
 
-    // Where users log in, the server is told by a field of its own who did.
-    fn log_in(&mut self) -> Result<(), Unread> {
-        if !self.login && self.users.is_none() {
-            return Ok(());
-        }
-        if self.one || self.settings.user_header.is_some() || (self.login && self.users.is_some()) {
-            return Err(Unread::Usage);
-        }
-        self.settings.user_header = Some(HeaderName::from_static(USER));
-        Ok(())
+    fn set(&mut self, alloc: Global, name: &str, value: &str) -> Result<(), Unread> {
+        let is_known = self.set_address(alloc, name, value)?
+            || self.set_limit(name, value)?
+            || self.set_store(alloc, name, value)?
+            || self.set_client(alloc, name, value)?
+            || self.set_test(name, value)?;
+        if is_known { Ok(()) } else { Err(Unread::Usage) }
     }
 
-    fn set(&mut self, alloc: Global, name: &str, value: &str) -> Result<(), Unread> {
+    // Whether the name is that of an option for what URLs and their fields have; its value is set then.
+    fn set_address(&mut self, alloc: Global, name: &str, value: &str) -> Result<bool, Unread> {
         if name == "--prefix" {
-            self.settings.prefix = String::from_str(alloc, prefix_of(value)?)?;
+            self.prefix = String::from_str(alloc, prefix_of(value)?)?;
         } else if name == "--scheme" {
-            self.settings.scheme = match value {
-                "http" => Scheme::Http,
-                "https" => Scheme::Https,
-                _ => return Err(Unread::Usage),
-            };
+            self.https = is_second("http", "https", value)?;
         } else if name == "--user-header" {
-            self.settings.user_header = Some(HeaderName::from_bytes(alloc, value.as_bytes())?);
+            self.user_header = Some(header_of(alloc, value)?);
         } else if name == "--address-header" {
-            self.address_header = Some(HeaderName::from_bytes(alloc, value.as_bytes())?);
-        } else if name == "--propfind-depth" {
-            self.settings.finite_depth = match value {
-                "finite" => true,
-                "infinite" => false,
-                _ => return Err(Unread::Usage),
-            };
+            self.address_header = Some(header_of(alloc, value)?);
+        } else {
+            return Ok(false);
+        }
+        Ok(true)
+    }
+
+    // The same of an option for how much may be asked.
+    fn set_limit(&mut self, name: &str, value: &str) -> Result<bool, Unread> {
+        if name == "--propfind-depth" {
+            self.finite_depth = is_second("infinite", "finite", value)?;
         } else if name == "--longest-timeout" {
-            self.settings.longest_timeout = Some(value.parse()?);
+            self.longest_timeout = Some(value.parse()?);
         } else if name == "--max-body" {
             self.max_body = value.parse()?;
         } else if name == "--window" {
@@ -206,36 +240,102 @@ impl Choices {
             self.waiting = value.parse()?;
         } else if name == "--unfinished" {
             self.unfinished = value.parse()?;
-        } else if name == "--store" {
-            self.store = Some(String::from_str(alloc, file_of(value)?)?);
+        } else {
+            return Ok(false);
+        }
+        Ok(true)
+    }
+
+    // The same of an option for the file that keeps the stores.
+    fn set_store(&mut self, alloc: Global, name: &str, value: &str) -> Result<bool, Unread> {
+        if name == "--store" {
+            self.store = Some(file_of(alloc, value)?);
         } else if name == "--sync" {
-            self.sync = match value {
-                "always" => Sync::Always,
-                "second" => Sync::Second,
-                _ => return Err(Unread::Usage),
-            };
+            self.sync = sync_of(value)?;
         } else if name == "--compact-over" {
             self.compacting.over = value.parse()?;
         } else if name == "--compact-useless" {
             self.compacting.useless = share_of(value)?;
-        } else if name == "--log" {
-            self.log = Some(String::from_str(alloc, file_of(value)?)?);
+        } else {
+            return Ok(false);
+        }
+        Ok(true)
+    }
+
+    // The same of an option for who asks, and what is told of it.
+    fn set_client(&mut self, alloc: Global, name: &str, value: &str) -> Result<bool, Unread> {
+        if name == "--log" {
+            self.log = Some(file_of(alloc, value)?);
         } else if name == "--users" {
-            self.users = Some(String::from_str(alloc, file_of(value)?)?);
+            self.users = Some(file_of(alloc, value)?);
         } else if name == "--realm" {
             self.realm = String::from_str(alloc, value)?;
-        } else if name == "--seed" {
+        } else {
+            return Ok(false);
+        }
+        Ok(true)
+    }
+
+    // The same of an option for tests.
+    fn set_test(&mut self, name: &str, value: &str) -> Result<bool, Unread> {
+        if name == "--seed" {
             self.seed = Some(value.parse()?);
         } else if name == "--clock" {
-            self.clock = Some(match value {
-                "frames" => 0,
-                _ => value.parse()?,
-            });
+            self.clock = Some(clock_of(value)?);
         } else {
-            return Err(Unread::Usage);
+            return Ok(false);
         }
-        Ok(())
+        Ok(true)
     }
+
+    // Whether what is chosen goes together. A server behind a login is told by a field of its own who logged in, and by no other.
+    fn go_together(&self) -> bool {
+        if self.store.is_some() && (self.one || self.seed.is_some()) {
+            return false;
+        }
+        if self.store.is_none() && self.sync == Sync::Second {
+            return false;
+        }
+        if self.one && (self.read_only || self.log.is_some() || self.logs_in()) {
+            return false;
+        }
+        let is_told = self.user_header.is_some() || (self.login && self.users.is_some());
+        !(self.logs_in() && is_told)
+    }
+}
+
+// Whether a word is the second of two, and not the first. `Usage` where it is neither.
+fn is_second(first: &str, second: &str, word: &str) -> Result<bool, Unread> {
+    if word == second {
+        Ok(true)
+    } else if word == first {
+        Ok(false)
+    } else {
+        Err(Unread::Usage)
+    }
+}
+
+// When changes are on the disk, as a word names it.
+fn sync_of(word: &str) -> Result<Sync, Unread> {
+    if is_second("always", "second", word)? {
+        Ok(Sync::Second)
+    } else {
+        Ok(Sync::Always)
+    }
+}
+
+// The moment that a word names, before the first that a frame tells.
+fn clock_of(word: &str) -> Result<u64, Unread> {
+    if word == "frames" {
+        Ok(0)
+    } else {
+        Ok(word.parse()?)
+    }
+}
+
+// The header that a word names.
+fn header_of(alloc: Global, word: &str) -> Result<HeaderName, Unread> {
+    Ok(HeaderName::from_bytes(alloc, word.as_bytes())?)
 }
 
 // The window that a word names. `Usage` where it is none, or 0, through which nothing would go.
@@ -255,11 +355,11 @@ fn share_of(word: &str) -> Result<u8, Unread> {
 }
 
 // The file that a word names. `Usage` where it names none.
-fn file_of(word: &str) -> Result<&str, Unread> {
+fn file_of(alloc: Global, word: &str) -> Result<String, Unread> {
     if word.is_empty() {
         Err(Unread::Usage)
     } else {
-        Ok(word)
+        Ok(String::from_str(alloc, word)?)
     }
 }
 

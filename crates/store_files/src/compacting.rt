@@ -33,6 +33,15 @@ pub struct Compacted<S: Start, B> {
     pub now: u64,
 }
 
+/// How long a file was, and how long it is once it was compacted (own).
+#[derive(Clone, Copy)]
+pub struct Lengths {
+    /// How many bytes it had.
+    pub before: u64,
+    /// How many it has.
+    pub now: u64,
+}
+
 /// What is supposed of the new file as it is opened: it has no byte (own).
 #[derive(Drop)]
 pub struct Anew;
@@ -55,29 +64,45 @@ impl Start for Anew {
 /// - `Store`: the old file is refused, as `load` says, or another program has it open.
 /// - `New`: it has no record yet.
 /// - And as `compact_opened` says.
-pub fn compact_file(rt: &HostRuntime, path: &str) -> Result<Compacted<Anew, ()>, Uncompacted> {
+pub fn compact_file(rt: &HostRuntime, path: &str) -> Result<Lengths, Uncompacted> {
     let real = fs::canonicalize(rt, path)?;
     if is_new(rt, real.as_str())? {
         return Err(Uncompacted::New);
     }
-    let (mut old, found) = open(rt, real.as_str(), header_of(rt, 0, 0)?, &(), Wary)?;
-    let Some(reader) = found else {
-        return Err(Uncompacted::New);
-    };
-    let header = reader.header();
-    let opened = read_all(rt.alloc(), &mut old, reader)?;
-    compact_opened(rt, real.as_str(), header, &opened, &(), Anew)
+    let header = header_of(rt, 0, 0)?;
+    let (mut old, found) = open(rt, real.as_str(), header, &(), Wary)?;
+    match found {
+        Some(mut reader) => compact_journal(rt, real.as_str(), &mut old, &mut reader),
+        None => Err(Uncompacted::New),
+    }
 }
 
-// The stores of the old file.
-fn read_all<D: Disk>(
-    alloc: Global,
+// Compacts the file, which has this journal.
+fn compact_journal<D: Disk>(
+    rt: &HostRuntime,
+    path: &str,
     journal: &mut Journal<D, ()>,
-    mut reader: Reader,
-) -> Result<Opened, StoreError>
+    reader: &mut Reader,
+) -> Result<Lengths, Uncompacted>
     requires usable { IsTrue (D.Disk.is_usable (disk_behind journal.old)) }
 {
-    load(alloc, journal, &mut reader, &(), &mut Unwatched)
+    let header = reader.header();
+    let opened = load(rt.alloc(), journal, reader, &(), &mut Unwatched)?;
+    compact_loaded(rt, path, header, &opened)
+}
+
+// Compacts the file, which has this header and these stores.
+fn compact_loaded(
+    rt: &HostRuntime,
+    path: &str,
+    header: Header,
+    opened: &Opened,
+) -> Result<Lengths, Uncompacted> {
+    let made = compact_opened(rt, path, header, opened, &(), Anew)?;
+    Ok(Lengths {
+        before: made.before,
+        now: made.now,
+    })
 }
 
 /// Nobody is told how far a file was read (own).
@@ -119,14 +144,20 @@ pub fn compact_opened<S: Start, B>(
     clear(rt, new.as_str())?;
     let later = header_of(rt, header.generation.saturating_add(1), header.began)?;
     match write_anew(rt, real.as_str(), new.as_str(), later, opened, note, start) {
-        Ok(made) => match sync_folder(rt, real.as_str()) {
-            Ok(()) => Ok(made),
-            Err(error) => Err(Uncompacted::Unsynced(error)),
-        },
-        Err(Uncompacted::InTheWay) => Err(Uncompacted::InTheWay),
+        Ok(made) => Ok(made),
         Err(error) => {
-            let _removed = fs::remove_file(rt, new.as_str());
+            remove_unmade(rt, new.as_str(), &error);
             Err(error)
+        }
+    }
+}
+
+// Removes a new file that could not be made, but not one that another program has made, or that has the name of the old one.
+fn remove_unmade(rt: &HostRuntime, new: &str, error: &Uncompacted) {
+    match error {
+        Uncompacted::InTheWay | Uncompacted::Unsynced(_) => {}
+        _ => {
+            let _removed = fs::remove_file(rt, new);
         }
     }
 }
@@ -143,7 +174,7 @@ pub fn header_of(rt: &HostRuntime, generation: u64, began: u64) -> io::Result<He
     })
 }
 
-// Writes the new file, and gives it the name of the old one. `InTheWay` where it isn't new.
+// Writes the new file, and gives it the name of the old one. `InTheWay` where it isn't new; `Unsynced` where the folder could not be synced.
 fn write_anew<S: Start, B>(
     rt: &HostRuntime,
     old: &str,
@@ -164,16 +195,41 @@ fn write_anew<S: Start, B>(
     if found.is_some() {
         return Err(Uncompacted::InTheWay);
     }
-    write_into(rt.alloc(), &mut journal, header, opened, note)?;
-    let before = fs::metadata(rt, old)?.len();
-    let now = fs::metadata(rt, new)?.len();
-    put_in_place(rt, new, old, &journal, header, opened)?;
+    let lengths = write_over(rt, old, new, &mut journal, header, opened, note)?;
     Ok(Compacted {
         journal,
         header,
-        before,
-        now,
+        before: lengths.before,
+        now: lengths.now,
     })
+}
+
+// Writes the snapshot into the new file, and gives it the name of the old one, which is on the disk then.
+fn write_over<D: Disk, B>(
+    rt: &HostRuntime,
+    old: &str,
+    new: &str,
+    journal: &mut Journal<D, B>,
+    header: Header,
+    opened: &Opened,
+    note: &B,
+) -> Result<Lengths, Uncompacted>
+    requires usable { IsTrue (D.Disk.is_usable (disk_behind journal.old)) }
+    requires anew { IsTrue (D.Disk.is_clean (disk_behind journal.old))
+        → IsMadeAnew D.Disk.seen D.Disk.may_leave D.Disk.is_clean journal.old
+        × (header_in journal.old ≡ header) }
+    ensures written { OnOk result (IsOnDisk D.Disk.seen D.Disk.may_leave D.Disk.is_clean journal.new
+        header opened.now.stores opened.now.last.0) }
+    ensures usable { OnOk result (IsTrue (D.Disk.is_usable (disk_behind journal.new))) }
+{
+    write_into(rt.alloc(), journal, header, opened, note)?;
+    let before = fs::metadata(rt, old)?.len();
+    let now = fs::metadata(rt, new)?.len();
+    put_in_place(rt, new, old, journal, header, opened)?;
+    match sync_folder(rt, old) {
+        Ok(()) => Ok(Lengths { before, now }),
+        Err(error) => Err(Uncompacted::Unsynced(error)),
+    }
 }
 
 // Why the new file is not made: where something has its name, that came there meanwhile.
@@ -235,7 +291,23 @@ fn write_store(
     if found.is_some() {
         return Err(Uncompacted::InTheWay);
     }
-    write_into(rt.alloc(), &mut journal, header, opened, &())?;
+    write_named(rt, path, &mut journal, header, opened)
+}
+
+// Writes the snapshot into the file, and puts its name on the disk.
+fn write_named<D: Disk>(
+    rt: &HostRuntime,
+    path: &str,
+    journal: &mut Journal<D, ()>,
+    header: Header,
+    opened: &Opened,
+) -> Result<(), Uncompacted>
+    requires usable { IsTrue (D.Disk.is_usable (disk_behind journal.old)) }
+    requires anew { IsTrue (D.Disk.is_clean (disk_behind journal.old))
+        → IsMadeAnew D.Disk.seen D.Disk.may_leave D.Disk.is_clean journal.old
+        × (header_in journal.old ≡ header) }
+{
+    write_into(rt.alloc(), journal, header, opened, &())?;
     let real = fs::canonicalize(rt, path)?;
     Ok(sync_folder(rt, real.as_str())?)
 }

@@ -1,14 +1,20 @@
-//! The file of stores: compacted, which puts a new one in its place.
+//! The file of stores: compacted, which puts a new one in its place. And how far long work is, told on standard error.
 #![tactic(auto)]
 
+mod clock;
 mod compacting;
 mod error;
 mod measuring;
+mod opening;
 mod placing;
+mod progress;
 
+pub use clock::now;
 pub use compacting::{
-    Anew, Compacted, Unwatched, compact_file, compact_opened, header_of, make_store,
+    Anew, Compacted, Lengths, Unwatched, compact_file, compact_opened, header_of, make_store,
 };
 pub use error::Uncompacted;
 pub use measuring::{is_due, length_of};
+pub use opening::Opening;
 pub use placing::{clear, clear_new, make_like, name_of_new, sync_folder};
+pub use progress::Progress;

@@ -1,6 +1,7 @@
 //! What stands in the stores, a line each.
 use crate::paths::Paths;
 use dav_files_core::fs::{DavMetaData, Moment};
+use dav_files_core::memfs::MemFsStored;
 use dav_guarded_core::errors::FsResult;
 use dav_guarded_core::guarded::Guarded;
 use std::alloc::{AllocError, Global};
@@ -32,19 +33,23 @@ fn lines_of(
     for stored in stores.walk() {
         let path = paths.path_of(&stored)?;
         if is_at_or_below(path.as_str(), from) {
-            let meta = stored.meta();
-            let kind = if meta.is_dir() { "folder" } else { "file" };
-            let line = format!(in alloc;
-                "{kind} {} {} {}",
-                meta.len(),
-                nanoseconds(meta.created()),
-                nanoseconds(meta.modified()),
-            )?;
-            lines.push((path, line))?;
+            lines.push((path, line_of(alloc, &stored)?))?;
         }
     }
     lines.sort_by(|one, other| one.0.as_str().cmp(other.0.as_str()))?;
     Ok(lines)
+}
+
+// The line of a folder or a file, without its path.
+fn line_of(alloc: Global, stored: &MemFsStored<'_>) -> Result<String, AllocError> {
+    let meta = stored.meta();
+    let kind = if meta.is_dir() { "folder" } else { "file" };
+    format!(in alloc;
+        "{kind} {} {} {}",
+        meta.len(),
+        nanoseconds(meta.created()),
+        nanoseconds(meta.modified()),
+    )
 }
 
 // Each folder and file in memory has both moments.

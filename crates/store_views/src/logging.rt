@@ -1,8 +1,9 @@
 //! What requests changed, a line for each change.
-use crate::looking::{Seen, broken};
-use crate::paths::{told_path, word_of};
+use crate::change_lines::{change_line, property_line};
+use crate::looking::{Broken, break_of};
 use dav_effects_core::{RecordError, read};
 use dav_files_core::fs::DavProp;
+use dav_guarded_core::fs::Moment;
 use dav_guarded_core::guarded::{Command, Request};
 use dav_notes_core::notes::Note;
 use dav_path_core::davpath::DavPath;
@@ -12,6 +13,17 @@ use journal_core::{JournalError, Reader, Stream};
 use std::alloc::{AllocError, Global};
 use std::io::{self, BufReader, BufWriter, Read, Write};
 
+/// How far the changes of a file were told (own).
+#[derive(Drop)]
+pub enum Logged {
+    /// All of them.
+    All,
+    /// The file is still being made, and has no record.
+    New,
+    /// Those before the place where it is broken; or it is none.
+    Broken(Broken),
+}
+
 /// Writes a line for each change, record after record, up to the end or to where the file is broken, which is told (own). The records are read, and not played. Of the snapshot that a compacted file has in
 /// front it writes a line, too.
 pub fn log<I: Read + Drop, O: Write + Drop>(
@@ -19,20 +31,30 @@ pub fn log<I: Read + Drop, O: Write + Drop>(
     input: BufReader<I>,
     bodies: bool,
     output: &mut BufWriter<O>,
-) -> io::Result<Option<Seen>> {
+) -> io::Result<Logged> {
     let mut source = Stream::new(input);
-    let mut reader = match Reader::begin(alloc, &mut source, &()) {
-        Ok(Some(reader)) => reader,
-        Ok(None) => return Ok(Some(Seen::New)),
-        Err(error) => return Ok(Some(broken(StoreError::Journal(error), 0, 0)?)),
-    };
+    match Reader::begin(alloc, &mut source, &()) {
+        Ok(Some(mut reader)) => log_all(alloc, &mut source, &mut reader, bodies, output),
+        Ok(None) => Ok(Logged::New),
+        Err(error) => stopped(StoreError::Journal(error), 0, 0),
+    }
+}
+
+// Writes the lines of what stands behind the header.
+fn log_all<I: Read + Drop, O: Write + Drop>(
+    alloc: Global,
+    source: &mut Stream<BufReader<I>>,
+    reader: &mut Reader,
+    bodies: bool,
+    output: &mut BufWriter<O>,
+) -> io::Result<Logged> {
     for number in 0..u64::MAX {
         let is_front = number == 0 && reader.header().generation > 0;
-        match reader.next(&mut source, &()) {
+        match reader.next(source, &()) {
             Ok(true) => {}
-            Ok(false) if is_front => return stopped(StoreError::Damaged(0), 0, &reader),
-            Ok(false) => return Ok(None),
-            Err(error) => return stopped(StoreError::Journal(error), number, &reader),
+            Ok(false) if is_front => return stopped(StoreError::Damaged(0), 0, reader.place()),
+            Ok(false) => return Ok(Logged::All),
+            Err(error) => return stopped(StoreError::Journal(error), number, reader.place()),
         }
         let told = if is_front {
             log_snapshot(alloc, reader.record(), output)?
@@ -40,15 +62,15 @@ pub fn log<I: Read + Drop, O: Write + Drop>(
             log_record(alloc, reader.record(), bodies, output)?
         };
         if !told {
-            return stopped(StoreError::Damaged(number), number, &reader);
+            return stopped(StoreError::Damaged(number), number, reader.place());
         }
     }
-    Ok(Some(broken(StoreError::Journal(JournalError::TooLarge), 0, 0)?))
+    stopped(StoreError::Journal(JournalError::TooLarge), 0, 0)
 }
 
 // Where the file is broken.
-fn stopped(error: StoreError, number: u64, reader: &Reader) -> io::Result<Option<Seen>> {
-    Ok(Some(broken(error, number, reader.place() as u64)?))
+fn stopped(error: StoreError, number: u64, place: usize) -> io::Result<Logged> {
+    Ok(Logged::Broken(break_of(error, number, place as u64)?))
 }
 
 // Writes the lines of a record; false where it is none.
@@ -74,14 +96,20 @@ fn log_snapshot<O: Write + Drop>(
     record: &[u8],
     output: &mut BufWriter<O>,
 ) -> io::Result<bool> {
-    match read_snapshot(alloc, record) {
-        Ok((_stores, last)) => {
+    match last_moment(alloc, record) {
+        Ok(last) => {
             writeln!(output, "{} - - snapshot {}", last.0, record.len())?;
             Ok(true)
         }
         Err(RecordError::OutOfMemory) => Err(AllocError.into()),
         Err(_) => Ok(false),
     }
+}
+
+// The last moment of a snapshot.
+fn last_moment(alloc: Global, record: &[u8]) -> Result<Moment, RecordError> {
+    let (_stores, last) = read_snapshot(alloc, record)?;
+    Ok(last)
 }
 
 fn write_notes<O: Write + Drop>(
@@ -91,104 +119,24 @@ fn write_notes<O: Write + Drop>(
     output: &mut BufWriter<O>,
 ) -> io::Result<()> {
     for note in notes {
-        write_caller(alloc, &note.request, output)?;
-        write_command(alloc, &note.request.command, bodies, output)?;
+        write_change(alloc, &note.request, bodies, output)?;
         output.write_all(b"\n")?;
     }
     Ok(())
 }
 
-// The moment, the principal and the tokens, each with a blank behind it; `-` for none.
-fn write_caller<O: Write + Drop>(
+fn write_change<O: Write + Drop>(
     alloc: Global,
     request: &Request,
-    output: &mut BufWriter<O>,
-) -> io::Result<()> {
-    write!(output, "{} ", request.now.0)?;
-    write_option(alloc, &request.principal, output)?;
-    output.write_all(b" ")?;
-    if request.tokens.is_empty() {
-        output.write_all(b"-")?;
-    }
-    for (place, token) in request.tokens.iter().enumerate() {
-        if place > 0 {
-            output.write_all(b",")?;
-        }
-        write_word(alloc, token.as_str().as_bytes(), output)?;
-    }
-    output.write_all(b" ")
-}
-
-fn write_command<O: Write + Drop>(
-    alloc: Global,
-    command: &Command,
     bodies: bool,
     output: &mut BufWriter<O>,
 ) -> io::Result<()> {
-    match command {
-        Command::Put { path, bytes } => {
-            write_named(alloc, "put", path, output)?;
+    write_text(change_line(alloc, request), output)?;
+    match &request.command {
+        Command::Put { bytes, .. } | Command::Write { bytes, .. } => {
             write_body(alloc, bytes.as_slice(), bodies, output)
         }
-        Command::Write { path, at, bytes } => {
-            write_named(alloc, "write", path, output)?;
-            match at {
-                Some(at) => write!(output, " {at}")?,
-                None => output.write_all(b" end")?,
-            }
-            write_body(alloc, bytes.as_slice(), bodies, output)
-        }
-        Command::MkCol { path } => write_named(alloc, "mkcol", path, output),
-        Command::Remove { path } => write_named(alloc, "remove", path, output),
-        Command::Move { from, to } => write_both(alloc, "move", from, to, output),
-        Command::Copy { from, to } => write_both(alloc, "copy", from, to, output),
         Command::PatchProps { path, patch } => write_patch(alloc, path, patch, bodies, output),
-        _ => write_lock(alloc, command, output),
-    }
-}
-
-// A command of locks. No other is noted.
-fn write_lock<O: Write + Drop>(
-    alloc: Global,
-    command: &Command,
-    output: &mut BufWriter<O>,
-) -> io::Result<()> {
-    match command {
-        Command::Lock {
-            path,
-            timeout,
-            shared,
-            deep,
-            ..
-        } => {
-            write_named(alloc, "lock", path, output)?;
-            output.write_all(if *shared {
-                b" shared".as_slice()
-            } else {
-                b" exclusive"
-            })?;
-            output.write_all(if *deep {
-                b" deep".as_slice()
-            } else {
-                b" shallow"
-            })?;
-            write_timeout(timeout, output)
-        }
-        Command::Unlock { path, token } => {
-            write_named(alloc, "unlock", path, output)?;
-            output.write_all(b" ")?;
-            write_word(alloc, token.as_str().as_bytes(), output)
-        }
-        Command::Refresh {
-            path,
-            token,
-            timeout,
-        } => {
-            write_named(alloc, "refresh", path, output)?;
-            output.write_all(b" ")?;
-            write_word(alloc, token.as_str().as_bytes(), output)?;
-            write_timeout(timeout, output)
-        }
         _ => Ok(()),
     }
 }
@@ -201,60 +149,28 @@ fn write_patch<O: Write + Drop>(
     bodies: bool,
     output: &mut BufWriter<O>,
 ) -> io::Result<()> {
-    for (place, entry) in patch.iter().enumerate() {
+    for (place, (is_set, prop)) in patch.iter().enumerate() {
         if place > 0 {
             output.write_all(b", ")?;
         }
-        write_named(
-            alloc,
-            if entry.0 { "setprop" } else { "delprop" },
-            path,
-            output,
-        )?;
-        output.write_all(b" ")?;
-        write_option(alloc, &entry.1.namespace, output)?;
-        output.write_all(b" ")?;
-        write_word(alloc, entry.1.name.as_str().as_bytes(), output)?;
-        if entry.0 {
-            match &entry.1.xml {
-                Some(xml) => write_body(alloc, xml, bodies, output)?,
-                None => output.write_all(b" -")?,
-            }
+        write_text(property_line(alloc, path, *is_set, prop), output)?;
+        if *is_set {
+            write_xml(alloc, prop, bodies, output)?;
         }
     }
     Ok(())
 }
 
-// A record does not tell whether a path ended in a slash.
-fn write_path<O: Write + Drop>(
+fn write_xml<O: Write + Drop>(
     alloc: Global,
-    path: &DavPath,
+    prop: &DavProp,
+    bodies: bool,
     output: &mut BufWriter<O>,
 ) -> io::Result<()> {
-    let told = told_path(alloc, path)?;
-    output.write_all(told.as_str().as_bytes())
-}
-
-fn write_named<O: Write + Drop>(
-    alloc: Global,
-    name: &str,
-    path: &DavPath,
-    output: &mut BufWriter<O>,
-) -> io::Result<()> {
-    write!(output, "{name} ")?;
-    write_path(alloc, path, output)
-}
-
-fn write_both<O: Write + Drop>(
-    alloc: Global,
-    name: &str,
-    from: &DavPath,
-    to: &DavPath,
-    output: &mut BufWriter<O>,
-) -> io::Result<()> {
-    write_named(alloc, name, from, output)?;
-    output.write_all(b" ")?;
-    write_path(alloc, to, output)
+    match &prop.xml {
+        Some(xml) => write_body(alloc, xml, bodies, output),
+        None => output.write_all(b" -"),
+    }
 }
 
 // The bytes in hexadecimal, or how many there are.
@@ -270,36 +186,13 @@ fn write_body<O: Write + Drop>(
     if bytes.is_empty() {
         return output.write_all(b" -");
     }
-    let text = hex::encode(alloc, bytes)?;
-    write!(output, " {text}")
+    output.write_all(b" ")?;
+    write_text(hex::encode(alloc, bytes), output)
 }
 
-fn write_timeout<O: Write + Drop>(
-    timeout: &Option<u64>,
+fn write_text<O: Write + Drop>(
+    text: Result<String, AllocError>,
     output: &mut BufWriter<O>,
 ) -> io::Result<()> {
-    match timeout {
-        Some(seconds) => write!(output, " {seconds}"),
-        None => output.write_all(b" -"),
-    }
-}
-
-fn write_option<O: Write + Drop>(
-    alloc: Global,
-    text: &Option<String>,
-    output: &mut BufWriter<O>,
-) -> io::Result<()> {
-    match text {
-        Some(text) => write_word(alloc, text.as_str().as_bytes(), output),
-        None => output.write_all(b"-"),
-    }
-}
-
-fn write_word<O: Write + Drop>(
-    alloc: Global,
-    bytes: &[u8],
-    output: &mut BufWriter<O>,
-) -> io::Result<()> {
-    let word = word_of(alloc, bytes)?;
-    output.write_all(word.as_str().as_bytes())
+    output.write_all(text?.as_str().as_bytes())
 }

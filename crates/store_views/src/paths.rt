@@ -44,14 +44,19 @@ impl Paths {
 /// A path as a word of a line (own): each segment with a slash before it, its bytes as those of a name are written; a slash for the root.
 pub fn told_path(alloc: Global, path: &DavPath) -> Result<String, AllocError> {
     let mut told = String::new(alloc);
-    for segment in path.segments() {
-        told.push('/')?;
-        push_name(&mut told, segment)?;
-    }
-    if told.is_empty() {
-        told.push('/')?;
-    }
+    push_path(&mut told, path)?;
     Ok(told)
+}
+
+/// Adds a path as a word of a line.
+pub(crate) fn push_path(line: &mut String, path: &DavPath) -> Result<(), AllocError> {
+    let mut is_root = true;
+    for segment in path.segments() {
+        line.push('/')?;
+        push_name(line, segment)?;
+        is_root = false;
+    }
+    if is_root { line.push('/') } else { Ok(()) }
 }
 
 /// The path of a member of a folder, as a word of a line (own).
@@ -64,23 +69,17 @@ pub fn told_member(alloc: Global, folder: &DavPath, name: &[u8]) -> Result<Strin
     Ok(told)
 }
 
-/// Bytes as a word of a line: each that is no letter, digit, `-`, `.`, `_` or `~` as `%HH`.
-pub fn word_of(alloc: Global, bytes: &[u8]) -> Result<String, AllocError> {
-    let mut word = String::new(alloc);
-    push_name(&mut word, bytes)?;
-    Ok(word)
-}
-
-fn push_name(path: &mut String, name: &[u8]) -> Result<(), AllocError> {
+/// Adds bytes as a word of a line: each that is no letter, digit, `-`, `.`, `_` or `~` as `%HH`.
+pub(crate) fn push_name(line: &mut String, name: &[u8]) -> Result<(), AllocError> {
     for byte in name {
         match *byte {
             b'a'..=b'z' | b'A'..=b'Z' | b'0'..=b'9' | b'-' | b'.' | b'_' | b'~' => {
-                path.push(*byte as char)?;
+                line.push(*byte as char)?;
             }
             other => {
-                path.push('%')?;
-                path.push(digit(other >> 4))?;
-                path.push(digit(other & 15))?;
+                line.push('%')?;
+                line.push(digit(other >> 4))?;
+                line.push(digit(other & 15))?;
             }
         }
     }

@@ -1,9 +1,10 @@
 //! Salvaging: what stood in a file of stores before it is broken is put into a new one.
-use crate::looking::Seen;
+use crate::playing::play;
 use dav_store_core::{Opened, StoreError};
 use journal_core::{Header, Reader, Stream};
 use std::alloc::Global;
 use std::io::{BufReader, Read};
+use store_files::Unwatched;
 
 /// What stood in a file behind so many of its records, and its header (own).
 #[derive(Drop)]
@@ -12,14 +13,6 @@ pub struct Front {
     pub opened: Opened,
     /// The header.
     pub header: Header,
-}
-
-/// How many records stand before the place where the file is broken, or before a record that can't be done (own); none where not one does, or nothing is broken.
-pub fn records_before(seen: &Seen) -> Option<u64> {
-    match seen {
-        Seen::Broken { records, .. } if *records > 0 => Some(*records),
-        _ => None,
-    }
 }
 
 /// Reads so many records of a file once more (own). What is wrong is told as `Opened::read_next` tells it; the file has changed where it has fewer.
@@ -32,12 +25,21 @@ pub fn read_front<I: Read + Drop>(
     let Some(mut reader) = Reader::begin(alloc, &mut source, &())? else {
         return Err(StoreError::Damaged(0));
     };
-    let header = reader.header();
     let (mut opened, first) = Opened::begin(alloc, &mut source, &mut reader, &())?;
-    for number in first..records {
-        if !opened.read_next(alloc, &mut source, &mut reader, &(), number)? {
-            return Err(StoreError::Damaged(number));
-        }
+    let numbers = first..records;
+    match play(
+        alloc,
+        &mut source,
+        &mut reader,
+        &mut opened,
+        numbers,
+        &mut Unwatched,
+    ) {
+        Ok(None) => Ok(Front {
+            opened,
+            header: reader.header(),
+        }),
+        Ok(Some(number)) => Err(StoreError::Damaged(number)),
+        Err(stop) => Err(stop.error),
     }
-    Ok(Front { opened, header })
 }

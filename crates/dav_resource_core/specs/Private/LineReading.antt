@@ -8,6 +8,7 @@ use Rattle.dav_path_core.specs.declared.davpath.ParseError.{ParseError}
 use Rattle.dav_path_core.specs.declared.davpath.ParseError.TheVariants.{OutOfMemory as NoRoom}
 use Rattle.dav_guarded_core.specs.declared.guarded.requests.Command.{Command}
 use Rattle.dav_guarded_core.specs.declared.guarded.requests.Request.{Request}
+use Rattle.dav_resource_core.specs.declared.davreplay.lines.Head.{Head as declared_head}
 use Rattle.dav_resource_core.specs.declared.davreplay.lines.Unread.{Unread}
 use Rattle.dav_resource_core.specs.declared.davreplay.lines.Unread.TheVariants.{Malformed, BadPath, OutOfMemory}
 use Rattle.dav_resource_core.specs.RequestLines.{Form, form_alone, has_two_paths, form_of_ends, form_with_one, form_with_two, form_with_three, words, Head, head_form, request_with}
@@ -77,6 +78,10 @@ CommandIs tokens command path (one ∷ two ∷ three ∷ []) result = IsReadOrRo
 CommandIs tokens command path (one ∷ two ∷ three ∷ four ∷ more) result = result ≡ Err Malformed
 
 -- ---- a line
+
+-- what stands in front of a command, as it is said
+abbrev pub said_head : declared_head → Head
+said_head head = record { now = head.now.0; principal = option_map string_bytes head.principal; tokens = map string_bytes head.tokens.items }
 
 -- the request of its first three words and its command: a wrong form of those words comes first
 abbrev pub line_request : Option Head → Result Command Unread → Result (Option plain.Request) Unread

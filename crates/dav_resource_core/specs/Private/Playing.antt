@@ -73,6 +73,12 @@ LineStopped p line old new =
     (written : List ℕ) × Appends old new written
     × ((written ≡ []) ⊎ ((on : Bool) × (p' : Played) × (text : List ℕ) × (count : ℕ) × LinePlayed p line on p' text × (written ≡ take count text)))
 
+-- of what a line says, a front of the text was written, or nothing
+abbrev pub SaidStopped : Played → Result (Option Request) Unread → Option (List ℕ) → Option (List ℕ) → Type 0
+SaidStopped p said old new =
+    (written : List ℕ) × Appends old new written
+    × ((written ≡ []) ⊎ ((on : Bool) × (p' : Played) × (text : List ℕ) × (count : ℕ) × PlaysLine p said on p' text × (written ≡ take count text)))
+
 -- what was written of the line behind those that were played: nothing, or a front of its text
 abbrev pub WroteNext : Played → List (List ℕ) → Option (List ℕ) → List ℕ → Type 0
 WroteNext p front input written =

@@ -7,7 +7,7 @@ ghost use Rattle.dav_headers_core.specs.CommaPieces.{is_comma};
 ghost use Rattle.line_streams.specs.Numerals.{numeral};
 ghost use Rattle.dav_resource_core.specs.RequestLines.{words, depth_of_word, scope_of_word, timeout_word, place_word, number_or, head_form, text_word, hex_word, is_count, is_label, labels_word, put_form, write_form, read_form, move_form, copy_form, set_form, delete_form, props_form, prop_form, lock_form, check_form, unlock_form, refresh_form, form_alone, has_two_paths, form_of_ends, form_with_one, form_with_two, form_with_three};
 ghost use Rattle.dav_guarded_core.specs.Requests.Command.{PatchProps};
-ghost use Rattle.dav_resource_core.specs.Private.LineReading.{exactly, Gives, IsWithOne, CommandIs, both, command_reading, IsReadCommand, IsReadOrRoom, IsAskedOrRoom, line_request, WordsAre, LineIs};
+ghost use Rattle.dav_resource_core.specs.Private.LineReading.{exactly, Gives, IsWithOne, CommandIs, both, command_reading, IsReadCommand, IsReadOrRoom, IsAskedOrRoom, line_request, said_head, WordsAre, LineIs};
 
 use super::labels::Labels;
 use bytes::Bytes;
@@ -96,6 +96,14 @@ fn request_of_words(
     }
 }
 
+// What stands in front of a command.
+#[derive(Drop)]
+struct Head {
+    now: Moment,
+    principal: Option<String>,
+    tokens: Vec<String>,
+}
+
 // A command, at its moment, for its principal, under the tokens of its labels.
 fn with_head(
     alloc: Global,
@@ -107,17 +115,45 @@ fn with_head(
 ) -> Result<Option<Request>, Unread>
     ensures { IsAskedOrRoom result (line_request (head_form granted.now moment.now principal.now labels.now) command) }
 {
+    match head_of(alloc, granted, moment, principal, labels) {
+        Ok(head) => behind(head, command),
+        Err(unread) => Err(unread),
+    }
+}
+
+fn head_of(
+    alloc: Global,
+    granted: &Labels,
+    moment: &str,
+    principal: &str,
+    labels: &str,
+) -> Result<Head, Unread>
+    ensures { Gives said_head result (head_form granted.now moment.now principal.now labels.now) }
+{
     let now = Moment(number_of(moment)?);
     let labels = labels_of(alloc, labels)?;
-    let command = command?;
     let principal = text_of(alloc, principal)?;
     let tokens = granted.tokens_of(&labels)?;
-    Ok(Some(Request {
+    Ok(Head {
+        now,
         principal,
         tokens,
-        now,
-        command,
-    }))
+    })
+}
+
+// A command behind what stands in front of it, which alone is taken apart.
+fn behind(head: Head, command: Result<Command, Unread>) -> Result<Option<Request>, Unread>
+    ensures { IsAskedOrRoom result (line_request (Some (said_head head)) command) }
+{
+    match command {
+        Ok(command) => Ok(Some(Request {
+            principal: head.principal,
+            tokens: head.tokens,
+            now: head.now,
+            command,
+        })),
+        Err(unread) => Err(unread),
+    }
 }
 
 // What stands between spaces, but for nothing between two.

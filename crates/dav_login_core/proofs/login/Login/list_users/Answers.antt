@@ -1,5 +1,5 @@
 use Rattle.std.proofs.Common.{◌≡◌, Ok, string_bytes, refl, sym, ap, subst, inl, inr, ◌∙◌}
-use Rattle.client_addresses.specs.declared.addresses.Addresses.{Addresses}
+use Rattle.dav_login_core.specs.declared.addresses.Addresses.{Addresses}
 use Rattle.dav_users_core.specs.declared.users.Users.{Users}
 use Rattle.dav_users_core.specs.Users.{UsersReading, hash_named, users_in}
 use Rattle.dav_login_core.specs.declared.known.Known.{Known}

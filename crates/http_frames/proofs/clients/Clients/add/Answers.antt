@@ -1,8 +1,8 @@
 use Rattle.std.proofs.Common.{false, refl}
 use Rattle.http_frames.proofs.clients.Clients.add.Goals as goal
 
-pub returns-in-Ok-clause-adds : goal.returns-in-Ok-clause-adds
-returns-in-Ok-clause-adds c = λ is. record {
+pub returns-clause-adds : goal.returns-clause-adds
+returns-clause-adds c = λ is. record {
   begins = refl;
   new = record { connection = c.new.result; address = c.take.result; ahead = 0; heard = 0; behind = 0; due = 0; ended = false; queued = false; part = false; news = false; round = 0; called = 0; last = c.args.self.now.frames; longest = 0; waiting = 0 };
   settings = c.new.ensures.config;
@@ -13,7 +13,7 @@ returns-in-Ok-clause-adds c = λ is. record {
   due = refl;
   unended = refl;
   unqueued = refl;
-  puts = c.in-Ok.ensures.updates.0;
+  puts = c.place.ensures.puts c.if-not-place.false;
   queue = refl;
   config = refl;
   window = refl;

@@ -48,7 +48,7 @@ returns-in_ok-write_piece-in-Over-clause-told g c = λ is.
       out = tt;
       wrote = subst (λ (t : Option (List ℕ)). Appends t (g.O.Write.contents c.write_piece.new.output) (piece_text c.args.number [])) (ap g.O.Write.contents quiet) c.in_ok-write_piece-in-Over.ensures.ok;
       adds = ends c.args.self.now _ c.args.number b.0 b.1 c.in-Some.held.now (sym c.in-Some.ensures.value) over.2 (record {
-        puts = λ q. c.remove-held.ensures.updates.0 q ∙ ap (λ (o : Option Held). cond (c.args.number == q) None o) (put.0 q) ∙ put_then_taken (c.args.number == q) None (Some c.speak.new.held) _;
+        puts = λ q. c.forget.ensures q ∙ ap (λ (o : Option Held). cond (c.args.number == q) None o) (put.0 q) ∙ put_then_taken (c.args.number == q) None (Some c.speak.new.held) _;
         begun = refl;
         config = refl;
         window = refl;

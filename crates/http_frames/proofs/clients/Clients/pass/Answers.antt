@@ -14,7 +14,7 @@ returns-clause-fails c = λ is.
       c.in-Some.held.now,
       sym c.in-Some.ensures.value,
       record {
-        puts = λ q. c.remove-held.ensures.updates.0 q ∙ ap (λ (o : Option Held). cond (c.args.number == q) None o) (put.0 q) ∙ put_then_taken (c.args.number == q) None (Some c.hear.new.held) _;
+        puts = λ q. c.forget.ensures q ∙ ap (λ (o : Option Held). cond (c.args.number == q) None o) (put.0 q) ∙ put_then_taken (c.args.number == q) None (Some c.hear.new.held) _;
         begun = refl;
         config = refl;
         window = refl;

@@ -1,6 +1,0 @@
-use Rattle.std.proofs.Common.{rules}
-use Rattle.client_addresses.proofs.LastLemmas.{last_behind}
-use Rattle.client_addresses.proofs.telling.told_in.Goals as goal
-
-pub returns-in-Some-next_back : goal.returns-in-Some-next_back
-returns-in-Some-next_back c = search (rules, last_behind)

@@ -1,2 +1,0 @@
-pub mod GuessRuns
-pub mod Guessing

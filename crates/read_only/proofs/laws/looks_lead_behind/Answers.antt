@@ -1,6 +1,0 @@
-use Rattle.read_only.proofs.LookRuns.{leads_looks}
-use Rattle.read_only.proofs.laws.looks_lead_behind.Goals as goal
-
-pub returns : goal.returns
-returns g c = λ old new events leads.
-    leads_looks g.S.TurnService.begins g.S.Service.answers g.S.TurnService.clocked g.S.TurnService.listed events old new leads

@@ -1,3 +1,0 @@
-pub mod LogLines
-pub mod LoggedAnswers
-pub mod Private

@@ -1,0 +1,401 @@
+//! Importing: what stands in a folder of the system is put into the stores of a file.
+ghost use Rattle.std.specs.Prelude.{IsTrue, OnOk};
+ghost use Rattle.journal_core.specs.Resting.{disk_behind};
+
+use crate::adding::{Unimported, add, check_free};
+use crate::entries::Entry;
+use crate::sources::{Found, bytes_of, is_one_file, member_of, names_of, source_of, time_of};
+use bytes::Bytes;
+use dav_guarded_core::fs::Moment;
+use dav_guarded_core::guarded::Guarded;
+use dav_path_core::davpath::ParseError;
+use dav_store_core::{Opened, StoreError, load};
+use journal_core::{Journal, JournalError, Reader, Round};
+use journal_file::open;
+use sqlite_disk::Disk;
+use sqlite_std_file::Wary;
+use std::alloc::AllocError;
+use std::fs::{self, Metadata};
+use std::io::{BufWriter, ErrorKind, Write};
+use store_files::{Opening, Progress, header_of, now};
+use store_views::{Failure, told_member, told_path};
+
+/// So many records stand in a round, at most.
+const RECORDS: usize = 64;
+
+/// From so many bytes on a round is appended. A file that has as many is a round of its own.
+const BYTES: usize = 4 * 1024 * 1024;
+
+const MEGABYTE: u64 = 1_000_000;
+
+// An import in work.
+#[derive(Drop)]
+struct Importer<'a> {
+    rt: &'a HostRuntime,
+    progress: Progress<'a>,
+    // What stands at the path of the stores' own file.
+    own: Metadata,
+    opened: Opened,
+    // The records that are not appended yet, and how many.
+    round: Round,
+    records: usize,
+    // What is still to be imported; the next is the last.
+    waiting: Vec<Found>,
+    files: u64,
+    folders: u64,
+    bytes: u64,
+    left_out: u64,
+}
+
+/// Puts what stands in a folder of the system into the stores of the file at this path (own), which is made where it isn't there, and tells what is left out, and how much was imported. Whether nothing was left
+/// out.
+///
+/// - `Refused`: the file of stores is broken, or is none, or another program has it open.
+/// - `Unkept`: a round could not be appended. `Changed`: a file changed while it was read. `At`, `Failed`: a call of the system failed, or there is no memory. What was appended stays.
+pub fn import<O: Write + Drop>(
+    rt: &HostRuntime,
+    path: &str,
+    folder: &str,
+    output: &mut BufWriter<O>,
+) -> Result<bool, Failure> {
+    let source = source_of(rt, folder)?;
+    let header = header_of(rt, 0, now(rt)?.0)?;
+    let (mut journal, found) = open(rt, path, header, &(), Wary)?;
+    import_into(
+        rt,
+        path,
+        &mut journal,
+        found,
+        Moment(header.began),
+        &source,
+        output,
+    )
+}
+
+// Puts what stands in the folder into the stores that the journal keeps.
+fn import_into<D: Disk, O: Write + Drop>(
+    rt: &HostRuntime,
+    path: &str,
+    journal: &mut Journal<D, ()>,
+    found: Option<Reader>,
+    began: Moment,
+    source: &Found,
+    output: &mut BufWriter<O>,
+) -> Result<bool, Failure>
+    requires usable { IsTrue (D.Disk.is_usable (disk_behind journal.old)) }
+{
+    let own = fs::metadata(rt, path)?;
+    let opened = read_all(rt, path, journal, found, began)?;
+    let mut importer = Importer::over(rt, opened, own);
+    import_from(&mut importer, journal, source, output)
+}
+
+// Puts what stands in the folder into the stores, and tells how much that was.
+fn import_from<D: Disk, O: Write + Drop>(
+    importer: &mut Importer<'_>,
+    journal: &mut Journal<D, ()>,
+    source: &Found,
+    output: &mut BufWriter<O>,
+) -> Result<bool, Failure>
+    requires usable { IsTrue (D.Disk.is_usable (disk_behind journal.old)) }
+{
+    importer.enter(source, output)?;
+    let imported = import_all(importer, journal, output);
+    importer.progress.end();
+    imported?;
+    importer.tell_end(output)
+}
+
+// The stores that the journal keeps; those of a new one are a root folder alone.
+fn read_all<D: Disk>(
+    rt: &HostRuntime,
+    path: &str,
+    journal: &mut Journal<D, ()>,
+    found: Option<Reader>,
+    began: Moment,
+) -> Result<Opened, StoreError>
+    requires usable { IsTrue (D.Disk.is_usable (disk_behind journal.old)) }
+    ensures usable { IsTrue (D.Disk.is_usable (disk_behind journal.new)) }
+{
+    match found {
+        Some(mut reader) => {
+            let mut opening = Opening::of(rt, path);
+            let opened = load(rt.alloc(), journal, &mut reader, &(), &mut opening);
+            opening.end();
+            opened
+        }
+        None => match Guarded::new(rt.alloc(), began) {
+            Ok(stores) => Ok(Opened {
+                stores,
+                last: began,
+            }),
+            Err(_) => Err(StoreError::Journal(JournalError::OutOfMemory)),
+        },
+    }
+}
+
+// Imports all that waits.
+fn import_all<D: Disk, O: Write + Drop>(
+    import: &mut Importer<'_>,
+    journal: &mut Journal<D, ()>,
+    output: &mut BufWriter<O>,
+) -> Result<(), Failure>
+    requires usable { IsTrue (D.Disk.is_usable (disk_behind journal.old)) }
+{
+    'importing: for _ in 0..u64::MAX {
+        let Some(found) = import.waiting.pop() else {
+            break 'importing;
+        };
+        import_one(import, journal, &found, output)?;
+        import.tell_progress();
+    }
+    append(import, journal)
+}
+
+// Imports what was found, and what stands in it, if it is a folder, waits.
+fn import_one<D: Disk, O: Write + Drop>(
+    import: &mut Importer<'_>,
+    journal: &mut Journal<D, ()>,
+    found: &Found,
+    output: &mut BufWriter<O>,
+) -> Result<(), Failure>
+    requires usable { IsTrue (D.Disk.is_usable (disk_behind journal.old)) }
+    ensures usable { OnOk result (IsTrue (D.Disk.is_usable (disk_behind journal.new))) }
+{
+    let Some(meta) = import.look_at(found, output)? else {
+        return Ok(());
+    };
+    if meta.is_dir() {
+        import.add_folder(found, &meta, output)?;
+    } else {
+        if meta.len() >= BYTES as u64 {
+            append(import, journal)?;
+        }
+        import.add_file(found, &meta, output)?;
+    }
+    if import.records < RECORDS && import.round.len() < BYTES {
+        return Ok(());
+    }
+    append(import, journal)
+}
+
+// Appends the round, which is on the disk at `Ok`, and begins the next.
+fn append<D: Disk>(import: &mut Importer<'_>, journal: &mut Journal<D, ()>) -> Result<(), Failure>
+    requires usable { IsTrue (D.Disk.is_usable (disk_behind journal.old)) }
+    ensures usable { OnOk result (IsTrue (D.Disk.is_usable (disk_behind journal.new))) }
+{
+    match journal.append(&(), &import.round) {
+        Ok(()) => {}
+        Err(error) => return Err(Failure::Unkept(error)),
+    }
+    import.round = Round::new(import.rt.alloc());
+    import.records = 0;
+    Ok(())
+}
+
+impl<'a> Importer<'a> {
+    // Of nothing yet, into stores whose file is this one.
+    fn over(rt: &'a HostRuntime, opened: Opened, own: Metadata) -> Importer<'a> {
+        Importer {
+            rt,
+            progress: Progress::new(rt),
+            own,
+            opened,
+            round: Round::new(rt.alloc()),
+            records: 0,
+            waiting: Vec::new(rt.alloc()),
+            files: 0,
+            folders: 0,
+            bytes: 0,
+            left_out: 0,
+        }
+    }
+
+    // Tells how much was imported. Whether nothing was left out.
+    fn tell_end<O: Write + Drop>(&self, output: &mut BufWriter<O>) -> Result<bool, Failure> {
+        let files = self.files;
+        let folders = self.folders;
+        let left_out = self.left_out;
+        writeln!(
+            output,
+            "imported: {files} files, {folders} folders, {left_out} left out"
+        )?;
+        Ok(left_out == 0)
+    }
+
+    // What is known of a file or a folder. None where it is left out: a link, a special file, and the stores' own file.
+    fn look_at<O: Write + Drop>(
+        &mut self,
+        found: &Found,
+        output: &mut BufWriter<O>,
+    ) -> Result<Option<Metadata>, Failure> {
+        let meta = match fs::symlink_metadata(self.rt, found.place.as_str()) {
+            Ok(meta) => meta,
+            Err(error) if error.kind() == ErrorKind::InvalidFilename => {
+                self.leave_out(found, "its path is too long", output)?;
+                return Ok(None);
+            }
+            Err(error) => return Err(Failure::At(found.place.clone()?, error)),
+        };
+        let why = if meta.is_symlink() {
+            "a link"
+        } else if !meta.is_dir() && !meta.is_file() {
+            "a special file"
+        } else if is_one_file(&meta, &self.own) {
+            "the file of the stores"
+        } else {
+            return Ok(Some(meta));
+        };
+        self.leave_out(found, why, output)?;
+        Ok(None)
+    }
+
+    fn add_folder<O: Write + Drop>(
+        &mut self,
+        found: &Found,
+        meta: &Metadata,
+        output: &mut BufWriter<O>,
+    ) -> Result<(), Failure> {
+        match self.add(found, None, meta)? {
+            Ok(()) => self.folders = self.folders.saturating_add(1),
+            Err(Unimported::Folder) => {}
+            Err(why) => return self.refuse(found, why, output),
+        }
+        self.enter(found, output)
+    }
+
+    fn add_file<O: Write + Drop>(
+        &mut self,
+        found: &Found,
+        meta: &Metadata,
+        output: &mut BufWriter<O>,
+    ) -> Result<(), Failure> {
+        // So that what stands there already is not read in vain.
+        if let Err(why) = check_free(&self.opened.stores, &found.path, self.opened.last) {
+            return self.refuse(found, why, output);
+        }
+        let bytes = bytes_of(self.rt, found.place.as_str(), meta)?;
+        match self.add(found, Some(bytes), meta)? {
+            Ok(()) => {
+                self.files = self.files.saturating_add(1);
+                self.bytes = self.bytes.saturating_add(meta.len());
+                Ok(())
+            }
+            Err(why) => self.refuse(found, why, output),
+        }
+    }
+
+    // Adds it to the stores and to the round, or answers why it is left out.
+    fn add(
+        &mut self,
+        found: &Found,
+        content: Option<Bytes>,
+        meta: &Metadata,
+    ) -> Result<Result<(), Unimported>, Failure> {
+        let entry = Entry {
+            path: found.path.clone()?,
+            content,
+            modified: time_of(meta),
+        };
+        let clock = now(self.rt)?;
+        match add(
+            self.rt.alloc(),
+            &mut self.opened,
+            &mut self.round,
+            &entry,
+            clock,
+        ) {
+            Ok(()) => {
+                self.records = self.records.saturating_add(1);
+                Ok(Ok(()))
+            }
+            Err(Unimported::OutOfMemory | Unimported::Unfinished) => Err(AllocError.into()),
+            Err(why) => Ok(Err(why)),
+        }
+    }
+
+    // What stands in the folder waits. Names that are no text are left out.
+    fn enter<O: Write + Drop>(
+        &mut self,
+        folder: &Found,
+        output: &mut BufWriter<O>,
+    ) -> Result<(), Failure> {
+        let names = names_of(self.rt, folder.place.as_str())?;
+        for name in &names {
+            self.wait_for(folder, name, output)?;
+        }
+        Ok(())
+    }
+
+    fn wait_for<O: Write + Drop>(
+        &mut self,
+        folder: &Found,
+        name: &[u8],
+        output: &mut BufWriter<O>,
+    ) -> Result<(), Failure> {
+        let alloc = self.rt.alloc();
+        let child = folder.path.child(name);
+        if let Err(ParseError::OutOfMemory) = child {
+            return Err(AllocError.into());
+        }
+        let (Ok(text), Ok(path)) = (std::str::from_utf8(name), child) else {
+            let told = told_member(alloc, &folder.path, name)?;
+            return self.tell(told.as_str(), "its name is no text", output);
+        };
+        let place = member_of(alloc, folder.place.as_str(), text)?;
+        self.waiting
+            .push(Found { place, path })
+            .map_err(|_| AllocError)?;
+        Ok(())
+    }
+
+    // Why the stores do not take it.
+    fn refuse<O: Write + Drop>(
+        &mut self,
+        found: &Found,
+        why: Unimported,
+        output: &mut BufWriter<O>,
+    ) -> Result<(), Failure> {
+        let text = match why {
+            Unimported::File => "a file stands there",
+            Unimported::Folder => "a folder stands there",
+            Unimported::NoFolder => "there is no folder for it",
+            Unimported::Locked => "locked",
+            Unimported::NoMoment => "no moment comes behind the last one",
+            Unimported::OutOfMemory | Unimported::Unfinished => return Err(AllocError.into()),
+        };
+        self.leave_out(found, text, output)
+    }
+
+    fn leave_out<O: Write + Drop>(
+        &mut self,
+        found: &Found,
+        why: &str,
+        output: &mut BufWriter<O>,
+    ) -> Result<(), Failure> {
+        let told = told_path(self.rt.alloc(), &found.path)?;
+        self.tell(told.as_str(), why, output)
+    }
+
+    fn tell<O: Write + Drop>(
+        &mut self,
+        told: &str,
+        why: &str,
+        output: &mut BufWriter<O>,
+    ) -> Result<(), Failure> {
+        self.left_out = self.left_out.saturating_add(1);
+        writeln!(output, "{told}: {why}")?;
+        Ok(())
+    }
+
+    fn tell_progress(&mut self) {
+        if !self.progress.is_due() {
+            return;
+        }
+        let files = self.files;
+        let read = self.bytes / MEGABYTE;
+        if let Ok(text) = format!(in self.rt.alloc(); "importing: {files} files, {read} MB") {
+            self.progress.tell(text.as_str());
+        }
+    }
+}

@@ -1,0 +1,146 @@
+//! The program: it takes the words, does what they choose, and tells how that ended.
+use crate::choices::{Choices, What};
+use crate::importing::import;
+use crate::inputs::{BUFFER, input};
+use crate::looks::{look_at, tell_broken, tell_new};
+use std::alloc::AllocError;
+use std::env;
+use std::io::{self, BufWriter, ErrorKind, Write};
+use store_files::{Lengths, Uncompacted, compact_file};
+use store_views::{Failure, Logged, follow, log, take};
+
+// The words that the program takes.
+const USAGE: &str =
+    "usage: davstore PATH check\n       davstore PATH list [FOLDER]\n       davstore PATH log [--bodies]\n       davstore PATH compact\n       davstore PATH import DIR\n       davstore PATH export DIR\n       davstore PATH salvage OUT\n       davstore COPY adopt [--yes]\n       davstore PATH follow [BYTE]\n       davstore COPY take\n";
+
+/// Does what the words behind the program's name choose, and tells it (own). The status: 0, or 1 where the file isn't whole, or nothing was there to tell, or not all was done, 2 where the words are not of the program's form, and 3 where a call of the system failed, or there was no memory.
+pub fn run(rt: &HostRuntime) -> u8 {
+    match words(rt) {
+        Ok(words) => run_words(rt, &words),
+        Err(error) if error.kind() == ErrorKind::OutOfMemory => ended(rt, "out of memory\n", 3),
+        Err(_) => ended(rt, USAGE, 2),
+    }
+}
+
+// The words behind the program's name; an error where one is no text.
+fn words(rt: &HostRuntime) -> io::Result<Vec<String>> {
+    let mut words = Vec::new(rt.alloc());
+    for word in env::args(rt)?.skip(1) {
+        if words.push(word).is_err() {
+            return Err(io::Error::from(AllocError));
+        }
+    }
+    Ok(words)
+}
+
+fn run_words(rt: &HostRuntime, words: &[String]) -> u8 {
+    let Some(choices) = Choices::of(words) else {
+        return ended(rt, USAGE, 2);
+    };
+    match run_choices(rt, choices) {
+        Ok(true) => 0,
+        Ok(false) => 1,
+        Err(failure) => failed(rt, choices.path, &failure),
+    }
+}
+
+// Does and tells what was asked for. Whether the file is whole, and something is there to tell.
+fn run_choices(rt: &HostRuntime, choices: Choices<'_>) -> Result<bool, Failure> {
+    let mut output = BufWriter::with_capacity(rt.alloc(), BUFFER, rt.stdout())?;
+    let told = do_what(rt, choices, &mut output);
+    output.flush()?;
+    told
+}
+
+fn do_what<O: Write + Drop>(
+    rt: &HostRuntime,
+    choices: Choices<'_>,
+    output: &mut BufWriter<O>,
+) -> Result<bool, Failure> {
+    let path = choices.path;
+    match choices.what {
+        What::Read(asked) => look_at(rt, path, asked, output),
+        What::Log(bodies) => log_changes(rt, path, bodies, output),
+        What::Compact => Ok(compact(rt, path, output)?),
+        What::Import(folder) => import(rt, path, folder, output),
+        What::Follow(from) => {
+            follow(rt, path, from, output)?;
+            Ok(true)
+        }
+        What::Take => take(rt, path, output),
+    }
+}
+
+fn log_changes<O: Write + Drop>(
+    rt: &HostRuntime,
+    path: &str,
+    bodies: bool,
+    output: &mut BufWriter<O>,
+) -> Result<bool, Failure> {
+    match log(rt.alloc(), input(rt, path)?, bodies, output)? {
+        Logged::All => Ok(true),
+        Logged::New => {
+            tell_new(output)?;
+            Ok(true)
+        }
+        Logged::Broken(broken) => {
+            tell_broken(&broken, output)?;
+            Ok(false)
+        }
+    }
+}
+
+// Compacts the file, and tells how long it was and is, or why it stays as it was.
+fn compact<O: Write + Drop>(
+    rt: &HostRuntime,
+    path: &str,
+    output: &mut BufWriter<O>,
+) -> io::Result<bool> {
+    match compact_file(rt, path) {
+        Ok(Lengths { before, now }) => {
+            writeln!(output, "compacted: {before} bytes before, {now} bytes now")?;
+            Ok(true)
+        }
+        Err(Uncompacted::New) => {
+            tell_new(output)?;
+            Ok(true)
+        }
+        Err(Uncompacted::InTheWay) => {
+            writeln!(output, "no store: {path}.new")?;
+            Ok(false)
+        }
+        Err(Uncompacted::Store(error)) => {
+            writeln!(output, "{error}")?;
+            Ok(false)
+        }
+        Err(Uncompacted::Failed(error) | Uncompacted::Unsynced(error)) => Err(error),
+    }
+}
+
+// Tells why it has ended before its end. A failed write changes no status.
+fn failed(rt: &HostRuntime, path: &str, failure: &Failure) -> u8 {
+    if failure.is_for_memory() {
+        return ended(rt, "out of memory\n", 3);
+    }
+    let _written = match failure {
+        Failure::Refused(error) => {
+            let _told = writeln!(rt.stdout(), "{error}");
+            return 1;
+        }
+        Failure::NotEmpty(folder) => {
+            let _told = writeln!(rt.stdout(), "no empty folder: {folder}");
+            return 1;
+        }
+        Failure::Unkept(error) => writeln!(rt.stderr(), "{path}: {error}"),
+        Failure::Changed(place) => writeln!(rt.stderr(), "{place}: changed while it was read"),
+        Failure::At(place, error) => writeln!(rt.stderr(), "{place}: {error}"),
+        Failure::Failed(error) => writeln!(rt.stderr(), "{path}: {error}"),
+    };
+    3
+}
+
+// A failed write changes no status.
+fn ended(rt: &HostRuntime, text: &str, status: u8) -> u8 {
+    let _written = rt.stderr().write_all(text.as_bytes());
+    status
+}

@@ -1,0 +1,200 @@
+//! Following: the rounds of a store are written to a stream as they come.
+use crate::failures::Failure;
+use crate::placed::{Placed, read_word};
+use journal_copies::read_round;
+use journal_core::{Header, JournalError, Reader, Stream};
+use std::alloc::Global;
+use std::fs::{self, File, Metadata};
+use std::io::{self, BufWriter, ErrorKind, Read, Write};
+use std::os::unix::fs::MetadataExt;
+use std::thread::sleep;
+use std::time::Duration;
+
+// How long it rests where nothing has come, in milliseconds.
+const PAUSE: u64 = 50;
+
+// How many bytes a header has, and so where the first gate is.
+const HEADER: u64 = 56;
+
+// A file that is followed.
+#[derive(Drop)]
+struct Followed {
+    file: File,
+    found: Metadata,
+    front: Vec<u8>,
+    header: Header,
+    // Where the gate is of the round that comes next.
+    place: u64,
+}
+
+// What stands at a gate.
+#[derive(Drop)]
+enum AtGate {
+    // It is shut.
+    Shut,
+    // A round.
+    Round(Vec<u8>),
+}
+
+/// Writes the rounds of the store at this path to the output, each once its gate is open (own), from the round that ends at byte `from` on, or where none does, or none is named, from the first one. It ends where the
+/// output or a read fails, or the file is damaged. Where another file has come to the path, that is told in the stream, and all begins anew with it.
+pub fn follow<O: Write + Drop>(
+    rt: &HostRuntime,
+    path: &str,
+    from: Option<u64>,
+    output: &mut BufWriter<O>,
+) -> Result<(), Failure> {
+    let mut from = from;
+    for _ in 0..u64::MAX {
+        let mut followed = begin(rt, path)?;
+        followed.write_all(rt, path, from.take(), output)?;
+    }
+    Ok(())
+}
+
+// The file at the path, once it has a header.
+fn begin(rt: &HostRuntime, path: &str) -> Result<Followed, Failure> {
+    for _ in 0..u64::MAX {
+        if let Some(followed) = open(rt, path)? {
+            return Ok(followed);
+        }
+        sleep(rt, Duration::from_millis(PAUSE));
+    }
+    Err(Failure::from(JournalError::TooLarge))
+}
+
+// The file at the path; none where it is still being made.
+fn open(rt: &HostRuntime, path: &str) -> Result<Option<Followed>, Failure> {
+    let file = File::open(rt, path)?;
+    let found = file.metadata()?;
+    let front = read_front(rt.alloc(), &file)?;
+    let mut source = Stream::new(front.as_slice());
+    match Reader::begin(rt.alloc(), &mut source, &())? {
+        Some(reader) => Ok(Some(Followed {
+            file,
+            found,
+            header: reader.header(),
+            front,
+            place: HEADER,
+        })),
+        None => Ok(None),
+    }
+}
+
+// The first bytes of a file, up to the end of a header.
+fn read_front(alloc: Global, file: &File) -> io::Result<Vec<u8>> {
+    let mut front = Vec::new(alloc);
+    Placed::new(file, 0).take(HEADER).read_to_end(&mut front)?;
+    Ok(front)
+}
+
+impl Followed {
+    // Writes the header and the rounds, until another file stands at the path.
+    fn write_all<O: Write + Drop>(
+        &mut self,
+        rt: &HostRuntime,
+        path: &str,
+        from: Option<u64>,
+        output: &mut BufWriter<O>,
+    ) -> Result<(), Failure> {
+        if let Some(byte) = from
+            && !self.go_to(byte)?
+        {
+            writeln!(
+                rt.stderr(),
+                "{path}: no round ends at byte {byte}: from the first one"
+            )?;
+        }
+        output.write_all(&self.front)?;
+        output.write_all(&self.place.to_le_bytes())?;
+        self.pass(rt, path, output)?;
+        Ok(output.write_all(b"shutgate")?)
+    }
+
+    // Goes to the gate of the round that ends at this byte; whether one does.
+    fn go_to(&mut self, byte: u64) -> io::Result<bool> {
+        let mut gate = HEADER;
+        for _ in 0..u64::MAX {
+            let Some(next) = self.behind(gate)? else {
+                return Ok(false);
+            };
+            if next == byte {
+                self.place = gate;
+                return Ok(true);
+            }
+            if next > byte {
+                return Ok(false);
+            }
+            gate = next;
+        }
+        Ok(false)
+    }
+
+    // Where the round at this gate ends; none where the gate is shut, or the file ends.
+    fn behind(&self, gate: u64) -> io::Result<Option<u64>> {
+        let mut input = Placed::new(&self.file, gate);
+        let Some(word) = read_word(&mut input)? else {
+            return Ok(None);
+        };
+        let Some(len) = read_word(&mut input)? else {
+            return Ok(None);
+        };
+        if word == *b"shutgate" {
+            return Ok(None);
+        }
+        let Some(round) = u64::from_le_bytes(len).checked_add(24) else {
+            return Ok(None);
+        };
+        Ok(gate.checked_add(round))
+    }
+
+    // Writes each round that comes, until another file stands at the path.
+    fn pass<O: Write + Drop>(
+        &mut self,
+        rt: &HostRuntime,
+        path: &str,
+        output: &mut BufWriter<O>,
+    ) -> Result<(), Failure> {
+        for _ in 0..u64::MAX {
+            match self.next(rt.alloc())? {
+                AtGate::Round(round) => {
+                    output.write_all(b"opengate")?;
+                    output.write_all(&round)?;
+                    let size = (round.len() as u64).saturating_add(8);
+                    self.place = self.place.saturating_add(size);
+                }
+                AtGate::Shut => {
+                    output.flush()?;
+                    if is_another(rt, path, &self.found)? {
+                        return Ok(());
+                    }
+                    sleep(rt, Duration::from_millis(PAUSE));
+                }
+            }
+        }
+        Ok(())
+    }
+
+    // What stands at the next gate; an error where the file is damaged there.
+    fn next(&self, alloc: Global) -> Result<AtGate, Failure> {
+        let mut input = Placed::new(&self.file, self.place);
+        match read_word(&mut input)? {
+            Some(word) if word == *b"shutgate" => return Ok(AtGate::Shut),
+            Some(_) => {}
+            None => return Err(Failure::from(JournalError::Damaged(self.place))),
+        }
+        match read_round(alloc, &mut input, self.header.key, self.place as usize)? {
+            Some(round) => Ok(AtGate::Round(round)),
+            None => Err(Failure::from(JournalError::Damaged(self.place))),
+        }
+    }
+}
+
+// Whether another file stands at the path than this one. Where none stands there, one may come.
+fn is_another(rt: &HostRuntime, path: &str, found: &Metadata) -> io::Result<bool> {
+    match fs::metadata(rt, path) {
+        Ok(now) => Ok(now.dev() != found.dev() || now.ino() != found.ino()),
+        Err(error) if error.kind() == ErrorKind::NotFound => Ok(false),
+        Err(error) => Err(error),
+    }
+}

@@ -1,0 +1,4 @@
+pub mod LogLines
+pub mod LoggedAnswers
+pub mod Looking
+pub mod Private

@@ -1,0 +1,2 @@
+pub mod LoggedTurns
+pub mod LookTurns

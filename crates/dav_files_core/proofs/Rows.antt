@@ -1,28 +1,27 @@
 -- Worked rows of the resource map, computed on the definitions.
 use Rattle.std.proofs.Common.{◌≡◌, ℕ, false, true, cond, List, [], ◌∷◌, length, Option, Some, None, Ok, Err, refl, sym, ◌∙◌, arith}
-use Rattle.std.specs.Prelude.{codes, Result, pos, negsuc}
-use Rattle.std.specs.declared.io.traits.SeekFrom.TheVariants.{Start, End, Current}
+use Rattle.std.specs.Prelude.{codes, Result}
+use Rattle.std.specs.declared.io.traits.SeekFrom.TheVariants.{Start}
 use Rattle.std.specs.Ordering.{eq_by_cmp}
 use Rattle.std.specs.declared.cmp.Ordering.{Ordering}
 use Rattle.std.specs.FinMap.{FinMap, entries, get, insert, remove, empty, from_entries, find as find_in, get-empty, get-insert, get-remove, get-from_entries, entries-insert, put as put_in, len-empty, len-entries, keys}
 use Rattle.dav_path_core.specs.declared.errors.FsError.{FsError}
-use Rattle.dav_path_core.specs.declared.errors.FsError.TheVariants.{NotFound, NotImplemented, Forbidden, Exists, TooLarge}
-use Rattle.dav_path_core.specs.Fronts.{Segment, Path, segment_cmp, path_cmp, parent}
+use Rattle.dav_path_core.specs.declared.errors.FsError.TheVariants.{NotFound, Forbidden}
+use Rattle.dav_path_core.specs.Fronts.{Segment, Path, segment_cmp, path_cmp}
 use Rattle.dav_path_core.proofs.lists.Orders.{segment_total, path_total}
 use Rattle.dav_files_core.specs.declared.fs.OpenOptions.{OpenOptions}
 use Rattle.dav_files_core.specs.declared.memfs.Kind.TheVariants.{Folder}
 use Rattle.dav_files_core.specs.Resources.{Property, Properties, Resource, ResourceMap, key_cmp}
-use Rattle.dav_files_core.specs.Finding.{find, members, place}
+use Rattle.dav_files_core.specs.Finding.{find, members}
 use Rattle.dav_files_core.specs.Outcomes.{Outcome, ◌>>=◌, start, new_file, new_folder}
 use Rattle.dav_files_core.specs.Describing.{metadata}
 use Rattle.dav_files_core.specs.ContentParts.{read_at}
 use Rattle.dav_files_core.specs.ResourcePutting.{put}
 use Rattle.dav_files_core.specs.ResourceCopying.{copy}
 use Rattle.dav_files_core.specs.Folders.{create_dir, remove as remove_at}
-use Rattle.dav_files_core.specs.Listing.{read_dir}
 use Rattle.dav_files_core.specs.OpenFiles.{read_bytes, seek, write_bytes}
 use Rattle.dav_files_core.specs.Opening.{OpenFile, opening}
-use Rattle.dav_files_core.specs.Properties.{get_prop, get_props, patch_props}
+use Rattle.dav_files_core.specs.Properties.{get_props, patch_props}
 use Rattle.dav_files_core.specs.Renaming.{rename}
 use Rattle.dav_files_core.proofs.properties.PropertyMapLemmas.{key_total}
 
@@ -90,27 +89,18 @@ with_a = put (start 1) a (codes "abc") 5
 made : with_a >>= (λ x. find x.1 a) ≡ Ok (record { number = 2; node = new_file (codes "abc") 5 })
 made = simp literals
 
-root_kept : with_a >>= (λ x. find x.1 []) ≡ Ok (record { number = 1; node = new_folder 1 })
-root_kept = simp literals
-
 part : with_a >>= (λ x. read_at x.1 a 1 9) ≡ Ok (codes "bc")
 part = simp literals
-
-nothing_behind : with_a >>= (λ x. read_at x.1 a 5 9) ≡ Ok []
-nothing_behind = simp literals
 
 -- the members of the root and of the file
 members_of_root : with_a >>= (λ x. Ok (keys (members x.1 []))) ≡ Ok (codes "a" ∷ [])
 members_of_root = simp literals
 
-place_of_file : with_a >>= (λ x. Ok (place x.1 a)) ≡ Ok (Some (record { number = 2; node = new_file (codes "abc") 5 }), [])
-place_of_file = simp literals
-
 -- again: number and creation time stay
 again : with_a >>= (λ x. put x.1 a [] 9 >>= λ y. find y.1 a) ≡ Ok (record { number = 2; node = record (new_file [] 5) { modified = 9 } })
 again = simp literals
 
--- refusals: the root is a folder, nothing stands below a file, a folder is missing, a file is missing
+-- refusals: the root is a folder, nothing stands below a file, a folder is missing
 put_root : put (start 1) [] (codes "a") 5 ≡ Err Forbidden
 put_root = simp literals
 
@@ -120,26 +110,10 @@ put_below_file = simp literals
 put_below_nothing : put (start 1) below_a (codes "a") 5 ≡ Err NotFound
 put_below_nothing = simp literals
 
-read_nothing : read_at (start 1) a 0 1 ≡ Err NotFound
-read_nothing = simp literals
-
-read_root : read_at (start 1) [] 0 1 ≡ Err Forbidden
-read_root = simp literals
-
-parent_of_root : parent [] ≡ []
-parent_of_root = refl
-
-parent_below_a : parent below_a ≡ a
-parent_below_a = refl
-
 -- ---- folders, moves, copies and listings: each row goes on from the one before
 
 abbrev then : Outcome (Unit {0}) → (ResourceMap → Outcome (Unit {0})) → Outcome (Unit {0})
 then o f = o >>= λ x. f x.1
-
--- when what is at a path was last changed
-abbrev changed_at : Path → ResourceMap → Result ℕ FsError
-changed_at p m = metadata m p >>= λ meta. Ok meta.modified
 
 abbrev d : Path
 d = codes "d" ∷ []
@@ -162,26 +136,11 @@ g = codes "g" ∷ []
 abbrev folder_d : Outcome (Unit {0})
 folder_d = then (create_dir (start 1) d 2) (λ m. put m d_f (codes "ab") 3)
 
-folder_changed : folder_d >>= (λ x. changed_at d x.1) ≡ Ok 2
-folder_changed = simp literals
-
-above_changed : folder_d >>= (λ x. metadata x.1 []) ≡ Ok (record { kind = Folder; length = 0; modified = 2; created = 1 })
-above_changed = simp literals
-
 abbrev folder_e : Outcome (Unit {0})
 folder_e = then folder_d (λ m. rename m d e 5)
 
-renamed_root : folder_e >>= (λ x. changed_at [] x.1) ≡ Ok 5
-renamed_root = simp literals
-
-renamed_folder : folder_e >>= (λ x. find x.1 e) ≡ Ok (record { number = 2; node = new_folder 2 })
-renamed_folder = simp literals
-
 renamed_file : folder_e >>= (λ x. find x.1 e_f) ≡ Ok (record { number = 3; node = new_file (codes "ab") 3 })
 renamed_file = simp literals
-
-renamed_away : folder_e >>= (λ x. find x.1 d_f) ≡ Err NotFound
-renamed_away = simp literals
 
 abbrev copied : Outcome (Unit {0})
 copied = then folder_e (λ m. copy m e_f g 7)
@@ -189,14 +148,8 @@ copied = then folder_e (λ m. copy m e_f g 7)
 copied_file : copied >>= (λ x. find x.1 g) ≡ Ok (record { number = 4; node = record (new_file (codes "ab") 3) { created = 7 } })
 copied_file = simp literals
 
-copied_root : copied >>= (λ x. changed_at [] x.1) ≡ Ok 5
-copied_root = simp literals
-
 abbrev copied_again : Outcome (Unit {0})
 copied_again = then copied (λ m. copy m e_f g 9)
-
-copied_over : copied_again >>= (λ x. find x.1 g) ≡ Ok (record { number = 4; node = record (new_file (codes "ab") 3) { created = 9 } })
-copied_over = simp literals
 
 abbrev put_over : Outcome (Unit {0})
 put_over = then copied_again (λ m. rename m g e_f 11)
@@ -204,20 +157,8 @@ put_over = then copied_again (λ m. rename m g e_f 11)
 renamed_over : put_over >>= (λ x. find x.1 e_f) ≡ Ok (record { number = 4; node = record (new_file (codes "ab") 3) { created = 9 } })
 renamed_over = simp literals
 
-both_folders : put_over >>= (λ x. changed_at e x.1 >>= λ at_e. changed_at [] x.1 >>= λ at_root. Ok (at_e ∷ at_root ∷ [])) ≡ Ok (11 ∷ 11 ∷ [])
-both_folders = simp literals
-
 has_members_still : put_over >>= (λ x. remove_at x.1 e 12) ≡ Err Forbidden
 has_members_still = simp literals
-
-abbrev emptied : Outcome (Unit {0})
-emptied = then put_over (λ m. remove_at m e_f 13)
-
-removed_file : emptied >>= (λ x. find x.1 e_f) ≡ Err NotFound
-removed_file = simp literals
-
-removed_changed : emptied >>= (λ x. changed_at e x.1) ≡ Ok 13
-removed_changed = simp literals
 
 -- the root copied into a folder
 abbrev with_copy : Outcome (Unit {0})
@@ -226,21 +167,12 @@ with_copy = then (create_dir (start 1) e 11) (λ m. copy m [] e_r 14)
 copied_folder : with_copy >>= (λ x. metadata x.1 e_r) ≡ Ok (record { kind = Folder; length = 0; modified = 11; created = 14 })
 copied_folder = simp literals
 
-no_members : with_copy >>= (λ x. read_dir x.1 e_r) ≡ Ok []
-no_members = simp literals
-
-copied_listed : with_copy >>= (λ x. read_dir x.1 e) ≡ Ok ((codes "r", record { kind = Folder; length = 0; modified = 11; created = 14 }) ∷ [])
-copied_listed = simp literals
-
--- a folder copied onto a file, which keeps its number; and onto a folder
+-- a folder copied onto a file, which keeps its number
 abbrev onto_file : Outcome (Unit {0})
 onto_file = then (put (start 1) a (codes "abc") 5) (λ m. then (create_dir m e 6) (λ m. copy m e a 7))
 
 became_folder : onto_file >>= (λ x. find x.1 a) ≡ Ok (record { number = 2; node = record (new_folder 6) { created = 7 } })
 became_folder = simp literals
-
-onto_folder : onto_file >>= (λ x. copy x.1 e a 8) ≡ Err Forbidden
-onto_folder = simp literals
 
 -- listed by the bytes of the names
 abbrev four : Outcome (Unit {0})
@@ -257,43 +189,13 @@ folder_a = create_dir (start 1) a 2
 below_itself : folder_a >>= (λ x. rename x.1 a (codes "a" ∷ codes "b" ∷ []) 5) ≡ Err Forbidden
 below_itself = simp literals
 
-onto_itself : folder_d >>= (λ x. rename x.1 d d 5) ≡ Err Exists
-onto_itself = simp literals
-
-root_onto_itself : rename (start 1) [] [] 5 ≡ Err Forbidden
-root_onto_itself = simp literals
-
-onto_root : with_a >>= (λ x. rename x.1 a [] 9) ≡ Err Exists
-onto_root = simp literals
-
-own_place : with_a >>= (λ x. rename x.1 a a 9 >>= λ y. find y.1 a) ≡ Ok (record { number = 2; node = new_file (codes "abc") 5 })
-own_place = simp literals
-
 -- ---- opening
 
 abbrev nothing_asked : OpenOptions
 nothing_asked = record { read = false; write = false; append = false; truncate = false; create = false; create_new = false; size = None; checksum = None }
 
-open_there : with_a >>= (λ x. opening x.1 a (record nothing_asked { create_new = true }) 9) ≡ Err Exists
-open_there = simp literals
-
-open_missing : opening (start 1) a nothing_asked 9 ≡ Err NotFound
-open_missing = simp literals
-
 open_below_file : with_a >>= (λ x. opening x.1 below_a (record nothing_asked { create = true }) 9) ≡ Err Forbidden
 open_below_file = simp literals
-
-open_folder : opening (start 1) [] nothing_asked 9 ≡ Err Forbidden
-open_folder = simp literals
-
-truncated : with_a >>= (λ x. opening x.1 a (record nothing_asked { truncate = true }) 20 >>= λ y. find y.1 a) ≡ Ok (record { number = 2; node = record (new_file [] 5) { modified = 20 } })
-truncated = simp literals
-
-not_truncated : with_a >>= (λ x. opening x.1 a nothing_asked 20 >>= λ y. find y.1 a) ≡ Ok (record { number = 2; node = new_file (codes "abc") 5 })
-not_truncated = simp literals
-
-created : opening (start 1) a (record nothing_asked { create = true }) 20 >>= (λ y. find y.1 a) ≡ Ok (record { number = 2; node = new_file [] 20 })
-created = simp literals
 
 -- ---- open files
 
@@ -310,46 +212,6 @@ a_with bytes = record { number = 2; node = record (new_file bytes 5) { modified 
 gap_filled : with_a >>= (λ x. seek x.1 file_2 (Start 5) >>= λ s. write_bytes x.1 s.1 (codes "z") >>= left_at_a) ≡ Ok (a_with (97 ∷ 98 ∷ 99 ∷ 0 ∷ 0 ∷ 122 ∷ []), 6)
 gap_filled = simp literals
 
-gap_alone : with_a >>= (λ x. seek x.1 file_2 (Start 5) >>= λ s. write_bytes x.1 s.1 [] >>= left_at_a) ≡ Ok (a_with (97 ∷ 98 ∷ 99 ∷ 0 ∷ 0 ∷ []), 5)
-gap_alone = simp literals
-
-written_over : with_a >>= (λ x. seek x.1 file_2 (Start 1) >>= λ s. write_bytes x.1 s.1 (codes "z") >>= left_at_a) ≡ Ok (a_with (codes "azc"), 2)
-written_over = simp literals
-
-appended : with_a >>= (λ x. read_bytes x.1 (record file_2 { append = true }) 1 >>= λ y. write_bytes x.1 y.1 (codes "d") >>= left_at_a) ≡ Ok (a_with (codes "abcd"), 4)
-appended = simp literals
-
-moved_on : with_a >>= (λ x. read_bytes x.1 file_2 1 >>= λ y. read_bytes x.1 y.1 9) ≡ Ok (codes "bc", record file_2 { position = 3 })
-moved_on = simp literals
-
-from_the_end : with_a >>= (λ x. seek x.1 file_2 (End (negsuc 0))) ≡ Ok (2, record file_2 { position = 2 })
-from_the_end = simp literals
-
-before_the_start : with_a >>= (λ x. seek x.1 file_2 (End (negsuc 3))) ≡ Err NotImplemented
-before_the_start = simp literals
-
-abbrev far : OpenFile
-far = record file_2 { position = 18446744073709551615 }
-
-nothing_far : with_a >>= (λ x. read_bytes x.1 far 1) ≡ Ok ([], far)
-nothing_far = simp literals
-
-too_far : with_a >>= (λ x. write_bytes x.1 far (codes "z")) ≡ Err TooLarge
-too_far = simp literals
-
-past_all : with_a >>= (λ x. seek x.1 far (Current (pos 1))) ≡ Err NotImplemented
-past_all = simp literals
-
--- the file became a folder
-folder_read : onto_file >>= (λ x. read_bytes x.1 file_2 1) ≡ Err Forbidden
-folder_read = simp literals
-
-folder_end : onto_file >>= (λ x. seek x.1 file_2 (End (pos 0))) ≡ Err Forbidden
-folder_end = simp literals
-
-folder_start : onto_file >>= (λ x. seek x.1 file_2 (Start 2)) ≡ Ok (2, record file_2 { position = 2 })
-folder_start = simp literals
-
 -- its folder was renamed
 followed : folder_e >>= (λ x. write_bytes x.1 (record file_2 { number = 3 }) (codes "xyz") >>= λ w. find w.1.1 e_f) ≡ Ok (record { number = 3; node = new_file (codes "xyz") 3 })
 followed = simp literals
@@ -360,15 +222,6 @@ replaced = then (put (start 1) a (codes "abc") 5) (λ m. then (put m g (codes "x
 
 gone_read : replaced >>= (λ x. read_bytes x.1 file_2 1) ≡ Err NotFound
 gone_read = simp literals
-
-gone_write : replaced >>= (λ x. write_bytes x.1 file_2 (codes "w") >>= λ w. Ok w.0) ≡ Err NotFound
-gone_write = simp literals
-
-gone_end : replaced >>= (λ x. seek x.1 file_2 (End (pos 0))) ≡ Err NotFound
-gone_end = simp literals
-
-other_read : replaced >>= (λ x. read_bytes x.1 (record file_2 { number = 3 }) 1) ≡ Ok (codes "x", record { number = 3; position = 1; append = false })
-other_read = simp literals
 
 -- ---- properties of the root
 
@@ -386,25 +239,3 @@ set_twice = patch_props (start 1) [] ((true, n_x) ∷ (true, n_y) ∷ [])
 
 one_key : set_twice >>= (λ x. get_props x.1 [] true) ≡ Ok (n_y ∷ [])
 one_key = simp literals
-
-either_key : set_twice >>= (λ x. get_prop x.1 [] (named None (codes "n") None)) ≡ Ok (codes "y")
-either_key = simp literals
-
-another_name : set_twice >>= (λ x. get_prop x.1 [] (named None (codes "m") None)) ≡ Err NotFound
-another_name = simp literals
-
-no_xml : patch_props (start 1) [] ((true, named None (codes "n") None) ∷ []) >>= (λ x. get_prop x.1 [] n_x) ≡ Err NotFound
-no_xml = simp literals
-
-answers : patch_props (start 1) [] ((true, n_x) ∷ (false, named None (codes "m") None) ∷ []) >>= (λ x. Ok x.0) ≡ Ok ((200, named None (codes "n") None) ∷ (200, named None (codes "m") None) ∷ [])
-answers = simp literals
-
-by_namespace : patch_props (start 1) [] ((true, named (Some (codes "ab")) (codes "c") None) ∷ (true, named (Some (codes "a")) (codes "bc") None) ∷ []) >>= (λ x. get_props x.1 [] false)
-    ≡ Ok (named (Some (codes "a")) (codes "bc") None ∷ named (Some (codes "ab")) (codes "c") None ∷ [])
-by_namespace = simp literals
-
-times_stay : set_twice >>= (λ x. metadata x.1 []) ≡ Ok (record { kind = Folder; length = 0; modified = 1; created = 1 })
-times_stay = simp literals
-
-copied_along : set_twice >>= (λ x. put x.1 a (codes "abc") 5 >>= λ y. copy y.1 [] a 7 >>= λ z. get_props z.1 a true) ≡ Ok (n_y ∷ [])
-copied_along = simp literals

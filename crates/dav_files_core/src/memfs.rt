@@ -265,6 +265,23 @@ mod tests {
     }
 
     // A part that was read of a file with a copy is shared until the file is written and the copy is gone.
+    fn is_shared(
+        rt: &impl Abort,
+        files: &mut MemFs,
+        file: &mut MemFsFile,
+        copy: &DavPath,
+        shared: &Bytes,
+    ) -> Result<(), Fail> {
+        assert!(rt; !shared.is_unique());
+        file.seek(files, SeekFrom::Start(1))?;
+        file.write_bytes(files, Bytes::from_static(b"xyz"))?;
+        assert!(rt; !shared.is_unique());
+        files.remove_file(copy, Moment(5))?;
+        assert!(rt; shared.is_unique());
+        assert!(rt; shared.as_slice() == b"abc".as_slice());
+        Ok(())
+    }
+
     fn shares_bytes(
         rt: &impl Abort,
         files: &mut MemFs,
@@ -275,13 +292,10 @@ mod tests {
         files.copy(path, copy, Moment(3))?;
         let mut file = files.open(path, OpenOptions::write(), Moment(4))?;
         let shared = file.read_bytes(files, 9)?;
-        assert!(rt; !shared.is_unique());
-        file.seek(files, SeekFrom::Start(1))?;
-        file.write_bytes(files, Bytes::from_static(b"xyz"))?;
-        assert!(rt; !shared.is_unique());
-        files.remove_file(copy, Moment(5))?;
-        assert!(rt; shared.is_unique());
-        assert!(rt; shared.as_slice() == b"abc".as_slice());
+        is_shared(rt, files, &mut file, copy, &shared)
+    }
+
+    fn is_written(rt: &impl Abort, files: &MemFs) -> Result<(), Fail> {
         let id = number_below(files, ROOT_ID, b'f')?;
         assert!(rt; node_of(&files.tree, id)?.content.as_slice() == b"axyz".as_slice());
         Ok(())
@@ -293,6 +307,7 @@ mod tests {
         let mut files = MemFs::new(rt.alloc(), Moment(1))?;
         let path = DavPath::new(rt.alloc(), "/f")?;
         let copy = DavPath::new(rt.alloc(), "/g")?;
-        shares_bytes(&rt, &mut files, &path, &copy)
+        shares_bytes(&rt, &mut files, &path, &copy)?;
+        is_written(&rt, &files)
     }
 }

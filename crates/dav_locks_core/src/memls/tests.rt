@@ -79,17 +79,25 @@ fn near_the_end(alloc: Global) -> FsResult<MemLs> {
     })
 }
 
+// Whether one more lock of /a is granted; where it isn't, that is for want of a number.
+fn is_granted(alloc: Global, locks: &mut MemLs, rng: &mut Pcg64) -> Result<bool, Fail> {
+    match take(alloc, locks, rng, "/a", true)? {
+        Ok(_lock) => Ok(true),
+        Err(LockError::OutOfMemory) => Ok(false),
+        Err(_) => Err("refused")?,
+    }
+}
+
 fn are_granted_to_the_last_number(
     rt: &impl Abort,
     alloc: Global,
     locks: &mut MemLs,
 ) -> Result<(), Fail> {
     let mut rng = Pcg64::seed_from_u64(1);
-    let first = take(alloc, locks, &mut rng, "/a", true)?;
-    assert!(rt; first.is_ok() && locks.next == u64::MAX);
-    let second = take(alloc, locks, &mut rng, "/a", true)?;
-    assert!(rt; matches!(second, Err(LockError::OutOfMemory)));
-    assert!(rt; locks.next == u64::MAX);
+    assert!(rt; is_granted(alloc, locks, &mut rng)?);
+    assert_eq!(rt; locks.next, u64::MAX);
+    assert!(rt; !is_granted(alloc, locks, &mut rng)?);
+    assert_eq!(rt; locks.next, u64::MAX);
     Ok(())
 }
 
@@ -176,28 +184,61 @@ fn play_by_lock(
     )
 }
 
+fn play_new(alloc: Global, locks: &mut MemLs, granted: &mut Vec<DavLock>) -> Result<(), Fail> {
+    *locks = MemLs::new(alloc)?;
+    granted.clear();
+    Ok(())
+}
+
+fn play_delete(alloc: Global, locks: &mut MemLs, word: &str) -> Result<(), Fail> {
+    let path = DavPath::new(alloc, word)?;
+    locks.delete(&path, Moment(6));
+    Ok(())
+}
+
+// Whether the call did what a row says of it.
 fn play_call(
-    rt: &impl Abort,
     alloc: Global,
     locks: &mut MemLs,
     granted: &mut Vec<DavLock>,
     call: &str,
     word: &str,
     timeout: Option<u64>,
-) -> Result<(), Fail> {
+) -> Result<bool, Fail> {
     match call {
-        "new" => {
-            *locks = MemLs::new(alloc)?;
-            granted.clear();
-        }
+        "new" => play_new(alloc, locks, granted)?,
         "lock" => play_lock(alloc, locks, granted, word, timeout)?,
         "expire" => locks.expire(Moment(word.parse()?)),
-        "delete" => locks.delete(&DavPath::new(alloc, word)?, Moment(6)),
-        _ => assert!(rt;
-            play_by_lock(locks, granted.as_slice(), call, word, timeout)?,
-            "{call} {word}"
-        ),
+        "delete" => play_delete(alloc, locks, word)?,
+        _ => return play_by_lock(locks, granted.as_slice(), call, word, timeout),
     }
+    Ok(true)
+}
+
+// How many nodes the tree has, and how many ends are noted.
+fn hold_as_many(rt: &impl Abort, locks: &MemLs, row: &str, nodes: usize, ends: usize) {
+    assert_eq!(rt; locks.tree.node_count(), nodes, "{row}");
+    assert_eq!(rt; locks.node_count(), nodes, "{row}");
+    assert_eq!(rt; locks.ends.by_end.len(), ends, "{row}");
+}
+
+fn play_words(
+    rt: &impl Abort,
+    alloc: Global,
+    locks: &mut MemLs,
+    granted: &mut Vec<DavLock>,
+    row: &str,
+    words: &[&str],
+) -> Result<(), Fail> {
+    let [call, word, timeout, nodes, ends] = words else {
+        return Err("no row")?;
+    };
+    let (timeout, nodes, ends) = (timeout.parse::<u64>().ok(), nodes.parse()?, ends.parse()?);
+    assert!(rt;
+        play_call(alloc, locks, granted, call, word, timeout)?,
+        "{row}"
+    );
+    hold_as_many(rt, locks, row, nodes, ends);
     Ok(())
 }
 
@@ -209,22 +250,7 @@ fn play_row(
     row: &str,
 ) -> Result<(), Fail> {
     let words: Vec<&str> = row.split(' ').collect(alloc)?;
-    let [call, word, timeout, nodes, ends] = words.as_slice() else {
-        return Err("no row")?;
-    };
-    play_call(
-        rt,
-        alloc,
-        locks,
-        granted,
-        call,
-        word,
-        timeout.parse::<u64>().ok(),
-    )?;
-    assert_eq!(rt; locks.tree.node_count(), nodes.parse()?, "{row}");
-    assert_eq!(rt; locks.node_count(), locks.tree.node_count());
-    assert_eq!(rt; locks.ends.by_end.len(), ends.parse()?, "{row}");
-    Ok(())
+    play_words(rt, alloc, locks, granted, row, words.as_slice())
 }
 
 fn play_rows(

@@ -33,15 +33,6 @@ WRONG = {
     "NOT TRIED": "its try came to no end",
     None: "rt has not tried it",
 }
-# How much memory a check may take, in kilobytes.
-CHECK = 4_500_000
-
-
-def jobs():
-    """How many checks may run side by side."""
-    with open("/proc/meminfo", encoding="ascii") as file:
-        available = next(int(line.split()[1]) for line in file if line.startswith("MemAvailable:"))
-    return max(1, min(len(os.sched_getaffinity(0)), available // CHECK))
 
 
 # ---- Which there are, and which have to be tried.
@@ -180,7 +171,7 @@ def copied():
 
 def rt_ci(where, *names):
     """Runs rt ci in a folder, and says what it says. Its status, its last line, and what it said of each edit that it tried. However this ends, rt has ended, too."""
-    surroundings = {"RT_JOBS": str(jobs()), **os.environ}
+    surroundings = {**os.environ}
     if names:
         # (with names it isn't the gate, so rt refuses it where this is set)
         surroundings.pop("CI", None)

@@ -175,6 +175,10 @@ head_of_none word false true clock is was now = rw (is, was) (no_second [] refl)
 head_of_none word false false true is was now = rw (is, was, now, numeral_none) refl
 head_of_none word false false false is was now = rw (is, was, now) (other_head_of_none word (bytes_eq word (codes "from")) (bytes_eq word (codes "users")) refl refl)
 
+-- a line that is not the one word is read by its first word and what stands behind it
+pub two_words : (line : List ℕ) → bytes_eq line (codes "none") ≡ false → head line ≡ head_of (before_first is_single_space line) (after_first is_single_space line)
+two_words line not_none = rw not_none refl
+
 -- a line without a blank is no head but for the one word
 pub no_blank : (line : List ℕ) → bytes_eq line (codes "none") ≡ false → position_or_len is_single_space line ≡ length line → head line ≡ None
 no_blank line not_none is =

@@ -2,7 +2,7 @@
 ghost use Rattle.std.specs.Prelude.{◌≡◌, ◌≢◌, ◌==◌, ◌≤◌, All, Option, codes, ℕ, List, length, take, false, Ok, IfOk, IfSome, None, OnOk, OnErr};
 ghost use Rattle.std.specs.Io.KnownBytes.{Appends, Consumes, IsAtEnd, Keeps};
 ghost use Rattle.http_frames.specs.Frames.{AppendsFront, BreaksOff, IsFrame, IsPart, bytes_at_hand, unread};
-ghost use Rattle.http_frames.specs.Frames.{address_in, clock_in, from_in, frame_bytes, gone_in, head, is_address, is_address_byte};
+ghost use Rattle.http_frames.specs.Frames.{address_in, clock_in, from_in, frame_bytes, gone_in, head, head_of, is_address, is_address_byte};
 ghost use Rattle.http_frames.specs.Frames.{is_single_space, more_in, piece_in, taken_in, users_head};
 ghost use Rattle.http_frames.specs.Frames.{grant_text, piece_text, wait_text};
 ghost use Rattle.std.specs.List.{after_first, list_all};
@@ -99,23 +99,30 @@ impl Head {
             return Some(Head::Nothing);
         }
         let (word, rest) = str::from_utf8(line).ok()?.split_once(' ')?;
-        if word == "gone" {
-            return gone_of(rest);
-        }
-        if word == "taken" {
-            return taken_of(rest);
-        }
-        if word == "clock" {
-            return clock_of(rest);
-        }
-        if word == "from" {
-            return from_of(rest);
-        }
-        if word == "users" {
-            return users_of(rest);
-        }
-        piece_of(word, rest)
+        by_word(word, rest)
     }
+}
+
+// What a line says, by its first word and what stands behind it.
+fn by_word(word: &str, rest: &str) -> Option<Head>
+    ensures { result ≡ head_of word.now rest.now }
+{
+    if word == "gone" {
+        return gone_of(rest);
+    }
+    if word == "taken" {
+        return taken_of(rest);
+    }
+    if word == "clock" {
+        return clock_of(rest);
+    }
+    if word == "from" {
+        return from_of(rest);
+    }
+    if word == "users" {
+        return users_of(rest);
+    }
+    piece_of(word, rest)
 }
 
 // What `gone NUMBER` says, by what stands behind its first word.

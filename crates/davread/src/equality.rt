@@ -7,12 +7,12 @@ use std::alloc::Global;
 /// `equal` or `different`: by `strong_eq`, and for `Content-Language` by `==`.
 pub fn equal(alloc: Global, header: Header, word: &[u8], other: &[u8]) -> Result<String, Refusal> {
     let is_equal = match header {
-        Header::ETag => tag(alloc, word)?.strong_eq(&tag(alloc, other)?),
-        Header::IfRange => range(alloc, word)?.strong_eq(&range(alloc, other)?),
-        Header::IfMatch => tags(alloc, word)?.strong_eq(&tags(alloc, other)?),
-        Header::IfNoneMatch => no_tags(alloc, word)?.strong_eq(&no_tags(alloc, other)?),
-        Header::If => conditions(alloc, word)?.strong_eq(&conditions(alloc, other)?),
-        Header::ContentLanguage => languages(alloc, word)? == languages(alloc, other)?,
+        Header::ETag => equal_tag(alloc, word, other)?,
+        Header::IfRange => equal_range(alloc, word, other)?,
+        Header::IfMatch => equal_tags(alloc, word, other)?,
+        Header::IfNoneMatch => equal_no_tags(alloc, word, other)?,
+        Header::If => equal_conditions(alloc, word, other)?,
+        Header::ContentLanguage => equal_languages(alloc, word, other)?,
         _ => return Err(Refusal::Malformed),
     };
     compared(alloc, is_equal)
@@ -46,4 +46,40 @@ fn conditions(alloc: Global, word: &[u8]) -> Result<If, Refusal> {
 
 fn languages(alloc: Global, word: &[u8]) -> Result<ContentLanguage, Refusal> {
     Ok(ContentLanguage::decode(alloc, &[value_of(alloc, word)?])?)
+}
+
+fn equal_tag(alloc: Global, word: &[u8], other: &[u8]) -> Result<bool, Refusal> {
+    let one = tag(alloc, word)?;
+    let two = tag(alloc, other)?;
+    Ok(one.strong_eq(&two))
+}
+
+fn equal_range(alloc: Global, word: &[u8], other: &[u8]) -> Result<bool, Refusal> {
+    let one = range(alloc, word)?;
+    let two = range(alloc, other)?;
+    Ok(one.strong_eq(&two))
+}
+
+fn equal_tags(alloc: Global, word: &[u8], other: &[u8]) -> Result<bool, Refusal> {
+    let one = tags(alloc, word)?;
+    let two = tags(alloc, other)?;
+    Ok(one.strong_eq(&two))
+}
+
+fn equal_no_tags(alloc: Global, word: &[u8], other: &[u8]) -> Result<bool, Refusal> {
+    let one = no_tags(alloc, word)?;
+    let two = no_tags(alloc, other)?;
+    Ok(one.strong_eq(&two))
+}
+
+fn equal_conditions(alloc: Global, word: &[u8], other: &[u8]) -> Result<bool, Refusal> {
+    let one = conditions(alloc, word)?;
+    let two = conditions(alloc, other)?;
+    Ok(one.strong_eq(&two))
+}
+
+fn equal_languages(alloc: Global, word: &[u8], other: &[u8]) -> Result<bool, Refusal> {
+    let one = languages(alloc, word)?;
+    let two = languages(alloc, other)?;
+    Ok(one == two)
 }

@@ -73,28 +73,33 @@ fn values_of(alloc: Global, words: &[&[u8]]) -> Result<Vec<HeaderValue>, Refusal
 /// What the values of a header say, each the bytes of a word, and what is written for that.
 pub fn read(alloc: Global, header: Header, words: &[&[u8]]) -> Result<String, Refusal> {
     let values = values_of(alloc, words)?;
+    said(alloc, header, &values)
+}
+
+// What the values of a header say, and what is written for that.
+fn said(alloc: Global, header: Header, values: &[HeaderValue]) -> Result<String, Refusal> {
     match header {
-        Header::Depth => telling::depth(alloc, Depth::decode(&values)?),
-        Header::Overwrite => telling::overwrite(alloc, Overwrite::decode(&values)?),
-        Header::Timeout => telling::timeout(alloc, &Timeout::decode(alloc, &values)?),
-        Header::Destination => telling::destination(alloc, &Destination::decode(alloc, &values)?),
-        Header::ContentType => telling::content_type(alloc, &ContentType::decode(alloc, &values)?),
+        Header::Depth => telling::depth(alloc, Depth::decode(values)?),
+        Header::Overwrite => telling::overwrite(alloc, Overwrite::decode(values)?),
+        Header::Timeout => telling::timeout(alloc, &Timeout::decode(alloc, values)?),
+        Header::Destination => telling::destination(alloc, &Destination::decode(alloc, values)?),
+        Header::ContentType => telling::content_type(alloc, &ContentType::decode(alloc, values)?),
         Header::ContentLocation => telling::content_location(
             alloc,
-            &ContentLocation::decode(alloc, &values)?,
+            &ContentLocation::decode(alloc, values)?,
         ),
-        Header::LockToken => telling::lock_token(alloc, &LockToken::decode(alloc, &values)?),
-        Header::XLitmus => telling::litmus(alloc, &XLitmus::decode(alloc, &values)?),
-        Header::ETag => telling::tag(alloc, &ETag::decode(alloc, &values)?),
-        Header::IfRange => telling::if_range(alloc, &IfRange::decode(alloc, &values)?),
-        Header::IfMatch => telling::if_match(alloc, &IfMatch::decode(alloc, &values)?),
-        Header::IfNoneMatch => telling::if_none_match(alloc, &IfNoneMatch::decode(alloc, &values)?),
-        Header::XUpdateRange => telling::update_range(alloc, XUpdateRange::decode(&values)?),
+        Header::LockToken => telling::lock_token(alloc, &LockToken::decode(alloc, values)?),
+        Header::XLitmus => telling::litmus(alloc, &XLitmus::decode(alloc, values)?),
+        Header::ETag => telling::tag(alloc, &ETag::decode(alloc, values)?),
+        Header::IfRange => telling::if_range(alloc, &IfRange::decode(alloc, values)?),
+        Header::IfMatch => telling::if_match(alloc, &IfMatch::decode(alloc, values)?),
+        Header::IfNoneMatch => telling::if_none_match(alloc, &IfNoneMatch::decode(alloc, values)?),
+        Header::XUpdateRange => telling::update_range(alloc, XUpdateRange::decode(values)?),
         Header::ContentLanguage => telling::languages(
             alloc,
-            &ContentLanguage::decode(alloc, &values)?,
+            &ContentLanguage::decode(alloc, values)?,
         ),
-        Header::If => telling::if_value(alloc, &If::decode(alloc, &values)?),
+        Header::If => telling::if_value(alloc, &If::decode(alloc, values)?),
     }
 }
 

@@ -54,19 +54,82 @@ fn answer_of(alloc: Global, kind: &[u8], words: &[&[u8]]) -> Result<String, Refu
     let Ok(kind) = str::from_utf8(kind) else {
         return Err(Refusal::Malformed);
     };
-    match (kind, words) {
-        ("path", [text, prefixes @ ..]) => paths::path(alloc, text, prefixes),
-        ("target", [text, prefixes @ ..]) => paths::target(alloc, text, prefixes),
-        ("same", [text, other, prefixes @ ..]) => paths::same(alloc, text, other, prefixes),
-        ("method", [word]) => methods::method(alloc, word),
-        ("methods", words) => methods::methods(alloc, words),
-        ("xml", [word]) => xml::document(alloc, word),
-        ("write", [b"element", word]) => xml::alone(alloc, word),
-        ("write", [b"xml", word]) => xml::written(alloc, word),
-        ("value", [b"etag", word]) => headers::tag_of_value(alloc, word),
-        ("equal", [kind, word, other]) => equality::equal(alloc, Header::named(kind)?, word, other),
-        ("text", [kind, word]) => headers::of_text(alloc, Header::named(kind)?, word),
-        ("write", [kind, words @ ..]) => headers::written(alloc, Header::named(kind)?, words),
-        (kind, words) => headers::read(alloc, Header::named(kind.as_bytes())?, words),
+    match kind {
+        "path" => path(alloc, words),
+        "target" => target(alloc, words),
+        "same" => same(alloc, words),
+        "method" => method(alloc, words),
+        "methods" => methods::methods(alloc, words),
+        "xml" => document(alloc, words),
+        "write" => written(alloc, words),
+        "value" => value(alloc, words),
+        "equal" => equal(alloc, words),
+        "text" => text(alloc, words),
+        name => headers::read(alloc, Header::named(name.as_bytes())?, words),
+    }
+}
+
+fn path(alloc: Global, words: &[&[u8]]) -> Result<String, Refusal> {
+    match words {
+        [text, prefixes @ ..] => paths::path(alloc, text, prefixes),
+        _ => Err(Refusal::Malformed),
+    }
+}
+
+fn target(alloc: Global, words: &[&[u8]]) -> Result<String, Refusal> {
+    match words {
+        [text, prefixes @ ..] => paths::target(alloc, text, prefixes),
+        _ => Err(Refusal::Malformed),
+    }
+}
+
+fn same(alloc: Global, words: &[&[u8]]) -> Result<String, Refusal> {
+    match words {
+        [text, other, prefixes @ ..] => paths::same(alloc, text, other, prefixes),
+        _ => Err(Refusal::Malformed),
+    }
+}
+
+fn method(alloc: Global, words: &[&[u8]]) -> Result<String, Refusal> {
+    match words {
+        [word] => methods::method(alloc, word),
+        _ => Err(Refusal::Malformed),
+    }
+}
+
+fn document(alloc: Global, words: &[&[u8]]) -> Result<String, Refusal> {
+    match words {
+        [word] => xml::document(alloc, word),
+        _ => Err(Refusal::Malformed),
+    }
+}
+
+fn written(alloc: Global, words: &[&[u8]]) -> Result<String, Refusal> {
+    match words {
+        [b"element", word] => xml::alone(alloc, word),
+        [b"xml", word] => xml::written(alloc, word),
+        [kind, words @ ..] => headers::written(alloc, Header::named(kind)?, words),
+        _ => Err(Refusal::Malformed),
+    }
+}
+
+fn value(alloc: Global, words: &[&[u8]]) -> Result<String, Refusal> {
+    match words {
+        [b"etag", word] => headers::tag_of_value(alloc, word),
+        _ => Err(Refusal::Malformed),
+    }
+}
+
+fn equal(alloc: Global, words: &[&[u8]]) -> Result<String, Refusal> {
+    match words {
+        [kind, word, other] => equality::equal(alloc, Header::named(kind)?, word, other),
+        _ => Err(Refusal::Malformed),
+    }
+}
+
+fn text(alloc: Global, words: &[&[u8]]) -> Result<String, Refusal> {
+    match words {
+        [kind, word] => headers::of_text(alloc, Header::named(kind)?, word),
+        _ => Err(Refusal::Malformed),
     }
 }

@@ -31,10 +31,15 @@ pub fn same(
 ) -> Result<String, Refusal> {
     let mut path = read(alloc, word)?;
     let other = read(alloc, other)?;
+    set_all(alloc, &mut path, prefixes)?;
+    compared(alloc, path == other)
+}
+
+fn set_all(alloc: Global, path: &mut DavPath, prefixes: &[&[u8]]) -> Result<(), Refusal> {
     for prefix in prefixes {
         path.set_prefix(&text_of(bytes_of(alloc, prefix)?)?)?;
     }
-    compared(alloc, path == other)
+    Ok(())
 }
 
 fn read(alloc: Global, word: &[u8]) -> Result<DavPath, Refusal> {
@@ -44,6 +49,17 @@ fn read(alloc: Global, word: &[u8]) -> Result<DavPath, Refusal> {
 
 fn shown(alloc: Global, mut path: DavPath, prefixes: &[&[u8]]) -> Result<String, Refusal> {
     let mut pieces = Pieces(String::new(alloc));
+    add_set(alloc, &mut pieces, &mut path, prefixes)?;
+    add_path(alloc, &mut pieces, &path)?;
+    Ok(pieces.0)
+}
+
+fn add_set(
+    alloc: Global,
+    pieces: &mut Pieces,
+    path: &mut DavPath,
+    prefixes: &[&[u8]],
+) -> Result<(), Refusal> {
     for prefix in prefixes {
         match path.set_prefix(&text_of(bytes_of(alloc, prefix)?)?) {
             Ok(()) => pieces.add("set", "ok")?,
@@ -51,11 +67,14 @@ fn shown(alloc: Global, mut path: DavPath, prefixes: &[&[u8]]) -> Result<String,
             Err(error) => pieces.add("set", error)?,
         }
     }
-    add_bytes(alloc, &mut pieces, &path)?;
-    add_texts(alloc, &mut pieces, &path)?;
-    add_parents(&mut pieces, &path)?;
-    add_whole(alloc, &mut pieces, &path)?;
-    Ok(pieces.0)
+    Ok(())
+}
+
+fn add_path(alloc: Global, pieces: &mut Pieces, path: &DavPath) -> Result<(), Refusal> {
+    add_bytes(alloc, pieces, path)?;
+    add_texts(alloc, pieces, path)?;
+    add_parents(pieces, path)?;
+    add_whole(alloc, pieces, path)
 }
 
 fn add_bytes(alloc: Global, pieces: &mut Pieces, path: &DavPath) -> Result<(), AllocError> {

@@ -20,12 +20,17 @@ fn told(
     written: Result<HeaderValue, HeaderError>,
 ) -> Result<String, Refusal> {
     let name = name?;
+    told_as(alloc, shown, name.as_str(), &written)
+}
+
+fn told_as(
+    alloc: Global,
+    shown: &str,
+    name: &str,
+    written: &Result<HeaderValue, HeaderError>,
+) -> Result<String, Refusal> {
     match written {
-        Ok(value) => Ok(format!(in alloc;
-            "{shown}; {}: {}",
-            name.as_str(),
-            Word(value.as_bytes())
-        )?),
+        Ok(value) => Ok(format!(in alloc; "{shown}; {name}: {}", Word(value.as_bytes()))?),
         Err(HeaderError::OutOfMemory) => Err(Refusal::Header(HeaderError::OutOfMemory)),
         Err(error) => Ok(format!(in alloc; "{shown}; {error}")?),
     }

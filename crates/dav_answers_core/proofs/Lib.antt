@@ -1,4 +1,6 @@
 pub mod AdmitAlikeLaws
+pub mod AnswerAlikeLaws
+pub mod BeginAlikeLaws
 pub mod CopyAlikeLaws
 pub mod DeleteAlikeLaws
 pub mod EndsAlikeLaws
@@ -8,6 +10,8 @@ pub mod LockAlikeLaws
 pub mod MkcolAlikeLaws
 pub mod MoveAlikeLaws
 pub mod OddNameLemmas
+pub mod OneAnswerLaws
+pub mod OneEndLaws
 pub mod PatchAlikeLaws
 pub mod PutAlikeLaws
 pub mod RefreshAlikeLaws

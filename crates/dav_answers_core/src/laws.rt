@@ -1,6 +1,8 @@
-//! The laws of methods and of an `If`: a request is answered in one way, but for want of memory and
-//! for which of several locks a refusal shows. They do nothing.
+//! The laws of methods, of an `If` and of whole answers: a request is answered in one way, but for
+//! want of memory and for which of several locks a refusal shows. They do nothing.
 ghost use Rattle.std.specs.Prelude.{◌≡◌, ℕ, Bool, List, Option};
+ghost use Rattle.http.specs.declared.request.Request.{Request};
+ghost use Rattle.http_server.specs.declared.response.Response.{Response};
 ghost use Rattle.http_header.specs.FieldValue.{FieldValue};
 ghost use Rattle.http_header.specs.HeaderMap.{Entries};
 ghost use Rattle.dav_path_core.specs.declared.util.DavMethod.{DavMethod};
@@ -28,6 +30,9 @@ ghost use Rattle.dav_methods_core.specs.RefreshMethod.{FailsToRefresh, Refreshes
 ghost use Rattle.dav_methods_core.specs.SameFaults.{AreAlike, IsDetermined};
 ghost use Rattle.dav_methods_core.specs.SameFaults.{LeavesLive};
 ghost use Rattle.dav_methods_core.specs.UnlockMethod.{FailsToUnlock, Unlocks};
+ghost use Rattle.dav_handler_core.specs.Answers.{Answers};
+ghost use Rattle.dav_handler_core.specs.SameAnswers.{AreOneAnswer, LacksMemory, as_left};
+ghost use Rattle.dav_handler_core.specs.Server.{Server};
 
 /// The law that the `If` of a request lets it go on or holds it off, but for want of memory, and
 /// that it holds it off for one reason (RFC 4918 section 10.4). It does nothing.
@@ -158,4 +163,19 @@ pub fn patches_are_determined()
         (who : Caller) (path : PathText)
         → IsDetermined (λ status t. LeavesLive who.now (λ sent s'. Patches prefix headers body s who
         path status sent s') t) (FailsToPatch headers body s who (segments path.bytes)) }
+{}
+
+/// The law of answers (own): one request to one server is answered in one way. It does nothing.
+///
+/// Two answers of one server to one request, neither of them for want of memory, have one status,
+/// the same fields and one body, and leave one server, but for locks that have expired. What they
+/// may differ in is which of several locks a refusal shows. The clock is the server's, and so is
+/// the generator that the token of a lock is drawn from.
+pub fn answers_are_determined()
+    ensures { (before after other : Server) (request : Request (List ℕ))
+        (response answer : Response) → IsResourceMap before.state.map
+        → Answers before request response after → Answers before request answer other
+        → ¬ LacksMemory response → ¬ LacksMemory answer
+        → AreOneAnswer before.options.prefix response answer
+        × (as_left after ≡ as_left other) }
 {}

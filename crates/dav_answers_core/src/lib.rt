@@ -1,4 +1,4 @@
-//! The laws that a request to a WebDAV server is answered in one way by its method.
+//! The laws that a request to a WebDAV server is answered in one way, by its method and as a whole.
 #![tactic(auto)]
 
 pub mod laws;

@@ -1,7 +1,5 @@
-pub mod AnswerAlikeLaws
 pub mod AnswerLemmas
 pub mod AnswerStatuses
-pub mod BeginAlikeLaws
 pub mod DateLaws
 pub mod DecidingLaws
 pub mod DescriptionTextLemmas
@@ -16,8 +14,6 @@ pub mod LockTimeLaws
 pub mod MomentLaws
 pub mod MomentLemmas
 mod MomentRows
-pub mod OneAnswerLaws
-pub mod OneEndLaws
 pub mod PatchAnswerLemmas
 pub mod PathFrameLaws
 pub mod PathHistoryLemmas

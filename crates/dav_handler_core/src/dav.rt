@@ -51,8 +51,8 @@ use http::{Request, StatusCode};
 use http_header::HeaderName;
 use http_server::{Response, Service};
 pub use laws::{
-    answers_are_determined, answers_are_documents, conditions_decide, locks_are_their_holders,
-    locks_stand_their_time, paths_stay_untouched,
+    answers_are_documents, conditions_decide, locks_are_their_holders, locks_stand_their_time,
+    paths_stay_untouched,
 };
 use rand_core::Rng;
 pub use room::LAST_ROOM;

@@ -14,7 +14,6 @@ ghost use Rattle.dav_path_core.specs.Fronts.{Path};
 ghost use Rattle.dav_path_core.specs.Segments.{segments};
 ghost use Rattle.dav_path_core.specs.declared.util.DavMethod.TheVariants as method;
 ghost use Rattle.dav_handler_core.specs.RequestMoments.{Comes, ComesAt};
-ghost use Rattle.dav_handler_core.specs.SameAnswers.{AreOneAnswer, LacksMemory, as_left};
 ghost use Rattle.dav_handler_core.specs.Server.{Server};
 ghost use Rattle.dav_session_core.specs.Callers.{SameLive};
 ghost use Rattle.dav_handler_core.specs.Deciding.{HeldOff, SaysDone, SendsPart, SendsTag, WentOn};
@@ -113,21 +112,6 @@ pub fn paths_stay_untouched()
         → (g : IsGotten method.Get s' get 200 got after)
         → segments g.path.bytes ≡ segments h.path.bytes
         → (got.body ≡ body_of put) × (sent_tags got.fields ≡ sent_tags sent.fields) }
-{}
-
-/// The law of answers (own): one request to one server is answered in one way. It does nothing.
-///
-/// Two answers of one server to one request, neither of them for want of memory, have one status,
-/// the same fields and one body, and leave one server, but for locks that have expired. What they
-/// may differ in is which of several locks a refusal shows. The clock is the server's, and so is
-/// the generator that the token of a lock is drawn from.
-pub fn answers_are_determined()
-    ensures { (before after other : Server) (request : Request (List ℕ))
-        (response answer : Response) → IsResourceMap before.state.map
-        → Answers before request response after → Answers before request answer other
-        → ¬ LacksMemory response → ¬ LacksMemory answer
-        → AreOneAnswer before.options.prefix response answer
-        × (as_left after ≡ as_left other) }
 {}
 
 /// The law of documents (XML 1.0 section 2.1, RFC 4918 section 8.2) over a run from new stores. It

@@ -14,7 +14,7 @@ use Rattle.dav_answers_core.proofs.StageLemmas.{AllAlike}
 use Rattle.dav_handler_core.specs.MethodAnswers.{Admits, Begins, HoldsOff, Unread}
 use Rattle.dav_handler_core.specs.RequestMoments.{ComesAt}
 use Rattle.dav_handler_core.specs.Server.{Server, site_for}
-use Rattle.dav_handler_core.proofs.BeginAlikeLaws.{begins_or_unread, one_beginning, unread_alike}
+use Rattle.dav_answers_core.proofs.BeginAlikeLaws.{begins_or_unread, one_beginning, unread_alike}
 
 -- two results are one: both are done with one status, and so much is left alike; or both are alike
 -- refusals; or one is for want of memory

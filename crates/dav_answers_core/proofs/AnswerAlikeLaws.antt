@@ -47,7 +47,7 @@ use Rattle.dav_answers_core.proofs.SameFaultLemmas.{IsShort, equal_alike}
 use Rattle.dav_answers_core.proofs.StageLemmas.{AllAlike}
 use Rattle.dav_handler_core.specs.MethodAnswers.{Admits, BareAnswers, Begins, ChangeAnswers, CopyAnswers, FindAnswers, GetAnswers, HoldsOff, IsPut, IsWhole, LockAnswers, MoveAnswers, PatchAnswers, PutAnswers, RefusesBody, has_body}
 use Rattle.dav_handler_core.specs.Server.{Server, site_for}
-use Rattle.dav_handler_core.proofs.OneEndLaws.{AreOne, EndsBadly, Ends, EndsWell, IsDoneOnce, at, ends_once}
+use Rattle.dav_answers_core.proofs.OneEndLaws.{AreOne, EndsBadly, Ends, EndsWell, IsDoneOnce, at, ends_once}
 
 -- ---- results
 

@@ -37,8 +37,8 @@ use Rattle.dav_handler_core.specs.MethodAnswers.{BareAnswers, IsWhole, PutAnswer
 use Rattle.dav_handler_core.specs.RequestMoments.{Comes, ComesAt, answer_moment, may_change}
 use Rattle.dav_handler_core.specs.SameAnswers.{AreOneAnswer, LacksMemory, as_left}
 use Rattle.dav_handler_core.specs.Server.{Server, site_for}
-use Rattle.dav_handler_core.proofs.AnswerAlikeLaws.{another_left, bare, copies_here, finds_here, gets_here, leaves_by, lock_here, moves_here, patch_here, puts_here, refused_both, said, unchanged, with_own}
-use Rattle.dav_handler_core.proofs.OneEndLaws.{AreOne, BothBegin, IsShortResult, NeitherBegins, comes_once}
+use Rattle.dav_answers_core.proofs.AnswerAlikeLaws.{another_left, bare, copies_here, finds_here, gets_here, leaves_by, lock_here, moves_here, patch_here, puts_here, refused_both, said, unchanged, with_own}
+use Rattle.dav_answers_core.proofs.OneEndLaws.{AreOne, BothBegin, IsShortResult, NeitherBegins, comes_once}
 
 -- ---- the method that a word names
 

@@ -1,8 +1,7 @@
--- Connections by their numbers.
+-- What stands by numbers.
 use Rattle.std.specs.Prelude.{ℕ, List, Option, ◌==◌}
 use Rattle.std.specs.Map.{lookup}
-use Rattle.http_frames.specs.declared.held.Held.{Held}
 
 -- what stands under a number, among the entries of a table
-abbrev pub stands_at : List (ℕ × Held) → ℕ → Option Held
+abbrev pub stands_at : {V : Type 0} → List (ℕ × V) → ℕ → Option V
 stands_at entries number = lookup (λ k. number == k) entries

@@ -1,7 +1,7 @@
 //! Stores whose changes are noted, where notes are kept.
 ghost use Rattle.std.specs.Prelude.{◌≡◌, ◌≤◌, ◌<◌, ◌+◌, ◌-◌, ◌^◌, ◌⊎◌, ◌++◌, ◌&&◌, [], ◌∷◌, ℕ, true, false, not};
 ghost use Rattle.std.specs.Prelude.{length, map, vec_len, vec_capacity, string_bytes, IfOk, IsOk, OnOk};
-ghost use Rattle.std.specs.Prelude.{IfErr, OnErr, ◌||◌, nat_le};
+ghost use Rattle.std.specs.Prelude.{IfErr, OnErr, is_ok, ◌||◌, nat_le};
 ghost use Rattle.rand_core.specs.Stream.{fill_bytes};
 ghost use Rattle.dav_files_core.specs.Resources.{IsResourceMap};
 ghost use Rattle.dav_guarded_core.specs.Served.{command_of, answer_of};
@@ -228,7 +228,7 @@ impl NotedStores {
             swap_asker(&mut self.who, &mut request);
             let alone = self.stores.apply(&request, &mut drawn);
             swap_asker(&mut self.who, &mut request);
-            draw_next(&mut self.next, rng, grants && alone.is_ok());
+            draw_next(&mut self.next, rng, is_granted(grants, &alone));
             return Ok(alone);
         }
         let cost = cost_for(&self.who, &command);
@@ -244,7 +244,7 @@ impl NotedStores {
         let answer = change(&mut self.stores, &mut self.notes, self.next, asker, command);
         let made = answer.is_ok();
         self.budget.spend(cost, made);
-        draw_next(&mut self.next, rng, grants && made);
+        draw_next(&mut self.next, rng, is_granted(grants, &answer));
         Ok(answer)
     }
 
@@ -311,7 +311,7 @@ impl NotedStores {
                 self.alloc,
             ) {
                 Ok(alone) => {
-                    draw_next(&mut self.next, rng, grants && alone.is_ok());
+                    draw_next(&mut self.next, rng, is_granted(grants, &alone));
                     return Ok(alone);
                 }
                 Err(error) => return Err(NoteError::from(error)),
@@ -336,8 +336,7 @@ impl NotedStores {
         let answer = change(&mut self.stores, &mut self.notes, self.next, asker, command);
         let made = answer.is_ok();
         self.budget.spend_beside(cost, made);
-        let granted = grants && made;
-        draw_next(&mut self.next, rng, granted);
+        draw_next(&mut self.next, rng, is_granted(grants, &answer));
         Ok(answer)
     }
 
@@ -562,6 +561,13 @@ fn bytes_of(command: &Command, next: [u8; 16]) -> Option<[u8; 16]>
     ensures { result ≡ drawn_for (command_of command.now) next }
 {
     if is_grant(command) { Some(next) } else { None }
+}
+
+// Whether an answer to a command that grants has granted.
+fn is_granted(grants: bool, answer: &Result<Reply, Refusal>) -> bool
+    ensures { result ≡ (grants && is_ok (answer_of answer.now)) }
+{
+    grants && answer.is_ok()
 }
 
 // The bytes of the next token, anew where those were used.

@@ -251,7 +251,7 @@ line_stopped (Err e) p line said old new is part = (
   part.1,
   elim part.2 [
     | inl none ↦ inl none
-    | inr wrote ↦ inr (wrote.0, wrote.1, wrote.2.0, wrote.2.1, (said, is, wrote.2.2.0), wrote.2.2.1)
+    | inr wrote ↦ inr (wrote.0, wrote.1, wrote.2, wrote.3, (said, is, wrote.4), wrote.5)
   ],
 )
 

@@ -9,7 +9,7 @@ returns-in_err-flush-clause-err g c =
     let mid = writer_contents g.O.Write.contents c.play_lines-played.new.output in
     let new = writer_contents g.O.Write.contents c.flush.new.self in
     let left = reader_remaining g.I.Read.remaining c.args.input.now in
-    stopped_by c.from_residual-in_err-flush.result _ left old new
+    stopped_by c.from_residual.result _ left old new
     (part_of c.play_lines-played.result _ _ left old mid new c.play_lines-played.ensures.ok c.play_lines-played.ensures.err c.flush.ensures.bytes)
 
 pub returns-clause-ok : goal.returns-clause-ok

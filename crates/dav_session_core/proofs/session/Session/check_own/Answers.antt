@@ -62,3 +62,12 @@ returns-clause-err g c =
     let start = spec.state g.R.Rng.stream c.args.self.now in
     refused_own who start (spec.caller c.loop.self) (spec.state g.R.Rng.stream c.loop.self) (segments c.args.path.now.bytes) c.args.token.now
     (segments c.loop.here.bytes) c.check_own_at-2.result (as_looks c.loop.invariant.looks) c.loop.invariant.front c.check_own_at-2.ensures.err
+
+pub returns-in_err-check_own_at-clause-looks : goal.returns-in_err-check_own_at-clause-looks
+returns-in_err-check_own_at-clause-looks g c = looks_on c.loop.invariant.looks c.check_own_at.ensures.looks
+
+pub returns-in_err-here-2-clause-looks : goal.returns-in_err-here-2-clause-looks
+returns-in_err-here-2-clause-looks g c = looks_on c.loop.invariant.looks c.check_own_at.ensures.looks
+
+pub returns-clause-looks : goal.returns-clause-looks
+returns-clause-looks g c = looks_on c.loop.invariant.looks c.check_own_at-2.ensures.looks

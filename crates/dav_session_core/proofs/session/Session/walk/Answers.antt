@@ -100,3 +100,12 @@ returns-clause-ok g c =
     (ended place_path (spec.state g.R.Rng.stream c.args.self.now).map (segments c.args.path.bytes) c.loop-place.places.items c.loop-place.waiting.items
     (nothing_left c.loop-place.waiting.items c.loop-place.waiting.len c.loop-place.waiting.ok.0 c.in_default.ensures.cases.0) c.loop-place.invariant.walking c.loop-place.invariant.ordered
     c.loop-place.invariant.plain is_map)
+
+pub returns-in_err-members-clause-looks : goal.returns-in_err-members-clause-looks
+returns-in_err-members-clause-looks g c = looks_on c.loop-place.invariant.looks c.places_in.ensures.looks
+
+pub returns-in_err-append-clause-looks : goal.returns-in_err-append-clause-looks
+returns-in_err-append-clause-looks g c = looks_on c.loop-place.invariant.looks c.places_in.ensures.looks
+
+pub returns-in_err-push-2-clause-looks : goal.returns-in_err-push-2-clause-looks
+returns-in_err-push-2-clause-looks g c = looks_on c.loop-place.invariant.looks c.places_in.ensures.looks

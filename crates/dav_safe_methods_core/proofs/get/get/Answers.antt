@@ -107,3 +107,15 @@ returns-in-Some-Whole-clause-looks g c = looks_on (looks_on c.meta.ensures.looks
 
 pub returns-in-Some-Part-clause-looks : goal.returns-in-Some-Part-clause-looks
 returns-in-Some-Part-clause-looks g c = looks_on (looks_on c.meta.ensures.looks c.standing_known.ensures.looks) c.tell_part.ensures.looks
+
+pub returns-in_err-standing-clause-looks : goal.returns-in_err-standing-clause-looks
+returns-in_err-standing-clause-looks g c = looks_on c.meta.ensures.looks c.standing_known.ensures.looks
+
+pub returns-in_err-told-clause-looks : goal.returns-in_err-told-clause-looks
+returns-in_err-told-clause-looks g c = looks_on c.meta.ensures.looks c.standing_known.ensures.looks
+
+pub returns-in-None-clause-looks : goal.returns-in-None-clause-looks
+returns-in-None-clause-looks g c = looks_on c.meta.ensures.looks c.standing_known.ensures.looks
+
+pub returns-clause-looks : goal.returns-clause-looks
+returns-clause-looks g c = looks_on c.meta.ensures.looks c.standing_known.ensures.looks

@@ -1,10 +1,11 @@
 -- Piece by piece, each behind the one before.
-use Rattle.std.proofs.Common.{◌≡◌, ◌+◌, ◌≤◌, ◌++◌, ℕ, List, inl, inr, length, sym, ◌∙◌, ap, arith, append_assoc, length-append, Ok, Err, Result, subst, rules}
+use Rattle.std.proofs.Common.{◌≡◌, ◌+◌, ◌≤◌, ◌++◌, ℕ, List, inl, inr, length, sym, ◌∙◌, ap, arith, append_assoc, length-append, Ok, Result, subst, is_ok}
+use Rattle.std.proofs.lemmas.Result.{IfOk-from_err}
 use Rattle.std.specs.declared.io.Error.{Error}
 use Rattle.journal_core.specs.Clocked.{disk_of}
 use Rattle.journal_core.specs.Format.{round_text, shut_word, sum_of, word_of}
 use Rattle.journal_core.specs.Private.Stages.{parts_text, round_bytes, IsCounted}
-use Rattle.journal_core.proofs.Staging.{begins_as, begins_in, behind_on, behind_sync, behind_two, counted_err, counted_two}
+use Rattle.journal_core.proofs.Staging.{begins_as, begins_in, behind_on, behind_sync, behind_two, counted_exit, counted_ok, counted_then}
 use Rattle.journal_core.proofs.Numbers.{word_as}
 use Rattle.journal_core.proofs.writing.write_round.Goals as goal
 
@@ -182,6 +183,186 @@ returns-clause-len g c =
       c.in_ok-at-4.ensures.next,
     )
 
+pub write_piece-requires-clause-fits : goal.write_piece-requires-clause-fits
+write_piece-requires-clause-fits g c =
+    let one : length c.to_le_bytes.result ≡ 8 = ap length c.to_le_bytes.ensures in
+    omega (arith, one, c.requires.fits)
+
+pub write_piece-requires-2-clause-fits : goal.write_piece-requires-2-clause-fits
+write_piece-requires-2-clause-fits g c =
+    let one : length c.to_le_bytes.result ≡ 8 = ap length c.to_le_bytes.ensures in
+    let two : length c.to_le_bytes-2.result ≡ 8 = ap length c.to_le_bytes-2.ensures in
+    omega (arith, one, two, c.in_ok-at.ensures.next, c.requires.fits)
+
+pub write_parts-requires-clause-fits : goal.write_parts-requires-clause-fits
+write_parts-requires-clause-fits g c =
+    let one : length c.to_le_bytes.result ≡ 8 = ap length c.to_le_bytes.ensures in
+    let two : length c.to_le_bytes-2.result ≡ 8 = ap length c.to_le_bytes-2.ensures in
+    let bytes = length-append (parts_text c.args.round.now.parts.items) c.args.round.now.tail.items in
+    omega (arith, one, two, bytes, c.in_ok-at.ensures.next, c.in_ok-at-2.ensures.next, c.requires.fits)
+
+pub write_piece-requires-3-clause-fits : goal.write_piece-requires-3-clause-fits
+write_piece-requires-3-clause-fits g c =
+    let one : length c.to_le_bytes.result ≡ 8 = ap length c.to_le_bytes.ensures in
+    let two : length c.to_le_bytes-2.result ≡ 8 = ap length c.to_le_bytes-2.ensures in
+    let bytes = length-append (parts_text c.args.round.now.parts.items) c.args.round.now.tail.items in
+    let tail : length c.deref.result.now ≡ length c.args.round.now.tail.items = ap length c.deref.ensures.value in
+    omega (arith, one, two, bytes, tail, c.in_ok-at.ensures.next, c.in_ok-at-2.ensures.next, c.in_ok-at-3.ensures.next, c.requires.fits)
+
+pub write_piece-requires-4-clause-fits : goal.write_piece-requires-4-clause-fits
+write_piece-requires-4-clause-fits g c =
+    let one : length c.to_le_bytes.result ≡ 8 = ap length c.to_le_bytes.ensures in
+    let two : length c.to_le_bytes-2.result ≡ 8 = ap length c.to_le_bytes-2.ensures in
+    let bytes = length-append (parts_text c.args.round.now.parts.items) c.args.round.now.tail.items in
+    let tail : length c.deref.result.now ≡ length c.args.round.now.tail.items = ap length c.deref.ensures.value in
+    omega (arith, one, two, bytes, tail, c.in_ok-at.ensures.next, c.in_ok-at-2.ensures.next, c.in_ok-at-3.ensures.next, c.in_ok-at-4.ensures.next, c.requires.fits)
+
+pub returns-clause-next : goal.returns-clause-next
+returns-clause-next g c =
+    let one : length c.to_le_bytes.result ≡ 8 = ap length c.to_le_bytes.ensures in
+    let two : length c.to_le_bytes-2.result ≡ 8 = ap length c.to_le_bytes-2.ensures in
+    let bytes = length-append (parts_text c.args.round.now.parts.items) c.args.round.now.tail.items in
+    let tail : length c.deref.result.now ≡ length c.args.round.now.tail.items = ap length c.deref.ensures.value in
+    omega (arith, one, two, bytes, tail, c.in_ok-at.ensures.next, c.in_ok-at-2.ensures.next, c.in_ok-at-3.ensures.next, c.in_ok-at-4.ensures.next)
+
+pub returns-in_err-at-clause-next : goal.returns-in_err-at-clause-next
+returns-in_err-at-clause-next g c = IfOk-from_err c.from_residual.result _ c.from_residual.ensures.0
+
+pub returns-in_err-at-clause-writes : goal.returns-in_err-at-clause-writes
+returns-in_err-at-clause-writes g c = IfOk-from_err c.from_residual.result _ c.from_residual.ensures.0
+
+pub returns-in_err-at-clause-len : goal.returns-in_err-at-clause-len
+returns-in_err-at-clause-len g c = IfOk-from_err c.from_residual.result _ c.from_residual.ensures.0
+
+pub returns-in_err-at-clause-durable : goal.returns-in_err-at-clause-durable
+returns-in_err-at-clause-durable g c = IfOk-from_err c.from_residual.result _ c.from_residual.ensures.0
+
+pub returns-in_err-at-clause-usable : goal.returns-in_err-at-clause-usable
+returns-in_err-at-clause-usable g c = IfOk-from_err c.from_residual.result _ c.from_residual.ensures.0
+
+pub returns-in_err-at-2-clause-next : goal.returns-in_err-at-2-clause-next
+returns-in_err-at-2-clause-next g c = IfOk-from_err c.from_residual-in_err-at-2.result _ c.from_residual-in_err-at-2.ensures.0
+
+pub returns-in_err-at-2-clause-writes : goal.returns-in_err-at-2-clause-writes
+returns-in_err-at-2-clause-writes g c = IfOk-from_err c.from_residual-in_err-at-2.result _ c.from_residual-in_err-at-2.ensures.0
+
+pub returns-in_err-at-2-clause-len : goal.returns-in_err-at-2-clause-len
+returns-in_err-at-2-clause-len g c = IfOk-from_err c.from_residual-in_err-at-2.result _ c.from_residual-in_err-at-2.ensures.0
+
+pub returns-in_err-at-2-clause-durable : goal.returns-in_err-at-2-clause-durable
+returns-in_err-at-2-clause-durable g c = IfOk-from_err c.from_residual-in_err-at-2.result _ c.from_residual-in_err-at-2.ensures.0
+
+pub returns-in_err-at-2-clause-usable : goal.returns-in_err-at-2-clause-usable
+returns-in_err-at-2-clause-usable g c = IfOk-from_err c.from_residual-in_err-at-2.result _ c.from_residual-in_err-at-2.ensures.0
+
+pub returns-in_err-at-3-clause-next : goal.returns-in_err-at-3-clause-next
+returns-in_err-at-3-clause-next g c = IfOk-from_err c.from_residual-in_err-at-3.result _ c.from_residual-in_err-at-3.ensures.0
+
+pub returns-in_err-at-3-clause-writes : goal.returns-in_err-at-3-clause-writes
+returns-in_err-at-3-clause-writes g c = IfOk-from_err c.from_residual-in_err-at-3.result _ c.from_residual-in_err-at-3.ensures.0
+
+pub returns-in_err-at-3-clause-len : goal.returns-in_err-at-3-clause-len
+returns-in_err-at-3-clause-len g c = IfOk-from_err c.from_residual-in_err-at-3.result _ c.from_residual-in_err-at-3.ensures.0
+
+pub returns-in_err-at-3-clause-durable : goal.returns-in_err-at-3-clause-durable
+returns-in_err-at-3-clause-durable g c = IfOk-from_err c.from_residual-in_err-at-3.result _ c.from_residual-in_err-at-3.ensures.0
+
+pub returns-in_err-at-3-clause-usable : goal.returns-in_err-at-3-clause-usable
+returns-in_err-at-3-clause-usable g c = IfOk-from_err c.from_residual-in_err-at-3.result _ c.from_residual-in_err-at-3.ensures.0
+
+pub returns-in_err-at-4-clause-next : goal.returns-in_err-at-4-clause-next
+returns-in_err-at-4-clause-next g c = IfOk-from_err c.from_residual-in_err-at-4.result _ c.from_residual-in_err-at-4.ensures.0
+
+pub returns-in_err-at-4-clause-writes : goal.returns-in_err-at-4-clause-writes
+returns-in_err-at-4-clause-writes g c = IfOk-from_err c.from_residual-in_err-at-4.result _ c.from_residual-in_err-at-4.ensures.0
+
+pub returns-in_err-at-4-clause-len : goal.returns-in_err-at-4-clause-len
+returns-in_err-at-4-clause-len g c = IfOk-from_err c.from_residual-in_err-at-4.result _ c.from_residual-in_err-at-4.ensures.0
+
+pub returns-in_err-at-4-clause-durable : goal.returns-in_err-at-4-clause-durable
+returns-in_err-at-4-clause-durable g c = IfOk-from_err c.from_residual-in_err-at-4.result _ c.from_residual-in_err-at-4.ensures.0
+
+pub returns-in_err-at-4-clause-usable : goal.returns-in_err-at-4-clause-usable
+returns-in_err-at-4-clause-usable g c = IfOk-from_err c.from_residual-in_err-at-4.result _ c.from_residual-in_err-at-4.ensures.0
+
+pub returns-in_err-_end-clause-next : goal.returns-in_err-_end-clause-next
+returns-in_err-_end-clause-next g c = IfOk-from_err c.from_residual-in_err-_end.result _ c.from_residual-in_err-_end.ensures.0
+
+pub returns-in_err-_end-clause-writes : goal.returns-in_err-_end-clause-writes
+returns-in_err-_end-clause-writes g c = IfOk-from_err c.from_residual-in_err-_end.result _ c.from_residual-in_err-_end.ensures.0
+
+pub returns-in_err-_end-clause-len : goal.returns-in_err-_end-clause-len
+returns-in_err-_end-clause-len g c = IfOk-from_err c.from_residual-in_err-_end.result _ c.from_residual-in_err-_end.ensures.0
+
+pub returns-in_err-_end-clause-durable : goal.returns-in_err-_end-clause-durable
+returns-in_err-_end-clause-durable g c = IfOk-from_err c.from_residual-in_err-_end.result _ c.from_residual-in_err-_end.ensures.0
+
+pub returns-in_err-_end-clause-usable : goal.returns-in_err-_end-clause-usable
+returns-in_err-_end-clause-usable g c = IfOk-from_err c.from_residual-in_err-_end.result _ c.from_residual-in_err-_end.ensures.0
+
+pub returns-in_err-sync-clause-next : goal.returns-in_err-sync-clause-next
+returns-in_err-sync-clause-next g c = IfOk-from_err c.from_residual-in_err-sync.result _ c.from_residual-in_err-sync.ensures.0
+
+pub returns-in_err-sync-clause-writes : goal.returns-in_err-sync-clause-writes
+returns-in_err-sync-clause-writes g c = IfOk-from_err c.from_residual-in_err-sync.result _ c.from_residual-in_err-sync.ensures.0
+
+pub returns-in_err-sync-clause-len : goal.returns-in_err-sync-clause-len
+returns-in_err-sync-clause-len g c = IfOk-from_err c.from_residual-in_err-sync.result _ c.from_residual-in_err-sync.ensures.0
+
+pub returns-in_err-sync-clause-durable : goal.returns-in_err-sync-clause-durable
+returns-in_err-sync-clause-durable g c = IfOk-from_err c.from_residual-in_err-sync.result _ c.from_residual-in_err-sync.ensures.0
+
+pub returns-in_err-sync-clause-usable : goal.returns-in_err-sync-clause-usable
+returns-in_err-sync-clause-usable g c = IfOk-from_err c.from_residual-in_err-sync.result _ c.from_residual-in_err-sync.ensures.0
+
+pub returns-in_err-at-clause-counts : goal.returns-in_err-at-clause-counts
+returns-in_err-at-clause-counts g c =
+    let faults = g.D.Disk.faults in
+    let tally = g.D.Disk.tally_of in
+    let d0 = disk_of c.args.disk.now in
+    let d1 = disk_of c.write_piece.new.disk in
+    let from0 = counted_exit c.write_piece.result c.in_err-at.field-0.0 c.from_residual.result (faults d0) (faults d1) (tally d0) (tally d1) c.in_err-at.was c.from_residual.ensures.1 c.write_piece.ensures.counts in
+    from0
+
+pub returns-in_err-at-2-clause-counts : goal.returns-in_err-at-2-clause-counts
+returns-in_err-at-2-clause-counts g c =
+    let faults = g.D.Disk.faults in
+    let tally = g.D.Disk.tally_of in
+    let d0 = disk_of c.args.disk.now in
+    let d1 = disk_of c.write_piece.new.disk in
+    let d2 = disk_of c.write_piece-2.new.disk in
+    let from1 = counted_exit c.write_piece-2.result c.in_err-at-2.field-0.0 c.from_residual-in_err-at-2.result (faults d1) (faults d2) (tally d1) (tally d2) c.in_err-at-2.was c.from_residual-in_err-at-2.ensures.1 c.write_piece-2.ensures.counts in
+    let from0 = counted_then c.write_piece.result c.in_ok-at.at c.from_residual-in_err-at-2.result (faults d0) (faults d1) (faults d2) (tally d0) (tally d1) (tally d2) c.in_ok-at.was c.write_piece.ensures.counts from1 in
+    from0
+
+pub returns-in_err-at-3-clause-counts : goal.returns-in_err-at-3-clause-counts
+returns-in_err-at-3-clause-counts g c =
+    let faults = g.D.Disk.faults in
+    let tally = g.D.Disk.tally_of in
+    let d0 = disk_of c.args.disk.now in
+    let d1 = disk_of c.write_piece.new.disk in
+    let d2 = disk_of c.write_piece-2.new.disk in
+    let d3 = disk_of c.write_parts.new.disk in
+    let from2 = counted_exit c.write_parts.result c.in_err-at-3.field-0.0 c.from_residual-in_err-at-3.result (faults d2) (faults d3) (tally d2) (tally d3) c.in_err-at-3.was c.from_residual-in_err-at-3.ensures.1 c.write_parts.ensures.counts in
+    let from1 = counted_then c.write_piece-2.result c.in_ok-at-2.at c.from_residual-in_err-at-3.result (faults d1) (faults d2) (faults d3) (tally d1) (tally d2) (tally d3) c.in_ok-at-2.was c.write_piece-2.ensures.counts from2 in
+    let from0 = counted_then c.write_piece.result c.in_ok-at.at c.from_residual-in_err-at-3.result (faults d0) (faults d1) (faults d3) (tally d0) (tally d1) (tally d3) c.in_ok-at.was c.write_piece.ensures.counts from1 in
+    from0
+
+pub returns-in_err-at-4-clause-counts : goal.returns-in_err-at-4-clause-counts
+returns-in_err-at-4-clause-counts g c =
+    let faults = g.D.Disk.faults in
+    let tally = g.D.Disk.tally_of in
+    let d0 = disk_of c.args.disk.now in
+    let d1 = disk_of c.write_piece.new.disk in
+    let d2 = disk_of c.write_piece-2.new.disk in
+    let d3 = disk_of c.write_parts.new.disk in
+    let d4 = disk_of c.write_piece-3.new.disk in
+    let from3 = counted_exit c.write_piece-3.result c.in_err-at-4.field-0.0 c.from_residual-in_err-at-4.result (faults d3) (faults d4) (tally d3) (tally d4) c.in_err-at-4.was c.from_residual-in_err-at-4.ensures.1 c.write_piece-3.ensures.counts in
+    let from2 = counted_then c.write_parts.result c.in_ok-at-3.at c.from_residual-in_err-at-4.result (faults d2) (faults d3) (faults d4) (tally d2) (tally d3) (tally d4) c.in_ok-at-3.was c.write_parts.ensures.counts from3 in
+    let from1 = counted_then c.write_piece-2.result c.in_ok-at-2.at c.from_residual-in_err-at-4.result (faults d1) (faults d2) (faults d4) (tally d1) (tally d2) (tally d4) c.in_ok-at-2.was c.write_piece-2.ensures.counts from2 in
+    let from0 = counted_then c.write_piece.result c.in_ok-at.at c.from_residual-in_err-at-4.result (faults d0) (faults d1) (faults d4) (tally d0) (tally d1) (tally d4) c.in_ok-at.was c.write_piece.ensures.counts from1 in
+    from0
+
 pub returns-in_err-_end-clause-counts : goal.returns-in_err-_end-clause-counts
 returns-in_err-_end-clause-counts g c =
     let faults = g.D.Disk.faults in
@@ -192,20 +373,15 @@ returns-in_err-_end-clause-counts g c =
     let d3 = disk_of c.write_parts.new.disk in
     let d4 = disk_of c.write_piece-3.new.disk in
     let d5 = disk_of c.write_piece-4.new.disk in
-    let one = subst (λ (r : Result ℕ Error). IsCounted r (faults d0) (faults d1) (tally d0) (tally d1)) c.in_ok-at.was c.write_piece.ensures.counts in
-    let two = subst (λ (r : Result ℕ Error). IsCounted r (faults d1) (faults d2) (tally d1) (tally d2)) c.in_ok-at-2.was c.write_piece-2.ensures.counts in
-    let three = subst (λ (r : Result ℕ Error). IsCounted r (faults d2) (faults d3) (tally d2) (tally d3)) c.in_ok-at-3.was c.write_parts.ensures.counts in
-    let four = subst (λ (r : Result ℕ Error). IsCounted r (faults d3) (faults d4) (tally d3) (tally d4)) c.in_ok-at-4.was c.write_piece-3.ensures.counts in
-    let to_two = counted_two c.in_ok-at.at (Ok c.in_ok-at-2.at) (faults d0) (faults d1) (faults d2) (tally d0) (tally d1) (tally d2) one two in
-    let to_three = counted_two c.in_ok-at-2.at (Ok c.in_ok-at-3.at) (faults d0) (faults d2) (faults d3) (tally d0) (tally d2) (tally d3) to_two three in
-    let to_four = counted_two c.in_ok-at-3.at (Ok c.in_ok-at-4.at) (faults d0) (faults d3) (faults d4) (tally d0) (tally d3) (tally d4) to_three four in
-    let same : c.write_piece-4.result ≡ c.from_residual-in_err-_end.result = search rules in
-    let five = subst (λ (r : Result ℕ Error). IsCounted r (faults d4) (faults d5) (tally d4) (tally d5)) same c.write_piece-4.ensures.counts in
-    counted_two c.in_ok-at-4.at c.from_residual-in_err-_end.result (faults d0) (faults d4) (faults d5) (tally d0) (tally d4) (tally d5) to_four five
+    let from4 = counted_exit c.write_piece-4.result c.in_err-_end.field-0.0 c.from_residual-in_err-_end.result (faults d4) (faults d5) (tally d4) (tally d5) c.in_err-_end.was c.from_residual-in_err-_end.ensures.1 c.write_piece-4.ensures.counts in
+    let from3 = counted_then c.write_piece-3.result c.in_ok-at-4.at c.from_residual-in_err-_end.result (faults d3) (faults d4) (faults d5) (tally d3) (tally d4) (tally d5) c.in_ok-at-4.was c.write_piece-3.ensures.counts from4 in
+    let from2 = counted_then c.write_parts.result c.in_ok-at-3.at c.from_residual-in_err-_end.result (faults d2) (faults d3) (faults d5) (tally d2) (tally d3) (tally d5) c.in_ok-at-3.was c.write_parts.ensures.counts from3 in
+    let from1 = counted_then c.write_piece-2.result c.in_ok-at-2.at c.from_residual-in_err-_end.result (faults d1) (faults d2) (faults d5) (tally d1) (tally d2) (tally d5) c.in_ok-at-2.was c.write_piece-2.ensures.counts from2 in
+    let from0 = counted_then c.write_piece.result c.in_ok-at.at c.from_residual-in_err-_end.result (faults d0) (faults d1) (faults d5) (tally d0) (tally d1) (tally d5) c.in_ok-at.was c.write_piece.ensures.counts from1 in
+    from0
 
 pub returns-in_err-sync-clause-counts : goal.returns-in_err-sync-clause-counts
 returns-in_err-sync-clause-counts g c =
-    let same : c.from_residual-in_err-sync.result ≡ Err c.in_err-sync.field-0.0 = search rules in
     let faults = g.D.Disk.faults in
     let tally = g.D.Disk.tally_of in
     let d0 = disk_of c.args.disk.now in
@@ -214,17 +390,77 @@ returns-in_err-sync-clause-counts g c =
     let d3 = disk_of c.write_parts.new.disk in
     let d4 = disk_of c.write_piece-3.new.disk in
     let d5 = disk_of c.write_piece-4.new.disk in
-    let one = subst (λ (r : Result ℕ Error). IsCounted r (faults d0) (faults d1) (tally d0) (tally d1)) c.in_ok-at.was c.write_piece.ensures.counts in
-    let two = subst (λ (r : Result ℕ Error). IsCounted r (faults d1) (faults d2) (tally d1) (tally d2)) c.in_ok-at-2.was c.write_piece-2.ensures.counts in
-    let three = subst (λ (r : Result ℕ Error). IsCounted r (faults d2) (faults d3) (tally d2) (tally d3)) c.in_ok-at-3.was c.write_parts.ensures.counts in
-    let four = subst (λ (r : Result ℕ Error). IsCounted r (faults d3) (faults d4) (tally d3) (tally d4)) c.in_ok-at-4.was c.write_piece-3.ensures.counts in
-    let to_two = counted_two c.in_ok-at.at (Ok c.in_ok-at-2.at) (faults d0) (faults d1) (faults d2) (tally d0) (tally d1) (tally d2) one two in
-    let to_three = counted_two c.in_ok-at-2.at (Ok c.in_ok-at-3.at) (faults d0) (faults d2) (faults d3) (tally d0) (tally d2) (tally d3) to_two three in
-    let to_four = counted_two c.in_ok-at-3.at (Ok c.in_ok-at-4.at) (faults d0) (faults d3) (faults d4) (tally d0) (tally d3) (tally d4) to_three four in
     let d6 = disk_of c.sync.new.self in
-    let five = subst (λ (r : Result ℕ Error). IsCounted r (faults d4) (faults d5) (tally d4) (tally d5)) c.in_ok-_end.was c.write_piece-4.ensures.counts in
-    let to_five = counted_two c.in_ok-at-4.at (Ok c.in_ok-_end._end) (faults d0) (faults d4) (faults d5) (tally d0) (tally d4) (tally d5) to_four five in
-    let whole : IsCounted c.sync.result (faults d5) (faults d6) (tally d5) (tally d6) = record { faults = c.sync.ensures.faults; refused = c.sync.ensures.tally } in
-    let six = counted_err c.in_err-sync.field-0.0 (faults d5) (faults d6) (tally d5) (tally d6) (subst (λ (r : Result (Unit {0}) Error). IsCounted r (faults d5) (faults d6) (tally d5) (tally d6)) c.in_err-sync.was whole) in
-    subst (λ (r : Result ℕ Error). IsCounted r (faults d0) (faults d6) (tally d0) (tally d6)) (sym same)
-    (counted_two c.in_ok-_end._end (Err c.in_err-sync.field-0.0) (faults d0) (faults d5) (faults d6) (tally d0) (tally d5) (tally d6) to_five six)
+    let synced : IsCounted c.sync.result (faults d5) (faults d6) (tally d5) (tally d6) = record { faults = c.sync.ensures.faults; refused = c.sync.ensures.tally } in
+    let from5 = counted_exit c.sync.result c.in_err-sync.field-0.0 c.from_residual-in_err-sync.result (faults d5) (faults d6) (tally d5) (tally d6) c.in_err-sync.was c.from_residual-in_err-sync.ensures.1 synced in
+    let from4 = counted_then c.write_piece-4.result c.in_ok-_end._end c.from_residual-in_err-sync.result (faults d4) (faults d5) (faults d6) (tally d4) (tally d5) (tally d6) c.in_ok-_end.was c.write_piece-4.ensures.counts from5 in
+    let from3 = counted_then c.write_piece-3.result c.in_ok-at-4.at c.from_residual-in_err-sync.result (faults d3) (faults d4) (faults d6) (tally d3) (tally d4) (tally d6) c.in_ok-at-4.was c.write_piece-3.ensures.counts from4 in
+    let from2 = counted_then c.write_parts.result c.in_ok-at-3.at c.from_residual-in_err-sync.result (faults d2) (faults d3) (faults d6) (tally d2) (tally d3) (tally d6) c.in_ok-at-3.was c.write_parts.ensures.counts from3 in
+    let from1 = counted_then c.write_piece-2.result c.in_ok-at-2.at c.from_residual-in_err-sync.result (faults d1) (faults d2) (faults d6) (tally d1) (tally d2) (tally d6) c.in_ok-at-2.was c.write_piece-2.ensures.counts from2 in
+    let from0 = counted_then c.write_piece.result c.in_ok-at.at c.from_residual-in_err-sync.result (faults d0) (faults d1) (faults d6) (tally d0) (tally d1) (tally d6) c.in_ok-at.was c.write_piece.ensures.counts from1 in
+    from0
+
+pub returns-clause-counts : goal.returns-clause-counts
+returns-clause-counts g c =
+    let faults = g.D.Disk.faults in
+    let tally = g.D.Disk.tally_of in
+    let d0 = disk_of c.args.disk.now in
+    let d1 = disk_of c.write_piece.new.disk in
+    let d2 = disk_of c.write_piece-2.new.disk in
+    let d3 = disk_of c.write_parts.new.disk in
+    let d4 = disk_of c.write_piece-3.new.disk in
+    let d5 = disk_of c.write_piece-4.new.disk in
+    let d6 = disk_of c.sync.new.self in
+    let synced : IsCounted c.sync.result (faults d5) (faults d6) (tally d5) (tally d6) = record { faults = c.sync.ensures.faults; refused = c.sync.ensures.tally } in
+    let from5 = counted_ok tt c.in_ok-at-4.at (faults d5) (faults d6) (tally d5) (tally d6) (subst (λ (r : Result (Unit {0}) Error). IsCounted r (faults d5) (faults d6) (tally d5) (tally d6)) c.in_ok-sync.was synced) in
+    let from4 = counted_then c.write_piece-4.result c.in_ok-_end._end (Ok c.in_ok-at-4.at) (faults d4) (faults d5) (faults d6) (tally d4) (tally d5) (tally d6) c.in_ok-_end.was c.write_piece-4.ensures.counts from5 in
+    let from3 = counted_then c.write_piece-3.result c.in_ok-at-4.at (Ok c.in_ok-at-4.at) (faults d3) (faults d4) (faults d6) (tally d3) (tally d4) (tally d6) c.in_ok-at-4.was c.write_piece-3.ensures.counts from4 in
+    let from2 = counted_then c.write_parts.result c.in_ok-at-3.at (Ok c.in_ok-at-4.at) (faults d2) (faults d3) (faults d6) (tally d2) (tally d3) (tally d6) c.in_ok-at-3.was c.write_parts.ensures.counts from3 in
+    let from1 = counted_then c.write_piece-2.result c.in_ok-at-2.at (Ok c.in_ok-at-4.at) (faults d1) (faults d2) (faults d6) (tally d1) (tally d2) (tally d6) c.in_ok-at-2.was c.write_piece-2.ensures.counts from2 in
+    let from0 = counted_then c.write_piece.result c.in_ok-at.at (Ok c.in_ok-at-4.at) (faults d0) (faults d1) (faults d6) (tally d0) (tally d1) (tally d6) c.in_ok-at.was c.write_piece.ensures.counts from1 in
+    from0
+
+pub returns-in_err-at-clause-clean : goal.returns-in_err-at-clause-clean
+returns-in_err-at-clause-clean g c = c.write_piece.ensures.clean
+
+pub returns-in_err-at-2-clause-clean : goal.returns-in_err-at-2-clause-clean
+returns-in_err-at-2-clause-clean g c = c.write_piece-2.ensures.clean ∙ c.write_piece.ensures.clean
+
+pub returns-in_err-at-3-clause-clean : goal.returns-in_err-at-3-clause-clean
+returns-in_err-at-3-clause-clean g c = c.write_parts.ensures.clean ∙ c.write_piece-2.ensures.clean ∙ c.write_piece.ensures.clean
+
+pub returns-in_err-at-4-clause-clean : goal.returns-in_err-at-4-clause-clean
+returns-in_err-at-4-clause-clean g c = c.write_piece-3.ensures.clean ∙ c.write_parts.ensures.clean ∙ c.write_piece-2.ensures.clean ∙ c.write_piece.ensures.clean
+
+pub returns-in_err-_end-clause-clean : goal.returns-in_err-_end-clause-clean
+returns-in_err-_end-clause-clean g c = c.write_piece-4.ensures.clean ∙ c.write_piece-3.ensures.clean ∙ c.write_parts.ensures.clean ∙ c.write_piece-2.ensures.clean ∙ c.write_piece.ensures.clean
+
+pub returns-in_err-sync-clause-clean : goal.returns-in_err-sync-clause-clean
+returns-in_err-sync-clause-clean g c = c.sync.ensures.clean ∙ c.write_piece-4.ensures.clean ∙ c.write_piece-3.ensures.clean ∙ c.write_parts.ensures.clean ∙ c.write_piece-2.ensures.clean ∙ c.write_piece.ensures.clean
+
+pub returns-clause-clean : goal.returns-clause-clean
+returns-clause-clean g c = c.sync.ensures.clean ∙ c.write_piece-4.ensures.clean ∙ c.write_piece-3.ensures.clean ∙ c.write_parts.ensures.clean ∙ c.write_piece-2.ensures.clean ∙ c.write_piece.ensures.clean
+
+pub returns-clause-usable : goal.returns-clause-usable
+returns-clause-usable g c = c.sync.ensures.usable ∙ ap is_ok c.in_ok-sync.was
+
+pub returns-in_err-at-clause-behind : goal.returns-in_err-at-clause-behind
+returns-in_err-at-clause-behind g c = c.write_piece.ensures.behind
+
+pub write_piece-requires-clause-usable : goal.write_piece-requires-clause-usable
+write_piece-requires-clause-usable g c = c.requires.usable
+
+pub write_piece-requires-2-clause-usable : goal.write_piece-requires-2-clause-usable
+write_piece-requires-2-clause-usable g c = c.write_piece.ensures.usable
+
+pub write_parts-requires-clause-usable : goal.write_parts-requires-clause-usable
+write_parts-requires-clause-usable g c = c.write_piece-2.ensures.usable
+
+pub write_piece-requires-3-clause-usable : goal.write_piece-requires-3-clause-usable
+write_piece-requires-3-clause-usable g c = c.write_parts.ensures.usable
+
+pub write_piece-requires-4-clause-usable : goal.write_piece-requires-4-clause-usable
+write_piece-requires-4-clause-usable g c = c.write_piece-3.ensures.usable
+
+pub sync-requires : goal.sync-requires
+sync-requires g c = c.write_piece-4.ensures.usable

@@ -1,8 +1,8 @@
 -- Where a `?` leaves, or an error is told.
-use Rattle.std.proofs.Common.{◌≡◌, ◌≢◌, ℕ, Bool, true, false, Option, Some, None, Result, Ok, Err, IfErr, IsErr, IsErrAnd, is_err, is_ok, sym, ◌∙◌, ap, subst}
+use Rattle.std.proofs.Common.{◌≡◌, ◌≢◌, ℕ, Bool, true, false, Option, Some, None, Result, Ok, Err, IfErr, OnErr, IsErr, IsErrAnd, is_err, is_ok, sym, ◌∙◌, ap, subst}
 use Rattle.std.proofs.lemmas.Bool.{false≢true}
 use Rattle.journal_core.specs.declared.error.JournalError.{JournalError}
-use Rattle.journal_core.specs.declared.error.JournalError.TheVariants.{Damaged, TooLarge}
+use Rattle.journal_core.specs.declared.error.JournalError.TheVariants.{Damaged, NotOpen, TooLarge}
 use Rattle.journal_core.specs.JournalReading.{HasReadCause}
 
 module _ {T E : Type 0} where
@@ -18,6 +18,14 @@ module _ {T E : Type 0} where
   pub exit_not_ok : (r : Result T E) (x : T) → IsErr r → r ≡ Ok x → ⊥
   exit_not_ok r x err same = false≢true (sym (ap is_err same) ∙ err)
 
+  pub on_err : {P : Type 0} (r : Result T E) → P → OnErr r P
+  on_err (Ok x) it = tt
+  on_err (Err e) it = it
+
+  pub if_err : {Q : E → Type 0} (r : Result T E) → ((e : E) → Q e) → IfErr r Q
+  if_err (Ok x) it = tt
+  if_err (Err e) it = it e
+
   -- nor another error
   pub exit_not_err : (r : Result T E) (e d : E) → IsErrAnd r (λ y. y ≡ e) → e ≢ d → r ≡ Err d → ⊥
   exit_not_err (Ok y) e d is other same = absurd is
@@ -31,6 +39,13 @@ false_not_true same = cc
 
 pub some_not_none : {T E : Type 0} (x : T) → ◌≡◌ {A = Result (Option T) E} (Ok (Some x)) (Ok None) → ⊥
 some_not_none x same = cc
+
+-- a journal that is closed is no file that is too long
+pub closed_not_large : {T : Type 0} → ◌≡◌ {A = Result T JournalError} (Err NotOpen) (Err TooLarge) → ⊥
+closed_not_large same = cc
+
+pub large_not_closed : TooLarge ≢ NotOpen
+large_not_closed same = cc
 
 -- damage is no file that is too long
 pub damage_not_large : {T : Type 0} (d : JournalError) (at : ℕ) → d ≡ Damaged at → ◌≡◌ {A = Result T JournalError} (Err d) (Err TooLarge) → ⊥

@@ -85,6 +85,11 @@ module _ {D B : Type 0} (seen : D → List ℕ) (may_leave : D → List ℕ → 
   behind_sync place old new noted same fewer =
       behind_call place old new noted (subst (λ (f : List ℕ). KeepsBelow place (seen (disk_of old)) f) (sym same) (keeps_not place (seen (disk_of old)))) λ front low all c left. all c (fewer c left)
 
+-- a piece, and what comes right behind it
+pub behind_next : {D B : Type 0} {seen : D → List ℕ} {may_leave : D → List ℕ → Type 0} {note : B} {place at : ℕ} {old mid new : Clocked D B} (n : ℕ) → at ≡ place + n
+    → WritesBehind seen may_leave note place old mid → WritesBehind seen may_leave note at mid new → WritesBehind seen may_leave note place old new
+behind_next {seen = seen} {may_leave = may_leave} {note = note} {place = place} {at = at} {old = old} {mid = mid} {new = new} n is a b = behind_on seen may_leave note place at old mid new (omega (arith, is)) a b
+
 -- a call that went well, and then one more
 pub counted_two : {S T : Type 0} (x : S) (r : Result T Error) (a b c : ℕ) (s t u : Tally) → IsCounted {T = S} (Ok x) a b s t → IsCounted r b c t u → IsCounted r a c s u
 counted_two x (Ok y) a b c s t u first second = record {
@@ -107,6 +112,10 @@ counted_err e a b s t it = record { faults = it.faults; refused = record { caugh
 pub counted_then : {S T : Type 0} (r : Result S Error) (x : S) (result : Result T Error) (a b c : ℕ) (s t u : Tally) → r ≡ Ok x → IsCounted r a b s t → IsCounted result b c t u → IsCounted result a c s u
 counted_then {S = S} r x result a b c s t u is first second = counted_two x result a b c s t u (subst (λ (r : Result S Error). IsCounted r a b s t) is first) second
 
+-- the same, where what is meant is seen from what is told
+pub then_counted : {S T : Type 0} {r : Result S Error} {x : S} {result : Result T Error} {a b c : ℕ} {s t u : Tally} → r ≡ Ok x → IsCounted r a b s t → IsCounted result b c t u → IsCounted result a c s u
+then_counted {r = r} {x = x} {result = result} {a = a} {b = b} {c = c} {s = s} {t = t} {u = u} is first second = counted_then r x result a b c s t u is first second
+
 -- whatever is handed out
 pub counted_ok : {S T : Type 0} (x : S) (y : T) (a b : ℕ) (s t : Tally) → IsCounted {T = S} (Ok x) a b s t → IsCounted {T = T} (Ok y) a b s t
 counted_ok x y a b s t it = record { faults = it.faults; refused = record { caught = it.refused.caught; refused = it.refused.refused } }
@@ -116,6 +125,9 @@ pub counted_exit : {S T : Type 0} (r : Result S Error) (e : Error) (result : Res
 counted_exit r e (Ok x) a b s t was is it = absurd is
 counted_exit {S = S} {T = T} r e (Err y) a b s t was is it =
     subst (λ (d : Error). IsCounted {T = T} (Err d) a b s t) (sym is) (counted_err {S = S} {T = T} e a b s t (subst (λ (r : Result S Error). IsCounted r a b s t) was it))
+
+pub exit_counted : {S T : Type 0} {r : Result S Error} {e : Error} {result : Result T Error} {a b : ℕ} {s t : Tally} → r ≡ Err e → IsErrAnd result (λ y. y ≡ e) → IsCounted r a b s t → IsCounted result a b s t
+exit_counted {r = r} {e = e} {result = result} {a = a} {b = b} {s = s} {t = t} was is it = counted_exit r e result a b s t was is it
 
 pub counted_grows : {T : Type 0} (r : Result T Error) (a b : ℕ) (s t : Tally) → IsCounted r a b s t → a ≤ b
 counted_grows (Ok x) a b s t it = omega (arith, it.faults)

@@ -5,123 +5,53 @@ use Rattle.std.specs.declared.io.Error.{Error}
 use Rattle.journal_core.specs.Clocked.{disk_of}
 use Rattle.journal_core.specs.Format.{round_text, shut_word, sum_of, word_of}
 use Rattle.journal_core.specs.Private.Stages.{parts_text, round_bytes, IsCounted}
-use Rattle.journal_core.proofs.Staging.{begins_as, begins_in, behind_on, behind_sync, behind_two, counted_exit, counted_ok, counted_then}
+use Rattle.journal_core.proofs.Staging.{begins_as, begins_in, behind_next, behind_sync, behind_two, counted_ok, exit_counted, then_counted}
 use Rattle.journal_core.proofs.Numbers.{word_as}
 use Rattle.journal_core.proofs.writing.write_round.Goals as goal
 
 pub returns-in_err-at-2-clause-behind : goal.returns-in_err-at-2-clause-behind
 returns-in_err-at-2-clause-behind g c =
-    let may_leave = g.D.Disk.may_leave in
-    let note = c.args.note.now in
-    let place = c.args.gate + 8 in
-    let d0 = c.args.disk.now in
-    let d1 = c.write_piece.new.disk in
-    let b1 = c.write_piece.ensures.behind in
-    let low1 : place ≤ c.in_ok-at.at = omega (arith, c.in_ok-at.ensures.next) in
-    let d2 = c.write_piece-2.new.disk in
-    let b2 = behind_on g.D.Disk.seen may_leave note place c.in_ok-at.at d0 d1 d2 low1 b1 c.write_piece-2.ensures.behind in
-    b2
+    behind_next _ c.in_ok-at.ensures.next c.write_piece.ensures.behind
+    c.write_piece-2.ensures.behind
 
 pub returns-in_err-at-3-clause-behind : goal.returns-in_err-at-3-clause-behind
 returns-in_err-at-3-clause-behind g c =
-    let may_leave = g.D.Disk.may_leave in
-    let note = c.args.note.now in
-    let place = c.args.gate + 8 in
-    let d0 = c.args.disk.now in
-    let d1 = c.write_piece.new.disk in
-    let b1 = c.write_piece.ensures.behind in
-    let low1 : place ≤ c.in_ok-at.at = omega (arith, c.in_ok-at.ensures.next) in
-    let d2 = c.write_piece-2.new.disk in
-    let b2 = behind_on g.D.Disk.seen may_leave note place c.in_ok-at.at d0 d1 d2 low1 b1 c.write_piece-2.ensures.behind in
-    let low2 : place ≤ c.in_ok-at-2.at = omega (arith, low1, c.in_ok-at-2.ensures.next) in
-    let d3 = c.write_parts.new.disk in
-    let b3 = behind_on g.D.Disk.seen may_leave note place c.in_ok-at-2.at d0 d2 d3 low2 b2 c.write_parts.ensures.behind in
-    b3
+    behind_next _ c.in_ok-at.ensures.next c.write_piece.ensures.behind
+    (behind_next _ c.in_ok-at-2.ensures.next c.write_piece-2.ensures.behind
+    c.write_parts.ensures.behind)
 
 pub returns-in_err-at-4-clause-behind : goal.returns-in_err-at-4-clause-behind
 returns-in_err-at-4-clause-behind g c =
-    let may_leave = g.D.Disk.may_leave in
-    let note = c.args.note.now in
-    let place = c.args.gate + 8 in
-    let d0 = c.args.disk.now in
-    let d1 = c.write_piece.new.disk in
-    let b1 = c.write_piece.ensures.behind in
-    let low1 : place ≤ c.in_ok-at.at = omega (arith, c.in_ok-at.ensures.next) in
-    let d2 = c.write_piece-2.new.disk in
-    let b2 = behind_on g.D.Disk.seen may_leave note place c.in_ok-at.at d0 d1 d2 low1 b1 c.write_piece-2.ensures.behind in
-    let low2 : place ≤ c.in_ok-at-2.at = omega (arith, low1, c.in_ok-at-2.ensures.next) in
-    let d3 = c.write_parts.new.disk in
-    let b3 = behind_on g.D.Disk.seen may_leave note place c.in_ok-at-2.at d0 d2 d3 low2 b2 c.write_parts.ensures.behind in
-    let low3 : place ≤ c.in_ok-at-3.at = omega (arith, low2, c.in_ok-at-3.ensures.next) in
-    let d4 = c.write_piece-3.new.disk in
-    let b4 = behind_on g.D.Disk.seen may_leave note place c.in_ok-at-3.at d0 d3 d4 low3 b3 c.write_piece-3.ensures.behind in
-    b4
+    behind_next _ c.in_ok-at.ensures.next c.write_piece.ensures.behind
+    (behind_next _ c.in_ok-at-2.ensures.next c.write_piece-2.ensures.behind
+    (behind_next _ c.in_ok-at-3.ensures.next c.write_parts.ensures.behind
+    c.write_piece-3.ensures.behind))
 
 pub returns-in_err-_end-clause-behind : goal.returns-in_err-_end-clause-behind
 returns-in_err-_end-clause-behind g c =
-    let may_leave = g.D.Disk.may_leave in
-    let note = c.args.note.now in
-    let place = c.args.gate + 8 in
-    let d0 = c.args.disk.now in
-    let d1 = c.write_piece.new.disk in
-    let b1 = c.write_piece.ensures.behind in
-    let low1 : place ≤ c.in_ok-at.at = omega (arith, c.in_ok-at.ensures.next) in
-    let d2 = c.write_piece-2.new.disk in
-    let b2 = behind_on g.D.Disk.seen may_leave note place c.in_ok-at.at d0 d1 d2 low1 b1 c.write_piece-2.ensures.behind in
-    let low2 : place ≤ c.in_ok-at-2.at = omega (arith, low1, c.in_ok-at-2.ensures.next) in
-    let d3 = c.write_parts.new.disk in
-    let b3 = behind_on g.D.Disk.seen may_leave note place c.in_ok-at-2.at d0 d2 d3 low2 b2 c.write_parts.ensures.behind in
-    let low3 : place ≤ c.in_ok-at-3.at = omega (arith, low2, c.in_ok-at-3.ensures.next) in
-    let d4 = c.write_piece-3.new.disk in
-    let b4 = behind_on g.D.Disk.seen may_leave note place c.in_ok-at-3.at d0 d3 d4 low3 b3 c.write_piece-3.ensures.behind in
-    let low4 : place ≤ c.in_ok-at-4.at = omega (arith, low3, c.in_ok-at-4.ensures.next) in
-    let d5 = c.write_piece-4.new.disk in
-    let b5 = behind_on g.D.Disk.seen may_leave note place c.in_ok-at-4.at d0 d4 d5 low4 b4 c.write_piece-4.ensures.behind in
-    b5
+    behind_next _ c.in_ok-at.ensures.next c.write_piece.ensures.behind
+    (behind_next _ c.in_ok-at-2.ensures.next c.write_piece-2.ensures.behind
+    (behind_next _ c.in_ok-at-3.ensures.next c.write_parts.ensures.behind
+    (behind_next _ c.in_ok-at-4.ensures.next c.write_piece-3.ensures.behind
+    c.write_piece-4.ensures.behind)))
 
 pub returns-in_err-sync-clause-behind : goal.returns-in_err-sync-clause-behind
 returns-in_err-sync-clause-behind g c =
-    let may_leave = g.D.Disk.may_leave in
-    let note = c.args.note.now in
-    let place = c.args.gate + 8 in
-    let d0 = c.args.disk.now in
-    let d1 = c.write_piece.new.disk in
-    let b1 = c.write_piece.ensures.behind in
-    let low1 : place ≤ c.in_ok-at.at = omega (arith, c.in_ok-at.ensures.next) in
-    let d2 = c.write_piece-2.new.disk in
-    let b2 = behind_on g.D.Disk.seen may_leave note place c.in_ok-at.at d0 d1 d2 low1 b1 c.write_piece-2.ensures.behind in
-    let low2 : place ≤ c.in_ok-at-2.at = omega (arith, low1, c.in_ok-at-2.ensures.next) in
-    let d3 = c.write_parts.new.disk in
-    let b3 = behind_on g.D.Disk.seen may_leave note place c.in_ok-at-2.at d0 d2 d3 low2 b2 c.write_parts.ensures.behind in
-    let low3 : place ≤ c.in_ok-at-3.at = omega (arith, low2, c.in_ok-at-3.ensures.next) in
-    let d4 = c.write_piece-3.new.disk in
-    let b4 = behind_on g.D.Disk.seen may_leave note place c.in_ok-at-3.at d0 d3 d4 low3 b3 c.write_piece-3.ensures.behind in
-    let low4 : place ≤ c.in_ok-at-4.at = omega (arith, low3, c.in_ok-at-4.ensures.next) in
-    let d5 = c.write_piece-4.new.disk in
-    let b5 = behind_on g.D.Disk.seen may_leave note place c.in_ok-at-4.at d0 d4 d5 low4 b4 c.write_piece-4.ensures.behind in
-    behind_two g.D.Disk.seen may_leave note place d0 d5 c.sync.new.self b5 (behind_sync g.D.Disk.seen may_leave note place d5 c.sync.new.self c.sync.ensures.noted c.sync.ensures.seen c.sync.ensures.crash)
+    behind_next _ c.in_ok-at.ensures.next c.write_piece.ensures.behind
+    (behind_next _ c.in_ok-at-2.ensures.next c.write_piece-2.ensures.behind
+    (behind_next _ c.in_ok-at-3.ensures.next c.write_parts.ensures.behind
+    (behind_next _ c.in_ok-at-4.ensures.next c.write_piece-3.ensures.behind
+    (behind_two g.D.Disk.seen g.D.Disk.may_leave c.args.note.now c.in_ok-at-4.at c.write_piece-3.new.disk c.write_piece-4.new.disk c.sync.new.self c.write_piece-4.ensures.behind
+    (behind_sync g.D.Disk.seen g.D.Disk.may_leave c.args.note.now c.in_ok-at-4.at c.write_piece-4.new.disk c.sync.new.self c.sync.ensures.noted c.sync.ensures.seen c.sync.ensures.crash)))))
 
 pub returns-clause-behind : goal.returns-clause-behind
 returns-clause-behind g c =
-    let may_leave = g.D.Disk.may_leave in
-    let note = c.args.note.now in
-    let place = c.args.gate + 8 in
-    let d0 = c.args.disk.now in
-    let d1 = c.write_piece.new.disk in
-    let b1 = c.write_piece.ensures.behind in
-    let low1 : place ≤ c.in_ok-at.at = omega (arith, c.in_ok-at.ensures.next) in
-    let d2 = c.write_piece-2.new.disk in
-    let b2 = behind_on g.D.Disk.seen may_leave note place c.in_ok-at.at d0 d1 d2 low1 b1 c.write_piece-2.ensures.behind in
-    let low2 : place ≤ c.in_ok-at-2.at = omega (arith, low1, c.in_ok-at-2.ensures.next) in
-    let d3 = c.write_parts.new.disk in
-    let b3 = behind_on g.D.Disk.seen may_leave note place c.in_ok-at-2.at d0 d2 d3 low2 b2 c.write_parts.ensures.behind in
-    let low3 : place ≤ c.in_ok-at-3.at = omega (arith, low2, c.in_ok-at-3.ensures.next) in
-    let d4 = c.write_piece-3.new.disk in
-    let b4 = behind_on g.D.Disk.seen may_leave note place c.in_ok-at-3.at d0 d3 d4 low3 b3 c.write_piece-3.ensures.behind in
-    let low4 : place ≤ c.in_ok-at-4.at = omega (arith, low3, c.in_ok-at-4.ensures.next) in
-    let d5 = c.write_piece-4.new.disk in
-    let b5 = behind_on g.D.Disk.seen may_leave note place c.in_ok-at-4.at d0 d4 d5 low4 b4 c.write_piece-4.ensures.behind in
-    behind_two g.D.Disk.seen may_leave note place d0 d5 c.sync.new.self b5 (behind_sync g.D.Disk.seen may_leave note place d5 c.sync.new.self c.sync.ensures.noted c.sync.ensures.seen c.sync.ensures.crash)
+    behind_next _ c.in_ok-at.ensures.next c.write_piece.ensures.behind
+    (behind_next _ c.in_ok-at-2.ensures.next c.write_piece-2.ensures.behind
+    (behind_next _ c.in_ok-at-3.ensures.next c.write_parts.ensures.behind
+    (behind_next _ c.in_ok-at-4.ensures.next c.write_piece-3.ensures.behind
+    (behind_two g.D.Disk.seen g.D.Disk.may_leave c.args.note.now c.in_ok-at-4.at c.write_piece-3.new.disk c.write_piece-4.new.disk c.sync.new.self c.write_piece-4.ensures.behind
+    (behind_sync g.D.Disk.seen g.D.Disk.may_leave c.args.note.now c.in_ok-at-4.at c.write_piece-4.new.disk c.sync.new.self c.sync.ensures.noted c.sync.ensures.seen c.sync.ensures.crash)))))
 
 pub returns-clause-durable : goal.returns-clause-durable
 returns-clause-durable g c = λ f left. c.in_ok-sync.ensures.durable f left ∙ sym c.sync.ensures.seen
@@ -317,108 +247,61 @@ returns-in_err-sync-clause-usable g c = IfOk-from_err c.from_residual-in_err-syn
 
 pub returns-in_err-at-clause-counts : goal.returns-in_err-at-clause-counts
 returns-in_err-at-clause-counts g c =
-    let faults = g.D.Disk.faults in
-    let tally = g.D.Disk.tally_of in
-    let d0 = disk_of c.args.disk.now in
-    let d1 = disk_of c.write_piece.new.disk in
-    let from0 = counted_exit c.write_piece.result c.in_err-at.field-0.0 c.from_residual.result (faults d0) (faults d1) (tally d0) (tally d1) c.in_err-at.was c.from_residual.ensures.1 c.write_piece.ensures.counts in
-    from0
+    exit_counted c.in_err-at.was c.from_residual.ensures.1 c.write_piece.ensures.counts
 
 pub returns-in_err-at-2-clause-counts : goal.returns-in_err-at-2-clause-counts
 returns-in_err-at-2-clause-counts g c =
-    let faults = g.D.Disk.faults in
-    let tally = g.D.Disk.tally_of in
-    let d0 = disk_of c.args.disk.now in
-    let d1 = disk_of c.write_piece.new.disk in
-    let d2 = disk_of c.write_piece-2.new.disk in
-    let from1 = counted_exit c.write_piece-2.result c.in_err-at-2.field-0.0 c.from_residual-in_err-at-2.result (faults d1) (faults d2) (tally d1) (tally d2) c.in_err-at-2.was c.from_residual-in_err-at-2.ensures.1 c.write_piece-2.ensures.counts in
-    let from0 = counted_then c.write_piece.result c.in_ok-at.at c.from_residual-in_err-at-2.result (faults d0) (faults d1) (faults d2) (tally d0) (tally d1) (tally d2) c.in_ok-at.was c.write_piece.ensures.counts from1 in
-    from0
+    then_counted c.in_ok-at.was c.write_piece.ensures.counts
+    (exit_counted c.in_err-at-2.was c.from_residual-in_err-at-2.ensures.1 c.write_piece-2.ensures.counts)
 
 pub returns-in_err-at-3-clause-counts : goal.returns-in_err-at-3-clause-counts
 returns-in_err-at-3-clause-counts g c =
-    let faults = g.D.Disk.faults in
-    let tally = g.D.Disk.tally_of in
-    let d0 = disk_of c.args.disk.now in
-    let d1 = disk_of c.write_piece.new.disk in
-    let d2 = disk_of c.write_piece-2.new.disk in
-    let d3 = disk_of c.write_parts.new.disk in
-    let from2 = counted_exit c.write_parts.result c.in_err-at-3.field-0.0 c.from_residual-in_err-at-3.result (faults d2) (faults d3) (tally d2) (tally d3) c.in_err-at-3.was c.from_residual-in_err-at-3.ensures.1 c.write_parts.ensures.counts in
-    let from1 = counted_then c.write_piece-2.result c.in_ok-at-2.at c.from_residual-in_err-at-3.result (faults d1) (faults d2) (faults d3) (tally d1) (tally d2) (tally d3) c.in_ok-at-2.was c.write_piece-2.ensures.counts from2 in
-    let from0 = counted_then c.write_piece.result c.in_ok-at.at c.from_residual-in_err-at-3.result (faults d0) (faults d1) (faults d3) (tally d0) (tally d1) (tally d3) c.in_ok-at.was c.write_piece.ensures.counts from1 in
-    from0
+    then_counted c.in_ok-at.was c.write_piece.ensures.counts
+    (then_counted c.in_ok-at-2.was c.write_piece-2.ensures.counts
+    (exit_counted c.in_err-at-3.was c.from_residual-in_err-at-3.ensures.1 c.write_parts.ensures.counts))
 
 pub returns-in_err-at-4-clause-counts : goal.returns-in_err-at-4-clause-counts
 returns-in_err-at-4-clause-counts g c =
-    let faults = g.D.Disk.faults in
-    let tally = g.D.Disk.tally_of in
-    let d0 = disk_of c.args.disk.now in
-    let d1 = disk_of c.write_piece.new.disk in
-    let d2 = disk_of c.write_piece-2.new.disk in
-    let d3 = disk_of c.write_parts.new.disk in
-    let d4 = disk_of c.write_piece-3.new.disk in
-    let from3 = counted_exit c.write_piece-3.result c.in_err-at-4.field-0.0 c.from_residual-in_err-at-4.result (faults d3) (faults d4) (tally d3) (tally d4) c.in_err-at-4.was c.from_residual-in_err-at-4.ensures.1 c.write_piece-3.ensures.counts in
-    let from2 = counted_then c.write_parts.result c.in_ok-at-3.at c.from_residual-in_err-at-4.result (faults d2) (faults d3) (faults d4) (tally d2) (tally d3) (tally d4) c.in_ok-at-3.was c.write_parts.ensures.counts from3 in
-    let from1 = counted_then c.write_piece-2.result c.in_ok-at-2.at c.from_residual-in_err-at-4.result (faults d1) (faults d2) (faults d4) (tally d1) (tally d2) (tally d4) c.in_ok-at-2.was c.write_piece-2.ensures.counts from2 in
-    let from0 = counted_then c.write_piece.result c.in_ok-at.at c.from_residual-in_err-at-4.result (faults d0) (faults d1) (faults d4) (tally d0) (tally d1) (tally d4) c.in_ok-at.was c.write_piece.ensures.counts from1 in
-    from0
+    then_counted c.in_ok-at.was c.write_piece.ensures.counts
+    (then_counted c.in_ok-at-2.was c.write_piece-2.ensures.counts
+    (then_counted c.in_ok-at-3.was c.write_parts.ensures.counts
+    (exit_counted c.in_err-at-4.was c.from_residual-in_err-at-4.ensures.1 c.write_piece-3.ensures.counts)))
 
 pub returns-in_err-_end-clause-counts : goal.returns-in_err-_end-clause-counts
 returns-in_err-_end-clause-counts g c =
-    let faults = g.D.Disk.faults in
-    let tally = g.D.Disk.tally_of in
-    let d0 = disk_of c.args.disk.now in
-    let d1 = disk_of c.write_piece.new.disk in
-    let d2 = disk_of c.write_piece-2.new.disk in
-    let d3 = disk_of c.write_parts.new.disk in
-    let d4 = disk_of c.write_piece-3.new.disk in
-    let d5 = disk_of c.write_piece-4.new.disk in
-    let from4 = counted_exit c.write_piece-4.result c.in_err-_end.field-0.0 c.from_residual-in_err-_end.result (faults d4) (faults d5) (tally d4) (tally d5) c.in_err-_end.was c.from_residual-in_err-_end.ensures.1 c.write_piece-4.ensures.counts in
-    let from3 = counted_then c.write_piece-3.result c.in_ok-at-4.at c.from_residual-in_err-_end.result (faults d3) (faults d4) (faults d5) (tally d3) (tally d4) (tally d5) c.in_ok-at-4.was c.write_piece-3.ensures.counts from4 in
-    let from2 = counted_then c.write_parts.result c.in_ok-at-3.at c.from_residual-in_err-_end.result (faults d2) (faults d3) (faults d5) (tally d2) (tally d3) (tally d5) c.in_ok-at-3.was c.write_parts.ensures.counts from3 in
-    let from1 = counted_then c.write_piece-2.result c.in_ok-at-2.at c.from_residual-in_err-_end.result (faults d1) (faults d2) (faults d5) (tally d1) (tally d2) (tally d5) c.in_ok-at-2.was c.write_piece-2.ensures.counts from2 in
-    let from0 = counted_then c.write_piece.result c.in_ok-at.at c.from_residual-in_err-_end.result (faults d0) (faults d1) (faults d5) (tally d0) (tally d1) (tally d5) c.in_ok-at.was c.write_piece.ensures.counts from1 in
-    from0
+    then_counted c.in_ok-at.was c.write_piece.ensures.counts
+    (then_counted c.in_ok-at-2.was c.write_piece-2.ensures.counts
+    (then_counted c.in_ok-at-3.was c.write_parts.ensures.counts
+    (then_counted c.in_ok-at-4.was c.write_piece-3.ensures.counts
+    (exit_counted c.in_err-_end.was c.from_residual-in_err-_end.ensures.1 c.write_piece-4.ensures.counts))))
 
 pub returns-in_err-sync-clause-counts : goal.returns-in_err-sync-clause-counts
 returns-in_err-sync-clause-counts g c =
     let faults = g.D.Disk.faults in
     let tally = g.D.Disk.tally_of in
-    let d0 = disk_of c.args.disk.now in
-    let d1 = disk_of c.write_piece.new.disk in
-    let d2 = disk_of c.write_piece-2.new.disk in
-    let d3 = disk_of c.write_parts.new.disk in
-    let d4 = disk_of c.write_piece-3.new.disk in
     let d5 = disk_of c.write_piece-4.new.disk in
     let d6 = disk_of c.sync.new.self in
     let synced : IsCounted c.sync.result (faults d5) (faults d6) (tally d5) (tally d6) = record { faults = c.sync.ensures.faults; refused = c.sync.ensures.tally } in
-    let from5 = counted_exit c.sync.result c.in_err-sync.field-0.0 c.from_residual-in_err-sync.result (faults d5) (faults d6) (tally d5) (tally d6) c.in_err-sync.was c.from_residual-in_err-sync.ensures.1 synced in
-    let from4 = counted_then c.write_piece-4.result c.in_ok-_end._end c.from_residual-in_err-sync.result (faults d4) (faults d5) (faults d6) (tally d4) (tally d5) (tally d6) c.in_ok-_end.was c.write_piece-4.ensures.counts from5 in
-    let from3 = counted_then c.write_piece-3.result c.in_ok-at-4.at c.from_residual-in_err-sync.result (faults d3) (faults d4) (faults d6) (tally d3) (tally d4) (tally d6) c.in_ok-at-4.was c.write_piece-3.ensures.counts from4 in
-    let from2 = counted_then c.write_parts.result c.in_ok-at-3.at c.from_residual-in_err-sync.result (faults d2) (faults d3) (faults d6) (tally d2) (tally d3) (tally d6) c.in_ok-at-3.was c.write_parts.ensures.counts from3 in
-    let from1 = counted_then c.write_piece-2.result c.in_ok-at-2.at c.from_residual-in_err-sync.result (faults d1) (faults d2) (faults d6) (tally d1) (tally d2) (tally d6) c.in_ok-at-2.was c.write_piece-2.ensures.counts from2 in
-    let from0 = counted_then c.write_piece.result c.in_ok-at.at c.from_residual-in_err-sync.result (faults d0) (faults d1) (faults d6) (tally d0) (tally d1) (tally d6) c.in_ok-at.was c.write_piece.ensures.counts from1 in
-    from0
+    then_counted c.in_ok-at.was c.write_piece.ensures.counts
+    (then_counted c.in_ok-at-2.was c.write_piece-2.ensures.counts
+    (then_counted c.in_ok-at-3.was c.write_parts.ensures.counts
+    (then_counted c.in_ok-at-4.was c.write_piece-3.ensures.counts
+    (then_counted c.in_ok-_end.was c.write_piece-4.ensures.counts
+    (exit_counted c.in_err-sync.was c.from_residual-in_err-sync.ensures.1 synced)))))
 
 pub returns-clause-counts : goal.returns-clause-counts
 returns-clause-counts g c =
     let faults = g.D.Disk.faults in
     let tally = g.D.Disk.tally_of in
-    let d0 = disk_of c.args.disk.now in
-    let d1 = disk_of c.write_piece.new.disk in
-    let d2 = disk_of c.write_piece-2.new.disk in
-    let d3 = disk_of c.write_parts.new.disk in
-    let d4 = disk_of c.write_piece-3.new.disk in
     let d5 = disk_of c.write_piece-4.new.disk in
     let d6 = disk_of c.sync.new.self in
     let synced : IsCounted c.sync.result (faults d5) (faults d6) (tally d5) (tally d6) = record { faults = c.sync.ensures.faults; refused = c.sync.ensures.tally } in
-    let from5 = counted_ok tt c.in_ok-at-4.at (faults d5) (faults d6) (tally d5) (tally d6) (subst (λ (r : Result (Unit {0}) Error). IsCounted r (faults d5) (faults d6) (tally d5) (tally d6)) c.in_ok-sync.was synced) in
-    let from4 = counted_then c.write_piece-4.result c.in_ok-_end._end (Ok c.in_ok-at-4.at) (faults d4) (faults d5) (faults d6) (tally d4) (tally d5) (tally d6) c.in_ok-_end.was c.write_piece-4.ensures.counts from5 in
-    let from3 = counted_then c.write_piece-3.result c.in_ok-at-4.at (Ok c.in_ok-at-4.at) (faults d3) (faults d4) (faults d6) (tally d3) (tally d4) (tally d6) c.in_ok-at-4.was c.write_piece-3.ensures.counts from4 in
-    let from2 = counted_then c.write_parts.result c.in_ok-at-3.at (Ok c.in_ok-at-4.at) (faults d2) (faults d3) (faults d6) (tally d2) (tally d3) (tally d6) c.in_ok-at-3.was c.write_parts.ensures.counts from3 in
-    let from1 = counted_then c.write_piece-2.result c.in_ok-at-2.at (Ok c.in_ok-at-4.at) (faults d1) (faults d2) (faults d6) (tally d1) (tally d2) (tally d6) c.in_ok-at-2.was c.write_piece-2.ensures.counts from2 in
-    let from0 = counted_then c.write_piece.result c.in_ok-at.at (Ok c.in_ok-at-4.at) (faults d0) (faults d1) (faults d6) (tally d0) (tally d1) (tally d6) c.in_ok-at.was c.write_piece.ensures.counts from1 in
-    from0
+    then_counted c.in_ok-at.was c.write_piece.ensures.counts
+    (then_counted c.in_ok-at-2.was c.write_piece-2.ensures.counts
+    (then_counted c.in_ok-at-3.was c.write_parts.ensures.counts
+    (then_counted c.in_ok-at-4.was c.write_piece-3.ensures.counts
+    (then_counted c.in_ok-_end.was c.write_piece-4.ensures.counts
+    (counted_ok tt c.in_ok-at-4.at (faults d5) (faults d6) (tally d5) (tally d6) (subst (λ (r : Result (Unit {0}) Error). IsCounted r (faults d5) (faults d6) (tally d5) (tally d6)) c.in_ok-sync.was synced))))))
 
 pub returns-in_err-at-clause-clean : goal.returns-in_err-at-clause-clean
 returns-in_err-at-clause-clean g c = c.write_piece.ensures.clean
@@ -445,7 +328,8 @@ pub returns-clause-usable : goal.returns-clause-usable
 returns-clause-usable g c = c.sync.ensures.usable ∙ ap is_ok c.in_ok-sync.was
 
 pub returns-in_err-at-clause-behind : goal.returns-in_err-at-clause-behind
-returns-in_err-at-clause-behind g c = c.write_piece.ensures.behind
+returns-in_err-at-clause-behind g c =
+    c.write_piece.ensures.behind
 
 pub write_piece-requires-clause-usable : goal.write_piece-requires-clause-usable
 write_piece-requires-clause-usable g c = c.requires.usable

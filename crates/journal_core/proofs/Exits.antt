@@ -1,5 +1,5 @@
 -- Where a `?` leaves, or an error is told.
-use Rattle.std.proofs.Common.{◌≡◌, ◌≢◌, ℕ, Bool, true, false, Option, Some, None, Result, Ok, Err, IfErr, OnErr, IsErr, IsErrAnd, is_err, is_ok, sym, ◌∙◌, ap, subst}
+use Rattle.std.proofs.Common.{◌≡◌, ◌≢◌, ℕ, Bool, true, false, Option, Some, None, Result, Ok, Err, IfErr, OnErr, MatchResult, IsErr, IsErrAnd, is_err, is_ok, sym, ◌∙◌, ap, subst}
 use Rattle.std.proofs.lemmas.Bool.{false≢true}
 use Rattle.journal_core.specs.declared.error.JournalError.{JournalError}
 use Rattle.journal_core.specs.declared.error.JournalError.TheVariants.{Damaged, NotOpen, TooLarge}
@@ -56,3 +56,11 @@ damage_cause P d at is = subst (HasReadCause P) (sym is) tt
 
 pub large_cause : (P : Type 0) (e : JournalError) → e ≡ TooLarge → HasReadCause P e
 large_cause P e is = subst (HasReadCause P) (sym is) tt
+
+-- what `map_err` leaves went well
+pub mapped_ok : {T E F : Type 0} (r : Result T E) (m : Result T F) (x : T) (Q : E → F → Type 0) → MatchResult r (λ y. m ≡ Ok y) (λ e. IsErrAnd m (Q e)) → m ≡ Ok x → r ≡ Ok x
+mapped_ok {T = T} {F = F} (Ok y) m x Q it is =
+    let both : ◌≡◌ {A = Result T F} (Ok y) (Ok x) = sym it ∙ is in
+    let inner : y ≡ x = cc in
+    ap Ok inner
+mapped_ok {T = T} {F = F} (Err e) m x Q it is = absurd (subst (λ (m : Result T F). IsErrAnd m (Q e)) is it)

@@ -13,7 +13,7 @@ use Rattle.journal_core.specs.Private.Stages.{BeginsWith, ChangesOnce, IsCounted
 use Rattle.journal_core.specs.declared.error.JournalError.TheVariants.{NotOpen, TooLarge}
 use Rattle.std.proofs.lemmas.Bool.{false≢true}
 use Rattle.std.proofs.lemmas.Result.{IfOk-from_err}
-use Rattle.journal_core.proofs.Exits.{closed_not_large, err_not_ok, if_err, large_not_closed}
+use Rattle.journal_core.proofs.Exits.{closed_not_large, err_not_ok, if_err, large_not_closed, mapped_ok}
 use Rattle.journal_core.proofs.Settling.{left_at_rest}
 use Rattle.journal_core.proofs.Crash.{to_gate, at_behind, begun, all_begun, stands_still, gate_crash, gate_goes, gate_len, goes_behind, added}
 use Rattle.journal_core.proofs.Records.{none_left}
@@ -69,9 +69,9 @@ returns-in_err-map_err-clause-crash g c = λ records new it carries f left.
     let front_len : length front ≡ j.at + 8 = at_behind seen may_leave is_clean j records it in
     let all = all_begun seen may_leave is_clean j records it in
     let some : 0 < length bytes = omega (arith, c.len-len.ensures.bytes, c.if-len-eq0.false) in
-    let fits : j.at + (32 + length bytes) < 2 ^ 64 = search rules in
+    let fits : j.at + (32 + length bytes) < 2 ^ 64 = omega (arith, c.is_too_large.ensures.fits c.if-is_too_large.false, c.len-len.ensures.bytes) in
     let short : length bytes < 2 ^ 64 = omega (arith, fits) in
-    let written : c.write_round.result ≡ Ok c.in_ok-end.end = search rules in
+    let written = mapped_ok c.write_round.result c.map_err.result c.in_ok-end.end _ c.map_err.ensures.cases c.in_ok-end.was in
     let staged = subst (λ (r : Result ℕ Error). OnOk r ((front : List ℕ) → length front ≡ j.at + 8 → BeginsWith front (seen (disk_of j.disk)) → BeginsWith (front ++ (round_text j.header.key j.at bytes ++ shut_word)) (seen (disk_of mid)))) written c.write_round.ensures.writes
     front front_len (begun seen may_leave is_clean j records it) in
     let durable = subst (λ (r : Result ℕ Error). OnOk r (Only (seen (disk_of mid)) (may_leave (disk_of mid)))) written c.write_round.ensures.durable in
@@ -90,9 +90,9 @@ returns-clause-crash g c = λ records new it carries f left.
     let front_len : length front ≡ j.at + 8 = at_behind seen may_leave is_clean j records it in
     let all = all_begun seen may_leave is_clean j records it in
     let some : 0 < length bytes = omega (arith, c.len-len.ensures.bytes, c.if-len-eq0.false) in
-    let fits : j.at + (32 + length bytes) < 2 ^ 64 = search rules in
+    let fits : j.at + (32 + length bytes) < 2 ^ 64 = omega (arith, c.is_too_large.ensures.fits c.if-is_too_large.false, c.len-len.ensures.bytes) in
     let short : length bytes < 2 ^ 64 = omega (arith, fits) in
-    let written : c.write_round.result ≡ Ok c.in_ok-end.end = search rules in
+    let written = mapped_ok c.write_round.result c.map_err.result c.in_ok-end.end _ c.map_err.ensures.cases c.in_ok-end.was in
     let staged = subst (λ (r : Result ℕ Error). OnOk r ((front : List ℕ) → length front ≡ j.at + 8 → BeginsWith front (seen (disk_of j.disk)) → BeginsWith (front ++ (round_text j.header.key j.at bytes ++ shut_word)) (seen (disk_of mid)))) written c.write_round.ensures.writes
     front front_len (begun seen may_leave is_clean j records it) in
     let durable = subst (λ (r : Result ℕ Error). OnOk r (Only (seen (disk_of mid)) (may_leave (disk_of mid)))) written c.write_round.ensures.durable in
@@ -111,9 +111,9 @@ returns-in_err-map_err-clause-any_moment g c = λ records new it carries.
     let front_len : length front ≡ j.at + 8 = at_behind seen may_leave is_clean j records it in
     let all = all_begun seen may_leave is_clean j records it in
     let some : 0 < length bytes = omega (arith, c.len-len.ensures.bytes, c.if-len-eq0.false) in
-    let fits : j.at + (32 + length bytes) < 2 ^ 64 = search rules in
+    let fits : j.at + (32 + length bytes) < 2 ^ 64 = omega (arith, c.is_too_large.ensures.fits c.if-is_too_large.false, c.len-len.ensures.bytes) in
     let short : length bytes < 2 ^ 64 = omega (arith, fits) in
-    let written : c.write_round.result ≡ Ok c.in_ok-end.end = search rules in
+    let written = mapped_ok c.write_round.result c.map_err.result c.in_ok-end.end _ c.map_err.ensures.cases c.in_ok-end.was in
     let staged = subst (λ (r : Result ℕ Error). OnOk r ((front : List ℕ) → length front ≡ j.at + 8 → BeginsWith front (seen (disk_of j.disk)) → BeginsWith (front ++ (round_text j.header.key j.at bytes ++ shut_word)) (seen (disk_of mid)))) written c.write_round.ensures.writes
     front front_len (begun seen may_leave is_clean j records it) in
     let durable = subst (λ (r : Result ℕ Error). OnOk r (Only (seen (disk_of mid)) (may_leave (disk_of mid)))) written c.write_round.ensures.durable in
@@ -135,9 +135,9 @@ returns-clause-any_moment g c = λ records new it carries.
     let front_len : length front ≡ j.at + 8 = at_behind seen may_leave is_clean j records it in
     let all = all_begun seen may_leave is_clean j records it in
     let some : 0 < length bytes = omega (arith, c.len-len.ensures.bytes, c.if-len-eq0.false) in
-    let fits : j.at + (32 + length bytes) < 2 ^ 64 = search rules in
+    let fits : j.at + (32 + length bytes) < 2 ^ 64 = omega (arith, c.is_too_large.ensures.fits c.if-is_too_large.false, c.len-len.ensures.bytes) in
     let short : length bytes < 2 ^ 64 = omega (arith, fits) in
-    let written : c.write_round.result ≡ Ok c.in_ok-end.end = search rules in
+    let written = mapped_ok c.write_round.result c.map_err.result c.in_ok-end.end _ c.map_err.ensures.cases c.in_ok-end.was in
     let staged = subst (λ (r : Result ℕ Error). OnOk r ((front : List ℕ) → length front ≡ j.at + 8 → BeginsWith front (seen (disk_of j.disk)) → BeginsWith (front ++ (round_text j.header.key j.at bytes ++ shut_word)) (seen (disk_of mid)))) written c.write_round.ensures.writes
     front front_len (begun seen may_leave is_clean j records it) in
     let durable = subst (λ (r : Result ℕ Error). OnOk r (Only (seen (disk_of mid)) (may_leave (disk_of mid)))) written c.write_round.ensures.durable in
@@ -153,7 +153,7 @@ returns-in_err-map_err-clause-cause g c =
     let mid = c.write_round.new.disk in
     let faults = g.D.Disk.faults in
     let tally = g.D.Disk.tally_of in
-    let written : c.write_round.result ≡ Ok c.in_ok-end.end = search rules in
+    let written = mapped_ok c.write_round.result c.map_err.result c.in_ok-end.end _ c.map_err.ensures.cases c.in_ok-end.was in
     let counts = subst (λ (r : Result ℕ Error). IsCounted r (faults (disk_of j.disk)) (faults (disk_of mid)) (tally (disk_of j.disk)) (tally (disk_of mid))) written c.write_round.ensures.counts in
     let from_mid : IfErr c.from_residual-in_err-map_err.result (λ e. HasDiskCause e (faults (disk_of mid)) (faults (disk_of c.put.new.disk)) (tally (disk_of mid)).refused (tally (disk_of c.put.new.disk)).refused × (e ≡ NotOpen → IsFalse (is_ready j))) = search rules in
     subst (λ (n : ℕ). IfErr c.from_residual-in_err-map_err.result (λ e. HasDiskCause e n (faults (disk_of c.put.new.disk)) (tally (disk_of j.disk)).refused (tally (disk_of c.put.new.disk)).refused × (e ≡ NotOpen → IsFalse (is_ready j)))) counts.faults
@@ -172,13 +172,13 @@ returns-clause-acknowledged g c = λ records new it carries.
     let front_len : length front ≡ j.at + 8 = at_behind seen may_leave is_clean j records it in
     let all = all_begun seen may_leave is_clean j records it in
     let some : 0 < length bytes = omega (arith, c.len-len.ensures.bytes, c.if-len-eq0.false) in
-    let fits : j.at + (32 + length bytes) < 2 ^ 64 = search rules in
+    let fits : j.at + (32 + length bytes) < 2 ^ 64 = omega (arith, c.is_too_large.ensures.fits c.if-is_too_large.false, c.len-len.ensures.bytes) in
     let short : length bytes < 2 ^ 64 = omega (arith, fits) in
-    let written : c.write_round.result ≡ Ok c.in_ok-end.end = search rules in
+    let written = mapped_ok c.write_round.result c.map_err.result c.in_ok-end.end _ c.map_err.ensures.cases c.in_ok-end.was in
     let staged = subst (λ (r : Result ℕ Error). OnOk r ((front : List ℕ) → length front ≡ j.at + 8 → BeginsWith front (seen (disk_of j.disk)) → BeginsWith (front ++ (round_text j.header.key j.at bytes ++ shut_word)) (seen (disk_of mid)))) written c.write_round.ensures.writes
     front front_len (begun seen may_leave is_clean j records it) in
     let durable = subst (λ (r : Result ℕ Error). OnOk r (Only (seen (disk_of mid)) (may_leave (disk_of mid)))) written c.write_round.ensures.durable in
-    let opened : c.put.result ≡ Ok tt = search rules in
+    let opened = mapped_ok c.put.result c.map_err-2.result tt _ c.map_err-2.ensures.cases c.in_ok-map_err.was in
     let holds = subst (λ (r : Result (Unit {0}) Error). OnOk r (Holds (seen (disk_of c.put.new.disk)) j.at open_word)) opened c.put.ensures.holds in
     let only = subst (λ (r : Result (Unit {0}) Error). OnOk r (Only (seen (disk_of c.put.new.disk)) (may_leave (disk_of c.put.new.disk)))) opened c.put.ensures.durable in
     let next : c.in_ok-end.end ≡ j.at + (24 + length bytes) = subst (λ (r : Result ℕ Error). IfOk r (λ next. next ≡ j.at + (24 + length bytes))) written c.write_round.ensures.next in
@@ -203,12 +203,12 @@ returns-clause-steps g c = λ records new it carries.
     let mid = c.write_round.new.disk in
     let bytes = round_bytes c.args.round.now in
     let some : 0 < length bytes = omega (arith, c.len-len.ensures.bytes, c.if-len-eq0.false) in
-    let fits : j.at + (32 + length bytes) < 2 ^ 64 = search rules in
+    let fits : j.at + (32 + length bytes) < 2 ^ 64 = omega (arith, c.is_too_large.ensures.fits c.if-is_too_large.false, c.len-len.ensures.bytes) in
     let short : length bytes < 2 ^ 64 = omega (arith, fits) in
-    let written : c.write_round.result ≡ Ok c.in_ok-end.end = search rules in
+    let written = mapped_ok c.write_round.result c.map_err.result c.in_ok-end.end _ c.map_err.ensures.cases c.in_ok-end.was in
     let staged = subst (λ (r : Result ℕ Error). OnOk r ((front : List ℕ) → length front ≡ j.at + 8 → BeginsWith front (seen (disk_of j.disk)) → BeginsWith (front ++ (round_text j.header.key j.at bytes ++ shut_word)) (seen (disk_of mid)))) written c.write_round.ensures.writes
     (to_gate seen may_leave is_clean j records it) (at_behind seen may_leave is_clean j records it) (begun seen may_leave is_clean j records it) in
-    let opened : c.put.result ≡ Ok tt = search rules in
+    let opened = mapped_ok c.put.result c.map_err-2.result tt _ c.map_err-2.ensures.cases c.in_ok-map_err.was in
     let holds = subst (λ (r : Result (Unit {0}) Error). OnOk r (Holds (seen (disk_of c.put.new.disk)) j.at open_word)) opened c.put.ensures.holds in
     let once = subst (λ (r : Result (Unit {0}) Error). OnOk r (GoesAs (ChangesOnce (seen (disk_of mid)) (seen (disk_of c.put.new.disk))) seen mid c.put.new.disk)) opened c.put.ensures.moments in
     goes_two (MayStep j.header) seen j.disk mid c.put.new.disk (goes_behind seen may_leave is_clean j records it j.disk mid refl c.write_round.ensures.behind.moments)
@@ -456,11 +456,16 @@ returns-clause-room g c = λ records new it carries within.
     let front = to_gate seen may_leave is_clean j records it in
     let front_len : length front ≡ j.at + 8 = at_behind seen may_leave is_clean j records it in
     let some : 0 < length bytes = omega (arith, c.len-len.ensures.bytes, c.if-len-eq0.false) in
-    let fits : j.at + (32 + length bytes) < 2 ^ 64 = search rules in
+    let fits : j.at + (32 + length bytes) < 2 ^ 64 = omega (arith, c.is_too_large.ensures.fits c.if-is_too_large.false, c.len-len.ensures.bytes) in
     let short : length bytes < 2 ^ 64 = omega (arith, fits) in
-    let written : c.write_round.result ≡ Ok c.in_ok-end.end = search rules in
+    let written = mapped_ok c.write_round.result c.map_err.result c.in_ok-end.end _ c.map_err.ensures.cases c.in_ok-end.was in
     let staged = subst (λ (r : Result ℕ Error). OnOk r ((front : List ℕ) → length front ≡ j.at + 8 → BeginsWith front (seen (disk_of j.disk)) → BeginsWith (front ++ (round_text j.header.key j.at bytes ++ shut_word)) (seen (disk_of mid)))) written c.write_round.ensures.writes
     front front_len (begun seen may_leave is_clean j records it) in
     let len = subst (λ (r : Result ℕ Error). OnOk r (length (seen (disk_of mid)) ≡ max (length (seen (disk_of j.disk))) (j.at + (32 + length bytes)))) written c.write_round.ensures.len in
     let same_len = gate_len seen may_leave is_clean j records it new bytes carries some short (seen (disk_of mid)) (seen (disk_of c.put.new.disk)) staged c.put.ensures.others in
     same_len ∙ omega (arith, len, within, ap length carries)
+
+pub returns-clause-usable : goal.returns-clause-usable
+returns-clause-usable g c =
+    let opened = mapped_ok c.put.result c.map_err-2.result tt _ c.map_err-2.ensures.cases c.in_ok-map_err.was in
+    subst (λ (r : Result (Unit {0}) Error). OnOk r (IsTrue (g.D.Disk.is_usable (disk_of c.put.new.disk)))) opened c.put.ensures.usable

@@ -1,7 +1,7 @@
 -- A look at the length, and then the file grows where it is too short.
-use Rattle.std.proofs.Common.{rules, ◌≡◌, ◌≤◌, ℕ, List, true, Ok, Result, inl, refl, sym, subst, ◌∙◌, false, arith}
+use Rattle.std.proofs.Common.{rules, IsTrue, ap, Bool, leb, length, ◌+◌, is_some, ◌≡◌, ◌≤◌, ℕ, List, true, Ok, Result, inl, refl, sym, subst, ◌∙◌, false, arith}
 use Rattle.std.proofs.lemmas.Bool.{false≢true}
-use Rattle.std.proofs.lemmas.Result.{IfOk-from_err}
+use Rattle.std.proofs.lemmas.Result.{IfOk-at_ok, IfOk-from_err}
 use Rattle.std.specs.Prelude.{IfOk, OnOk, Some}
 use Rattle.sqlite_disk.specs.Disk.{Only}
 use Rattle.journal_core.specs.declared.error.JournalError.{JournalError}
@@ -13,12 +13,18 @@ use Rattle.journal_core.specs.Clocked.{CrashLeaves}
 use Rattle.journal_core.specs.Format.{StandsFor}
 use Rattle.journal_core.specs.LiveCopies.{MayStep}
 use Rattle.journal_core.specs.declared.error.JournalError.TheVariants.{NotOpen}
-use Rattle.journal_core.proofs.Causes.{room_cause_of}
-use Rattle.journal_core.proofs.Exits.{at_exit, err_not_ok, exit_not_ok, false_not_true, on_err}
+use Rattle.journal_core.proofs.Causes.{room_cause_of, some_at}
+use borrow.Author.Tests.{leb-true}
+use Rattle.journal_core.proofs.Exits.{at_exit, err_not_ok, exit_not_ok, false_not_true, mapped_ok, on_err}
 use Rattle.journal_core.proofs.Settling.{left_at_rest}
 use Rattle.journal_core.proofs.Growing.{grown_crash, grown_longer, grown_moments, grown_settled, grown_steps, grows_on, look_grows}
 use Rattle.journal_core.proofs.journal.Journal.make_room_for.Goals as goal
 use Rattle.journal_core.proofs.journal.Journal.make_room_for.Goals.{then-len-wanted+in_ok-len-2, else-len-wanted}
+
+is_enough : (wanted len : ℕ) → ◌≡◌ {A = Result Bool JournalError} (Ok (leb wanted len)) (Ok true) → wanted ≤ len
+is_enough wanted len is =
+    let inner : leb wanted len ≡ true = cc in
+    leb-true wanted len inner
 
 pub returns-in_err-len-clause-steps : goal.returns-in_err-len-clause-steps
 returns-in_err-len-clause-steps g c = λ records it.
@@ -145,7 +151,7 @@ returns-clause-stays g c = λ records it.
     let Rests : Journal g.row.D.Denot g.row.B.Denot → Type 0 = λ k. Only (seen (disk_behind k)) (may_leave (disk_behind k)) × KnowsLength seen is_clean k in
     let both : Rests c.if-len-wanted.self = elim c.if-len-wanted.branch [
       | then-len-wanted+in_ok-len-2 w ↦
-          let grew : w.grow.result ≡ Ok w.in_ok-len-2.len = search rules in
+          let grew = w.in_ok-len-2.was in
           let only = subst (λ (r : Result ℕ JournalError). OnOk r (Only (seen (disk_behind w.grow.new.self)) (may_leave (disk_behind w.grow.new.self)))) grew w.grow.ensures.durable in
           let knows = subst (λ (r : Result ℕ JournalError). IfOk r (λ n. (w.grow.new.self.len ≡ Some n) × KnowsLength seen is_clean w.grow.new.self)) grew w.grow.ensures.knows in
           subst Rests (sym w.self-is) (only, knows.1)
@@ -413,3 +419,40 @@ returns-clause-header g c =
       | else-len-wanted w ↦ subst (λ k. Grows seen may_leave note j k) (sym w.self-is) looked
     ] in
     grown.stays.header
+
+pub returns-clause-clean : goal.returns-clause-clean
+returns-clause-clean g c =
+    let looks = c.measure.ensures.looks in
+    let Cleans : Journal g.row.D.Denot g.row.B.Denot → Type 0 = λ k. IsTrue (g.D.Disk.is_clean (disk_behind k)) → IsTrue (g.D.Disk.is_clean (disk_behind c.args.self.now)) in
+    let cleans : Cleans c.if-len-wanted.self = elim c.if-len-wanted.branch [
+      | then-len-wanted+in_ok-len-2 w ↦ subst Cleans (sym w.self-is) (λ clean. looks.clean (w.grow.ensures.clean clean))
+      | else-len-wanted w ↦ subst Cleans (sym w.self-is) looks.clean
+    ] in
+    cleans
+
+pub returns-clause-known : goal.returns-clause-known
+returns-clause-known g c = λ _.
+    let Known : Journal g.row.D.Denot g.row.B.Denot → Type 0 = λ k. is_some k.len ≡ true in
+    let known : Known c.if-len-wanted.self = elim c.if-len-wanted.branch [
+      | then-len-wanted+in_ok-len-2 w ↦ subst Known (sym w.self-is) (ap is_some (IfOk-at_ok _ w.in_ok-len-2.was w.grow.ensures.knows).0)
+      | else-len-wanted w ↦ subst Known (sym w.self-is) (ap is_some (IfOk-at_ok _ (mapped_ok c.measure.result c.map_err.result c.in_ok-len.len _ c.map_err.ensures.cases c.in_ok-len.was) c.measure.ensures.len))
+    ] in
+    known
+
+pub returns-clause-room : goal.returns-clause-room
+returns-clause-room g c = λ is records it clean.
+    let seen = g.D.Disk.seen in
+    let is_clean = g.D.Disk.is_clean in
+    let j = c.args.self.now in
+    let measured = mapped_ok c.measure.result c.map_err.result c.in_ok-len.len _ c.map_err.ensures.cases c.in_ok-len.was in
+    let Long : Journal g.row.D.Denot g.row.B.Denot → ℕ → Type 0 = λ k n. (k.at ≡ j.at) × (IsTrue (is_clean (disk_behind k)) → n ≡ length (seen (disk_behind k))) in
+    let long : Long c.if-len-wanted.self c.if-len-wanted.len = elim c.if-len-wanted.branch [
+      | then-len-wanted+in_ok-len-2 w ↦
+          let known = IfOk-at_ok _ w.in_ok-len-2.was w.grow.ensures.knows in
+          subst (λ k. Long k c.if-len-wanted.len) (sym w.self-is)
+          (subst (λ n. Long w.grow.new.self n) (sym w.len-is) (w.grow.ensures.grows.stays.at ∙ c.measure.ensures.same.at, some_at _ w.grow.new.self.len w.in_ok-len-2.len known.1 known.0))
+      | else-len-wanted w ↦
+          subst (λ k. Long k c.if-len-wanted.len) (sym w.self-is)
+          (subst (λ n. Long c.measure.new.self n) (sym w.len-is) (c.measure.ensures.same.at, some_at _ c.measure.new.self.len c.in_ok-len.len (c.measure.ensures.looks.knows it.knows) (IfOk-at_ok _ measured c.measure.ensures.len)))
+    ] in
+    omega (arith, is_enough (j.at + 32 + c.args.bytes) c.if-len-wanted.len is, long.0, long.1 clean)

@@ -1,5 +1,5 @@
 -- The round is written behind the gate, and then the gate.
-use Rattle.std.proofs.Common.{rules, ◌≡◌, ◌⊎◌, inl, ◌+◌, is_some, true, ◌<◌, ◌^◌, ◌++◌, [], ℕ, List, Ok, Result, Option, max, length, refl, sym, ◌∙◌, ap, subst, arith, IsTrue}
+use Rattle.std.proofs.Common.{rules, ◌≡◌, ◌⊎◌, inl, ◌+◌, is_some, true, ◌≢◌, ◌≤◌, ◌<◌, ◌^◌, ◌-◌, min, ◌++◌, [], ℕ, List, Ok, Result, Option, max, length, refl, sym, ◌∙◌, ap, subst, arith, IsTrue}
 use Rattle.std.specs.Prelude.{IfErr, IfOk, IfSome, IsFalse, OnOk}
 use Rattle.std.specs.declared.io.Error.{Error}
 use Rattle.std.proofs.lemmas.List.{append-nil}
@@ -20,6 +20,18 @@ use Rattle.journal_core.proofs.Records.{none_left}
 use Rattle.journal_core.proofs.journal.Journal.append.Goals as goal
 use Rattle.journal_core.proofs.journal.Journal.append.Goals.{in-Some, in-None}
 
+low_of : (n at : ℕ) → n ≡ at + 8 → n ≤ at + 8
+low_of n at is = omega (arith, is)
+
+some_of : (len n : ℕ) → len ≡ min n (2 ^ 64 - 1) → len ≢ 0 → 0 < n
+some_of len n is some = omega (arith, is, some)
+
+none_not : (len : ℕ) (bytes : List ℕ) → len ≡ min (length bytes) (2 ^ 64 - 1) → len ≢ 0 → bytes ≢ []
+none_not len bytes is some none = omega (arith, is, some, ap length none)
+
+short_of : (at len n : ℕ) → len ≡ min n (2 ^ 64 - 1) → at + (32 + len) < 2 ^ 62 → n < 2 ^ 64
+short_of at len n is fits = omega (arith, is, fits)
+
 pub returns-then-len-eq0-clause-acknowledged : goal.returns-then-len-eq0-clause-acknowledged
 returns-then-len-eq0-clause-acknowledged g c = λ records new it carries.
     let empty : length (round_bytes c.args.round.now) ≡ 0 = omega (arith, c.len-len.ensures.bytes, c.if-len-eq0.true) in
@@ -38,7 +50,7 @@ returns-in_err-end-clause-crash g c = λ records new it carries f left.
     let front = to_gate seen may_leave is_clean j records it in
     let front_len : length front ≡ j.at + 8 = at_behind seen may_leave is_clean j records it in
     let all = all_begun seen may_leave is_clean j records it in
-    inl (stands_still seen may_leave is_clean j records it f (c.write_round.ensures.behind.crash front (omega (arith, front_len)) all f left))
+    inl (stands_still seen may_leave is_clean j records it f (c.write_round.ensures.behind.crash front (low_of (length front) j.at front_len) all f left))
 
 pub returns-in_err-end-clause-any_moment : goal.returns-in_err-end-clause-any_moment
 returns-in_err-end-clause-any_moment g c = λ records new it carries.
@@ -53,7 +65,7 @@ returns-in_err-end-clause-any_moment g c = λ records new it carries.
     let front_len : length front ≡ j.at + 8 = at_behind seen may_leave is_clean j records it in
     let all = all_begun seen may_leave is_clean j records it in
     let P : List ℕ → Type 0 = λ f. StandsFor j.header f records ⊎ StandsFor j.header f (records ++ new) in
-    let first = leaves_weaker may_leave note (BeginsWith front) P (λ f begins. inl (stands_still seen may_leave is_clean j records it f begins)) j.disk mid (c.write_round.ensures.behind.any_moment front (omega (arith, front_len)) all) in
+    let first = leaves_weaker may_leave note (BeginsWith front) P (λ f begins. inl (stands_still seen may_leave is_clean j records it f begins)) j.disk mid (c.write_round.ensures.behind.any_moment front (low_of (length front) j.at front_len) all) in
     first
 
 pub returns-in_err-map_err-clause-crash : goal.returns-in_err-map_err-clause-crash
@@ -68,9 +80,8 @@ returns-in_err-map_err-clause-crash g c = λ records new it carries f left.
     let front = to_gate seen may_leave is_clean j records it in
     let front_len : length front ≡ j.at + 8 = at_behind seen may_leave is_clean j records it in
     let all = all_begun seen may_leave is_clean j records it in
-    let some : 0 < length bytes = omega (arith, c.len-len.ensures.bytes, c.if-len-eq0.false) in
-    let fits : j.at + (32 + length bytes) < 2 ^ 64 = omega (arith, c.is_too_large.ensures.fits c.if-is_too_large.false, c.len-len.ensures.bytes) in
-    let short : length bytes < 2 ^ 64 = omega (arith, fits) in
+    let some = some_of c.len-len.result (length bytes) c.len-len.ensures.bytes c.if-len-eq0.false in
+    let short = short_of j.at c.len-len.result (length bytes) c.len-len.ensures.bytes (c.is_too_large.ensures.fits c.if-is_too_large.false) in
     let written = mapped_ok c.write_round.result c.map_err.result c.in_ok-end.end _ c.map_err.ensures.cases c.in_ok-end.was in
     let staged = subst (λ (r : Result ℕ Error). OnOk r ((front : List ℕ) → length front ≡ j.at + 8 → BeginsWith front (seen (disk_of j.disk)) → BeginsWith (front ++ (round_text j.header.key j.at bytes ++ shut_word)) (seen (disk_of mid)))) written c.write_round.ensures.writes
     front front_len (begun seen may_leave is_clean j records it) in
@@ -89,9 +100,8 @@ returns-clause-crash g c = λ records new it carries f left.
     let front = to_gate seen may_leave is_clean j records it in
     let front_len : length front ≡ j.at + 8 = at_behind seen may_leave is_clean j records it in
     let all = all_begun seen may_leave is_clean j records it in
-    let some : 0 < length bytes = omega (arith, c.len-len.ensures.bytes, c.if-len-eq0.false) in
-    let fits : j.at + (32 + length bytes) < 2 ^ 64 = omega (arith, c.is_too_large.ensures.fits c.if-is_too_large.false, c.len-len.ensures.bytes) in
-    let short : length bytes < 2 ^ 64 = omega (arith, fits) in
+    let some = some_of c.len-len.result (length bytes) c.len-len.ensures.bytes c.if-len-eq0.false in
+    let short = short_of j.at c.len-len.result (length bytes) c.len-len.ensures.bytes (c.is_too_large.ensures.fits c.if-is_too_large.false) in
     let written = mapped_ok c.write_round.result c.map_err.result c.in_ok-end.end _ c.map_err.ensures.cases c.in_ok-end.was in
     let staged = subst (λ (r : Result ℕ Error). OnOk r ((front : List ℕ) → length front ≡ j.at + 8 → BeginsWith front (seen (disk_of j.disk)) → BeginsWith (front ++ (round_text j.header.key j.at bytes ++ shut_word)) (seen (disk_of mid)))) written c.write_round.ensures.writes
     front front_len (begun seen may_leave is_clean j records it) in
@@ -110,15 +120,14 @@ returns-in_err-map_err-clause-any_moment g c = λ records new it carries.
     let front = to_gate seen may_leave is_clean j records it in
     let front_len : length front ≡ j.at + 8 = at_behind seen may_leave is_clean j records it in
     let all = all_begun seen may_leave is_clean j records it in
-    let some : 0 < length bytes = omega (arith, c.len-len.ensures.bytes, c.if-len-eq0.false) in
-    let fits : j.at + (32 + length bytes) < 2 ^ 64 = omega (arith, c.is_too_large.ensures.fits c.if-is_too_large.false, c.len-len.ensures.bytes) in
-    let short : length bytes < 2 ^ 64 = omega (arith, fits) in
+    let some = some_of c.len-len.result (length bytes) c.len-len.ensures.bytes c.if-len-eq0.false in
+    let short = short_of j.at c.len-len.result (length bytes) c.len-len.ensures.bytes (c.is_too_large.ensures.fits c.if-is_too_large.false) in
     let written = mapped_ok c.write_round.result c.map_err.result c.in_ok-end.end _ c.map_err.ensures.cases c.in_ok-end.was in
     let staged = subst (λ (r : Result ℕ Error). OnOk r ((front : List ℕ) → length front ≡ j.at + 8 → BeginsWith front (seen (disk_of j.disk)) → BeginsWith (front ++ (round_text j.header.key j.at bytes ++ shut_word)) (seen (disk_of mid)))) written c.write_round.ensures.writes
     front front_len (begun seen may_leave is_clean j records it) in
     let durable = subst (λ (r : Result ℕ Error). OnOk r (Only (seen (disk_of mid)) (may_leave (disk_of mid)))) written c.write_round.ensures.durable in
     let P : List ℕ → Type 0 = λ f. StandsFor j.header f records ⊎ StandsFor j.header f (records ++ new) in
-    let first = leaves_weaker may_leave note (BeginsWith front) P (λ f begins. inl (stands_still seen may_leave is_clean j records it f begins)) j.disk mid (c.write_round.ensures.behind.any_moment front (omega (arith, front_len)) all) in
+    let first = leaves_weaker may_leave note (BeginsWith front) P (λ f begins. inl (stands_still seen may_leave is_clean j records it f begins)) j.disk mid (c.write_round.ensures.behind.any_moment front (low_of (length front) j.at front_len) all) in
     let second = leaves_weaker may_leave note (Wrote j.at 8 (may_leave (disk_of mid))) P (gate_crash seen may_leave is_clean j records it new bytes carries some short (seen (disk_of mid)) (may_leave (disk_of mid)) staged durable) mid c.put.new.disk c.put.ensures.any_moment in
     joined (CrashLeaves may_leave note P) j.disk mid c.put.new.disk first second
 
@@ -134,15 +143,14 @@ returns-clause-any_moment g c = λ records new it carries.
     let front = to_gate seen may_leave is_clean j records it in
     let front_len : length front ≡ j.at + 8 = at_behind seen may_leave is_clean j records it in
     let all = all_begun seen may_leave is_clean j records it in
-    let some : 0 < length bytes = omega (arith, c.len-len.ensures.bytes, c.if-len-eq0.false) in
-    let fits : j.at + (32 + length bytes) < 2 ^ 64 = omega (arith, c.is_too_large.ensures.fits c.if-is_too_large.false, c.len-len.ensures.bytes) in
-    let short : length bytes < 2 ^ 64 = omega (arith, fits) in
+    let some = some_of c.len-len.result (length bytes) c.len-len.ensures.bytes c.if-len-eq0.false in
+    let short = short_of j.at c.len-len.result (length bytes) c.len-len.ensures.bytes (c.is_too_large.ensures.fits c.if-is_too_large.false) in
     let written = mapped_ok c.write_round.result c.map_err.result c.in_ok-end.end _ c.map_err.ensures.cases c.in_ok-end.was in
     let staged = subst (λ (r : Result ℕ Error). OnOk r ((front : List ℕ) → length front ≡ j.at + 8 → BeginsWith front (seen (disk_of j.disk)) → BeginsWith (front ++ (round_text j.header.key j.at bytes ++ shut_word)) (seen (disk_of mid)))) written c.write_round.ensures.writes
     front front_len (begun seen may_leave is_clean j records it) in
     let durable = subst (λ (r : Result ℕ Error). OnOk r (Only (seen (disk_of mid)) (may_leave (disk_of mid)))) written c.write_round.ensures.durable in
     let P : List ℕ → Type 0 = λ f. StandsFor j.header f records ⊎ StandsFor j.header f (records ++ new) in
-    let first = leaves_weaker may_leave note (BeginsWith front) P (λ f begins. inl (stands_still seen may_leave is_clean j records it f begins)) j.disk mid (c.write_round.ensures.behind.any_moment front (omega (arith, front_len)) all) in
+    let first = leaves_weaker may_leave note (BeginsWith front) P (λ f begins. inl (stands_still seen may_leave is_clean j records it f begins)) j.disk mid (c.write_round.ensures.behind.any_moment front (low_of (length front) j.at front_len) all) in
     let second = leaves_weaker may_leave note (Wrote j.at 8 (may_leave (disk_of mid))) P (gate_crash seen may_leave is_clean j records it new bytes carries some short (seen (disk_of mid)) (may_leave (disk_of mid)) staged durable) mid c.put.new.disk c.put.ensures.any_moment in
     joined (CrashLeaves may_leave note P) j.disk mid c.put.new.disk first second
 
@@ -171,9 +179,8 @@ returns-clause-acknowledged g c = λ records new it carries.
     let front = to_gate seen may_leave is_clean j records it in
     let front_len : length front ≡ j.at + 8 = at_behind seen may_leave is_clean j records it in
     let all = all_begun seen may_leave is_clean j records it in
-    let some : 0 < length bytes = omega (arith, c.len-len.ensures.bytes, c.if-len-eq0.false) in
-    let fits : j.at + (32 + length bytes) < 2 ^ 64 = omega (arith, c.is_too_large.ensures.fits c.if-is_too_large.false, c.len-len.ensures.bytes) in
-    let short : length bytes < 2 ^ 64 = omega (arith, fits) in
+    let some = some_of c.len-len.result (length bytes) c.len-len.ensures.bytes c.if-len-eq0.false in
+    let short = short_of j.at c.len-len.result (length bytes) c.len-len.ensures.bytes (c.is_too_large.ensures.fits c.if-is_too_large.false) in
     let written = mapped_ok c.write_round.result c.map_err.result c.in_ok-end.end _ c.map_err.ensures.cases c.in_ok-end.was in
     let staged = subst (λ (r : Result ℕ Error). OnOk r ((front : List ℕ) → length front ≡ j.at + 8 → BeginsWith front (seen (disk_of j.disk)) → BeginsWith (front ++ (round_text j.header.key j.at bytes ++ shut_word)) (seen (disk_of mid)))) written c.write_round.ensures.writes
     front front_len (begun seen may_leave is_clean j records it) in
@@ -202,9 +209,8 @@ returns-clause-steps g c = λ records new it carries.
     let j = c.args.self.now in
     let mid = c.write_round.new.disk in
     let bytes = round_bytes c.args.round.now in
-    let some : 0 < length bytes = omega (arith, c.len-len.ensures.bytes, c.if-len-eq0.false) in
-    let fits : j.at + (32 + length bytes) < 2 ^ 64 = omega (arith, c.is_too_large.ensures.fits c.if-is_too_large.false, c.len-len.ensures.bytes) in
-    let short : length bytes < 2 ^ 64 = omega (arith, fits) in
+    let some = some_of c.len-len.result (length bytes) c.len-len.ensures.bytes c.if-len-eq0.false in
+    let short = short_of j.at c.len-len.result (length bytes) c.len-len.ensures.bytes (c.is_too_large.ensures.fits c.if-is_too_large.false) in
     let written = mapped_ok c.write_round.result c.map_err.result c.in_ok-end.end _ c.map_err.ensures.cases c.in_ok-end.was in
     let staged = subst (λ (r : Result ℕ Error). OnOk r ((front : List ℕ) → length front ≡ j.at + 8 → BeginsWith front (seen (disk_of j.disk)) → BeginsWith (front ++ (round_text j.header.key j.at bytes ++ shut_word)) (seen (disk_of mid)))) written c.write_round.ensures.writes
     (to_gate seen may_leave is_clean j records it) (at_behind seen may_leave is_clean j records it) (begun seen may_leave is_clean j records it) in
@@ -314,7 +320,7 @@ pub returns-then-is_too_large-clause-not_open : goal.returns-then-is_too_large-c
 returns-then-is_too_large-clause-not_open g c = λ closed. absurd (false≢true (sym closed ∙ c.if-not-self.false))
 
 pub returns-then-is_too_large-clause-nothing : goal.returns-then-is_too_large-clause-nothing
-returns-then-is_too_large-clause-nothing g c = λ ready carries. absurd (omega (arith, ap length carries, c.len-len.ensures.bytes, c.if-len-eq0.false))
+returns-then-is_too_large-clause-nothing g c = λ ready carries. absurd (none_not c.len-len.result (round_bytes c.args.round.now) c.len-len.ensures.bytes c.if-len-eq0.false carries)
 
 pub returns-then-is_too_large-clause-acknowledged : goal.returns-then-is_too_large-clause-acknowledged
 returns-then-is_too_large-clause-acknowledged g c = tt
@@ -368,7 +374,7 @@ pub returns-in_err-end-clause-not_open : goal.returns-in_err-end-clause-not_open
 returns-in_err-end-clause-not_open g c = λ closed. absurd (false≢true (sym closed ∙ c.if-not-self.false))
 
 pub returns-in_err-end-clause-nothing : goal.returns-in_err-end-clause-nothing
-returns-in_err-end-clause-nothing g c = λ ready carries. absurd (omega (arith, ap length carries, c.len-len.ensures.bytes, c.if-len-eq0.false))
+returns-in_err-end-clause-nothing g c = λ ready carries. absurd (none_not c.len-len.result (round_bytes c.args.round.now) c.len-len.ensures.bytes c.if-len-eq0.false carries)
 
 pub returns-in_err-end-clause-closes : goal.returns-in_err-end-clause-closes
 returns-in_err-end-clause-closes g c = if_err c.from_residual.result (λ e other. refl)
@@ -401,7 +407,7 @@ pub returns-in_err-map_err-clause-not_open : goal.returns-in_err-map_err-clause-
 returns-in_err-map_err-clause-not_open g c = λ closed. absurd (false≢true (sym closed ∙ c.if-not-self.false))
 
 pub returns-in_err-map_err-clause-nothing : goal.returns-in_err-map_err-clause-nothing
-returns-in_err-map_err-clause-nothing g c = λ ready carries. absurd (omega (arith, ap length carries, c.len-len.ensures.bytes, c.if-len-eq0.false))
+returns-in_err-map_err-clause-nothing g c = λ ready carries. absurd (none_not c.len-len.result (round_bytes c.args.round.now) c.len-len.ensures.bytes c.if-len-eq0.false carries)
 
 pub returns-in_err-map_err-clause-closes : goal.returns-in_err-map_err-clause-closes
 returns-in_err-map_err-clause-closes g c = if_err c.from_residual-in_err-map_err.result (λ e other. refl)
@@ -416,7 +422,7 @@ pub returns-clause-not_open : goal.returns-clause-not_open
 returns-clause-not_open g c = λ closed. absurd (false≢true (sym closed ∙ c.if-not-self.false))
 
 pub returns-clause-nothing : goal.returns-clause-nothing
-returns-clause-nothing g c = λ ready carries. absurd (omega (arith, ap length carries, c.len-len.ensures.bytes, c.if-len-eq0.false))
+returns-clause-nothing g c = λ ready carries. absurd (none_not c.len-len.result (round_bytes c.args.round.now) c.len-len.ensures.bytes c.if-len-eq0.false carries)
 
 pub returns-clause-large : goal.returns-clause-large
 returns-clause-large g c = λ is. absurd (err_not_ok TooLarge tt (sym is))
@@ -455,9 +461,8 @@ returns-clause-room g c = λ records new it carries within.
     let bytes = round_bytes c.args.round.now in
     let front = to_gate seen may_leave is_clean j records it in
     let front_len : length front ≡ j.at + 8 = at_behind seen may_leave is_clean j records it in
-    let some : 0 < length bytes = omega (arith, c.len-len.ensures.bytes, c.if-len-eq0.false) in
-    let fits : j.at + (32 + length bytes) < 2 ^ 64 = omega (arith, c.is_too_large.ensures.fits c.if-is_too_large.false, c.len-len.ensures.bytes) in
-    let short : length bytes < 2 ^ 64 = omega (arith, fits) in
+    let some = some_of c.len-len.result (length bytes) c.len-len.ensures.bytes c.if-len-eq0.false in
+    let short = short_of j.at c.len-len.result (length bytes) c.len-len.ensures.bytes (c.is_too_large.ensures.fits c.if-is_too_large.false) in
     let written = mapped_ok c.write_round.result c.map_err.result c.in_ok-end.end _ c.map_err.ensures.cases c.in_ok-end.was in
     let staged = subst (λ (r : Result ℕ Error). OnOk r ((front : List ℕ) → length front ≡ j.at + 8 → BeginsWith front (seen (disk_of j.disk)) → BeginsWith (front ++ (round_text j.header.key j.at bytes ++ shut_word)) (seen (disk_of mid)))) written c.write_round.ensures.writes
     front front_len (begun seen may_leave is_clean j records it) in

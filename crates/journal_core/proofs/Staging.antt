@@ -1,5 +1,5 @@
 -- Calls that write nothing below a place.
-use Rattle.std.proofs.Common.{◌≡◌, ℕ, ◌+◌, ◌<◌, ◌≤◌, List, [], ◌∷◌, ◌++◌, length, drop, slice_index, max, sym, ◌∙◌, ap, subst, arith, append_assoc, length-append, Result, Ok, Err, IsErrAnd, OnErr, OnOk, Bool, IsTrue, is_ok, refl}
+use Rattle.std.proofs.Common.{◌≡◌, ℕ, ◌+◌, ◌<◌, ◌≤◌, List, [], ◌∷◌, ◌++◌, length, drop, slice_index, sym, ◌∙◌, ap, subst, arith, append_assoc, length-append, Result, Ok, Err, IsErrAnd, OnErr, OnOk, Bool, IsTrue, is_ok, refl}
 use Rattle.std.proofs.lemmas.List.{get_or_append_left}
 use Rattle.std.specs.declared.io.Error.{Error}
 use Rattle.sqlite_disk.specs.Disk.{CountsFault, Holds, Torn, Follows, MoreFaults}

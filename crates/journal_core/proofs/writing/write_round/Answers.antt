@@ -1,5 +1,5 @@
 -- Piece by piece, each behind the one before.
-use Rattle.std.proofs.Common.{◌≡◌, ◌+◌, ◌≤◌, ◌++◌, ℕ, List, inl, inr, length, sym, ◌∙◌, ap, arith, append_assoc, length-append, Ok, Result, subst, is_ok}
+use Rattle.std.proofs.Common.{◌≡◌, ◌++◌, ℕ, List, inl, inr, length, sym, ◌∙◌, ap, arith, append_assoc, length-append, Result, subst, is_ok}
 use Rattle.std.proofs.lemmas.Result.{IfOk-from_err}
 use Rattle.std.specs.declared.io.Error.{Error}
 use Rattle.journal_core.specs.Clocked.{disk_of}

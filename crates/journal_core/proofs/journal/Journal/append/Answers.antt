@@ -1,5 +1,5 @@
 -- The round is written behind the gate, and then the gate.
-use Rattle.std.proofs.Common.{rules, ◌≡◌, ◌⊎◌, inl, ◌+◌, is_some, true, ◌≢◌, ◌≤◌, ◌<◌, ◌^◌, ◌-◌, min, ◌++◌, [], ℕ, List, Ok, Result, Option, max, length, refl, sym, ◌∙◌, ap, subst, arith, IsTrue}
+use Rattle.std.proofs.Common.{rules, ◌≡◌, ◌⊎◌, inl, ◌+◌, is_some, true, ◌≢◌, ◌≤◌, ◌<◌, ◌^◌, ◌-◌, min, ◌++◌, [], ℕ, List, Result, Option, max, length, refl, sym, ◌∙◌, ap, subst, arith, IsTrue}
 use Rattle.std.specs.Prelude.{IfErr, IfOk, IfSome, IsFalse, OnOk}
 use Rattle.std.specs.declared.io.Error.{Error}
 use Rattle.std.proofs.lemmas.List.{append-nil}

@@ -1,5 +1,5 @@
 -- A look at the length, and then the file grows where it is too short.
-use Rattle.std.proofs.Common.{rules, IsTrue, ap, Bool, leb, length, ◌+◌, is_some, ◌≡◌, ◌≤◌, ℕ, List, true, Ok, Result, inl, refl, sym, subst, ◌∙◌, false, arith}
+use Rattle.std.proofs.Common.{IsTrue, ap, Bool, leb, length, ◌+◌, is_some, ◌≡◌, ◌≤◌, ℕ, true, Ok, Result, inl, refl, sym, subst, ◌∙◌, false, arith}
 use Rattle.std.proofs.lemmas.Bool.{false≢true}
 use Rattle.std.proofs.lemmas.Result.{IfOk-at_ok, IfOk-from_err}
 use Rattle.std.specs.Prelude.{IfOk, OnOk, Some}

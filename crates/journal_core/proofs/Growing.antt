@@ -1,5 +1,5 @@
 -- Looks at the length, and zeros behind the gate, one after another.
-use Rattle.std.proofs.Common.{refl, ◌≡◌, ℕ, ◌+◌, ◌≤◌, List, [], ◌∷◌, ap, sym, ◌∙◌, subst, length, Bool, arith}
+use Rattle.std.proofs.Common.{refl, ℕ, ◌+◌, ◌≤◌, List, [], ◌∷◌, ap, sym, ◌∙◌, subst, length, Bool, arith}
 use Rattle.journal_core.specs.declared.journal.Journal.{Journal}
 use Rattle.sqlite_disk.specs.Disk.{Only}
 use Rattle.journal_core.specs.Clocked.{EachLeaves, MomentsLead, SeesSame}

@@ -1,6 +1,7 @@
 pub mod Causes
 pub mod Copying
 pub mod Crash
+pub mod Exits
 pub mod Feeding
 pub mod Gates
 pub mod Growing

@@ -14,6 +14,10 @@ use Rattle.journal_core.specs.Private.DiskMoments.{joined, leaves_weaker}
 use Rattle.journal_core.specs.Private.Looks.{LooksOn}
 
 module _ {D B : Type 0} (seen : D → List ℕ) (may_leave : D → List ℕ → Type 0) (is_clean : D → Bool) where
+  -- what a crash leaves of a journal at rest
+  pub left_at_rest : (j : Journal D B) (records : List (List ℕ)) → IsSettled seen may_leave is_clean j records → (c : List ℕ) → may_leave (disk_behind j) c → StandsFor j.header c records
+  left_at_rest j records it c left = subst (λ (f : List ℕ). StandsFor j.header f records) (sym (it.durable c left)) (inr (it.rounds, it.lies, it.same))
+
   pub settled : (j : Journal D B) (r : Reader) (file : List ℕ) (done : List (List ℕ)) (it : HasEnded r file done) → j.header ≡ r.header → j.at ≡ r.place → seen (disk_behind j) ≡ file
       → Only (seen (disk_behind j)) (may_leave (disk_behind j)) → KnowsLength seen is_clean j → IsSettled seen may_leave is_clean j done
   settled j r file done it header at seen_is only knows = record {

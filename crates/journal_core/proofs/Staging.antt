@@ -1,8 +1,8 @@
 -- Calls that write nothing below a place.
-use Rattle.std.proofs.Common.{◌≡◌, ℕ, ◌+◌, ◌<◌, ◌≤◌, List, [], ◌∷◌, ◌++◌, length, drop, slice_index, max, sym, ◌∙◌, ap, subst, arith, append_assoc, length-append, Result, Ok, Err, refl}
+use Rattle.std.proofs.Common.{◌≡◌, ℕ, ◌+◌, ◌<◌, ◌≤◌, List, [], ◌∷◌, ◌++◌, length, drop, slice_index, sym, ◌∙◌, ap, subst, arith, append_assoc, length-append, Result, Ok, Err, IsErrAnd, OnErr, OnOk, Bool, IsTrue, is_ok, refl}
 use Rattle.std.proofs.lemmas.List.{get_or_append_left}
 use Rattle.std.specs.declared.io.Error.{Error}
-use Rattle.sqlite_disk.specs.Disk.{Holds, Torn, Follows, MoreFaults}
+use Rattle.sqlite_disk.specs.Disk.{CountsFault, Holds, Torn, Follows, MoreFaults}
 use Rattle.sqlite_disk.specs.Refusal.{finds_no_room}
 use Rattle.std.specs.Prelude.{MatchBool}
 use Rattle.sqlite_disk.specs.declared.tally.Tally.{Tally}
@@ -50,6 +50,10 @@ module _ {D B : Type 0} (seen : D → List ℕ) (may_leave : D → List ℕ → 
   pub behind_less : (place more : ℕ) (old new : Clocked D B) → place ≤ more → WritesBehind seen may_leave note more old new → WritesBehind seen may_leave note place old new
   behind_less place more old new less it = record { crash = λ front low all. it.crash front (omega (arith, low, less)) all; any_moment = λ front low all. it.any_moment front (omega (arith, low, less)) all; moments = goes_weaker (KeepsBelow more) seen (KeepsBelow place) (keeps_less place more less) old new it.moments }
 
+  -- no call
+  pub behind_not : (place : ℕ) (k : Clocked D B) → WritesBehind seen may_leave note place k k
+  behind_not place k = record { crash = λ front low all. all; any_moment = λ front low all. none (CrashLeaves may_leave note (BeginsWith front)) k; moments = goes_not (KeepsBelow place) seen k }
+
   pub behind_two : (place : ℕ) (old mid new : Clocked D B) → WritesBehind seen may_leave note place old mid → WritesBehind seen may_leave note place mid new → WritesBehind seen may_leave note place old new
   behind_two place old mid new a b = record {
     crash = λ front low all. b.crash front low (a.crash front low all);
@@ -81,6 +85,11 @@ module _ {D B : Type 0} (seen : D → List ℕ) (may_leave : D → List ℕ → 
   behind_sync place old new noted same fewer =
       behind_call place old new noted (subst (λ (f : List ℕ). KeepsBelow place (seen (disk_of old)) f) (sym same) (keeps_not place (seen (disk_of old)))) λ front low all c left. all c (fewer c left)
 
+-- a piece, and what comes right behind it
+pub behind_next : {D B : Type 0} {seen : D → List ℕ} {may_leave : D → List ℕ → Type 0} {note : B} {place at : ℕ} {old mid new : Clocked D B} (n : ℕ) → at ≡ place + n
+    → WritesBehind seen may_leave note place old mid → WritesBehind seen may_leave note at mid new → WritesBehind seen may_leave note place old new
+behind_next {seen = seen} {may_leave = may_leave} {note = note} {place = place} {at = at} {old = old} {mid = mid} {new = new} n is a b = behind_on seen may_leave note place at old mid new (omega (arith, is)) a b
+
 -- a call that went well, and then one more
 pub counted_two : {S T : Type 0} (x : S) (r : Result T Error) (a b c : ℕ) (s t u : Tally) → IsCounted {T = S} (Ok x) a b s t → IsCounted r b c t u → IsCounted r a c s u
 counted_two x (Ok y) a b c s t u first second = record {
@@ -98,6 +107,40 @@ counted_two {T = T} x (Err e) a b c s t u first second = record {
 -- what is told of it is the same
 pub counted_err : {S T : Type 0} (e : Error) (a b : ℕ) (s t : Tally) → IsCounted {T = S} (Err e) a b s t → IsCounted {T = T} (Err e) a b s t
 counted_err e a b s t it = record { faults = it.faults; refused = record { caught = it.refused.caught; refused = it.refused.refused } }
+
+-- the same of a call that went well, and then of what comes behind it
+pub counted_then : {S T : Type 0} (r : Result S Error) (x : S) (result : Result T Error) (a b c : ℕ) (s t u : Tally) → r ≡ Ok x → IsCounted r a b s t → IsCounted result b c t u → IsCounted result a c s u
+counted_then {S = S} r x result a b c s t u is first second = counted_two x result a b c s t u (subst (λ (r : Result S Error). IsCounted r a b s t) is first) second
+
+-- the same, where what is meant is seen from what is told
+pub then_counted : {S T : Type 0} {r : Result S Error} {x : S} {result : Result T Error} {a b c : ℕ} {s t u : Tally} → r ≡ Ok x → IsCounted r a b s t → IsCounted result b c t u → IsCounted result a c s u
+then_counted {r = r} {x = x} {result = result} {a = a} {b = b} {c = c} {s = s} {t = t} {u = u} is first second = counted_then r x result a b c s t u is first second
+
+-- whatever is handed out
+pub counted_ok : {S T : Type 0} (x : S) (y : T) (a b : ℕ) (s t : Tally) → IsCounted {T = S} (Ok x) a b s t → IsCounted {T = T} (Ok y) a b s t
+counted_ok x y a b s t it = record { faults = it.faults; refused = record { caught = it.refused.caught; refused = it.refused.refused } }
+
+-- what a `?` returns is counted as the call that failed
+pub counted_exit : {S T : Type 0} (r : Result S Error) (e : Error) (result : Result T Error) (a b : ℕ) (s t : Tally) → r ≡ Err e → IsErrAnd result (λ y. y ≡ e) → IsCounted r a b s t → IsCounted result a b s t
+counted_exit r e (Ok x) a b s t was is it = absurd is
+counted_exit {S = S} {T = T} r e (Err y) a b s t was is it =
+    subst (λ (d : Error). IsCounted {T = T} (Err d) a b s t) (sym is) (counted_err {S = S} {T = T} e a b s t (subst (λ (r : Result S Error). IsCounted r a b s t) was it))
+
+pub exit_counted : {S T : Type 0} {r : Result S Error} {e : Error} {result : Result T Error} {a b : ℕ} {s t : Tally} → r ≡ Err e → IsErrAnd result (λ y. y ≡ e) → IsCounted r a b s t → IsCounted result a b s t
+exit_counted {r = r} {e = e} {result = result} {a = a} {b = b} {s = s} {t = t} was is it = counted_exit r e result a b s t was is it
+
+pub counted_grows : {T : Type 0} (r : Result T Error) (a b : ℕ) (s t : Tally) → IsCounted r a b s t → a ≤ b
+counted_grows (Ok x) a b s t it = omega (arith, it.faults)
+counted_grows (Err e) a b s t it = it.faults.1
+
+-- a call behind others fails
+pub fails_behind : {T E : Type 0} (r : Result T E) (a b c : ℕ) → a ≤ b → CountsFault r b c → OnErr r (MoreFaults a c) × (a ≤ c)
+fails_behind (Ok x) a b c less it = (tt, omega (arith, less, it))
+fails_behind (Err e) a b c less it = (omega (arith, less, it.0), omega (arith, less, it.1))
+
+pub ok_usable : {T E : Type 0} (r : Result T E) (b : Bool) → b ≡ is_ok r → OnOk r (IsTrue b)
+ok_usable (Ok x) b is = is
+ok_usable (Err e) b is = tt
 
 pub begins_as : (a b c : List ℕ) → a ≡ b → BeginsWith a c → BeginsWith b c
 begins_as a b c is it = (it.0, it.1 ∙ ap (λ (l : List ℕ). l ++ it.0) is)

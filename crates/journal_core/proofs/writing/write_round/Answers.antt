@@ -1,126 +1,57 @@
 -- Piece by piece, each behind the one before.
-use Rattle.std.proofs.Common.{◌≡◌, ◌+◌, ◌≤◌, ◌++◌, ℕ, List, inl, inr, length, sym, ◌∙◌, ap, arith, append_assoc, length-append, Ok, Err, Result, subst, rules}
+use Rattle.std.proofs.Common.{◌≡◌, ◌++◌, ℕ, List, inl, inr, length, sym, ◌∙◌, ap, arith, append_assoc, length-append, Result, subst, is_ok}
+use Rattle.std.proofs.lemmas.Result.{IfOk-from_err}
 use Rattle.std.specs.declared.io.Error.{Error}
 use Rattle.journal_core.specs.Clocked.{disk_of}
 use Rattle.journal_core.specs.Format.{round_text, shut_word, sum_of, word_of}
 use Rattle.journal_core.specs.Private.Stages.{parts_text, round_bytes, IsCounted}
-use Rattle.journal_core.proofs.Staging.{begins_as, begins_in, behind_on, behind_sync, behind_two, counted_err, counted_two}
+use Rattle.journal_core.proofs.Staging.{begins_as, begins_in, behind_next, behind_sync, behind_two, counted_ok, exit_counted, then_counted}
 use Rattle.journal_core.proofs.Numbers.{word_as}
 use Rattle.journal_core.proofs.writing.write_round.Goals as goal
 
 pub returns-in_err-at-2-clause-behind : goal.returns-in_err-at-2-clause-behind
 returns-in_err-at-2-clause-behind g c =
-    let may_leave = g.D.Disk.may_leave in
-    let note = c.args.note.now in
-    let place = c.args.gate + 8 in
-    let d0 = c.args.disk.now in
-    let d1 = c.write_piece.new.disk in
-    let b1 = c.write_piece.ensures.behind in
-    let low1 : place ≤ c.in_ok-at.at = omega (arith, c.in_ok-at.ensures.next) in
-    let d2 = c.write_piece-2.new.disk in
-    let b2 = behind_on g.D.Disk.seen may_leave note place c.in_ok-at.at d0 d1 d2 low1 b1 c.write_piece-2.ensures.behind in
-    b2
+    behind_next _ c.in_ok-at.ensures.next c.write_piece.ensures.behind
+    c.write_piece-2.ensures.behind
 
 pub returns-in_err-at-3-clause-behind : goal.returns-in_err-at-3-clause-behind
 returns-in_err-at-3-clause-behind g c =
-    let may_leave = g.D.Disk.may_leave in
-    let note = c.args.note.now in
-    let place = c.args.gate + 8 in
-    let d0 = c.args.disk.now in
-    let d1 = c.write_piece.new.disk in
-    let b1 = c.write_piece.ensures.behind in
-    let low1 : place ≤ c.in_ok-at.at = omega (arith, c.in_ok-at.ensures.next) in
-    let d2 = c.write_piece-2.new.disk in
-    let b2 = behind_on g.D.Disk.seen may_leave note place c.in_ok-at.at d0 d1 d2 low1 b1 c.write_piece-2.ensures.behind in
-    let low2 : place ≤ c.in_ok-at-2.at = omega (arith, low1, c.in_ok-at-2.ensures.next) in
-    let d3 = c.write_parts.new.disk in
-    let b3 = behind_on g.D.Disk.seen may_leave note place c.in_ok-at-2.at d0 d2 d3 low2 b2 c.write_parts.ensures.behind in
-    b3
+    behind_next _ c.in_ok-at.ensures.next c.write_piece.ensures.behind
+    (behind_next _ c.in_ok-at-2.ensures.next c.write_piece-2.ensures.behind
+    c.write_parts.ensures.behind)
 
 pub returns-in_err-at-4-clause-behind : goal.returns-in_err-at-4-clause-behind
 returns-in_err-at-4-clause-behind g c =
-    let may_leave = g.D.Disk.may_leave in
-    let note = c.args.note.now in
-    let place = c.args.gate + 8 in
-    let d0 = c.args.disk.now in
-    let d1 = c.write_piece.new.disk in
-    let b1 = c.write_piece.ensures.behind in
-    let low1 : place ≤ c.in_ok-at.at = omega (arith, c.in_ok-at.ensures.next) in
-    let d2 = c.write_piece-2.new.disk in
-    let b2 = behind_on g.D.Disk.seen may_leave note place c.in_ok-at.at d0 d1 d2 low1 b1 c.write_piece-2.ensures.behind in
-    let low2 : place ≤ c.in_ok-at-2.at = omega (arith, low1, c.in_ok-at-2.ensures.next) in
-    let d3 = c.write_parts.new.disk in
-    let b3 = behind_on g.D.Disk.seen may_leave note place c.in_ok-at-2.at d0 d2 d3 low2 b2 c.write_parts.ensures.behind in
-    let low3 : place ≤ c.in_ok-at-3.at = omega (arith, low2, c.in_ok-at-3.ensures.next) in
-    let d4 = c.write_piece-3.new.disk in
-    let b4 = behind_on g.D.Disk.seen may_leave note place c.in_ok-at-3.at d0 d3 d4 low3 b3 c.write_piece-3.ensures.behind in
-    b4
+    behind_next _ c.in_ok-at.ensures.next c.write_piece.ensures.behind
+    (behind_next _ c.in_ok-at-2.ensures.next c.write_piece-2.ensures.behind
+    (behind_next _ c.in_ok-at-3.ensures.next c.write_parts.ensures.behind
+    c.write_piece-3.ensures.behind))
 
 pub returns-in_err-_end-clause-behind : goal.returns-in_err-_end-clause-behind
 returns-in_err-_end-clause-behind g c =
-    let may_leave = g.D.Disk.may_leave in
-    let note = c.args.note.now in
-    let place = c.args.gate + 8 in
-    let d0 = c.args.disk.now in
-    let d1 = c.write_piece.new.disk in
-    let b1 = c.write_piece.ensures.behind in
-    let low1 : place ≤ c.in_ok-at.at = omega (arith, c.in_ok-at.ensures.next) in
-    let d2 = c.write_piece-2.new.disk in
-    let b2 = behind_on g.D.Disk.seen may_leave note place c.in_ok-at.at d0 d1 d2 low1 b1 c.write_piece-2.ensures.behind in
-    let low2 : place ≤ c.in_ok-at-2.at = omega (arith, low1, c.in_ok-at-2.ensures.next) in
-    let d3 = c.write_parts.new.disk in
-    let b3 = behind_on g.D.Disk.seen may_leave note place c.in_ok-at-2.at d0 d2 d3 low2 b2 c.write_parts.ensures.behind in
-    let low3 : place ≤ c.in_ok-at-3.at = omega (arith, low2, c.in_ok-at-3.ensures.next) in
-    let d4 = c.write_piece-3.new.disk in
-    let b4 = behind_on g.D.Disk.seen may_leave note place c.in_ok-at-3.at d0 d3 d4 low3 b3 c.write_piece-3.ensures.behind in
-    let low4 : place ≤ c.in_ok-at-4.at = omega (arith, low3, c.in_ok-at-4.ensures.next) in
-    let d5 = c.write_piece-4.new.disk in
-    let b5 = behind_on g.D.Disk.seen may_leave note place c.in_ok-at-4.at d0 d4 d5 low4 b4 c.write_piece-4.ensures.behind in
-    b5
+    behind_next _ c.in_ok-at.ensures.next c.write_piece.ensures.behind
+    (behind_next _ c.in_ok-at-2.ensures.next c.write_piece-2.ensures.behind
+    (behind_next _ c.in_ok-at-3.ensures.next c.write_parts.ensures.behind
+    (behind_next _ c.in_ok-at-4.ensures.next c.write_piece-3.ensures.behind
+    c.write_piece-4.ensures.behind)))
 
 pub returns-in_err-sync-clause-behind : goal.returns-in_err-sync-clause-behind
 returns-in_err-sync-clause-behind g c =
-    let may_leave = g.D.Disk.may_leave in
-    let note = c.args.note.now in
-    let place = c.args.gate + 8 in
-    let d0 = c.args.disk.now in
-    let d1 = c.write_piece.new.disk in
-    let b1 = c.write_piece.ensures.behind in
-    let low1 : place ≤ c.in_ok-at.at = omega (arith, c.in_ok-at.ensures.next) in
-    let d2 = c.write_piece-2.new.disk in
-    let b2 = behind_on g.D.Disk.seen may_leave note place c.in_ok-at.at d0 d1 d2 low1 b1 c.write_piece-2.ensures.behind in
-    let low2 : place ≤ c.in_ok-at-2.at = omega (arith, low1, c.in_ok-at-2.ensures.next) in
-    let d3 = c.write_parts.new.disk in
-    let b3 = behind_on g.D.Disk.seen may_leave note place c.in_ok-at-2.at d0 d2 d3 low2 b2 c.write_parts.ensures.behind in
-    let low3 : place ≤ c.in_ok-at-3.at = omega (arith, low2, c.in_ok-at-3.ensures.next) in
-    let d4 = c.write_piece-3.new.disk in
-    let b4 = behind_on g.D.Disk.seen may_leave note place c.in_ok-at-3.at d0 d3 d4 low3 b3 c.write_piece-3.ensures.behind in
-    let low4 : place ≤ c.in_ok-at-4.at = omega (arith, low3, c.in_ok-at-4.ensures.next) in
-    let d5 = c.write_piece-4.new.disk in
-    let b5 = behind_on g.D.Disk.seen may_leave note place c.in_ok-at-4.at d0 d4 d5 low4 b4 c.write_piece-4.ensures.behind in
-    behind_two g.D.Disk.seen may_leave note place d0 d5 c.sync.new.self b5 (behind_sync g.D.Disk.seen may_leave note place d5 c.sync.new.self c.sync.ensures.noted c.sync.ensures.seen c.sync.ensures.crash)
+    behind_next _ c.in_ok-at.ensures.next c.write_piece.ensures.behind
+    (behind_next _ c.in_ok-at-2.ensures.next c.write_piece-2.ensures.behind
+    (behind_next _ c.in_ok-at-3.ensures.next c.write_parts.ensures.behind
+    (behind_next _ c.in_ok-at-4.ensures.next c.write_piece-3.ensures.behind
+    (behind_two g.D.Disk.seen g.D.Disk.may_leave c.args.note.now c.in_ok-at-4.at c.write_piece-3.new.disk c.write_piece-4.new.disk c.sync.new.self c.write_piece-4.ensures.behind
+    (behind_sync g.D.Disk.seen g.D.Disk.may_leave c.args.note.now c.in_ok-at-4.at c.write_piece-4.new.disk c.sync.new.self c.sync.ensures.noted c.sync.ensures.seen c.sync.ensures.crash)))))
 
 pub returns-clause-behind : goal.returns-clause-behind
 returns-clause-behind g c =
-    let may_leave = g.D.Disk.may_leave in
-    let note = c.args.note.now in
-    let place = c.args.gate + 8 in
-    let d0 = c.args.disk.now in
-    let d1 = c.write_piece.new.disk in
-    let b1 = c.write_piece.ensures.behind in
-    let low1 : place ≤ c.in_ok-at.at = omega (arith, c.in_ok-at.ensures.next) in
-    let d2 = c.write_piece-2.new.disk in
-    let b2 = behind_on g.D.Disk.seen may_leave note place c.in_ok-at.at d0 d1 d2 low1 b1 c.write_piece-2.ensures.behind in
-    let low2 : place ≤ c.in_ok-at-2.at = omega (arith, low1, c.in_ok-at-2.ensures.next) in
-    let d3 = c.write_parts.new.disk in
-    let b3 = behind_on g.D.Disk.seen may_leave note place c.in_ok-at-2.at d0 d2 d3 low2 b2 c.write_parts.ensures.behind in
-    let low3 : place ≤ c.in_ok-at-3.at = omega (arith, low2, c.in_ok-at-3.ensures.next) in
-    let d4 = c.write_piece-3.new.disk in
-    let b4 = behind_on g.D.Disk.seen may_leave note place c.in_ok-at-3.at d0 d3 d4 low3 b3 c.write_piece-3.ensures.behind in
-    let low4 : place ≤ c.in_ok-at-4.at = omega (arith, low3, c.in_ok-at-4.ensures.next) in
-    let d5 = c.write_piece-4.new.disk in
-    let b5 = behind_on g.D.Disk.seen may_leave note place c.in_ok-at-4.at d0 d4 d5 low4 b4 c.write_piece-4.ensures.behind in
-    behind_two g.D.Disk.seen may_leave note place d0 d5 c.sync.new.self b5 (behind_sync g.D.Disk.seen may_leave note place d5 c.sync.new.self c.sync.ensures.noted c.sync.ensures.seen c.sync.ensures.crash)
+    behind_next _ c.in_ok-at.ensures.next c.write_piece.ensures.behind
+    (behind_next _ c.in_ok-at-2.ensures.next c.write_piece-2.ensures.behind
+    (behind_next _ c.in_ok-at-3.ensures.next c.write_parts.ensures.behind
+    (behind_next _ c.in_ok-at-4.ensures.next c.write_piece-3.ensures.behind
+    (behind_two g.D.Disk.seen g.D.Disk.may_leave c.args.note.now c.in_ok-at-4.at c.write_piece-3.new.disk c.write_piece-4.new.disk c.sync.new.self c.write_piece-4.ensures.behind
+    (behind_sync g.D.Disk.seen g.D.Disk.may_leave c.args.note.now c.in_ok-at-4.at c.write_piece-4.new.disk c.sync.new.self c.sync.ensures.noted c.sync.ensures.seen c.sync.ensures.crash)))))
 
 pub returns-clause-durable : goal.returns-clause-durable
 returns-clause-durable g c = λ f left. c.in_ok-sync.ensures.durable f left ∙ sym c.sync.ensures.seen
@@ -182,49 +113,238 @@ returns-clause-len g c =
       c.in_ok-at-4.ensures.next,
     )
 
+pub write_piece-requires-clause-fits : goal.write_piece-requires-clause-fits
+write_piece-requires-clause-fits g c =
+    let one : length c.to_le_bytes.result ≡ 8 = ap length c.to_le_bytes.ensures in
+    omega (arith, one, c.requires.fits)
+
+pub write_piece-requires-2-clause-fits : goal.write_piece-requires-2-clause-fits
+write_piece-requires-2-clause-fits g c =
+    let one : length c.to_le_bytes.result ≡ 8 = ap length c.to_le_bytes.ensures in
+    let two : length c.to_le_bytes-2.result ≡ 8 = ap length c.to_le_bytes-2.ensures in
+    omega (arith, one, two, c.in_ok-at.ensures.next, c.requires.fits)
+
+pub write_parts-requires-clause-fits : goal.write_parts-requires-clause-fits
+write_parts-requires-clause-fits g c =
+    let one : length c.to_le_bytes.result ≡ 8 = ap length c.to_le_bytes.ensures in
+    let two : length c.to_le_bytes-2.result ≡ 8 = ap length c.to_le_bytes-2.ensures in
+    let bytes = length-append (parts_text c.args.round.now.parts.items) c.args.round.now.tail.items in
+    omega (arith, one, two, bytes, c.in_ok-at.ensures.next, c.in_ok-at-2.ensures.next, c.requires.fits)
+
+pub write_piece-requires-3-clause-fits : goal.write_piece-requires-3-clause-fits
+write_piece-requires-3-clause-fits g c =
+    let one : length c.to_le_bytes.result ≡ 8 = ap length c.to_le_bytes.ensures in
+    let two : length c.to_le_bytes-2.result ≡ 8 = ap length c.to_le_bytes-2.ensures in
+    let bytes = length-append (parts_text c.args.round.now.parts.items) c.args.round.now.tail.items in
+    let tail : length c.deref.result.now ≡ length c.args.round.now.tail.items = ap length c.deref.ensures.value in
+    omega (arith, one, two, bytes, tail, c.in_ok-at.ensures.next, c.in_ok-at-2.ensures.next, c.in_ok-at-3.ensures.next, c.requires.fits)
+
+pub write_piece-requires-4-clause-fits : goal.write_piece-requires-4-clause-fits
+write_piece-requires-4-clause-fits g c =
+    let one : length c.to_le_bytes.result ≡ 8 = ap length c.to_le_bytes.ensures in
+    let two : length c.to_le_bytes-2.result ≡ 8 = ap length c.to_le_bytes-2.ensures in
+    let bytes = length-append (parts_text c.args.round.now.parts.items) c.args.round.now.tail.items in
+    let tail : length c.deref.result.now ≡ length c.args.round.now.tail.items = ap length c.deref.ensures.value in
+    omega (arith, one, two, bytes, tail, c.in_ok-at.ensures.next, c.in_ok-at-2.ensures.next, c.in_ok-at-3.ensures.next, c.in_ok-at-4.ensures.next, c.requires.fits)
+
+pub returns-clause-next : goal.returns-clause-next
+returns-clause-next g c =
+    let one : length c.to_le_bytes.result ≡ 8 = ap length c.to_le_bytes.ensures in
+    let two : length c.to_le_bytes-2.result ≡ 8 = ap length c.to_le_bytes-2.ensures in
+    let bytes = length-append (parts_text c.args.round.now.parts.items) c.args.round.now.tail.items in
+    let tail : length c.deref.result.now ≡ length c.args.round.now.tail.items = ap length c.deref.ensures.value in
+    omega (arith, one, two, bytes, tail, c.in_ok-at.ensures.next, c.in_ok-at-2.ensures.next, c.in_ok-at-3.ensures.next, c.in_ok-at-4.ensures.next)
+
+pub returns-in_err-at-clause-next : goal.returns-in_err-at-clause-next
+returns-in_err-at-clause-next g c = IfOk-from_err c.from_residual.result _ c.from_residual.ensures.0
+
+pub returns-in_err-at-clause-writes : goal.returns-in_err-at-clause-writes
+returns-in_err-at-clause-writes g c = IfOk-from_err c.from_residual.result _ c.from_residual.ensures.0
+
+pub returns-in_err-at-clause-len : goal.returns-in_err-at-clause-len
+returns-in_err-at-clause-len g c = IfOk-from_err c.from_residual.result _ c.from_residual.ensures.0
+
+pub returns-in_err-at-clause-durable : goal.returns-in_err-at-clause-durable
+returns-in_err-at-clause-durable g c = IfOk-from_err c.from_residual.result _ c.from_residual.ensures.0
+
+pub returns-in_err-at-clause-usable : goal.returns-in_err-at-clause-usable
+returns-in_err-at-clause-usable g c = IfOk-from_err c.from_residual.result _ c.from_residual.ensures.0
+
+pub returns-in_err-at-2-clause-next : goal.returns-in_err-at-2-clause-next
+returns-in_err-at-2-clause-next g c = IfOk-from_err c.from_residual-in_err-at-2.result _ c.from_residual-in_err-at-2.ensures.0
+
+pub returns-in_err-at-2-clause-writes : goal.returns-in_err-at-2-clause-writes
+returns-in_err-at-2-clause-writes g c = IfOk-from_err c.from_residual-in_err-at-2.result _ c.from_residual-in_err-at-2.ensures.0
+
+pub returns-in_err-at-2-clause-len : goal.returns-in_err-at-2-clause-len
+returns-in_err-at-2-clause-len g c = IfOk-from_err c.from_residual-in_err-at-2.result _ c.from_residual-in_err-at-2.ensures.0
+
+pub returns-in_err-at-2-clause-durable : goal.returns-in_err-at-2-clause-durable
+returns-in_err-at-2-clause-durable g c = IfOk-from_err c.from_residual-in_err-at-2.result _ c.from_residual-in_err-at-2.ensures.0
+
+pub returns-in_err-at-2-clause-usable : goal.returns-in_err-at-2-clause-usable
+returns-in_err-at-2-clause-usable g c = IfOk-from_err c.from_residual-in_err-at-2.result _ c.from_residual-in_err-at-2.ensures.0
+
+pub returns-in_err-at-3-clause-next : goal.returns-in_err-at-3-clause-next
+returns-in_err-at-3-clause-next g c = IfOk-from_err c.from_residual-in_err-at-3.result _ c.from_residual-in_err-at-3.ensures.0
+
+pub returns-in_err-at-3-clause-writes : goal.returns-in_err-at-3-clause-writes
+returns-in_err-at-3-clause-writes g c = IfOk-from_err c.from_residual-in_err-at-3.result _ c.from_residual-in_err-at-3.ensures.0
+
+pub returns-in_err-at-3-clause-len : goal.returns-in_err-at-3-clause-len
+returns-in_err-at-3-clause-len g c = IfOk-from_err c.from_residual-in_err-at-3.result _ c.from_residual-in_err-at-3.ensures.0
+
+pub returns-in_err-at-3-clause-durable : goal.returns-in_err-at-3-clause-durable
+returns-in_err-at-3-clause-durable g c = IfOk-from_err c.from_residual-in_err-at-3.result _ c.from_residual-in_err-at-3.ensures.0
+
+pub returns-in_err-at-3-clause-usable : goal.returns-in_err-at-3-clause-usable
+returns-in_err-at-3-clause-usable g c = IfOk-from_err c.from_residual-in_err-at-3.result _ c.from_residual-in_err-at-3.ensures.0
+
+pub returns-in_err-at-4-clause-next : goal.returns-in_err-at-4-clause-next
+returns-in_err-at-4-clause-next g c = IfOk-from_err c.from_residual-in_err-at-4.result _ c.from_residual-in_err-at-4.ensures.0
+
+pub returns-in_err-at-4-clause-writes : goal.returns-in_err-at-4-clause-writes
+returns-in_err-at-4-clause-writes g c = IfOk-from_err c.from_residual-in_err-at-4.result _ c.from_residual-in_err-at-4.ensures.0
+
+pub returns-in_err-at-4-clause-len : goal.returns-in_err-at-4-clause-len
+returns-in_err-at-4-clause-len g c = IfOk-from_err c.from_residual-in_err-at-4.result _ c.from_residual-in_err-at-4.ensures.0
+
+pub returns-in_err-at-4-clause-durable : goal.returns-in_err-at-4-clause-durable
+returns-in_err-at-4-clause-durable g c = IfOk-from_err c.from_residual-in_err-at-4.result _ c.from_residual-in_err-at-4.ensures.0
+
+pub returns-in_err-at-4-clause-usable : goal.returns-in_err-at-4-clause-usable
+returns-in_err-at-4-clause-usable g c = IfOk-from_err c.from_residual-in_err-at-4.result _ c.from_residual-in_err-at-4.ensures.0
+
+pub returns-in_err-_end-clause-next : goal.returns-in_err-_end-clause-next
+returns-in_err-_end-clause-next g c = IfOk-from_err c.from_residual-in_err-_end.result _ c.from_residual-in_err-_end.ensures.0
+
+pub returns-in_err-_end-clause-writes : goal.returns-in_err-_end-clause-writes
+returns-in_err-_end-clause-writes g c = IfOk-from_err c.from_residual-in_err-_end.result _ c.from_residual-in_err-_end.ensures.0
+
+pub returns-in_err-_end-clause-len : goal.returns-in_err-_end-clause-len
+returns-in_err-_end-clause-len g c = IfOk-from_err c.from_residual-in_err-_end.result _ c.from_residual-in_err-_end.ensures.0
+
+pub returns-in_err-_end-clause-durable : goal.returns-in_err-_end-clause-durable
+returns-in_err-_end-clause-durable g c = IfOk-from_err c.from_residual-in_err-_end.result _ c.from_residual-in_err-_end.ensures.0
+
+pub returns-in_err-_end-clause-usable : goal.returns-in_err-_end-clause-usable
+returns-in_err-_end-clause-usable g c = IfOk-from_err c.from_residual-in_err-_end.result _ c.from_residual-in_err-_end.ensures.0
+
+pub returns-in_err-sync-clause-next : goal.returns-in_err-sync-clause-next
+returns-in_err-sync-clause-next g c = IfOk-from_err c.from_residual-in_err-sync.result _ c.from_residual-in_err-sync.ensures.0
+
+pub returns-in_err-sync-clause-writes : goal.returns-in_err-sync-clause-writes
+returns-in_err-sync-clause-writes g c = IfOk-from_err c.from_residual-in_err-sync.result _ c.from_residual-in_err-sync.ensures.0
+
+pub returns-in_err-sync-clause-len : goal.returns-in_err-sync-clause-len
+returns-in_err-sync-clause-len g c = IfOk-from_err c.from_residual-in_err-sync.result _ c.from_residual-in_err-sync.ensures.0
+
+pub returns-in_err-sync-clause-durable : goal.returns-in_err-sync-clause-durable
+returns-in_err-sync-clause-durable g c = IfOk-from_err c.from_residual-in_err-sync.result _ c.from_residual-in_err-sync.ensures.0
+
+pub returns-in_err-sync-clause-usable : goal.returns-in_err-sync-clause-usable
+returns-in_err-sync-clause-usable g c = IfOk-from_err c.from_residual-in_err-sync.result _ c.from_residual-in_err-sync.ensures.0
+
+pub returns-in_err-at-clause-counts : goal.returns-in_err-at-clause-counts
+returns-in_err-at-clause-counts g c =
+    exit_counted c.in_err-at.was c.from_residual.ensures.1 c.write_piece.ensures.counts
+
+pub returns-in_err-at-2-clause-counts : goal.returns-in_err-at-2-clause-counts
+returns-in_err-at-2-clause-counts g c =
+    then_counted c.in_ok-at.was c.write_piece.ensures.counts
+    (exit_counted c.in_err-at-2.was c.from_residual-in_err-at-2.ensures.1 c.write_piece-2.ensures.counts)
+
+pub returns-in_err-at-3-clause-counts : goal.returns-in_err-at-3-clause-counts
+returns-in_err-at-3-clause-counts g c =
+    then_counted c.in_ok-at.was c.write_piece.ensures.counts
+    (then_counted c.in_ok-at-2.was c.write_piece-2.ensures.counts
+    (exit_counted c.in_err-at-3.was c.from_residual-in_err-at-3.ensures.1 c.write_parts.ensures.counts))
+
+pub returns-in_err-at-4-clause-counts : goal.returns-in_err-at-4-clause-counts
+returns-in_err-at-4-clause-counts g c =
+    then_counted c.in_ok-at.was c.write_piece.ensures.counts
+    (then_counted c.in_ok-at-2.was c.write_piece-2.ensures.counts
+    (then_counted c.in_ok-at-3.was c.write_parts.ensures.counts
+    (exit_counted c.in_err-at-4.was c.from_residual-in_err-at-4.ensures.1 c.write_piece-3.ensures.counts)))
+
 pub returns-in_err-_end-clause-counts : goal.returns-in_err-_end-clause-counts
 returns-in_err-_end-clause-counts g c =
-    let faults = g.D.Disk.faults in
-    let tally = g.D.Disk.tally_of in
-    let d0 = disk_of c.args.disk.now in
-    let d1 = disk_of c.write_piece.new.disk in
-    let d2 = disk_of c.write_piece-2.new.disk in
-    let d3 = disk_of c.write_parts.new.disk in
-    let d4 = disk_of c.write_piece-3.new.disk in
-    let d5 = disk_of c.write_piece-4.new.disk in
-    let one = subst (λ (r : Result ℕ Error). IsCounted r (faults d0) (faults d1) (tally d0) (tally d1)) c.in_ok-at.was c.write_piece.ensures.counts in
-    let two = subst (λ (r : Result ℕ Error). IsCounted r (faults d1) (faults d2) (tally d1) (tally d2)) c.in_ok-at-2.was c.write_piece-2.ensures.counts in
-    let three = subst (λ (r : Result ℕ Error). IsCounted r (faults d2) (faults d3) (tally d2) (tally d3)) c.in_ok-at-3.was c.write_parts.ensures.counts in
-    let four = subst (λ (r : Result ℕ Error). IsCounted r (faults d3) (faults d4) (tally d3) (tally d4)) c.in_ok-at-4.was c.write_piece-3.ensures.counts in
-    let to_two = counted_two c.in_ok-at.at (Ok c.in_ok-at-2.at) (faults d0) (faults d1) (faults d2) (tally d0) (tally d1) (tally d2) one two in
-    let to_three = counted_two c.in_ok-at-2.at (Ok c.in_ok-at-3.at) (faults d0) (faults d2) (faults d3) (tally d0) (tally d2) (tally d3) to_two three in
-    let to_four = counted_two c.in_ok-at-3.at (Ok c.in_ok-at-4.at) (faults d0) (faults d3) (faults d4) (tally d0) (tally d3) (tally d4) to_three four in
-    let same : c.write_piece-4.result ≡ c.from_residual-in_err-_end.result = search rules in
-    let five = subst (λ (r : Result ℕ Error). IsCounted r (faults d4) (faults d5) (tally d4) (tally d5)) same c.write_piece-4.ensures.counts in
-    counted_two c.in_ok-at-4.at c.from_residual-in_err-_end.result (faults d0) (faults d4) (faults d5) (tally d0) (tally d4) (tally d5) to_four five
+    then_counted c.in_ok-at.was c.write_piece.ensures.counts
+    (then_counted c.in_ok-at-2.was c.write_piece-2.ensures.counts
+    (then_counted c.in_ok-at-3.was c.write_parts.ensures.counts
+    (then_counted c.in_ok-at-4.was c.write_piece-3.ensures.counts
+    (exit_counted c.in_err-_end.was c.from_residual-in_err-_end.ensures.1 c.write_piece-4.ensures.counts))))
 
 pub returns-in_err-sync-clause-counts : goal.returns-in_err-sync-clause-counts
 returns-in_err-sync-clause-counts g c =
-    let same : c.from_residual-in_err-sync.result ≡ Err c.in_err-sync.field-0.0 = search rules in
     let faults = g.D.Disk.faults in
     let tally = g.D.Disk.tally_of in
-    let d0 = disk_of c.args.disk.now in
-    let d1 = disk_of c.write_piece.new.disk in
-    let d2 = disk_of c.write_piece-2.new.disk in
-    let d3 = disk_of c.write_parts.new.disk in
-    let d4 = disk_of c.write_piece-3.new.disk in
     let d5 = disk_of c.write_piece-4.new.disk in
-    let one = subst (λ (r : Result ℕ Error). IsCounted r (faults d0) (faults d1) (tally d0) (tally d1)) c.in_ok-at.was c.write_piece.ensures.counts in
-    let two = subst (λ (r : Result ℕ Error). IsCounted r (faults d1) (faults d2) (tally d1) (tally d2)) c.in_ok-at-2.was c.write_piece-2.ensures.counts in
-    let three = subst (λ (r : Result ℕ Error). IsCounted r (faults d2) (faults d3) (tally d2) (tally d3)) c.in_ok-at-3.was c.write_parts.ensures.counts in
-    let four = subst (λ (r : Result ℕ Error). IsCounted r (faults d3) (faults d4) (tally d3) (tally d4)) c.in_ok-at-4.was c.write_piece-3.ensures.counts in
-    let to_two = counted_two c.in_ok-at.at (Ok c.in_ok-at-2.at) (faults d0) (faults d1) (faults d2) (tally d0) (tally d1) (tally d2) one two in
-    let to_three = counted_two c.in_ok-at-2.at (Ok c.in_ok-at-3.at) (faults d0) (faults d2) (faults d3) (tally d0) (tally d2) (tally d3) to_two three in
-    let to_four = counted_two c.in_ok-at-3.at (Ok c.in_ok-at-4.at) (faults d0) (faults d3) (faults d4) (tally d0) (tally d3) (tally d4) to_three four in
     let d6 = disk_of c.sync.new.self in
-    let five = subst (λ (r : Result ℕ Error). IsCounted r (faults d4) (faults d5) (tally d4) (tally d5)) c.in_ok-_end.was c.write_piece-4.ensures.counts in
-    let to_five = counted_two c.in_ok-at-4.at (Ok c.in_ok-_end._end) (faults d0) (faults d4) (faults d5) (tally d0) (tally d4) (tally d5) to_four five in
-    let whole : IsCounted c.sync.result (faults d5) (faults d6) (tally d5) (tally d6) = record { faults = c.sync.ensures.faults; refused = c.sync.ensures.tally } in
-    let six = counted_err c.in_err-sync.field-0.0 (faults d5) (faults d6) (tally d5) (tally d6) (subst (λ (r : Result (Unit {0}) Error). IsCounted r (faults d5) (faults d6) (tally d5) (tally d6)) c.in_err-sync.was whole) in
-    subst (λ (r : Result ℕ Error). IsCounted r (faults d0) (faults d6) (tally d0) (tally d6)) (sym same)
-    (counted_two c.in_ok-_end._end (Err c.in_err-sync.field-0.0) (faults d0) (faults d5) (faults d6) (tally d0) (tally d5) (tally d6) to_five six)
+    let synced : IsCounted c.sync.result (faults d5) (faults d6) (tally d5) (tally d6) = record { faults = c.sync.ensures.faults; refused = c.sync.ensures.tally } in
+    then_counted c.in_ok-at.was c.write_piece.ensures.counts
+    (then_counted c.in_ok-at-2.was c.write_piece-2.ensures.counts
+    (then_counted c.in_ok-at-3.was c.write_parts.ensures.counts
+    (then_counted c.in_ok-at-4.was c.write_piece-3.ensures.counts
+    (then_counted c.in_ok-_end.was c.write_piece-4.ensures.counts
+    (exit_counted c.in_err-sync.was c.from_residual-in_err-sync.ensures.1 synced)))))
+
+pub returns-clause-counts : goal.returns-clause-counts
+returns-clause-counts g c =
+    let faults = g.D.Disk.faults in
+    let tally = g.D.Disk.tally_of in
+    let d5 = disk_of c.write_piece-4.new.disk in
+    let d6 = disk_of c.sync.new.self in
+    let synced : IsCounted c.sync.result (faults d5) (faults d6) (tally d5) (tally d6) = record { faults = c.sync.ensures.faults; refused = c.sync.ensures.tally } in
+    then_counted c.in_ok-at.was c.write_piece.ensures.counts
+    (then_counted c.in_ok-at-2.was c.write_piece-2.ensures.counts
+    (then_counted c.in_ok-at-3.was c.write_parts.ensures.counts
+    (then_counted c.in_ok-at-4.was c.write_piece-3.ensures.counts
+    (then_counted c.in_ok-_end.was c.write_piece-4.ensures.counts
+    (counted_ok tt c.in_ok-at-4.at (faults d5) (faults d6) (tally d5) (tally d6) (subst (λ (r : Result (Unit {0}) Error). IsCounted r (faults d5) (faults d6) (tally d5) (tally d6)) c.in_ok-sync.was synced))))))
+
+pub returns-in_err-at-clause-clean : goal.returns-in_err-at-clause-clean
+returns-in_err-at-clause-clean g c = c.write_piece.ensures.clean
+
+pub returns-in_err-at-2-clause-clean : goal.returns-in_err-at-2-clause-clean
+returns-in_err-at-2-clause-clean g c = c.write_piece-2.ensures.clean ∙ c.write_piece.ensures.clean
+
+pub returns-in_err-at-3-clause-clean : goal.returns-in_err-at-3-clause-clean
+returns-in_err-at-3-clause-clean g c = c.write_parts.ensures.clean ∙ c.write_piece-2.ensures.clean ∙ c.write_piece.ensures.clean
+
+pub returns-in_err-at-4-clause-clean : goal.returns-in_err-at-4-clause-clean
+returns-in_err-at-4-clause-clean g c = c.write_piece-3.ensures.clean ∙ c.write_parts.ensures.clean ∙ c.write_piece-2.ensures.clean ∙ c.write_piece.ensures.clean
+
+pub returns-in_err-_end-clause-clean : goal.returns-in_err-_end-clause-clean
+returns-in_err-_end-clause-clean g c = c.write_piece-4.ensures.clean ∙ c.write_piece-3.ensures.clean ∙ c.write_parts.ensures.clean ∙ c.write_piece-2.ensures.clean ∙ c.write_piece.ensures.clean
+
+pub returns-in_err-sync-clause-clean : goal.returns-in_err-sync-clause-clean
+returns-in_err-sync-clause-clean g c = c.sync.ensures.clean ∙ c.write_piece-4.ensures.clean ∙ c.write_piece-3.ensures.clean ∙ c.write_parts.ensures.clean ∙ c.write_piece-2.ensures.clean ∙ c.write_piece.ensures.clean
+
+pub returns-clause-clean : goal.returns-clause-clean
+returns-clause-clean g c = c.sync.ensures.clean ∙ c.write_piece-4.ensures.clean ∙ c.write_piece-3.ensures.clean ∙ c.write_parts.ensures.clean ∙ c.write_piece-2.ensures.clean ∙ c.write_piece.ensures.clean
+
+pub returns-clause-usable : goal.returns-clause-usable
+returns-clause-usable g c = c.sync.ensures.usable ∙ ap is_ok c.in_ok-sync.was
+
+pub returns-in_err-at-clause-behind : goal.returns-in_err-at-clause-behind
+returns-in_err-at-clause-behind g c =
+    c.write_piece.ensures.behind
+
+pub write_piece-requires-clause-usable : goal.write_piece-requires-clause-usable
+write_piece-requires-clause-usable g c = c.requires.usable
+
+pub write_piece-requires-2-clause-usable : goal.write_piece-requires-2-clause-usable
+write_piece-requires-2-clause-usable g c = c.write_piece.ensures.usable
+
+pub write_parts-requires-clause-usable : goal.write_parts-requires-clause-usable
+write_parts-requires-clause-usable g c = c.write_piece-2.ensures.usable
+
+pub write_piece-requires-3-clause-usable : goal.write_piece-requires-3-clause-usable
+write_piece-requires-3-clause-usable g c = c.write_parts.ensures.usable
+
+pub write_piece-requires-4-clause-usable : goal.write_piece-requires-4-clause-usable
+write_piece-requires-4-clause-usable g c = c.write_piece-3.ensures.usable
+
+pub sync-requires : goal.sync-requires
+sync-requires g c = c.write_piece-4.ensures.usable

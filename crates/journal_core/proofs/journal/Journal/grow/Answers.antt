@@ -1,6 +1,5 @@
 -- Zeros behind the gate, and then a look at the length.
-use Rattle.std.proofs.Common.{refl, ◌≡◌, ℕ, ◌+◌, ◌≤◌, None, arith}
-use Rattle.journal_core.specs.Clocked.{disk_of}
+use Rattle.std.proofs.Common.{refl, ◌+◌, ◌≤◌, None, arith}
 use Rattle.journal_core.specs.declared.journal.Journal.{Journal}
 use Rattle.journal_core.specs.Private.Looks.{Grows}
 use Rattle.journal_core.proofs.Growing.{grows_on, look_grows}

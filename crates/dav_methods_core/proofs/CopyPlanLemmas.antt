@@ -1,8 +1,9 @@
 -- What is copied, by the walk of the source.
-use Rattle.std.proofs.Common.{◌≡◌, inl, inr, Bool, true, false, cond, not, List, [], ◌∷◌, ◌++◌, append-nil, map, Option, Some, None, refl, sym, ap, ◌∙◌, subst, arith}
+use Rattle.std.proofs.Common.{◌≡◌, inl, inr, ℕ, ◌+◌, ◌<◌, ◌≤◌, Bool, true, false, cond, not, List, [], ◌∷◌, ◌++◌, append-nil, append_assoc, drop, get_or, length, map, Option, Some, None, refl, sym, ap, ◌∙◌, subst, arith}
 use Rattle.std.specs.Prelude.{IsSome, filter_map, option_map}
 use Rattle.std.specs.List.{cons_option}
 use Rattle.std.proofs.lemmas.Bool.{cases_Bool, false≢true, not-true}
+use Rattle.std.proofs.lemmas.List.{drop_all}
 use Rattle.dav_path_core.specs.Fronts.{Path, behind, is_front}
 use Rattle.dav_path_core.proofs.lists.MemberLemmas.{In, In-Contains, Contains-In}
 use Rattle.dav_path_core.proofs.paths.FrontLemmas.{behind_append, behind_is}
@@ -10,6 +11,7 @@ use Rattle.dav_files_core.specs.Resources.{ResourceMap, at_path}
 use Rattle.dav_session_core.specs.Copying.{AreCopied, source_and_target, is_copied}
 use Rattle.dav_methods_core.specs.TransferEnds.{ArePlaces, copies_of, copy_target}
 use Rattle.dav_session_core.specs.Subtrees.{ComesBefore, HasOddName, IsSubtreeWalk}
+use Rattle.dav_session_core.proofs.ConditionLemmas.{drop_seen}
 use Rattle.dav_session_core.proofs.WalkOrderLemmas.{pairs_later, without_front}
 use Rattle.dav_path_core.proofs.paths.SubtreePaths.{Later, front_of}
 use Rattle.dav_path_core.proofs.paths.SubtreePaths.{later_pairs}
@@ -142,3 +144,22 @@ pub places_plain : (m : ResourceMap) (from : Path) (places : List Path) (deep : 
     → ArePlaces m deep from places → deep ≡ true → ¬ HasOddName m from
 places_plain m from places true are down = are.plain
 places_plain m from places false are down = absurd (false≢true down)
+
+-- ---- one place after another
+
+module _ {A : Type 0} (from to : Path) (view : A → Path) (xs : List A) (i : ℕ) (done all : List (Path × Path)) (left : done ++ copies_of from to (map view (drop i xs)) ≡ all) where
+  pub copied_more : (x : A) (more : List (Path × Path)) → i < length xs → x ≡ get_or xs i x → more ≡ done ++ copies_of from to (view x ∷ [])
+      → more ++ copies_of from to (map view (drop (i + 1) xs)) ≡ all
+  copied_more x more lt is added =
+      ap (λ ps. ps ++ rest) added ∙ joined (option_map (λ t. (view x, t)) (copy_target from to (view x)))
+      ∙ ap (λ qs. done ++ copies_of from to qs) (sym (drop_seen view xs i x lt is)) ∙ left
+    where
+      rest : List (Path × Path)
+      rest = copies_of from to (map view (drop (i + 1) xs))
+
+      joined : (o : Option (Path × Path)) → (done ++ cons_option o []) ++ rest ≡ done ++ cons_option o rest
+      joined None = ap (λ ps. ps ++ rest) (append-nil done)
+      joined (Some p) = append_assoc done (p ∷ []) rest
+
+  pub copied_all : length xs ≤ i → done ≡ all
+  copied_all le = sym (append-nil done) ∙ ap (λ ys. done ++ copies_of from to (map view ys)) (sym (drop_all i xs le)) ∙ left

@@ -1,6 +1,6 @@
 -- What is asked before a MOVE, and what its requests leave one after another.
-use Rattle.std.proofs.Common.{◌≡◌, ◌≢◌, ◌⊎◌, inl, inr, ℕ, true, false, cond, eqb, eqb-true, List, [], ◌∷◌, length, map, Option, is_some, Result, Ok, Err, refl, sym, ap, ◌∙◌, subst}
-use Rattle.std.specs.Prelude.{IfErr}
+use Rattle.std.proofs.Common.{◌≡◌, ◌≢◌, ◌⊎◌, inl, inr, ℕ, true, false, cond, eqb, eqb-true, List, [], ◌∷◌, ◌++◌, length, map, Option, is_some, Result, Ok, Err, refl, sym, ap, ◌∙◌, subst}
+use Rattle.std.specs.Prelude.{IfErr, OnOk}
 use Rattle.std.proofs.lemmas.Bool.{true≢false}
 use Rattle.std.proofs.lemmas.List.Elements.{Contains-append_left, Contains-append_right}
 use Rattle.http_header.specs.FieldValue.{FieldValue}
@@ -72,6 +72,11 @@ module _ (who asker : Caller) (s mid : State) (from to : Path) (gone : List Path
       let place = refusing_place (live who.now s) who to gone in
       more_refused place (refusing_move (live who.now s) who from to gone) e (Contains-append_right (refusing_removal (live who.now s) who (from ∷ [])) place)
       (subst (λ ls. IsRefusedBy ls e) asked h)
+
+  pub place_passes : {A : Type 0} (result : Result A Fault) → refusing_removal (live who.now s) who (from ∷ []) ≡ [] → OnOk result (locks_of (live asker.now mid) asker ≡ [])
+      → OnOk result (refusing_move (live who.now s) who from to gone ≡ [])
+  place_passes (Ok x) first h = ap (λ ls. ls ++ refusing_place (live who.now s) who to gone) first ∙ sym asked ∙ h
+  place_passes (Err e) first h = tt
 
 -- ---- a MOVE that is refused
 

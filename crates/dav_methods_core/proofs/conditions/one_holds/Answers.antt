@@ -73,3 +73,12 @@ returns-clause-ok g c =
     c.loop-list.invariant.left false
     (none_left (live (spec.caller c.args.session.now).now (spec.state g.R.Rng.stream c.args.session.now)) (base_of c.args.base.now c.args.here.now)
     (segments c.args.here.now.bytes) c.loop-list.invariant.last located_list c.args.lists.now c.loop-list.list-index c.loop-list-test.false)
+
+pub returns-in_err-copy_of-clause-looks : goal.returns-in_err-copy_of-clause-looks
+returns-in_err-copy_of-clause-looks g c = looks_none g.R.Rng.stream c.args.session.now
+
+pub returns-in_err-conditions_hold-clause-looks : goal.returns-in_err-conditions_hold-clause-looks
+returns-in_err-conditions_hold-clause-looks g c = looks_on c.loop-list.invariant.looks c.conditions_hold.ensures.looks
+
+pub returns-then-branch-clause-looks : goal.returns-then-branch-clause-looks
+returns-then-branch-clause-looks g c = looks_on c.loop-list.invariant.looks c.conditions_hold.ensures.looks

@@ -68,3 +68,6 @@ returns-in_err-check_conditions-clause-looks g c =
 
 pub returns-clause-looks : goal.returns-clause-looks
 returns-clause-looks g c = looks_on c.reach_from.ensures.looks (looks_on c.planned.ensures.looks c.check_conditions.ensures.looks)
+
+pub returns-in_err-plan-clause-looks : goal.returns-in_err-plan-clause-looks
+returns-in_err-plan-clause-looks g c = looks_on c.reach_from.ensures.looks c.planned.ensures.looks

@@ -73,3 +73,9 @@ returns-clause-ok g c =
     let both = subst (λ ls. OnOk c.check_each.result (ls ≡ [])) (sym (refusing_append (live who.now s).locks (as_caller who) there copies))
     (passes_behind (of_checks there (live who.now s) who) (of_checks copies (live who.now s) who) c.check_each.result here last) in
     passes_behind clearing (of_checks (there ++ copies) (live who.now s) who) c.check_each.result c.in_ok-check_clearing.ensures.ok both
+
+pub returns-in_err-check_locks-clause-looks : goal.returns-in_err-check_locks-clause-looks
+returns-in_err-check_locks-clause-looks g c = looks_on c.check_clearing.ensures.looks c.check_locks.ensures.looks
+
+pub returns-clause-looks : goal.returns-clause-looks
+returns-clause-looks g c = looks_on (looks_on c.check_clearing.ensures.looks c.check_locks.ensures.looks) c.check_each.ensures.looks

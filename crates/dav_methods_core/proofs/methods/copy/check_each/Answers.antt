@@ -59,3 +59,6 @@ returns-clause-ok g c =
     let who = spec.caller c.args.session.now in
     all_checked (live who.now (spec.state g.R.Rng.stream c.args.session.now)).locks (as_caller who) check_of c.args.transfers.now c.loop-transfer.transfer-index
     c.loop-transfer.invariant.left c.loop-transfer-test.false
+
+pub returns-in_err-check-clause-looks : goal.returns-in_err-check-clause-looks
+returns-in_err-check-clause-looks g c = looks_on c.loop-transfer.invariant.looks c.check.ensures.looks

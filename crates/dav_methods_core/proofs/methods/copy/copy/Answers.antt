@@ -15,8 +15,9 @@ use Rattle.dav_methods_core.specs.CopyMethod.{IsPlanned}
 use Rattle.dav_session_core.specs.Sessions as spec
 use Rattle.dav_session_core.specs.declared.session.copying.Transfer.{Transfer}
 use Rattle.dav_methods_core.proofs.CopyMethodLemmas.{copy_all, copy_begun, copy_left, copy_lost, copy_short}
-use Rattle.dav_session_core.proofs.Looking.{looks_before, looks_on}
+use Rattle.dav_session_core.proofs.Looking.{acts_on, looks_before, looks_on}
 use Rattle.dav_session_core.proofs.PutLemmas.{known_there}
+use Rattle.dav_safe_methods_core.proofs.Acting.{looks_act}
 use Rattle.dav_methods_core.proofs.methods.copy.copy.Goals as goal
 
 abbrev ends : Transfer → Path × Path
@@ -129,3 +130,18 @@ returns-clause-done g c =
     let there = known_there meta_of (λ (r : Resource). meta_at r.node) c.in_ok-target.field-0.known (at_path start.map (segments plan.to.bytes)) plan.known_is in
     copy_all c.args.site.now c.args.prefix.now c.args.headers.now who start from known gone pairs plan asker b m c.admitted_plan.ensures.looks.who c.admitted_plan.ensures.looks.live c.clear.ensures.acts.run c.in_ok-clear.ensures.cleared copier after by
     c.done.result (c.done.ensures ∙ ap (λ b. cond b 204 201) there) c.in_ok-target.ensures.course c.in_ok-copy_all.ensures.copied c.in_ok-copy_all.ensures.made
+
+pub returns-in_err-target-clause-acts : goal.returns-in_err-target-clause-acts
+returns-in_err-target-clause-acts g c = looks_act c.admitted_plan.ensures.looks
+
+pub returns-in_err-say_place-clause-acts : goal.returns-in_err-say_place-clause-acts
+returns-in_err-say_place-clause-acts g c = looks_act c.admitted_plan.ensures.looks
+
+pub returns-in_err-clear-clause-acts : goal.returns-in_err-clear-clause-acts
+returns-in_err-clear-clause-acts g c = acts_on (looks_act c.admitted_plan.ensures.looks) c.clear.ensures.acts
+
+pub returns-in_err-copy_all-clause-acts : goal.returns-in_err-copy_all-clause-acts
+returns-in_err-copy_all-clause-acts g c = acts_on (looks_act c.admitted_plan.ensures.looks) (acts_on c.clear.ensures.acts c.copy_all.ensures.acts)
+
+pub returns-clause-acts : goal.returns-clause-acts
+returns-clause-acts g c = acts_on (looks_act c.admitted_plan.ensures.looks) (acts_on c.clear.ensures.acts c.copy_all.ensures.acts)

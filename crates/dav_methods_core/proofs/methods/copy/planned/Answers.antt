@@ -118,3 +118,15 @@ returns-in-Err-clause-err g c =
     subst (CantCopy c.args.site.now c.args.prefix.now c.args.headers.now (live who.now start) who from) (sym c.by_place.ensures)
     (copy_locked c.args.site.now c.args.prefix.now c.args.headers.now who start from deep c.requires c.in_ok-target.field-0.target (option_map meta_of known) gone are places found e
     (subst (λ ls. IsRefusedBy ls e) asked all_here))
+
+pub returns-in_err-places-clause-looks : goal.returns-in_err-places-clause-looks
+returns-in_err-places-clause-looks g c = looks_on c.ends_of.ensures.looks c.places_of.ensures.looks
+
+pub returns-in_err-transfers-clause-looks : goal.returns-in_err-transfers-clause-looks
+returns-in_err-transfers-clause-looks g c = looks_on c.ends_of.ensures.looks c.places_of.ensures.looks
+
+pub returns-in-Ok-clause-looks : goal.returns-in-Ok-clause-looks
+returns-in-Ok-clause-looks g c = looks_on (looks_on c.ends_of.ensures.looks c.places_of.ensures.looks) c.check_copy.ensures.looks
+
+pub returns-in-Err-clause-looks : goal.returns-in-Err-clause-looks
+returns-in-Err-clause-looks g c = looks_on (looks_on c.ends_of.ensures.looks c.places_of.ensures.looks) c.check_copy.ensures.looks

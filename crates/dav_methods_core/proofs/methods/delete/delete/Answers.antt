@@ -7,10 +7,11 @@ use Rattle.dav_session_core.specs.Callers.{live}
 use Rattle.dav_session_core.specs.Removing.{IsRemoved}
 use Rattle.dav_session_core.specs.Sessions as spec
 use Rattle.dav_session_core.specs.Unhindered.{WhereRemovable}
-use Rattle.dav_session_core.proofs.Looking.{looks_before, looks_on}
+use Rattle.dav_session_core.proofs.Looking.{acts_on, looks_before, looks_on}
 use Rattle.dav_methods_core.specs.DeleteMethod.{CanRemove, CantRemove}
-use Rattle.dav_safe_methods_core.proofs.Acting.{held_before}
+use Rattle.dav_safe_methods_core.proofs.Acting.{held_before, looks_act}
 use Rattle.dav_methods_core.proofs.CourseLemmas.{course_stays, stopped_after}
+use Rattle.dav_locks_core.proofs.answers.LockListLemmas.{on_err}
 use Rattle.dav_methods_core.proofs.methods.delete.delete.Goals as goal
 
 pub returns-in_err-places-clause-err : goal.returns-in_err-places-clause-err
@@ -57,3 +58,22 @@ returns-in_err-remove_all-clause-refused g c =
     let q = err_from_is_err_and c.from_residual-in_err-remove_all.result c.from_residual-in_err-remove_all.ensures.1 in
     let looks = looks_on (looks_on c.removable.ensures.looks c.check_conditions.ensures.looks) (looks_before c.in_err-remove_all.ensures.refused) in
     rw q.1 looks.live
+
+pub returns-in_err-places-clause-refused : goal.returns-in_err-places-clause-refused
+returns-in_err-places-clause-refused g c = on_err c.from_residual.result c.removable.ensures.looks.live
+
+pub returns-in_err-places-clause-acts : goal.returns-in_err-places-clause-acts
+returns-in_err-places-clause-acts g c = looks_act c.removable.ensures.looks
+
+pub returns-in_err-check_conditions-clause-refused : goal.returns-in_err-check_conditions-clause-refused
+returns-in_err-check_conditions-clause-refused g c =
+    on_err c.from_residual-in_err-check_conditions.result (looks_on c.removable.ensures.looks c.check_conditions.ensures.looks).live
+
+pub returns-in_err-check_conditions-clause-acts : goal.returns-in_err-check_conditions-clause-acts
+returns-in_err-check_conditions-clause-acts g c = looks_act (looks_on c.removable.ensures.looks c.check_conditions.ensures.looks)
+
+pub returns-in_err-remove_all-clause-acts : goal.returns-in_err-remove_all-clause-acts
+returns-in_err-remove_all-clause-acts g c = acts_on (looks_act (looks_on c.removable.ensures.looks c.check_conditions.ensures.looks)) c.remove_all.ensures.acts
+
+pub returns-clause-acts : goal.returns-clause-acts
+returns-clause-acts g c = acts_on (looks_act (looks_on c.removable.ensures.looks c.check_conditions.ensures.looks)) c.remove_all.ensures.acts

@@ -69,3 +69,12 @@ returns-in-Err-clause-err g c =
     (subst (λ (q : PathText). IsSubtreeWalk a.map (segments q.bytes) places) c.in_ok-copy_of.ensures c.in_ok-places.ensures.ok))
     looks.who looks.live
     (subst (λ xs. IsRefusedBy (refusing_removal (live asker.now mid) asker (map (λ q. segments q.bytes) xs)) e) c.deref.ensures.value c.in-Err.ensures.err))
+
+pub returns-in_err-places-clause-looks : goal.returns-in_err-places-clause-looks
+returns-in_err-places-clause-looks g c = looks_on c.check_reach.ensures.looks c.walk.ensures.looks
+
+pub returns-in-Ok-clause-looks : goal.returns-in-Ok-clause-looks
+returns-in-Ok-clause-looks g c = looks_on (looks_on c.check_reach.ensures.looks c.walk.ensures.looks) c.check_removal.ensures.looks
+
+pub returns-in-Err-clause-looks : goal.returns-in-Err-clause-looks
+returns-in-Err-clause-looks g c = looks_on (looks_on c.check_reach.ensures.looks c.walk.ensures.looks) c.check_removal.ensures.looks

@@ -8,7 +8,7 @@ use Rattle.dav_guarded_core.specs.Step.{State}
 use Rattle.dav_session_core.specs.Ends.{HasFolder}
 use Rattle.dav_session_core.specs.Ends.{known_at}
 use Rattle.dav_session_core.specs.Sessions as spec
-use Rattle.dav_session_core.proofs.Looking.{looks_on}
+use Rattle.dav_session_core.proofs.Looking.{looks_none, looks_on}
 use Rattle.dav_methods_core.proofs.EndsLemmas.{may_stand}
 use Rattle.dav_session_core.proofs.PutLemmas.{known_there}
 use Rattle.dav_files_core.proofs.paths.SubtreeMaps.{stands_as}
@@ -35,3 +35,15 @@ returns-clause-ok g c =
       };
       known_is = found;
     }
+
+pub returns-in_err-copy_of-clause-looks : goal.returns-in_err-copy_of-clause-looks
+returns-in_err-copy_of-clause-looks g c = looks_none g.R.Rng.stream c.args.session.now
+
+pub returns-then-not-replaces-clause-looks : goal.returns-then-not-replaces-clause-looks
+returns-then-not-replaces-clause-looks g c = looks_on c.meta.ensures.looks c.meta-known.ensures.looks
+
+pub returns-in_err-check_above-clause-looks : goal.returns-in_err-check_above-clause-looks
+returns-in_err-check_above-clause-looks g c = looks_on (looks_on c.meta.ensures.looks c.meta-known.ensures.looks) c.check_above.ensures.looks
+
+pub returns-clause-looks : goal.returns-clause-looks
+returns-clause-looks g c = looks_on (looks_on c.meta.ensures.looks c.meta-known.ensures.looks) c.check_above.ensures.looks

@@ -6,6 +6,7 @@ use Rattle.dav_guarded_core.specs.Step.{State}
 use Rattle.dav_session_core.specs.Ends.{GoesFrom}
 use Rattle.dav_session_core.specs.Sessions as spec
 use Rattle.dav_methods_core.proofs.EndsLemmas.{fails_fit, fails_lead, fails_odd}
+use Rattle.dav_session_core.proofs.Looking.{looks_none, looks_on}
 use Rattle.dav_methods_core.proofs.methods.ends.ends_of.Goals as goal
 
 pub returns-in_err-target-clause-err : goal.returns-in_err-target-clause-err
@@ -41,3 +42,12 @@ returns-clause-ok g c =
       goes = subst (λ (m : ResourceMap). GoesFrom m (segments target.path.bytes) (map (λ p. segments p.bytes) c.in_ok-gone.gone.items))
           (ap (λ (s : State). s.map) c.check_fit.ensures.looks.live) c.in_ok-gone.ensures.ok;
     }
+
+pub returns-in_err-target-clause-looks : goal.returns-in_err-target-clause-looks
+returns-in_err-target-clause-looks g c = looks_none g.R.Rng.stream c.args.session.now
+
+pub returns-in_err-gone-clause-looks : goal.returns-in_err-gone-clause-looks
+returns-in_err-gone-clause-looks g c = looks_on c.check_fit.ensures.looks c.folder_at.ensures.looks
+
+pub returns-clause-looks : goal.returns-clause-looks
+returns-clause-looks g c = looks_on c.check_fit.ensures.looks c.folder_at.ensures.looks

@@ -10,7 +10,7 @@ use Rattle.dav_session_core.specs.Sessions as spec
 use Rattle.dav_session_core.specs.Callers.{live}
 use Rattle.dav_methods_core.specs.LockMethod.{refusing_to_make}
 use Rattle.dav_session_core.specs.LocksInTheWay.{IsRefusedBy}
-use Rattle.dav_session_core.proofs.Looking.{looks_on}
+use Rattle.dav_session_core.proofs.Looking.{looks_none, looks_on}
 use Rattle.dav_safe_methods_core.proofs.Acting.{held_before}
 use Rattle.dav_methods_core.proofs.LockLemmas.{lacks_above, lacks_by_lock, nothing_known, room_found}
 use Rattle.dav_session_core.specs.Ends.{known_at}
@@ -52,3 +52,12 @@ returns-in_err-check_above-clause-err g c =
     let looked = looks_on c.meta-known.ensures.looks c.check_locks.ensures.looks in
     rw (q.1, q.2) (lacks_above (live who.now s) who p e none free
     (held_before (λ w t. (e ≡ fault.InsufficientStorage) ⊎ ((e ≡ fault.Conflict) × IsNone t.map (parent p) Folder)) looked c.in_err-check_above.ensures.err))
+
+pub returns-in_err-copy_of-clause-looks : goal.returns-in_err-copy_of-clause-looks
+returns-in_err-copy_of-clause-looks g c = looks_none g.R.Rng.stream c.args.session.now
+
+pub returns-in_err-check_above-clause-looks : goal.returns-in_err-check_above-clause-looks
+returns-in_err-check_above-clause-looks g c = looks_on (looks_on c.meta-known.ensures.looks c.check_locks.ensures.looks) c.check_above.ensures.looks
+
+pub returns-clause-looks : goal.returns-clause-looks
+returns-clause-looks g c = looks_on (looks_on c.meta-known.ensures.looks c.check_locks.ensures.looks) c.check_above.ensures.looks

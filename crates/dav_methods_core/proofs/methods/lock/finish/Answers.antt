@@ -11,6 +11,9 @@ use Rattle.dav_session_core.specs.StoreRefusals.{put_fault}
 use Rattle.dav_session_core.specs.Sessions as spec
 use Rattle.dav_methods_core.proofs.LockLemmas.{at_start, made_as, unmade_as}
 use Rattle.dav_safe_methods_core.proofs.Acting.{acts_ran, looks_act, ran_on}
+use Rattle.dav_session_core.proofs.Looking.{acts_none}
+use Rattle.dav_locks_core.proofs.answers.LockListLemmas.{on_err}
+use Rattle.dav_session_core.proofs.Asking.{live_as}
 use Rattle.dav_methods_core.proofs.methods.lock.finish.Goals as goal
 
 pub returns-in_err-make_under-clause-err : goal.returns-in_err-make_under-clause-err
@@ -50,3 +53,65 @@ returns-in_err-make_under-clause-room g c = λ count bytes room. c.make_under.en
 
 pub returns-clause-room : goal.returns-clause-room
 returns-clause-room g c = λ count bytes room. c.make_under.ensures.room count bytes (c.locks_at.ensures.room count bytes room)
+
+pub returns-in_err-copy_of-clause-ran : goal.returns-in_err-copy_of-clause-ran
+returns-in_err-copy_of-clause-ran g c = acts_ran (acts_none g.R.Rng.stream c.args.session.now)
+
+pub returns-in_err-copy_of-clause-room : goal.returns-in_err-copy_of-clause-room
+returns-in_err-copy_of-clause-room g c = λ count bytes room. room
+
+pub returns-in_err-locks-clause-refused : goal.returns-in_err-locks-clause-refused
+returns-in_err-locks-clause-refused g c = on_err c.from_residual-in_err-locks.result c.locks_at.ensures.looks.live
+
+pub returns-in_err-locks-clause-ran : goal.returns-in_err-locks-clause-ran
+returns-in_err-locks-clause-ran g c = acts_ran (looks_act c.locks_at.ensures.looks)
+
+pub returns-in_err-locks-clause-room : goal.returns-in_err-locks-clause-room
+returns-in_err-locks-clause-room g c = c.locks_at.ensures.room
+
+pub returns-in_err-document-clause-refused : goal.returns-in_err-document-clause-refused
+returns-in_err-document-clause-refused g c = on_err c.from_residual-in_err-document.result c.locks_at.ensures.looks.live
+
+pub returns-in_err-document-clause-ran : goal.returns-in_err-document-clause-ran
+returns-in_err-document-clause-ran g c = acts_ran (looks_act c.locks_at.ensures.looks)
+
+pub returns-in_err-document-clause-room : goal.returns-in_err-document-clause-room
+returns-in_err-document-clause-room g c = c.locks_at.ensures.room
+
+pub returns-in_err-tell-clause-refused : goal.returns-in_err-tell-clause-refused
+returns-in_err-tell-clause-refused g c = on_err c.from_residual-in_err-tell.result c.locks_at.ensures.looks.live
+
+pub returns-in_err-tell-clause-ran : goal.returns-in_err-tell-clause-ran
+returns-in_err-tell-clause-ran g c = acts_ran (looks_act c.locks_at.ensures.looks)
+
+pub returns-in_err-tell-clause-room : goal.returns-in_err-tell-clause-room
+returns-in_err-tell-clause-room g c = c.locks_at.ensures.room
+
+pub returns-then-not-missing-clause-ran : goal.returns-then-not-missing-clause-ran
+returns-then-not-missing-clause-ran g c = acts_ran (looks_act c.locks_at.ensures.looks)
+
+pub returns-then-not-missing-clause-room : goal.returns-then-not-missing-clause-room
+returns-then-not-missing-clause-room g c = c.locks_at.ensures.room
+
+pub returns-in_err-copy_of-2-clause-refused : goal.returns-in_err-copy_of-2-clause-refused
+returns-in_err-copy_of-2-clause-refused g c = on_err c.from_residual-in_err-copy_of-2.result c.locks_at.ensures.looks.live
+
+pub returns-in_err-copy_of-2-clause-ran : goal.returns-in_err-copy_of-2-clause-ran
+returns-in_err-copy_of-2-clause-ran g c = acts_ran (looks_act c.locks_at.ensures.looks)
+
+pub returns-in_err-copy_of-2-clause-room : goal.returns-in_err-copy_of-2-clause-room
+returns-in_err-copy_of-2-clause-room g c = c.locks_at.ensures.room
+
+pub returns-in_err-from_str-clause-refused : goal.returns-in_err-from_str-clause-refused
+returns-in_err-from_str-clause-refused g c = on_err c.from_residual-in_err-from_str.result c.locks_at.ensures.looks.live
+
+pub returns-in_err-from_str-clause-ran : goal.returns-in_err-from_str-clause-ran
+returns-in_err-from_str-clause-ran g c = acts_ran (looks_act c.locks_at.ensures.looks)
+
+pub returns-in_err-from_str-clause-room : goal.returns-in_err-from_str-clause-room
+returns-in_err-from_str-clause-room g c = c.locks_at.ensures.room
+
+pub returns-in_err-make_under-clause-refused : goal.returns-in_err-make_under-clause-refused
+returns-in_err-make_under-clause-refused g c =
+    on_err c.from_residual-in_err-make_under.result (live_as (spec.caller c.args.session.now) (spec.caller c.locks_at.new.self) (spec.state g.R.Rng.stream c.args.session.now)
+    (spec.state g.R.Rng.stream c.locks_at.new.self) (spec.state g.R.Rng.stream c.make_under.new.self) c.locks_at.ensures.looks.who c.locks_at.ensures.looks.live c.in_err-make_under.ensures.refused)

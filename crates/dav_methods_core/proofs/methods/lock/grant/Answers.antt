@@ -69,3 +69,6 @@ forget-requires g c =
     record {
       room = subst (λ token. spec.HasRoomFor (Command.Unlock (segments c.args.path.bytes) token) c.finish.new.session) (sym (ap (λ (l : Lock). l.token) c.lock.view_is)) there;
     }
+
+pub returns-in_err-lock-clause-ran : goal.returns-in_err-lock-clause-ran
+returns-in_err-lock-clause-ran g c = asked_ran c.granted.ensures.requests

@@ -10,7 +10,7 @@ use Rattle.dav_methods_core.specs.Rooms.{IsReadyToLock, wanted_of}
 use Rattle.dav_fields_core.specs.RequestRefusals.{IsLastMoment}
 use Rattle.dav_session_core.specs.Sessions as spec
 use Rattle.dav_session_core.proofs.CallerLaws.{by_none}
-use Rattle.dav_session_core.proofs.Looking.{looks_on}
+use Rattle.dav_session_core.proofs.Looking.{acts_none, looks_on}
 use Rattle.dav_methods_core.proofs.LockLemmas.{course_by, memory_by, moment_by, not_last, room_by, unread_by}
 use Rattle.dav_methods_core.proofs.LockMethodLemmas.{course_before, done, told_before, leaves, ready, refused}
 use Rattle.dav_safe_methods_core.proofs.Acting.{acts_ran, held_before, looks_act, looks_thrice, ran_on}
@@ -139,3 +139,20 @@ returns-in_err-place-clause-ran g c =
 pub returns-in_err-above-clause-ran : goal.returns-in_err-above-clause-ran
 returns-in_err-above-clause-ran g c =
     acts_ran (looks_act (looks_on (looks_thrice c.find_room.ensures.looks c.check_conditions.ensures.looks c.told_path.ensures.looks) c.tokens_above.ensures.looks))
+
+pub returns-in_err-wanted-clause-ran : goal.returns-in_err-wanted-clause-ran
+returns-in_err-wanted-clause-ran g c = acts_ran (acts_none g.R.Rng.stream c.args.session.now)
+
+pub returns-in_err-check_moment-clause-ran : goal.returns-in_err-check_moment-clause-ran
+returns-in_err-check_moment-clause-ran g c = acts_ran (acts_none g.R.Rng.stream c.args.session.now)
+
+pub returns-in_err-missing-clause-ran : goal.returns-in_err-missing-clause-ran
+returns-in_err-missing-clause-ran g c = acts_ran (looks_act c.find_room.ensures.looks)
+
+pub returns-in_err-missing-clause-left : goal.returns-in_err-missing-clause-left
+returns-in_err-missing-clause-left g c =
+    let p = err_from_is_err_and c.from_residual-in_err-missing.result c.from_residual-in_err-missing.ensures.1 in
+    rw (p.1) (inl (c.find_room.ensures.looks.run, c.find_room.ensures.looks.live))
+
+pub returns-in_err-check_conditions-clause-ran : goal.returns-in_err-check_conditions-clause-ran
+returns-in_err-check_conditions-clause-ran g c = acts_ran (looks_act (looks_on c.find_room.ensures.looks c.check_conditions.ensures.looks))

@@ -63,3 +63,9 @@ returns-in-None-clause-err g c =
     unmakable who (live who.now s) p c.check_above.result c.in_ok-check_locks.ensures.ok found
     (subst (λ (t : State). IfErr c.check_above.result (λ e. (e ≡ fault.InsufficientStorage) ⊎ ((e ≡ fault.Conflict) × IsNone t.map (parent p) Folder))) looks.live
     c.check_above.ensures.err)
+
+pub returns-in-Some-clause-looks : goal.returns-in-Some-clause-looks
+returns-in-Some-clause-looks g c = looks_on c.check_locks.ensures.looks c.meta.ensures.looks
+
+pub returns-in-None-clause-looks : goal.returns-in-None-clause-looks
+returns-in-None-clause-looks g c = looks_on (looks_on c.check_locks.ensures.looks c.meta.ensures.looks) c.check_above.ensures.looks

@@ -4,8 +4,9 @@ use Rattle.std.proofs.lemmas.Result.{err_from_is_err_and}
 use Rattle.dav_path_core.specs.Segments.{segments}
 use Rattle.dav_methods_core.specs.MoveMethod.{FailsToMove, Moves}
 use Rattle.dav_session_core.specs.Sessions as spec
-use Rattle.dav_safe_methods_core.proofs.Acting.{held_before}
+use Rattle.dav_safe_methods_core.proofs.Acting.{held_before, looks_act}
 use Rattle.dav_methods_core.proofs.MoveCheckLemmas.{leaves_before, move_halted, move_left}
+use Rattle.dav_session_core.proofs.Looking.{acts_on}
 use Rattle.dav_methods_core.proofs.methods.moving.relocate.Goals as goal
 
 pub returns-in_err-check_reach-clause-err : goal.returns-in_err-check_reach-clause-err
@@ -35,3 +36,9 @@ returns-clause-left g c =
     leaves_before c.args.site.now c.args.prefix.now c.args.headers.now (spec.caller c.args.session.now) (spec.state g.R.Rng.stream c.args.session.now)
     (segments c.args.path.bytes) (spec.caller c.check_reach.new.session) (spec.state g.R.Rng.stream c.check_reach.new.session)
     (spec.state g.R.Rng.stream c.relocate_all.new.session) c.check_reach.ensures.looks.who c.check_reach.ensures.looks.live c.relocate_all.result c.relocate_all.ensures.left
+
+pub returns-in_err-check_reach-clause-acts : goal.returns-in_err-check_reach-clause-acts
+returns-in_err-check_reach-clause-acts g c = looks_act c.check_reach.ensures.looks
+
+pub returns-clause-acts : goal.returns-clause-acts
+returns-clause-acts g c = acts_on (looks_act c.check_reach.ensures.looks) c.relocate_all.ensures.acts

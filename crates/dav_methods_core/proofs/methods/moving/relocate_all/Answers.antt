@@ -19,7 +19,7 @@ use Rattle.dav_session_core.specs.Sessions as spec
 use Rattle.dav_methods_core.proofs.MoveCheckLemmas.{movable, move_all, move_begun, move_left, move_locked, move_lost, move_ready, move_short, move_unfit}
 use Rattle.dav_methods_core.proofs.CourseLemmas.{course_stays, stopped_after}
 use Rattle.dav_session_core.proofs.Looking.{acts_on, looks_before, looks_on}
-use Rattle.dav_safe_methods_core.proofs.Acting.{looks_act_thrice}
+use Rattle.dav_safe_methods_core.proofs.Acting.{looks_act, looks_act_thrice}
 use Rattle.dav_session_core.proofs.PutLemmas.{known_there}
 use Rattle.dav_methods_core.proofs.methods.moving.relocate_all.Goals as goal
 
@@ -202,3 +202,27 @@ returns-in_err-relocate-clause-acts g c =
 pub returns-clause-acts : goal.returns-clause-acts
 returns-clause-acts g c =
     acts_on (looks_act_thrice c.ends_of.ensures.looks c.check_move.ensures.looks c.check_conditions.ensures.looks) (acts_on c.clear.ensures.acts c.relocate.ensures.acts)
+
+pub returns-in_err-target-clause-acts : goal.returns-in_err-target-clause-acts
+returns-in_err-target-clause-acts g c = looks_act c.ends_of.ensures.looks
+
+pub returns-in-Err-clause-acts : goal.returns-in-Err-clause-acts
+returns-in-Err-clause-acts g c = looks_act (looks_on c.ends_of.ensures.looks c.check_move.ensures.looks)
+
+pub returns-in_err-check_conditions-clause-acts : goal.returns-in_err-check_conditions-clause-acts
+returns-in_err-check_conditions-clause-acts g c = looks_act (looks_on (looks_on c.ends_of.ensures.looks c.check_move.ensures.looks) c.check_conditions.ensures.looks)
+
+pub returns-in_err-say_place-clause-acts : goal.returns-in_err-say_place-clause-acts
+returns-in_err-say_place-clause-acts g c = looks_act (looks_on (looks_on c.ends_of.ensures.looks c.check_move.ensures.looks) c.check_conditions.ensures.looks)
+
+pub returns-in_err-target-clause-left : goal.returns-in_err-target-clause-left
+returns-in_err-target-clause-left g c =
+    let q = err_from_is_err_and c.from_residual.result c.from_residual.ensures.1 in
+    rw (q.1, q.2) (move_left c.args.site.now c.args.prefix.now c.args.headers.now (spec.caller c.args.session.now) (spec.state g.R.Rng.stream c.args.session.now)
+    (segments c.args.path.bytes) c.in_err-target.field-0.0 (spec.state g.R.Rng.stream c.ends_of.new.session) c.ends_of.ensures.looks.live)
+
+pub returns-in-Err-clause-left : goal.returns-in-Err-clause-left
+returns-in-Err-clause-left g c =
+    let looks = looks_on c.ends_of.ensures.looks c.check_move.ensures.looks in
+    move_left c.args.site.now c.args.prefix.now c.args.headers.now (spec.caller c.args.session.now) (spec.state g.R.Rng.stream c.args.session.now)
+    (segments c.args.path.bytes) c.by_place-in-Err.result (spec.state g.R.Rng.stream c.check_move.new.session) looks.live

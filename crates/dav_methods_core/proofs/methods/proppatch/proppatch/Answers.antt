@@ -8,16 +8,17 @@ use Rattle.dav_xml_core.specs.Writing.{document_bytes}
 use Rattle.dav_session_core.specs.Callers.{live}
 use Rattle.dav_session_core.specs.Patching.{IsPatched}
 use Rattle.dav_guarded_core.specs.Step.{State}
-use Rattle.dav_safe_methods_core.proofs.Acting.{held_before}
+use Rattle.dav_safe_methods_core.proofs.Acting.{held_before, looks_act}
 use Rattle.dav_safe_methods_core.specs.SentDocuments.{document_sent}
 use Rattle.dav_documents_core.specs.PatchBodies.{any_protected, patch_nodes}
 use Rattle.dav_methods_core.specs.ProppatchMethod.{CanPatch, CantPatch, Changes}
 use Rattle.dav_methods_core.specs.ToldPaths.{told_path}
 use Rattle.dav_session_core.specs.Sessions as spec
-use Rattle.dav_session_core.proofs.Asking.{live_once}
-use Rattle.dav_session_core.proofs.Looking.{looks_on}
+use Rattle.dav_session_core.proofs.Asking.{live_as, live_once}
+use Rattle.dav_session_core.proofs.Looking.{acts_on, looks_on}
 use Rattle.dav_methods_core.proofs.CourseLemmas.{course_stays, stopped_after}
 use Rattle.dav_methods_core.proofs.LockMethodLemmas.{told_before}
+use Rattle.dav_locks_core.proofs.answers.LockListLemmas.{on_err}
 use Rattle.dav_methods_core.proofs.methods.proppatch.proppatch.Goals as goal
 
 pub returns-in_err-check_conditions-clause-err : goal.returns-in_err-check_conditions-clause-err
@@ -88,3 +89,59 @@ returns-clause-done g c =
             ∙ ap (λ (q : PathText). document_bytes (patch_nodes c.args.prefix.now q updates)) told);
       },
     )
+
+pub returns-in_err-updates-clause-refused : goal.returns-in_err-updates-clause-refused
+returns-in_err-updates-clause-refused g c = on_err c.from_residual.result c.updates_for.ensures.looks.live
+
+pub returns-in_err-updates-clause-acts : goal.returns-in_err-updates-clause-acts
+returns-in_err-updates-clause-acts g c = looks_act c.updates_for.ensures.looks
+
+pub returns-in_err-check_conditions-clause-refused : goal.returns-in_err-check_conditions-clause-refused
+returns-in_err-check_conditions-clause-refused g c =
+    on_err c.from_residual-in_err-check_conditions.result (looks_on c.updates_for.ensures.looks c.check_conditions.ensures.looks).live
+
+pub returns-in_err-check_conditions-clause-acts : goal.returns-in_err-check_conditions-clause-acts
+returns-in_err-check_conditions-clause-acts g c = looks_act (looks_on c.updates_for.ensures.looks c.check_conditions.ensures.looks)
+
+pub returns-in_err-copy_of-clause-refused : goal.returns-in_err-copy_of-clause-refused
+returns-in_err-copy_of-clause-refused g c = on_err c.from_residual-in_err-copy_of.result (looks_on c.updates_for.ensures.looks c.check_conditions.ensures.looks).live
+
+pub returns-in_err-copy_of-clause-acts : goal.returns-in_err-copy_of-clause-acts
+returns-in_err-copy_of-clause-acts g c = looks_act (looks_on c.updates_for.ensures.looks c.check_conditions.ensures.looks)
+
+pub returns-in_err-told-clause-refused : goal.returns-in_err-told-clause-refused
+returns-in_err-told-clause-refused g c =
+    on_err c.from_residual-in_err-told.result (looks_on (looks_on c.updates_for.ensures.looks c.check_conditions.ensures.looks) c.told_path.ensures.looks).live
+
+pub returns-in_err-told-clause-acts : goal.returns-in_err-told-clause-acts
+returns-in_err-told-clause-acts g c = looks_act (looks_on (looks_on c.updates_for.ensures.looks c.check_conditions.ensures.looks) c.told_path.ensures.looks)
+
+pub returns-in_err-patch_document-clause-refused : goal.returns-in_err-patch_document-clause-refused
+returns-in_err-patch_document-clause-refused g c =
+    on_err c.from_residual-in_err-patch_document.result (looks_on (looks_on c.updates_for.ensures.looks c.check_conditions.ensures.looks) c.told_path.ensures.looks).live
+
+pub returns-in_err-patch_document-clause-acts : goal.returns-in_err-patch_document-clause-acts
+returns-in_err-patch_document-clause-acts g c = looks_act (looks_on (looks_on c.updates_for.ensures.looks c.check_conditions.ensures.looks) c.told_path.ensures.looks)
+
+pub returns-in_err-say_document-clause-refused : goal.returns-in_err-say_document-clause-refused
+returns-in_err-say_document-clause-refused g c =
+    on_err c.from_residual-in_err-say_document.result (looks_on (looks_on c.updates_for.ensures.looks c.check_conditions.ensures.looks) c.told_path.ensures.looks).live
+
+pub returns-in_err-say_document-clause-acts : goal.returns-in_err-say_document-clause-acts
+returns-in_err-say_document-clause-acts g c = looks_act (looks_on (looks_on c.updates_for.ensures.looks c.check_conditions.ensures.looks) c.told_path.ensures.looks)
+
+pub returns-then-any_protected-clause-acts : goal.returns-then-any_protected-clause-acts
+returns-then-any_protected-clause-acts g c = looks_act (looks_on (looks_on c.updates_for.ensures.looks c.check_conditions.ensures.looks) c.told_path.ensures.looks)
+
+pub returns-in_err-patch-clause-refused : goal.returns-in_err-patch-clause-refused
+returns-in_err-patch-clause-refused g c =
+    let looks = looks_on (looks_on c.updates_for.ensures.looks c.check_conditions.ensures.looks) c.told_path.ensures.looks in
+    on_err c.from_residual-in_err-patch.result (live_as (spec.caller c.args.session.now) (spec.caller c.told_path.new.session) (spec.state g.R.Rng.stream c.args.session.now)
+    (spec.state g.R.Rng.stream c.told_path.new.session) (spec.state g.R.Rng.stream c.patch.new.self) looks.who looks.live c.in_err-patch.ensures.refused)
+
+pub returns-in_err-patch-clause-acts : goal.returns-in_err-patch-clause-acts
+returns-in_err-patch-clause-acts g c =
+    acts_on (looks_act (looks_on (looks_on c.updates_for.ensures.looks c.check_conditions.ensures.looks) c.told_path.ensures.looks)) c.patch.ensures.acts
+
+pub returns-clause-acts : goal.returns-clause-acts
+returns-clause-acts g c = acts_on (looks_act (looks_on (looks_on c.updates_for.ensures.looks c.check_conditions.ensures.looks) c.told_path.ensures.looks)) c.patch.ensures.acts

@@ -11,13 +11,14 @@ use Rattle.dav_guarded_core.specs.Step.{State}
 use Rattle.dav_session_core.specs.Ends.{known_at}
 use Rattle.dav_session_core.specs.Sessions as spec
 use Rattle.dav_session_core.specs.StoreRefusals.{put_fault}
-use Rattle.dav_session_core.proofs.Looking.{looks_on}
+use Rattle.dav_session_core.proofs.Looking.{acts_none, looks_none, looks_on}
 use Rattle.dav_session_core.proofs.AskedLemmas.{behind_look}
 use Rattle.dav_session_core.proofs.PutLemmas.{after_look, known_there}
 use Rattle.dav_methods_core.specs.PutMethod.{CanPut, CantPut, FailsToPut}
-use Rattle.dav_safe_methods_core.proofs.Acting.{acts_behind}
+use Rattle.dav_safe_methods_core.proofs.Acting.{acts_behind, looks_act}
 use Rattle.dav_methods_core.proofs.CourseLemmas.{course_stays, stopped_after}
 use Rattle.dav_methods_core.proofs.PutMethodLemmas.{can_put, free_way, lacks_place_at, locked, put_done, put_unmade}
+use Rattle.dav_locks_core.proofs.answers.LockListLemmas.{on_err}
 use Rattle.dav_methods_core.proofs.methods.put.put.Goals as goal
 
 pub returns-in_err-check_locks-clause-err : goal.returns-in_err-check_locks-clause-err
@@ -115,3 +116,42 @@ returns-in-Ok-clause-acts g c =
 pub returns-clause-acts : goal.returns-clause-acts
 returns-clause-acts g c =
     acts_behind (looks_on c.meta-known.ensures.looks c.check_locks.ensures.looks) c.check_place.ensures.looks c.check_conditions.ensures.looks c.change.ensures.acts
+
+pub returns-in_err-copy_of-clause-refused : goal.returns-in_err-copy_of-clause-refused
+returns-in_err-copy_of-clause-refused g c = on_err c.from_residual.result (looks_none g.R.Rng.stream c.args.session.now).live
+
+pub returns-in_err-copy_of-clause-acts : goal.returns-in_err-copy_of-clause-acts
+returns-in_err-copy_of-clause-acts g c = acts_none g.R.Rng.stream c.args.session.now
+
+pub returns-in_err-check_locks-clause-refused : goal.returns-in_err-check_locks-clause-refused
+returns-in_err-check_locks-clause-refused g c = on_err c.from_residual-in_err-check_locks.result (looks_on c.meta-known.ensures.looks c.check_locks.ensures.looks).live
+
+pub returns-in_err-check_locks-clause-acts : goal.returns-in_err-check_locks-clause-acts
+returns-in_err-check_locks-clause-acts g c = looks_act (looks_on c.meta-known.ensures.looks c.check_locks.ensures.looks)
+
+pub returns-in_err-check_place-clause-refused : goal.returns-in_err-check_place-clause-refused
+returns-in_err-check_place-clause-refused g c =
+    on_err c.from_residual-in_err-check_place.result (looks_on (looks_on c.meta-known.ensures.looks c.check_locks.ensures.looks) c.check_place.ensures.looks).live
+
+pub returns-in_err-check_place-clause-acts : goal.returns-in_err-check_place-clause-acts
+returns-in_err-check_place-clause-acts g c = looks_act (looks_on (looks_on c.meta-known.ensures.looks c.check_locks.ensures.looks) c.check_place.ensures.looks)
+
+pub returns-in_err-check_conditions-clause-refused : goal.returns-in_err-check_conditions-clause-refused
+returns-in_err-check_conditions-clause-refused g c =
+    on_err c.from_residual-in_err-check_conditions.result (looks_on (looks_on (looks_on c.meta-known.ensures.looks c.check_locks.ensures.looks) c.check_place.ensures.looks) c.check_conditions.ensures.looks).live
+
+pub returns-in_err-check_conditions-clause-acts : goal.returns-in_err-check_conditions-clause-acts
+returns-in_err-check_conditions-clause-acts g c =
+    looks_act (looks_on (looks_on (looks_on c.meta-known.ensures.looks c.check_locks.ensures.looks) c.check_place.ensures.looks) c.check_conditions.ensures.looks)
+
+pub returns-in_err-say_tag-clause-refused : goal.returns-in_err-say_tag-clause-refused
+returns-in_err-say_tag-clause-refused g c =
+    on_err c.from_residual-in_err-say_tag.result (looks_on (looks_on (looks_on c.meta-known.ensures.looks c.check_locks.ensures.looks) c.check_place.ensures.looks) c.check_conditions.ensures.looks).live
+
+pub returns-in_err-say_tag-clause-acts : goal.returns-in_err-say_tag-clause-acts
+returns-in_err-say_tag-clause-acts g c =
+    looks_act (looks_on (looks_on (looks_on c.meta-known.ensures.looks c.check_locks.ensures.looks) c.check_place.ensures.looks) c.check_conditions.ensures.looks)
+
+pub returns-clause-refused : goal.returns-clause-refused
+returns-clause-refused g c =
+    (looks_on (looks_on (looks_on (looks_on c.meta-known.ensures.looks c.check_locks.ensures.looks) c.check_place.ensures.looks) c.check_conditions.ensures.looks) c.in-Err.ensures.refused).live

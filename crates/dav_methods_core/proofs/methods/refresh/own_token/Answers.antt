@@ -55,3 +55,12 @@ pub returns-clause-course : goal.returns-clause-course
 returns-clause-course g c =
     held_before (λ w (t : State). change_course method.Lock t.map (segments c.args.path.now.bytes) c.args.headers.now ≡ Ok tt)
     (looks_on c.token_named.ensures.looks c.check_refresh.ensures.looks) c.in_ok-check_conditions.ensures.ok
+
+pub returns-in_err-check_refresh-clause-looks : goal.returns-in_err-check_refresh-clause-looks
+returns-in_err-check_refresh-clause-looks g c = looks_on c.token_named.ensures.looks c.check_refresh.ensures.looks
+
+pub returns-in_err-check_conditions-clause-looks : goal.returns-in_err-check_conditions-clause-looks
+returns-in_err-check_conditions-clause-looks g c = looks_on (looks_on c.token_named.ensures.looks c.check_refresh.ensures.looks) c.check_conditions.ensures.looks
+
+pub returns-clause-looks : goal.returns-clause-looks
+returns-clause-looks g c = looks_on (looks_on c.token_named.ensures.looks c.check_refresh.ensures.looks) c.check_conditions.ensures.looks

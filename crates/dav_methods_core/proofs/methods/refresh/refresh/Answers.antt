@@ -15,10 +15,11 @@ use Rattle.dav_safe_methods_core.specs.SentDocuments.{document_sent}
 use Rattle.dav_documents_core.specs.LockDocuments.{discovery_pieces}
 use Rattle.dav_documents_core.specs.Pieces.{written_pieces}
 use Rattle.dav_methods_core.specs.RefreshMethod.{next_timeout, retimed_locks}
-use Rattle.dav_session_core.proofs.Looking.{looks_on}
+use Rattle.dav_session_core.proofs.Looking.{looks_none, looks_on, requests_of}
 use Rattle.dav_methods_core.proofs.RefreshMethodLemmas.{fails_short, fails_unread}
 use Rattle.dav_session_core.proofs.RefreshLemmas.{first_has}
 use Rattle.dav_safe_methods_core.proofs.Acting.{acts_asked, asked_on, held_before, held_behind, looks_act}
+use Rattle.dav_locks_core.proofs.answers.LockListLemmas.{on_err}
 use Rattle.dav_methods_core.proofs.methods.refresh.refresh.Goals as goal
 
 -- ---- a `Timeout` that isn't read
@@ -151,3 +152,36 @@ returns-clause-done g c =
             ∙ ap (λ (n : ℕ). written_pieces (discovery_pieces c.args.prefix.now who.principal n (retimed_locks n token timeout (discovered_locks s.locks p)))) now_is);
       },
     )
+
+pub returns-in_err-timeouts-clause-looks : goal.returns-in_err-timeouts-clause-looks
+returns-in_err-timeouts-clause-looks g c = on_err c.from_residual.result (looks_none g.R.Rng.stream c.args.session.now)
+
+pub returns-in_err-timeouts-clause-asks : goal.returns-in_err-timeouts-clause-asks
+returns-in_err-timeouts-clause-asks g c = requests_of (looks_none g.R.Rng.stream c.args.session.now)
+
+pub returns-in_err-token-clause-looks : goal.returns-in_err-token-clause-looks
+returns-in_err-token-clause-looks g c = on_err c.from_residual-in_err-token.result c.own_token.ensures.looks
+
+pub returns-in_err-token-clause-asks : goal.returns-in_err-token-clause-asks
+returns-in_err-token-clause-asks g c = requests_of c.own_token.ensures.looks
+
+pub returns-in_err-copy_of-clause-looks : goal.returns-in_err-copy_of-clause-looks
+returns-in_err-copy_of-clause-looks g c = on_err c.from_residual-in_err-copy_of.result c.own_token.ensures.looks
+
+pub returns-in_err-copy_of-clause-asks : goal.returns-in_err-copy_of-clause-asks
+returns-in_err-copy_of-clause-asks g c = requests_of c.own_token.ensures.looks
+
+pub returns-in_err-locks-clause-looks : goal.returns-in_err-locks-clause-looks
+returns-in_err-locks-clause-looks g c = on_err c.from_residual-in_err-locks.result (looks_on c.own_token.ensures.looks c.locks_at.ensures.looks)
+
+pub returns-in_err-locks-clause-asks : goal.returns-in_err-locks-clause-asks
+returns-in_err-locks-clause-asks g c = requests_of (looks_on c.own_token.ensures.looks c.locks_at.ensures.looks)
+
+pub returns-in_err-document-clause-looks : goal.returns-in_err-document-clause-looks
+returns-in_err-document-clause-looks g c = on_err c.from_residual-in_err-document.result (looks_on c.own_token.ensures.looks c.locks_at.ensures.looks)
+
+pub returns-in_err-document-clause-asks : goal.returns-in_err-document-clause-asks
+returns-in_err-document-clause-asks g c = requests_of (looks_on c.own_token.ensures.looks c.locks_at.ensures.looks)
+
+pub returns-in_err-say_document-clause-asks : goal.returns-in_err-say_document-clause-asks
+returns-in_err-say_document-clause-asks g c = requests_of (looks_on c.own_token.ensures.looks c.locks_at.ensures.looks)

@@ -62,7 +62,26 @@ pub(crate) fn serve_stored<R: Rng + Drop, C: Clock + Drop, I: Read, O: Write>(
     let now = first_moment(rt, began)?;
     let found = find(rt, path, now, &streams.output, Wary)?;
     tell_ahead(rt, found.opened.last, now);
-    match compacted(rt, path, &found, keeping.compacting, &streams.output, Anew)? {
+    let made = compacted(rt, path, &found, keeping.compacting, &streams.output, Anew)?;
+    serve_either(rt, fronts, keeping, streams, found, made, now, rng, clock)
+}
+
+// Serves with the file that was compacted, where one was, and else with the one that was found.
+fn serve_either<R: Rng + Drop, C: Clock + Drop, D: Disk + Drop, S: Start + Drop, I: Read, O: Write>(
+    rt: &HostRuntime,
+    fronts: &mut Fronts<'_>,
+    keeping: Keeping,
+    streams: &mut Streams<I, O>,
+    found: Found<D, O>,
+    made: Option<Compacted<S, O>>,
+    now: Moment,
+    rng: R,
+    clock: C,
+) -> Result<End, Stopped>
+    requires found { IsTrue (D.Disk.is_usable (disk_behind found.journal)) }
+    requires made { IfSome made (λ made. IsTrue (file_is_usable S.Start (disk_behind made.journal))) }
+{
+    match made {
         Some(
             Compacted {
                 journal,

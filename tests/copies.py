@@ -8,6 +8,7 @@ import subprocess
 import time
 
 from frames import frame, request
+from records import draft_of
 
 # So many copies that end somewhere are adopted.
 CUT = 30
@@ -221,9 +222,8 @@ def streams(stores, record_of, whole):
     stores.write(content[: gates[3] + 30] + b"?" + content[gates[3] + 31 :])
     run = subprocess.run([stores.davstore, stores.path, "follow"], capture_output=True, timeout=60, check=False)
     yield "a store that is damaged is followed up to there", run.returncode == 1 and run.stdout.startswith(content[:56] + number(56) + content[56 : gates[3]]) and b"damaged at byte" in run.stdout[-40:]
-    for name in ("copy", "copy.new"):
-        if os.path.exists(os.path.join(where, name)):
-            os.remove(os.path.join(where, name))
+    if os.path.exists(copy):
+        os.remove(copy)
 
 
 def taken(stores, record_of, copy, content, gates, stream):
@@ -281,9 +281,15 @@ def taken(stores, record_of, copy, content, gates, stream):
     broken = content[:at] + bytes([content[at] ^ 1]) + content[at + 1 :]
     for name, before, why in (("a copy that is damaged", broken, f"damaged at byte {gates[3]}"), ("a text at the copy's path", b"no store at all, but a text", "not a journal")):
         yield name, take(stream, before) == (1, [why], before)
+    draft = draft_of(copy, stream, int.from_bytes(stream[16:24], "little"))
+    with open(draft, "wb") as file:
+        file.write(b"a text, and no store " * 5)
+    yield "a text in the way of a new file", take(stream)[::2] == (3, None) and os.path.getsize(draft) == 105
+    with open(draft, "wb") as file:
+        file.write(stream[:56])
     with open(f"{copy}.new", "wb") as file:
-        file.write(b"a text")
-    yield "a text in the way of a new file", take(stream)[::2] == (3, None) and os.path.getsize(f"{copy}.new") == 6
+        file.write(stream[:56])
+    yield "a draft that was left is removed, and another file stays", take(stream)[::2] == (0, shut(content[:size])) and not os.path.exists(draft) and os.path.getsize(f"{copy}.new") == 56
     os.remove(f"{copy}.new")
     yield from others(stores, record_of, take, content, gates, stream)
 

@@ -77,3 +77,10 @@ def token_of(drawn):
     bits = bytearray(drawn)
     bits[6], bits[8] = bits[6] & 0x0F | 0x40, bits[8] & 0x3F | 0x80
     return b"urn:uuid:" + str(uuid.UUID(bytes=bytes(bits))).encode()
+
+
+def draft_of(path, header, generation=None):
+    """The name of the draft that is to take the place of a store with this header: of the next generation, where no other one is given."""
+    if generation is None:
+        generation = int.from_bytes(header[16:24], "little") + 1
+    return f"{path}.draft-{int.from_bytes(header[24:32], 'little'):016x}-{generation}"

@@ -222,16 +222,20 @@ fn told_stop(rt: &HostRuntime, stopped: &Stopped) -> ExitCode {
         Stopped::Stream(Fault::Io) => no_stream(rt),
         Stopped::Unkept(error) => ended_by(rt, "a change could not be kept", error, 5),
         Stopped::Refused(error) => ended_by(rt, "the store is not opened", error, 6),
-        Stopped::InTheWay => ended(
-            rt,
-            "the store is not opened: beside it stands a file with .new behind its name that is no store\n",
-            6,
-        ),
+        Stopped::InTheWay(draft) => in_the_way(rt, draft.as_str()),
         Stopped::NoUsers(error) => ended_by(rt, "the file of users is not read", error, 7),
         Stopped::WrongUsers(error) => ended_by(rt, "the file of users is wrong", error, 7),
         Stopped::WrongRealm => usage(rt),
         Stopped::NoLog(error) => ended_by(rt, "the log is not opened", error, 8),
     }
+}
+
+fn in_the_way(rt: &HostRuntime, draft: &str) -> ExitCode {
+    let _written = writeln!(
+        rt.stderr(),
+        "the store is not opened: {draft} is in the way, and no draft of it; move it away"
+    );
+    ExitCode::from(6)
 }
 
 // Tells the usage on standard output, with status 0; 1 where that fails.

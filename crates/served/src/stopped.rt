@@ -15,8 +15,8 @@ pub(crate) enum Stopped {
     Stream(Fault),
     /// The file is refused, or could not be opened or read.
     Refused(StoreError),
-    /// Beside the file stands one that is no store, and has the name of the new file of a compaction.
-    InTheWay,
+    /// Beside the file, at this path, stands what has the name of its draft, and is none.
+    InTheWay(String),
     /// What was changed could not be kept.
     Unkept(JournalError),
     /// The file of users could not be read.

@@ -25,7 +25,7 @@ use sqlite_std_file::{FileFrom, Start, Wary};
 use std::alloc::{AllocError, Global};
 use std::io::{Read, Write};
 use store_files::{
-    Anew, Compacted, Opening, Uncompacted, clear_new, compact_opened, header_of, is_due, length_of,
+    Anew, Compacted, Opening, Uncompacted, clear_draft, compact_opened, header_of, is_due, length_of,
 };
 use turn_fronts::ReadOnly;
 
@@ -129,12 +129,12 @@ fn find<S: Start, B>(
         Some(reader) => reader.header(),
         None => new,
     };
-    if let Err(Uncompacted::InTheWay) = clear_new(rt, path) {
-        return Err(Stopped::InTheWay);
-    }
     let mut opening = Opening::of(rt, path);
     let (opened, used) = read_all(rt.alloc(), &mut journal, reader, now, output, &mut opening)?;
     opening.end();
+    if let Err(Uncompacted::InTheWay(draft)) = clear_draft(rt, path, header) {
+        return Err(Stopped::InTheWay(draft));
+    }
     Ok(Found {
         journal,
         header,
@@ -167,7 +167,7 @@ fn compacted<S: Start + Drop, D: Disk, B>(
             );
             Ok(Some(made))
         }
-        Err(Uncompacted::InTheWay) => Err(Stopped::InTheWay),
+        Err(Uncompacted::InTheWay(draft)) => Err(Stopped::InTheWay(draft)),
         Err(Uncompacted::Unsynced(error)) => Err(Stopped::from(JournalError::Failed(error))),
         Err(error) => {
             let _told = writeln!(rt.stderr(), "the store is not compacted: {error}");

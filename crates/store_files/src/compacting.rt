@@ -9,7 +9,7 @@ ghost use Rattle.dav_store_core.specs.StandingFor.{HaveRecords};
 ghost use Rattle.store_files.specs.WrittenStores.{IsOnDisk};
 
 use crate::error::Uncompacted;
-use crate::placing::{clear, find_free, is_new, make_like, name_of_new, sync_folder};
+use crate::placing::{clear, draft_of, find_free, in_the_way, is_new, make_like, sync_folder};
 use dav_store_core::{Opened, StoreError, Watch, compact, load};
 use journal_core::{Header, Journal, Reader};
 use journal_file::open;
@@ -113,11 +113,11 @@ impl Watch for Unwatched {
     fn has_read(&mut self, _place: usize) {}
 }
 
-/// Writes what stands in the file at this path, which whoever calls it has open and read, into a new file
-/// beside it, named PATH.new, and gives that the name of the old one, once it is on the disk (own). Where a
+/// Writes what stands in the file at this path, which whoever calls it has open and read, into a draft
+/// beside it, and gives that the name of the old one, once it is on the disk (own). Where a
 /// link stands at the path, that is done where it leads.
 ///
-/// - `InTheWay`: what stands at the name of the new file doesn't begin as a store does, or came there
+/// - `InTheWay`: what stands at the draft's name is no draft of this store, or came there
 ///   meanwhile. It stays.
 /// - `Store`, `Failed`: the new file could not be made and written; it is removed again.
 /// - `Unsynced`: it was given the name of the old one, but the folder could not be synced.
@@ -140,9 +140,9 @@ pub fn compact_opened<S: Start, B>(
     ensures began { IfOk result (λ made. made.header.began ≡ header.began) }
 {
     let real = fs::canonicalize(rt, path)?;
-    let new = name_of_new(rt, real.as_str())?;
-    clear(rt, new.as_str())?;
     let later = header_of(rt, header.generation.saturating_add(1), header.began)?;
+    let new = draft_of(rt, real.as_str(), header.key, later.generation)?;
+    clear(rt, new.as_str(), later.began, later.generation)?;
     match write_anew(rt, real.as_str(), new.as_str(), later, opened, note, start) {
         Ok(made) => Ok(made),
         Err(error) => {
@@ -155,7 +155,7 @@ pub fn compact_opened<S: Start, B>(
 // Removes a new file that could not be made, but not one that another program has made, or that has the name of the old one.
 fn remove_unmade(rt: &HostRuntime, new: &str, error: &Uncompacted) {
     match error {
-        Uncompacted::InTheWay | Uncompacted::Unsynced(_) => {}
+        Uncompacted::InTheWay(_) | Uncompacted::Unsynced(_) => {}
         _ => {
             let _removed = fs::remove_file(rt, new);
         }
@@ -190,10 +190,10 @@ fn write_anew<S: Start, B>(
         (file_is_clean S.Start) made.journal header opened.now.stores opened.now.last.0) }
     ensures header { IfOk result (λ made. made.header ≡ header) }
 {
-    make_like(rt, old, new).map_err(not_made)?;
+    make_new(rt, old, new)?;
     let (mut journal, found) = open(rt, new, header, note, start)?;
     if found.is_some() {
-        return Err(Uncompacted::InTheWay);
+        return Err(in_the_way(rt, new)?);
     }
     let lengths = write_over(rt, old, new, &mut journal, header, opened, note)?;
     Ok(Compacted {
@@ -232,11 +232,12 @@ fn write_over<D: Disk, B>(
     }
 }
 
-// Why the new file is not made: where something has its name, that came there meanwhile.
-fn not_made(error: io::Error) -> Uncompacted {
-    match error.kind() {
-        ErrorKind::AlreadyExists => Uncompacted::InTheWay,
-        _ => Uncompacted::Failed(error),
+// Makes the new file, without a byte. `InTheWay` where something has its name, that came there meanwhile.
+fn make_new(rt: &HostRuntime, old: &str, new: &str) -> Result<(), Uncompacted> {
+    match make_like(rt, old, new) {
+        Ok(()) => Ok(()),
+        Err(error) if error.kind() == ErrorKind::AlreadyExists => Err(in_the_way(rt, new)?),
+        Err(error) => Err(Uncompacted::Failed(error)),
     }
 }
 
@@ -270,7 +271,7 @@ pub fn make_store(
     let later = header_of(rt, header.generation.saturating_add(1), header.began)?;
     match write_store(rt, path, later, opened) {
         Ok(()) => Ok(()),
-        Err(Uncompacted::InTheWay) => Err(Uncompacted::InTheWay),
+        Err(Uncompacted::InTheWay(path)) => Err(Uncompacted::InTheWay(path)),
         Err(error) => {
             let _removed = fs::remove_file(rt, path);
             Err(error)
@@ -289,7 +290,7 @@ fn write_store(
 {
     let (mut journal, found) = open(rt, path, header, &(), Anew)?;
     if found.is_some() {
-        return Err(Uncompacted::InTheWay);
+        return Err(in_the_way(rt, path)?);
     }
     write_named(rt, path, &mut journal, header, opened)
 }

@@ -16,8 +16,8 @@ pub enum Uncompacted {
     Store(StoreError),
     /// It has no record yet.
     New,
-    /// Something that is no store has the name that the new file is to have.
-    InTheWay,
+    /// At this path, which the new file is to have, stands something that is not to be removed.
+    InTheWay(String),
     /// A call of the system failed, or there is no memory.
     Failed(io::Error),
     /// The new file has the name of the old one, but the folder's sync failed, so a crash may give the
@@ -68,7 +68,7 @@ impl fmt::Display for Uncompacted {
         match self {
             Uncompacted::Store(error) => write!(f, "{error}"),
             Uncompacted::New => f.write_str("it has no record yet"),
-            Uncompacted::InTheWay => f.write_str("something else has the name of the new file"),
+            Uncompacted::InTheWay(path) => write!(f, "{path} is in the way, and no draft of it"),
             Uncompacted::Failed(error) | Uncompacted::Unsynced(error) => write!(f, "{error}"),
         }
     }

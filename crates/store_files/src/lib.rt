@@ -16,5 +16,5 @@ pub use compacting::{
 pub use error::Uncompacted;
 pub use measuring::{is_due, length_of};
 pub use opening::Opening;
-pub use placing::{clear, clear_new, make_like, name_of_new, sync_folder};
+pub use placing::{clear, clear_draft, draft_of, make_like, sync_folder};
 pub use progress::Progress;

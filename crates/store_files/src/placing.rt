@@ -1,25 +1,30 @@
-//! The new file beside the old one: its name is cleared, it is made with the old one's owner and mode, and takes its name.
+//! The draft beside the old file: its name is cleared, it is made with the old one's owner and mode, and takes its name.
 use crate::error::Uncompacted;
-use journal_core::{Reader, Stream};
+use journal_core::{Header, JournalError, Reader, Stream};
 use std::alloc::AllocError;
 use std::fs::{self, File, OpenOptions};
 use std::io::{self, ErrorKind};
 use std::os::unix::fs::{MetadataExt, OpenOptionsExt, PermissionsExt, fchown};
 use std::path::PathBuf;
 
-/// Who may read and write the new file until it has the old one's owner and mode: who makes it.
+/// Who may read and write the draft until it has the old one's owner and mode: who makes it.
 const MODE: u32 = 0o600;
 
-/// Removes the new file that an earlier compaction of the file at this path has left, where one is there
-/// (own). Whoever calls it has the file locked, so that no compaction is under way.
+/// How many bytes a draft may have of which no header can be read: those of a header, and of the gate behind it.
+const UNBEGUN: u64 = 64;
+
+/// Removes the draft that an earlier compaction of the store at this path has left, where one is there
+/// (own). Whoever calls it has the file locked, so that no compaction is under way, and has read it whole
+/// behind this header, so that nothing stands in the draft alone.
 ///
-/// - `InTheWay`: what has the name doesn't begin as a store does. It stays.
+/// - `InTheWay`: what has the draft's name is none of the store's. It stays.
 /// - `Failed`: a call of the system failed, or there is no memory.
-pub fn clear_new(rt: &HostRuntime, path: &str) -> Result<(), Uncompacted> {
+pub fn clear_draft(rt: &HostRuntime, path: &str, header: Header) -> Result<(), Uncompacted> {
     let real = fs::canonicalize(rt, path)?;
-    let new = name_of_new(rt, real.as_str())?;
-    clear(rt, new.as_str())?;
-    clear_log(rt, new.as_str())
+    let generation = header.generation.saturating_add(1);
+    let draft = draft_of(rt, real.as_str(), header.key, generation)?;
+    clear(rt, draft.as_str(), header.began, generation)?;
+    clear_log(rt, draft.as_str())
 }
 
 // Removes the log that the kit makes beside a file as it is opened, where it has no byte.
@@ -31,9 +36,15 @@ fn clear_log(rt: &HostRuntime, path: &str) -> Result<(), Uncompacted> {
     }
 }
 
-/// The name of the new file of the file at this path (own).
-pub fn name_of_new(rt: &HostRuntime, path: &str) -> Result<String, AllocError> {
-    format!(in rt.alloc(); "{path}.new")
+/// The name of the file that is to take the place of the store at this path (own): it has the key of that store, or its own where none stands there, and its own generation. So no two stores have a draft of one name, and
+/// neither have two generations of one store.
+pub fn draft_of(
+    rt: &HostRuntime,
+    path: &str,
+    key: u64,
+    generation: u64,
+) -> Result<String, AllocError> {
+    format!(in rt.alloc(); "{path}.draft-{key:016x}-{generation}")
 }
 
 /// Whether no header stands in the file yet.
@@ -43,27 +54,57 @@ pub(crate) fn is_new(rt: &HostRuntime, path: &str) -> Result<bool, Uncompacted> 
     Ok(found.is_none())
 }
 
-/// Removes what an earlier call may have left at the name of the new file, which is this path (own). Whoever calls it has the file locked that the new one is to replace, or none is there.
+/// Removes what an earlier call may have left at the name of a draft, which is this path: a store that began at this moment and is of this generation, or a file that has no more than
+/// a header's bytes (own). Whoever calls it has the file locked that the draft is to replace, and has read it whole, or none is there.
 ///
-/// - `InTheWay`: what stands there doesn't begin as a store does. It stays.
+/// - `InTheWay`: something else stands there. It stays.
 /// - `Failed`: a call of the system failed, or there is no memory.
-pub fn clear(rt: &HostRuntime, path: &str) -> Result<(), Uncompacted> {
+pub fn clear(
+    rt: &HostRuntime,
+    path: &str,
+    began: u64,
+    generation: u64,
+) -> Result<(), Uncompacted> {
     match fs::symlink_metadata(rt, path) {
-        Ok(found) if !found.is_file() => Err(Uncompacted::InTheWay),
-        Ok(_) => match is_new(rt, path) {
-            Ok(_) => Ok(fs::remove_file(rt, path)?),
-            Err(Uncompacted::Store(_)) => Err(Uncompacted::InTheWay),
-            Err(error) => Err(error),
-        },
+        Ok(found) => {
+            let is_short = found.len() <= UNBEGUN;
+            if found.is_file() && (is_short || is_draft(rt, path, began, generation)?) {
+                return Ok(fs::remove_file(rt, path)?);
+            }
+            Err(in_the_way(rt, path)?)
+        }
         Err(error) if error.kind() == ErrorKind::NotFound => Ok(()),
         Err(error) => Err(error.into()),
     }
 }
 
+// Whether a file begins as a store that began at this moment and is of this generation.
+fn is_draft(
+    rt: &HostRuntime,
+    path: &str,
+    began: u64,
+    generation: u64,
+) -> Result<bool, Uncompacted> {
+    let mut source = Stream::new(fs::open(rt, path)?);
+    match Reader::begin(rt.alloc(), &mut source, &()) {
+        Ok(Some(reader)) => {
+            let header = reader.header();
+            Ok(header.began == began && header.generation == generation)
+        }
+        Ok(None) | Err(JournalError::Foreign | JournalError::Damaged(_)) => Ok(false),
+        Err(error) => Err(error.into()),
+    }
+}
+
+/// What is refused of the path at which something stands in the way.
+pub(crate) fn in_the_way(rt: &HostRuntime, path: &str) -> Result<Uncompacted, AllocError> {
+    Ok(Uncompacted::InTheWay(String::from_str(rt.alloc(), path)?))
+}
+
 /// Nothing has this name; else `InTheWay`, and `Failed` where the system can't tell.
 pub(crate) fn find_free(rt: &HostRuntime, path: &str) -> Result<(), Uncompacted> {
     match fs::symlink_metadata(rt, path) {
-        Ok(_) => Err(Uncompacted::InTheWay),
+        Ok(_) => Err(in_the_way(rt, path)?),
         Err(error) if error.kind() == ErrorKind::NotFound => Ok(()),
         Err(error) => Err(error.into()),
     }

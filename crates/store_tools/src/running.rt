@@ -105,8 +105,8 @@ fn compact<O: Write + Drop>(
             tell_new(output)?;
             Ok(true)
         }
-        Err(Uncompacted::InTheWay) => {
-            writeln!(output, "no store: {path}.new")?;
+        Err(Uncompacted::InTheWay(draft)) => {
+            writeln!(output, "in the way: {draft}")?;
             Ok(false)
         }
         Err(Uncompacted::Store(error)) => {

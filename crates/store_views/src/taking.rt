@@ -14,7 +14,7 @@ use sqlite_std_file::{FileFrom, Start, Wary};
 use std::alloc::Global;
 use std::fs::{self, File};
 use std::io::{self, BufReader, BufWriter, ErrorKind, Read, Write};
-use store_files::{Anew, Progress, Uncompacted, clear, make_like, name_of_new, sync_folder};
+use store_files::{Anew, Progress, Uncompacted, clear, draft_of, make_like, sync_folder};
 
 // How many bytes a header has, and so where the first gate is.
 const HEADER: u64 = 56;
@@ -111,11 +111,11 @@ fn read_front<I: Read>(alloc: Global, input: &mut I) -> Result<Option<Front>, Fa
 // Begins with the first file of the stream.
 fn begin<I: Read>(front: Front, input: &mut I, taken: &mut Taken<'_>) -> Result<End, Failure> {
     let Some(header) = header_at(taken.rt, taken.path)? else {
-        return take_anew(front, input, taken);
+        return take_anew(front.header.key, front, input, taken);
     };
     let (mut journal, found) = open(taken.rt, taken.path, header, &(), Wary)?;
     match found {
-        Some(reader) => begin_behind(&mut journal, reader, header, front, input, taken),
+        Some(reader) => begin_behind(&mut journal, &mut Some(reader), header, front, input, taken),
         None => refused(taken.rt, "the copy has changed"),
     }
 }
@@ -123,7 +123,7 @@ fn begin<I: Read>(front: Front, input: &mut I, taken: &mut Taken<'_>) -> Result<
 // Begins behind what the copy has, which has this header.
 fn begin_behind<D: Disk, I: Read>(
     journal: &mut Journal<D, ()>,
-    reader: Reader,
+    copy: &mut Option<Reader>,
     header: Header,
     front: Front,
     input: &mut I,
@@ -132,25 +132,30 @@ fn begin_behind<D: Disk, I: Read>(
     requires usable { IsTrue (D.Disk.is_usable (disk_behind journal.old)) }
 {
     if header != front.header {
-        return begin_later(header, front, input, taken);
+        return begin_later(journal, copy, header, front, input, taken);
     }
-    match go_on(journal, &mut Some(reader), front, input, taken)? {
-        End::Anew(later) => begin_later(header, later, input, taken),
+    match go_on(journal, copy, front, input, taken)? {
+        End::Anew(later) => begin_later(journal, copy, header, later, input, taken),
         end => Ok(end),
     }
 }
 
-// Replaces the copy, which has this header, where the stream goes on with a later generation of it.
-fn begin_later<I: Read>(
+// Replaces the copy, which has this header, where the stream goes on with a later generation of it. The copy is read to its end first: a draft of it is removed then.
+fn begin_later<D: Disk, I: Read>(
+    journal: &mut Journal<D, ()>,
+    copy: &mut Option<Reader>,
     header: Header,
     front: Front,
     input: &mut I,
     taken: &mut Taken<'_>,
-) -> Result<End, Failure> {
+) -> Result<End, Failure>
+    requires usable { IsTrue (D.Disk.is_usable (disk_behind journal.old)) }
+{
     if !is_later(&header, &front.header) {
         return refused(taken.rt, OTHER);
     }
-    take_anew(front, input, taken)
+    passes_to(taken.rt.alloc(), journal, copy, u64::MAX)?;
+    take_anew(header.key, front, input, taken)
 }
 
 // Whether a header is that of a later generation of the same store.
@@ -172,29 +177,38 @@ fn header_at(rt: &HostRuntime, path: &str) -> Result<Option<Header>, Failure> {
     }
 }
 
-// Puts a new file at the path, and adds to it what comes; and so on, where the store is compacted again.
-fn take_anew<I: Read>(front: Front, input: &mut I, taken: &mut Taken<'_>) -> Result<End, Failure> {
+// Puts a new file at the path, in place of one with this key, and adds to it what comes; and so on, where the store is compacted again.
+fn take_anew<I: Read>(
+    key: u64,
+    front: Front,
+    input: &mut I,
+    taken: &mut Taken<'_>,
+) -> Result<End, Failure> {
     let real = real_path(taken.rt, taken.path)?;
     let mut held = None;
-    take_files(real.as_str(), &mut held, front, input, taken)
+    take_files(real.as_str(), &mut held, key, front, input, taken)
 }
 
 // Takes one file after another; the last one is held.
 fn take_files<I: Read>(
     real: &str,
     held: &mut Option<Journal<FileFrom<Anew>, ()>>,
+    key: u64,
     front: Front,
     input: &mut I,
     taken: &mut Taken<'_>,
 ) -> Result<End, Failure> {
-    let mut front = front;
+    let (mut key, mut front) = (key, front);
     for _ in 0..u64::MAX {
         let round = match first_round(taken.rt, front, input)? {
             First::Round(round) => round,
             First::Ended(end) => return Ok(end),
         };
-        match take_file(real, held, front, &round, input, taken)? {
-            End::Anew(later) if is_later(&front.header, &later.header) => front = later,
+        match take_file(real, held, key, front, &round, input, taken)? {
+            End::Anew(later) if is_later(&front.header, &later.header) => {
+                key = front.header.key;
+                front = later;
+            }
             End::Anew(_) => return refused(taken.rt, OTHER),
             end => return Ok(end),
         }
@@ -202,16 +216,25 @@ fn take_files<I: Read>(
     Ok(End::Stream)
 }
 
-// Takes one file, of which this is the first round. The one that is held is locked until the new one has the name, which is held then.
+// Takes one file, of which this is the first round, in place of one with this key. The one that is held is locked until the new one has the name, which is held then.
 fn take_file<I: Read>(
     real: &str,
     held: &mut Option<Journal<FileFrom<Anew>, ()>>,
+    key: u64,
     front: Front,
     round: &[u8],
     input: &mut I,
     taken: &mut Taken<'_>,
 ) -> Result<End, Failure> {
-    let mut journal = write_beside(taken.rt, real, front.header, round, Anew)?;
+    let draft = draft_of(taken.rt, real, key, front.header.generation)?;
+    let mut journal = write_beside(
+        taken.rt,
+        real,
+        draft.as_str(),
+        front.header,
+        round,
+        Anew,
+    )?;
     *held = None;
     taken.place = HEADER;
     taken.add(round);
@@ -259,29 +282,29 @@ fn real_path(rt: &HostRuntime, path: &str) -> Result<String, Failure> {
     }
 }
 
-// Writes the first round into a new file beside the path, and gives it the name, which is on the disk then.
+// Writes the first round into a draft beside the path, and gives it the name, which is on the disk then.
 fn write_beside<S: Start>(
     rt: &HostRuntime,
     real: &str,
+    draft: &str,
     header: Header,
     round: &[u8],
     start: S,
 ) -> Result<Journal<FileFrom<S>, ()>, Failure>
     ensures usable { IfOk result (λ journal. IsTrue (file_is_usable S.Start (disk_behind journal))) }
 {
-    let new = make_beside(rt, real)?;
-    let (mut journal, _) = open(rt, new.as_str(), header, &(), start)?;
-    append_beside(rt, new.as_str(), real, &mut journal, round)?;
+    make_beside(rt, real, draft, header)?;
+    let (mut journal, _) = open(rt, draft, header, &(), start)?;
+    append_beside(rt, draft, real, &mut journal, round)?;
     Ok(journal)
 }
 
-// Makes the new file, without a byte, where something stands at the path. Its name.
-fn make_beside(rt: &HostRuntime, real: &str) -> Result<String, Failure> {
-    let new = name_of_new(rt, real)?;
-    clear(rt, new.as_str()).map_err(not_clear)?;
-    match make_like(rt, real, new.as_str()) {
-        Ok(()) => Ok(new),
-        Err(error) if error.kind() == ErrorKind::NotFound => Ok(new),
+// Makes the draft, without a byte, where something stands at the path.
+fn make_beside(rt: &HostRuntime, real: &str, draft: &str, header: Header) -> Result<(), Failure> {
+    clear(rt, draft, header.began, header.generation).map_err(not_clear)?;
+    match make_like(rt, real, draft) {
+        Ok(()) => Ok(()),
+        Err(error) if error.kind() == ErrorKind::NotFound => Ok(()),
         Err(error) => Err(Failure::from(error)),
     }
 }
@@ -318,9 +341,10 @@ fn not_clear(error: Uncompacted) -> Failure {
     match error {
         Uncompacted::Store(error) => Failure::from(error),
         Uncompacted::Failed(error) | Uncompacted::Unsynced(error) => Failure::from(error),
-        Uncompacted::New | Uncompacted::InTheWay => {
-            Failure::from(io::Error::from(ErrorKind::AlreadyExists))
+        Uncompacted::InTheWay(draft) => {
+            Failure::At(draft, io::Error::from(ErrorKind::AlreadyExists))
         }
+        Uncompacted::New => Failure::from(io::Error::from(ErrorKind::AlreadyExists)),
     }
 }
 
@@ -357,6 +381,7 @@ fn go_on<D: Disk, I: Read>(
     taken: &mut Taken<'_>,
 ) -> Result<End, Failure>
     requires usable { IsTrue (D.Disk.is_usable (disk_behind journal.old)) }
+    ensures usable { OnOk result (IsTrue (D.Disk.is_usable (disk_behind journal.new))) }
 {
     let rt = taken.rt;
     taken.place = front.place;

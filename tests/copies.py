@@ -247,6 +247,10 @@ def taken(stores, record_of, copy, content, gates, stream):
     status, told, after = take(stream)
     yield "a copy is made", status == 0 and after == shut(content[:size]) and told == [f"taken: 7 rounds, 7 records, up to byte {size}"]
     yield "of the one who made it", os.stat(copy).st_mode & 0o777 == 0o600
+    os.remove(copy)
+    run = subprocess.run([stores.davstore, os.path.basename(copy), "take"], input=stream, cwd=os.path.dirname(copy), capture_output=True, timeout=60, check=False)
+    with open(copy, "rb") as file:
+        yield "by a name without a folder", run.returncode == 0 and run.stdout.decode().splitlines() == told and file.read() == after
     yield "nothing is taken twice", take(stream, after)[::2] == (0, after)
     chance = random.Random(5)
     right = 0

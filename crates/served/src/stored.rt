@@ -1,7 +1,7 @@
 //! Serving with stores that a file keeps.
 ghost use Rattle.std.specs.Prelude.{IsTrue, IfOk, IfSome};
 ghost use Rattle.sqlite_std_file.specs.File.{file_is_usable};
-ghost use Rattle.journal_core.specs.Resting.{disk_behind};
+ghost use Rattle.journal_core.specs.Resting.{disk_behind, is_ready};
 
 use crate::clock::first_moment;
 use crate::fronts::Fronts;
@@ -25,7 +25,8 @@ use sqlite_std_file::{FileFrom, Start, Wary};
 use std::alloc::{AllocError, Global};
 use std::io::{Read, Write};
 use store_files::{
-    Anew, Compacted, Opening, Uncompacted, clear_draft, compact_opened, header_of, is_due, length_of,
+    Anew, Compacted, Opening, Uncompacted, clear_draft, compact_opened, header_of, is_due,
+    length_of,
 };
 use turn_fronts::ReadOnly;
 
@@ -130,11 +131,8 @@ fn find<S: Start, B>(
         None => new,
     };
     let mut opening = Opening::of(rt, path);
-    let (opened, used) = read_all(rt.alloc(), &mut journal, reader, now, output, &mut opening)?;
+    let (opened, used) = read_all(rt, path, &mut journal, reader, now, output, &mut opening)?;
     opening.end();
-    if let Err(Uncompacted::InTheWay(draft)) = clear_draft(rt, path, header) {
-        return Err(Stopped::InTheWay(draft));
-    }
     Ok(Found {
         journal,
         header,
@@ -272,9 +270,10 @@ fn serve_on<R: Rng, C: Clock, D: Disk, I: Read, O: Write>(
     Ok(end)
 }
 
-// The stores that the journal keeps, and how many bytes of the file are used; those of a new one are a root folder alone.
+// The stores that the journal keeps, and how many bytes of the file are used; those of a new one are a root folder alone. What a compaction has left beside the file is removed, once that was read.
 fn read_all<D: Disk, B, W: Watch>(
-    alloc: Global,
+    rt: &HostRuntime,
+    path: &str,
     journal: &mut Journal<D, B>,
     found: Option<Reader>,
     now: Moment,
@@ -286,13 +285,29 @@ fn read_all<D: Disk, B, W: Watch>(
 {
     match found {
         Some(mut reader) => {
-            let opened = load(alloc, journal, &mut reader, note, watch)?;
+            let opened = load(rt.alloc(), journal, &mut reader, note, watch)?;
+            clear_left(rt, path, journal, reader.header())?;
             Ok((opened, reader.place() as u64))
         }
         None => {
-            let stores = Guarded::new(alloc, now).map_err(|_| AllocError)?;
+            let stores = Guarded::new(rt.alloc(), now).map_err(|_| AllocError)?;
             Ok((Opened { stores, last: now }, 0))
         }
+    }
+}
+
+// Removes the draft that a compaction of the file has left. `InTheWay` alone: where another call fails, one is left, and the next compaction tells it.
+fn clear_left<D: Disk, B>(
+    rt: &HostRuntime,
+    path: &str,
+    journal: &Journal<D, B>,
+    header: Header,
+) -> Result<(), Stopped>
+    requires read { IsTrue (is_ready journal.now) }
+{
+    match clear_draft(rt, path, journal, header) {
+        Err(Uncompacted::InTheWay(draft)) => Err(Stopped::InTheWay(draft)),
+        _ => Ok(()),
     }
 }
 

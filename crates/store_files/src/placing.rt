@@ -1,6 +1,10 @@
 //! The draft beside the old file: its name is cleared, it is made with the old one's owner and mode, and takes its name.
+ghost use Rattle.std.specs.Prelude.{IsTrue};
+ghost use Rattle.journal_core.specs.Resting.{is_ready};
+
 use crate::error::Uncompacted;
-use journal_core::{Header, JournalError, Reader, Stream};
+use journal_core::{Header, Journal, JournalError, Reader, Stream};
+use sqlite_disk::Disk;
 use std::alloc::AllocError;
 use std::fs::{self, File, OpenOptions};
 use std::io::{self, ErrorKind};
@@ -19,7 +23,14 @@ const UNBEGUN: u64 = 64;
 ///
 /// - `InTheWay`: what has the draft's name is none of the store's. It stays.
 /// - `Failed`: a call of the system failed, or there is no memory.
-pub fn clear_draft(rt: &HostRuntime, path: &str, header: Header) -> Result<(), Uncompacted> {
+pub fn clear_draft<D: Disk, B>(
+    rt: &HostRuntime,
+    path: &str,
+    _journal: &Journal<D, B>,
+    header: Header,
+) -> Result<(), Uncompacted>
+    requires read { IsTrue (is_ready _journal.now) }
+{
     let real = fs::canonicalize(rt, path)?;
     let generation = header.generation.saturating_add(1);
     let draft = draft_of(rt, real.as_str(), header.key, generation)?;
@@ -59,12 +70,7 @@ pub(crate) fn is_new(rt: &HostRuntime, path: &str) -> Result<bool, Uncompacted> 
 ///
 /// - `InTheWay`: something else stands there. It stays.
 /// - `Failed`: a call of the system failed, or there is no memory.
-pub fn clear(
-    rt: &HostRuntime,
-    path: &str,
-    began: u64,
-    generation: u64,
-) -> Result<(), Uncompacted> {
+pub fn clear(rt: &HostRuntime, path: &str, began: u64, generation: u64) -> Result<(), Uncompacted> {
     match fs::symlink_metadata(rt, path) {
         Ok(found) => {
             let is_short = found.len() <= UNBEGUN;
@@ -130,5 +136,11 @@ pub fn make_like(rt: &HostRuntime, old: &str, new: &str) -> io::Result<()> {
 pub fn sync_folder(rt: &HostRuntime, path: &str) -> io::Result<()> {
     let mut folder = PathBuf::from_str(rt.alloc(), path)?;
     folder.pop();
-    File::open(rt, folder.as_str())?.sync_all()
+    // A name without a folder stands in the one that the program runs in.
+    let name = if folder.as_str().is_empty() {
+        "."
+    } else {
+        folder.as_str()
+    };
+    File::open(rt, name)?.sync_all()
 }

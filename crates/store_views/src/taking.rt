@@ -227,14 +227,7 @@ fn take_file<I: Read>(
     taken: &mut Taken<'_>,
 ) -> Result<End, Failure> {
     let draft = draft_of(taken.rt, real, key, front.header.generation)?;
-    let mut journal = write_beside(
-        taken.rt,
-        real,
-        draft.as_str(),
-        front.header,
-        round,
-        Anew,
-    )?;
+    let mut journal = write_beside(taken.rt, real, draft.as_str(), front.header, round, Anew)?;
     *held = None;
     taken.place = HEADER;
     taken.add(round);
